@@ -1,0 +1,11 @@
+pub mod Numbers
+pub mod Tokens
+pub mod PatternReading
+pub mod PatternLaws
+pub mod PatternSpelling
+pub mod PatternAgain
+pub mod HeadLaws
+pub mod PatternTexts
+pub mod FirstFaults
+pub mod RunLaws
+pub mod Rows

@@ -1,0 +1,101 @@
+-- A text is read exactly where it spells a puzzle of Pattern.
+use Rattle.std.proofs.Common.{◌≡◌, ℕ, ◌+◌, ◌≤◌, true, List, [], ◌∷◌, ◌++◌, map, length, drop, Result, Ok, Err, refl, sym, ap, subst, ◌∙◌, ◌⊎◌, inl, inr, ◌&&◌, leb, append_assoc, length-append}
+use Rattle.std.specs.Prelude.{IfOk}
+use Rattle.std.specs.List.{AllByRecursion}
+use Rattle.std.proofs.lemmas.Bool.{leb-true, le-leb}
+use Rattle.std.proofs.lemmas.List.{drop_at}
+use Rattle.grid_core.specs.Extent.{Extent, IsExtent, max_side}
+use Rattle.gameid_core.specs.declared.fault.IdFault.{IdFault}
+use Rattle.gameid_core.specs.declared.game.Game.TheVariants as game
+use Rattle.gameid_core.specs.Words.{words, value}
+use Rattle.gameid_core.specs.Steps.{◌>>=◌, Gives}
+use Rattle.gameid_core.specs.Head.{head_of, in_range, max_id}
+use Rattle.gameid_core.specs.Puzzles.{Pattern, IsPattern}
+use Rattle.gameid_core.specs.PatternText.{IsNumeral, clues_text, clues_at, pattern_of, SpellsPattern}
+use Rattle.gameid_core.proofs.PatternLaws.{bind_ok, taken, ok_is, clues_lawful}
+use Rattle.gameid_core.proofs.PatternSpelling.{and_parts, words_are, concat_words, read_spelled}
+use Rattle.gameid_core.proofs.PatternAgain.{clues_text_is, clues_again}
+use Rattle.gameid_core.proofs.HeadLaws.{head_take, head_again}
+
+pub record CluesSpelled (description : List ℕ) (all : List (List ℕ)) : Type 0 where
+  pub numerals : List (List (List ℕ))
+  pub parts : description ≡ clues_text numerals
+  pub digits : AllByRecursion (AllByRecursion IsNumeral) numerals
+  pub values : map (map value) numerals ≡ all
+
+pub clues_take : (size : Extent) (at : ℕ) (description : List ℕ) (all : List (List ℕ)) → clues_at size at description ≡ Ok all → CluesSpelled description all
+unfolding clues_at
+clues_take size at description all e =
+    let s = read_spelled size at [] [] (words description) all (words_are description) e in
+    record {
+      numerals = s.ns ∷ s.later;
+      parts = sym (concat_words description) ∙ s.parts ∙ sym (clues_text_is s.ns s.later);
+      digits = (s.ns_digits, s.later_digits);
+      values = s.values;
+    }
+
+extent_of : (w h : ℕ) → in_range game.Pattern w h ≡ true → IsExtent (record { w = w; h = h })
+extent_of w h e =
+    let p = and_parts (leb 1 w && leb 1 h && leb w max_side) (leb h max_side) e in
+    let q = and_parts (leb 1 w && leb 1 h) (leb w max_side) p.0 in
+    let r = and_parts (leb 1 w) (leb 1 h) q.0 in
+    record { w_low = leb-true _ _ r.0; w_high = leb-true _ _ q.1; h_low = leb-true _ _ r.1; h_high = leb-true _ _ p.1 }
+
+range_of : (size : Extent) → IsExtent size → in_range game.Pattern size.w size.h ≡ true
+range_of size h =
+    let a : leb 1 size.w ≡ true = le-leb _ _ h.w_low in
+    let b : leb 1 size.h ≡ true = le-leb _ _ h.h_low in
+    let c : leb size.w max_side ≡ true = le-leb _ _ h.w_high in
+    let d : leb size.h max_side ≡ true = le-leb _ _ h.h_high in
+    rw (a, b, c, d) refl
+
+pub pattern_takes : (text : List ℕ) (p : Pattern) → pattern_of text ≡ Ok p → SpellsPattern text p
+unfolding pattern_of
+pattern_takes text p e =
+    let a = bind_ok (head_of game.Pattern text) (λ head. clues_at (record { w = head.0; h = head.1 }) head.2 (drop head.2 text) >>= (λ clues. taken (record { size = record { w = head.0; h = head.1 }; clues = clues }))) p e in
+    let b = bind_ok (clues_at (record { w = a.0.0; h = a.0.1 }) a.0.2 (drop a.0.2 text)) (λ clues. taken (record { size = record { w = a.0.0; h = a.0.1 }; clues = clues })) p a.2 in
+    let h = head_take game.Pattern text a.0.0 a.0.1 a.0.2 a.1 in
+    let c = clues_take (record { w = a.0.0; h = a.0.1 }) a.0.2 (drop a.0.2 text) b.0 b.1 in
+    let made : Pattern = record { size = record { w = a.0.0; h = a.0.1 }; clues = b.0 } in
+    subst (λ (q : Pattern). SpellsPattern text q) (ok_is made p b.2) (record {
+      short = h.short;
+      puzzle = clues_lawful (record { w = a.0.0; h = a.0.1 }) a.0.2 (drop a.0.2 text) b.0 (extent_of a.0.0 a.0.1 h.range) b.1;
+      front = h.front;
+      numerals = c.numerals;
+      parts = h.parts ∙ ap (λ (d : List ℕ). h.front ++ 58 ∷ d) c.parts;
+      size = h.size;
+      digits = c.digits;
+      clues = c.values;
+    })
+
+pub after_front : (front rest : List ℕ) → drop (length front + 1) (front ++ 58 ∷ rest) ≡ rest
+after_front front rest =
+    let moved : front ++ 58 ∷ rest ≡ (front ++ 58 ∷ []) ++ rest = sym (append_assoc front (58 ∷ []) rest) in
+    ap (drop (length front + 1)) moved ∙ drop_at (front ++ 58 ∷ []) rest (length front + 1) (length-append front (58 ∷ []))
+
+pub pattern_again : (text : List ℕ) (p : Pattern) → SpellsPattern text p → pattern_of text ≡ Ok p
+unfolding pattern_of
+pattern_again text p s =
+    let whole = head_again game.Pattern s.front (clues_text s.numerals) p.size.w p.size.h s.size (range_of p.size s.puzzle.size) (subst (λ (t : List ℕ). length t ≤ max_id) s.parts s.short) in
+    let same : map (map value) s.numerals ≡ p.clues = s.clues in
+    let lawful : IsPattern (record { size = p.size; clues = map (map value) s.numerals }) = subst (λ (cs : List (List ℕ)). IsPattern (record { size = p.size; clues = cs })) (sym same) s.puzzle in
+    let read = clues_again p.size (length s.front + 1) s.numerals s.digits lawful in
+    ap pattern_of s.parts ∙ rw (whole, after_front s.front (clues_text s.numerals), read, same) refl
+
+pub is_found : (text : List ℕ) (r : Result Pattern IdFault) → Gives (λ p. p) r (pattern_of text) → IfOk r (λ p. SpellsPattern text p)
+is_found text (Ok p) gives = pattern_takes text p gives
+is_found text (Err e) gives = tt
+
+-- one reading of each text
+pub pattern_one : (text : List ℕ) (p q : Pattern) → SpellsPattern text p → SpellsPattern text q → p ≡ q
+pattern_one text p q s t = ok_is p q (sym (pattern_again text p s) ∙ pattern_again text q t)
+
+pub pattern_apart : (text : List ℕ) (p : Pattern) (f : IdFault) → SpellsPattern text p → pattern_of text ≡ Err f → ⊥
+pattern_apart text p f s e = let bad : taken p ≡ Err f = sym (pattern_again text p s) ∙ e in absurd cc
+
+pub pattern_either : (text : List ℕ) → ((p : Pattern) × SpellsPattern text p) ⊎ ((f : IdFault) × (pattern_of text ≡ Err f))
+pattern_either text = cases (pattern_of text) refl
+  where
+    cases : (r : Result Pattern IdFault) → pattern_of text ≡ r → ((p : Pattern) × SpellsPattern text p) ⊎ ((f : IdFault) × (pattern_of text ≡ Err f))
+    cases (Ok p) e = inl (p, pattern_takes text p e)
+    cases (Err f) e = inr (f, e)

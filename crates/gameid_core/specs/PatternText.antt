@@ -1,0 +1,98 @@
+-- Game IDs of Pattern: what a text spells, its first fault, and the one written text.
+use Rattle.std.specs.Prelude.{◌≡◌, ℕ, ◌+◌, ◌<◌, ◌≤◌, true, ◌&&◌, List, [], ◌∷◌, ◌++◌, map, drop, length, Result, Ok, Err, nat_lt, ◌==◌, if◌then◌else◌, decimal}
+use Rattle.std.specs.List.{AllByRecursion, join_with_byte}
+use Rattle.std.specs.Str.{all_ascii_digits}
+use Rattle.std.specs.Char.{is_ascii_digit}
+use Rattle.std.specs.Borrow.{Bor}
+use Rattle.grid_core.specs.Extent.{Extent}
+use Rattle.gameid_core.specs.declared.fault.IdFault.{IdFault}
+use Rattle.gameid_core.specs.declared.fault.IdFault.TheVariants.{BadByte, NumberRange, LineTooFull, TooFew, TooMany}
+use Rattle.gameid_core.specs.declared.game.Game.TheVariants as game
+use Rattle.gameid_core.specs.Words.{begins, words, value, Cuts}
+use Rattle.gameid_core.specs.Steps.{◌>>=◌, reading}
+use Rattle.gameid_core.specs.Head.{head_of, max_id}
+use Rattle.gameid_core.specs.SizeText.{size_text, IsSizeText}
+use Rattle.gameid_core.specs.Puzzles.{Pattern, IsPattern, line_cells, lines_of, used}
+
+-- What a text spells -------------------------------------------------------------------------------------------
+
+-- one digit or more
+pub record IsNumeral (numeral : List ℕ) : Type 0 where
+  pub some : 0 < length numeral
+  pub digits : all_ascii_digits numeral ≡ true
+
+-- clues joined by '/', each empty or numbers joined by '.'
+abbrev pub clues_text : List (List (List ℕ)) → List ℕ
+clues_text clues = join_with_byte 47 (map (join_with_byte 46) clues)
+
+pub record SpellsPattern (text : List ℕ) (p : Pattern) : Type 0 where
+  pub short : length text ≤ max_id
+  pub puzzle : IsPattern p
+  pub front : List ℕ
+  pub numerals : List (List (List ℕ))
+  pub parts : text ≡ front ++ 58 ∷ clues_text numerals
+  pub size : IsSizeText front p.size.w p.size.h
+  pub digits : AllByRecursion (AllByRecursion IsNumeral) numerals
+  pub clues : map (map value) numerals ≡ p.clues
+
+-- The first fault ----------------------------------------------------------------------------------------------
+
+-- what was read so far: the clues before this one, and the numbers of this one
+pub record SoFar : Type 0 where
+  pub clues : List (List ℕ)
+  pub clue : List ℕ
+
+-- a number is read, in a line of so many cells, of which the clue's numbers before it use some
+unfoldable pub clue_number : ℕ → ℕ → ℕ → ℕ → List ℕ → Result ℕ IdFault
+clue_number cells line before at digits =
+    if value digits == 0 then Err (NumberRange at) else (if nat_lt cells (before + value digits) then Err (LineTooFull line) else Ok (value digits))
+
+-- a token other than '/': at a clue's beginning a number, and after a number '.' and a number
+unfoldable pub clue_token : ℕ → ℕ → List ℕ → ℕ → List ℕ → Result ℕ IdFault
+clue_token cells line [] at word = if begins is_ascii_digit word then clue_number cells line 0 at word else Err (BadByte at)
+clue_token cells line (n ∷ clue) at word =
+    if begins (λ b. b == 46) word && begins is_ascii_digit (drop 1 word) then clue_number cells line (used (n ∷ clue)) (at + 1) (drop 1 word) else Err (BadByte at)
+
+-- '/' ends a clue, and is refused after the last one
+unfoldable pub pattern_step : Extent → ℕ → SoFar → List ℕ → Result SoFar IdFault
+pattern_step size at s word =
+    if begins (λ b. b == 47) word then (if length s.clues + 1 == lines_of size then Err TooMany else Ok (record { clues = s.clues ++ s.clue ∷ []; clue = [] }))
+    else (clue_token (line_cells size (length s.clues)) (length s.clues) s.clue at word >>= (λ n. Ok (record { clues = s.clues; clue = s.clue ++ n ∷ [] })))
+
+-- the end ends the last clue
+unfoldable pub pattern_end : Extent → SoFar → Result (List (List ℕ)) IdFault
+pattern_end size s = if length s.clues + 1 == lines_of size then Ok (s.clues ++ s.clue ∷ []) else Err TooFew
+
+abbrev pub nothing_yet : SoFar
+nothing_yet = record { clues = []; clue = [] }
+
+-- the clues of a description that begins at that place
+unfoldable pub clues_at : Extent → ℕ → List ℕ → Result (List (List ℕ)) IdFault
+clues_at size at description = reading (pattern_step size) (pattern_end size) at nothing_yet (words description)
+
+-- the puzzle that the text spells, or its first fault
+unfoldable pub pattern_of : List ℕ → Result Pattern IdFault
+pattern_of text = do
+  head ← head_of game.Pattern text
+  clues ← clues_at (record { w = head.0; h = head.1 }) head.2 (drop head.2 text)
+  Ok (record { size = record { w = head.0; h = head.1 }; clues = clues })
+
+-- The written text ---------------------------------------------------------------------------------------------
+
+abbrev pub clue_text : List ℕ → List ℕ
+clue_text clue = join_with_byte 46 (map decimal clue)
+
+abbrev pub pattern_text : Pattern → List ℕ
+pattern_text p = size_text p.size.w p.size.h ++ 58 ∷ join_with_byte 47 (map clue_text p.clues)
+
+-- Words of the reader's functions ------------------------------------------------------------------------------
+
+-- the number, and the text after it; or the fault
+abbrev pub GivesNumber : Result ℕ IdFault → List ℕ → Result (ℕ × Bor (List ℕ)) IdFault → Type 0
+GivesNumber read after (Ok x) = (read ≡ Ok x.0) × (x.1.now ≡ after)
+GivesNumber read after (Err e) = read ≡ Err e
+
+-- the number of the first token, and the text after it; or the token's fault
+abbrev pub TakesNumber : (List ℕ → Result ℕ IdFault) → List ℕ → Result (ℕ × Bor (List ℕ)) IdFault → Type 0
+TakesNumber token text (Ok x) = (word : List ℕ) × Cuts text word x.1.now × (token word ≡ Ok x.0)
+TakesNumber token text (Err e) = (word after : List ℕ) × Cuts text word after × (token word ≡ Err e)

@@ -1,0 +1,215 @@
+//! Game IDs of Pattern.
+
+ghost use Rattle.std.specs.Prelude.{◌≡◌, ℕ, ◌<◌, ◌≤◌, ◌+◌, ◌^◌, [], ◌∷◌, length, vec_len, map, IfOk, IfErr, Ok, Err, List, ◌⊎◌};
+ghost use Rattle.gameid_core.specs.Steps.{Gives, Fails};
+ghost use Rattle.gameid_core.specs.Head.{head_of};
+ghost use Rattle.gameid_core.specs.declared.fault.IdFault.{IdFault};
+ghost use Rattle.gameid_core.specs.Puzzles.{used as used_cells, line_cells, lines_of};
+ghost use Rattle.gameid_core.specs.Puzzles.{Pattern};
+ghost use Rattle.gameid_core.specs.PatternText.{SpellsPattern, pattern_of, GivesNumber, TakesNumber, clue_number, clue_token, clues_at, pattern_step, pattern_end, nothing_yet};
+ghost use Rattle.gameid_core.specs.Words.{begins, digits_front, after_digits, words};
+ghost use Rattle.gameid_core.specs.FirstFault.{FirstFault};
+ghost use Rattle.grid_core.specs.Extent.{Extent};
+ghost use Rattle.std.specs.Char.{is_ascii_digit};
+
+use crate::fault::IdFault;
+use crate::game::Game;
+use crate::head::read_head;
+use crate::number::{first_of, leading_number};
+use crate::pattern_puzzle::PatternPuzzle;
+use grid_core::Size;
+use std::alloc::Global;
+
+/// The number of a clue, whose digits stand in front of the text, and the text after it.
+#[tactic(auto, unfolding(crate::specs::PatternText::clue_number))]
+fn number(
+    cells: u8,
+    line: usize,
+    before: u32,
+    at: usize,
+    digits: &[u8],
+) -> Result<(u8, &[u8]), IdFault>
+    requires { before ≤ 1000 }
+    ensures { GivesNumber (clue_number cells line before at (digits_front digits.now)) (after_digits digits.now) result }
+{
+    let (number, rest) = leading_number(digits);
+    if number == 0 {
+        return Err(IdFault::NumberRange(at));
+    }
+    if before + number > u32::from(cells) {
+        return Err(IdFault::LineTooFull(line));
+    }
+    Ok((number as u8, rest))
+}
+
+/// Whether a digit comes first.
+pub fn starts_with_digit(text: &[u8]) -> bool
+    ensures { result ≡ begins is_ascii_digit text.now }
+{
+    match first_of(text) {
+        Some((first, _)) => first.is_ascii_digit(),
+        None => false,
+    }
+}
+
+/// The first number of a clue, and the text after it.
+fn first_number(cells: u8, line: usize, at: usize, rest: &[u8]) -> Result<(u8, &[u8]), IdFault>
+    requires { 0 < length rest.now }
+    ensures { TakesNumber (clue_token cells line [] at) rest.now result }
+{
+    if starts_with_digit(rest) {
+        number(cells, line, 0, at, rest)
+    } else {
+        Err(IdFault::BadByte(at))
+    }
+}
+
+/// A further number of a clue, and the text after it.
+fn further_number<'a>(
+    cells: u8,
+    line: usize,
+    clue: &[u8],
+    before: u32,
+    at: usize,
+    first: u8,
+    after: &'a [u8],
+) -> Result<(u8, &'a [u8]), IdFault>
+    requires some { 0 < length clue.now }
+    requires used { before ≡ used_cells clue.now }
+    requires small { before ≤ 1000 }
+    requires place { at < 2 ^ 32 }
+    ensures { TakesNumber (clue_token cells line clue.now at) (first ∷ after.now) result }
+{
+    if first != b'.' {
+        return Err(IdFault::BadByte(at));
+    }
+    if !starts_with_digit(after) {
+        return Err(IdFault::BadByte(at));
+    }
+    number(cells, line, before, at + 1, after)
+}
+
+/// The number that comes next in a clue, and the text after it.
+fn next_number<'a>(
+    cells: u8,
+    line: usize,
+    clue: &[u8],
+    before: u32,
+    at: usize,
+    first: u8,
+    after: &'a [u8],
+    rest: &'a [u8],
+) -> Result<(u8, &'a [u8]), IdFault>
+    requires text { rest.now ≡ first ∷ after.now }
+    requires used { before ≡ used_cells clue.now }
+    requires small { before ≤ 1000 }
+    requires place { at < 2 ^ 32 }
+    ensures { TakesNumber (clue_token cells line clue.now at) rest.now result }
+{
+    if clue.is_empty() {
+        first_number(cells, line, at, rest)
+    } else {
+        further_number(cells, line, clue, before, at, first, after)
+    }
+}
+
+/// The cells of a line: columns first, then rows.
+pub fn cells_of(size: Size, line: usize) -> u8
+    ensures { result ≡ line_cells size line }
+{
+    if line < usize::from(size.w()) {
+        size.h()
+    } else {
+        size.w()
+    }
+}
+
+/// How many lines there are.
+pub fn lines(size: Size) -> usize
+    ensures { result ≡ lines_of size }
+{
+    usize::from(size.w()) + usize::from(size.h())
+}
+
+/// The clues of a description, which begins at that place of the ID.
+fn clues(
+    alloc: Global,
+    size: Size,
+    base: usize,
+    description: &[u8],
+) -> Result<Vec<Vec<u8>>, IdFault>
+    requires { base + length description.now < 2 ^ 32 }
+    ensures { Gives (λ v. map (λ clue. clue.items) v.items) result (clues_at size base description.now) }
+{
+    let lines = lines(size);
+    let mut clues = Vec::new(alloc);
+    let mut clue = Vec::new(alloc);
+    let mut before = 0;
+    let mut rest = description;
+    while let Some((first, after)) = first_of(rest) {
+        let line = clues.len();
+        if first == b'/' {
+            if line + 1 == lines {
+                return Err(IdFault::TooMany);
+            }
+            clues.push(clue)?;
+            clue = Vec::new(alloc);
+            before = 0;
+            rest = after;
+        } else {
+            let at = base + (description.len() - rest.len());
+            let cells = cells_of(size, line);
+            let (number, after) = next_number(cells, line, &clue, before, at, first, after, rest)?;
+            clue.push(number)?;
+            before += u32::from(number) + 1;
+            rest = after;
+        }
+    }
+    if clues.len() + 1 != lines {
+        return Err(IdFault::TooFew);
+    }
+    clues.push(clue)?;
+    Ok(clues)
+}
+
+/// The puzzle that the text spells, or its first fault, as reading gives it.
+#[tactic(auto, unfolding(crate::specs::PatternText::pattern_of))]
+fn read(alloc: Global, text: &[u8]) -> Result<PatternPuzzle, IdFault>
+    ensures exact { Gives (λ p. p) result (pattern_of text.now) }
+    ensures head { (f : IdFault) → head_of Game.Pattern text.now ≡ Err f → result ≡ Err f }
+{
+    let (w, h, place) = read_head(Game::Pattern, text)?;
+    let size = Size::new(w, h).unwrap();
+    let clues = clues(alloc, size, place, &text[place..])?;
+    Ok(PatternPuzzle::of_clues(size, clues))
+}
+
+/// The puzzle that the ID spells, or the ID's first fault: the tests of the part before the colon come first, in
+/// their order and on the whole ID, and then the first fault that is met in the description from left to right.
+/// A fault's place is the number of bytes of the ID before it. `IdFault::Memory` comes only where memory was
+/// wanted for what was read so far.
+pub fn read_pattern(alloc: Global, text: &[u8]) -> Result<PatternPuzzle, IdFault>
+    // What is read is spelled so.
+    ensures found { IfOk result (λ p. SpellsPattern text.now p) }
+    // What is spelled so is read, unless memory runs out.
+    ensures only { (p : Pattern) → SpellsPattern text.now p → Gives (λ q. q) result (Ok p) }
+    // Which fault it is.
+    ensures fault { IfErr result (λ f. Fails f (pattern_of text.now)) }
+    // A fault of the first six tests comes whatever memory does.
+    ensures head { (f : IdFault) → head_of Game.Pattern text.now ≡ Err f → result ≡ Err f }
+{
+    read(alloc, text)
+}
+
+/// Each text spells exactly one puzzle of Pattern or has exactly one fault, and never both.
+pub fn one_reading()
+    ensures one { (text : List ℕ) (p q : Pattern) → SpellsPattern text p → SpellsPattern text q → p ≡ q }
+    ensures apart { (text : List ℕ) (p : Pattern) (f : IdFault) → SpellsPattern text p → pattern_of text ≡ Err f → ⊥ }
+    ensures either { (text : List ℕ) → ((p : Pattern) × SpellsPattern text p) ⊎ ((f : IdFault) × (pattern_of text ≡ Err f)) }
+{}
+
+/// A description's fault is that of its first token with one, or of its end, after tokens without fault.
+pub fn first_fault()
+    ensures { (size : Extent) (at : ℕ) (description : List ℕ) (f : IdFault) → clues_at size at description ≡ Err f
+        → FirstFault (pattern_step size) (pattern_end size) at nothing_yet (words description) f }
+{}
