@@ -1,0 +1,7 @@
+pub mod ParsedLemmas
+pub mod PutLemmas
+pub mod RunLemmas
+pub mod EachBelow
+pub mod PatternLineLemmas
+pub mod Ranks
+pub mod Searched

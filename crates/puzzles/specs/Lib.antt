@@ -1,0 +1,14 @@
+pub mod CommandLine
+pub mod Requests
+pub mod Ends
+pub mod ReadEnds
+pub mod WriteEnds
+pub mod Answers
+pub mod Runs
+pub mod Replies
+pub mod PatternSolutions
+pub mod PatternLines
+pub mod Verdicts
+pub mod GridTexts
+pub mod Refusals
+pub mod Outputs

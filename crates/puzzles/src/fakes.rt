@@ -1,0 +1,102 @@
+//! Readers and writers of the tests' own.
+use std::alloc::{AllocError, Global};
+use std::io;
+use std::io::{ErrorKind, Read, Write};
+
+/// A reader that gives one byte a call, always the same, and never ends.
+#[derive(Drop)]
+pub struct Endless {
+    pub byte: u8,
+    pub calls: u32,
+}
+
+impl Read for Endless {
+    fn read(&mut self, buf: &mut [u8]) -> io::Result<usize> {
+        self.calls = self.calls.saturating_add(1);
+        match buf.first_mut() {
+            Some(first) => {
+                *first = self.byte;
+                Ok(1)
+            }
+            None => Ok(0),
+        }
+    }
+}
+
+/// A reader that gives at most so many bytes a call, and fails at one call.
+#[derive(Drop)]
+pub struct Chunks<'a> {
+    pub rest: &'a [u8],
+    pub most: usize,
+    pub fails_at: u32,
+    pub calls: u32,
+}
+
+impl Read for Chunks<'_> {
+    fn read(&mut self, buf: &mut [u8]) -> io::Result<usize> {
+        self.calls = self.calls.saturating_add(1);
+        if self.calls == self.fails_at {
+            return Err(io::Error::from(ErrorKind::Other));
+        }
+        let count = self.most.min(buf.len()).min(self.rest.len());
+        let (now, later) = self.rest.split_at(count);
+        buf[..count].copy_from_slice(now);
+        self.rest = later;
+        Ok(count)
+    }
+}
+
+/// A writer that takes at most so many bytes a call, fails at one call, and may fail to flush.
+#[derive(Drop)]
+pub struct Slow {
+    pub taken: Vec<u8>,
+    pub most: usize,
+    pub fails_at: u32,
+    pub calls: u32,
+    pub flushes: u32,
+    pub flush_works: bool,
+}
+
+impl Slow {
+    /// A writer that has taken nothing. It fails at no call where `fails_at` is 0.
+    pub fn new(alloc: Global, most: usize, fails_at: u32, flush_works: bool) -> Slow {
+        Slow {
+            taken: Vec::new(alloc),
+            most,
+            fails_at,
+            calls: 0,
+            flushes: 0,
+            flush_works,
+        }
+    }
+}
+
+impl Write for Slow {
+    fn write(&mut self, buf: &[u8]) -> io::Result<usize> {
+        self.calls = self.calls.saturating_add(1);
+        if self.calls == self.fails_at {
+            return Err(io::Error::from(ErrorKind::Other));
+        }
+        let count = self.most.min(buf.len());
+        self.taken.extend_from_slice(&buf[..count])?;
+        Ok(count)
+    }
+
+    fn flush(&mut self) -> io::Result<()> {
+        self.flushes = self.flushes.saturating_add(1);
+        if self.flush_works {
+            Ok(())
+        } else {
+            Err(io::Error::from(ErrorKind::Other))
+        }
+    }
+}
+
+/// The words of a command line.
+pub fn texts(alloc: Global, words: &[&str]) -> Result<Vec<String>, AllocError> {
+    let mut all = Vec::new(alloc);
+    for word in words {
+        all.push(String::from_str(alloc, word)?)?;
+    }
+    Ok(all)
+}

@@ -1,0 +1,52 @@
+//! Texts on their way to a sink.
+ghost use Rattle.std.specs.Prelude.{◌≡◌, ◌<◌, ◌≤◌, ◌++◌, ◌⊎◌, List, ℕ, true, false, OnOk, OnErr};
+ghost use Rattle.puzzles.specs.Answers.{Begins, Delivers};
+ghost use Rattle.puzzles.specs.Replies.{answer_in};
+
+use crate::ends::Sink;
+use crate::reply::Reply;
+
+/// The status of a run that met a failing end.
+pub const BROKEN: u8 = 6;
+
+/// An end failed.
+#[derive(Drop)]
+pub struct Broken;
+
+/// Puts all of the bytes, in as many calls as the sink needs.
+pub fn put_all<O: Sink>(output: &mut O, bytes: &[u8]) -> Result<(), Broken>
+    requires { O.has_failed output.old ≡ false }
+    ensures ok { OnOk result ((O.takes output.old bytes.now output.new)
+        × (O.has_failed output.new ≡ false)) }
+    ensures err { OnErr result (((written : List ℕ) × O.takes output.old written output.new
+        × Begins written bytes.now) × (O.has_failed output.new ≡ true)) }
+{
+    let mut rest = bytes;
+    while !rest.is_empty() {
+        match output.put(rest) {
+            Some(count) => rest = &rest[count..],
+            None => return Err(Broken),
+        }
+    }
+    Ok(())
+}
+
+/// Puts the text of a reply and finishes, and gives the status of the run.
+pub fn deliver<O: Sink>(output: &mut O, reply: &Reply) -> u8
+    requires not_failed { O.has_failed output.old ≡ false }
+    requires status { reply.now.status < 5 }
+    ensures delivers { Delivers O.takes output.old (answer_in reply.now) output.new result }
+    ensures outcome { ((result < 5) × (O.has_failed output.new ≡ false) × (O.is_flushed output.new ≡ true))
+        ⊎ ((result ≡ BROKEN) × (O.has_failed output.new ≡ true)) }
+{
+    match put_all(output, reply.text.as_bytes()) {
+        Ok(()) => {
+            if output.finish() {
+                reply.status
+            } else {
+                BROKEN
+            }
+        }
+        Err(_) => BROKEN,
+    }
+}

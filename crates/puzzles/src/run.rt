@@ -1,0 +1,92 @@
+//! One run of the program.
+ghost use Rattle.std.specs.Prelude.{◌≡◌, ◌<◌, ◌≤◌, List, ℕ, true, false, map, option_map, string_bytes, IfOk};
+ghost use Rattle.puzzles.specs.Answers.{BeginsAnswer, Text};
+ghost use Rattle.puzzles.specs.Outputs.{Allows, AllowsSolve, reads_input};
+ghost use Rattle.puzzles.specs.Replies.{answer_in};
+ghost use Rattle.puzzles.specs.Requests.{asked_in, asked_of};
+ghost use Rattle.puzzles.specs.Runs.{Ran, IsBroken};
+
+use crate::ends::{ReadEnd, Sink, Source, WriteEnd};
+use crate::output::deliver;
+use crate::pattern_search::search;
+use crate::reply::{Reply, id_refused, verdict_reply, words_refused};
+use crate::words::{Request, read_words};
+use gameid_core::{Game, IdFault, read_pattern};
+use std::alloc::{AllocError, Global};
+
+/// The status of a run that wanted memory.
+pub const NO_MEMORY: u8 = 5;
+
+/// The answer to an ID of Pattern that is to be solved.
+fn solve_pattern(alloc: Global, id: &[u8]) -> Result<Reply, AllocError>
+    ensures allowed { IfOk result (λ r. AllowsSolve id.now (answer_in r)) }
+    ensures status { IfOk result (λ r. r.status < NO_MEMORY) }
+{
+    match read_pattern(alloc, id) {
+        Ok(puzzle) => {
+            let verdict = search(alloc, &puzzle)?;
+            verdict_reply(alloc, puzzle.size(), &verdict)
+        }
+        Err(IdFault::Memory) => Err(AllocError),
+        Err(fault) => id_refused(alloc, fault),
+    }
+}
+
+/// The answer to a request, which leaves the input unread.
+fn reply_to(alloc: Global, request: Option<Request<'_>>) -> Result<Reply, AllocError>
+    ensures allowed { IfOk result (λ r. (input : Text)
+        → Allows (option_map asked_in request.entry) input (answer_in r)) }
+    ensures status { IfOk result (λ r. r.status < NO_MEMORY) }
+{
+    match request {
+        Some(
+            Request::Solve {
+                game: Game::Pattern,
+                id,
+            },
+        ) => solve_pattern(alloc, id.as_bytes()),
+        _ => words_refused(alloc),
+    }
+}
+
+/// Does what the words after the program's name ask for, and gives the status:
+/// 0 to 4 where the whole answer was written, 5 where memory was wanted, and 6 where an end failed. After 5 and 6
+/// what was written is the beginning of an answer, or nothing.
+pub fn run<I: Source, O: Sink>(alloc: Global, words: &[String], input: &mut I, output: &mut O) -> u8
+    requires no_calls { I.call_count input.old ≡ 0 }
+    requires input_fine { I.has_failed input.old ≡ false }
+    requires input_open { I.has_ended input.old ≡ false }
+    requires output_fine { O.has_failed output.old ≡ false }
+    ensures ran { Ran I.gives I.has_ended O.takes (Allows (asked_of (map string_bytes words.now)))
+        input.old input.new output.old output.new result }
+    ensures status { result ≤ 6 }
+    ensures sound { result < NO_MEMORY
+        → (I.has_failed input.new ≡ false) × (O.has_failed output.new ≡ false) }
+    ensures sent { result < NO_MEMORY → O.is_flushed output.new ≡ true }
+    ensures broken { result ≡ 6 → IsBroken (I.has_failed input.new) (O.has_failed output.new)
+        (I.call_count input.new) (I.has_ended input.new) }
+    ensures unread { reads_input (asked_of (map string_bytes words.now)) ≡ false
+        → I.call_count input.new ≡ 0 }
+{
+    let request = match read_words(alloc, words) {
+        Ok(request) => request,
+        Err(_) => return NO_MEMORY,
+    };
+    match reply_to(alloc, request) {
+        Ok(reply) => deliver(output, &reply),
+        Err(_) => NO_MEMORY,
+    }
+}
+
+/// A run over bytes in memory: what it writes, and its status.
+pub fn run_on_bytes(alloc: Global, words: &[String], bytes: &[u8]) -> (Vec<u8>, u8)
+    ensures whole { result.1 < NO_MEMORY → Allows (asked_of (map string_bytes words.now)) bytes.now
+        (record { text = result.0.items; status = result.1 }) }
+    ensures begun { BeginsAnswer (Allows (asked_of (map string_bytes words.now)) bytes.now)
+        result.0.items }
+{
+    let mut input = ReadEnd::new(bytes);
+    let mut output = WriteEnd::new(Vec::new(alloc));
+    let status = run(alloc, words, &mut input, &mut output);
+    (output.into_inner(), status)
+}

@@ -1,0 +1,177 @@
+//! Whole runs. What they are to write follows from the rules and the formats by hand.
+use crate::ends::{ReadEnd, Sink, Source, WriteEnd};
+use crate::fakes::{Chunks, Endless, Slow, texts};
+use crate::run::{run, run_on_bytes};
+use std::alloc::{AllocError, Global};
+use std::test::Fail;
+
+/// The words of the run that the program's stored run has too, and what it writes.
+const SOLVED: [&str; 3] = ["solve", "pattern", "5x1:1/1//1/1/2.2"];
+
+const ANSWER: &[u8] = b"one\n##.##\n";
+
+/// What a run writes, and its status.
+fn outcome(alloc: Global, words: &[&str]) -> Result<(Vec<u8>, u8), AllocError> {
+    let words = texts(alloc, words)?;
+    Ok(run_on_bytes(alloc, words.as_slice(), b"unread"))
+}
+
+#[test]
+fn ids_are_answered(rt: HostRuntime) -> Result<(), Fail> {
+    for (id, text, status) in [
+        ("5x1:1/1//1/1/2.2", "one\n##.##\n", 0),
+        ("1x1:/", "one\n.\n", 0),
+        ("1x1:01/1", "one\n#\n", 0),
+        ("1:1/1", "one\n#\n", 0),
+        ("2x1:1/1/1", "none\n", 1),
+        ("2x2:1/1/1/1", "several\n.#\n#.\n\n#.\n.#\n", 3),
+        ("3x2:1/2/1/2/2", "several\n.##\n##.\n\n##.\n.##\n", 3),
+        ("2x3:3/1.1/2/1/2", "one\n##\n#.\n##\n", 0),
+        ("3x1:1/1/1/2.1", "refused: line 3 too full\n", 2),
+        ("2x2:1/1/1", "refused: too few\n", 2),
+        ("2x2:1/1/1/1/", "refused: too many\n", 2),
+        ("2x2:1./1/1/1", "refused: bad byte at 5\n", 2),
+        ("1x1:0/", "refused: number range at 4\n", 2),
+        ("2x2:1/1/1/1,#", "refused: bad byte at 11\n", 2),
+        ("3x3#12", "refused: seed id\n", 2),
+        ("2x2", "refused: no colon\n", 2),
+        ("02x2:p", "refused: bad size\n", 2),
+        ("2x2k:p", "refused: variant\n", 2),
+        ("65x1:p", "refused: size range\n", 2),
+        ("", "refused: no colon\n", 2),
+    ] {
+        let (taken, found) = outcome(rt.alloc(), &["solve", "pattern", id])?;
+        assert_eq!(rt; taken.as_slice(), text.as_bytes(), "{id}");
+        assert_eq!(rt; found, status, "{id}");
+    }
+    Ok(())
+}
+
+#[test]
+fn other_words_are_refused(rt: HostRuntime) -> Result<(), Fail> {
+    let rows: [&[&str]; 18] = [
+        &[],
+        &["--help"],
+        &["-h"],
+        &["help"],
+        &["--version"],
+        &["solve"],
+        &["solve", "pattern"],
+        &["solve", "chess", "1x1:/"],
+        &["solve", "Pattern", "1x1:/"],
+        &["solve", "solo", "2x2:p"],
+        &["solve", "pattern", "1x1:/", "1x1:/"],
+        &["solve", "pattern", "1x1:/", "--budget", "5"],
+        &["solve", "pattern", "1x1:/", "--budget", "x"],
+        &["solve", "pattern", "--help"],
+        &["check", "pattern", "1x1:/"],
+        &["grade", "pattern", "1x1:/"],
+        &["generate", "tents", "4x4", "--seed", "1", "--black", "5"],
+        &["pattern", "solve", "1x1:/"],
+    ];
+    for (k, words) in rows.iter().enumerate() {
+        let (taken, found) = outcome(rt.alloc(), words)?;
+        assert_eq!(rt; taken.as_slice(), b"refused: words\n".as_slice(), "row {k}");
+        assert_eq!(rt; found, 2, "row {k}");
+    }
+    Ok(())
+}
+
+#[test]
+fn a_wide_puzzle_is_given_up(rt: HostRuntime) -> Result<(), Fail> {
+    // 15 cells have 65,534 values to set before all grids are tested, and 16 cells 131,070.
+    let (taken, status) = outcome(rt.alloc(), &["solve", "pattern", "15x1:///////////////15"])?;
+    assert_eq!(rt; taken.as_slice(), b"none\n".as_slice());
+    assert_eq!(rt; status, 1);
+    let (taken, status) = outcome(rt.alloc(), &["solve", "pattern", "16x1:////////////////16"])?;
+    assert_eq!(rt; taken.as_slice(), b"gave up\n".as_slice());
+    assert_eq!(rt; status, 4);
+    let (taken, status) = outcome(rt.alloc(), &["solve", "pattern", "16x1:////////////////"])?;
+    assert_eq!(rt; taken.as_slice(), b"gave up\n................\n".as_slice());
+    assert_eq!(rt; status, 4);
+    Ok(())
+}
+
+#[test]
+fn a_failing_writer_keeps_a_beginning(rt: HostRuntime) -> Result<(), Fail> {
+    let words = texts(rt.alloc(), &SOLVED)?;
+    for fails_at in 0..11u32 {
+        let mut source = ReadEnd::new(Endless {
+            byte: b'#',
+            calls: 0,
+        });
+        let mut sink = WriteEnd::new(Slow::new(rt.alloc(), 1, fails_at, true));
+        let status = run(rt.alloc(), words.as_slice(), &mut source, &mut sink);
+        assert_eq!(rt; sink.failed(), fails_at > 0);
+        assert_eq!(rt; source.calls(), 0);
+        let slow = sink.into_inner();
+        assert_eq!(rt; status, if fails_at == 0 { 0 } else { 6 });
+        assert_eq!(rt; slow.flushes, if fails_at == 0 { 1 } else { 0 });
+        let count = if fails_at == 0 {
+            10
+        } else {
+            fails_at as usize - 1
+        };
+        assert!(rt; count <= ANSWER.len());
+        assert_eq!(rt; slow.taken.as_slice(), &ANSWER[..count]);
+        assert_eq!(rt; source.into_inner().calls, 0);
+    }
+    Ok(())
+}
+
+#[test]
+fn a_failing_end_is_told(rt: HostRuntime) -> Result<(), Fail> {
+    let words = texts(rt.alloc(), &SOLVED)?;
+    // No byte is taken, and then no flush works.
+    for (most, calls, written) in [(0, 1, b"".as_slice()), (4_096, 1, ANSWER)] {
+        let mut source = ReadEnd::new(b"unread".as_slice());
+        let mut sink = WriteEnd::new(Slow::new(rt.alloc(), most, 0, false));
+        let status = run(rt.alloc(), words.as_slice(), &mut source, &mut sink);
+        assert_eq!(rt; status, 6);
+        assert!(rt; sink.failed());
+        let slow = sink.into_inner();
+        assert_eq!(rt; slow.calls, calls);
+        assert_eq!(rt; slow.taken.as_slice(), written);
+    }
+    Ok(())
+}
+
+#[test]
+fn a_source_gives_its_bytes(rt: HostRuntime) {
+    let mut source = ReadEnd::new(Chunks {
+        rest: b"abcde",
+        most: 2,
+        fails_at: 0,
+        calls: 0,
+    });
+    let mut buffer = [0u8; 4];
+    for (k, count) in [2, 2, 1, 0].iter().enumerate() {
+        assert!(rt; !source.ended() && !source.failed() && source.calls() < 4);
+        assert_eq!(rt; source.fetch(&mut buffer), Some(*count), "call {k}");
+        assert_eq!(rt; source.calls() as usize, k + 1);
+    }
+    assert!(rt; source.ended());
+    assert!(rt; !source.failed());
+    let mut failing = ReadEnd::new(Chunks {
+        rest: b"abcde",
+        most: 2,
+        fails_at: 1,
+        calls: 0,
+    });
+    assert_eq!(rt; failing.fetch(&mut buffer), None);
+    assert!(rt; failing.failed());
+    assert!(rt; !failing.ended());
+    assert_eq!(rt; failing.into_inner().calls, 1);
+}
+
+/// Under `rt try --test --fail-alloc 1..` each growth of this run is refused in turn.
+#[test]
+fn want_of_memory_leaves_a_beginning(rt: HostRuntime) {
+    let Ok(words) = texts(rt.alloc(), &SOLVED) else {
+        return;
+    };
+    let (taken, status) = run_on_bytes(rt.alloc(), words.as_slice(), b"unread");
+    assert!(rt; status == 0 || status == 5);
+    assert!(rt; ANSWER.starts_with(taken.as_slice()));
+    assert_eq!(rt; taken.len() == ANSWER.len(), status == 0);
+}

@@ -1,0 +1,128 @@
+//! What the words of a command line ask for.
+ghost use Rattle.std.specs.Prelude.{◌≡◌, IfOk, option_and_then, MatchOption, None, option_map, map, string_bytes, false};
+ghost use Rattle.clap.specs.Walk.{rule_of, first_of, rows_of};
+ghost use Rattle.clap.specs.Simple.{app_of, subcommand_rows_of};
+ghost use Rattle.clap.specs.Matches.{found_of};
+ghost use Rattle.clap.specs.declared.builder.command.Command.TheViews.{out-Command as fields_of};
+ghost use Rattle.puzzles.specs.CommandLine.{required_word, solve_app, bare_app, puzzles_app, parsed};
+ghost use Rattle.puzzles.specs.Requests.{asked_in, game_of, game_in, solve_in, asked_by, asked_of};
+
+use clap::error::ErrorKind;
+use clap::{Arg, ArgMatches, Command};
+use gameid_core::Game;
+use std::alloc::{AllocError, Global};
+
+/// What the words ask for.
+#[derive(Drop)]
+pub enum Request<'a> {
+    Solve { game: Game, id: &'a str },
+}
+
+fn required_argument<'a>(alloc: Global, id: &'a str) -> Arg<'a>
+    ensures rule { rule_of result ≡ required_word id.entry.now }
+    ensures local { result.global ≡ false }
+{
+    Arg::new(alloc, id).required(true)
+}
+
+fn solve_command<'a>(alloc: Global) -> Result<Command<'a>, AllocError>
+    ensures app { IfOk result (λ c. app_of c ≡ solve_app) }
+    ensures local { IfOk result (λ c. (fields_of c).has_globals ≡ false) }
+{
+    Command::new(alloc, "solve")
+        .arg(required_argument(alloc, "game"))?
+        .arg(required_argument(alloc, "id"))
+}
+
+fn bare_command<'a>(alloc: Global) -> Command<'a>
+    ensures app { app_of result ≡ bare_app }
+    ensures local { (fields_of result).has_globals ≡ false }
+{
+    Command::new(alloc, "puzzles")
+        .no_binary_name(true)
+        .disable_help_flag(true)
+        .disable_help_subcommand(true)
+        .disable_version_flag(true)
+        .subcommand_required(true)
+}
+
+fn puzzles_command<'a>(alloc: Global) -> Result<Command<'a>, AllocError>
+    ensures { IfOk result (λ c. app_of c ≡ puzzles_app) }
+{
+    bare_command(alloc).subcommand(solve_command(alloc)?)
+}
+
+/// What was found in the words, or nothing where they are refused.
+fn matches_of<'a>(alloc: Global, words: &'a [String]) -> Result<Option<ArgMatches<'a>>, AllocError>
+    ensures { IfOk result (λ found. MatchOption found
+        (parsed (map string_bytes words.entry.now) ≡ None)
+        (λ m. subcommand_rows_of m ≡ parsed (map string_bytes words.entry.now))) }
+{
+    let command = puzzles_command(alloc)?;
+    match command.try_get_matches_from(words) {
+        Ok(matches) => Ok(Some(matches)),
+        Err(error) => match error.kind() {
+            ErrorKind::OutOfMemory => Err(AllocError),
+            _ => Ok(None),
+        },
+    }
+}
+
+fn game_named(text: &str) -> Option<Game>
+    ensures { result ≡ game_of text.now }
+{
+    match text {
+        "solo" => Some(Game::Solo),
+        "pattern" => Some(Game::Pattern),
+        "lightup" => Some(Game::LightUp),
+        "tents" => Some(Game::Tents),
+        _ => None,
+    }
+}
+
+fn text_of<'a>(matches: &ArgMatches<'a>, id: &str) -> Option<&'a str>
+    ensures { option_map (λ s. s.now) result ≡ first_of id.now (rows_of (found_of matches.now)) }
+{
+    matches.get_str(id)
+}
+
+fn game_from<'a>(matches: &ArgMatches<'a>) -> Option<Game>
+    ensures { result ≡ game_in (rows_of (found_of matches.now)) }
+{
+    game_named(text_of(matches, "game")?)
+}
+
+fn solve_request<'a>(matches: &ArgMatches<'a>) -> Option<Request<'a>>
+    ensures { option_map asked_in result ≡ solve_in (rows_of (found_of matches.now)) }
+{
+    let game = game_from(matches)?;
+    let id = text_of(matches, "id")?;
+    Some(Request::Solve { game, id })
+}
+
+fn request_by<'a>(name: &str, matches: &ArgMatches<'a>) -> Option<Request<'a>>
+    ensures { option_map asked_in result ≡ asked_by name.now (rows_of (found_of matches.now)) }
+{
+    match name {
+        "solve" => solve_request(matches),
+        _ => None,
+    }
+}
+
+fn request_in<'a>(matches: &ArgMatches<'a>) -> Option<Request<'a>>
+    ensures { option_map asked_in result
+        ≡ option_and_then (λ p. asked_by p.0 p.1) (subcommand_rows_of matches.now) }
+{
+    let (name, found) = matches.subcommand()?;
+    request_by(name, found)
+}
+
+/// What the words ask for, or nothing where they are refused. The words are those after the program's name.
+pub fn read_words<'a>(alloc: Global, words: &'a [String]) -> Result<Option<Request<'a>>, AllocError>
+    ensures { IfOk result (λ r. option_map asked_in r ≡ asked_of (map string_bytes words.entry.now)) }
+{
+    match matches_of(alloc, words)? {
+        Some(matches) => Ok(request_in(&matches)),
+        None => Ok(None),
+    }
+}
