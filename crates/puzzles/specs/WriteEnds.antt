@@ -2,7 +2,7 @@
 use Rattle.std.specs.Prelude.{ℕ, Bool, List, [], ◌++◌, Option, Some, None}
 use Rattle.std.proofs.Common.{ap, sym, ◌∙◌, append_assoc, append-nil}
 use Rattle.std.specs.Io.KnownBytes.{Appends}
-use Rattle.puzzles.specs.declared.ends.WriteEnd.{WriteEnd}
+use Rattle.puzzles.specs.declared.write_end.WriteEnd.{WriteEnd}
 
 abbrev pub writer_of : {W : Type 0} → WriteEnd W → W
 writer_of end = end.writer

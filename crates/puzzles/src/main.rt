@@ -8,14 +8,17 @@ pub mod grid_text;
 pub mod output;
 pub mod pattern_check;
 pub mod pattern_search;
+pub mod read_end;
 pub mod reply;
 pub mod run;
 #[cfg(test)]
 mod tests;
 pub mod words;
+pub mod write_end;
 
-use crate::ends::{ReadEnd, WriteEnd};
+use crate::read_end::ReadEnd;
 use crate::run::{NO_MEMORY, run};
+use crate::write_end::WriteEnd;
 use std::env;
 use std::io::ErrorKind;
 use std::process::ExitCode;

@@ -6,11 +6,13 @@ ghost use Rattle.puzzles.specs.Replies.{answer_in};
 ghost use Rattle.puzzles.specs.Requests.{asked_in, asked_of};
 ghost use Rattle.puzzles.specs.Runs.{Ran, IsBroken};
 
-use crate::ends::{ReadEnd, Sink, Source, WriteEnd};
+use crate::ends::{Sink, Source};
 use crate::output::deliver;
 use crate::pattern_search::search;
+use crate::read_end::ReadEnd;
 use crate::reply::{Reply, id_refused, verdict_reply, words_refused};
 use crate::words::{Request, read_words};
+use crate::write_end::WriteEnd;
 use gameid_core::{Game, IdFault, read_pattern};
 use std::alloc::{AllocError, Global};
 

@@ -1,7 +1,9 @@
 //! Whole runs. What they are to write follows from the rules and the formats by hand.
-use crate::ends::{ReadEnd, Sink, Source, WriteEnd};
+use crate::ends::{Sink, Source};
 use crate::fakes::{Chunks, Endless, Slow, texts};
+use crate::read_end::ReadEnd;
 use crate::run::{run, run_on_bytes};
+use crate::write_end::WriteEnd;
 use std::alloc::{AllocError, Global};
 use std::test::Fail;
 
