@@ -1,5 +1,5 @@
 -- Worked texts: the definitions compute what is wanted of them.
-use Rattle.std.proofs.Common.{◌≡◌, [], ◌∷◌, Ok, Err, Result, refl}
+use Rattle.std.proofs.Common.{◌≡◌, ◌∷◌, Ok, Err, Result, refl, []}
 use Rattle.std.specs.Prelude.{codes}
 use Rattle.gameid_core.specs.declared.fault.IdFault.{IdFault}
 use Rattle.gameid_core.specs.declared.fault.IdFault.TheVariants.{NoColon, BadByte, NumberRange, LineTooFull, TooFew, TooMany}

@@ -1,7 +1,8 @@
 -- What the puzzles are, without where they lie in memory.
-use Rattle.std.specs.Prelude.{◌≡◌, ℕ, ◌+◌, ◌<◌, ◌≤◌, List, [], ◌∷◌, length, nat_lt, if◌then◌else◌}
+use Rattle.std.specs.Prelude.{◌≡◌, ℕ, ◌+◌, ◌*◌, ◌<◌, ◌≤◌, List, [], ◌∷◌, length, nat_lt, if◌then◌else◌}
 use Rattle.std.specs.List.{AllByRecursion}
 use Rattle.grid_core.specs.Extent.{Extent, IsExtent}
+use Rattle.gameid_core.specs.Head.{max_numbers}
 
 -- the cells of a line: columns first, then rows
 abbrev pub line_cells : Extent → ℕ → ℕ
@@ -33,3 +34,20 @@ pub record IsPattern (p : Pattern) : Type 0 where
   pub size : IsExtent p.size
   pub lines : length p.clues ≡ lines_of p.size
   pub clues : AreClues p.size 0 p.clues
+
+-- the givens by place, 0 for a blank cell
+pub record Solo : Type 0 where
+  pub c : ℕ
+  pub r : ℕ
+  pub givens : List ℕ
+
+-- the numbers of a grid, which are also its rows
+abbrev pub solo_n : Solo → ℕ
+solo_n p = p.c * p.r
+
+pub record IsSolo (p : Solo) : Type 0 where
+  pub c_low : 2 ≤ p.c
+  pub r_low : 2 ≤ p.r
+  pub n_high : solo_n p ≤ max_numbers
+  pub cells : length p.givens ≡ solo_n p * solo_n p
+  pub range : AllByRecursion (λ v. v ≤ solo_n p) p.givens

@@ -1,4 +1,4 @@
-//! Game IDs: the puzzles, and their readers.
+//! Game IDs: the puzzles, their readers and their writers.
 #![tactic(auto)]
 
 mod black_runs;
@@ -8,6 +8,12 @@ mod head;
 mod number;
 mod pattern_puzzle;
 mod pattern_text;
+mod pattern_writing;
+mod runs;
+mod solo_puzzle;
+mod solo_text;
+mod solo_writing;
+mod writing;
 
 pub use black_runs::runs_by_first_cells;
 pub use fault::IdFault;
@@ -15,6 +21,10 @@ pub use game::Game;
 pub use head::{MAX_ID, MAX_NUMBERS, read_size};
 pub use pattern_puzzle::PatternPuzzle;
 pub use pattern_text::{first_fault, one_reading, read_pattern};
+pub use pattern_writing::write_pattern;
+pub use solo_puzzle::SoloPuzzle;
+pub use solo_text::{one_reading_of_solo, read_solo};
+pub use solo_writing::write_solo;
 
 #[cfg(test)]
 mod tests;
