@@ -81,6 +81,6 @@ fill_lawful P token each all at cells (word ∷ ws) t h e =
     let f = fill_cases token all at cells word b.0 b.1 in
     fill_lawful P token each all (at + length word) b.0 ws t (subst (λ cs. AllByRecursion P cs) f.2 (AllByRecursion-append P cells f.0 h (each at word f.0 f.1))) b.2
 
-pub fill_full : (most : ℕ) (cells : List ℕ) → length cells ≡ most → fill_end most cells ≡ Ok cells
+pub fill_full : {A : Type 0} (most : ℕ) (cells : List A) → length cells ≡ most → fill_end most cells ≡ Ok cells
 unfolding fill_end
 fill_full most cells e = let full : eqb (length cells) most ≡ true = eq-eqb _ _ e in rw full refl

@@ -3,6 +3,11 @@ pub mod FirstFaults
 pub mod HeadLaws
 pub mod Joined
 pub mod Letters
+pub mod LightLaws
+pub mod LightReading
+pub mod LightSpelling
+pub mod LightTexts
+pub mod LightWritten
 pub mod Lists
 pub mod Numbers
 pub mod Numerals

@@ -8,8 +8,8 @@ use Rattle.gameid_core.specs.Words.{value, IsNumeral}
 use Rattle.gameid_core.specs.SizeText.{size_text}
 use Rattle.gameid_core.specs.Puzzles.{Pattern, IsPattern, IsClue, AreClues, line_cells, used}
 use Rattle.gameid_core.specs.PatternText.{clue_text, pattern_text, SpellsPattern}
-use Rattle.gameid_core.proofs.Numerals.{own, length_decimal, numeral}
 use Rattle.gameid_core.specs.Head.{max_id}
+use Rattle.gameid_core.proofs.Numerals.{own, length_decimal, numeral}
 
 -- ---- how long
 

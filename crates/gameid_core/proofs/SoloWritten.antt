@@ -9,9 +9,9 @@ use Rattle.gameid_core.specs.Cells.{letters}
 use Rattle.gameid_core.specs.SizeText.{size_text}
 use Rattle.gameid_core.specs.Puzzles.{Solo, IsSolo, solo_n}
 use Rattle.gameid_core.specs.SoloText.{before_given, cells_text, solo_text}
+use Rattle.gameid_core.specs.Head.{max_id, max_numbers}
 use Rattle.gameid_core.proofs.Letters.{letters_short}
 use Rattle.gameid_core.proofs.Lists.{next_cell}
-use Rattle.gameid_core.specs.Head.{max_id, max_numbers}
 
 -- no more cells than the most numbers by as many
 pub solo_few : (n : ℕ) → n ≤ max_numbers → n * n ≤ max_numbers * max_numbers

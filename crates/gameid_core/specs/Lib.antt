@@ -9,3 +9,4 @@ pub mod PatternText
 pub mod Cells
 pub mod Runs
 pub mod SoloText
+pub mod LightText

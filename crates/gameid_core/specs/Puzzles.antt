@@ -2,6 +2,8 @@
 use Rattle.std.specs.Prelude.{◌≡◌, ℕ, ◌+◌, ◌*◌, ◌<◌, ◌≤◌, List, [], ◌∷◌, length, nat_lt, if◌then◌else◌}
 use Rattle.std.specs.List.{AllByRecursion}
 use Rattle.grid_core.specs.Extent.{Extent, IsExtent}
+use Rattle.gameid_core.specs.declared.light_cell.LightCell.{LightCell}
+use Rattle.gameid_core.specs.declared.light_cell.LightCell.TheVariants.{White, Black, Numbered}
 use Rattle.gameid_core.specs.Head.{max_numbers}
 
 -- the cells of a line: columns first, then rows
@@ -51,3 +53,24 @@ pub record IsSolo (p : Solo) : Type 0 where
   pub n_high : solo_n p ≤ max_numbers
   pub cells : length p.givens ≡ solo_n p * solo_n p
   pub range : AllByRecursion (λ v. v ≤ solo_n p) p.givens
+
+pub record Light : Type 0 where
+  pub size : Extent
+  pub cells : List LightCell
+
+-- a number of a black cell is at most 4
+abbrev pub IsLightCell : LightCell → Type 0
+IsLightCell White = Unit {0}
+IsLightCell Black = Unit {0}
+IsLightCell (Numbered n) = n ≤ 4
+
+-- both sides are at least 2
+pub record IsWide (size : Extent) : Type 0 where
+  pub extent : IsExtent size
+  pub w_two : 2 ≤ size.w
+  pub h_two : 2 ≤ size.h
+
+pub record IsLight (p : Light) : Type 0 where
+  pub size : IsWide p.size
+  pub count : length p.cells ≡ p.size.w * p.size.h
+  pub each : AllByRecursion IsLightCell p.cells

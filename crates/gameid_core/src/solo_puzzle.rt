@@ -93,7 +93,6 @@ impl SoloPuzzle {
     pub(crate) fn givens(&self) -> &[u8]
         ensures value { result.now ≡ self.now.givens }
         ensures lawful { IsSolo self.now }
-        ensures few { length result.now ≤ max_numbers * max_numbers }
     {
         &self.givens
     }

@@ -1,8 +1,8 @@
 //! The written text of a puzzle of Solo.
 
-ghost use Rattle.std.specs.Prelude.{◌≡◌, ◌≤◌, ◌*◌, ◌++◌, ◌∷◌, length, decimal, false, string_bytes, OnOk, IfOk};
+ghost use Rattle.std.specs.Prelude.{◌≡◌, ◌≤◌, ◌++◌, ◌∷◌, length, decimal, false, string_bytes, OnOk, IfOk};
 ghost use Rattle.gameid_core.specs.Cells.{letters};
-ghost use Rattle.gameid_core.specs.Head.{max_id, max_numbers};
+ghost use Rattle.gameid_core.specs.Head.{max_id};
 ghost use Rattle.gameid_core.specs.Puzzles.{IsSolo};
 ghost use Rattle.gameid_core.specs.SoloText.{before_given, cells_text, solo_text, SpellsSolo};
 
@@ -12,7 +12,6 @@ use std::alloc::{AllocError, Global};
 
 /// Writes what stands before a number that has so many blanks before it.
 fn push_before(out: &mut String, blanks: usize, touches: bool) -> Result<(), AllocError>
-    requires { blanks ≤ 1000 }
     ensures { OnOk result (string_bytes out.new ≡ string_bytes out.old ++ before_given blanks touches) }
 {
     if blanks == 0 && touches {
@@ -24,7 +23,6 @@ fn push_before(out: &mut String, blanks: usize, touches: bool) -> Result<(), All
 
 /// Writes the cells.
 fn push_cells(out: &mut String, givens: &[u8]) -> Result<(), AllocError>
-    requires { length givens.now ≤ max_numbers * max_numbers }
     ensures { OnOk result (string_bytes out.new ≡ string_bytes out.old ++ cells_text 0 false givens.now) }
 {
     let mut blanks = 0;

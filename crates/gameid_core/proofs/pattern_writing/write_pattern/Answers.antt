@@ -1,8 +1,8 @@
 use Rattle.std.proofs.Common.{◌≤◌, List, ℕ, length, subst, sym}
 use Rattle.std.proofs.lemmas.Result.{IfOk-weaker}
 use Rattle.gameid_core.specs.PatternText.{SpellsPattern}
-use Rattle.gameid_core.proofs.PatternWritten.{pattern_written, pattern_short}
 use Rattle.gameid_core.specs.Head.{max_id}
+use Rattle.gameid_core.proofs.PatternWritten.{pattern_written, pattern_short}
 use Rattle.gameid_core.proofs.pattern_writing.write_pattern.Goals as goal
 
 pub returns-clause-read_again : goal.returns-clause-read_again

@@ -1,9 +1,9 @@
 use Rattle.gameid_core.specs.SoloText.{SpellsSolo, solo_of}
-use Rattle.gameid_core.proofs.OneReading.{found_of}
 use Rattle.std.proofs.Common.{subst, Result}
 use Rattle.gameid_core.specs.declared.fault.IdFault.{IdFault}
 use Rattle.gameid_core.specs.Puzzles.{Solo}
 use Rattle.gameid_core.specs.Steps.{Gives}
+use Rattle.gameid_core.proofs.OneReading.{found_of}
 use Rattle.gameid_core.proofs.SoloTexts.{solo_takes, solo_text_again}
 use Rattle.gameid_core.proofs.solo_text.read_solo.Goals as goal
 

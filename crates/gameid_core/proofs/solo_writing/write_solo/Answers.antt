@@ -1,9 +1,9 @@
 use Rattle.std.proofs.Common.{◌≤◌, List, ℕ, length, subst, sym}
 use Rattle.std.proofs.lemmas.Result.{IfOk-weaker}
 use Rattle.gameid_core.specs.SoloText.{SpellsSolo}
+use Rattle.gameid_core.specs.Head.{max_id}
 use Rattle.gameid_core.proofs.SoloCanon.{solo_written}
 use Rattle.gameid_core.proofs.SoloWritten.{solo_short}
-use Rattle.gameid_core.specs.Head.{max_id}
 use Rattle.gameid_core.proofs.solo_writing.write_solo.Goals as goal
 
 pub returns-clause-short : goal.returns-clause-short
