@@ -29,5 +29,9 @@ pub mod SoloReading
 pub mod SoloSpelling
 pub mod SoloTexts
 pub mod SoloWritten
+pub mod TentsLaws
+pub mod TentsReading
+pub mod TentsSpelling
+pub mod TentsTexts
 pub mod Tokens
 pub mod WordLaws

@@ -6,7 +6,7 @@ use Rattle.std.specs.Char.{is_ascii_digit}
 use Rattle.std.proofs.lemmas.Bool.{false≢true, leb-true, le-leb}
 use Rattle.std.proofs.lemmas.Str.Parse.{IsNumeralModel, numerals_by_fold}
 use Rattle.std.proofs.lemmas.Fmt.{decimal_by_steps, digits_decimal}
-use Rattle.gameid_core.specs.Words.{begins, digits_front, after_digits, value, value_after, Cuts, IsNumeral}
+use Rattle.gameid_core.specs.Words.{joins, begins, digits_front, after_digits, value, value_after, Cuts, IsNumeral}
 use Rattle.gameid_core.proofs.Numbers.{value_after_ge, front_turn, front_stop, front_end}
 use Rattle.gameid_core.proofs.Results.{and_parts}
 use Rattle.gameid_core.proofs.Tokens.{cuts_joined, cuts_number}
@@ -62,10 +62,11 @@ numeral_cuts num rest h other =
     let f = front_numeral num rest h.digits other in
     subst (λ (after : List ℕ). Cuts (num ++ rest) num after) f.1 (subst (λ (word : List ℕ). Cuts (num ++ rest) word (after_digits (num ++ rest))) f.0 (cuts_number (num ++ rest) (digit_front num rest h)))
 
-pub dotted_cuts : (num rest : List ℕ) → IsNumeral num → begins is_ascii_digit rest ≡ false → Cuts (46 ∷ (num ++ rest)) (46 ∷ num) rest
-dotted_cuts num rest h other =
+-- a byte that joins digits, and a numeral
+pub joined_cuts : (b : ℕ) → joins b ≡ true → (num rest : List ℕ) → IsNumeral num → begins is_ascii_digit rest ≡ false → Cuts (b ∷ (num ++ rest)) (b ∷ num) rest
+joined_cuts b j num rest h other =
     let f = front_numeral num rest h.digits other in
-    subst (λ (after : List ℕ). Cuts (46 ∷ (num ++ rest)) (46 ∷ num) after) f.1 (subst (λ (word : List ℕ). Cuts (46 ∷ (num ++ rest)) (46 ∷ word) (after_digits (num ++ rest))) f.0 (cuts_joined 46 (num ++ rest) refl))
+    subst (λ (after : List ℕ). Cuts (b ∷ (num ++ rest)) (b ∷ num) after) f.1 (subst (λ (word : List ℕ). Cuts (b ∷ (num ++ rest)) (b ∷ word) (after_digits (num ++ rest))) f.0 (cuts_joined b (num ++ rest) j))
 
 -- a number takes no more digits than it counts
 pub length_decimal : (n : ℕ) → n < 2 ^ 64 → 0 < n → length (decimal n) ≤ n

@@ -10,3 +10,4 @@ pub mod Cells
 pub mod Runs
 pub mod SoloText
 pub mod LightText
+pub mod TentsText

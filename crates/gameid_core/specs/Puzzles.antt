@@ -74,3 +74,21 @@ pub record IsLight (p : Light) : Type 0 where
   pub size : IsWide p.size
   pub count : length p.cells ≡ p.size.w * p.size.h
   pub each : AllByRecursion IsLightCell p.cells
+
+-- 1 for a tree and 0 for any other cell, by place; and the tents of each column and row
+pub record Tents : Type 0 where
+  pub size : Extent
+  pub trees : List ℕ
+  pub counts : List ℕ
+
+-- the counts from a line on are at most their lines' cells
+abbrev pub AreCounts : Extent → ℕ → List ℕ → Type 0
+AreCounts size line [] = Unit {0}
+AreCounts size line (n ∷ counts) = (n ≤ line_cells size line) × AreCounts size (line + 1) counts
+
+pub record IsTents (p : Tents) : Type 0 where
+  pub size : IsWide p.size
+  pub cells : length p.trees ≡ p.size.w * p.size.h
+  pub bits : AllByRecursion (λ b. b < 2) p.trees
+  pub lines : length p.counts ≡ lines_of p.size
+  pub range : AreCounts p.size 0 p.counts

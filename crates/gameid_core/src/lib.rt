@@ -17,6 +17,8 @@ mod runs;
 mod solo_puzzle;
 mod solo_text;
 mod solo_writing;
+mod tents_puzzle;
+mod tents_text;
 mod writing;
 
 pub use black_runs::runs_by_first_cells;
@@ -33,6 +35,8 @@ pub use pattern_writing::write_pattern;
 pub use solo_puzzle::SoloPuzzle;
 pub use solo_text::{one_reading_of_solo, read_solo};
 pub use solo_writing::write_solo;
+pub use tents_puzzle::TentsPuzzle;
+pub use tents_text::{one_reading_of_tents, read_tents};
 
 #[cfg(test)]
 mod tests;

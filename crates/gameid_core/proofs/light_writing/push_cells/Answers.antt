@@ -1,4 +1,4 @@
-use Rattle.std.proofs.Common.{◌≡◌, ℕ, ◌++◌, List, ap, arith, ◌∙◌}
+use Rattle.std.proofs.Common.{ℕ, ◌++◌, List, ap, arith, ◌∙◌}
 use Rattle.std.specs.Prelude.{string_bytes}
 use Rattle.std.proofs.lemmas.Result.{on_ok_weaker}
 use Rattle.gameid_core.specs.declared.light_cell.LightCell.TheVariants.{White}
