@@ -33,5 +33,6 @@ pub mod TentsLaws
 pub mod TentsReading
 pub mod TentsSpelling
 pub mod TentsTexts
+pub mod TentsWritten
 pub mod Tokens
 pub mod WordLaws

@@ -108,8 +108,12 @@ tents_tokens k [] = blanks_and_tree k ∷ []
 tents_tokens k (zero ∷ cells) = if k == 25 then only_blanks ∷ tents_tokens 1 cells else tents_tokens (k + 1) cells
 tents_tokens k (suc b ∷ cells) = blanks_and_tree k ∷ tents_tokens 0 cells
 
+-- the text of the cells, with k blanks before them, and of the tree after them
+abbrev pub trees_text : ℕ → List ℕ → List ℕ
+trees_text k cells = map tents_token_byte (tents_tokens k cells)
+
 abbrev pub tents_text : Tents → List ℕ
-tents_text p = size_text p.size.w p.size.h ++ 58 ∷ (map tents_token_byte (tents_tokens 0 p.trees) ++ flat_map (λ n. 44 ∷ decimal n) p.counts)
+tents_text p = size_text p.size.w p.size.h ++ 58 ∷ (trees_text 0 p.trees ++ flat_map (λ n. 44 ∷ decimal n) p.counts)
 
 -- Words of the reader's functions ------------------------------------------------------------------------------
 

@@ -19,6 +19,7 @@ mod solo_text;
 mod solo_writing;
 mod tents_puzzle;
 mod tents_text;
+mod tents_writing;
 mod writing;
 
 pub use black_runs::runs_by_first_cells;
@@ -37,6 +38,7 @@ pub use solo_text::{one_reading_of_solo, read_solo};
 pub use solo_writing::write_solo;
 pub use tents_puzzle::TentsPuzzle;
 pub use tents_text::{one_reading_of_tents, read_tents};
+pub use tents_writing::write_tents;
 
 #[cfg(test)]
 mod tests;
