@@ -1,48 +1,29 @@
 -- The part of an ID before its colon: what is read is spelled, and what is spelled is read.
-use Rattle.std.proofs.Common.{◌≡◌, ℕ, suc, ◌+◌, ◌-◌, ◌*◌, ◌^◌, ◌<◌, ◌≤◌, Bool, true, false, cond, ◌&&◌, ◌||◌, eqb, ltb, leb, List, [], ◌∷◌, ◌++◌, length, get_or, take, drop, Option, Some, None, Ok, Err, refl, sym, ap, subst, ◌∙◌, inl, inr, arith, rules, length-append, append_assoc, drop-cons}
+use Rattle.std.proofs.Common.{◌≡◌, ℕ, suc, ◌+◌, ◌*◌, ◌^◌, ◌<◌, ◌≤◌, Bool, true, false, cond, ◌&&◌, ◌||◌, eqb, ltb, leb, List, ◌∷◌, ◌++◌, length, get_or, take, drop, Option, Some, None, Ok, Err, refl, sym, ap, subst, ◌∙◌, inl, inr, arith, length-append, append_assoc, drop-cons, []}
 use Rattle.std.specs.Prelude.{decimal, position}
 use Rattle.std.specs.List.{list_any, position_or_len}
 use Rattle.std.specs.Str.{all_ascii_digits}
 use Rattle.std.specs.Char.{is_ascii_digit}
-use Rattle.std.proofs.lemmas.Bool.{ne_eqb, false≢true, eqb-true, ltb-false, le-ltb, lt-ltb, leb-true, le-leb}
-use Rattle.std.proofs.lemmas.List.{append-nil, take-append-drop, take_at}
+use Rattle.std.proofs.lemmas.Bool.{ne_eqb, false≢true, eqb-true, ltb-false, le-ltb, lt-ltb, leb-true}
+use Rattle.std.proofs.lemmas.List.{append-nil, take-append-drop, take_at, drop_at}
 use Rattle.std.proofs.lemmas.List.Folds.{list_any-append}
 use Rattle.std.proofs.lemmas.List.Quantifiers.{position-Some}
 use Rattle.std.proofs.Math.Nat.{mul-le-mul_left, mul_comm}
-use Rattle.std.proofs.lemmas.Str.Parse.{IsNumeralModel, numerals_by_fold}
-use Rattle.std.proofs.lemmas.Fmt.{decimal_by_steps, decimal-digits_value, digits_decimal, digits_value-decimal}
+use Rattle.std.proofs.lemmas.Fmt.{decimal-digits_value, digits_decimal, digits_value-decimal}
 use Rattle.gameid_core.specs.declared.fault.IdFault.TheVariants.{TooLong, SeedId, NoColon, BadSize, Variant, SizeRange}
 use Rattle.gameid_core.specs.declared.game.Game.{Game}
 use Rattle.gameid_core.specs.declared.game.Game.TheVariants.{Solo, Pattern, LightUp, Tents}
-use Rattle.gameid_core.specs.Words.{begins, digits_front, after_digits, value, value_after}
+use Rattle.gameid_core.specs.Words.{begins, digits_front, after_digits, value}
 use Rattle.gameid_core.specs.Steps.{◌>>=◌}
 use Rattle.grid_core.specs.Extent.{max_side}
 use Rattle.gameid_core.specs.Head.{side_at, sides_at, size_of, head_at, head_of, has_hash, in_range, max_id, max_numbers}
 use Rattle.gameid_core.specs.SizeText.{size_text, IsSizeText}
-use Rattle.gameid_core.proofs.Numbers.{value_after_ge, front_turn}
-use Rattle.gameid_core.proofs.PatternLaws.{bind_ok, chosen, taken, ok_is}
-use Rattle.gameid_core.proofs.PatternSpelling.{and_parts}
-use Rattle.gameid_core.proofs.PatternAgain.{front_numeral}
+use Rattle.gameid_core.proofs.Numbers.{front_turn}
+use Rattle.gameid_core.proofs.Results.{bind_ok, chosen, taken, ok_is, and_parts}
+use Rattle.gameid_core.proofs.Numerals.{front_numeral, own, is_lead, begins_front, decimal_leads, lead_is_digit, value_positive}
+use Rattle.gameid_core.proofs.Reading.{place}
 
 -- ---- numbers
-
-pub own : IsNumeralModel (λ ds. all_ascii_digits ds ≡ true) value
-unfolding value_after
-own = numerals_by_fold _ (search rules) value_after (search rules)
-
-abbrev pub is_lead : ℕ → Bool
-is_lead b = leb 49 b && leb b 57
-
-begins_front : (kind : ℕ → Bool) (xs ys : List ℕ) → begins kind xs ≡ true → begins kind (xs ++ ys) ≡ true
-begins_front kind [] ys e = absurd (false≢true e)
-begins_front kind (x ∷ xs) ys e = e
-
-lead_digit : (n : ℕ) → 0 < n → n < 10 → is_lead (48 + n) ≡ true
-lead_digit n some small = let a : leb 49 (48 + n) ≡ true = le-leb _ _ (omega arith) in let b : leb (48 + n) 57 ≡ true = le-leb _ _ (omega arith) in rw (a, b) refl
-
-pub decimal_leads : (n : ℕ) → n < 2 ^ 64 → 0 < n → begins is_lead (decimal n) ≡ true
-decimal_leads n small =
-    decimal_by_steps (λ n ds. 0 < n → begins is_lead ds ≡ true) (λ n lt some. lead_digit n some lt) (λ n ds ge h some. begins_front is_lead ds _ (h (omega arith))) n small
 
 front_parts : (text : List ℕ) → digits_front text ++ after_digits text ≡ text
 unfolding digits_front after_digits
@@ -61,16 +42,6 @@ front_digits (b ∷ after) =
       | true ↦ λ e. rw e (front_digits after)
       | false ↦ λ e. refl
     ] refl
-
-pub lead_is_digit : (b : ℕ) → is_lead b ≡ true → is_ascii_digit b ≡ true
-lead_is_digit b e =
-    let p = and_parts (leb 49 b) (leb b 57) e in
-    let a : leb 48 b ≡ true = le-leb _ _ (omega (arith, leb-true _ _ p.0)) in
-    rw (a, p.1) refl
-
-pub value_positive : (b : ℕ) (ds : List ℕ) → 49 ≤ b → 0 < value (b ∷ ds)
-unfolding value_after
-value_positive b ds low = omega (arith, value_after_ge (10 * 0 + (b - 48)) ds)
 
 -- the digits in front are what is written of their value
 front_decimal : (text : List ℕ) → begins is_lead text ≡ true → value (digits_front text) < 2 ^ 64 → (decimal (value (digits_front text)) ≡ digits_front text) × (0 < value (digits_front text))
@@ -304,3 +275,8 @@ head_again game front rest a b text range short =
     let fits : ltb max_id (length (front ++ 58 ∷ rest)) ≡ false = le-ltb _ _ short in
     let before = take_at front (58 ∷ rest) (length front) refl in
     rw (fits, colon, before, hash, size_again game front a b text range) refl
+
+pub after_front : (front rest : List ℕ) → drop (length front + 1) (front ++ 58 ∷ rest) ≡ rest
+after_front front rest =
+    let moved : front ++ 58 ∷ rest ≡ (front ++ 58 ∷ []) ++ rest = sym (append_assoc front (58 ∷ []) rest) in
+    ap (drop (length front + 1)) moved ∙ drop_at (front ++ 58 ∷ []) rest (length front + 1) (length-append front (58 ∷ []))

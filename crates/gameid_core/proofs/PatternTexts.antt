@@ -1,21 +1,20 @@
 -- A text is read exactly where it spells a puzzle of Pattern.
-use Rattle.std.proofs.Common.{◌≡◌, ℕ, ◌+◌, ◌≤◌, true, List, [], ◌∷◌, ◌++◌, map, length, drop, Result, Ok, Err, refl, sym, ap, subst, ◌∙◌, ◌⊎◌, inl, inr, ◌&&◌, leb, append_assoc, length-append}
-use Rattle.std.specs.Prelude.{IfOk}
+use Rattle.std.proofs.Common.{◌≡◌, ℕ, ◌+◌, ◌≤◌, true, List, ◌∷◌, ◌++◌, map, length, drop, Ok, refl, sym, ap, subst, ◌∙◌, ◌&&◌, leb, []}
 use Rattle.std.specs.List.{AllByRecursion}
 use Rattle.std.proofs.lemmas.Bool.{leb-true, le-leb}
-use Rattle.std.proofs.lemmas.List.{drop_at}
 use Rattle.grid_core.specs.Extent.{Extent, IsExtent, max_side}
-use Rattle.gameid_core.specs.declared.fault.IdFault.{IdFault}
-use Rattle.gameid_core.specs.declared.game.Game.TheVariants as game
-use Rattle.gameid_core.specs.Words.{words, value}
-use Rattle.gameid_core.specs.Steps.{◌>>=◌, Gives}
+use Rattle.gameid_core.specs.Words.{words, value, IsNumeral}
+use Rattle.gameid_core.specs.Steps.{◌>>=◌}
 use Rattle.gameid_core.specs.Head.{head_of, in_range, max_id}
 use Rattle.gameid_core.specs.Puzzles.{Pattern, IsPattern}
-use Rattle.gameid_core.specs.PatternText.{IsNumeral, clues_text, clues_at, pattern_of, SpellsPattern}
-use Rattle.gameid_core.proofs.PatternLaws.{bind_ok, taken, ok_is, clues_lawful}
-use Rattle.gameid_core.proofs.PatternSpelling.{and_parts, words_are, concat_words, read_spelled}
+use Rattle.gameid_core.specs.PatternText.{clues_text, clues_at, pattern_of, SpellsPattern}
+use Rattle.gameid_core.proofs.Results.{bind_ok, taken, ok_is, and_parts}
+use Rattle.gameid_core.proofs.PatternLaws.{clues_lawful}
+use Rattle.gameid_core.proofs.WordLaws.{words_are, concat_words}
+use Rattle.gameid_core.proofs.PatternSpelling.{read_spelled}
 use Rattle.gameid_core.proofs.PatternAgain.{clues_text_is, clues_again}
-use Rattle.gameid_core.proofs.HeadLaws.{head_take, head_again}
+use Rattle.gameid_core.proofs.HeadLaws.{head_take, head_again, after_front}
+use Rattle.gameid_core.specs.declared.game.Game.TheVariants as game
 
 pub record CluesSpelled (description : List ℕ) (all : List (List ℕ)) : Type 0 where
   pub numerals : List (List (List ℕ))
@@ -68,11 +67,6 @@ pattern_takes text p e =
       clues = c.values;
     })
 
-pub after_front : (front rest : List ℕ) → drop (length front + 1) (front ++ 58 ∷ rest) ≡ rest
-after_front front rest =
-    let moved : front ++ 58 ∷ rest ≡ (front ++ 58 ∷ []) ++ rest = sym (append_assoc front (58 ∷ []) rest) in
-    ap (drop (length front + 1)) moved ∙ drop_at (front ++ 58 ∷ []) rest (length front + 1) (length-append front (58 ∷ []))
-
 pub pattern_again : (text : List ℕ) (p : Pattern) → SpellsPattern text p → pattern_of text ≡ Ok p
 unfolding pattern_of
 pattern_again text p s =
@@ -81,21 +75,3 @@ pattern_again text p s =
     let lawful : IsPattern (record { size = p.size; clues = map (map value) s.numerals }) = subst (λ (cs : List (List ℕ)). IsPattern (record { size = p.size; clues = cs })) (sym same) s.puzzle in
     let read = clues_again p.size (length s.front + 1) s.numerals s.digits lawful in
     ap pattern_of s.parts ∙ rw (whole, after_front s.front (clues_text s.numerals), read, same) refl
-
-pub is_found : (text : List ℕ) (r : Result Pattern IdFault) → Gives (λ p. p) r (pattern_of text) → IfOk r (λ p. SpellsPattern text p)
-is_found text (Ok p) gives = pattern_takes text p gives
-is_found text (Err e) gives = tt
-
--- one reading of each text
-pub pattern_one : (text : List ℕ) (p q : Pattern) → SpellsPattern text p → SpellsPattern text q → p ≡ q
-pattern_one text p q s t = ok_is p q (sym (pattern_again text p s) ∙ pattern_again text q t)
-
-pub pattern_apart : (text : List ℕ) (p : Pattern) (f : IdFault) → SpellsPattern text p → pattern_of text ≡ Err f → ⊥
-pattern_apart text p f s e = let bad : taken p ≡ Err f = sym (pattern_again text p s) ∙ e in absurd cc
-
-pub pattern_either : (text : List ℕ) → ((p : Pattern) × SpellsPattern text p) ⊎ ((f : IdFault) × (pattern_of text ≡ Err f))
-pattern_either text = cases (pattern_of text) refl
-  where
-    cases : (r : Result Pattern IdFault) → pattern_of text ≡ r → ((p : Pattern) × SpellsPattern text p) ⊎ ((f : IdFault) × (pattern_of text ≡ Err f))
-    cases (Ok p) e = inl (p, pattern_takes text p e)
-    cases (Err f) e = inr (f, e)

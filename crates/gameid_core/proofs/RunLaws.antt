@@ -1,5 +1,5 @@
 -- Laws of the runs of a line, by induction on the cells.
-use Rattle.std.proofs.Common.{◌≡◌, ℕ, zero, suc, ◌+◌, List, [], ◌∷◌, ◌++◌, replicate, refl, sym, ◌∙◌, ap, arith, append_assoc}
+use Rattle.std.proofs.Common.{◌≡◌, ℕ, zero, suc, ◌+◌, List, ◌∷◌, ◌++◌, replicate, refl, sym, ◌∙◌, ap, arith, append_assoc, []}
 use Rattle.gameid_core.specs.BlackRuns.{run_of, runs_after, runs}
 
 pub runs-nil : runs [] ≡ []

@@ -6,3 +6,8 @@ pub mod SizeText
 pub mod Puzzles
 pub mod BlackRuns
 pub mod PatternText
+pub mod Cells
+pub mod Runs
+pub mod SoloText
+pub mod LightText
+pub mod TentsText

@@ -1,25 +1,19 @@
 -- Game IDs of Pattern: what a text spells, its first fault, and the one written text.
-use Rattle.std.specs.Prelude.{◌≡◌, ℕ, ◌+◌, ◌<◌, ◌≤◌, true, ◌&&◌, List, [], ◌∷◌, ◌++◌, map, drop, length, Result, Ok, Err, nat_lt, ◌==◌, if◌then◌else◌, decimal}
+use Rattle.std.specs.Prelude.{◌≡◌, ℕ, ◌+◌, ◌≤◌, ◌&&◌, List, [], ◌∷◌, ◌++◌, map, drop, length, Result, Ok, Err, nat_lt, ◌==◌, if◌then◌else◌, decimal}
 use Rattle.std.specs.List.{AllByRecursion, join_with_byte}
-use Rattle.std.specs.Str.{all_ascii_digits}
 use Rattle.std.specs.Char.{is_ascii_digit}
 use Rattle.std.specs.Borrow.{Bor}
 use Rattle.grid_core.specs.Extent.{Extent}
 use Rattle.gameid_core.specs.declared.fault.IdFault.{IdFault}
 use Rattle.gameid_core.specs.declared.fault.IdFault.TheVariants.{BadByte, NumberRange, LineTooFull, TooFew, TooMany}
 use Rattle.gameid_core.specs.declared.game.Game.TheVariants as game
-use Rattle.gameid_core.specs.Words.{begins, words, value, Cuts}
+use Rattle.gameid_core.specs.Words.{IsNumeral, begins, words, value, Cuts}
 use Rattle.gameid_core.specs.Steps.{◌>>=◌, reading}
 use Rattle.gameid_core.specs.Head.{head_of, max_id}
 use Rattle.gameid_core.specs.SizeText.{size_text, IsSizeText}
 use Rattle.gameid_core.specs.Puzzles.{Pattern, IsPattern, line_cells, lines_of, used}
 
 -- What a text spells -------------------------------------------------------------------------------------------
-
--- one digit or more
-pub record IsNumeral (numeral : List ℕ) : Type 0 where
-  pub some : 0 < length numeral
-  pub digits : all_ascii_digits numeral ≡ true
 
 -- clues joined by '/', each empty or numbers joined by '.'
 abbrev pub clues_text : List (List (List ℕ)) → List ℕ

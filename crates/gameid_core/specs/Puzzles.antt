@@ -1,7 +1,10 @@
 -- What the puzzles are, without where they lie in memory.
-use Rattle.std.specs.Prelude.{◌≡◌, ℕ, ◌+◌, ◌<◌, ◌≤◌, List, [], ◌∷◌, length, nat_lt, if◌then◌else◌}
+use Rattle.std.specs.Prelude.{◌≡◌, ℕ, ◌+◌, ◌*◌, ◌<◌, ◌≤◌, List, [], ◌∷◌, length, nat_lt, if◌then◌else◌}
 use Rattle.std.specs.List.{AllByRecursion}
 use Rattle.grid_core.specs.Extent.{Extent, IsExtent}
+use Rattle.gameid_core.specs.declared.light_cell.LightCell.{LightCell}
+use Rattle.gameid_core.specs.declared.light_cell.LightCell.TheVariants.{White, Black, Numbered}
+use Rattle.gameid_core.specs.Head.{max_numbers}
 
 -- the cells of a line: columns first, then rows
 abbrev pub line_cells : Extent → ℕ → ℕ
@@ -33,3 +36,59 @@ pub record IsPattern (p : Pattern) : Type 0 where
   pub size : IsExtent p.size
   pub lines : length p.clues ≡ lines_of p.size
   pub clues : AreClues p.size 0 p.clues
+
+-- the givens by place, 0 for a blank cell
+pub record Solo : Type 0 where
+  pub c : ℕ
+  pub r : ℕ
+  pub givens : List ℕ
+
+-- the numbers of a grid, which are also its rows
+abbrev pub solo_n : Solo → ℕ
+solo_n p = p.c * p.r
+
+pub record IsSolo (p : Solo) : Type 0 where
+  pub c_low : 2 ≤ p.c
+  pub r_low : 2 ≤ p.r
+  pub n_high : solo_n p ≤ max_numbers
+  pub cells : length p.givens ≡ solo_n p * solo_n p
+  pub range : AllByRecursion (λ v. v ≤ solo_n p) p.givens
+
+pub record Light : Type 0 where
+  pub size : Extent
+  pub cells : List LightCell
+
+-- a number of a black cell is at most 4
+abbrev pub IsLightCell : LightCell → Type 0
+IsLightCell White = Unit {0}
+IsLightCell Black = Unit {0}
+IsLightCell (Numbered n) = n ≤ 4
+
+-- both sides are at least 2
+pub record IsWide (size : Extent) : Type 0 where
+  pub extent : IsExtent size
+  pub w_two : 2 ≤ size.w
+  pub h_two : 2 ≤ size.h
+
+pub record IsLight (p : Light) : Type 0 where
+  pub size : IsWide p.size
+  pub count : length p.cells ≡ p.size.w * p.size.h
+  pub each : AllByRecursion IsLightCell p.cells
+
+-- 1 for a tree and 0 for any other cell, by place; and the tents of each column and row
+pub record Tents : Type 0 where
+  pub size : Extent
+  pub trees : List ℕ
+  pub counts : List ℕ
+
+-- the counts from a line on are at most their lines' cells
+abbrev pub AreCounts : Extent → ℕ → List ℕ → Type 0
+AreCounts size line [] = Unit {0}
+AreCounts size line (n ∷ counts) = (n ≤ line_cells size line) × AreCounts size (line + 1) counts
+
+pub record IsTents (p : Tents) : Type 0 where
+  pub size : IsWide p.size
+  pub cells : length p.trees ≡ p.size.w * p.size.h
+  pub bits : AllByRecursion (λ b. b < 2) p.trees
+  pub lines : length p.counts ≡ lines_of p.size
+  pub range : AreCounts p.size 0 p.counts

@@ -1,20 +1,44 @@
-//! Game IDs: the puzzles, and their readers.
+//! Game IDs: the puzzles, their readers and their writers.
 #![tactic(auto)]
 
 mod black_runs;
 mod fault;
 mod game;
 mod head;
+mod light_cell;
+mod light_puzzle;
+mod light_text;
+mod light_writing;
 mod number;
 mod pattern_puzzle;
 mod pattern_text;
+mod pattern_writing;
+mod runs;
+mod solo_puzzle;
+mod solo_text;
+mod solo_writing;
+mod tents_puzzle;
+mod tents_text;
+mod tents_writing;
+mod writing;
 
 pub use black_runs::runs_by_first_cells;
 pub use fault::IdFault;
 pub use game::Game;
 pub use head::{MAX_ID, MAX_NUMBERS, read_size};
+pub use light_cell::LightCell;
+pub use light_puzzle::LightPuzzle;
+pub use light_text::{one_reading_of_lights, read_lights};
+pub use light_writing::write_lights;
 pub use pattern_puzzle::PatternPuzzle;
 pub use pattern_text::{first_fault, one_reading, read_pattern};
+pub use pattern_writing::write_pattern;
+pub use solo_puzzle::SoloPuzzle;
+pub use solo_text::{one_reading_of_solo, read_solo};
+pub use solo_writing::write_solo;
+pub use tents_puzzle::TentsPuzzle;
+pub use tents_text::{one_reading_of_tents, read_tents};
+pub use tents_writing::write_tents;
 
 #[cfg(test)]
 mod tests;

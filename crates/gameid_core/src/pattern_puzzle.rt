@@ -58,4 +58,20 @@ impl PatternPuzzle {
     {
         self.clues[line][k]
     }
+
+    /// How many lines there are.
+    pub(crate) fn lines(&self) -> usize
+        ensures value { result ≡ length self.now.clues }
+        ensures lawful { IsPattern self.now }
+    {
+        self.clues.len()
+    }
+
+    /// A line's clue.
+    pub(crate) fn line(&self, line: usize) -> &[u8]
+        requires { line < length self.now.clues }
+        ensures { result.now ≡ slice_index_or self.now.clues line [] }
+    {
+        &self.clues[line]
+    }
 }

@@ -1,0 +1,48 @@
+-- The letters of a run of cells, and the written text of Solo's cells.
+use Rattle.std.proofs.Common.{◌≡◌, ℕ, zero, suc, ◌+◌, ◌-◌, ◌/◌, ◌%◌, ◌<◌, ◌≤◌, false, eqb, List, ◌∷◌, ◌++◌, length, refl, sym, ap, ◌∙◌, arith, length-append, []}
+use Rattle.std.specs.Prelude.{replicate}
+use Rattle.std.proofs.lemmas.Bool.{ne_eqb}
+use Rattle.std.proofs.lemmas.List.{length-replicate}
+use Rattle.gameid_core.specs.Cells.{letters}
+
+pub letters_none : (k : ℕ) → k ≡ 0 → letters k ≡ []
+unfolding letters
+letters_none k e = rw e refl
+
+unfoldable pub letters_of : ℕ → ℕ → List ℕ
+letters_of q r = replicate q 122 ++ (97 + r) ∷ []
+
+pub letters_are : (k q r : ℕ) → 0 < k → (k - 1) / 26 ≡ q → (k - 1) % 26 ≡ r → letters k ≡ letters_of q r
+unfolding letters letters_of
+letters_are k q r some d m = let ne : eqb k 0 ≡ false = ne_eqb _ _ (λ e. omega arith) in rw (ne, d, m) refl
+
+letters_suc : (q r : ℕ) → letters_of (suc q) r ≡ 122 ∷ letters_of q r
+unfolding letters_of
+letters_suc q r = refl
+
+letters_one : (r : ℕ) → letters_of 0 r ≡ (97 + r) ∷ []
+unfolding letters_of
+letters_one r = refl
+
+pub letters_more : (k : ℕ) → 26 < k → letters k ≡ 122 ∷ letters (k - 26)
+letters_more k long =
+    let q : (k - 1) / 26 ≡ suc ((k - 26 - 1) / 26) = omega arith in
+    let r : (k - 1) % 26 ≡ (k - 26 - 1) % 26 = omega arith in
+    letters_are k _ _ (omega arith) q r ∙ letters_suc ((k - 26 - 1) / 26) ((k - 26 - 1) % 26) ∙ ap (λ (t : List ℕ). 122 ∷ t) (sym (letters_are (k - 26) _ _ (omega arith) refl refl))
+
+pub letters_last : (k : ℕ) → 0 < k → k ≤ 26 → letters k ≡ (96 + k) ∷ []
+letters_last k some short =
+    let q : (k - 1) / 26 ≡ 0 = omega arith in
+    let r : (k - 1) % 26 ≡ k - 1 = omega arith in
+    letters_are k 0 (k - 1) some q r ∙ letters_one (k - 1) ∙ ap (λ (c : ℕ). c ∷ []) (let c : 97 + (k - 1) ≡ 96 + k = omega arith in c)
+
+-- ---- Solo's cells
+
+pub letters_of_length : (q r : ℕ) → length (letters_of q r) ≡ q + 1
+unfolding letters_of
+letters_of_length q r = omega (arith, length-append (replicate q 122) ((97 + r) ∷ []), length-replicate {A = ℕ} q 122)
+
+-- letters are no more than the cells
+pub letters_short : (k : ℕ) → length (letters k) ≤ k
+letters_short zero = omega (arith, ap length (letters_none 0 refl))
+letters_short (suc k) = omega (arith, ap length (letters_are (suc k) _ _ (omega arith) refl refl), letters_of_length ((suc k - 1) / 26) ((suc k - 1) % 26))

@@ -1,0 +1,148 @@
+-- The written text of a puzzle of Light Up: the writer's turns, its length, and that it spells the puzzle.
+use Rattle.std.proofs.Common.{◌≡◌, ℕ, zero, suc, ◌+◌, ◌-◌, ◌<◌, ◌≤◌, List, [], ◌∷◌, ◌++◌, map, length, drop, get_or, refl, sym, ap, ◌∙◌, inl, inr, arith, append_assoc, length-append}
+use Rattle.std.specs.Prelude.{replicate, decimal}
+use Rattle.std.specs.List.{AllByRecursion, flat_map}
+use Rattle.std.proofs.lemmas.Bool.{cases_lt}
+use Rattle.std.proofs.lemmas.List.{append-nil, drop_all, map-append, replicate-append-replicate}
+use Rattle.std.proofs.lemmas.List.Concat.{flat_map-append}
+use Rattle.gameid_core.specs.declared.light_cell.LightCell.{LightCell}
+use Rattle.gameid_core.specs.declared.light_cell.LightCell.TheVariants.{White, Black, Numbered}
+use Rattle.gameid_core.specs.Cells.{letters}
+use Rattle.gameid_core.specs.Head.{max_id}
+use Rattle.gameid_core.specs.SizeText.{size_text}
+use Rattle.gameid_core.specs.Puzzles.{Light, IsLight, IsLightCell}
+use Rattle.gameid_core.specs.LightText.{LightToken, whites, black, numbered, light_token_byte, light_token_cells, IsLightToken, IsBlackByte, SpellsLight, light_cells_text, light_text}
+use Rattle.gameid_core.proofs.Letters.{letters_none, letters_more, letters_last, letters_short}
+use Rattle.gameid_core.proofs.Lists.{AllByRecursion-append, next_of}
+use Rattle.gameid_core.proofs.Numerals.{length_decimal}
+use Rattle.gameid_core.proofs.LightLaws.{cells_few}
+
+-- ---- one cell of the writer's loop
+
+pub lights_nil : (k : ℕ) → light_cells_text k [] ≡ letters k
+unfolding light_cells_text
+lights_nil k = refl
+
+pub lights_white : (k : ℕ) (cells : List LightCell) → light_cells_text k (White ∷ cells) ≡ light_cells_text (k + 1) cells
+unfolding light_cells_text
+lights_white k cells = refl
+
+pub lights_black : (k b : ℕ) (cell : LightCell) (cells : List LightCell) → IsBlackByte b cell → light_cells_text k (cell ∷ cells) ≡ letters k ++ b ∷ light_cells_text 0 cells
+unfolding light_cells_text
+lights_black k b White cells h = absurd h
+lights_black k b Black cells h = ap (λ (c : ℕ). letters k ++ c ∷ light_cells_text 0 cells) (sym h)
+lights_black k b (Numbered n) cells h = ap (λ (c : ℕ). letters k ++ c ∷ light_cells_text 0 cells) (sym h)
+
+pub black_ascii : (b : ℕ) (cell : LightCell) → IsLightCell cell → IsBlackByte b cell → b < 128
+black_ascii b White is h = absurd h
+black_ascii b Black is h = omega (arith, h)
+black_ascii b (Numbered n) is h = omega (arith, h, is)
+
+pub lights_end : (k i : ℕ) (cells : List LightCell) (old out new : List ℕ) → length cells ≤ i → out ++ light_cells_text k (drop i cells) ≡ old → new ≡ out ++ letters k → new ≡ old
+lights_end k i cells old out new past so e =
+    let none : drop i cells ≡ [] = drop_all i cells past in
+    e ∙ ap (λ (t : List ℕ). out ++ t) (sym (lights_nil k) ∙ ap (light_cells_text k) (sym none)) ∙ so
+
+pub lights_step_white : (k i k' : ℕ) (cells : List LightCell) (old out out' : List ℕ) → i < length cells → get_or cells i White ≡ White → k' ≡ k + 1 → out' ≡ out → out ++ light_cells_text k (drop i cells) ≡ old → out' ++ light_cells_text k' (drop (i + 1) cells) ≡ old
+lights_step_white k i k' cells old out out' lt white more same so =
+    rw (more, same) (ap (λ (t : List ℕ). out ++ t) (sym (lights_white k (drop (i + 1) cells)) ∙ ap (λ (v : LightCell). light_cells_text k (v ∷ drop (i + 1) cells)) (sym white) ∙ ap (light_cells_text k) (sym (next_of White cells i lt))) ∙ so)
+
+pub lights_step_black : (k i k' b : ℕ) (cells : List LightCell) (old out mid new out' : List ℕ) → i < length cells → IsBlackByte b (get_or cells i White) → mid ≡ out ++ letters k → new ≡ mid ++ b ∷ [] → k' ≡ 0 → out' ≡ new → out ++ light_cells_text k (drop i cells) ≡ old → out' ++ light_cells_text k' (drop (i + 1) cells) ≡ old
+lights_step_black k i k' b cells old out mid new out' lt byte m n none same so =
+    let rest : List ℕ = light_cells_text 0 (drop (i + 1) cells) in
+    rw (none, same) (ap (λ (t : List ℕ). t ++ rest) (n ∙ ap (λ (t : List ℕ). t ++ b ∷ []) m)
+    ∙ append_assoc (out ++ letters k) (b ∷ []) rest
+    ∙ append_assoc out (letters k) (b ∷ rest)
+    ∙ ap (λ (t : List ℕ). out ++ t) (sym (lights_black k b (get_or cells i White) (drop (i + 1) cells) byte) ∙ ap (light_cells_text k) (sym (next_of White cells i lt)))
+    ∙ so)
+
+-- ---- how long
+
+-- a cell takes at most one byte
+cells_short : (k : ℕ) (cells : List LightCell) → length (light_cells_text k cells) ≤ k + length cells
+unfolding light_cells_text
+cells_short k [] = omega (arith, letters_short k)
+cells_short k (White ∷ cells) = omega (arith, cells_short (k + 1) cells)
+cells_short k (Black ∷ cells) = omega (arith, letters_short k, cells_short 0 cells, length-append (letters k) (66 ∷ light_cells_text 0 cells))
+cells_short k (Numbered n ∷ cells) = omega (arith, letters_short k, cells_short 0 cells, length-append (letters k) ((48 + n) ∷ light_cells_text 0 cells))
+
+pub light_short : (p : Light) → IsLight p → length (light_text p) ≤ max_id
+light_short p h =
+    let e = h.size.extent in
+    let w = length_decimal p.size.w (omega (arith, e.w_high)) e.w_low in
+    let v = length_decimal p.size.h (omega (arith, e.h_high)) e.h_low in
+    let cells = cells_short 0 p.cells in
+    omega (arith, e.w_high, e.h_high, h.count, cells_few p.size e, length-append (decimal p.size.w) (120 ∷ decimal p.size.h), length-append (size_text p.size.w p.size.h) (58 ∷ light_cells_text 0 p.cells))
+
+-- ---- what it spells
+
+-- tokens that spell a text and stand for those cells
+record Tokens (text : List ℕ) (cells : List LightCell) : Type 0 where
+  tokens : List LightToken
+  spelled : text ≡ map light_token_byte tokens
+  each : AllByRecursion IsLightToken tokens
+  filled : flat_map light_token_cells tokens ≡ cells
+
+letter_tokens : (fuel k : ℕ) → k ≤ fuel → Tokens (letters k) (replicate k White)
+letter_tokens fuel zero le = record { tokens = []; spelled = letters_none 0 refl; each = tt; filled = refl }
+letter_tokens zero (suc k) le = absurd (omega arith)
+letter_tokens (suc fuel) (suc k) le =
+    elim (cases_lt 26 (suc k)) [
+      | inl long ↦
+          let r = letter_tokens fuel (suc k - 26) (omega arith) in
+          let whole : 26 + (suc k - 26) ≡ suc k = omega arith in
+          record {
+            tokens = whites 26 ∷ r.tokens;
+            spelled = letters_more (suc k) long ∙ ap (λ (t : List ℕ). 122 ∷ t) r.spelled;
+            each = ((omega arith, omega arith), r.each);
+            filled = ap (λ (t : List LightCell). replicate 26 White ++ t) r.filled ∙ replicate-append-replicate {A = LightCell} 26 (suc k - 26) White ∙ ap (λ (j : ℕ). replicate j White) whole;
+          }
+      | inr short ↦ record {
+        tokens = whites (suc k) ∷ [];
+        spelled = letters_last (suc k) (omega arith) short;
+        each = ((omega arith, short), tt);
+        filled = append-nil (replicate (suc k) White);
+      }
+    ]
+
+-- letters, and a black cell's byte with what follows it
+black_tokens : (k : ℕ) (token : LightToken) (cell : LightCell) (text : List ℕ) (cells : List LightCell) → IsLightToken token → light_token_cells token ≡ cell ∷ [] → Tokens text cells → Tokens (letters k ++ light_token_byte token ∷ text) (replicate k White ++ cell ∷ cells)
+black_tokens k token cell text cells is one r =
+    let s = letter_tokens k k (omega arith) in
+    let rest : List LightToken = token ∷ r.tokens in
+    record {
+      tokens = s.tokens ++ rest;
+      spelled = ap (λ (t : List ℕ). letters k ++ light_token_byte token ∷ t) r.spelled ∙ ap (λ (t : List ℕ). t ++ map light_token_byte rest) s.spelled ∙ sym (map-append light_token_byte s.tokens rest);
+      each = AllByRecursion-append IsLightToken s.tokens rest s.each (is, r.each);
+      filled = flat_map-append light_token_cells s.tokens rest ∙ ap (λ (t : List LightCell). t ++ flat_map light_token_cells rest) s.filled ∙ ap (λ (t : List LightCell). replicate k White ++ (t ++ flat_map light_token_cells r.tokens)) one ∙ ap (λ (t : List LightCell). replicate k White ++ cell ∷ t) r.filled;
+    }
+
+cells_written : (k : ℕ) (cells : List LightCell) → AllByRecursion IsLightCell cells → Tokens (light_cells_text k cells) (replicate k White ++ cells)
+unfolding light_cells_text
+cells_written k [] h =
+    let s = letter_tokens k k (omega arith) in
+    record { tokens = s.tokens; spelled = s.spelled; each = s.each; filled = s.filled ∙ sym (append-nil (replicate k White)) }
+cells_written k (White ∷ cells) h =
+    let r = cells_written (k + 1) cells h.1 in
+    record {
+      tokens = r.tokens;
+      spelled = r.spelled;
+      each = r.each;
+      filled = r.filled ∙ ap (λ (t : List LightCell). t ++ cells) (sym (replicate-append-replicate {A = LightCell} k 1 White)) ∙ append_assoc (replicate k White) (White ∷ []) cells;
+    }
+cells_written k (Black ∷ cells) h = black_tokens k black Black (light_cells_text 0 cells) cells tt refl (cells_written 0 cells h.1)
+cells_written k (Numbered n ∷ cells) h = black_tokens k (numbered n) (Numbered n) (light_cells_text 0 cells) cells h.0 refl (cells_written 0 cells h.1)
+
+pub light_written : (p : Light) → IsLight p → SpellsLight (light_text p) p
+light_written p h =
+    let w = cells_written 0 p.cells h.each in
+    record {
+      short = light_short p h;
+      puzzle = h;
+      front = size_text p.size.w p.size.h;
+      tokens = w.tokens;
+      parts = ap (λ (t : List ℕ). size_text p.size.w p.size.h ++ 58 ∷ t) w.spelled;
+      size = inl refl;
+      each = w.each;
+      cells = w.filled;
+    }

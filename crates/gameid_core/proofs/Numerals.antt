@@ -1,0 +1,80 @@
+-- Numbers as texts: the digits in front, and the written digits of a number.
+use Rattle.std.proofs.Common.{◌≡◌, ℕ, ◌+◌, ◌-◌, ◌*◌, ◌^◌, ◌<◌, ◌≤◌, Bool, true, false, ◌&&◌, leb, List, ◌∷◌, ◌++◌, length, refl, ap, subst, ◌∙◌, arith, rules, length-append, ◌%◌, []}
+use Rattle.std.specs.Prelude.{decimal}
+use Rattle.std.specs.Str.{all_ascii_digits}
+use Rattle.std.specs.Char.{is_ascii_digit}
+use Rattle.std.proofs.lemmas.Bool.{false≢true, leb-true, le-leb}
+use Rattle.std.proofs.lemmas.Str.Parse.{IsNumeralModel, numerals_by_fold}
+use Rattle.std.proofs.lemmas.Fmt.{decimal_by_steps, digits_decimal}
+use Rattle.gameid_core.specs.Words.{joins, begins, digits_front, after_digits, value, value_after, Cuts, IsNumeral}
+use Rattle.gameid_core.proofs.Numbers.{value_after_ge, front_turn, front_stop, front_end}
+use Rattle.gameid_core.proofs.Results.{and_parts}
+use Rattle.gameid_core.proofs.Tokens.{cuts_joined, cuts_number}
+
+pub own : IsNumeralModel (λ ds. all_ascii_digits ds ≡ true) value
+unfolding value_after
+own = numerals_by_fold _ (search rules) value_after (search rules)
+
+abbrev pub is_lead : ℕ → Bool
+is_lead b = leb 49 b && leb b 57
+
+pub begins_front : (kind : ℕ → Bool) (xs ys : List ℕ) → begins kind xs ≡ true → begins kind (xs ++ ys) ≡ true
+begins_front kind [] ys e = absurd (false≢true e)
+begins_front kind (x ∷ xs) ys e = e
+
+pub lead_digit : (n : ℕ) → 0 < n → n < 10 → is_lead (48 + n) ≡ true
+lead_digit n some small = let a : leb 49 (48 + n) ≡ true = le-leb _ _ (omega arith) in let b : leb (48 + n) 57 ≡ true = le-leb _ _ (omega arith) in rw (a, b) refl
+
+pub decimal_leads : (n : ℕ) → n < 2 ^ 64 → 0 < n → begins is_lead (decimal n) ≡ true
+decimal_leads n small =
+    decimal_by_steps (λ n ds. 0 < n → begins is_lead ds ≡ true) (λ n lt some. lead_digit n some lt) (λ n ds ge h some. begins_front is_lead ds _ (h (omega arith))) n small
+
+pub lead_is_digit : (b : ℕ) → is_lead b ≡ true → is_ascii_digit b ≡ true
+lead_is_digit b e =
+    let p = and_parts (leb 49 b) (leb b 57) e in
+    let a : leb 48 b ≡ true = le-leb _ _ (omega (arith, leb-true _ _ p.0)) in
+    rw (a, p.1) refl
+
+pub value_positive : (b : ℕ) (ds : List ℕ) → 49 ≤ b → 0 < value (b ∷ ds)
+unfolding value_after
+value_positive b ds low = omega (arith, value_after_ge (10 * 0 + (b - 48)) ds)
+
+-- the digits in front of a numeral and a text that begins with none
+pub front_numeral : (digits rest : List ℕ) → all_ascii_digits digits ≡ true → begins is_ascii_digit rest ≡ false → (digits_front (digits ++ rest) ≡ digits) × (after_digits (digits ++ rest) ≡ rest)
+front_numeral [] [] d other = front_end [] refl
+front_numeral [] (b ∷ rest) d other = front_stop (b ∷ rest) b rest refl other
+front_numeral (c ∷ digits) rest d other =
+    let p = and_parts (is_ascii_digit c) (all_ascii_digits digits) d in
+    let t = front_turn (c ∷ (digits ++ rest)) c (digits ++ rest) refl p.0 in
+    let h = front_numeral digits rest p.1 other in
+    (t.0 ∙ ap (λ (x : List ℕ). c ∷ x) h.0, t.1 ∙ h.1)
+
+pub digit_front : (num rest : List ℕ) → IsNumeral num → begins is_ascii_digit (num ++ rest) ≡ true
+digit_front [] rest h = absurd (let some : 0 < 0 = h.some in omega arith)
+digit_front (c ∷ digits) rest h = (and_parts (is_ascii_digit c) (all_ascii_digits digits) h.digits).0
+
+pub digit_begins : (num : List ℕ) → IsNumeral num → begins is_ascii_digit num ≡ true
+digit_begins [] h = absurd (let some : 0 < 0 = h.some in omega arith)
+digit_begins (c ∷ digits) h = (and_parts (is_ascii_digit c) (all_ascii_digits digits) h.digits).0
+
+pub numeral_cuts : (num rest : List ℕ) → IsNumeral num → begins is_ascii_digit rest ≡ false → Cuts (num ++ rest) num rest
+numeral_cuts num rest h other =
+    let f = front_numeral num rest h.digits other in
+    subst (λ (after : List ℕ). Cuts (num ++ rest) num after) f.1 (subst (λ (word : List ℕ). Cuts (num ++ rest) word (after_digits (num ++ rest))) f.0 (cuts_number (num ++ rest) (digit_front num rest h)))
+
+-- a byte that joins digits, and a numeral
+pub joined_cuts : (b : ℕ) → joins b ≡ true → (num rest : List ℕ) → IsNumeral num → begins is_ascii_digit rest ≡ false → Cuts (b ∷ (num ++ rest)) (b ∷ num) rest
+joined_cuts b j num rest h other =
+    let f = front_numeral num rest h.digits other in
+    subst (λ (after : List ℕ). Cuts (b ∷ (num ++ rest)) (b ∷ num) after) f.1 (subst (λ (word : List ℕ). Cuts (b ∷ (num ++ rest)) (b ∷ word) (after_digits (num ++ rest))) f.0 (cuts_joined b (num ++ rest) j))
+
+-- a number takes no more digits than it counts
+pub length_decimal : (n : ℕ) → n < 2 ^ 64 → 0 < n → length (decimal n) ≤ n
+length_decimal n small =
+    decimal_by_steps (λ n ds. 0 < n → length ds ≤ n) (λ n lt some. omega arith) (λ n ds ge h some. let less = h (omega arith) in omega (arith, length-append ds ((48 + n % 10) ∷ []))) n small
+
+pub numeral : (n : ℕ) → n < 2 ^ 64 → IsNumeral (decimal n)
+numeral n small = record {
+  some = decimal_by_steps (λ n ds. 0 < length ds) (λ n lt. omega arith) (λ n ds ge h. omega (arith, length-append ds ((48 + n % 10) ∷ []))) n small;
+  digits = digits_decimal own n small;
+}

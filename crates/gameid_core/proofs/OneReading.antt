@@ -1,0 +1,30 @@
+-- A text spells one puzzle or has one fault, for any game whose reading and spelling agree.
+use Rattle.std.proofs.Common.{◌≡◌, ℕ, List, Result, Ok, Err, refl, sym, ◌∙◌, ◌⊎◌, inl, inr}
+use Rattle.std.specs.Prelude.{IfOk}
+use Rattle.gameid_core.specs.declared.fault.IdFault.{IdFault}
+use Rattle.gameid_core.specs.Steps.{Gives}
+use Rattle.gameid_core.proofs.Results.{taken, ok_is}
+
+-- what is spelled is read, and what is read is spelled
+abbrev pub Again : {P : Type 0} → (List ℕ → P → Type 0) → (List ℕ → Result P IdFault) → Type 0
+Again {P} spells of = (text : List ℕ) (p : P) → spells text p → of text ≡ Ok p
+
+abbrev pub Takes : {P : Type 0} → (List ℕ → P → Type 0) → (List ℕ → Result P IdFault) → Type 0
+Takes {P} spells of = (text : List ℕ) (p : P) → of text ≡ Ok p → spells text p
+
+pub one_of : {P : Type 0} (spells : List ℕ → P → Type 0) (of : List ℕ → Result P IdFault) → Again spells of → (text : List ℕ) (p q : P) → spells text p → spells text q → p ≡ q
+one_of spells of again text p q s t = ok_is p q (sym (again text p s) ∙ again text q t)
+
+pub apart_of : {P : Type 0} (spells : List ℕ → P → Type 0) (of : List ℕ → Result P IdFault) → Again spells of → (text : List ℕ) (p : P) (f : IdFault) → spells text p → of text ≡ Err f → ⊥
+apart_of spells of again text p f s e = let bad : taken p ≡ Err f = sym (again text p s) ∙ e in absurd cc
+
+pub either_of : {P : Type 0} (spells : List ℕ → P → Type 0) (of : List ℕ → Result P IdFault) → Takes spells of → (text : List ℕ) → ((p : P) × spells text p) ⊎ ((f : IdFault) × (of text ≡ Err f))
+either_of {P} spells of takes text = cases (of text) refl
+  where
+    cases : (r : Result P IdFault) → of text ≡ r → ((p : P) × spells text p) ⊎ ((f : IdFault) × (of text ≡ Err f))
+    cases (Ok p) e = inl (p, takes text p e)
+    cases (Err f) e = inr (f, e)
+
+pub found_of : {P : Type 0} (spells : List ℕ → P → Type 0) (of : List ℕ → Result P IdFault) → Takes spells of → (text : List ℕ) (r : Result P IdFault) → Gives (λ p. p) r (of text) → IfOk r (λ p. spells text p)
+found_of spells of takes text (Ok p) gives = takes text p gives
+found_of spells of takes text (Err e) gives = tt

@@ -1,0 +1,81 @@
+-- The written text of a puzzle of Pattern: it is short, and it spells the puzzle.
+use Rattle.std.proofs.Common.{◌≡◌, ℕ, ◌+◌, ◌*◌, ◌^◌, ◌<◌, ◌≤◌, true, false, cond, ltb, List, ◌∷◌, ◌++◌, map, length, refl, sym, ap, inl, arith, length-append, []}
+use Rattle.std.specs.Prelude.{decimal}
+use Rattle.std.specs.List.{AllByRecursion, join_with_byte}
+use Rattle.std.proofs.lemmas.Fmt.{digits_value-decimal}
+use Rattle.grid_core.specs.Extent.{Extent, IsExtent, max_side}
+use Rattle.gameid_core.specs.Words.{value, IsNumeral}
+use Rattle.gameid_core.specs.SizeText.{size_text}
+use Rattle.gameid_core.specs.Puzzles.{Pattern, IsPattern, IsClue, AreClues, line_cells, used}
+use Rattle.gameid_core.specs.PatternText.{clue_text, pattern_text, SpellsPattern}
+use Rattle.gameid_core.specs.Head.{max_id}
+use Rattle.gameid_core.proofs.Numerals.{own, length_decimal, numeral}
+
+-- ---- how long
+
+pub line_small : (size : Extent) (line : ℕ) → IsExtent size → line_cells size line ≤ max_side
+line_small size line h = elim (ltb line size.w) as (λ v. cond v size.h size.w ≤ max_side) [ true ↦ h.h_high | false ↦ h.w_high ]
+
+length_clue : (clue : List ℕ) → AllByRecursion (λ n. 0 < n) clue → used clue < 2 ^ 64 → 0 < length clue → length (clue_text clue) + 1 ≤ used clue
+length_clue [] h small some = absurd (omega arith)
+length_clue (n ∷ []) h small some = omega (arith, length_decimal n (omega arith) h.0)
+length_clue (n ∷ m ∷ clue) h small some =
+    omega (arith, length_decimal n (omega arith) h.0, length_clue (m ∷ clue) h.1 (omega arith) (omega arith), length-append (decimal n) (46 ∷ clue_text (m ∷ clue)))
+
+-- a clue's text is no longer than its line
+pub clue_short : (cells : ℕ) (clue : List ℕ) → IsClue cells clue → cells ≤ max_side → length (clue_text clue) ≤ cells
+clue_short cells [] h small = omega arith
+clue_short cells (n ∷ clue) h small = let fits : used (n ∷ clue) ≤ cells + 1 = h.fits in omega (arith, length_clue (n ∷ clue) h.positive (omega arith) (omega arith))
+
+clues_short : (size : Extent) (line : ℕ) (clues : List (List ℕ)) → IsExtent size → AreClues size line clues → length (join_with_byte 47 (map clue_text clues)) ≤ (max_side + 1) * length clues
+clues_short size line [] e h = omega arith
+clues_short size line (c ∷ []) e h = let small = line_small size line e in omega (arith, clue_short (line_cells size line) c h.0 small)
+clues_short size line (c ∷ d ∷ clues) e h =
+    let small = line_small size line e in
+    let first = clue_short (line_cells size line) c h.0 small in
+    let others = clues_short size (line + 1) (d ∷ clues) e h.1 in
+    omega (arith, length-append (clue_text c) (47 ∷ join_with_byte 47 (map clue_text (d ∷ clues))))
+
+pub pattern_short : (p : Pattern) → IsPattern p → length (pattern_text p) ≤ max_id
+pattern_short p h =
+    let e = h.size in
+    let w = length_decimal p.size.w (omega (arith, e.w_high)) e.w_low in
+    let v = length_decimal p.size.h (omega (arith, e.h_high)) e.h_low in
+    let clues = clues_short p.size 0 p.clues e h.clues in
+    omega (arith, e.w_high, e.h_high, h.lines, length-append (decimal p.size.w) (120 ∷ decimal p.size.h), length-append (size_text p.size.w p.size.h) (58 ∷ join_with_byte 47 (map clue_text p.clues)))
+
+-- ---- what it spells
+
+texts_same : (clues : List (List ℕ)) → map (join_with_byte 46) (map (map decimal) clues) ≡ map clue_text clues
+texts_same [] = refl
+texts_same (c ∷ clues) = ap (λ (ts : List (List ℕ)). clue_text c ∷ ts) (texts_same clues)
+
+numerals : (clue : List ℕ) → used clue < 2 ^ 64 → AllByRecursion IsNumeral (map decimal clue) × (map value (map decimal clue) ≡ clue)
+numerals [] small = (tt, refl)
+numerals (n ∷ clue) small =
+    let rest = numerals clue (omega arith) in
+    let one : value (decimal n) ≡ n = digits_value-decimal own n (omega arith) in
+    ((numeral n (omega arith), rest.0), rw (one, rest.1) refl)
+
+all_numerals : (size : Extent) (line : ℕ) (clues : List (List ℕ)) → IsExtent size → AreClues size line clues → AllByRecursion (AllByRecursion IsNumeral) (map (map decimal) clues) × (map (map value) (map (map decimal) clues) ≡ clues)
+all_numerals size line [] e h = (tt, refl)
+all_numerals size line (c ∷ clues) e h =
+    let small = line_small size line e in
+    let fits = h.0.fits in
+    let first = numerals c (omega arith) in
+    let rest = all_numerals size (line + 1) clues e h.1 in
+    ((first.0, rest.0), rw (first.1, rest.1) refl)
+
+pub pattern_written : (p : Pattern) → IsPattern p → SpellsPattern (pattern_text p) p
+pattern_written p h =
+    let n = all_numerals p.size 0 p.clues h.size h.clues in
+    record {
+      short = pattern_short p h;
+      puzzle = h;
+      front = size_text p.size.w p.size.h;
+      numerals = map (map decimal) p.clues;
+      parts = ap (λ (ts : List (List ℕ)). size_text p.size.w p.size.h ++ 58 ∷ join_with_byte 47 ts) (sym (texts_same p.clues));
+      size = inl refl;
+      digits = n.0;
+      clues = n.1;
+    }

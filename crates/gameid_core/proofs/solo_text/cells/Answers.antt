@@ -1,0 +1,53 @@
+use Rattle.std.proofs.Common.{◌≡◌, ◌+◌, ◌*◌, ◌-◌, ◌≤◌, ◌++◌, length, ap, refl, arith, length-append, []}
+use Rattle.std.specs.Prelude.{replicate}
+use Rattle.std.proofs.lemmas.List.{length-replicate}
+use Rattle.std.proofs.lemmas.Result.{err_from_is_err_and}
+use Rattle.gameid_core.specs.SoloText.{solo_token, solo_cells_at}
+use Rattle.gameid_core.proofs.Reading.{cuts_shorter, fails_is}
+use Rattle.gameid_core.proofs.CellsReading.{turn_fill, over_fill, fault_fill, few_fill, done_fill}
+use Rattle.gameid_core.proofs.solo_text.cells.Goals as goal
+
+pub loop-first-init : goal.loop-first-init
+unfolding solo_cells_at
+loop-first-init c =
+    let none : c.new-cells.result.items ≡ [] = c.new-cells.ensures.items in
+    let here : c.args.base + (length c.args.description.now - length c.args.description.now) ≡ c.args.base = omega arith in
+    record { short = omega arith; room = rw none (omega arith); so_far = rw (none, here) refl }
+
+pub returns-in_err-count : goal.returns-in_err-count
+returns-in_err-count c =
+    let p = err_from_is_err_and c.from_residual.result c.from_residual.ensures.1 in
+    let w = c.in_err-count.ensures in
+    rw (p.1, p.2) (fails_is _ _ (fault_fill (solo_token c.args.n) _ _ _ _ _ _ _ _ w.2 w.3 c.loop-first.invariant.so_far))
+
+pub returns-then-count-all : goal.returns-then-count-all
+returns-then-count-all c =
+    let w = c.in_ok-count.ensures in
+    let square : c.from.result * c.from-2.result ≡ c.args.n * c.args.n = rw (c.from.ensures, c.from-2.ensures) refl in
+    let count = length-replicate c.in_ok-count.count c.in_ok-count.value in
+    over_fill (solo_token c.args.n) _ _ _ _ _ _ _ _ w.1 w.2 (omega (arith, c.loop-first.cells.ok.0)) c.loop-first.invariant.so_far
+
+pub loop-first-smaller : goal.loop-first-smaller
+loop-first-smaller c = cuts_shorter _ _ _ _ _ c.in-Some.ensures c.in_ok-count.ensures.1
+
+pub loop-first-preserved : goal.loop-first-preserved
+loop-first-preserved c =
+    let w = c.in_ok-count.ensures in
+    let pushed : c.push_run.new.cells.items ≡ c.loop-first.cells.items ++ replicate c.in_ok-count.count c.in_ok-count.value = c.in_ok-push_run.ensures in
+    let square : c.from.result * c.from-2.result ≡ c.args.n * c.args.n = rw (c.from.ensures, c.from-2.ensures) refl in
+    let count = length-replicate c.in_ok-count.count c.in_ok-count.value in
+    let room : length c.loop-first.cells.items + length (replicate c.in_ok-count.count c.in_ok-count.value) ≤ c.args.n * c.args.n = omega (arith, c.loop-first.cells.ok.0) in
+    let less = cuts_shorter _ _ _ _ _ c.in-Some.ensures w.1 in
+    record {
+      short = omega arith;
+      room = omega (arith, ap length pushed, length-append c.loop-first.cells.items (replicate c.in_ok-count.count c.in_ok-count.value));
+      so_far = rw pushed (turn_fill (solo_token c.args.n) _ c.args.base (length c.args.description.now) _ _ _ _ _ _ w.1 c.loop-first.invariant.short w.2 room c.loop-first.invariant.so_far);
+    }
+
+pub returns-then-len-all : goal.returns-then-len-all
+returns-then-len-all c =
+    few_fill (solo_token c.args.n) _ _ _ _ _ c.in_default.ensures (λ e. c.if-len-all.true (let square : c.from.result * c.from-2.result ≡ c.args.n * c.args.n = rw (c.from.ensures, c.from-2.ensures) refl in omega (arith, c.loop-first.cells.ok.0))) c.loop-first.invariant.so_far
+
+pub returns : goal.returns
+returns c =
+    done_fill (solo_token c.args.n) _ _ _ _ _ c.in_default.ensures (let square : c.from.result * c.from-2.result ≡ c.args.n * c.args.n = rw (c.from.ensures, c.from-2.ensures) refl in omega (arith, c.loop-first.cells.ok.0)) c.loop-first.invariant.so_far

@@ -1,0 +1,87 @@
+-- Game IDs of Light Up: what a text spells, its first fault, and the one written text.
+use Rattle.std.specs.Prelude.{◌≡◌, ℕ, ◌+◌, ◌-◌, ◌*◌, ◌≤◌, ◌&&◌, List, [], ◌∷◌, ◌++◌, map, drop, length, replicate, slice_index, Result, Ok, Err, nat_le, ◌==◌, if◌then◌else◌}
+use Rattle.std.specs.List.{AllByRecursion, flat_map}
+use Rattle.gameid_core.specs.declared.fault.IdFault.{IdFault}
+use Rattle.gameid_core.specs.declared.fault.IdFault.TheVariants.{BadByte}
+use Rattle.gameid_core.specs.declared.game.Game.TheVariants as game
+use Rattle.gameid_core.specs.declared.light_cell.LightCell.{LightCell}
+use Rattle.gameid_core.specs.declared.light_cell.LightCell.TheVariants.{White, Black, Numbered}
+use Rattle.gameid_core.specs.Words.{begins}
+use Rattle.gameid_core.specs.Steps.{◌>>=◌, reading}
+use Rattle.gameid_core.specs.Head.{head_of, max_id}
+use Rattle.gameid_core.specs.SizeText.{size_text, IsSizeText}
+use Rattle.gameid_core.specs.Cells.{is_letter, fill_step, fill_end, letters}
+use Rattle.gameid_core.specs.Puzzles.{Light, IsLight}
+
+-- What a text spells -------------------------------------------------------------------------------------------
+
+pub data LightToken : Type 0 where
+  whites : ℕ → LightToken
+  black : LightToken
+  numbered : ℕ → LightToken
+
+-- a letter for 1 to 26 white cells, 'B', or a digit
+abbrev pub light_token_byte : LightToken → ℕ
+light_token_byte (whites k) = 96 + k
+light_token_byte black = 66
+light_token_byte (numbered n) = 48 + n
+
+abbrev pub light_token_cells : LightToken → List LightCell
+light_token_cells (whites k) = replicate k White
+light_token_cells black = Black ∷ []
+light_token_cells (numbered n) = Numbered n ∷ []
+
+abbrev pub IsLightToken : LightToken → Type 0
+IsLightToken (whites k) = (1 ≤ k) × (k ≤ 26)
+IsLightToken black = Unit {0}
+IsLightToken (numbered n) = n ≤ 4
+
+pub record SpellsLight (text : List ℕ) (p : Light) : Type 0 where
+  pub short : length text ≤ max_id
+  pub puzzle : IsLight p
+  pub front : List ℕ
+  pub tokens : List LightToken
+  pub parts : text ≡ front ++ 58 ∷ map light_token_byte tokens
+  pub size : IsSizeText front p.size.w p.size.h
+  pub each : AllByRecursion IsLightToken tokens
+  pub cells : flat_map light_token_cells tokens ≡ p.cells
+
+-- The first fault ----------------------------------------------------------------------------------------------
+
+-- the cells of a token, which is one byte, or its fault
+unfoldable pub light_token : ℕ → List ℕ → Result (List LightCell) IdFault
+light_token at word =
+    if begins is_letter word then Ok (replicate (slice_index word 0 - 96) White)
+    else (if begins (λ b. b == 66) word then Ok (Black ∷ [])
+    else (if begins (λ b. nat_le 48 b && nat_le b 52) word then Ok (Numbered (slice_index word 0 - 48) ∷ [])
+    else Err (BadByte at)))
+
+unfoldable pub light_cells_at : ℕ → ℕ → List ℕ → Result (List LightCell) IdFault
+light_cells_at all at description = reading (fill_step light_token all) (fill_end all) at [] (map (λ b. b ∷ []) description)
+
+-- the puzzle that the text spells, or its first fault
+unfoldable pub light_of : List ℕ → Result Light IdFault
+light_of text = do
+  head ← head_of game.LightUp text
+  cells ← light_cells_at (head.0 * head.1) head.2 (drop head.2 text)
+  Ok (record { size = record { w = head.0; h = head.1 }; cells = cells })
+
+-- The written text ---------------------------------------------------------------------------------------------
+
+-- the text of the cells, with k white cells before them
+unfoldable pub light_cells_text : ℕ → List LightCell → List ℕ
+light_cells_text k [] = letters k
+light_cells_text k (White ∷ cells) = light_cells_text (k + 1) cells
+light_cells_text k (Black ∷ cells) = letters k ++ 66 ∷ light_cells_text 0 cells
+light_cells_text k (Numbered n ∷ cells) = letters k ++ (48 + n) ∷ light_cells_text 0 cells
+
+abbrev pub light_text : Light → List ℕ
+light_text p = size_text p.size.w p.size.h ++ 58 ∷ light_cells_text 0 p.cells
+
+-- Words of the writer's functions ------------------------------------------------------------------------------
+
+-- the byte that a black cell is written with
+abbrev pub IsBlackByte : ℕ → LightCell → Type 0
+IsBlackByte b White = ⊥
+IsBlackByte b Black = b ≡ 66
+IsBlackByte b (Numbered n) = b ≡ 48 + n

@@ -1,0 +1,88 @@
+-- Game IDs of Solo: what a text spells, its first fault, and the one written text.
+use Rattle.std.specs.Prelude.{◌≡◌, ℕ, zero, suc, ◌+◌, ◌-◌, ◌*◌, ◌≤◌, Bool, true, false, ◌&&◌, List, [], ◌∷◌, ◌++◌, drop, length, replicate, slice_index, Result, Ok, Err, nat_lt, nat_le, ◌==◌, if◌then◌else◌, decimal}
+use Rattle.std.specs.List.{AllByRecursion, flat_map}
+use Rattle.gameid_core.specs.declared.fault.IdFault.{IdFault}
+use Rattle.gameid_core.specs.declared.fault.IdFault.TheVariants.{BadByte, NumberRange}
+use Rattle.gameid_core.specs.declared.game.Game.TheVariants as game
+use Rattle.gameid_core.specs.Words.{begins, words, value}
+use Rattle.gameid_core.specs.Steps.{◌>>=◌, reading}
+use Rattle.gameid_core.specs.Head.{head_of, max_id}
+use Rattle.gameid_core.specs.SizeText.{size_text, IsSizeText}
+use Rattle.gameid_core.specs.Cells.{is_letter, fill_step, fill_end, letters}
+use Rattle.gameid_core.specs.Puzzles.{Solo, IsSolo, solo_n}
+
+-- What a text spells -------------------------------------------------------------------------------------------
+
+pub data SoloToken : Type 0 where
+  blanks : ℕ → SoloToken
+  gap : SoloToken
+  given : ℕ → SoloToken
+
+-- a letter for 1 to 26 blank cells, '_', or a number without a leading zero
+abbrev pub solo_token_text : SoloToken → List ℕ
+solo_token_text (blanks k) = (96 + k) ∷ []
+solo_token_text gap = 95 ∷ []
+solo_token_text (given v) = decimal v
+
+abbrev pub solo_token_cells : SoloToken → List ℕ
+solo_token_cells (blanks k) = replicate k 0
+solo_token_cells gap = []
+solo_token_cells (given v) = v ∷ []
+
+abbrev pub IsSoloToken : ℕ → SoloToken → Type 0
+IsSoloToken n (blanks k) = (1 ≤ k) × (k ≤ 26)
+IsSoloToken n gap = Unit {0}
+IsSoloToken n (given v) = (1 ≤ v) × (v ≤ n)
+
+-- no number stands directly after a number
+abbrev pub AreApart : List SoloToken → Type 0
+AreApart [] = Unit {0}
+AreApart (given u ∷ given v ∷ tokens) = ⊥
+AreApart (token ∷ tokens) = AreApart tokens
+
+pub record SpellsSolo (text : List ℕ) (p : Solo) : Type 0 where
+  pub short : length text ≤ max_id
+  pub puzzle : IsSolo p
+  pub front : List ℕ
+  pub tokens : List SoloToken
+  pub parts : text ≡ front ++ 58 ∷ flat_map solo_token_text tokens
+  pub size : IsSizeText front p.c p.r
+  pub each : AllByRecursion (IsSoloToken (solo_n p)) tokens
+  pub apart : AreApart tokens
+  pub cells : flat_map solo_token_cells tokens ≡ p.givens
+
+-- The first fault ----------------------------------------------------------------------------------------------
+
+-- the cells of a token, or its fault
+unfoldable pub solo_token : ℕ → ℕ → List ℕ → Result (List ℕ) IdFault
+solo_token n at word =
+    if begins is_letter word then Ok (replicate (slice_index word 0 - 96) 0)
+    else (if begins (λ b. b == 95) word then Ok []
+    else (if begins (λ b. nat_le 49 b && nat_le b 57) word then (if nat_lt n (value word) then Err (NumberRange at) else Ok (value word ∷ []))
+    else Err (BadByte at)))
+
+unfoldable pub solo_cells_at : ℕ → ℕ → List ℕ → Result (List ℕ) IdFault
+solo_cells_at n at description = reading (fill_step (solo_token n) (n * n)) (fill_end (n * n)) at [] (words description)
+
+-- the puzzle that the text spells, or its first fault
+unfoldable pub solo_of : List ℕ → Result Solo IdFault
+solo_of text = do
+  head ← head_of game.Solo text
+  givens ← solo_cells_at (head.0 * head.1) head.2 (drop head.2 text)
+  Ok (record { c = head.0; r = head.1; givens = givens })
+
+-- The written text ---------------------------------------------------------------------------------------------
+
+-- what stands before a number that has k blanks before it: their letters, or '_' where a number stands there
+abbrev pub before_given : ℕ → Bool → List ℕ
+before_given zero true = 95 ∷ []
+before_given k touches = letters k
+
+-- the text of the cells, with k blanks before them, which have a number before them or not
+unfoldable pub cells_text : ℕ → Bool → List ℕ → List ℕ
+cells_text k touches [] = letters k
+cells_text k touches (zero ∷ cells) = cells_text (k + 1) touches cells
+cells_text k touches (suc v ∷ cells) = before_given k touches ++ (decimal (suc v) ++ cells_text 0 true cells)
+
+abbrev pub solo_text : Solo → List ℕ
+solo_text p = size_text p.c p.r ++ 58 ∷ cells_text 0 false p.givens

@@ -1,0 +1,123 @@
+-- Game IDs of Tents: what a text spells, its first fault, and the one written text.
+use Rattle.std.specs.Prelude.{◌≡◌, ℕ, zero, suc, ◌+◌, ◌-◌, ◌*◌, ◌≤◌, Bool, true, false, ◌&&◌, List, [], ◌∷◌, ◌++◌, map, take, drop, length, replicate, slice_index, Result, Ok, Err, nat_lt, nat_le, ◌==◌, if◌then◌else◌, decimal}
+use Rattle.std.specs.Borrow.{Bor}
+use Rattle.std.specs.List.{AllByRecursion, flat_map}
+use Rattle.grid_core.specs.Extent.{Extent}
+use Rattle.gameid_core.specs.declared.fault.IdFault.{IdFault}
+use Rattle.gameid_core.specs.declared.fault.IdFault.TheVariants.{BadByte, NumberRange, TooFew, TooMany}
+use Rattle.gameid_core.specs.declared.game.Game.TheVariants as game
+use Rattle.gameid_core.specs.Words.{IsNumeral, begins, words, value, Cuts}
+use Rattle.gameid_core.specs.Steps.{◌>>=◌, reading}
+use Rattle.gameid_core.specs.Head.{head_of, max_id}
+use Rattle.gameid_core.specs.SizeText.{size_text, IsSizeText}
+use Rattle.gameid_core.specs.Puzzles.{Tents, IsTents, line_cells, lines_of}
+
+-- What a text spells -------------------------------------------------------------------------------------------
+
+pub data TentsToken : Type 0 where
+  blanks_and_tree : ℕ → TentsToken
+  only_blanks : TentsToken
+
+-- '_' for a tree, a letter to 'y' for 1 to 25 blanks and a tree, or 'z' for 25 blanks and no tree
+abbrev pub tents_token_byte : TentsToken → ℕ
+tents_token_byte (blanks_and_tree k) = if k == 0 then 95 else 96 + k
+tents_token_byte only_blanks = 122
+
+abbrev pub tents_token_cells : TentsToken → List ℕ
+tents_token_cells (blanks_and_tree k) = replicate k 0 ++ 1 ∷ []
+tents_token_cells only_blanks = replicate 25 0
+
+abbrev pub IsTentsToken : TentsToken → Type 0
+IsTentsToken (blanks_and_tree k) = k ≤ 25
+IsTentsToken only_blanks = Unit {0}
+
+-- the tokens stand for the cells and one tree after them; then each line's number comes behind a ','
+pub record SpellsTents (text : List ℕ) (p : Tents) : Type 0 where
+  pub short : length text ≤ max_id
+  pub puzzle : IsTents p
+  pub front : List ℕ
+  pub tokens : List TentsToken
+  pub numerals : List (List ℕ)
+  pub parts : text ≡ front ++ 58 ∷ (map tents_token_byte tokens ++ flat_map (λ numeral. 44 ∷ numeral) numerals)
+  pub size : IsSizeText front p.size.w p.size.h
+  pub each : AllByRecursion IsTentsToken tokens
+  pub digits : AllByRecursion IsNumeral numerals
+  pub cells : flat_map tents_token_cells tokens ≡ p.trees ++ 1 ∷ []
+  pub counts : map value numerals ≡ p.counts
+
+-- The first fault ----------------------------------------------------------------------------------------------
+
+-- what was read so far: the cells, with the tree after them where that is read, and the numbers
+pub record TentsSoFar : Type 0 where
+  pub places : List ℕ
+  pub counts : List ℕ
+
+abbrev pub cells_in : Extent → ℕ
+cells_in size = size.w * size.h
+
+-- the blanks that a byte of the trees stands for, and whether a tree follows them
+unfoldable pub tents_run : ℕ → ℕ → Result (ℕ × Bool) IdFault
+tents_run at b =
+    if b == 95 then Ok (0, true)
+    else (if nat_le 97 b && nat_le b 121 then Ok (b - 96, true)
+    else (if b == 122 then Ok (25, false)
+    else Err (BadByte at)))
+
+abbrev pub run_cells : ℕ → Bool → List ℕ
+run_cells blanks tree = replicate blanks 0 ++ (if tree then 1 ∷ [] else [])
+
+-- a token of the trees: the places may pass the cells by the one tree after them
+unfoldable pub tents_tree : Extent → ℕ → TentsSoFar → ℕ → Result TentsSoFar IdFault
+tents_tree size at s b = tents_run at b >>= (λ run.
+    if nat_lt (cells_in size + (if run.1 then 1 else 0)) (length s.places + length (run_cells run.0 run.1)) then Err TooMany
+    else Ok (record { places = s.places ++ run_cells run.0 run.1; counts = s.counts }))
+
+-- a ',' and a line's number
+unfoldable pub tents_count : Extent → ℕ → TentsSoFar → List ℕ → Result ℕ IdFault
+tents_count size at s word =
+    if nat_lt (length s.places) (cells_in size + 1) then Err TooFew
+    else (if length s.counts == lines_of size then Err TooMany
+    else (if length word == 1 then Err (BadByte at)
+    else (if nat_lt (line_cells size (length s.counts)) (value (drop 1 word)) then Err (NumberRange (at + 1))
+    else Ok (value (drop 1 word)))))
+
+-- ',' begins a number; any other token belongs to the trees, and is refused once a number stands
+unfoldable pub tents_step : Extent → ℕ → TentsSoFar → List ℕ → Result TentsSoFar IdFault
+tents_step size at s word =
+    if begins (λ b. b == 44) word then (tents_count size at s word >>= (λ n. Ok (record { places = s.places; counts = s.counts ++ n ∷ [] })))
+    else (if nat_lt 0 (length s.counts) then Err (BadByte at) else tents_tree size at s (slice_index word 0))
+
+unfoldable pub tents_end : Extent → TentsSoFar → Result TentsSoFar IdFault
+tents_end size s = if length s.counts == lines_of size then Ok s else Err TooFew
+
+unfoldable pub tents_at : Extent → ℕ → List ℕ → Result TentsSoFar IdFault
+tents_at size at description = reading (tents_step size) (tents_end size) at (record { places = []; counts = [] }) (words description)
+
+-- the puzzle that the text spells, or its first fault
+unfoldable pub tents_of : List ℕ → Result Tents IdFault
+tents_of text = do
+  head ← head_of game.Tents text
+  s ← tents_at (record { w = head.0; h = head.1 }) head.2 (drop head.2 text)
+  Ok (record { size = record { w = head.0; h = head.1 }; trees = take (head.0 * head.1) s.places; counts = s.counts })
+
+-- The written text ---------------------------------------------------------------------------------------------
+
+-- the tokens of the cells, with k blanks before them, and of the tree after them
+unfoldable pub tents_tokens : ℕ → List ℕ → List TentsToken
+tents_tokens k [] = blanks_and_tree k ∷ []
+tents_tokens k (zero ∷ cells) = if k == 25 then only_blanks ∷ tents_tokens 1 cells else tents_tokens (k + 1) cells
+tents_tokens k (suc b ∷ cells) = blanks_and_tree k ∷ tents_tokens 0 cells
+
+-- the text of the cells, with k blanks before them, and of the tree after them
+abbrev pub trees_text : ℕ → List ℕ → List ℕ
+trees_text k cells = map tents_token_byte (tents_tokens k cells)
+
+abbrev pub tents_text : Tents → List ℕ
+tents_text p = size_text p.size.w p.size.h ++ 58 ∷ (trees_text 0 p.trees ++ flat_map (λ n. 44 ∷ decimal n) p.counts)
+
+-- Words of the reader's functions ------------------------------------------------------------------------------
+
+-- the number of a ',' and the text after it; or the token's fault
+abbrev pub TakesCount : (List ℕ → Result ℕ IdFault) → List ℕ → Result (ℕ × Bor (List ℕ)) IdFault → Type 0
+TakesCount token text (Ok x) = (word : List ℕ) × Cuts text word x.1.now × (token word ≡ Ok x.0)
+TakesCount token text (Err e) = (word after : List ℕ) × Cuts text word after × (token word ≡ Err e)

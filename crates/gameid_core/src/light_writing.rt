@@ -1,0 +1,68 @@
+//! The written text of a puzzle of Light Up.
+
+ghost use Rattle.std.specs.Prelude.{◌≡◌, ◌≤◌, ◌++◌, ◌∷◌, [], length, string_bytes, OnOk, IfOk, MatchOption};
+ghost use Rattle.std.specs.List.{AllByRecursion};
+ghost use Rattle.gameid_core.specs.declared.light_cell.LightCell.TheVariants.{White};
+ghost use Rattle.gameid_core.specs.Head.{max_id};
+ghost use Rattle.gameid_core.specs.Puzzles.{IsLight, IsLightCell};
+ghost use Rattle.gameid_core.specs.LightText.{IsBlackByte, SpellsLight, light_cells_text, light_text};
+
+use crate::light_cell::LightCell;
+use crate::light_puzzle::LightPuzzle;
+use crate::writing::{push_letters, push_size};
+use std::alloc::{AllocError, Global};
+
+/// The byte of a black cell: 'B', or its number's digit.
+fn black_byte(cell: LightCell) -> Option<u8>
+    requires { IsLightCell cell }
+    ensures { MatchOption result (cell ≡ White) (λ b. IsBlackByte b cell) }
+{
+    match cell {
+        LightCell::White => None,
+        LightCell::Black => Some(b'B'),
+        LightCell::Numbered(n) => Some(b'0' + n),
+    }
+}
+
+/// Writes the cells.
+fn push_cells(out: &mut String, cells: &[LightCell]) -> Result<(), AllocError>
+    requires { AllByRecursion IsLightCell cells.now }
+    ensures { OnOk result (string_bytes out.new ≡ string_bytes out.old ++ light_cells_text 0 cells.now) }
+{
+    let mut whites = 0;
+    for cell in cells {
+        match black_byte(*cell) {
+            None => whites += 1,
+            Some(byte) => {
+                push_letters(out, whites)?;
+                out.push(byte as char)?;
+                whites = 0;
+            }
+        }
+    }
+    push_letters(out, whites)
+}
+
+/// The written ID, and what is known of the puzzle.
+fn written(alloc: Global, puzzle: &LightPuzzle) -> Result<String, AllocError>
+    ensures text { IfOk result (λ text. string_bytes text ≡ light_text puzzle.now) }
+    ensures lawful { IsLight puzzle.now }
+{
+    let size = puzzle.size();
+    let mut out = String::new(alloc);
+    push_size(&mut out, size.w(), size.h())?;
+    out.push(':')?;
+    push_cells(&mut out, puzzle.cells())?;
+    Ok(out)
+}
+
+/// The one written ID of the puzzle, of at most `MAX_ID` bytes, which reads back to an equal puzzle. Both numbers of
+/// the size are written. In each run of white cells all letters but the last are `z`, and the last run is written
+/// too.
+pub fn write_lights(alloc: Global, puzzle: &LightPuzzle) -> Result<String, AllocError>
+    ensures text { IfOk result (λ text. string_bytes text ≡ light_text puzzle.now) }
+    ensures read_again { IfOk result (λ text. SpellsLight (string_bytes text) puzzle.now) }
+    ensures short { IfOk result (λ text. length (string_bytes text) ≤ max_id) }
+{
+    written(alloc, puzzle)
+}

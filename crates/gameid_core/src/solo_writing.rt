@@ -1,0 +1,64 @@
+//! The written text of a puzzle of Solo.
+
+ghost use Rattle.std.specs.Prelude.{◌≡◌, ◌≤◌, ◌++◌, ◌∷◌, length, decimal, false, string_bytes, OnOk, IfOk};
+ghost use Rattle.gameid_core.specs.Cells.{letters};
+ghost use Rattle.gameid_core.specs.Head.{max_id};
+ghost use Rattle.gameid_core.specs.Puzzles.{IsSolo};
+ghost use Rattle.gameid_core.specs.SoloText.{before_given, cells_text, solo_text, SpellsSolo};
+
+use crate::solo_puzzle::SoloPuzzle;
+use crate::writing::{push_letters, push_number, push_size};
+use std::alloc::{AllocError, Global};
+
+/// Writes what stands before a number that has so many blanks before it.
+fn push_before(out: &mut String, blanks: usize, touches: bool) -> Result<(), AllocError>
+    ensures { OnOk result (string_bytes out.new ≡ string_bytes out.old ++ before_given blanks touches) }
+{
+    if blanks == 0 && touches {
+        out.push('_')
+    } else {
+        push_letters(out, blanks)
+    }
+}
+
+/// Writes the cells.
+fn push_cells(out: &mut String, givens: &[u8]) -> Result<(), AllocError>
+    ensures { OnOk result (string_bytes out.new ≡ string_bytes out.old ++ cells_text 0 false givens.now) }
+{
+    let mut blanks = 0;
+    let mut touches = false;
+    for given in givens {
+        if *given == 0 {
+            blanks += 1;
+        } else {
+            push_before(out, blanks, touches)?;
+            push_number(out, *given)?;
+            blanks = 0;
+            touches = true;
+        }
+    }
+    push_letters(out, blanks)
+}
+
+/// The written ID, and what is known of the puzzle.
+fn written(alloc: Global, puzzle: &SoloPuzzle) -> Result<String, AllocError>
+    ensures text { IfOk result (λ text. string_bytes text ≡ solo_text puzzle.now) }
+    ensures lawful { IsSolo puzzle.now }
+{
+    let mut out = String::new(alloc);
+    push_size(&mut out, puzzle.c(), puzzle.r())?;
+    out.push(':')?;
+    push_cells(&mut out, puzzle.givens())?;
+    Ok(out)
+}
+
+/// The one written ID of the puzzle, of at most `MAX_ID` bytes, which reads back to an equal puzzle. Both numbers of
+/// the size are written. In each run of blank cells all letters but the last are `z`, and `_` stands exactly between
+/// two numbers.
+pub fn write_solo(alloc: Global, puzzle: &SoloPuzzle) -> Result<String, AllocError>
+    ensures text { IfOk result (λ text. string_bytes text ≡ solo_text puzzle.now) }
+    ensures read_again { IfOk result (λ text. SpellsSolo (string_bytes text) puzzle.now) }
+    ensures short { IfOk result (λ text. length (string_bytes text) ≤ max_id) }
+{
+    written(alloc, puzzle)
+}

@@ -1,0 +1,83 @@
+//! The puzzles of Tents.
+
+ghost use Rattle.std.specs.Prelude.{◌≡◌, ◌<◌, ◌≤◌, ◌*◌, IsTrue, length, slice_index, slice_index_or, ◌↔◌};
+ghost use Rattle.gameid_core.specs.Puzzles.{Tents, IsTents, lines_of};
+
+use grid_core::Size;
+use std::marker::Model;
+
+/// The trees of a grid of at least 2 columns and 2 rows, and the number of tents of each column and row, which is at
+/// most the line's cells.
+#[derive(Debug, Drop)]
+pub struct TentsPuzzle {
+    size: Size,
+    trees: Vec<u8>,
+    counts: Vec<u8>,
+}
+
+impl Model for TentsPuzzle {
+    ghost use Rattle.gameid_core.specs.Puzzles.{Tents, IsTents};
+
+    ghost Value = { Tents };
+
+    ghost view = { λ p. record { size = p.size; trees = p.trees.items; counts = p.counts.items } };
+
+    ghost invariant = { λ p. IsTents (record { size = p.size; trees = p.trees.items; counts = p.counts.items }) };
+}
+
+impl TentsPuzzle {
+    /// The puzzle of that size with these trees by place, 1 for a tree and 0 for any other cell, and these numbers of
+    /// tents of the columns from the left and then of the rows from the top.
+    pub(crate) fn of_lists(size: Size, trees: Vec<u8>, counts: Vec<u8>) -> TentsPuzzle
+        requires { IsTents (record { size = size; trees = trees.items; counts = counts.items }) }
+        ensures { result ≡ record { size = size; trees = trees.items; counts = counts.items } }
+    {
+        TentsPuzzle {
+            size,
+            trees,
+            counts,
+        }
+    }
+
+    /// The size of the grid.
+    pub fn size(&self) -> Size
+        ensures value { result ≡ self.now.size }
+        ensures lawful { IsTents self.now }
+    {
+        self.size
+    }
+
+    /// Whether a tree stands at a place. Places go row by row from the top left.
+    pub fn tree(&self, place: usize) -> bool
+        requires { place < length self.now.trees }
+        ensures value { IsTrue result ↔ (slice_index self.now.trees place ≡ 1) }
+        ensures lawful { IsTents self.now }
+    {
+        self.trees[place] == 1
+    }
+
+    /// The number of tents of a line. Lines are the columns from the left, and then the rows from the top.
+    pub fn count(&self, line: usize) -> u8
+        requires { line < lines_of self.now.size }
+        ensures value { result ≡ slice_index self.now.counts line }
+        ensures lawful { IsTents self.now }
+    {
+        self.counts[line]
+    }
+
+    /// The trees by place, 1 for a tree and 0 for any other cell.
+    pub(crate) fn trees(&self) -> &[u8]
+        ensures value { result.now ≡ self.now.trees }
+        ensures lawful { IsTents self.now }
+    {
+        &self.trees
+    }
+
+    /// The number of tents of each line.
+    pub(crate) fn counts(&self) -> &[u8]
+        ensures value { result.now ≡ self.now.counts }
+        ensures lawful { IsTents self.now }
+    {
+        &self.counts
+    }
+}
