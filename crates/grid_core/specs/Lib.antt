@@ -1,2 +1,4 @@
 pub mod Extent
 pub mod Grids
+pub mod Candidates
+pub mod Board
