@@ -1,0 +1,5 @@
+pub mod SetLemmas
+pub mod ClosingLemmas
+pub mod QueueLemmas
+pub mod ListLemmas
+pub mod SweepLemmas
