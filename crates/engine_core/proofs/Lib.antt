@@ -3,3 +3,5 @@ pub mod ClosingLemmas
 pub mod QueueLemmas
 pub mod ListLemmas
 pub mod SweepLemmas
+pub mod JudgeLemmas
+pub mod StoreLemmas

@@ -163,12 +163,16 @@ swept-none p laws K sweeps within dead =
       dead = (λ e. shut, λ e. refl);
       rest = λ e. absurd (cc);
       by_visits = λ e. absurd (true≢false (sym e ∙ sweeps));
-      by_sweeps = λ e. (refl, record {
-        reaches = inr (shut, dead);
-        few = omega arith;
-        stops = λ n pos lt. absurd (omega arith);
-        struck = λ n lt. absurd (omega arith);
-      }, refl);
+      by_sweeps = λ e. (
+        refl,
+        record {
+          reaches = inr (shut, dead);
+          few = omega arith;
+          stops = λ n pos lt. absurd (omega arith);
+          struck = λ n lt. absurd (omega arith);
+        },
+        refl,
+      );
     }
 
 pub swept-dead : (p : Puzzle) (laws : IsLawful p) (K0 : Candidates) (n : ℕ) (K K' : Candidates) → p.by_queue ≡ false → IsWithin p.cells p.values K0 → IsAlive p K → IsSwept p K0 n K
@@ -181,12 +185,16 @@ swept-dead p laws K0 n K K' sweeps within alive s e dead =
       dead = (λ e. shut, λ e. refl);
       rest = λ e. absurd (cc);
       by_visits = λ e. absurd (true≢false (sym e ∙ sweeps));
-      by_sweeps = λ e. (here, record {
-        reaches = inr (shut, gone);
-        few = few_sweeps p laws K0 n K sweeps alive s;
-        stops = λ k pos lt. s.alive k (omega arith);
-        struck = λ k lt. s.struck k (omega arith);
-      }, refl);
+      by_sweeps = λ e. (
+        here,
+        record {
+          reaches = inr (shut, gone);
+          few = few_sweeps p laws K0 n K sweeps alive s;
+          stops = λ k pos lt. s.alive k (omega arith);
+          struck = λ k lt. s.struck k (omega arith);
+        },
+        refl,
+      );
     }
 
 pub swept-open : (p : Puzzle) (laws : IsLawful p) (K0 : Candidates) (n : ℕ) (K K' : Candidates) → p.by_queue ≡ false → IsWithin p.cells p.values K0 → IsAlive p K → IsSwept p K0 n K
@@ -198,10 +206,14 @@ swept-open p laws K0 n K K' sweeps within alive s e same closed =
       dead = (λ e. absurd (cc), λ e. absurd (true≢false (sym e ∙ rw (sym same ∙ here ∙ is) at alive)));
       rest = λ e. here ∙ is;
       by_visits = λ e. absurd (true≢false (sym e ∙ sweeps));
-      by_sweeps = λ e. (here, record {
-        reaches = inl is;
-        few = few_sweeps p laws K0 n K sweeps alive s;
-        stops = λ k pos lt. s.alive k (omega arith);
-        struck = λ k lt. s.struck k (omega arith);
-      }, refl);
+      by_sweeps = λ e. (
+        here,
+        record {
+          reaches = inl is;
+          few = few_sweeps p laws K0 n K sweeps alive s;
+          stops = λ k pos lt. s.alive k (omega arith);
+          struck = λ k lt. s.struck k (omega arith);
+        },
+        refl,
+      );
     }

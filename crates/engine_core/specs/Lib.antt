@@ -5,3 +5,5 @@ pub mod Closing
 pub mod ClosingList
 pub mod Sets
 pub mod Queue
+pub mod Stored
+pub mod StoreParts

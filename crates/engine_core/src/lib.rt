@@ -1,11 +1,15 @@
 //! Boards closed and searched, for any lawful rules.
 #![tactic(auto)]
 
+mod close;
+mod judge;
 mod mode;
 mod queue;
 mod rules;
 mod sets;
+mod store;
 mod sweep;
 
 pub use mode::{Closing, Mode};
 pub use rules::Rules;
+pub use store::{Sizes, Store};

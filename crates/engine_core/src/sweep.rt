@@ -30,11 +30,7 @@ fn sweep<R: Rules>(rules: &R, board: &mut Board, scratch: &mut R::Scratch) -> bo
 }
 
 /// Closes the board: sweeps until nothing was struck or a cell has no value.
-pub(crate) fn run_sweeps<R: Rules>(
-    rules: &R,
-    board: &mut Board,
-    scratch: &mut R::Scratch,
-) -> Closed
+pub(crate) fn run_sweeps<R: Rules>(rules: &R, board: &mut Board, scratch: &mut R::Scratch) -> Closed
     requires sweeps { (R.puzzle rules.now).by_queue ≡ false }
     requires board_of { IsBoardOf (R.puzzle rules.now) board.old }
     requires served { R.serves scratch.old (needs_of (R.puzzle rules.now)) }
