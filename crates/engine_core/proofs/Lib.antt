@@ -5,3 +5,4 @@ pub mod ListLemmas
 pub mod SweepLemmas
 pub mod JudgeLemmas
 pub mod StoreLemmas
+pub mod HouseLemmas

@@ -2,6 +2,7 @@
 #![tactic(auto)]
 
 mod close;
+mod house;
 mod judge;
 mod mode;
 mod queue;
@@ -10,6 +11,7 @@ mod sets;
 mod store;
 mod sweep;
 
+pub use house::{apply, gather};
 pub use mode::{Closing, Mode};
 pub use rules::Rules;
 pub use store::{Sizes, Store};
