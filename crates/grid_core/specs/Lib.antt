@@ -1,2 +1,5 @@
 pub mod Extent
 pub mod Grids
+pub mod Candidates
+pub mod Board
+pub mod Regions

@@ -32,3 +32,71 @@ fn a_grid_keeps_its_numbers(rt: HostRuntime) -> Result<(), Fail> {
     assert!(rt; !grid.fits(3, 4));
     Ok(())
 }
+
+#[test]
+fn a_board_loses_and_regains_values(rt: HostRuntime) -> Result<(), Fail> {
+    let mut board = Board::new(rt.alloc(), 1, 2)?;
+    assert_eq!(rt; board.count(0), 2);
+    assert!(rt; !board.is_full());
+    assert!(rt; board.strike(0, 1));
+    assert!(rt; board.is_full());
+    assert!(rt; !board.strike(0, 1));
+    assert!(rt; board.has(0, 0));
+    assert!(rt; !board.has(0, 1));
+    assert!(rt; board.strike(0, 0));
+    assert!(rt; board.has_empty_cell());
+    board.restore(0, 1);
+    assert!(rt; board.has(0, 1));
+    board.fill();
+    assert_eq!(rt; board.count(0), 2);
+    Ok(())
+}
+
+#[test]
+fn a_board_takes_over_another(rt: HostRuntime) -> Result<(), Fail> {
+    let mut board = Board::new(rt.alloc(), 3, 31)?;
+    let mut other = Board::new(rt.alloc(), 3, 31)?;
+    assert!(rt; other.has(2, 30));
+    other.keep_only(2, 30);
+    assert_eq!(rt; other.count(2), 1);
+    board.copy_from(&other);
+    assert_eq!(rt; board.count(0), 31);
+    assert_eq!(rt; board.count(2), 1);
+    assert!(rt; board.has(2, 30));
+    assert!(rt; !board.is_full());
+    assert!(rt; !board.has_empty_cell());
+    Ok(())
+}
+
+#[test]
+fn lines_and_neighbours_are_their_lists(rt: HostRuntime) {
+    let size = Size::new(3, 2).unwrap();
+    assert_eq!(rt; row_place(size, 1, 2), 5);
+    assert_eq!(rt; row_place(size, 0, 1), 1);
+    assert_eq!(rt; column_place(size, 2, 1), 5);
+    assert_eq!(rt; column_place(size, 1, 0), 1);
+    for (place, cells) in [
+        (0, [Some(1), Some(3), None, None]),
+        (4, [Some(1), Some(3), Some(5), None]),
+    ] {
+        for (k, cell) in cells.iter().enumerate() {
+            assert_eq!(rt; beside(size, place, k), *cell, "{k} beside {place}");
+        }
+    }
+    for (direction, cell) in [Some(1), Some(3), Some(5), None].iter().enumerate() {
+        assert_eq!(rt; step(size, 4, direction), *cell, "direction {direction}");
+    }
+}
+
+#[test]
+fn blocks_are_three_wide_and_two_tall(rt: HostRuntime) {
+    for (b, first) in [0, 3, 12, 15, 24, 27].iter().enumerate() {
+        for (k, more) in [0, 1, 2, 6, 7, 8].iter().enumerate() {
+            assert_eq!(rt;
+                block_place(2, 3, b, k),
+                first + more,
+                "cell {k} of block {b}"
+            );
+        }
+    }
+}

@@ -1,0 +1,299 @@
+use Rattle.std.proofs.Common.{add-one, ◌≡◌, ℕ, zero, suc, ◌+◌, ◌-◌, ◌*◌, ◌<◌, ◌≤◌, Bool, true, false, not, cond, ◌&&◌, ◌||◌, eqb, List, [], ◌∷◌, ◌++◌, length, slice_index, take, get_or, set, get_or-set_same, get_or-set_other, refl, sym, ap, ◌∙◌, inl, inr, arith}
+use Rattle.std.proofs.lemmas.Bool.{and_left, and_right, cases_Bool, cases_eq, true≢false, and_parts, and_from, or_cases, or_left, or_right, or_parts, not-true, not-false, not_from_false, not_from_true, false_from_ne_true, eqb-true, eq-eqb, ne_eqb}
+use Rattle.std.proofs.Math.Nat.{mul-le-mul_right}
+use Rattle.std.proofs.Math.Seq.{take-suc-set}
+use Rattle.grid_core.specs.Candidates.{Candidates, IsWithin, any_below, count_below, sum_below, is_dead}
+use Rattle.grid_core.proofs.CandidateLemmas.{any_below-here, any_below-some, any_below-none, count_below-le, count_below-lt, count_below-any, count_below-kept, count_below-pos, count_below-none, count_below-bound, count_below-same, any_below-same, sum_below-le, sum_below-add, is_dead-not, is_dead-here, is_dead-each}
+use Rattle.std.specs.List.{AllByRecursion}
+use Rattle.grid_core.specs.Board.{Layout, SameShape, has, cells_of}
+use Rattle.grid_core.proofs.BoardLemmas.{has-within}
+use Rattle.engine_core.specs.Closing.{replay}
+use Rattle.engine_core.specs.Puzzle.{Puzzle, IsLawful, IsClosed, IsInsideAt, IsBoardOf, after, has_place, share}
+use Rattle.engine_core.specs.Places.{has_place-at, has_place-here}
+use Rattle.engine_core.specs.Queue.{calls, counts_of, woken, but, visits_left, IsRested, is_waiting, is_emptied}
+use Rattle.engine_core.proofs.ClosingLemmas.{after_inside, replay-push}
+
+-- ---- what a visit leaves in the cells of other houses
+-- a cell outside the house is left alone
+pub after-outside : (p : Puzzle) (laws : IsLawful p) (h : ℕ) (K : Candidates) (c v : ℕ) → h < p.houses → has_place (p.scope h) c ≡ false → K c v ≡ true → after p h K c v ≡ true
+unfolding after
+after-outside p laws h K c v lt out on = and_from (K c v) (not (p.strikes h K c v)) on
+    (not_from_false (p.strikes h K c v) (false_from_ne_true (p.strikes h K c v) (λ struck. true≢false (sym (laws.strikes_in_scope h K c v lt struck) ∙ out))))
+
+left_false : (x y : Bool) → (x && y) ≡ false → y ≡ true → x ≡ false
+left_false true y e f = absurd (true≢false (sym f ∙ e))
+left_false false y e f = refl
+
+same_from_counts : (p : Puzzle) (h : ℕ) (K : Candidates) (k : ℕ) → not (eqb (counts_of p h K k) (counts_of p h (after p h K) k)) ≡ false → count_below (K (slice_index (p.scope h) k)) p.values ≡ count_below (after p h K (slice_index (p.scope h) k)) p.values
+unfolding counts_of
+same_from_counts p h K k e = eqb-true _ _ (not-false _ e)
+
+-- a house that has no cell with another number of values than before strikes what it struck before
+still_rested : (p : Puzzle) (laws : IsLawful p) (h j : ℕ) (K : Candidates) → h < p.houses → j < p.houses → IsWithin p.cells p.values K
+    → any_below (λ k. not (eqb (counts_of p h K k) (counts_of p h (after p h K) k)) && has_place (p.scope j) (slice_index (p.scope h) k)) (length (p.scope h)) ≡ false
+    → IsInsideAt (p.scope j) K (after p h K)
+still_rested p laws h j K lth ltj within quiet = λ c v member on. elim (cases_Bool (has_place (p.scope h) c)) [
+  | inl both ↦
+      let w = has_place-at (p.scope h) c both in
+      let none = any_below-none (λ k. not (eqb (counts_of p h K k) (counts_of p h (after p h K) k)) && has_place (p.scope j) (slice_index (p.scope h) k)) (length (p.scope h)) quiet w.0 w.1 in
+      let same : count_below (K (slice_index (p.scope h) w.0)) p.values ≡ count_below (after p h K (slice_index (p.scope h) w.0)) p.values = same_count p h j K w.0 none (rw w.2 member) in
+      let range = within c v on in
+      count_below-kept (after p h K c) (K c) p.values v (λ u _. after_inside p h K c u) (sym (rw w.2 at same)) range.1 on
+  | inr out ↦ after-outside p laws h K c v lth out on
+]
+  where
+    same_count : (p : Puzzle) (h j : ℕ) (K : Candidates) (k : ℕ) → (not (eqb (counts_of p h K k) (counts_of p h (after p h K) k)) && has_place (p.scope j) (slice_index (p.scope h) k)) ≡ false → has_place (p.scope j) (slice_index (p.scope h) k) ≡ true → count_below (K (slice_index (p.scope h) k)) p.values ≡ count_below (after p h K (slice_index (p.scope h) k)) p.values
+    same_count p h j K k none member = same_from_counts p h K k (left_false _ _ none member)
+
+-- the waiting houses after a visit
+not_struck : (p : Puzzle) (h : ℕ) (K : Candidates) (c v : ℕ) → after p h K c v ≡ true → p.strikes h K c v ≡ false
+unfolding after
+not_struck p h K c v on = not-true (p.strikes h K c v) (and_parts (K c v) (not (p.strikes h K c v)) on).1
+
+pub rested_after : (p : Puzzle) (laws : IsLawful p) (h : ℕ) (K : Candidates) (waits : ℕ → Bool) → h < p.houses → IsWithin p.cells p.values K → IsRested p K waits
+    → IsRested p (after p h K) (woken p h (counts_of p h K) (after p h K) (but waits h))
+unfolding woken but
+rested_after p laws h K waits lth within rested = λ j c v ltj asleep on.
+    let parts = or_parts (waits j && not (eqb j h)) _ asleep in
+    elim (cases_Bool (p.settled && eqb j h)) [
+      | inl same ↦
+          let w = and_parts p.settled (eqb j h) same in
+          rw (eqb-true j h w.1) (laws.settles w.0 h K c v lth on)
+      | inr other ↦
+          let quiet = left_false _ (not (p.settled && eqb j h)) parts.1 (not_from_false _ other) in
+          false_from_ne_true (p.strikes j (after p h K) c v) (λ struck.
+          let before = laws.strikes_inside j K (after p h K) ltj (still_rested p laws h j K lth ltj within quiet) c v struck in
+          elim (cases_Bool (eqb j h)) [
+            | inl here ↦ true≢false (sym before ∙ rw (eqb-true j h here) (not_struck p h K c v on))
+            | inr apart ↦ true≢false (sym before ∙ rested j c v ltj (left_false (waits j) (not (eqb j h)) parts.0 (not_from_false (eqb j h) apart)) (after_inside p h K c v on))
+          ])
+    ]
+
+-- where every house waits, nothing is asked; where none waits, the board is closed
+pub rested_first : (p : Puzzle) (K : Candidates) (waits : ℕ → Bool) → ((h : ℕ) → h < p.houses → waits h ≡ true) → IsRested p K waits
+rested_first p K waits all = λ h c v lt asleep on. absurd (true≢false (sym (all h lt) ∙ asleep))
+
+pub closed_from_rested : (p : Puzzle) (K : Candidates) (waits : ℕ → Bool) → ((h : ℕ) → h < p.houses → waits h ≡ false) → IsRested p K waits → IsClosed p K
+closed_from_rested p K waits none rested = λ h c v lt on. rested h c v lt (none h lt) on
+
+-- ---- a visit pays for the visits that it calls for
+grow : (x y s : ℕ) → 1 ≤ y → y < x → (y - 1) * s + s ≤ (x - 1) * s
+grow x y s pos lt = let h : (y - 1 + 1) * s ≤ (x - 1) * s = mul-le-mul_right s (omega arith) in omega arith
+
+-- the cell fell, and the house has it and is sent for
+sent : Puzzle → ℕ → Candidates → ℕ → ℕ → Bool
+sent p h K c j = (not (eqb (count_below (K c) p.values) (count_below (after p h K c) p.values)) && (has_place (p.scope h) c && has_place (p.scope j) c)) && not (p.settled && eqb j h)
+
+-- so many houses are sent for by a cell
+sent_few : (p : Puzzle) (h : ℕ) (K : Candidates) (c : ℕ) → h < p.houses → count_below (sent p h K c) p.houses ≤ share p c
+unfolding sent share
+sent_few p h K c lth = elim (cases_Bool p.settled) [
+  | inl settled ↦ elim (cases_Bool (has_place (p.scope h) c)) [
+    | inl member ↦
+        let less : count_below (sent p h K c) p.houses < count_below (λ j. has_place (p.scope j) c) p.houses =
+        count_below-lt (sent p h K c) (λ j. has_place (p.scope j) c) p.houses h (λ j _ on. (and_parts _ _ (and_parts _ _ (and_parts _ _ on).0).1).1) lth (not_itself settled) member in
+        let one : cond {A = ℕ} p.settled 1 0 ≡ 1 = ap (λ (b : Bool). cond {A = ℕ} b 1 0) settled in
+        omega arith
+    | inr out ↦
+        let none : count_below (sent p h K c) p.houses ≡ 0 = count_below-none (sent p h K c) p.houses (λ j _. false_from_ne_true _ (λ on. true≢false (sym ((and_parts _ _ (and_parts _ _ (and_parts _ _ on).0).1).0) ∙ out))) in
+        omega arith
+  ]
+  | inr free ↦
+      let le : count_below (sent p h K c) p.houses ≤ count_below (λ j. has_place (p.scope j) c) p.houses =
+      count_below-le (sent p h K c) (λ j. has_place (p.scope j) c) p.houses (λ j _ on. (and_parts _ _ (and_parts _ _ (and_parts _ _ on).0).1).1) in
+      let none : cond {A = ℕ} p.settled 1 0 ≡ 0 = ap (λ (b : Bool). cond {A = ℕ} b 1 0) free in
+      omega arith
+]
+  where
+    not_itself : p.settled ≡ true → sent p h K c h ≡ false
+    not_itself settled = and_right _ (not (p.settled && eqb h h)) (not_from_true (p.settled && eqb h h) (and_from p.settled (eqb h h) settled (eq-eqb h h refl)))
+
+unsent : (p : Puzzle) (h : ℕ) (K : Candidates) (c : ℕ) → count_below (K c) p.values ≡ count_below (after p h K c) p.values → count_below (sent p h K c) p.houses ≡ 0
+unfolding sent
+unsent p h K c same = count_below-none (sent p h K c) p.houses (λ j _. and_left _ (not (p.settled && eqb j h)) (and_left _ (has_place (p.scope h) c && has_place (p.scope j) c) (not_from_true _ (eq-eqb _ _ same))))
+
+-- what a cell's houses cost is paid by the values that it lost
+cell_pays : (p : Puzzle) (h : ℕ) (K : Candidates) (c : ℕ) → h < p.houses → 0 < count_below (after p h K c) p.values
+    → count_below (sent p h K c) p.houses + (count_below (after p h K c) p.values - 1) * share p c ≤ (count_below (K c) p.values - 1) * share p c
+cell_pays p h K c lth alive =
+    let le : count_below (after p h K c) p.values ≤ count_below (K c) p.values = count_below-le (after p h K c) (K c) p.values (λ v _. after_inside p h K c v) in
+    elim (cases_eq (count_below (K c) p.values) (count_below (after p h K c) p.values)) [
+      | inl same ↦
+          let none : count_below (sent p h K c) p.houses ≡ 0 = unsent p h K c same in
+          let e : (count_below (after p h K c) p.values - 1) * share p c ≡ (count_below (K c) p.values - 1) * share p c = ap (λ (x : ℕ). (x - 1) * share p c) (sym same) in
+          omega arith
+      | inr fell ↦
+          let few : count_below (sent p h K c) p.houses ≤ share p c = sent_few p h K c lth in
+          let g : (count_below (after p h K c) p.values - 1) * share p c + share p c ≤ (count_below (K c) p.values - 1) * share p c =
+          grow (count_below (K c) p.values) (count_below (after p h K c) p.values) (share p c) (omega arith) (omega arith) in
+          omega arith
+    ]
+
+-- who waits after the visit, waited or was sent for by a cell
+woken_or_sent : (p : Puzzle) (laws : IsLawful p) (h : ℕ) (K : Candidates) (waits : ℕ → Bool) (j : ℕ) → h < p.houses
+    → woken p h (counts_of p h K) (after p h K) (but waits h) j ≡ true → (but waits h j || any_below (λ c. sent p h K c j) p.cells) ≡ true
+unfolding woken sent counts_of
+woken_or_sent p laws h K waits j lth on = elim (or_cases (but waits h j) _ on) [
+  | inl waited ↦ or_left (but waits h j) _ waited
+  | inr called ↦
+      let parts = and_parts (any_below (λ k. not (eqb (count_below (K (slice_index (p.scope h) k)) p.values) (count_below (after p h K (slice_index (p.scope h) k)) p.values)) && has_place (p.scope j) (slice_index (p.scope h) k)) (length (p.scope h))) (not (p.settled && eqb j h)) called in
+      let w = any_below-some (λ k. not (eqb (count_below (K (slice_index (p.scope h) k)) p.values) (count_below (after p h K (slice_index (p.scope h) k)) p.values)) && has_place (p.scope j) (slice_index (p.scope h) k)) (length (p.scope h)) parts.0 in
+      let c = slice_index (p.scope h) w.0 in
+      let both = and_parts (not (eqb (count_below (K c) p.values) (count_below (after p h K c) p.values))) (has_place (p.scope j) c) w.2 in
+      let member = has_place-here (p.scope h) w.0 w.1 in
+      or_right (but waits h j) _ (any_below-here (λ c. sent p h K c j) p.cells c (laws.scope_within h c lth member)
+      (and_from _ (not (p.settled && eqb j h)) (and_from _ (has_place (p.scope h) c && has_place (p.scope j) c) both.0 (and_from (has_place (p.scope h) c) (has_place (p.scope j) c) member both.1)) parts.1))
+]
+
+one_less : (waits : ℕ → Bool) (n h : ℕ) → h < n → waits h ≡ true → count_below (but waits h) n < count_below waits n
+unfolding but
+one_less waits n h lt waiting = count_below-lt (λ j. waits j && not (eqb j h)) waits n h (λ j _ on. (and_parts (waits j) _ on).0) lt (and_right (waits h) _ (not_from_true (eqb h h) (eq-eqb h h refl))) waiting
+
+pub visit_pays : (p : Puzzle) (laws : IsLawful p) (h : ℕ) (K : Candidates) (waits : ℕ → Bool) → h < p.houses → waits h ≡ true → is_dead p.cells p.values (after p h K) ≡ false
+    → visits_left p (after p h K) (woken p h (counts_of p h K) (after p h K) (but waits h)) + 1 ≤ visits_left p K waits
+unfolding visits_left
+visit_pays p laws h K waits lth waiting alive =
+    let n = p.houses in
+    let W' = woken p h (counts_of p h K) (after p h K) (but waits h) in
+    let some : count_below W' n ≤ count_below (λ j. but waits h j || any_below (λ c. sent p h K c j) p.cells) n =
+    count_below-le W' (λ j. but waits h j || any_below (λ c. sent p h K c j) p.cells) n (λ j _ on. woken_or_sent p laws h K waits j lth on) in
+    let split : count_below (λ j. but waits h j || any_below (λ c. sent p h K c j) p.cells) n ≤ count_below (but waits h) n + sum_below (λ c. count_below (sent p h K c) n) p.cells =
+    count_below-any (but waits h) (sent p h K) p.cells n in
+    let less : count_below (but waits h) n < count_below waits n = one_less waits n h lth waiting in
+    let joined : sum_below (λ c. count_below (sent p h K c) n + (count_below (after p h K c) p.values - 1) * share p c) p.cells ≡ sum_below (λ c. count_below (sent p h K c) n) p.cells + sum_below (λ c. (count_below (after p h K c) p.values - 1) * share p c) p.cells =
+    sum_below-add (λ c. count_below (sent p h K c) n) (λ c. (count_below (after p h K c) p.values - 1) * share p c) p.cells in
+    let paid : sum_below (λ c. count_below (sent p h K c) n + (count_below (after p h K c) p.values - 1) * share p c) p.cells ≤ sum_below (λ c. (count_below (K c) p.values - 1) * share p c) p.cells =
+    sum_below-le (λ c. count_below (sent p h K c) n + (count_below (after p h K c) p.values - 1) * share p c) (λ c. (count_below (K c) p.values - 1) * share p c) p.cells (λ c lt. cell_pays p h K c lth (is_dead-not p.cells p.values (after p h K) c alive lt)) in
+    omega arith
+
+-- at the start the bound is enough
+pub visits_first : (p : Puzzle) (laws : IsLawful p) (K : Candidates) (waits : ℕ → Bool) → p.by_queue ≡ true → visits_left p K waits ≤ p.bound
+unfolding visits_left
+visits_first p laws K waits queue =
+    let houses : count_below waits p.houses ≤ p.houses = count_below-bound waits p.houses in
+    let cells : sum_below (λ c. (count_below (K c) p.values - 1) * share p c) p.cells ≤ sum_below (λ c. (p.values - 1) * share p c) p.cells =
+    sum_below-le (λ c. (count_below (K c) p.values - 1) * share p c) (λ c. (p.values - 1) * share p c) p.cells (λ c _. mul-le-mul_right (share p c) (let few = count_below-bound (K c) p.values in omega arith)) in
+    let bound = laws.bound_of_queue queue in
+    omega arith
+
+-- ---- one more cell of the house
+pub any_below-more : (p : ℕ → Bool) (n : ℕ) → any_below p (n + 1) ≡ (any_below p n || p n)
+unfolding any_below
+any_below-more p n = rw add-one refl
+
+pub wake_more : (w a h n : Bool) → ((w || (a && n)) || (h && n)) ≡ (w || ((a || h) && n))
+wake_more true a h n = refl
+wake_more false true h true = refl
+wake_more false true true false = refl
+wake_more false true false false = refl
+wake_more false false h n = refl
+
+pub wake_none : (w a n : Bool) → (w || (a && n)) ≡ (w || ((a || false) && n))
+wake_none w true n = refl
+wake_none w false n = refl
+
+pub or_false : (x : Bool) → (x || false) ≡ x
+or_false true = refl
+or_false false = refl
+
+pub step_then : (w0 w w' a h n x : Bool) → w' ≡ (w || (h && n)) → w ≡ (w0 || (a && n)) → x ≡ true → w' ≡ (w0 || ((a || (x && h)) && n))
+step_then w0 w w' a h n x e f g = rw (e, f, g) (wake_more w0 a h n)
+
+pub step_else : (w0 w w' a h n x : Bool) → w' ≡ w → w ≡ (w0 || (a && n)) → x ≡ false → w' ≡ (w0 || ((a || (x && h)) && n))
+step_else w0 w w' a h n x e f g = rw (e, f, g) (wake_none w0 a n)
+
+-- the waiting houses depend on the numbers before the visit at the house's cells, and on who waited
+pub woken-same : (p : Puzzle) (h : ℕ) (before before' : ℕ → ℕ) (K : Candidates) (waits waits' : ℕ → Bool) (j : ℕ) → ((k : ℕ) → k < length (p.scope h) → before k ≡ before' k) → waits j ≡ waits' j → woken p h before K waits j ≡ woken p h before' K waits' j
+unfolding woken
+woken-same p h before before' K waits waits' j same e =
+    rw (e, any_below-same (calls p h before K j) (calls p h before' K j) (length (p.scope h)) (λ k lt. ap (λ (x : ℕ). not (eqb x (counts_of p h K k)) && has_place (p.scope j) (slice_index (p.scope h) k)) (same k lt)))
+
+pub is_waiting-clear : (waits : List Bool) (h j : ℕ) → h < length waits → is_waiting (set waits h false) j ≡ but (is_waiting waits) h j
+unfolding but
+is_waiting-clear waits h j lt = elim (cases_eq j h) [
+  | inl e ↦ rw (eq-eqb j h e, e, get_or-set_same waits h false false lt) (sym (and_right (get_or waits h false) false refl))
+  | inr ne ↦ rw (ne_eqb j h ne, get_or-set_other waits h j false false ne) (sym (and_true_r (get_or waits j false)))
+]
+  where
+    and_true_r : (x : Bool) → (x && true) ≡ x
+    and_true_r true = refl
+    and_true_r false = refl
+
+pub wake_then : (p : Puzzle) (h : ℕ) (before : ℕ → ℕ) (K : Candidates) (j k place : ℕ) (w0 w w' : Bool) → place ≡ slice_index (p.scope h) k
+    → w' ≡ (w || (has_place (p.scope j) place && not (p.settled && eqb j h)))
+    → w ≡ (w0 || (any_below (calls p h before K j) k && not (p.settled && eqb j h)))
+    → (before k ≡ count_below (K (slice_index (p.scope h) k)) p.values → ⊥)
+    → w' ≡ (w0 || (any_below (calls p h before K j) (k + 1) && not (p.settled && eqb j h)))
+unfolding counts_of
+wake_then p h before K j k place w0 w w' at e f ne =
+    rw any_below-more (step_then w0 w w' (any_below (calls p h before K j) k) (has_place (p.scope j) (slice_index (p.scope h) k)) (not (p.settled && eqb j h)) (not (eqb (before k) (counts_of p h K k)))
+    (rw at at e) f (not_from_false (eqb (before k) (counts_of p h K k)) (ne_eqb (before k) (counts_of p h K k) ne)))
+
+pub wake_else : (p : Puzzle) (h : ℕ) (before : ℕ → ℕ) (K : Candidates) (j k : ℕ) (w0 w w' : Bool)
+    → w' ≡ w
+    → w ≡ (w0 || (any_below (calls p h before K j) k && not (p.settled && eqb j h)))
+    → before k ≡ count_below (K (slice_index (p.scope h) k)) p.values
+    → w' ≡ (w0 || (any_below (calls p h before K j) (k + 1) && not (p.settled && eqb j h)))
+unfolding counts_of
+wake_else p h before K j k w0 w w' e f same =
+    rw any_below-more (step_else w0 w w' (any_below (calls p h before K j) k) (has_place (p.scope j) (slice_index (p.scope h) k)) (not (p.settled && eqb j h)) (not (eqb (before k) (counts_of p h K k)))
+    e f (not_from_true (eqb (before k) (counts_of p h K k)) (eq-eqb (before k) (counts_of p h K k) same)))
+
+-- ---- one turn of the queue
+visits_left-same : (p : Puzzle) (K : Candidates) (waits waits' : ℕ → Bool) → ((j : ℕ) → j < p.houses → waits j ≡ waits' j) → visits_left p K waits ≡ visits_left p K waits'
+unfolding visits_left
+visits_left-same p K waits waits' same = ap (λ (n : ℕ). n + sum_below (λ c. (count_below (K c) p.values - 1) * share p c) p.cells) (count_below-same waits waits' p.houses same)
+
+pub visits_left-pos : (p : Puzzle) (K : Candidates) (waits : ℕ → Bool) (h : ℕ) → h < p.houses → waits h ≡ true → 0 < visits_left p K waits
+unfolding visits_left
+visits_left-pos p K waits h lt on = let some = count_below-pos waits p.houses h lt on in omega arith
+
+pub turn_enough : (p : Puzzle) (laws : IsLawful p) (h : ℕ) (K K' : Candidates) (waits waits' : ℕ → Bool) (visits : ℕ) → h < p.houses → waits h ≡ true → K' ≡ after p h K
+    → ((j : ℕ) → j < p.houses → waits' j ≡ woken p h (counts_of p h K) K' (but waits h) j)
+    → visits_left p K waits + visits ≤ p.bound
+    → is_dead p.cells p.values K' ≡ false → visits_left p K' waits' + (visits + 1) ≤ p.bound
+turn_enough p laws h K K' waits waits' visits lth waiting e same enough alive =
+    let pays = visit_pays p laws h K waits lth waiting (rw e at alive) in
+    let eq = visits_left-same p K' waits' (woken p h (counts_of p h K) K' (but waits h)) same in
+    let eq' : visits_left p K' (woken p h (counts_of p h K) K' (but waits h)) ≡ visits_left p (after p h K) (woken p h (counts_of p h K) (after p h K) (but waits h)) = ap (λ (L : Candidates). visits_left p L (woken p h (counts_of p h K) L (but waits h))) e in
+    omega arith
+
+pub turn_rested : (p : Puzzle) (laws : IsLawful p) (h : ℕ) (K K' : Candidates) (waits waits' : ℕ → Bool) → h < p.houses → IsWithin p.cells p.values K → K' ≡ after p h K
+    → ((j : ℕ) → j < p.houses → waits' j ≡ woken p h (counts_of p h K) K' (but waits h) j)
+    → IsRested p K waits → IsRested p K' waits'
+turn_rested p laws h K K' waits waits' lth within e same rested = λ j c v lt asleep on.
+    rw e (rested_after p laws h K waits lth within rested j c v lt (ap (λ (L : Candidates). woken p h (counts_of p h K) L (but waits h) j) (sym e) ∙ (sym (same j lt) ∙ asleep)) (ap (λ (L : Candidates). L c v) (sym e) ∙ on))
+
+pub pushed : (t : List ℕ) (n h : ℕ) → n < length t → take (n + 1) (set t n h) ≡ take n t ++ h ∷ []
+pushed t n h lt = rw add-one (take-suc-set t n h lt)
+
+pub IsBoardOf-same : (p : Puzzle) (b b' : Layout) → IsBoardOf p b → SameShape b b' → IsBoardOf p b'
+IsBoardOf-same p b b' of same = record { same_cells = same.same_cells ∙ of.same_cells; same_values = same.same_values ∙ of.same_values }
+
+pub dead_of : (p : Puzzle) (b : Layout) → IsBoardOf p b → is_dead (cells_of b) b.values (has b) ≡ is_dead p.cells p.values (has b)
+dead_of p b of = ap (λ (n : ℕ). is_dead n b.values (has b)) of.same_cells ∙ ap (λ (v : ℕ). is_dead p.cells v (has b)) of.same_values
+
+pub within_of : (p : Puzzle) (b : Layout) → IsBoardOf p b → IsWithin p.cells p.values (has b)
+within_of p b of = λ c v on. let w = has-within b c v on in (omega (arith, w.0, of.same_cells), omega (arith, w.1, of.same_values))
+
+-- ---- a visit that empties a cell empties one of its own house
+pub emptied-dead : (p : Puzzle) (laws : IsLawful p) (h : ℕ) (K K' : Candidates) → h < p.houses → is_dead p.cells p.values K ≡ false → K' ≡ after p h K → is_emptied p h K' ≡ is_dead p.cells p.values K'
+unfolding counts_of
+emptied-dead p laws h K K' lt alive e = elim (cases_Bool (any_below (λ k. eqb (count_below (K' (slice_index (p.scope h) k)) p.values) 0) (length (p.scope h)))) [
+  | inl some ↦
+      let w = any_below-some (λ k. eqb (count_below (K' (slice_index (p.scope h) k)) p.values) 0) (length (p.scope h)) some in
+      some ∙ sym (is_dead-here p.cells p.values K' (slice_index (p.scope h) w.0) (laws.scope_within h _ lt (has_place-here (p.scope h) w.0 w.1)) (eqb-true _ _ w.2))
+  | inr none ↦ none ∙ sym (is_dead-each p.cells p.values K' (λ c less. elim (cases_Bool (has_place (p.scope h) c)) [
+    | inl member ↦
+        let w = has_place-at (p.scope h) c member in
+        rw w.2 at (pos_of_ne (count_below (K' (slice_index (p.scope h) w.0)) p.values) (any_below-none (λ k. eqb (count_below (K' (slice_index (p.scope h) k)) p.values) 0) (length (p.scope h)) none w.0 w.1))
+    | inr out ↦
+        let some : 0 < count_below (K c) p.values = is_dead-not p.cells p.values K c alive less in
+        let same : count_below (K c) p.values ≤ count_below (K' c) p.values = count_below-le (K c) (K' c) p.values (λ v _ on. rw e (after-outside p laws h K c v lt out on)) in
+        omega arith
+  ]))
+]
+  where
+    pos_of_ne : (n : ℕ) → eqb n 0 ≡ false → 0 < n
+    pos_of_ne zero f = absurd (true≢false (sym (eq-eqb 0 0 refl) ∙ f))
+    pos_of_ne (suc n) f = omega arith

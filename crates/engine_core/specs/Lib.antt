@@ -1,0 +1,13 @@
+pub mod Mode
+pub mod Puzzle
+pub mod Places
+pub mod Closing
+pub mod ClosingList
+pub mod Filling
+pub mod FillingLaws
+pub mod Sets
+pub mod House
+pub mod HouseLaws
+pub mod Queue
+pub mod Stored
+pub mod StoreParts

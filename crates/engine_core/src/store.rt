@@ -1,0 +1,265 @@
+//! The memory of a search, taken at once.
+
+ghost use Rattle.std.specs.Prelude.{◌≡◌, ℕ, ◌<◌, ◌≤◌, ◌↔◌, IfOk, IsTrue, List, length, slice_index, take, true, false};
+ghost use Rattle.grid_core.specs.Board.{has, Layout};
+ghost use Rattle.grid_core.specs.Candidates.{IsInside, is_full, grid_of};
+ghost use Rattle.engine_core.specs.Puzzle.{Puzzle, Needs, needs_of, FitsIn, IsBoardOf};
+ghost use Rattle.engine_core.specs.ClosingList.{IsClosing};
+ghost use Rattle.engine_core.specs.Mode.{is_queue};
+ghost use Rattle.engine_core.specs.Stored.{Stored, sizes_of, is_settled};
+ghost use Rattle.engine_core.specs.StoreParts.{needs_made};
+
+use crate::close::close_board;
+use crate::judge::write_grid;
+use crate::mode::Closing;
+use crate::rules::{Rules, by_queue};
+use grid_core::{Board, Grid};
+use std::alloc::{AllocError, Global};
+use std::marker::Model;
+
+/// The lengths of a store's lists.
+#[derive(Clone, Copy, PartialEq, Eq, Debug)]
+pub struct Sizes {
+    /// Trials that can be open at once.
+    pub frames: usize,
+    /// Strikes that can be taken back.
+    pub trail: usize,
+    /// Visits of one closing that can be written down.
+    pub trace: usize,
+    /// Houses that can wait.
+    pub queue: usize,
+    /// Cells of the longest scope.
+    pub scope: usize,
+}
+
+/// A cell whose values are being tried: the next of them, and how long the trail was before the first.
+#[derive(Clone, Copy)]
+struct Frame {
+    cell: usize,
+    next: u8,
+    mark: usize,
+}
+
+/// What the memory was taken for.
+#[derive(Clone, Copy)]
+struct Made {
+    cells: usize,
+    values: u8,
+    houses: usize,
+    bound: usize,
+    scope: usize,
+}
+
+/// The memory of a search.
+#[derive(Drop)]
+pub struct Store<R: Rules> {
+    made: Made,
+    board: Board,
+    scratch: R::Scratch,
+    trail: Vec<(usize, u8)>,
+    frames: Vec<Frame>,
+    trace: Vec<usize>,
+    waits: Vec<bool>,
+    scope: Vec<u32>,
+    first: Grid,
+    second: Grid,
+    visits: usize,
+    sweeps: usize,
+}
+
+impl<R: Rules> Model for Store<R> {
+    ghost use Rattle.std.specs.Prelude.{◌≡◌, ℕ, ◌*◌, ◌<◌, ◌≤◌, List, length, take, if◌then◌else◌};
+    ghost use Rattle.grid_core.specs.Board.{cells_of};
+    ghost use Rattle.engine_core.specs.Mode.{is_queue};
+    ghost use Rattle.engine_core.specs.Stored.{Stored};
+    ghost use Rattle.engine_core.specs.StoreParts.{needs_made, IsStoreOf};
+
+    ghost Value = { Stored };
+
+    ghost view = { λ s. record { board = s.board; trace = take s.visits s.trace.items; sweeps = s.sweeps; made = needs_made s.made } };
+
+    ghost invariant = { λ s. IsStoreOf (is_queue R.MODE) (needs_made s.made) s.board s.trail.items s.frames.items s.trace.items s.waits.items s.scope.items s.first s.second s.visits × R.serves s.scratch (needs_made s.made) };
+}
+
+impl<R: Rules> Store<R> {
+    /// Takes all the memory that searches with these rules, and with smaller ones, need.
+    ///
+    /// # Errors
+    ///
+    /// When memory was refused.
+    pub fn new(alloc: Global, rules: &R) -> Result<Store<R>, AllocError>
+        ensures { IfOk result (λ store. store.made ≡ needs_of (R.puzzle rules.now)) }
+    {
+        let made = needs(rules);
+        let queue = by_queue(rules);
+        let no_frame = Frame {
+            cell: 0,
+            next: 0,
+            mark: 0,
+        };
+        let trace = if queue { made.bound } else { 0 };
+        let waits = if queue { made.houses } else { 0 };
+        Ok(Store {
+            made,
+            board: Board::new(alloc, made.cells, made.values)?,
+            scratch: rules.scratch(alloc)?,
+            trail: vec![in alloc; (0usize, 0u8); made.cells * usize::from(made.values)]?,
+            frames: vec![in alloc; no_frame; made.cells]?,
+            trace: vec![in alloc; 0usize; trace]?,
+            waits: vec![in alloc; false; waits]?,
+            scope: vec![in alloc; 0u32; made.scope]?,
+            first: Grid::new(alloc, made.cells)?,
+            second: Grid::new(alloc, made.cells)?,
+            visits: 0,
+            sweeps: 0,
+        })
+    }
+
+    /// The lengths of the lists: a frame for each cell, a place in the trail for each value of each cell, and in a
+    /// queue a place in the trace for each visit that a closing can make and a mark for each house.
+    pub fn sizes(&self) -> Sizes
+        ensures { result ≡ sizes_of (is_queue R.MODE) self.now.made }
+    {
+        Sizes {
+            frames: self.frames.len(),
+            trail: self.trail.len(),
+            trace: self.trace.len(),
+            queue: self.waits.len(),
+            scope: self.scope.len(),
+        }
+    }
+
+    /// Whether the memory is enough for these rules: the same cells and values as at the making, and no more houses,
+    /// no larger bound and no longer scope. All later calls have it as their condition.
+    pub fn fits(&self, rules: &R) -> bool
+        ensures { IsTrue result ↔ FitsIn (needs_of (R.puzzle rules.now)) self.now.made }
+    {
+        let need = needs(rules);
+        let made = self.made;
+        need.cells == made.cells
+            && need.values == made.values
+            && need.houses <= made.houses
+            && need.bound <= made.bound
+            && need.scope <= made.scope
+    }
+
+    /// Closes the start board. It takes no memory.
+    pub fn close(&mut self, rules: &R) -> Closing
+        requires fits { FitsIn (needs_of (R.puzzle rules.now)) self.old.made }
+        ensures closing { IsClosing (R.puzzle rules.now) (R.puzzle rules.now).start (has self.new.board) result self.new.trace self.new.sweeps }
+        ensures made { self.new.made ≡ self.old.made }
+    {
+        rules.start(&mut self.board);
+        self.close_own(rules)
+    }
+
+    /// Closes the board, which lies inside the start board. It takes no memory.
+    pub fn close_from(&mut self, rules: &R, board: &Board) -> Closing
+        requires fits { FitsIn (needs_of (R.puzzle rules.now)) self.old.made }
+        requires board_of { IsBoardOf (R.puzzle rules.now) board.now }
+        requires inside { IsInside (has board.now) (R.puzzle rules.now).start }
+        ensures closing { IsClosing (R.puzzle rules.now) (has board.now) (has self.new.board) result self.new.trace self.new.sweeps }
+        ensures made { self.new.made ≡ self.old.made }
+    {
+        self.board.copy_from(board);
+        self.close_own(rules)
+    }
+
+    /// Closes the board that the store holds.
+    fn close_own(&mut self, rules: &R) -> Closing
+        requires fits { FitsIn (needs_of (R.puzzle rules.now)) self.old.made }
+        ensures closing { IsClosing (R.puzzle rules.now) (has self.old.board) (has self.new.board) result self.new.trace self.new.sweeps }
+        ensures made { self.new.made ≡ self.old.made }
+    {
+        let closed = close_board(
+            rules,
+            &mut self.board,
+            &mut self.scratch,
+            &mut self.scope,
+            &mut self.waits,
+            &mut self.trace,
+        );
+        self.visits = closed.visits;
+        self.sweeps = closed.sweeps;
+        closed.closing
+    }
+
+    /// Closes the start board, and says whether each cell has exactly one value then and the grid of these values is a
+    /// solution. It takes no memory.
+    pub fn settles(&mut self, rules: &R) -> bool
+        requires fits { FitsIn (needs_of (R.puzzle rules.now)) self.old.made }
+        ensures settled { result ≡ is_settled (R.puzzle rules.now) }
+        ensures closing { (answer : Closing) × IsClosing (R.puzzle rules.now) (R.puzzle rules.now).start (has self.new.board) answer self.new.trace self.new.sweeps }
+        ensures made { self.new.made ≡ self.old.made }
+    {
+        if let Closing::Dead = self.close(rules) {
+            return false;
+        }
+        if !self.board.is_full() {
+            return false;
+        }
+        self.accept_own(rules)
+    }
+
+    /// Whether the grid of the full board that the store holds is a solution.
+    fn accept_own(&mut self, rules: &R) -> bool
+        requires fits { FitsIn (needs_of (R.puzzle rules.now)) self.old.made }
+        requires full { is_full (R.puzzle rules.now).cells (R.puzzle rules.now).values (has self.old.board) ≡ true }
+        ensures solution { result ≡ (R.puzzle rules.now).is_solution (grid_of (R.puzzle rules.now).cells (R.puzzle rules.now).values (has self.old.board)) }
+        ensures same { self.new ≡ self.old }
+    {
+        write_grid(
+            &self.board,
+            self.made.cells,
+            self.made.values,
+            &mut self.first,
+        );
+        rules.accept(&mut self.scratch, &self.first)
+    }
+
+    /// The board that the last closing left.
+    pub fn board(&self) -> &Board
+        ensures { result.now ≡ self.now.board }
+    {
+        &self.board
+    }
+
+    /// The houses that the last closing visited, in order, where the rules are closed by a queue; else none.
+    pub fn trace(&self) -> &[usize]
+        ensures { result.now ≡ self.now.trace }
+    {
+        &self.trace[..self.visits]
+    }
+
+    /// How many sweeps the last closing made, each a visit of every house once in ascending order; none where the rules
+    /// are closed by a queue.
+    pub fn sweeps(&self) -> usize
+        ensures { result ≡ self.now.sweeps }
+    {
+        self.sweeps
+    }
+}
+
+/// What the rules need memory for.
+fn needs<R: Rules>(rules: &R) -> Made
+    ensures { needs_made result ≡ needs_of (R.puzzle rules.now) }
+{
+    Made {
+        cells: rules.cells(),
+        values: rules.values(),
+        houses: rules.houses(),
+        bound: rules.bound(),
+        scope: longest_scope(rules),
+    }
+}
+
+/// How many cells the longest scope has.
+fn longest_scope<R: Rules>(rules: &R) -> usize
+    ensures { result ≡ (needs_of (R.puzzle rules.now)).scope }
+{
+    let mut most = 0;
+    for house in 0..rules.houses() {
+        most = most.max(rules.scope_len(house));
+    }
+    most
+}
