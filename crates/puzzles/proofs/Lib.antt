@@ -1,4 +1,5 @@
 pub mod ParsedLemmas
+pub mod NumberLemmas
 pub mod PutLemmas
 pub mod RunLemmas
 pub mod EachBelow

@@ -1,5 +1,5 @@
 -- The command line: what the words may be, by the parser's own definitions of a simple command.
-use Rattle.std.specs.Prelude.{[], ◌∷◌, List, Option, None, codes, true}
+use Rattle.std.specs.Prelude.{[], ◌∷◌, List, Option, Some, None, codes, true}
 use Rattle.clap.specs.Kinds.{Kinds}
 use Rattle.clap.specs.Walk.{Row, Rule, Text}
 use Rattle.clap.specs.Simple.{App, new_app, new_rule, on_top, subcommand_of}
@@ -10,11 +10,16 @@ use Rattle.clap.specs.Faults.{fault_of}
 abbrev pub required_word : Text → Rule
 required_word id = record (new_rule id) { required = true }
 
--- `solve GAME ID`
+-- `--name VALUE`
+abbrev pub text_option : Text → Rule
+text_option name = record (new_rule name) { long = Some name }
+
+-- `solve GAME ID [--budget B]`
 abbrev pub solve_app : App
-solve_app = with_rule (with_rule (new_app (codes "solve"))
+solve_app = with_rule (with_rule (with_rule (new_app (codes "solve"))
     (required_word (codes "game")))
-    (required_word (codes "id"))
+    (required_word (codes "id")))
+    (text_option (codes "budget"))
 
 -- no name of a program first, no help and no version, and a command has to stand there
 abbrev pub bare_app : App

@@ -1,4 +1,5 @@
 pub mod CommandLine
+pub mod Numbers
 pub mod Requests
 pub mod Ends
 pub mod ReadEnds

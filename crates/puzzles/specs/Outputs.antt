@@ -1,27 +1,27 @@
 -- The answers that the words allow on an input.
-use Rattle.std.specs.Prelude.{◌≡◌, ◌++◌, ◌⊎◌, Bool, false, Option, Some, None, Err, codes}
+use Rattle.std.specs.Prelude.{◌≡◌, ◌++◌, ◌⊎◌, Bool, false, Option, Some, None, Err, codes, List, [], ℕ}
 use Rattle.grid_core.specs.Extent.{Extent}
 use Rattle.gameid_core.specs.declared.fault.IdFault.{IdFault}
 use Rattle.gameid_core.specs.declared.game.Game.TheVariants as game
 use Rattle.gameid_core.specs.Puzzles.{Pattern}
 use Rattle.gameid_core.specs.PatternText.{SpellsPattern, pattern_of}
 use Rattle.puzzles.specs.Answers.{Answer, Text}
-use Rattle.puzzles.specs.GridTexts.{pattern_grid}
+use Rattle.puzzles.specs.GridTexts.{grid_text, pattern_cell}
 use Rattle.puzzles.specs.PatternSolutions.{IsSolution}
 use Rattle.puzzles.specs.Refusals.{refused, refused_words, fault_text}
+use Rattle.puzzles.specs.Replies.{none_answer, one_answer, several_answer, gave_up_answer}
 use Rattle.puzzles.specs.Requests.{Asked, solve}
 use Rattle.puzzles.specs.Verdicts.{IsVerdict}
 use Rattle.puzzles.specs.declared.pattern_search.Verdict.{Verdict}
 use Rattle.puzzles.specs.declared.pattern_search.Verdict.TheVariants.{NoSolution, One, Several, GaveUp}
 
 -- a verdict with its grids, as it is printed, and its status
-abbrev pub verdict_answer : Extent → Verdict → Answer
-verdict_answer size NoSolution = record { text = codes "none\n"; status = 1 }
-verdict_answer size (One g) = record { text = codes "one\n" ++ pattern_grid size g; status = 0 }
-verdict_answer size (Several g h) =
-    record { text = codes "several\n" ++ pattern_grid size g ++ codes "\n" ++ pattern_grid size h; status = 3 }
-verdict_answer size (GaveUp None) = record { text = codes "gave up\n"; status = 4 }
-verdict_answer size (GaveUp (Some g)) = record { text = codes "gave up\n" ++ pattern_grid size g; status = 4 }
+abbrev pub verdict_answer : (List ℕ → Text) → Verdict → Answer
+verdict_answer printed NoSolution = none_answer
+verdict_answer printed (One g) = one_answer (printed g)
+verdict_answer printed (Several g h) = several_answer (printed g) (printed h)
+verdict_answer printed (GaveUp None) = gave_up_answer []
+verdict_answer printed (GaveUp (Some g)) = gave_up_answer (printed g)
 
 -- the ID has that first fault, and it is told
 pub record IsRefused (id : Text) (answer : Answer) : Type 0 where
@@ -35,7 +35,7 @@ pub record IsSolved (id : Text) (answer : Answer) : Type 0 where
   pub spelled : SpellsPattern id puzzle
   pub verdict : Verdict
   pub right : IsVerdict (IsSolution puzzle) verdict
-  pub told : answer ≡ verdict_answer puzzle.size verdict
+  pub told : answer ≡ verdict_answer (λ g. grid_text (pattern_cell puzzle g) puzzle.size) verdict
 
 -- the answers that `solve pattern ID` allows
 abbrev pub AllowsSolve : Text → Answer → Type 0
@@ -43,7 +43,7 @@ AllowsSolve id answer = IsRefused id answer ⊎ IsSolved id answer
 
 -- The answers that a request allows on an input. What isn't built is refused as words are.
 abbrev pub Allows : Option Asked → Text → Answer → Type 0
-Allows (Some (solve game.Pattern id)) input answer = AllowsSolve id answer
+Allows (Some (solve game.Pattern id budget)) input answer = AllowsSolve id answer
 Allows _ input answer = answer ≡ refused_words
 
 -- the request reads its input: none does

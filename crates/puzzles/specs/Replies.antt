@@ -1,22 +1,20 @@
--- What a clause reads of a reply, and asks of a verdict that is to be printed.
-use Rattle.std.specs.Prelude.{◌*◌, List, ℕ, Some, None, ⊤, string_bytes}
-use Rattle.grid_core.specs.Extent.{Extent}
-use Rattle.grid_core.specs.Grids.{IsGrid}
-use Rattle.puzzles.specs.Answers.{Answer}
-use Rattle.puzzles.specs.declared.pattern_search.Verdict.{Verdict}
-use Rattle.puzzles.specs.declared.pattern_search.Verdict.TheVariants.{NoSolution, One, Several, GaveUp}
+-- What a clause reads of a reply, and the answers of `solve`, given how their grids are printed.
+use Rattle.std.specs.Prelude.{◌++◌, codes, string_bytes}
+use Rattle.puzzles.specs.Answers.{Answer, Text}
 use Rattle.puzzles.specs.declared.reply.Reply.{Reply}
 
 abbrev pub answer_in : Reply → Answer
 answer_in r = record { text = string_bytes r.text; status = r.status }
 
-abbrev pub IsPrintable : Extent → List ℕ → Type 0
-IsPrintable size g = IsGrid (size.w * size.h) 2 g
+abbrev pub none_answer : Answer
+none_answer = record { text = codes "none\n"; status = 1 }
 
--- each grid of the verdict is one of this size
-abbrev pub HasGrids : Extent → Verdict → Type 0
-HasGrids size NoSolution = ⊤
-HasGrids size (One g) = IsPrintable size g
-HasGrids size (Several g h) = IsPrintable size g × IsPrintable size h
-HasGrids size (GaveUp None) = ⊤
-HasGrids size (GaveUp (Some g)) = IsPrintable size g
+abbrev pub one_answer : Text → Answer
+one_answer grid = record { text = codes "one\n" ++ grid; status = 0 }
+
+abbrev pub several_answer : Text → Text → Answer
+several_answer first second = record { text = codes "several\n" ++ first ++ codes "\n" ++ second; status = 3 }
+
+-- with nothing where no grid was found
+abbrev pub gave_up_answer : Text → Answer
+gave_up_answer grid = record { text = codes "gave up\n" ++ grid; status = 4 }

@@ -1,40 +1,38 @@
 //! Printed grids.
-ghost use Rattle.std.specs.Prelude.{◌≡◌, ◌+◌, ◌*◌, ◌<◌, ◌≤◌, ◌++◌, length, OnOk, string_bytes};
+ghost use Rattle.std.specs.Prelude.{◌≡◌, ◌*◌, ◌<◌, ◌++◌, OnOk, string_bytes};
 ghost use Rattle.grid_core.specs.Grids.{IsGrid};
-ghost use Rattle.puzzles.specs.GridTexts.{pattern_cell, row_text, pattern_grid};
+ghost use Rattle.puzzles.specs.GridTexts.{row_text, grid_text};
 
-use grid_core::{Grid, Size};
+use crate::printed::Printed;
+use grid_core::Grid;
 use std::alloc::AllocError;
 
-/// `#` for a black cell, `.` for a white one.
-fn cell(grid: &Grid, place: usize) -> &'static str
-    requires { place < length grid.now }
-    ensures { result.now ≡ pattern_cell grid.now place }
-{
-    if grid.get(place) == 1 { "#" } else { "." }
-}
-
-fn push_row(text: &mut String, size: Size, grid: &Grid, y: usize) -> Result<(), AllocError>
-    requires grid { IsGrid (size.w * size.h) 2 grid.now }
-    requires row { y < size.h }
+fn push_row<P: Printed>(
+    text: &mut String,
+    puzzle: &P,
+    grid: &Grid,
+    y: usize,
+) -> Result<(), AllocError>
+    requires grid { IsGrid ((P.extent puzzle.now).w * (P.extent puzzle.now).h) (P.value_count puzzle.now) grid.now }
+    requires row { y < (P.extent puzzle.now).h }
     ensures { OnOk result (string_bytes text.new
-        ≡ string_bytes text.old ++ row_text (pattern_cell grid.now) size y) }
+        ≡ string_bytes text.old ++ row_text (P.cell_text puzzle.now grid.now) (P.extent puzzle.now) y) }
 {
-    let w = usize::from(size.w());
+    let w = puzzle.columns();
     for x in 0..w {
-        text.push_str(cell(grid, y * w + x))?;
+        puzzle.push_cell(text, grid, y * w + x)?;
     }
     text.push_str("\n")
 }
 
-/// Adds a grid of that size to a text, each row ended by a line end.
-pub fn push_grid(text: &mut String, size: Size, grid: &Grid) -> Result<(), AllocError>
-    requires { IsGrid (size.w * size.h) 2 grid.now }
+/// Adds a grid of the puzzle to a text, each row ended by a line end.
+pub fn push_grid<P: Printed>(text: &mut String, puzzle: &P, grid: &Grid) -> Result<(), AllocError>
+    requires { IsGrid ((P.extent puzzle.now).w * (P.extent puzzle.now).h) (P.value_count puzzle.now) grid.now }
     ensures { OnOk result (string_bytes text.new
-        ≡ string_bytes text.old ++ pattern_grid size grid.now) }
+        ≡ string_bytes text.old ++ grid_text (P.cell_text puzzle.now grid.now) (P.extent puzzle.now)) }
 {
-    for y in 0..usize::from(size.h()) {
-        push_row(text, size, grid, y)?;
+    for y in 0..puzzle.rows() {
+        push_row(text, puzzle, grid, y)?;
     }
     Ok(())
 }

@@ -8,6 +8,7 @@ pub mod grid_text;
 pub mod output;
 pub mod pattern_check;
 pub mod pattern_search;
+pub mod printed;
 pub mod read_end;
 pub mod reply;
 pub mod run;

@@ -1,15 +1,15 @@
 //! A text with the status that goes with it.
-ghost use Rattle.std.specs.Prelude.{◌≡◌, ◌≢◌, ◌++◌, ◌<◌, IfOk, OnOk, codes, decimal, string_bytes};
+ghost use Rattle.std.specs.Prelude.{◌≡◌, ◌*◌, [], ◌≢◌, ◌++◌, ◌<◌, IfOk, OnOk, codes, decimal, string_bytes};
 ghost use Rattle.gameid_core.specs.declared.fault.IdFault.TheVariants.{Memory};
 ghost use Rattle.grid_core.specs.Grids.{IsGrid};
-ghost use Rattle.puzzles.specs.Outputs.{verdict_answer};
+ghost use Rattle.puzzles.specs.GridTexts.{grid_text};
 ghost use Rattle.puzzles.specs.Refusals.{refused, refused_words, fault_text};
-ghost use Rattle.puzzles.specs.Replies.{answer_in, HasGrids};
+ghost use Rattle.puzzles.specs.Replies.{answer_in, none_answer, one_answer, several_answer, gave_up_answer};
 
 use crate::grid_text::push_grid;
-use crate::pattern_search::Verdict;
+use crate::printed::Printed;
 use gameid_core::IdFault;
-use grid_core::Size;
+use grid_core::Grid;
 use itoa::Buffer;
 use std::alloc::{AllocError, Global};
 
@@ -71,34 +71,64 @@ pub fn id_refused(alloc: Global, fault: IdFault) -> Result<Reply, AllocError>
     Ok(Reply { text, status: 2 })
 }
 
-/// The answer to a puzzle of that size with that verdict.
-pub fn verdict_reply(alloc: Global, size: Size, verdict: &Verdict) -> Result<Reply, AllocError>
-    requires { HasGrids size verdict.now }
-    ensures { IfOk result (λ r. answer_in r ≡ verdict_answer size verdict.now) }
+/// The answer where no grid is a solution.
+pub fn none_reply(alloc: Global) -> Result<Reply, AllocError>
+    ensures { IfOk result (λ r. answer_in r ≡ none_answer) }
 {
-    match verdict {
-        Verdict::NoSolution => {
-            let text = String::from_str(alloc, "none\n")?;
-            Ok(Reply { text, status: 1 })
-        }
-        Verdict::One(grid) => {
-            let mut text = String::from_str(alloc, "one\n")?;
-            push_grid(&mut text, size, grid)?;
-            Ok(Reply { text, status: 0 })
-        }
-        Verdict::Several(first, second) => {
-            let mut text = String::from_str(alloc, "several\n")?;
-            push_grid(&mut text, size, first)?;
-            text.push_str("\n")?;
-            push_grid(&mut text, size, second)?;
-            Ok(Reply { text, status: 3 })
-        }
-        Verdict::GaveUp(found) => {
-            let mut text = String::from_str(alloc, "gave up\n")?;
-            if let Some(grid) = found {
-                push_grid(&mut text, size, grid)?;
-            }
-            Ok(Reply { text, status: 4 })
-        }
-    }
+    let text = String::from_str(alloc, "none\n")?;
+    Ok(Reply { text, status: 1 })
+}
+
+/// The answer where this grid is the one solution.
+pub fn one_reply<P: Printed>(alloc: Global, puzzle: &P, grid: &Grid) -> Result<Reply, AllocError>
+    requires { IsGrid ((P.extent puzzle.now).w * (P.extent puzzle.now).h) (P.value_count puzzle.now) grid.now }
+    ensures { IfOk result (λ r. answer_in r
+        ≡ one_answer (grid_text (P.cell_text puzzle.now grid.now) (P.extent puzzle.now))) }
+{
+    let mut text = String::from_str(alloc, "one\n")?;
+    push_grid(&mut text, puzzle, grid)?;
+    Ok(Reply { text, status: 0 })
+}
+
+/// The answer where these two grids are solutions.
+pub fn several_reply<P: Printed>(
+    alloc: Global,
+    puzzle: &P,
+    first: &Grid,
+    second: &Grid,
+) -> Result<Reply, AllocError>
+    requires first { IsGrid ((P.extent puzzle.now).w * (P.extent puzzle.now).h) (P.value_count puzzle.now) first.now }
+    requires second { IsGrid ((P.extent puzzle.now).w * (P.extent puzzle.now).h) (P.value_count puzzle.now) second.now }
+    ensures { IfOk result (λ r. answer_in r
+        ≡ several_answer (grid_text (P.cell_text puzzle.now first.now) (P.extent puzzle.now))
+        (grid_text (P.cell_text puzzle.now second.now) (P.extent puzzle.now))) }
+{
+    let mut text = String::from_str(alloc, "several\n")?;
+    push_grid(&mut text, puzzle, first)?;
+    text.push_str("\n")?;
+    push_grid(&mut text, puzzle, second)?;
+    Ok(Reply { text, status: 3 })
+}
+
+/// The answer of a search that gave up and had found nothing.
+pub fn gave_up_reply(alloc: Global) -> Result<Reply, AllocError>
+    ensures { IfOk result (λ r. answer_in r ≡ gave_up_answer []) }
+{
+    let text = String::from_str(alloc, "gave up\n")?;
+    Ok(Reply { text, status: 4 })
+}
+
+/// The answer of a search that gave up and had found this grid.
+pub fn gave_up_with_reply<P: Printed>(
+    alloc: Global,
+    puzzle: &P,
+    grid: &Grid,
+) -> Result<Reply, AllocError>
+    requires { IsGrid ((P.extent puzzle.now).w * (P.extent puzzle.now).h) (P.value_count puzzle.now) grid.now }
+    ensures { IfOk result (λ r. answer_in r
+        ≡ gave_up_answer (grid_text (P.cell_text puzzle.now grid.now) (P.extent puzzle.now))) }
+{
+    let mut text = String::from_str(alloc, "gave up\n")?;
+    push_grid(&mut text, puzzle, grid)?;
+    Ok(Reply { text, status: 4 })
 }

@@ -8,9 +8,9 @@ ghost use Rattle.puzzles.specs.Runs.{Ran, IsBroken};
 
 use crate::ends::{Sink, Source};
 use crate::output::deliver;
-use crate::pattern_search::search;
+use crate::pattern_search::{Verdict, search};
 use crate::read_end::ReadEnd;
-use crate::reply::{Reply, id_refused, verdict_reply, words_refused};
+use crate::reply::{Reply, gave_up_reply, gave_up_with_reply, id_refused, none_reply, one_reply, several_reply, words_refused};
 use crate::words::{Request, read_words};
 use crate::write_end::WriteEnd;
 use gameid_core::{Game, IdFault, read_pattern};
@@ -26,8 +26,13 @@ fn solve_pattern(alloc: Global, id: &[u8]) -> Result<Reply, AllocError>
 {
     match read_pattern(alloc, id) {
         Ok(puzzle) => {
-            let verdict = search(alloc, &puzzle)?;
-            verdict_reply(alloc, puzzle.size(), &verdict)
+            match search(alloc, &puzzle)? {
+                Verdict::NoSolution => none_reply(alloc),
+                Verdict::One(grid) => one_reply(alloc, &puzzle, &grid),
+                Verdict::Several(first, second) => several_reply(alloc, &puzzle, &first, &second),
+                Verdict::GaveUp(Some(grid)) => gave_up_with_reply(alloc, &puzzle, &grid),
+                Verdict::GaveUp(None) => gave_up_reply(alloc),
+            }
         }
         Err(IdFault::Memory) => Err(AllocError),
         Err(fault) => id_refused(alloc, fault),
@@ -45,6 +50,7 @@ fn reply_to(alloc: Global, request: Option<Request<'_>>) -> Result<Reply, AllocE
             Request::Solve {
                 game: Game::Pattern,
                 id,
+                budget: _,
             },
         ) => solve_pattern(alloc, id.as_bytes()),
         _ => words_refused(alloc),

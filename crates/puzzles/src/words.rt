@@ -1,21 +1,29 @@
 //! What the words of a command line ask for.
-ghost use Rattle.std.specs.Prelude.{◌≡◌, IfOk, option_and_then, MatchOption, None, option_map, map, string_bytes, false};
+ghost use Rattle.puzzles.specs.Numbers.{number_of, number_or};
+ghost use Rattle.std.specs.Prelude.{◌≡◌, ◌≤◌, IfSome, IfOk, option_and_then, MatchOption, None, option_map, map, string_bytes, false};
 ghost use Rattle.clap.specs.Walk.{rule_of, first_of, rows_of};
 ghost use Rattle.clap.specs.Simple.{app_of, subcommand_rows_of};
 ghost use Rattle.clap.specs.Matches.{found_of};
 ghost use Rattle.clap.specs.declared.builder.command.Command.TheViews.{out-Command as fields_of};
-ghost use Rattle.puzzles.specs.CommandLine.{required_word, solve_app, bare_app, puzzles_app, parsed};
-ghost use Rattle.puzzles.specs.Requests.{asked_in, game_of, game_in, solve_in, asked_by, asked_of};
+ghost use Rattle.puzzles.specs.CommandLine.{required_word, text_option, solve_app, bare_app, puzzles_app, parsed};
+ghost use Rattle.puzzles.specs.Requests.{asked_in, game_of, game_in, budget_in, solve_in, asked_by, asked_of};
 
 use clap::error::ErrorKind;
 use clap::{Arg, ArgMatches, Command};
 use gameid_core::Game;
 use std::alloc::{AllocError, Global};
 
+/// The budget where the words name none.
+pub const BUDGET: u64 = 100_000;
+
 /// What the words ask for.
 #[derive(Drop)]
 pub enum Request<'a> {
-    Solve { game: Game, id: &'a str },
+    Solve {
+        game: Game,
+        id: &'a str,
+        budget: u64,
+    },
 }
 
 fn required_argument<'a>(alloc: Global, id: &'a str) -> Arg<'a>
@@ -25,13 +33,21 @@ fn required_argument<'a>(alloc: Global, id: &'a str) -> Arg<'a>
     Arg::new(alloc, id).required(true)
 }
 
+fn text_argument<'a>(alloc: Global, name: &'a str) -> Arg<'a>
+    ensures rule { rule_of result ≡ text_option name.entry.now }
+    ensures local { result.global ≡ false }
+{
+    Arg::new(alloc, name).long(name)
+}
+
 fn solve_command<'a>(alloc: Global) -> Result<Command<'a>, AllocError>
     ensures app { IfOk result (λ c. app_of c ≡ solve_app) }
     ensures local { IfOk result (λ c. (fields_of c).has_globals ≡ false) }
 {
     Command::new(alloc, "solve")
         .arg(required_argument(alloc, "game"))?
-        .arg(required_argument(alloc, "id"))
+        .arg(required_argument(alloc, "id"))?
+        .arg(text_argument(alloc, "budget"))
 }
 
 fn bare_command<'a>(alloc: Global) -> Command<'a>
@@ -92,12 +108,45 @@ fn game_from<'a>(matches: &ArgMatches<'a>) -> Option<Game>
     game_named(text_of(matches, "game")?)
 }
 
+/// A number in decimal digits, up to a limit.
+fn number(text: &str, most: u64) -> Option<u64>
+    ensures value { result ≡ number_of most text.now }
+    ensures within { IfSome result (λ n. n ≤ most) }
+{
+    let bytes = text.as_bytes();
+    if bytes.is_empty() || bytes[0] == b'+' {
+        return None;
+    }
+    match text.parse::<u64>() {
+        Ok(value) if value <= most => Some(value),
+        _ => None,
+    }
+}
+
+fn number_or(text: Option<&str>, most: u64, otherwise: u64) -> Option<u64>
+    requires { otherwise ≤ most }
+    ensures value { result ≡ number_or otherwise most (option_map (λ s. s.now) text.entry) }
+    ensures within { IfSome result (λ n. n ≤ most) }
+{
+    match text {
+        Some(text) => number(text, most),
+        None => Some(otherwise),
+    }
+}
+
+fn budget_from<'a>(matches: &ArgMatches<'a>) -> Option<u64>
+    ensures { result ≡ budget_in (rows_of (found_of matches.now)) }
+{
+    number_or(text_of(matches, "budget"), u64::MAX, BUDGET)
+}
+
 fn solve_request<'a>(matches: &ArgMatches<'a>) -> Option<Request<'a>>
     ensures { option_map asked_in result ≡ solve_in (rows_of (found_of matches.now)) }
 {
     let game = game_from(matches)?;
     let id = text_of(matches, "id")?;
-    Some(Request::Solve { game, id })
+    let budget = budget_from(matches)?;
+    Some(Request::Solve { game, id, budget })
 }
 
 fn request_by<'a>(name: &str, matches: &ArgMatches<'a>) -> Option<Request<'a>>
