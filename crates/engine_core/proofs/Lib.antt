@@ -6,3 +6,4 @@ pub mod SweepLemmas
 pub mod JudgeLemmas
 pub mod StoreLemmas
 pub mod HouseLemmas
+pub mod NeighboursLemmas

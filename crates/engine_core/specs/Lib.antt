@@ -11,3 +11,5 @@ pub mod HouseLaws
 pub mod Queue
 pub mod Stored
 pub mod StoreParts
+pub mod Neighbours
+pub mod NeighboursLaws

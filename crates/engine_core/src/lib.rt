@@ -4,6 +4,7 @@
 mod close;
 mod house;
 mod judge;
+mod laws;
 mod mode;
 mod queue;
 mod rules;
@@ -12,6 +13,10 @@ mod store;
 mod sweep;
 
 pub use house::{apply, gather};
+pub use laws::closure_is_largest;
 pub use mode::{Closing, Mode};
 pub use rules::Rules;
 pub use store::{Sizes, Store};
+
+#[cfg(test)]
+mod tests;

@@ -1,7 +1,7 @@
 //! The memory of a search, taken at once.
 
 ghost use Rattle.std.specs.Prelude.{◌≡◌, ℕ, ◌<◌, ◌≤◌, ◌↔◌, IfOk, IsTrue, List, length, slice_index, take, true, false};
-ghost use Rattle.grid_core.specs.Board.{has, Layout};
+ghost use Rattle.grid_core.specs.Board.{has, cells_of, Layout};
 ghost use Rattle.grid_core.specs.Candidates.{IsInside, is_full, grid_of};
 ghost use Rattle.engine_core.specs.Puzzle.{Puzzle, Needs, needs_of, FitsIn, IsBoardOf};
 ghost use Rattle.engine_core.specs.ClosingList.{IsClosing};
@@ -219,7 +219,9 @@ impl<R: Rules> Store<R> {
 
     /// The board that the last closing left.
     pub fn board(&self) -> &Board
-        ensures { result.now ≡ self.now.board }
+        ensures board { result.now ≡ self.now.board }
+        ensures cells { cells_of result.now ≡ self.now.made.cells }
+        ensures values { result.now.values ≡ self.now.made.values }
     {
         &self.board
     }

@@ -1,0 +1,3 @@
+mod closings;
+mod neighbours;
+mod swept;
