@@ -8,6 +8,7 @@ pub mod LightReading
 pub mod LightSpelling
 pub mod LightTexts
 pub mod LightWritten
+pub mod LineLaws
 pub mod Lists
 pub mod Numbers
 pub mod Numerals
@@ -23,6 +24,7 @@ pub mod Reading
 pub mod Results
 pub mod Rows
 pub mod RunLaws
+pub mod RunsFit
 pub mod SoloCanon
 pub mod SoloLaws
 pub mod SoloReading
