@@ -13,6 +13,7 @@ pub mod Lists
 pub mod Numbers
 pub mod Numerals
 pub mod OneReading
+pub mod OnesFit
 pub mod PatternAgain
 pub mod PatternLaws
 pub mod PatternReading
