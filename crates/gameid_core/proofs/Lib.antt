@@ -8,10 +8,12 @@ pub mod LightReading
 pub mod LightSpelling
 pub mod LightTexts
 pub mod LightWritten
+pub mod LineLaws
 pub mod Lists
 pub mod Numbers
 pub mod Numerals
 pub mod OneReading
+pub mod OnesFit
 pub mod PatternAgain
 pub mod PatternLaws
 pub mod PatternReading
@@ -23,6 +25,7 @@ pub mod Reading
 pub mod Results
 pub mod Rows
 pub mod RunLaws
+pub mod RunsFit
 pub mod SoloCanon
 pub mod SoloLaws
 pub mod SoloReading

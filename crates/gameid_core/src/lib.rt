@@ -9,6 +9,8 @@ mod light_cell;
 mod light_puzzle;
 mod light_text;
 mod light_writing;
+mod line_ones;
+mod lines;
 mod number;
 mod pattern_puzzle;
 mod pattern_text;

@@ -10,8 +10,8 @@ ghost use Rattle.gameid_core.specs.TentsText.{TakesCount, SpellsTents, tents_at,
 use crate::fault::IdFault;
 use crate::game::Game;
 use crate::head::read_head;
-use crate::number::{first_of, leading_number};
-use crate::pattern_text::{cells_of, lines, starts_with_digit};
+use crate::lines::{cells_of, lines};
+use crate::number::{first_of, leading_number, starts_with_digit};
 use crate::runs::push_run;
 use crate::tents_puzzle::TentsPuzzle;
 use grid_core::Size;
