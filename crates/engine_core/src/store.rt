@@ -13,6 +13,7 @@ use crate::close::close_board;
 use crate::judge::write_grid;
 use crate::mode::Closing;
 use crate::rules::{Rules, by_queue};
+use crate::search::Frame;
 use grid_core::{Board, Grid};
 use std::alloc::{AllocError, Global};
 use std::marker::Model;
@@ -30,14 +31,6 @@ pub struct Sizes {
     pub queue: usize,
     /// Cells of the longest scope.
     pub scope: usize,
-}
-
-/// A cell whose values are being tried: the next of them, and how long the trail was before the first.
-#[derive(Clone, Copy)]
-struct Frame {
-    cell: usize,
-    next: u8,
-    mark: usize,
 }
 
 /// What the memory was taken for.
@@ -178,6 +171,8 @@ impl<R: Rules> Store<R> {
             &mut self.scope,
             &mut self.waits,
             &mut self.trace,
+            &mut self.trail,
+            0,
         );
         self.visits = closed.visits;
         self.sweeps = closed.sweeps;
