@@ -516,3 +516,12 @@ turn-spent p K K1 K2 trail trail2 frames n len len2 v budget trials found ready 
     (trial-spent p budget trials found n (only K1 top.cell v) _ (walk p n (only K1 top.cell v) ++ pending p (levels_of K1 (take top.mark trail) frames' n)) less (trial-pending p K1 trail frames n v pos lt le ltv on none) ∙
     (ap (λ (L : Candidates). suc (spent (budget - (trials + 1)) found (walk p n L ++ pending p (levels_of K1 (take top.mark trail) frames' n)))) (sym e) ∙
     ap (λ ls. suc (spent (budget - (trials + 1)) found (walk p n K2 ++ pending p ls))) (sym same)))
+
+-- under no frame nothing else is pending
+pub walk-alone : (p : Puzzle) (K L : Candidates) (T : List (ℕ × ℕ)) (frames : List Frame) → walk p 0 K ++ pending p (levels_of L T frames 0) ≡ walk p 0 K
+unfolding levels_of pending
+walk-alone p K L T frames = append_nil (walk p 0 K)
+  where
+    append_nil : (xs : List Mark) → xs ++ [] ≡ xs
+    append_nil [] = refl
+    append_nil (x ∷ xs) = ap (λ ys. x ∷ ys) (append_nil xs)

@@ -221,7 +221,7 @@ pub(crate) struct Searched {
 }
 
 /// Walks on from the levels of the frames.
-pub(crate) fn search<R: Rules>(
+fn search<R: Rules>(
     rules: &R,
     board: &mut Board,
     scratch: &mut R::Scratch,
@@ -247,6 +247,9 @@ pub(crate) fn search<R: Rules>(
     ensures says { Says result.verdict first.new second.new (outcome budget (found_of from.found first.old) (pending (R.puzzle rules.now) (levels_of (has board.old) (take from.len trail.old) frames.old from.depth))) }
     ensures trials { result.trials ≤ budget }
     ensures exact { result.trials ≡ spent budget (found_of from.found first.old) (pending (R.puzzle rules.now) (levels_of (has board.old) (take from.len trail.old) frames.old from.depth)) }
+    ensures long { (length first.new ≡ (R.puzzle rules.now).cells) × (length second.new ≡ (R.puzzle rules.now).cells) }
+    ensures shape { SameShape board.old board.new }
+    ensures keeps { (needs : Needs) → R.serves scratch.old needs → R.serves scratch.new needs }
 {
     let values = rules.values();
     let mut at = from;
@@ -291,4 +294,53 @@ pub(crate) fn search<R: Rules>(
         Verdict::None
     };
     Searched { verdict, trials }
+}
+
+/// Walks over the trials of the board until the verdict is known or the budget is spent. The grids that it finds are
+/// written to `first` and `second`.
+pub(crate) fn walk_board<R: Rules>(
+    rules: &R,
+    board: &mut Board,
+    scratch: &mut R::Scratch,
+    sets: &mut [u32],
+    waits: &mut [bool],
+    trace: &mut [usize],
+    trail: &mut [(usize, u8)],
+    frames: &mut [Frame],
+    first: &mut Grid,
+    second: &mut Grid,
+    budget: u64,
+) -> Searched
+    requires board_of { IsBoardOf (R.puzzle rules.now) board.old }
+    requires served { R.serves scratch.old (needs_of (R.puzzle rules.now)) }
+    requires sets_room { (needs_of (R.puzzle rules.now)).scope ≤ length sets.old }
+    requires waits_room { (R.puzzle rules.now).by_queue ≡ true → (R.puzzle rules.now).houses ≤ length waits.old }
+    requires trace_room { (R.puzzle rules.now).by_queue ≡ true → (R.puzzle rules.now).bound ≤ length trace.old }
+    requires trail_room { total (R.puzzle rules.now).cells (R.puzzle rules.now).values (has board.old) ≤ length trail.old }
+    requires frames_room { (R.puzzle rules.now).cells ≤ length frames.old }
+    requires long { (length first.old ≡ (R.puzzle rules.now).cells) × (length second.old ≡ (R.puzzle rules.now).cells) }
+    ensures says { Says result.verdict first.new second.new (outcome budget None (walk (R.puzzle rules.now) 0 (has board.old))) }
+    ensures exact { result.trials ≡ spent budget None (walk (R.puzzle rules.now) 0 (has board.old)) }
+    ensures long { (length first.new ≡ (R.puzzle rules.now).cells) × (length second.new ≡ (R.puzzle rules.now).cells) }
+    ensures shape { SameShape board.old board.new }
+    ensures keeps { (needs : Needs) → R.serves scratch.old needs → R.serves scratch.new needs }
+{
+    let from = Progress {
+        len: 0,
+        depth: 0,
+        found: false,
+        stop: false,
+    };
+    let at = descend(
+        rules, board, scratch, sets, waits, trace, trail, frames, first, second, from,
+    );
+    if at.stop {
+        return Searched {
+            verdict: Verdict::Several,
+            trials: 0,
+        };
+    }
+    search(
+        rules, board, scratch, sets, waits, trace, trail, frames, first, second, at, budget,
+    )
 }

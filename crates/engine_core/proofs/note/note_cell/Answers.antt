@@ -54,12 +54,12 @@ loop-value-preserved c =
             noting = cell-noting-strike cells c.args.values c.args.place c.args.set v K c.args.trail.now c.loop-value.trail c.args.len c.loop-value.end c.requires.place_in (omega arith) on (sym w.has.ensures ∙ w.if-not-has.true) i.noting;
           })
       | else-has_bit w ↦ rw (w.trail-is, w.end-is) (record {
-            few = omega arith;
-            noting = cell-noting-skip cells c.args.values c.args.place c.args.set v K c.args.trail.now c.loop-value.trail c.args.len c.loop-value.end (omega arith) (λ on. elim w.else-has_bit.branch [
-              | else-has_bit-via-then-has_bit+else-not-has u ↦ sym u.has.ensures ∙ u.if-not-has.false
-              | else-has_bit-via-else-has_bit u ↦ absurd (true≢false (sym on ∙ sym c.has_bit.ensures ∙ u.if-has_bit.false))
-            ]) i.noting;
-          })
+        few = omega arith;
+        noting = cell-noting-skip cells c.args.values c.args.place c.args.set v K c.args.trail.now c.loop-value.trail c.args.len c.loop-value.end (omega arith) (λ on. elim w.else-has_bit.branch [
+          | else-has_bit-via-then-has_bit+else-not-has u ↦ sym u.has.ensures ∙ u.if-not-has.false
+          | else-has_bit-via-else-has_bit u ↦ absurd (true≢false (sym on ∙ sym c.has_bit.ensures ∙ u.if-has_bit.false))
+        ]) i.noting;
+      })
     ]
 
 pub returns : goal.returns

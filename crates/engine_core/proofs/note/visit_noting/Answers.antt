@@ -57,9 +57,9 @@ loop-k-preserved g c =
     let small : (u : ℕ) → V (slice_index (p.scope h) k) u ≡ true → u < p.values = λ u on. (within_of p c.args.board.now c.requires.board_of (slice_index (p.scope h) k) u (sym (scope-before p laws h k K K' u c.requires.house_in lt) ∙ on)).1 in
     let values = c.values-values.ensures in
     let now = c.note_cell-end.ensures.noted K V c.args.trail.now c.args.len c.requires.within
-        (λ u ltu. rw at (scope-before p laws h k K K' u c.requires.house_in lt ∙ sym ((c.remember.ensures.sets k lt).same u (omega arith))))
-        (λ u on. let less = small u (rw at at on) in omega arith)
-        (noted-dims p.cells (cells_of c.visit-struck.new.board) p.values c.values-values.result K V c.args.trail.now c.loop-k.trail c.args.len c.loop-k.end (sym of.same_cells) (sym values) c.loop-k.invariant) in
+    (λ u ltu. rw at (scope-before p laws h k K K' u c.requires.house_in lt ∙ sym ((c.remember.ensures.sets k lt).same u (omega arith))))
+    (λ u on. let less = small u (rw at at on) in omega arith)
+    (noted-dims p.cells (cells_of c.visit-struck.new.board) p.values c.values-values.result K V c.args.trail.now c.loop-k.trail c.args.len c.loop-k.end (sym of.same_cells) (sym values) c.loop-k.invariant) in
     let here = noted-dims (cells_of c.visit-struck.new.board) p.cells c.values-values.result p.values K (cell_noted V c.scope-place.result K') c.args.trail.now c.note_cell-end.new.trail c.args.len c.note_cell-end.result of.same_cells values now in
     subst (λ (L : Candidates). IsNoted p.cells p.values K L c.args.trail.now c.note_cell-end.new.trail c.args.len c.note_cell-end.result)
     (ap (λ (q : ℕ). cell_noted V q K') at ∙ scope-more p laws h k K K' c.requires.house_in lt) here

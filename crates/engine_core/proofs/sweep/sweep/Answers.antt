@@ -7,11 +7,11 @@ use Rattle.engine_core.proofs.sweep.sweep.Goals as goal
 pub loop-house-init : goal.loop-house-init
 loop-house-init g c =
     let p = g.R.Rules.puzzle c.args.rules.now in record {
-  sweeping = sweeping-first p (has c.args.board.now);
-  noted = noted-none p.cells p.values (has c.args.board.now) c.args.trail.now c.args.len c.requires.within c.requires.entries c.requires.trail_room;
-  shape = record { same_values = refl; same_cells = refl };
-  keeps = λ needs served. served;
-}
+      sweeping = sweeping-first p (has c.args.board.now);
+      noted = noted-none p.cells p.values (has c.args.board.now) c.args.trail.now c.args.len c.requires.within c.requires.entries c.requires.trail_room;
+      shape = record { same_values = refl; same_cells = refl };
+      keeps = λ needs served. served;
+    }
 
 pub loop-house-preserved : goal.loop-house-preserved
 loop-house-preserved g c =
