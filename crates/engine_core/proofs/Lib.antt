@@ -7,3 +7,9 @@ pub mod JudgeLemmas
 pub mod StoreLemmas
 pub mod HouseLemmas
 pub mod NeighboursLemmas
+pub mod WalkLemmas
+pub mod VerdictLemmas
+pub mod SearchLemmas
+pub mod TrailLemmas
+pub mod FrameLemmas
+pub mod NoteLemmas
