@@ -1,4 +1,7 @@
-//! Game IDs: the puzzles, their readers and their writers.
+//! Game IDs of four games of Simon Tatham's Portable Puzzle Collection: the puzzles, their readers and their writers.
+//!
+//! An ID is a size, `:` and a description. The general form is that of the collection's manual; the descriptions are
+//! those that the source code of each game writes.
 #![tactic(auto)]
 
 mod black_runs;
