@@ -3,6 +3,7 @@ pub mod FirstFaults
 pub mod HeadLaws
 pub mod Joined
 pub mod Letters
+pub mod LightForm
 pub mod LightLaws
 pub mod LightReading
 pub mod LightSpelling
@@ -15,6 +16,7 @@ pub mod Numerals
 pub mod OneReading
 pub mod OnesFit
 pub mod PatternAgain
+pub mod PatternForm
 pub mod PatternLaws
 pub mod PatternReading
 pub mod PatternSpelling
@@ -27,11 +29,13 @@ pub mod Rows
 pub mod RunLaws
 pub mod RunsFit
 pub mod SoloCanon
+pub mod SoloForm
 pub mod SoloLaws
 pub mod SoloReading
 pub mod SoloSpelling
 pub mod SoloTexts
 pub mod SoloWritten
+pub mod TentsForm
 pub mod TentsLaws
 pub mod TentsReading
 pub mod TentsSpelling
