@@ -86,7 +86,7 @@ impl PatternPuzzle {
     }
 
     /// A line's clue.
-    pub(crate) fn line(&self, line: usize) -> &[u8]
+    pub fn line(&self, line: usize) -> &[u8]
         requires { line < length self.now.clues }
         ensures { result.now ≡ slice_index_or self.now.clues line [] }
     {
