@@ -91,7 +91,7 @@ pub record IsSwept (p : Puzzle) (K0 : Candidates) (sweeps : ℕ) (K : Candidates
   pub struck : (n : ℕ) → n < sweeps → HasStruck (replay p K0 (sweeps_of p n)) (replay p K0 (sweeps_of p (n + 1)))
   pub enough : total p.cells p.values K + sweeps ≤ p.cells * p.values
 
-total-bound : (cells values : ℕ) (K : Candidates) → total cells values K ≤ cells * values
+pub total-bound : (cells values : ℕ) (K : Candidates) → total cells values K ≤ cells * values
 unfolding total
 total-bound zero values K = omega arith
 total-bound (suc cells) values K = let rest = total-bound cells values K in let here = count_below-bound (K cells) values in let e : suc cells * values ≡ cells * values + values = omega arith in omega arith

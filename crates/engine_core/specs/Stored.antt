@@ -1,17 +1,37 @@
 -- What callers see of a store.
-use Rattle.std.specs.Prelude.{◌≡◌, ℕ, ◌*◌, Bool, true, false, ◌&&◌, if◌then◌else◌, List}
+use Rattle.std.specs.Prelude.{◌≡◌, ℕ, ◌*◌, Bool, true, false, ◌&&◌, if◌then◌else◌, List, Option, Some, None, is_some}
 use Rattle.grid_core.specs.Board.{Layout}
 use Rattle.grid_core.specs.Candidates.{is_full, grid_of}
 use Rattle.engine_core.specs.Puzzle.{Puzzle, Needs}
 use Rattle.engine_core.specs.Closing.{closure}
+use Rattle.engine_core.specs.Verdict.{Outcome, Outcome.NoGrid, Outcome.OneGrid, Outcome.TwoGrids, Outcome.OutOfBudget}
+use Rattle.engine_core.specs.declared.search.Verdict.{Verdict}
+use Rattle.engine_core.specs.declared.search.Verdict.TheVariants as verdict
 use Rattle.engine_core.specs.declared.store.Sizes.{Sizes}
 
--- the board that the last closing left, its visits and the number of its sweeps, and what memory was taken for
+-- the board that the last closing left, its visits and the number of its sweeps, the grids that the last search found
+-- and the trials that it made, and what memory was taken for
 pub record Stored : Type 0 where
   pub board : Layout
   pub trace : List ℕ
   pub sweeps : ℕ
+  pub first : Option (List ℕ)
+  pub second : Option (List ℕ)
+  pub trials : ℕ
   pub made : Needs
+
+-- nothing of a search is kept
+pub record IsUnsearched (s : Stored) : Type 0 where
+  pub no_first : s.first ≡ None
+  pub no_second : s.second ≡ None
+  pub no_trials : s.trials ≡ 0
+
+-- the answer and the two grids that are lent say the outcome
+abbrev pub IsAnswer : Verdict → Option (List ℕ) → Option (List ℕ) → Outcome → Type 0
+IsAnswer verdict.None first second r = (r ≡ NoGrid) × (first ≡ None) × (second ≡ None)
+IsAnswer verdict.One first second r = (f : List ℕ) × (r ≡ OneGrid f) × (first ≡ Some f) × (second ≡ None)
+IsAnswer verdict.Several first second r = (f : List ℕ) × (g : List ℕ) × (r ≡ TwoGrids f g) × (first ≡ Some f) × (second ≡ Some g)
+IsAnswer (verdict.GaveUp found) first second r = (r ≡ OutOfBudget first) × (found ≡ is_some first) × (second ≡ None)
 
 -- the lengths of the lists of a store that was made for these needs, for closings by a queue or by sweeps
 abbrev pub sizes_of : Bool → Needs → Sizes

@@ -4,14 +4,22 @@
 mod close;
 mod house;
 mod judge;
+mod laws;
 mod mode;
+mod note;
 mod queue;
 mod rules;
+mod search;
 mod sets;
 mod store;
 mod sweep;
 
 pub use house::{apply, gather};
+pub use laws::closure_is_largest;
 pub use mode::{Closing, Mode};
 pub use rules::Rules;
+pub use search::Verdict;
 pub use store::{Sizes, Store};
+
+#[cfg(test)]
+mod tests;

@@ -1,5 +1,5 @@
 -- The letters of a run of cells, and the written text of Solo's cells.
-use Rattle.std.proofs.Common.{◌≡◌, ℕ, zero, suc, ◌+◌, ◌-◌, ◌/◌, ◌%◌, ◌<◌, ◌≤◌, false, eqb, List, ◌∷◌, ◌++◌, length, refl, sym, ap, ◌∙◌, arith, length-append, []}
+use Rattle.std.proofs.Common.{◌≡◌, ℕ, zero, suc, ◌*◌, ◌+◌, ◌-◌, ◌/◌, ◌%◌, ◌<◌, ◌≤◌, false, eqb, List, ◌∷◌, ◌++◌, length, refl, sym, ap, ◌∙◌, arith, length-append, []}
 use Rattle.std.specs.Prelude.{replicate}
 use Rattle.std.proofs.lemmas.Bool.{ne_eqb}
 use Rattle.std.proofs.lemmas.List.{length-replicate}
@@ -46,3 +46,16 @@ letters_of_length q r = omega (arith, length-append (replicate q 122) ((97 + r) 
 pub letters_short : (k : ℕ) → length (letters k) ≤ k
 letters_short zero = omega (arith, ap length (letters_none 0 refl))
 letters_short (suc k) = omega (arith, ap length (letters_are (suc k) _ _ (omega arith) refl refl), letters_of_length ((suc k - 1) / 26) ((suc k - 1) % 26))
+
+-- a run of so many times 26 cells and 1 to 26 more
+pub letters_at : (q k : ℕ) → 1 ≤ k → k ≤ 26 → letters (26 * q + k) ≡ replicate q 122 ++ (96 + k) ∷ []
+unfolding letters_of
+letters_at q k some few =
+    let d : (26 * q + k - 1) / 26 ≡ q = omega arith in
+    let m : (26 * q + k - 1) % 26 ≡ k - 1 = omega arith in
+    letters_are (26 * q + k) q (k - 1) (omega arith) d m ∙ ap (λ (c : ℕ). replicate q 122 ++ c ∷ []) (let e : 97 + (k - 1) ≡ 96 + k = omega arith in e)
+
+-- the last 'z' goes over to what follows
+pub z_moves : (q : ℕ) (rest : List ℕ) → replicate (suc q) 122 ++ rest ≡ replicate q 122 ++ 122 ∷ rest
+z_moves zero rest = refl
+z_moves (suc q) rest = ap (λ (t : List ℕ). 122 ∷ t) (z_moves q rest)

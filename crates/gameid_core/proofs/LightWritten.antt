@@ -11,7 +11,7 @@ use Rattle.gameid_core.specs.Cells.{letters}
 use Rattle.gameid_core.specs.Head.{max_id}
 use Rattle.gameid_core.specs.SizeText.{size_text}
 use Rattle.gameid_core.specs.Puzzles.{Light, IsLight, IsLightCell}
-use Rattle.gameid_core.specs.LightText.{LightToken, whites, black, numbered, light_token_byte, light_token_cells, IsLightToken, IsBlackByte, SpellsLight, light_cells_text, light_text}
+use Rattle.gameid_core.specs.LightText.{LightToken, whites, black, numbered, light_token_byte, light_token_cells, IsLightToken, IsBlackByte, AreFullLights, IsWrittenLight, light_cells_text, light_text}
 use Rattle.gameid_core.proofs.Letters.{letters_none, letters_more, letters_last, letters_short}
 use Rattle.gameid_core.proofs.Lists.{AllByRecursion-append, next_of}
 use Rattle.gameid_core.proofs.Numerals.{length_decimal}
@@ -76,15 +76,45 @@ light_short p h =
 
 -- ---- what it spells
 
+full_z : (tokens : List LightToken) → AreFullLights tokens → AreFullLights (whites 26 ∷ tokens)
+full_z [] h = tt
+full_z (whites k ∷ tokens) h = (refl, h)
+full_z (black ∷ tokens) h = h
+full_z (numbered n ∷ tokens) h = h
+
+-- tokens, and a black cell behind them
+abbrev IsBlackToken : LightToken → Type 0
+IsBlackToken (whites k) = ⊥
+IsBlackToken black = Unit {0}
+IsBlackToken (numbered n) = Unit {0}
+
+full_join : (token : LightToken) (front rest : List LightToken) → IsBlackToken token → AreFullLights front → AreFullLights rest → AreFullLights (front ++ token ∷ rest)
+full_join (whites k) front rest is f r = absurd is
+full_join black [] rest is f r = r
+full_join (numbered n) [] rest is f r = r
+full_join black (whites j ∷ []) rest is f r = r
+full_join (numbered n) (whites j ∷ []) rest is f r = r
+full_join black (whites j ∷ whites k ∷ front) rest is f r = (f.0, full_join black (whites k ∷ front) rest is f.1 r)
+full_join (numbered n) (whites j ∷ whites k ∷ front) rest is f r = (f.0, full_join (numbered n) (whites k ∷ front) rest is f.1 r)
+full_join black (whites j ∷ black ∷ front) rest is f r = full_join black (black ∷ front) rest is f r
+full_join (numbered n) (whites j ∷ black ∷ front) rest is f r = full_join (numbered n) (black ∷ front) rest is f r
+full_join black (whites j ∷ numbered m ∷ front) rest is f r = full_join black (numbered m ∷ front) rest is f r
+full_join (numbered n) (whites j ∷ numbered m ∷ front) rest is f r = full_join (numbered n) (numbered m ∷ front) rest is f r
+full_join black (black ∷ front) rest is f r = full_join black front rest is f r
+full_join (numbered n) (black ∷ front) rest is f r = full_join (numbered n) front rest is f r
+full_join black (numbered m ∷ front) rest is f r = full_join black front rest is f r
+full_join (numbered n) (numbered m ∷ front) rest is f r = full_join (numbered n) front rest is f r
+
 -- tokens that spell a text and stand for those cells
 record Tokens (text : List ℕ) (cells : List LightCell) : Type 0 where
   tokens : List LightToken
   spelled : text ≡ map light_token_byte tokens
   each : AllByRecursion IsLightToken tokens
+  full : AreFullLights tokens
   filled : flat_map light_token_cells tokens ≡ cells
 
 letter_tokens : (fuel k : ℕ) → k ≤ fuel → Tokens (letters k) (replicate k White)
-letter_tokens fuel zero le = record { tokens = []; spelled = letters_none 0 refl; each = tt; filled = refl }
+letter_tokens fuel zero le = record { tokens = []; spelled = letters_none 0 refl; each = tt; full = tt; filled = refl }
 letter_tokens zero (suc k) le = absurd (omega arith)
 letter_tokens (suc fuel) (suc k) le =
     elim (cases_lt 26 (suc k)) [
@@ -95,25 +125,28 @@ letter_tokens (suc fuel) (suc k) le =
             tokens = whites 26 ∷ r.tokens;
             spelled = letters_more (suc k) long ∙ ap (λ (t : List ℕ). 122 ∷ t) r.spelled;
             each = ((omega arith, omega arith), r.each);
+            full = full_z r.tokens r.full;
             filled = ap (λ (t : List LightCell). replicate 26 White ++ t) r.filled ∙ replicate-append-replicate {A = LightCell} 26 (suc k - 26) White ∙ ap (λ (j : ℕ). replicate j White) whole;
           }
       | inr short ↦ record {
         tokens = whites (suc k) ∷ [];
         spelled = letters_last (suc k) (omega arith) short;
         each = ((omega arith, short), tt);
+        full = tt;
         filled = append-nil (replicate (suc k) White);
       }
     ]
 
 -- letters, and a black cell's byte with what follows it
-black_tokens : (k : ℕ) (token : LightToken) (cell : LightCell) (text : List ℕ) (cells : List LightCell) → IsLightToken token → light_token_cells token ≡ cell ∷ [] → Tokens text cells → Tokens (letters k ++ light_token_byte token ∷ text) (replicate k White ++ cell ∷ cells)
-black_tokens k token cell text cells is one r =
+black_tokens : (k : ℕ) (token : LightToken) (cell : LightCell) (text : List ℕ) (cells : List LightCell) → IsLightToken token → IsBlackToken token → light_token_cells token ≡ cell ∷ [] → Tokens text cells → Tokens (letters k ++ light_token_byte token ∷ text) (replicate k White ++ cell ∷ cells)
+black_tokens k token cell text cells is dark one r =
     let s = letter_tokens k k (omega arith) in
     let rest : List LightToken = token ∷ r.tokens in
     record {
       tokens = s.tokens ++ rest;
       spelled = ap (λ (t : List ℕ). letters k ++ light_token_byte token ∷ t) r.spelled ∙ ap (λ (t : List ℕ). t ++ map light_token_byte rest) s.spelled ∙ sym (map-append light_token_byte s.tokens rest);
       each = AllByRecursion-append IsLightToken s.tokens rest s.each (is, r.each);
+      full = full_join token s.tokens r.tokens dark s.full r.full;
       filled = flat_map-append light_token_cells s.tokens rest ∙ ap (λ (t : List LightCell). t ++ flat_map light_token_cells rest) s.filled ∙ ap (λ (t : List LightCell). replicate k White ++ (t ++ flat_map light_token_cells r.tokens)) one ∙ ap (λ (t : List LightCell). replicate k White ++ cell ∷ t) r.filled;
     }
 
@@ -121,28 +154,34 @@ cells_written : (k : ℕ) (cells : List LightCell) → AllByRecursion IsLightCel
 unfolding light_cells_text
 cells_written k [] h =
     let s = letter_tokens k k (omega arith) in
-    record { tokens = s.tokens; spelled = s.spelled; each = s.each; filled = s.filled ∙ sym (append-nil (replicate k White)) }
+    record { tokens = s.tokens; spelled = s.spelled; each = s.each; full = s.full; filled = s.filled ∙ sym (append-nil (replicate k White)) }
 cells_written k (White ∷ cells) h =
     let r = cells_written (k + 1) cells h.1 in
     record {
       tokens = r.tokens;
       spelled = r.spelled;
       each = r.each;
+      full = r.full;
       filled = r.filled ∙ ap (λ (t : List LightCell). t ++ cells) (sym (replicate-append-replicate {A = LightCell} k 1 White)) ∙ append_assoc (replicate k White) (White ∷ []) cells;
     }
-cells_written k (Black ∷ cells) h = black_tokens k black Black (light_cells_text 0 cells) cells tt refl (cells_written 0 cells h.1)
-cells_written k (Numbered n ∷ cells) h = black_tokens k (numbered n) (Numbered n) (light_cells_text 0 cells) cells h.0 refl (cells_written 0 cells h.1)
+cells_written k (Black ∷ cells) h = black_tokens k black Black (light_cells_text 0 cells) cells tt tt refl (cells_written 0 cells h.1)
+cells_written k (Numbered n ∷ cells) h = black_tokens k (numbered n) (Numbered n) (light_cells_text 0 cells) cells h.0 tt refl (cells_written 0 cells h.1)
 
-pub light_written : (p : Light) → IsLight p → SpellsLight (light_text p) p
-light_written p h =
+-- the written text has the form of a written text, and so it spells the puzzle
+pub light_is_written : (p : Light) → IsLight p → IsWrittenLight (light_text p) p
+light_is_written p h =
     let w = cells_written 0 p.cells h.each in
     record {
-      short = light_short p h;
-      puzzle = h;
-      front = size_text p.size.w p.size.h;
-      tokens = w.tokens;
-      parts = ap (λ (t : List ℕ). size_text p.size.w p.size.h ++ 58 ∷ t) w.spelled;
-      size = inl refl;
-      each = w.each;
-      cells = w.filled;
+      spells = record {
+        short = light_short p h;
+        puzzle = h;
+        front = size_text p.size.w p.size.h;
+        tokens = w.tokens;
+        parts = ap (λ (t : List ℕ). size_text p.size.w p.size.h ++ 58 ∷ t) w.spelled;
+        size = inl refl;
+        each = w.each;
+        cells = w.filled;
+      };
+      both = refl;
+      full = w.full;
     }

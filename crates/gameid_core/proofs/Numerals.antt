@@ -1,12 +1,12 @@
 -- Numbers as texts: the digits in front, and the written digits of a number.
-use Rattle.std.proofs.Common.{◌≡◌, ℕ, ◌+◌, ◌-◌, ◌*◌, ◌^◌, ◌<◌, ◌≤◌, Bool, true, false, ◌&&◌, leb, List, ◌∷◌, ◌++◌, length, refl, ap, subst, ◌∙◌, arith, rules, length-append, ◌%◌, []}
+use Rattle.std.proofs.Common.{◌≡◌, ℕ, zero, suc, ◌+◌, ◌-◌, ◌*◌, ◌^◌, ◌<◌, ◌≤◌, Bool, true, false, ◌&&◌, leb, List, ◌∷◌, ◌++◌, length, refl, ap, subst, ◌∙◌, arith, rules, length-append, ◌%◌, []}
 use Rattle.std.specs.Prelude.{decimal}
 use Rattle.std.specs.Str.{all_ascii_digits}
 use Rattle.std.specs.Char.{is_ascii_digit}
 use Rattle.std.proofs.lemmas.Bool.{false≢true, leb-true, le-leb}
 use Rattle.std.proofs.lemmas.Str.Parse.{IsNumeralModel, numerals_by_fold}
-use Rattle.std.proofs.lemmas.Fmt.{decimal_by_steps, digits_decimal}
-use Rattle.gameid_core.specs.Words.{joins, begins, digits_front, after_digits, value, value_after, Cuts, IsNumeral}
+use Rattle.std.proofs.lemmas.Fmt.{decimal-digits_value, length-decimal-le, decimal_by_steps, digits_decimal}
+use Rattle.gameid_core.specs.Words.{IsPlain, joins, begins, digits_front, after_digits, value, value_after, Cuts, IsNumeral}
 use Rattle.gameid_core.proofs.Numbers.{value_after_ge, front_turn, front_stop, front_end}
 use Rattle.gameid_core.proofs.Results.{and_parts}
 use Rattle.gameid_core.proofs.Tokens.{cuts_joined, cuts_number}
@@ -78,3 +78,23 @@ numeral n small = record {
   some = decimal_by_steps (λ n ds. 0 < length ds) (λ n lt. omega arith) (λ n ds ge h. omega (arith, length-append ds ((48 + n % 10) ∷ []))) n small;
   digits = digits_decimal own n small;
 }
+
+-- digits without a leading zero are what is written of their value
+pub plain_decimal : (num : List ℕ) → IsNumeral num → IsPlain num → value num < 2 ^ 64 → decimal (value num) ≡ num
+plain_decimal [] d h small = absurd (let some : 0 < 0 = d.some in omega arith)
+plain_decimal (b ∷ []) d h small = decimal-digits_value own (b ∷ []) d.digits d.some (λ zero. refl) small
+plain_decimal (b ∷ c ∷ more) d h small = decimal-digits_value own (b ∷ c ∷ more) d.digits d.some (λ zero. absurd (h zero)) small
+
+lead_plain : (ds : List ℕ) → begins is_lead ds ≡ true → IsPlain ds
+lead_plain [] e = tt
+lead_plain (b ∷ []) e = tt
+lead_plain (b ∷ c ∷ more) e = λ zero. absurd (let low : 49 ≤ b = leb-true _ _ (and_parts (leb 49 b) (leb b 57) e).0 in omega (arith, zero))
+
+pub decimal_plain : (n : ℕ) → n < 2 ^ 64 → IsPlain (decimal n)
+decimal_plain zero small = one_digit (decimal 0) (length-decimal-le 1 0 (omega arith) (omega arith) (omega arith))
+  where
+    one_digit : (ds : List ℕ) → length ds ≤ 1 → IsPlain ds
+    one_digit [] le = tt
+    one_digit (b ∷ []) le = tt
+    one_digit (b ∷ c ∷ more) le = absurd (omega arith)
+decimal_plain (suc n) small = lead_plain (decimal (suc n)) (decimal_leads (suc n) small (omega arith))

@@ -13,7 +13,7 @@ use Rattle.gameid_core.proofs.PatternLaws.{clues_lawful}
 use Rattle.gameid_core.proofs.WordLaws.{words_are, concat_words}
 use Rattle.gameid_core.proofs.PatternSpelling.{read_spelled}
 use Rattle.gameid_core.proofs.PatternAgain.{clues_text_is, clues_again}
-use Rattle.gameid_core.proofs.HeadLaws.{head_take, head_again, after_front}
+use Rattle.gameid_core.proofs.HeadLaws.{IsHead, head_take, head_again, after_front}
 use Rattle.gameid_core.specs.declared.game.Game.TheVariants as game
 
 pub record CluesSpelled (description : List ℕ) (all : List (List ℕ)) : Type 0 where
@@ -53,19 +53,21 @@ unfolding pattern_of
 pattern_takes text p e =
     let a = bind_ok (head_of game.Pattern text) (λ head. clues_at (record { w = head.0; h = head.1 }) head.2 (drop head.2 text) >>= (λ clues. taken (record { size = record { w = head.0; h = head.1 }; clues = clues }))) p e in
     let b = bind_ok (clues_at (record { w = a.0.0; h = a.0.1 }) a.0.2 (drop a.0.2 text)) (λ clues. taken (record { size = record { w = a.0.0; h = a.0.1 }; clues = clues })) p a.2 in
-    let h = head_take game.Pattern text a.0.0 a.0.1 a.0.2 a.1 in
-    let c = clues_take (record { w = a.0.0; h = a.0.1 }) a.0.2 (drop a.0.2 text) b.0 b.1 in
-    let made : Pattern = record { size = record { w = a.0.0; h = a.0.1 }; clues = b.0 } in
-    subst (λ (q : Pattern). SpellsPattern text q) (ok_is made p b.2) (record {
-      short = h.short;
-      puzzle = clues_lawful (record { w = a.0.0; h = a.0.1 }) a.0.2 (drop a.0.2 text) b.0 (extent_of a.0.0 a.0.1 h.range) b.1;
-      front = h.front;
-      numerals = c.numerals;
-      parts = h.parts ∙ ap (λ (d : List ℕ). h.front ++ 58 ∷ d) c.parts;
-      size = h.size;
-      digits = c.digits;
-      clues = c.values;
-    })
+    spelled text p a.0.0 a.0.1 a.0.2 b.0 (head_take game.Pattern text a.0.0 a.0.1 a.0.2 a.1) b.1 (ok_is _ _ b.2)
+  where
+    spelled : (text : List ℕ) (p : Pattern) (w h place : ℕ) (clues : List (List ℕ)) → IsHead game.Pattern text w h place → clues_at (record { w = w; h = h }) place (drop place text) ≡ Ok clues → (let made : Pattern = record { size = record { w = w; h = h }; clues = clues } in made ≡ p) → SpellsPattern text p
+    spelled text p w h place clues head e same =
+        let c = clues_take (record { w = w; h = h }) place (drop place text) clues e in
+        subst (λ (q : Pattern). SpellsPattern text q) same (record {
+          short = head.short;
+          puzzle = clues_lawful (record { w = w; h = h }) place (drop place text) clues (extent_of w h head.range) e;
+          front = head.front;
+          numerals = c.numerals;
+          parts = head.parts ∙ ap (λ (d : List ℕ). head.front ++ 58 ∷ d) c.parts;
+          size = head.size;
+          digits = c.digits;
+          clues = c.values;
+        })
 
 pub pattern_again : (text : List ℕ) (p : Pattern) → SpellsPattern text p → pattern_of text ≡ Ok p
 unfolding pattern_of

@@ -4,12 +4,12 @@ use Rattle.std.specs.Prelude.{decimal}
 use Rattle.std.specs.List.{AllByRecursion, join_with_byte}
 use Rattle.std.proofs.lemmas.Fmt.{digits_value-decimal}
 use Rattle.grid_core.specs.Extent.{Extent, IsExtent, max_side}
-use Rattle.gameid_core.specs.Words.{value, IsNumeral}
+use Rattle.gameid_core.specs.Words.{value, IsNumeral, IsPlain}
 use Rattle.gameid_core.specs.SizeText.{size_text}
 use Rattle.gameid_core.specs.Puzzles.{Pattern, IsPattern, IsClue, AreClues, line_cells, used}
-use Rattle.gameid_core.specs.PatternText.{clue_text, pattern_text, SpellsPattern}
+use Rattle.gameid_core.specs.PatternText.{IsWrittenPattern, clue_text, pattern_text}
 use Rattle.gameid_core.specs.Head.{max_id}
-use Rattle.gameid_core.proofs.Numerals.{own, length_decimal, numeral}
+use Rattle.gameid_core.proofs.Numerals.{decimal_plain, own, length_decimal, numeral}
 
 -- ---- how long
 
@@ -46,7 +46,7 @@ pattern_short p h =
 
 -- ---- what it spells
 
-texts_same : (clues : List (List ℕ)) → map (join_with_byte 46) (map (map decimal) clues) ≡ map clue_text clues
+pub texts_same : (clues : List (List ℕ)) → map (join_with_byte 46) (map (map decimal) clues) ≡ map clue_text clues
 texts_same [] = refl
 texts_same (c ∷ clues) = ap (λ (ts : List (List ℕ)). clue_text c ∷ ts) (texts_same clues)
 
@@ -66,16 +66,32 @@ all_numerals size line (c ∷ clues) e h =
     let rest = all_numerals size (line + 1) clues e h.1 in
     ((first.0, rest.0), rw (first.1, rest.1) refl)
 
-pub pattern_written : (p : Pattern) → IsPattern p → SpellsPattern (pattern_text p) p
-pattern_written p h =
+clue_is_plain : (clue : List ℕ) → used clue < 2 ^ 64 → AllByRecursion IsPlain (map decimal clue)
+clue_is_plain [] small = tt
+clue_is_plain (n ∷ clue) small = (decimal_plain n (omega (arith, small)), clue_is_plain clue (omega (arith, small)))
+
+clues_are_plain : (size : Extent) (line : ℕ) (clues : List (List ℕ)) → IsExtent size → AreClues size line clues → AllByRecursion (AllByRecursion IsPlain) (map (map decimal) clues)
+clues_are_plain size line [] e h = tt
+clues_are_plain size line (c ∷ clues) e h =
+    let small = line_small size line e in
+    let fits = h.0.fits in
+    (clue_is_plain c (omega arith), clues_are_plain size (line + 1) clues e h.1)
+
+-- the written text has the form of a written text, and so it spells the puzzle
+pub pattern_is_written : (p : Pattern) → IsPattern p → IsWrittenPattern (pattern_text p) p
+pattern_is_written p h =
     let n = all_numerals p.size 0 p.clues h.size h.clues in
     record {
-      short = pattern_short p h;
-      puzzle = h;
-      front = size_text p.size.w p.size.h;
-      numerals = map (map decimal) p.clues;
-      parts = ap (λ (ts : List (List ℕ)). size_text p.size.w p.size.h ++ 58 ∷ join_with_byte 47 ts) (sym (texts_same p.clues));
-      size = inl refl;
-      digits = n.0;
-      clues = n.1;
+      spells = record {
+        short = pattern_short p h;
+        puzzle = h;
+        front = size_text p.size.w p.size.h;
+        numerals = map (map decimal) p.clues;
+        parts = ap (λ (ts : List (List ℕ)). size_text p.size.w p.size.h ++ 58 ∷ join_with_byte 47 ts) (sym (texts_same p.clues));
+        size = inl refl;
+        digits = n.0;
+        clues = n.1;
+      };
+      both = refl;
+      plain = clues_are_plain p.size 0 p.clues h.size h.clues;
     }

@@ -210,12 +210,12 @@ token_other (blanks_and_tree (suc k)) h = ne_eqb _ _ (λ q. absurd (omega (arith
 token_other only_blanks h = refl
 
 -- blanks don't reach the tree after the cells
-last_of : List ℕ → ℕ
+unfoldable pub last_of : List ℕ → ℕ
 last_of [] = 0
 last_of (x ∷ []) = x
 last_of (x ∷ y ∷ ys) = last_of (y ∷ ys)
 
-last_push : (xs : List ℕ) (x : ℕ) → last_of (xs ++ x ∷ []) ≡ x
+pub last_push : (xs : List ℕ) (x : ℕ) → last_of (xs ++ x ∷ []) ≡ x
 unfolding last_of
 last_push [] x = refl
 last_push (y ∷ []) x = refl

@@ -18,7 +18,8 @@ unfolding tents_of
 tents_takes text p e =
     let a = bind_ok (head_of game.Tents text) (λ head. tents_at (record { w = head.0; h = head.1 }) head.2 (drop head.2 text) >>= (λ s. taken (record { size = record { w = head.0; h = head.1 }; trees = take (head.0 * head.1) s.places; counts = s.counts }))) p e in
     let b = bind_ok (tents_at (record { w = a.0.0; h = a.0.1 }) a.0.2 (drop a.0.2 text)) (λ s. taken (record { size = record { w = a.0.0; h = a.0.1 }; trees = take (a.0.0 * a.0.1) s.places; counts = s.counts })) p a.2 in
-    spelled text p a.0.0 a.0.1 a.0.2 b.0 (head_take game.Tents text a.0.0 a.0.1 a.0.2 a.1) b.1 (ok_is _ _ b.2)
+    let made : Tents = record { size = sized a.0.0 a.0.1; trees = take (a.0.0 * a.0.1) b.0.places; counts = b.0.counts } in
+    spelled text p a.0.0 a.0.1 a.0.2 b.0 (head_take game.Tents text a.0.0 a.0.1 a.0.2 a.1) b.1 (ok_is made p b.2)
   where
     spelled : (text : List ℕ) (p : Tents) (w h place : ℕ) (s : TentsSoFar) → IsHead game.Tents text w h place → tents_at (sized w h) place (drop place text) ≡ Ok s → (let made : Tents = record { size = sized w h; trees = take (w * h) s.places; counts = s.counts } in made ≡ p) → SpellsTents text p
     spelled text p w h place s head e same =

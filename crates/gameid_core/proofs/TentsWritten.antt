@@ -7,32 +7,32 @@ use Rattle.std.proofs.lemmas.Fmt.{digits_value-decimal, length-decimal-le}
 use Rattle.std.proofs.lemmas.List.{append-nil, drop_all, length-map, replicate-append-replicate}
 use Rattle.grid_core.specs.Extent.{Extent, IsExtent, max_side}
 use Rattle.gameid_core.specs.Head.{max_id}
-use Rattle.gameid_core.specs.Words.{IsNumeral, value}
+use Rattle.gameid_core.specs.Words.{IsNumeral, IsPlain, value}
 use Rattle.gameid_core.specs.SizeText.{size_text}
 use Rattle.gameid_core.specs.Puzzles.{Tents, IsTents, AreCounts}
-use Rattle.gameid_core.specs.TentsText.{TentsToken, blanks_and_tree, only_blanks, tents_token_byte, tents_token_cells, IsTentsToken, SpellsTents, tents_tokens, trees_text, tents_text}
+use Rattle.gameid_core.specs.TentsText.{TentsToken, blanks_and_tree, only_blanks, tents_token_byte, tents_token_cells, IsTentsToken, AreTight, IsWrittenTents, tents_tokens, trees_text, tents_text}
 use Rattle.gameid_core.proofs.Lists.{next_cell}
-use Rattle.gameid_core.proofs.Numerals.{own, numeral, length_decimal}
+use Rattle.gameid_core.proofs.Numerals.{own, decimal_plain, numeral, length_decimal}
 use Rattle.gameid_core.proofs.LightLaws.{cells_few}
 use Rattle.gameid_core.proofs.PatternWritten.{line_small}
 use Rattle.gameid_core.proofs.TentsSpelling.{numbers_text}
 
 -- ---- one cell of the writer's loop
 
-tokens_blank : (k : ℕ) (cells : List ℕ) → (k ≡ 25 → ⊥) → tents_tokens k (0 ∷ cells) ≡ tents_tokens (k + 1) cells
+pub tokens_blank : (k : ℕ) (cells : List ℕ) → (k ≡ 25 → ⊥) → tents_tokens k (0 ∷ cells) ≡ tents_tokens (k + 1) cells
 unfolding tents_tokens
 tokens_blank k cells ne = let less : eqb k 25 ≡ false = ne_eqb k 25 ne in rw less refl
 
-tokens_full : (k : ℕ) (cells : List ℕ) → k ≡ 25 → tents_tokens k (0 ∷ cells) ≡ only_blanks ∷ tents_tokens 1 cells
+pub tokens_full : (k : ℕ) (cells : List ℕ) → k ≡ 25 → tents_tokens k (0 ∷ cells) ≡ only_blanks ∷ tents_tokens 1 cells
 unfolding tents_tokens
 tokens_full k cells e = let full : eqb k 25 ≡ true = eq-eqb k 25 e in rw full refl
 
-tokens_tree : (k b : ℕ) (cells : List ℕ) → (b ≡ 0 → ⊥) → tents_tokens k (b ∷ cells) ≡ blanks_and_tree k ∷ tents_tokens 0 cells
+pub tokens_tree : (k b : ℕ) (cells : List ℕ) → (b ≡ 0 → ⊥) → tents_tokens k (b ∷ cells) ≡ blanks_and_tree k ∷ tents_tokens 0 cells
 unfolding tents_tokens
 tokens_tree k zero cells ne = absurd (ne refl)
 tokens_tree k (suc b) cells ne = refl
 
-tokens_end : (k : ℕ) → tents_tokens k [] ≡ blanks_and_tree k ∷ []
+pub tokens_end : (k : ℕ) → tents_tokens k [] ≡ blanks_and_tree k ∷ []
 unfolding tents_tokens
 tokens_end k = refl
 
@@ -110,33 +110,63 @@ tents_short p h =
 
 record Written (k : ℕ) (cells : List ℕ) : Type 0 where
   each : AllByRecursion IsTentsToken (tents_tokens k cells)
+  tight : AreTight (tents_tokens k cells)
   filled : flat_map tents_token_cells (tents_tokens k cells) ≡ replicate k 0 ++ (cells ++ 1 ∷ [])
 
-written_by : (k : ℕ) (cells : List ℕ) (tokens : List TentsToken) → tents_tokens k cells ≡ tokens → AllByRecursion IsTentsToken tokens → flat_map tents_token_cells tokens ≡ replicate k 0 ++ (cells ++ 1 ∷ []) → Written k cells
-written_by k cells tokens e each filled = record {
+written_by : (k : ℕ) (cells : List ℕ) (tokens : List TentsToken) → tents_tokens k cells ≡ tokens → AllByRecursion IsTentsToken tokens → AreTight tokens → flat_map tents_token_cells tokens ≡ replicate k 0 ++ (cells ++ 1 ∷ []) → Written k cells
+written_by k cells tokens e each tight filled = record {
+  tight = subst (λ (ts : List TentsToken). AreTight ts) (sym e) tight;
   each = subst (λ (ts : List TentsToken). AllByRecursion IsTentsToken ts) (sym e) each;
   filled = ap (flat_map tents_token_cells) e ∙ filled;
 }
 
+-- '_' doesn't come first
+abbrev NoTreeFirst : List TentsToken → Type 0
+NoTreeFirst [] = Unit {0}
+NoTreeFirst (blanks_and_tree zero ∷ tokens) = ⊥
+NoTreeFirst (token ∷ tokens) = Unit {0}
+
+some_first : (k : ℕ) (tokens : List TentsToken) → 0 < k → NoTreeFirst (blanks_and_tree k ∷ tokens)
+some_first zero tokens some = absurd (omega arith)
+some_first (suc k) tokens some = tt
+
+no_tree_first : (k : ℕ) (cells : List ℕ) → 0 < k → NoTreeFirst (tents_tokens k cells)
+no_tree_first k [] some = subst (λ (ts : List TentsToken). NoTreeFirst ts) (sym (tokens_end k)) (some_first k [] some)
+no_tree_first k (zero ∷ cells) some =
+    elim (cases_lt k 25) [
+      | inl less ↦ subst (λ (ts : List TentsToken). NoTreeFirst ts) (sym (tokens_blank k cells (λ e. absurd (omega (arith, e))))) (no_tree_first (k + 1) cells (omega arith))
+      | inr most ↦ elim (cases_lt 25 k) [
+        | inl over ↦ subst (λ (ts : List TentsToken). NoTreeFirst ts) (sym (tokens_blank k cells (λ e. absurd (omega (arith, e))))) (no_tree_first (k + 1) cells (omega arith))
+        | inr least ↦ subst (λ (ts : List TentsToken). NoTreeFirst ts) (sym (tokens_full k cells (omega arith))) tt
+      ]
+    ]
+no_tree_first k (suc b ∷ cells) some = subst (λ (ts : List TentsToken). NoTreeFirst ts) (sym (tokens_tree k (suc b) cells (λ e. absurd (omega (arith, e))))) (some_first k (tents_tokens 0 cells) some)
+
+tight_join : (tokens : List TentsToken) → NoTreeFirst tokens → AreTight tokens → AreTight (only_blanks ∷ tokens)
+tight_join [] f h = tt
+tight_join (blanks_and_tree zero ∷ tokens) f h = absurd f
+tight_join (blanks_and_tree (suc k) ∷ tokens) f h = h
+tight_join (only_blanks ∷ tokens) f h = h
+
 cells_written : (k : ℕ) (cells : List ℕ) → k ≤ 25 → AllByRecursion (λ b. b < 2) cells → Written k cells
 cells_written k [] few h =
-    written_by k [] (blanks_and_tree k ∷ []) (tokens_end k) (few, tt) (append-nil (replicate k 0 ++ 1 ∷ []))
+    written_by k [] (blanks_and_tree k ∷ []) (tokens_end k) (few, tt) tt (append-nil (replicate k 0 ++ 1 ∷ []))
 cells_written k (zero ∷ cells) few h =
     elim (cases_lt k 25) [
       | inl less ↦
           let r = cells_written (k + 1) cells (omega arith) h.1 in
-          written_by k (0 ∷ cells) (tents_tokens (k + 1) cells) (tokens_blank k cells (λ e. absurd (omega (arith, e)))) r.each (r.filled ∙ ap (λ (t : List ℕ). t ++ (cells ++ 1 ∷ [])) (sym (replicate-append-replicate {A = ℕ} k 1 0)) ∙ append_assoc (replicate k 0) (0 ∷ []) (cells ++ 1 ∷ []))
+          written_by k (0 ∷ cells) (tents_tokens (k + 1) cells) (tokens_blank k cells (λ e. absurd (omega (arith, e)))) r.each r.tight (r.filled ∙ ap (λ (t : List ℕ). t ++ (cells ++ 1 ∷ [])) (sym (replicate-append-replicate {A = ℕ} k 1 0)) ∙ append_assoc (replicate k 0) (0 ∷ []) (cells ++ 1 ∷ []))
       | inr most ↦
           let full : k ≡ 25 = omega arith in
           let r = cells_written 1 cells (omega arith) h.1 in
-          written_by k (0 ∷ cells) (only_blanks ∷ tents_tokens 1 cells) (tokens_full k cells full) (tt, r.each) (ap (λ (t : List ℕ). replicate 25 0 ++ t) r.filled ∙ ap (λ (j : ℕ). replicate j 0 ++ 0 ∷ (cells ++ 1 ∷ [])) (sym full))
+          written_by k (0 ∷ cells) (only_blanks ∷ tents_tokens 1 cells) (tokens_full k cells full) (tt, r.each) (tight_join (tents_tokens 1 cells) (no_tree_first 1 cells (omega arith)) r.tight) (ap (λ (t : List ℕ). replicate 25 0 ++ t) r.filled ∙ ap (λ (j : ℕ). replicate j 0 ++ 0 ∷ (cells ++ 1 ∷ [])) (sym full))
     ]
 cells_written k (suc b ∷ cells) few h =
     let one : suc b ≡ 1 = omega (arith, h.0) in
     let r = cells_written 0 cells (omega arith) h.1 in
-    written_by k (suc b ∷ cells) (blanks_and_tree k ∷ tents_tokens 0 cells) (tokens_tree k (suc b) cells (λ e. absurd (omega (arith, e)))) (few, r.each) (ap (λ (t : List ℕ). (replicate k 0 ++ 1 ∷ []) ++ t) r.filled ∙ append_assoc (replicate k 0) (1 ∷ []) (cells ++ 1 ∷ []) ∙ ap (λ (c : ℕ). replicate k 0 ++ c ∷ (cells ++ 1 ∷ [])) (sym one))
+    written_by k (suc b ∷ cells) (blanks_and_tree k ∷ tents_tokens 0 cells) (tokens_tree k (suc b) cells (λ e. absurd (omega (arith, e)))) (few, r.each) r.tight (ap (λ (t : List ℕ). (replicate k 0 ++ 1 ∷ []) ++ t) r.filled ∙ append_assoc (replicate k 0) (1 ∷ []) (cells ++ 1 ∷ []) ∙ ap (λ (c : ℕ). replicate k 0 ++ c ∷ (cells ++ 1 ∷ [])) (sym one))
 
-numbers_are : (counts : List ℕ) → counts_text counts ≡ numbers_text (map decimal counts)
+pub numbers_are : (counts : List ℕ) → counts_text counts ≡ numbers_text (map decimal counts)
 numbers_are [] = refl
 numbers_are (n ∷ counts) = ap (λ (t : List ℕ). (44 ∷ decimal n) ++ t) (numbers_are counts)
 
@@ -148,20 +178,32 @@ numerals size line (n ∷ counts) e h =
     let rest = numerals size (line + 1) counts e h.1 in
     ((numeral n less, rest.0), rw (digits_value-decimal own n less, rest.1) refl)
 
-pub tents_written : (p : Tents) → IsTents p → SpellsTents (tents_text p) p
-tents_written p h =
+counts_are_plain : (size : Extent) (line : ℕ) (counts : List ℕ) → IsExtent size → AreCounts size line counts → AllByRecursion IsPlain (map decimal counts)
+counts_are_plain size line [] e h = tt
+counts_are_plain size line (n ∷ counts) e h =
+    let small = line_small size line e in
+    (decimal_plain n (omega (arith, small, h.0)), counts_are_plain size (line + 1) counts e h.1)
+
+-- the written text has the form of a written text, and so it spells the puzzle
+pub tents_is_written : (p : Tents) → IsTents p → IsWrittenTents (tents_text p) p
+tents_is_written p h =
     let w = cells_written 0 p.trees (omega arith) h.bits in
     let n = numerals p.size 0 p.counts h.size.extent h.range in
     record {
-      short = tents_short p h;
-      puzzle = h;
-      front = size_text p.size.w p.size.h;
-      tokens = tents_tokens 0 p.trees;
-      numerals = map decimal p.counts;
-      parts = ap (λ (t : List ℕ). size_text p.size.w p.size.h ++ 58 ∷ (trees_text 0 p.trees ++ t)) (numbers_are p.counts);
-      size = inl refl;
-      each = w.each;
-      digits = n.0;
-      cells = w.filled;
-      counts = n.1;
+      spells = record {
+        short = tents_short p h;
+        puzzle = h;
+        front = size_text p.size.w p.size.h;
+        tokens = tents_tokens 0 p.trees;
+        numerals = map decimal p.counts;
+        parts = ap (λ (t : List ℕ). size_text p.size.w p.size.h ++ 58 ∷ (trees_text 0 p.trees ++ t)) (numbers_are p.counts);
+        size = inl refl;
+        each = w.each;
+        digits = n.0;
+        cells = w.filled;
+        counts = n.1;
+      };
+      both = refl;
+      tight = w.tight;
+      plain = counts_are_plain p.size 0 p.counts h.size.extent h.range;
     }

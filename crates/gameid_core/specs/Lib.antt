@@ -11,3 +11,4 @@ pub mod Runs
 pub mod SoloText
 pub mod LightText
 pub mod TentsText
+pub mod Lines

@@ -46,6 +46,20 @@ pub record SpellsLight (text : List ℕ) (p : Light) : Type 0 where
   pub each : AllByRecursion IsLightToken tokens
   pub cells : flat_map light_token_cells tokens ≡ p.cells
 
+-- Which text is written ----------------------------------------------------------------------------------------
+
+-- a letter directly before a letter is 'z'
+abbrev pub AreFullLights : List LightToken → Type 0
+AreFullLights [] = Unit {0}
+AreFullLights (whites j ∷ whites k ∷ tokens) = (j ≡ 26) × AreFullLights (whites k ∷ tokens)
+AreFullLights (token ∷ tokens) = AreFullLights tokens
+
+-- the text spells the puzzle, with both numbers of the size and with no letter more than is needed
+pub record IsWrittenLight (text : List ℕ) (p : Light) : Type 0 where
+  pub spells : SpellsLight text p
+  pub both : spells.front ≡ size_text p.size.w p.size.h
+  pub full : AreFullLights spells.tokens
+
 -- The first fault ----------------------------------------------------------------------------------------------
 
 -- the cells of a token, which is one byte, or its fault

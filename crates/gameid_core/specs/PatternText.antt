@@ -7,7 +7,7 @@ use Rattle.grid_core.specs.Extent.{Extent}
 use Rattle.gameid_core.specs.declared.fault.IdFault.{IdFault}
 use Rattle.gameid_core.specs.declared.fault.IdFault.TheVariants.{BadByte, NumberRange, LineTooFull, TooFew, TooMany}
 use Rattle.gameid_core.specs.declared.game.Game.TheVariants as game
-use Rattle.gameid_core.specs.Words.{IsNumeral, begins, words, value, Cuts}
+use Rattle.gameid_core.specs.Words.{IsNumeral, IsPlain, begins, words, value, Cuts}
 use Rattle.gameid_core.specs.Steps.{◌>>=◌, reading}
 use Rattle.gameid_core.specs.Head.{head_of, max_id}
 use Rattle.gameid_core.specs.SizeText.{size_text, IsSizeText}
@@ -28,6 +28,14 @@ pub record SpellsPattern (text : List ℕ) (p : Pattern) : Type 0 where
   pub size : IsSizeText front p.size.w p.size.h
   pub digits : AllByRecursion (AllByRecursion IsNumeral) numerals
   pub clues : map (map value) numerals ≡ p.clues
+
+-- Which text is written ----------------------------------------------------------------------------------------
+
+-- the text spells the puzzle, with both numbers of the size and no leading zero
+pub record IsWrittenPattern (text : List ℕ) (p : Pattern) : Type 0 where
+  pub spells : SpellsPattern text p
+  pub both : spells.front ≡ size_text p.size.w p.size.h
+  pub plain : AllByRecursion (AllByRecursion IsPlain) spells.numerals
 
 -- The first fault ----------------------------------------------------------------------------------------------
 

@@ -51,6 +51,32 @@ pub record SpellsSolo (text : List ℕ) (p : Solo) : Type 0 where
   pub apart : AreApart tokens
   pub cells : flat_map solo_token_cells tokens ≡ p.givens
 
+-- Which text is written ----------------------------------------------------------------------------------------
+
+-- a letter directly before a letter is 'z'
+abbrev pub AreFull : List SoloToken → Type 0
+AreFull [] = Unit {0}
+AreFull (blanks j ∷ blanks k ∷ tokens) = (j ≡ 26) × AreFull (blanks k ∷ tokens)
+AreFull (token ∷ tokens) = AreFull tokens
+
+abbrev pub BeginsWithGiven : List SoloToken → Type 0
+BeginsWithGiven (given v ∷ tokens) = Unit {0}
+BeginsWithGiven tokens = ⊥
+
+-- '_' stands only directly behind a number and directly before one; `behind` is whether a number stands before
+abbrev pub AreNeeded : Bool → List SoloToken → Type 0
+AreNeeded behind [] = Unit {0}
+AreNeeded behind (blanks k ∷ tokens) = AreNeeded false tokens
+AreNeeded behind (given v ∷ tokens) = AreNeeded true tokens
+AreNeeded behind (gap ∷ tokens) = (behind ≡ true) × BeginsWithGiven tokens × AreNeeded false tokens
+
+-- the text spells the puzzle, with both numbers of the size and with no letter and no '_' more than is needed
+pub record IsWrittenSolo (text : List ℕ) (p : Solo) : Type 0 where
+  pub spells : SpellsSolo text p
+  pub both : spells.front ≡ size_text p.c p.r
+  pub full : AreFull spells.tokens
+  pub needed : AreNeeded false spells.tokens
+
 -- The first fault ----------------------------------------------------------------------------------------------
 
 -- the cells of a token, or its fault

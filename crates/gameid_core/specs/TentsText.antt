@@ -6,7 +6,7 @@ use Rattle.grid_core.specs.Extent.{Extent}
 use Rattle.gameid_core.specs.declared.fault.IdFault.{IdFault}
 use Rattle.gameid_core.specs.declared.fault.IdFault.TheVariants.{BadByte, NumberRange, TooFew, TooMany}
 use Rattle.gameid_core.specs.declared.game.Game.TheVariants as game
-use Rattle.gameid_core.specs.Words.{IsNumeral, begins, words, value, Cuts}
+use Rattle.gameid_core.specs.Words.{IsNumeral, IsPlain, begins, words, value, Cuts}
 use Rattle.gameid_core.specs.Steps.{◌>>=◌, reading}
 use Rattle.gameid_core.specs.Head.{head_of, max_id}
 use Rattle.gameid_core.specs.SizeText.{size_text, IsSizeText}
@@ -44,6 +44,21 @@ pub record SpellsTents (text : List ℕ) (p : Tents) : Type 0 where
   pub digits : AllByRecursion IsNumeral numerals
   pub cells : flat_map tents_token_cells tokens ≡ p.trees ++ 1 ∷ []
   pub counts : map value numerals ≡ p.counts
+
+-- Which text is written ----------------------------------------------------------------------------------------
+
+-- no 'z' stands directly before '_'
+abbrev pub AreTight : List TentsToken → Type 0
+AreTight [] = Unit {0}
+AreTight (only_blanks ∷ blanks_and_tree zero ∷ tokens) = ⊥
+AreTight (token ∷ tokens) = AreTight tokens
+
+-- the text spells the puzzle, with both numbers of the size, no 'z' before '_' and no leading zero
+pub record IsWrittenTents (text : List ℕ) (p : Tents) : Type 0 where
+  pub spells : SpellsTents text p
+  pub both : spells.front ≡ size_text p.size.w p.size.h
+  pub tight : AreTight spells.tokens
+  pub plain : AllByRecursion IsPlain spells.numerals
 
 -- The first fault ----------------------------------------------------------------------------------------------
 
@@ -90,8 +105,12 @@ tents_step size at s word =
 unfoldable pub tents_end : Extent → TentsSoFar → Result TentsSoFar IdFault
 tents_end size s = if length s.counts == lines_of size then Ok s else Err TooFew
 
+abbrev pub no_places : TentsSoFar
+no_places = record { places = []; counts = [] }
+
+-- the places and numbers of a description that begins at that place
 unfoldable pub tents_at : Extent → ℕ → List ℕ → Result TentsSoFar IdFault
-tents_at size at description = reading (tents_step size) (tents_end size) at (record { places = []; counts = [] }) (words description)
+tents_at size at description = reading (tents_step size) (tents_end size) at no_places (words description)
 
 -- the puzzle that the text spells, or its first fault
 unfoldable pub tents_of : List ℕ → Result Tents IdFault

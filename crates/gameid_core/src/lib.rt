@@ -1,4 +1,7 @@
-//! Game IDs: the puzzles, their readers and their writers.
+//! Game IDs of four games of Simon Tatham's Portable Puzzle Collection: the puzzles, their readers and their writers.
+//!
+//! An ID is a size, `:` and a description. The general form is that of the collection's manual; the descriptions are
+//! those that the source code of each game writes.
 #![tactic(auto)]
 
 mod black_runs;
@@ -9,6 +12,8 @@ mod light_cell;
 mod light_puzzle;
 mod light_text;
 mod light_writing;
+mod line_ones;
+mod lines;
 mod number;
 mod pattern_puzzle;
 mod pattern_text;
@@ -28,17 +33,17 @@ pub use game::Game;
 pub use head::{MAX_ID, MAX_NUMBERS, read_size};
 pub use light_cell::LightCell;
 pub use light_puzzle::LightPuzzle;
-pub use light_text::{one_reading_of_lights, read_lights};
-pub use light_writing::write_lights;
+pub use light_text::{first_fault_of_lights, one_reading_of_lights, read_lights};
+pub use light_writing::{one_written_text_of_lights, write_lights};
 pub use pattern_puzzle::PatternPuzzle;
 pub use pattern_text::{first_fault, one_reading, read_pattern};
-pub use pattern_writing::write_pattern;
+pub use pattern_writing::{one_written_text, write_pattern};
 pub use solo_puzzle::SoloPuzzle;
-pub use solo_text::{one_reading_of_solo, read_solo};
-pub use solo_writing::write_solo;
+pub use solo_text::{first_fault_of_solo, one_reading_of_solo, read_solo};
+pub use solo_writing::{one_written_text_of_solo, write_solo};
 pub use tents_puzzle::TentsPuzzle;
-pub use tents_text::{one_reading_of_tents, read_tents};
-pub use tents_writing::write_tents;
+pub use tents_text::{first_fault_of_tents, one_reading_of_tents, read_tents};
+pub use tents_writing::{one_written_text_of_tents, write_tents};
 
 #[cfg(test)]
 mod tests;

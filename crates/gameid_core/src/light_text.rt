@@ -1,6 +1,6 @@
 //! Reading game IDs of Light Up.
 
-ghost use Rattle.std.specs.Prelude.{◌≡◌, ◌⊎◌, ℕ, List, ◌<◌, ◌≤◌, ◌+◌, ◌*◌, ◌^◌, ◌∷◌, [], length, IfOk, IfErr, Ok, Err};
+ghost use Rattle.std.specs.Prelude.{◌≡◌, map, ◌⊎◌, ℕ, List, ◌<◌, ◌≤◌, ◌+◌, ◌*◌, ◌^◌, ◌∷◌, [], length, IfOk, IfErr, Ok, Err};
 ghost use Rattle.grid_core.specs.Extent.{max_side};
 ghost use Rattle.gameid_core.specs.Steps.{Gives, Fails};
 ghost use Rattle.gameid_core.specs.Head.{head_of};
@@ -8,6 +8,8 @@ ghost use Rattle.gameid_core.specs.declared.fault.IdFault.{IdFault};
 ghost use Rattle.gameid_core.specs.Puzzles.{Light};
 ghost use Rattle.gameid_core.specs.Runs.{GivesRun};
 ghost use Rattle.gameid_core.specs.LightText.{SpellsLight, light_token, light_cells_at, light_of};
+ghost use Rattle.gameid_core.specs.Cells.{fill_step, fill_end};
+ghost use Rattle.gameid_core.specs.FirstFault.{FirstFault};
 
 use crate::fault::IdFault;
 use crate::game::Game;
@@ -98,4 +100,10 @@ pub fn one_reading_of_lights()
     ensures one { (text : List ℕ) (p q : Light) → SpellsLight text p → SpellsLight text q → p ≡ q }
     ensures apart { (text : List ℕ) (p : Light) (f : IdFault) → SpellsLight text p → light_of text ≡ Err f → ⊥ }
     ensures either { (text : List ℕ) → ((p : Light) × SpellsLight text p) ⊎ ((f : IdFault) × (light_of text ≡ Err f)) }
+{}
+
+/// A description's fault is that of its first token with one, or of its end, after tokens without fault.
+pub fn first_fault_of_lights()
+    ensures { (all at : ℕ) (description : List ℕ) (f : IdFault) → light_cells_at all at description ≡ Err f
+        → FirstFault (fill_step light_token all) (fill_end all) at [] (map (λ b. b ∷ []) description) f }
 {}

@@ -1,11 +1,11 @@
 //! The written text of a puzzle of Light Up.
 
-ghost use Rattle.std.specs.Prelude.{◌≡◌, ◌≤◌, ◌++◌, ◌∷◌, [], length, string_bytes, OnOk, IfOk, MatchOption};
+ghost use Rattle.std.specs.Prelude.{◌≡◌, ◌≤◌, ◌++◌, ◌∷◌, [], length, string_bytes, OnOk, IfOk, MatchOption, List, ℕ};
 ghost use Rattle.std.specs.List.{AllByRecursion};
 ghost use Rattle.gameid_core.specs.declared.light_cell.LightCell.TheVariants.{White};
 ghost use Rattle.gameid_core.specs.Head.{max_id};
-ghost use Rattle.gameid_core.specs.Puzzles.{IsLight, IsLightCell};
-ghost use Rattle.gameid_core.specs.LightText.{IsBlackByte, SpellsLight, light_cells_text, light_text};
+ghost use Rattle.gameid_core.specs.Puzzles.{Light, IsLight, IsLightCell};
+ghost use Rattle.gameid_core.specs.LightText.{IsWrittenLight, IsBlackByte, SpellsLight, light_cells_text, light_text};
 
 use crate::light_cell::LightCell;
 use crate::light_puzzle::LightPuzzle;
@@ -61,8 +61,16 @@ fn written(alloc: Global, puzzle: &LightPuzzle) -> Result<String, AllocError>
 /// too.
 pub fn write_lights(alloc: Global, puzzle: &LightPuzzle) -> Result<String, AllocError>
     ensures text { IfOk result (λ text. string_bytes text ≡ light_text puzzle.now) }
+    ensures form { IfOk result (λ text. IsWrittenLight (string_bytes text) puzzle.now) }
     ensures read_again { IfOk result (λ text. SpellsLight (string_bytes text) puzzle.now) }
     ensures short { IfOk result (λ text. length (string_bytes text) ≤ max_id) }
 {
     written(alloc, puzzle)
 }
+
+/// Each puzzle of Light Up has exactly one written text: the one that spells it with both numbers of the size, where
+/// each letter directly before a letter is `z`.
+pub fn one_written_text_of_lights()
+    ensures some { (p : Light) → IsLight p → IsWrittenLight (light_text p) p }
+    ensures one { (text other : List ℕ) (p : Light) → IsWrittenLight text p → IsWrittenLight other p → text ≡ other }
+{}

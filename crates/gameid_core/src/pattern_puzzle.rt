@@ -1,9 +1,13 @@
 //! The puzzles of Pattern.
 
-ghost use Rattle.std.specs.Prelude.{◌≡◌, ◌<◌, ◌≤◌, length, [], map, slice_index, slice_index_or};
+ghost use Rattle.std.specs.Prelude.{◌≡◌, ◌<◌, ◌≤◌, ◌+◌, ◌*◌, ℕ, length, [], map, slice_index, slice_index_or, IfOk};
+ghost use Rattle.grid_core.specs.Grids.{IsGrid, row_cells, column_cells};
+ghost use Rattle.gameid_core.specs.BlackRuns.{runs};
 ghost use Rattle.gameid_core.specs.Puzzles.{Pattern, IsPattern, lines_of};
 
-use grid_core::Size;
+use crate::black_runs::runs_of_lines;
+use grid_core::{Grid, Size};
+use std::alloc::{AllocError, Global};
 use std::marker::Model;
 
 /// The size of a grid, and a clue for each of its columns and rows.
@@ -31,6 +35,20 @@ impl PatternPuzzle {
         ensures { result ≡ record { size = size; clues = map (λ clue. clue.items) clues.items } }
     {
         PatternPuzzle { size, clues }
+    }
+
+    /// The puzzle of that size whose clues are the runs of the grid's lines: the clue of each column is its runs
+    /// downwards, and the clue of each row its runs rightwards. The grid has 0 for white and 1 for black.
+    pub fn of_grid(alloc: Global, size: Size, grid: &Grid) -> Result<PatternPuzzle, AllocError>
+        requires { IsGrid (size.w * size.h) 2 grid.now }
+        ensures size { IfOk result (λ p. p.size ≡ size) }
+        ensures columns { IfOk result (λ p. (x : ℕ) → x < size.w
+            → slice_index_or p.clues x [] ≡ runs (column_cells size grid.now x)) }
+        ensures rows { IfOk result (λ p. (y : ℕ) → y < size.h
+            → slice_index_or p.clues (size.w + y) [] ≡ runs (row_cells size grid.now y)) }
+    {
+        let clues = runs_of_lines(alloc, size, grid)?;
+        Ok(PatternPuzzle { size, clues })
     }
 
     /// The size of the grid.
@@ -68,7 +86,7 @@ impl PatternPuzzle {
     }
 
     /// A line's clue.
-    pub(crate) fn line(&self, line: usize) -> &[u8]
+    pub fn line(&self, line: usize) -> &[u8]
         requires { line < length self.now.clues }
         ensures { result.now ≡ slice_index_or self.now.clues line [] }
     {

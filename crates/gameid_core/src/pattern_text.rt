@@ -4,18 +4,18 @@ ghost use Rattle.std.specs.Prelude.{◌≡◌, ℕ, ◌<◌, ◌≤◌, ◌+◌,
 ghost use Rattle.gameid_core.specs.Steps.{Gives, Fails};
 ghost use Rattle.gameid_core.specs.Head.{head_of};
 ghost use Rattle.gameid_core.specs.declared.fault.IdFault.{IdFault};
-ghost use Rattle.gameid_core.specs.Puzzles.{used as used_cells, line_cells, lines_of};
+ghost use Rattle.gameid_core.specs.Puzzles.{used as used_cells};
 ghost use Rattle.gameid_core.specs.Puzzles.{Pattern};
 ghost use Rattle.gameid_core.specs.PatternText.{SpellsPattern, pattern_of, GivesNumber, TakesNumber, clue_number, clue_token, clues_at, pattern_step, pattern_end, nothing_yet};
-ghost use Rattle.gameid_core.specs.Words.{begins, digits_front, after_digits, words};
+ghost use Rattle.gameid_core.specs.Words.{digits_front, after_digits, words};
 ghost use Rattle.gameid_core.specs.FirstFault.{FirstFault};
 ghost use Rattle.grid_core.specs.Extent.{Extent};
-ghost use Rattle.std.specs.Char.{is_ascii_digit};
 
 use crate::fault::IdFault;
 use crate::game::Game;
 use crate::head::read_head;
-use crate::number::{first_of, leading_number};
+use crate::lines::{cells_of, lines};
+use crate::number::{first_of, leading_number, starts_with_digit};
 use crate::pattern_puzzle::PatternPuzzle;
 use grid_core::Size;
 use std::alloc::Global;
@@ -40,16 +40,6 @@ fn number(
         return Err(IdFault::LineTooFull(line));
     }
     Ok((number as u8, rest))
-}
-
-/// Whether a digit comes first.
-pub fn starts_with_digit(text: &[u8]) -> bool
-    ensures { result ≡ begins is_ascii_digit text.now }
-{
-    match first_of(text) {
-        Some((first, _)) => first.is_ascii_digit(),
-        None => false,
-    }
 }
 
 /// The first number of a clue, and the text after it.
@@ -111,24 +101,6 @@ fn next_number<'a>(
     } else {
         further_number(cells, line, clue, before, at, first, after)
     }
-}
-
-/// The cells of a line: columns first, then rows.
-pub fn cells_of(size: Size, line: usize) -> u8
-    ensures { result ≡ line_cells size line }
-{
-    if line < usize::from(size.w()) {
-        size.h()
-    } else {
-        size.w()
-    }
-}
-
-/// How many lines there are.
-pub fn lines(size: Size) -> usize
-    ensures { result ≡ lines_of size }
-{
-    usize::from(size.w()) + usize::from(size.h())
 }
 
 /// The clues of a description, which begins at that place of the ID.

@@ -1,10 +1,10 @@
 //! The written text of a puzzle of Pattern.
 
-ghost use Rattle.std.specs.Prelude.{◌≡◌, ◌≤◌, ◌++◌, ◌∷◌, map, decimal, string_bytes, length, OnOk, IfOk};
+ghost use Rattle.std.specs.Prelude.{◌≡◌, ◌≤◌, ◌++◌, ◌∷◌, map, decimal, string_bytes, length, OnOk, IfOk, List, ℕ};
 ghost use Rattle.std.specs.List.{join_with_byte};
 ghost use Rattle.gameid_core.specs.Head.{max_id};
-ghost use Rattle.gameid_core.specs.Puzzles.{IsPattern};
-ghost use Rattle.gameid_core.specs.PatternText.{clue_text, pattern_text, SpellsPattern};
+ghost use Rattle.gameid_core.specs.Puzzles.{Pattern, IsPattern};
+ghost use Rattle.gameid_core.specs.PatternText.{IsWrittenPattern, clue_text, pattern_text, SpellsPattern};
 
 use crate::pattern_puzzle::PatternPuzzle;
 use crate::writing::{push_number, push_size};
@@ -53,8 +53,16 @@ fn written(alloc: Global, puzzle: &PatternPuzzle) -> Result<String, AllocError>
 /// the size are written, and no number has a leading zero.
 pub fn write_pattern(alloc: Global, puzzle: &PatternPuzzle) -> Result<String, AllocError>
     ensures text { IfOk result (λ text. string_bytes text ≡ pattern_text puzzle.now) }
+    ensures form { IfOk result (λ text. IsWrittenPattern (string_bytes text) puzzle.now) }
     ensures read_again { IfOk result (λ text. SpellsPattern (string_bytes text) puzzle.now) }
     ensures short { IfOk result (λ text. length (string_bytes text) ≤ max_id) }
 {
     written(alloc, puzzle)
 }
+
+/// Each puzzle of Pattern has exactly one written text: the one that spells it with both numbers of the size and no
+/// leading zeros.
+pub fn one_written_text()
+    ensures some { (p : Pattern) → IsPattern p → IsWrittenPattern (pattern_text p) p }
+    ensures one { (text other : List ℕ) (p : Pattern) → IsWrittenPattern text p → IsWrittenPattern other p → text ≡ other }
+{}

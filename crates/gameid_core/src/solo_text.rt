@@ -1,13 +1,15 @@
 //! Reading game IDs of Solo.
 
-ghost use Rattle.std.specs.Prelude.{◌≡◌, ◌⊎◌, ℕ, List, ◌<◌, ◌≤◌, ◌+◌, ◌*◌, ◌^◌, ◌++◌, ◌∷◌, ◌&&◌, true, nat_le, length, replicate, OnOk, IfOk, IfErr, Ok, Err};
+ghost use Rattle.std.specs.Prelude.{◌≡◌, [], ◌⊎◌, ℕ, List, ◌<◌, ◌≤◌, ◌+◌, ◌*◌, ◌^◌, ◌++◌, ◌∷◌, ◌&&◌, true, nat_le, length, replicate, OnOk, IfOk, IfErr, Ok, Err};
 ghost use Rattle.gameid_core.specs.Steps.{Gives, Fails};
-ghost use Rattle.gameid_core.specs.Words.{begins};
+ghost use Rattle.gameid_core.specs.Words.{begins, words};
 ghost use Rattle.gameid_core.specs.Runs.{TakesRun};
 ghost use Rattle.gameid_core.specs.SoloText.{SpellsSolo, solo_token, solo_cells_at, solo_of};
 ghost use Rattle.gameid_core.specs.Puzzles.{Solo};
 ghost use Rattle.gameid_core.specs.Head.{head_of, max_numbers};
 ghost use Rattle.gameid_core.specs.declared.fault.IdFault.{IdFault};
+ghost use Rattle.gameid_core.specs.Cells.{fill_step, fill_end};
+ghost use Rattle.gameid_core.specs.FirstFault.{FirstFault};
 
 use crate::fault::IdFault;
 use crate::game::Game;
@@ -113,4 +115,10 @@ pub fn one_reading_of_solo()
     ensures one { (text : List ℕ) (p q : Solo) → SpellsSolo text p → SpellsSolo text q → p ≡ q }
     ensures apart { (text : List ℕ) (p : Solo) (f : IdFault) → SpellsSolo text p → solo_of text ≡ Err f → ⊥ }
     ensures either { (text : List ℕ) → ((p : Solo) × SpellsSolo text p) ⊎ ((f : IdFault) × (solo_of text ≡ Err f)) }
+{}
+
+/// A description's fault is that of its first token with one, or of its end, after tokens without fault.
+pub fn first_fault_of_solo()
+    ensures { (n at : ℕ) (description : List ℕ) (f : IdFault) → solo_cells_at n at description ≡ Err f
+        → FirstFault (fill_step (solo_token n) (n * n)) (fill_end (n * n)) at [] (words description) f }
 {}

@@ -1,10 +1,10 @@
 //! The written text of a puzzle of Solo.
 
-ghost use Rattle.std.specs.Prelude.{◌≡◌, ◌≤◌, ◌++◌, ◌∷◌, length, decimal, false, string_bytes, OnOk, IfOk};
+ghost use Rattle.std.specs.Prelude.{◌≡◌, ◌≤◌, ◌++◌, ◌∷◌, length, decimal, false, string_bytes, OnOk, IfOk, List, ℕ};
 ghost use Rattle.gameid_core.specs.Cells.{letters};
 ghost use Rattle.gameid_core.specs.Head.{max_id};
-ghost use Rattle.gameid_core.specs.Puzzles.{IsSolo};
-ghost use Rattle.gameid_core.specs.SoloText.{before_given, cells_text, solo_text, SpellsSolo};
+ghost use Rattle.gameid_core.specs.Puzzles.{Solo, IsSolo};
+ghost use Rattle.gameid_core.specs.SoloText.{IsWrittenSolo, before_given, cells_text, solo_text, SpellsSolo};
 
 use crate::solo_puzzle::SoloPuzzle;
 use crate::writing::{push_letters, push_number, push_size};
@@ -57,8 +57,16 @@ fn written(alloc: Global, puzzle: &SoloPuzzle) -> Result<String, AllocError>
 /// two numbers.
 pub fn write_solo(alloc: Global, puzzle: &SoloPuzzle) -> Result<String, AllocError>
     ensures text { IfOk result (λ text. string_bytes text ≡ solo_text puzzle.now) }
+    ensures form { IfOk result (λ text. IsWrittenSolo (string_bytes text) puzzle.now) }
     ensures read_again { IfOk result (λ text. SpellsSolo (string_bytes text) puzzle.now) }
     ensures short { IfOk result (λ text. length (string_bytes text) ≤ max_id) }
 {
     written(alloc, puzzle)
 }
+
+/// Each puzzle of Solo has exactly one written text: the one that spells it with both numbers of the size, where each
+/// letter directly before a letter is `z` and `_` stands only between two numbers.
+pub fn one_written_text_of_solo()
+    ensures some { (p : Solo) → IsSolo p → IsWrittenSolo (solo_text p) p }
+    ensures one { (text other : List ℕ) (p : Solo) → IsWrittenSolo text p → IsWrittenSolo other p → text ≡ other }
+{}

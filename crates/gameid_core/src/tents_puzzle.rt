@@ -1,9 +1,13 @@
 //! The puzzles of Tents.
 
-ghost use Rattle.std.specs.Prelude.{◌≡◌, ◌<◌, ◌≤◌, ◌*◌, IsTrue, length, slice_index, slice_index_or, ◌↔◌};
+ghost use Rattle.std.specs.Prelude.{◌≡◌, ◌<◌, ◌≤◌, ◌+◌, ◌*◌, ℕ, IsTrue, IfOk, length, slice_index, ◌↔◌};
+ghost use Rattle.grid_core.specs.Grids.{IsGrid, row_cells, column_cells};
+ghost use Rattle.gameid_core.specs.Lines.{ones};
 ghost use Rattle.gameid_core.specs.Puzzles.{Tents, IsTents, lines_of};
 
-use grid_core::Size;
+use crate::line_ones::{numbers_of, ones_of_lines};
+use grid_core::{Grid, Size};
+use std::alloc::{AllocError, Global};
 use std::marker::Model;
 
 /// The trees of a grid of at least 2 columns and 2 rows, and the number of tents of each column and row, which is at
@@ -37,6 +41,34 @@ impl TentsPuzzle {
             trees,
             counts,
         }
+    }
+
+    /// The puzzle of that size with these trees, whose numbers are those of the tents of each column and row. In both
+    /// grids 1 is a tree or a tent, and 0 is none.
+    pub fn of_parts(
+        alloc: Global,
+        size: Size,
+        trees: &Grid,
+        tents: &Grid,
+    ) -> Result<TentsPuzzle, AllocError>
+        requires w_two { 2 ≤ size.w }
+        requires h_two { 2 ≤ size.h }
+        requires trees { IsGrid (size.w * size.h) 2 trees.now }
+        requires tents { IsGrid (size.w * size.h) 2 tents.now }
+        ensures size { IfOk result (λ p. p.size ≡ size) }
+        ensures trees { IfOk result (λ p. p.trees ≡ trees.now) }
+        ensures columns { IfOk result (λ p. (x : ℕ) → x < size.w
+            → slice_index p.counts x ≡ ones (column_cells size tents.now x)) }
+        ensures rows { IfOk result (λ p. (y : ℕ) → y < size.h
+            → slice_index p.counts (size.w + y) ≡ ones (row_cells size tents.now y)) }
+    {
+        let counts = ones_of_lines(alloc, size, tents)?;
+        let trees = numbers_of(alloc, trees)?;
+        Ok(TentsPuzzle {
+            size,
+            trees,
+            counts,
+        })
     }
 
     /// The size of the grid.

@@ -5,13 +5,16 @@ ghost use Rattle.gameid_core.specs.Steps.{Gives, Fails};
 ghost use Rattle.gameid_core.specs.Head.{head_of};
 ghost use Rattle.gameid_core.specs.declared.fault.IdFault.{IdFault};
 ghost use Rattle.gameid_core.specs.Puzzles.{Tents};
-ghost use Rattle.gameid_core.specs.TentsText.{TakesCount, SpellsTents, tents_at, tents_of, tents_run, tents_count, run_cells};
+ghost use Rattle.gameid_core.specs.TentsText.{TakesCount, SpellsTents, tents_at, tents_of, tents_run, tents_count, tents_step, tents_end, no_places, run_cells};
+ghost use Rattle.grid_core.specs.Extent.{Extent};
+ghost use Rattle.gameid_core.specs.FirstFault.{FirstFault};
+ghost use Rattle.gameid_core.specs.Words.{words};
 
 use crate::fault::IdFault;
 use crate::game::Game;
 use crate::head::read_head;
-use crate::number::{first_of, leading_number};
-use crate::pattern_text::{cells_of, lines, starts_with_digit};
+use crate::lines::{cells_of, lines};
+use crate::number::{first_of, leading_number, starts_with_digit};
 use crate::runs::push_run;
 use crate::tents_puzzle::TentsPuzzle;
 use grid_core::Size;
@@ -152,4 +155,10 @@ pub fn one_reading_of_tents()
     ensures one { (text : List ℕ) (p q : Tents) → SpellsTents text p → SpellsTents text q → p ≡ q }
     ensures apart { (text : List ℕ) (p : Tents) (f : IdFault) → SpellsTents text p → tents_of text ≡ Err f → ⊥ }
     ensures either { (text : List ℕ) → ((p : Tents) × SpellsTents text p) ⊎ ((f : IdFault) × (tents_of text ≡ Err f)) }
+{}
+
+/// A description's fault is that of its first token with one, or of its end, after tokens without fault.
+pub fn first_fault_of_tents()
+    ensures { (size : Extent) (at : ℕ) (description : List ℕ) (f : IdFault) → tents_at size at description ≡ Err f
+        → FirstFault (tents_step size) (tents_end size) at no_places (words description) f }
 {}

@@ -3,8 +3,8 @@
 ghost use Rattle.std.specs.Prelude.{◌≡◌, ◌≤◌, ◌<◌, ◌++◌, ◌∷◌, [], ℕ, List, map, length, decimal, string_bytes, OnOk, IfOk};
 ghost use Rattle.std.specs.List.{flat_map};
 ghost use Rattle.gameid_core.specs.Head.{max_id};
-ghost use Rattle.gameid_core.specs.Puzzles.{IsTents};
-ghost use Rattle.gameid_core.specs.TentsText.{SpellsTents, blanks_and_tree, tents_text, tents_token_byte, trees_text};
+ghost use Rattle.gameid_core.specs.Puzzles.{Tents, IsTents};
+ghost use Rattle.gameid_core.specs.TentsText.{IsWrittenTents, SpellsTents, blanks_and_tree, tents_text, tents_token_byte, trees_text};
 
 use crate::tents_puzzle::TentsPuzzle;
 use crate::writing::{push_number, push_size};
@@ -80,8 +80,16 @@ fn written(alloc: Global, puzzle: &TentsPuzzle) -> Result<String, AllocError>
 /// the size are written, no `z` stands before `_`, and no number has a leading zero.
 pub fn write_tents(alloc: Global, puzzle: &TentsPuzzle) -> Result<String, AllocError>
     ensures text { IfOk result (λ text. string_bytes text ≡ tents_text puzzle.now) }
+    ensures form { IfOk result (λ text. IsWrittenTents (string_bytes text) puzzle.now) }
     ensures read_again { IfOk result (λ text. SpellsTents (string_bytes text) puzzle.now) }
     ensures short { IfOk result (λ text. length (string_bytes text) ≤ max_id) }
 {
     written(alloc, puzzle)
 }
+
+/// Each puzzle of Tents has exactly one written text: the one that spells it with both numbers of the size, no `z`
+/// directly before `_`, and no leading zeros.
+pub fn one_written_text_of_tents()
+    ensures some { (p : Tents) → IsTents p → IsWrittenTents (tents_text p) p }
+    ensures one { (text other : List ℕ) (p : Tents) → IsWrittenTents text p → IsWrittenTents other p → text ≡ other }
+{}

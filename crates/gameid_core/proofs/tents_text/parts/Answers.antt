@@ -20,11 +20,11 @@ loop-first-init c =
 
 pub returns-then-len-lines : goal.returns-then-len-lines
 returns-then-len-lines c =
-    few_end c.args.size _ c.loop-first.places.items c.loop-first.counts.items _ _ c.in_default.ensures (λ e. c.if-len-lines.true (omega (arith, c.lines.ensures, c.loop-first.counts.ok.0))) c.loop-first.invariant.so_far
+    few_end c.args.size _ c.loop-first.places.items c.loop-first.counts.items _ _ c.in_default.ensures (λ e. c.if-len-lines.true (omega (arith, c.lines.ensures.value, c.loop-first.counts.ok.0))) c.loop-first.invariant.so_far
 
 pub returns : goal.returns
 returns c =
-    good_end c.args.size _ c.loop-first.places.items c.loop-first.counts.items _ _ c.in_default.ensures (omega (arith, c.lines.ensures, c.loop-first.counts.ok.0)) c.loop-first.invariant.so_far
+    good_end c.args.size _ c.loop-first.places.items c.loop-first.counts.items _ _ c.in_default.ensures (omega (arith, c.lines.ensures.value, c.loop-first.counts.ok.0)) c.loop-first.invariant.so_far
 
 -- the lists that the call saw are those of the vectors
 seen : (size : Extent) (at : ℕ) (places places' counts counts' word : List ℕ) (r : Result ℕ IdFault) → places' ≡ places → counts' ≡ counts → tents_count size at (at_tents places' counts') word ≡ r → tents_count size at (at_tents places counts) word ≡ r

@@ -1,0 +1,40 @@
+use Rattle.std.specs.Prelude.{◌≡◌, ◌≢◌, ℕ, zero, suc, true, List, [], ◌∷◌, Option, Some, None}
+use Rattle.engine_core.specs.Puzzle.{Puzzle, IsGridOf}
+use Rattle.engine_core.specs.Walk.{Mark, Mark.Trial, Mark.Found}
+
+-- what is said of a puzzle
+pub data Outcome : Type 0 where
+  NoGrid : Outcome
+  OneGrid : (first : List ℕ) → Outcome
+  TwoGrids : (first second : List ℕ) → Outcome
+  OutOfBudget : (first : Option (List ℕ)) → Outcome
+
+-- what the marks that are left say, with this budget left and this grid found so far
+unfoldable pub outcome : ℕ → Option (List ℕ) → List Mark → Outcome
+outcome budget None [] = NoGrid
+outcome budget (Some first) [] = OneGrid first
+outcome budget None (Found g ∷ marks) = outcome budget (Some g) marks
+outcome budget (Some first) (Found g ∷ marks) = TwoGrids first g
+outcome zero found (Trial depth board ∷ marks) = OutOfBudget found
+outcome (suc budget) found (Trial depth board ∷ marks) = outcome budget found marks
+
+-- how many trials are made before that is known
+unfoldable pub spent : ℕ → Option (List ℕ) → List Mark → ℕ
+spent budget found [] = 0
+spent budget None (Found g ∷ marks) = spent budget (Some g) marks
+spent budget (Some first) (Found g ∷ marks) = 0
+spent zero found (Trial depth board ∷ marks) = 0
+spent (suc budget) found (Trial depth board ∷ marks) = suc (spent budget found marks)
+
+-- a grid of the puzzle that is a solution
+pub record Solves (p : Puzzle) (g : List ℕ) : Type 0 where
+  pub grid : IsGridOf p g
+  pub good : p.is_solution g ≡ true
+
+-- what the answer promises of the puzzle's solutions
+abbrev pub IsTrueOf : Puzzle → Outcome → Type 0
+IsTrueOf p NoGrid = (g : List ℕ) → Solves p g → ⊥
+IsTrueOf p (OneGrid first) = Solves p first × ((g : List ℕ) → Solves p g → first ≡ g)
+IsTrueOf p (TwoGrids first second) = Solves p first × Solves p second × (first ≢ second)
+IsTrueOf p (OutOfBudget None) = Unit {0}
+IsTrueOf p (OutOfBudget (Some first)) = Solves p first

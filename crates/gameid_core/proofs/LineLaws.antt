@@ -1,0 +1,64 @@
+-- The lines of a grid: their places lie in it, and what is read of each is its list.
+use Rattle.std.proofs.Common.{◌≡◌, ℕ, ◌+◌, ◌-◌, ◌*◌, ◌<◌, ◌≤◌, Bool, true, false, cond, ltb, List, [], ◌∷◌, ◌++◌, map, length, get_or, refl, sym, ap, subst, ◌∙◌, arith}
+use Rattle.std.specs.List.{range_with_len}
+use Rattle.std.proofs.lemmas.Bool.{lt-ltb, le-ltb}
+use Rattle.std.proofs.lemmas.List.FromFn.{map-range_with_len_more, length-map-range_with_len, get_or-map-range_with_len}
+use Rattle.std.proofs.Math.Nat.{mul-le-mul_right}
+use Rattle.grid_core.specs.Extent.{Extent}
+use Rattle.grid_core.specs.Grids.{row_cells, column_cells}
+use Rattle.gameid_core.specs.Puzzles.{line_cells, lines_of}
+use Rattle.gameid_core.specs.Lines.{line_place, line_list}
+
+pub within_column : (size : Extent) (line k w : ℕ) → w ≡ size.w → line < w → k < line_cells size line → k * w + line < size.w * size.h
+within_column size line k w is lt room =
+    let column : ltb line size.w ≡ true = lt-ltb _ _ (omega (arith, is)) in
+    let low : k < size.h = subst (λ (v : Bool). k < cond v size.h size.w) column room in
+    let rows = mul-le-mul_right size.w (let n : k + 1 ≤ size.h = omega arith in n) in
+    rw is (omega (arith, rows, is, lt))
+
+-- the first numbers of a line
+abbrev pub line_front : Extent → List ℕ → ℕ → ℕ → List ℕ
+line_front size g line k = map (λ j. get_or g (line_place size line j) 0) (range_with_len 0 k)
+
+pub length_front : (size : Extent) (g : List ℕ) (line k : ℕ) → length (line_front size g line k) ≡ k
+length_front size g line k = length-map-range_with_len (λ j. get_or g (line_place size line j) 0) 0 k
+
+pub front_more : (size : Extent) (g : List ℕ) (line k p n : ℕ) (numbers new : List ℕ) → p ≡ line_place size line k → n ≡ get_or g p 0 → new ≡ numbers ++ n ∷ [] → numbers ≡ line_front size g line k → new ≡ line_front size g line (k + 1)
+front_more size g line k p n numbers new place is e so =
+    e ∙ ap (λ (c : ℕ). numbers ++ c ∷ []) (is ∙ ap (λ (q : ℕ). get_or g q 0) place) ∙ ap (λ (ns : List ℕ). ns ++ get_or g (line_place size line k) 0 ∷ []) so
+    ∙ sym (map-range_with_len_more (λ j. get_or g (line_place size line j) 0) 0 k k (let z : 0 + k ≡ k = omega arith in z))
+
+pub front_whole : (size : Extent) (g : List ℕ) (line : ℕ) → line_front size g line (line_cells size line) ≡ line_list size g line
+front_whole size g line =
+    elim (ltb line size.w) as (λ v. map (λ j. get_or g (cond v (j * size.w + line) ((line - size.w) * size.w + j)) 0) (range_with_len 0 (cond v size.h size.w)) ≡ cond v (column_cells size g line) (row_cells size g (line - size.w))) [
+      | true ↦ refl
+      | false ↦ refl
+    ]
+
+pub length_line : (size : Extent) (g : List ℕ) (line : ℕ) → length (line_list size g line) ≡ line_cells size line
+length_line size g line =
+    sym (ap length (front_whole size g line)) ∙ length-map-range_with_len (λ j. get_or g (line_place size line j) 0) 0 (line_cells size line)
+
+-- a function of each line's list, for the columns and for the rows
+pub at_column : {A : Type 0} (f : List ℕ → A) (d : A) (size : Extent) (g : List ℕ) (x : ℕ) → x < size.w → get_or (map (λ line. f (line_list size g line)) (range_with_len 0 (lines_of size))) x d ≡ f (column_cells size g x)
+at_column f d size g x lt =
+    let column : ltb x size.w ≡ true = lt-ltb _ _ lt in
+    get_or-map-range_with_len (λ line. f (line_list size g line)) 0 (lines_of size) x x d (omega arith) (let z : 0 + x ≡ x = omega arith in z)
+    ∙ ap (λ (v : Bool). f (cond v (column_cells size g x) (row_cells size g (x - size.w)))) column
+
+pub at_row : {A : Type 0} (f : List ℕ → A) (d : A) (size : Extent) (g : List ℕ) (y : ℕ) → y < size.h → get_or (map (λ line. f (line_list size g line)) (range_with_len 0 (lines_of size))) (size.w + y) d ≡ f (row_cells size g y)
+at_row f d size g y lt =
+    let row : ltb (size.w + y) size.w ≡ false = le-ltb _ _ (let n : size.w ≤ size.w + y = omega arith in n) in
+    let back : size.w + y - size.w ≡ y = omega arith in
+    get_or-map-range_with_len (λ line. f (line_list size g line)) 0 (lines_of size) (size.w + y) (size.w + y) d (omega arith) (let z : 0 + (size.w + y) ≡ size.w + y = omega arith in z)
+    ∙ ap (λ (v : Bool). f (cond v (column_cells size g (size.w + y)) (row_cells size g (size.w + y - size.w)))) row
+    ∙ ap (λ (k : ℕ). f (row_cells size g k)) back
+
+-- a function of the lists of the first lines
+abbrev pub lines_front : {A : Type 0} → (List ℕ → A) → Extent → List ℕ → ℕ → List A
+lines_front f size g k = map (λ line. f (line_list size g line)) (range_with_len 0 k)
+
+pub lines_more : {A : Type 0} (f : List ℕ → A) (size : Extent) (g : List ℕ) (k : ℕ) (cells : List ℕ) (x : A) (old new : List A) → cells ≡ line_list size g k → x ≡ f cells → new ≡ old ++ x ∷ [] → old ≡ lines_front f size g k → new ≡ lines_front f size g (k + 1)
+lines_more {A} f size g k cells x old new is value e so =
+    e ∙ ap (λ (y : A). old ++ y ∷ []) (value ∙ ap f is) ∙ ap (λ (ys : List A). ys ++ f (line_list size g k) ∷ []) so
+    ∙ sym (map-range_with_len_more (λ line. f (line_list size g line)) 0 k k (let z : 0 + k ≡ k = omega arith in z))

@@ -1,0 +1,63 @@
+-- The ones of a line are no more than its cells; the turns of counting them.
+use Rattle.std.proofs.Common.{◌≡◌, ℕ, zero, suc, ◌+◌, ◌*◌, ◌<◌, ◌≤◌, true, false, cond, eqb, eq-eqb, List, [], ◌∷◌, map, length, drop, get_or, refl, sym, ap, subst, ◌∙◌, arith}
+use Rattle.std.specs.List.{All, AllByRecursion, range_with_len, filter}
+use Rattle.std.proofs.lemmas.Bool.{ne_eqb}
+use Rattle.std.proofs.lemmas.List.{drop_all}
+use Rattle.std.proofs.lemmas.List.FromFn.{length-map-range_with_len}
+use Rattle.std.proofs.lemmas.List.Elements.{All-head, All-tail}
+use Rattle.grid_core.specs.Extent.{Extent, IsExtent}
+use Rattle.grid_core.specs.Grids.{IsGrid}
+use Rattle.gameid_core.specs.Puzzles.{IsTents, AreCounts, lines_of}
+use Rattle.gameid_core.specs.Lines.{line_list, ones, lines_ones}
+use Rattle.gameid_core.proofs.Lists.{next_cell}
+use Rattle.gameid_core.proofs.LineLaws.{length_line}
+
+ones_none : ones [] ≡ 0
+ones_none = refl
+
+ones_one : (b : ℕ) (cells : List ℕ) → b ≡ 1 → ones (b ∷ cells) ≡ ones cells + 1
+ones_one b cells is = let one : eqb b 1 ≡ true = eq-eqb b 1 is in rw one (omega arith)
+
+ones_other : (b : ℕ) (cells : List ℕ) → (b ≡ 1 → ⊥) → ones (b ∷ cells) ≡ ones cells
+ones_other b cells ne = let other : eqb b 1 ≡ false = ne_eqb b 1 ne in rw other refl
+
+pub turn_one : (k k' i : ℕ) (cells : List ℕ) (total : ℕ) → i < length cells → get_or cells i 0 ≡ 1 → k' ≡ k + 1 → k + ones (drop i cells) ≡ total → k' + ones (drop (i + 1) cells) ≡ total
+turn_one k k' i cells total lt is more so =
+    let here = ap ones (next_cell cells i lt) ∙ ones_one (get_or cells i 0) (drop (i + 1) cells) is in
+    omega (arith, here, so, more)
+
+pub turn_other : (k k' i : ℕ) (cells : List ℕ) (total : ℕ) → i < length cells → (get_or cells i 0 ≡ 1 → ⊥) → k' ≡ k → k + ones (drop i cells) ≡ total → k' + ones (drop (i + 1) cells) ≡ total
+turn_other k k' i cells total lt ne same so =
+    let here = ap ones (next_cell cells i lt) ∙ ones_other (get_or cells i 0) (drop (i + 1) cells) ne in
+    omega (arith, here, so, same)
+
+pub turns_done : (k i : ℕ) (cells : List ℕ) (total : ℕ) → length cells ≤ i → k + ones (drop i cells) ≡ total → k ≡ total
+turns_done k i cells total past so = let none = ap ones (drop_all i cells past) in omega (arith, none, so)
+
+ones_few : (cells : List ℕ) → ones cells ≤ length cells
+ones_few [] = omega arith
+ones_few (b ∷ cells) =
+    elim (eqb b 1) as (λ v. length (cond v (b ∷ filter (λ c. eqb c 1) cells) (filter (λ c. eqb c 1) cells)) ≤ length (b ∷ cells)) [
+      | true ↦ omega (arith, ones_few cells)
+      | false ↦ omega (arith, ones_few cells)
+    ]
+
+are_ones : (size : Extent) (g : List ℕ) (line n : ℕ) → AreCounts size line (map (λ i. ones (line_list size g i)) (range_with_len line n))
+are_ones size g line zero = tt
+are_ones size g line (suc n) = (omega (arith, ones_few (line_list size g line), length_line size g line), are_ones size g (line + 1) n)
+
+each_of : {A : Type 0} (P : A → Type 0) (xs : List A) → All P xs → AllByRecursion P xs
+each_of P [] h = tt
+each_of P (x ∷ xs) h = (All-head P x xs h, each_of P xs (All-tail P x xs h))
+
+-- trees, and the ones of the lines, are a puzzle
+pub ones_lawful : (size : Extent) (trees tents counts kept : List ℕ) → IsExtent size → 2 ≤ size.w → 2 ≤ size.h → IsGrid (size.w * size.h) 2 trees → kept ≡ trees → counts ≡ lines_ones size tents → IsTents (record { size = size; trees = kept; counts = counts })
+ones_lawful size trees tents counts kept e w h grid same is =
+    subst (λ (t : List ℕ). IsTents (record { size = size; trees = t; counts = counts })) (sym same)
+    (subst (λ (c : List ℕ). IsTents (record { size = size; trees = trees; counts = c })) (sym is) (record {
+      size = record { extent = e; w_two = w; h_two = h };
+      cells = grid.each_cell;
+      bits = each_of (λ b. b < 2) trees grid.each_value;
+      lines = length-map-range_with_len (λ i. ones (line_list size tents i)) 0 (lines_of size);
+      range = are_ones size tents 0 (lines_of size);
+    }))

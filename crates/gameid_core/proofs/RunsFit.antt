@@ -1,0 +1,80 @@
+-- The runs of a line fit it.
+use Rattle.std.proofs.Common.{◌≡◌, ℕ, zero, suc, ◌+◌, ◌<◌, ◌≤◌, List, [], ◌∷◌, ◌++◌, length, map, refl, sym, subst, ap, ◌∙◌, arith, append_assoc, drop, get_or}
+use Rattle.std.specs.List.{AllByRecursion}
+use Rattle.std.proofs.lemmas.List.{drop_all}
+use Rattle.std.specs.List.{range_with_len}
+use Rattle.std.proofs.lemmas.List.FromFn.{length-map-range_with_len}
+use Rattle.grid_core.specs.Extent.{Extent, IsExtent}
+use Rattle.gameid_core.specs.Puzzles.{IsPattern, IsClue, AreClues, line_cells, lines_of, used}
+use Rattle.gameid_core.specs.Lines.{line_list, lines_runs}
+use Rattle.gameid_core.proofs.LineLaws.{length_line}
+use Rattle.gameid_core.specs.BlackRuns.{run_of, runs_after, runs}
+use Rattle.gameid_core.proofs.Lists.{AllByRecursion-append, next_cell}
+
+used-append : (xs ys : List ℕ) → used (xs ++ ys) ≡ used xs + used ys
+used-append [] ys = omega arith
+used-append (x ∷ xs) ys = omega (arith, used-append xs ys)
+
+run_of_positive : (k : ℕ) → AllByRecursion (λ n. 0 < n) (run_of k)
+run_of_positive zero = tt
+run_of_positive (suc k) = (omega arith, tt)
+
+run_of_used : (k : ℕ) → used (run_of k) ≤ k + 1
+run_of_used zero = omega arith
+run_of_used (suc k) = omega arith
+
+runs_positive : (k : ℕ) (cells : List ℕ) → AllByRecursion (λ n. 0 < n) (runs_after k cells)
+unfolding runs_after
+runs_positive k [] = run_of_positive k
+runs_positive k (zero ∷ cells) = AllByRecursion-append (λ n. 0 < n) (run_of k) (runs_after 0 cells) (run_of_positive k) (runs_positive 0 cells)
+runs_positive k (suc b ∷ cells) = runs_positive (suc k) cells
+
+runs_used : (k : ℕ) (cells : List ℕ) → used (runs_after k cells) ≤ k + length cells + 1
+unfolding runs_after
+runs_used k [] = omega (arith, run_of_used k)
+runs_used k (zero ∷ cells) = omega (arith, run_of_used k, runs_used 0 cells, used-append (run_of k) (runs_after 0 cells))
+runs_used k (suc b ∷ cells) = omega (arith, runs_used (suc k) cells)
+
+pub runs_fit : (cells : List ℕ) → IsClue (length cells) (runs cells)
+runs_fit cells = record { positive = runs_positive 0 cells; fits = omega (arith, runs_used 0 cells) }
+
+-- one cell of the writer's loop
+
+pub runs_white : (k : ℕ) (cells : List ℕ) → runs_after k (0 ∷ cells) ≡ run_of k ++ runs_after 0 cells
+unfolding runs_after
+runs_white k cells = refl
+
+pub runs_black : (k b : ℕ) (cells : List ℕ) → (b ≡ 0 → ⊥) → runs_after k (b ∷ cells) ≡ runs_after (suc k) cells
+unfolding runs_after
+runs_black k zero cells ne = absurd (ne refl)
+runs_black k (suc b) cells ne = refl
+
+pub runs_end : (k : ℕ) → runs_after k [] ≡ run_of k
+unfolding runs_after
+runs_end k = refl
+
+pub turn_white : (k i k' : ℕ) (cells found found' total : List ℕ) → i < length cells → get_or cells i 0 ≡ 0 → k' ≡ 0 → found' ≡ found ++ run_of k → found ++ runs_after k (drop i cells) ≡ total → found' ++ runs_after k' (drop (i + 1) cells) ≡ total
+turn_white k i k' cells found found' total lt white zero-is e so =
+    rw (zero-is, e) (append_assoc found (run_of k) (runs_after 0 (drop (i + 1) cells)))
+    ∙ ap (λ (t : List ℕ). found ++ t) (sym (runs_white k (drop (i + 1) cells)) ∙ ap (λ (v : ℕ). runs_after k (v ∷ drop (i + 1) cells)) (sym white) ∙ ap (runs_after k) (sym (next_cell cells i lt))) ∙ so
+
+pub turn_black : (k i k' : ℕ) (cells found found' total : List ℕ) → i < length cells → (get_or cells i 0 ≡ 0 → ⊥) → k' ≡ k + 1 → found' ≡ found → found ++ runs_after k (drop i cells) ≡ total → found' ++ runs_after k' (drop (i + 1) cells) ≡ total
+turn_black k i k' cells found found' total lt black more e so =
+    let next : k' ≡ suc k = omega (arith, more) in
+    rw (next, e) (ap (λ (t : List ℕ). found ++ t) (sym (runs_black k (get_or cells i 0) (drop (i + 1) cells) black) ∙ ap (runs_after k) (sym (next_cell cells i lt)))) ∙ so
+
+pub turn_end : (k i : ℕ) (cells found found' total : List ℕ) → length cells ≤ i → found' ≡ found ++ run_of k → found ++ runs_after k (drop i cells) ≡ total → found' ≡ total
+turn_end k i cells found found' total past e so =
+    e ∙ ap (λ (t : List ℕ). found ++ t) (sym (runs_end k) ∙ ap (runs_after k) (sym (drop_all i cells past))) ∙ so
+
+runs_line_fits : (size : Extent) (g : List ℕ) (line : ℕ) → IsClue (line_cells size line) (runs (line_list size g line))
+runs_line_fits size g line = subst (λ (n : ℕ). IsClue n (runs (line_list size g line))) (length_line size g line) (runs_fit (line_list size g line))
+
+are_runs : (size : Extent) (g : List ℕ) (line n : ℕ) → AreClues size line (map (λ i. runs (line_list size g i)) (range_with_len line n))
+are_runs size g line zero = tt
+are_runs size g line (suc n) = (runs_line_fits size g line, are_runs size g (line + 1) n)
+
+-- the runs of the lines are clues that fit
+pub runs_lawful : (size : Extent) (g : List ℕ) (clues : List (List ℕ)) → IsExtent size → clues ≡ lines_runs size g → IsPattern (record { size = size; clues = clues })
+runs_lawful size g clues e is =
+    subst (λ (cs : List (List ℕ)). IsPattern (record { size = size; clues = cs })) (sym is) (record { size = e; lines = length-map-range_with_len (λ i. runs (line_list size g i)) 0 (lines_of size); clues = are_runs size g 0 (lines_of size) })

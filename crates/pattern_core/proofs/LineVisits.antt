@@ -1,0 +1,66 @@
+-- A visit of a line, from its three steps.
+use Rattle.std.proofs.Common.{◌≡◌, ◌∙◌, ℕ, ◌+◌, ◌*◌, ◌<◌, ◌≤◌, Bool, true, false, not, ◌&&◌, List, [], length, slice_index, get_or, take, map, refl, sym, ap, ap₂, arith}
+use Rattle.std.proofs.lemmas.Bool.{true≢false, false_from_ne_true}
+use Rattle.std.proofs.lemmas.List.{get_or-map, take_all}
+use Rattle.std.proofs.Math.Path.{fun_ext}
+use Rattle.grid_core.specs.Extent.{Extent}
+use Rattle.grid_core.specs.Candidates.{Candidates, IsWithin}
+use Rattle.gameid_core.specs.Puzzles.{Pattern, lines_of}
+use Rattle.gameid_core.specs.BlackRuns.{runs}
+use Rattle.engine_core.specs.Places.{has_place-here}
+use Rattle.engine_core.specs.Puzzle.{after}
+use Rattle.engine_core.specs.Filling.{strikes_by_fillings}
+use Rattle.engine_core.specs.Sets.{set_of_bits, IsBitsOf}
+use Rattle.engine_core.specs.House.{sets_at, IsDecided, kept_in}
+use Rattle.engine_core.specs.HouseLaws.{visited}
+use Rattle.pattern_core.specs.Lines.{line_places, numbers_of, has_runs, clue_of, HasClue}
+use Rattle.pattern_core.specs.Faults.{IsFirstWrong}
+use Rattle.pattern_core.specs.LineRules.{is_solution, after_line, line_rules}
+use Rattle.pattern_core.specs.LineLaws.{in_grid, is_solution-line}
+
+pub places_inside : (size : Extent) (line cells : ℕ) (places : List ℕ) → line < lines_of size → cells ≡ size.w * size.h → places ≡ line_places size line
+    → (k : ℕ) → k < length places → slice_index places k < cells
+places_inside size line cells places lt many same k inside =
+    let e : slice_index places k ≡ slice_index (line_places size line) k = ap (λ (l : List ℕ). slice_index l k) same in
+    let low : k < length (line_places size line) = omega (arith, ap length same) in
+    let z = in_grid size line (slice_index (line_places size line) k) lt (has_place-here (line_places size line) k low) in
+    omega arith
+
+pub line_visited : (size : Extent) (line : ℕ) (clue : List ℕ) (K K' : Candidates) (places sets kept : List ℕ) → places ≡ line_places size line
+    → IsWithin (size.w * size.h) 2 K
+    → length sets ≡ length places
+    → ((k : ℕ) → k < length places → IsBitsOf (K (slice_index places k)) 2 (slice_index sets k))
+    → map (set_of_bits 2) sets ≡ sets_at 2 places K
+    → IsDecided 2 (strikes_by_fillings (has_runs clue)) sets kept
+    → K' ≡ kept_in places kept (length places) K
+    → K' ≡ after_line size line clue K
+unfolding after_line
+line_visited size line clue K K' places sets kept same within long bits read decided left = fun_ext λ c. fun_ext λ v.
+    rw (← same) (visited 2 places (strikes_by_fillings (has_runs clue)) K K' sets kept (λ d u on. (within d u on).1) long bits read decided left c v)
+
+pub after_line_read : (p : Pattern) (line : ℕ) (clue : List ℕ) (K : Candidates) → clue ≡ clue_of p line → after_line p.size line clue K ≡ after (line_rules p) line K
+unfolding after_line after
+after_line_read p line clue K is = ap (λ (c : List ℕ). after_line p.size line c K) is
+
+-- a clue that was read is the line's
+pub clue_read : {A : Type 0} (f : A → List ℕ) (xs : List A) (k : ℕ) (x : A) (clue : List ℕ) → k < length xs → clue ≡ f x → x ≡ get_or xs k x → clue ≡ get_or (map f xs) k []
+clue_read f xs k x clue lt is at = is ∙ ap f at ∙ sym (get_or-map f xs k x [] lt)
+
+-- a line whose runs are not its clue refuses the grid
+pub line_refused : (p : Pattern) (g : List ℕ) (line : ℕ) (clue : List ℕ) (told : Bool) → line < lines_of p.size → clue ≡ clue_of p line
+    → (runs (numbers_of p.size g line) ≡ clue → told ≡ true) → told ≡ false → is_solution p g ≡ false
+line_refused p g line clue told lt same tells off = false_from_ne_true (is_solution p g) (λ on.
+    true≢false (sym (tells (is_solution-line p g line on lt ∙ sym same)) ∙ off))
+
+-- a copy of all clues
+pub copied_pattern : (p : Pattern) (size : Extent) (clues : List (List ℕ)) (n : ℕ) → size ≡ p.size → clues ≡ take n p.clues → length p.clues ≤ n
+    → ◌≡◌ {A = Pattern} (record { size = size; clues = clues }) p
+copied_pattern p size clues n same front all = ap₂ (λ (s : Extent) (c : List (List ℕ)). record { size = s; clues = c }) same (front ∙ take_all n p.clues all)
+
+-- the first wrong line
+pub wrong_line : (p : Pattern) (g : List ℕ) (size : Extent) (line : ℕ) (clue : List ℕ) (told : Bool) → size ≡ p.size → clue ≡ clue_of p line
+    → (runs (numbers_of size g line) ≡ clue → told ≡ true) → told ≡ false → ((k : ℕ) → k < line → HasClue p g k) → IsFirstWrong p g line
+wrong_line p g size line clue told same is tells off before = record {
+  wrong = λ has. true≢false (sym (tells (ap (λ (s : Extent). runs (numbers_of s g line)) same ∙ has ∙ sym is)) ∙ off);
+  before = before;
+}

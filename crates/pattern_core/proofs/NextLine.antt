@@ -1,0 +1,79 @@
+-- The lines that have a place are its column and its row.
+use Rattle.std.proofs.Common.{◌≡◌, ℕ, zero, suc, length, ◌+◌, ◌-◌, ◌*◌, ◌/◌, ◌%◌, ◌<◌, ◌≤◌, Bool, true, false, Some, None, refl, sym, ap, ◌∙◌, arith, inl, inr, ◌⊎◌}
+use Rattle.std.proofs.lemmas.Bool.{cases_lt, false_from_ne_true}
+use Rattle.std.proofs.lemmas.Nat.{div-add-mod'}
+use Rattle.std.proofs.Math.Nat.{mul-le-mul_right, mod-lt}
+use Rattle.grid_core.specs.Extent.{Extent}
+use Rattle.gameid_core.specs.Puzzles.{lines_of, line_cells}
+use Rattle.engine_core.specs.Puzzle.{has_place, IsNext, longest}
+use Rattle.pattern_core.specs.Lines.{line_places}
+use Rattle.pattern_core.specs.LineLaws.{length-line_places, column_has, row_has, only_column, only_row}
+
+module _ (size : Extent) (w place from : ℕ) (same : w ≡ size.w) (some : 1 ≤ size.w) (within : place < size.w * size.h) where
+  x_low : place % w < size.w
+  x_low = let z : place % w < w = mod-lt place (let p : 0 < w = omega arith in p) in omega arith
+
+  cell : (place / w) * size.w + place % w ≡ place
+  cell = ap (λ v. (place / w) * v + place % w) (sym same) ∙ div-add-mod' place w
+
+  y_low : place / w < size.h
+  y_low = elim (cases_lt (place / w) size.h) [
+    | inl low ↦ low
+    | inr high ↦ let more : size.h * size.w ≤ (place / w) * size.w = mul-le-mul_right size.w high in let e = cell in absurd (omega arith)
+  ]
+
+  in_column : has_place (line_places size (place % w)) place ≡ true
+  in_column = ap (has_place (line_places size (place % w))) (sym cell) ∙ column_has size (place % w) (place / w) x_low y_low
+
+  in_row : has_place (line_places size (size.w + place / w)) place ≡ true
+  in_row = ap (has_place (line_places size (size.w + place / w))) (sym cell) ∙ row_has size (place % w) (place / w) x_low y_low
+
+  no_other : (line : ℕ) → has_place (line_places size line) place ≡ true → (line ≡ place % w) ⊎ (line ≡ size.w + place / w)
+  no_other line on = elim (cases_lt line size.w) [
+    | inl column ↦ inl (only_column size (place % w) (place / w) line x_low column (ap (has_place (line_places size line)) cell ∙ on))
+    | inr row ↦ inr (only_row size (place % w) (place / w) line x_low row (ap (has_place (line_places size line)) cell ∙ on))
+  ]
+
+  not_between : (line : ℕ) → (line ≡ place % w → ⊥) → (line ≡ size.w + place / w → ⊥) → has_place (line_places size line) place ≡ false
+  not_between line a b = false_from_ne_true (has_place (line_places size line) place) (λ on. elim (no_other line on) [ inl e ↦ a e | inr e ↦ b e ])
+
+  pub next_column : from ≤ place % w → IsNext (λ h. has_place (line_places size h) place) (lines_of size) from (Some (place % w))
+  next_column low = (
+    low,
+    let l = x_low in omega arith,
+    in_column,
+    λ j ge lt. let l = x_low in not_between j (λ e. absurd (omega arith)) (λ e. absurd (omega arith)),
+  )
+
+  pub next_row : place % w < from → from ≤ w + place / w → IsNext (λ h. has_place (line_places size h) place) (lines_of size) from (Some (w + place / w))
+  next_row past low = (
+    low,
+    let l = y_low in omega arith,
+    ap (λ v. has_place (line_places size (v + place / w)) place) same ∙ in_row,
+    λ j ge lt. not_between j (λ e. absurd (omega arith)) (λ e. absurd (omega arith)),
+  )
+
+  pub next_none : place % w < from → w + place / w < from → IsNext (λ h. has_place (line_places size h) place) (lines_of size) from None
+  next_none past later = λ j ge lt. not_between j (λ e. absurd (omega arith)) (λ e. absurd (omega arith))
+
+-- no line is longer than what each line is at most
+pub longest_at_most : (size : Extent) (n most : ℕ) → ((line : ℕ) → line_cells size line ≤ most) → longest (line_places size) n ≤ most
+unfolding longest
+longest_at_most size zero most each = omega arith
+longest_at_most size (suc n) most each =
+    let here = each n in let rest = longest_at_most size n most each in let e = length-line_places size n in omega arith
+
+up_to : (size : Extent) (line n : ℕ) → line < n → length (line_places size line) ≤ longest (line_places size) n
+unfolding longest
+up_to size line zero lt = absurd (omega arith)
+up_to size line (suc n) lt = elim (cases_lt line n) [
+  | inl low ↦ let z = up_to size line n low in omega arith
+  | inr high ↦ let e : line ≡ n = omega arith in let z : length (line_places size line) ≡ length (line_places size n) = ap (λ l. length (line_places size l)) e in omega arith
+]
+
+pub line_at_most : (size : Extent) (line most : ℕ) → line < lines_of size → longest (line_places size) (lines_of size) ≤ most → line_cells size line ≤ most
+line_at_most size line most lt all = let e = length-line_places size line in let z = up_to size line (lines_of size) lt in omega arith
+
+-- a line of the rules, at the size that they keep, is no longer than the room for the longest
+pub line_in_room : (size same : Extent) (line room : ℕ) → size ≡ same → line < lines_of same → longest (line_places same) (lines_of same) ≤ room → line_cells size line ≤ room
+line_in_room size same line room e lt all = let z = line_at_most same line room lt all in let f = ap (λ s. line_cells s line) e in omega arith

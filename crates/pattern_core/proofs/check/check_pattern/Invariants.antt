@@ -1,0 +1,6 @@
+use Rattle.std.proofs.Common.{ℕ, ◌<◌}
+use Rattle.pattern_core.specs.Lines.{HasClue}
+use Rattle.pattern_core.proofs.check.check_pattern.Given as goal
+
+abbrev pub invariant-loop-line : goal.invariant-loop-line
+invariant-loop-line l = (k : ℕ) → k < l.line → HasClue l.puzzle l.grid k

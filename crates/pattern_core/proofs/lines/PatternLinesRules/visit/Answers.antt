@@ -1,0 +1,33 @@
+use Rattle.std.proofs.Common.{◌≡◌, ◌∙◌, ◌<◌, ◌≤◌, ℕ, sym, ap, arith, length}
+use Rattle.std.proofs.lemmas.List.{length-map}
+use Rattle.grid_core.specs.Board.{has}
+use Rattle.gameid_core.specs.Puzzles.{lines_of, line_cells}
+use Rattle.engine_core.specs.Puzzle.{after}
+use Rattle.pattern_core.specs.LineRules.{Ruled, line_rules}
+use Rattle.pattern_core.proofs.NextLine.{line_in_room}
+use Rattle.pattern_core.proofs.LineVisits.{clue_read, after_line_read}
+use Rattle.pattern_core.proofs.lines.PatternLinesRules.visit.Goals as goal
+
+pub visit_within-requires-clause-places : goal.visit_within-requires-clause-places
+visit_within-requires-clause-places c =
+    let fits = line_in_room c.self.inside.size c.args.self.now.pattern.size c.args.house c.args.scratch.now (ap (λ (r : Ruled). r.pattern.size) c.self.view_is) c.requires.house_in c.requires.served in
+    omega (arith, fits, c.scratch.view_is, ap length c.deref_mut.ensures.value)
+
+pub visit_within-requires-clause-sets : goal.visit_within-requires-clause-sets
+visit_within-requires-clause-sets c =
+    let fits = line_in_room c.self.inside.size c.args.self.now.pattern.size c.args.house c.args.scratch.now (ap (λ (r : Ruled). r.pattern.size) c.self.view_is) c.requires.house_in c.requires.served in
+    omega (arith, fits, c.scratch.view_is, c.scratch.invariant.0, ap length c.deref_mut-2.ensures.value)
+
+pub visit_within-requires-clause-kept : goal.visit_within-requires-clause-kept
+visit_within-requires-clause-kept c =
+    let fits = line_in_room c.self.inside.size c.args.self.now.pattern.size c.args.house c.args.scratch.now (ap (λ (r : Ruled). r.pattern.size) c.self.view_is) c.requires.house_in c.requires.served in
+    omega (arith, fits, c.scratch.view_is, c.scratch.invariant.1, ap length c.deref_mut-3.ensures.value)
+
+pub returns-clause-left : goal.returns-clause-left
+returns-clause-left c =
+    let low : c.args.house < lines_of c.self.inside.size = let e = ap (λ (r : Ruled). lines_of r.pattern.size) c.self.view_is in omega (arith, e, c.requires.house_in) in
+    c.visit_within.ensures.left
+    ∙ after_line_read _ c.args.house c.deref.result.now (has c.args.board.now)
+    (clue_read (λ clue. clue.items) c.self.inside.clues.items c.args.house c.index.result.now c.deref.result.now
+    (omega (arith, low, c.self.invariant.lines, length-map c.self.inside.clues.items (λ clue. clue.items))) c.deref.ensures.value c.index.ensures)
+    ∙ ap (λ (r : Ruled). after (line_rules r.pattern) c.args.house (has c.args.board.now)) c.self.view_is

@@ -1,0 +1,19 @@
+use Rattle.std.proofs.Common.{◌≡◌, ◌∙◌, ◌<◌, ◌≤◌, ◌*◌, ℕ, length, sym, arith, ap₂, subst}
+use Rattle.grid_core.specs.Board.{has, cells_of}
+use Rattle.grid_core.specs.Candidates.{IsWithin}
+use Rattle.grid_core.proofs.BoardLemmas.{has-within}
+use Rattle.pattern_core.proofs.LineVisits.{places_inside, line_visited}
+use Rattle.pattern_core.proofs.lines.visit_line.Goals as goal
+
+pub gather-requires-clause-places_in : goal.gather-requires-clause-places_in
+gather-requires-clause-places_in c = places_inside _ _ _ _ c.requires.line c.requires.cells c.write_places.ensures
+
+pub apply-requires-clause-places_in : goal.apply-requires-clause-places_in
+apply-requires-clause-places_in c = places_inside _ _ _ _ c.requires.line c.requires.cells c.write_places.ensures
+
+pub returns-clause-left : goal.returns-clause-left
+returns-clause-left c =
+    let within : IsWithin (c.args.size.w * c.args.size.h) 2 (has c.args.board.now) =
+    subst (λ n. IsWithin n 2 (has c.args.board.now)) c.requires.cells (subst (λ v. IsWithin (cells_of c.args.board.now) v (has c.args.board.now)) c.requires.values (has-within c.args.board.now)) in
+    line_visited c.args.size c.args.line c.args.clue.now (has c.args.board.now) (has c.apply.new.board) c.write_places.new.places c.gather.new.sets c.keep.new.kept c.write_places.ensures
+    within (omega (arith, c.requires.sets, c.requires.places, c.gather.auto.sets, c.write_places.auto.places)) c.gather.ensures.bits c.gather.ensures.sets c.keep.ensures c.apply.ensures.left

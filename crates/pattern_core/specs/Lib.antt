@@ -1,0 +1,6 @@
+pub mod Solutions
+pub mod Lines
+pub mod LineRules
+pub mod LineLaws
+pub mod Faults
+pub mod Listing

@@ -1,0 +1,269 @@
+-- The rules of lines are lawful, by the laws of fillings and the places of lines.
+use Rattle.std.proofs.Common.{◌≡◌, ℕ, zero, suc, ◌+◌, ◌-◌, ◌*◌, ◌/◌, ◌%◌, ◌<◌, ◌≤◌, Bool, true, false, not, ◌&&◌, eqb, ltb, List, [], ◌∷◌, length, slice_index, get_or, map, refl, sym, ap, ap₂, ◌∙◌, arith, inl, inr, ◌⊎◌}
+use Rattle.std.specs.List.{range_with_len}
+use Rattle.std.proofs.lemmas.Bool.{cases_lt, true≢false, and_parts, and_from, eqb-true, eq-eqb, ltb-true, lt-ltb, le-ltb}
+use Rattle.std.proofs.lemmas.Nat.{mod-mul-add}
+use Rattle.std.proofs.lemmas.Simd.{map-map}
+use Rattle.std.proofs.lemmas.List.FromFn.{length-map-range_with_len, get_or-map-range_with_len}
+use Rattle.std.proofs.Math.Nat.{mul-le-mul_right, mul-le-mul_left, mul-le-mul}
+use Rattle.grid_core.specs.Extent.{Extent, IsExtent}
+use Rattle.grid_core.specs.Candidates.{Candidates, IsInside, IsWithin, all_of, single, sum_below, count_below, all_below}
+use Rattle.grid_core.specs.Grids.{IsGrid, row_cells, column_cells}
+use Rattle.grid_core.specs.Regions.{row_places, column_places}
+use Rattle.grid_core.proofs.CandidateLemmas.{all_below-at, all_below-from, count_below-few, count_below-or}
+use Rattle.grid_core.proofs.GridLemmas.{single-is}
+use Rattle.gameid_core.specs.Puzzles.{Pattern, lines_of, line_cells}
+use Rattle.gameid_core.specs.BlackRuns.{runs}
+use Rattle.engine_core.specs.Puzzle.{Needs, FitsIn, IsLawful, IsGridOf, IsInsideAt, after, has_place, share}
+use Rattle.engine_core.specs.Places.{has_place-at, has_place-here}
+use Rattle.engine_core.specs.Filling.{strikes_by_fillings}
+use Rattle.engine_core.specs.House.{strikes_at, AreDifferent}
+use Rattle.engine_core.specs.HouseLaws.{strikes_at-inside, strikes_at-in_scope, by_fillings-monotone, by_fillings-settled, by_fillings-closed}
+use Rattle.pattern_core.specs.Lines.{line_places, numbers_of, clue_of, HasClue, same_numbers, has_runs}
+use Rattle.pattern_core.specs.LineRules.{is_solution, line_rules}
+use Rattle.pattern_core.specs.Solutions.{IsSolution}
+
+-- ---- the places of a line
+pub column-places : (size : Extent) (line : ℕ) → line < size.w → line_places size line ≡ column_places size line
+unfolding line_places
+column-places size line lt = rw (lt-ltb line size.w lt) refl
+
+pub row-places : (size : Extent) (line : ℕ) → size.w ≤ line → line_places size line ≡ row_places size (line - size.w)
+unfolding line_places
+row-places size line le = rw (le-ltb line size.w le) refl
+
+pub length-line_places : (size : Extent) (line : ℕ) → length (line_places size line) ≡ line_cells size line
+length-line_places size line = elim (cases_lt line size.w) [
+  | inl column ↦ ap length (column-places size line column) ∙ length-map-range_with_len (λ y. y * size.w + line) 0 size.h ∙ rw (lt-ltb line size.w column) refl
+  | inr row ↦ ap length (row-places size line row) ∙ length-map-range_with_len (λ x. (line - size.w) * size.w + x) 0 size.w ∙ rw (le-ltb line size.w row) refl
+]
+
+pub place_in_column : (size : Extent) (line k : ℕ) → line < size.w → k < size.h → slice_index (line_places size line) k ≡ k * size.w + line
+place_in_column size line k lt within =
+    ap (λ (l : List ℕ). slice_index l k) (column-places size line lt) ∙ get_or-map-range_with_len (λ y. y * size.w + line) 0 size.h k k 0 within (omega arith)
+
+pub place_in_row : (size : Extent) (line k : ℕ) → size.w ≤ line → k < size.w → slice_index (line_places size line) k ≡ (line - size.w) * size.w + k
+place_in_row size line k le within =
+    ap (λ (l : List ℕ). slice_index l k) (row-places size line le) ∙ get_or-map-range_with_len (λ x. (line - size.w) * size.w + x) 0 size.w k k 0 within (omega arith)
+
+-- a cell in column x and row y lies in the grid, and no other column and row have its place
+pub cell_in_grid : (size : Extent) (x y : ℕ) → x < size.w → y < size.h → y * size.w + x < size.w * size.h
+cell_in_grid size x y ltx lty =
+    let rows : (y + 1) * size.w ≤ size.h * size.w = mul-le-mul_right size.w (let le : y + 1 ≤ size.h = omega arith in le) in
+    omega arith
+
+same_column : (w x y a b : ℕ) → x < w → a < w → y * w + x ≡ b * w + a → x ≡ a
+same_column w x y a b ltx lta e = sym (mod-mul-add y w x ltx) ∙ ap (λ n. n % w) e ∙ mod-mul-add b w a lta
+
+same_row : (w x y a b : ℕ) → x < w → a < w → y * w + x ≡ b * w + a → y ≡ b
+same_row w x y a b ltx lta e = elim (cases_lt y b) [
+  | inl low ↦ let more : (y + 1) * w ≤ b * w = mul-le-mul_right w (let le : y + 1 ≤ b = omega arith in le) in absurd (omega arith)
+  | inr high ↦ elim (cases_lt b y) [
+    | inl less ↦ let more : (b + 1) * w ≤ y * w = mul-le-mul_right w (let le : b + 1 ≤ y = omega arith in le) in absurd (omega arith)
+    | inr equal ↦ omega arith
+  ]
+]
+
+-- a place of a column, and of a row
+on_column : (size : Extent) (line c : ℕ) → line < size.w → has_place (line_places size line) c ≡ true → (y : ℕ) × (y < size.h) × (y * size.w + line ≡ c)
+on_column size line c lt on =
+    let w = has_place-at (line_places size line) c on in
+    let k : w.0 < size.h = omega (arith, w.1, ap length (column-places size line lt), length-map-range_with_len (λ y. y * size.w + line) 0 size.h) in
+    (w.0, k, sym (place_in_column size line w.0 lt k) ∙ w.2)
+
+on_row : (size : Extent) (line c : ℕ) → size.w ≤ line → has_place (line_places size line) c ≡ true → (x : ℕ) × (x < size.w) × ((line - size.w) * size.w + x ≡ c)
+on_row size line c le on =
+    let w = has_place-at (line_places size line) c on in
+    let k : w.0 < size.w = omega (arith, w.1, ap length (row-places size line le), length-map-range_with_len (λ x. (line - size.w) * size.w + x) 0 size.w) in
+    (w.0, k, sym (place_in_row size line w.0 le k) ∙ w.2)
+
+pub in_grid : (size : Extent) (line c : ℕ) → line < lines_of size → has_place (line_places size line) c ≡ true → c < size.w * size.h
+in_grid size line c lt on = elim (cases_lt line size.w) [
+  | inl column ↦ let w = on_column size line c column on in let z = cell_in_grid size line w.0 column w.1 in omega (arith, w.2)
+  | inr row ↦ let w = on_row size line c row on in let z = cell_in_grid size w.0 (line - size.w) w.1 (omega arith) in omega (arith, w.2)
+]
+
+pub different_places : (size : Extent) (line : ℕ) → AreDifferent (line_places size line)
+different_places size line j k lj lk e = elim (cases_lt line size.w) [
+  | inl column ↦
+      let n : length (line_places size line) ≡ size.h = ap length (column-places size line column) ∙ length-map-range_with_len (λ y. y * size.w + line) 0 size.h in
+      same_row size.w line j line k column column (sym (place_in_column size line j column (omega arith)) ∙ e ∙ place_in_column size line k column (omega arith))
+  | inr row ↦
+      let n : length (line_places size line) ≡ size.w = ap length (row-places size line row) ∙ length-map-range_with_len (λ x. (line - size.w) * size.w + x) 0 size.w in
+      let same : (line - size.w) * size.w + j ≡ (line - size.w) * size.w + k = sym (place_in_row size line j row (omega arith)) ∙ e ∙ place_in_row size line k row (omega arith) in
+      omega arith
+]
+
+-- the place is in its column and in its row, and in no other line
+pub column_has : (size : Extent) (x y : ℕ) → x < size.w → y < size.h → has_place (line_places size x) (y * size.w + x) ≡ true
+column_has size x y ltx lty =
+    let n : length (line_places size x) ≡ size.h = ap length (column-places size x ltx) ∙ length-map-range_with_len (λ k. k * size.w + x) 0 size.h in
+    ap (has_place (line_places size x)) (sym (place_in_column size x y ltx lty)) ∙ has_place-here (line_places size x) y (omega arith)
+
+pub row_has : (size : Extent) (x y : ℕ) → x < size.w → y < size.h → has_place (line_places size (size.w + y)) (y * size.w + x) ≡ true
+row_has size x y ltx lty =
+    let le : size.w ≤ size.w + y = omega arith in
+    let back : (size.w + y) - size.w ≡ y = omega arith in
+    let n : length (line_places size (size.w + y)) ≡ size.w = ap length (row-places size (size.w + y) le) ∙ length-map-range_with_len (λ k. ((size.w + y) - size.w) * size.w + k) 0 size.w in
+    ap (has_place (line_places size (size.w + y))) (sym (place_in_row size (size.w + y) x le ltx ∙ ap (λ r. r * size.w + x) back)) ∙ has_place-here (line_places size (size.w + y)) x (omega arith)
+
+pub only_column : (size : Extent) (x y line : ℕ) → x < size.w → line < size.w → has_place (line_places size line) (y * size.w + x) ≡ true → line ≡ x
+only_column size x y line ltx lt on = let w = on_column size line (y * size.w + x) lt on in same_column size.w line w.0 x y lt ltx w.2
+
+pub only_row : (size : Extent) (x y line : ℕ) → x < size.w → size.w ≤ line → has_place (line_places size line) (y * size.w + x) ≡ true → line ≡ size.w + y
+only_row size x y line ltx le on =
+    let w = on_row size line (y * size.w + x) le on in
+    let same : line - size.w ≡ y = same_row size.w w.0 (line - size.w) x y w.1 ltx w.2 in
+    omega arith
+
+-- ---- the bound: a cell is in two lines at most
+two_lines : (size : Extent) (c n : ℕ) → count_below (λ h. has_place (line_places size h) c) n ≤ 2
+two_lines size c n =
+    let columns : count_below (λ h. ltb h size.w && has_place (line_places size h) c) n ≤ 1 = count_below-few (λ h. ltb h size.w && has_place (line_places size h) c) n (λ k j _ _ ek ej.
+    let a = and_parts _ _ ek in let b = and_parts _ _ ej in
+    let ka = ltb-true k size.w a.0 in let jb = ltb-true j size.w b.0 in
+    let u = on_column size k c ka a.1 in let v = on_column size j c jb b.1 in
+    same_column size.w k u.0 j v.0 ka jb (u.2 ∙ sym v.2)) in
+    let rows : count_below (λ h. not (ltb h size.w) && has_place (line_places size h) c) n ≤ 1 = count_below-few (λ h. not (ltb h size.w) && has_place (line_places size h) c) n (λ k j _ _ ek ej.
+    let a = and_parts _ _ ek in let b = and_parts _ _ ej in
+    let ka = from_not k size.w a.0 in let jb = from_not j size.w b.0 in
+    let u = on_row size k c ka a.1 in let v = on_row size j c jb b.1 in
+    let same = same_row size.w u.0 (k - size.w) v.0 (j - size.w) u.1 v.1 (u.2 ∙ sym v.2) in omega arith) in
+    let both : count_below (λ h. has_place (line_places size h) c) n ≤ count_below (λ h. ltb h size.w && has_place (line_places size h) c) n + count_below (λ h. not (ltb h size.w) && has_place (line_places size h) c) n =
+    count_below-or (λ h. ltb h size.w && has_place (line_places size h) c) (λ h. not (ltb h size.w) && has_place (line_places size h) c) (λ h. has_place (line_places size h) c) n
+    (λ h lt on. either (ltb h size.w) (has_place (line_places size h) c) on) in
+    omega arith
+  where
+    from_not : (k w : ℕ) → not (ltb k w) ≡ true → w ≤ k
+    from_not k w e = elim (cases_lt k w) [
+      | inl low ↦ absurd (true≢false (sym e ∙ ap not (lt-ltb k w low)))
+      | inr high ↦ high
+    ]
+
+    either : (a b : Bool) → b ≡ true → ((a && b) ≡ true) ⊎ ((not a && b) ≡ true)
+    either true b on = inl on
+    either false b on = inr on
+
+few_shares : (p : Pattern) (n : ℕ) → sum_below (λ c. (2 - 1) * share (line_rules p) c) n ≤ n
+unfolding sum_below share
+few_shares p zero = omega arith
+few_shares p (suc n) = let rest = few_shares p n in let two = two_lines p.size n (lines_of p.size) in omega arith
+
+-- ---- solutions
+pub same_from_test : (xs ys : List ℕ) → same_numbers xs ys ≡ true → xs ≡ ys
+unfolding same_numbers
+same_from_test [] [] h = refl
+same_from_test [] (y ∷ ys) h = absurd (true≢false (sym h))
+same_from_test (x ∷ xs) [] h = absurd (true≢false (sym h))
+same_from_test (x ∷ xs) (y ∷ ys) h =
+    let parts = and_parts (eqb x y) (same_numbers xs ys) h in
+    ap₂ (λ a b. a ∷ b) (eqb-true x y parts.0) (same_from_test xs ys parts.1)
+
+itself : (zs : List ℕ) → same_numbers zs zs ≡ true
+unfolding same_numbers
+itself [] = refl
+itself (z ∷ zs) = and_from (eqb z z) (same_numbers zs zs) (eq-eqb z z refl) (itself zs)
+
+pub test_from_same : (xs ys : List ℕ) → xs ≡ ys → same_numbers xs ys ≡ true
+test_from_same xs ys e = ap (same_numbers xs) (sym e) ∙ itself xs
+
+pub has_runs-is : (clue cells : List ℕ) → has_runs clue cells ≡ true → runs cells ≡ clue
+unfolding has_runs
+has_runs-is clue cells on = same_from_test (runs cells) clue on
+
+pub has_runs-from : (clue cells : List ℕ) → runs cells ≡ clue → has_runs clue cells ≡ true
+unfolding has_runs
+has_runs-from clue cells is = test_from_same (runs cells) clue is
+
+pub numbers_of-column : (size : Extent) (g : List ℕ) (line : ℕ) → line < size.w → numbers_of size g line ≡ column_cells size g line
+unfolding numbers_of
+numbers_of-column size g line lt = rw (lt-ltb line size.w lt) refl
+
+pub numbers_of-row : (size : Extent) (g : List ℕ) (line : ℕ) → size.w ≤ line → numbers_of size g line ≡ row_cells size g (line - size.w)
+unfolding numbers_of
+numbers_of-row size g line le = rw (le-ltb line size.w le) refl
+
+-- the numbers of a line are those at its places
+pub numbers_of-places : (size : Extent) (g : List ℕ) (line : ℕ) → map (slice_index g) (line_places size line) ≡ numbers_of size g line
+numbers_of-places size g line = elim (cases_lt line size.w) [
+  | inl column ↦ ap (map (slice_index g)) (column-places size line column) ∙ map-map (slice_index g) (λ y. y * size.w + line) (range_with_len 0 size.h) ∙ sym (numbers_of-column size g line column)
+  | inr row ↦ ap (map (slice_index g)) (row-places size line row) ∙ map-map (slice_index g) (λ x. (line - size.w) * size.w + x) (range_with_len 0 size.w) ∙ sym (numbers_of-row size g line row)
+]
+
+pub solution_from_lines : (p : Pattern) (g : List ℕ) → IsGrid (p.size.w * p.size.h) 2 g → ((line : ℕ) → line < lines_of p.size → HasClue p g line) → IsSolution p g
+solution_from_lines p g grid each = record {
+  grid = grid;
+  columns = λ x lt. ap runs (sym (numbers_of-column p.size g x lt)) ∙ each x (omega arith);
+  rows = λ y lt.
+      let back : (p.size.w + y) - p.size.w ≡ y = omega arith in
+      ap (λ (k : ℕ). runs (row_cells p.size g k)) (sym back)
+      ∙ ap runs (sym (numbers_of-row p.size g (p.size.w + y) (omega arith))) ∙ each (p.size.w + y) (omega arith);
+}
+
+pub line_of_solution : (p : Pattern) (g : List ℕ) (line : ℕ) → line < lines_of p.size → IsSolution p g → HasClue p g line
+line_of_solution p g line lt s = elim (cases_lt line p.size.w) [
+  | inl column ↦ ap runs (numbers_of-column p.size g line column) ∙ s.columns line column
+  | inr row ↦
+      let on : p.size.w + (line - p.size.w) ≡ line = omega arith in
+      ap runs (numbers_of-row p.size g line row) ∙ s.rows (line - p.size.w) (omega arith)
+      ∙ ap (λ (k : ℕ). clue_of p k) on
+]
+
+-- the test of a grid is met by the solutions alone
+pub is_solution-line : (p : Pattern) (g : List ℕ) (line : ℕ) → is_solution p g ≡ true → line < lines_of p.size → HasClue p g line
+unfolding is_solution
+is_solution-line p g line on lt =
+    has_runs-is (clue_of p line) (numbers_of p.size g line) (all_below-at (λ h. has_runs (clue_of p h) (numbers_of p.size g h)) (lines_of p.size) line on lt)
+
+pub is_solution-each : (p : Pattern) (g : List ℕ) → ((line : ℕ) → line < lines_of p.size → HasClue p g line) → is_solution p g ≡ true
+unfolding is_solution
+is_solution-each p g each =
+    all_below-from (λ h. has_runs (clue_of p h) (numbers_of p.size g h)) (lines_of p.size) (λ h lt. has_runs-from (clue_of p h) (numbers_of p.size g h) (each h lt))
+
+pub is_solution-is : (p : Pattern) (g : List ℕ) → IsGrid (p.size.w * p.size.h) 2 g → is_solution p g ≡ true → IsSolution p g
+is_solution-is p g grid on = solution_from_lines p g grid (λ line lt. is_solution-line p g line on lt)
+
+pub is_solution-from : (p : Pattern) (g : List ℕ) → IsSolution p g → is_solution p g ≡ true
+is_solution-from p g s = is_solution-each p g (λ line lt. line_of_solution p g line lt s)
+
+-- ---- the laws
+single-all : (cells values : ℕ) (g : List ℕ) → IsGrid cells values g → IsInside (single g) (all_of cells values)
+unfolding all_of
+single-all cells values g grid = λ c v on.
+    let w = single-is g c v on in
+    let lt = grid.each_value c 0 w.0 in
+    and_from _ _ (lt-ltb c cells (omega (arith, w.0, grid.each_cell))) (lt-ltb v values (omega (arith, lt, w.1)))
+
+all-within : (cells values c v : ℕ) → all_of cells values c v ≡ true → (c < cells) × (v < values)
+unfolding all_of
+all-within cells values c v on = let w = and_parts _ _ on in (ltb-true c cells w.0, ltb-true v values w.1)
+
+few_cells : (size : Extent) → IsExtent size → size.w * size.h ≤ 65536
+few_cells size e = let a : size.w * size.h ≤ 256 * size.h = mul-le-mul_right size.h (let le : size.w ≤ 256 = let z = e.w_high in omega arith in le) in let z = e.h_high in omega arith
+
+pub line_rules-lawful : (p : Pattern) → IsExtent p.size → IsLawful (line_rules p)
+unfolding after
+line_rules-lawful p extent = record {
+  strikes_inside = λ h K L lt inside c v struck. strikes_at-inside 2 (line_places p.size h) (strikes_by_fillings (has_runs (clue_of p h))) (by_fillings-monotone (has_runs (clue_of p h))) K L inside c v struck;
+  strikes_in_scope = λ h K c v lt struck. strikes_at-in_scope 2 (line_places p.size h) (strikes_by_fillings (has_runs (clue_of p h))) K c v struck;
+  solutions_start = λ g grid good. single-all (p.size.w * p.size.h) 2 g grid;
+  solutions_closed = λ g grid good h c v lt on.
+      by_fillings-closed 2 (line_places p.size h) (has_runs (clue_of p h)) g
+      (λ k less. let e = grid.each_cell in let z = in_grid p.size h (slice_index (line_places p.size h) k) lt (has_place-here (line_places p.size h) k less) in omega arith)
+      (λ d less. grid.each_value d 0 less)
+      (ap (has_runs (clue_of p h)) (numbers_of-places p.size g h) ∙ has_runs-from (clue_of p h) (numbers_of p.size g h) (is_solution-line p g h good lt)) c v on;
+  settles = λ settled h K c v lt on.
+      by_fillings-settled 2 (line_places p.size h) (has_runs (clue_of p h)) K (λ d u. K d u && not (strikes_at 2 (line_places p.size h) (strikes_by_fillings (has_runs (clue_of p h))) K d u)) (different_places p.size h) (λ d u. refl) c v on;
+  bound_of_queue = λ e. let z = few_shares p (p.size.w * p.size.h) in omega arith;
+  bound_of_sweeps = λ e. absurd (true≢false e);
+  some_values = omega arith;
+  few_values = omega arith;
+  few_cells = few_cells p.size extent;
+  start_within = λ c v on. all-within (p.size.w * p.size.h) 2 c v on;
+  scope_within = λ h c lt member. in_grid p.size h c lt member;
+  scope_distinct = λ h j k lt lj lk e. different_places p.size h j k lj lk e;
+}
+
+-- a scratch for long lines serves shorter ones
+pub serves-smaller : (room : ℕ) (need had : Needs) → FitsIn need had → had.scope ≤ room → need.scope ≤ room
+serves-smaller room need had fits serves = let z = fits.scope_in in omega arith

@@ -1,0 +1,38 @@
+-- What the rules of Pattern mean to a search: each line is a house.
+use Rattle.std.specs.Prelude.{◌≡◌, ℕ, ◌+◌, ◌*◌, Bool, true, not, ◌&&◌, List}
+use Rattle.grid_core.specs.Extent.{Extent, IsExtent}
+use Rattle.grid_core.specs.Candidates.{Candidates, all_below, all_of}
+use Rattle.gameid_core.specs.Puzzles.{Pattern, lines_of}
+use Rattle.engine_core.specs.Puzzle.{Puzzle}
+use Rattle.engine_core.specs.Filling.{strikes_by_fillings}
+use Rattle.engine_core.specs.House.{strikes_at}
+use Rattle.pattern_core.specs.Lines.{line_places, numbers_of, clue_of, has_runs}
+
+-- whether each line's runs are its clue
+unfoldable pub is_solution : Pattern → List ℕ → Bool
+is_solution p g = all_below (λ line. has_runs (clue_of p line) (numbers_of p.size g line)) (lines_of p.size)
+
+-- the cells' values are 0 for white and 1 for black; a search starts from full sets; a line strikes what no filling
+-- with its clue's runs has
+abbrev pub line_rules : Pattern → Puzzle
+line_rules p = record {
+  cells = p.size.w * p.size.h;
+  values = 2;
+  houses = lines_of p.size;
+  bound = lines_of p.size + p.size.w * p.size.h;
+  settled = true;
+  by_queue = true;
+  scope = line_places p.size;
+  start = all_of (p.size.w * p.size.h) 2;
+  strikes = λ h. strikes_at 2 (line_places p.size h) (strikes_by_fillings (has_runs (clue_of p h)));
+  is_solution = is_solution p;
+}
+
+-- the board without what the line strikes in it
+unfoldable pub after_line : Extent → ℕ → List ℕ → Candidates → Candidates
+after_line size line clue K c v = K c v && not (strikes_at 2 (line_places size line) (strikes_by_fillings (has_runs clue)) K c v)
+
+-- a puzzle whose sides are in their range
+pub record Ruled : Type 0 where
+  pub pattern : Pattern
+  pub extent : IsExtent pattern.size

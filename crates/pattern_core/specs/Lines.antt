@@ -1,0 +1,41 @@
+-- Lines of either kind: the columns from the left, and then the rows from the top.
+use Rattle.std.specs.Prelude.{◌≡◌, ℕ, ◌-◌, ◌≤◌, ◌++◌, ◌==◌, ◌&&◌, Bool, true, false, List, [], ◌∷◌, Option, MatchOption, length, nat_lt, if◌then◌else◌, slice_index_or, take}
+use Rattle.grid_core.specs.Extent.{Extent}
+use Rattle.grid_core.specs.Grids.{row_cells, column_cells}
+use Rattle.grid_core.specs.Regions.{row_places, column_places}
+use Rattle.gameid_core.specs.Puzzles.{Pattern}
+use Rattle.gameid_core.specs.BlackRuns.{run_of, runs}
+
+-- the places of a line's cells
+unfoldable pub line_places : Extent → ℕ → List ℕ
+line_places size line = if nat_lt line size.w then column_places size line else row_places size (line - size.w)
+
+-- the numbers of a line's cells
+unfoldable pub numbers_of : Extent → List ℕ → ℕ → List ℕ
+numbers_of size g line = if nat_lt line size.w then column_cells size g line else row_cells size g (line - size.w)
+
+-- the clue of a line
+abbrev pub clue_of : Pattern → ℕ → List ℕ
+clue_of p line = slice_index_or p.clues line []
+
+-- the line's runs are its clue
+abbrev pub HasClue : Pattern → List ℕ → ℕ → Type 0
+HasClue p g line = runs (numbers_of p.size g line) ≡ clue_of p line
+
+-- whether two lists of numbers are the same
+unfoldable pub same_numbers : List ℕ → List ℕ → Bool
+same_numbers [] [] = true
+same_numbers [] (y ∷ ys) = false
+same_numbers (x ∷ xs) [] = false
+same_numbers (x ∷ xs) (y ∷ ys) = (x == y) && same_numbers xs ys
+
+-- whether the runs of the cells are the clue
+unfoldable pub has_runs : List ℕ → List ℕ → Bool
+has_runs clue cells = same_numbers (runs cells) clue
+
+-- After `ended` of the clue's runs comes a run of k cells, or none where k is 0: so many of the clue's runs have
+-- then ended, or there is no such clue.
+abbrev pub EndsAfter : List ℕ → ℕ → ℕ → Option ℕ → Type 0
+EndsAfter clue ended k result = MatchOption result
+    ((rest : List ℕ) → take ended clue ++ (run_of k ++ rest) ≡ clue → ⊥)
+    (λ e. (e ≤ length clue) × (take e clue ≡ take ended clue ++ run_of k))

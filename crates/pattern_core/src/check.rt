@@ -1,0 +1,33 @@
+//! The check of a grid.
+
+ghost use Rattle.std.specs.Prelude.{◌*◌};
+ghost use Rattle.grid_core.specs.Grids.{IsGrid};
+ghost use Rattle.pattern_core.specs.Faults.{IsCheck};
+
+use crate::fault::PatternFault;
+use crate::walk::has_clue;
+use gameid_core::PatternPuzzle;
+use grid_core::Grid;
+
+/// The first line whose black runs aren't its clue, the columns from the left before the rows from the top; `None`
+/// where the grid is a solution. The grid has a number below 2 for each cell: 0 for white and 1 for black.
+///
+/// The rule is that of the manual of Simon Tatham's Portable Puzzle Collection, "Pattern": the numbers beside a line
+/// are the lengths of its runs of consecutive black squares, in order.
+pub fn check_pattern(puzzle: &PatternPuzzle, grid: &Grid) -> Option<PatternFault>
+    requires { IsGrid (puzzle.now.size.w * puzzle.now.size.h) 2 grid.now }
+    ensures { IsCheck puzzle.now grid.now result }
+{
+    let size = puzzle.size();
+    let w = usize::from(size.w());
+    for line in 0..w + usize::from(size.h()) {
+        if has_clue(size, grid, line, puzzle.line(line)) {
+            continue;
+        }
+        if line < w {
+            return Some(PatternFault::Column(line));
+        }
+        return Some(PatternFault::Row(line - w));
+    }
+    None
+}

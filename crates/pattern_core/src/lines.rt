@@ -1,0 +1,270 @@
+//! The lines of a puzzle as the houses of a search: the columns from the left, and then the rows from the top.
+
+ghost use Rattle.std.specs.Prelude.{◌≡◌, ℕ, ◌+◌, ◌*◌, ◌<◌, ◌≤◌, IfOk, true, false, [], length, map, refl, slice_index, slice_index_or};
+ghost use Rattle.grid_core.specs.Extent.{IsExtent};
+ghost use Rattle.grid_core.specs.Board.{has, cells_of, SameShape};
+ghost use Rattle.gameid_core.specs.Puzzles.{lines_of, line_cells};
+ghost use Rattle.engine_core.specs.Closing.{HasStruck};
+ghost use Rattle.engine_core.specs.declared.mode.Mode.TheVariants.{Queue};
+ghost use Rattle.pattern_core.specs.Lines.{line_places};
+ghost use Rattle.pattern_core.specs.LineRules.{line_rules, after_line};
+
+use crate::listing::keep;
+use crate::walk::{has_clue, line_len};
+use engine_core::{Mode, Rules, apply, gather};
+use gameid_core::PatternPuzzle;
+use grid_core::{Board, Grid, Size, column_place, row_place};
+use std::alloc::{AllocError, Global};
+use std::marker::Model;
+
+/// How many values a cell has: 0 for white and 1 for black.
+const VALUES: u8 = 2;
+
+/// The rules of one puzzle, to be searched: each column and each row strikes what no filling with its clue's runs
+/// has. They keep a copy of what they need of the puzzle.
+#[derive(Drop)]
+pub struct PatternLines {
+    size: Size,
+    clues: Vec<Vec<u8>>,
+    ghost extent: { IsExtent size },
+}
+
+impl Model for PatternLines {
+    ghost use Rattle.std.specs.Prelude.{◌≡◌, ◌+◌, length, map};
+    ghost use Rattle.gameid_core.specs.Puzzles.{IsPattern};
+    ghost use Rattle.pattern_core.specs.LineRules.{Ruled};
+
+    ghost Value = { Ruled };
+
+    ghost view = { λ r. record { pattern = record { size = r.size; clues = map (λ clue. clue.items) r.clues.items }; extent = r.extent } };
+
+    ghost invariant = { λ r. IsPattern (record { size = r.size; clues = map (λ clue. clue.items) r.clues.items }) };
+}
+
+/// What a visit of a line works in, for lines up to some length.
+#[derive(Drop)]
+pub struct LineScratch {
+    places: Vec<usize>,
+    sets: Vec<u32>,
+    kept: Vec<u32>,
+}
+
+impl Model for LineScratch {
+    ghost use Rattle.std.specs.Prelude.{◌≡◌, ℕ, length};
+
+    ghost Value = { ℕ };
+
+    ghost view = { λ s. length s.places.items };
+
+    ghost invariant = { λ s. (length s.sets.items ≡ length s.places.items) × (length s.kept.items ≡ length s.places.items) };
+}
+
+/// The place of a line's k-th cell: downwards in a column and rightwards in a row.
+fn line_place(size: Size, line: usize, k: usize) -> usize
+    requires line { line < lines_of size }
+    requires cell { k < line_cells size line }
+    ensures { result ≡ slice_index (line_places size line) k }
+{
+    let w = usize::from(size.w());
+    let _h = size.h();
+    if line < w {
+        column_place(size, line, k)
+    } else {
+        row_place(size, line - w, k)
+    }
+}
+
+/// Writes the places of a line's cells.
+fn write_places(size: Size, line: usize, places: &mut [usize])
+    requires line { line < lines_of size }
+    requires as_many { length places.old ≡ line_cells size line }
+    ensures { places.new ≡ line_places size line }
+{
+    for k in 0..places.len() {
+        places[k] = line_place(size, line, k);
+    }
+}
+
+/// Strikes from the line's cells what no filling with the clue's runs has, and says whether that was anything.
+fn visit_line(
+    size: Size,
+    line: usize,
+    clue: &[u8],
+    board: &mut Board,
+    places: &mut [usize],
+    sets: &mut [u32],
+    kept: &mut [u32],
+) -> bool
+    requires line { line < lines_of size }
+    requires cells { cells_of board.old ≡ size.w * size.h }
+    requires values { board.old.values ≡ 2 }
+    requires places { length places.old ≡ line_cells size line }
+    requires sets { length sets.old ≡ line_cells size line }
+    requires kept { length kept.old ≡ line_cells size line }
+    ensures left { has board.new ≡ after_line size line clue.now (has board.old) }
+    ensures shape { SameShape board.old board.new }
+    ensures unchanged { result ≡ false → has board.new ≡ has board.old }
+    ensures changed { result ≡ true → HasStruck (has board.old) (has board.new) }
+{
+    write_places(size, line, places);
+    gather(board, places, VALUES, sets);
+    keep(sets, clue, kept);
+    apply(board, places, VALUES, kept)
+}
+
+/// The same in the first parts of slices that may be longer than the line.
+fn visit_within(
+    size: Size,
+    line: usize,
+    clue: &[u8],
+    board: &mut Board,
+    places: &mut [usize],
+    sets: &mut [u32],
+    kept: &mut [u32],
+) -> bool
+    requires line { line < lines_of size }
+    requires cells { cells_of board.old ≡ size.w * size.h }
+    requires values { board.old.values ≡ 2 }
+    requires places { line_cells size line ≤ length places.old }
+    requires sets { line_cells size line ≤ length sets.old }
+    requires kept { line_cells size line ≤ length kept.old }
+    ensures left { has board.new ≡ after_line size line clue.now (has board.old) }
+    ensures shape { SameShape board.old board.new }
+    ensures unchanged { result ≡ false → has board.new ≡ has board.old }
+    ensures changed { result ≡ true → HasStruck (has board.old) (has board.new) }
+{
+    let cells = line_len(size, line);
+    visit_line(
+        size,
+        line,
+        clue,
+        board,
+        &mut places[..cells],
+        &mut sets[..cells],
+        &mut kept[..cells],
+    )
+}
+
+/// The length of the longer side.
+fn longest_line(size: Size) -> usize
+    ensures columns { (line : ℕ) → line_cells size line ≤ result }
+{
+    usize::from(size.w().max(size.h()))
+}
+
+impl PatternLines {
+    /// The rules of the puzzle.
+    ///
+    /// # Errors
+    ///
+    /// When memory was refused.
+    pub fn new(alloc: Global, puzzle: &PatternPuzzle) -> Result<PatternLines, AllocError>
+        ensures { IfOk result (λ rules. rules.pattern ≡ puzzle.now) }
+    {
+        let size = puzzle.size();
+        let _w = size.w();
+        let lines = usize::from(size.w()) + usize::from(size.h());
+        let mut clues = Vec::with_capacity(alloc, lines)?;
+        for line in 0..lines {
+            clues.push(Vec::from_slice(alloc, puzzle.line(line))?)?;
+        }
+        Ok(PatternLines { size, clues })
+    }
+}
+
+impl Rules for PatternLines {
+    ghost use Rattle.pattern_core.specs.LineLaws.{line_rules-lawful, serves-smaller};
+
+    type Scratch = LineScratch;
+
+    const SETTLED: bool = true;
+
+    const MODE: Mode = Mode::Queue;
+
+    ghost puzzle = { λ r. line_rules r.pattern };
+
+    ghost SETTLED = { true };
+
+    ghost MODE = { Queue };
+
+    ghost mode_is = { λ _. refl };
+
+    ghost serves = { λ room needs. needs.scope ≤ room };
+
+    ghost lawful = { λ r. line_rules-lawful r.pattern r.extent };
+
+    ghost settled_is = { λ _. refl };
+
+    ghost serves_smaller = { serves-smaller };
+
+    fn cells(&self) -> usize {
+        self.size.cells()
+    }
+
+    fn values(&self) -> u8 {
+        VALUES
+    }
+
+    fn houses(&self) -> usize {
+        usize::from(self.size.w()) + usize::from(self.size.h())
+    }
+
+    fn bound(&self) -> usize {
+        self.houses() + self.cells()
+    }
+
+    fn scope_len(&self, house: usize) -> usize {
+        line_len(self.size, house)
+    }
+
+    fn scope(&self, house: usize, k: usize) -> usize {
+        line_place(self.size, house, k)
+    }
+
+    fn house_at(&self, place: usize, from: usize) -> Option<usize> {
+        let w = usize::from(self.size.w());
+        let column = place % w;
+        if from <= column {
+            return Some(column);
+        }
+        let row = w + place / w;
+        if from <= row {
+            return Some(row);
+        }
+        None
+    }
+
+    fn start(&self, board: &mut Board) {
+        board.fill();
+    }
+
+    fn scratch(&self, alloc: Global) -> Result<LineScratch, AllocError> {
+        let longest = longest_line(self.size);
+        Ok(LineScratch {
+            places: vec![in alloc; 0usize; longest]?,
+            sets: vec![in alloc; 0u32; longest]?,
+            kept: vec![in alloc; 0u32; longest]?,
+        })
+    }
+
+    fn visit(&self, house: usize, board: &mut Board, scratch: &mut LineScratch) -> bool {
+        visit_within(
+            self.size,
+            house,
+            &self.clues[house],
+            board,
+            &mut scratch.places,
+            &mut scratch.sets,
+            &mut scratch.kept,
+        )
+    }
+
+    fn accept(&self, _scratch: &mut LineScratch, grid: &Grid) -> bool {
+        for line in 0..self.houses() {
+            if !has_clue(self.size, grid, line, &self.clues[line]) {
+                return false;
+            }
+        }
+        true
+    }
+}
