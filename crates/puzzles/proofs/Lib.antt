@@ -3,6 +3,5 @@ pub mod NumberLemmas
 pub mod PutLemmas
 pub mod RunLemmas
 pub mod EachBelow
-pub mod PatternLineLemmas
 pub mod Ranks
 pub mod Searched

@@ -6,8 +6,12 @@ use Rattle.std.proofs.lemmas.Bool.{cases_lt}
 use Rattle.std.proofs.lemmas.List.{get_or-replicate, get_or_default, length-replicate}
 use Rattle.grid_core.specs.Grids.{IsGrid}
 use Rattle.gameid_core.specs.Puzzles.{Pattern}
-use Rattle.puzzles.specs.PatternSolutions.{IsSolution}
-use Rattle.puzzles.specs.Verdicts.{IsVerdict, verdict_of}
+use Rattle.pattern_core.specs.Solutions.{IsSolution}
+use Rattle.pattern_core.specs.Faults.{IsCheck}
+use Rattle.pattern_core.specs.LineLaws.{line_of_solution}
+use Rattle.pattern_core.specs.declared.fault.PatternFault.{PatternFault}
+use Rattle.pattern_core.specs.declared.fault.PatternFault.TheVariants.{Column, Row}
+use Rattle.puzzles.specs.PlainSearch.{IsFound}
 use Rattle.puzzles.proofs.Ranks.{AreBits, rank, rank-below, rank-same, rank-white, rank-black, rank-next}
 
 -- the first found is the one solution before the grid, and there is none where nothing was found
@@ -146,6 +150,11 @@ tested_passed p now first kept answer s means fails is =
     (passed_over p now first s (λ solves. true≢false (sym (means.1 solves) ∙ fails)))
 
 pub ends_well : (p : Pattern) (now : List ℕ) (first : Option (List ℕ)) → Tested p now first → ((k : ℕ) → k < length now → 0 < slice_index now k)
-    → IsVerdict (IsSolution p) (verdict_of first)
+    → IsFound (IsSolution p) first None false
 ends_well p now None t black = ends_with_none p now t black
 ends_well p now (Some g) t black = ends_with_one p now g t black
+
+-- what has a fault is no solution
+pub faulty : (p : Pattern) (g : List ℕ) (fault : PatternFault) → IsCheck p g (Some fault) → IsSolution p g → ⊥
+faulty p g (Column x) w s = w.1.wrong (line_of_solution p g x (omega (arith, w.0)) s)
+faulty p g (Row y) w s = w.1.wrong (line_of_solution p g (p.size.w + y) (omega (arith, w.0)) s)

@@ -7,9 +7,8 @@ pub mod WriteEnds
 pub mod Answers
 pub mod Runs
 pub mod Replies
-pub mod PatternSolutions
-pub mod PatternLines
 pub mod Verdicts
 pub mod GridTexts
 pub mod Refusals
 pub mod Outputs
+pub mod PlainSearch

@@ -1,49 +1,45 @@
 -- The answers that the words allow on an input.
-use Rattle.std.specs.Prelude.{◌≡◌, ◌++◌, ◌⊎◌, Bool, false, Option, Some, None, Err, codes, List, [], ℕ}
-use Rattle.grid_core.specs.Extent.{Extent}
+use Rattle.std.specs.Prelude.{◌≡◌, ◌⊎◌, Bool, false, List, ℕ, Option, Some, None, Result, Err}
+use Rattle.engine_core.specs.Puzzle.{Puzzle}
 use Rattle.gameid_core.specs.declared.fault.IdFault.{IdFault}
+use Rattle.gameid_core.specs.declared.game.Game.{Game}
 use Rattle.gameid_core.specs.declared.game.Game.TheVariants as game
 use Rattle.gameid_core.specs.Puzzles.{Pattern}
 use Rattle.gameid_core.specs.PatternText.{SpellsPattern, pattern_of}
+use Rattle.pattern_core.specs.LineRules.{line_rules}
+use Rattle.pattern_core.specs.Solutions as pattern
 use Rattle.puzzles.specs.Answers.{Answer, Text}
 use Rattle.puzzles.specs.GridTexts.{grid_text, pattern_cell}
-use Rattle.puzzles.specs.PatternSolutions.{IsSolution}
 use Rattle.puzzles.specs.Refusals.{refused, refused_words, fault_text}
-use Rattle.puzzles.specs.Replies.{none_answer, one_answer, several_answer, gave_up_answer}
 use Rattle.puzzles.specs.Requests.{Asked, solve}
-use Rattle.puzzles.specs.Verdicts.{IsVerdict}
-use Rattle.puzzles.specs.declared.pattern_search.Verdict.{Verdict}
-use Rattle.puzzles.specs.declared.pattern_search.Verdict.TheVariants.{NoSolution, One, Several, GaveUp}
-
--- a verdict with its grids, as it is printed, and its status
-abbrev pub verdict_answer : (List ℕ → Text) → Verdict → Answer
-verdict_answer printed NoSolution = none_answer
-verdict_answer printed (One g) = one_answer (printed g)
-verdict_answer printed (Several g h) = several_answer (printed g) (printed h)
-verdict_answer printed (GaveUp None) = gave_up_answer []
-verdict_answer printed (GaveUp (Some g)) = gave_up_answer (printed g)
+use Rattle.puzzles.specs.Verdicts.{IsRight, verdict_of, verdict_answer}
 
 -- the ID has that first fault, and it is told
-pub record IsRefused (id : Text) (answer : Answer) : Type 0 where
+pub record IsRefused {P : Type 0} (reading : Result P IdFault) (answer : Answer) : Type 0 where
   pub fault : IdFault
-  pub first : pattern_of id ≡ Err fault
+  pub first : reading ≡ Err fault
   pub told : answer ≡ refused (fault_text fault)
 
--- the ID spells that puzzle, and a verdict that is right of it is told
-pub record IsSolved (id : Text) (answer : Answer) : Type 0 where
-  pub puzzle : Pattern
-  pub spelled : SpellsPattern id puzzle
-  pub verdict : Verdict
-  pub right : IsVerdict (IsSolution puzzle) verdict
-  pub told : answer ≡ verdict_answer (λ g. grid_text (pattern_cell puzzle g) puzzle.size) verdict
+-- The ID spells that puzzle, and the verdict of its walk with the budget, which is right of the puzzle's solutions,
+-- is told.
+pub record IsSolved {P : Type 0} (spells : P → Type 0) (solves : P → List ℕ → Type 0) (rules : P → Puzzle)
+    (printed : P → List ℕ → Text) (budget : ℕ) (answer : Answer) : Type 0 where
+  pub puzzle : P
+  pub spelled : spells puzzle
+  pub right : IsRight (solves puzzle) (verdict_of (rules puzzle) budget)
+  pub told : answer ≡ verdict_answer (printed puzzle) (verdict_of (rules puzzle) budget)
+
+abbrev pub printed_pattern : Pattern → List ℕ → Text
+printed_pattern p g = grid_text (pattern_cell p g) p.size
 
 -- the answers that `solve pattern ID` allows
-abbrev pub AllowsSolve : Text → Answer → Type 0
-AllowsSolve id answer = IsRefused id answer ⊎ IsSolved id answer
+abbrev pub AllowsPattern : Text → ℕ → Answer → Type 0
+AllowsPattern id budget answer = IsRefused (pattern_of id) answer
+    ⊎ IsSolved (SpellsPattern id) pattern.IsSolution line_rules printed_pattern budget answer
 
 -- The answers that a request allows on an input. What isn't built is refused as words are.
 abbrev pub Allows : Option Asked → Text → Answer → Type 0
-Allows (Some (solve game.Pattern id budget)) input answer = AllowsSolve id answer
+Allows (Some (solve game.Pattern id budget)) input answer = AllowsPattern id budget answer
 Allows _ input answer = answer ≡ refused_words
 
 -- the request reads its input: none does

@@ -1,17 +1,27 @@
--- What a search says of the solutions among all grids.
-use Rattle.std.specs.Prelude.{◌≡◌, ◌≢◌, ℕ, List, Option, Some, None, ⊤}
-use Rattle.puzzles.specs.declared.pattern_search.Verdict.{Verdict}
-use Rattle.puzzles.specs.declared.pattern_search.Verdict.TheVariants.{NoSolution, One, Several, GaveUp}
+-- What `solve` says of a puzzle: the verdict of its walk with a budget, and what that means of the solutions.
+use Rattle.std.specs.Prelude.{◌≡◌, ◌≢◌, ℕ, List, [], Option, Some, None, ⊤}
+use Rattle.engine_core.specs.Puzzle.{Puzzle}
+use Rattle.engine_core.specs.Verdict.{Outcome, Outcome.NoGrid, Outcome.OneGrid, Outcome.TwoGrids, Outcome.OutOfBudget, outcome}
+use Rattle.engine_core.specs.Walk.{walk}
+use Rattle.puzzles.specs.Answers.{Answer, Text}
+use Rattle.puzzles.specs.Replies.{none_answer, one_answer, several_answer, gave_up_answer}
+
+-- the verdict of the walk of the rules' start board with that budget
+abbrev pub verdict_of : Puzzle → ℕ → Outcome
+verdict_of rules budget = outcome budget None (walk rules 0 rules.start)
 
 -- no grid is a solution; this one is and no other; both are, and they differ; nothing, or that this one is
-abbrev pub IsVerdict : (List ℕ → Type 0) → Verdict → Type 0
-IsVerdict solves NoSolution = (g : List ℕ) → solves g → ⊥
-IsVerdict solves (One g) = solves g × ((h : List ℕ) → solves h → h ≡ g)
-IsVerdict solves (Several g h) = solves g × solves h × (g ≢ h)
-IsVerdict solves (GaveUp None) = ⊤
-IsVerdict solves (GaveUp (Some g)) = solves g
+abbrev pub IsRight : (List ℕ → Type 0) → Outcome → Type 0
+IsRight solves NoGrid = (g : List ℕ) → solves g → ⊥
+IsRight solves (OneGrid g) = solves g × ((h : List ℕ) → solves h → g ≡ h)
+IsRight solves (TwoGrids g h) = solves g × solves h × (g ≢ h)
+IsRight solves (OutOfBudget None) = ⊤
+IsRight solves (OutOfBudget (Some g)) = solves g
 
--- the verdict of a search that found all there is, and that is this one or none
-abbrev pub verdict_of : Option (List ℕ) → Verdict
-verdict_of None = NoSolution
-verdict_of (Some g) = One g
+-- the verdict with its grids, printed so
+abbrev pub verdict_answer : (List ℕ → Text) → Outcome → Answer
+verdict_answer printed NoGrid = none_answer
+verdict_answer printed (OneGrid g) = one_answer (printed g)
+verdict_answer printed (TwoGrids g h) = several_answer (printed g) (printed h)
+verdict_answer printed (OutOfBudget None) = gave_up_answer []
+verdict_answer printed (OutOfBudget (Some g)) = gave_up_answer (printed g)

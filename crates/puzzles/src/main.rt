@@ -4,14 +4,15 @@
 pub mod ends;
 #[cfg(test)]
 mod fakes;
+#[cfg(test)]
+mod plain;
 pub mod grid_text;
 pub mod output;
-pub mod pattern_check;
-pub mod pattern_search;
 pub mod printed;
 pub mod read_end;
 pub mod reply;
 pub mod run;
+pub mod solve;
 #[cfg(test)]
 mod tests;
 pub mod words;

@@ -1,43 +1,23 @@
 //! One run of the program.
 ghost use Rattle.std.specs.Prelude.{◌≡◌, ◌<◌, ◌≤◌, List, ℕ, true, false, map, option_map, string_bytes, IfOk};
 ghost use Rattle.puzzles.specs.Answers.{BeginsAnswer, Text};
-ghost use Rattle.puzzles.specs.Outputs.{Allows, AllowsSolve, reads_input};
+ghost use Rattle.puzzles.specs.Outputs.{Allows, reads_input};
 ghost use Rattle.puzzles.specs.Replies.{answer_in};
 ghost use Rattle.puzzles.specs.Requests.{asked_in, asked_of};
 ghost use Rattle.puzzles.specs.Runs.{Ran, IsBroken};
 
 use crate::ends::{Sink, Source};
 use crate::output::deliver;
-use crate::pattern_search::{Verdict, search};
 use crate::read_end::ReadEnd;
-use crate::reply::{Reply, gave_up_reply, gave_up_with_reply, id_refused, none_reply, one_reply, several_reply, words_refused};
+use crate::reply::{Reply, words_refused};
+use crate::solve::solve_pattern;
 use crate::words::{Request, read_words};
 use crate::write_end::WriteEnd;
-use gameid_core::{Game, IdFault, read_pattern};
+use gameid_core::Game;
 use std::alloc::{AllocError, Global};
 
 /// The status of a run that wanted memory.
 pub const NO_MEMORY: u8 = 5;
-
-/// The answer to an ID of Pattern that is to be solved.
-fn solve_pattern(alloc: Global, id: &[u8]) -> Result<Reply, AllocError>
-    ensures allowed { IfOk result (λ r. AllowsSolve id.now (answer_in r)) }
-    ensures status { IfOk result (λ r. r.status < NO_MEMORY) }
-{
-    match read_pattern(alloc, id) {
-        Ok(puzzle) => {
-            match search(alloc, &puzzle)? {
-                Verdict::NoSolution => none_reply(alloc),
-                Verdict::One(grid) => one_reply(alloc, &puzzle, &grid),
-                Verdict::Several(first, second) => several_reply(alloc, &puzzle, &first, &second),
-                Verdict::GaveUp(Some(grid)) => gave_up_with_reply(alloc, &puzzle, &grid),
-                Verdict::GaveUp(None) => gave_up_reply(alloc),
-            }
-        }
-        Err(IdFault::Memory) => Err(AllocError),
-        Err(fault) => id_refused(alloc, fault),
-    }
-}
 
 /// The answer to a request, which leaves the input unread.
 fn reply_to(alloc: Global, request: Option<Request<'_>>) -> Result<Reply, AllocError>
@@ -50,9 +30,9 @@ fn reply_to(alloc: Global, request: Option<Request<'_>>) -> Result<Reply, AllocE
             Request::Solve {
                 game: Game::Pattern,
                 id,
-                budget: _,
+                budget,
             },
-        ) => solve_pattern(alloc, id.as_bytes()),
+        ) => solve_pattern(alloc, id.as_bytes(), budget),
         _ => words_refused(alloc),
     }
 }

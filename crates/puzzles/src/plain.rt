@@ -1,25 +1,35 @@
-//! The plain search for solutions of a puzzle of Pattern: grid by grid, in the order of their cells, white before
-//! black, with a test of each whole grid.
-ghost use Rattle.std.specs.Prelude.{◌≡◌, ◌<◌, ◌≤◌, ◌*◌, ◌+◌, ◌-◌, ◌∷◌, ◌++◌, ℕ, IfOk, MatchOption, length, slice_index, take, replicate};
+//! A plain search for solutions of a puzzle of Pattern, for the tests of the search by deduction: grid by grid, in the
+//! order of their cells, white before black, with a test of each whole grid.
+ghost use Rattle.std.specs.Prelude.{◌≡◌, ◌↔◌, IsTrue, ◌<◌, ◌≤◌, ◌*◌, ◌+◌, ◌-◌, ◌∷◌, ◌++◌, ℕ, IfOk, MatchOption, length, slice_index, take, replicate};
 ghost use Rattle.grid_core.specs.Grids.{IsGrid};
-ghost use Rattle.puzzles.specs.PatternSolutions.{IsSolution};
-ghost use Rattle.puzzles.specs.Verdicts.{IsVerdict, verdict_of};
+ghost use Rattle.pattern_core.specs.Solutions.{IsSolution};
+ghost use Rattle.puzzles.specs.PlainSearch.{IsFound};
 
-use crate::pattern_check::is_solution;
 use gameid_core::PatternPuzzle;
 use grid_core::Grid;
+use pattern_core::check_pattern;
 use std::alloc::{AllocError, Global};
 
 /// The most values that one search sets, of which each cell of each grid that it comes to is one.
 pub const MOST_SETS: usize = 100_000;
 
-/// What a search says of the solutions, with those that it found.
-#[derive(Debug, Drop)]
-pub enum Verdict {
-    NoSolution,
-    One(Grid),
-    Several(Grid, Grid),
-    GaveUp(Option<Grid>),
+/// The solutions that a search found, two at most, and whether it gave up before it came to the last grid.
+#[derive(Drop)]
+pub struct Found {
+    pub first: Option<Grid>,
+    pub second: Option<Grid>,
+    pub gave_up: bool,
+}
+
+/// Whether the grid is a solution.
+fn is_solution(puzzle: &PatternPuzzle, grid: &Grid) -> bool
+    requires { IsGrid (puzzle.now.size.w * puzzle.now.size.h) 2 grid.now }
+    ensures { IsTrue result ↔ IsSolution puzzle.now grid.now }
+{
+    match check_pattern(puzzle, grid) {
+        None => true,
+        Some(_) => false,
+    }
 }
 
 /// A grid with the same numbers.
@@ -65,20 +75,10 @@ fn blacken(grid: &mut Grid, place: usize)
     }
 }
 
-/// The verdict where no other solution was found among all grids.
-fn all_found(first: Option<Grid>) -> Verdict
-    ensures { result ≡ verdict_of first }
-{
-    match first {
-        Some(grid) => Verdict::One(grid),
-        None => Verdict::NoSolution,
-    }
-}
-
 /// What there is to say of the puzzle's solutions among all grids. It gives up where it would set a value for the
 /// `MOST_SETS + 1`st time.
-pub fn search(alloc: Global, puzzle: &PatternPuzzle) -> Result<Verdict, AllocError>
-    ensures { IfOk result (λ v. IsVerdict (IsSolution puzzle.now) v) }
+pub fn search(alloc: Global, puzzle: &PatternPuzzle) -> Result<Found, AllocError>
+    ensures { IfOk result (λ f. IsFound (IsSolution puzzle.now) f.first f.second f.gave_up) }
 {
     let cells = puzzle.size().cells();
     let mut grid = Grid::new(alloc, cells)?;
@@ -87,15 +87,27 @@ pub fn search(alloc: Global, puzzle: &PatternPuzzle) -> Result<Verdict, AllocErr
     loop {
         if is_solution(puzzle, &grid) {
             if let Some(found) = first {
-                return Ok(Verdict::Several(found, grid));
+                return Ok(Found {
+                    first: Some(found),
+                    second: Some(grid),
+                    gave_up: false,
+                });
             }
             first = Some(copied(alloc, &grid)?);
         }
         let Some(place) = last_white(&grid) else {
-            return Ok(all_found(first));
+            return Ok(Found {
+                first,
+                second: None,
+                gave_up: false,
+            });
         };
         if cells - place > left {
-            return Ok(Verdict::GaveUp(first));
+            return Ok(Found {
+                first,
+                second: None,
+                gave_up: true,
+            });
         }
         left -= cells - place;
         blacken(&mut grid, place);

@@ -1,11 +1,8 @@
-use Rattle.std.proofs.Common.{◌≡◌, ◌∙◌, ◌*◌, ap, sym, subst}
+use Rattle.std.proofs.Common.{◌≡◌, ◌∙◌, ◌*◌, ap}
 use Rattle.grid_core.specs.Extent.{Extent}
-use Rattle.puzzles.specs.PatternSolutions.{IsSolution}
-use Rattle.puzzles.specs.Verdicts.{IsVerdict}
-use Rattle.puzzles.specs.declared.pattern_search.Verdict.{Verdict}
 use Rattle.puzzles.proofs.Searched.{Tested, search_begins, tested_found, tested_passed, search_goes_on, ends_well}
-use Rattle.puzzles.proofs.pattern_search.search.Goals.{then-is_solution+in_default+in_ok-copied, else-is_solution}
-use Rattle.puzzles.proofs.pattern_search.search.Goals as goal
+use Rattle.puzzles.proofs.plain.search.Goals.{then-is_solution+in_default+in_ok-copied, else-is_solution}
+use Rattle.puzzles.proofs.plain.search.Goals as goal
 
 pub loop-first-init : goal.loop-first-init
 loop-first-init c =
@@ -19,7 +16,7 @@ returns-in_default-last_white c =
       | then-is_solution+in_default+in_ok-copied w ↦ tested_found _ _ _ _ _ _ c.loop-first.invariant.searched w.in_default.is c.is_solution.ensures w.if-is_solution.true w.in_ok-copied.ensures w.first-is
       | else-is_solution w ↦ tested_passed _ _ _ _ _ c.loop-first.invariant.searched c.is_solution.ensures w.if-is_solution.false w.first-is
     ] in
-    subst (λ (v : Verdict). IsVerdict (IsSolution c.args.puzzle.now) v) (sym c.all_found.ensures) (ends_well c.args.puzzle.now c.loop-first.grid c.if-is_solution.first tested c.in_default-last_white.ensures)
+    ends_well c.args.puzzle.now c.loop-first.grid c.if-is_solution.first tested c.in_default-last_white.ensures
 
 pub loop-first-preserved : goal.loop-first-preserved
 loop-first-preserved c =

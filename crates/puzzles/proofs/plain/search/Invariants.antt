@@ -1,6 +1,6 @@
 use Rattle.std.proofs.Common.{◌≡◌, ◌*◌}
 use Rattle.puzzles.proofs.Searched.{Searched}
-use Rattle.puzzles.proofs.pattern_search.search.Given as goal
+use Rattle.puzzles.proofs.plain.search.Given as goal
 
 abbrev pub invariant-loop-first : goal.invariant-loop-first
 invariant-loop-first l = record {
