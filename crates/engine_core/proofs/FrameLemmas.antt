@@ -14,7 +14,7 @@ use Rattle.grid_core.specs.Board.{Layout, has, cells_of}
 use Rattle.engine_core.specs.Puzzle.{IsBoardOf}
 use Rattle.engine_core.specs.Closing.{closure}
 use Rattle.engine_core.specs.Walk.{Mark, Mark.Trial, Mark.Found, walk}
-use Rattle.engine_core.specs.Verdict.{outcome, spent}
+use Rattle.engine_core.specs.Verdict.{outcome, tried}
 use Rattle.engine_core.specs.Search.{Level, pending, restored}
 use Rattle.engine_core.specs.Frames.{struck_at, level_at, frame_at, levels_of, IsNoted, IsMarked, found_of, singles, IsOpen, IsReady}
 use Rattle.engine_core.specs.declared.search.Frame.{Frame}
@@ -466,56 +466,56 @@ pub done-none : (p : Puzzle) (K : Candidates) (T : List (ℕ × ℕ)) (frames : 
 unfolding levels_of pending outcome
 done-none p K T frames n b found first e f = rw (e, f) refl
 
--- ---- the same of the number of trials
-pub spent_two : (b : ℕ) (found : Bool) (f g : List ℕ) (ms : List Mark) → found ≡ true → spent b (found_of found f) (Found g ∷ ms) ≡ 0
-unfolding spent
-spent_two b true f g ms e = refl
-spent_two b false f g ms e = absurd (false≢true e)
+-- ---- the same of the trials that are made
+pub tried_two : (b : ℕ) (found : Bool) (f g : List ℕ) (ms : List Mark) → found ≡ true → tried b (found_of found f) (Found g ∷ ms) ≡ []
+unfolding tried
+tried_two b true f g ms e = refl
+tried_two b false f g ms e = absurd (false≢true e)
 
-pub spent_one : (b : ℕ) (found : Bool) (f f' g : List ℕ) (ms : List Mark) → found ≡ false → f' ≡ g → spent b (found_of found f) (Found g ∷ ms) ≡ spent b (found_of true f') ms
-unfolding spent
-spent_one b true f f' g ms e eg = absurd (true≢false e)
-spent_one b false f f' g ms e eg = ap (λ x. spent b (Some x) ms) (sym eg)
+pub tried_one : (b : ℕ) (found : Bool) (f f' g : List ℕ) (ms : List Mark) → found ≡ false → f' ≡ g → tried b (found_of found f) (Found g ∷ ms) ≡ tried b (found_of true f') ms
+unfolding tried
+tried_one b true f f' g ms e eg = absurd (true≢false e)
+tried_one b false f f' g ms e eg = ap (λ x. tried b (Some x) ms) (sym eg)
 
-spent-trial : (budget : ℕ) (found : Option (List ℕ)) (d : ℕ) (B : Candidates) (ms : List Mark) → spent (suc budget) found (Trial d B ∷ ms) ≡ suc (spent budget found ms)
-unfolding spent
-spent-trial budget None d B ms = refl
-spent-trial budget (Some f) d B ms = refl
+tried-trial : (budget : ℕ) (found : Option (List ℕ)) (d : ℕ) (B : Candidates) (ms : List Mark) → tried (suc budget) found (Trial d B ∷ ms) ≡ (d, B) ∷ tried budget found ms
+unfolding tried
+tried-trial budget None d B ms = refl
+tried-trial budget (Some f) d B ms = refl
 
-spent-zero : (found : Option (List ℕ)) (d : ℕ) (B : Candidates) (ms : List Mark) → spent 0 found (Trial d B ∷ ms) ≡ 0
-unfolding spent
-spent-zero None d B ms = refl
-spent-zero (Some f) d B ms = refl
+tried-zero : (found : Option (List ℕ)) (d : ℕ) (B : Candidates) (ms : List Mark) → tried 0 found (Trial d B ∷ ms) ≡ []
+unfolding tried
+tried-zero None d B ms = refl
+tried-zero (Some f) d B ms = refl
 
-pub trial-spent : (p : Puzzle) (budget trials : ℕ) (found : Option (List ℕ)) (n : ℕ) (B : Candidates) (ms ms' : List Mark) → trials < budget → ms ≡ Trial n B ∷ ms' → spent (budget - trials) found ms ≡ suc (spent (budget - (trials + 1)) found ms')
-trial-spent p budget trials found n B ms ms' lt e =
+pub trial-tried : (p : Puzzle) (budget trials : ℕ) (found : Option (List ℕ)) (n : ℕ) (B : Candidates) (ms ms' : List Mark) → trials < budget → ms ≡ Trial n B ∷ ms' → tried (budget - trials) found ms ≡ (n, B) ∷ tried (budget - (trials + 1)) found ms'
+trial-tried p budget trials found n B ms ms' lt e =
     let left : budget - trials ≡ suc (budget - (trials + 1)) = omega arith in
-    ap (λ (b : ℕ). spent b found ms) left ∙ (ap (spent (suc (budget - (trials + 1))) found) e ∙ spent-trial (budget - (trials + 1)) found n B ms')
+    ap (λ (b : ℕ). tried b found ms) left ∙ (ap (tried (suc (budget - (trials + 1))) found) e ∙ tried-trial (budget - (trials + 1)) found n B ms')
 
-pub out-spent : (budget trials : ℕ) (found : Option (List ℕ)) (n : ℕ) (B : Candidates) (ms ms' : List Mark) → trials ≡ budget → ms ≡ Trial n B ∷ ms' → spent (budget - trials) found ms ≡ 0
-out-spent budget trials found n B ms ms' e f =
+pub out-tried : (budget trials : ℕ) (found : Option (List ℕ)) (n : ℕ) (B : Candidates) (ms ms' : List Mark) → trials ≡ budget → ms ≡ Trial n B ∷ ms' → tried (budget - trials) found ms ≡ []
+out-tried budget trials found n B ms ms' e f =
     let left : budget - trials ≡ 0 = omega arith in
-    ap (λ (b : ℕ). spent b found ms) left ∙ (ap (spent 0 found) f ∙ spent-zero found n B ms')
+    ap (λ (b : ℕ). tried b found ms) left ∙ (ap (tried 0 found) f ∙ tried-zero found n B ms')
 
-pub done-spent : (p : Puzzle) (K : Candidates) (T : List (ℕ × ℕ)) (frames : List Frame) (n b : ℕ) (found : Option (List ℕ)) → n ≡ 0 → spent b found (pending p (levels_of K T frames n)) ≡ 0
-unfolding levels_of pending spent
-done-spent p K T frames n b None e = rw e refl
-done-spent p K T frames n b (Some f) e = rw e refl
+pub done-tried : (p : Puzzle) (K : Candidates) (T : List (ℕ × ℕ)) (frames : List Frame) (n b : ℕ) (found : Option (List ℕ)) → n ≡ 0 → tried b found (pending p (levels_of K T frames n)) ≡ []
+unfolding levels_of pending tried
+done-tried p K T frames n b None e = rw e refl
+done-tried p K T frames n b (Some f) e = rw e refl
 
-pub turn-spent : (p : Puzzle) (K K1 K2 : Candidates) (trail trail2 : List (ℕ × ℕ)) (frames : List Frame) (n len len2 v budget trials : ℕ) (found : Option (List ℕ)) → IsReady p K trail frames n len → 0 < n → n - 1 < length frames
+pub turn-tried : (p : Puzzle) (K K1 K2 : Candidates) (trail trail2 : List (ℕ × ℕ)) (frames : List Frame) (n len len2 v budget trials : ℕ) (found : Option (List ℕ)) → IsReady p K trail frames n len → 0 < n → n - 1 < length frames
     → K1 ≡ restored K (drop (frame_at frames (n - 1)).mark (take len trail))
     → (frame_at frames (n - 1)).next ≤ v → v < p.values → K1 (frame_at frames (n - 1)).cell v ≡ true → ((u : ℕ) → (frame_at frames (n - 1)).next ≤ u → u < v → K1 (frame_at frames (n - 1)).cell u ≡ false)
     → K2 ≡ only K1 (frame_at frames (n - 1)).cell v → IsNoted p.cells p.values K1 K2 trail trail2 (frame_at frames (n - 1)).mark len2 → trials < budget
-    → spent (budget - trials) found (pending p (levels_of K (take len trail) frames n)) ≡ suc (spent (budget - (trials + 1)) found (walk p n K2 ++ pending p (levels_of K2 (take len2 trail2) (retried frames n (v + 1)) n)))
-turn-spent p K K1 K2 trail trail2 frames n len len2 v budget trials found ready pos lt back le ltv on none e noted less =
+    → tried (budget - trials) found (pending p (levels_of K (take len trail) frames n)) ≡ (n, K2) ∷ tried (budget - (trials + 1)) found (walk p n K2 ++ pending p (levels_of K2 (take len2 trail2) (retried frames n (v + 1)) n))
+turn-tried p K K1 K2 trail trail2 frames n len len2 v budget trials found ready pos lt back le ltv on none e noted less =
     let top = frame_at frames (n - 1) in
     let frames' : List Frame = retried frames n (v + 1) in
     let r = ready-retried p K1 trail frames n top.mark (v + 1) (ready-back p K K1 trail frames n len ready pos back) pos lt in
     let same : levels_of K2 (take len2 trail2) frames' n ≡ levels_of K1 (take top.mark trail) frames' n = noted_levels p.cells p.values K1 K2 trail trail2 frames' n top.mark len2 noted r.within r.marked in
-    ap (λ ls. spent (budget - trials) found (pending p ls)) (levels-back p K K1 trail frames n len ready pos back) ∙
-    (trial-spent p budget trials found n (only K1 top.cell v) _ (walk p n (only K1 top.cell v) ++ pending p (levels_of K1 (take top.mark trail) frames' n)) less (trial-pending p K1 trail frames n v pos lt le ltv on none) ∙
-    (ap (λ (L : Candidates). suc (spent (budget - (trials + 1)) found (walk p n L ++ pending p (levels_of K1 (take top.mark trail) frames' n)))) (sym e) ∙
-    ap (λ ls. suc (spent (budget - (trials + 1)) found (walk p n K2 ++ pending p ls))) (sym same)))
+    ap (λ ls. tried (budget - trials) found (pending p ls)) (levels-back p K K1 trail frames n len ready pos back) ∙
+    (trial-tried p budget trials found n (only K1 top.cell v) _ (walk p n (only K1 top.cell v) ++ pending p (levels_of K1 (take top.mark trail) frames' n)) less (trial-pending p K1 trail frames n v pos lt le ltv on none) ∙
+    (ap (λ (L : Candidates). (n, L) ∷ tried (budget - (trials + 1)) found (walk p n L ++ pending p (levels_of K1 (take top.mark trail) frames' n))) (sym e) ∙
+    ap (λ ls. (n, K2) ∷ tried (budget - (trials + 1)) found (walk p n K2 ++ pending p ls)) (sym same)))
 
 -- under no frame nothing else is pending
 pub walk-alone : (p : Puzzle) (K L : Candidates) (T : List (ℕ × ℕ)) (frames : List Frame) → walk p 0 K ++ pending p (levels_of L T frames 0) ≡ walk p 0 K

@@ -13,3 +13,4 @@ pub mod SearchLemmas
 pub mod TrailLemmas
 pub mod FrameLemmas
 pub mod NoteLemmas
+pub mod CountLemmas

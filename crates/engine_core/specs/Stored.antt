@@ -10,7 +10,8 @@ use Rattle.engine_core.specs.declared.search.Verdict.TheVariants as verdict
 use Rattle.engine_core.specs.declared.store.Sizes.{Sizes}
 
 -- the board that the last closing left, its visits and the number of its sweeps, the grids that the last search found
--- and the trials that it made, and what memory was taken for
+-- and the trials that it made, the visits or sweeps of all its closings and the most trials that were open at once, and
+-- what memory was taken for
 pub record Stored : Type 0 where
   pub board : Layout
   pub trace : List ℕ
@@ -18,6 +19,8 @@ pub record Stored : Type 0 where
   pub first : Option (List ℕ)
   pub second : Option (List ℕ)
   pub trials : ℕ
+  pub turns : ℕ
+  pub deepest : ℕ
   pub made : Needs
 
 -- nothing of a search is kept
@@ -25,6 +28,8 @@ pub record IsUnsearched (s : Stored) : Type 0 where
   pub no_first : s.first ≡ None
   pub no_second : s.second ≡ None
   pub no_trials : s.trials ≡ 0
+  pub no_turns : s.turns ≡ 0
+  pub no_depth : s.deepest ≡ 0
 
 -- the answer and the two grids that are lent say the outcome
 abbrev pub IsAnswer : Verdict → Option (List ℕ) → Option (List ℕ) → Outcome → Type 0

@@ -1,4 +1,5 @@
 use Rattle.std.specs.Prelude.{◌≡◌, ◌≢◌, ℕ, zero, suc, true, List, [], ◌∷◌, Option, Some, None}
+use Rattle.grid_core.specs.Candidates.{Candidates}
 use Rattle.engine_core.specs.Puzzle.{Puzzle, IsGridOf}
 use Rattle.engine_core.specs.Walk.{Mark, Mark.Trial, Mark.Found}
 
@@ -25,6 +26,14 @@ spent budget None (Found g ∷ marks) = spent budget (Some g) marks
 spent budget (Some first) (Found g ∷ marks) = 0
 spent zero found (Trial depth board ∷ marks) = 0
 spent (suc budget) found (Trial depth board ∷ marks) = suc (spent budget found marks)
+
+-- those trials: how deep each stands, and the board that it tries
+unfoldable pub tried : ℕ → Option (List ℕ) → List Mark → List (ℕ × Candidates)
+tried budget found [] = []
+tried budget None (Found g ∷ marks) = tried budget (Some g) marks
+tried budget (Some first) (Found g ∷ marks) = []
+tried zero found (Trial depth board ∷ marks) = []
+tried (suc budget) found (Trial depth board ∷ marks) = (depth, board) ∷ tried budget found marks
 
 -- a grid of the puzzle that is a solution
 pub record Solves (p : Puzzle) (g : List ℕ) : Type 0 where

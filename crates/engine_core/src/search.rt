@@ -1,12 +1,13 @@
 //! The walk over trials on one board, with frames and a trail.
 
-ghost use Rattle.std.specs.Prelude.{◌≡◌, ℕ, Bool, ◌++◌, if◌then◌else◌, ◌+◌, ◌-◌, ◌<◌, ◌≤◌, length, slice_index, true, false, take, drop, Some, None, Option, IfSome};
+ghost use Rattle.std.specs.Prelude.{◌≡◌, ℕ, Bool, ◌++◌, if◌then◌else◌, ◌+◌, ◌-◌, ◌<◌, ◌≤◌, length, slice_index, true, false, take, drop, max, [], ◌∷◌, Some, None, Option, IfSome};
 ghost use Rattle.grid_core.specs.Board.{has, SameShape, cells_of};
 ghost use Rattle.grid_core.specs.Candidates.{is_dead, total, only, without};
 ghost use Rattle.engine_core.specs.Puzzle.{Puzzle, Needs, needs_of, IsBoardOf, IsNext};
 ghost use Rattle.engine_core.specs.Closing.{closure};
 ghost use Rattle.engine_core.specs.Walk.{walk};
-ghost use Rattle.engine_core.specs.Verdict.{outcome, spent, Outcome, Outcome.TwoGrids};
+ghost use Rattle.engine_core.specs.Verdict.{outcome, tried, Outcome, Outcome.TwoGrids};
+ghost use Rattle.engine_core.specs.Counts.{deepest_of, boards_of, IsClosedIn, IsTurns};
 ghost use Rattle.engine_core.specs.Search.{restored, pending};
 ghost use Rattle.engine_core.specs.Frames.{IsTrail, IsNoted, IsMarked, Judges, Says, struck_at, levels_of, found_of, IsReady, singles};
 
@@ -78,6 +79,7 @@ fn close_noting<R: Rules>(
     ensures noted { IsNoted (R.puzzle rules.now).cells (R.puzzle rules.now).values (has board.old) (has board.new) trail.old trail.new len result.len }
     ensures dead { is_dead (R.puzzle rules.now).cells (R.puzzle rules.now).values (has board.new) ≡ true → is_dead (R.puzzle rules.now).cells (R.puzzle rules.now).values (closure (R.puzzle rules.now) (has board.old)) ≡ true }
     ensures open { is_dead (R.puzzle rules.now).cells (R.puzzle rules.now).values (has board.new) ≡ false → has board.new ≡ closure (R.puzzle rules.now) (has board.old) }
+    ensures turns { IsClosedIn (R.puzzle rules.now) (has board.old) (max result.visits result.sweeps) }
     ensures inside { (c v : ℕ) → has board.new c v ≡ true → has board.old c v ≡ true }
     ensures shape { SameShape board.old board.new }
     ensures keeps { (needs : Needs) → R.serves scratch.old needs → R.serves scratch.new needs }
@@ -92,6 +94,8 @@ pub(crate) struct Progress {
     pub depth: usize,
     pub found: bool,
     pub stop: bool,
+    pub turns: u128,
+    pub deepest: usize,
 }
 
 /// Closes the board and judges it: a grid is noted, and a board that must be split gets a frame.
@@ -118,10 +122,13 @@ fn descend<R: Rules>(
     requires frames_room { (R.puzzle rules.now).cells ≤ length frames.old }
     requires long { (length first.old ≡ (R.puzzle rules.now).cells) × (length second.old ≡ (R.puzzle rules.now).cells) }
     requires going { at.stop ≡ false }
+    requires turns_room { at.turns + 18446744073709551616 ≤ 340282366920938463463374607431768211456 }
+    ensures turned { (m : ℕ) × IsClosedIn (R.puzzle rules.now) (has board.old) m × (result.turns ≡ at.turns + m) × (m ≤ 18446744073709551615) }
+    ensures deepest { result.deepest ≡ at.deepest }
     ensures answer { result.stop ≡ false → (b : ℕ) → outcome b (found_of at.found first.old) (walk (R.puzzle rules.now) at.depth (has board.old) ++ pending (R.puzzle rules.now) (levels_of (has board.old) (take at.len trail.old) frames.old at.depth)) ≡ outcome b (found_of result.found first.new) (pending (R.puzzle rules.now) (levels_of (has board.new) (take result.len trail.new) frames.new result.depth)) }
     ensures two { result.stop ≡ true → (b : ℕ) → outcome b (found_of at.found first.old) (walk (R.puzzle rules.now) at.depth (has board.old) ++ pending (R.puzzle rules.now) (levels_of (has board.old) (take at.len trail.old) frames.old at.depth)) ≡ TwoGrids first.new second.new }
-    ensures spends { result.stop ≡ false → (b : ℕ) → spent b (found_of at.found first.old) (walk (R.puzzle rules.now) at.depth (has board.old) ++ pending (R.puzzle rules.now) (levels_of (has board.old) (take at.len trail.old) frames.old at.depth)) ≡ spent b (found_of result.found first.new) (pending (R.puzzle rules.now) (levels_of (has board.new) (take result.len trail.new) frames.new result.depth)) }
-    ensures spent_two { result.stop ≡ true → (b : ℕ) → spent b (found_of at.found first.old) (walk (R.puzzle rules.now) at.depth (has board.old) ++ pending (R.puzzle rules.now) (levels_of (has board.old) (take at.len trail.old) frames.old at.depth)) ≡ 0 }
+    ensures tries { result.stop ≡ false → (b : ℕ) → tried b (found_of at.found first.old) (walk (R.puzzle rules.now) at.depth (has board.old) ++ pending (R.puzzle rules.now) (levels_of (has board.old) (take at.len trail.old) frames.old at.depth)) ≡ tried b (found_of result.found first.new) (pending (R.puzzle rules.now) (levels_of (has board.new) (take result.len trail.new) frames.new result.depth)) }
+    ensures tried_two { result.stop ≡ true → (b : ℕ) → tried b (found_of at.found first.old) (walk (R.puzzle rules.now) at.depth (has board.old) ++ pending (R.puzzle rules.now) (levels_of (has board.old) (take at.len trail.old) frames.old at.depth)) ≡ [] }
     ensures ready { IsReady (R.puzzle rules.now) (has board.new) trail.new frames.new result.depth result.len }
     ensures long { (length first.new ≡ (R.puzzle rules.now).cells) × (length second.new ≡ (R.puzzle rules.now).cells) }
     ensures deeper { result.depth ≤ at.depth + 1 }
@@ -130,18 +137,21 @@ fn descend<R: Rules>(
 {
     let closed = close_noting(rules, board, scratch, sets, waits, trace, trail, at.len);
     let len = closed.len;
+    let turns = at.turns + closed.visits.max(closed.sweeps) as u128;
     match judge(rules, board, scratch, at.found, first, second) {
-        Judged::Nothing => Progress { len, ..at },
+        Judged::Nothing => Progress { len, turns, ..at },
         Judged::Solved => {
             if at.found {
                 Progress {
                     len,
+                    turns,
                     stop: true,
                     ..at
                 }
             } else {
                 Progress {
                     len,
+                    turns,
                     found: true,
                     ..at
                 }
@@ -155,6 +165,7 @@ fn descend<R: Rules>(
             };
             Progress {
                 len,
+                turns,
                 depth: at.depth + 1,
                 ..at
             }
@@ -213,11 +224,13 @@ fn keep_noting(
     end
 }
 
-/// What a search found, and how many trials it made.
+/// What a search found, how many trials and visits or sweeps it made, and how many trials were open at once.
 #[derive(Clone, Copy)]
 pub(crate) struct Searched {
     pub verdict: Verdict,
     pub trials: u64,
+    pub turns: u128,
+    pub deepest: usize,
 }
 
 /// Walks on from the levels of the frames.
@@ -244,9 +257,13 @@ fn search<R: Rules>(
     requires frames_room { (R.puzzle rules.now).cells ≤ length frames.old }
     requires long { (length first.old ≡ (R.puzzle rules.now).cells) × (length second.old ≡ (R.puzzle rules.now).cells) }
     requires going { from.stop ≡ false }
+    requires turns_room { from.turns ≤ 18446744073709551615 }
     ensures says { Says result.verdict first.new second.new (outcome budget (found_of from.found first.old) (pending (R.puzzle rules.now) (levels_of (has board.old) (take from.len trail.old) frames.old from.depth))) }
     ensures trials { result.trials ≤ budget }
-    ensures exact { result.trials ≡ spent budget (found_of from.found first.old) (pending (R.puzzle rules.now) (levels_of (has board.old) (take from.len trail.old) frames.old from.depth)) }
+    ensures exact { result.trials ≡ length (tried budget (found_of from.found first.old) (pending (R.puzzle rules.now) (levels_of (has board.old) (take from.len trail.old) frames.old from.depth))) }
+    ensures turned { (k : ℕ) × IsTurns (R.puzzle rules.now) (boards_of (tried budget (found_of from.found first.old) (pending (R.puzzle rules.now) (levels_of (has board.old) (take from.len trail.old) frames.old from.depth)))) k × (result.turns ≡ from.turns + k) }
+    ensures deepest { result.deepest ≡ max from.deepest (deepest_of (tried budget (found_of from.found first.old) (pending (R.puzzle rules.now) (levels_of (has board.old) (take from.len trail.old) frames.old from.depth)))) }
+    ensures few { from.deepest ≤ (R.puzzle rules.now).cells → result.deepest ≤ (R.puzzle rules.now).cells }
     ensures long { (length first.new ≡ (R.puzzle rules.now).cells) × (length second.new ≡ (R.puzzle rules.now).cells) }
     ensures shape { SameShape board.old board.new }
     ensures keeps { (needs : Needs) → R.serves scratch.old needs → R.serves scratch.new needs }
@@ -267,6 +284,8 @@ fn search<R: Rules>(
                     return Searched {
                         verdict: Verdict::GaveUp { found: at.found },
                         trials,
+                        turns: at.turns,
+                        deepest: at.deepest,
                     };
                 }
                 trials += 1;
@@ -275,6 +294,7 @@ fn search<R: Rules>(
                     next: value + 1,
                     mark: top.mark,
                 };
+                at.deepest = at.deepest.max(at.depth);
                 at.len = keep_noting(board, top.cell, value, values, trail, at.len);
                 at = descend(
                     rules, board, scratch, sets, waits, trace, trail, frames, first, second, at,
@@ -283,6 +303,8 @@ fn search<R: Rules>(
                     return Searched {
                         verdict: Verdict::Several,
                         trials,
+                        turns: at.turns,
+                        deepest: at.deepest,
                     };
                 }
             }
@@ -293,7 +315,12 @@ fn search<R: Rules>(
     } else {
         Verdict::None
     };
-    Searched { verdict, trials }
+    Searched {
+        verdict,
+        trials,
+        turns: at.turns,
+        deepest: at.deepest,
+    }
 }
 
 /// Walks over the trials of the board until the verdict is known or the budget is spent. The grids that it finds are
@@ -320,7 +347,10 @@ pub(crate) fn walk_board<R: Rules>(
     requires frames_room { (R.puzzle rules.now).cells ≤ length frames.old }
     requires long { (length first.old ≡ (R.puzzle rules.now).cells) × (length second.old ≡ (R.puzzle rules.now).cells) }
     ensures says { Says result.verdict first.new second.new (outcome budget None (walk (R.puzzle rules.now) 0 (has board.old))) }
-    ensures exact { result.trials ≡ spent budget None (walk (R.puzzle rules.now) 0 (has board.old)) }
+    ensures exact { result.trials ≡ length (tried budget None (walk (R.puzzle rules.now) 0 (has board.old))) }
+    ensures turns { IsTurns (R.puzzle rules.now) (has board.old ∷ boards_of (tried budget None (walk (R.puzzle rules.now) 0 (has board.old)))) result.turns }
+    ensures deepest { result.deepest ≡ deepest_of (tried budget None (walk (R.puzzle rules.now) 0 (has board.old))) }
+    ensures few { result.deepest ≤ (R.puzzle rules.now).cells }
     ensures long { (length first.new ≡ (R.puzzle rules.now).cells) × (length second.new ≡ (R.puzzle rules.now).cells) }
     ensures shape { SameShape board.old board.new }
     ensures keeps { (needs : Needs) → R.serves scratch.old needs → R.serves scratch.new needs }
@@ -330,6 +360,8 @@ pub(crate) fn walk_board<R: Rules>(
         depth: 0,
         found: false,
         stop: false,
+        turns: 0,
+        deepest: 0,
     };
     let at = descend(
         rules, board, scratch, sets, waits, trace, trail, frames, first, second, from,
@@ -338,6 +370,8 @@ pub(crate) fn walk_board<R: Rules>(
         return Searched {
             verdict: Verdict::Several,
             trials: 0,
+            turns: at.turns,
+            deepest: at.deepest,
         };
     }
     search(

@@ -1,13 +1,14 @@
 //! The memory of a search, taken at once.
 
-ghost use Rattle.std.specs.Prelude.{◌≡◌, ℕ, ◌<◌, ◌≤◌, ◌↔◌, IfOk, IsTrue, List, length, slice_index, take, true, false, None as NoGrid, option_map};
+ghost use Rattle.std.specs.Prelude.{◌≡◌, ℕ, ◌<◌, ◌≤◌, ◌↔◌, IfOk, IsTrue, List, length, slice_index, take, true, false, None as NoGrid, option_map, ◌+◌, ◌*◌, ◌∷◌};
 ghost use Rattle.grid_core.specs.Board.{has, cells_of, Layout};
 ghost use Rattle.grid_core.specs.Candidates.{IsInside, is_full, grid_of};
 ghost use Rattle.engine_core.specs.Puzzle.{Puzzle, Needs, needs_of, FitsIn, IsBoardOf};
 ghost use Rattle.engine_core.specs.ClosingList.{IsClosing};
 ghost use Rattle.engine_core.specs.Mode.{is_queue};
 ghost use Rattle.engine_core.specs.Walk.{walk};
-ghost use Rattle.engine_core.specs.Verdict.{outcome, spent, IsTrueOf};
+ghost use Rattle.engine_core.specs.Verdict.{outcome, spent, tried, IsTrueOf};
+ghost use Rattle.engine_core.specs.Counts.{deepest_of, boards_of, IsTurns};
 ghost use Rattle.engine_core.specs.Stored.{Stored, IsUnsearched, IsAnswer, sizes_of, is_settled};
 ghost use Rattle.engine_core.specs.StoreParts.{needs_made};
 
@@ -63,6 +64,8 @@ pub struct Store<R: Rules> {
     has_first: bool,
     has_second: bool,
     trials: u64,
+    turns: u128,
+    deepest: usize,
 }
 
 impl<R: Rules> Model for Store<R> {
@@ -75,7 +78,7 @@ impl<R: Rules> Model for Store<R> {
 
     ghost Value = { Stored };
 
-    ghost view = { λ s. record { board = s.board; trace = take s.visits s.trace.items; sweeps = s.sweeps; first = found_of s.has_first s.first; second = found_of s.has_second s.second; trials = s.trials; made = needs_made s.made } };
+    ghost view = { λ s. record { board = s.board; trace = take s.visits s.trace.items; sweeps = s.sweeps; first = found_of s.has_first s.first; second = found_of s.has_second s.second; trials = s.trials; turns = s.turns; deepest = s.deepest; made = needs_made s.made } };
 
     ghost invariant = { λ s. IsStoreOf (is_queue R.MODE) (needs_made s.made) s.board s.trail.items s.frames.items s.trace.items s.waits.items s.scope.items s.first s.second s.visits × R.serves s.scratch (needs_made s.made) };
 }
@@ -115,6 +118,8 @@ impl<R: Rules> Store<R> {
             has_first: false,
             has_second: false,
             trials: 0,
+            turns: 0,
+            deepest: 0,
         })
     }
 
@@ -192,6 +197,8 @@ impl<R: Rules> Store<R> {
         self.has_first = false;
         self.has_second = false;
         self.trials = 0;
+        self.turns = 0;
+        self.deepest = 0;
         closed.closing
     }
 
@@ -239,6 +246,10 @@ impl<R: Rules> Store<R> {
         ensures sound { IsTrueOf (R.puzzle rules.now) (outcome budget NoGrid (walk (R.puzzle rules.now) 0 (R.puzzle rules.now).start)) }
         ensures trials { self.new.trials ≡ spent budget NoGrid (walk (R.puzzle rules.now) 0 (R.puzzle rules.now).start) }
         ensures within { self.new.trials ≤ budget }
+        ensures turns { IsTurns (R.puzzle rules.now) ((R.puzzle rules.now).start ∷ boards_of (tried budget NoGrid (walk (R.puzzle rules.now) 0 (R.puzzle rules.now).start))) self.new.turns }
+        ensures few_turns { self.new.turns ≤ (self.new.trials + 1) * (R.puzzle rules.now).bound }
+        ensures deepest { self.new.deepest ≡ deepest_of (tried budget NoGrid (walk (R.puzzle rules.now) 0 (R.puzzle rules.now).start)) }
+        ensures few_open { self.new.deepest ≤ self.new.made.cells }
         ensures made { self.new.made ≡ self.old.made }
     {
         rules.start(&mut self.board);
@@ -256,6 +267,8 @@ impl<R: Rules> Store<R> {
             budget,
         );
         self.trials = searched.trials;
+        self.turns = searched.turns;
+        self.deepest = searched.deepest;
         self.has_first = match searched.verdict {
             Verdict::None => false,
             Verdict::One | Verdict::Several => true,
@@ -295,6 +308,20 @@ impl<R: Rules> Store<R> {
         ensures { result ≡ self.now.trials }
     {
         self.trials
+    }
+
+    /// How many visits, or sweeps, all closings of the last search made.
+    pub fn turns(&self) -> u128
+        ensures { result ≡ self.now.turns }
+    {
+        self.turns
+    }
+
+    /// How many trials of the last search were open at once, at most.
+    pub fn deepest(&self) -> usize
+        ensures { result ≡ self.now.deepest }
+    {
+        self.deepest
     }
 
     /// The board that the last closing left.

@@ -1,9 +1,11 @@
 use Rattle.std.proofs.Common.{◌≡◌, ℕ, ◌≤◌, ◌*◌, length, ap, sym, ◌∙◌, None, arith}
 use Rattle.grid_core.specs.Board.{has}
-use Rattle.grid_core.specs.Candidates.{total}
+use Rattle.grid_core.specs.Candidates.{Candidates, total}
 use Rattle.engine_core.specs.Walk.{walk}
 use Rattle.engine_core.specs.Stored.{Stored}
 use Rattle.engine_core.proofs.SweepLemmas.{total-bound}
+use Rattle.engine_core.specs.Verdict.{tried}
+use Rattle.engine_core.proofs.CountLemmas.{spent-tried, search-few}
 use Rattle.engine_core.proofs.VerdictLemmas.{outcome-true, spent-le}
 use Rattle.engine_core.proofs.store.Store.solve.Goals as goal
 
@@ -19,9 +21,20 @@ walk_board-searched-requires-clause-trail_room g c =
 pub returns-clause-sound : goal.returns-clause-sound
 returns-clause-sound g c = outcome-true (g.R.Rules.puzzle c.args.rules.now) (g.met.R.Rules.lawful c.args.rules.now) c.args.budget
 
+pub returns-clause-trials : goal.returns-clause-trials
+returns-clause-trials g c =
+    let p = g.R.Rules.puzzle c.args.rules.now in
+    c.walk_board-searched.ensures.exact ∙ ap (λ (K : Candidates). length (tried c.args.budget None (walk p 0 K))) c.start.ensures.start ∙ sym (spent-tried c.args.budget None (walk p 0 p.start))
+
 pub returns-clause-within : goal.returns-clause-within
 returns-clause-within g c =
     let p = g.R.Rules.puzzle c.args.rules.now in
     let le = spent-le c.args.budget None (walk p 0 (has c.start.new.board)) in
+    let same = spent-tried c.args.budget None (walk p 0 (has c.start.new.board)) in
     let e = c.walk_board-searched.ensures.exact in
-    omega (arith, e, le)
+    omega (arith, e, le, same)
+
+pub returns-clause-few_turns : goal.returns-clause-few_turns
+returns-clause-few_turns g c =
+    let p = g.R.Rules.puzzle c.args.rules.now in
+    search-few p (has c.start.new.board) (tried c.args.budget None (walk p 0 (has c.start.new.board))) c.walk_board-searched.result.turns c.walk_board-searched.result.trials c.walk_board-searched.ensures.turns c.walk_board-searched.ensures.exact
