@@ -6,3 +6,8 @@ pub mod ListingRests
 pub mod ListingClues
 pub mod ListingSteps
 pub mod ListingKept
+pub mod Leads
+pub mod SpelledRuns
+pub mod Words
+pub mod Spellings
+pub mod TableSteps

@@ -69,7 +69,7 @@ black_on s sets k lengths rest has r = record {
 }
 
 -- after a black cell the first run is at least as long as what was passed
-first_run : (k : ℕ) (cells : List ℕ) → (m : ℕ) × (rest : List ℕ) × (runs_after (suc k) cells ≡ m ∷ rest) × (suc k ≤ m)
+pub first_run : (k : ℕ) (cells : List ℕ) → (m : ℕ) × (rest : List ℕ) × (runs_after (suc k) cells ≡ m ∷ rest) × (suc k ≤ m)
 unfolding runs_after
 first_run k [] = (suc k, [], refl, omega arith)
 first_run k (zero ∷ cells) = (suc k, runs_after 0 cells, refl, omega arith)

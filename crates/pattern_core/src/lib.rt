@@ -5,6 +5,7 @@ mod check;
 mod fault;
 mod lines;
 mod listing;
+mod table;
 mod walk;
 
 pub use check::check_pattern;
