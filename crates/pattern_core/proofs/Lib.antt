@@ -1,3 +1,4 @@
+pub mod FirstRun
 pub mod WalkLemmas
 pub mod NextLine
 pub mod LineVisits

@@ -9,7 +9,7 @@ use Rattle.gameid_core.specs.Puzzles.{used}
 use Rattle.engine_core.specs.Filling.{Set, strikes_by_fillings}
 use Rattle.pattern_core.specs.Lines.{same_numbers, has_runs}
 use Rattle.pattern_core.specs.Track.{spelled, Track, IsBelow, may_stay, track_of, leads, some_leads, cell_is}
-use Rattle.pattern_core.proofs.ListingRests.{first_run}
+use Rattle.pattern_core.proofs.FirstRun.{first_run}
 
 -- ---- by what is left of the spelled clue
 -- whether the cells go on to an end of what is left; `may` says whether a further white cell may come first

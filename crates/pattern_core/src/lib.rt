@@ -4,6 +4,7 @@
 mod check;
 mod fault;
 mod lines;
+#[cfg(test)]
 mod listing;
 mod table;
 mod walk;
