@@ -9,6 +9,9 @@ mod listing;
 mod table;
 mod walk;
 
-pub use check::check_pattern;
+pub use check::{accepted_are_solutions, check_pattern};
 pub use fault::PatternFault;
 pub use lines::{LineScratch, PatternLines};
+
+#[cfg(test)]
+mod tests;
