@@ -1,3 +1,4 @@
+pub mod FirstRun
 pub mod WalkLemmas
 pub mod NextLine
 pub mod LineVisits
@@ -6,3 +7,8 @@ pub mod ListingRests
 pub mod ListingClues
 pub mod ListingSteps
 pub mod ListingKept
+pub mod Leads
+pub mod SpelledRuns
+pub mod Words
+pub mod Spellings
+pub mod TableSteps

@@ -1,11 +1,12 @@
 -- A visit of a line, from its three steps.
-use Rattle.std.proofs.Common.{◌≡◌, ◌∙◌, ℕ, ◌+◌, ◌*◌, ◌<◌, ◌≤◌, Bool, true, false, not, ◌&&◌, List, [], length, slice_index, get_or, take, map, refl, sym, ap, ap₂, arith}
+use Rattle.std.proofs.Common.{◌≡◌, ◌∙◌, ℕ, zero, suc, ◌+◌, ◌*◌, ◌<◌, ◌≤◌, Bool, true, false, not, cond, ltb, ◌&&◌, List, [], ◌∷◌, length, slice_index, get_or, take, map, refl, sym, ap, ap₂, subst, arith}
+use Rattle.std.specs.List.{AllByRecursion}
 use Rattle.std.proofs.lemmas.Bool.{true≢false, false_from_ne_true}
 use Rattle.std.proofs.lemmas.List.{get_or-map, take_all}
 use Rattle.std.proofs.Math.Path.{fun_ext}
-use Rattle.grid_core.specs.Extent.{Extent}
+use Rattle.grid_core.specs.Extent.{Extent, IsExtent, max_side}
 use Rattle.grid_core.specs.Candidates.{Candidates, IsWithin}
-use Rattle.gameid_core.specs.Puzzles.{Pattern, lines_of}
+use Rattle.gameid_core.specs.Puzzles.{Pattern, IsPattern, IsClue, AreClues, line_cells, lines_of, used}
 use Rattle.gameid_core.specs.BlackRuns.{runs}
 use Rattle.engine_core.specs.Places.{has_place-here}
 use Rattle.engine_core.specs.Puzzle.{after}
@@ -64,3 +65,23 @@ wrong_line p g size line clue told same is tells off before = record {
   wrong = λ has. true≢false (sym (tells (ap (λ (s : Extent). runs (numbers_of s g line)) same ∙ has ∙ sym is)) ∙ off);
   before = before;
 }
+
+-- a clue of a puzzle fits its line, and a spelled clue fits a word
+clue_from : (size : Extent) (clues : List (List ℕ)) (from k : ℕ) → AreClues size from clues → k < length clues → IsClue (line_cells size (from + k)) (get_or clues k [])
+clue_from size [] from k all lt = absurd (omega arith)
+clue_from size (clue ∷ clues) from zero all lt = subst (λ n. IsClue (line_cells size n) clue) (let z : from ≡ from + 0 = omega arith in z) all.0
+clue_from size (clue ∷ clues) from (suc k) all lt =
+    subst (λ n. IsClue (line_cells size n) (get_or clues k [])) (let z : from + 1 + k ≡ from + suc k = omega arith in z) (clue_from size clues (from + 1) k all.1 (omega arith))
+
+line_short : (size : Extent) (line : ℕ) → IsExtent size → line_cells size line ≤ max_side
+line_short size line e = by (ltb line size.w)
+  where
+    by : (b : Bool) → cond b size.h size.w ≤ max_side
+    by true = e.h_high
+    by false = e.w_high
+
+pub clue_of_line : (p : Pattern) (line : ℕ) (clue : List ℕ) → IsPattern p → line < lines_of p.size → clue ≡ clue_of p line → AllByRecursion (λ n. 0 < n) clue × (used clue ≤ 127)
+clue_of_line p line clue is lt same =
+    let here : IsClue (line_cells p.size (0 + line)) (clue_of p line) = clue_from p.size p.clues 0 line is.clues (let e = is.lines in omega arith) in
+    let short = line_short p.size (0 + line) is.size in
+    (subst (AllByRecursion (λ n. 0 < n)) (sym same) here.positive, (let f = here.fits in let e = ap used same in omega arith))

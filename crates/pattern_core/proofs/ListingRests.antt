@@ -2,6 +2,7 @@
 use Rattle.std.proofs.Common.{◌≡◌, ℕ, zero, suc, ◌+◌, ◌-◌, ◌<◌, ◌≤◌, Bool, true, false, true≢false, List, [], ◌∷◌, ◌++◌, length, get_or, drop, refl, sym, ◌∙◌, ap, ap₂, subst, arith, ◌⊎◌, inl, inr}
 use Rattle.engine_core.specs.Sets.{has_bit}
 use Rattle.gameid_core.specs.BlackRuns.{run_of, runs_after}
+use Rattle.pattern_core.proofs.FirstRun.{first_run}
 use Rattle.pattern_core.specs.Listing.{IsRest, BeginsWith}
 
 rest_tail : (s : ℕ) (sets : List ℕ) (k x : ℕ) (lengths : List ℕ) (cells : List ℕ) (k' : ℕ) (lengths' : List ℕ)
@@ -67,13 +68,6 @@ black_on s sets k lengths rest has r = record {
   rest = rest_front s sets k 1 lengths rest (k + 1) lengths has (omega arith) r (ap (λ n. runs_after n rest) (let z : suc k ≡ k + 1 = omega arith in z) ∙ r.runs_are);
   first = refl;
 }
-
--- after a black cell the first run is at least as long as what was passed
-first_run : (k : ℕ) (cells : List ℕ) → (m : ℕ) × (rest : List ℕ) × (runs_after (suc k) cells ≡ m ∷ rest) × (suc k ≤ m)
-unfolding runs_after
-first_run k [] = (suc k, [], refl, omega arith)
-first_run k (zero ∷ cells) = (suc k, runs_after 0 cells, refl, omega arith)
-first_run k (suc x ∷ cells) = let w = first_run (suc k) cells in (w.0, w.1, w.2, let h = w.3 in omega arith)
 
 pub no_more_black : (s : ℕ) (sets : List ℕ) (k : ℕ) (cells : List ℕ) → BeginsWith (s ∷ sets) k [] 1 cells → ⊥
 no_more_black s sets k cells b =

@@ -1,10 +1,13 @@
 //! The check of a grid.
 
-ghost use Rattle.std.specs.Prelude.{◌*◌};
+ghost use Rattle.std.specs.Prelude.{◌≡◌, ◌*◌, ◌↔◌, ℕ, List, true};
 ghost use Rattle.grid_core.specs.Grids.{IsGrid};
 ghost use Rattle.pattern_core.specs.Faults.{IsCheck};
+ghost use Rattle.pattern_core.specs.LineRules.{line_rules};
+ghost use Rattle.pattern_core.specs.Solutions.{IsSolution};
 
 use crate::fault::PatternFault;
+use crate::lines::PatternLines;
 use crate::walk::has_clue;
 use gameid_core::PatternPuzzle;
 use grid_core::Grid;
@@ -31,3 +34,9 @@ pub fn check_pattern(puzzle: &PatternPuzzle, grid: &Grid) -> Option<PatternFault
     }
     None
 }
+
+/// The grids that a search with these rules accepts are the solutions of their puzzle.
+pub fn accepted_are_solutions(_rules: &PatternLines)
+    ensures { (g : List ℕ) → IsGrid (_rules.now.pattern.size.w * _rules.now.pattern.size.h) 2 g
+        → ((line_rules _rules.now.pattern).is_solution g ≡ true) ↔ IsSolution _rules.now.pattern g }
+{}

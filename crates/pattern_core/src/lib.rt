@@ -5,10 +5,15 @@ mod check;
 mod fault;
 mod laws;
 mod lines;
+#[cfg(test)]
 mod listing;
+mod table;
 mod walk;
 
-pub use check::check_pattern;
+pub use check::{accepted_are_solutions, check_pattern};
 pub use fault::PatternFault;
 pub use laws::accepted_are_solutions;
 pub use lines::{LineScratch, PatternLines};
+
+#[cfg(test)]
+mod tests;

@@ -3,13 +3,14 @@
 ghost use Rattle.std.specs.Prelude.{◌≡◌, ℕ, ◌+◌, ◌*◌, ◌<◌, ◌≤◌, IfOk, true, false, [], length, map, refl, slice_index, slice_index_or};
 ghost use Rattle.grid_core.specs.Extent.{IsExtent};
 ghost use Rattle.grid_core.specs.Board.{has, cells_of, SameShape};
-ghost use Rattle.gameid_core.specs.Puzzles.{lines_of, line_cells};
+ghost use Rattle.std.specs.List.{AllByRecursion};
+ghost use Rattle.gameid_core.specs.Puzzles.{lines_of, line_cells, used};
 ghost use Rattle.engine_core.specs.Closing.{HasStruck};
 ghost use Rattle.engine_core.specs.declared.mode.Mode.TheVariants.{Queue};
 ghost use Rattle.pattern_core.specs.Lines.{line_places};
 ghost use Rattle.pattern_core.specs.LineRules.{line_rules, after_line};
 
-use crate::listing::keep;
+use crate::table::keep;
 use crate::walk::{has_clue, line_len};
 use engine_core::{Mode, Rules, apply, gather};
 use gameid_core::PatternPuzzle;
@@ -47,16 +48,17 @@ pub struct LineScratch {
     places: Vec<usize>,
     sets: Vec<u32>,
     kept: Vec<u32>,
+    rows: Vec<u128>,
 }
 
 impl Model for LineScratch {
-    ghost use Rattle.std.specs.Prelude.{◌≡◌, ℕ, length};
+    ghost use Rattle.std.specs.Prelude.{◌≡◌, ℕ, ◌<◌, length};
 
     ghost Value = { ℕ };
 
     ghost view = { λ s. length s.places.items };
 
-    ghost invariant = { λ s. (length s.sets.items ≡ length s.places.items) × (length s.kept.items ≡ length s.places.items) };
+    ghost invariant = { λ s. (length s.sets.items ≡ length s.places.items) × (length s.kept.items ≡ length s.places.items) × (length s.places.items < length s.rows.items) };
 }
 
 /// The place of a line's k-th cell: downwards in a column and rightwards in a row.
@@ -94,6 +96,7 @@ fn visit_line(
     places: &mut [usize],
     sets: &mut [u32],
     kept: &mut [u32],
+    rows: &mut [u128],
 ) -> bool
     requires line { line < lines_of size }
     requires cells { cells_of board.old ≡ size.w * size.h }
@@ -101,6 +104,9 @@ fn visit_line(
     requires places { length places.old ≡ line_cells size line }
     requires sets { length sets.old ≡ line_cells size line }
     requires kept { length kept.old ≡ line_cells size line }
+    requires rows { line_cells size line < length rows.old }
+    requires positive { AllByRecursion (λ n. 0 < n) clue.now }
+    requires fits { used clue.now ≤ 127 }
     ensures left { has board.new ≡ after_line size line clue.now (has board.old) }
     ensures shape { SameShape board.old board.new }
     ensures unchanged { result ≡ false → has board.new ≡ has board.old }
@@ -108,7 +114,7 @@ fn visit_line(
 {
     write_places(size, line, places);
     gather(board, places, VALUES, sets);
-    keep(sets, clue, kept);
+    keep(sets, clue, rows, kept);
     apply(board, places, VALUES, kept)
 }
 
@@ -121,6 +127,7 @@ fn visit_within(
     places: &mut [usize],
     sets: &mut [u32],
     kept: &mut [u32],
+    rows: &mut [u128],
 ) -> bool
     requires line { line < lines_of size }
     requires cells { cells_of board.old ≡ size.w * size.h }
@@ -128,6 +135,9 @@ fn visit_within(
     requires places { line_cells size line ≤ length places.old }
     requires sets { line_cells size line ≤ length sets.old }
     requires kept { line_cells size line ≤ length kept.old }
+    requires rows { line_cells size line < length rows.old }
+    requires positive { AllByRecursion (λ n. 0 < n) clue.now }
+    requires fits { used clue.now ≤ 127 }
     ensures left { has board.new ≡ after_line size line clue.now (has board.old) }
     ensures shape { SameShape board.old board.new }
     ensures unchanged { result ≡ false → has board.new ≡ has board.old }
@@ -142,6 +152,7 @@ fn visit_within(
         &mut places[..cells],
         &mut sets[..cells],
         &mut kept[..cells],
+        rows,
     )
 }
 
@@ -244,6 +255,7 @@ impl Rules for PatternLines {
             places: vec![in alloc; 0usize; longest]?,
             sets: vec![in alloc; 0u32; longest]?,
             kept: vec![in alloc; 0u32; longest]?,
+            rows: vec![in alloc; 0u128; longest + 1]?,
         })
     }
 
@@ -256,6 +268,7 @@ impl Rules for PatternLines {
             &mut scratch.places,
             &mut scratch.sets,
             &mut scratch.kept,
+            &mut scratch.rows,
         )
     }
 

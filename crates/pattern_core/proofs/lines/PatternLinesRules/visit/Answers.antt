@@ -5,7 +5,7 @@ use Rattle.gameid_core.specs.Puzzles.{lines_of, line_cells}
 use Rattle.engine_core.specs.Puzzle.{after}
 use Rattle.pattern_core.specs.LineRules.{Ruled, line_rules}
 use Rattle.pattern_core.proofs.NextLine.{line_in_room}
-use Rattle.pattern_core.proofs.LineVisits.{clue_read, after_line_read}
+use Rattle.pattern_core.proofs.LineVisits.{clue_read, clue_of_line, after_line_read}
 use Rattle.pattern_core.proofs.lines.PatternLinesRules.visit.Goals as goal
 
 pub visit_within-requires-clause-places : goal.visit_within-requires-clause-places
@@ -31,3 +31,20 @@ returns-clause-left c =
     (clue_read (λ clue. clue.items) c.self.inside.clues.items c.args.house c.index.result.now c.deref.result.now
     (omega (arith, low, c.self.invariant.lines, length-map c.self.inside.clues.items (λ clue. clue.items))) c.deref.ensures.value c.index.ensures)
     ∙ ap (λ (r : Ruled). after (line_rules r.pattern) c.args.house (has c.args.board.now)) c.self.view_is
+
+pub visit_within-requires-clause-rows : goal.visit_within-requires-clause-rows
+visit_within-requires-clause-rows c =
+    let fits = line_in_room c.self.inside.size c.args.self.now.pattern.size c.args.house c.args.scratch.now (ap (λ (r : Ruled). r.pattern.size) c.self.view_is) c.requires.house_in c.requires.served in
+    omega (arith, fits, c.scratch.view_is, c.scratch.invariant.2, ap length c.deref_mut-4.ensures.value)
+
+pub visit_within-requires-clause-positive : goal.visit_within-requires-clause-positive
+visit_within-requires-clause-positive c =
+    let low : c.args.house < lines_of c.self.inside.size = let e = ap (λ (r : Ruled). lines_of r.pattern.size) c.self.view_is in omega (arith, e, c.requires.house_in) in
+    (clue_of_line _ c.args.house c.deref.result.now c.self.invariant low (clue_read (λ clue. clue.items) c.self.inside.clues.items c.args.house c.index.result.now c.deref.result.now
+    (omega (arith, low, c.self.invariant.lines, length-map c.self.inside.clues.items (λ clue. clue.items))) c.deref.ensures.value c.index.ensures)).0
+
+pub visit_within-requires-clause-fits : goal.visit_within-requires-clause-fits
+visit_within-requires-clause-fits c =
+    let low : c.args.house < lines_of c.self.inside.size = let e = ap (λ (r : Ruled). lines_of r.pattern.size) c.self.view_is in omega (arith, e, c.requires.house_in) in
+    (clue_of_line _ c.args.house c.deref.result.now c.self.invariant low (clue_read (λ clue. clue.items) c.self.inside.clues.items c.args.house c.index.result.now c.deref.result.now
+    (omega (arith, low, c.self.invariant.lines, length-map c.self.inside.clues.items (λ clue. clue.items))) c.deref.ensures.value c.index.ensures)).1

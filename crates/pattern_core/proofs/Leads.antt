@@ -1,0 +1,184 @@
+-- Fillings that lead along a track, cell by cell: by tests alone, no filling is taken apart.
+use Rattle.std.proofs.Common.{◌≡◌, ◌∙◌, ℕ, zero, suc, ◌+◌, ◌<◌, ◌≤◌, Bool, true, false, not, ◌&&◌, ◌||◌, eqb, List, [], ◌∷◌, length, refl, sym, ap, ap₂, arith, inl, inr}
+use Rattle.std.proofs.Math.Path.{fun_ext}
+use Rattle.std.proofs.Math.Bool.{and-or_distrib_right, and_assoc}
+use Rattle.std.proofs.lemmas.Bool.{true≢false, false≢true, and_parts, and_from, or_cases, or_left, or_right, false_from_ne_true}
+use Rattle.grid_core.specs.Candidates.{any_below}
+use Rattle.grid_core.proofs.CandidateLemmas.{any_below-some, any_below-here}
+use Rattle.engine_core.specs.Filling.{Set, some_filling}
+use Rattle.engine_core.specs.FillingLaws.{filling_from_test, test_from_filling}
+use Rattle.pattern_core.specs.Track.{Track, IsBelow, leads, some_leads, ahead, came, moved, any_cells, cell_is}
+
+pub same_tests : (x y : Bool) → (x ≡ true → y ≡ true) → (y ≡ true → x ≡ true) → x ≡ y
+same_tests true y h k = sym (h refl)
+same_tests false true h k = k refl
+same_tests false false h k = refl
+
+-- ---- tests of fillings
+some_or : (sets : List Set) (t u : List ℕ → Bool) → some_filling sets (λ f. t f || u f) ≡ (some_filling sets t || some_filling sets u)
+some_or sets t u = same_tests (some_filling sets (λ f. t f || u f)) (some_filling sets t || some_filling sets u)
+    (λ on. let w = filling_from_test sets (λ f. t f || u f) on in elim (or_cases (t w.0) (u w.0) w.2) [
+      | inl a ↦ or_left (some_filling sets t) (some_filling sets u) (test_from_filling sets t w.0 w.1 a)
+      | inr b ↦ or_right (some_filling sets t) (some_filling sets u) (test_from_filling sets u w.0 w.1 b)
+    ])
+    (λ on. elim (or_cases (some_filling sets t) (some_filling sets u) on) [
+      | inl a ↦ let w = filling_from_test sets t a in test_from_filling sets (λ f. t f || u f) w.0 w.1 (or_left (t w.0) (u w.0) w.2)
+      | inr b ↦ let w = filling_from_test sets u b in test_from_filling sets (λ f. t f || u f) w.0 w.1 (or_right (t w.0) (u w.0) w.2)
+    ])
+
+some_none : (sets : List Set) → some_filling sets (λ f. false) ≡ false
+some_none sets = false_from_ne_true (some_filling sets (λ f. false)) (λ on. let w = filling_from_test sets (λ f. false) on in false≢true w.2)
+
+some_and : (sets : List Set) (b : Bool) (t : List ℕ → Bool) → some_filling sets (λ f. b && t f) ≡ (b && some_filling sets t)
+some_and sets true t = refl
+some_and sets false t = some_none sets
+
+some_same : (sets : List Set) (t u : List ℕ → Bool) → ((f : List ℕ) → t f ≡ u f) → some_filling sets t ≡ some_filling sets u
+some_same sets t u h = ap (some_filling sets) (fun_ext h)
+
+or_false : (x : Bool) → (x || false) ≡ x
+or_false true = refl
+or_false false = refl
+
+some_split : (a b : Bool) (sets : List Set) (t : List ℕ → Bool)
+    → some_filling ((a ∷ b ∷ []) ∷ sets) t ≡ ((a && some_filling sets (λ f. t (0 ∷ f))) || (b && some_filling sets (λ f. t (1 ∷ f))))
+unfolding some_filling
+some_split a b sets t = ap (λ y. (a && some_filling sets (λ f. t (0 ∷ f))) || y) (or_false (b && some_filling sets (λ f. t (1 ∷ f))))
+
+-- ---- one cell
+spread : (a x b y e : Bool) → (((a && x) || (b && y)) && e) ≡ ((a && (x && e)) || (b && (y && e)))
+spread a x b y e = and-or_distrib_right (a && x) (b && y) e ∙ ap₂ (λ p q. p || q) (and_assoc a x e) (and_assoc b y e)
+
+module _ (t : Track) (a b : Bool) (sets : List Set) where
+  pub leads_on : (test : List ℕ → Bool) (p : ℕ) → some_leads t ((a ∷ b ∷ []) ∷ sets) test p
+      ≡ ((a && ((t.stay p && some_leads t sets (λ f. test (0 ∷ f)) p) || (t.white p && some_leads t sets (λ f. test (0 ∷ f)) (suc p))))
+      || (b && (t.black p && some_leads t sets (λ f. test (1 ∷ f)) (suc p))))
+  unfolding some_leads leads
+  leads_on test p =
+      some_split a b sets (λ f. leads t p f && test f) ∙ ap₂ (λ x y. (a && x) || (b && y))
+      (some_same sets (λ f. leads t p (0 ∷ f) && test (0 ∷ f)) (λ f. (t.stay p && (leads t p f && test (0 ∷ f))) || (t.white p && (leads t (suc p) f && test (0 ∷ f))))
+      (λ f. spread (t.stay p) (leads t p f) (t.white p) (leads t (suc p) f) (test (0 ∷ f)))
+      ∙ some_or sets (λ f. t.stay p && (leads t p f && test (0 ∷ f))) (λ f. t.white p && (leads t (suc p) f && test (0 ∷ f)))
+      ∙ ap₂ (λ x y. x || y) (some_and sets (t.stay p) (λ f. leads t p f && test (0 ∷ f))) (some_and sets (t.white p) (λ f. leads t (suc p) f && test (0 ∷ f))))
+      (some_same sets (λ f. leads t p (1 ∷ f) && test (1 ∷ f)) (λ f. t.black p && (leads t (suc p) f && test (1 ∷ f))) (λ f. and_assoc (t.black p) (leads t (suc p) f) (test (1 ∷ f)))
+      ∙ some_and sets (t.black p) (λ f. leads t (suc p) f && test (1 ∷ f)))
+
+  -- by any cells
+  pub leads_any : (p : ℕ) → some_leads t ((a ∷ b ∷ []) ∷ sets) any_cells p ≡ ahead t a b (some_leads t sets any_cells) p
+  unfolding ahead any_cells
+  leads_any p = leads_on any_cells p
+
+  -- with a value at a later cell
+  pub leads_later : (k v p : ℕ) → some_leads t ((a ∷ b ∷ []) ∷ sets) (cell_is (suc k) v) p ≡ ahead t a b (some_leads t sets (cell_is k v)) p
+  unfolding ahead cell_is
+  leads_later k v p = leads_on (cell_is (suc k) v) p
+
+  never : (p : ℕ) → some_leads t sets (λ f. false) p ≡ false
+  unfolding some_leads
+  never p = some_same sets (λ f. leads t p f && false) (λ f. false) (λ f. and_false (leads t p f)) ∙ some_none sets
+    where
+      and_false : (x : Bool) → (x && false) ≡ false
+      and_false true = refl
+      and_false false = refl
+
+  -- with white here, and with black here
+  pub leads_white : (p : ℕ) → some_leads t ((a ∷ b ∷ []) ∷ sets) (cell_is 0 0) p
+      ≡ (a && ((t.stay p && some_leads t sets any_cells p) || (t.white p && some_leads t sets any_cells (suc p))))
+  unfolding cell_is any_cells
+  leads_white p = leads_on (cell_is 0 0) p
+      ∙ ap (λ x. (a && ((t.stay p && some_leads t sets any_cells p) || (t.white p && some_leads t sets any_cells (suc p)))) || (b && (t.black p && x))) (never (suc p))
+      ∙ ap (λ x. (a && ((t.stay p && some_leads t sets any_cells p) || (t.white p && some_leads t sets any_cells (suc p)))) || x) (nothing b (t.black p))
+      ∙ or_false (a && ((t.stay p && some_leads t sets any_cells p) || (t.white p && some_leads t sets any_cells (suc p))))
+    where
+      nothing : (x y : Bool) → (x && (y && false)) ≡ false
+      nothing true true = refl
+      nothing true false = refl
+      nothing false y = refl
+
+  pub leads_black : (p : ℕ) → some_leads t ((a ∷ b ∷ []) ∷ sets) (cell_is 0 1) p ≡ (b && (t.black p && some_leads t sets any_cells (suc p)))
+  unfolding cell_is any_cells
+  leads_black p = leads_on (cell_is 0 1) p
+      ∙ ap₂ (λ x y. (a && ((t.stay p && x) || (t.white p && y))) || (b && (t.black p && some_leads t sets any_cells (suc p)))) (never p) (never (suc p))
+      ∙ ap (λ x. x || (b && (t.black p && some_leads t sets any_cells (suc p)))) (nothing a (t.stay p) (t.white p))
+    where
+      nothing : (x y z : Bool) → (x && ((y && false) || (z && false))) ≡ false
+      nothing true true true = refl
+      nothing true true false = refl
+      nothing true false true = refl
+      nothing true false false = refl
+      nothing false y z = refl
+
+-- ---- all places that were reached
+came-from : (reached leaves : ℕ → Bool) (q : ℕ) → came reached leaves q ≡ true → (p : ℕ) × (q ≡ suc p) × (reached p ≡ true) × (leaves p ≡ true)
+unfolding came
+came-from reached leaves zero on = absurd (false≢true on)
+came-from reached leaves (suc p) on = let w = and_parts (reached p) (leaves p) on in (p, refl, w.0, w.1)
+
+came-to : (reached leaves : ℕ → Bool) (p : ℕ) → reached p ≡ true → leaves p ≡ true → came reached leaves (suc p) ≡ true
+unfolding came
+came-to reached leaves p r l = and_from (reached p) (leaves p) r l
+
+module _ (t : Track) (a b : Bool) (n : ℕ) (below : IsBelow n t) (reached after : ℕ → Bool) where
+  moved-here : (q : ℕ) → q < n → moved t a b reached q ≡ true → after q ≡ true → any_below (λ q. moved t a b reached q && after q) n ≡ true
+  moved-here q lt m on = any_below-here (λ q. moved t a b reached q && after q) n q lt (and_from (moved t a b reached q) (after q) m on)
+
+  forth : any_below (λ p. reached p && ahead t a b after p) n ≡ true → any_below (λ q. moved t a b reached q && after q) n ≡ true
+  unfolding ahead moved
+  forth on =
+      let w = any_below-some (λ p. reached p && ahead t a b after p) n on in
+      let r = and_parts (reached w.0) (ahead t a b after w.0) w.2 in
+      elim (or_cases (a && ((t.stay w.0 && after w.0) || (t.white w.0 && after (suc w.0)))) (b && (t.black w.0 && after (suc w.0))) r.1) [
+        | inl x ↦ white w.0 w.1 r.0 (and_parts a ((t.stay w.0 && after w.0) || (t.white w.0 && after (suc w.0))) x)
+        | inr x ↦ black w.0 w.1 r.0 (and_parts b (t.black w.0 && after (suc w.0)) x)
+      ]
+    where
+      white : (p : ℕ) → p < n → reached p ≡ true → (a ≡ true) × (((t.stay p && after p) || (t.white p && after (suc p))) ≡ true) → any_below (λ q. moved t a b reached q && after q) n ≡ true
+      white p lt r (on_a, x) = elim (or_cases (t.stay p && after p) (t.white p && after (suc p)) x) [
+        | inl y ↦ let u = and_parts (t.stay p) (after p) y in
+            moved-here p lt (or_left (a && ((reached p && t.stay p) || came reached t.white p)) (b && came reached t.black p)
+            (and_from a ((reached p && t.stay p) || came reached t.white p) on_a (or_left (reached p && t.stay p) (came reached t.white p) (and_from (reached p) (t.stay p) r u.0)))) u.1
+        | inr y ↦ let u = and_parts (t.white p) (after (suc p)) y in
+            moved-here (suc p) (below.white p u.0) (or_left (a && ((reached (suc p) && t.stay (suc p)) || came reached t.white (suc p))) (b && came reached t.black (suc p))
+            (and_from a ((reached (suc p) && t.stay (suc p)) || came reached t.white (suc p)) on_a (or_right (reached (suc p) && t.stay (suc p)) (came reached t.white (suc p)) (came-to reached t.white p r u.0)))) u.1
+      ]
+
+      black : (p : ℕ) → p < n → reached p ≡ true → (b ≡ true) × ((t.black p && after (suc p)) ≡ true) → any_below (λ q. moved t a b reached q && after q) n ≡ true
+      black p lt r (on_b, x) =
+          let u = and_parts (t.black p) (after (suc p)) x in
+          moved-here (suc p) (below.black p u.0) (or_right (a && ((reached (suc p) && t.stay (suc p)) || came reached t.white (suc p))) (b && came reached t.black (suc p))
+          (and_from b (came reached t.black (suc p)) on_b (came-to reached t.black p r u.0))) u.1
+
+  ahead-here : (p : ℕ) → p < n → reached p ≡ true → ahead t a b after p ≡ true → any_below (λ p. reached p && ahead t a b after p) n ≡ true
+  ahead-here p lt r on = any_below-here (λ p. reached p && ahead t a b after p) n p lt (and_from (reached p) (ahead t a b after p) r on)
+
+  back : any_below (λ q. moved t a b reached q && after q) n ≡ true → any_below (λ p. reached p && ahead t a b after p) n ≡ true
+  unfolding ahead moved
+  back on =
+      let w = any_below-some (λ q. moved t a b reached q && after q) n on in
+      let m = and_parts (moved t a b reached w.0) (after w.0) w.2 in
+      elim (or_cases (a && ((reached w.0 && t.stay w.0) || came reached t.white w.0)) (b && came reached t.black w.0) m.0) [
+        | inl x ↦ white w.0 w.1 m.1 (and_parts a ((reached w.0 && t.stay w.0) || came reached t.white w.0) x)
+        | inr x ↦ let u = and_parts b (came reached t.black w.0) x in black w.0 w.1 m.1 u.0 (came-from reached t.black w.0 u.1)
+      ]
+    where
+      black : (q : ℕ) → q < n → after q ≡ true → b ≡ true → (p : ℕ) × (q ≡ suc p) × (reached p ≡ true) × (t.black p ≡ true) → any_below (λ p. reached p && ahead t a b after p) n ≡ true
+      black q lt on on_b (p, e, r, l) =
+          ahead-here p (omega arith) r (or_right (a && ((t.stay p && after p) || (t.white p && after (suc p)))) (b && (t.black p && after (suc p)))
+          (and_from b (t.black p && after (suc p)) on_b (and_from (t.black p) (after (suc p)) l (ap after (sym e) ∙ on))))
+
+      white : (q : ℕ) → q < n → after q ≡ true → (a ≡ true) × (((reached q && t.stay q) || came reached t.white q) ≡ true) → any_below (λ p. reached p && ahead t a b after p) n ≡ true
+      white q lt on (on_a, x) = elim (or_cases (reached q && t.stay q) (came reached t.white q) x) [
+        | inl y ↦ let u = and_parts (reached q) (t.stay q) y in
+            ahead-here q lt u.0 (or_left (a && ((t.stay q && after q) || (t.white q && after (suc q)))) (b && (t.black q && after (suc q)))
+            (and_from a ((t.stay q && after q) || (t.white q && after (suc q))) on_a (or_left (t.stay q && after q) (t.white q && after (suc q)) (and_from (t.stay q) (after q) u.1 on))))
+        | inr y ↦ by_white (came-from reached t.white q y)
+      ]
+        where
+          by_white : (p : ℕ) × (q ≡ suc p) × (reached p ≡ true) × (t.white p ≡ true) → any_below (λ p. reached p && ahead t a b after p) n ≡ true
+          by_white (p, e, r, l) =
+              ahead-here p (omega arith) r (or_left (a && ((t.stay p && after p) || (t.white p && after (suc p)))) (b && (t.black p && after (suc p)))
+              (and_from a ((t.stay p && after p) || (t.white p && after (suc p))) on_a (or_right (t.stay p && after p) (t.white p && after (suc p)) (and_from (t.white p) (after (suc p)) l (ap after (sym e) ∙ on)))))
+
+  -- a way on from a reached place is a way on from a place that the cell reaches
+  pub ways_on : any_below (λ p. reached p && ahead t a b after p) n ≡ any_below (λ q. moved t a b reached q && after q) n
+  ways_on = same_tests (any_below (λ p. reached p && ahead t a b after p) n) (any_below (λ q. moved t a b reached q && after q) n) forth back

@@ -1,0 +1,157 @@
+-- A line leads along the spelled clue from its first place to an end exactly where its runs are the clue.
+use Rattle.std.proofs.Common.{◌≡◌, ◌∙◌, ℕ, zero, suc, ◌+◌, ◌-◌, ◌<◌, ◌≤◌, Bool, true, false, not, ◌&&◌, ◌||◌, eqb, leb, List, [], ◌∷◌, ◌++◌, length, get_or, drop, replicate, refl, sym, ap, ap₂, subst, arith, inl, inr, ◌⊎◌}
+use Rattle.std.specs.List.{AllByRecursion}
+use Rattle.std.proofs.Math.Path.{fun_ext}
+use Rattle.std.proofs.lemmas.Bool.{cases_eq, cases_lt, eq-eqb, ne_eqb, eqb-true, le-leb, lt-leb, true≢false}
+use Rattle.std.proofs.lemmas.List.{length-append, length-drop, get_or-drop, drop-drop, get_or_past, length-replicate}
+use Rattle.gameid_core.specs.BlackRuns.{run_of, runs_after, runs}
+use Rattle.gameid_core.specs.Puzzles.{used}
+use Rattle.engine_core.specs.Filling.{Set, strikes_by_fillings}
+use Rattle.pattern_core.specs.Lines.{same_numbers, has_runs}
+use Rattle.pattern_core.specs.Track.{spelled, Track, IsBelow, may_stay, track_of, leads, some_leads, cell_is}
+use Rattle.pattern_core.proofs.FirstRun.{first_run}
+
+-- ---- by what is left of the spelled clue
+-- whether the cells go on to an end of what is left; `may` says whether a further white cell may come first
+matches : Bool → List ℕ → List ℕ → Bool
+matches may left [] = leb (length left) 1
+matches may left (zero ∷ cells) = (may && matches true left cells) || (eqb (get_or left 0 2) 0 && matches true (drop 1 left) cells)
+matches may left (suc x ∷ cells) = eqb (get_or left 0 2) 1 && matches false (drop 1 left) cells
+
+or_false : (x : Bool) → (x || false) ≡ x
+or_false true = refl
+or_false false = refl
+
+-- more than one cell is left of a run
+long : (d : ℕ) (clue : List ℕ) → leb (length (1 ∷ (replicate d 1 ++ 0 ∷ spelled clue))) 1 ≡ false
+long d clue = lt-leb (length (1 ∷ (replicate d 1 ++ 0 ∷ spelled clue))) 1 (omega (arith, length-append (replicate d 1) (0 ∷ spelled clue)))
+
+abbrev Positive : List ℕ → Type 0
+Positive clue = AllByRecursion (λ n. 0 < n) clue
+
+-- the runs after black cells are some
+not_none : (k : ℕ) (cells : List ℕ) → same_numbers (runs_after (suc k) cells) [] ≡ false
+unfolding same_numbers
+not_none k cells = let w = first_run k cells in ap (λ r. same_numbers r []) w.2
+
+-- the first of them is longer than the cells before
+too_long : (k m : ℕ) (cells clue : List ℕ) → m ≤ k → same_numbers (runs_after (suc k) cells) (m ∷ clue) ≡ false
+unfolding same_numbers
+too_long k m cells clue le =
+    let w = first_run k cells in
+    ap (λ r. same_numbers r (m ∷ clue)) w.2 ∙ ap (λ b. b && same_numbers w.1 clue) (ne_eqb w.0 m (λ e. let low = w.3 in absurd (omega arith)))
+
+-- cells from the start of a run on, and cells after so many black ones of a run
+abbrev Starts : List ℕ → Type 0
+Starts cells = (clue : List ℕ) → Positive clue → matches true (spelled clue) cells ≡ same_numbers (runs_after 0 cells) clue
+
+abbrev GoesOn : List ℕ → Type 0
+GoesOn cells = (k d : ℕ) (clue : List ℕ) → Positive clue → matches false (replicate d 1 ++ 0 ∷ spelled clue) cells ≡ same_numbers (runs_after (suc k) cells) ((suc k + d) ∷ clue)
+
+and_none : (b : Bool) → (b && false) ≡ false
+and_none true = refl
+and_none false = refl
+
+starts_none : Starts []
+unfolding spelled same_numbers runs_after matches
+starts_none [] p = refl
+starts_none (zero ∷ clue) p = absurd (let q = p.0 in omega arith)
+starts_none (suc m ∷ clue) p = long m clue
+
+goes_on_none : GoesOn []
+unfolding spelled same_numbers runs_after matches
+goes_on_none k zero [] p = sym (ap (λ b. b && true) (eq-eqb (suc k) (suc k + 0) (omega arith)))
+goes_on_none k zero (zero ∷ clue) p = absurd (let q = p.0 in omega arith)
+goes_on_none k zero (suc m ∷ clue) p = lt-leb (length (0 ∷ spelled (suc m ∷ clue))) 1 (omega arith) ∙ sym (and_none (eqb (suc k) (suc k + 0)))
+goes_on_none k (suc d) clue p = long d clue ∙ sym (ap (λ b. b && same_numbers [] clue) (ne_eqb (suc k) (suc k + suc d) (λ e. absurd (omega arith))))
+
+starts_white : (cells : List ℕ) → Starts cells → Starts (zero ∷ cells)
+unfolding spelled same_numbers runs_after matches
+starts_white cells rest [] p = or_false (matches true [] cells) ∙ rest [] p
+starts_white cells rest (zero ∷ clue) p = absurd (let q = p.0 in omega arith)
+starts_white cells rest (suc m ∷ clue) p = or_false (matches true (spelled (suc m ∷ clue)) cells) ∙ rest (suc m ∷ clue) p
+
+goes_on_white : (cells : List ℕ) → Starts cells → GoesOn (zero ∷ cells)
+unfolding spelled same_numbers runs_after matches
+goes_on_white cells rest k zero clue p = rest clue p ∙ sym (ap (λ b. b && same_numbers (runs_after 0 cells) clue) (eq-eqb (suc k) (suc k + 0) (omega arith)))
+goes_on_white cells rest k (suc d) clue p = sym (ap (λ b. b && same_numbers (runs_after 0 cells) clue) (ne_eqb (suc k) (suc k + suc d) (λ e. absurd (omega arith))))
+
+starts_black : (x : ℕ) (cells : List ℕ) → GoesOn cells → Starts (suc x ∷ cells)
+unfolding spelled runs_after matches
+starts_black x cells rest [] p = sym (not_none 0 cells)
+starts_black x cells rest (zero ∷ clue) p = absurd (let q = p.0 in omega arith)
+starts_black x cells rest (suc m ∷ clue) p = rest 0 m clue p.1 ∙ ap (λ n. same_numbers (runs_after 1 cells) (n ∷ clue)) (let z : suc 0 + m ≡ suc m = omega arith in z)
+
+goes_on_black : (x : ℕ) (cells : List ℕ) → GoesOn cells → GoesOn (suc x ∷ cells)
+unfolding spelled runs_after matches
+goes_on_black x cells rest k zero clue p = sym (too_long (suc k) (suc k + 0) cells clue (omega arith))
+goes_on_black x cells rest k (suc d) clue p =
+    rest (suc k) d clue p ∙ ap (λ m. same_numbers (runs_after (suc (suc k)) cells) (m ∷ clue)) (let z : suc (suc k) + d ≡ suc k + suc d = omega arith in z)
+
+both : (cells : List ℕ) → Starts cells × GoesOn cells
+both [] = (starts_none, goes_on_none)
+both (zero ∷ cells) = (starts_white cells (both cells).0, goes_on_white cells (both cells).0)
+both (suc x ∷ cells) = (starts_black x cells (both cells).1, goes_on_black x cells (both cells).1)
+
+-- ---- by places of the spelled clue
+and_same : (a x y : Bool) → (a ≡ true → x ≡ y) → (a && x) ≡ (a && y)
+and_same true x y h = h refl
+and_same false x y h = refl
+
+left_first : (spell : List ℕ) (p : ℕ) → get_or (drop p spell) 0 2 ≡ get_or spell p 2
+left_first spell p = get_or-drop p spell 0 2 ∙ ap (λ n. get_or spell n 2) (let z : p + 0 ≡ p = omega arith in z)
+
+-- a place at which something is spelled
+place_low : (spell : List ℕ) (p v : ℕ) → v < 2 → eqb (get_or spell p 2) v ≡ true → p < length spell
+place_low spell p v small on = elim (cases_lt p (length spell)) [
+  | inl low ↦ low
+  | inr high ↦ let e = eqb-true (get_or spell p 2) v on in let d = get_or_past spell p 2 high in absurd (omega arith)
+]
+
+next_left : (spell : List ℕ) (p : ℕ) → drop 1 (drop p spell) ≡ drop (suc p) spell
+next_left spell p = drop-drop 1 p spell ∙ ap (λ n. drop n spell) (let z : p + 1 ≡ suc p = omega arith in z)
+
+black_not_white : (v : ℕ) → eqb v 1 ≡ true → eqb v 0 ≡ false
+black_not_white v on = ne_eqb v 0 (λ e. let one = eqb-true v 1 on in absurd (omega arith))
+
+leads_left : (spell cells : List ℕ) (p : ℕ) → p ≤ length spell → leads (track_of spell) p cells ≡ matches (may_stay spell p) (drop p spell) cells
+unfolding leads track_of may_stay matches
+leads_left spell [] p le = elim (cases_eq p (length spell)) [
+  | inl e ↦ ap (λ b. b || eqb (suc p) (length spell)) (eq-eqb p (length spell) e) ∙ sym (le-leb (length (drop p spell)) 1 (omega (arith, length-drop p spell)))
+  | inr ne ↦ ap (λ b. b || eqb (suc p) (length spell)) (ne_eqb p (length spell) ne) ∙ elim (cases_eq (suc p) (length spell)) [
+    | inl e ↦ eq-eqb (suc p) (length spell) e ∙ sym (le-leb (length (drop p spell)) 1 (omega (arith, length-drop p spell)))
+    | inr more ↦ ne_eqb (suc p) (length spell) more ∙ sym (lt-leb (length (drop p spell)) 1 (omega (arith, length-drop p spell)))
+  ]
+]
+leads_left spell (zero ∷ cells) p le = ap₂ (λ a b. a || b)
+    (and_same (may_stay spell p) (leads (track_of spell) p cells) (matches true (drop p spell) cells) (λ on. leads_left spell cells p le ∙ ap (λ b. matches b (drop p spell) cells) on))
+    (and_same (eqb (get_or spell p 2) 0) (leads (track_of spell) (suc p) cells) (matches true (drop 1 (drop p spell)) cells) (λ on.
+    leads_left spell cells (suc p) (place_low spell p 0 (omega arith) on) ∙ ap₂ (λ b l. matches b l cells) on (sym (next_left spell p)))
+    ∙ ap (λ v. eqb v 0 && matches true (drop 1 (drop p spell)) cells) (sym (left_first spell p)))
+leads_left spell (suc x ∷ cells) p le =
+    and_same (eqb (get_or spell p 2) 1) (leads (track_of spell) (suc p) cells) (matches false (drop 1 (drop p spell)) cells) (λ on.
+    leads_left spell cells (suc p) (place_low spell p 1 (omega arith) on) ∙ ap₂ (λ b l. matches b l cells) (black_not_white (get_or spell p 2) on) (sym (next_left spell p)))
+    ∙ ap (λ v. eqb v 1 && matches false (drop 1 (drop p spell)) cells) (sym (left_first spell p))
+
+pub leads_runs : (clue cells : List ℕ) → AllByRecursion (λ n. 0 < n) clue → leads (track_of (spelled clue)) 0 cells ≡ has_runs clue cells
+unfolding has_runs may_stay
+leads_runs clue cells positive = leads_left (spelled clue) cells 0 (omega arith) ∙ (both cells).0 clue positive
+
+-- what a visit strikes, by the track
+pub strikes_by_track : (clue : List ℕ) (sets : List Set) (k v : ℕ) → AllByRecursion (λ n. 0 < n) clue
+    → strikes_by_fillings (has_runs clue) sets k v ≡ not (some_leads (track_of (spelled clue)) sets (cell_is k v) 0)
+unfolding some_leads cell_is
+strikes_by_track clue sets k v positive = ap (λ holds. strikes_by_fillings holds sets k v) (sym (fun_ext λ cells. leads_runs clue cells positive))
+
+-- ---- the length
+pub length-spelled : (clue : List ℕ) → length (spelled clue) ≡ used clue
+unfolding spelled
+length-spelled [] = refl
+length-spelled (n ∷ clue) = omega (arith, length-append (replicate n 1) (0 ∷ spelled clue), length-replicate {A = ℕ} n 1, length-spelled clue)
+
+pub track_below : (spell : List ℕ) (n : ℕ) → length spell < n → IsBelow n (track_of spell)
+unfolding track_of
+track_below spell n fits = record {
+  white = λ p on. let z = place_low spell p 0 (omega arith) on in omega arith;
+  black = λ p on. let z = place_low spell p 1 (omega arith) on in omega arith;
+}
