@@ -1,0 +1,2 @@
+pub mod PairedFillings
+pub mod Marks
