@@ -1,5 +1,5 @@
 -- The first rule of Solo that a grid breaks.
-use Rattle.std.specs.Prelude.{◌≡◌, ℕ, ◌+◌, ◌<◌, ◌≤◌, List, slice_index, Option, Some, None}
+use Rattle.std.specs.Prelude.{◌≡◌, ℕ, ◌+◌, ◌<◌, ◌≤◌, ◌-◌, ◌*◌, nat_lt, if◌then◌else◌, List, slice_index, Option, Some, None}
 use Rattle.gameid_core.specs.Puzzles.{Solo, solo_n}
 use Rattle.solo_core.specs.Solutions.{cells_of, row_of, column_of, block_of, IsSolution}
 use Rattle.solo_core.specs.declared.fault.SoloFault.{SoloFault}
@@ -33,3 +33,7 @@ IsFirstFault p g (Some (Row y)) = AllStand p g × FirstRepeats p (row_of p) g y
 IsFirstFault p g (Some (Column x)) = AllStand p g × NoneRepeats p (row_of p) g (solo_n p) × FirstRepeats p (column_of p) g x
 IsFirstFault p g (Some (Block b)) =
     AllStand p g × NoneRepeats p (row_of p) g (solo_n p) × NoneRepeats p (column_of p) g (solo_n p) × FirstRepeats p (block_of p) g b
+
+-- the row, column or block that a house is
+abbrev pub fault_at : Solo → ℕ → SoloFault
+fault_at p h = if nat_lt h (solo_n p) then Row h else (if nat_lt h (2 * solo_n p) then Column (h - solo_n p) else Block (h - 2 * solo_n p))

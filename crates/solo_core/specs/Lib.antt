@@ -9,3 +9,5 @@ pub mod Faults
 pub mod RuleSets
 pub mod RuleLaws
 pub mod Deciding
+pub mod Work
+pub mod WorkLaws
