@@ -1,0 +1,6 @@
+pub mod PairedFillings
+pub mod Marks
+pub mod HouseLemmas
+pub mod RepeatLemmas
+pub mod StartLemmas
+pub mod VisitLemmas

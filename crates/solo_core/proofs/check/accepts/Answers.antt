@@ -1,0 +1,10 @@
+use Rattle.std.proofs.Common.{sym}
+use Rattle.solo_core.specs.SolutionLaws.{test_from_rule}
+use Rattle.solo_core.proofs.RepeatLemmas.{no_test}
+use Rattle.solo_core.proofs.check.accepts.Goals as goal
+
+pub returns-in-None : goal.returns-in-None
+returns-in-None c = sym (test_from_rule _ _ c.in-None.ensures)
+
+pub returns-in-Some : goal.returns-in-Some
+returns-in-Some c = no_test _ _ _ c.in-Some.ensures

@@ -1,0 +1,13 @@
+pub mod Solutions
+pub mod Houses
+pub mod HouseLaws
+pub mod NoRepeat
+pub mod NoRepeatLaws
+pub mod SolutionLaws
+pub mod Singles
+pub mod Faults
+pub mod RuleSets
+pub mod RuleLaws
+pub mod Deciding
+pub mod Work
+pub mod WorkLaws
