@@ -3,7 +3,6 @@
 
 mod check;
 mod fault;
-mod laws;
 mod lines;
 #[cfg(test)]
 mod listing;
@@ -12,7 +11,6 @@ mod walk;
 
 pub use check::{accepted_are_solutions, check_pattern};
 pub use fault::PatternFault;
-pub use laws::accepted_are_solutions;
 pub use lines::{LineScratch, PatternLines};
 
 #[cfg(test)]

@@ -1,15 +1,19 @@
 -- The answers that the words allow on an input.
-use Rattle.std.specs.Prelude.{◌≡◌, ◌⊎◌, Bool, false, List, ℕ, Option, Some, None, Result, Err}
+use Rattle.std.specs.Prelude.{◌≡◌, ◌*◌, ◌⊎◌, Bool, false, List, ℕ, Option, Some, None, Result, Err}
 use Rattle.engine_core.specs.Puzzle.{Puzzle}
 use Rattle.gameid_core.specs.declared.fault.IdFault.{IdFault}
 use Rattle.gameid_core.specs.declared.game.Game.{Game}
 use Rattle.gameid_core.specs.declared.game.Game.TheVariants as game
-use Rattle.gameid_core.specs.Puzzles.{Pattern}
+use Rattle.grid_core.specs.Grids.{IsGrid}
+use Rattle.gameid_core.specs.Puzzles.{Pattern, Solo, solo_n}
+use Rattle.gameid_core.specs.SoloText.{SpellsSolo, solo_of}
+use Rattle.solo_core.specs.RuleSets.{houses_rules}
+use Rattle.solo_core.specs.Solutions as solo
 use Rattle.gameid_core.specs.PatternText.{SpellsPattern, pattern_of}
 use Rattle.pattern_core.specs.LineRules.{line_rules}
 use Rattle.pattern_core.specs.Solutions as pattern
 use Rattle.puzzles.specs.Answers.{Answer, Text}
-use Rattle.puzzles.specs.GridTexts.{grid_text, pattern_cell}
+use Rattle.puzzles.specs.GridTexts.{grid_text, pattern_cell, solo_cell, solo_extent}
 use Rattle.puzzles.specs.Refusals.{refused, refused_words, fault_text}
 use Rattle.puzzles.specs.Requests.{Asked, solve}
 use Rattle.puzzles.specs.Verdicts.{IsRight, verdict_of, verdict_answer}
@@ -37,9 +41,22 @@ abbrev pub AllowsPattern : Text → ℕ → Answer → Type 0
 AllowsPattern id budget answer = IsRefused (pattern_of id) answer
     ⊎ IsSolved (SpellsPattern id) pattern.IsSolution line_rules printed_pattern budget answer
 
+abbrev pub printed_solo : Solo → List ℕ → Text
+printed_solo p g = grid_text (solo_cell p g) (solo_extent p)
+
+-- a grid of the puzzle's numbers that solves it
+abbrev pub SolvesSolo : Solo → List ℕ → Type 0
+SolvesSolo p g = IsGrid (solo_n p * solo_n p) (solo_n p) g × solo.IsSolution p g
+
+-- the answers that `solve solo ID` allows
+abbrev pub AllowsSolo : Text → ℕ → Answer → Type 0
+AllowsSolo id budget answer = IsRefused (solo_of id) answer
+    ⊎ IsSolved (SpellsSolo id) SolvesSolo houses_rules printed_solo budget answer
+
 -- The answers that a request allows on an input. What isn't built is refused as words are.
 abbrev pub Allows : Option Asked → Text → Answer → Type 0
 Allows (Some (solve game.Pattern id budget)) input answer = AllowsPattern id budget answer
+Allows (Some (solve game.Solo id budget)) input answer = AllowsSolo id budget answer
 Allows _ input answer = answer ≡ refused_words
 
 -- the request reads its input: none does

@@ -2,7 +2,7 @@
 ghost use Rattle.std.specs.Prelude.{◌≡◌, ◌<◌, ◌*◌, List, ℕ, IfOk};
 ghost use Rattle.engine_core.specs.Verdict.{IsTrueOf};
 ghost use Rattle.puzzles.specs.GridTexts.{grid_text};
-ghost use Rattle.puzzles.specs.Outputs.{AllowsPattern};
+ghost use Rattle.puzzles.specs.Outputs.{AllowsPattern, AllowsSolo};
 ghost use Rattle.puzzles.specs.Replies.{answer_in};
 ghost use Rattle.puzzles.specs.Verdicts.{verdict_of, verdict_answer};
 
@@ -11,8 +11,9 @@ use crate::reply::{
     Reply, gave_up_reply, gave_up_with_reply, id_refused, none_reply, one_reply, several_reply,
 };
 use engine_core::{Rules, Store, Verdict};
-use gameid_core::{IdFault, read_pattern};
-use pattern_core::{PatternLines, accepted_are_solutions};
+use gameid_core::{IdFault, read_pattern, read_solo};
+use pattern_core::PatternLines;
+use solo_core::SoloHouses;
 use std::alloc::{AllocError, Global};
 
 /// The answer of a search by the rules of the puzzle.
@@ -49,10 +50,26 @@ pub fn solve_pattern(alloc: Global, id: &[u8], budget: u64) -> Result<Reply, All
     ensures allowed { IfOk result (λ r. AllowsPattern id.now budget (answer_in r)) }
     ensures status { IfOk result (λ r. r.status < 5) }
 {
-    accepted_are_solutions();
     match read_pattern(alloc, id) {
         Ok(puzzle) => {
             let rules = PatternLines::new(alloc, &puzzle)?;
+            pattern_core::accepted_are_solutions(&rules);
+            searched(alloc, &puzzle, &rules, budget)
+        }
+        Err(IdFault::Memory) => Err(AllocError),
+        Err(fault) => id_refused(alloc, fault),
+    }
+}
+
+/// The answer to an ID of Solo that is to be solved.
+pub fn solve_solo(alloc: Global, id: &[u8], budget: u64) -> Result<Reply, AllocError>
+    ensures allowed { IfOk result (λ r. AllowsSolo id.now budget (answer_in r)) }
+    ensures status { IfOk result (λ r. r.status < 5) }
+{
+    solo_core::accepted_are_solutions();
+    match read_solo(alloc, id) {
+        Ok(puzzle) => {
+            let rules = SoloHouses::new(alloc, &puzzle)?;
             searched(alloc, &puzzle, &rules, budget)
         }
         Err(IdFault::Memory) => Err(AllocError),
