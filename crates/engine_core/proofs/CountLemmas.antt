@@ -1,6 +1,5 @@
 -- Counting trials, visits and depths as a search goes on.
-use Rattle.std.proofs.Common.{◌≡◌, ℕ, zero, suc, ◌+◌, ◌*◌, ◌<◌, ◌≤◌, max, Bool, true, false, List, [], ◌∷◌, ◌++◌, length, map, take, refl, sym, ap, ◌∙◌, arith, Option, Some, None, length-append}
-use Rattle.std.proofs.lemmas.Bool.{true≢false}
+use Rattle.std.proofs.Common.{◌≡◌, ℕ, zero, suc, ◌+◌, ◌*◌, ◌≤◌, max, Bool, true, false, List, [], ◌∷◌, ◌++◌, length, take, refl, sym, ap, ◌∙◌, arith, Option, Some, None, length-append}
 use Rattle.std.proofs.lemmas.List.{length-take-le}
 use Rattle.grid_core.specs.Candidates.{Candidates}
 use Rattle.engine_core.specs.Puzzle.{Puzzle}

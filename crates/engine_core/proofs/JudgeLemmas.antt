@@ -1,12 +1,12 @@
 -- What a closed board is, and the grid of a full one.
-use Rattle.std.proofs.Common.{◌≡◌, ℕ, zero, suc, ◌+◌, ◌<◌, ◌≤◌, Bool, true, false, cond, ◌&&◌, leb, ltb, List, [], ◌∷◌, ◌++◌, length, slice_index, take, set, Option, Some, None, IfSome, refl, sym, ap, ◌∙◌, inl, inr, ◌⊎◌, arith, add-one}
-use Rattle.std.proofs.lemmas.Bool.{cases_eq, cases_lt, true≢false, false_from_ne_true, le-leb, lt-leb, lt-ltb, le-ltb, and_left, and_right, and_from}
+use Rattle.std.proofs.Common.{◌≡◌, ℕ, ◌+◌, ◌<◌, ◌≤◌, true, false, leb, ltb, List, [], ◌∷◌, ◌++◌, length, slice_index, take, set, Option, Some, None, IfSome, sym, ap, ◌∙◌, inl, inr, ◌⊎◌, arith, add-one}
+use Rattle.std.proofs.lemmas.Bool.{true≢false, false_from_ne_true, le-leb, lt-leb, lt-ltb, le-ltb, and_left, and_right}
 use Rattle.std.proofs.Math.Seq.{take-suc-set}
-use Rattle.grid_core.specs.Candidates.{Candidates, count_below, least_below, any_below, better, pick, grid_of, is_full, is_dead}
+use Rattle.grid_core.specs.Candidates.{Candidates, count_below, least_below, better, pick, grid_of, is_full, is_dead}
 use Rattle.grid_core.proofs.CandidateLemmas.{least_below-passes, count_below-one, is_dead-not, is_dead-each}
 use Rattle.std.proofs.lemmas.List.Elements.{All-from_get_or}
 use Rattle.grid_core.proofs.GridLemmas.{pick-two, is_full-count, length-grid_of, grid_of-at, full_from_none}
-use Rattle.engine_core.specs.Puzzle.{IsNext, Puzzle, IsGridOf, IsBoardOf}
+use Rattle.engine_core.specs.Puzzle.{Puzzle, IsGridOf, IsBoardOf}
 use Rattle.grid_core.specs.Board.{Layout, cells_of, has}
 
 pub better-first : (values : ℕ) (K : Candidates) (c : ℕ) → 2 ≤ count_below (K c) values → Some c ≡ better values K None c

@@ -1,13 +1,13 @@
 -- Noting what a visit struck, cell by cell and value by value.
 use Rattle.std.proofs.Common.{◌≡◌, ◌≢◌, ℕ, zero, suc, ◌+◌, ◌<◌, ◌≤◌, Bool, true, false, not, ◌&&◌, ◌||◌, eqb, ltb, List, length, slice_index, set, refl, sym, ap, subst, cond, ◌∙◌, arith, inl, inr, add-one}
 use Rattle.std.proofs.Math.Path.{fun_ext}
-use Rattle.std.proofs.lemmas.Bool.{cases_Bool, cases_eq, cases_lt, true≢false, and_parts, and_from, and_left, and_right, or_left, or_right, not_from_false, false_from_ne_true, lt-ltb, le-ltb, eq-eqb, ne_eqb, eqb-true}
-use Rattle.grid_core.specs.Candidates.{Candidates, IsWithin, any_below, count_below, total, without}
-use Rattle.grid_core.proofs.CandidateLemmas.{any_below-here, any_below-some, any_below-none, count_below-same}
+use Rattle.std.proofs.lemmas.Bool.{cases_Bool, cases_eq, cases_lt, true≢false, and_parts, and_from, and_left, and_right, or_left, or_right, false_from_ne_true, lt-ltb, le-ltb, eq-eqb, ne_eqb, eqb-true}
+use Rattle.grid_core.specs.Candidates.{Candidates, any_below, count_below, total, without}
+use Rattle.grid_core.proofs.CandidateLemmas.{any_below-here, any_below-some}
 use Rattle.engine_core.specs.Puzzle.{Puzzle, IsLawful, after, has_place}
-use Rattle.engine_core.specs.Places.{has_place-at, has_place-here}
-use Rattle.engine_core.specs.Sets.{has_bit, IsBitsOf}
-use Rattle.engine_core.specs.Frames.{IsTrail, IsNoted, cell_noted}
+use Rattle.engine_core.specs.Places.{has_place-at}
+use Rattle.engine_core.specs.Sets.{has_bit}
+use Rattle.engine_core.specs.Frames.{IsNoted, cell_noted}
 use Rattle.engine_core.proofs.QueueLemmas.{after-outside, any_below-more}
 use Rattle.engine_core.proofs.ClosingLemmas.{after_inside}
 use Rattle.engine_core.proofs.TrailLemmas.{noted-strike, noted-more}

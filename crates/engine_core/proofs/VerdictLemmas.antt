@@ -1,8 +1,9 @@
-use Rattle.std.proofs.Common.{◌≡◌, ◌≢◌, ℕ, zero, suc, ◌≤◌, List, [], ◌∷◌, Option, Some, None, refl, sym, ◌∙◌, inl, inr, arith}
+use Rattle.std.proofs.Common.{◌≡◌, ◌≢◌, ℕ, zero, suc, ◌≤◌, List, [], ◌∷◌, Option, Some, None, ◌++◌, ◌↔◌, ltb, option_to_list, ap, refl, sym, ◌∙◌, inl, inr, arith}
+use Rattle.std.proofs.lemmas.Bool.{cases_lt, lt-ltb, le-ltb}
 use Rattle.grid_core.specs.Candidates.{Candidates}
 use Rattle.engine_core.specs.Puzzle.{Puzzle, IsLawful}
 use Rattle.engine_core.specs.Walk.{Mark, Mark.Trial, Mark.Found, walk, IsFound, AreFoundOnce}
-use Rattle.engine_core.specs.Verdict.{Outcome, Outcome.NoGrid, Outcome.OneGrid, Outcome.TwoGrids, Outcome.OutOfBudget, outcome, spent, Solves, IsTrueOf}
+use Rattle.engine_core.specs.Verdict.{Outcome, Outcome.NoGrid, Outcome.OneGrid, Outcome.TwoGrids, Outcome.OutOfBudget, outcome, spent, Solves, IsTrueOf, within_budget, grids_in, trials_in, says_counts}
 use Rattle.engine_core.proofs.WalkLemmas.{walk-sound, walk-complete, walk-once, IsGridOf-from_inside}
 
 -- what an outcome says of the marks alone, where this grid was found before them
@@ -72,3 +73,24 @@ spent-le budget None (Found g ∷ marks) = spent-le budget (Some g) marks
 spent-le budget (Some f) (Found g ∷ marks) = omega arith
 spent-le zero found (Trial d b ∷ marks) = omega arith
 spent-le (suc budget) found (Trial d b ∷ marks) = let h = spent-le budget found marks in omega arith
+
+-- ---- the walk's marks and the answer, by counts
+pub found_iff : (p : Puzzle) (laws : IsLawful p) (g : List ℕ) → IsFound g (walk p 0 p.start) ↔ Solves p g
+found_iff p laws g = (solves_found p laws g, found_solves p laws g)
+
+more_trials : (b n : ℕ) → ltb (suc b) (suc n) ≡ ltb b n
+more_trials b n = elim (cases_lt b n) [
+  | inl lt ↦ lt-ltb (suc b) (suc n) (omega arith) ∙ sym (lt-ltb b n lt)
+  | inr ge ↦ le-ltb (suc b) (suc n) (omega arith) ∙ sym (le-ltb b n ge)
+]
+
+pub outcome-counts : (b : ℕ) (found : Option (List ℕ)) (marks : List Mark) → outcome b found marks ≡ says_counts (option_to_list found ++ grids_in (within_budget b marks)) (ltb b (trials_in marks))
+unfolding outcome within_budget grids_in trials_in
+outcome-counts b None [] = ap (says_counts []) (sym (le-ltb b 0 (omega arith)))
+outcome-counts b (Some f) [] = ap (says_counts (f ∷ [])) (sym (le-ltb b 0 (omega arith)))
+outcome-counts b None (Found g ∷ marks) = outcome-counts b (Some g) marks
+outcome-counts b (Some f) (Found g ∷ marks) = refl
+outcome-counts zero None (Trial d B ∷ marks) = ap (says_counts []) (sym (lt-ltb 0 (suc (trials_in marks)) (omega arith)))
+outcome-counts zero (Some f) (Trial d B ∷ marks) = ap (says_counts (f ∷ [])) (sym (lt-ltb 0 (suc (trials_in marks)) (omega arith)))
+outcome-counts (suc b) None (Trial d B ∷ marks) = outcome-counts b None marks ∙ ap (says_counts (grids_in (within_budget b marks))) (sym (more_trials b (trials_in marks)))
+outcome-counts (suc b) (Some f) (Trial d B ∷ marks) = outcome-counts b (Some f) marks ∙ ap (says_counts (f ∷ grids_in (within_budget b marks))) (sym (more_trials b (trials_in marks)))

@@ -1,12 +1,12 @@
 -- The rule set of neighbours is lawful, by the laws of fillings.
-use Rattle.std.proofs.Common.{◌≡◌, ℕ, zero, suc, ◌+◌, ◌-◌, ◌*◌, ◌<◌, ◌≤◌, Bool, true, false, not, ◌&&◌, ◌||◌, eqb, List, [], ◌∷◌, length, slice_index, map, refl, sym, ap, ◌∙◌, arith, inl, inr, ◌⊎◌}
-use Rattle.std.proofs.lemmas.Bool.{cases_eq, true≢false, and_parts, and_from, or_cases, or_left, or_right, eqb-true, eq-eqb, ne_eqb, not-true, lt-ltb, ltb-true}
+use Rattle.std.proofs.Common.{◌≡◌, ℕ, zero, suc, ◌+◌, ◌-◌, ◌*◌, ◌<◌, ◌≤◌, Bool, true, false, not, ◌&&◌, eqb, List, [], ◌∷◌, slice_index, map, refl, sym, ◌∙◌, arith, inl, inr, ◌⊎◌}
+use Rattle.std.proofs.lemmas.Bool.{true≢false, and_parts, and_from, or_cases, or_left, or_right, eqb-true, eq-eqb, lt-ltb, ltb-true}
 use Rattle.std.proofs.Math.Nat.{mul-le-mul_left}
-use Rattle.grid_core.specs.Candidates.{Candidates, IsInside, IsWithin, all_of, only, single, sum_below, count_below}
+use Rattle.grid_core.specs.Candidates.{IsInside, all_of, only, single, sum_below, count_below}
 use Rattle.grid_core.specs.Grids.{IsGrid}
-use Rattle.grid_core.proofs.CandidateLemmas.{all_below-at, count_below-few, count_below-or, sum_below-le}
+use Rattle.grid_core.proofs.CandidateLemmas.{all_below-at, count_below-few, count_below-or}
 use Rattle.grid_core.proofs.GridLemmas.{single-is, only-inside, only-has}
-use Rattle.engine_core.specs.Puzzle.{IsLawful, IsGridOf, IsInsideAt, after, has_place, share}
+use Rattle.engine_core.specs.Puzzle.{IsLawful, after, has_place, share}
 use Rattle.engine_core.specs.Places.{has_place-here}
 use Rattle.engine_core.specs.Filling.{strikes_by_fillings}
 use Rattle.engine_core.specs.House.{strikes_at, AreDifferent}

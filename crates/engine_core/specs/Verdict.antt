@@ -1,4 +1,4 @@
-use Rattle.std.specs.Prelude.{◌≡◌, ◌≢◌, ℕ, zero, suc, true, List, [], ◌∷◌, Option, Some, None}
+use Rattle.std.specs.Prelude.{◌≡◌, ◌≢◌, ℕ, zero, suc, Bool, true, false, List, [], ◌∷◌, Option, Some, None}
 use Rattle.grid_core.specs.Candidates.{Candidates}
 use Rattle.engine_core.specs.Puzzle.{Puzzle, IsGridOf}
 use Rattle.engine_core.specs.Walk.{Mark, Mark.Trial, Mark.Found}
@@ -18,6 +18,32 @@ outcome budget None (Found g ∷ marks) = outcome budget (Some g) marks
 outcome budget (Some first) (Found g ∷ marks) = TwoGrids first g
 outcome zero found (Trial depth board ∷ marks) = OutOfBudget found
 outcome (suc budget) found (Trial depth board ∷ marks) = outcome budget found marks
+
+-- the marks before the trial number budget + 1
+unfoldable pub within_budget : ℕ → List Mark → List Mark
+within_budget budget [] = []
+within_budget budget (Found g ∷ marks) = Found g ∷ within_budget budget marks
+within_budget zero (Trial depth board ∷ marks) = []
+within_budget (suc budget) (Trial depth board ∷ marks) = Trial depth board ∷ within_budget budget marks
+
+-- the grids found, in order, and the number of trials
+unfoldable pub grids_in : List Mark → List (List ℕ)
+grids_in [] = []
+grids_in (Found g ∷ marks) = g ∷ grids_in marks
+grids_in (Trial depth board ∷ marks) = grids_in marks
+
+unfoldable pub trials_in : List Mark → ℕ
+trials_in [] = 0
+trials_in (Found g ∷ marks) = trials_in marks
+trials_in (Trial depth board ∷ marks) = suc (trials_in marks)
+
+-- what is said where these grids were found within the budget, and the walk has more trials or not
+abbrev pub says_counts : List (List ℕ) → Bool → Outcome
+says_counts (first ∷ second ∷ more) out = TwoGrids first second
+says_counts (first ∷ []) true = OutOfBudget (Some first)
+says_counts (first ∷ []) false = OneGrid first
+says_counts [] true = OutOfBudget None
+says_counts [] false = NoGrid
 
 -- how many trials are made before that is known
 unfoldable pub spent : ℕ → Option (List ℕ) → List Mark → ℕ

@@ -15,7 +15,10 @@ mod store;
 mod sweep;
 
 pub use house::{apply, gather};
-pub use laws::closure_is_largest;
+pub use laws::{
+    closure_is_largest, verdict_goes_by_counts, walk_finds_each_solution_once,
+    walk_goes_on_from_the_closure,
+};
 pub use mode::{Closing, Mode};
 pub use rules::Rules;
 pub use search::Verdict;

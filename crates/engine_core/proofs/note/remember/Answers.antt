@@ -1,4 +1,4 @@
-use Rattle.std.proofs.Common.{◌≢◌, ◌<◌, length, arith, below_more, get_or-set_other, get_or-set_same, sym}
+use Rattle.std.proofs.Common.{◌≢◌, ◌<◌, length, arith, below_more, get_or-set_other, get_or-set_same}
 use Rattle.engine_core.specs.Places.{has_place-here}
 use Rattle.engine_core.proofs.note.remember.Goals as goal
 

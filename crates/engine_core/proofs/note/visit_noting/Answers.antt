@@ -1,4 +1,4 @@
-use Rattle.std.proofs.Common.{◌≡◌, ◌+◌, ◌<◌, ◌≤◌, ℕ, true, length, slice_index, sym, ap, subst, ◌∙◌, arith}
+use Rattle.std.proofs.Common.{◌≡◌, ◌<◌, ◌≤◌, ℕ, true, length, slice_index, sym, ap, subst, ◌∙◌, arith}
 use Rattle.grid_core.specs.Board.{has, cells_of}
 use Rattle.grid_core.specs.Candidates.{Candidates, count_below, total}
 use Rattle.grid_core.proofs.CandidateLemmas.{count_below-same}

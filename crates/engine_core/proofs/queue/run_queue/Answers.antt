@@ -1,10 +1,9 @@
-use Rattle.std.proofs.Common.{◌≡◌, ◌+◌, ◌<◌, ◌≤◌, true, false, length, take, replicate, arith, sym, ◌∙◌, refl, rules, ℕ}
+use Rattle.std.proofs.Common.{◌≡◌, ◌<◌, true, false, length, take, replicate, arith, sym, ◌∙◌, refl, rules, ℕ}
 use Rattle.std.proofs.lemmas.List.{get_or-replicate, length-set}
 use Rattle.grid_core.specs.Board.{has}
-use Rattle.grid_core.specs.Candidates.{is_dead}
 use Rattle.engine_core.specs.Puzzle.{IsBoardOf}
 use Rattle.engine_core.specs.Queue.{is_waiting}
-use Rattle.engine_core.proofs.QueueLemmas.{visits_left-pos, pushed, IsBoardOf-same, dead_of, within_of}
+use Rattle.engine_core.proofs.QueueLemmas.{pushed, IsBoardOf-same, dead_of, within_of}
 use Rattle.engine_core.proofs.TrailLemmas.{noted-none, noted-more}
 use Rattle.engine_core.proofs.ListLemmas.{running-first, running-alive, running-turn, closing-none, closing-dead, closing-open, room}
 use Rattle.engine_core.proofs.queue.run_queue.Goals as goal

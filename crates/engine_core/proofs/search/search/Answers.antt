@@ -1,4 +1,4 @@
-use Rattle.std.proofs.Common.{◌≡◌, ℕ, ◌∷◌, ◌+◌, ◌-◌, ◌<◌, Option, List, length, take, arith, ap, ◌∙◌, [], refl, sym}
+use Rattle.std.proofs.Common.{◌≡◌, ℕ, ◌∷◌, ◌+◌, ◌-◌, ◌<◌, Option, List, length, take, arith, ap, ◌∙◌, [], refl}
 use Rattle.grid_core.specs.Board.{has}
 use Rattle.engine_core.specs.Verdict.{outcome, tried}
 use Rattle.engine_core.specs.Search.{pending}

@@ -1,4 +1,4 @@
-use Rattle.std.proofs.Common.{◌≡◌, true, refl, length, arith}
+use Rattle.std.proofs.Common.{true, refl, arith}
 use Rattle.grid_core.specs.Board.{has}
 use Rattle.engine_core.specs.Filling.{strikes_by_fillings}
 use Rattle.engine_core.specs.HouseLaws.{visited-after}
