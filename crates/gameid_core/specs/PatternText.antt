@@ -7,7 +7,7 @@ use Rattle.grid_core.specs.Extent.{Extent}
 use Rattle.gameid_core.specs.declared.fault.IdFault.{IdFault}
 use Rattle.gameid_core.specs.declared.fault.IdFault.TheVariants.{BadByte, NumberRange, LineTooFull, TooFew, TooMany}
 use Rattle.gameid_core.specs.declared.game.Game.TheVariants as game
-use Rattle.gameid_core.specs.Words.{IsNumeral, IsPlain, begins, words, value, Cuts}
+use Rattle.gameid_core.specs.Words.{IsNumeral, IsPlain, begins, words, value}
 use Rattle.gameid_core.specs.Steps.{◌>>=◌, reading}
 use Rattle.gameid_core.specs.Head.{head_of, max_id}
 use Rattle.gameid_core.specs.SizeText.{size_text, IsSizeText}
@@ -93,8 +93,3 @@ pattern_text p = size_text p.size.w p.size.h ++ 58 ∷ join_with_byte 47 (map cl
 abbrev pub GivesNumber : Result ℕ IdFault → List ℕ → Result (ℕ × Bor (List ℕ)) IdFault → Type 0
 GivesNumber read after (Ok x) = (read ≡ Ok x.0) × (x.1.now ≡ after)
 GivesNumber read after (Err e) = read ≡ Err e
-
--- the number of the first token, and the text after it; or the token's fault
-abbrev pub TakesNumber : (List ℕ → Result ℕ IdFault) → List ℕ → Result (ℕ × Bor (List ℕ)) IdFault → Type 0
-TakesNumber token text (Ok x) = (word : List ℕ) × Cuts text word x.1.now × (token word ≡ Ok x.0)
-TakesNumber token text (Err e) = (word after : List ℕ) × Cuts text word after × (token word ≡ Err e)

@@ -1,12 +1,11 @@
 -- Game IDs of Tents: what a text spells, its first fault, and the one written text.
 use Rattle.std.specs.Prelude.{◌≡◌, ℕ, zero, suc, ◌+◌, ◌-◌, ◌*◌, ◌≤◌, Bool, true, false, ◌&&◌, List, [], ◌∷◌, ◌++◌, map, take, drop, length, replicate, slice_index, Result, Ok, Err, nat_lt, nat_le, ◌==◌, if◌then◌else◌, decimal}
-use Rattle.std.specs.Borrow.{Bor}
 use Rattle.std.specs.List.{AllByRecursion, flat_map}
 use Rattle.grid_core.specs.Extent.{Extent}
 use Rattle.gameid_core.specs.declared.fault.IdFault.{IdFault}
 use Rattle.gameid_core.specs.declared.fault.IdFault.TheVariants.{BadByte, NumberRange, TooFew, TooMany}
 use Rattle.gameid_core.specs.declared.game.Game.TheVariants as game
-use Rattle.gameid_core.specs.Words.{IsNumeral, IsPlain, begins, words, value, Cuts}
+use Rattle.gameid_core.specs.Words.{IsNumeral, IsPlain, begins, words, value}
 use Rattle.gameid_core.specs.Steps.{◌>>=◌, reading}
 use Rattle.gameid_core.specs.Head.{head_of, max_id}
 use Rattle.gameid_core.specs.SizeText.{size_text, IsSizeText}
@@ -133,10 +132,3 @@ trees_text k cells = map tents_token_byte (tents_tokens k cells)
 
 abbrev pub tents_text : Tents → List ℕ
 tents_text p = size_text p.size.w p.size.h ++ 58 ∷ (trees_text 0 p.trees ++ flat_map (λ n. 44 ∷ decimal n) p.counts)
-
--- Words of the reader's functions ------------------------------------------------------------------------------
-
--- the number of a ',' and the text after it; or the token's fault
-abbrev pub TakesCount : (List ℕ → Result ℕ IdFault) → List ℕ → Result (ℕ × Bor (List ℕ)) IdFault → Type 0
-TakesCount token text (Ok x) = (word : List ℕ) × Cuts text word x.1.now × (token word ≡ Ok x.0)
-TakesCount token text (Err e) = (word after : List ℕ) × Cuts text word after × (token word ≡ Err e)

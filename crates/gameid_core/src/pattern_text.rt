@@ -6,9 +6,10 @@ ghost use Rattle.gameid_core.specs.Head.{head_of};
 ghost use Rattle.gameid_core.specs.declared.fault.IdFault.{IdFault};
 ghost use Rattle.gameid_core.specs.Puzzles.{used as used_cells};
 ghost use Rattle.gameid_core.specs.Puzzles.{Pattern};
-ghost use Rattle.gameid_core.specs.PatternText.{SpellsPattern, pattern_of, GivesNumber, TakesNumber, clue_number, clue_token, clues_at, pattern_step, pattern_end, nothing_yet};
+ghost use Rattle.gameid_core.specs.PatternText.{SpellsPattern, pattern_of, GivesNumber, clue_number, clue_token, clues_at, pattern_step, pattern_end, nothing_yet};
 ghost use Rattle.gameid_core.specs.Words.{digits_front, after_digits, words};
 ghost use Rattle.gameid_core.specs.FirstFault.{FirstFault};
+ghost use Rattle.gameid_core.specs.Runs.{TakesNumber};
 ghost use Rattle.grid_core.specs.Extent.{Extent};
 
 use crate::fault::IdFault;

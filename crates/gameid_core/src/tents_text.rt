@@ -5,10 +5,11 @@ ghost use Rattle.gameid_core.specs.Steps.{Gives, Fails};
 ghost use Rattle.gameid_core.specs.Head.{head_of};
 ghost use Rattle.gameid_core.specs.declared.fault.IdFault.{IdFault};
 ghost use Rattle.gameid_core.specs.Puzzles.{Tents};
-ghost use Rattle.gameid_core.specs.TentsText.{TakesCount, SpellsTents, tents_at, tents_of, tents_run, tents_count, tents_step, tents_end, no_places, run_cells};
+ghost use Rattle.gameid_core.specs.TentsText.{SpellsTents, tents_at, tents_of, tents_run, tents_count, tents_step, tents_end, no_places, run_cells};
 ghost use Rattle.grid_core.specs.Extent.{Extent};
 ghost use Rattle.gameid_core.specs.FirstFault.{FirstFault};
 ghost use Rattle.gameid_core.specs.Words.{words};
+ghost use Rattle.gameid_core.specs.Runs.{TakesNumber};
 
 use crate::fault::IdFault;
 use crate::game::Game;
@@ -58,7 +59,7 @@ fn count_at<'a>(
     after: &'a [u8],
 ) -> Result<(u8, &'a [u8]), IdFault>
     requires { at < 2 ^ 32 }
-    ensures { TakesCount (tents_count size at (record { places = places.now; counts = counts.now })) (44 ∷ after.now) result }
+    ensures { TakesNumber (tents_count size at (record { places = places.now; counts = counts.now })) (44 ∷ after.now) result }
 {
     if places.len() <= size.cells() {
         return Err(IdFault::TooFew);
