@@ -1,15 +1,14 @@
+ghost use Rattle.std.specs.Prelude.{ℕ, ◌<◌, ◌≤◌};
+ghost use Rattle.std.specs.List.{AllByRecursion};
+ghost use Rattle.gameid_core.specs.Puzzles.{used};
+
 use super::*;
-use crate::listing;
-use crate::table;
+use crate::{listing, table};
 use engine_core::Rules;
 use gameid_core::{PatternPuzzle, read_pattern};
 use grid_core::{Board, Grid};
 use std::alloc::Global;
 use std::test::Fail;
-
-ghost use Rattle.std.specs.Prelude.{ℕ, ◌<◌, ◌≤◌};
-ghost use Rattle.std.specs.List.{AllByRecursion};
-ghost use Rattle.gameid_core.specs.Puzzles.{used};
 
 /// The puzzle of one row of 64 cells with this clue, whose columns have none.
 fn one_row(alloc: Global, clue: &str) -> Result<PatternPuzzle, Fail> {
@@ -31,10 +30,15 @@ fn a_run_of_forty_in_sixty_four(rt: HostRuntime) -> Result<(), Fail> {
     assert!(rt; rules.visit(64, &mut board, &mut scratch));
     for place in 0..64 {
         assert!(rt; place < rules.cells());
-        assert_eq!(rt; board.has(place, 0), place < 24 || place >= 40, "white at {place}");
+        assert_eq!(rt;
+            board.has(place, 0),
+            place < 24 || place >= 40,
+            "white at {place}"
+        );
         assert!(rt; board.has(place, 1), "black at {place}");
     }
-    assert!(rt; !rules.visit(64, &mut board, &mut scratch));
+    let mut other = rules.scratch(rt.alloc())?;
+    assert!(rt; !rules.visit(64, &mut board, &mut other));
     Ok(())
 }
 
