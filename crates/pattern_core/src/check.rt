@@ -1,13 +1,13 @@
 //! The check of a grid.
 
-ghost use Rattle.std.specs.Prelude.{◌≡◌, ◌*◌, ◌↔◌, ℕ, List, true};
+ghost use Rattle.std.specs.Prelude.{◌≡◌, ◌*◌, ◌↔◌, ℕ, List, IsTrue};
+ghost use Rattle.gameid_core.specs.Puzzles.{Pattern};
 ghost use Rattle.grid_core.specs.Grids.{IsGrid};
 ghost use Rattle.pattern_core.specs.Faults.{IsCheck};
 ghost use Rattle.pattern_core.specs.LineRules.{line_rules};
 ghost use Rattle.pattern_core.specs.Solutions.{IsSolution};
 
 use crate::fault::PatternFault;
-use crate::lines::PatternLines;
 use crate::walk::has_clue;
 use gameid_core::PatternPuzzle;
 use grid_core::Grid;
@@ -35,8 +35,8 @@ pub fn check_pattern(puzzle: &PatternPuzzle, grid: &Grid) -> Option<PatternFault
     None
 }
 
-/// The grids that a search with these rules accepts are the solutions of their puzzle.
-pub fn accepted_are_solutions(_rules: &PatternLines)
-    ensures { (g : List ℕ) → IsGrid (_rules.now.pattern.size.w * _rules.now.pattern.size.h) 2 g
-        → ((line_rules _rules.now.pattern).is_solution g ≡ true) ↔ IsSolution _rules.now.pattern g }
+/// The grids that a search accepts are the solutions of its puzzle.
+pub fn accepted_are_solutions()
+    ensures { (p : Pattern) (g : List ℕ) → IsGrid (p.size.w * p.size.h) 2 g
+        → (IsTrue ((line_rules p).is_solution g)) ↔ IsSolution p g }
 {}

@@ -50,10 +50,10 @@ pub fn solve_pattern(alloc: Global, id: &[u8], budget: u64) -> Result<Reply, All
     ensures allowed { IfOk result (λ r. AllowsPattern id.now budget (answer_in r)) }
     ensures status { IfOk result (λ r. r.status < 5) }
 {
+    pattern_core::accepted_are_solutions();
     match read_pattern(alloc, id) {
         Ok(puzzle) => {
             let rules = PatternLines::new(alloc, &puzzle)?;
-            pattern_core::accepted_are_solutions(&rules);
             searched(alloc, &puzzle, &rules, budget)
         }
         Err(IdFault::Memory) => Err(AllocError),

@@ -4,3 +4,5 @@ pub mod HouseLemmas
 pub mod RepeatLemmas
 pub mod StartLemmas
 pub mod VisitLemmas
+pub mod AnyLemmas
+pub mod SinglesLemmas

@@ -31,3 +31,7 @@ pub record StayMarked (cells : ℕ) (old new : List ℕ) : Type 0 where
 -- each value below `upto` that the cell has and a filling shows there is marked
 pub record IsMarkedBelow (values : ℕ) (sets marks : List ℕ) (place upto : ℕ) : Type 0 where
   pub marked : (v : ℕ) → v < upto → has_bit (slice_index sets place) v ≡ true → is_struck values sets place v ≡ false → has_bit (slice_index marks place) v ≡ true
+
+-- whether a cell has a value, by its bits
+abbrev pub has_in : List ℕ → ℕ → ℕ → Bool
+has_in sets place value = has_bit (slice_index sets place) value

@@ -5,6 +5,7 @@ pub mod NoRepeat
 pub mod NoRepeatLaws
 pub mod SolutionLaws
 pub mod Singles
+pub mod SinglesLaws
 pub mod Faults
 pub mod RuleSets
 pub mod RuleLaws

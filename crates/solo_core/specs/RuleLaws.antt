@@ -18,7 +18,9 @@ use Rattle.solo_core.specs.SolutionLaws.{rule_from_test, house_of_solution}
 use Rattle.solo_core.specs.Houses.{house_count, house_places, lies_in}
 use Rattle.solo_core.specs.HouseLaws.{Lists, lists_house, house_has, house_distinct, three_houses}
 use Rattle.solo_core.specs.NoRepeat.{no_repeat}
-use Rattle.solo_core.specs.RuleSets.{start, bound_of, rules_of, houses_rules}
+use Rattle.solo_core.specs.RuleSets.{start, bound_of, rules_of, houses_rules, singles_rules}
+use Rattle.solo_core.specs.Singles.{strikes_by_singles}
+use Rattle.solo_core.specs.SinglesLaws.{singles-monotone, singles-closed}
 
 sum_of_one : (k m : ℕ) → sum_below (λ _. k) m ≡ m * k
 unfolding sum_below
@@ -106,3 +108,14 @@ unfolding after
 houses_lawful p ok = rules_lawful p ok true (strikes_by_fillings no_repeat) (by_fillings-monotone no_repeat) (keeps_by_fillings p ok)
     (λ _ h K c v lt on. let l = lists_house p ok h lt in
     by_fillings-settled (solo_n p) (house_places p h) no_repeat K (after (houses_rules p) h K) (house_distinct (house_places p h) (solo_n p) (cells_of p) (lies_in p h) l) (λ d u. refl) c v on)
+
+-- ---- the rule set of singles
+keeps_by_singles : (p : Solo) → IsSolo p → KeepsSolutions (strikes_by_singles (solo_n p)) p
+keeps_by_singles p ok h g lt grid holds c v on = singles-closed (solo_n p) (house_places p h) g ((lists_house p ok h lt).len)
+    (λ k lk. let l = lists_house p ok h lt in let len = l.len in let cells = grid.each_cell in let w = l.within k (omega arith) in omega arith)
+    (λ c lc. All-get_or (λ u. u < solo_n p) g c 0 lc grid.each_value)
+    holds c v on
+
+pub singles_lawful : (p : Solo) → IsSolo p → IsLawful (singles_rules p)
+singles_lawful p ok = rules_lawful p ok false (strikes_by_singles (solo_n p)) (singles-monotone (solo_n p)) (keeps_by_singles p ok)
+    (λ e. absurd (true≢false (sym e)))

@@ -7,6 +7,7 @@ ghost use Rattle.engine_core.specs.House.{IsDecided};
 ghost use Rattle.solo_core.specs.NoRepeat.{no_repeat};
 ghost use Rattle.solo_core.specs.Deciding.{is_struck, AreMates, AreShown, StayMarked, IsMarkedBelow};
 
+use crate::bits::{has_bit, with_bit};
 use crate::joined::Joined;
 use grid_core::{Paired, Pairing};
 
@@ -118,20 +119,4 @@ fn mark_mates(marks: &mut [u32], pairing: &Pairing)
     for cell in 0..marks.len() {
         marks[cell] = with_bit(marks[cell], pairing.mate(cell));
     }
-}
-
-/// The bits with bit `value` set too.
-fn with_bit(bits: u32, value: usize) -> u32
-    requires { value < 32 }
-    ensures { (v : ℕ) → is_set result v ≡ (is_set bits v || (v == value)) }
-{
-    bits | (1 << value)
-}
-
-/// Whether bit `value` is set.
-fn has_bit(bits: u32, value: u8) -> bool
-    requires { value < 32 }
-    ensures { result ≡ is_set bits value }
-{
-    (bits >> value) & 1 == 1
 }

@@ -1,14 +1,17 @@
 //! Solo: its rule sets, and the check of a grid.
 #![tactic(auto)]
 
+mod bits;
 mod cells;
 mod check;
 mod fault;
 mod houses;
 mod joined;
 mod keep_houses;
+mod keep_singles;
 mod laws;
 mod solo_houses;
+mod solo_singles;
 mod start;
 
 pub use check::check_solo;
@@ -16,3 +19,4 @@ pub use cells::Cells;
 pub use fault::SoloFault;
 pub use laws::accepted_are_solutions;
 pub use solo_houses::{HousesScratch, SoloHouses};
+pub use solo_singles::SoloSingles;

@@ -1,0 +1,20 @@
+use Rattle.std.proofs.Common.{◌≡◌, ℕ, ◌<◌, ◌&&◌, not, eqb, length, sym, ap, ◌∙◌, arith, inl, inr}
+use Rattle.std.proofs.lemmas.Bool.{and_from, ne_eqb, cases_eq}
+use Rattle.grid_core.specs.Candidates.{any_below}
+use Rattle.engine_core.specs.Sets.{has_bit}
+use Rattle.solo_core.specs.Deciding.{has_in}
+use Rattle.solo_core.proofs.AnyLemmas.{found, not_found}
+use Rattle.solo_core.proofs.keep_singles.has_lost_value.Goals as goal
+
+pub returns-then-not-has_place : goal.returns-then-not-has_place
+returns-then-not-has_place c = found (λ w. not (any_below (λ i. has_in c.args.sets.now i w) (length c.args.sets.now))) (c.args.values) c.loop-value.value (omega arith)
+    (ap not (sym c.has_place.ensures ∙ c.if-not-has_place.true))
+
+pub loop-value-preserved : goal.loop-value-preserved
+loop-value-preserved c = λ j lt. elim (cases_eq j c.loop-value.value) [
+  | inl e ↦ rw e (ap not (sym c.has_place.ensures ∙ c.if-not-has_place.false))
+  | inr ne ↦ c.loop-value.invariant j (omega arith)
+]
+
+pub returns : goal.returns
+returns c = not_found (λ w. not (any_below (λ i. has_in c.args.sets.now i w) (length c.args.sets.now))) (c.args.values) c.loop-value.value (omega arith) c.loop-value.invariant

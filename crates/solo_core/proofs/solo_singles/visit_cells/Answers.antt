@@ -1,0 +1,26 @@
+use Rattle.std.proofs.Common.{◌≡◌, ℕ, ◌<◌, ◌∙◌, sym, ap, subst, refl, arith, length, slice_index, length-take}
+use Rattle.grid_core.specs.Board.{has}
+use Rattle.gameid_core.specs.Puzzles.{solo_n}
+use Rattle.engine_core.specs.House.{IsDecided}
+use Rattle.solo_core.specs.Singles.{strikes_by_singles}
+use Rattle.solo_core.specs.RuleSets.{rules_of}
+use Rattle.solo_core.proofs.VisitLemmas.{house_long, house_within, left_by_visit}
+use Rattle.solo_core.proofs.solo_singles.visit_cells.Goals as goal
+
+pub gather-requires-clause-places_in : goal.gather-requires-clause-places_in
+gather-requires-clause-places_in c = λ k lt.
+    let e = c.write_places.ensures in
+    let cells = c.requires.board_of.same_cells in
+    let w = house_within c.args.puzzle.now c.n-n.ensures.lawful c.args.house c.requires.house_in k (rw c.write_places.ensures at lt) in
+    rw (c.write_places.ensures, cells) w
+
+pub apply-requires-clause-places_in : goal.apply-requires-clause-places_in
+apply-requires-clause-places_in c = λ k lt.
+    let cells = c.requires.board_of.same_cells in
+    let w = house_within c.args.puzzle.now c.n-n.ensures.lawful c.args.house c.requires.house_in k (rw c.write_places.ensures at lt) in
+    rw (c.write_places.ensures, cells) w
+
+pub returns-clause-left : goal.returns-clause-left
+returns-clause-left c =
+    left_by_visit c.args.puzzle.now _ (strikes_by_singles (solo_n c.args.puzzle.now)) c.args.house c.args.board.now c.apply.new.board _ _ _ _ c.requires.board_of
+    c.write_places.ensures c.n-n.ensures.value c.gather.ensures.bits c.gather.ensures.sets (subst (λ z. IsDecided c.n-n.result (strikes_by_singles z) c.gather.new.sets c.keep_singles.new.kept) c.n-n.ensures.value c.keep_singles.ensures) c.apply.ensures.left (omega (arith, c.gather.auto.sets, c.write_places.auto.places, length-take {A = ℕ}))

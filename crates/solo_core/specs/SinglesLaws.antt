@@ -1,0 +1,248 @@
+-- Laws of singles: what they strike from larger sets they strike from smaller ones, and from a solution's own values
+-- they strike nothing.
+use Rattle.std.proofs.Common.{◌≡◌, ℕ, zero, suc, ◌+◌, ◌<◌, ◌≤◌, Bool, true, false, not, ◌&&◌, ◌||◌, true≢false, eqb, List, [], ◌∷◌, map, length, get_or, slice_index, refl, sym, ◌∙◌, ap, arith, ◌⊎◌, inl, inr}
+use Rattle.std.proofs.lemmas.Bool.{cases_Bool, cases_lt, cases_eq, and_parts, and_from, or_cases, or_left, or_right, eqb-true, eq-eqb, ne_eqb, not-true, false_from_ne_true}
+use Rattle.std.proofs.lemmas.List.{get_or_past, get_or-map, length-map}
+use Rattle.std.proofs.lemmas.List.Elements.{All-get_or}
+use Rattle.grid_core.specs.Augmenting.{IsApart}
+use Rattle.grid_core.specs.Candidates.{Candidates, any_below, single}
+use Rattle.grid_core.specs.Grids.{IsGrid}
+use Rattle.grid_core.proofs.CandidateLemmas.{any_below-here, any_below-some, any_below-none, any_below-same}
+use Rattle.grid_core.proofs.DifferentNumbers.{apart-le}
+use Rattle.grid_core.proofs.GridLemmas.{single-at, single-is}
+use Rattle.engine_core.specs.Filling.{Set, has_value, AreInside}
+use Rattle.engine_core.specs.House.{IsMonotone, sets_at, strikes_at}
+use Rattle.engine_core.specs.HouseLaws.{length-sets_at, sets_at-value, sets_at-small, strikes_at-some}
+use Rattle.solo_core.specs.NoRepeat.{no_repeat}
+use Rattle.solo_core.specs.NoRepeatLaws.{different_from_no_repeat}
+use Rattle.solo_core.specs.Singles.{Has, has_other, is_elsewhere, taken_elsewhere, needed_for_other, has_empty_cell, has_lost_value, strikes_where, has_at, strikes_by_singles}
+
+none_below : (test : ℕ → Bool) (n : ℕ) → ((k : ℕ) → k < n → test k ≡ true → ⊥) → any_below test n ≡ false
+none_below test n none = false_from_ne_true (any_below test n) (λ on. let w = any_below-some test n on in none w.0 w.1 w.2)
+
+fails_below : (test : ℕ → Bool) (n : ℕ) → any_below test n ≡ false → (k : ℕ) → k < n → test k ≡ true → ⊥
+fails_below test n off k lt on = true≢false (sym on ∙ any_below-none test n off k lt)
+
+-- the four cases
+module _ (cells values : ℕ) (at : Has) (place value : ℕ) where
+  pub by_taken : taken_elsewhere cells values at place value ≡ true → strikes_where cells values at place value ≡ true
+  unfolding strikes_where
+  by_taken h = or_left (taken_elsewhere cells values at place value) (needed_for_other cells values at place value || (has_empty_cell cells values at || has_lost_value cells values at)) h
+
+  pub by_needed : needed_for_other cells values at place value ≡ true → strikes_where cells values at place value ≡ true
+  unfolding strikes_where
+  by_needed h = or_right (taken_elsewhere cells values at place value) (needed_for_other cells values at place value || (has_empty_cell cells values at || has_lost_value cells values at))
+      (or_left (needed_for_other cells values at place value) (has_empty_cell cells values at || has_lost_value cells values at) h)
+
+  pub by_empty : has_empty_cell cells values at ≡ true → strikes_where cells values at place value ≡ true
+  unfolding strikes_where
+  by_empty h = or_right (taken_elsewhere cells values at place value) (needed_for_other cells values at place value || (has_empty_cell cells values at || has_lost_value cells values at))
+      (or_right (needed_for_other cells values at place value) (has_empty_cell cells values at || has_lost_value cells values at) (or_left (has_empty_cell cells values at) (has_lost_value cells values at) h))
+
+  pub by_lost : has_lost_value cells values at ≡ true → strikes_where cells values at place value ≡ true
+  unfolding strikes_where
+  by_lost h = or_right (taken_elsewhere cells values at place value) (needed_for_other cells values at place value || (has_empty_cell cells values at || has_lost_value cells values at))
+      (or_right (needed_for_other cells values at place value) (has_empty_cell cells values at || has_lost_value cells values at) (or_right (has_empty_cell cells values at) (has_lost_value cells values at) h))
+
+  pub four_cases : strikes_where cells values at place value ≡ true
+      → (taken_elsewhere cells values at place value ≡ true) ⊎ ((needed_for_other cells values at place value ≡ true)
+      ⊎ ((has_empty_cell cells values at ≡ true) ⊎ (has_lost_value cells values at ≡ true)))
+  unfolding strikes_where
+  four_cases h = elim (or_cases (taken_elsewhere cells values at place value) (needed_for_other cells values at place value || (has_empty_cell cells values at || has_lost_value cells values at)) h) [
+    | inl a ↦ inl a
+    | inr b ↦ elim (or_cases (needed_for_other cells values at place value) (has_empty_cell cells values at || has_lost_value cells values at) b) [
+      | inl a ↦ inr (inl a)
+      | inr d ↦ inr (inr (or_cases (has_empty_cell cells values at) (has_lost_value cells values at) d))
+    ]
+  ]
+
+-- ---- smaller sets
+module _ (cells values : ℕ) (at at' : Has) (down : (k v : ℕ) → at' k v ≡ true → at k v ≡ true) where
+  empty_stays : has_empty_cell cells values at ≡ true → has_empty_cell cells values at' ≡ true
+  empty_stays h =
+      let w = any_below-some (λ j. not (any_below (at j) values)) cells h in
+      any_below-here (λ j. not (any_below (at' j) values)) cells w.0 w.1
+      (ap not (none_below (at' w.0) values (λ v b e. fails_below (at w.0) values (not-true (any_below (at w.0) values) w.2) v b (down w.0 v e))))
+
+  lost_stays : has_lost_value cells values at ≡ true → has_lost_value cells values at' ≡ true
+  lost_stays h =
+      let w = any_below-some (λ v. not (any_below (λ j. at j v) cells)) values h in
+      any_below-here (λ v. not (any_below (λ j. at' j v) cells)) values w.0 w.1
+      (ap not (none_below (λ j. at' j w.0) cells (λ j b e. fails_below (λ k. at k w.0) cells (not-true (any_below (λ k. at k w.0) cells) w.2) j b (down j w.0 e))))
+
+  -- a cell that has only the value has at most the value in smaller sets: it has it, or is empty
+  taken_stays : (place value : ℕ) → taken_elsewhere cells values at place value ≡ true
+      → (taken_elsewhere cells values at' place value ≡ true) ⊎ (has_empty_cell cells values at' ≡ true)
+  taken_stays place value h = by (any_below-some (λ j. not (eqb j place) && (at j value && not (has_other values at j value))) cells h)
+    where
+      by : (j : ℕ) × (j < cells) × ((not (eqb j place) && (at j value && not (has_other values at j value))) ≡ true)
+          → (taken_elsewhere cells values at' place value ≡ true) ⊎ (has_empty_cell cells values at' ≡ true)
+      by (j, j_in, passes) = elim (cases_Bool (at' j value)) [
+        | inl has ↦ inl (any_below-here (λ k. not (eqb k place) && (at' k value && not (has_other values at' k value))) cells j j_in
+            (and_from (not (eqb j place)) (at' j value && not (has_other values at' j value)) parts.0 (and_from (at' j value) (not (has_other values at' j value)) has
+            (ap not (none_below (λ w. not (eqb w value) && at' j w) values (λ w b e. let both = and_parts (not (eqb w value)) (at' j w) e in no_other w b both.0 both.1))))))
+        | inr lacks ↦ inr (any_below-here (λ k. not (any_below (at' k) values)) cells j j_in
+            (ap not (none_below (at' j) values (λ w b e. no_value w b e lacks))))
+      ]
+        where
+          parts : (not (eqb j place) ≡ true) × ((at j value && not (has_other values at j value)) ≡ true)
+          parts = and_parts (not (eqb j place)) (at j value && not (has_other values at j value)) passes
+
+          alone : has_other values at j value ≡ false
+          alone = not-true (has_other values at j value) (and_parts (at j value) (not (has_other values at j value)) parts.1).1
+
+          no_other : (w : ℕ) → w < values → not (eqb w value) ≡ true → at' j w ≡ true → ⊥
+          no_other w b ne e = fails_below (λ u. not (eqb u value) && at j u) values alone w b (and_from (not (eqb w value)) (at j w) ne (down j w e))
+
+          no_value : (w : ℕ) → w < values → at' j w ≡ true → at' j value ≡ false → ⊥
+          no_value w b e lacks = elim (cases_eq w value) [
+            | inl same ↦ true≢false (sym e ∙ ap (at' j) same ∙ lacks)
+            | inr differs ↦ no_other w b (ap not (ne_eqb w value differs)) e
+          ]
+
+  -- the only place of another value is it in smaller sets too, or the value has no place there
+  needed_stays : (place value : ℕ) → needed_for_other cells values at place value ≡ true
+      → (needed_for_other cells values at' place value ≡ true) ⊎ (has_lost_value cells values at' ≡ true)
+  needed_stays place value h = by (any_below-some (λ w. not (eqb w value) && (at place w && not (is_elsewhere cells at place w))) values h)
+    where
+      by : (w : ℕ) × (w < values) × ((not (eqb w value) && (at place w && not (is_elsewhere cells at place w))) ≡ true)
+          → (needed_for_other cells values at' place value ≡ true) ⊎ (has_lost_value cells values at' ≡ true)
+      by (w, w_in, passes) = elim (cases_Bool (at' place w)) [
+        | inl has ↦ inl (any_below-here (λ u. not (eqb u value) && (at' place u && not (is_elsewhere cells at' place u))) values w w_in
+            (and_from (not (eqb w value)) (at' place w && not (is_elsewhere cells at' place w)) parts.0 (and_from (at' place w) (not (is_elsewhere cells at' place w)) has
+            (ap not (none_below (λ j. not (eqb j place) && at' j w) cells (λ j b e. let both = and_parts (not (eqb j place)) (at' j w) e in no_elsewhere j b both.0 both.1))))))
+        | inr lacks ↦ inr (any_below-here (λ u. not (any_below (λ j. at' j u) cells)) values w w_in
+            (ap not (none_below (λ j. at' j w) cells (λ j b e. no_place j b e lacks))))
+      ]
+        where
+          parts : (not (eqb w value) ≡ true) × ((at place w && not (is_elsewhere cells at place w)) ≡ true)
+          parts = and_parts (not (eqb w value)) (at place w && not (is_elsewhere cells at place w)) passes
+
+          alone : is_elsewhere cells at place w ≡ false
+          alone = not-true (is_elsewhere cells at place w) (and_parts (at place w) (not (is_elsewhere cells at place w)) parts.1).1
+
+          no_elsewhere : (j : ℕ) → j < cells → not (eqb j place) ≡ true → at' j w ≡ true → ⊥
+          no_elsewhere j b ne e = fails_below (λ k. not (eqb k place) && at k w) cells alone j b (and_from (not (eqb j place)) (at j w) ne (down j w e))
+
+          no_place : (j : ℕ) → j < cells → at' j w ≡ true → at' place w ≡ false → ⊥
+          no_place j b e lacks = elim (cases_eq j place) [
+            | inl same ↦ true≢false (sym e ∙ ap (λ k. at' k w) same ∙ lacks)
+            | inr differs ↦ no_elsewhere j b (ap not (ne_eqb j place differs)) e
+          ]
+
+  pub strikes_stay : (place value : ℕ) → strikes_where cells values at place value ≡ true → strikes_where cells values at' place value ≡ true
+  strikes_stay place value h = elim (four_cases cells values at place value h) [
+    | inl a ↦ elim (taken_stays place value a) [ inl b ↦ by_taken cells values at' place value b | inr b ↦ by_empty cells values at' place value b ]
+    | inr more ↦ elim more [
+      | inl a ↦ elim (needed_stays place value a) [ inl b ↦ by_needed cells values at' place value b | inr b ↦ by_lost cells values at' place value b ]
+      | inr rest ↦ elim rest [ inl a ↦ by_empty cells values at' place value (empty_stays a) | inr a ↦ by_lost cells values at' place value (lost_stays a) ]
+    ]
+  ]
+
+pub singles-monotone : (values : ℕ) → IsMonotone (strikes_by_singles values)
+singles-monotone values smaller larger k v inside on =
+    rw inside.as_many (strikes_stay (length larger) values (has_at larger) (has_at smaller) down k v on)
+  where
+    down : (j w : ℕ) → has_at smaller j w ≡ true → has_at larger j w ≡ true
+    down j w e = elim (cases_lt j (length smaller)) [
+      | inl low ↦ inside.inside j w low e
+      | inr high ↦ absurd (true≢false (sym e ∙ ap (λ (s : Set). has_value s w) (get_or_past smaller j [] high) ∙ get_or_past [] w false (omega arith)))
+    ]
+
+-- ---- n different values below n leave none out
+module _ (n : ℕ) (f : List ℕ) (long : length f ≡ n) (holds : no_repeat f ≡ true) (small : (k : ℕ) → k < n → get_or f k 0 < n) where
+  none_missing : (w : ℕ) → w < n → any_below (λ k. eqb (get_or f k 0) w) n ≡ true
+  none_missing w lt = elim (cases_Bool (any_below (λ k. eqb (get_or f k 0) w) n)) [
+    | inl on ↦ on
+    | inr off ↦
+        let few = apart-le (w ∷ f) (suc n) n (omega arith) (apart off) below in
+        absurd (omega arith)
+  ]
+    where
+      missing : any_below (λ k. eqb (get_or f k 0) w) n ≡ false → (k : ℕ) → k < n → get_or f k 0 ≡ w → ⊥
+      missing off k lk e = fails_below (λ k. eqb (get_or f k 0) w) n off k lk (eq-eqb (get_or f k 0) w e)
+
+      differ : any_below (λ k. eqb (get_or f k 0) w) n ≡ false → (i j : ℕ) → i < j → j < suc n → get_or (w ∷ f) i 0 ≡ get_or (w ∷ f) j 0 → ⊥
+      differ off i zero low within same = absurd (omega arith)
+      differ off zero (suc j) low within same = missing off j (omega arith) (sym same)
+      differ off (suc i) (suc j) low within same = different_from_no_repeat f holds i j (omega arith) (omega arith) same
+
+      apart : any_below (λ k. eqb (get_or f k 0) w) n ≡ false → IsApart (w ∷ f) (suc n)
+      apart off = record { differ = differ off }
+
+      below : (j : ℕ) → j < suc n → get_or (w ∷ f) j 0 < n
+      below zero lj = lt
+      below (suc j) lj = small j (omega arith)
+
+-- from cells that have one value each, all different, nothing is struck of what they have
+module _ (n : ℕ) (f : List ℕ) (long : length f ≡ n) (holds : no_repeat f ≡ true) (small : (k : ℕ) → k < n → get_or f k 0 < n)
+    (at : Has) (own : (k : ℕ) → k < n → at k (get_or f k 0) ≡ true) (only : (k v : ℕ) → k < n → at k v ≡ true → v ≡ get_or f k 0) where
+  own_stays : (k v : ℕ) → k < n → v ≡ get_or f k 0 → strikes_where n n at k v ≡ false
+  own_stays k v lk e = false_from_ne_true (strikes_where n n at k v) (λ on. elim (four_cases n n at k v on) [
+    | inl a ↦ taken a
+    | inr more ↦ elim more [ inl a ↦ needed a | inr rest ↦ elim rest [ inl a ↦ empty a | inr a ↦ lost a ] ]
+  ])
+    where
+      same : (j : ℕ) → j < n → get_or f j 0 ≡ get_or f k 0 → (j ≡ k → ⊥) → ⊥
+      same j lj is ne = elim (cases_lt j k) [
+        | inl low ↦ different_from_no_repeat f holds j k low (omega arith) is
+        | inr high ↦ different_from_no_repeat f holds k j (omega arith) (omega arith) (sym is)
+      ]
+
+      taken : taken_elsewhere n n at k v ≡ true → ⊥
+      taken a =
+          let w = any_below-some (λ j. not (eqb j k) && (at j v && not (has_other n at j v))) n a in
+          let parts = and_parts (not (eqb w.0 k)) (at w.0 v && not (has_other n at w.0 v)) w.2 in
+          let has = (and_parts (at w.0 v) (not (has_other n at w.0 v)) parts.1).0 in
+          same w.0 w.1 (sym (only w.0 v w.1 has) ∙ e) (λ z. true≢false (sym (eq-eqb w.0 k z) ∙ not-true (eqb w.0 k) parts.0))
+
+      needed : needed_for_other n n at k v ≡ true → ⊥
+      needed a =
+          let w = any_below-some (λ u. not (eqb u v) && (at k u && not (is_elsewhere n at k u))) n a in
+          let parts = and_parts (not (eqb w.0 v)) (at k w.0 && not (is_elsewhere n at k w.0)) w.2 in
+          let has = (and_parts (at k w.0) (not (is_elsewhere n at k w.0)) parts.1).0 in
+          true≢false (sym (eq-eqb w.0 v (only k w.0 lk has ∙ sym e)) ∙ not-true (eqb w.0 v) parts.0)
+
+      empty : has_empty_cell n n at ≡ true → ⊥
+      empty a =
+          let w = any_below-some (λ j. not (any_below (at j) n)) n a in
+          fails_below (at w.0) n (not-true (any_below (at w.0) n) w.2) (get_or f w.0 0) (small w.0 w.1) (own w.0 w.1)
+
+      lost : has_lost_value n n at ≡ true → ⊥
+      lost a =
+          let w = any_below-some (λ u. not (any_below (λ j. at j u) n)) n a in
+          let u = any_below-some (λ j. eqb (get_or f j 0) w.0) n (none_missing n f long holds small w.0 w.1) in
+          fails_below (λ j. at j w.0) n (not-true (any_below (λ j. at j w.0) n) w.2) u.0 u.1
+          (ap (at u.0) (sym (eqb-true (get_or f u.0 0) w.0 u.2)) ∙ own u.0 u.1)
+
+-- a grid without repeat in the house is not struck from its own board
+pub singles-closed : (n : ℕ) (places : List ℕ) (g : List ℕ) → length places ≡ n
+    → ((k : ℕ) → k < length places → slice_index places k < length g) → ((c : ℕ) → c < length g → slice_index g c < n)
+    → no_repeat (map (slice_index g) places) ≡ true → (c v : ℕ) → single g c v ≡ true → strikes_at n places (strikes_by_singles n) (single g) c v ≡ false
+singles-closed n places g long inside small holds c v on =
+    false_from_ne_true (strikes_at n places (strikes_by_singles n) (single g) c v) (λ struck.
+    let w = strikes_at-some n places (strikes_by_singles n) (single g) c v struck in
+    let here : v ≡ get_or f w.0 0 = sym (single-is g c v on).1 ∙ ap (slice_index g) (sym w.2) ∙ sym (at_f w.0 w.1) in
+    let none : strikes_where n n (has_at (sets_at n places (single g))) w.0 v ≡ false =
+    own_stays n f (length-map places (slice_index g) ∙ long) holds f_small (has_at (sets_at n places (single g))) own only w.0 v (omega (arith, w.1)) here in
+    true≢false (sym w.3 ∙ rw (length-sets_at n places (single g) ∙ long) none))
+  where
+    f : List ℕ
+    f = map (slice_index g) places
+
+    at_f : (k : ℕ) → k < length places → get_or f k 0 ≡ slice_index g (slice_index places k)
+    at_f k lt = get_or-map (slice_index g) places k 0 0 lt
+
+    f_small : (k : ℕ) → k < n → get_or f k 0 < n
+    f_small k lt = rw (at_f k (omega arith)) (small (slice_index places k) (inside k (omega arith)))
+
+    own : (k : ℕ) → k < n → has_at (sets_at n places (single g)) k (get_or f k 0) ≡ true
+    own k lt =
+        sets_at-value n places (single g) k (get_or f k 0) (omega arith) (f_small k lt)
+        ∙ ap (single g (slice_index places k)) (at_f k (omega arith)) ∙ single-at g (slice_index places k) (inside k (omega arith))
+
+    only : (k u : ℕ) → k < n → has_at (sets_at n places (single g)) k u ≡ true → u ≡ get_or f k 0
+    only k u lt has =
+        let lu = sets_at-small n places (single g) k u (omega arith) has in
+        let is = single-is g (slice_index places k) u (sym (sets_at-value n places (single g) k u (omega arith) lu) ∙ has) in
+        sym is.1 ∙ sym (at_f k (omega arith))

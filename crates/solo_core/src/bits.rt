@@ -1,0 +1,20 @@
+//! Sets of values as bits.
+
+ghost use Rattle.std.specs.Prelude.{◌≡◌, ℕ, ◌<◌, ◌||◌, ◌==◌};
+ghost use Rattle.engine_core.specs.Sets.{has_bit as is_set};
+
+/// The bits with bit `value` set too.
+pub(crate) fn with_bit(bits: u32, value: usize) -> u32
+    requires { value < 32 }
+    ensures { (v : ℕ) → is_set result v ≡ (is_set bits v || (v == value)) }
+{
+    bits | (1 << value)
+}
+
+/// Whether bit `value` is set.
+pub(crate) fn has_bit(bits: u32, value: u8) -> bool
+    requires { value < 32 }
+    ensures { result ≡ is_set bits value }
+{
+    (bits >> value) & 1 == 1
+}
