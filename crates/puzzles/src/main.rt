@@ -1,13 +1,15 @@
 //! Solves logic puzzles by their game IDs.
 #![tactic(auto)]
 
+#[cfg(test)]
+mod compared;
 pub mod ends;
 #[cfg(test)]
 mod fakes;
-#[cfg(test)]
-mod plain;
 pub mod grid_text;
 pub mod output;
+#[cfg(test)]
+mod plain;
 pub mod printed;
 pub mod read_end;
 pub mod reply;
