@@ -37,6 +37,17 @@ trials_in [] = 0
 trials_in (Found g ∷ marks) = trials_in marks
 trials_in (Trial depth board ∷ marks) = suc (trials_in marks)
 
+-- the marks before the first grid found, and before the second
+unfoldable pub before_grid : List Mark → List Mark
+before_grid [] = []
+before_grid (Found g ∷ marks) = []
+before_grid (Trial depth board ∷ marks) = Trial depth board ∷ before_grid marks
+
+unfoldable pub before_second : List Mark → List Mark
+before_second [] = []
+before_second (Found g ∷ marks) = Found g ∷ before_grid marks
+before_second (Trial depth board ∷ marks) = Trial depth board ∷ before_second marks
+
 -- what is said where these grids were found within the budget, and the walk has more trials or not
 abbrev pub says_counts : List (List ℕ) → Bool → Outcome
 says_counts (first ∷ second ∷ more) out = TwoGrids first second

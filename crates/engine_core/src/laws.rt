@@ -5,7 +5,7 @@ ghost use Rattle.grid_core.specs.Candidates.{Candidates, IsWithin};
 ghost use Rattle.engine_core.specs.Puzzle.{Puzzle};
 ghost use Rattle.engine_core.specs.Closing.{closure, IsLargestClosed};
 ghost use Rattle.engine_core.specs.Walk.{Mark, walk, walk_closed, IsFound, AreFoundOnce};
-ghost use Rattle.engine_core.specs.Verdict.{outcome, Solves, within_budget, grids_in, trials_in, says_counts};
+ghost use Rattle.engine_core.specs.Verdict.{outcome, spent, before_second, Solves, within_budget, grids_in, trials_in, says_counts};
 
 use crate::rules::Rules;
 
@@ -26,7 +26,9 @@ pub fn walk_goes_on_from_the_closure<R: Rules>(_rules: &R)
 {}
 
 /// The verdict, by counts: two grids, where two are found before the trial past the budget; else that the budget is
-/// spent, with the first grid found before that trial, where the walk has more trials; else one grid or none.
+/// spent, with the first grid found before that trial, where the walk has more trials; else one grid or none. The
+/// trials made are those before the second grid and before the trial past the budget.
 pub fn verdict_goes_by_counts<R: Rules>(_rules: &R)
-    ensures { (budget : ℕ) (marks : List Mark) → outcome budget None marks ≡ says_counts (grids_in (within_budget budget marks)) (nat_lt budget (trials_in marks)) }
+    ensures verdict { (budget : ℕ) (marks : List Mark) → outcome budget None marks ≡ says_counts (grids_in (within_budget budget marks)) (nat_lt budget (trials_in marks)) }
+    ensures trials { (budget : ℕ) (marks : List Mark) → spent budget None marks ≡ trials_in (before_second (within_budget budget marks)) }
 {}
