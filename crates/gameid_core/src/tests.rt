@@ -373,25 +373,29 @@ fn puzzles_of_parts(rt: HostRuntime) -> Result<(), Fail> {
 }
 
 #[test]
-fn fields_are_set(rt: HostRuntime) -> Result<(), Fail> {
+fn solo_cells_are_set(rt: HostRuntime) -> Result<(), Fail> {
     let mut solo = SoloPuzzle::blank(rt.alloc(), 2, 2)?;
     assert_eq!(rt; write_solo(rt.alloc(), &solo)?.as_str(), "2x2:p");
-    assert_eq!(rt; (solo.c(), solo.r(), solo.n()), (2, 2, 4));
     solo.set_given(0, 1);
     solo.set_given(1, 4);
     solo.set_given(15, 3);
     assert_eq!(rt; write_solo(rt.alloc(), &solo)?.as_str(), "2x2:1_4m3");
     solo.set_given(1, 0);
-    assert_eq!(rt; (solo.given(0), solo.given(1)), (1, 0));
+    assert_eq!(rt; (solo.c(), solo.r(), solo.n(), solo.given(0)), (2, 2, 4, 1));
     assert_eq!(rt; write_solo(rt.alloc(), &solo)?.as_str(), "2x2:1n3");
-    let size = Size::new(2, 3).unwrap();
-    let mut lights = LightPuzzle::blank(rt.alloc(), size)?;
+    Ok(())
+}
+
+#[test]
+fn light_cells_are_set(rt: HostRuntime) -> Result<(), Fail> {
+    let mut lights = LightPuzzle::blank(rt.alloc(), Size::new(2, 3).unwrap())?;
     assert_eq!(rt; write_lights(rt.alloc(), &lights)?.as_str(), "2x3:f");
     lights.set_cell(1, LightCell::Black);
     lights.set_cell(5, LightCell::Numbered(3));
-    assert_eq!(rt; lights.cell(5), LightCell::Numbered(3));
-    assert_eq!(rt; lights.cell(4), LightCell::White);
-    assert_eq!(rt; lights.size(), size);
+    assert_eq!(rt;
+        (lights.cell(4), lights.cell(5)),
+        (LightCell::White, LightCell::Numbered(3))
+    );
     assert_eq!(rt; write_lights(rt.alloc(), &lights)?.as_str(), "2x3:aBc3");
     Ok(())
 }
