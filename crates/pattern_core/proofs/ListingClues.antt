@@ -1,5 +1,5 @@
 -- The end of a clue, and the bit that a mark sets.
-use Rattle.std.proofs.Common.{◌≡◌, ℕ, zero, suc, ◌+◌, ◌-◌, ◌*◌, ◌%◌, ◌^◌, ◌<◌, ◌≤◌, Bool, true, false, true≢false, eqb, ◌↔◌, List, [], ◌∷◌, length, get_or, drop, drop_of_length-le, set, refl, sym, ◌∙◌, ap, ap₂, subst, arith, ◌⊎◌, inl, inr, w32}
+use Rattle.std.proofs.Common.{◌≡◌, ℕ, zero, suc, ◌+◌, ◌*◌, ◌%◌, ◌^◌, ◌<◌, ◌≤◌, true, eqb, ◌↔◌, List, [], ◌∷◌, length, get_or, drop, drop_of_length-le, set, refl, sym, ◌∙◌, ap, arith, inl, inr, w32}
 use Rattle.std.specs.Prelude.{bit_or}
 use Rattle.std.specs.Cmp.{unsigned_Decides}
 use Rattle.std.proofs.lemmas.Bool.{cases_eq}

@@ -1,12 +1,12 @@
 -- From a listing of all placements to the values that a visit keeps.
-use Rattle.std.proofs.Common.{◌≡◌, ℕ, zero, suc, ◌+◌, ◌-◌, ◌<◌, ◌≤◌, Bool, true, false, not, ◌&&◌, true≢false, List, [], map, length, get_or, drop, replicate, refl, sym, ◌∙◌, ap, ap₂, subst, arith, ◌⊎◌, inl, inr}
+use Rattle.std.proofs.Common.{◌≡◌, ℕ, ◌+◌, ◌-◌, ◌<◌, Bool, true, false, not, ◌&&◌, true≢false, List, [], map, length, get_or, replicate, refl, sym, ◌∙◌, ap, ap₂, arith, ◌⊎◌, inl, inr}
 use Rattle.std.proofs.lemmas.Bool.{cases_lt}
 use Rattle.std.proofs.lemmas.List.{get_or-map, length-map, get_or-replicate, get_or_past, length-replicate}
 use Rattle.std.proofs.lemmas.List.FromFn.{get_or-map-range_with_len, length-map-range_with_len}
 use Rattle.std.proofs.lemmas.Nat.Bits.{bit_at-zero}
 use Rattle.std.proofs.Common.{eqb}
 use Rattle.std.specs.List.{range_with_len}
-use Rattle.engine_core.specs.Filling.{Set, has_value, Fills, IsShown, IsShownBy, strikes_by_fillings}
+use Rattle.engine_core.specs.Filling.{has_value, Fills, IsShown, strikes_by_fillings}
 use Rattle.engine_core.specs.Sets.{has_bit, set_of_bits}
 use Rattle.engine_core.specs.House.{IsDecided}
 use Rattle.engine_core.specs.FillingLaws.{shown_from_test, test_from_shown, has_value_below}

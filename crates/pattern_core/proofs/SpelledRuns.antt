@@ -1,14 +1,14 @@
 -- A line leads along the spelled clue from its first place to an end exactly where its runs are the clue.
-use Rattle.std.proofs.Common.{◌≡◌, ◌∙◌, ℕ, zero, suc, ◌+◌, ◌-◌, ◌<◌, ◌≤◌, Bool, true, false, not, ◌&&◌, ◌||◌, eqb, leb, List, [], ◌∷◌, ◌++◌, length, get_or, drop, replicate, refl, sym, ap, ap₂, subst, arith, inl, inr, ◌⊎◌}
+use Rattle.std.proofs.Common.{◌≡◌, ◌∙◌, ℕ, zero, suc, ◌+◌, ◌<◌, ◌≤◌, Bool, true, false, not, ◌&&◌, ◌||◌, eqb, leb, List, [], ◌∷◌, ◌++◌, length, get_or, drop, replicate, refl, sym, ap, ap₂, arith, inl, inr}
 use Rattle.std.specs.List.{AllByRecursion}
 use Rattle.std.proofs.Math.Path.{fun_ext}
-use Rattle.std.proofs.lemmas.Bool.{cases_eq, cases_lt, eq-eqb, ne_eqb, eqb-true, le-leb, lt-leb, true≢false}
+use Rattle.std.proofs.lemmas.Bool.{cases_eq, cases_lt, eq-eqb, ne_eqb, eqb-true, le-leb, lt-leb}
 use Rattle.std.proofs.lemmas.List.{length-append, length-drop, get_or-drop, drop-drop, get_or_past, length-replicate}
-use Rattle.gameid_core.specs.BlackRuns.{run_of, runs_after, runs}
+use Rattle.gameid_core.specs.BlackRuns.{runs_after}
 use Rattle.gameid_core.specs.Puzzles.{used}
 use Rattle.engine_core.specs.Filling.{Set, strikes_by_fillings}
 use Rattle.pattern_core.specs.Lines.{same_numbers, has_runs}
-use Rattle.pattern_core.specs.Track.{spelled, Track, IsBelow, may_stay, track_of, leads, some_leads, cell_is}
+use Rattle.pattern_core.specs.Track.{spelled, IsBelow, may_stay, track_of, leads, some_leads, cell_is}
 use Rattle.pattern_core.proofs.FirstRun.{first_run}
 
 -- ---- by what is left of the spelled clue

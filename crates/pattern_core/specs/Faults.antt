@@ -1,5 +1,5 @@
 -- The first line of a grid whose runs are not its clue: the columns from the left, and then the rows from the top.
-use Rattle.std.specs.Prelude.{◌≡◌, ℕ, ◌+◌, ◌<◌, List, Option, Some, None}
+use Rattle.std.specs.Prelude.{ℕ, ◌+◌, ◌<◌, List, Option, Some, None}
 use Rattle.gameid_core.specs.Puzzles.{Pattern}
 use Rattle.pattern_core.specs.Lines.{HasClue}
 use Rattle.pattern_core.specs.Solutions.{IsSolution}

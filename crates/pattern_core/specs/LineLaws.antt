@@ -1,20 +1,20 @@
 -- The rules of lines are lawful, by the laws of fillings and the places of lines.
-use Rattle.std.proofs.Common.{◌≡◌, ℕ, zero, suc, ◌+◌, ◌-◌, ◌*◌, ◌/◌, ◌%◌, ◌<◌, ◌≤◌, Bool, true, false, not, ◌&&◌, eqb, ltb, List, [], ◌∷◌, length, slice_index, get_or, map, refl, sym, ap, ap₂, ◌∙◌, arith, inl, inr, ◌⊎◌}
+use Rattle.std.proofs.Common.{◌≡◌, ℕ, zero, suc, ◌+◌, ◌-◌, ◌*◌, ◌%◌, ◌<◌, ◌≤◌, Bool, true, false, not, ◌&&◌, eqb, ltb, List, [], ◌∷◌, length, slice_index, map, refl, sym, ap, ap₂, ◌∙◌, arith, inl, inr, ◌⊎◌}
 use Rattle.std.specs.List.{range_with_len}
 use Rattle.std.proofs.lemmas.Bool.{cases_lt, true≢false, and_parts, and_from, eqb-true, eq-eqb, ltb-true, lt-ltb, le-ltb}
 use Rattle.std.proofs.lemmas.Nat.{mod-mul-add}
 use Rattle.std.proofs.lemmas.Simd.{map-map}
 use Rattle.std.proofs.lemmas.List.FromFn.{length-map-range_with_len, get_or-map-range_with_len}
-use Rattle.std.proofs.Math.Nat.{mul-le-mul_right, mul-le-mul_left, mul-le-mul}
+use Rattle.std.proofs.Math.Nat.{mul-le-mul_right}
 use Rattle.grid_core.specs.Extent.{Extent, IsExtent}
-use Rattle.grid_core.specs.Candidates.{Candidates, IsInside, IsWithin, all_of, single, sum_below, count_below, all_below}
+use Rattle.grid_core.specs.Candidates.{IsInside, all_of, single, sum_below, count_below}
 use Rattle.grid_core.specs.Grids.{IsGrid, row_cells, column_cells}
 use Rattle.grid_core.specs.Regions.{row_places, column_places}
 use Rattle.grid_core.proofs.CandidateLemmas.{all_below-at, all_below-from, count_below-few, count_below-or}
 use Rattle.grid_core.proofs.GridLemmas.{single-is}
 use Rattle.gameid_core.specs.Puzzles.{Pattern, lines_of, line_cells}
 use Rattle.gameid_core.specs.BlackRuns.{runs}
-use Rattle.engine_core.specs.Puzzle.{Needs, FitsIn, IsLawful, IsGridOf, IsInsideAt, after, has_place, share}
+use Rattle.engine_core.specs.Puzzle.{Needs, FitsIn, IsLawful, after, has_place, share}
 use Rattle.engine_core.specs.Places.{has_place-at, has_place-here}
 use Rattle.engine_core.specs.Filling.{strikes_by_fillings}
 use Rattle.engine_core.specs.House.{strikes_at, AreDifferent}

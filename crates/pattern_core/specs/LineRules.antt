@@ -1,5 +1,5 @@
 -- What the rules of Pattern mean to a search: each line is a house.
-use Rattle.std.specs.Prelude.{◌≡◌, ℕ, ◌+◌, ◌*◌, Bool, true, not, ◌&&◌, List}
+use Rattle.std.specs.Prelude.{ℕ, ◌+◌, ◌*◌, Bool, true, not, ◌&&◌, List}
 use Rattle.grid_core.specs.Extent.{Extent, IsExtent}
 use Rattle.grid_core.specs.Candidates.{Candidates, all_below, all_of}
 use Rattle.gameid_core.specs.Puzzles.{Pattern, lines_of}

@@ -1,5 +1,5 @@
 -- What a listing of the placements of a line's runs finds, and which values it shows.
-use Rattle.std.specs.Prelude.{◌≡◌, ℕ, zero, suc, ◌+◌, ◌-◌, ◌<◌, ◌≤◌, Bool, true, false, ◌⊎◌, ◌&&◌, ◌==◌, List, [], ◌∷◌, length, get_or, drop}
+use Rattle.std.specs.Prelude.{◌≡◌, ℕ, ◌+◌, ◌-◌, ◌<◌, ◌≤◌, Bool, true, false, ◌⊎◌, List, length, get_or}
 use Rattle.engine_core.specs.Sets.{has_bit}
 use Rattle.gameid_core.specs.BlackRuns.{runs_after}
 

@@ -1,7 +1,6 @@
 -- A clue spelled out as cells, and how a line goes along it. The places along the clue are numbered from 0, before its
 -- first cell. A line that is at a place has passed what is spelled before it.
 use Rattle.std.specs.Prelude.{◌≡◌, ℕ, zero, suc, ◌<◌, ◌≤◌, Bool, true, false, ◌&&◌, ◌||◌, ◌==◌, List, [], ◌∷◌, ◌++◌, length, get_or, replicate, drop, map}
-use Rattle.grid_core.specs.Candidates.{any_below}
 use Rattle.engine_core.specs.Filling.{Set, some_filling}
 use Rattle.engine_core.specs.Sets.{has_bit, set_of_bits}
 

@@ -1,4 +1,4 @@
-use Rattle.std.proofs.Common.{◌≡◌, ◌∙◌, ◌+◌, ◌-◌, ◌<◌, ◌≤◌, ℕ, sym, ap, arith}
+use Rattle.std.proofs.Common.{ap, arith}
 use Rattle.grid_core.specs.Extent.{Extent}
 use Rattle.pattern_core.specs.LineLaws.{solution_from_lines}
 use Rattle.pattern_core.proofs.LineVisits.{wrong_line}

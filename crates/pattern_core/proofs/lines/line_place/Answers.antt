@@ -1,4 +1,4 @@
-use Rattle.std.proofs.Common.{◌≡◌, ◌∙◌, ◌<◌, ◌≤◌, ◌-◌, List, ℕ, ap, sym, arith, slice_index}
+use Rattle.std.proofs.Common.{◌≡◌, ◌∙◌, ◌-◌, List, ℕ, ap, sym, arith, slice_index}
 use Rattle.pattern_core.specs.LineLaws.{column-places, row-places}
 use Rattle.grid_core.specs.Regions.{row_places}
 use Rattle.pattern_core.proofs.lines.line_place.Goals as goal

@@ -1,4 +1,4 @@
-use Rattle.std.proofs.Common.{◌≡◌, ◌∙◌, ◌<◌, ◌≤◌, ◌*◌, ℕ, length, sym, arith, ap₂, subst}
+use Rattle.std.proofs.Common.{◌*◌, arith, subst}
 use Rattle.grid_core.specs.Board.{has, cells_of}
 use Rattle.grid_core.specs.Candidates.{IsWithin}
 use Rattle.grid_core.proofs.BoardLemmas.{has-within}

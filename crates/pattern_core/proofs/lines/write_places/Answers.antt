@@ -1,4 +1,4 @@
-use Rattle.std.proofs.Common.{◌≡◌, ◌∙◌, ◌<◌, ◌≤◌, ℕ, length, sym, arith}
+use Rattle.std.proofs.Common.{◌∙◌, sym, arith}
 use Rattle.std.proofs.lemmas.Grind.{same_number_lists}
 use Rattle.pattern_core.specs.Lines.{line_places}
 use Rattle.pattern_core.specs.LineLaws.{length-line_places}

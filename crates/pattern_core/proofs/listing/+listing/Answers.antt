@@ -1,5 +1,5 @@
-use Rattle.std.proofs.Common.{◌≡◌, sym, ◌∙◌, arith, refl}
-use Rattle.pattern_core.proofs.ListingSteps.{list_end, white_stops, list_cases, lacks_value, white_none, white_some, black_none, black_some, black_stops}
+use Rattle.std.proofs.Common.{sym, arith, refl}
+use Rattle.pattern_core.proofs.ListingSteps.{list_end, white_stops, list_cases, white_none, white_some, black_none, black_some, black_stops}
 use Rattle.pattern_core.proofs.listing.+listing.Goals as goal
 
 pub list_rest-returns : goal.list_rest-returns

@@ -1,5 +1,5 @@
-use Rattle.std.proofs.Common.{◌≡◌, true≢false, sym, arith}
-use Rattle.pattern_core.proofs.ListingClues.{ends_empty, ends_run, ends_longer}
+use Rattle.std.proofs.Common.{true≢false, sym, arith}
+use Rattle.pattern_core.proofs.ListingClues.{ends_empty, ends_longer}
 use Rattle.pattern_core.proofs.listing.ends.Goals as goal
 
 pub returns-then-k-eq0 : goal.returns-then-k-eq0

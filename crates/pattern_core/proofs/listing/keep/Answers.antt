@@ -1,5 +1,4 @@
-use Rattle.std.proofs.Common.{◌≡◌, rules, length, replicate, subst, arith, ◌∙◌}
-use Rattle.std.proofs.lemmas.List.{length-replicate}
+use Rattle.std.proofs.Common.{◌≡◌, rules, length, replicate, subst}
 use Rattle.pattern_core.specs.Listing.{IsRest, IsListed}
 use Rattle.pattern_core.proofs.ListingKept.{decided_line}
 use Rattle.pattern_core.proofs.listing.keep.Goals as goal

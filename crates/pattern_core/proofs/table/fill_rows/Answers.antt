@@ -1,6 +1,5 @@
-use Rattle.std.proofs.Common.{◌≡◌, ◌+◌, ◌-◌, ◌≤◌, ◌<◌, ℕ, arith, refl, sym, subst, ap, ◌∙◌, length, get_or}
-use Rattle.pattern_core.specs.Track.{track_bits, AreRows, ahead}
-use Rattle.engine_core.specs.Sets.{has_bit}
+use Rattle.std.proofs.Common.{◌≡◌, ◌+◌, ◌-◌, ◌≤◌, ◌<◌, arith, refl, subst, length}
+use Rattle.pattern_core.specs.Track.{track_bits, AreRows}
 use Rattle.pattern_core.proofs.TableSteps.{last_row, one_row}
 use Rattle.pattern_core.proofs.table.fill_rows.Goals as goal
 

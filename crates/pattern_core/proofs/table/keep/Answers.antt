@@ -1,4 +1,4 @@
-use Rattle.std.proofs.Common.{◌≡◌, ◌<◌, ◌≤◌, ℕ, sym, arith, subst}
+use Rattle.std.proofs.Common.{sym, arith, subst}
 use Rattle.pattern_core.specs.Track.{spelled, IsBelow}
 use Rattle.pattern_core.proofs.SpelledRuns.{length-spelled, track_below}
 use Rattle.pattern_core.proofs.TableSteps.{decided_by_track}

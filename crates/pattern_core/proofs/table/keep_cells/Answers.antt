@@ -1,5 +1,5 @@
-use Rattle.std.proofs.Common.{◌≡◌, ◌∙◌, ◌+◌, ◌<◌, ◌≤◌, ℕ, arith, refl, length}
-use Rattle.pattern_core.specs.Track.{track_bits, AreKept}
+use Rattle.std.proofs.Common.{arith}
+use Rattle.pattern_core.specs.Track.{track_bits}
 use Rattle.pattern_core.proofs.Words.{bits_one}
 use Rattle.pattern_core.proofs.TableSteps.{reached_first, reached_next, kept_here}
 use Rattle.pattern_core.proofs.table.keep_cells.Goals as goal

@@ -1,4 +1,3 @@
-use Rattle.std.proofs.Common.{◌≡◌, ◌+◌}
 use Rattle.pattern_core.specs.Track.{track_bits, AreKept}
 use Rattle.pattern_core.proofs.TableSteps.{AreReached}
 use Rattle.pattern_core.proofs.table.keep_cells.Given as goal

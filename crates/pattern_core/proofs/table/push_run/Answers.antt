@@ -1,4 +1,4 @@
-use Rattle.std.proofs.Common.{◌≡◌, ◌∙◌, ◌+◌, ◌++◌, ◌<◌, ◌≤◌, ℕ, List, [], ◌∷◌, replicate, sym, ap, arith, subst, append-nil}
+use Rattle.std.proofs.Common.{◌≡◌, ◌∙◌, ◌++◌, ℕ, List, [], ◌∷◌, replicate, sym, ap, arith, subst, append-nil}
 use Rattle.pattern_core.specs.Track.{IsSpelling}
 use Rattle.pattern_core.proofs.Spellings.{one_more, run_ended}
 use Rattle.pattern_core.proofs.table.push_run.Goals as goal

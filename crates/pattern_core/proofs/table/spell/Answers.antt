@@ -1,4 +1,4 @@
-use Rattle.std.proofs.Common.{◌≡◌, ◌∙◌, ◌+◌, ◌<◌, ◌≤◌, ℕ, List, take, get_or, sym, ap, arith, refl, subst}
+use Rattle.std.proofs.Common.{◌≡◌, ◌∙◌, ◌+◌, ◌≤◌, ℕ, List, take, get_or, sym, ap, arith, refl, subst}
 use Rattle.std.proofs.lemmas.List.{take_all}
 use Rattle.gameid_core.specs.Puzzles.{used}
 use Rattle.pattern_core.specs.Track.{spelled, IsSpelling}

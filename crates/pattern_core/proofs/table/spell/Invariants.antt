@@ -1,4 +1,4 @@
-use Rattle.std.proofs.Common.{◌≡◌, ℕ, List, take}
+use Rattle.std.proofs.Common.{◌≡◌, take}
 use Rattle.gameid_core.specs.Puzzles.{used}
 use Rattle.pattern_core.specs.Track.{spelled, IsSpelling}
 use Rattle.pattern_core.proofs.table.spell.Given as goal

@@ -1,4 +1,4 @@
-use Rattle.std.proofs.Common.{◌≡◌, ◌∙◌, ◌≤◌, sym, ap, arith, subst}
+use Rattle.std.proofs.Common.{sym, ap, arith, subst}
 use Rattle.grid_core.specs.Extent.{Extent}
 use Rattle.gameid_core.specs.Puzzles.{IsPattern}
 use Rattle.pattern_core.proofs.LineVisits.{copied_pattern}

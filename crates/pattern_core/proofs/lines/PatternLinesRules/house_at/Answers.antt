@@ -1,4 +1,4 @@
-use Rattle.std.proofs.Common.{◌≡◌, ◌∙◌, ap}
+use Rattle.std.proofs.Common.{◌∙◌, ap}
 use Rattle.pattern_core.specs.LineRules.{Ruled}
 use Rattle.pattern_core.proofs.NextLine.{next_column, next_row, next_none}
 use Rattle.pattern_core.proofs.lines.PatternLinesRules.house_at.Goals as goal

@@ -1,4 +1,4 @@
-use Rattle.std.proofs.Common.{◌≡◌, ◌∙◌, ◌<◌, ap, arith, sym}
+use Rattle.std.proofs.Common.{ap, arith}
 use Rattle.gameid_core.specs.Puzzles.{line_cells}
 use Rattle.pattern_core.specs.LineRules.{Ruled}
 use Rattle.pattern_core.specs.LineLaws.{length-line_places}

@@ -1,5 +1,5 @@
-use Rattle.std.proofs.Common.{◌≡◌, ◌∙◌, ◌≤◌, ap, arith, sym}
-use Rattle.gameid_core.specs.Puzzles.{line_cells, lines_of}
+use Rattle.std.proofs.Common.{ap, arith}
+use Rattle.gameid_core.specs.Puzzles.{lines_of}
 use Rattle.engine_core.specs.Puzzle.{longest}
 use Rattle.pattern_core.specs.Lines.{line_places}
 use Rattle.pattern_core.specs.LineRules.{Ruled}
