@@ -1,13 +1,38 @@
--- The grid of a full board.
-use Rattle.std.proofs.Common.{◌≡◌, ℕ, ◌+◌, ◌<◌, ◌≤◌, true, false, List, [], ◌∷◌, ◌++◌, length, slice_index, take, set, sym, ap, ◌∙◌, arith, add-one}
-use Rattle.std.proofs.lemmas.Bool.{true≢false, false_from_ne_true}
+-- What a closed board is, and the grid of a full one.
+use Rattle.std.proofs.Common.{◌≡◌, ℕ, ◌+◌, ◌<◌, ◌≤◌, true, false, leb, ltb, List, [], ◌∷◌, ◌++◌, length, slice_index, take, set, Option, Some, None, IfSome, sym, ap, ◌∙◌, inl, inr, ◌⊎◌, arith, add-one}
+use Rattle.std.proofs.lemmas.Bool.{true≢false, false_from_ne_true, le-leb, lt-leb, lt-ltb, le-ltb, and_left, and_right}
 use Rattle.std.proofs.Math.Seq.{take-suc-set}
-use Rattle.grid_core.specs.Candidates.{Candidates, count_below, least_below, grid_of, is_full, is_dead}
-use Rattle.grid_core.proofs.CandidateLemmas.{least_below-passes, count_below-one, is_dead-each}
+use Rattle.grid_core.specs.Candidates.{Candidates, count_below, least_below, better, pick, grid_of, is_full, is_dead}
+use Rattle.grid_core.proofs.CandidateLemmas.{least_below-passes, count_below-one, is_dead-not, is_dead-each}
 use Rattle.std.proofs.lemmas.List.Elements.{All-from_get_or}
-use Rattle.grid_core.proofs.GridLemmas.{is_full-count, length-grid_of, grid_of-at}
+use Rattle.grid_core.proofs.GridLemmas.{pick-two, is_full-count, length-grid_of, grid_of-at, full_from_none}
 use Rattle.engine_core.specs.Puzzle.{Puzzle, IsGridOf, IsBoardOf}
 use Rattle.grid_core.specs.Board.{Layout, cells_of, has}
+
+pub better-first : (values : ℕ) (K : Candidates) (c : ℕ) → 2 ≤ count_below (K c) values → Some c ≡ better values K None c
+unfolding better
+better-first values K c two = rw (le-leb 2 (count_below (K c) values) two)
+
+pub better-none : (values : ℕ) (K : Candidates) (c : ℕ) → count_below (K c) values < 2 → None ≡ better values K None c
+unfolding better
+better-none values K c few = rw (lt-leb 2 (count_below (K c) values) few)
+
+pub better-new : (values : ℕ) (K : Candidates) (b c : ℕ) → 2 ≤ count_below (K c) values → count_below (K c) values < count_below (K b) values → Some c ≡ better values K (Some b) c
+unfolding better
+better-new values K b c two less = rw (le-leb 2 (count_below (K c) values) two, lt-ltb (count_below (K c) values) (count_below (K b) values) less)
+
+pub better-old : (values : ℕ) (K : Candidates) (b c : ℕ) → (count_below (K c) values < 2) ⊎ (count_below (K b) values ≤ count_below (K c) values) → Some b ≡ better values K (Some b) c
+unfolding better
+better-old values K b c (inl few) = rw (and_left (leb 2 (count_below (K c) values)) (ltb (count_below (K c) values) (count_below (K b) values)) (lt-leb 2 (count_below (K c) values) few))
+better-old values K b c (inr le) = rw (and_right (leb 2 (count_below (K c) values)) (ltb (count_below (K c) values) (count_below (K b) values)) (le-ltb (count_below (K c) values) (count_below (K b) values) le))
+
+pub pick-in : (o : Option ℕ) (n cells values : ℕ) (K : Candidates) → o ≡ pick n values K → n ≤ cells → IfSome o (λ b. b < cells)
+pick-in None n cells values K e le = tt
+pick-in (Some b) n cells values K e le = let w = pick-two n values K b (sym e) in omega (arith, w.0)
+
+pub pick-more : (o r : Option ℕ) (n values : ℕ) (K : Candidates) → o ≡ pick n values K → r ≡ better values K o n → r ≡ pick (n + 1) values K
+unfolding pick
+pick-more o r n values K e f = rw add-one (f ∙ ap (λ x. better values K x n) e)
 
 pub grid-more : (g : List ℕ) (n v cells values : ℕ) (K : Candidates) → length g ≡ cells → n < cells → is_full cells values K ≡ true → take n g ≡ grid_of n values K → v < values → K n v ≡ true → take (n + 1) (set g n v) ≡ grid_of (n + 1) values K
 unfolding grid_of
@@ -41,6 +66,11 @@ grid-long p K g n v en e = ap length e ∙ (length-grid_of n v K ∙ en)
 
 pub full_of : (p : Puzzle) (b : Layout) → IsBoardOf p b → is_full (cells_of b) b.values (has b) ≡ is_full p.cells p.values (has b)
 full_of p b of = ap (λ (n : ℕ). is_full n b.values (has b)) of.same_cells ∙ ap (λ (v : ℕ). is_full p.cells v (has b)) of.same_values
+
+pub never-unpicked : (b : Layout) (n : ℕ) → n ≡ cells_of b → is_dead (cells_of b) b.values (has b) ≡ false → is_full (cells_of b) b.values (has b) ≡ false → None ≡ pick n b.values (has b) → ⊥
+never-unpicked b n e alive notfull none =
+    let picked : pick (cells_of b) b.values (has b) ≡ None = ap (λ (m : ℕ). pick m b.values (has b)) (sym e) ∙ sym none in
+    true≢false (sym (full_from_none (cells_of b) b.values (has b) (λ c lt. is_dead-not (cells_of b) b.values (has b) c alive lt) picked) ∙ notfull)
 
 -- a dead board is not full
 pub dead_not_full : (cells values : ℕ) (K : Candidates) → is_dead cells values K ≡ true → is_full cells values K ≡ false

@@ -6,3 +6,11 @@ pub mod SweepLemmas
 pub mod JudgeLemmas
 pub mod StoreLemmas
 pub mod HouseLemmas
+pub mod NeighboursLemmas
+pub mod WalkLemmas
+pub mod VerdictLemmas
+pub mod SearchLemmas
+pub mod TrailLemmas
+pub mod FrameLemmas
+pub mod NoteLemmas
+pub mod CountLemmas

@@ -1,15 +1,14 @@
 -- A closing list grows by one visit at a time.
-use Rattle.std.proofs.Common.{◌≡◌, ◌≢◌, ℕ, zero, suc, ◌+◌, ◌<◌, ◌≤◌, Bool, true, false, not, ◌&&◌, ◌||◌, eqb, List, [], ◌∷◌, ◌++◌, length, take, slice_index, refl, sym, ap, ◌∙◌, inl, inr, arith, length-append}
+use Rattle.std.proofs.Common.{◌≡◌, ◌≢◌, ℕ, ◌+◌, ◌<◌, ◌≤◌, Bool, true, false, not, ◌&&◌, eqb, List, [], ◌∷◌, ◌++◌, length, take, slice_index, refl, sym, ap, ◌∙◌, inl, inr, arith, length-append}
 use Rattle.std.specs.List.{AllByRecursion}
-use Rattle.std.proofs.lemmas.Bool.{cases_Bool, cases_eq, true≢false, and_parts, and_from, or_cases, or_left, or_right, not-true, not_from_false, not_from_true, false_from_ne_true, eqb-true, eq-eqb, ne_eqb}
+use Rattle.std.proofs.lemmas.Bool.{cases_Bool, cases_eq, true≢false, and_parts, and_from, or_cases, or_left, not-true, not_from_false, not_from_true, false_from_ne_true, eq-eqb, ne_eqb}
 use Rattle.std.proofs.lemmas.List.{take-append-le, take_all, length-take-le}
-use Rattle.grid_core.specs.Candidates.{Candidates, IsWithin, any_below, count_below, is_dead}
+use Rattle.grid_core.specs.Candidates.{Candidates, IsWithin, any_below, count_below}
 use Rattle.grid_core.proofs.CandidateLemmas.{any_below-some, any_below-none, count_below-le}
-use Rattle.engine_core.specs.Puzzle.{Puzzle, IsLawful, IsClosed, after, has_place}
+use Rattle.engine_core.specs.Puzzle.{Puzzle, IsLawful, after, has_place}
 use Rattle.engine_core.specs.Closing.{replay, closure}
 use Rattle.engine_core.specs.ClosingList.{IsDead, IsAlive, HasLost, IsCalledNext, IsCalledFor, IsClosingList, IsClosing}
-use Rattle.engine_core.specs.Queue.{counts_of, calls, woken, but, visits_left, IsRested}
-use Rattle.engine_core.specs.declared.mode.Closing.{Closing}
+use Rattle.engine_core.specs.Queue.{counts_of, woken, but, visits_left, IsRested}
 use Rattle.engine_core.specs.declared.mode.Closing.TheVariants.{Dead, Open}
 use Rattle.engine_core.proofs.QueueLemmas.{visits_first, visits_left-pos, rested_first, closed_from_rested, turn_enough, turn_rested}
 use Rattle.engine_core.proofs.ClosingLemmas.{after_inside, replay_inside, replay-push, replay_closure, replay_dead}

@@ -4,14 +4,12 @@ use Rattle.std.proofs.Math.Nat.{mul-le-mul_right}
 use Rattle.std.proofs.Math.Seq.{take-suc-set}
 use Rattle.grid_core.specs.Candidates.{Candidates, IsWithin, any_below, count_below, sum_below, is_dead}
 use Rattle.grid_core.proofs.CandidateLemmas.{any_below-here, any_below-some, any_below-none, count_below-le, count_below-lt, count_below-any, count_below-kept, count_below-pos, count_below-none, count_below-bound, count_below-same, any_below-same, sum_below-le, sum_below-add, is_dead-not, is_dead-here, is_dead-each}
-use Rattle.std.specs.List.{AllByRecursion}
 use Rattle.grid_core.specs.Board.{Layout, SameShape, has, cells_of}
 use Rattle.grid_core.proofs.BoardLemmas.{has-within}
-use Rattle.engine_core.specs.Closing.{replay}
 use Rattle.engine_core.specs.Puzzle.{Puzzle, IsLawful, IsClosed, IsInsideAt, IsBoardOf, after, has_place, share}
 use Rattle.engine_core.specs.Places.{has_place-at, has_place-here}
 use Rattle.engine_core.specs.Queue.{calls, counts_of, woken, but, visits_left, IsRested, is_waiting, is_emptied}
-use Rattle.engine_core.proofs.ClosingLemmas.{after_inside, replay-push}
+use Rattle.engine_core.proofs.ClosingLemmas.{after_inside}
 
 -- ---- what a visit leaves in the cells of other houses
 -- a cell outside the house is left alone

@@ -1,15 +1,15 @@
 -- Closing by sweeps.
-use Rattle.std.proofs.Common.{◌≡◌, ℕ, zero, suc, ◌+◌, ◌-◌, ◌*◌, ◌<◌, ◌≤◌, Bool, true, false, not, ◌&&◌, ◌||◌, List, [], ◌∷◌, ◌++◌, length, refl, sym, ap, ◌∙◌, inl, inr, arith, add-one, subst}
+use Rattle.std.proofs.Common.{◌≡◌, ℕ, zero, suc, ◌+◌, ◌-◌, ◌*◌, ◌<◌, ◌≤◌, Bool, true, false, not, ◌||◌, List, [], ◌∷◌, ◌++◌, refl, sym, ap, ◌∙◌, inl, inr, arith, add-one, subst}
 use Rattle.std.proofs.Math.Nat.{mul-suc}
 use Rattle.std.specs.List.{AllByRecursion, range_with_len}
 use Rattle.std.proofs.lemmas.List.{map-id}
 use Rattle.std.proofs.lemmas.List.FromFn.{map-range_with_len_more}
-use Rattle.std.proofs.lemmas.Bool.{cases_Bool, cases_eq, true≢false, and_parts, and_from, not-true, not-false, not_from_false, false_from_ne_true}
-use Rattle.grid_core.specs.Candidates.{Candidates, IsInside, IsWithin, total, is_dead, count_below}
-use Rattle.grid_core.proofs.CandidateLemmas.{total-lt, within_inside, is_dead-not, count_below-bound}
+use Rattle.std.proofs.lemmas.Bool.{cases_Bool, cases_eq, true≢false, and_parts, not-true, false_from_ne_true}
+use Rattle.grid_core.specs.Candidates.{Candidates, IsWithin, total, count_below}
+use Rattle.grid_core.proofs.CandidateLemmas.{total-lt, is_dead-not, count_below-bound}
 use Rattle.engine_core.specs.Puzzle.{Puzzle, IsLawful, IsClosed, after}
 use Rattle.engine_core.specs.Closing.{replay, sweeps_of, closure, HasStruck}
-use Rattle.engine_core.specs.ClosingList.{IsDead, IsAlive, IsClosingSweeps, IsClosing}
+use Rattle.engine_core.specs.ClosingList.{IsDead, IsAlive, IsClosing}
 use Rattle.engine_core.specs.declared.mode.Closing.TheVariants.{Dead, Open}
 use Rattle.engine_core.proofs.ListLemmas.{all-push}
 use Rattle.engine_core.proofs.ClosingLemmas.{after_inside, replay_inside, replay-push, replay_closure, replay_dead}
@@ -91,7 +91,7 @@ pub record IsSwept (p : Puzzle) (K0 : Candidates) (sweeps : ℕ) (K : Candidates
   pub struck : (n : ℕ) → n < sweeps → HasStruck (replay p K0 (sweeps_of p n)) (replay p K0 (sweeps_of p (n + 1)))
   pub enough : total p.cells p.values K + sweeps ≤ p.cells * p.values
 
-total-bound : (cells values : ℕ) (K : Candidates) → total cells values K ≤ cells * values
+pub total-bound : (cells values : ℕ) (K : Candidates) → total cells values K ≤ cells * values
 unfolding total
 total-bound zero values K = omega arith
 total-bound (suc cells) values K = let rest = total-bound cells values K in let here = count_below-bound (K cells) values in let e : suc cells * values ≡ cells * values + values = omega arith in omega arith

@@ -1,15 +1,15 @@
 -- The bridge between what a house strikes from its own sets and what it strikes in the whole board.
-use Rattle.std.proofs.Common.{◌≡◌, ℕ, ◌+◌, ◌<◌, ◌≤◌, Bool, true, false, not, ◌&&◌, eqb, List, [], map, length, get_or, slice_index, refl, sym, ap, ◌∙◌, arith, inl, inr, ◌⊎◌}
+use Rattle.std.proofs.Common.{◌≡◌, ℕ, ◌<◌, ◌≤◌, Bool, true, false, not, ◌&&◌, eqb, List, [], map, length, get_or, slice_index, refl, sym, ap, ◌∙◌, arith, inl, inr}
 use Rattle.std.specs.List.{range_with_len}
 use Rattle.std.proofs.Math.Path.{fun_ext}
-use Rattle.std.proofs.lemmas.Bool.{cases_Bool, cases_lt, true≢false, and_parts, and_from, and_left, and_right, not-true, not_from_false, not_from_true, false_from_ne_true, eqb-true, eq-eqb}
-use Rattle.std.proofs.lemmas.List.{get_or-map, length-map, get_or_past, same_lists, get_or_default}
+use Rattle.std.proofs.lemmas.Bool.{cases_Bool, cases_lt, true≢false, and_parts, and_from, and_left, not-true, false_from_ne_true, eqb-true, eq-eqb}
+use Rattle.std.proofs.lemmas.List.{get_or-map, length-map, same_lists}
 use Rattle.std.proofs.lemmas.List.FromFn.{get_or-map-range_with_len, length-map-range_with_len}
-use Rattle.grid_core.specs.Candidates.{Candidates, IsWithin, any_below, single}
-use Rattle.grid_core.proofs.CandidateLemmas.{any_below-here, any_below-some, any_below-none, any_below-same}
+use Rattle.grid_core.specs.Candidates.{Candidates, IsWithin, single}
+use Rattle.grid_core.proofs.CandidateLemmas.{any_below-here, any_below-some, any_below-same}
 use Rattle.grid_core.proofs.GridLemmas.{single-at, single-is}
 use Rattle.engine_core.specs.Puzzle.{Puzzle, IsInsideAt, has_place, after}
-use Rattle.engine_core.specs.Places.{has_place-at, has_place-here}
+use Rattle.engine_core.specs.Places.{has_place-here}
 use Rattle.engine_core.specs.Filling.{Set, has_value, Fills, strikes_by_fillings, AreInside, AreAfterVisit}
 use Rattle.engine_core.specs.FillingLaws.{has_value_below, shown_from_test, strikes-inside, strikes_settled, own_values_stay}
 use Rattle.engine_core.specs.Sets.{has_bit, set_of_bits, IsBitsOf}

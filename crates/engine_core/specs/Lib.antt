@@ -9,5 +9,12 @@ pub mod Sets
 pub mod House
 pub mod HouseLaws
 pub mod Queue
+pub mod Walk
+pub mod Verdict
+pub mod Counts
+pub mod Search
+pub mod Frames
 pub mod Stored
 pub mod StoreParts
+pub mod Neighbours
+pub mod NeighboursLaws

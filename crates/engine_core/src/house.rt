@@ -63,7 +63,7 @@ fn apply_cell(board: &mut Board, place: usize, values: u8, kept: u32) -> bool
 }
 
 /// Whether bit `value` is set.
-fn has_bit(bits: u32, value: u8) -> bool
+pub(crate) fn has_bit(bits: u32, value: u8) -> bool
     requires { value < 32 }
     ensures { result ≡ is_set bits value }
 {

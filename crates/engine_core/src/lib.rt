@@ -4,14 +4,25 @@
 mod close;
 mod house;
 mod judge;
+mod laws;
 mod mode;
+mod note;
 mod queue;
 mod rules;
+mod search;
 mod sets;
 mod store;
 mod sweep;
 
 pub use house::{apply, gather};
+pub use laws::{
+    closure_is_largest, verdict_goes_by_counts, walk_finds_each_solution_once,
+    walk_goes_on_from_the_closure,
+};
 pub use mode::{Closing, Mode};
 pub use rules::Rules;
+pub use search::Verdict;
 pub use store::{Sizes, Store};
+
+#[cfg(test)]
+mod tests;

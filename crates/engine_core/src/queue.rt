@@ -2,23 +2,31 @@
 
 ghost use Rattle.std.specs.Prelude.{◌≡◌, ℕ, Bool, ◌+◌, ◌<◌, ◌≤◌, ◌||◌, ◌&&◌, ◌==◌, not, length, slice_index, true, false, take, count_ones};
 ghost use Rattle.grid_core.specs.Board.{has, SameShape};
-ghost use Rattle.grid_core.specs.Candidates.{is_dead};
+ghost use Rattle.grid_core.specs.Candidates.{is_dead, total};
+ghost use Rattle.engine_core.specs.Frames.{IsTrail, IsNoted};
 ghost use Rattle.engine_core.specs.Puzzle.{Puzzle, Needs, needs_of, IsBoardOf, IsNext, has_place, after};
 ghost use Rattle.engine_core.specs.ClosingList.{IsClosing};
-ghost use Rattle.engine_core.specs.Sets.{IsBitsOf};
 ghost use Rattle.engine_core.specs.Queue.{is_waiting, counts_of, woken, but, is_emptied};
 
 use crate::mode::Closing;
+use crate::note::visit_noting;
 use crate::rules::Rules;
-use crate::sets::cell_bits;
 use grid_core::Board;
 
-/// What a closing came to, and how many visits or sweeps it made.
+/// What a closing came to, how many visits or sweeps it made, and how long the trail is then.
 #[derive(Clone, Copy)]
 pub(crate) struct Closed {
     pub closing: Closing,
     pub visits: usize,
     pub sweeps: usize,
+    pub len: usize,
+}
+
+/// Whether a visit left a cell without a value, and how long the trail is then.
+#[derive(Clone, Copy)]
+struct Stepped {
+    dead: bool,
+    len: usize,
 }
 
 /// The least house that waits.
@@ -48,20 +56,6 @@ fn wake_place<R: Rules>(rules: &R, house: usize, place: usize, waits: &mut [bool
     }
 }
 
-/// Notes the set of each cell of the house.
-fn remember<R: Rules>(rules: &R, house: usize, board: &Board, sets: &mut [u32])
-    requires house_in { house < (R.puzzle rules.now).houses }
-    requires board_of { IsBoardOf (R.puzzle rules.now) board.now }
-    requires room { length ((R.puzzle rules.now).scope house) ≤ length sets.old }
-    ensures sets { (k : ℕ) → k < length ((R.puzzle rules.now).scope house) → IsBitsOf (has board.now (slice_index ((R.puzzle rules.now).scope house) k)) (R.puzzle rules.now).values (slice_index sets.new k) }
-{
-    let values = rules.values();
-    for k in 0..rules.scope_len(house) {
-        let place = rules.scope(house, k);
-        sets[k] = cell_bits(board, place, values);
-    }
-}
-
 /// Marks the houses that have a cell of the visited house whose number of values is another than before, and says
 /// whether a cell of the house has no value.
 fn wake<R: Rules>(rules: &R, house: usize, board: &Board, sets: &[u32], waits: &mut [bool]) -> bool
@@ -84,7 +78,8 @@ fn wake<R: Rules>(rules: &R, house: usize, board: &Board, sets: &[u32], waits: &
     emptied
 }
 
-/// Visits the house, marks the houses that this calls for, and says whether the visit left a cell without a value.
+/// Visits the house, notes what that strikes, marks the houses that it calls for, and says whether it left a cell
+/// without a value.
 fn step<R: Rules>(
     rules: &R,
     house: usize,
@@ -92,27 +87,36 @@ fn step<R: Rules>(
     scratch: &mut R::Scratch,
     sets: &mut [u32],
     waits: &mut [bool],
-) -> bool
+    trail: &mut [(usize, u8)],
+    len: usize,
+) -> Stepped
     requires house_in { house < (R.puzzle rules.now).houses }
     requires board_of { IsBoardOf (R.puzzle rules.now) board.old }
     requires alive { is_dead (R.puzzle rules.now).cells (R.puzzle rules.now).values (has board.old) ≡ false }
     requires served { R.serves scratch.old (needs_of (R.puzzle rules.now)) }
     requires room { length ((R.puzzle rules.now).scope house) ≤ length sets.old }
     requires waits_of { length waits.old ≡ (R.puzzle rules.now).houses }
+    requires within { len ≤ length trail.old }
+    requires entries { IsTrail (R.puzzle rules.now).cells (R.puzzle rules.now).values trail.old len }
+    requires trail_room { total (R.puzzle rules.now).cells (R.puzzle rules.now).values (has board.old) + len ≤ length trail.old }
     ensures left { has board.new ≡ after (R.puzzle rules.now) house (has board.old) }
     ensures shape { SameShape board.old board.new }
     ensures waiting { (j : ℕ) → j < (R.puzzle rules.now).houses → is_waiting waits.new j ≡ woken (R.puzzle rules.now) house (counts_of (R.puzzle rules.now) house (has board.old)) (has board.new) (but (is_waiting waits.old) house) j }
-    ensures dead { result ≡ is_dead (R.puzzle rules.now).cells (R.puzzle rules.now).values (has board.new) }
+    ensures noted { IsNoted (R.puzzle rules.now).cells (R.puzzle rules.now).values (has board.old) (has board.new) trail.old trail.new len result.len }
+    ensures dead { result.dead ≡ is_dead (R.puzzle rules.now).cells (R.puzzle rules.now).values (has board.new) }
     ensures keeps { (needs : Needs) → R.serves scratch.old needs → R.serves scratch.new needs }
 {
     waits[house] = false;
-    remember(rules, house, board, sets);
-    let _struck = rules.visit(house, board, scratch);
-    wake(rules, house, board, sets, waits)
+    let noted = visit_noting(rules, house, board, scratch, sets, trail, len);
+    let dead = wake(rules, house, board, sets, waits);
+    Stepped {
+        dead,
+        len: noted.len,
+    }
 }
 
 /// Closes the board: visits the houses that wait, all of them at first, until none waits or a cell has no value. It
-/// writes down each house that it visits.
+/// writes down each house that it visits, and notes each strike.
 pub(crate) fn run_queue<R: Rules>(
     rules: &R,
     board: &mut Board,
@@ -120,6 +124,8 @@ pub(crate) fn run_queue<R: Rules>(
     sets: &mut [u32],
     waits: &mut [bool],
     trace: &mut [usize],
+    trail: &mut [(usize, u8)],
+    len: usize,
 ) -> Closed
     requires queue { (R.puzzle rules.now).by_queue ≡ true }
     requires board_of { IsBoardOf (R.puzzle rules.now) board.old }
@@ -127,28 +133,37 @@ pub(crate) fn run_queue<R: Rules>(
     requires room { (h : ℕ) → h < (R.puzzle rules.now).houses → length ((R.puzzle rules.now).scope h) ≤ length sets.old }
     requires waits_of { length waits.old ≡ (R.puzzle rules.now).houses }
     requires trace_room { (R.puzzle rules.now).bound ≤ length trace.old }
+    requires within { len ≤ length trail.old }
+    requires entries { IsTrail (R.puzzle rules.now).cells (R.puzzle rules.now).values trail.old len }
+    requires trail_room { total (R.puzzle rules.now).cells (R.puzzle rules.now).values (has board.old) + len ≤ length trail.old }
     ensures closing { IsClosing (R.puzzle rules.now) (has board.old) (has board.new) result.closing (take result.visits trace.new) result.sweeps }
     ensures visits { result.visits ≤ length trace.new }
+    ensures noted { IsNoted (R.puzzle rules.now).cells (R.puzzle rules.now).values (has board.old) (has board.new) trail.old trail.new len result.len }
     ensures shape { SameShape board.old board.new }
     ensures keeps { (needs : Needs) → R.serves scratch.old needs → R.serves scratch.new needs }
 {
     let mut visits = 0;
+    let mut end = len;
     if board.has_empty_cell() {
         return Closed {
             closing: Closing::Dead,
             visits,
             sweeps: 0,
+            len: end,
         };
     }
     waits.fill(true);
     while let Some(house) = next_waiting(waits) {
         trace[visits] = house;
         visits += 1;
-        if step(rules, house, board, scratch, sets, waits) {
+        let stepped = step(rules, house, board, scratch, sets, waits, trail, end);
+        end = stepped.len;
+        if stepped.dead {
             return Closed {
                 closing: Closing::Dead,
                 visits,
                 sweeps: 0,
+                len: end,
             };
         }
     }
@@ -156,5 +171,6 @@ pub(crate) fn run_queue<R: Rules>(
         closing: Closing::Open,
         visits,
         sweeps: 0,
+        len: end,
     }
 }

@@ -1,3 +1,5 @@
+//! What a rule set offers a search, and what it owes.
+
 ghost use Rattle.std.specs.Prelude.{◌≡◌, ℕ, Bool, ◌<◌, ◌≤◌, IfOk, IsTrue, ◌↔◌, List, length, slice_index, true, false};
 ghost use Rattle.grid_core.specs.Board.{has, cells_of, SameShape, Layout};
 ghost use Rattle.grid_core.specs.Candidates.{Candidates};
@@ -31,22 +33,28 @@ pub trait Rules {
     /// The scratch is large enough for rules of these sizes.
     ghost serves: { Self.Scratch → Needs → Type 0 };
 
+    /// How many cells a board has: 65,536 at most.
     fn cells(&self) -> usize
         ensures { result ≡ (puzzle self.now).cells };
 
+    /// How many values a full set has, from 1 to 31.
     fn values(&self) -> u8
         ensures { result ≡ (puzzle self.now).values };
 
+    /// How many houses there are.
     fn houses(&self) -> usize
         ensures { result ≡ (puzzle self.now).houses };
 
+    /// The most visits of one closing by a queue, or the most sweeps of one closing by sweeps.
     fn bound(&self) -> usize
         ensures { result ≡ (puzzle self.now).bound };
 
+    /// How many cells the house has.
     fn scope_len(&self, house: usize) -> usize
         requires { house < (puzzle self.now).houses }
         ensures { result ≡ length ((puzzle self.now).scope house) };
 
+    /// The place of the `k`-th cell of the house. A house has different places.
     fn scope(&self, house: usize, k: usize) -> usize
         requires house_in { house < (puzzle self.now).houses }
         requires k_in { k < length ((puzzle self.now).scope house) }
@@ -63,6 +71,11 @@ pub trait Rules {
         ensures start { has board.new ≡ (puzzle self.now).start }
         ensures shape { SameShape board.old board.new };
 
+    /// Takes the memory that `visit` and `accept` work in.
+    ///
+    /// # Errors
+    ///
+    /// When memory was refused.
     fn scratch(&self, alloc: Global) -> Result<Self::Scratch, AllocError>
         ensures { IfOk result (λ scratch. serves scratch (needs_of (puzzle self.now))) };
 

@@ -1,18 +1,22 @@
 //! The memory of a search, taken at once.
 
-ghost use Rattle.std.specs.Prelude.{◌≡◌, ℕ, ◌<◌, ◌≤◌, ◌↔◌, IfOk, IsTrue, List, length, slice_index, take, true, false};
-ghost use Rattle.grid_core.specs.Board.{has, Layout};
+ghost use Rattle.std.specs.Prelude.{◌≡◌, ℕ, ◌<◌, ◌≤◌, ◌↔◌, IfOk, IsTrue, List, length, slice_index, take, true, false, None as NoGrid, option_map, ◌+◌, ◌*◌, ◌∷◌};
+ghost use Rattle.grid_core.specs.Board.{has, cells_of, Layout};
 ghost use Rattle.grid_core.specs.Candidates.{IsInside, is_full, grid_of};
 ghost use Rattle.engine_core.specs.Puzzle.{Puzzle, Needs, needs_of, FitsIn, IsBoardOf};
 ghost use Rattle.engine_core.specs.ClosingList.{IsClosing};
 ghost use Rattle.engine_core.specs.Mode.{is_queue};
-ghost use Rattle.engine_core.specs.Stored.{Stored, sizes_of, is_settled};
+ghost use Rattle.engine_core.specs.Walk.{walk};
+ghost use Rattle.engine_core.specs.Verdict.{outcome, spent, tried, IsTrueOf};
+ghost use Rattle.engine_core.specs.Counts.{deepest_of, boards_of, IsTurns};
+ghost use Rattle.engine_core.specs.Stored.{Stored, IsUnsearched, IsAnswer, sizes_of, is_settled};
 ghost use Rattle.engine_core.specs.StoreParts.{needs_made};
 
 use crate::close::close_board;
 use crate::judge::write_grid;
 use crate::mode::Closing;
 use crate::rules::{Rules, by_queue};
+use crate::search::{Frame, Verdict, walk_board};
 use grid_core::{Board, Grid};
 use std::alloc::{AllocError, Global};
 use std::marker::Model;
@@ -30,14 +34,6 @@ pub struct Sizes {
     pub queue: usize,
     /// Cells of the longest scope.
     pub scope: usize,
-}
-
-/// A cell whose values are being tried: the next of them, and how long the trail was before the first.
-#[derive(Clone, Copy)]
-struct Frame {
-    cell: usize,
-    next: u8,
-    mark: usize,
 }
 
 /// What the memory was taken for.
@@ -65,6 +61,11 @@ pub struct Store<R: Rules> {
     second: Grid,
     visits: usize,
     sweeps: usize,
+    has_first: bool,
+    has_second: bool,
+    trials: u64,
+    turns: u128,
+    deepest: usize,
 }
 
 impl<R: Rules> Model for Store<R> {
@@ -72,11 +73,12 @@ impl<R: Rules> Model for Store<R> {
     ghost use Rattle.grid_core.specs.Board.{cells_of};
     ghost use Rattle.engine_core.specs.Mode.{is_queue};
     ghost use Rattle.engine_core.specs.Stored.{Stored};
+    ghost use Rattle.engine_core.specs.Frames.{found_of};
     ghost use Rattle.engine_core.specs.StoreParts.{needs_made, IsStoreOf};
 
     ghost Value = { Stored };
 
-    ghost view = { λ s. record { board = s.board; trace = take s.visits s.trace.items; sweeps = s.sweeps; made = needs_made s.made } };
+    ghost view = { λ s. record { board = s.board; trace = take s.visits s.trace.items; sweeps = s.sweeps; first = found_of s.has_first s.first; second = found_of s.has_second s.second; trials = s.trials; turns = s.turns; deepest = s.deepest; made = needs_made s.made } };
 
     ghost invariant = { λ s. IsStoreOf (is_queue R.MODE) (needs_made s.made) s.board s.trail.items s.frames.items s.trace.items s.waits.items s.scope.items s.first s.second s.visits × R.serves s.scratch (needs_made s.made) };
 }
@@ -88,7 +90,8 @@ impl<R: Rules> Store<R> {
     ///
     /// When memory was refused.
     pub fn new(alloc: Global, rules: &R) -> Result<Store<R>, AllocError>
-        ensures { IfOk result (λ store. store.made ≡ needs_of (R.puzzle rules.now)) }
+        ensures made { IfOk result (λ store. store.made ≡ needs_of (R.puzzle rules.now)) }
+        ensures fresh { IfOk result (λ store. IsUnsearched store) }
     {
         let made = needs(rules);
         let queue = by_queue(rules);
@@ -112,6 +115,11 @@ impl<R: Rules> Store<R> {
             second: Grid::new(alloc, made.cells)?,
             visits: 0,
             sweeps: 0,
+            has_first: false,
+            has_second: false,
+            trials: 0,
+            turns: 0,
+            deepest: 0,
         })
     }
 
@@ -147,6 +155,7 @@ impl<R: Rules> Store<R> {
     pub fn close(&mut self, rules: &R) -> Closing
         requires fits { FitsIn (needs_of (R.puzzle rules.now)) self.old.made }
         ensures closing { IsClosing (R.puzzle rules.now) (R.puzzle rules.now).start (has self.new.board) result self.new.trace self.new.sweeps }
+        ensures fresh { IsUnsearched self.new }
         ensures made { self.new.made ≡ self.old.made }
     {
         rules.start(&mut self.board);
@@ -159,6 +168,7 @@ impl<R: Rules> Store<R> {
         requires board_of { IsBoardOf (R.puzzle rules.now) board.now }
         requires inside { IsInside (has board.now) (R.puzzle rules.now).start }
         ensures closing { IsClosing (R.puzzle rules.now) (has board.now) (has self.new.board) result self.new.trace self.new.sweeps }
+        ensures fresh { IsUnsearched self.new }
         ensures made { self.new.made ≡ self.old.made }
     {
         self.board.copy_from(board);
@@ -169,6 +179,7 @@ impl<R: Rules> Store<R> {
     fn close_own(&mut self, rules: &R) -> Closing
         requires fits { FitsIn (needs_of (R.puzzle rules.now)) self.old.made }
         ensures closing { IsClosing (R.puzzle rules.now) (has self.old.board) (has self.new.board) result self.new.trace self.new.sweeps }
+        ensures fresh { IsUnsearched self.new }
         ensures made { self.new.made ≡ self.old.made }
     {
         let closed = close_board(
@@ -178,9 +189,16 @@ impl<R: Rules> Store<R> {
             &mut self.scope,
             &mut self.waits,
             &mut self.trace,
+            &mut self.trail,
+            0,
         );
         self.visits = closed.visits;
         self.sweeps = closed.sweeps;
+        self.has_first = false;
+        self.has_second = false;
+        self.trials = 0;
+        self.turns = 0;
+        self.deepest = 0;
         closed.closing
     }
 
@@ -190,6 +208,7 @@ impl<R: Rules> Store<R> {
         requires fits { FitsIn (needs_of (R.puzzle rules.now)) self.old.made }
         ensures settled { result ≡ is_settled (R.puzzle rules.now) }
         ensures closing { (answer : Closing) × IsClosing (R.puzzle rules.now) (R.puzzle rules.now).start (has self.new.board) answer self.new.trace self.new.sweeps }
+        ensures fresh { IsUnsearched self.new }
         ensures made { self.new.made ≡ self.old.made }
     {
         if let Closing::Dead = self.close(rules) {
@@ -205,9 +224,11 @@ impl<R: Rules> Store<R> {
     fn accept_own(&mut self, rules: &R) -> bool
         requires fits { FitsIn (needs_of (R.puzzle rules.now)) self.old.made }
         requires full { is_full (R.puzzle rules.now).cells (R.puzzle rules.now).values (has self.old.board) ≡ true }
+        requires fresh { IsUnsearched self.old }
         ensures solution { result ≡ (R.puzzle rules.now).is_solution (grid_of (R.puzzle rules.now).cells (R.puzzle rules.now).values (has self.old.board)) }
         ensures same { self.new ≡ self.old }
     {
+        self.has_first = false;
         write_grid(
             &self.board,
             self.made.cells,
@@ -217,9 +238,97 @@ impl<R: Rules> Store<R> {
         rules.accept(&mut self.scratch, &self.first)
     }
 
+    /// Searches from the start board, with so many trials at most, and says how many solutions there are. It takes no
+    /// memory.
+    pub fn solve(&mut self, rules: &R, budget: u64) -> Verdict
+        requires fits { FitsIn (needs_of (R.puzzle rules.now)) self.old.made }
+        ensures verdict { IsAnswer result self.new.first self.new.second (outcome budget NoGrid (walk (R.puzzle rules.now) 0 (R.puzzle rules.now).start)) }
+        ensures sound { IsTrueOf (R.puzzle rules.now) (outcome budget NoGrid (walk (R.puzzle rules.now) 0 (R.puzzle rules.now).start)) }
+        ensures trials { self.new.trials ≡ spent budget NoGrid (walk (R.puzzle rules.now) 0 (R.puzzle rules.now).start) }
+        ensures within { self.new.trials ≤ budget }
+        ensures turns { IsTurns (R.puzzle rules.now) ((R.puzzle rules.now).start ∷ boards_of (tried budget NoGrid (walk (R.puzzle rules.now) 0 (R.puzzle rules.now).start))) self.new.turns }
+        ensures few_turns { self.new.turns ≤ (self.new.trials + 1) * (R.puzzle rules.now).bound }
+        ensures deepest { self.new.deepest ≡ deepest_of (tried budget NoGrid (walk (R.puzzle rules.now) 0 (R.puzzle rules.now).start)) }
+        ensures few_open { self.new.deepest ≤ self.new.made.cells }
+        ensures made { self.new.made ≡ self.old.made }
+    {
+        rules.start(&mut self.board);
+        let searched = walk_board(
+            rules,
+            &mut self.board,
+            &mut self.scratch,
+            &mut self.scope,
+            &mut self.waits,
+            &mut self.trace,
+            &mut self.trail,
+            &mut self.frames,
+            &mut self.first,
+            &mut self.second,
+            budget,
+        );
+        self.trials = searched.trials;
+        self.turns = searched.turns;
+        self.deepest = searched.deepest;
+        self.has_first = match searched.verdict {
+            Verdict::None => false,
+            Verdict::One | Verdict::Several => true,
+            Verdict::GaveUp { found } => found,
+        };
+        self.has_second = match searched.verdict {
+            Verdict::Several => true,
+            _ => false,
+        };
+        searched.verdict
+    }
+
+    /// The first solution that the last search found.
+    pub fn first(&self) -> Option<&Grid>
+        ensures { option_map (λ g. g.now) result ≡ self.now.first }
+    {
+        if self.has_first {
+            Some(&self.first)
+        } else {
+            None
+        }
+    }
+
+    /// The second solution that the last search found.
+    pub fn second(&self) -> Option<&Grid>
+        ensures { option_map (λ g. g.now) result ≡ self.now.second }
+    {
+        if self.has_second {
+            Some(&self.second)
+        } else {
+            None
+        }
+    }
+
+    /// How many trials the last search made.
+    pub fn trials(&self) -> u64
+        ensures { result ≡ self.now.trials }
+    {
+        self.trials
+    }
+
+    /// How many visits, or sweeps, all closings of the last search made.
+    pub fn turns(&self) -> u128
+        ensures { result ≡ self.now.turns }
+    {
+        self.turns
+    }
+
+    /// How many trials of the last search were open at once, at most.
+    pub fn deepest(&self) -> usize
+        ensures { result ≡ self.now.deepest }
+    {
+        self.deepest
+    }
+
     /// The board that the last closing left.
     pub fn board(&self) -> &Board
-        ensures { result.now ≡ self.now.board }
+        ensures board { result.now ≡ self.now.board }
+        ensures cells { cells_of result.now ≡ self.now.made.cells }
+        ensures values { result.now.values ≡ self.now.made.values }
     {
         &self.board
     }

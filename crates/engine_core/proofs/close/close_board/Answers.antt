@@ -8,3 +8,10 @@ run_queue-requires-clause-room g c = λ h lt.
     let le = scope_le-longest p.scope p.houses h lt in
     let room = c.requires.room in
     omega arith
+
+pub run_sweeps-requires-clause-room : goal.run_sweeps-requires-clause-room
+run_sweeps-requires-clause-room g c = λ h lt.
+    let p = g.R.Rules.puzzle c.args.rules.now in
+    let le = scope_le-longest p.scope p.houses h lt in
+    let room = c.requires.room in
+    omega arith

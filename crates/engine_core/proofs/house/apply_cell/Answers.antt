@@ -1,7 +1,7 @@
-use Rattle.std.proofs.Common.{◌≡◌, ◌||◌, true, false, refl, sym, ap, subst, ◌∙◌, arith}
-use Rattle.grid_core.specs.Board.{has, SameShape}
+use Rattle.std.proofs.Common.{◌≡◌, refl, sym, subst, ◌∙◌, arith}
+use Rattle.grid_core.specs.Board.{has}
 use Rattle.grid_core.proofs.BoardLemmas.{has-within}
-use Rattle.engine_core.proofs.HouseLemmas.{IsStriking, IsCellStruck, striking-first, striking-more, cell-first, cell-pass, cell-strike, cell-all, without-none, without-gone, without-inside}
+use Rattle.engine_core.proofs.HouseLemmas.{IsCellStruck, striking-first, striking-more, cell-first, cell-pass, cell-strike, cell-all, without-none, without-gone, without-inside}
 use Rattle.engine_core.proofs.house.apply_cell.Goals as goal
 use Rattle.engine_core.proofs.house.apply_cell.Goals.{then-not-has_bit, else-not-has_bit}
 

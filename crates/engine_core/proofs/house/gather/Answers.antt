@@ -1,4 +1,4 @@
-use Rattle.std.proofs.Common.{◌≡◌, length, arith}
+use Rattle.std.proofs.Common.{arith}
 use Rattle.grid_core.specs.Board.{has}
 use Rattle.engine_core.specs.HouseLaws.{sets-bits}
 use Rattle.engine_core.proofs.house.gather.Goals as goal

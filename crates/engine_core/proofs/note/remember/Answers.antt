@@ -1,6 +1,6 @@
-use Rattle.std.proofs.Common.{◌≢◌, ◌<◌, length, arith, below_more, get_or-set_other, get_or-set_same, sym}
+use Rattle.std.proofs.Common.{◌≢◌, ◌<◌, length, arith, below_more, get_or-set_other, get_or-set_same}
 use Rattle.engine_core.specs.Places.{has_place-here}
-use Rattle.engine_core.proofs.queue.remember.Goals as goal
+use Rattle.engine_core.proofs.note.remember.Goals as goal
 
 pub cell_bits-requires-clause-place_in : goal.cell_bits-requires-clause-place_in
 cell_bits-requires-clause-place_in g c =

@@ -1,0 +1,4 @@
+mod closings;
+mod neighbours;
+mod searches;
+mod swept;
