@@ -86,13 +86,7 @@ fn mark_value(
 }
 
 /// Whether some filling without repeat has the value in the cell; the mates are then such a filling.
-fn find_filling(
-    values: u8,
-    sets: &[u32],
-    place: usize,
-    value: u8,
-    pairing: &mut Pairing,
-) -> bool
+fn find_filling(values: u8, sets: &[u32], place: usize, value: u8, pairing: &mut Pairing) -> bool
     requires few { values ≤ 31 }
     requires cells_fit { length sets.now ≤ pairing.old.room }
     requires values_fit { values ≤ pairing.old.room }

@@ -13,8 +13,11 @@ mod solo_houses;
 mod solo_singles;
 mod start;
 
-pub use check::check_solo;
 pub use cells::Cells;
+pub use check::check_solo;
 pub use fault::SoloFault;
 pub use solo_houses::{HousesScratch, SoloHouses};
 pub use solo_singles::SoloSingles;
+
+#[cfg(test)]
+mod tests;

@@ -1,6 +1,5 @@
-use Rattle.std.proofs.Common.{◌≡◌, ℕ, ◌+◌, ◌<◌, sym, ap, ◌∙◌, arith, inl, inr}
+use Rattle.std.proofs.Common.{◌∙◌, arith, inl, inr}
 use Rattle.std.proofs.lemmas.Bool.{cases_eq}
-use Rattle.solo_core.specs.Deciding.{IsMarkedBelow}
 use Rattle.solo_core.proofs.Marks.{marked_stays, all_marked, none_kept}
 use Rattle.solo_core.proofs.keep_houses.keep_houses.Goals as goal
 

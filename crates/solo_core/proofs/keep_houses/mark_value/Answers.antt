@@ -1,4 +1,4 @@
-use Rattle.std.proofs.Common.{◌≡◌, ◌∙◌, sym, true≢false}
+use Rattle.std.proofs.Common.{◌∙◌, sym, true≢false}
 use Rattle.solo_core.proofs.Marks.{taken_is_struck}
 use Rattle.solo_core.proofs.keep_houses.mark_value.Goals as goal
 
