@@ -1,6 +1,6 @@
 -- The k-th place of a house, and the three houses of a place in ascending order.
-use Rattle.std.proofs.Common.{◌≡◌, ℕ, ◌+◌, ◌-◌, ◌*◌, ◌/◌, ◌%◌, ◌<◌, ◌≤◌, Bool, true, false, List, length, get_or, slice_index, Option, Some, None, refl, sym, ap, ◌∙◌, inl, inr, ◌⊎◌, arith}
-use Rattle.std.proofs.lemmas.Bool.{cases_lt, lt-ltb, le-ltb, false_from_ne_true}
+use Rattle.std.proofs.Common.{◌≡◌, ℕ, ◌+◌, ◌-◌, ◌*◌, ◌<◌, ◌≤◌, true, false, List, length, slice_index, Some, None, refl, ap, ◌∙◌, inl, inr, arith}
+use Rattle.std.proofs.lemmas.Bool.{lt-ltb, le-ltb, false_from_ne_true}
 use Rattle.std.proofs.lemmas.List.{same_lists, get_or_default}
 use Rattle.grid_core.specs.Extent.{Extent}
 use Rattle.grid_core.specs.Regions.{row_places, column_places, block_places}
@@ -9,7 +9,7 @@ use Rattle.engine_core.specs.Puzzle.{has_place, IsNext}
 use Rattle.solo_core.specs.Solutions.{cells_of, row_of, column_of, block_of}
 use Rattle.solo_core.specs.SolutionLaws.{row_small, column_small, block_small, lies_in_row, lies_in_column, lies_in_block}
 use Rattle.solo_core.specs.Houses.{house_count, square, house_places, lies_in}
-use Rattle.solo_core.specs.HouseLaws.{Lists, lists_house, house_has, house_holds, lies_in-cases}
+use Rattle.solo_core.specs.HouseLaws.{lists_house, house_has, house_holds, lies_in-cases}
 
 pub place_in_row : (p : Solo) (size : Extent) (h k z : ℕ) → size ≡ square p → h < solo_n p → z ≡ slice_index (row_places size h) k → z ≡ slice_index (house_places p h) k
 unfolding house_places
@@ -48,23 +48,32 @@ module _ (p : Solo) (ok : IsSolo p) (place : ℕ) (place_in : place < cells_of p
   pub next_row : (from : ℕ) → from ≤ row_of p place → IsNext (λ h. has_place (house_places p h) place) (house_count p) from (Some (row_of p place))
   next_row from le =
       let r = row_small p ok place place_in in
-      let c = column_small p ok place place_in in
-      (le, omega arith, holds (row_of p place) (omega arith) (lies_in_row p ok place place_in (row_of p place) refl),
-          λ j l m. other j (omega arith) (λ e. absurd (omega arith)) (λ e. absurd (omega arith)) (λ e. absurd (omega arith)))
+      let c = column_small p ok place place_in in (
+        le,
+        omega arith,
+        holds (row_of p place) (omega arith) (lies_in_row p ok place place_in (row_of p place) refl),
+        λ j l m. other j (omega arith) (λ e. absurd (omega arith)) (λ e. absurd (omega arith)) (λ e. absurd (omega arith)),
+      )
 
   pub next_column : (from : ℕ) → row_of p place < from → from ≤ solo_n p + column_of p place
       → IsNext (λ h. has_place (house_places p h) place) (house_count p) from (Some (solo_n p + column_of p place))
   next_column from gt le =
-      let c = column_small p ok place place_in in
-      (le, omega arith, holds (solo_n p + column_of p place) (omega arith) (lies_in_column p ok place place_in (solo_n p + column_of p place) refl),
-          λ j l m. other j (omega arith) (λ e. absurd (omega arith)) (λ e. absurd (omega arith)) (λ e. absurd (omega arith)))
+      let c = column_small p ok place place_in in (
+        le,
+        omega arith,
+        holds (solo_n p + column_of p place) (omega arith) (lies_in_column p ok place place_in (solo_n p + column_of p place) refl),
+        λ j l m. other j (omega arith) (λ e. absurd (omega arith)) (λ e. absurd (omega arith)) (λ e. absurd (omega arith)),
+      )
 
   pub next_block : (from : ℕ) → row_of p place < from → solo_n p + column_of p place < from → from ≤ 2 * solo_n p + block_of p place
       → IsNext (λ h. has_place (house_places p h) place) (house_count p) from (Some (2 * solo_n p + block_of p place))
   next_block from gt gt' le =
-      let b = block_small p ok place place_in in
-      (le, omega arith, holds (2 * solo_n p + block_of p place) (omega arith) (lies_in_block p ok place place_in (2 * solo_n p + block_of p place) refl),
-          λ j l m. other j (omega arith) (λ e. absurd (omega arith)) (λ e. absurd (omega arith)) (λ e. absurd (omega arith)))
+      let b = block_small p ok place place_in in (
+        le,
+        omega arith,
+        holds (2 * solo_n p + block_of p place) (omega arith) (lies_in_block p ok place place_in (2 * solo_n p + block_of p place) refl),
+        λ j l m. other j (omega arith) (λ e. absurd (omega arith)) (λ e. absurd (omega arith)) (λ e. absurd (omega arith)),
+      )
 
   pub next_none : (from : ℕ) → row_of p place < from → solo_n p + column_of p place < from → 2 * solo_n p + block_of p place < from
       → IsNext (λ h. has_place (house_places p h) place) (house_count p) from None

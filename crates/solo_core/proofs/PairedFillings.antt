@@ -1,16 +1,14 @@
 -- A pairing of the cells with values is a filling without repeat, and a short set rules out every one.
-use Rattle.std.proofs.Common.{◌≡◌, ℕ, zero, suc, ◌+◌, ◌-◌, ◌<◌, ◌≤◌, Bool, true, false, not, ◌&&◌, true≢false, eqb, cond, List, [], ◌∷◌, length, get_or, slice_index, map, refl, sym, ◌∙◌, ap, subst, arith, rules, ◌⊎◌, inl, inr}
-use Rattle.std.specs.Prelude.{Contains, IsTrue}
-use Rattle.std.specs.List.{list_any, range_with_len}
-use Rattle.std.specs.Set.{is_member}
+use Rattle.std.proofs.Common.{◌≡◌, ℕ, ◌<◌, Bool, true, false, true≢false, eqb, cond, List, [], length, get_or, slice_index, map, refl, sym, ◌∙◌, ap, arith, inl, inr}
+use Rattle.std.specs.List.{range_with_len}
 use Rattle.std.specs.Cmp.{unsigned_Decides}
 use Rattle.std.proofs.lemmas.Bool.{ne_eqb, cases_eq, cases_lt}
-use Rattle.std.proofs.lemmas.List.{get_or-map, length-map, get_or_past, get_or_default}
+use Rattle.std.proofs.lemmas.List.{get_or-map, length-map, get_or_past}
 use Rattle.std.proofs.lemmas.List.FromFn.{get_or-map-range_with_len, length-map-range_with_len}
-use Rattle.engine_core.specs.Filling.{Set, has_value, Fills, IsShownBy, IsShown, strikes_by_fillings}
+use Rattle.engine_core.specs.Filling.{has_value, IsShown, strikes_by_fillings}
 use Rattle.engine_core.specs.FillingLaws.{shown_from_test, test_from_shown}
 use Rattle.grid_core.specs.Pairings.{IsPairing, IsShortSet}
-use Rattle.grid_core.specs.ShortSets.{contains_from_member, member_from_contains, no_choice}
+use Rattle.grid_core.specs.ShortSets.{no_choice}
 use Rattle.engine_core.specs.Sets.{has_bit, set_of_bits}
 use Rattle.solo_core.specs.NoRepeat.{no_repeat}
 use Rattle.solo_core.specs.Deciding.{joins_with, AreMates}
@@ -40,13 +38,13 @@ mates_of_pairing sets n place value mates place_in value_in has p = record {
   as_many = p.len;
   small = p.in_range;
   shown = λ k h. test_from_shown no_repeat (map (set_of_bits n) sets) k (slice_index mates k) (
-      mates,
-      record {
-        fills = record { len = p.len ∙ sym (length-map sets (set_of_bits n)); each = each };
-        holds_true = no_repeat_from_different mates (λ i j below within same. let e = p.len in absurd (let q = p.own i j (omega arith) (omega arith) same in omega arith));
-        has_it = refl;
-      },
-    );
+    mates,
+    record {
+      fills = record { len = p.len ∙ sym (length-map sets (set_of_bits n)); each = each };
+      holds_true = no_repeat_from_different mates (λ i j below within same. let e = p.len in absurd (let q = p.own i j (omega arith) (omega arith) same in omega arith));
+      has_it = refl;
+    },
+  );
   here = fixed place refl place_in;
 }
   where

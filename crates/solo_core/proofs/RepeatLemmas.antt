@@ -1,18 +1,17 @@
 -- What a house that holds a number twice says of the grid, and what a house that does not rules out.
-use Rattle.std.proofs.Common.{◌≡◌, ℕ, zero, suc, ◌+◌, ◌-◌, ◌*◌, ◌<◌, ◌≤◌, Bool, true, false, not, ◌&&◌, ◌||◌, eqb, ltb, cond, List, [], ◌∷◌, ◌++◌, map, take, length, get_or, slice_index, Option, Some, None, refl, sym, ap, subst, ◌∙◌, inl, inr, ◌⊎◌, arith}
-use Rattle.std.specs.Prelude.{Any}
+use Rattle.std.proofs.Common.{◌≡◌, ℕ, suc, ◌+◌, ◌-◌, ◌*◌, ◌<◌, ◌≤◌, true, false, not, ◌||◌, eqb, List, [], ◌∷◌, ◌++◌, map, take, length, get_or, slice_index, Some, sym, ap, ◌∙◌, inl, inr, arith}
 use Rattle.std.specs.List.{list_any}
-use Rattle.std.proofs.lemmas.Bool.{cases_lt, cases_Bool, lt-ltb, le-ltb, and_cases, eqb-true, eq-eqb, or_left, or_right, true≢false, not-false, false_from_ne_true}
+use Rattle.std.proofs.lemmas.Bool.{cases_lt, lt-ltb, le-ltb, and_cases, eqb-true, eq-eqb, or_left, or_right, true≢false, not-false, false_from_ne_true}
 use Rattle.std.proofs.lemmas.List.{get_or-map, length-map, get_or_default, take_more, map-append}
 use Rattle.grid_core.specs.ShortSets.{contains_from_member}
 use Rattle.gameid_core.specs.Puzzles.{Solo, IsSolo, solo_n}
 use Rattle.solo_core.specs.Solutions.{cells_of, row_of, column_of, block_of, share, IsSolution, is_solution}
 use Rattle.solo_core.specs.SolutionLaws.{lies_in_row, lies_in_column, lies_in_block, apart_in_house, rule_from_test}
 use Rattle.solo_core.specs.Houses.{house_count, house_places, lies_in}
-use Rattle.solo_core.specs.HouseLaws.{Lists, lists_house}
+use Rattle.solo_core.specs.HouseLaws.{lists_house}
 use Rattle.solo_core.specs.NoRepeat.{no_repeat}
-use Rattle.solo_core.specs.NoRepeatLaws.{different_from_no_repeat, no_repeat_from_different}
-use Rattle.solo_core.specs.Faults.{Stands, AllStand, Repeats, NoneRepeats, FirstRepeats, IsFirstFault, fault_at}
+use Rattle.solo_core.specs.NoRepeatLaws.{different_from_no_repeat}
+use Rattle.solo_core.specs.Faults.{AllStand, Repeats, NoneRepeats, IsFirstFault, fault_at}
 use Rattle.solo_core.specs.declared.fault.SoloFault.{SoloFault}
 use Rattle.solo_core.specs.declared.fault.SoloFault.TheVariants.{Given, Row, Column, Block}
 
@@ -51,11 +50,16 @@ module _ (p : Solo) (ok : IsSolo p) (g : List ℕ) where
       let a = w.2 in
       let b = w.3 in
       let li : w.0 < solo_n p = omega arith in
-      let lj : w.1 < solo_n p = omega arith in
-      (slice_index (house_places p h) w.0, slice_index (house_places p h) w.1, l.within w.0 li, l.within w.1 lj,
-          (λ same. let u = l.index_of w.0 li in let v = l.index_of w.1 lj in let z = ap l.index same in absurd (omega arith)),
-          l.lies_at w.0 li, l.lies_at w.1 lj,
-          sym (get_or-map (slice_index g) (house_places p h) w.0 0 0 (omega arith)) ∙ w.4 ∙ get_or-map (slice_index g) (house_places p h) w.1 0 0 (omega arith))
+      let lj : w.1 < solo_n p = omega arith in (
+        slice_index (house_places p h) w.0,
+        slice_index (house_places p h) w.1,
+        l.within w.0 li,
+        l.within w.1 lj,
+        (λ same. let u = l.index_of w.0 li in let v = l.index_of w.1 lj in let z = ap l.index same in absurd (omega arith)),
+        l.lies_at w.0 li,
+        l.lies_at w.1 lj,
+        sym (get_or-map (slice_index g) (house_places p h) w.0 0 0 (omega arith)) ∙ w.4 ∙ get_or-map (slice_index g) (house_places p h) w.1 0 0 (omega arith),
+      )
 
   -- the number of a place's row, column or block, from the house
   row_number : (h j : ℕ) → h < solo_n p → lies_in p h j ≡ true → row_of p j ≡ h
@@ -96,14 +100,25 @@ module _ (p : Solo) (ok : IsSolo p) (g : List ℕ) where
         | inl row ↦ rw (lt-ltb h (solo_n p) row)
             (stand, (row, (w.0, w.1, w.2, w.3, w.4, row_number h w.0 row w.5, row_number h w.1 row w.6, w.7), rows_fine h (omega arith) before))
         | inr below ↦ elim (cases_lt h (2 * solo_n p)) [
-          | inl column ↦ rw (le-ltb h (solo_n p) below, lt-ltb h (2 * solo_n p) column)
-              (stand, rows_fine (solo_n p) (omega arith) (λ i l. before i (omega arith)),
-                  (omega arith, (w.0, w.1, w.2, w.3, w.4, column_number h w.0 below column w.5, column_number h w.1 below column w.6, w.7),
-                      columns_fine (h - solo_n p) (omega arith) (λ i l. before i (omega arith))))
-          | inr block ↦ rw (le-ltb h (solo_n p) below, le-ltb h (2 * solo_n p) block)
-              (stand, rows_fine (solo_n p) (omega arith) (λ i l. before i (omega arith)), columns_fine (solo_n p) (omega arith) (λ i l. before i (omega arith)),
-                  (omega arith, (w.0, w.1, w.2, w.3, w.4, block_number h w.0 block w.5, block_number h w.1 block w.6, w.7),
-                      blocks_fine (h - 2 * solo_n p) (omega arith) (λ i l. before i (omega arith))))
+          | inl column ↦ rw (le-ltb h (solo_n p) below, lt-ltb h (2 * solo_n p) column) (
+            stand,
+            rows_fine (solo_n p) (omega arith) (λ i l. before i (omega arith)),
+            (
+              omega arith,
+              (w.0, w.1, w.2, w.3, w.4, column_number h w.0 below column w.5, column_number h w.1 below column w.6, w.7),
+              columns_fine (h - solo_n p) (omega arith) (λ i l. before i (omega arith)),
+            ),
+          )
+          | inr block ↦ rw (le-ltb h (solo_n p) below, le-ltb h (2 * solo_n p) block) (
+            stand,
+            rows_fine (solo_n p) (omega arith) (λ i l. before i (omega arith)),
+            columns_fine (solo_n p) (omega arith) (λ i l. before i (omega arith)),
+            (
+              omega arith,
+              (w.0, w.1, w.2, w.3, w.4, block_number h w.0 block w.5, block_number h w.1 block w.6, w.7),
+              blocks_fine (h - 2 * solo_n p) (omega arith) (λ i l. before i (omega arith)),
+            ),
+          )
         ]
       ]
 

@@ -1,10 +1,10 @@
 -- The start board, written cell by cell, and a puzzle copied given by given.
-use Rattle.std.proofs.Common.{◌≡◌, ℕ, suc, ◌+◌, ◌-◌, ◌*◌, ◌<◌, ◌≤◌, Bool, true, false, not, ◌&&◌, ◌||◌, eqb, ltb, List, length, slice_index, refl, sym, ap, ◌∙◌, inl, inr, arith}
+use Rattle.std.proofs.Common.{◌≡◌, ℕ, ◌+◌, ◌<◌, Bool, true, false, not, ◌&&◌, ◌||◌, eqb, ltb, List, length, slice_index, refl, sym, ap, ◌∙◌, inl, inr, arith}
 use Rattle.std.proofs.Math.Path.{fun_ext}
-use Rattle.std.proofs.lemmas.Bool.{cases_eq, cases_lt, cases_Bool, and_left, and_from, and_parts, lt-ltb, le-ltb, ltb-true, eq-eqb, ne_eqb}
+use Rattle.std.proofs.lemmas.Bool.{cases_eq, cases_lt, cases_Bool, and_left, lt-ltb, le-ltb, eq-eqb, ne_eqb}
 use Rattle.std.proofs.lemmas.List.{same_lists, get_or_default}
 use Rattle.grid_core.specs.Candidates.{Candidates, only, all_of}
-use Rattle.gameid_core.specs.Puzzles.{Solo, IsSolo, solo_n}
+use Rattle.gameid_core.specs.Puzzles.{Solo, solo_n}
 use Rattle.solo_core.specs.Solutions.{cells_of}
 use Rattle.solo_core.specs.RuleSets.{start}
 
@@ -75,5 +75,5 @@ pub same_solo : (a b : Solo) → a.c ≡ b.c → a.r ≡ b.r → length a.givens
     → ((k : ℕ) → k < length b.givens → slice_index a.givens k ≡ slice_index b.givens k) → a ≡ b
 same_solo a b e f long each =
     let g : a.givens ≡ b.givens = same_lists a.givens b.givens long (λ k d lt.
-        get_or_default a.givens k d 0 lt ∙ each k (omega arith) ∙ get_or_default b.givens k 0 d (omega arith)) in
+    get_or_default a.givens k d 0 lt ∙ each k (omega arith) ∙ get_or_default b.givens k 0 d (omega arith)) in
     ap (λ z. solo z a.r a.givens) e ∙ ap (λ z. solo b.c z a.givens) f ∙ ap (solo b.c b.r) g

@@ -1,17 +1,16 @@
 -- What a visit of a house needs of its list of places, and what it leaves of the board.
-use Rattle.std.proofs.Common.{◌≡◌, ℕ, zero, suc, max, ◌+◌, ◌*◌, ◌<◌, ◌≤◌, Bool, List, map, length, slice_index, refl, sym, ap, ◌∙◌, inl, inr, arith}
-use Rattle.grid_core.specs.Board.{Layout, has, cells_of as board_cells}
-use Rattle.grid_core.specs.Candidates.{Candidates, IsWithin}
+use Rattle.std.proofs.Common.{◌≡◌, ℕ, zero, suc, ◌<◌, ◌≤◌, Bool, List, map, length, slice_index, refl, ap, ◌∙◌, arith}
+use Rattle.grid_core.specs.Board.{Layout, has}
 use Rattle.grid_core.proofs.BoardLemmas.{has-within}
 use Rattle.gameid_core.specs.Puzzles.{Solo, IsSolo, solo_n}
-use Rattle.engine_core.specs.Puzzle.{Puzzle, IsBoardOf, after, longest}
+use Rattle.engine_core.specs.Puzzle.{IsBoardOf, after, longest}
 use Rattle.engine_core.specs.Sets.{set_of_bits, IsBitsOf}
 use Rattle.engine_core.specs.House.{Decision, sets_at, IsDecided, kept_in}
 use Rattle.engine_core.specs.HouseLaws.{visited-after}
 use Rattle.std.proofs.lemmas.Nat.{mul-le}
 use Rattle.solo_core.specs.Solutions.{cells_of}
-use Rattle.solo_core.specs.Houses.{house_count, house_places, lies_in}
-use Rattle.solo_core.specs.HouseLaws.{Lists, lists_house}
+use Rattle.solo_core.specs.Houses.{house_count, house_places}
+use Rattle.solo_core.specs.HouseLaws.{lists_house}
 use Rattle.solo_core.specs.RuleSets.{rules_of}
 
 pub house_long : (p : Solo) → IsSolo p → (h : ℕ) → h < house_count p → length (house_places p h) ≡ solo_n p

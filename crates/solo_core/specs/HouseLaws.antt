@@ -1,5 +1,5 @@
 -- Laws of the houses' lists: each has n different places of the grid, exactly those that lie in its row, column or block.
-use Rattle.std.proofs.Common.{◌≡◌, ℕ, zero, suc, ◌+◌, ◌-◌, ◌*◌, ◌/◌, ◌%◌, ◌<◌, ◌≤◌, Bool, true, false, cond, eqb, ltb, List, map, length, slice_index, refl, sym, ap, subst, ◌∙◌, ◌||◌, inl, inr, ◌⊎◌, arith}
+use Rattle.std.proofs.Common.{◌≡◌, ℕ, ◌+◌, ◌-◌, ◌*◌, ◌/◌, ◌%◌, ◌<◌, ◌≤◌, Bool, true, eqb, List, map, length, slice_index, refl, sym, ap, subst, ◌∙◌, ◌||◌, inl, inr, ◌⊎◌, arith}
 use Rattle.std.specs.List.{range_with_len}
 use Rattle.std.proofs.Math.Path.{fun_ext}
 use Rattle.std.proofs.lemmas.Bool.{cases_lt, lt-ltb, le-ltb, eq-eqb, eqb-true, or_cases, or_left, or_right}
@@ -219,7 +219,7 @@ unfolding is
 three_houses p ok place =
     let all = count_below-or (is (row_of p place)) (λ h. is (solo_n p + column_of p place) h || is (2 * solo_n p + block_of p place) h) (λ h. has_place (house_places p h) place) (house_count p) cases in
     let rest = count_below-or (is (solo_n p + column_of p place)) (is (2 * solo_n p + block_of p place)) (λ h. is (solo_n p + column_of p place) h || is (2 * solo_n p + block_of p place) h) (house_count p)
-        (λ h lt on. or_cases (is (solo_n p + column_of p place) h) (is (2 * solo_n p + block_of p place) h) on) in
+    (λ h lt on. or_cases (is (solo_n p + column_of p place) h) (is (2 * solo_n p + block_of p place) h) on) in
     let a = once (row_of p place) (house_count p) in
     let b = once (solo_n p + column_of p place) (house_count p) in
     let d = once (2 * solo_n p + block_of p place) (house_count p) in

@@ -1,15 +1,9 @@
 -- What a list without repeat is: its entries at different places differ.
-use Rattle.std.proofs.Common.{◌≡◌, ℕ, zero, suc, ◌+◌, ◌-◌, ◌<◌, ◌≤◌, Bool, true, false, not, ◌&&◌, true≢false, eqb, cond, List, [], ◌∷◌, length, get_or, map, refl, sym, ◌∙◌, ap, subst, arith, rules, ◌⊎◌, inl, inr}
-use Rattle.std.specs.Prelude.{Contains, IsTrue}
-use Rattle.std.specs.List.{list_any, range_with_len}
-use Rattle.std.specs.Set.{is_member}
-use Rattle.std.specs.Cmp.{unsigned_Decides}
-use Rattle.std.proofs.lemmas.Bool.{ne_eqb, cases_eq, cases_lt}
-use Rattle.std.proofs.lemmas.List.{get_or-map, length-map, get_or_past, get_or_default}
-use Rattle.std.proofs.lemmas.List.FromFn.{get_or-map-range_with_len, length-map-range_with_len}
-use Rattle.engine_core.specs.Filling.{Set, has_value, Fills, IsShownBy, IsShown, strikes_by_fillings}
-use Rattle.engine_core.specs.FillingLaws.{shown_from_test, test_from_shown}
-use Rattle.grid_core.specs.ShortSets.{contains_from_member, member_from_contains, no_choice}
+use Rattle.std.proofs.Common.{◌≡◌, ℕ, zero, suc, ◌<◌, Bool, true, false, not, ◌&&◌, true≢false, eqb, List, [], ◌∷◌, length, get_or, refl, sym, ◌∙◌, arith}
+use Rattle.std.specs.Prelude.{Contains}
+use Rattle.std.specs.List.{list_any}
+use Rattle.std.proofs.lemmas.List.{get_or_default}
+use Rattle.grid_core.specs.ShortSets.{contains_from_member, member_from_contains}
 use Rattle.solo_core.specs.NoRepeat.{no_repeat}
 
 and_parts : (a b : Bool) → (a && b) ≡ true → (a ≡ true) × (b ≡ true)
@@ -46,4 +40,3 @@ no_repeat_from_different (x ∷ xs) differ =
     both : (b : Bool) → list_any (eqb x) xs ≡ b → (not b && true) ≡ true
     both false e = refl
     both true e = absurd (alone (contains_from_member xs x e))
-

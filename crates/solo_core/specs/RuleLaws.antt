@@ -1,19 +1,18 @@
 -- The laws that every rule set keeps to, for the rule sets of Solo.
-use Rattle.std.proofs.Common.{◌≡◌, ℕ, zero, suc, ◌+◌, ◌-◌, ◌*◌, ◌<◌, ◌≤◌, Bool, true, false, not, cond, ◌&&◌, ◌||◌, eqb, ltb, List, map, length, slice_index, refl, sym, ap, ◌∙◌, inl, inr, arith}
-use Rattle.std.specs.Prelude.{All}
-use Rattle.std.proofs.lemmas.Bool.{cases_eq, cases_Bool, and_parts, and_from, or_left, or_right, lt-ltb, ltb-true, eq-eqb, true≢false}
+use Rattle.std.proofs.Common.{◌≡◌, ℕ, zero, suc, ◌+◌, ◌-◌, ◌*◌, ◌<◌, ◌≤◌, Bool, true, false, eqb, ltb, List, map, slice_index, refl, sym, ap, ◌∙◌, inl, inr, arith}
+use Rattle.std.proofs.lemmas.Bool.{cases_eq, and_parts, and_from, or_left, or_right, lt-ltb, ltb-true, eq-eqb, true≢false}
 use Rattle.std.proofs.lemmas.Nat.{mul-le}
 use Rattle.std.proofs.lemmas.List.Elements.{All-get_or}
-use Rattle.grid_core.specs.Candidates.{Candidates, IsInside, IsWithin, single, count_below, sum_below}
+use Rattle.grid_core.specs.Candidates.{Candidates, IsInside, IsWithin, single, sum_below}
 use Rattle.grid_core.specs.Grids.{IsGrid}
 use Rattle.grid_core.proofs.CandidateLemmas.{sum_below-le}
 use Rattle.grid_core.proofs.GridLemmas.{single-is}
 use Rattle.gameid_core.specs.Puzzles.{Solo, IsSolo, solo_n}
-use Rattle.engine_core.specs.Puzzle.{Puzzle, IsLawful, IsClosed, after, has_place, share}
+use Rattle.engine_core.specs.Puzzle.{IsLawful, after, share}
 use Rattle.engine_core.specs.Filling.{strikes_by_fillings}
 use Rattle.engine_core.specs.House.{Decision, IsMonotone, strikes_at}
 use Rattle.engine_core.specs.HouseLaws.{strikes_at-inside, strikes_at-in_scope, by_fillings-monotone, by_fillings-settled, by_fillings-closed}
-use Rattle.solo_core.specs.Solutions.{cells_of, IsSolution, given_stands, is_solution}
+use Rattle.solo_core.specs.Solutions.{cells_of, is_solution}
 use Rattle.solo_core.specs.SolutionLaws.{rule_from_test, house_of_solution}
 use Rattle.solo_core.specs.Houses.{house_count, house_places, lies_in}
 use Rattle.solo_core.specs.HouseLaws.{Lists, lists_house, house_has, house_distinct, three_houses}
@@ -35,7 +34,7 @@ KeepsSolutions decides p = (h : ℕ) (g : List ℕ) → h < house_count p → Is
 
 module _ (p : Solo) (ok : IsSolo p) (settled : Bool) (decides : Decision) (monotone : IsMonotone decides) (keeps : KeepsSolutions decides p)
     (settles : settled ≡ true → (h : ℕ) (K : Candidates) (c v : ℕ) → h < house_count p → after (rules_of settled decides p) h K c v ≡ true
-        → strikes_at (solo_n p) (house_places p h) decides (after (rules_of settled decides p) h K) c v ≡ false) where
+    → strikes_at (solo_n p) (house_places p h) decides (after (rules_of settled decides p) h K) c v ≡ false) where
   n : ℕ
   n = solo_n p
 
@@ -74,7 +73,7 @@ module _ (p : Solo) (ok : IsSolo p) (settled : Bool) (decides : Decision) (monot
   unfolding share
   bound_enough =
       let each = sum_below-le (λ c. (solo_n p - 1) * share (rules_of settled decides p) c) (λ _. solo_n p * 3) (cells_of p)
-          (λ c lt. mul-le (solo_n p - 1) (share (rules_of settled decides p) c) (solo_n p) 3 (omega arith) (let few = three_houses p ok c in omega arith)) in
+      (λ c lt. mul-le (solo_n p - 1) (share (rules_of settled decides p) c) (solo_n p) 3 (omega arith) (let few = three_houses p ok c in omega arith)) in
       let all = sum_of_one (solo_n p * 3) (cells_of p) in
       let e : cells_of p * (solo_n p * 3) ≡ 3 * (solo_n p * solo_n p * solo_n p) = omega arith in
       omega arith

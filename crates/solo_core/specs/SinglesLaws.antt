@@ -1,16 +1,14 @@
 -- Laws of singles: what they strike from larger sets they strike from smaller ones, and from a solution's own values
 -- they strike nothing.
-use Rattle.std.proofs.Common.{◌≡◌, ℕ, zero, suc, ◌+◌, ◌<◌, ◌≤◌, Bool, true, false, not, ◌&&◌, ◌||◌, true≢false, eqb, List, [], ◌∷◌, map, length, get_or, slice_index, refl, sym, ◌∙◌, ap, arith, ◌⊎◌, inl, inr}
+use Rattle.std.proofs.Common.{◌≡◌, ℕ, zero, suc, ◌<◌, Bool, true, false, not, ◌&&◌, ◌||◌, true≢false, eqb, List, [], ◌∷◌, map, length, get_or, slice_index, sym, ◌∙◌, ap, arith, ◌⊎◌, inl, inr}
 use Rattle.std.proofs.lemmas.Bool.{cases_Bool, cases_lt, cases_eq, and_parts, and_from, or_cases, or_left, or_right, eqb-true, eq-eqb, ne_eqb, not-true, false_from_ne_true}
 use Rattle.std.proofs.lemmas.List.{get_or_past, get_or-map, length-map}
-use Rattle.std.proofs.lemmas.List.Elements.{All-get_or}
 use Rattle.grid_core.specs.Augmenting.{IsApart}
-use Rattle.grid_core.specs.Candidates.{Candidates, any_below, single}
-use Rattle.grid_core.specs.Grids.{IsGrid}
-use Rattle.grid_core.proofs.CandidateLemmas.{any_below-here, any_below-some, any_below-none, any_below-same}
+use Rattle.grid_core.specs.Candidates.{any_below, single}
+use Rattle.grid_core.proofs.CandidateLemmas.{any_below-here, any_below-some, any_below-none}
 use Rattle.grid_core.proofs.DifferentNumbers.{apart-le}
 use Rattle.grid_core.proofs.GridLemmas.{single-at, single-is}
-use Rattle.engine_core.specs.Filling.{Set, has_value, AreInside}
+use Rattle.engine_core.specs.Filling.{Set, has_value}
 use Rattle.engine_core.specs.House.{IsMonotone, sets_at, strikes_at}
 use Rattle.engine_core.specs.HouseLaws.{length-sets_at, sets_at-value, sets_at-small, strikes_at-some}
 use Rattle.solo_core.specs.NoRepeat.{no_repeat}

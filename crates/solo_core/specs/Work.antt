@@ -1,5 +1,5 @@
 -- What a visit works in.
-use Rattle.std.specs.Prelude.{ℕ, ◌≤◌, vec_len}
+use Rattle.std.specs.Prelude.{◌≤◌, vec_len}
 use Rattle.engine_core.specs.Puzzle.{Needs}
 use Rattle.solo_core.specs.declared.cells.Cells.{Cells}
 use Rattle.solo_core.specs.declared.solo_houses.HousesScratch.{HousesScratch}

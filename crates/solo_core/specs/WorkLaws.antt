@@ -1,5 +1,5 @@
 -- What serves larger rules serves smaller ones.
-use Rattle.std.proofs.Common.{◌≡◌, ℕ, ◌≤◌, vec_len, arith}
+use Rattle.std.proofs.Common.{arith}
 use Rattle.engine_core.specs.Puzzle.{Needs, FitsIn}
 use Rattle.solo_core.specs.declared.cells.Cells.{Cells}
 use Rattle.solo_core.specs.declared.solo_houses.HousesScratch.{HousesScratch}

@@ -9,10 +9,11 @@ ghost use Rattle.solo_core.specs.Deciding.{is_struck, AreMates, AreShown, StayMa
 
 use crate::bits::{has_bit, with_bit};
 use crate::joined::Joined;
+use crate::keep_singles::is_taken;
 use grid_core::{Paired, Pairing};
 
 /// Decides what is kept of the sets of a house: bit `v` of the `k`-th stays exactly where some filling without repeat
-/// has the value `v` in the `k`-th cell.
+/// has the value `v` in the `k`-th cell. Where no value of some cell is shown, the house has no filling at all.
 pub(crate) fn keep_houses(values: u8, sets: &[u32], kept: &mut [u32], pairing: &mut Pairing)
     requires few { values ≤ 31 }
     requires as_many { length kept.old ≡ length sets.now }
@@ -24,6 +25,9 @@ pub(crate) fn keep_houses(values: u8, sets: &[u32], kept: &mut [u32], pairing: &
     kept.fill(0);
     for place in 0..sets.len() {
         mark_cell(values, sets, place, kept, pairing);
+        if kept[place] == 0 {
+            return;
+        }
     }
 }
 
@@ -44,8 +48,8 @@ fn mark_cell(values: u8, sets: &[u32], place: usize, marks: &mut [u32], pairing:
     }
 }
 
-/// Marks a filling that has the value in the cell, where there is one. A value that the cell hasn't, or that is marked
-/// already, needs no search.
+/// Marks a filling that has the value in the cell, where there is one. A value that the cell hasn't, that is marked
+/// already, or that is the only one of another cell needs no search.
 fn mark_value(
     values: u8,
     sets: &[u32],
@@ -72,6 +76,9 @@ fn mark_value(
     if has_bit(marks[place], value) {
         return;
     }
+    if is_taken(values, sets, place, value) {
+        return;
+    }
     if !find_filling(values, sets, place, value, pairing) {
         return;
     }
@@ -79,13 +86,7 @@ fn mark_value(
 }
 
 /// Whether some filling without repeat has the value in the cell; the mates are then such a filling.
-fn find_filling(
-    values: u8,
-    sets: &[u32],
-    place: usize,
-    value: u8,
-    pairing: &mut Pairing,
-) -> bool
+fn find_filling(values: u8, sets: &[u32], place: usize, value: u8, pairing: &mut Pairing) -> bool
     requires few { values ≤ 31 }
     requires cells_fit { length sets.now ≤ pairing.old.room }
     requires values_fit { values ≤ pairing.old.room }

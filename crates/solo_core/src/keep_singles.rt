@@ -68,7 +68,7 @@ fn stays(values: u8, sets: &[u32], place: usize, value: u8) -> bool
 }
 
 /// Whether another cell has only the value.
-fn is_taken(values: u8, sets: &[u32], place: usize, value: u8) -> bool
+pub(crate) fn is_taken(values: u8, sets: &[u32], place: usize, value: u8) -> bool
     requires few { values ≤ 31 }
     requires value_in { value < values }
     ensures { result ≡ taken_elsewhere (length sets.now) values (has_in sets.now) place value }

@@ -14,9 +14,12 @@ mod solo_houses;
 mod solo_singles;
 mod start;
 
-pub use check::check_solo;
 pub use cells::Cells;
+pub use check::check_solo;
 pub use fault::SoloFault;
 pub use laws::accepted_are_solutions;
 pub use solo_houses::{HousesScratch, SoloHouses};
 pub use solo_singles::SoloSingles;
+
+#[cfg(test)]
+mod tests;

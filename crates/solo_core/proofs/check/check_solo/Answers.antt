@@ -1,4 +1,3 @@
-use Rattle.std.proofs.Common.{◌≡◌, ◌∙◌, sym, ap}
 use Rattle.solo_core.specs.SolutionLaws.{rule_from_houses}
 use Rattle.solo_core.proofs.RepeatLemmas.{first_house}
 use Rattle.solo_core.proofs.check.check_solo.Goals as goal

@@ -1,4 +1,4 @@
-use Rattle.std.proofs.Common.{◌≡◌, ◌∙◌, sym, ap, arith, map, slice_index}
+use Rattle.std.proofs.Common.{◌∙◌, ap, arith, map, slice_index}
 use Rattle.std.proofs.lemmas.List.{take_all}
 use Rattle.solo_core.specs.HouseLaws.{lists_house}
 use Rattle.solo_core.proofs.RepeatLemmas.{read_more}

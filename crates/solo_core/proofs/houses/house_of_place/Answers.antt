@@ -1,4 +1,3 @@
-use Rattle.std.proofs.Common.{arith, ◌∙◌}
 use Rattle.solo_core.proofs.HouseLemmas.{next_row, next_column, next_block, next_none}
 use Rattle.solo_core.proofs.houses.house_of_place.Goals as goal
 

@@ -1,4 +1,4 @@
-use Rattle.std.proofs.Common.{ℕ, ◌<◌, arith}
+use Rattle.std.proofs.Common.{arith}
 use Rattle.solo_core.proofs.HouseLemmas.{all_places}
 use Rattle.solo_core.proofs.houses.write_places.Goals as goal
 

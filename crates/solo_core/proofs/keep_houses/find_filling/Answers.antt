@@ -1,4 +1,4 @@
-use Rattle.std.proofs.Common.{◌≡◌, refl}
+use Rattle.std.proofs.Common.{refl}
 use Rattle.solo_core.proofs.PairedFillings.{mates_of_pairing, struck_by_short}
 use Rattle.solo_core.proofs.keep_houses.find_filling.Goals as goal
 

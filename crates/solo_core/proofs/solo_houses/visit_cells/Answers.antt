@@ -1,9 +1,7 @@
-use Rattle.std.proofs.Common.{◌≡◌, ℕ, ◌<◌, ◌∙◌, sym, ap, refl, arith, length, slice_index, length-take}
-use Rattle.grid_core.specs.Board.{has}
+use Rattle.std.proofs.Common.{ℕ, arith, length-take}
 use Rattle.engine_core.specs.Filling.{strikes_by_fillings}
 use Rattle.solo_core.specs.NoRepeat.{no_repeat}
-use Rattle.solo_core.specs.RuleSets.{rules_of}
-use Rattle.solo_core.proofs.VisitLemmas.{house_long, house_within, left_by_visit}
+use Rattle.solo_core.proofs.VisitLemmas.{house_within, left_by_visit}
 use Rattle.solo_core.proofs.solo_houses.visit_cells.Goals as goal
 
 pub gather-requires-clause-places_in : goal.gather-requires-clause-places_in

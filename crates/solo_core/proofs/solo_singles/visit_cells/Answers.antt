@@ -1,10 +1,8 @@
-use Rattle.std.proofs.Common.{◌≡◌, ℕ, ◌<◌, ◌∙◌, sym, ap, subst, refl, arith, length, slice_index, length-take}
-use Rattle.grid_core.specs.Board.{has}
+use Rattle.std.proofs.Common.{ℕ, subst, arith, length-take}
 use Rattle.gameid_core.specs.Puzzles.{solo_n}
 use Rattle.engine_core.specs.House.{IsDecided}
 use Rattle.solo_core.specs.Singles.{strikes_by_singles}
-use Rattle.solo_core.specs.RuleSets.{rules_of}
-use Rattle.solo_core.proofs.VisitLemmas.{house_long, house_within, left_by_visit}
+use Rattle.solo_core.proofs.VisitLemmas.{house_within, left_by_visit}
 use Rattle.solo_core.proofs.solo_singles.visit_cells.Goals as goal
 
 pub gather-requires-clause-places_in : goal.gather-requires-clause-places_in

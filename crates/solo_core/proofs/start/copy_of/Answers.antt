@@ -1,4 +1,4 @@
-use Rattle.std.proofs.Common.{◌≡◌, ℕ, ◌<◌, length, slice_index, arith}
+use Rattle.std.proofs.Common.{arith}
 use Rattle.solo_core.proofs.StartLemmas.{same_solo}
 use Rattle.solo_core.proofs.start.copy_of.Goals as goal
 

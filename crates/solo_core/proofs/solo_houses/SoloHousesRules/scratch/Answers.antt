@@ -1,4 +1,4 @@
-use Rattle.std.proofs.Common.{sym, ◌∙◌, arith}
+use Rattle.std.proofs.Common.{arith}
 use Rattle.solo_core.proofs.VisitLemmas.{longest_house}
 use Rattle.solo_core.proofs.solo_houses.SoloHousesRules.scratch.Goals as goal
 
