@@ -1,0 +1,3 @@
+pub mod CountBounds
+pub mod StaysLaws
+pub mod KeptCount
