@@ -3,3 +3,7 @@ pub mod Grids
 pub mod Candidates
 pub mod Board
 pub mod Regions
+pub mod Pairings
+pub mod Augmenting
+pub mod SearchOutcome
+pub mod ShortSets

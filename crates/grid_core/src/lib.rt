@@ -1,13 +1,16 @@
-//! Sizes, grids, boards and the regions of a grid.
+//! Sizes, grids, boards, the regions of a grid, and pairings.
 #![tactic(auto)]
 
+mod augmenting;
 mod board;
 mod grid;
+mod pairing;
 mod regions;
 mod size;
 
 pub use board::Board;
 pub use grid::Grid;
+pub use pairing::{Edges, Paired, Pairing};
 pub use regions::{beside, block_place, column_place, row_place, step};
 pub use size::{MAX_SIDE, Size};
 

@@ -1,3 +1,6 @@
+ghost use Rattle.std.specs.Prelude.{◌==◌, get_or};
+ghost use Rattle.std.specs.Int.{bit_at};
+
 use super::*;
 use std::test::Fail;
 
@@ -99,4 +102,62 @@ fn blocks_are_three_wide_and_two_tall(rt: HostRuntime) {
             );
         }
     }
+}
+
+/// Three lefts, each with the rights that it is joined to of three rights, as bits.
+#[derive(Drop)]
+struct Joined {
+    rights: [u8; 3],
+}
+
+impl Edges for Joined {
+    ghost left_count = { λ _. 3 };
+
+    ghost right_count = { λ _. 3 };
+
+    ghost joins = { λ edges left right. bit_at (get_or edges.rights left 0) right == 1 };
+
+    fn lefts(&self) -> usize {
+        3
+    }
+
+    fn rights(&self) -> usize {
+        3
+    }
+
+    fn next(&self, left: usize, from: usize) -> Option<usize> {
+        let bits = self.rights[left];
+        for right in from..3 {
+            if bits >> right & 1 == 1 {
+                return Some(right);
+            }
+        }
+        None
+    }
+}
+
+#[test]
+fn lefts_with_rights_enough_are_paired(rt: HostRuntime) -> Result<(), Fail> {
+    let mut pairing = Pairing::new(rt.alloc(), 3)?;
+    assert_eq!(rt; pairing.short().len(), 0);
+    let edges = Joined {
+        rights: [0b001, 0b011, 0b110],
+    };
+    assert_eq!(rt; pairing.run(&edges), Paired::All);
+    for left in 0..3 {
+        assert_eq!(rt; pairing.mate(left), left, "mate of {left}");
+    }
+    assert_eq!(rt; pairing.short().len(), 0);
+    Ok(())
+}
+
+#[test]
+fn two_lefts_with_one_right_are_short(rt: HostRuntime) -> Result<(), Fail> {
+    let mut pairing = Pairing::new(rt.alloc(), 3)?;
+    let edges = Joined {
+        rights: [0b001, 0b001, 0b110],
+    };
+    assert_eq!(rt; pairing.run(&edges), Paired::Short);
+    assert_eq!(rt; pairing.short(), [0, 1].as_slice());
+    Ok(())
 }

@@ -1,0 +1,138 @@
+//! Pairings of two sides.
+
+ghost use Rattle.std.specs.Prelude.{◌≡◌, ℕ, ◌+◌, ◌<◌, ◌≤◌, Bool, IsTrue, MatchOption, IfOk, [], length, slice_index};
+ghost use Rattle.grid_core.specs.Pairings.{IsPairing, IsShortSet};
+
+use crate::augmenting::pair_all;
+use std::alloc::{AllocError, Global};
+use std::marker::Model;
+
+/// Which lefts are joined to which rights.
+pub trait Edges {
+    ghost left_count: { Self → ℕ };
+
+    ghost right_count: { Self → ℕ };
+
+    ghost joins: { Self → ℕ → ℕ → Bool };
+
+    fn lefts(&self) -> usize
+        ensures { result ≡ left_count self.now };
+
+    fn rights(&self) -> usize
+        ensures { result ≡ right_count self.now };
+
+    /// The least right at or after `from` that is joined to `left`.
+    fn next(&self, left: usize, from: usize) -> Option<usize>
+        requires { left < left_count self.now }
+        ensures { MatchOption result
+            ((r : ℕ) → from ≤ r → r < right_count self.now → IsTrue (joins self.now left r) → ⊥)
+            (λ r. (from ≤ r) × (r < right_count self.now) × IsTrue (joins self.now left r)
+            × ((q : ℕ) → from ≤ q → q < r → IsTrue (joins self.now left q) → ⊥)) };
+}
+
+/// What a run came to.
+#[derive(Clone, Copy, Debug, PartialEq, Eq)]
+pub enum Paired {
+    /// Each left has a joined right of its own.
+    All,
+    /// Some lefts are joined to fewer rights than they are.
+    Short,
+}
+
+/// Room for pairings of up to so many lefts and rights, and the last pairing.
+#[derive(Drop)]
+pub struct Pairing {
+    mates: Vec<usize>,
+    owners: Vec<Option<usize>>,
+    seen: Vec<bool>,
+    queue: Vec<usize>,
+    came: Vec<usize>,
+    parents: Vec<usize>,
+    paired: usize,
+    short: usize,
+}
+
+impl Model for Pairing {
+    ghost use Rattle.std.specs.Prelude.{◌≡◌, ℕ, ◌≤◌, vec_len, take};
+    ghost use Rattle.grid_core.specs.Pairings.{PairingView};
+
+    ghost Value = { PairingView };
+
+    ghost view = { λ p. record {
+      room = vec_len p.mates;
+      mates = take p.paired p.mates.items;
+      short = take p.short p.queue.items;
+    } };
+
+    ghost invariant = { λ p. (vec_len p.owners ≡ vec_len p.mates) × (vec_len p.seen ≡ vec_len p.mates)
+        × (vec_len p.queue ≡ vec_len p.mates) × (vec_len p.came ≡ vec_len p.mates)
+        × (vec_len p.parents ≡ vec_len p.mates)
+        × (p.paired ≤ vec_len p.mates) × (p.short ≤ vec_len p.mates) };
+}
+
+impl Pairing {
+    /// Room for n lefts and n rights.
+    pub fn new(alloc: Global, n: usize) -> Result<Pairing, AllocError>
+        ensures { IfOk result (λ p. (p.room ≡ n) × (p.mates ≡ []) × (p.short ≡ [])) }
+    {
+        Ok(Pairing {
+            mates: vec![in alloc; 0; n]?,
+            owners: vec![in alloc; None; n]?,
+            seen: vec![in alloc; false; n]?,
+            queue: vec![in alloc; 0; n]?,
+            came: vec![in alloc; 0; n]?,
+            parents: vec![in alloc; 0; n]?,
+            paired: 0,
+            short: 0,
+        })
+    }
+
+    /// Pairs each left with a joined right of its own, or finds lefts that are joined to too few.
+    pub fn run<E: Edges>(&mut self, edges: &E) -> Paired
+        requires lefts_fit { E.left_count edges.now ≤ self.old.room }
+        requires rights_fit { E.right_count edges.now ≤ self.old.room }
+        ensures room { self.new.room ≡ self.old.room }
+        ensures all { result ≡ Paired.All → IsPairing (E.joins edges.now) (E.left_count edges.now)
+            (E.right_count edges.now) self.new.mates }
+        ensures none_short { result ≡ Paired.All → self.new.short ≡ [] }
+        ensures short { result ≡ Paired.Short → IsShortSet (E.joins edges.now) (E.left_count edges.now)
+            (E.right_count edges.now) self.new.short }
+    {
+        self.paired = 0;
+        self.short = 0;
+        let found = pair_all(
+            edges,
+            &mut self.mates,
+            &mut self.owners,
+            &mut self.seen,
+            &mut self.queue,
+            &mut self.came,
+            &mut self.parents,
+        );
+        match found {
+            None => {
+                self.paired = edges.lefts();
+                Paired::All
+            }
+            Some(count) => {
+                self.short = count;
+                Paired::Short
+            }
+        }
+    }
+
+    /// The right of a left, after a run that paired all.
+    pub fn mate(&self, left: usize) -> usize
+        requires { left < length self.now.mates }
+        ensures { result ≡ slice_index self.now.mates left }
+    {
+        self.mates[left]
+    }
+
+    /// The lefts that the last run found to be joined to too few rights, ascending; else none.
+    pub fn short(&self) -> &[usize]
+        ensures { result.now ≡ self.now.short }
+    {
+        &self.queue[..self.short]
+    }
+}
