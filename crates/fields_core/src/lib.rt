@@ -1,4 +1,14 @@
 //! Light Up and Tents: what their rules are to a search, and the checks of a grid.
 #![tactic(auto)]
 
+mod count_house;
+mod count_table;
 mod keep;
+mod light_cells;
+mod light_check;
+mod light_fault;
+mod light_houses;
+mod light_sight;
+
+pub use light_check::check_lights;
+pub use light_fault::LightFault;
