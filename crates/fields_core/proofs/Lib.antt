@@ -5,3 +5,4 @@ pub mod CountVisit
 pub mod LightLines
 pub mod HouseLists
 pub mod LightSight
+pub mod LightFaultLemmas

@@ -1,8 +1,10 @@
 -- Which bulbs a cell sees: what a walk along its row and its column shows.
 use Rattle.std.proofs.Common.{◌≡◌, ℕ, zero, suc, ◌+◌, ◌-◌, ◌*◌, ◌/◌, ◌%◌, ◌<◌, ◌≤◌, Bool, true, false, not, ◌&&◌, ◌||◌, eqb, cond, List, [], ◌∷◌, ◌++◌, length, slice_index, Option, Some, None, refl, sym, ap, ◌∙◌, inl, inr, ◌⊎◌, arith, add-one}
-use Rattle.std.specs.List.{count_by}
+use Rattle.std.specs.List.{count_by, filter}
+use Rattle.std.proofs.lemmas.List.Sums.{length-filter}
+use Rattle.std.proofs.lemmas.List.Elements.{filter-append}
 use Rattle.std.proofs.lemmas.Bool.{cases_eq, cases_lt, cases_Bool, or_left, or_right, or_cases, and_from, and_parts, true≢false, false_from_ne_true, ne_eqb, eq-eqb, eqb-true, cond-true, cond-false, not-true}
-use Rattle.std.proofs.lemmas.List.{append-nil, get_or_past}
+use Rattle.std.proofs.lemmas.List.{append-nil, get_or_past, length-append}
 use Rattle.std.proofs.Math.Nat.{mod-lt, div-lt_iff_lt-mul}
 use Rattle.grid_core.specs.Extent.{Extent}
 use Rattle.grid_core.specs.Regions.{row_places, column_places, steps, step, if_there}
@@ -85,12 +87,27 @@ bulb-in g cells d long on = elim (cases_lt d (length g)) [
 ]
 
 -- ---- bulbs beside a cell
-count-append : (test : ℕ → Bool) (xs ys : List ℕ) → count_by test (xs ++ ys) ≡ count_by test xs + count_by test ys
-count-append test [] ys = omega arith
-count-append test (x ∷ xs) ys = elim (cases_Bool (test x)) [
-  | inl on ↦ rw (on, count-append test xs ys) (omega arith)
-  | inr off ↦ rw (off, count-append test xs ys) refl
-]
+pub count-append : (test : ℕ → Bool) (xs ys : List ℕ) → count_by test (xs ++ ys) ≡ count_by test xs + count_by test ys
+count-append test xs ys =
+    let whole = length-filter test (xs ++ ys) in
+    let front = length-filter test xs in
+    let back = length-filter test ys in
+    let parts = ap length (filter-append test xs ys) in
+    omega (arith, length-append (filter test xs) (filter test ys))
+
+steps-none : (size : Extent) (place n : ℕ) → None ≡ step size place n → steps size place (n + 1) ≡ steps size place n
+unfolding steps
+steps-none size place n e = rw (add-one, ← e) (append-nil (steps size place n))
+
+steps-some : (size : Extent) (place n d : ℕ) → Some d ≡ step size place n → steps size place (n + 1) ≡ steps size place n ++ d ∷ []
+unfolding steps
+steps-some size place n d e = rw (add-one, ← e) refl
+
+count-one : (g : List ℕ) (d v : ℕ) → v ≡ slice_index g d → v ≡ 1 → count_by (bulb g) (d ∷ []) ≡ 1
+count-one g d v at one = rw (eq-eqb (slice_index g d) 1 (sym at ∙ one)) refl
+
+count-none : (g : List ℕ) (d v : ℕ) → v ≡ slice_index g d → (v ≡ 1 → ⊥) → count_by (bulb g) (d ∷ []) ≡ 0
+count-none g d v at no_bulb = rw (ne_eqb (slice_index g d) 1 (λ h. no_bulb (at ∙ h))) refl
 
 -- so many of the first steps lead to a bulb
 pub record IsCounted (g : List ℕ) (size : Extent) (place n bulbs : ℕ) : Type 0 where
@@ -102,24 +119,21 @@ unfolding steps
 counted-start g size place = record { few = omega arith; same = refl }
 
 pub counted-none : (g : List ℕ) (size : Extent) (place n bulbs : ℕ) → IsCounted g size place n bulbs → None ≡ step size place n → IsCounted g size place (n + 1) bulbs
-unfolding steps
 counted-none g size place n bulbs before e = record {
   few = let f = before.few in omega arith;
-  same = rw (add-one, ← e) (before.same ∙ ap (count_by (bulb g)) (sym (append-nil (steps size place n))));
+  same = before.same ∙ ap (count_by (bulb g)) (sym (steps-none size place n e));
 }
 
 pub counted-skip : (g : List ℕ) (size : Extent) (place n bulbs d v : ℕ) → IsCounted g size place n bulbs → Some d ≡ step size place n → v ≡ slice_index g d → (v ≡ 1 → ⊥) → IsCounted g size place (n + 1) bulbs
-unfolding steps
 counted-skip g size place n bulbs d v before e at no_bulb = record {
   few = let f = before.few in omega arith;
-  same = rw (add-one, ← e) (before.same ∙ sym (count-append (bulb g) (steps size place n) (d ∷ []) ∙ rw (ne_eqb (slice_index g d) 1 (λ h. no_bulb (at ∙ h))) (omega arith)));
+  same = let s = before.same in let both = count-append (bulb g) (steps size place n) (d ∷ []) in let c = count-none g d v at no_bulb in let w = ap (count_by (bulb g)) (steps-some size place n d e) in omega arith;
 }
 
 pub counted-more : (g : List ℕ) (size : Extent) (place n bulbs d v : ℕ) → IsCounted g size place n bulbs → Some d ≡ step size place n → v ≡ slice_index g d → v ≡ 1 → IsCounted g size place (n + 1) (bulbs + 1)
-unfolding steps
 counted-more g size place n bulbs d v before e at one = record {
   few = let f = before.few in omega arith;
-  same = rw (add-one, ← e) (let s = before.same in let both = count-append (bulb g) (steps size place n) (d ∷ []) in let c : count_by (bulb g) (d ∷ []) ≡ 1 = rw (eq-eqb (slice_index g d) 1 (sym at ∙ one)) refl in omega arith);
+  same = let s = before.same in let both = count-append (bulb g) (steps size place n) (d ∷ []) in let c = count-one g d v at one in let w = ap (count_by (bulb g)) (steps-some size place n d e) in omega arith;
 }
 
 pub some-column : (p : Light) (c : ℕ) → c < cells_of p → 0 < p.size.w
