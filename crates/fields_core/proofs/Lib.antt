@@ -6,3 +6,5 @@ pub mod LightLines
 pub mod HouseLists
 pub mod LightSight
 pub mod LightFaultLemmas
+pub mod PlaceLists
+pub mod LightHouseLaws
