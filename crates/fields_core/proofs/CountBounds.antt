@@ -1,9 +1,9 @@
 -- Which numbers of ones the fillings of two-valued sets have.
-use Rattle.std.proofs.Common.{◌≡◌, ℕ, zero, suc, ◌+◌, ◌-◌, ◌<◌, ◌≤◌, max, Bool, true, false, true≢false, ◌&&◌, cond, leb, List, [], ◌∷◌, ◌++◌, length, get_or, take, drop, refl, sym, ◌∙◌, ap, ap₂, subst, arith, ◌⊎◌, inl, inr, le-leb, leb-true}
-use Rattle.std.proofs.lemmas.Bool.{cases_lt, cases_eq}
+use Rattle.std.proofs.Common.{◌≡◌, ℕ, zero, suc, ◌+◌, ◌-◌, ◌<◌, ◌≤◌, max, Bool, true, false, true≢false, ◌&&◌, cond, leb, List, [], ◌∷◌, ◌++◌, length, get_or, take, drop, refl, sym, ◌∙◌, ap, subst, arith, ◌⊎◌, inl, inr, le-leb, leb-true}
+use Rattle.std.proofs.lemmas.Bool.{cases_lt}
 use Rattle.std.proofs.lemmas.List.{length-append, length-take, take-append-drop}
 use Rattle.std.proofs.Math.Seq.{get_or-append_seam, drop-cons}
-use Rattle.engine_core.specs.Filling.{Set, has_value, Fills, IsShown, IsShownBy}
+use Rattle.engine_core.specs.Filling.{Set, has_value, Fills, IsShown}
 use Rattle.engine_core.specs.FillingLaws.{Fills-cons, Fills-tail, Fills-append, Fills-parts}
 use Rattle.fields_core.specs.Count.{ones, counts_between, must_of, may_of}
 

@@ -1,8 +1,8 @@
 -- A visit of a house in three steps leaves the board without what the house strikes.
 use Rattle.std.proofs.Common.{◌≡◌, ℕ, ◌<◌, List, length, slice_index, map, sym, arith}
 use Rattle.std.proofs.Math.Path.{fun_ext}
-use Rattle.grid_core.specs.Candidates.{Candidates, IsWithin}
-use Rattle.grid_core.specs.Board.{Layout, has, cells_of}
+use Rattle.grid_core.specs.Candidates.{Candidates}
+use Rattle.grid_core.specs.Board.{Layout, has}
 use Rattle.grid_core.proofs.BoardLemmas.{has-within}
 use Rattle.engine_core.specs.Places.{has_place-here}
 use Rattle.engine_core.specs.Filling.{strikes_by_fillings}

@@ -1,17 +1,17 @@
 -- Lists of houses and of places that a loop makes.
-use Rattle.std.proofs.Common.{◌≡◌, ℕ, zero, suc, ◌+◌, ◌-◌, ◌/◌, ◌%◌, ◌<◌, ◌≤◌, Bool, true, false, not, eqb, cond, List, [], ◌∷◌, ◌++◌, length, get_or, slice_index, take, Option, Some, None, refl, sym, ap, ◌∙◌, arith, add-one}
-use Rattle.std.specs.List.{filter, slice_get, range_with_len}
+use Rattle.std.proofs.Common.{◌≡◌, ℕ, ◌+◌, ◌-◌, ◌/◌, ◌%◌, ◌<◌, ◌≤◌, Bool, true, false, not, List, [], ◌∷◌, ◌++◌, length, slice_index, take, Some, None, refl, sym, ap, ◌∙◌, arith, add-one}
+use Rattle.std.specs.List.{filter, slice_get}
 use Rattle.std.proofs.lemmas.Bool.{cond-true, cond-false, ne_eqb}
 use Rattle.std.proofs.lemmas.List.{append-nil, append_assoc, take_all}
 use Rattle.std.proofs.lemmas.List.Elements.{filter_more, filter-append}
 use Rattle.std.proofs.lemmas.List.FromFn.{length-map-range_with_len}
 use Rattle.grid_core.specs.Extent.{Extent}
-use Rattle.grid_core.specs.Regions.{row_places, column_places, steps, step, if_there}
+use Rattle.grid_core.specs.Regions.{row_places, column_places, steps, step}
 use Rattle.gameid_core.specs.Puzzles.{Light}
 use Rattle.gameid_core.specs.declared.light_cell.LightCell.TheVariants.{White, Black, Numbered}
 use Rattle.fields_core.specs.CountHouse.{House, houses_below}
 use Rattle.fields_core.specs.Light.{white}
-use Rattle.fields_core.specs.LightHouses.{begins_row_run, begins_column_run, number_house, numbered}
+use Rattle.fields_core.specs.LightHouses.{begins_row_run, begins_column_run, number_house}
 use Rattle.fields_core.proofs.LightLines.{cell-at}
 
 pub below-none : (f : ℕ → List House) (xs : List House) → xs ≡ xs ++ houses_below f 0

@@ -1,5 +1,5 @@
 -- From the counts of a house's bits to what a visit keeps.
-use Rattle.std.proofs.Common.{◌≡◌, ℕ, zero, suc, ◌+◌, ◌-◌, ◌<◌, ◌≤◌, Bool, true, false, not, true≢false, ◌&&◌, cond, leb, List, [], ◌∷◌, ◌++◌, map, length, get_or, take, drop, set, refl, sym, ◌∙◌, ap, ap₂, subst, arith, ◌⊎◌, inl, inr, eqb}
+use Rattle.std.proofs.Common.{◌≡◌, ℕ, zero, suc, ◌+◌, ◌<◌, Bool, true, false, not, true≢false, ◌&&◌, cond, leb, List, [], ◌∷◌, ◌++◌, map, length, get_or, take, drop, set, refl, sym, ◌∙◌, ap, ap₂, subst, arith, ◌⊎◌, inl, inr, eqb}
 use Rattle.std.specs.Prelude.{count_by}
 use Rattle.std.proofs.lemmas.Bool.{cases_eq}
 use Rattle.std.specs.List.{range_with_len}
@@ -11,7 +11,7 @@ use Rattle.std.proofs.Math.Seq.{drop-cons}
 use Rattle.engine_core.specs.Filling.{Set, has_value, IsShown, strikes_by_fillings}
 use Rattle.engine_core.specs.Sets.{has_bit, set_of_bits}
 use Rattle.engine_core.specs.FillingLaws.{has_value_below, shown_from_test}
-use Rattle.fields_core.specs.Count.{ones, counts_between, must_of, may_of, stays_in_count}
+use Rattle.fields_core.specs.Count.{counts_between, must_of, may_of, stays_in_count}
 use Rattle.fields_core.proofs.CountBounds.{IsCounted}
 use Rattle.fields_core.proofs.StaysLaws.{stays_middle, stays_by_bounds}
 

@@ -8,3 +8,6 @@ pub mod LightSight
 pub mod LightFaultLemmas
 pub mod PlaceLists
 pub mod LightHouseLaws
+pub mod StepLaws
+pub mod LightCounting
+pub mod RuleLemmas

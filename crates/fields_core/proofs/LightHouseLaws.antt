@@ -1,31 +1,18 @@
 -- The houses of Light Up are houses, and each solution meets them.
-use Rattle.std.proofs.Common.{◌≡◌, ℕ, zero, suc, ◌+◌, ◌-◌, ◌*◌, ◌/◌, ◌%◌, ◌^◌, ◌<◌, ◌≤◌, min, max, Bool, true, false, not, ◌&&◌, ◌||◌, eqb, leb, ltb, cond, List, [], ◌∷◌, ◌++◌, length, get_or, slice_index, map, refl, sym, ap, ◌∙◌, inl, inr, ◌⊎◌, arith, le-leb}
-use Rattle.std.specs.List.{filter, count_by, AllByRecursion, range_with_len}
-use Rattle.std.proofs.lemmas.Bool.{cases_Bool, cases_eq, cases_lt, or_left, or_right, or_cases, and_from, and_parts, true≢false, false_from_ne_true, eqb-true, eq-eqb, ne_eqb, not-true, lt-ltb, ltb-true, le-ltb}
-use Rattle.std.proofs.lemmas.List.{get_or_past, length-append, length-map, get_or-append_right, get_or_append_left}
-use Rattle.std.proofs.lemmas.List.Sums.{count_by-le-length, length-filter}
-use Rattle.std.proofs.lemmas.List.FromFn.{length-map-range_with_len}
-use Rattle.std.proofs.Math.Nat.{mod-lt, div-lt_iff_lt-mul, mul-le-mul_left, mul-le-mul_right}
-use Rattle.grid_core.specs.Extent.{Extent, max_side}
-use Rattle.grid_core.specs.Grids.{IsGrid}
-use Rattle.grid_core.specs.Regions.{row_places, column_places, steps, step, if_there, up, left, right, down}
-use Rattle.grid_core.specs.Candidates.{all_below, any_below}
+use Rattle.std.proofs.Common.{◌≡◌, ℕ, zero, suc, ◌+◌, ◌*◌, ◌/◌, ◌%◌, ◌<◌, ◌≤◌, min, max, Bool, true, false, ◌||◌, eqb, ltb, cond, List, [], ◌∷◌, ◌++◌, length, refl, sym, ap, ◌∙◌, inl, inr, arith}
+use Rattle.std.proofs.lemmas.Bool.{cases_lt, or_left, or_right, or_cases, and_from, and_parts, true≢false, eqb-true, eq-eqb, lt-ltb, ltb-true}
+use Rattle.std.proofs.lemmas.List.{get_or_past}
+use Rattle.std.proofs.Math.Nat.{mul-le-mul_right}
+use Rattle.grid_core.specs.Extent.{Extent}
+use Rattle.grid_core.specs.Regions.{row_places, column_places}
 use Rattle.grid_core.proofs.RegionLemmas.{row-at, column-at}
-use Rattle.grid_core.proofs.CandidateLemmas.{all_below-at, all_below-from, any_below-here, any_below-some}
-use Rattle.engine_core.specs.Puzzle.{has_place}
-use Rattle.engine_core.specs.Places.{has_place-at, has_place-here}
-use Rattle.engine_core.specs.House.{AreDifferent}
-use Rattle.gameid_core.specs.Puzzles.{Light, IsLight, IsLightCell}
-use Rattle.gameid_core.specs.declared.light_cell.LightCell.{LightCell}
-use Rattle.gameid_core.specs.declared.light_cell.LightCell.TheVariants.{White, Black, Numbered}
-use Rattle.fields_core.specs.Count.{ones, counts_between}
-use Rattle.fields_core.specs.CountHouse.{House, no_house, house_of, houses_below, meets, IsHouse, AreHouses, IsCounting}
-use Rattle.fields_core.specs.Light.{cells_of, is_white, white, bulb, clear, joined_in_row, joined_in_column, sees, sees_bulb, bulbs_beside, number_is, black_right, number_right, bulb_right, lit_right, is_lit}
-use Rattle.fields_core.specs.LightHouses.{row_run, column_run, seen_from, begins_row_run, begins_column_run, numbered, number_house, row_house, column_house, lit_house, light_houses}
-use Rattle.fields_core.proofs.LightFaultLemmas.{LitParts, lit-parts}
-use Rattle.fields_core.proofs.LightSight.{bulb-in, row-of, column-of, some-column, count-append}
+use Rattle.grid_core.proofs.CandidateLemmas.{all_below-at, all_below-from}
+use Rattle.gameid_core.specs.Puzzles.{Light}
+use Rattle.gameid_core.specs.declared.light_cell.LightCell.TheVariants.{Black}
+use Rattle.fields_core.specs.CountHouse.{House, house_of, houses_below}
+use Rattle.fields_core.specs.Light.{cells_of, is_white, white, clear, joined_in_row, joined_in_column}
 use Rattle.fields_core.proofs.HouseLists.{row-long, column-long}
-use Rattle.fields_core.proofs.PlaceLists.{place-filter, place-kept, place-append, place-front, place-back, AreDistinct, different-from, distinct-from, distinct-filter, distinct-append, count-some, count-one, count-filter, ones-bulbs}
+use Rattle.fields_core.proofs.PlaceLists.{AreDistinct, distinct-from}
 
 -- ---- what holds of each house of a list
 abbrev pub EachOf : (House → Type 0) → List House → Type 0
@@ -83,15 +70,15 @@ clear-both test j k l a b = clear-from test k l (λ i low high. elim (cases_lt i
   ]
 ])
 
-row-parts : (p : Light) (c d : ℕ) → joined_in_row p c d ≡ true → (c / p.size.w ≡ d / p.size.w) × (clear (λ x. white p (c / p.size.w * p.size.w + x)) (c % p.size.w) (d % p.size.w) ≡ true)
+pub row-parts : (p : Light) (c d : ℕ) → joined_in_row p c d ≡ true → (c / p.size.w ≡ d / p.size.w) × (clear (λ x. white p (c / p.size.w * p.size.w + x)) (c % p.size.w) (d % p.size.w) ≡ true)
 unfolding joined_in_row
 row-parts p c d on = let w = and_parts (eqb (c / p.size.w) (d / p.size.w)) _ on in (eqb-true _ _ w.0, w.1)
 
-column-parts : (p : Light) (c d : ℕ) → joined_in_column p c d ≡ true → (c % p.size.w ≡ d % p.size.w) × (clear (λ y. white p (y * p.size.w + c % p.size.w)) (c / p.size.w) (d / p.size.w) ≡ true)
+pub column-parts : (p : Light) (c d : ℕ) → joined_in_column p c d ≡ true → (c % p.size.w ≡ d % p.size.w) × (clear (λ y. white p (y * p.size.w + c % p.size.w)) (c / p.size.w) (d / p.size.w) ≡ true)
 unfolding joined_in_column
 column-parts p c d on = let w = and_parts (eqb (c % p.size.w) (d % p.size.w)) _ on in (eqb-true _ _ w.0, w.1)
 
-row-both : (p : Light) (c d e : ℕ) → joined_in_row p c d ≡ true → joined_in_row p c e ≡ true → joined_in_row p d e ≡ true
+pub row-both : (p : Light) (c d e : ℕ) → joined_in_row p c d ≡ true → joined_in_row p c e ≡ true → joined_in_row p d e ≡ true
 unfolding joined_in_row
 row-both p c d e a b =
     let v = row-parts p c d a in
@@ -99,7 +86,7 @@ row-both p c d e a b =
     and_from _ _ (eq-eqb (d / p.size.w) (e / p.size.w) (sym v.0 ∙ w.0))
     (rw (sym v.0) (clear-both (λ x. white p (c / p.size.w * p.size.w + x)) (c % p.size.w) (d % p.size.w) (e % p.size.w) v.1 w.1))
 
-column-both : (p : Light) (c d e : ℕ) → joined_in_column p c d ≡ true → joined_in_column p c e ≡ true → joined_in_column p d e ≡ true
+pub column-both : (p : Light) (c d e : ℕ) → joined_in_column p c d ≡ true → joined_in_column p c e ≡ true → joined_in_column p d e ≡ true
 unfolding joined_in_column
 column-both p c d e a b =
     let v = column-parts p c d a in
@@ -107,26 +94,26 @@ column-both p c d e a b =
     and_from _ _ (eq-eqb (d % p.size.w) (e % p.size.w) (sym v.0 ∙ w.0))
     (rw (sym v.0) (clear-both (λ y. white p (y * p.size.w + c % p.size.w)) (c / p.size.w) (d / p.size.w) (e / p.size.w) v.1 w.1))
 
-row-white-end : (p : Light) (c d : ℕ) → 0 < p.size.w → joined_in_row p c d ≡ true → white p d ≡ true
+pub row-white-end : (p : Light) (c d : ℕ) → 0 < p.size.w → joined_in_row p c d ≡ true → white p d ≡ true
 row-white-end p c d pos on =
     let v = row-parts p c d on in
     let e : c / p.size.w * p.size.w + d % p.size.w ≡ d = rw v.0 (omega arith) in
     rw e at (clear-at (λ x. white p (c / p.size.w * p.size.w + x)) (c % p.size.w) (d % p.size.w) (d % p.size.w) v.1 (omega arith) (omega arith))
 
-column-white-end : (p : Light) (c d : ℕ) → 0 < p.size.w → joined_in_column p c d ≡ true → white p d ≡ true
+pub column-white-end : (p : Light) (c d : ℕ) → 0 < p.size.w → joined_in_column p c d ≡ true → white p d ≡ true
 column-white-end p c d pos on =
     let v = column-parts p c d on in
     let e : d / p.size.w * p.size.w + c % p.size.w ≡ d = rw v.0 (omega arith) in
     rw e at (clear-at (λ y. white p (y * p.size.w + c % p.size.w)) (c / p.size.w) (d / p.size.w) (d / p.size.w) v.1 (omega arith) (omega arith))
 
 -- a white cell is joined to itself
-row-self : (p : Light) (c : ℕ) → white p c ≡ true → joined_in_row p c c ≡ true
+pub row-self : (p : Light) (c : ℕ) → white p c ≡ true → joined_in_row p c c ≡ true
 unfolding joined_in_row
 row-self p c on = and_from _ _ (eq-eqb (c / p.size.w) (c / p.size.w) refl) (clear-from _ (c % p.size.w) (c % p.size.w) (λ i low high.
     let e : c / p.size.w * p.size.w + i ≡ c = omega arith in rw e on))
 
 -- a white cell lies in the grid
-white-in : (p : Light) (c : ℕ) → length p.cells ≡ cells_of p → white p c ≡ true → c < cells_of p
+pub white-in : (p : Light) (c : ℕ) → length p.cells ≡ cells_of p → white p c ≡ true → c < cells_of p
 unfolding white
 white-in p c long on = elim (cases_lt c (length p.cells)) [
   | inl low ↦ omega arith
@@ -134,13 +121,13 @@ white-in p c long on = elim (cases_lt c (length p.cells)) [
 ]
 
 -- ---- the places of lines and of neighbours are different
-row-distinct : (size : Extent) (y : ℕ) → AreDistinct (row_places size y)
+pub row-distinct : (size : Extent) (y : ℕ) → AreDistinct (row_places size y)
 row-distinct size y = distinct-from (row_places size y) (λ j k lj lk e.
     let long = row-long size y in
     let f : y * size.w + j ≡ y * size.w + k = row-at size y j (omega arith) ∙ e ∙ sym (row-at size y k (omega arith)) in
     omega arith)
 
-column-distinct : (size : Extent) (x : ℕ) → 0 < size.w → AreDistinct (column_places size x)
+pub column-distinct : (size : Extent) (x : ℕ) → 0 < size.w → AreDistinct (column_places size x)
 column-distinct size x pos = distinct-from (column_places size x) (λ j k lj lk e.
     let long = column-long size x in
     let f : j * size.w + x ≡ k * size.w + x = column-at size x j (omega arith) ∙ e ∙ sym (column-at size x k (omega arith)) in

@@ -1,6 +1,6 @@
 -- Lines of white cells: what a walk along a line shows.
-use Rattle.std.proofs.Common.{◌≡◌, ℕ, zero, suc, ◌+◌, ◌-◌, ◌*◌, ◌/◌, ◌%◌, ◌<◌, ◌≤◌, min, max, Bool, true, false, not, ◌&&◌, ◌||◌, ltb, eqb, List, get_or, slice_index, Option, Some, None, refl, sym, ap, ◌∙◌, inl, inr, ◌⊎◌, arith}
-use Rattle.std.proofs.lemmas.Bool.{cases_lt, cases_Bool, or_left, or_right, lt-ltb, le-ltb, or_cases, ltb-true, true≢false, false_from_ne_true, ne_eqb, eq-eqb}
+use Rattle.std.proofs.Common.{◌≡◌, ℕ, suc, ◌+◌, ◌*◌, ◌/◌, ◌%◌, ◌<◌, ◌≤◌, min, max, Bool, true, false, ◌||◌, ltb, get_or, slice_index, Option, Some, None, refl, sym, ap, ◌∙◌, inl, inr, arith}
+use Rattle.std.proofs.lemmas.Bool.{cases_lt, or_left, or_right, lt-ltb, or_cases, ltb-true, true≢false, false_from_ne_true, ne_eqb, eq-eqb}
 use Rattle.std.specs.List.{slice_get}
 use Rattle.std.proofs.lemmas.Option.{slice_get-get_or, slice_get_within}
 use Rattle.grid_core.specs.Extent.{Extent}
@@ -10,7 +10,7 @@ use Rattle.grid_core.specs.Candidates.{all_below}
 use Rattle.grid_core.proofs.CandidateLemmas.{all_below-at, all_below-from}
 use Rattle.gameid_core.specs.Puzzles.{Light}
 use Rattle.gameid_core.specs.declared.light_cell.LightCell.{LightCell}
-use Rattle.gameid_core.specs.declared.light_cell.LightCell.TheVariants.{White, Black, Numbered}
+use Rattle.gameid_core.specs.declared.light_cell.LightCell.TheVariants.{Black}
 use Rattle.fields_core.specs.Light.{is_white, white, clear, joined_in_row, joined_in_column}
 
 some-inj : {A : Type 0} {x y : A} → Some x ≡ Some y → x ≡ y

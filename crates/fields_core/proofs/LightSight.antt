@@ -1,16 +1,15 @@
 -- Which bulbs a cell sees: what a walk along its row and its column shows.
-use Rattle.std.proofs.Common.{◌≡◌, ℕ, zero, suc, ◌+◌, ◌-◌, ◌*◌, ◌/◌, ◌%◌, ◌<◌, ◌≤◌, Bool, true, false, not, ◌&&◌, ◌||◌, eqb, cond, List, [], ◌∷◌, ◌++◌, length, slice_index, Option, Some, None, refl, sym, ap, ◌∙◌, inl, inr, ◌⊎◌, arith, add-one}
+use Rattle.std.proofs.Common.{◌≡◌, ℕ, zero, suc, ◌+◌, ◌*◌, ◌/◌, ◌%◌, ◌<◌, ◌≤◌, Bool, true, false, not, ◌&&◌, ◌||◌, eqb, List, [], ◌∷◌, ◌++◌, length, slice_index, Some, None, refl, sym, ap, ◌∙◌, inl, inr, arith, add-one}
 use Rattle.std.specs.List.{count_by, filter}
 use Rattle.std.proofs.lemmas.List.Sums.{length-filter}
 use Rattle.std.proofs.lemmas.List.Elements.{filter-append}
-use Rattle.std.proofs.lemmas.Bool.{cases_eq, cases_lt, cases_Bool, or_left, or_right, or_cases, and_from, and_parts, true≢false, false_from_ne_true, ne_eqb, eq-eqb, eqb-true, cond-true, cond-false, not-true}
+use Rattle.std.proofs.lemmas.Bool.{cases_lt, or_cases, and_from, and_parts, true≢false, false_from_ne_true, ne_eqb, eq-eqb, eqb-true, not-true}
 use Rattle.std.proofs.lemmas.List.{append-nil, get_or_past, length-append}
 use Rattle.std.proofs.Math.Nat.{mod-lt, div-lt_iff_lt-mul}
 use Rattle.grid_core.specs.Extent.{Extent}
-use Rattle.grid_core.specs.Regions.{row_places, column_places, steps, step, if_there}
+use Rattle.grid_core.specs.Regions.{row_places, column_places, steps, step}
 use Rattle.grid_core.proofs.RegionLemmas.{row-at, column-at}
-use Rattle.grid_core.proofs.CandidateLemmas.{any_below-here, any_below-some, any_below-none}
-use Rattle.grid_core.specs.Candidates.{any_below}
+use Rattle.grid_core.proofs.CandidateLemmas.{any_below-here, any_below-some}
 use Rattle.gameid_core.specs.Puzzles.{Light}
 use Rattle.fields_core.specs.Light.{cells_of, bulb, sees, sees_bulb, joined_in_row, joined_in_column}
 

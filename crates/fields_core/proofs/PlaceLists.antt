@@ -1,11 +1,10 @@
 -- Lists of different places, and how many of them pass a test.
-use Rattle.std.proofs.Common.{◌≡◌, ℕ, zero, suc, ◌+◌, ◌-◌, ◌*◌, ◌<◌, ◌≤◌, Bool, true, false, not, ◌&&◌, ◌||◌, eqb, cond, List, [], ◌∷◌, ◌++◌, length, slice_index, map, refl, sym, ap, ◌∙◌, inl, inr, ◌⊎◌, arith}
+use Rattle.std.proofs.Common.{◌≡◌, ℕ, zero, suc, ◌+◌, ◌<◌, ◌≤◌, Bool, true, false, eqb, cond, List, [], ◌∷◌, ◌++◌, slice_index, map, refl, sym, ap, ◌∙◌, inl, inr, ◌⊎◌, arith}
 use Rattle.std.specs.List.{filter, count_by}
-use Rattle.std.proofs.lemmas.Bool.{cases_Bool, cases_eq, or_left, or_right, or_cases, true≢false, false_from_ne_true, eqb-true, eq-eqb, ne_eqb}
+use Rattle.std.proofs.lemmas.Bool.{cases_Bool, or_left, or_right, or_cases, true≢false, false_from_ne_true, eqb-true, eq-eqb}
 use Rattle.engine_core.specs.Puzzle.{has_place}
 use Rattle.engine_core.specs.Places.{has_place-at, has_place-here}
 use Rattle.engine_core.specs.House.{AreDifferent}
-use Rattle.grid_core.specs.Grids.{IsGrid}
 use Rattle.fields_core.specs.Count.{ones}
 use Rattle.fields_core.specs.Light.{bulb}
 use Rattle.fields_core.proofs.LightSight.{count-append}

@@ -1,11 +1,8 @@
 -- The test by counts is what fillings show.
-use Rattle.std.proofs.Common.{◌≡◌, ℕ, zero, suc, ◌+◌, ◌-◌, ◌<◌, ◌≤◌, Bool, true, false, not, true≢false, ◌&&◌, cond, leb, List, [], ◌∷◌, ◌++◌, map, length, get_or, take, drop, refl, sym, ◌∙◌, ap, ap₂, subst, arith, ◌⊎◌, inl, inr, le-leb, leb-true}
-use Rattle.std.proofs.lemmas.List.{length-take, take-append-drop, get_or-map, length-map}
-use Rattle.std.proofs.Math.Seq.{drop-cons}
-use Rattle.engine_core.specs.Filling.{Set, has_value, IsShown, strikes_by_fillings}
-use Rattle.engine_core.specs.Sets.{has_bit, set_of_bits}
+use Rattle.std.proofs.Common.{◌≡◌, ℕ, ◌+◌, ◌<◌, Bool, true, false, not, true≢false, ◌&&◌, cond, leb, List, [], ◌∷◌, ◌++◌, length, refl, sym, ap, arith, le-leb, leb-true}
+use Rattle.engine_core.specs.Filling.{Set, has_value, strikes_by_fillings}
 use Rattle.engine_core.specs.FillingLaws.{shown_from_test, test_from_shown}
-use Rattle.fields_core.specs.Count.{ones, counts_between, must_of, may_of, stays_in_count}
+use Rattle.fields_core.specs.Count.{counts_between, must_of, may_of}
 use Rattle.fields_core.proofs.CountBounds.{IsCounted, count_shown, count_bounds}
 
 -- the bounds of a list with one set in the middle

@@ -1,5 +1,5 @@
 -- Houses that count the ones of their cells.
-use Rattle.std.specs.Prelude.{◌≡◌, ℕ, zero, suc, ◌+◌, Bool, ◌&&◌, List, [], ◌∷◌, nat_le, if◌then◌else◌}
+use Rattle.std.specs.Prelude.{ℕ, zero, suc, ◌+◌, Bool, ◌&&◌, List, [], ◌∷◌, nat_le, if◌then◌else◌}
 use Rattle.engine_core.specs.Filling.{Set, has_value}
 use Rattle.engine_core.specs.Sets.{has_bit}
 

@@ -1,5 +1,5 @@
 -- Tables of count houses, and the rule sets that they make.
-use Rattle.std.specs.Prelude.{◌≡◌, ℕ, zero, suc, ◌+◌, ◌<◌, ◌≤◌, ◌^◌, Bool, true, false, not, ◌&&◌, ◌==◌, List, [], ◌∷◌, ◌++◌, length, map, slice_index, slice_index_or}
+use Rattle.std.specs.Prelude.{◌≡◌, ℕ, zero, suc, ◌+◌, ◌<◌, ◌≤◌, ◌^◌, Bool, true, false, not, ◌&&◌, ◌==◌, List, [], ◌++◌, length, map, slice_index, slice_index_or}
 use Rattle.grid_core.specs.Candidates.{Candidates, all_of}
 use Rattle.grid_core.specs.Grids.{IsGrid}
 use Rattle.engine_core.specs.Puzzle.{Puzzle, has_place}

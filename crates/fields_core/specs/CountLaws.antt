@@ -1,16 +1,16 @@
 -- A rule set of count houses is lawful, by the laws of fillings.
-use Rattle.std.proofs.Common.{◌≡◌, ℕ, zero, suc, ◌+◌, ◌-◌, ◌*◌, ◌<◌, ◌≤◌, Bool, true, false, not, ◌&&◌, eqb, List, [], ◌∷◌, length, slice_index, map, refl, sym, ap, ◌∙◌, arith, inl, inr, ◌⊎◌}
-use Rattle.std.proofs.lemmas.Bool.{cases_Bool, true≢false, and_parts, and_from, and_left, eqb-true, lt-ltb, ltb-true, not_from_false}
+use Rattle.std.proofs.Common.{◌≡◌, ℕ, ◌<◌, Bool, true, not, ◌&&◌, List, slice_index, refl, sym, ◌∙◌, arith, inl, inr}
+use Rattle.std.proofs.lemmas.Bool.{cases_Bool, true≢false, and_parts, and_from, lt-ltb, ltb-true}
 use Rattle.grid_core.specs.Candidates.{Candidates, IsInside, IsWithin, all_of, single}
 use Rattle.grid_core.specs.Grids.{IsGrid}
 use Rattle.grid_core.proofs.GridLemmas.{single-is}
-use Rattle.engine_core.specs.Puzzle.{Puzzle, IsLawful, after}
+use Rattle.engine_core.specs.Puzzle.{IsLawful, after}
 use Rattle.engine_core.specs.Places.{has_place-here}
 use Rattle.engine_core.specs.Filling.{strikes_by_fillings}
 use Rattle.engine_core.specs.House.{strikes_at, Decision}
 use Rattle.engine_core.specs.HouseLaws.{strikes_at-inside, strikes_at-in_scope, by_fillings-monotone, by_fillings-settled, by_fillings-closed}
 use Rattle.fields_core.specs.Count.{counts_between}
-use Rattle.fields_core.specs.CountHouse.{House, house_of, meets, strikes_of, after_house, IsHouse, AreHouses, start_of, count_puzzle, IsCounting}
+use Rattle.fields_core.specs.CountHouse.{House, house_of, meets, strikes_of, after_house, start_of, count_puzzle, IsCounting}
 
 pub after-house : (cells : ℕ) (blocked : ℕ → Bool) (houses : List House) (is_solution : List ℕ → Bool) (h : ℕ) (K : Candidates) → after (count_puzzle cells blocked houses is_solution) h K ≡ after_house (house_of houses h) K
 unfolding after after_house

@@ -1,7 +1,6 @@
 -- The rules of Light Up: which cells see each other, and which grids are solutions. The place of the cell in column x and
 -- row y is y * w + x; a grid has 1 at a bulb and 0 elsewhere.
-use Rattle.std.specs.Prelude.{◌≡◌, ℕ, suc, min, max, ◌+◌, ◌*◌, ◌/◌, ◌%◌, Bool, true, false, not, ◌&&◌, ◌||◌, ◌==◌, nat_lt, List, slice_index, slice_index_or, count_by}
-use Rattle.grid_core.specs.Extent.{Extent}
+use Rattle.std.specs.Prelude.{ℕ, suc, min, max, ◌+◌, ◌*◌, ◌/◌, ◌%◌, Bool, true, false, not, ◌&&◌, ◌||◌, ◌==◌, nat_lt, List, slice_index, slice_index_or, count_by}
 use Rattle.grid_core.specs.Regions.{beside}
 use Rattle.grid_core.specs.Candidates.{any_below, all_below}
 use Rattle.gameid_core.specs.Puzzles.{Light}

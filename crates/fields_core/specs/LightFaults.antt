@@ -1,5 +1,5 @@
 -- What is wrong with a grid of Light Up: the first rule that is broken, at the lowest place.
-use Rattle.std.specs.Prelude.{◌≡◌, ℕ, ◌<◌, Bool, true, false, List, Option, Some, None}
+use Rattle.std.specs.Prelude.{◌≡◌, ℕ, true, List, Option, Some, None}
 use Rattle.grid_core.specs.Candidates.{all_below}
 use Rattle.gameid_core.specs.Puzzles.{Light}
 use Rattle.fields_core.specs.Firsts.{IsFirst}

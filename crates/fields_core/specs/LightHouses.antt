@@ -1,5 +1,5 @@
 -- The count houses of Light Up.
-use Rattle.std.specs.Prelude.{◌≡◌, ℕ, ◌+◌, ◌-◌, ◌*◌, ◌/◌, ◌%◌, Bool, true, false, not, ◌&&◌, ◌||◌, ◌==◌, if◌then◌else◌, List, [], ◌∷◌, ◌++◌, filter, length, slice_index_or}
+use Rattle.std.specs.Prelude.{ℕ, ◌-◌, ◌/◌, ◌%◌, Bool, not, ◌&&◌, ◌||◌, ◌==◌, if◌then◌else◌, List, [], ◌∷◌, ◌++◌, filter, length, slice_index_or}
 use Rattle.grid_core.specs.Regions.{beside, row_places, column_places}
 use Rattle.engine_core.specs.Puzzle.{Puzzle}
 use Rattle.gameid_core.specs.Puzzles.{Light}

@@ -44,12 +44,7 @@ impl CountScratch {
 
 /// Strikes what the house strikes, and says whether that was anything. The two slices are at least as long as the
 /// house.
-fn visit_house(
-    house: &CountHouse,
-    board: &mut Board,
-    sets: &mut [u32],
-    kept: &mut [u32],
-) -> bool
+fn visit_house(house: &CountHouse, board: &mut Board, sets: &mut [u32], kept: &mut [u32]) -> bool
     requires house { IsHouse (cells_of board.old) house.now }
     requires values { board.old.values ≡ 2 }
     requires sets_room { length house.now.places ≤ length sets.old }
@@ -65,6 +60,18 @@ fn visit_house(
     gather(board, places, 2, sets);
     keep(sets, house.least(), house.most(), kept);
     apply(board, places, 2, kept)
+}
+
+/// Whether the place is one of those listed.
+fn is_listed(places: &[usize], place: usize) -> bool
+    ensures { result ≡ has_place places.now place }
+{
+    for k in 0..places.len() {
+        if places[k] == place {
+            return true;
+        }
+    }
+    false
 }
 
 /// The count houses of a board of `cells` cells.
@@ -124,6 +131,28 @@ impl CountTable {
     {
         let house = &self.houses[house];
         house.places()[k]
+    }
+
+    /// The least house at or after `from` that has the place.
+    pub(crate) fn house_at(&self, place: usize, from: usize) -> Option<usize>
+        requires { place < self.now.cells }
+        ensures { IsNext (λ h. has_place (house_of self.now.houses h).places place) (length self.now.houses) from result }
+    {
+        for house in from..self.len() {
+            if self.has_cell(house, place) {
+                return Some(house);
+            }
+        }
+        None
+    }
+
+    /// Whether the house has the place.
+    fn has_cell(&self, house: usize, place: usize) -> bool
+        requires { house < length self.now.houses }
+        ensures { result ≡ has_place (house_of self.now.houses house).places place }
+    {
+        let house = &self.houses[house];
+        is_listed(house.places(), place)
     }
 
     /// The cells of the longest house.

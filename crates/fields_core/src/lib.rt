@@ -8,7 +8,9 @@ mod light_cells;
 mod light_check;
 mod light_fault;
 mod light_houses;
+mod light_rules;
 mod light_sight;
 
 pub use light_check::check_lights;
 pub use light_fault::LightFault;
+pub use light_rules::LightRules;

@@ -51,11 +51,7 @@ fn run_in_column(
 }
 
 /// The white cells beside the cell.
-fn white_beside(
-    alloc: Global,
-    puzzle: &LightPuzzle,
-    place: usize,
-) -> Result<Vec<usize>, AllocError>
+fn white_beside(alloc: Global, puzzle: &LightPuzzle, place: usize) -> Result<Vec<usize>, AllocError>
     requires { place < cells_of puzzle.now }
     ensures { IfOk result (λ places. places.items ≡ filter (white puzzle.now) (beside_places puzzle.now.size place)) }
 {

@@ -1,9 +1,10 @@
 //! The puzzles of Tents.
 
-ghost use Rattle.std.specs.Prelude.{◌≡◌, ◌<◌, ◌≤◌, ◌*◌, IsTrue, length, slice_index, slice_index_or, ◌↔◌};
+ghost use Rattle.std.specs.Prelude.{◌≡◌, ◌<◌, ◌≤◌, ◌*◌, IsTrue, length, slice_index, slice_index_or, ◌↔◌, IfOk};
 ghost use Rattle.gameid_core.specs.Puzzles.{Tents, IsTents, lines_of};
 
 use grid_core::Size;
+use std::alloc::{AllocError, Global};
 use std::marker::Model;
 
 /// The trees of a grid of at least 2 columns and 2 rows, and the number of tents of each column and row, which is at
@@ -37,6 +38,19 @@ impl TentsPuzzle {
             trees,
             counts,
         }
+    }
+
+    /// A copy of the puzzle.
+    pub fn copy(&self, alloc: Global) -> Result<TentsPuzzle, AllocError>
+        ensures { IfOk result (λ p. p ≡ self.now) }
+    {
+        let trees = self.trees.to_vec(alloc)?;
+        let counts = self.counts.to_vec(alloc)?;
+        Ok(TentsPuzzle {
+            size: self.size,
+            trees,
+            counts,
+        })
     }
 
     /// The size of the grid.

@@ -1,4 +1,4 @@
-use Rattle.std.proofs.Common.{◌≡◌, ℕ, ap, length, arith}
+use Rattle.std.proofs.Common.{ap, length, arith}
 use Rattle.std.proofs.lemmas.List.{length-take}
 use Rattle.fields_core.proofs.CountVisit.{places-in, visited-house}
 use Rattle.fields_core.proofs.count_table.visit_house.Goals as goal

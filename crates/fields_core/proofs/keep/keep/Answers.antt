@@ -1,4 +1,4 @@
-use Rattle.std.proofs.Common.{◌≡◌, ℕ, ◌<◌, sym, ◌∙◌, ap, subst, arith, get_or, not, ◌&&◌, map}
+use Rattle.std.proofs.Common.{sym, ◌∙◌, arith}
 use Rattle.fields_core.proofs.KeptCount.{kept_none, kept_some, kept_step, both_values}
 use Rattle.fields_core.proofs.keep.keep.Goals as goal
 use Rattle.fields_core.proofs.keep.keep.Goals.{then-empty-eq0, else-empty-eq0}

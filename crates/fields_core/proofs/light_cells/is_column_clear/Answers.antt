@@ -1,5 +1,4 @@
-use Rattle.std.proofs.Common.{◌≡◌, ◌+◌, ◌*◌, ◌∙◌, arith}
-use Rattle.fields_core.specs.Light.{white}
+use Rattle.std.proofs.Common.{◌∙◌, arith}
 use Rattle.fields_core.proofs.LightLines.{clear-start, clear-step, clear-stop, clear-all, column-white}
 use Rattle.fields_core.proofs.light_cells.is_column_clear.Goals as goal
 

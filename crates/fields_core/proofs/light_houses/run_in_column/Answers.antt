@@ -1,4 +1,4 @@
-use Rattle.std.proofs.Common.{◌/◌, ◌%◌, sym, ◌∙◌, arith}
+use Rattle.std.proofs.Common.{◌%◌, sym, ◌∙◌, arith}
 use Rattle.grid_core.specs.Regions.{column_places}
 use Rattle.fields_core.specs.Light.{joined_in_column}
 use Rattle.fields_core.specs.LightHouses.{column_run}

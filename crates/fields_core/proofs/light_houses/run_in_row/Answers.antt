@@ -1,4 +1,4 @@
-use Rattle.std.proofs.Common.{◌/◌, ◌%◌, sym, ◌∙◌, arith}
+use Rattle.std.proofs.Common.{◌/◌, sym, ◌∙◌, arith}
 use Rattle.grid_core.specs.Regions.{row_places}
 use Rattle.fields_core.specs.Light.{joined_in_row}
 use Rattle.fields_core.specs.LightHouses.{row_run}

@@ -1,4 +1,4 @@
-use Rattle.std.proofs.Common.{◌≡◌, ◌++◌, not, eqb, ◌∙◌, ap, arith}
+use Rattle.std.proofs.Common.{◌++◌, not, eqb, ◌∙◌, ap, arith}
 use Rattle.std.specs.List.{filter}
 use Rattle.std.proofs.lemmas.List.{take_all}
 use Rattle.fields_core.specs.LightHouses.{row_run, seen_from}
