@@ -14,3 +14,6 @@ mod light_sight;
 pub use light_check::check_lights;
 pub use light_fault::LightFault;
 pub use light_rules::LightRules;
+
+#[cfg(test)]
+mod tests;
