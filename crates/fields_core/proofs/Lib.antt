@@ -11,3 +11,4 @@ pub mod LightHouseLaws
 pub mod StepLaws
 pub mod LightCounting
 pub mod RuleLemmas
+pub mod TentLines

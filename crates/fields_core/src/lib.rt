@@ -10,10 +10,14 @@ mod light_fault;
 mod light_houses;
 mod light_rules;
 mod light_sight;
+mod tent_cells;
+mod tent_check;
+mod tent_fault;
 
 pub use light_check::check_lights;
 pub use light_fault::LightFault;
 pub use light_rules::LightRules;
+pub use tent_fault::TentFault;
 
 #[cfg(test)]
 mod tests;
