@@ -12,3 +12,4 @@ pub mod StepLaws
 pub mod LightCounting
 pub mod RuleLemmas
 pub mod TentLines
+pub mod TentHouseLists

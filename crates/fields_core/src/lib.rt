@@ -13,6 +13,7 @@ mod light_sight;
 mod tent_cells;
 mod tent_check;
 mod tent_fault;
+mod tent_houses;
 
 pub use light_check::check_lights;
 pub use light_fault::LightFault;

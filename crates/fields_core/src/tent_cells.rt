@@ -86,7 +86,7 @@ fn are_close(a: usize, b: usize) -> bool
 }
 
 /// The row of a cell.
-fn row_of(puzzle: &TentsPuzzle, place: usize) -> usize
+pub(crate) fn row_of(puzzle: &TentsPuzzle, place: usize) -> usize
     requires { place < cells_of puzzle.now }
     ensures row { result ≡ place / puzzle.now.size.w }
     ensures small { result < 2 ^ 32 }
@@ -96,7 +96,7 @@ fn row_of(puzzle: &TentsPuzzle, place: usize) -> usize
 }
 
 /// The column of a cell.
-fn column_of(puzzle: &TentsPuzzle, place: usize) -> usize
+pub(crate) fn column_of(puzzle: &TentsPuzzle, place: usize) -> usize
     requires { place < cells_of puzzle.now }
     ensures column { result ≡ place % puzzle.now.size.w }
     ensures small { result < 2 ^ 32 }
