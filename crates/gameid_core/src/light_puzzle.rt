@@ -45,6 +45,17 @@ impl LightPuzzle {
         Ok(LightPuzzle { size, cells })
     }
 
+    /// A copy of the puzzle.
+    pub fn copy(&self, alloc: Global) -> Result<LightPuzzle, AllocError>
+        ensures { IfOk result (λ p. p ≡ self.now) }
+    {
+        let cells = self.cells.to_vec(alloc)?;
+        Ok(LightPuzzle {
+            size: self.size,
+            cells,
+        })
+    }
+
     /// The size of the grid.
     pub fn size(&self) -> Size
         ensures value { result ≡ self.now.size }

@@ -71,6 +71,19 @@ impl TentsPuzzle {
         })
     }
 
+    /// A copy of the puzzle.
+    pub fn copy(&self, alloc: Global) -> Result<TentsPuzzle, AllocError>
+        ensures { IfOk result (λ p. p ≡ self.now) }
+    {
+        let trees = self.trees.to_vec(alloc)?;
+        let counts = self.counts.to_vec(alloc)?;
+        Ok(TentsPuzzle {
+            size: self.size,
+            trees,
+            counts,
+        })
+    }
+
     /// The size of the grid.
     pub fn size(&self) -> Size
         ensures value { result ≡ self.now.size }

@@ -1,0 +1,15 @@
+pub mod CountBounds
+pub mod StaysLaws
+pub mod KeptCount
+pub mod CountVisit
+pub mod LightLines
+pub mod HouseLists
+pub mod LightSight
+pub mod LightFaultLemmas
+pub mod PlaceLists
+pub mod LightHouseLaws
+pub mod StepLaws
+pub mod LightCounting
+pub mod RuleLemmas
+pub mod TentLines
+pub mod TentHouseLists

@@ -1,0 +1,295 @@
+-- The count houses of Light Up keep to what every rule set of count houses keeps to.
+use Rattle.std.proofs.Common.{◌≡◌, ℕ, zero, suc, ◌+◌, ◌*◌, ◌/◌, ◌%◌, ◌^◌, ◌<◌, ◌≤◌, Bool, true, false, not, ◌&&◌, ◌||◌, eqb, List, [], ◌∷◌, ◌++◌, length, get_or, slice_index, map, refl, sym, ap, ◌∙◌, inl, inr, arith, le-leb}
+use Rattle.std.specs.List.{filter, AllByRecursion}
+use Rattle.std.proofs.lemmas.Bool.{cases_eq, cases_lt, or_left, or_right, or_cases, and_from, and_parts, true≢false, eqb-true, eq-eqb, ne_eqb, not-true}
+use Rattle.std.proofs.lemmas.List.{get_or_past, length-append}
+use Rattle.std.proofs.lemmas.List.Sums.{count_by-le-length, length-filter}
+use Rattle.std.proofs.Math.Nat.{mul-le-mul_right}
+use Rattle.grid_core.specs.Grids.{IsGrid}
+use Rattle.grid_core.specs.Regions.{row_places, column_places, steps}
+use Rattle.grid_core.proofs.CandidateLemmas.{all_below-at, any_below-here, any_below-some}
+use Rattle.engine_core.specs.Puzzle.{has_place}
+use Rattle.engine_core.specs.Places.{has_place-here}
+use Rattle.gameid_core.specs.Puzzles.{Light, IsLight, IsLightCell}
+use Rattle.gameid_core.specs.declared.light_cell.LightCell.{LightCell}
+use Rattle.gameid_core.specs.declared.light_cell.LightCell.TheVariants.{White, Black, Numbered}
+use Rattle.fields_core.specs.Count.{ones, counts_between}
+use Rattle.fields_core.specs.CountHouse.{House, meets, IsHouse, IsCounting}
+use Rattle.fields_core.specs.Light.{cells_of, white, bulb, joined_in_row, joined_in_column, sees, sees_bulb, bulbs_beside, black_right, number_right, bulb_right, lit_right, is_lit}
+use Rattle.fields_core.specs.LightHouses.{row_run, column_run, seen_from, begins_row_run, begins_column_run, numbered, number_house, row_house, column_house, lit_house, light_houses}
+use Rattle.fields_core.proofs.LightFaultLemmas.{lit-parts}
+use Rattle.fields_core.proofs.LightSight.{bulb-in, row-of, column-of}
+use Rattle.fields_core.proofs.HouseLists.{row-long, column-long}
+use Rattle.fields_core.proofs.PlaceLists.{place-filter, place-kept, place-append, place-front, place-back, AreDistinct, different-from, distinct-filter, distinct-append, count-some, count-one, count-filter, ones-bulbs}
+use Rattle.fields_core.proofs.StepLaws.{steps-distinct, steps-few}
+use Rattle.fields_core.proofs.LightHouseLaws.{EachOf, each-none, each-one, each-append, each-below, each-if, row-both, column-both, row-white-end, column-white-end, row-self, white-in, row-distinct, column-distinct, row-parts, column-parts}
+
+-- a house of the board that each solution meets
+pub record IsMet (p : Light) (house : House) : Type 0 where
+  pub is_house : IsHouse (cells_of p) house
+  pub met : (g : List ℕ) → IsGrid (cells_of p) 2 g → is_lit p g ≡ true → meets house g ≡ true
+
+-- what is used of a puzzle
+pub record IsBoard (p : Light) : Type 0 where
+  pub some : 0 < p.size.w
+  pub w_few : p.size.w ≤ 256
+  pub h_few : p.size.h ≤ 256
+  pub long : length p.cells ≡ cells_of p
+  pub number : (c n : ℕ) → get_or p.cells c Black ≡ Numbered n → n ≤ 4
+
+small-at : (cells : ℕ) (g : List ℕ) → IsGrid cells 2 g → (c : ℕ) → slice_index g c < 2
+small-at cells g grid c = elim (cases_lt c (length g)) [
+  | inl low ↦ grid.each_value c 0 low
+  | inr high ↦ let z = get_or_past g c 0 high in omega arith
+]
+
+between-from : (least most : ℕ) (f : List ℕ) → least ≤ ones f → ones f ≤ most → counts_between least most f ≡ true
+between-from least most f low high = and_from _ _ (le-leb least (ones f) low) (le-leb (ones f) most high)
+
+filter-few : (test : ℕ → Bool) (xs : List ℕ) → length (filter test xs) ≤ length xs
+filter-few test xs = let a = length-filter test xs in let b = count_by-le-length test xs in omega arith
+
+-- bulbs stand on white cells
+bulb-white : (p : Light) (g : List ℕ) → IsGrid (cells_of p) 2 g → is_lit p g ≡ true → (d : ℕ) → bulb g d ≡ true → white p d ≡ true
+unfolding black_right
+bulb-white p g grid good d on =
+    elim (or_cases (white p d) (eqb (slice_index g d) 0) (all_below-at (black_right p g) (cells_of p) d (lit-parts p g good).black (bulb-in g (cells_of p) d grid.each_cell on))) [
+      | inl is ↦ is
+      | inr none ↦ let a = eqb-true (slice_index g d) 0 none in let b = eqb-true (slice_index g d) 1 on in absurd (omega arith)
+    ]
+
+-- no bulb sees another
+no-sight : (p : Light) (g : List ℕ) → IsGrid (cells_of p) 2 g → is_lit p g ≡ true → (d e : ℕ) → bulb g d ≡ true → bulb g e ≡ true
+    → (joined_in_row p d e || joined_in_column p d e) ≡ true → d ≡ e
+unfolding bulb_right sees_bulb sees
+no-sight p g grid good d e bd be joined = elim (cases_eq d e) [
+  | inl same ↦ same
+  | inr other ↦
+      let seen = any_below-here (λ f. not (eqb d f) && (joined_in_row p d f || joined_in_column p d f) && eqb (slice_index g f) 1) (cells_of p) e (bulb-in g (cells_of p) e grid.each_cell be)
+      (and_from _ _ (and_from _ _ (ap not (ne_eqb d e other)) joined) be) in
+      let right = all_below-at (bulb_right p g) (cells_of p) d (lit-parts p g good).seen (bulb-in g (cells_of p) d grid.each_cell bd) in
+      absurd (true≢false (sym (and_from _ _ bd seen) ∙ not-true _ right))
+]
+
+-- ---- the houses of numbers
+number-kind : (p : Light) (c : ℕ) → IsBoard p → c < cells_of p → EachOf (IsMet p) (number_house p c)
+unfolding number_right meets
+number-kind p c board lt = by (get_or p.cells c Black) refl
+  where
+    places : List ℕ
+    places = filter (white p) (steps p.size c 4)
+
+    by : (cell : LightCell) → get_or p.cells c Black ≡ cell → EachOf (IsMet p) (numbered cell (filter (white p) (steps p.size c 4)))
+    by White e = each-none (IsMet p)
+    by Black e = each-none (IsMet p)
+    by (Numbered n) e = each-one (IsMet p) (record { places = filter (white p) (steps p.size c 4); least = n; most = n }) (record {
+      is_house = record {
+        within = λ d on. white-in p d board.long (place-filter (white p) (steps p.size c 4) d on).1;
+        different = different-from (filter (white p) (steps p.size c 4)) (distinct-filter (white p) (steps p.size c 4) (steps-distinct p.size c 4 board.some (omega arith)));
+        few_places = let a = filter-few (white p) (steps p.size c 4) in let b = steps-few p.size c 4 in omega arith;
+        least_small = let f = board.number c n e in omega arith;
+        most_small = let f = board.number c n e in omega arith;
+      };
+      met = λ g grid good. meet g grid good;
+    })
+      where
+        right : (g : List ℕ) → IsGrid (cells_of p) 2 g → is_lit p g ≡ true → bulbs_beside p g c ≡ n
+        right g grid good = eqb-true (bulbs_beside p g c) n (rw e at (all_below-at (number_right p g) (cells_of p) c (lit-parts p g good).number lt))
+
+        meet : (g : List ℕ) → IsGrid (cells_of p) 2 g → is_lit p g ≡ true → meets (record { places = filter (white p) (steps p.size c 4); least = n; most = n }) g ≡ true
+        meet g grid good =
+            let a = ones-bulbs g (filter (white p) (steps p.size c 4)) (small-at (cells_of p) g grid) in
+            let b = count-filter (bulb g) (white p) (steps p.size c 4) (bulb-white p g grid good) in
+            let f = right g grid good in
+            between-from n n (map (slice_index g) (filter (white p) (steps p.size c 4))) (omega arith) (omega arith)
+
+-- ---- the houses of runs
+row-kind : (p : Light) (c : ℕ) → IsBoard p → IsMet p (record { places = row_run p c; least = 0; most = 1 })
+unfolding row_run meets
+row-kind p c board = record {
+  is_house = record {
+    within = λ d on. white-in p d board.long (row-white-end p c d board.some (place-filter (joined_in_row p c) (row_places p.size (c / p.size.w)) d on).1);
+    different = different-from (filter (joined_in_row p c) (row_places p.size (c / p.size.w))) distinct;
+    few_places = let a = filter-few (joined_in_row p c) (row_places p.size (c / p.size.w)) in let b = row-long p.size (c / p.size.w) in let w = board.w_few in omega arith;
+    least_small = omega arith;
+    most_small = omega arith;
+  };
+  met = λ g grid good.
+      let run = filter (joined_in_row p c) (row_places p.size (c / p.size.w)) in
+      let a = ones-bulbs g run (small-at (cells_of p) g grid) in
+      let one = count-one (bulb g) run distinct (λ d e md me bd be. no-sight p g grid good d e bd be
+      (or_left _ _ (row-both p c d e (place-filter (joined_in_row p c) (row_places p.size (c / p.size.w)) d md).1 (place-filter (joined_in_row p c) (row_places p.size (c / p.size.w)) e me).1))) in
+      between-from 0 1 (map (slice_index g) run) (omega arith) (omega arith);
+}
+  where
+    distinct : AreDistinct (filter (joined_in_row p c) (row_places p.size (c / p.size.w)))
+    distinct = distinct-filter (joined_in_row p c) (row_places p.size (c / p.size.w)) (row-distinct p.size (c / p.size.w))
+
+column-kind : (p : Light) (c : ℕ) → IsBoard p → IsMet p (record { places = column_run p c; least = 0; most = 1 })
+unfolding column_run meets
+column-kind p c board = record {
+  is_house = record {
+    within = λ d on. white-in p d board.long (column-white-end p c d board.some (place-filter (joined_in_column p c) (column_places p.size (c % p.size.w)) d on).1);
+    different = different-from (filter (joined_in_column p c) (column_places p.size (c % p.size.w))) distinct;
+    few_places = let a = filter-few (joined_in_column p c) (column_places p.size (c % p.size.w)) in let b = column-long p.size (c % p.size.w) in let w = board.h_few in omega arith;
+    least_small = omega arith;
+    most_small = omega arith;
+  };
+  met = λ g grid good.
+      let run = filter (joined_in_column p c) (column_places p.size (c % p.size.w)) in
+      let a = ones-bulbs g run (small-at (cells_of p) g grid) in
+      let one = count-one (bulb g) run distinct (λ d e md me bd be. no-sight p g grid good d e bd be
+      (or_right _ _ (column-both p c d e (place-filter (joined_in_column p c) (column_places p.size (c % p.size.w)) d md).1 (place-filter (joined_in_column p c) (column_places p.size (c % p.size.w)) e me).1))) in
+      between-from 0 1 (map (slice_index g) run) (omega arith) (omega arith);
+}
+  where
+    distinct : AreDistinct (filter (joined_in_column p c) (column_places p.size (c % p.size.w)))
+    distinct = distinct-filter (joined_in_column p c) (column_places p.size (c % p.size.w)) (column-distinct p.size (c % p.size.w) board.some)
+
+-- ---- the houses of white cells
+in-row-run : (p : Light) (c d : ℕ) → 0 < p.size.w → joined_in_row p c d ≡ true → has_place (row_run p c) d ≡ true
+unfolding row_run
+in-row-run p c d pos on =
+    let w = row-of p c d pos on in
+    place-kept (joined_in_row p c) (row_places p.size (c / p.size.w)) d (rw w.2 at (has_place-here (row_places p.size (c / p.size.w)) w.0 (omega (arith, w.1, row-long p.size (c / p.size.w))))) on
+
+in-column-run : (p : Light) (c d : ℕ) → 0 < p.size.w → d < cells_of p → joined_in_column p c d ≡ true → has_place (column_run p c) d ≡ true
+unfolding column_run
+in-column-run p c d pos lt on =
+    let w = column-of p c d pos lt on in
+    place-kept (joined_in_column p c) (column_places p.size (c % p.size.w)) d (rw w.2 at (has_place-here (column_places p.size (c % p.size.w)) w.0 (omega (arith, w.1, column-long p.size (c % p.size.w))))) on
+
+row-run-joined : (p : Light) (c d : ℕ) → has_place (row_run p c) d ≡ true → joined_in_row p c d ≡ true
+unfolding row_run
+row-run-joined p c d on = (place-filter (joined_in_row p c) (row_places p.size (c / p.size.w)) d on).1
+
+column-run-joined : (p : Light) (c d : ℕ) → has_place (column_run p c) d ≡ true → joined_in_column p c d ≡ true
+unfolding column_run
+column-run-joined p c d on = (place-filter (joined_in_column p c) (column_places p.size (c % p.size.w)) d on).1
+
+row-run-few : (p : Light) (c : ℕ) → IsBoard p → length (row_run p c) ≤ 256
+unfolding row_run
+row-run-few p c board = let a = filter-few (joined_in_row p c) (row_places p.size (c / p.size.w)) in let b = row-long p.size (c / p.size.w) in let w = board.w_few in omega arith
+
+column-run-few : (p : Light) (c : ℕ) → IsBoard p → length (column_run p c) ≤ 256
+unfolding column_run
+column-run-few p c board = let a = filter-few (joined_in_column p c) (column_places p.size (c % p.size.w)) in let b = column-long p.size (c % p.size.w) in let w = board.h_few in omega arith
+
+row-run-distinct : (p : Light) (c : ℕ) → AreDistinct (row_run p c)
+unfolding row_run
+row-run-distinct p c = distinct-filter (joined_in_row p c) (row_places p.size (c / p.size.w)) (row-distinct p.size (c / p.size.w))
+
+column-run-distinct : (p : Light) (c : ℕ) → IsBoard p → AreDistinct (column_run p c)
+unfolding column_run
+column-run-distinct p c board = distinct-filter (joined_in_column p c) (column_places p.size (c % p.size.w)) (column-distinct p.size (c % p.size.w) board.some)
+
+lit-kind : (p : Light) (c : ℕ) → IsBoard p → c < cells_of p → white p c ≡ true → IsMet p (record { places = seen_from p c; least = 1; most = length (seen_from p c) })
+unfolding seen_from meets lit_right sees_bulb sees
+lit-kind p c board lt on = record {
+  is_house = record {
+    within = λ d m. elim (place-append (row_run p c) others d m) [
+      | inl a ↦ (row-kind p c board).is_house.within d a
+      | inr b ↦ (column-kind p c board).is_house.within d (place-filter (λ d. not (eqb d c)) (column_run p c) d b).0
+    ];
+    different = different-from (row_run p c ++ filter (λ d. not (eqb d c)) (column_run p c)) distinct;
+    few_places = few;
+    least_small = omega arith;
+    most_small = few;
+  };
+  met = λ g grid good.
+      let all = row_run p c ++ filter (λ d. not (eqb d c)) (column_run p c) in
+      let a = ones-bulbs g all (small-at (cells_of p) g grid) in
+      let b = count_by-le-length (bulb g) all in
+      let s = some-bulb g grid good in
+      let k = count-some (bulb g) all s.0 s.1 s.2 in
+      between-from 1 (length all) (map (slice_index g) all) (omega arith) (omega arith);
+}
+  where
+    others : List ℕ
+    others = filter (λ d. not (eqb d c)) (column_run p c)
+
+    few : length (row_run p c ++ filter (λ d. not (eqb d c)) (column_run p c)) < 2 ^ 32
+    few =
+        let a = length-append (row_run p c) (filter (λ d. not (eqb d c)) (column_run p c)) in
+        let b = row-run-few p c board in
+        let f = column-run-few p c board in
+        let h = filter-few (λ d. not (eqb d c)) (column_run p c) in
+        omega arith
+
+    -- a cell of the row and of the column is the cell itself
+    apart : (d : ℕ) → has_place (row_run p c) d ≡ true → has_place (filter (λ d. not (eqb d c)) (column_run p c)) d ≡ true → ⊥
+    apart d a b =
+        let v = place-filter (λ d. not (eqb d c)) (column_run p c) d b in
+        let r = row-parts p c d (row-run-joined p c d a) in
+        let q = column-parts p c d (column-run-joined p c d v.0) in
+        let e : d ≡ c = same-cell p.size.w (sym r.0) (sym q.0) in
+        true≢false (sym (eq-eqb d c e) ∙ not-true (eqb d c) v.1)
+      where
+        same-cell : (w : ℕ) → d / w ≡ c / w → d % w ≡ c % w → d ≡ c
+        same-cell w x y = let f : d ≡ d / w * w + d % w = omega arith in let h : c ≡ c / w * w + c % w = omega arith in f ∙ rw (x, y) (sym h)
+
+    distinct : AreDistinct (row_run p c ++ filter (λ d. not (eqb d c)) (column_run p c))
+    distinct = distinct-append (row_run p c) (filter (λ d. not (eqb d c)) (column_run p c)) (row-run-distinct p c) (distinct-filter (λ d. not (eqb d c)) (column_run p c) (column-run-distinct p c board)) apart
+
+    some-bulb : (g : List ℕ) → IsGrid (cells_of p) 2 g → is_lit p g ≡ true → (d : ℕ) × (has_place (row_run p c ++ filter (λ d. not (eqb d c)) (column_run p c)) d ≡ true) × (bulb g d ≡ true)
+    some-bulb g grid good = elim (or_cases (not (white p c)) _ (all_below-at (lit_right p g) (cells_of p) c (lit-parts p g good).lit lt)) [
+      | inl black ↦ absurd (true≢false (sym on ∙ not-true (white p c) black))
+      | inr lit ↦ elim (or_cases (bulb g c) _ lit) [
+        | inl own ↦ (c, place-front (row_run p c) (filter (λ d. not (eqb d c)) (column_run p c)) c (in-row-run p c c board.some (row-self p c on)), own)
+        | inr seen ↦
+            let w = any_below-some (λ e. not (eqb c e) && (joined_in_row p c e || joined_in_column p c e) && eqb (slice_index g e) 1) (cells_of p) seen in
+            let both = and_parts (not (eqb c w.0) && (joined_in_row p c w.0 || joined_in_column p c w.0)) _ w.2 in
+            let parts = and_parts (not (eqb c w.0)) _ both.0 in (
+              w.0,
+              elim (or_cases (joined_in_row p c w.0) (joined_in_column p c w.0) parts.1) [
+                | inl row ↦ place-front (row_run p c) (filter (λ d. not (eqb d c)) (column_run p c)) w.0 (in-row-run p c w.0 board.some row)
+                | inr column ↦ place-back (row_run p c) (filter (λ d. not (eqb d c)) (column_run p c)) w.0
+                    (place-kept (λ d. not (eqb d c)) (column_run p c) w.0 (in-column-run p c w.0 board.some w.1 column)
+                    (ap not (ne_eqb w.0 c (λ e. true≢false (sym (eq-eqb c w.0 (sym e)) ∙ not-true (eqb c w.0) parts.0)))))
+              ],
+              both.1,
+            )
+      ]
+    ]
+
+each-met : (p : Light) → IsBoard p → EachOf (IsMet p) (light_houses p)
+unfolding light_houses
+each-met p board = each-append (IsMet p) _ _ (each-below (IsMet p) (number_house p) (cells_of p) (λ c lt. number-kind p c board lt))
+    (each-append (IsMet p) _ _ (each-below (IsMet p) (row_house p) (cells_of p) (λ c lt. each-if (IsMet p) (begins_row_run p c) _ (λ _. row-kind p c board)))
+    (each-append (IsMet p) _ _ (each-below (IsMet p) (column_house p) (cells_of p) (λ c lt. each-if (IsMet p) (begins_column_run p c) _ (λ _. column-kind p c board)))
+    (each-below (IsMet p) (lit_house p) (cells_of p) (λ c lt. each-if (IsMet p) (white p c) _ (λ on. lit-kind p c board lt on)))))
+
+-- ---- a puzzle's board
+number-few : (cells : List LightCell) (c n : ℕ) → AllByRecursion IsLightCell cells → get_or cells c Black ≡ Numbered n → n ≤ 4
+number-few [] c n all e = absurd (black-not e)
+  where
+    black-not : Black ≡ Numbered n → ⊥
+    black-not e = true≢false (ap is_black e)
+      where
+        is_black : LightCell → Bool
+        is_black White = false
+        is_black Black = true
+        is_black (Numbered m) = false
+number-few (cell ∷ cells) zero n all e = rw e at all.0
+number-few (cell ∷ cells) (suc c) n all e = number-few cells c n all.1 e
+
+pub light-board : (p : Light) → IsLight p → IsBoard p
+light-board p is = record {
+  some = let s = is.size.w_two in omega arith;
+  w_few = let s = is.size.extent.w_high in omega arith;
+  h_few = let s = is.size.extent.h_high in omega arith;
+  long = is.count;
+  number = λ c n e. number-few p.cells c n is.each e;
+}
+
+pub light-counting : (p : Light) → IsLight p → IsCounting (cells_of p) (λ c. not (white p c)) (light_houses p) (is_lit p)
+unfolding black_right
+light-counting p is = record {
+  few_cells = let b = light-board p is in let a : p.size.w * p.size.h ≤ 256 * p.size.h = mul-le-mul_right p.size.h b.w_few in let h = b.h_few in omega arith;
+  are_houses = λ h lt. (each-met p (light-board p is) h lt).is_house;
+  blocked_zero = λ g grid good c lt blocked. elim (or_cases (white p c) (eqb (slice_index g c) 0) (all_below-at (black_right p g) (cells_of p) c (lit-parts p g good).black lt)) [
+    | inl on ↦ absurd (true≢false (sym on ∙ not-true (white p c) blocked))
+    | inr none ↦ eqb-true (slice_index g c) 0 none
+  ];
+  meets_each = λ g grid good h lt. (each-met p (light-board p is) h lt).met g grid good;
+}

@@ -1,0 +1,143 @@
+-- The houses of Light Up are houses, and each solution meets them.
+use Rattle.std.proofs.Common.{◌≡◌, ℕ, zero, suc, ◌+◌, ◌*◌, ◌/◌, ◌%◌, ◌<◌, ◌≤◌, min, max, Bool, true, false, ◌||◌, eqb, ltb, cond, List, [], ◌∷◌, ◌++◌, length, refl, sym, ap, ◌∙◌, inl, inr, arith}
+use Rattle.std.proofs.lemmas.Bool.{cases_lt, or_left, or_right, or_cases, and_from, and_parts, true≢false, eqb-true, eq-eqb, lt-ltb, ltb-true}
+use Rattle.std.proofs.lemmas.List.{get_or_past}
+use Rattle.std.proofs.Math.Nat.{mul-le-mul_right}
+use Rattle.grid_core.specs.Extent.{Extent}
+use Rattle.grid_core.specs.Regions.{row_places, column_places}
+use Rattle.grid_core.proofs.RegionLemmas.{row-at, column-at}
+use Rattle.grid_core.proofs.CandidateLemmas.{all_below-at, all_below-from}
+use Rattle.gameid_core.specs.Puzzles.{Light}
+use Rattle.gameid_core.specs.declared.light_cell.LightCell.TheVariants.{Black}
+use Rattle.fields_core.specs.CountHouse.{House, house_of, houses_below}
+use Rattle.fields_core.specs.Light.{cells_of, is_white, white, clear, joined_in_row, joined_in_column}
+use Rattle.fields_core.proofs.HouseLists.{row-long, column-long}
+use Rattle.fields_core.proofs.PlaceLists.{AreDistinct, distinct-from}
+
+-- ---- what holds of each house of a list
+abbrev pub EachOf : (House → Type 0) → List House → Type 0
+EachOf P houses = (h : ℕ) → h < length houses → P (house_of houses h)
+
+pub each-none : (P : House → Type 0) → EachOf P []
+each-none P h lt = absurd (omega arith)
+
+pub each-one : (P : House → Type 0) (house : House) → P house → EachOf P (house ∷ [])
+each-one P house is zero lt = is
+each-one P house is (suc h) lt = absurd (omega arith)
+
+pub each-append : (P : House → Type 0) (xs ys : List House) → EachOf P xs → EachOf P ys → EachOf P (xs ++ ys)
+each-append P [] ys ex ey h lt = ey h lt
+each-append P (x ∷ xs) ys ex ey zero lt = ex 0 (omega arith)
+each-append P (x ∷ xs) ys ex ey (suc h) lt = each-append P xs ys (λ k l. ex (suc k) (omega arith)) ey h (omega arith)
+
+pub each-below : (P : House → Type 0) (f : ℕ → List House) (n : ℕ) → ((c : ℕ) → c < n → EachOf P (f c)) → EachOf P (houses_below f n)
+unfolding houses_below
+each-below P f zero each = each-none P
+each-below P f (suc n) each = each-append P (houses_below f n) (f n) (each-below P f n (λ c lt. each c (omega arith))) (each n (omega arith))
+
+pub each-if : (P : House → Type 0) (b : Bool) (house : House) → (b ≡ true → P house) → EachOf P (cond b (house ∷ []) [])
+each-if P true house is = each-one P house (is refl)
+each-if P false house is = each-none P
+
+-- ---- white cells and lines
+pub clear-at : (test : ℕ → Bool) (j k i : ℕ) → clear test j k ≡ true → min j k ≤ i → i ≤ max j k → test i ≡ true
+unfolding clear
+clear-at test j k i on low high = elim (or_cases (ltb i (min j k)) (test i) (all_below-at (λ i. ltb i (min j k) || test i) (suc (max j k)) i on (omega arith))) [
+  | inl below ↦ let l = ltb-true i (min j k) below in absurd (omega arith)
+  | inr here ↦ here
+]
+
+pub clear-from : (test : ℕ → Bool) (j k : ℕ) → ((i : ℕ) → min j k ≤ i → i ≤ max j k → test i ≡ true) → clear test j k ≡ true
+unfolding clear
+clear-from test j k each = all_below-from (λ i. ltb i (min j k) || test i) (suc (max j k)) (λ i lt. elim (cases_lt i (min j k)) [
+  | inl low ↦ or_left (ltb i (min j k)) (test i) (lt-ltb i (min j k) low)
+  | inr high ↦ or_right (ltb i (min j k)) (test i) (each i high (omega arith))
+])
+
+-- two that are both joined to a third are joined
+clear-both : (test : ℕ → Bool) (j k l : ℕ) → clear test j k ≡ true → clear test j l ≡ true → clear test k l ≡ true
+clear-both test j k l a b = clear-from test k l (λ i low high. elim (cases_lt i j) [
+  | inl before ↦ elim (cases_lt k j) [
+    | inl kj ↦ elim (cases_lt i k) [
+      | inl ik ↦ clear-at test j l i b (omega arith) (omega arith)
+      | inr ki ↦ clear-at test j k i a (omega arith) (omega arith)
+    ]
+    | inr jk ↦ clear-at test j l i b (omega arith) (omega arith)
+  ]
+  | inr after ↦ elim (cases_lt k i) [
+    | inl ki ↦ clear-at test j l i b (omega arith) (omega arith)
+    | inr ik ↦ clear-at test j k i a (omega arith) (omega arith)
+  ]
+])
+
+pub row-parts : (p : Light) (c d : ℕ) → joined_in_row p c d ≡ true → (c / p.size.w ≡ d / p.size.w) × (clear (λ x. white p (c / p.size.w * p.size.w + x)) (c % p.size.w) (d % p.size.w) ≡ true)
+unfolding joined_in_row
+row-parts p c d on = let w = and_parts (eqb (c / p.size.w) (d / p.size.w)) _ on in (eqb-true _ _ w.0, w.1)
+
+pub column-parts : (p : Light) (c d : ℕ) → joined_in_column p c d ≡ true → (c % p.size.w ≡ d % p.size.w) × (clear (λ y. white p (y * p.size.w + c % p.size.w)) (c / p.size.w) (d / p.size.w) ≡ true)
+unfolding joined_in_column
+column-parts p c d on = let w = and_parts (eqb (c % p.size.w) (d % p.size.w)) _ on in (eqb-true _ _ w.0, w.1)
+
+pub row-both : (p : Light) (c d e : ℕ) → joined_in_row p c d ≡ true → joined_in_row p c e ≡ true → joined_in_row p d e ≡ true
+unfolding joined_in_row
+row-both p c d e a b =
+    let v = row-parts p c d a in
+    let w = row-parts p c e b in
+    and_from _ _ (eq-eqb (d / p.size.w) (e / p.size.w) (sym v.0 ∙ w.0))
+    (rw (sym v.0) (clear-both (λ x. white p (c / p.size.w * p.size.w + x)) (c % p.size.w) (d % p.size.w) (e % p.size.w) v.1 w.1))
+
+pub column-both : (p : Light) (c d e : ℕ) → joined_in_column p c d ≡ true → joined_in_column p c e ≡ true → joined_in_column p d e ≡ true
+unfolding joined_in_column
+column-both p c d e a b =
+    let v = column-parts p c d a in
+    let w = column-parts p c e b in
+    and_from _ _ (eq-eqb (d % p.size.w) (e % p.size.w) (sym v.0 ∙ w.0))
+    (rw (sym v.0) (clear-both (λ y. white p (y * p.size.w + c % p.size.w)) (c / p.size.w) (d / p.size.w) (e / p.size.w) v.1 w.1))
+
+pub row-white-end : (p : Light) (c d : ℕ) → 0 < p.size.w → joined_in_row p c d ≡ true → white p d ≡ true
+row-white-end p c d pos on =
+    let v = row-parts p c d on in
+    let e : c / p.size.w * p.size.w + d % p.size.w ≡ d = rw v.0 (omega arith) in
+    rw e at (clear-at (λ x. white p (c / p.size.w * p.size.w + x)) (c % p.size.w) (d % p.size.w) (d % p.size.w) v.1 (omega arith) (omega arith))
+
+pub column-white-end : (p : Light) (c d : ℕ) → 0 < p.size.w → joined_in_column p c d ≡ true → white p d ≡ true
+column-white-end p c d pos on =
+    let v = column-parts p c d on in
+    let e : d / p.size.w * p.size.w + c % p.size.w ≡ d = rw v.0 (omega arith) in
+    rw e at (clear-at (λ y. white p (y * p.size.w + c % p.size.w)) (c / p.size.w) (d / p.size.w) (d / p.size.w) v.1 (omega arith) (omega arith))
+
+-- a white cell is joined to itself
+pub row-self : (p : Light) (c : ℕ) → white p c ≡ true → joined_in_row p c c ≡ true
+unfolding joined_in_row
+row-self p c on = and_from _ _ (eq-eqb (c / p.size.w) (c / p.size.w) refl) (clear-from _ (c % p.size.w) (c % p.size.w) (λ i low high.
+    let e : c / p.size.w * p.size.w + i ≡ c = omega arith in rw e on))
+
+-- a white cell lies in the grid
+pub white-in : (p : Light) (c : ℕ) → length p.cells ≡ cells_of p → white p c ≡ true → c < cells_of p
+unfolding white
+white-in p c long on = elim (cases_lt c (length p.cells)) [
+  | inl low ↦ omega arith
+  | inr high ↦ absurd (true≢false (sym on ∙ ap is_white (get_or_past p.cells c Black high)))
+]
+
+-- ---- the places of lines and of neighbours are different
+pub row-distinct : (size : Extent) (y : ℕ) → AreDistinct (row_places size y)
+row-distinct size y = distinct-from (row_places size y) (λ j k lj lk e.
+    let long = row-long size y in
+    let f : y * size.w + j ≡ y * size.w + k = row-at size y j (omega arith) ∙ e ∙ sym (row-at size y k (omega arith)) in
+    omega arith)
+
+pub column-distinct : (size : Extent) (x : ℕ) → 0 < size.w → AreDistinct (column_places size x)
+column-distinct size x pos = distinct-from (column_places size x) (λ j k lj lk e.
+    let long = column-long size x in
+    let f : j * size.w + x ≡ k * size.w + x = column-at size x j (omega arith) ∙ e ∙ sym (column-at size x k (omega arith)) in
+    mul-inj j k size.w pos (omega arith))
+  where
+    mul-inj : (j k w : ℕ) → 0 < w → j * w ≡ k * w → j ≡ k
+    mul-inj j k w pos e = elim (cases_lt j k) [
+      | inl low ↦ let h : (j + 1) * w ≤ k * w = mul-le-mul_right w (omega arith) in absurd (omega arith)
+      | inr high ↦ elim (cases_lt k j) [
+        | inl low ↦ let h : (k + 1) * w ≤ j * w = mul-le-mul_right w (omega arith) in absurd (omega arith)
+        | inr same ↦ omega arith
+      ]
+    ]

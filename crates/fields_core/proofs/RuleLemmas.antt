@@ -1,0 +1,111 @@
+-- From a table of count houses to the rules that it serves.
+use Rattle.std.proofs.Common.{◌≡◌, ℕ, ◌+◌, ◌<◌, ◌≤◌, Bool, true, false, not, ◌&&◌, ◌||◌, eqb, ltb, List, length, slice_index, refl, sym, ap, ◌∙◌, inl, inr, arith}
+use Rattle.std.proofs.Math.Path.{fun_ext}
+use Rattle.std.proofs.lemmas.Bool.{cases_eq, cases_lt, lt-ltb, le-ltb, ne_eqb, eq-eqb, false_from_ne_true}
+use Rattle.grid_core.specs.Candidates.{Candidates, all_of, without}
+use Rattle.grid_core.specs.Board.{Layout, SameShape}
+use Rattle.engine_core.specs.Puzzle.{has_place, longest, after}
+use Rattle.engine_core.specs.Places.{has_place-at, has_place-here}
+use Rattle.engine_core.proofs.StoreLemmas.{scope_le-longest}
+use Rattle.gameid_core.specs.Puzzles.{Light}
+use Rattle.fields_core.specs.CountHouse.{House, Table, house_of, start_of, after_house, count_puzzle}
+use Rattle.fields_core.specs.CountLaws.{after-house}
+use Rattle.fields_core.specs.Light.{cells_of}
+use Rattle.fields_core.specs.LightHouses.{light_houses}
+use Rattle.fields_core.specs.Ruled.{light_table}
+
+pub light-houses : (t : Table) (p q : Light) → t ≡ light_table p → p ≡ q → t.houses ≡ light_houses q
+light-houses t p q e f = ap (λ (u : Table). u.houses) e ∙ ap light_houses f
+
+pub table-of : (t : Table) (p q : Light) (cells : ℕ) (houses : List House) → t ≡ record { cells = cells; houses = houses } → cells ≡ cells_of p → houses ≡ light_houses p → q ≡ p → t ≡ light_table q
+table-of t p q cells houses e low is same = e ∙ rw (low, is, same) refl
+
+pub room-for : (had need : List House) (h room : ℕ) → had ≡ need → h < length need → longest (λ h. (house_of need h).places) (length need) ≤ room → length (house_of had h).places ≤ room
+room-for had need h room e lt fits = let l = scope_le-longest (λ h. (house_of need h).places) (length need) h lt in rw e (omega arith)
+
+pub room-is : (had need : List House) (room most : ℕ) → had ≡ need → most ≡ longest (λ h. (house_of had h).places) (length had) → room ≡ most → longest (λ h. (house_of need h).places) (length need) ≤ room
+room-is had need room most e is same = let f : most ≡ longest (λ h. (house_of need h).places) (length need) = is ∙ ap (λ houses. longest (λ h. (house_of houses h).places) (length houses)) e in omega arith
+
+pub after-is : (cells : ℕ) (blocked : ℕ → Bool) (is_solution : List ℕ → Bool) (had need : List House) (h : ℕ) (K K' : Candidates) → had ≡ need → K' ≡ after_house (house_of had h) K → K' ≡ after (count_puzzle cells blocked need is_solution) h K
+after-is cells blocked is_solution had need h K K' e left = left ∙ ap (λ houses. after_house (house_of houses h) K) e ∙ sym (after-house cells blocked need is_solution h K)
+
+-- ---- a place in a list
+pub place-found : (xs : List ℕ) (k place : ℕ) → k < length xs → slice_index xs k ≡ place → true ≡ has_place xs place
+place-found xs k place lt e = sym (rw e at (has_place-here xs k lt))
+
+pub place-missing : (xs : List ℕ) (place : ℕ) → ((k : ℕ) → k < length xs → slice_index xs k ≡ place → ⊥) → false ≡ has_place xs place
+place-missing xs place none = sym (false_from_ne_true (has_place xs place) (λ on. let w = has_place-at xs place on in none w.0 w.1 w.2))
+
+-- ---- the start, with the cells below a place blocked
+pub record IsStarted (cells : ℕ) (blocked : ℕ → Bool) (n : ℕ) (K : Candidates) : Type 0 where
+  pub sets : (c v : ℕ) → K c v ≡ (all_of cells 2 c v && not ((ltb c n && blocked c) && eqb v 1))
+
+pub started : (cells : ℕ) (blocked : ℕ → Bool) (K : Candidates) → K ≡ all_of cells 2 → IsStarted cells blocked 0 K
+started cells blocked K e = record { sets = λ c v. ap (λ (L : Candidates). L c v) e ∙ sym (rw (le-ltb c 0 (omega arith)) (and-true (all_of cells 2 c v))) }
+  where
+    and-true : (b : Bool) → (b && true) ≡ b
+    and-true true = refl
+    and-true false = refl
+
+pub start-free : (cells : ℕ) (blocked : ℕ → Bool) (n : ℕ) (K : Candidates) → IsStarted cells blocked n K → blocked n ≡ false → IsStarted cells blocked (n + 1) K
+start-free cells blocked n K before free = record { sets = λ c v. before.sets c v ∙ ap (λ b. all_of cells 2 c v && not (b && eqb v 1)) (same c) }
+  where
+    same : (c : ℕ) → (ltb c n && blocked c) ≡ (ltb c (n + 1) && blocked c)
+    same c = elim (cases_eq c n) [
+      | inl e ↦ rw (e, free) (by (ltb n n) (ltb n (n + 1)))
+      | inr other ↦ ap (λ b. b && blocked c) (elim (cases_lt c n) [
+        | inl low ↦ lt-ltb c n low ∙ sym (lt-ltb c (n + 1) (omega arith))
+        | inr high ↦ le-ltb c n high ∙ sym (le-ltb c (n + 1) (omega arith))
+      ])
+    ]
+      where
+        by : (a b : Bool) → (a && false) ≡ (b && false)
+        by true true = refl
+        by true false = refl
+        by false true = refl
+        by false false = refl
+
+pub start-blocked : (cells : ℕ) (blocked : ℕ → Bool) (n : ℕ) (K K' : Candidates) → IsStarted cells blocked n K → blocked n ≡ true → K' ≡ without K n 1 → IsStarted cells blocked (n + 1) K'
+unfolding without
+start-blocked cells blocked n K K' before is left = record { sets = λ c v. ap (λ (L : Candidates). L c v) left ∙ ap (λ b. b && not (eqb c n && eqb v 1)) (before.sets c v) ∙ by c v }
+  where
+    merge : (a b e f : Bool) → ((a && not (b && f)) && not (e && f)) ≡ (a && not ((b || e) && f))
+    merge false b e f = refl
+    merge true true true true = refl
+    merge true true true false = refl
+    merge true true false true = refl
+    merge true true false false = refl
+    merge true false true true = refl
+    merge true false true false = refl
+    merge true false false true = refl
+    merge true false false false = refl
+
+    same : (c : ℕ) → ((ltb c n && blocked c) || eqb c n) ≡ (ltb c (n + 1) && blocked c)
+    same c = elim (cases_eq c n) [
+      | inl e ↦ rw (e, is, eq-eqb n n refl, lt-ltb n (n + 1) (omega arith)) (or-true (ltb n n && true))
+      | inr other ↦ rw (ne_eqb c n other) (or-false (ltb c n && blocked c) ∙ ap (λ b. b && blocked c) (elim (cases_lt c n) [
+        | inl low ↦ lt-ltb c n low ∙ sym (lt-ltb c (n + 1) (omega arith))
+        | inr high ↦ le-ltb c n high ∙ sym (le-ltb c (n + 1) (omega arith))
+      ]))
+    ]
+      where
+        or-true : (a : Bool) → (a || true) ≡ true
+        or-true true = refl
+        or-true false = refl
+
+        or-false : (a : Bool) → (a || false) ≡ a
+        or-false true = refl
+        or-false false = refl
+
+    by : (c v : ℕ) → ((all_of cells 2 c v && not ((ltb c n && blocked c) && eqb v 1)) && not (eqb c n && eqb v 1)) ≡ (all_of cells 2 c v && not ((ltb c (n + 1) && blocked c) && eqb v 1))
+    by c v = merge (all_of cells 2 c v) (ltb c n && blocked c) (eqb c n) (eqb v 1) ∙ ap (λ b. all_of cells 2 c v && not (b && eqb v 1)) (same c)
+
+pub start-all : (cells : ℕ) (blocked : ℕ → Bool) (n : ℕ) (K : Candidates) → IsStarted cells blocked n K → cells ≤ n → K ≡ start_of cells blocked
+unfolding start_of all_of
+start-all cells blocked n K before ge = fun_ext λ c. fun_ext λ v. before.sets c v ∙ elim (cases_lt c cells) [
+  | inl low ↦ ap (λ b. (ltb c cells && ltb v 2) && not ((b && blocked c) && eqb v 1)) (lt-ltb c n (omega arith))
+  | inr high ↦ rw (le-ltb c cells high) refl
+]
+
+pub same-shape : (a b c : Layout) → SameShape a b → SameShape b c → SameShape a c
+same-shape a b c p q = record { same_values = q.same_values ∙ p.same_values; same_cells = q.same_cells ∙ p.same_cells }

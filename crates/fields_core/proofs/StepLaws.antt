@@ -1,0 +1,119 @@
+-- The cells beside a cell are different.
+use Rattle.std.proofs.Common.{◌≡◌, ℕ, zero, suc, ◌+◌, ◌-◌, ◌*◌, ◌/◌, ◌%◌, ◌<◌, ◌≤◌, Bool, true, false, leb, ltb, eqb, cond, length, Option, Some, None, refl, sym, ap, inl, inr, arith}
+use Rattle.std.proofs.lemmas.Bool.{true≢false, eqb-true, leb-true, ltb-true, or_cases}
+use Rattle.std.proofs.lemmas.List.{length-append}
+use Rattle.std.proofs.Math.Nat.{mod-lt, mul-le-mul_right}
+use Rattle.grid_core.specs.Extent.{Extent}
+use Rattle.grid_core.specs.Regions.{steps, step, if_there}
+use Rattle.engine_core.specs.Puzzle.{has_place}
+use Rattle.fields_core.proofs.PlaceLists.{place-append, AreDistinct, distinct-append}
+
+some-inj : {x y : ℕ} → Some x ≡ Some y → x ≡ y
+some-inj {x} {y} e = ap (λ (o : Option ℕ). unwrap x o) e
+  where
+    unwrap : ℕ → Option ℕ → ℕ
+    unwrap d None = d
+    unwrap d (Some a) = a
+
+none-not : {x : ℕ} → None ≡ Some x → ⊥
+none-not {x} e = true≢false (ap is_none e)
+  where
+    is_none : Option ℕ → Bool
+    is_none None = true
+    is_none (Some a) = false
+
+step-when : (b : Bool) (x d : ℕ) → cond b (Some x) None ≡ Some d → (b ≡ true) × (x ≡ d)
+step-when true x d e = (refl, some-inj e)
+step-when false x d e = absurd (none-not e)
+
+pub step-up : (size : Extent) (c d : ℕ) → step size c 0 ≡ Some d → d + size.w ≡ c
+unfolding step
+step-up size c d e =
+    let w = step-when (leb 1 (c / size.w)) (c - size.w) d e in
+    let some = leb-true 1 (c / size.w) w.0 in
+    let h : 1 * size.w ≤ c / size.w * size.w = mul-le-mul_right size.w some in
+    omega (arith, w.1)
+
+pub step-left : (size : Extent) (c d : ℕ) → step size c 1 ≡ Some d → (d + 1 ≡ c) × (1 ≤ c % size.w)
+unfolding step
+step-left size c d e =
+    let w = step-when (leb 1 (c % size.w)) (c - 1) d e in
+    let some = leb-true 1 (c % size.w) w.0 in
+    (omega (arith, w.1), some)
+
+pub step-right : (size : Extent) (c d : ℕ) → step size c 2 ≡ Some d → (d ≡ c + 1) × (c % size.w + 1 < size.w)
+unfolding step
+step-right size c d e =
+    let w = step-when (ltb (c % size.w + 1) size.w) (c + 1) d e in
+    (sym w.1, ltb-true (c % size.w + 1) size.w w.0)
+
+pub step-down : (size : Extent) (c d : ℕ) → step size c 3 ≡ Some d → (d ≡ c + size.w) × (c / size.w + 1 < size.h)
+unfolding step
+step-down size c d e =
+    let w = step-when (ltb (c / size.w + 1) size.h) (c + size.w) d e in
+    (sym w.1, ltb-true (c / size.w + 1) size.h w.0)
+
+-- two directions lead to different cells
+apart : (size : Extent) (c d k m : ℕ) → 0 < size.w → k < m → m < 4 → step size c k ≡ Some d → step size c m ≡ Some d → ⊥
+apart size c d zero zero pos lt less a b = absurd (omega arith)
+apart size c d zero (suc zero) pos lt less a b =
+    let u = step-up size c d a in
+    let v = step-left size c d b in
+    let r = mod-lt c pos in
+    absurd (omega (arith, v.0, v.1))
+apart size c d zero (suc (suc zero)) pos lt less a b = let u = step-up size c d a in let v = step-right size c d b in absurd (omega (arith, v.0))
+apart size c d zero (suc (suc (suc zero))) pos lt less a b = let u = step-up size c d a in let v = step-down size c d b in absurd (omega (arith, v.0))
+apart size c d (suc zero) (suc zero) pos lt less a b = absurd (omega arith)
+apart size c d (suc zero) (suc (suc zero)) pos lt less a b = let u = step-left size c d a in let v = step-right size c d b in absurd (omega (arith, u.0, v.0))
+apart size c d (suc zero) (suc (suc (suc zero))) pos lt less a b = let u = step-left size c d a in let v = step-down size c d b in absurd (omega (arith, u.0, v.0))
+apart size c d (suc (suc zero)) (suc (suc zero)) pos lt less a b = absurd (omega arith)
+apart size c d (suc (suc zero)) (suc (suc (suc zero))) pos lt less a b =
+    let u = step-right size c d a in
+    let v = step-down size c d b in
+    absurd (omega (arith, u.0, u.1, v.0))
+apart size c d (suc zero) zero pos lt less a b = absurd (omega arith)
+apart size c d (suc (suc k)) zero pos lt less a b = absurd (omega arith)
+apart size c d (suc (suc k)) (suc zero) pos lt less a b = absurd (omega arith)
+apart size c d (suc (suc (suc k))) (suc (suc zero)) pos lt less a b = absurd (omega arith)
+apart size c d (suc (suc (suc k))) (suc (suc (suc zero))) pos lt less a b = absurd (omega arith)
+apart size c d k (suc (suc (suc (suc m)))) pos lt less a b = absurd (omega arith)
+
+there-is : (o : Option ℕ) (d : ℕ) → has_place (if_there o) d ≡ true → o ≡ Some d
+unfolding has_place
+there-is None d on = absurd (true≢false (sym on))
+there-is (Some x) d on = elim (or_cases (eqb x d) false on) [
+  | inl here ↦ ap Some (eqb-true x d here)
+  | inr more ↦ absurd (true≢false (sym more))
+]
+
+pub steps-some : (size : Extent) (c n d : ℕ) → has_place (steps size c n) d ≡ true → (k : ℕ) × (k < n) × (step size c k ≡ Some d)
+unfolding steps has_place
+steps-some size c zero d on = absurd (true≢false (sym on))
+steps-some size c (suc n) d on = elim (place-append (steps size c n) (if_there (step size c n)) d on) [
+  | inl before ↦ let w : (k : ℕ) × (k < n) × (step size c k ≡ Some d) = steps-some size c n d before in (w.0, omega (arith, w.1), w.2)
+  | inr here ↦ (n, omega arith, there-is (step size c n) d here)
+]
+
+there-distinct : (o : Option ℕ) → AreDistinct (if_there o)
+unfolding has_place
+there-distinct None = tt
+there-distinct (Some x) = (refl, tt)
+
+pub steps-distinct : (size : Extent) (c n : ℕ) → 0 < size.w → n ≤ 4 → AreDistinct (steps size c n)
+unfolding steps
+steps-distinct size c zero pos few = tt
+steps-distinct size c (suc n) pos few = distinct-append (steps size c n) (if_there (step size c n)) (steps-distinct size c n pos (omega arith)) (there-distinct (step size c n))
+    (λ d a b. let w = steps-some size c n d a in apart size c d w.0 n pos w.1 (omega arith) w.2 (there-is (step size c n) d b))
+
+there-few : (o : Option ℕ) → length (if_there o) ≤ 1
+there-few None = omega arith
+there-few (Some x) = omega arith
+
+pub steps-few : (size : Extent) (c n : ℕ) → length (steps size c n) ≤ n
+unfolding steps
+steps-few size c zero = omega arith
+steps-few size c (suc n) =
+    let a = steps-few size c n in
+    let b = there-few (step size c n) in
+    let e = length-append (steps size c n) (if_there (step size c n)) in
+    omega arith

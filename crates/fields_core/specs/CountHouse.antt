@@ -1,0 +1,79 @@
+-- Tables of count houses, and the rule sets that they make.
+use Rattle.std.specs.Prelude.{◌≡◌, ℕ, zero, suc, ◌+◌, ◌<◌, ◌≤◌, ◌^◌, Bool, true, false, not, ◌&&◌, ◌==◌, List, [], ◌++◌, length, map, slice_index, slice_index_or}
+use Rattle.grid_core.specs.Candidates.{Candidates, all_of}
+use Rattle.grid_core.specs.Grids.{IsGrid}
+use Rattle.engine_core.specs.Puzzle.{Puzzle, has_place}
+use Rattle.engine_core.specs.Filling.{strikes_by_fillings}
+use Rattle.engine_core.specs.House.{strikes_at, AreDifferent}
+use Rattle.fields_core.specs.Count.{counts_between}
+
+-- cells, and the fewest and most ones that they may hold together
+pub record House : Type 0 where
+  pub places : List ℕ
+  pub least : ℕ
+  pub most : ℕ
+
+abbrev pub no_house : House
+no_house = record { places = []; least = 0; most = 0 }
+
+abbrev pub house_of : List House → ℕ → House
+house_of houses h = slice_index_or houses h no_house
+
+-- the houses of the numbers below n, by number
+unfoldable pub houses_below : (ℕ → List House) → ℕ → List House
+houses_below f zero = []
+houses_below f (suc n) = houses_below f n ++ f n
+
+-- the grid's ones in the house's cells are neither too few nor too many
+unfoldable pub meets : House → List ℕ → Bool
+meets house g = counts_between house.least house.most (map (slice_index g) house.places)
+
+-- what a visit of the house strikes
+unfoldable pub strikes_of : House → Candidates → ℕ → ℕ → Bool
+strikes_of house = strikes_at 2 house.places (strikes_by_fillings (counts_between house.least house.most))
+
+-- the board after a visit of the house
+unfoldable pub after_house : House → Candidates → Candidates
+after_house house K c v = K c v && not (strikes_of house K c v)
+
+-- different cells of a board, and small numbers
+pub record IsHouse (cells : ℕ) (house : House) : Type 0 where
+  pub within : (c : ℕ) → has_place house.places c ≡ true → c < cells
+  pub different : AreDifferent house.places
+  pub few_places : length house.places < 2 ^ 32
+  pub least_small : house.least < 2 ^ 32
+  pub most_small : house.most < 2 ^ 32
+
+abbrev pub AreHouses : ℕ → List House → Type 0
+AreHouses cells houses = (h : ℕ) → h < length houses → IsHouse cells (house_of houses h)
+
+-- what callers see of a table of houses
+pub record Table : Type 0 where
+  pub cells : ℕ
+  pub houses : List House
+
+-- a blocked cell has only 0; all other sets are full
+unfoldable pub start_of : ℕ → (ℕ → Bool) → Candidates
+start_of cells blocked c v = all_of cells 2 c v && not (blocked c && (v == 1))
+
+-- the rule set of count houses over such a start, closed by sweeps
+abbrev pub count_puzzle : ℕ → (ℕ → Bool) → List House → (List ℕ → Bool) → Puzzle
+count_puzzle cells blocked houses is_solution = record {
+  cells = cells;
+  values = 2;
+  houses = length houses;
+  bound = cells + 1;
+  settled = true;
+  by_queue = false;
+  scope = λ h. (house_of houses h).places;
+  start = start_of cells blocked;
+  strikes = λ h. strikes_of (house_of houses h);
+  is_solution = is_solution;
+}
+
+-- the game's solutions leave blocked cells at 0 and meet each house
+pub record IsCounting (cells : ℕ) (blocked : ℕ → Bool) (houses : List House) (is_solution : List ℕ → Bool) : Type 0 where
+  pub few_cells : cells ≤ 65536
+  pub are_houses : AreHouses cells houses
+  pub blocked_zero : (g : List ℕ) → IsGrid cells 2 g → is_solution g ≡ true → (c : ℕ) → c < cells → blocked c ≡ true → slice_index g c ≡ 0
+  pub meets_each : (g : List ℕ) → IsGrid cells 2 g → is_solution g ≡ true → (h : ℕ) → h < length houses → meets (house_of houses h) g ≡ true

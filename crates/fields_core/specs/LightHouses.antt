@@ -1,0 +1,59 @@
+-- The count houses of Light Up.
+use Rattle.std.specs.Prelude.{ℕ, ◌-◌, ◌/◌, ◌%◌, Bool, not, ◌&&◌, ◌||◌, ◌==◌, if◌then◌else◌, List, [], ◌∷◌, ◌++◌, filter, length, slice_index_or}
+use Rattle.grid_core.specs.Regions.{beside, row_places, column_places}
+use Rattle.engine_core.specs.Puzzle.{Puzzle}
+use Rattle.gameid_core.specs.Puzzles.{Light}
+use Rattle.gameid_core.specs.declared.light_cell.LightCell.{LightCell}
+use Rattle.gameid_core.specs.declared.light_cell.LightCell.TheVariants.{White, Black, Numbered}
+use Rattle.fields_core.specs.CountHouse.{House, houses_below, count_puzzle}
+use Rattle.fields_core.specs.Light.{cells_of, white, joined_in_row, joined_in_column, is_lit}
+
+-- the run of white cells of the row that the cell is in, from the left; and of the column, from the top
+unfoldable pub row_run : Light → ℕ → List ℕ
+row_run p c = filter (joined_in_row p c) (row_places p.size (c / p.size.w))
+
+unfoldable pub column_run : Light → ℕ → List ℕ
+column_run p c = filter (joined_in_column p c) (column_places p.size (c % p.size.w))
+
+-- the cell and the cells that it sees: those of its row from the left, then the others of its column from the top
+unfoldable pub seen_from : Light → ℕ → List ℕ
+seen_from p c = row_run p c ++ filter (λ d. not (d == c)) (column_run p c)
+
+-- a run begins at the cell: it is white, and the cell before it is black or past the edge
+unfoldable pub begins_row_run : Light → ℕ → Bool
+begins_row_run p c = white p c && ((c % p.size.w == 0) || not (white p (c - 1)))
+
+unfoldable pub begins_column_run : Light → ℕ → Bool
+begins_column_run p c = white p c && ((c / p.size.w == 0) || not (white p (c - p.size.w)))
+
+-- the white cells beside a numbered black cell hold its number of bulbs
+abbrev pub numbered : LightCell → List ℕ → List House
+numbered White places = []
+numbered Black places = []
+numbered (Numbered n) places = record { places = places; least = n; most = n } ∷ []
+
+abbrev pub number_house : Light → ℕ → List House
+number_house p c = numbered (slice_index_or p.cells c Black) (filter (white p) (beside p.size c))
+
+-- a run of white cells of a row or a column holds one bulb at most; it is told by its first cell
+abbrev pub row_house : Light → ℕ → List House
+row_house p c = if begins_row_run p c then record { places = row_run p c; least = 0; most = 1 } ∷ [] else []
+
+abbrev pub column_house : Light → ℕ → List House
+column_house p c = if begins_column_run p c then record { places = column_run p c; least = 0; most = 1 } ∷ [] else []
+
+-- a white cell and the cells that it sees hold a bulb
+abbrev pub lit_house : Light → ℕ → List House
+lit_house p c = if white p c then record { places = seen_from p c; least = 1; most = length (seen_from p c) } ∷ [] else []
+
+-- the houses of numbers, of runs in rows, of runs in columns and of white cells, each by place
+unfoldable pub light_houses : Light → List House
+light_houses p =
+    houses_below (number_house p) (cells_of p)
+    ++ (houses_below (row_house p) (cells_of p)
+    ++ (houses_below (column_house p) (cells_of p)
+    ++ houses_below (lit_house p) (cells_of p)))
+
+-- what the rules of Light Up mean to a search
+abbrev pub light_rules : Light → Puzzle
+light_rules p = count_puzzle (cells_of p) (λ c. not (white p c)) (light_houses p) (is_lit p)

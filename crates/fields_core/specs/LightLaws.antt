@@ -1,0 +1,15 @@
+-- The rules of Light Up are lawful.
+use Rattle.std.specs.Prelude.{ℕ, ◌≤◌, not}
+use Rattle.std.proofs.Common.{arith}
+use Rattle.engine_core.specs.Puzzle.{IsLawful, Needs, FitsIn}
+use Rattle.fields_core.specs.CountLaws.{count-lawful}
+use Rattle.fields_core.specs.Light.{cells_of, white, is_lit}
+use Rattle.fields_core.specs.LightHouses.{light_houses, light_rules}
+use Rattle.fields_core.specs.Ruled.{RuledLight}
+
+pub light-lawful : (r : RuledLight) → IsLawful (light_rules r.light)
+light-lawful r = count-lawful (cells_of r.light) (λ c. not (white r.light c)) (light_houses r.light) (is_lit r.light) r.counting
+
+-- room for the longest scope serves rules whose scopes are no longer
+pub serves-smaller : (room : ℕ) (need had : Needs) → FitsIn need had → had.scope ≤ room → need.scope ≤ room
+serves-smaller room need had fits served = let f = fits.scope_in in omega arith

@@ -1,0 +1,77 @@
+use super::*;
+use engine_core::{Rules, Store};
+use gameid_core::read_lights;
+use grid_core::Grid;
+use std::alloc::Global;
+use std::process::Abort;
+use std::test::Fail;
+
+/// The fault of a grid of 4 cells with bulbs at these places, in a puzzle of 2 by 2 cells.
+fn fault_of(
+    rt: &impl Abort,
+    alloc: Global,
+    id: &str,
+    bulbs: &[usize],
+) -> Result<Option<LightFault>, Fail> {
+    let puzzle = read_lights(alloc, id.as_bytes())?;
+    let rules = LightRules::new(alloc, &puzzle)?;
+    let mut scratch = rules.scratch(alloc)?;
+    let mut grid = Grid::new(alloc, rules.cells())?;
+    for bulb in bulbs {
+        assert!(rt; *bulb < grid.len());
+        grid.set(*bulb, 1);
+    }
+    assert!(rt; grid.fits(rules.cells(), rules.values()));
+    let fault = check_lights(&puzzle, &grid);
+    assert_eq!(rt; rules.accept(&mut scratch, &grid), fault.is_none());
+    Ok(fault)
+}
+
+#[test]
+fn grids_of_light_up(rt: HostRuntime) -> Result<(), Fail> {
+    let none: [usize; 0] = [];
+    assert_eq!(rt; fault_of(&rt, rt.alloc(), "2x2:2c", &[1, 2])?, None);
+    assert_eq!(rt; fault_of(&rt, rt.alloc(), "2x2:2c", &[1])?, Some(LightFault::Number(0)));
+    assert_eq!(rt; fault_of(&rt, rt.alloc(), "2x2:2c", &[1, 2, 3])?, Some(LightFault::Seen(1)));
+    assert_eq!(rt; fault_of(&rt, rt.alloc(), "2x2:2c", &[0, 1, 2])?, Some(LightFault::Black(0)));
+    assert_eq!(rt; fault_of(&rt, rt.alloc(), "2x2:Bc", &none)?, Some(LightFault::Dark(1)));
+    assert_eq!(rt; fault_of(&rt, rt.alloc(), "2x2:BBBB", &none)?, None);
+    assert_eq!(rt; fault_of(&rt, rt.alloc(), "3x2:aBaBaB", &[0, 2, 4])?, None);
+    Ok(())
+}
+
+#[test]
+fn a_corner_with_two_bulbs_closes(rt: HostRuntime) -> Result<(), Fail> {
+    let puzzle = read_lights(rt.alloc(), b"2x2:2c")?;
+    let rules = LightRules::new(rt.alloc(), &puzzle)?;
+    let mut store = Store::new(rt.alloc(), &rules)?;
+    assert!(rt; store.settles(&rules));
+    for (place, bulb) in [(0, false), (1, true), (2, true), (3, false)] {
+        assert!(rt; place < rules.cells());
+        assert_eq!(rt; store.board().has(place, 1), bulb, "cell {place}");
+    }
+    Ok(())
+}
+
+#[test]
+fn houses_of_light_up(rt: HostRuntime) -> Result<(), Fail> {
+    let puzzle = read_lights(rt.alloc(), b"2x2:2c")?;
+    let rules = LightRules::new(rt.alloc(), &puzzle)?;
+    assert_eq!(rt; rules.houses(), 8);
+    for (house, cells) in [2, 1, 2, 2, 1, 2, 2, 3].iter().enumerate() {
+        assert!(rt; house < rules.houses());
+        assert_eq!(rt; rules.scope_len(house), *cells, "house {house}");
+    }
+    for (place, houses) in [
+        (1, [Some(0), Some(1), Some(3), Some(5), Some(7), None]),
+        (2, [Some(0), Some(2), Some(4), Some(6), Some(7), None]),
+    ] {
+        let mut from = 0;
+        for house in houses.iter() {
+            assert!(rt; place < rules.cells());
+            assert_eq!(rt; rules.house_at(place, from), *house, "from {from}");
+            from = house.map_or(8, |house| house + 1);
+        }
+    }
+    Ok(())
+}
