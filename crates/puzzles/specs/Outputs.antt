@@ -1,11 +1,14 @@
 -- The answers that the words allow on an input.
-use Rattle.std.specs.Prelude.{◌≡◌, ◌*◌, ◌⊎◌, Bool, false, List, ℕ, Option, Some, None, Result, Err}
+use Rattle.std.specs.Prelude.{◌≡◌, ◌*◌, ◌⊎◌, Bool, true, false, List, ℕ, Option, Some, None, Result, Err}
 use Rattle.engine_core.specs.Puzzle.{Puzzle}
 use Rattle.gameid_core.specs.declared.fault.IdFault.{IdFault}
 use Rattle.gameid_core.specs.declared.game.Game.{Game}
 use Rattle.gameid_core.specs.declared.game.Game.TheVariants as game
 use Rattle.grid_core.specs.Grids.{IsGrid}
-use Rattle.gameid_core.specs.Puzzles.{Pattern, Solo, solo_n}
+use Rattle.gameid_core.specs.Puzzles.{Pattern, Solo, Light, solo_n}
+use Rattle.gameid_core.specs.LightText.{SpellsLight, light_of}
+use Rattle.fields_core.specs.Light.{is_lit}
+use Rattle.fields_core.specs.LightHouses.{light_rules}
 use Rattle.gameid_core.specs.SoloText.{SpellsSolo, solo_of}
 use Rattle.solo_core.specs.RuleSets.{houses_rules}
 use Rattle.solo_core.specs.Solutions as solo
@@ -13,7 +16,7 @@ use Rattle.gameid_core.specs.PatternText.{SpellsPattern, pattern_of}
 use Rattle.pattern_core.specs.LineRules.{line_rules}
 use Rattle.pattern_core.specs.Solutions as pattern
 use Rattle.puzzles.specs.Answers.{Answer, Text}
-use Rattle.puzzles.specs.GridTexts.{grid_text, pattern_cell, solo_cell, solo_extent}
+use Rattle.puzzles.specs.GridTexts.{grid_text, pattern_cell, solo_cell, solo_extent, light_cell}
 use Rattle.puzzles.specs.Refusals.{refused, refused_words, fault_text}
 use Rattle.puzzles.specs.Requests.{Asked, solve}
 use Rattle.puzzles.specs.Verdicts.{IsRight, verdict_of, verdict_answer}
@@ -53,10 +56,23 @@ abbrev pub AllowsSolo : Text → ℕ → Answer → Type 0
 AllowsSolo id budget answer = IsRefused (solo_of id) answer
     ⊎ IsSolved (SpellsSolo id) SolvesSolo houses_rules printed_solo budget answer
 
+abbrev pub printed_lights : Light → List ℕ → Text
+printed_lights p g = grid_text (light_cell p g) p.size
+
+-- bulbs and cells without one that light the puzzle by its rules
+abbrev pub SolvesLights : Light → List ℕ → Type 0
+SolvesLights p g = IsGrid (p.size.w * p.size.h) 2 g × (is_lit p g ≡ true)
+
+-- the answers that `solve lightup ID` allows
+abbrev pub AllowsLights : Text → ℕ → Answer → Type 0
+AllowsLights id budget answer = IsRefused (light_of id) answer
+    ⊎ IsSolved (SpellsLight id) SolvesLights light_rules printed_lights budget answer
+
 -- The answers that a request allows on an input. What isn't built is refused as words are.
 abbrev pub Allows : Option Asked → Text → Answer → Type 0
 Allows (Some (solve game.Pattern id budget)) input answer = AllowsPattern id budget answer
 Allows (Some (solve game.Solo id budget)) input answer = AllowsSolo id budget answer
+Allows (Some (solve game.LightUp id budget)) input answer = AllowsLights id budget answer
 Allows _ input answer = answer ≡ refused_words
 
 -- the request reads its input: none does

@@ -10,7 +10,7 @@ use crate::ends::{Sink, Source};
 use crate::output::deliver;
 use crate::read_end::ReadEnd;
 use crate::reply::{Reply, words_refused};
-use crate::solve::{solve_pattern, solve_solo};
+use crate::solve::{solve_lights, solve_pattern, solve_solo};
 use crate::words::{Request, read_words};
 use crate::write_end::WriteEnd;
 use gameid_core::Game;
@@ -40,6 +40,13 @@ fn reply_to(alloc: Global, request: Option<Request<'_>>) -> Result<Reply, AllocE
                 budget,
             },
         ) => solve_solo(alloc, id.as_bytes(), budget),
+        Some(
+            Request::Solve {
+                game: Game::LightUp,
+                id,
+                budget,
+            },
+        ) => solve_lights(alloc, id.as_bytes(), budget),
         _ => words_refused(alloc),
     }
 }

@@ -2,7 +2,7 @@
 ghost use Rattle.std.specs.Prelude.{◌≡◌, ◌<◌, ◌*◌, List, ℕ, IfOk};
 ghost use Rattle.engine_core.specs.Verdict.{IsTrueOf};
 ghost use Rattle.puzzles.specs.GridTexts.{grid_text};
-ghost use Rattle.puzzles.specs.Outputs.{AllowsPattern, AllowsSolo};
+ghost use Rattle.puzzles.specs.Outputs.{AllowsPattern, AllowsSolo, AllowsLights};
 ghost use Rattle.puzzles.specs.Replies.{answer_in};
 ghost use Rattle.puzzles.specs.Verdicts.{verdict_of, verdict_answer};
 
@@ -11,7 +11,8 @@ use crate::reply::{
     Reply, gave_up_reply, gave_up_with_reply, id_refused, none_reply, one_reply, several_reply,
 };
 use engine_core::{Rules, Store, Verdict};
-use gameid_core::{IdFault, read_pattern, read_solo};
+use fields_core::LightRules;
+use gameid_core::{IdFault, read_lights, read_pattern, read_solo};
 use pattern_core::PatternLines;
 use solo_core::SoloHouses;
 use std::alloc::{AllocError, Global};
@@ -70,6 +71,21 @@ pub fn solve_solo(alloc: Global, id: &[u8], budget: u64) -> Result<Reply, AllocE
     match read_solo(alloc, id) {
         Ok(puzzle) => {
             let rules = SoloHouses::new(alloc, &puzzle)?;
+            searched(alloc, &puzzle, &rules, budget)
+        }
+        Err(IdFault::Memory) => Err(AllocError),
+        Err(fault) => id_refused(alloc, fault),
+    }
+}
+
+/// The answer to an ID of Light Up that is to be solved.
+pub fn solve_lights(alloc: Global, id: &[u8], budget: u64) -> Result<Reply, AllocError>
+    ensures allowed { IfOk result (λ r. AllowsLights id.now budget (answer_in r)) }
+    ensures status { IfOk result (λ r. r.status < 5) }
+{
+    match read_lights(alloc, id) {
+        Ok(puzzle) => {
+            let rules = LightRules::new(alloc, &puzzle)?;
             searched(alloc, &puzzle, &rules, budget)
         }
         Err(IdFault::Memory) => Err(AllocError),
