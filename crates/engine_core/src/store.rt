@@ -1,6 +1,6 @@
 //! The memory of a search, taken at once.
 
-ghost use Rattle.std.specs.Prelude.{◌≡◌, ℕ, ◌<◌, ◌≤◌, ◌↔◌, IfOk, IsTrue, List, length, slice_index, take, true, false, None as NoGrid, option_map, ◌+◌, ◌*◌, ◌∷◌};
+ghost use Rattle.std.specs.Prelude.{◌≡◌, ℕ, ◌<◌, ◌≤◌, ◌↔◌, IfOk, IsTrue, List, length, slice_index, take, true, false, None as NoGrid, option_map, ◌+◌, ◌*◌, [], ◌∷◌};
 ghost use Rattle.grid_core.specs.Board.{has, cells_of, Layout};
 ghost use Rattle.grid_core.specs.Candidates.{IsInside, is_full, grid_of};
 ghost use Rattle.engine_core.specs.Puzzle.{Puzzle, Needs, needs_of, FitsIn, IsBoardOf};
@@ -239,7 +239,7 @@ impl<R: Rules> Store<R> {
     }
 
     /// Searches from the start board, with so many trials at most, and says how many solutions there are. It takes no
-    /// memory.
+    /// memory. What `board` lends afterwards is open.
     pub fn solve(&mut self, rules: &R, budget: u64) -> Verdict
         requires fits { FitsIn (needs_of (R.puzzle rules.now)) self.old.made }
         ensures verdict { IsAnswer result self.new.first self.new.second (outcome budget NoGrid (walk (R.puzzle rules.now) 0 (R.puzzle rules.now).start)) }
@@ -250,6 +250,7 @@ impl<R: Rules> Store<R> {
         ensures few_turns { self.new.turns ≤ (self.new.trials + 1) * (R.puzzle rules.now).bound }
         ensures deepest { self.new.deepest ≡ deepest_of (tried budget NoGrid (walk (R.puzzle rules.now) 0 (R.puzzle rules.now).start)) }
         ensures few_open { self.new.deepest ≤ self.new.made.cells }
+        ensures no_closing { (self.new.trace ≡ []) × (self.new.sweeps ≡ 0) }
         ensures made { self.new.made ≡ self.old.made }
     {
         rules.start(&mut self.board);
@@ -266,6 +267,8 @@ impl<R: Rules> Store<R> {
             &mut self.second,
             budget,
         );
+        self.visits = 0;
+        self.sweeps = 0;
         self.trials = searched.trials;
         self.turns = searched.turns;
         self.deepest = searched.deepest;
