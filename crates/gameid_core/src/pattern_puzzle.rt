@@ -85,7 +85,8 @@ impl PatternPuzzle {
         self.clues.len()
     }
 
-    /// A line's clue.
+    /// A line's clue: the lengths of its black runs, downwards or rightwards. Lines are the columns from the left, and then
+    /// the rows from the top.
     pub fn line(&self, line: usize) -> &[u8]
         requires { line < length self.now.clues }
         ensures { result.now ≡ slice_index_or self.now.clues line [] }

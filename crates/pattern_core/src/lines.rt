@@ -22,7 +22,9 @@ use std::marker::Model;
 const VALUES: u8 = 2;
 
 /// The rules of one puzzle, to be searched: each column and each row strikes what no filling with its clue's runs
-/// has. They keep a copy of what they need of the puzzle.
+/// has. They keep a copy of what they need of the puzzle. A visit takes no memory, and its steps are of a few word
+/// operations each: one for each cell of the clue spelled out, and two for each cell of the line, so no more than three
+/// times the cells of the line times the numbers of its clue and one.
 #[derive(Drop)]
 pub struct PatternLines {
     size: Size,
@@ -87,67 +89,69 @@ fn write_places(size: Size, line: usize, places: &mut [usize])
     }
 }
 
+/// A line of a puzzle: the puzzle's size, the line's number, and its clue.
+#[derive(Clone, Copy)]
+struct Line<'a> {
+    size: Size,
+    number: usize,
+    clue: &'a [u8],
+}
+
 /// Strikes from the line's cells what no filling with the clue's runs has, and says whether that was anything.
 fn visit_line(
-    size: Size,
-    line: usize,
-    clue: &[u8],
+    line: &Line<'_>,
     board: &mut Board,
     places: &mut [usize],
     sets: &mut [u32],
     kept: &mut [u32],
     rows: &mut [u128],
 ) -> bool
-    requires line { line < lines_of size }
-    requires cells { cells_of board.old ≡ size.w * size.h }
+    requires line { line.now.number < lines_of line.now.size }
+    requires cells { cells_of board.old ≡ line.now.size.w * line.now.size.h }
     requires values { board.old.values ≡ 2 }
-    requires places { length places.old ≡ line_cells size line }
-    requires sets { length sets.old ≡ line_cells size line }
-    requires kept { length kept.old ≡ line_cells size line }
-    requires rows { line_cells size line < length rows.old }
-    requires positive { AllByRecursion (λ n. 0 < n) clue.now }
-    requires fits { used clue.now ≤ 127 }
-    ensures left { has board.new ≡ after_line size line clue.now (has board.old) }
+    requires places { length places.old ≡ line_cells line.now.size line.now.number }
+    requires sets { length sets.old ≡ line_cells line.now.size line.now.number }
+    requires kept { length kept.old ≡ line_cells line.now.size line.now.number }
+    requires rows { line_cells line.now.size line.now.number < length rows.old }
+    requires positive { AllByRecursion (λ n. 0 < n) line.now.clue.now }
+    requires fits { used line.now.clue.now ≤ 127 }
+    ensures left { has board.new ≡ after_line line.now.size line.now.number line.now.clue.now (has board.old) }
     ensures shape { SameShape board.old board.new }
     ensures unchanged { result ≡ false → has board.new ≡ has board.old }
     ensures changed { result ≡ true → HasStruck (has board.old) (has board.new) }
 {
-    write_places(size, line, places);
+    write_places(line.size, line.number, places);
     gather(board, places, VALUES, sets);
-    keep(sets, clue, rows, kept);
+    keep(sets, line.clue, rows, kept);
     apply(board, places, VALUES, kept)
 }
 
 /// The same in the first parts of slices that may be longer than the line.
 fn visit_within(
-    size: Size,
-    line: usize,
-    clue: &[u8],
+    line: &Line<'_>,
     board: &mut Board,
     places: &mut [usize],
     sets: &mut [u32],
     kept: &mut [u32],
     rows: &mut [u128],
 ) -> bool
-    requires line { line < lines_of size }
-    requires cells { cells_of board.old ≡ size.w * size.h }
+    requires line { line.now.number < lines_of line.now.size }
+    requires cells { cells_of board.old ≡ line.now.size.w * line.now.size.h }
     requires values { board.old.values ≡ 2 }
-    requires places { line_cells size line ≤ length places.old }
-    requires sets { line_cells size line ≤ length sets.old }
-    requires kept { line_cells size line ≤ length kept.old }
-    requires rows { line_cells size line < length rows.old }
-    requires positive { AllByRecursion (λ n. 0 < n) clue.now }
-    requires fits { used clue.now ≤ 127 }
-    ensures left { has board.new ≡ after_line size line clue.now (has board.old) }
+    requires places { line_cells line.now.size line.now.number ≤ length places.old }
+    requires sets { line_cells line.now.size line.now.number ≤ length sets.old }
+    requires kept { line_cells line.now.size line.now.number ≤ length kept.old }
+    requires rows { line_cells line.now.size line.now.number < length rows.old }
+    requires positive { AllByRecursion (λ n. 0 < n) line.now.clue.now }
+    requires fits { used line.now.clue.now ≤ 127 }
+    ensures left { has board.new ≡ after_line line.now.size line.now.number line.now.clue.now (has board.old) }
     ensures shape { SameShape board.old board.new }
     ensures unchanged { result ≡ false → has board.new ≡ has board.old }
     ensures changed { result ≡ true → HasStruck (has board.old) (has board.new) }
 {
-    let cells = line_len(size, line);
+    let cells = line_len(line.size, line.number);
     visit_line(
-        size,
         line,
-        clue,
         board,
         &mut places[..cells],
         &mut sets[..cells],
@@ -260,10 +264,13 @@ impl Rules for PatternLines {
     }
 
     fn visit(&self, house: usize, board: &mut Board, scratch: &mut LineScratch) -> bool {
+        let line = Line {
+            size: self.size,
+            number: house,
+            clue: &self.clues[house],
+        };
         visit_within(
-            self.size,
-            house,
-            &self.clues[house],
+            &line,
             board,
             &mut scratch.places,
             &mut scratch.sets,

@@ -199,8 +199,9 @@ fn keep_cells(track: Track, sets: &[u32], rows: &[u128], kept: &mut [u32])
 
 /// For each cell of a line, the values that some filling of the line with the clue's runs has there. It takes no
 /// memory: the table is written into `rows`, one for each cell and one more. Its steps, of a few word operations each,
-/// are one for each spelled cell of the clue, which are at most the line's cells and one, and two for each cell of the
-/// line: no more than the cells of the line times the numbers of its clue and one, but for a factor of three.
+/// are one for each cell of the spelled clue, and two for each cell of the line. A clue that fits the line has at most
+/// one cell more than the line, and none where it has no numbers, so these are no more than three times the cells of
+/// the line times the numbers of its clue and one.
 pub(crate) fn keep(sets: &[u32], clue: &[u8], rows: &mut [u128], kept: &mut [u32])
     requires as_many { length kept.old ≡ length sets.now }
     requires room { length sets.now < length rows.old }

@@ -13,7 +13,7 @@ apply-requires-clause-places_in c = places_inside _ _ _ _ c.requires.line c.requ
 
 pub returns-clause-left : goal.returns-clause-left
 returns-clause-left c =
-    let within : IsWithin (c.args.size.w * c.args.size.h) 2 (has c.args.board.now) =
+    let within : IsWithin (c.args.line.now.size.w * c.args.line.now.size.h) 2 (has c.args.board.now) =
     subst (λ n. IsWithin n 2 (has c.args.board.now)) c.requires.cells (subst (λ v. IsWithin (cells_of c.args.board.now) v (has c.args.board.now)) c.requires.values (has-within c.args.board.now)) in
-    line_visited c.args.size c.args.line c.args.clue.now (has c.args.board.now) (has c.apply.new.board) c.write_places.new.places c.gather.new.sets c.keep.new.kept c.write_places.ensures
+    line_visited c.args.line.now.size c.args.line.now.number c.args.line.now.clue.now (has c.args.board.now) (has c.apply.new.board) c.write_places.new.places c.gather.new.sets c.keep.new.kept c.write_places.ensures
     within (omega (arith, c.requires.sets, c.requires.places, c.gather.auto.sets, c.write_places.auto.places)) c.gather.ensures.bits c.gather.ensures.sets c.keep.ensures c.apply.ensures.left
