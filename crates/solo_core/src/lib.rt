@@ -9,6 +9,7 @@ mod houses;
 mod joined;
 mod keep_houses;
 mod keep_singles;
+mod laws;
 mod solo_houses;
 mod solo_singles;
 mod start;
@@ -16,6 +17,7 @@ mod start;
 pub use cells::Cells;
 pub use check::check_solo;
 pub use fault::SoloFault;
+pub use laws::solutions_by_rule;
 pub use solo_houses::{HousesScratch, SoloHouses};
 pub use solo_singles::SoloSingles;
 
