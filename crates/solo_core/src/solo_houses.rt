@@ -42,7 +42,8 @@ impl SoloHouses {
     ///
     /// When memory was refused.
     pub fn new(alloc: Global, puzzle: &SoloPuzzle) -> Result<SoloHouses, AllocError>
-        ensures { IfOk result (λ rules. rules.puzzle ≡ puzzle.now) }
+        ensures copied { IfOk result (λ rules. rules.puzzle ≡ puzzle.now) }
+        ensures rules { IfOk result (λ rules. ⟦<SoloHouses as Rules>⟧.puzzle rules ≡ houses_rules puzzle.now) }
     {
         let puzzle = copy_of(alloc, puzzle)?;
         Ok(SoloHouses { puzzle })

@@ -36,7 +36,8 @@ impl SoloSingles {
     ///
     /// When memory was refused.
     pub fn new(alloc: Global, puzzle: &SoloPuzzle) -> Result<SoloSingles, AllocError>
-        ensures { IfOk result (λ rules. rules.puzzle ≡ puzzle.now) }
+        ensures copied { IfOk result (λ rules. rules.puzzle ≡ puzzle.now) }
+        ensures rules { IfOk result (λ rules. ⟦<SoloSingles as Rules>⟧.puzzle rules ≡ singles_rules puzzle.now) }
     {
         let puzzle = copy_of(alloc, puzzle)?;
         Ok(SoloSingles { puzzle })
