@@ -13,3 +13,4 @@ pub mod LightCounting
 pub mod RuleLemmas
 pub mod TentLines
 pub mod TentHouseLists
+pub mod TentBeside
