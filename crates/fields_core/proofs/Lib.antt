@@ -14,3 +14,4 @@ pub mod RuleLemmas
 pub mod TentLines
 pub mod TentHouseLists
 pub mod TentBeside
+pub mod TentCounting
