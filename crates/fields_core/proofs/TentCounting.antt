@@ -1,32 +1,31 @@
 -- The count houses of Tents keep to what every rule set of count houses keeps to.
-use Rattle.std.proofs.Common.{◌≡◌, ℕ, zero, suc, ◌+◌, ◌-◌, ◌*◌, ◌/◌, ◌%◌, ◌^◌, ◌<◌, ◌≤◌, Bool, true, false, not, ◌&&◌, ◌||◌, eqb, leb, ltb, cond, List, [], ◌∷◌, ◌++◌, length, get_or, slice_index, map, refl, sym, ap, ◌∙◌, inl, inr, ◌⊎◌, arith, le-leb}
-use Rattle.std.specs.List.{filter, count_by, range_with_len, list_any}
-use Rattle.std.proofs.lemmas.Bool.{cases_Bool, cases_eq, cases_lt, or_left, or_right, or_cases, and_from, and_parts, true≢false, false_from_ne_true, eqb-true, eq-eqb, ne_eqb, not-true, ltb-true}
-use Rattle.std.proofs.lemmas.List.{get_or_past, length-append, length-map, get_or-map}
+use Rattle.std.proofs.Common.{◌≡◌, ℕ, zero, suc, ◌+◌, ◌*◌, ◌/◌, ◌%◌, ◌^◌, ◌<◌, ◌≤◌, Bool, true, false, not, ◌&&◌, ◌||◌, eqb, ltb, cond, List, [], ◌∷◌, length, get_or, slice_index, map, refl, sym, ap, ◌∙◌, inl, inr, arith, le-leb}
+use Rattle.std.specs.List.{filter, range_with_len, list_any}
+use Rattle.std.proofs.lemmas.Bool.{cases_eq, cases_lt, or_left, or_right, or_cases, and_from, and_parts, true≢false, false_from_ne_true, eqb-true, eq-eqb, ne_eqb, not-true, ltb-true}
+use Rattle.std.proofs.lemmas.List.{get_or_past, length-map, get_or-map}
 use Rattle.std.proofs.lemmas.List.FromFn.{get_or-map-range_with_len, length-map-range_with_len, get_or-range_with_len, length-range_with_len}
 use Rattle.std.proofs.lemmas.List.Sums.{count_by-le-length}
-use Rattle.std.proofs.Math.Nat.{mul-le-mul_right, mod-lt}
-use Rattle.grid_core.specs.Extent.{Extent, max_side}
+use Rattle.std.proofs.Math.Nat.{mul-le-mul_right}
+use Rattle.grid_core.specs.Extent.{Extent}
 use Rattle.grid_core.specs.Grids.{IsGrid}
 use Rattle.grid_core.specs.Regions.{row_places, column_places, steps}
-use Rattle.grid_core.specs.Candidates.{all_below, any_below}
+use Rattle.grid_core.specs.Candidates.{all_below}
 use Rattle.grid_core.proofs.RegionLemmas.{row-at, column-at}
 use Rattle.grid_core.proofs.CandidateLemmas.{all_below-at, any_below-here}
 use Rattle.engine_core.specs.Puzzle.{has_place}
 use Rattle.engine_core.specs.Places.{has_place-at, has_place-here}
-use Rattle.engine_core.specs.Filling.{Set, has_value, Fills, some_filling}
+use Rattle.engine_core.specs.Filling.{Set, has_value}
 use Rattle.engine_core.specs.FillingLaws.{filling_from_test, has_value_below}
 use Rattle.gameid_core.specs.Puzzles.{Tents, IsTents, AreCounts, line_cells}
-use Rattle.fields_core.specs.Count.{ones, counts_between}
-use Rattle.fields_core.specs.CountHouse.{House, house_of, houses_below, meets, IsHouse, IsCounting}
+use Rattle.fields_core.specs.CountHouse.{House, meets, IsHouse, IsCounting}
 use Rattle.fields_core.specs.Tents.{cells_of, tree, tent, are_near, touches, tents_in_column, tents_in_row, tree_right, touch_right, column_right, row_right, names_none_twice, leaves_none_out, trees_beside, can_be_paired, is_camp}
 use Rattle.fields_core.specs.TentHouses.{column_of_tents, row_of_tents, free_beside, tree_house, square_house, tent_houses, is_bare}
 use Rattle.fields_core.proofs.HouseLists.{row-long, column-long}
 use Rattle.fields_core.proofs.PlaceLists.{place-filter, place-kept, AreDistinct, different-from, distinct-filter, count-some, count-one, ones-bulbs}
 use Rattle.fields_core.proofs.StepLaws.{steps-distinct, steps-few}
-use Rattle.fields_core.proofs.LightHouseLaws.{EachOf, each-none, each-one, each-append, each-below, each-if, row-distinct, column-distinct}
+use Rattle.fields_core.proofs.LightHouseLaws.{EachOf, each-one, each-append, each-below, each-if, row-distinct, column-distinct}
 use Rattle.fields_core.proofs.LightCounting.{small-at, between-from, filter-few}
-use Rattle.fields_core.proofs.TentBeside.{cell-parts, whole-cell, cell-below, cell-after, row-in, cell-in, beside-both, beside-in}
+use Rattle.fields_core.proofs.TentBeside.{cell-below, cell-after, cell-in, beside-both, beside-in}
 
 -- the parts of a solution
 pub record CampParts (p : Tents) (g : List ℕ) : Type 0 where
@@ -138,17 +137,19 @@ unfolding can_be_paired tents_of
 given p g good =
     let w = filling_from_test (map (trees_beside p) (filter (tent g) (range_with_len 0 (cells_of p)))) (λ chosen. names_none_twice chosen && leaves_none_out p chosen) (camp-parts p g good).paired in
     let tests = and_parts (names_none_twice w.0) (leaves_none_out p w.0) w.2 in
-    let fills = w.1 in
-    (w.0, record {
-      long = fills.len ∙ length-map (filter (tent g) (range_with_len 0 (cells_of p))) (trees_beside p);
-      each = λ k lt. set-has p (slice_index (filter (tent g) (range_with_len 0 (cells_of p))) k) (slice_index w.0 k)
-          (sym (ap (λ (s : Set). has_value s (get_or w.0 k 0)) (get_or-map (trees_beside p) (filter (tent g) (range_with_len 0 (cells_of p))) k 0 [] lt))
-          ∙ fills.each k (omega (arith, length-map (filter (tent g) (range_with_len 0 (cells_of p))) (trees_beside p))));
-      none_out = λ c lt on. elim (or_cases (not (tree p c)) (has_place w.0 c) (all_below-at (λ c. not (tree p c) || has_place w.0 c) (cells_of p) c tests.1 lt)) [
-        | inl bare ↦ absurd (true≢false (sym on ∙ not-true (tree p c) bare))
-        | inr here ↦ here
-      ];
-    })
+    let fills = w.1 in (
+      w.0,
+      record {
+        long = fills.len ∙ length-map (filter (tent g) (range_with_len 0 (cells_of p))) (trees_beside p);
+        each = λ k lt. set-has p (slice_index (filter (tent g) (range_with_len 0 (cells_of p))) k) (slice_index w.0 k)
+            (sym (ap (λ (s : Set). has_value s (get_or w.0 k 0)) (get_or-map (trees_beside p) (filter (tent g) (range_with_len 0 (cells_of p))) k 0 [] lt))
+            ∙ fills.each k (omega (arith, length-map (filter (tent g) (range_with_len 0 (cells_of p))) (trees_beside p))));
+        none_out = λ c lt on. elim (or_cases (not (tree p c)) (has_place w.0 c) (all_below-at (λ c. not (tree p c) || has_place w.0 c) (cells_of p) c tests.1 lt)) [
+          | inl bare ↦ absurd (true≢false (sym on ∙ not-true (tree p c) bare))
+          | inr here ↦ here
+        ];
+      },
+    )
 
 in-range : (n c : ℕ) → c < n → has_place (range_with_len 0 n) c ≡ true
 in-range n c lt = rw (let z : 0 + c ≡ c = omega arith in get_or-range_with_len 0 n c 0 lt ∙ z) at (has_place-here (range_with_len 0 n) c (omega (arith, length-range_with_len 0 n)))
