@@ -13,3 +13,5 @@ pub mod LightCounting
 pub mod RuleLemmas
 pub mod TentLines
 pub mod TentHouseLists
+pub mod TentBeside
+pub mod TentCounting

@@ -37,16 +37,16 @@ pub record IsBoard (p : Light) : Type 0 where
   pub long : length p.cells ≡ cells_of p
   pub number : (c n : ℕ) → get_or p.cells c Black ≡ Numbered n → n ≤ 4
 
-small-at : (cells : ℕ) (g : List ℕ) → IsGrid cells 2 g → (c : ℕ) → slice_index g c < 2
+pub small-at : (cells : ℕ) (g : List ℕ) → IsGrid cells 2 g → (c : ℕ) → slice_index g c < 2
 small-at cells g grid c = elim (cases_lt c (length g)) [
   | inl low ↦ grid.each_value c 0 low
   | inr high ↦ let z = get_or_past g c 0 high in omega arith
 ]
 
-between-from : (least most : ℕ) (f : List ℕ) → least ≤ ones f → ones f ≤ most → counts_between least most f ≡ true
+pub between-from : (least most : ℕ) (f : List ℕ) → least ≤ ones f → ones f ≤ most → counts_between least most f ≡ true
 between-from least most f low high = and_from _ _ (le-leb least (ones f) low) (le-leb (ones f) most high)
 
-filter-few : (test : ℕ → Bool) (xs : List ℕ) → length (filter test xs) ≤ length xs
+pub filter-few : (test : ℕ → Bool) (xs : List ℕ) → length (filter test xs) ≤ length xs
 filter-few test xs = let a = length-filter test xs in let b = count_by-le-length test xs in omega arith
 
 -- bulbs stand on white cells

@@ -1,5 +1,5 @@
 -- What is wrong with a grid of Tents: the first rule that is broken, at the lowest place, column or row.
-use Rattle.std.specs.Prelude.{◌≡◌, ℕ, ◌<◌, Bool, true, false, List, Option, Some, None}
+use Rattle.std.specs.Prelude.{◌≡◌, ℕ, true, false, List, Option, Some, None}
 use Rattle.grid_core.specs.Candidates.{all_below}
 use Rattle.gameid_core.specs.Puzzles.{Tents}
 use Rattle.fields_core.specs.Firsts.{IsFirst}

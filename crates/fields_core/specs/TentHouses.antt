@@ -1,5 +1,5 @@
 -- The count houses of Tents.
-use Rattle.std.specs.Prelude.{◌≡◌, ℕ, ◌+◌, ◌-◌, ◌*◌, ◌/◌, ◌%◌, Bool, not, ◌&&◌, ◌||◌, nat_lt, if◌then◌else◌, List, [], ◌∷◌, ◌++◌, filter, length, slice_index}
+use Rattle.std.specs.Prelude.{ℕ, ◌+◌, ◌/◌, ◌%◌, Bool, not, ◌&&◌, ◌||◌, nat_lt, if◌then◌else◌, List, [], ◌∷◌, ◌++◌, filter, length, slice_index}
 use Rattle.std.specs.List.{list_any}
 use Rattle.grid_core.specs.Regions.{beside, row_places, column_places}
 use Rattle.engine_core.specs.Puzzle.{Puzzle}

@@ -1,7 +1,7 @@
 -- The rules of Tents: which grids are solutions. The place of the cell in column x and row y is y * w + x; a grid has 1 at
 -- a tent and 0 elsewhere.
-use Rattle.std.specs.Prelude.{◌≡◌, ℕ, zero, suc, ◌+◌, ◌-◌, ◌*◌, ◌/◌, ◌%◌, Bool, true, false, not, ◌&&◌, ◌||◌, ◌==◌, nat_le, List, [], ◌∷◌, length, map, filter, slice_index, count_by}
-use Rattle.std.specs.List.{range_with_len, list_any}
+use Rattle.std.specs.Prelude.{ℕ, ◌+◌, ◌*◌, ◌/◌, ◌%◌, Bool, true, not, ◌&&◌, ◌||◌, ◌==◌, nat_le, List, [], ◌∷◌, map, filter, slice_index, count_by}
+use Rattle.std.specs.List.{range_with_len}
 use Rattle.grid_core.specs.Extent.{Extent}
 use Rattle.grid_core.specs.Regions.{beside, row_places, column_places}
 use Rattle.grid_core.specs.Candidates.{any_below, all_below}

@@ -8,7 +8,8 @@ ghost use Rattle.fields_core.specs.TentHouses.{column_of_tents, row_of_tents, fr
 
 use crate::count_house::CountHouse;
 use crate::tent_cells::{
-    cells, column_cell, column_number, column_of, columns, is_tree, row_cell, row_number, row_of, rows,
+    cells, column_cell, column_number, column_of, columns, is_tree, row_cell, row_number, row_of,
+    rows,
 };
 use gameid_core::TentsPuzzle;
 use grid_core::step;

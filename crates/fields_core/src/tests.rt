@@ -31,10 +31,22 @@ fn fault_of(
 fn grids_of_light_up(rt: HostRuntime) -> Result<(), Fail> {
     let none: [usize; 0] = [];
     assert_eq!(rt; fault_of(&rt, rt.alloc(), "2x2:2c", &[1, 2])?, None);
-    assert_eq!(rt; fault_of(&rt, rt.alloc(), "2x2:2c", &[1])?, Some(LightFault::Number(0)));
-    assert_eq!(rt; fault_of(&rt, rt.alloc(), "2x2:2c", &[1, 2, 3])?, Some(LightFault::Seen(1)));
-    assert_eq!(rt; fault_of(&rt, rt.alloc(), "2x2:2c", &[0, 1, 2])?, Some(LightFault::Black(0)));
-    assert_eq!(rt; fault_of(&rt, rt.alloc(), "2x2:Bc", &none)?, Some(LightFault::Dark(1)));
+    assert_eq!(rt;
+        fault_of(&rt, rt.alloc(), "2x2:2c", &[1])?,
+        Some(LightFault::Number(0))
+    );
+    assert_eq!(rt;
+        fault_of(&rt, rt.alloc(), "2x2:2c", &[1, 2, 3])?,
+        Some(LightFault::Seen(1))
+    );
+    assert_eq!(rt;
+        fault_of(&rt, rt.alloc(), "2x2:2c", &[0, 1, 2])?,
+        Some(LightFault::Black(0))
+    );
+    assert_eq!(rt;
+        fault_of(&rt, rt.alloc(), "2x2:Bc", &none)?,
+        Some(LightFault::Dark(1))
+    );
     assert_eq!(rt; fault_of(&rt, rt.alloc(), "2x2:BBBB", &none)?, None);
     assert_eq!(rt; fault_of(&rt, rt.alloc(), "3x2:aBaBaB", &[0, 2, 4])?, None);
     Ok(())

@@ -1,0 +1,101 @@
+-- Cells beside each other: each is beside the other, and they lie in the grid.
+use Rattle.std.proofs.Common.{◌≡◌, ℕ, zero, suc, ◌+◌, ◌-◌, ◌*◌, ◌/◌, ◌%◌, ◌<◌, ◌≤◌, true, false, leb, ltb, eqb, Some, refl, sym, ap, ◌∙◌, inl, inr, arith, le-leb}
+use Rattle.std.proofs.lemmas.Bool.{cond-true, lt-ltb, or_left, eq-eqb, cases_eq}
+use Rattle.std.proofs.lemmas.Nat.{div-mul-add}
+use Rattle.std.proofs.Math.Nat.{mod-lt, div-lt_iff_lt-mul, mul-le-mul_right}
+use Rattle.grid_core.specs.Extent.{Extent}
+use Rattle.grid_core.specs.Regions.{steps, step, if_there}
+use Rattle.engine_core.specs.Puzzle.{has_place}
+use Rattle.fields_core.proofs.PlaceLists.{place-front, place-back}
+use Rattle.fields_core.proofs.StepLaws.{step-up, step-left, step-right, step-down, steps-some}
+
+-- the row and the column of a cell
+pub cell-parts : (w q r d : ℕ) → r < w → d ≡ q * w + r → (d / w ≡ q) × (d % w ≡ r)
+cell-parts w q r d lt e =
+    let row : d / w ≡ q = ap (λ n. n / w) e ∙ div-mul-add q w r lt in
+    let whole : d ≡ d / w * w + d % w = omega arith in
+    let f : d ≡ q * w + d % w = rw row at whole in
+    (row, omega arith)
+
+pub whole-cell : (w c : ℕ) → c ≡ c / w * w + c % w
+whole-cell w c = omega arith
+
+-- a cell one row further down, and one column further right
+pub cell-below : (w c : ℕ) → 0 < w → ((c + w) / w ≡ c / w + 1) × ((c + w) % w ≡ c % w)
+cell-below w c pos = cell-parts w (c / w + 1) (c % w) (c + w) (mod-lt c pos) (let e = whole-cell w c in omega arith)
+
+pub cell-after : (w c : ℕ) → c % w + 1 < w → ((c + 1) / w ≡ c / w) × ((c + 1) % w ≡ c % w + 1)
+cell-after w c lt = cell-parts w (c / w) (c % w + 1) (c + 1) lt (let e = whole-cell w c in omega arith)
+
+pub row-in : (w h c : ℕ) → 0 < w → c < w * h → c / w < h
+row-in w h c pos lt = (div-lt_iff_lt-mul pos).1 (omega arith)
+
+pub cell-in : (w h c : ℕ) → 0 < w → c / w < h → c < w * h
+cell-in w h c pos lt =
+    let m : (c / w + 1) * w ≤ h * w = mul-le-mul_right w (omega arith) in
+    let r = mod-lt c pos in
+    let e = whole-cell w c in
+    omega arith
+
+-- a step leads back by the other direction
+back : (size : Extent) (t c k : ℕ) → 0 < size.w → t < size.w * size.h → c < size.w * size.h → k < 4 → step size t k ≡ Some c → (m : ℕ) × (m < 4) × (step size c m ≡ Some t)
+unfolding step
+back size t c zero pos lt lc less e =
+    let u = step-up size t c e in
+    let v = cell-below size.w c pos in
+    let r : c / size.w + 1 < size.h = let s = row-in size.w size.h t pos lt in let q : t / size.w ≡ c / size.w + 1 = ap (λ n. n / size.w) (sym u) ∙ v.0 in omega arith in
+    (3, omega arith, cond-true (ltb (c / size.w + 1) size.h) _ _ (lt-ltb (c / size.w + 1) size.h r) ∙ ap Some u)
+back size t c (suc zero) pos lt lc less e =
+    let u = step-left size t c e in
+    let f : t ≡ c + 1 = omega (arith, u.0) in
+    let whole = whole-cell size.w t in
+    let r = mod-lt t pos in
+    let v = cell-parts size.w (t / size.w) (t % size.w - 1) c (omega arith) (let some = u.1 in omega arith) in
+    let q : c % size.w + 1 < size.w = let a = v.1 in let some = u.1 in omega arith in
+    (2, omega arith, cond-true (ltb (c % size.w + 1) size.w) _ _ (lt-ltb (c % size.w + 1) size.w q) ∙ ap Some (sym f))
+back size t c (suc (suc zero)) pos lt lc less e =
+    let u = step-right size t c e in
+    let v = cell-after size.w t u.1 in
+    let q : 1 ≤ c % size.w = let a : c % size.w ≡ t % size.w + 1 = ap (λ n. n % size.w) u.0 ∙ v.1 in omega arith in
+    (1, omega arith, cond-true (leb 1 (c % size.w)) _ _ (le-leb 1 (c % size.w) q) ∙ ap Some (let a = u.0 in omega arith))
+back size t c (suc (suc (suc zero))) pos lt lc less e =
+    let u = step-down size t c e in
+    let v = cell-below size.w t pos in
+    let q : 1 ≤ c / size.w = let a : c / size.w ≡ t / size.w + 1 = ap (λ n. n / size.w) u.0 ∙ v.0 in omega arith in
+    (0, omega arith, cond-true (leb 1 (c / size.w)) _ _ (le-leb 1 (c / size.w) q) ∙ ap Some (let a = u.0 in omega arith))
+back size t c (suc (suc (suc (suc k)))) pos lt lc less e = absurd (omega arith)
+
+steps-has : (size : Extent) (c n k d : ℕ) → k < n → step size c k ≡ Some d → has_place (steps size c n) d ≡ true
+unfolding steps has_place
+steps-has size c zero k d lt e = absurd (omega arith)
+steps-has size c (suc n) k d lt e = elim (cases_eq k n) [
+  | inl same ↦ place-back (steps size c n) (if_there (step size c n)) d (rw (rw same at e) (or_left (eqb d d) false (eq-eqb d d refl)))
+  | inr other ↦ place-front (steps size c n) (if_there (step size c n)) d (steps-has size c n k d (omega arith) e)
+]
+
+pub beside-both : (size : Extent) (t c : ℕ) → 0 < size.w → t < size.w * size.h → c < size.w * size.h → has_place (steps size t 4) c ≡ true → has_place (steps size c 4) t ≡ true
+beside-both size t c pos lt lc on =
+    let w = steps-some size t 4 c on in
+    let b = back size t c w.0 pos lt lc w.1 w.2 in
+    steps-has size c 4 b.0 t b.1 b.2
+
+-- a step stays in the grid
+step-in : (size : Extent) (c d k : ℕ) → 0 < size.w → c < size.w * size.h → k < 4 → step size c k ≡ Some d → d < size.w * size.h
+step-in size c d zero pos lt less e = let u = step-up size c d e in omega arith
+step-in size c d (suc zero) pos lt less e = let u = step-left size c d e in omega (arith, u.0)
+step-in size c d (suc (suc zero)) pos lt less e =
+    let u = step-right size c d e in
+    let v = cell-after size.w c u.1 in
+    let a = row-in size.w size.h c pos lt in
+    let b : d / size.w ≡ c / size.w = ap (λ n. n / size.w) u.0 ∙ v.0 in
+    cell-in size.w size.h d pos (omega arith)
+step-in size c d (suc (suc (suc zero))) pos lt less e =
+    let u = step-down size c d e in
+    let v = cell-below size.w c pos in
+    let b : d / size.w ≡ c / size.w + 1 = ap (λ n. n / size.w) u.0 ∙ v.0 in
+    let s = u.1 in
+    cell-in size.w size.h d pos (omega arith)
+step-in size c d (suc (suc (suc (suc k)))) pos lt less e = absurd (omega arith)
+
+pub beside-in : (size : Extent) (c d : ℕ) → 0 < size.w → c < size.w * size.h → has_place (steps size c 4) d ≡ true → d < size.w * size.h
+beside-in size c d pos lt on = let w = steps-some size c 4 d on in step-in size c d w.0 pos lt w.1 w.2

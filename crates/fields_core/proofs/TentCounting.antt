@@ -1,0 +1,350 @@
+-- The count houses of Tents keep to what every rule set of count houses keeps to.
+use Rattle.std.proofs.Common.{◌≡◌, ℕ, zero, suc, ◌+◌, ◌*◌, ◌/◌, ◌%◌, ◌^◌, ◌<◌, ◌≤◌, Bool, true, false, not, ◌&&◌, ◌||◌, eqb, ltb, cond, List, [], ◌∷◌, length, get_or, slice_index, map, refl, sym, ap, ◌∙◌, inl, inr, arith, le-leb}
+use Rattle.std.specs.List.{filter, range_with_len, list_any}
+use Rattle.std.proofs.lemmas.Bool.{cases_eq, cases_lt, or_left, or_right, or_cases, and_from, and_parts, true≢false, false_from_ne_true, eqb-true, eq-eqb, ne_eqb, not-true, ltb-true}
+use Rattle.std.proofs.lemmas.List.{get_or_past, length-map, get_or-map}
+use Rattle.std.proofs.lemmas.List.FromFn.{get_or-map-range_with_len, length-map-range_with_len, get_or-range_with_len, length-range_with_len}
+use Rattle.std.proofs.lemmas.List.Sums.{count_by-le-length}
+use Rattle.std.proofs.Math.Nat.{mul-le-mul_right}
+use Rattle.grid_core.specs.Extent.{Extent}
+use Rattle.grid_core.specs.Grids.{IsGrid}
+use Rattle.grid_core.specs.Regions.{row_places, column_places, steps}
+use Rattle.grid_core.specs.Candidates.{all_below}
+use Rattle.grid_core.proofs.RegionLemmas.{row-at, column-at}
+use Rattle.grid_core.proofs.CandidateLemmas.{all_below-at, any_below-here}
+use Rattle.engine_core.specs.Puzzle.{has_place}
+use Rattle.engine_core.specs.Places.{has_place-at, has_place-here}
+use Rattle.engine_core.specs.Filling.{Set, has_value}
+use Rattle.engine_core.specs.FillingLaws.{filling_from_test, has_value_below}
+use Rattle.gameid_core.specs.Puzzles.{Tents, IsTents, AreCounts, line_cells}
+use Rattle.fields_core.specs.CountHouse.{House, meets, IsHouse, IsCounting}
+use Rattle.fields_core.specs.Tents.{cells_of, tree, tent, are_near, touches, tents_in_column, tents_in_row, tree_right, touch_right, column_right, row_right, names_none_twice, leaves_none_out, trees_beside, can_be_paired, is_camp}
+use Rattle.fields_core.specs.TentHouses.{column_of_tents, row_of_tents, free_beside, tree_house, square_house, tent_houses, is_bare}
+use Rattle.fields_core.proofs.HouseLists.{row-long, column-long}
+use Rattle.fields_core.proofs.PlaceLists.{place-filter, place-kept, AreDistinct, different-from, distinct-filter, count-some, count-one, ones-bulbs}
+use Rattle.fields_core.proofs.StepLaws.{steps-distinct, steps-few}
+use Rattle.fields_core.proofs.LightHouseLaws.{EachOf, each-one, each-append, each-below, each-if, row-distinct, column-distinct}
+use Rattle.fields_core.proofs.LightCounting.{small-at, between-from, filter-few}
+use Rattle.fields_core.proofs.TentBeside.{cell-below, cell-after, cell-in, beside-both, beside-in}
+
+-- the parts of a solution
+pub record CampParts (p : Tents) (g : List ℕ) : Type 0 where
+  pub trees : all_below (tree_right p g) (cells_of p) ≡ true
+  pub touch : all_below (touch_right p g) (cells_of p) ≡ true
+  pub columns : all_below (column_right p g) p.size.w ≡ true
+  pub rows : all_below (row_right p g) p.size.h ≡ true
+  pub paired : can_be_paired p g ≡ true
+
+pub camp-parts : (p : Tents) (g : List ℕ) → is_camp p g ≡ true → CampParts p g
+unfolding is_camp
+camp-parts p g on =
+    let a = and_parts (all_below (tree_right p g) (cells_of p)) _ on in
+    let b = and_parts (all_below (touch_right p g) (cells_of p)) _ a.1 in
+    let c = and_parts (all_below (column_right p g) p.size.w) _ b.1 in
+    let d = and_parts (all_below (row_right p g) p.size.h) _ c.1 in
+    record { trees = a.0; touch = b.0; columns = c.0; rows = d.0; paired = d.1 }
+
+-- what is used of a puzzle
+pub record IsField (p : Tents) : Type 0 where
+  pub some : 0 < p.size.w
+  pub w_few : p.size.w ≤ 256
+  pub h_few : p.size.h ≤ 256
+  pub long : length p.trees ≡ cells_of p
+  pub number : (k : ℕ) → slice_index p.counts k ≤ 256
+
+-- a house of the board that each solution meets
+pub record IsMet (p : Tents) (house : House) : Type 0 where
+  pub is_house : IsHouse (cells_of p) house
+  pub met : (g : List ℕ) → IsGrid (cells_of p) 2 g → is_camp p g ≡ true → meets house g ≡ true
+
+-- ---- columns and rows
+column-within : (p : Tents) (x d : ℕ) → x < p.size.w → has_place (column_places p.size x) d ≡ true → d < cells_of p
+column-within p x d lt on =
+    let w = has_place-at (column_places p.size x) d on in
+    let k : w.0 < p.size.h = omega (arith, w.1, column-long p.size x) in
+    let e : w.0 * p.size.w + x ≡ d = column-at p.size x w.0 k ∙ w.2 in
+    let m : (w.0 + 1) * p.size.w ≤ p.size.h * p.size.w = mul-le-mul_right p.size.w (omega arith) in
+    omega arith
+
+row-within : (p : Tents) (y d : ℕ) → y < p.size.h → has_place (row_places p.size y) d ≡ true → d < cells_of p
+row-within p y d lt on =
+    let w = has_place-at (row_places p.size y) d on in
+    let k : w.0 < p.size.w = omega (arith, w.1, row-long p.size y) in
+    let e : y * p.size.w + w.0 ≡ d = row-at p.size y w.0 k ∙ w.2 in
+    let m : (y + 1) * p.size.w ≤ p.size.h * p.size.w = mul-le-mul_right p.size.w (omega arith) in
+    omega arith
+
+column-kind : (p : Tents) (x : ℕ) → IsField p → x < p.size.w → IsMet p (record { places = column_places p.size x; least = slice_index p.counts x; most = slice_index p.counts x })
+unfolding meets column_right
+column-kind p x field lt = record {
+  is_house = record {
+    within = λ d on. column-within p x d lt on;
+    different = different-from (column_places p.size x) (column-distinct p.size x field.some);
+    few_places = let b = column-long p.size x in let h = field.h_few in omega arith;
+    least_small = let n = field.number x in omega arith;
+    most_small = let n = field.number x in omega arith;
+  };
+  met = λ g grid good.
+      let a = ones-bulbs g (column_places p.size x) (small-at (cells_of p) g grid) in
+      let e = eqb-true (tents_in_column p.size g x) (slice_index p.counts x) (all_below-at (column_right p g) p.size.w x (camp-parts p g good).columns lt) in
+      between-from (slice_index p.counts x) (slice_index p.counts x) (map (slice_index g) (column_places p.size x)) (omega arith) (omega arith);
+}
+
+row-kind : (p : Tents) (y : ℕ) → IsField p → y < p.size.h → IsMet p (record { places = row_places p.size y; least = slice_index p.counts (p.size.w + y); most = slice_index p.counts (p.size.w + y) })
+unfolding meets row_right
+row-kind p y field lt = record {
+  is_house = record {
+    within = λ d on. row-within p y d lt on;
+    different = different-from (row_places p.size y) (row-distinct p.size y);
+    few_places = let b = row-long p.size y in let h = field.w_few in omega arith;
+    least_small = let n = field.number (p.size.w + y) in omega arith;
+    most_small = let n = field.number (p.size.w + y) in omega arith;
+  };
+  met = λ g grid good.
+      let a = ones-bulbs g (row_places p.size y) (small-at (cells_of p) g grid) in
+      let e = eqb-true (tents_in_row p.size g y) (slice_index p.counts (p.size.w + y)) (all_below-at (row_right p g) p.size.h y (camp-parts p g good).rows lt) in
+      between-from (slice_index p.counts (p.size.w + y)) (slice_index p.counts (p.size.w + y)) (map (slice_index g) (row_places p.size y)) (omega arith) (omega arith);
+}
+
+-- ---- trees and their tents
+tent-in : (g : List ℕ) (cells d : ℕ) → length g ≡ cells → tent g d ≡ true → d < cells
+tent-in g cells d long on = elim (cases_lt d (length g)) [
+  | inl low ↦ omega arith
+  | inr high ↦ let one = eqb-true (slice_index g d) 1 on in let none = get_or_past g d 0 high in absurd (omega arith)
+]
+
+set-has : (p : Tents) (t c : ℕ) → has_value (trees_beside p t) c ≡ true → (c < cells_of p) × (tree p c ≡ true) × (has_place (steps p.size t 4) c ≡ true)
+set-has p t c on =
+    let below = has_value_below (trees_beside p t) c on in
+    let long = length-map-range_with_len (λ d. tree p d && has_place (steps p.size t 4) d) 0 (cells_of p) in
+    let lt : c < cells_of p = omega arith in
+    let at = get_or-map-range_with_len (λ d. tree p d && has_place (steps p.size t 4) d) 0 (cells_of p) c c false lt (omega arith) in
+    let w = and_parts (tree p c) (has_place (steps p.size t 4) c) (sym at ∙ on) in
+    (lt, w.0, w.1)
+
+-- the tents of a grid by place, and the sets of trees beside them
+tents_of : Tents → List ℕ → List ℕ
+tents_of p g = filter (tent g) (range_with_len 0 (cells_of p))
+
+-- a list that gives each tent a tree beside it and leaves no tree out
+record IsGiven (p : Tents) (g chosen : List ℕ) : Type 0 where
+  pub long : length chosen ≡ length (tents_of p g)
+  pub each : (k : ℕ) → k < length (tents_of p g) → (slice_index chosen k < cells_of p) × (tree p (slice_index chosen k) ≡ true) × (has_place (steps p.size (slice_index (tents_of p g) k) 4) (slice_index chosen k) ≡ true)
+  pub none_out : (c : ℕ) → c < cells_of p → tree p c ≡ true → has_place chosen c ≡ true
+
+given : (p : Tents) (g : List ℕ) → is_camp p g ≡ true → (chosen : List ℕ) × IsGiven p g chosen
+unfolding can_be_paired tents_of
+given p g good =
+    let w = filling_from_test (map (trees_beside p) (filter (tent g) (range_with_len 0 (cells_of p)))) (λ chosen. names_none_twice chosen && leaves_none_out p chosen) (camp-parts p g good).paired in
+    let tests = and_parts (names_none_twice w.0) (leaves_none_out p w.0) w.2 in
+    let fills = w.1 in (
+      w.0,
+      record {
+        long = fills.len ∙ length-map (filter (tent g) (range_with_len 0 (cells_of p))) (trees_beside p);
+        each = λ k lt. set-has p (slice_index (filter (tent g) (range_with_len 0 (cells_of p))) k) (slice_index w.0 k)
+            (sym (ap (λ (s : Set). has_value s (get_or w.0 k 0)) (get_or-map (trees_beside p) (filter (tent g) (range_with_len 0 (cells_of p))) k 0 [] lt))
+            ∙ fills.each k (omega (arith, length-map (filter (tent g) (range_with_len 0 (cells_of p))) (trees_beside p))));
+        none_out = λ c lt on. elim (or_cases (not (tree p c)) (has_place w.0 c) (all_below-at (λ c. not (tree p c) || has_place w.0 c) (cells_of p) c tests.1 lt)) [
+          | inl bare ↦ absurd (true≢false (sym on ∙ not-true (tree p c) bare))
+          | inr here ↦ here
+        ];
+      },
+    )
+
+in-range : (n c : ℕ) → c < n → has_place (range_with_len 0 n) c ≡ true
+in-range n c lt = rw (let z : 0 + c ≡ c = omega arith in get_or-range_with_len 0 n c 0 lt ∙ z) at (has_place-here (range_with_len 0 n) c (omega (arith, length-range_with_len 0 n)))
+
+-- a tree has a tent beside it
+tree-tent : (p : Tents) (g : List ℕ) → IsGrid (cells_of p) 2 g → is_camp p g ≡ true → (c : ℕ) → c < cells_of p → tree p c ≡ true → (t : ℕ) × (t < cells_of p) × (tent g t ≡ true) × (has_place (steps p.size t 4) c ≡ true)
+unfolding tents_of
+tree-tent p g grid good c lt on =
+    let v = given p g good in
+    let is = v.1 in
+    let w = has_place-at v.0 c (is.none_out c lt on) in
+    let k : w.0 < length (tents_of p g) = omega (arith, w.1, is.long) in
+    let tents = filter (tent g) (range_with_len 0 (cells_of p)) in
+    let t = slice_index tents w.0 in
+    let member = place-filter (tent g) (range_with_len 0 (cells_of p)) t (has_place-here tents w.0 k) in
+    (t, tent-in g (cells_of p) t grid.each_cell member.1, member.1, rw w.2 at (is.each w.0 k).2)
+
+-- a tent has a tree beside it
+tent-tree : (p : Tents) (g : List ℕ) → IsGrid (cells_of p) 2 g → is_camp p g ≡ true → (t : ℕ) → tent g t ≡ true → (c : ℕ) × (tree p c ≡ true) × (has_place (steps p.size t 4) c ≡ true)
+unfolding tents_of
+tent-tree p g grid good t on =
+    let v = given p g good in
+    let is = v.1 in
+    let tents = filter (tent g) (range_with_len 0 (cells_of p)) in
+    let w = has_place-at tents t (place-kept (tent g) (range_with_len 0 (cells_of p)) t (in-range (cells_of p) t (tent-in g (cells_of p) t grid.each_cell on)) on) in
+    let e = is.each w.0 w.1 in
+    (slice_index v.0 w.0, e.1, rw w.2 at e.2)
+
+-- no tent stands on a tree
+tree-bare : (p : Tents) (g : List ℕ) → is_camp p g ≡ true → (c : ℕ) → c < cells_of p → tree p c ≡ true → slice_index g c ≡ 0
+unfolding tree_right
+tree-bare p g good c lt on = elim (or_cases (not (tree p c)) (eqb (slice_index g c) 0) (all_below-at (tree_right p g) (cells_of p) c (camp-parts p g good).trees lt)) [
+  | inl bare ↦ absurd (true≢false (sym on ∙ not-true (tree p c) bare))
+  | inr none ↦ eqb-true (slice_index g c) 0 none
+]
+
+tree-kind : (p : Tents) (c : ℕ) → IsField p → c < cells_of p → tree p c ≡ true → IsMet p (record { places = free_beside p c; least = 1; most = length (free_beside p c) })
+unfolding meets
+tree-kind p c field lt on = record {
+  is_house = record {
+    within = λ d m. beside-in p.size c d field.some lt (place-filter (λ d. not (tree p d)) (steps p.size c 4) d m).0;
+    different = different-from (free_beside p c) (distinct-filter (λ d. not (tree p d)) (steps p.size c 4) (steps-distinct p.size c 4 field.some (omega arith)));
+    few_places = few;
+    least_small = omega arith;
+    most_small = few;
+  };
+  met = λ g grid good.
+      let a = ones-bulbs g (free_beside p c) (small-at (cells_of p) g grid) in
+      let b = count_by-le-length (tent g) (free_beside p c) in
+      let w = tree-tent p g grid good c lt on in
+      let free : not (tree p w.0) ≡ true = ap not (false_from_ne_true (tree p w.0) (λ is. let z = tree-bare p g good w.0 w.1 is in let o = eqb-true (slice_index g w.0) 1 w.2 in absurd (omega arith))) in
+      let m = place-kept (λ d. not (tree p d)) (steps p.size c 4) w.0 (beside-both p.size w.0 c field.some w.1 lt w.3) free in
+      let k = count-some (tent g) (free_beside p c) w.0 m w.2 in
+      between-from 1 (length (free_beside p c)) (map (slice_index g) (free_beside p c)) (omega arith) (omega arith);
+}
+  where
+    few : length (free_beside p c) < 2 ^ 32
+    few = let a = filter-few (λ d. not (tree p d)) (steps p.size c 4) in let b = steps-few p.size c 4 in omega arith
+
+-- ---- squares
+square_at : ℕ → ℕ → List ℕ
+square_at w c = c ∷ (c + 1) ∷ (c + w) ∷ (c + w + 1) ∷ []
+
+-- a cell of a square lies in its rows and columns
+record IsInSquare (w c d : ℕ) : Type 0 where
+  pub row_low : c / w ≤ d / w
+  pub row_high : d / w ≤ c / w + 1
+  pub column_low : c % w ≤ d % w
+  pub column_high : d % w ≤ c % w + 1
+
+in-square : (w c d : ℕ) → c % w + 1 < w → has_place (square_at w c) d ≡ true → IsInSquare w c d
+unfolding has_place square_at
+in-square w c d lt on = elim (or_cases (eqb c d) _ on) [
+  | inl e ↦ rw (eqb-true c d e) (record { row_low = omega arith; row_high = omega arith; column_low = omega arith; column_high = omega arith })
+  | inr more ↦ elim (or_cases (eqb (c + 1) d) _ more) [
+    | inl e ↦ let v = cell-after w c lt in let f = eqb-true (c + 1) d e in let s : IsInSquare w c (c + 1) = record { row_low = omega (arith, v.0); row_high = omega (arith, v.0); column_low = omega (arith, v.1); column_high = omega (arith, v.1) } in rw f at s
+    | inr third ↦ elim (or_cases (eqb (c + w) d) _ third) [
+      | inl e ↦ let v = cell-below w c (omega arith) in let f = eqb-true (c + w) d e in let s : IsInSquare w c (c + w) = record { row_low = omega (arith, v.0); row_high = omega (arith, v.0); column_low = omega (arith, v.1); column_high = omega (arith, v.1) } in rw f at s
+      | inr fourth ↦ elim (or_cases (eqb (c + w + 1) d) false fourth) [
+        | inl e ↦
+            let v = cell-below w c (omega arith) in
+            let u = cell-after w (c + w) (let a = v.1 in omega arith) in
+            let f = eqb-true (c + w + 1) d e in
+            let s : IsInSquare w c (c + w + 1) = record { row_low = omega (arith, v.0, u.0); row_high = omega (arith, v.0, u.0); column_low = omega (arith, v.1, u.1); column_high = omega (arith, v.1, u.1) } in rw f at s
+        | inr none ↦ absurd (true≢false (sym none))
+      ]
+    ]
+  ]
+]
+
+square-apart : (p : Tents) (g : List ℕ) → IsGrid (cells_of p) 2 g → is_camp p g ≡ true → (c d e : ℕ) → IsInSquare p.size.w c d → IsInSquare p.size.w c e → tent g d ≡ true → tent g e ≡ true → d ≡ e
+unfolding touch_right touches
+square-apart p g grid good c d e sd se td te = elim (cases_eq d e) [
+  | inl same ↦ same
+  | inr other ↦
+      let a = sd.row_low in let b = sd.row_high in let f = se.row_low in let h = se.row_high in
+      let i = sd.column_low in let j = sd.column_high in let k = se.column_low in let l = se.column_high in
+      let near = and_from _ _ (ap not (ne_eqb d e other)) (and_from _ _
+      (and_from _ _ (le-leb (d / p.size.w) (e / p.size.w + 1) (omega arith)) (le-leb (e / p.size.w) (d / p.size.w + 1) (omega arith)))
+      (and_from _ _ (le-leb (d % p.size.w) (e % p.size.w + 1) (omega arith)) (le-leb (e % p.size.w) (d % p.size.w + 1) (omega arith)))) in
+      let some = any_below-here (λ f. (not (eqb d f) && (are_near (d / p.size.w) (f / p.size.w) && are_near (d % p.size.w) (f % p.size.w))) && tent g f) (cells_of p) e (tent-in g (cells_of p) e grid.each_cell te) (and_from _ _ near te) in
+      absurd (true≢false (sym (and_from _ _ td some) ∙ not-true _ (all_below-at (touch_right p g) (cells_of p) d (camp-parts p g good).touch (tent-in g (cells_of p) d grid.each_cell td))))
+]
+
+square-distinct : (w c : ℕ) → 1 < w → AreDistinct (square_at w c)
+unfolding square_at has_place
+square-distinct w c two = (
+  rw (ne_eqb (c + 1) c (λ e. absurd (omega arith)), ne_eqb (c + w) c (λ e. absurd (omega arith)), ne_eqb (c + w + 1) c (λ e. absurd (omega arith))) refl,
+  (
+    rw (ne_eqb (c + w) (c + 1) (λ e. absurd (omega arith)), ne_eqb (c + w + 1) (c + 1) (λ e. absurd (omega arith))) refl,
+    (rw (ne_eqb (c + w + 1) (c + w) (λ e. absurd (omega arith))) refl, (refl, tt)),
+  ),
+)
+
+square-few : (w c : ℕ) → length (square_at w c) < 2 ^ 32
+unfolding square_at
+square-few w c = omega arith
+
+square-kind : (p : Tents) (c : ℕ) → IsField p → c % p.size.w + 1 < p.size.w → c / p.size.w + 1 < p.size.h → IsMet p (record { places = square_at p.size.w c; least = 0; most = 1 })
+unfolding meets
+square-kind p c field right bottom = record {
+  is_house = record {
+    within = λ d on. let s = in-square p.size.w c d right on in let a = s.row_high in cell-in p.size.w p.size.h d field.some (omega arith);
+    different = different-from (square_at p.size.w c) distinct;
+    few_places = few;
+    least_small = omega arith;
+    most_small = omega arith;
+  };
+  met = λ g grid good.
+      let a = ones-bulbs g (square_at p.size.w c) (small-at (cells_of p) g grid) in
+      let one = count-one (tent g) (square_at p.size.w c) distinct (λ d e md me td te. square-apart p g grid good c d e (in-square p.size.w c d right md) (in-square p.size.w c e right me) td te) in
+      between-from 0 1 (map (slice_index g) (square_at p.size.w c)) (omega arith) (omega arith);
+}
+  where
+    distinct : AreDistinct (square_at p.size.w c)
+    distinct = square-distinct p.size.w c (omega arith)
+
+    few : length (square_at p.size.w c) < 2 ^ 32
+    few = square-few p.size.w c
+
+-- ---- all houses
+each-met : (p : Tents) → IsField p → EachOf (IsMet p) (tent_houses p)
+unfolding tent_houses square_at
+each-met p field = each-append (IsMet p) _ _ (each-below (IsMet p) (column_of_tents p) p.size.w (λ x lt. each-one (IsMet p) _ (column-kind p x field lt)))
+    (each-append (IsMet p) _ _ (each-below (IsMet p) (row_of_tents p) p.size.h (λ y lt. each-one (IsMet p) _ (row-kind p y field lt)))
+    (each-append (IsMet p) _ _ (each-below (IsMet p) (tree_house p) (cells_of p) (λ c lt. each-if (IsMet p) (tree p c) _ (λ on. tree-kind p c field lt on)))
+    (each-below (IsMet p) (square_house p) (cells_of p) (λ c lt. each-if (IsMet p) (ltb (c % p.size.w + 1) p.size.w && ltb (c / p.size.w + 1) p.size.h) _ (λ on.
+    let w = and_parts (ltb (c % p.size.w + 1) p.size.w) (ltb (c / p.size.w + 1) p.size.h) on in
+    square-kind p c field (ltb-true (c % p.size.w + 1) p.size.w w.0) (ltb-true (c / p.size.w + 1) p.size.h w.1))))))
+
+-- ---- a puzzle's field
+line-few : (size : Extent) (line : ℕ) → size.w ≤ 256 → size.h ≤ 256 → line_cells size line ≤ 256
+line-few size line w h = by (ltb line size.w)
+  where
+    by : (b : Bool) → cond b size.h size.w ≤ 256
+    by true = h
+    by false = w
+
+counts-few : (size : Extent) (line : ℕ) (counts : List ℕ) (k : ℕ) → size.w ≤ 256 → size.h ≤ 256 → AreCounts size line counts → slice_index counts k ≤ 256
+counts-few size line [] k w h all = omega arith
+counts-few size line (n ∷ counts) zero w h all = let f = line-few size line w h in let g = all.0 in omega arith
+counts-few size line (n ∷ counts) (suc k) w h all = counts-few size (line + 1) counts k w h all.1
+
+pub tent-field : (p : Tents) → IsTents p → IsField p
+tent-field p is = record {
+  some = let s = is.size.w_two in omega arith;
+  w_few = let s = is.size.extent.w_high in omega arith;
+  h_few = let s = is.size.extent.h_high in omega arith;
+  long = is.cells;
+  number = λ k. counts-few p.size 0 p.counts k (let s = is.size.extent.w_high in omega arith) (let s = is.size.extent.h_high in omega arith) is.range;
+}
+
+any-here : (test : ℕ → Bool) (xs : List ℕ) (d : ℕ) → has_place xs d ≡ true → test d ≡ true → list_any test xs ≡ true
+unfolding has_place
+any-here test [] d on passes = absurd (true≢false (sym on))
+any-here test (x ∷ xs) d on passes = elim (or_cases (eqb x d) (has_place xs d) on) [
+  | inl here ↦ or_left (test x) (list_any test xs) (ap test (eqb-true x d here) ∙ passes)
+  | inr more ↦ or_right (test x) (list_any test xs) (any-here test xs d more passes)
+]
+
+pub tent-counting : (p : Tents) → IsTents p → IsCounting (cells_of p) (is_bare p) (tent_houses p) (is_camp p)
+unfolding is_bare
+tent-counting p is = record {
+  few_cells = let b = tent-field p is in let a : p.size.w * p.size.h ≤ 256 * p.size.h = mul-le-mul_right p.size.h b.w_few in let h = b.h_few in omega arith;
+  are_houses = λ h lt. (each-met p (tent-field p is) h lt).is_house;
+  blocked_zero = λ g grid good c lt bare. elim (or_cases (tree p c) _ bare) [
+    | inl on ↦ tree-bare p g good c lt on
+    | inr alone ↦ zero-from (slice_index g c) (small-at (cells_of p) g grid c) (λ one.
+        let w = tent-tree p g grid good c (eq-eqb (slice_index g c) 1 one) in
+        true≢false (sym (any-here (tree p) (steps p.size c 4) w.0 w.2 w.1) ∙ not-true (list_any (tree p) (steps p.size c 4)) alone))
+  ];
+  meets_each = λ g grid good h lt. (each-met p (tent-field p is) h lt).met g grid good;
+}
+  where
+    zero-from : (v : ℕ) → v < 2 → (v ≡ 1 → ⊥) → v ≡ 0
+    zero-from zero lt none = refl
+    zero-from (suc zero) lt none = absurd (none refl)
+    zero-from (suc (suc v)) lt none = absurd (omega arith)
