@@ -1,8 +1,7 @@
 -- The answers that the words allow on an input.
-use Rattle.std.specs.Prelude.{◌≡◌, ◌*◌, ◌⊎◌, Bool, true, false, List, ℕ, Option, Some, None, Result, Err}
+use Rattle.std.specs.Prelude.{◌≡◌, ◌*◌, ◌⊎◌, Bool, true, false, List, ℕ, Option, Some, Result, Err}
 use Rattle.engine_core.specs.Puzzle.{Puzzle}
 use Rattle.gameid_core.specs.declared.fault.IdFault.{IdFault}
-use Rattle.gameid_core.specs.declared.game.Game.{Game}
 use Rattle.gameid_core.specs.declared.game.Game.TheVariants as game
 use Rattle.grid_core.specs.Grids.{IsGrid}
 use Rattle.gameid_core.specs.Puzzles.{Pattern, Solo, Light, solo_n}

@@ -9,5 +9,4 @@ ghost use Rattle.solo_core.specs.Solutions.{IsSolution};
 pub fn accepted_are_solutions()
     ensures houses { (p : Solo) (g : List ℕ) → (IsTrue ((houses_rules p).is_solution g)) ↔ IsSolution p g }
     ensures singles { (p : Solo) (g : List ℕ) → (IsTrue ((singles_rules p).is_solution g)) ↔ IsSolution p g }
-{
-}
+{}
