@@ -3,6 +3,8 @@
 
 #[cfg(test)]
 mod compared;
+#[cfg(test)]
+mod counted;
 pub mod ends;
 #[cfg(test)]
 mod fakes;

@@ -1,0 +1,68 @@
+//! What searches spend, and what their stores are sized for, on puzzles whose walks are short enough to be followed by
+//! hand.
+use engine_core::{Rules, Sizes, Store, Verdict};
+use fields_core::LightRules;
+use gameid_core::{read_lights, read_pattern, read_solo};
+use pattern_core::PatternLines;
+use solo_core::SoloHouses;
+use std::alloc::{AllocError, Global};
+use std::test::Fail;
+
+/// The trials of searches with these budgets, one after the other over one store, and the most that were open at once.
+fn counts<R: Rules>(
+    alloc: Global,
+    rules: &R,
+    budgets: &[u64],
+) -> Result<Vec<(u64, usize)>, AllocError> {
+    let mut store = Store::new(alloc, rules)?;
+    let mut all = Vec::new(alloc);
+    for budget in budgets {
+        if store.fits(rules) {
+            let _verdict = store.solve(rules, *budget);
+            all.push((store.trials(), store.deepest()))?;
+        }
+    }
+    Ok(all)
+}
+
+#[test]
+fn trials_are_counted(rt: HostRuntime) -> Result<(), Fail> {
+    let corners = PatternLines::new(rt.alloc(), &read_pattern(rt.alloc(), b"2x2:1/1/1/1")?)?;
+    let found = counts(rt.alloc(), &corners, &[2, 1, 0, u64::MAX])?;
+    assert_eq!(rt;
+        found.as_slice(),
+        [(2, 1), (1, 1), (0, 0), (2, 1)].as_slice()
+    );
+    let blank = SoloHouses::new(rt.alloc(), &read_solo(rt.alloc(), b"2x2:p")?)?;
+    let found = counts(rt.alloc(), &blank, &[8, 7])?;
+    assert_eq!(rt; found.as_slice(), [(8, 7), (7, 7)].as_slice());
+    let turned = LightRules::new(rt.alloc(), &read_lights(rt.alloc(), b"3x3:aBBa1aBb")?)?;
+    let found = counts(rt.alloc(), &turned, &[4, 3, 1, 0])?;
+    assert_eq!(rt;
+        found.as_slice(),
+        [(4, 2), (3, 2), (1, 1), (0, 0)].as_slice()
+    );
+    Ok(())
+}
+
+#[test]
+fn stores_have_their_sizes(rt: HostRuntime) -> Result<(), Fail> {
+    let corners = PatternLines::new(rt.alloc(), &read_pattern(rt.alloc(), b"2x2:1/1/1/1")?)?;
+    let sizes = Sizes {
+        frames: 4,
+        trail: 8,
+        trace: 8,
+        queue: 4,
+        scope: 2,
+    };
+    let mut store = Store::new(rt.alloc(), &corners)?;
+    assert_eq!(rt; store.sizes(), sizes);
+    assert!(rt; store.fits(&corners));
+    assert_eq!(rt; store.solve(&corners, 2), Verdict::Several);
+    assert_eq!(rt; store.sizes(), sizes);
+    let full = PatternLines::new(rt.alloc(), &read_pattern(rt.alloc(), b"2x2:2/2/2/2")?)?;
+    let wide = PatternLines::new(rt.alloc(), &read_pattern(rt.alloc(), b"2x3:////")?)?;
+    assert!(rt; store.fits(&full));
+    assert!(rt; !store.fits(&wide));
+    Ok(())
+}
