@@ -258,7 +258,7 @@ fn a_source_gives_its_bytes(rt: HostRuntime) {
     assert_eq!(rt; failing.into_inner().calls, 1);
 }
 
-/// Under `rt try --test --fail-alloc 1..` each growth of this run is refused in turn.
+/// Under `rt try --test --fail-alloc N` the N-th growth of this run may be refused.
 #[test]
 fn want_of_memory_leaves_a_beginning(rt: HostRuntime) {
     let Ok(words) = texts(rt.alloc(), &SOLVED) else {
