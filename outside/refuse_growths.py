@@ -1,10 +1,12 @@
 #!/usr/bin/env python3
-"""Runs the built program with each allocation of the process refused in turn.
+"""Runs built programs with each allocation of the process refused in turn.
 
-usage: refuse_growths.py PROGRAM     PROGRAM as `rt run` leaves it: crates/puzzles/out/puzzles
+usage: refuse_growths.py PROGRAM          PROGRAM as `rt run` leaves it: crates/puzzles/out/puzzles
+       refuse_growths.py --tests TESTS..  TESTS as `rt test` leaves them: crates/gameid_core/out/gameid_core_tests
 
-Each run must answer as it does with ample memory, or end with status 5 after a beginning of that answer and with nothing
-on standard error. The shim below stands between the program and the C library; it is compiled with cc.
+Each run of the program must answer as it does with ample memory, or end with status 5 after a beginning of that answer
+and with nothing on standard error. Each test must pass, or end with want of memory as its result and nothing else.
+The shim below stands between a program and the C library; it is compiled with cc.
 """
 import pathlib
 import subprocess
@@ -75,32 +77,67 @@ RUNS = [
 ]
 
 
-def run(program, words, environment):
-    done = subprocess.run([program, *words.split()], capture_output=True, check=False, env=environment)
+def run(words, environment):
+    done = subprocess.run(words, capture_output=True, check=False, env=environment)
     return done.stdout.decode(), done.returncode, done.stderr.decode()
 
 
+def refusals(words, command, shim, counted):
+    """The number of each growth with what came where it was refused; 0 for ample memory."""
+    ample = command(words, {"LD_PRELOAD": str(shim), "COUNTED": str(counted)})
+    yield 0, ample
+    for number in range(1, int(counted.read_text()) + 1):
+        yield number, command(words, {"LD_PRELOAD": str(shim), "REFUSED": str(number)})
+
+
+def is_right_run(number, found, text, status):
+    output, code, errors = found
+    return (output, code) == (text, status) or (number > 0 and code == 5 and text.startswith(output) and not errors)
+
+
+def is_right_test(number, found):
+    output, code, errors = found
+    wants = any(errors.startswith(f"error: {fault}\nthe test failed: its result") for fault in ("Memory", "AllocError"))
+    return (code == 0 and "test result: ok" in output) or (number > 0 and code == 101 and wants)
+
+
+def count(results, is_right, name):
+    """How many runs ended as they may, and how many didn't."""
+    passed = failed = 0
+    for number, found in results:
+        if is_right(number, found):
+            passed += 1
+        else:
+            failed += 1
+            print(f"{name}: growth {number} refused: {found!r}")
+    return passed, failed
+
+
+def jobs(words):
+    """A name, a command line and a judge for each run or test."""
+    if words[0] != "--tests":
+        for line, text, status in RUNS:
+            yield line, [words[0], *line.split()], lambda n, found, t=text, s=status: is_right_run(n, found, t, s)
+        return
+    for program in words[1:]:
+        listed = subprocess.run([program, "--list"], capture_output=True, check=True, text=True).stdout
+        for line in listed.splitlines():
+            if line.endswith(": test"):
+                name = line.removesuffix(": test")
+                yield f"{program} {name}", [program, name], is_right_test
+
+
 def main():
-    program = str(pathlib.Path(sys.argv[1]).resolve())
+    if len(sys.argv) < 2 or sys.argv[1:] == ["--tests"]:
+        sys.exit(__doc__)
     folder = pathlib.Path(tempfile.mkdtemp())
     source, shim, counted = folder / "shim.c", folder / "shim.so", folder / "count"
     source.write_text(SHIM.replace("FILE_WRITE", WRITE))
     subprocess.run(["cc", "-shared", "-fPIC", "-o", shim, source, "-ldl"], check=True)
     passed = failed = 0
-    for words, text, status in RUNS:
-        ample = run(program, words, {"LD_PRELOAD": str(shim), "COUNTED": str(counted)})
-        growths = int(counted.read_text())
-        results = [(0, ample)]
-        for number in range(1, growths + 1):
-            results.append((number, run(program, words, {"LD_PRELOAD": str(shim), "REFUSED": str(number)})))
-        for number, (found, code, errors) in results:
-            whole = (found, code) == (text, status)
-            begun = number > 0 and code == 5 and text.startswith(found) and not errors
-            if whole or begun:
-                passed += 1
-            else:
-                failed += 1
-                print(f"{words}: growth {number} of {growths} refused: status {code}, {found!r}, {errors!r}")
+    for name, words, is_right in jobs(sys.argv[1:]):
+        right, wrong = count(refusals(words, run, shim, counted), is_right, name)
+        passed, failed = passed + right, failed + wrong
     print(f"{passed} passed, {failed} failed")
     sys.exit(1 if failed else 0)
 

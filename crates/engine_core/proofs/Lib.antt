@@ -8,6 +8,7 @@ pub mod StoreLemmas
 pub mod HouseLemmas
 pub mod NeighboursLemmas
 pub mod WalkLemmas
+pub mod PickLemmas
 pub mod VerdictLemmas
 pub mod SearchLemmas
 pub mod TrailLemmas

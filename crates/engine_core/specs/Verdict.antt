@@ -1,3 +1,4 @@
+-- What the marks of a walk say of the puzzle, with a budget of trials.
 use Rattle.std.specs.Prelude.{◌≡◌, ◌≢◌, ℕ, zero, suc, Bool, true, false, List, [], ◌∷◌, Option, Some, None}
 use Rattle.grid_core.specs.Candidates.{Candidates}
 use Rattle.engine_core.specs.Puzzle.{Puzzle, IsGridOf}

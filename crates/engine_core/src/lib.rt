@@ -16,7 +16,8 @@ mod sweep;
 
 pub use house::{apply, gather};
 pub use laws::{
-    closure_is_largest, verdict_goes_by_counts, walk_finds_each_solution_once,
+    closure_is_largest, picks_the_lowest_of_the_fewest, struck_where_no_filling_has_it,
+    verdict_goes_by_counts, verdict_is_true, walk_finds_each_solution_once,
     walk_goes_on_from_the_closure,
 };
 pub use mode::{Closing, Mode};

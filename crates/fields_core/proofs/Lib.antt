@@ -13,5 +13,10 @@ pub mod LightCounting
 pub mod RuleLemmas
 pub mod TentLines
 pub mod TentHouseLists
+pub mod PlaceIndexLemmas
+pub mod BelowLemmas
 pub mod TentBeside
 pub mod TentCounting
+pub mod TentNext
+pub mod TentPairLemmas
+pub mod TentRuleLemmas

@@ -29,7 +29,7 @@ lit-parts p g on =
     let c = and_parts (all_below (bulb_right p g) (cells_of p)) _ b.1 in
     record { black = a.0; number = b.0; seen = c.0; lit = c.1 }
 
-first-breaks : (right : ℕ → Bool) (n c : ℕ) → IsFirst right n c → all_below right n ≡ true → ⊥
+pub first-breaks : (right : ℕ → Bool) (n c : ℕ) → IsFirst right n c → all_below right n ≡ true → ⊥
 first-breaks right n c first on = true≢false (sym (all_below-at right n c on first.below) ∙ first.wrong)
 
 pub fault-not : (p : Light) (g : List ℕ) (fault : LightFault) → IsLightFault p g (Some fault) → false ≡ is_lit p g

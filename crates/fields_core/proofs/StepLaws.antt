@@ -8,7 +8,7 @@ use Rattle.grid_core.specs.Regions.{steps, step, if_there}
 use Rattle.engine_core.specs.Puzzle.{has_place}
 use Rattle.fields_core.proofs.PlaceLists.{place-append, AreDistinct, distinct-append}
 
-some-inj : {x y : ℕ} → Some x ≡ Some y → x ≡ y
+pub some-inj : {x y : ℕ} → Some x ≡ Some y → x ≡ y
 some-inj {x} {y} e = ap (λ (o : Option ℕ). unwrap x o) e
   where
     unwrap : ℕ → Option ℕ → ℕ

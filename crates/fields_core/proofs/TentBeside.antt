@@ -65,7 +65,7 @@ back size t c (suc (suc (suc zero))) pos lt lc less e =
     (0, omega arith, cond-true (leb 1 (c / size.w)) _ _ (le-leb 1 (c / size.w) q) ∙ ap Some (let a = u.0 in omega arith))
 back size t c (suc (suc (suc (suc k)))) pos lt lc less e = absurd (omega arith)
 
-steps-has : (size : Extent) (c n k d : ℕ) → k < n → step size c k ≡ Some d → has_place (steps size c n) d ≡ true
+pub steps-has : (size : Extent) (c n k d : ℕ) → k < n → step size c k ≡ Some d → has_place (steps size c n) d ≡ true
 unfolding steps has_place
 steps-has size c zero k d lt e = absurd (omega arith)
 steps-has size c (suc n) k d lt e = elim (cases_eq k n) [

@@ -1,7 +1,7 @@
 -- The count houses of Tents keep to what every rule set of count houses keeps to.
 use Rattle.std.proofs.Common.{◌≡◌, ℕ, zero, suc, ◌+◌, ◌*◌, ◌/◌, ◌%◌, ◌^◌, ◌<◌, ◌≤◌, Bool, true, false, not, ◌&&◌, ◌||◌, eqb, ltb, cond, List, [], ◌∷◌, length, get_or, slice_index, map, refl, sym, ap, ◌∙◌, inl, inr, arith, le-leb}
 use Rattle.std.specs.List.{filter, range_with_len, list_any}
-use Rattle.std.proofs.lemmas.Bool.{cases_eq, cases_lt, or_left, or_right, or_cases, and_from, and_parts, true≢false, false_from_ne_true, eqb-true, eq-eqb, ne_eqb, not-true, ltb-true}
+use Rattle.std.proofs.lemmas.Bool.{cases_eq, cases_lt, or_cases, and_from, and_parts, true≢false, false_from_ne_true, eqb-true, eq-eqb, ne_eqb, not-true, ltb-true}
 use Rattle.std.proofs.lemmas.List.{get_or_past, length-map, get_or-map}
 use Rattle.std.proofs.lemmas.List.FromFn.{get_or-map-range_with_len, length-map-range_with_len, get_or-range_with_len, length-range_with_len}
 use Rattle.std.proofs.lemmas.List.Sums.{count_by-le-length}
@@ -25,6 +25,7 @@ use Rattle.fields_core.proofs.PlaceLists.{place-filter, place-kept, AreDistinct,
 use Rattle.fields_core.proofs.StepLaws.{steps-distinct, steps-few}
 use Rattle.fields_core.proofs.LightHouseLaws.{EachOf, each-one, each-append, each-below, each-if, row-distinct, column-distinct}
 use Rattle.fields_core.proofs.LightCounting.{small-at, between-from, filter-few}
+use Rattle.fields_core.proofs.BelowLemmas.{any-here}
 use Rattle.fields_core.proofs.TentBeside.{cell-below, cell-after, cell-in, beside-both, beside-in}
 
 -- the parts of a solution
@@ -107,7 +108,7 @@ row-kind p y field lt = record {
 }
 
 -- ---- trees and their tents
-tent-in : (g : List ℕ) (cells d : ℕ) → length g ≡ cells → tent g d ≡ true → d < cells
+pub tent-in : (g : List ℕ) (cells d : ℕ) → length g ≡ cells → tent g d ≡ true → d < cells
 tent-in g cells d long on = elim (cases_lt d (length g)) [
   | inl low ↦ omega arith
   | inr high ↦ let one = eqb-true (slice_index g d) 1 on in let none = get_or_past g d 0 high in absurd (omega arith)
@@ -123,19 +124,20 @@ set-has p t c on =
     (lt, w.0, w.1)
 
 -- the tents of a grid by place, and the sets of trees beside them
-tents_of : Tents → List ℕ → List ℕ
+unfoldable pub tents_of : Tents → List ℕ → List ℕ
 tents_of p g = filter (tent g) (range_with_len 0 (cells_of p))
 
--- a list that gives each tent a tree beside it and leaves no tree out
-record IsGiven (p : Tents) (g chosen : List ℕ) : Type 0 where
+-- a list that gives each tent a tree beside it, names no tree twice and leaves none out
+pub record IsGiven (p : Tents) (g chosen : List ℕ) : Type 0 where
   pub long : length chosen ≡ length (tents_of p g)
   pub each : (k : ℕ) → k < length (tents_of p g) → (slice_index chosen k < cells_of p) × (tree p (slice_index chosen k) ≡ true) × (has_place (steps p.size (slice_index (tents_of p g) k) 4) (slice_index chosen k) ≡ true)
+  pub none_twice : names_none_twice chosen ≡ true
   pub none_out : (c : ℕ) → c < cells_of p → tree p c ≡ true → has_place chosen c ≡ true
 
-given : (p : Tents) (g : List ℕ) → is_camp p g ≡ true → (chosen : List ℕ) × IsGiven p g chosen
+pub given : (p : Tents) (g : List ℕ) → can_be_paired p g ≡ true → (chosen : List ℕ) × IsGiven p g chosen
 unfolding can_be_paired tents_of
-given p g good =
-    let w = filling_from_test (map (trees_beside p) (filter (tent g) (range_with_len 0 (cells_of p)))) (λ chosen. names_none_twice chosen && leaves_none_out p chosen) (camp-parts p g good).paired in
+given p g paired =
+    let w = filling_from_test (map (trees_beside p) (filter (tent g) (range_with_len 0 (cells_of p)))) (λ chosen. names_none_twice chosen && leaves_none_out p chosen) paired in
     let tests = and_parts (names_none_twice w.0) (leaves_none_out p w.0) w.2 in
     let fills = w.1 in (
       w.0,
@@ -144,6 +146,7 @@ given p g good =
         each = λ k lt. set-has p (slice_index (filter (tent g) (range_with_len 0 (cells_of p))) k) (slice_index w.0 k)
             (sym (ap (λ (s : Set). has_value s (get_or w.0 k 0)) (get_or-map (trees_beside p) (filter (tent g) (range_with_len 0 (cells_of p))) k 0 [] lt))
             ∙ fills.each k (omega (arith, length-map (filter (tent g) (range_with_len 0 (cells_of p))) (trees_beside p))));
+        none_twice = tests.0;
         none_out = λ c lt on. elim (or_cases (not (tree p c)) (has_place w.0 c) (all_below-at (λ c. not (tree p c) || has_place w.0 c) (cells_of p) c tests.1 lt)) [
           | inl bare ↦ absurd (true≢false (sym on ∙ not-true (tree p c) bare))
           | inr here ↦ here
@@ -151,14 +154,14 @@ given p g good =
       },
     )
 
-in-range : (n c : ℕ) → c < n → has_place (range_with_len 0 n) c ≡ true
+pub in-range : (n c : ℕ) → c < n → has_place (range_with_len 0 n) c ≡ true
 in-range n c lt = rw (let z : 0 + c ≡ c = omega arith in get_or-range_with_len 0 n c 0 lt ∙ z) at (has_place-here (range_with_len 0 n) c (omega (arith, length-range_with_len 0 n)))
 
 -- a tree has a tent beside it
 tree-tent : (p : Tents) (g : List ℕ) → IsGrid (cells_of p) 2 g → is_camp p g ≡ true → (c : ℕ) → c < cells_of p → tree p c ≡ true → (t : ℕ) × (t < cells_of p) × (tent g t ≡ true) × (has_place (steps p.size t 4) c ≡ true)
 unfolding tents_of
 tree-tent p g grid good c lt on =
-    let v = given p g good in
+    let v = given p g (camp-parts p g good).paired in
     let is = v.1 in
     let w = has_place-at v.0 c (is.none_out c lt on) in
     let k : w.0 < length (tents_of p g) = omega (arith, w.1, is.long) in
@@ -171,7 +174,7 @@ tree-tent p g grid good c lt on =
 tent-tree : (p : Tents) (g : List ℕ) → IsGrid (cells_of p) 2 g → is_camp p g ≡ true → (t : ℕ) → tent g t ≡ true → (c : ℕ) × (tree p c ≡ true) × (has_place (steps p.size t 4) c ≡ true)
 unfolding tents_of
 tent-tree p g grid good t on =
-    let v = given p g good in
+    let v = given p g (camp-parts p g good).paired in
     let is = v.1 in
     let tents = filter (tent g) (range_with_len 0 (cells_of p)) in
     let w = has_place-at tents t (place-kept (tent g) (range_with_len 0 (cells_of p)) t (in-range (cells_of p) t (tent-in g (cells_of p) t grid.each_cell on)) on) in
@@ -321,14 +324,6 @@ tent-field p is = record {
   long = is.cells;
   number = λ k. counts-few p.size 0 p.counts k (let s = is.size.extent.w_high in omega arith) (let s = is.size.extent.h_high in omega arith) is.range;
 }
-
-any-here : (test : ℕ → Bool) (xs : List ℕ) (d : ℕ) → has_place xs d ≡ true → test d ≡ true → list_any test xs ≡ true
-unfolding has_place
-any-here test [] d on passes = absurd (true≢false (sym on))
-any-here test (x ∷ xs) d on passes = elim (or_cases (eqb x d) (has_place xs d) on) [
-  | inl here ↦ or_left (test x) (list_any test xs) (ap test (eqb-true x d here) ∙ passes)
-  | inr more ↦ or_right (test x) (list_any test xs) (any-here test xs d more passes)
-]
 
 pub tent-counting : (p : Tents) → IsTents p → IsCounting (cells_of p) (is_bare p) (tent_houses p) (is_camp p)
 unfolding is_bare

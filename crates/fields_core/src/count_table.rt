@@ -1,6 +1,6 @@
 //! The count houses of a puzzle: what a visit of one strikes, and where their cells are.
 
-ghost use Rattle.std.specs.Prelude.{◌≡◌, ℕ, ◌<◌, ◌≤◌, ◌↔◌, IfOk, IsTrue, length, slice_index, true, false};
+ghost use Rattle.std.specs.Prelude.{◌≡◌, ◌<◌, ◌≤◌, IfOk, length, slice_index, true, false};
 ghost use Rattle.grid_core.specs.Board.{has, cells_of, SameShape};
 ghost use Rattle.engine_core.specs.Puzzle.{IsNext, has_place, longest};
 ghost use Rattle.engine_core.specs.Closing.{HasStruck};
@@ -8,6 +8,7 @@ ghost use Rattle.fields_core.specs.CountHouse.{Table, IsHouse, AreHouses, house_
 
 use crate::count_house::CountHouse;
 use crate::keep::keep;
+use crate::place_index::{PlaceHouses, houses_of_places};
 use engine_core::{apply, gather};
 use grid_core::Board;
 use std::alloc::{AllocError, Global};
@@ -62,42 +63,39 @@ fn visit_house(house: &CountHouse, board: &mut Board, sets: &mut [u32], kept: &m
     apply(board, places, 2, kept)
 }
 
-/// Whether the place is one of those listed.
-fn is_listed(places: &[usize], place: usize) -> bool
-    ensures { result ≡ has_place places.now place }
-{
-    for k in 0..places.len() {
-        if places[k] == place {
-            return true;
-        }
-    }
-    false
-}
-
-/// The count houses of a board of `cells` cells.
+/// The count houses of a board of `cells` cells, and for each place those that have it.
 #[derive(Drop)]
 pub struct CountTable {
     cells: usize,
     houses: Vec<CountHouse>,
+    at: Vec<PlaceHouses>,
 }
 
 impl Model for CountTable {
+    ghost use Rattle.std.specs.Prelude.{length};
     ghost use Rattle.fields_core.specs.CountHouse.{Table, AreHouses};
+    ghost use Rattle.fields_core.specs.PlaceIndex.{IsIndex};
 
     ghost Value = { Table };
 
     ghost view = { λ t. record { cells = t.cells; houses = t.houses.items } };
 
-    ghost invariant = { λ t. AreHouses t.cells t.houses.items };
+    ghost invariant = { λ t. AreHouses t.cells t.houses.items
+        × IsIndex t.cells t.houses.items (length t.houses.items) t.at.items };
 }
 
 impl CountTable {
     /// The table of these houses.
-    pub(crate) fn of_houses(cells: usize, houses: Vec<CountHouse>) -> CountTable
+    pub(crate) fn of_houses(
+        alloc: Global,
+        cells: usize,
+        houses: Vec<CountHouse>,
+    ) -> Result<CountTable, AllocError>
         requires { AreHouses cells houses.items }
-        ensures { result ≡ record { cells = cells; houses = houses.items } }
+        ensures { IfOk result (λ table. table ≡ record { cells = cells; houses = houses.items }) }
     {
-        CountTable { cells, houses }
+        let at = houses_of_places(alloc, cells, &houses)?;
+        Ok(CountTable { cells, houses, at })
     }
 
     /// How many cells the board has.
@@ -138,21 +136,8 @@ impl CountTable {
         requires { place < self.now.cells }
         ensures { IsNext (λ h. has_place (house_of self.now.houses h).places place) (length self.now.houses) from result }
     {
-        for house in from..self.len() {
-            if self.has_cell(house, place) {
-                return Some(house);
-            }
-        }
-        None
-    }
-
-    /// Whether the house has the place.
-    fn has_cell(&self, house: usize, place: usize) -> bool
-        requires { house < length self.now.houses }
-        ensures { result ≡ has_place (house_of self.now.houses house).places place }
-    {
-        let house = &self.houses[house];
-        is_listed(house.places(), place)
+        let at = &self.at[place];
+        at.next(from)
     }
 
     /// The cells of the longest house.

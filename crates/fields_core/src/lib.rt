@@ -4,21 +4,32 @@
 mod count_house;
 mod count_table;
 mod keep;
+mod laws;
 mod light_cells;
 mod light_check;
 mod light_fault;
 mod light_houses;
 mod light_rules;
 mod light_sight;
+mod place_index;
 mod tent_cells;
 mod tent_check;
 mod tent_fault;
 mod tent_houses;
+mod tent_pairs;
+mod tent_rules;
+mod tent_touch;
 
+pub use laws::{accepted_are_solutions, rules_of_lights_are_lawful, rules_of_tents_are_lawful};
+pub use light_cells::is_white;
 pub use light_check::check_lights;
 pub use light_fault::LightFault;
 pub use light_rules::LightRules;
+pub use light_sight::{count_beside, sees_a_bulb};
+pub use tent_check::check_tents;
 pub use tent_fault::TentFault;
+pub use tent_rules::TentRules;
+pub use tent_touch::touches_tent;
 
 #[cfg(test)]
 mod tests;

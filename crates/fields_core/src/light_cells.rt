@@ -9,7 +9,7 @@ use gameid_core::{LightCell, LightPuzzle};
 use grid_core::{column_place, row_place};
 
 /// Whether the cell is white.
-pub(crate) fn is_white(puzzle: &LightPuzzle, place: usize) -> bool
+pub fn is_white(puzzle: &LightPuzzle, place: usize) -> bool
     requires { place < cells_of puzzle.now }
     ensures { result ≡ white puzzle.now place }
 {

@@ -46,7 +46,7 @@ impl LightRules {
         let houses = houses_of_lights(alloc, puzzle)?;
         Ok(LightRules {
             puzzle: puzzle.copy(alloc)?,
-            table: CountTable::of_houses(cells(puzzle), houses),
+            table: CountTable::of_houses(alloc, cells(puzzle), houses)?,
         })
     }
 }

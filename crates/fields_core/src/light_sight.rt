@@ -54,8 +54,9 @@ fn sees_in_column(puzzle: &LightPuzzle, grid: &Grid, place: usize) -> bool
     false
 }
 
-/// Whether the cell sees a bulb.
-pub(crate) fn sees_a_bulb(puzzle: &LightPuzzle, grid: &Grid, place: usize) -> bool
+/// Whether the cell sees a bulb: one in another white cell of its row or column, with only white cells between. The grid has
+/// 1 at a bulb and 0 elsewhere.
+pub fn sees_a_bulb(puzzle: &LightPuzzle, grid: &Grid, place: usize) -> bool
     requires fits { IsGrid (cells_of puzzle.now) 2 grid.now }
     requires place_in { place < cells_of puzzle.now }
     ensures { result ≡ sees_bulb puzzle.now grid.now place }
@@ -69,8 +70,8 @@ pub(crate) fn sees_a_bulb(puzzle: &LightPuzzle, grid: &Grid, place: usize) -> bo
     false
 }
 
-/// How many bulbs stand beside the cell.
-pub(crate) fn count_beside(puzzle: &LightPuzzle, grid: &Grid, place: usize) -> usize
+/// How many bulbs stand beside the cell, in cells that share a side with it. The grid has 1 at a bulb and 0 elsewhere.
+pub fn count_beside(puzzle: &LightPuzzle, grid: &Grid, place: usize) -> usize
     requires fits { IsGrid (cells_of puzzle.now) 2 grid.now }
     requires place_in { place < cells_of puzzle.now }
     ensures { result ≡ bulbs_beside puzzle.now grid.now place }

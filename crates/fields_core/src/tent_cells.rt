@@ -3,7 +3,7 @@
 ghost use Rattle.std.specs.Prelude.{◌≡◌, ◌+◌, ◌*◌, ◌/◌, ◌%◌, ◌<◌, ◌^◌, slice_index};
 ghost use Rattle.grid_core.specs.Regions.{row_places, column_places};
 ghost use Rattle.gameid_core.specs.Puzzles.{IsTents};
-ghost use Rattle.fields_core.specs.Tents.{cells_of, tree, are_near, touches};
+ghost use Rattle.fields_core.specs.Tents.{cells_of, tree};
 
 use gameid_core::TentsPuzzle;
 use grid_core::{column_place, row_place};
@@ -76,15 +76,6 @@ pub(crate) fn row_cell(puzzle: &TentsPuzzle, y: usize, x: usize) -> usize
     row_place(puzzle.size(), y, x)
 }
 
-/// Whether two numbers differ by one at most.
-fn are_close(a: usize, b: usize) -> bool
-    requires a_small { a < 2 ^ 32 }
-    requires b_small { b < 2 ^ 32 }
-    ensures { result ≡ are_near a b }
-{
-    a <= b + 1 && b <= a + 1
-}
-
 /// The row of a cell.
 pub(crate) fn row_of(puzzle: &TentsPuzzle, place: usize) -> usize
     requires { place < cells_of puzzle.now }
@@ -103,19 +94,4 @@ pub(crate) fn column_of(puzzle: &TentsPuzzle, place: usize) -> usize
 {
     let _cells = puzzle.size().cells();
     place % columns(puzzle)
-}
-
-/// Whether two cells share a side or a corner.
-pub(crate) fn are_touching(puzzle: &TentsPuzzle, a: usize, b: usize) -> bool
-    requires a_in { a < cells_of puzzle.now }
-    requires b_in { b < cells_of puzzle.now }
-    ensures { result ≡ touches puzzle.now.size a b }
-{
-    if a == b {
-        return false;
-    }
-    if !are_close(row_of(puzzle, a), row_of(puzzle, b)) {
-        return false;
-    }
-    are_close(column_of(puzzle, a), column_of(puzzle, b))
 }

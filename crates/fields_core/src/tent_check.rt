@@ -1,16 +1,22 @@
-//! The lines, trees and neighbours of a grid of Tents.
+//! The check of a grid of Tents.
 
-ghost use Rattle.std.specs.Prelude.{◌≡◌, ◌<◌, ◌&&◌};
+ghost use Rattle.std.specs.Prelude.{◌≡◌, ◌<◌, ◌≤◌, ◌↔◌, ◌&&◌, IfOk, None};
 ghost use Rattle.grid_core.specs.Grids.{IsGrid};
 ghost use Rattle.grid_core.specs.Candidates.{any_below};
 ghost use Rattle.fields_core.specs.Firsts.{IsFirstWrong};
+ghost use Rattle.fields_core.specs.TentFaults.{IsTentFault};
+ghost use Rattle.fields_core.specs.TentSolutions.{IsTentSolution};
 ghost use Rattle.fields_core.specs.Tents.{cells_of, tent, touches, tents_in_column, tents_in_row, tree_right, touch_right, column_right, row_right};
 
 use crate::tent_cells::{
-    are_touching, cells, column_cell, column_number, columns, is_tree, row_cell, row_number, rows,
+    cells, column_cell, column_number, columns, is_tree, row_cell, row_number, rows,
 };
+use crate::tent_fault::TentFault;
+use crate::tent_pairs::are_paired;
+use crate::tent_touch::touches_tent;
 use gameid_core::TentsPuzzle;
-use grid_core::Grid;
+use grid_core::{Grid, Pairing};
+use std::alloc::{AllocError, Global};
 
 /// Whether no tent stands on the cell if it has a tree.
 fn is_tree_right(puzzle: &TentsPuzzle, grid: &Grid, place: usize) -> bool
@@ -24,28 +30,6 @@ fn is_tree_right(puzzle: &TentsPuzzle, grid: &Grid, place: usize) -> bool
     grid.get(place) == 0
 }
 
-/// Whether the cell touches a tent.
-fn touches_tent(puzzle: &TentsPuzzle, grid: &Grid, place: usize) -> bool
-    requires fits { IsGrid (cells_of puzzle.now) 2 grid.now }
-    requires place_in { place < cells_of puzzle.now }
-    ensures { result ≡ any_below (λ d. touches puzzle.now.size place d && tent grid.now d) (cells_of puzzle.now) }
-{
-    let reach = usize::from(puzzle.size().w()) + 1;
-    let _cells = puzzle.size().cells();
-    for other in place.saturating_sub(reach)..cells(puzzle) {
-        if other > place + reach {
-            return false;
-        }
-        if grid.get(other) != 1 {
-            continue;
-        }
-        if are_touching(puzzle, place, other) {
-            return true;
-        }
-    }
-    false
-}
-
 /// Whether the cell's tent, if it has one, touches no other.
 fn is_touch_right(puzzle: &TentsPuzzle, grid: &Grid, place: usize) -> bool
     requires fits { IsGrid (cells_of puzzle.now) 2 grid.now }
@@ -55,7 +39,7 @@ fn is_touch_right(puzzle: &TentsPuzzle, grid: &Grid, place: usize) -> bool
     if grid.get(place) != 1 {
         return true;
     }
-    !touches_tent(puzzle, grid, place)
+    !touches_tent(puzzle.size(), grid, place)
 }
 
 /// How many tents stand in the column.
@@ -109,7 +93,7 @@ fn is_row_right(puzzle: &TentsPuzzle, grid: &Grid, y: usize) -> bool
 }
 
 /// The first tree with a tent on it.
-pub(crate) fn first_tree(puzzle: &TentsPuzzle, grid: &Grid) -> Option<usize>
+fn first_tree(puzzle: &TentsPuzzle, grid: &Grid) -> Option<usize>
     requires { IsGrid (cells_of puzzle.now) 2 grid.now }
     ensures { IsFirstWrong (tree_right puzzle.now grid.now) (cells_of puzzle.now) result }
 {
@@ -122,7 +106,7 @@ pub(crate) fn first_tree(puzzle: &TentsPuzzle, grid: &Grid) -> Option<usize>
 }
 
 /// The first tent that touches another.
-pub(crate) fn first_touch(puzzle: &TentsPuzzle, grid: &Grid) -> Option<usize>
+fn first_touch(puzzle: &TentsPuzzle, grid: &Grid) -> Option<usize>
     requires { IsGrid (cells_of puzzle.now) 2 grid.now }
     ensures { IsFirstWrong (touch_right puzzle.now grid.now) (cells_of puzzle.now) result }
 {
@@ -135,7 +119,7 @@ pub(crate) fn first_touch(puzzle: &TentsPuzzle, grid: &Grid) -> Option<usize>
 }
 
 /// The first column without its number of tents.
-pub(crate) fn first_column(puzzle: &TentsPuzzle, grid: &Grid) -> Option<usize>
+fn first_column(puzzle: &TentsPuzzle, grid: &Grid) -> Option<usize>
     requires { IsGrid (cells_of puzzle.now) 2 grid.now }
     ensures { IsFirstWrong (column_right puzzle.now grid.now) puzzle.now.size.w result }
 {
@@ -148,7 +132,7 @@ pub(crate) fn first_column(puzzle: &TentsPuzzle, grid: &Grid) -> Option<usize>
 }
 
 /// The first row without its number of tents.
-pub(crate) fn first_row(puzzle: &TentsPuzzle, grid: &Grid) -> Option<usize>
+fn first_row(puzzle: &TentsPuzzle, grid: &Grid) -> Option<usize>
     requires { IsGrid (cells_of puzzle.now) 2 grid.now }
     ensures { IsFirstWrong (row_right puzzle.now grid.now) puzzle.now.size.h result }
 {
@@ -158,4 +142,56 @@ pub(crate) fn first_row(puzzle: &TentsPuzzle, grid: &Grid) -> Option<usize>
         }
     }
     None
+}
+
+/// What is wrong with a grid of Tents. The pairing has room for all cells.
+pub(crate) fn find_fault(
+    puzzle: &TentsPuzzle,
+    grid: &Grid,
+    pairing: &mut Pairing,
+) -> Option<TentFault>
+    requires fits { IsGrid (cells_of puzzle.now) 2 grid.now }
+    requires room { cells_of puzzle.now ≤ pairing.old.room }
+    ensures fault { IsTentFault puzzle.now grid.now result }
+    ensures room { pairing.new.room ≡ pairing.old.room }
+{
+    if let Some(place) = first_tree(puzzle, grid) {
+        return Some(TentFault::Tree(place));
+    }
+    if let Some(place) = first_touch(puzzle, grid) {
+        return Some(TentFault::Touch(place));
+    }
+    if let Some(x) = first_column(puzzle, grid) {
+        return Some(TentFault::Column(x));
+    }
+    if let Some(y) = first_row(puzzle, grid) {
+        return Some(TentFault::Row(y));
+    }
+    if are_paired(puzzle, grid, pairing) {
+        return None;
+    }
+    Some(TentFault::Match)
+}
+
+/// What is wrong with a grid of Tents, 1 at a tent and 0 elsewhere: the first broken rule, in the order of
+/// `TentFault`, at the lowest place, column or row. `None` means that the grid is a solution: no tent stands on a
+/// tree, no two tents touch at a side or a corner, each column and row has its number of tents, and the tents can be
+/// paired one to one with the trees so that each tent is beside its own tree (the rules of Tents in the manual of
+/// Simon Tatham's Portable Puzzle Collection).
+///
+/// # Errors
+///
+/// When memory was refused.
+pub fn check_tents(
+    alloc: Global,
+    puzzle: &TentsPuzzle,
+    grid: &Grid,
+) -> Result<Option<TentFault>, AllocError>
+    requires fits { IsGrid (cells_of puzzle.now) 2 grid.now }
+    ensures fault { IfOk result (λ fault. IsTentFault puzzle.now grid.now fault) }
+    ensures solution { IfOk result (λ fault. (fault ≡ None) ↔ IsTentSolution puzzle.now grid.now) }
+{
+    let mut pairing = Pairing::new(alloc, cells(puzzle))?;
+    let fault = find_fault(puzzle, grid, &mut pairing);
+    Ok(fault)
 }

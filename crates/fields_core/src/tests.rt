@@ -1,6 +1,6 @@
 use super::*;
 use engine_core::{Rules, Store};
-use gameid_core::read_lights;
+use gameid_core::{read_lights, read_tents};
 use grid_core::Grid;
 use std::alloc::Global;
 use std::process::Abort;
@@ -84,6 +84,84 @@ fn houses_of_light_up(rt: HostRuntime) -> Result<(), Fail> {
             assert_eq!(rt; rules.house_at(place, from), *house, "from {from}");
             from = house.map_or(8, |house| house + 1);
         }
+    }
+    Ok(())
+}
+
+/// The fault of a grid with tents at these places.
+fn tent_fault_of(
+    rt: &impl Abort,
+    alloc: Global,
+    id: &str,
+    tents: &[usize],
+) -> Result<Option<TentFault>, Fail> {
+    let puzzle = read_tents(alloc, id.as_bytes())?;
+    let rules = TentRules::new(alloc, &puzzle)?;
+    let mut scratch = rules.scratch(alloc)?;
+    let mut grid = Grid::new(alloc, rules.cells())?;
+    for tent in tents {
+        assert!(rt; *tent < grid.len());
+        grid.set(*tent, 1);
+    }
+    assert!(rt; grid.fits(rules.cells(), rules.values()));
+    let fault = check_tents(alloc, &puzzle, &grid)?;
+    assert_eq!(rt; rules.accept(&mut scratch, &grid), fault.is_none());
+    Ok(fault)
+}
+
+#[test]
+fn grids_of_tents(rt: HostRuntime) -> Result<(), Fail> {
+    let two = "2x2:_c,0,1,1,0";
+    assert_eq!(rt; tent_fault_of(&rt, rt.alloc(), two, &[1])?, None);
+    assert_eq!(rt;
+        tent_fault_of(&rt, rt.alloc(), two, &[1, 2])?,
+        Some(TentFault::Touch(1))
+    );
+    assert_eq!(rt;
+        tent_fault_of(&rt, rt.alloc(), two, &[2])?,
+        Some(TentFault::Column(0))
+    );
+    assert_eq!(rt;
+        tent_fault_of(&rt, rt.alloc(), two, &[0, 1])?,
+        Some(TentFault::Tree(0))
+    );
+    assert_eq!(rt;
+        tent_fault_of(&rt, rt.alloc(), "2x2:_c,0,1,0,1", &[1])?,
+        Some(TentFault::Row(0))
+    );
+    assert_eq!(rt;
+        tent_fault_of(&rt, rt.alloc(), "5x3:aiaa,1,0,2,0,0,2,0,1", &[0, 2, 12])?,
+        Some(TentFault::Match)
+    );
+    Ok(())
+}
+
+#[test]
+fn a_tree_in_a_corner_closes(rt: HostRuntime) -> Result<(), Fail> {
+    let puzzle = read_tents(rt.alloc(), b"2x2:_c,0,1,1,0")?;
+    let rules = TentRules::new(rt.alloc(), &puzzle)?;
+    let mut store = Store::new(rt.alloc(), &rules)?;
+    assert!(rt; store.settles(&rules));
+    for place in 0..4 {
+        assert!(rt; place < rules.cells());
+        assert_eq!(rt; store.board().has(place, 1), place == 1, "cell {place}");
+    }
+    Ok(())
+}
+
+#[test]
+fn a_copy_of_tents_is_the_same(rt: HostRuntime) -> Result<(), Fail> {
+    let puzzle = read_tents(rt.alloc(), b"3x2:a_c,1,0,1,2,0")?;
+    let copy = puzzle.copy(rt.alloc())?;
+    let size = copy.size();
+    assert_eq!(rt; (size.w(), size.h()), (3, 2));
+    for (place, tree) in [false, true, true, false, false, false].iter().enumerate() {
+        assert!(rt; place < size.cells());
+        assert_eq!(rt; copy.tree(place), *tree, "cell {place}");
+    }
+    for (line, tents) in [1, 0, 1, 2, 0].iter().enumerate() {
+        assert!(rt; line < usize::from(size.w()) + usize::from(size.h()));
+        assert_eq!(rt; copy.count(line), *tents, "line {line}");
     }
     Ok(())
 }

@@ -14,6 +14,7 @@ pub mod Lists
 pub mod Numbers
 pub mod Numerals
 pub mod OneReading
+pub mod OverLong
 pub mod OnesFit
 pub mod PatternAgain
 pub mod PatternForm
@@ -25,7 +26,6 @@ pub mod PatternTokens
 pub mod PatternWritten
 pub mod Reading
 pub mod Results
-pub mod Rows
 pub mod RunLaws
 pub mod RunsFit
 pub mod SoloCanon

@@ -40,7 +40,13 @@ fn sides(text: &[u8]) -> Result<(u32, u32, &[u8]), IdFault>
     }
 }
 
-/// The size that the whole text is: tests 4 to 6 of an ID, with the text's end in place of the colon.
+/// The size that the whole text is, in the form of Simon Tatham's Portable Puzzle Collection: `CxR` for Solo, columns
+/// and rows of sub-blocks; `WxH` for the other games, columns and rows of cells; or one number for two equal ones.
+///
+/// # Errors
+///
+/// The first that fails of these tests, which an ID meets in the part before its colon: `BadSize` where the text does not
+/// begin with a size, `Variant` where more follows, `SizeRange` where the size is outside the game's limits.
 #[tactic(auto, unfolding(crate::specs::Head::size_of))]
 pub fn read_size(game: Game, text: &[u8]) -> Result<(u8, u8), IdFault>
     ensures exact { result ≡ size_of game text.now }

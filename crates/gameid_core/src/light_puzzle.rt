@@ -36,6 +36,10 @@ impl LightPuzzle {
     }
 
     /// The puzzle of that size with white cells alone.
+    ///
+    /// # Errors
+    ///
+    /// When memory was refused.
     pub fn blank(alloc: Global, size: Size) -> Result<LightPuzzle, AllocError>
         requires w_two { 2 ≤ size.w }
         requires h_two { 2 ≤ size.h }
@@ -46,6 +50,10 @@ impl LightPuzzle {
     }
 
     /// A copy of the puzzle.
+    ///
+    /// # Errors
+    ///
+    /// When memory was refused.
     pub fn copy(&self, alloc: Global) -> Result<LightPuzzle, AllocError>
         ensures { IfOk result (λ p. p ≡ self.now) }
     {

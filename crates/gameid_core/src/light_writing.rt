@@ -59,6 +59,10 @@ fn written(alloc: Global, puzzle: &LightPuzzle) -> Result<String, AllocError>
 /// The one written ID of the puzzle, of at most `MAX_ID` bytes, which reads back to an equal puzzle. Both numbers of
 /// the size are written. In each run of white cells all letters but the last are `z`, and the last run is written
 /// too.
+///
+/// # Errors
+///
+/// When memory was refused.
 pub fn write_lights(alloc: Global, puzzle: &LightPuzzle) -> Result<String, AllocError>
     ensures text { IfOk result (λ text. string_bytes text ≡ light_text puzzle.now) }
     ensures form { IfOk result (λ text. IsWrittenLight (string_bytes text) puzzle.now) }

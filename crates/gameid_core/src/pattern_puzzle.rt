@@ -39,6 +39,10 @@ impl PatternPuzzle {
 
     /// The puzzle of that size whose clues are the runs of the grid's lines: the clue of each column is its runs
     /// downwards, and the clue of each row its runs rightwards. The grid has 0 for white and 1 for black.
+    ///
+    /// # Errors
+    ///
+    /// When memory was refused.
     pub fn of_grid(alloc: Global, size: Size, grid: &Grid) -> Result<PatternPuzzle, AllocError>
         requires { IsGrid (size.w * size.h) 2 grid.now }
         ensures size { IfOk result (λ p. p.size ≡ size) }

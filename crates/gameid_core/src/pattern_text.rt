@@ -161,6 +161,10 @@ fn read(alloc: Global, text: &[u8]) -> Result<PatternPuzzle, IdFault>
 /// their order and on the whole ID, and then the first fault that is met in the description from left to right.
 /// A fault's place is the number of bytes of the ID before it. `IdFault::Memory` comes only where memory was
 /// wanted for what was read so far.
+///
+/// The description is the one that Pattern of Simon Tatham's Portable Puzzle Collection writes: a clue for each column
+/// from the left and then for each row from the top, with `/` between two clues; a clue is empty, or the lengths of the
+/// line's black runs with `.` between two of them.
 pub fn read_pattern(alloc: Global, text: &[u8]) -> Result<PatternPuzzle, IdFault>
     // What is read is spelled so.
     ensures found { IfOk result (λ p. SpellsPattern text.now p) }

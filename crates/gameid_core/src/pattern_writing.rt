@@ -51,6 +51,10 @@ fn written(alloc: Global, puzzle: &PatternPuzzle) -> Result<String, AllocError>
 
 /// The one written ID of the puzzle, of at most `MAX_ID` bytes, which reads back to an equal puzzle. Both numbers of
 /// the size are written, and no number has a leading zero.
+///
+/// # Errors
+///
+/// When memory was refused.
 pub fn write_pattern(alloc: Global, puzzle: &PatternPuzzle) -> Result<String, AllocError>
     ensures text { IfOk result (λ text. string_bytes text ≡ pattern_text puzzle.now) }
     ensures form { IfOk result (λ text. IsWrittenPattern (string_bytes text) puzzle.now) }

@@ -36,6 +36,10 @@ impl SoloPuzzle {
     }
 
     /// The puzzle of that size without givens.
+    ///
+    /// # Errors
+    ///
+    /// When memory was refused.
     pub fn blank(alloc: Global, c: u8, r: u8) -> Result<SoloPuzzle, AllocError>
         requires c_low { 2 ≤ c }
         requires r_low { 2 ≤ r }
@@ -45,6 +49,23 @@ impl SoloPuzzle {
         let n = usize::from(c) * usize::from(r);
         let givens = vec![in alloc; 0; n * n]?;
         Ok(SoloPuzzle { c, r, givens })
+    }
+
+    /// A copy of the puzzle.
+    ///
+    /// # Errors
+    ///
+    /// When memory was refused.
+    pub fn copy(&self, alloc: Global) -> Result<SoloPuzzle, AllocError>
+        ensures same { IfOk result (λ p. p ≡ self.now) }
+        ensures lawful { IsSolo self.now }
+    {
+        let givens = self.givens.to_vec(alloc)?;
+        Ok(SoloPuzzle {
+            c: self.c,
+            r: self.r,
+            givens,
+        })
     }
 
     /// The number of columns of sub-blocks, which is the height of a block.

@@ -55,6 +55,10 @@ fn written(alloc: Global, puzzle: &SoloPuzzle) -> Result<String, AllocError>
 /// The one written ID of the puzzle, of at most `MAX_ID` bytes, which reads back to an equal puzzle. Both numbers of
 /// the size are written. In each run of blank cells all letters but the last are `z`, and `_` stands exactly between
 /// two numbers.
+///
+/// # Errors
+///
+/// When memory was refused.
 pub fn write_solo(alloc: Global, puzzle: &SoloPuzzle) -> Result<String, AllocError>
     ensures text { IfOk result (λ text. string_bytes text ≡ solo_text puzzle.now) }
     ensures form { IfOk result (λ text. IsWrittenSolo (string_bytes text) puzzle.now) }

@@ -45,6 +45,10 @@ impl TentsPuzzle {
 
     /// The puzzle of that size with these trees, whose numbers are those of the tents of each column and row. In both
     /// grids 1 is a tree or a tent, and 0 is none.
+    ///
+    /// # Errors
+    ///
+    /// When memory was refused.
     pub fn of_parts(
         alloc: Global,
         size: Size,
@@ -72,6 +76,10 @@ impl TentsPuzzle {
     }
 
     /// A copy of the puzzle.
+    ///
+    /// # Errors
+    ///
+    /// When memory was refused.
     pub fn copy(&self, alloc: Global) -> Result<TentsPuzzle, AllocError>
         ensures { IfOk result (λ p. p ≡ self.now) }
     {

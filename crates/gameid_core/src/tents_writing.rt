@@ -78,6 +78,10 @@ fn written(alloc: Global, puzzle: &TentsPuzzle) -> Result<String, AllocError>
 
 /// The one written ID of the puzzle, of at most `MAX_ID` bytes, which reads back to an equal puzzle. Both numbers of
 /// the size are written, no `z` stands before `_`, and no number has a leading zero.
+///
+/// # Errors
+///
+/// When memory was refused.
 pub fn write_tents(alloc: Global, puzzle: &TentsPuzzle) -> Result<String, AllocError>
     ensures text { IfOk result (λ text. string_bytes text ≡ tents_text puzzle.now) }
     ensures form { IfOk result (λ text. IsWrittenTents (string_bytes text) puzzle.now) }

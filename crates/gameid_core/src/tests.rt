@@ -418,3 +418,14 @@ fn clues_are_read(rt: HostRuntime) -> Result<(), Fail> {
     assert_eq!(rt; square.clue_len(3), 0);
     Ok(())
 }
+
+#[test]
+fn puzzles_are_copied(rt: HostRuntime) -> Result<(), Fail> {
+    let solo = read_solo(rt.alloc(), b"2x3:1_6zh")?.copy(rt.alloc())?;
+    assert_eq!(rt; write_solo(rt.alloc(), &solo)?.as_str(), "2x3:1_6zh");
+    let lights = read_lights(rt.alloc(), b"3x3:aBBa1aBb")?.copy(rt.alloc())?;
+    assert_eq!(rt; write_lights(rt.alloc(), &lights)?.as_str(), "3x3:aBBa1aBb");
+    let tents = read_tents(rt.alloc(), b"2x2:_c,0,1,1,0")?.copy(rt.alloc())?;
+    assert_eq!(rt; write_tents(rt.alloc(), &tents)?.as_str(), "2x2:_c,0,1,1,0");
+    Ok(())
+}

@@ -7,7 +7,7 @@ use crate::augmenting::pair_all;
 use std::alloc::{AllocError, Global};
 use std::marker::Model;
 
-/// Which lefts are joined to which rights.
+/// Which lefts are joined to which rights. Both are numbered from 0.
 pub trait Edges {
     ghost left_count: { Self → ℕ };
 
@@ -15,9 +15,11 @@ pub trait Edges {
 
     ghost joins: { Self → ℕ → ℕ → Bool };
 
+    /// How many lefts there are.
     fn lefts(&self) -> usize
         ensures { result ≡ left_count self.now };
 
+    /// How many rights there are.
     fn rights(&self) -> usize
         ensures { result ≡ right_count self.now };
 
@@ -72,6 +74,10 @@ impl Model for Pairing {
 
 impl Pairing {
     /// Room for n lefts and n rights.
+    ///
+    /// # Errors
+    ///
+    /// When memory was refused.
     pub fn new(alloc: Global, n: usize) -> Result<Pairing, AllocError>
         ensures { IfOk result (λ p. (p.room ≡ n) × (p.mates ≡ []) × (p.short ≡ [])) }
     {
@@ -95,6 +101,7 @@ impl Pairing {
         ensures all { result ≡ Paired.All → IsPairing (E.joins edges.now) (E.left_count edges.now)
             (E.right_count edges.now) self.new.mates }
         ensures none_short { result ≡ Paired.All → self.new.short ≡ [] }
+        ensures no_mates { result ≡ Paired.Short → self.new.mates ≡ [] }
         ensures short { result ≡ Paired.Short → IsShortSet (E.joins edges.now) (E.left_count edges.now)
             (E.right_count edges.now) self.new.short }
     {

@@ -1,11 +1,8 @@
 //! The check of a grid.
 
-ghost use Rattle.std.specs.Prelude.{◌≡◌, ◌*◌, ◌↔◌, ℕ, List, IsTrue};
-ghost use Rattle.gameid_core.specs.Puzzles.{Pattern};
+ghost use Rattle.std.specs.Prelude.{◌*◌};
 ghost use Rattle.grid_core.specs.Grids.{IsGrid};
 ghost use Rattle.pattern_core.specs.Faults.{IsCheck};
-ghost use Rattle.pattern_core.specs.LineRules.{line_rules};
-ghost use Rattle.pattern_core.specs.Solutions.{IsSolution};
 
 use crate::fault::PatternFault;
 use crate::walk::has_clue;
@@ -34,9 +31,3 @@ pub fn check_pattern(puzzle: &PatternPuzzle, grid: &Grid) -> Option<PatternFault
     }
     None
 }
-
-/// The grids that a search accepts are the solutions of its puzzle.
-pub fn accepted_are_solutions()
-    ensures { (p : Pattern) (g : List ℕ) → IsGrid (p.size.w * p.size.h) 2 g
-        → (IsTrue ((line_rules p).is_solution g)) ↔ IsSolution p g }
-{}

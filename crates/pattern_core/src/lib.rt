@@ -3,14 +3,16 @@
 
 mod check;
 mod fault;
+mod laws;
 mod lines;
 #[cfg(test)]
 mod listing;
 mod table;
 mod walk;
 
-pub use check::{accepted_are_solutions, check_pattern};
+pub use check::check_pattern;
 pub use fault::PatternFault;
+pub use laws::{accepted_are_solutions, rules_are_lawful};
 pub use lines::{LineScratch, PatternLines};
 
 #[cfg(test)]

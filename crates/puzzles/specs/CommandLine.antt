@@ -5,21 +5,59 @@ use Rattle.clap.specs.Walk.{Row, Rule, Text}
 use Rattle.clap.specs.Simple.{App, new_app, new_rule, on_top, subcommand_of}
 use Rattle.clap.specs.Simple.{with_rule, with_subcommand}
 use Rattle.clap.specs.Faults.{fault_of}
+use Rattle.clap.specs.declared.builder.action.ArgAction.TheVariants.{SetTrue}
 
--- a word that must be there
+-- a word that must be there, and one that may be
 abbrev pub required_word : Text → Rule
 required_word id = record (new_rule id) { required = true }
 
--- `--name VALUE`
+abbrev pub optional_word : Text → Rule
+optional_word id = new_rule id
+
+-- `--name VALUE`, and the same where it must be there
 abbrev pub text_option : Text → Rule
 text_option name = record (new_rule name) { long = Some name }
 
--- `solve GAME ID [--budget B]`
+abbrev pub required_option : Text → Rule
+required_option name = record (text_option name) { required = true }
+
+-- `--name`
+abbrev pub flag : Text → Rule
+flag name = record (text_option name) { action = Some SetTrue }
+
+-- `solve GAME [ID] [--budget B]`
 abbrev pub solve_app : App
 solve_app = with_rule (with_rule (with_rule (new_app (codes "solve"))
     (required_word (codes "game")))
-    (required_word (codes "id")))
+    (optional_word (codes "id")))
     (text_option (codes "budget"))
+
+-- `check GAME ID`
+abbrev pub check_app : App
+check_app = with_rule (with_rule (new_app (codes "check"))
+    (required_word (codes "game")))
+    (required_word (codes "id"))
+
+-- `grade GAME ID [--budget B] [--trace]`
+abbrev pub grade_app : App
+grade_app = with_rule (with_rule (with_rule (with_rule (new_app (codes "grade"))
+    (required_word (codes "game")))
+    (required_word (codes "id")))
+    (text_option (codes "budget")))
+    (flag (codes "trace"))
+
+-- `generate GAME SIZE --seed S [--budget B] [--tries T] [--black P]`: what must be there, and the whole
+abbrev pub generate_needs_app : App
+generate_needs_app = with_rule (with_rule (with_rule (new_app (codes "generate"))
+    (required_word (codes "game")))
+    (required_word (codes "size")))
+    (required_option (codes "seed"))
+
+abbrev pub generate_app : App
+generate_app = with_rule (with_rule (with_rule generate_needs_app
+    (text_option (codes "budget")))
+    (text_option (codes "tries")))
+    (text_option (codes "black"))
 
 -- no name of a program first, no help and no version, and a command has to stand there
 abbrev pub bare_app : App
@@ -32,7 +70,8 @@ bare_app = on_top (λ s. record s {
 }) (new_app (codes "puzzles"))
 
 abbrev pub puzzles_app : App
-puzzles_app = with_subcommand bare_app solve_app.top
+puzzles_app = with_subcommand (with_subcommand (with_subcommand (with_subcommand bare_app
+    solve_app.top) check_app.top) grade_app.top) generate_app.top
 
 -- nothing where a fault was found
 abbrev pub unless_fault : {X : Type 0} → Kinds → Option X → Option X

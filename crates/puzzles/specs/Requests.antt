@@ -1,21 +1,37 @@
 -- What the words ask for.
-use Rattle.std.specs.Prelude.{ℕ, List, Option, Some, None, codes, if◌then◌else◌, option_and_then, option_map}
+use Rattle.std.specs.Prelude.{◌≤◌, ⊤, false, ℕ, Bool, List, Option, Some, None, codes, if◌then◌else◌, option_and_then, option_map}
 use Rattle.std.specs.Str.{bytes_eq}
+use Rattle.std.specs.Option.{option_map_or}
 use Rattle.clap.specs.Walk.{Row, Text, first_of}
+use Rattle.puzzles.specs.CommandLine.{parsed}
+use Rattle.puzzles.specs.Numbers.{number_of, number_or}
 use Rattle.gameid_core.specs.declared.game.Game.{Game}
 use Rattle.gameid_core.specs.declared.game.Game.TheVariants.{Solo, Pattern, LightUp, Tents}
-use Rattle.puzzles.specs.CommandLine.{parsed}
-use Rattle.puzzles.specs.Numbers.{number_or}
 use Rattle.puzzles.specs.declared.words.Request.{Request}
 use Rattle.puzzles.specs.declared.words.Request.TheVariants as request
 
 -- a request, apart from where its texts lie in memory
 pub data Asked : Type 0 where
-  -- game, ID, budget
-  solve : Game → Text → ℕ → Asked
+  -- game, ID where there is one, budget
+  solve : Game → Option Text → ℕ → Asked
+  -- game, ID
+  check : Game → Text → Asked
+  -- game, ID, budget, whether the trace is wanted
+  grade : Game → Text → ℕ → Bool → Asked
+  -- game, size, seed, budget, tries, percentage of black
+  generate : Game → Text → ℕ → ℕ → ℕ → ℕ → Asked
 
 abbrev pub asked_in : Request → Asked
-asked_in (request.Solve game id budget) = solve game id.now budget
+asked_in (request.Solve game id budget) = solve game (option_map (λ s. s.now) id) budget
+asked_in (request.Check game id) = check game id.now
+asked_in (request.Grade game id budget trace) = grade game id.now budget trace
+asked_in (request.Generate game size seed budget tries black) =
+    generate game size.now seed budget tries black
+
+-- the percentage of a request that has one is at most 100
+abbrev pub IsWithin : Request → Type 0
+IsWithin (request.Generate game size seed budget tries black) = black ≤ 100
+IsWithin _ = ⊤
 
 abbrev pub game_of : Text → Option Game
 game_of text = if bytes_eq text (codes "solo") then Some Solo
@@ -31,12 +47,52 @@ abbrev pub budget_in : List Row → Option ℕ
 budget_in rows = number_or 100000 18446744073709551615 (first_of (codes "budget") rows)
 
 abbrev pub solve_in : List Row → Option Asked
-solve_in rows = option_and_then (λ game. option_and_then (λ id. option_map (λ budget.
-    solve game id budget) (budget_in rows)) (first_of (codes "id") rows)) (game_in rows)
+solve_in rows = option_and_then (λ game. option_map (λ budget.
+    solve game (first_of (codes "id") rows) budget) (budget_in rows)) (game_in rows)
+
+abbrev pub check_in : List Row → Option Asked
+check_in rows = option_and_then (λ game. option_map (λ id.
+    check game id) (first_of (codes "id") rows)) (game_in rows)
+
+-- the flag has the value `true` where it was used
+abbrev pub trace_in : List Row → Bool
+trace_in rows = option_map_or (λ text. bytes_eq text (codes "true")) (first_of (codes "trace") rows) false
+
+abbrev pub grade_in : List Row → Option Asked
+grade_in rows = option_and_then (λ game. option_and_then (λ id. option_map (λ budget.
+    grade game id budget (trace_in rows)) (budget_in rows)) (first_of (codes "id") rows))
+    (game_in rows)
+
+-- the percentage of black cells, 0 to 100, which only two games have: 50 and 20 where nothing is said
+abbrev pub black_for : Game → Option Text → Option ℕ
+black_for Pattern text = number_or 50 100 text
+black_for LightUp text = number_or 20 100 text
+black_for _ None = Some 0
+black_for _ (Some text) = None
+
+-- 0 to 18,446,744,073,709,551,615
+abbrev pub seed_in : List Row → Option ℕ
+seed_in rows = option_and_then (number_of 18446744073709551615) (first_of (codes "seed") rows)
+
+-- 0 to 4,294,967,295, and 1,000 where nothing is said
+abbrev pub tries_in : List Row → Option ℕ
+tries_in rows = number_or 1000 4294967295 (first_of (codes "tries") rows)
+
+abbrev pub black_in : Game → List Row → Option ℕ
+black_in game rows = black_for game (first_of (codes "black") rows)
+
+abbrev pub generate_in : List Row → Option Asked
+generate_in rows = option_and_then (λ game. option_and_then (λ size. option_and_then (λ seed.
+    option_and_then (λ budget. option_and_then (λ tries. option_map (λ black.
+    generate game size seed budget tries black) (black_in game rows)) (tries_in rows))
+    (budget_in rows)) (seed_in rows)) (first_of (codes "size") rows)) (game_in rows)
 
 -- what the command of this name asks for
 abbrev pub asked_by : Text → List Row → Option Asked
-asked_by name rows = if bytes_eq name (codes "solve") then solve_in rows else None
+asked_by name rows = if bytes_eq name (codes "solve") then solve_in rows
+    else (if bytes_eq name (codes "check") then check_in rows
+    else (if bytes_eq name (codes "grade") then grade_in rows
+    else (if bytes_eq name (codes "generate") then generate_in rows else None)))
 
 -- what the words ask for; None where they are refused
 unfoldable pub asked_of : List Text → Option Asked

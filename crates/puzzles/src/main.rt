@@ -1,6 +1,12 @@
 //! Solves logic puzzles by their game IDs.
 #![tactic(auto)]
 
+pub mod batch;
+#[cfg(test)]
+mod batched;
+pub mod check;
+pub mod check_reply;
+pub mod checked;
 #[cfg(test)]
 mod compared;
 #[cfg(test)]
@@ -8,17 +14,33 @@ mod counted;
 pub mod ends;
 #[cfg(test)]
 mod fakes;
+pub mod front;
+pub mod generate;
+pub mod grade;
+#[cfg(test)]
+mod graded;
+pub mod grid_reader;
 pub mod grid_text;
+pub mod lines;
+#[cfg(test)]
+mod makings;
 pub mod output;
 #[cfg(test)]
 mod plain;
 pub mod printed;
 pub mod read_end;
+pub mod readable;
 pub mod reply;
 pub mod run;
+pub mod seed;
 pub mod solve;
+pub mod stop;
 #[cfg(test)]
 mod tests;
+#[cfg(test)]
+mod tests_check;
+pub mod text;
+pub mod trace;
 pub mod words;
 pub mod write_end;
 

@@ -20,7 +20,7 @@ pub struct Reply {
     pub status: u8,
 }
 
-/// The answer to words that ask for nothing that is built.
+/// The answer to words that ask for nothing.
 pub fn words_refused(alloc: Global) -> Result<Reply, AllocError>
     ensures { IfOk result (λ r. answer_in r ≡ refused_words) }
 {

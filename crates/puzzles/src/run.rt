@@ -1,26 +1,32 @@
 //! One run of the program.
-ghost use Rattle.std.specs.Prelude.{◌≡◌, ◌<◌, ◌≤◌, List, ℕ, true, false, map, option_map, string_bytes, IfOk};
+ghost use Rattle.std.specs.Prelude.{◌≡◌, ◌<◌, ◌≤◌, List, ℕ, true, false, map, option_map, string_bytes, IfOk, IfSome};
 ghost use Rattle.puzzles.specs.Answers.{BeginsAnswer, Text};
-ghost use Rattle.puzzles.specs.Outputs.{Allows, reads_input};
+ghost use Rattle.puzzles.specs.Outputs.{Allows, is_put_whole, reads_input};
 ghost use Rattle.puzzles.specs.Replies.{answer_in};
-ghost use Rattle.puzzles.specs.Requests.{asked_in, asked_of};
+ghost use Rattle.puzzles.specs.Requests.{asked_in, asked_of, IsWithin};
 ghost use Rattle.puzzles.specs.Runs.{Ran, IsBroken};
 
+use crate::batch::solve_lines;
+use crate::check::check_id;
 use crate::ends::{Sink, Source};
+use crate::generate::generated;
+use crate::grade::grade_id;
 use crate::output::deliver;
 use crate::read_end::ReadEnd;
 use crate::reply::{Reply, words_refused};
-use crate::solve::{solve_lights, solve_pattern, solve_solo};
+use crate::solve::{Stores, solve_id};
 use crate::words::{Request, read_words};
 use crate::write_end::WriteEnd;
-use gameid_core::Game;
+use maker_core::Limits;
 use std::alloc::{AllocError, Global};
 
 /// The status of a run that wanted memory.
 pub const NO_MEMORY: u8 = 5;
 
-/// The answer to a request, which leaves the input unread.
+/// The answer to a request that is made whole before it is put, and leaves the input unread.
 fn reply_to(alloc: Global, request: Option<Request<'_>>) -> Result<Reply, AllocError>
+    requires within { IfSome request IsWithin }
+    requires whole { is_put_whole (option_map asked_in request) ≡ true }
     ensures allowed { IfOk result (λ r. (input : Text)
         → Allows (option_map asked_in request.entry) input (answer_in r)) }
     ensures status { IfOk result (λ r. r.status < NO_MEMORY) }
@@ -28,25 +34,28 @@ fn reply_to(alloc: Global, request: Option<Request<'_>>) -> Result<Reply, AllocE
     match request {
         Some(
             Request::Solve {
-                game: Game::Pattern,
-                id,
+                game,
+                id: Some(id),
                 budget,
             },
-        ) => solve_pattern(alloc, id.as_bytes(), budget),
+        ) => solve_id(alloc, &mut Stores::none(), game, id.as_bytes(), budget),
         Some(
-            Request::Solve {
-                game: Game::Solo,
-                id,
+            Request::Generate {
+                game,
+                size,
+                seed,
                 budget,
+                tries,
+                black,
             },
-        ) => solve_solo(alloc, id.as_bytes(), budget),
-        Some(
-            Request::Solve {
-                game: Game::LightUp,
-                id,
-                budget,
-            },
-        ) => solve_lights(alloc, id.as_bytes(), budget),
+        ) => generated(
+            alloc,
+            game,
+            size.as_bytes(),
+            seed,
+            Limits { budget, tries },
+            black,
+        ),
         _ => words_refused(alloc),
     }
 }
@@ -74,6 +83,30 @@ pub fn run<I: Source, O: Sink>(alloc: Global, words: &[String], input: &mut I, o
         Ok(request) => request,
         Err(_) => return NO_MEMORY,
     };
+    if let Some(
+        Request::Solve {
+            game,
+            id: None,
+            budget,
+        },
+    ) = request
+    {
+        return solve_lines(alloc, game, budget, input, output);
+    }
+    if let Some(
+        Request::Grade {
+            game,
+            id,
+            budget,
+            trace,
+        },
+    ) = request
+    {
+        return grade_id(alloc, game, id.as_bytes(), budget, trace, output);
+    }
+    if let Some(Request::Check { game, id }) = request {
+        return check_id(alloc, game, id.as_bytes(), input, output);
+    }
     match reply_to(alloc, request) {
         Ok(reply) => deliver(output, &reply),
         Err(_) => NO_MEMORY,

@@ -1,8 +1,10 @@
 //! The answers of `solve`.
 ghost use Rattle.std.specs.Prelude.{◌≡◌, ◌<◌, ◌*◌, List, ℕ, IfOk};
+ghost use Rattle.engine_core.specs.Puzzle.{FitsIn, needs_of};
 ghost use Rattle.engine_core.specs.Verdict.{IsTrueOf};
+ghost use Rattle.puzzles.specs.Each.{HasAnswers};
 ghost use Rattle.puzzles.specs.GridTexts.{grid_text};
-ghost use Rattle.puzzles.specs.Outputs.{AllowsPattern, AllowsSolo, AllowsLights};
+ghost use Rattle.puzzles.specs.Outputs.{AllowsPattern, AllowsSolo, AllowsLights, AllowsTents, AllowsSolve};
 ghost use Rattle.puzzles.specs.Replies.{answer_in};
 ghost use Rattle.puzzles.specs.Verdicts.{verdict_of, verdict_answer};
 
@@ -11,15 +13,51 @@ use crate::reply::{
     Reply, gave_up_reply, gave_up_with_reply, id_refused, none_reply, one_reply, several_reply,
 };
 use engine_core::{Rules, Store, Verdict};
-use fields_core::LightRules;
-use gameid_core::{IdFault, read_lights, read_pattern, read_solo};
+use fields_core::{LightRules, TentRules};
+use gameid_core::{Game, IdFault, read_lights, read_pattern, read_solo, read_tents};
 use pattern_core::PatternLines;
 use solo_core::SoloHouses;
 use std::alloc::{AllocError, Global};
 
+/// The memory of the last searches of each game, for the next ones that it is enough for.
+#[derive(Drop)]
+pub struct Stores {
+    solo: Option<Store<SoloHouses>>,
+    pattern: Option<Store<PatternLines>>,
+    lights: Option<Store<LightRules>>,
+    tents: Option<Store<TentRules>>,
+}
+
+impl Stores {
+    /// No memory yet.
+    pub fn none() -> Stores {
+        Stores {
+            solo: None,
+            pattern: None,
+            lights: None,
+            tents: None,
+        }
+    }
+}
+
+/// The memory that is kept, where it is enough for the rules, or new memory.
+fn store_for<R: Rules>(
+    alloc: Global,
+    kept: &mut Option<Store<R>>,
+    rules: &R,
+) -> Result<Store<R>, AllocError>
+    ensures { IfOk result (λ store. FitsIn (needs_of (R.puzzle rules.now)) store.made) }
+{
+    match kept.take() {
+        Some(store) if store.fits(rules) => Ok(store),
+        _ => Store::new(alloc, rules),
+    }
+}
+
 /// The answer of a search by the rules of the puzzle.
 fn searched<P: Printed, R: Rules>(
     alloc: Global,
+    kept: &mut Option<Store<R>>,
     puzzle: &P,
     rules: &R,
     budget: u64,
@@ -31,8 +69,8 @@ fn searched<P: Printed, R: Rules>(
     ensures right { IfOk result (λ r. IsTrueOf (R.puzzle rules.now) (verdict_of (R.puzzle rules.now) budget)) }
     ensures status { IfOk result (λ r. r.status < 5) }
 {
-    let mut store = Store::new(alloc, rules)?;
-    match store.solve(rules, budget) {
+    let mut store = store_for(alloc, kept, rules)?;
+    let reply = match store.solve(rules, budget) {
         Verdict::None => none_reply(alloc),
         Verdict::One => one_reply(alloc, puzzle, store.first().unwrap()),
         Verdict::Several => {
@@ -43,11 +81,18 @@ fn searched<P: Printed, R: Rules>(
             gave_up_with_reply(alloc, puzzle, store.first().unwrap())
         }
         Verdict::GaveUp { found: false } => gave_up_reply(alloc),
-    }
+    }?;
+    *kept = Some(store);
+    Ok(reply)
 }
 
 /// The answer to an ID of Pattern that is to be solved.
-pub fn solve_pattern(alloc: Global, id: &[u8], budget: u64) -> Result<Reply, AllocError>
+fn solve_pattern(
+    alloc: Global,
+    stores: &mut Stores,
+    id: &[u8],
+    budget: u64,
+) -> Result<Reply, AllocError>
     ensures allowed { IfOk result (λ r. AllowsPattern id.now budget (answer_in r)) }
     ensures status { IfOk result (λ r. r.status < 5) }
 {
@@ -55,7 +100,7 @@ pub fn solve_pattern(alloc: Global, id: &[u8], budget: u64) -> Result<Reply, All
     match read_pattern(alloc, id) {
         Ok(puzzle) => {
             let rules = PatternLines::new(alloc, &puzzle)?;
-            searched(alloc, &puzzle, &rules, budget)
+            searched(alloc, &mut stores.pattern, &puzzle, &rules, budget)
         }
         Err(IdFault::Memory) => Err(AllocError),
         Err(fault) => id_refused(alloc, fault),
@@ -63,7 +108,12 @@ pub fn solve_pattern(alloc: Global, id: &[u8], budget: u64) -> Result<Reply, All
 }
 
 /// The answer to an ID of Solo that is to be solved.
-pub fn solve_solo(alloc: Global, id: &[u8], budget: u64) -> Result<Reply, AllocError>
+fn solve_solo(
+    alloc: Global,
+    stores: &mut Stores,
+    id: &[u8],
+    budget: u64,
+) -> Result<Reply, AllocError>
     ensures allowed { IfOk result (λ r. AllowsSolo id.now budget (answer_in r)) }
     ensures status { IfOk result (λ r. r.status < 5) }
 {
@@ -71,7 +121,7 @@ pub fn solve_solo(alloc: Global, id: &[u8], budget: u64) -> Result<Reply, AllocE
     match read_solo(alloc, id) {
         Ok(puzzle) => {
             let rules = SoloHouses::new(alloc, &puzzle)?;
-            searched(alloc, &puzzle, &rules, budget)
+            searched(alloc, &mut stores.solo, &puzzle, &rules, budget)
         }
         Err(IdFault::Memory) => Err(AllocError),
         Err(fault) => id_refused(alloc, fault),
@@ -79,16 +129,86 @@ pub fn solve_solo(alloc: Global, id: &[u8], budget: u64) -> Result<Reply, AllocE
 }
 
 /// The answer to an ID of Light Up that is to be solved.
-pub fn solve_lights(alloc: Global, id: &[u8], budget: u64) -> Result<Reply, AllocError>
+fn solve_lights(
+    alloc: Global,
+    stores: &mut Stores,
+    id: &[u8],
+    budget: u64,
+) -> Result<Reply, AllocError>
     ensures allowed { IfOk result (λ r. AllowsLights id.now budget (answer_in r)) }
     ensures status { IfOk result (λ r. r.status < 5) }
 {
     match read_lights(alloc, id) {
         Ok(puzzle) => {
             let rules = LightRules::new(alloc, &puzzle)?;
-            searched(alloc, &puzzle, &rules, budget)
+            searched(alloc, &mut stores.lights, &puzzle, &rules, budget)
         }
         Err(IdFault::Memory) => Err(AllocError),
         Err(fault) => id_refused(alloc, fault),
     }
+}
+
+/// The answer to an ID of Tents that is to be solved.
+fn solve_tents(
+    alloc: Global,
+    stores: &mut Stores,
+    id: &[u8],
+    budget: u64,
+) -> Result<Reply, AllocError>
+    ensures allowed { IfOk result (λ r. AllowsTents id.now budget (answer_in r)) }
+    ensures status { IfOk result (λ r. r.status < 5) }
+{
+    fields_core::accepted_are_solutions();
+    match read_tents(alloc, id) {
+        Ok(puzzle) => {
+            let rules = TentRules::new(alloc, &puzzle)?;
+            searched(alloc, &mut stores.tents, &puzzle, &rules, budget)
+        }
+        Err(IdFault::Memory) => Err(AllocError),
+        Err(fault) => id_refused(alloc, fault),
+    }
+}
+
+/// The answer to an ID of the game that is to be solved with so many trials at most: its first fault, or the verdict with
+/// its grids. The search works in the memory of `stores` where that is enough, and in new memory where not, which is
+/// left there for the next.
+///
+/// # Errors
+///
+/// When memory was refused.
+pub fn solve_id(
+    alloc: Global,
+    stores: &mut Stores,
+    game: Game,
+    id: &[u8],
+    budget: u64,
+) -> Result<Reply, AllocError>
+    ensures allowed { IfOk result (λ r. AllowsSolve game budget id.now (answer_in r)) }
+    ensures status { IfOk result (λ r. r.status < 5) }
+{
+    match game {
+        Game::Solo => solve_solo(alloc, stores, id, budget),
+        Game::Pattern => solve_pattern(alloc, stores, id, budget),
+        Game::LightUp => solve_lights(alloc, stores, id, budget),
+        Game::Tents => solve_tents(alloc, stores, id, budget),
+    }
+}
+
+/// Each text has an answer, for each game and budget: it spells a puzzle or has a fault, and the verdict of a puzzle's
+/// walk is right of its solutions. This call does nothing: its contract is the law.
+pub fn each_text_has_an_answer()
+    ensures { (game : Game) (budget : ℕ) → HasAnswers (AllowsSolve game budget) }
+{
+    gameid_core::one_reading_of_solo();
+    gameid_core::one_reading();
+    gameid_core::one_reading_of_lights();
+    gameid_core::one_reading_of_tents();
+    engine_core::verdict_is_true();
+    solo_core::rules_are_lawful();
+    solo_core::accepted_are_solutions();
+    pattern_core::rules_are_lawful();
+    pattern_core::accepted_are_solutions();
+    fields_core::rules_of_lights_are_lawful();
+    fields_core::rules_of_tents_are_lawful();
+    fields_core::accepted_are_solutions();
 }

@@ -3,7 +3,9 @@ use crate::ends::{Sink, Source};
 use crate::fakes::{Chunks, Endless, Slow, texts};
 use crate::read_end::ReadEnd;
 use crate::run::{run, run_on_bytes};
+use crate::words::{Request, read_words};
 use crate::write_end::WriteEnd;
+use gameid_core::Game;
 use std::alloc::{AllocError, Global};
 use std::test::Fail;
 
@@ -114,6 +116,21 @@ fn lights_are_solved(rt: HostRuntime) -> Result<(), Fail> {
 }
 
 #[test]
+fn tents_are_solved(rt: HostRuntime) -> Result<(), Fail> {
+    for (id, text, status) in [
+        ("5x3:aiaa,1,0,2,0,0,2,0,1", "none\n", 1),
+        ("2x2:_c,0,1,1,0", "one\nT^\n..\n", 0),
+        ("4x6:z,0,0,0,0,0,0,0,0,0,0", "refused: too many\n", 2),
+        ("2x2:d,0,0,0,0", "one\n..\n..\n", 0),
+    ] {
+        let (taken, found) = outcome(rt.alloc(), &["solve", "tents", id, "--budget", "0"])?;
+        assert_eq!(rt; taken.as_slice(), text.as_bytes(), "{id}");
+        assert_eq!(rt; found, status, "{id}");
+    }
+    Ok(())
+}
+
+#[test]
 fn a_budget_is_kept(rt: HostRuntime) -> Result<(), Fail> {
     let corners = "several\n.#\n#.\n\n#.\n.#\n";
     let most = "18446744073709551615";
@@ -155,17 +172,15 @@ fn a_budget_is_kept(rt: HostRuntime) -> Result<(), Fail> {
 
 #[test]
 fn other_words_are_refused(rt: HostRuntime) -> Result<(), Fail> {
-    let rows: [&[&str]; 19] = [
+    let rows: [&[&str]; 18] = [
         &[],
         &["--help"],
         &["-h"],
         &["help"],
         &["--version"],
         &["solve"],
-        &["solve", "pattern"],
         &["solve", "chess", "1x1:/"],
         &["solve", "Pattern", "1x1:/"],
-        &["solve", "tents", "2x2:_c,0,1,1,0"],
         &["solve", "pattern", "1x1:/", "1x1:/"],
         &["solve", "pattern", "1x1:/", "--budget"],
         &[
@@ -173,8 +188,9 @@ fn other_words_are_refused(rt: HostRuntime) -> Result<(), Fail> {
         ],
         &["solve", "pattern", "1x1:/", "--tries", "5"],
         &["solve", "pattern", "--help"],
-        &["check", "pattern", "1x1:/"],
-        &["grade", "pattern", "1x1:/"],
+        &["check", "pattern"],
+        &["grade", "pattern"],
+        &["generate", "pattern", "1x1"],
         &["generate", "tents", "4x4", "--seed", "1", "--black", "5"],
         &["pattern", "solve", "1x1:/"],
     ];
@@ -183,6 +199,102 @@ fn other_words_are_refused(rt: HostRuntime) -> Result<(), Fail> {
         assert_eq!(rt; taken.as_slice(), b"refused: words\n".as_slice(), "row {k}");
         assert_eq!(rt; found, 2, "row {k}");
     }
+    Ok(())
+}
+
+/// The numbers of words that ask for a puzzle to be made.
+fn numbers_to_make(alloc: Global, words: &[&str]) -> Result<Option<[u64; 4]>, AllocError> {
+    let words = texts(alloc, words)?;
+    Ok(match read_words(alloc, words.as_slice())? {
+        Some(
+            Request::Generate {
+                size: "4x5",
+                seed,
+                budget,
+                tries,
+                black,
+                ..
+            },
+        ) => Some([seed, budget, tries as u64, black as u64]),
+        _ => None,
+    })
+}
+
+#[test]
+fn numbers_are_read(rt: HostRuntime) -> Result<(), Fail> {
+    let most = "18446744073709551615";
+    for (game, seed, option, value, numbers) in [
+        ("pattern", "1", "--budget", "7", Some([1, 7, 1_000, 50])),
+        ("lightup", "007", "--tries", "00", Some([7, 100_000, 0, 20])),
+        (
+            "solo",
+            most,
+            "--tries",
+            "4294967295",
+            Some([u64::MAX, 100_000, 4_294_967_295, 0]),
+        ),
+        ("tents", "0", "--tries", "4294967296", None),
+        (
+            "pattern",
+            "0",
+            "--black",
+            "100",
+            Some([0, 100_000, 1_000, 100]),
+        ),
+        ("lightup", "0", "--black", "0", Some([0, 100_000, 1_000, 0])),
+        ("lightup", "0", "--black", "101", None),
+        ("tents", "0", "--black", "5", None),
+        ("solo", "0", "--black", "0", None),
+        ("pattern", "18446744073709551616", "--tries", "1", None),
+    ] {
+        let words = ["generate", game, "4x5", "--seed", seed, option, value];
+        let found = numbers_to_make(rt.alloc(), &words)?;
+        assert_eq!(rt; found, numbers, "{game} with {option} {value}");
+    }
+    Ok(())
+}
+
+#[test]
+fn commands_are_read(rt: HostRuntime) -> Result<(), Fail> {
+    let words = texts(rt.alloc(), &["solve", "tents", "--budget", "3"])?;
+    let request = read_words(rt.alloc(), words.as_slice())?;
+    assert!(rt;
+        matches!(
+            request,
+            Some(Request::Solve {
+                game: Game::Tents,
+                id: None,
+                budget: 3
+            })
+        )
+    );
+    let words = texts(rt.alloc(), &["check", "solo", "2x2:p"])?;
+    let request = read_words(rt.alloc(), words.as_slice())?;
+    assert!(rt;
+        matches!(
+            request,
+            Some(Request::Check {
+                game: Game::Solo,
+                id: "2x2:p"
+            })
+        )
+    );
+    let words = texts(rt.alloc(), &["grade", "lightup", "2x2:d", "--trace"])?;
+    let request = read_words(rt.alloc(), words.as_slice())?;
+    assert!(rt;
+        matches!(
+            request,
+            Some(Request::Grade {
+                game: Game::LightUp,
+                id: "2x2:d",
+                budget: 100_000,
+                trace: true
+            })
+        )
+    );
+    let words = texts(rt.alloc(), &["grade", "lightup", "2x2:d"])?;
+    let request = read_words(rt.alloc(), words.as_slice())?;
+    assert!(rt; matches!(request, Some(Request::Grade { trace: false, .. })));
     Ok(())
 }
 

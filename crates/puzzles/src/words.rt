@@ -5,24 +5,55 @@ ghost use Rattle.clap.specs.Walk.{rule_of, first_of, rows_of};
 ghost use Rattle.clap.specs.Simple.{app_of, subcommand_rows_of};
 ghost use Rattle.clap.specs.Matches.{found_of};
 ghost use Rattle.clap.specs.declared.builder.command.Command.TheViews.{out-Command as fields_of};
-ghost use Rattle.puzzles.specs.CommandLine.{required_word, text_option, solve_app, bare_app, puzzles_app, parsed};
-ghost use Rattle.puzzles.specs.Requests.{asked_in, game_of, game_in, budget_in, solve_in, asked_by, asked_of};
+ghost use Rattle.puzzles.specs.CommandLine.{required_word, optional_word, text_option, flag, solve_app, check_app, grade_app, generate_needs_app, generate_app, bare_app, puzzles_app, parsed};
+ghost use Rattle.puzzles.specs.Requests.{asked_in, game_of, game_in, budget_in, solve_in, check_in, trace_in, grade_in, seed_in, tries_in, black_in, generate_in, asked_by, asked_of, IsWithin};
 
 use clap::error::ErrorKind;
-use clap::{Arg, ArgMatches, Command};
+use clap::{Arg, ArgAction, ArgMatches, Command};
 use gameid_core::Game;
 use std::alloc::{AllocError, Global};
 
 /// The budget where the words name none.
 pub const BUDGET: u64 = 100_000;
 
+/// The tries where the words name none.
+pub const TRIES: u32 = 1_000;
+
+/// The percentages of black cells where the words name none, and the highest.
+pub const PATTERN_BLACK: u64 = 50;
+
+pub const LIGHT_UP_BLACK: u64 = 20;
+
+pub const MOST_BLACK: u64 = 100;
+
 /// What the words ask for.
 #[derive(Drop)]
 pub enum Request<'a> {
+    /// Without an ID the lines of the input are IDs.
     Solve {
+        game: Game,
+        id: Option<&'a str>,
+        budget: u64,
+    },
+    /// The grid is the input.
+    Check {
+        game: Game,
+        id: &'a str,
+    },
+    Grade {
         game: Game,
         id: &'a str,
         budget: u64,
+        trace: bool,
+    },
+    /// `black` is a percentage of cells, and 0 for the games that have none.
+    Generate {
+        game: Game,
+        size: &'a str,
+        seed: u64,
+        budget: u64,
+        tries: u32,
+        black: u8,
     },
 }
 
@@ -33,11 +64,25 @@ fn required_argument<'a>(alloc: Global, id: &'a str) -> Arg<'a>
     Arg::new(alloc, id).required(true)
 }
 
+fn optional_argument<'a>(alloc: Global, id: &'a str) -> Arg<'a>
+    ensures rule { rule_of result ≡ optional_word id.entry.now }
+    ensures local { result.global ≡ false }
+{
+    Arg::new(alloc, id)
+}
+
 fn text_argument<'a>(alloc: Global, name: &'a str) -> Arg<'a>
     ensures rule { rule_of result ≡ text_option name.entry.now }
     ensures local { result.global ≡ false }
 {
     Arg::new(alloc, name).long(name)
+}
+
+fn flag_argument<'a>(alloc: Global, name: &'a str) -> Arg<'a>
+    ensures rule { rule_of result ≡ flag name.entry.now }
+    ensures local { result.global ≡ false }
+{
+    text_argument(alloc, name).action(ArgAction::SetTrue)
 }
 
 fn solve_command<'a>(alloc: Global) -> Result<Command<'a>, AllocError>
@@ -46,8 +91,49 @@ fn solve_command<'a>(alloc: Global) -> Result<Command<'a>, AllocError>
 {
     Command::new(alloc, "solve")
         .arg(required_argument(alloc, "game"))?
-        .arg(required_argument(alloc, "id"))?
+        .arg(optional_argument(alloc, "id"))?
         .arg(text_argument(alloc, "budget"))
+}
+
+fn check_command<'a>(alloc: Global) -> Result<Command<'a>, AllocError>
+    ensures app { IfOk result (λ c. app_of c ≡ check_app) }
+    ensures local { IfOk result (λ c. (fields_of c).has_globals ≡ false) }
+{
+    Command::new(alloc, "check")
+        .arg(required_argument(alloc, "game"))?
+        .arg(required_argument(alloc, "id"))
+}
+
+fn grade_command<'a>(alloc: Global) -> Result<Command<'a>, AllocError>
+    ensures app { IfOk result (λ c. app_of c ≡ grade_app) }
+    ensures local { IfOk result (λ c. (fields_of c).has_globals ≡ false) }
+{
+    Command::new(alloc, "grade")
+        .arg(required_argument(alloc, "game"))?
+        .arg(required_argument(alloc, "id"))?
+        .arg(text_argument(alloc, "budget"))?
+        .arg(flag_argument(alloc, "trace"))
+}
+
+/// What a generated puzzle cannot do without.
+fn generate_needs<'a>(alloc: Global) -> Result<Command<'a>, AllocError>
+    ensures app { IfOk result (λ c. app_of c ≡ generate_needs_app) }
+    ensures local { IfOk result (λ c. (fields_of c).has_globals ≡ false) }
+{
+    Command::new(alloc, "generate")
+        .arg(required_argument(alloc, "game"))?
+        .arg(required_argument(alloc, "size"))?
+        .arg(text_argument(alloc, "seed").required(true))
+}
+
+fn generate_command<'a>(alloc: Global) -> Result<Command<'a>, AllocError>
+    ensures app { IfOk result (λ c. app_of c ≡ generate_app) }
+    ensures local { IfOk result (λ c. (fields_of c).has_globals ≡ false) }
+{
+    generate_needs(alloc)?
+        .arg(text_argument(alloc, "budget"))?
+        .arg(text_argument(alloc, "tries"))?
+        .arg(text_argument(alloc, "black"))
 }
 
 fn bare_command<'a>(alloc: Global) -> Command<'a>
@@ -65,7 +151,11 @@ fn bare_command<'a>(alloc: Global) -> Command<'a>
 fn puzzles_command<'a>(alloc: Global) -> Result<Command<'a>, AllocError>
     ensures { IfOk result (λ c. app_of c ≡ puzzles_app) }
 {
-    bare_command(alloc).subcommand(solve_command(alloc)?)
+    bare_command(alloc)
+        .subcommand(solve_command(alloc)?)?
+        .subcommand(check_command(alloc)?)?
+        .subcommand(grade_command(alloc)?)?
+        .subcommand(generate_command(alloc)?)
 }
 
 /// What was found in the words, or nothing where they are refused.
@@ -141,26 +231,115 @@ fn budget_from<'a>(matches: &ArgMatches<'a>) -> Option<u64>
 }
 
 fn solve_request<'a>(matches: &ArgMatches<'a>) -> Option<Request<'a>>
-    ensures { option_map asked_in result ≡ solve_in (rows_of (found_of matches.now)) }
+    ensures value { option_map asked_in result ≡ solve_in (rows_of (found_of matches.now)) }
+    ensures within { IfSome result IsWithin }
+{
+    let game = game_from(matches)?;
+    let budget = budget_from(matches)?;
+    let id = text_of(matches, "id");
+    Some(Request::Solve { game, id, budget })
+}
+
+fn check_request<'a>(matches: &ArgMatches<'a>) -> Option<Request<'a>>
+    ensures value { option_map asked_in result ≡ check_in (rows_of (found_of matches.now)) }
+    ensures within { IfSome result IsWithin }
+{
+    let game = game_from(matches)?;
+    let id = text_of(matches, "id")?;
+    Some(Request::Check { game, id })
+}
+
+fn trace_from<'a>(matches: &ArgMatches<'a>) -> bool
+    ensures { result ≡ trace_in (rows_of (found_of matches.now)) }
+{
+    match text_of(matches, "trace") {
+        Some(text) => text == "true",
+        None => false,
+    }
+}
+
+fn grade_request<'a>(matches: &ArgMatches<'a>) -> Option<Request<'a>>
+    ensures value { option_map asked_in result ≡ grade_in (rows_of (found_of matches.now)) }
+    ensures within { IfSome result IsWithin }
 {
     let game = game_from(matches)?;
     let id = text_of(matches, "id")?;
     let budget = budget_from(matches)?;
-    Some(Request::Solve { game, id, budget })
+    let trace = trace_from(matches);
+    Some(Request::Grade {
+        game,
+        id,
+        budget,
+        trace,
+    })
+}
+
+fn seed_from<'a>(matches: &ArgMatches<'a>) -> Option<u64>
+    ensures { result ≡ seed_in (rows_of (found_of matches.now)) }
+{
+    number(text_of(matches, "seed")?, u64::MAX)
+}
+
+fn tries_from<'a>(matches: &ArgMatches<'a>) -> Option<u32>
+    ensures { result ≡ tries_in (rows_of (found_of matches.now)) }
+{
+    let tries = number_or(text_of(matches, "tries"), u32::MAX as u64, TRIES as u64)?;
+    Some(tries as u32)
+}
+
+/// The percentage of black cells, which only Pattern and Light Up have.
+fn black_from<'a>(game: Game, matches: &ArgMatches<'a>) -> Option<u8>
+    ensures value { result ≡ black_in game (rows_of (found_of matches.now)) }
+    ensures within { IfSome result (λ n. n ≤ 100) }
+{
+    let text = text_of(matches, "black");
+    match game {
+        Game::Pattern => Some(number_or(text, MOST_BLACK, PATTERN_BLACK)? as u8),
+        Game::LightUp => Some(number_or(text, MOST_BLACK, LIGHT_UP_BLACK)? as u8),
+        _ => match text {
+            Some(_) => None,
+            None => Some(0),
+        },
+    }
+}
+
+fn generate_request<'a>(matches: &ArgMatches<'a>) -> Option<Request<'a>>
+    ensures value { option_map asked_in result ≡ generate_in (rows_of (found_of matches.now)) }
+    ensures within { IfSome result IsWithin }
+{
+    let game = game_from(matches)?;
+    let size = text_of(matches, "size")?;
+    let seed = seed_from(matches)?;
+    let budget = budget_from(matches)?;
+    let tries = tries_from(matches)?;
+    let black = black_from(game, matches)?;
+    Some(Request::Generate {
+        game,
+        size,
+        seed,
+        budget,
+        tries,
+        black,
+    })
 }
 
 fn request_by<'a>(name: &str, matches: &ArgMatches<'a>) -> Option<Request<'a>>
-    ensures { option_map asked_in result ≡ asked_by name.now (rows_of (found_of matches.now)) }
+    ensures value { option_map asked_in result ≡ asked_by name.now (rows_of (found_of matches.now)) }
+    ensures within { IfSome result IsWithin }
 {
     match name {
         "solve" => solve_request(matches),
+        "check" => check_request(matches),
+        "grade" => grade_request(matches),
+        "generate" => generate_request(matches),
         _ => None,
     }
 }
 
 fn request_in<'a>(matches: &ArgMatches<'a>) -> Option<Request<'a>>
-    ensures { option_map asked_in result
+    ensures value { option_map asked_in result
         ≡ option_and_then (λ p. asked_by p.0 p.1) (subcommand_rows_of matches.now) }
+    ensures within { IfSome result IsWithin }
 {
     let (name, found) = matches.subcommand()?;
     request_by(name, found)
@@ -168,7 +347,8 @@ fn request_in<'a>(matches: &ArgMatches<'a>) -> Option<Request<'a>>
 
 /// What the words ask for, or nothing where they are refused. The words are those after the program's name.
 pub fn read_words<'a>(alloc: Global, words: &'a [String]) -> Result<Option<Request<'a>>, AllocError>
-    ensures { IfOk result (λ r. option_map asked_in r ≡ asked_of (map string_bytes words.entry.now)) }
+    ensures value { IfOk result (λ r. option_map asked_in r ≡ asked_of (map string_bytes words.entry.now)) }
+    ensures within { IfOk result (λ r. IfSome r IsWithin) }
 {
     match matches_of(alloc, words)? {
         Some(matches) => Ok(request_in(&matches)),

@@ -18,7 +18,11 @@ use grid_core::Grid;
 /// The most numbers of a house.
 const MOST: usize = MAX_NUMBERS as usize;
 
-/// The first rule that the grid breaks: `None` where it solves the puzzle.
+/// The first rule that the grid breaks, givens before rows, columns and blocks, each kind by its numbers; `None` where the
+/// grid is a solution. The grid has a number below `n` for each cell, which stands for the number one higher.
+///
+/// The rule is that of the manual of Simon Tatham's Portable Puzzle Collection, "Solo": every row, column and block has
+/// every number once.
 pub fn check_solo(puzzle: &SoloPuzzle, grid: &Grid) -> Option<SoloFault>
     requires fits { IsGrid (cells_of puzzle.now) (solo_n puzzle.now) grid.now }
     ensures { IsFirstFault puzzle.now grid.now result }

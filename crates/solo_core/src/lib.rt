@@ -17,7 +17,7 @@ mod start;
 pub use cells::Cells;
 pub use check::check_solo;
 pub use fault::SoloFault;
-pub use laws::accepted_are_solutions;
+pub use laws::{accepted_are_solutions, houses_are_rows_columns_and_blocks, rules_are_lawful};
 pub use solo_houses::{HousesScratch, SoloHouses};
 pub use solo_singles::SoloSingles;
 

@@ -15,7 +15,7 @@ use crate::cells::Cells;
 use crate::check::accepts;
 use crate::houses::{bound, cells, house_of_place, house_place, houses, write_places};
 use crate::keep_houses::keep_houses;
-use crate::start::{copy_of, write_start};
+use crate::start::write_start;
 use engine_core::{Mode, Rules, apply, gather};
 use gameid_core::SoloPuzzle;
 use grid_core::{Board, Grid, Pairing};
@@ -45,7 +45,7 @@ impl SoloHouses {
         ensures copied { IfOk result (λ rules. rules.puzzle ≡ puzzle.now) }
         ensures rules { IfOk result (λ rules. ⟦<SoloHouses as Rules>⟧.puzzle rules ≡ houses_rules puzzle.now) }
     {
-        let puzzle = copy_of(alloc, puzzle)?;
+        let puzzle = puzzle.copy(alloc)?;
         Ok(SoloHouses { puzzle })
     }
 }

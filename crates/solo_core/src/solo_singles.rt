@@ -15,7 +15,7 @@ use crate::cells::Cells;
 use crate::check::accepts;
 use crate::houses::{bound, cells, house_of_place, house_place, houses, write_places};
 use crate::keep_singles::keep_singles;
-use crate::start::{copy_of, write_start};
+use crate::start::write_start;
 use engine_core::{Mode, Rules, apply, gather};
 use gameid_core::SoloPuzzle;
 use grid_core::{Board, Grid};
@@ -39,7 +39,7 @@ impl SoloSingles {
         ensures copied { IfOk result (λ rules. rules.puzzle ≡ puzzle.now) }
         ensures rules { IfOk result (λ rules. ⟦<SoloSingles as Rules>⟧.puzzle rules ≡ singles_rules puzzle.now) }
     {
-        let puzzle = copy_of(alloc, puzzle)?;
+        let puzzle = puzzle.copy(alloc)?;
         Ok(SoloSingles { puzzle })
     }
 }

@@ -1,28 +1,14 @@
-//! The copy of a puzzle that a rules value keeps, and the board that a search starts from.
+//! The board that a search starts from.
 
-ghost use Rattle.std.specs.Prelude.{◌≡◌, IfOk, length};
+ghost use Rattle.std.specs.Prelude.{◌≡◌, length};
 ghost use Rattle.grid_core.specs.Board.{has, cells_of as board_cells, SameShape};
-ghost use Rattle.gameid_core.specs.Puzzles.{IsSolo, solo_n};
+ghost use Rattle.gameid_core.specs.Puzzles.{solo_n};
 ghost use Rattle.solo_core.specs.Solutions.{cells_of};
 ghost use Rattle.solo_core.specs.RuleSets.{start as start_of};
 
 use crate::houses::cells;
 use gameid_core::SoloPuzzle;
 use grid_core::Board;
-use std::alloc::{AllocError, Global};
-
-/// A puzzle equal to this one.
-pub(crate) fn copy_of(alloc: Global, puzzle: &SoloPuzzle) -> Result<SoloPuzzle, AllocError>
-    ensures same { IfOk result (λ copy. copy ≡ puzzle.now) }
-    ensures lawful { IsSolo puzzle.now }
-{
-    let size = cells(puzzle);
-    let mut copy = SoloPuzzle::blank(alloc, puzzle.c(), puzzle.r())?;
-    for place in 0..size {
-        copy.set_given(place, puzzle.given(place));
-    }
-    Ok(copy)
-}
 
 /// Writes the start: a cell with a given has it alone, every other cell has every number.
 pub(crate) fn write_start(puzzle: &SoloPuzzle, board: &mut Board)

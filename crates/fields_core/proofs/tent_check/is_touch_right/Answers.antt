@@ -9,4 +9,4 @@ returns-then-get-ne1 c = rw (ne_eqb (slice_index c.args.grid.now c.args.place) 1
 
 pub returns : goal.returns
 unfolding touch_right
-returns c = rw (eq-eqb (slice_index c.args.grid.now c.args.place) 1 (sym c.get.ensures ∙ c.if-get-ne1.false), c.touches_tent.ensures) refl
+returns c = rw (eq-eqb (slice_index c.args.grid.now c.args.place) 1 (sym c.get.ensures ∙ c.if-get-ne1.false), c.touches_tent.ensures, c.size.ensures.value) refl

@@ -1,0 +1,24 @@
+//! What the rules of a search mean and keep to. These calls do nothing: their contracts are the laws.
+
+ghost use Rattle.std.specs.Prelude.{◌≡◌, ◌↔◌, IsTrue, List, ℕ};
+ghost use Rattle.engine_core.specs.Puzzle.{IsGridOf, IsLawful};
+ghost use Rattle.fields_core.specs.LightHouses.{light_rules};
+ghost use Rattle.fields_core.specs.TentHouses.{tent_rules};
+ghost use Rattle.fields_core.specs.TentSolutions.{IsTentSolution};
+ghost use Rattle.gameid_core.specs.Puzzles.{Light, IsLight, Tents, IsTents};
+
+/// The grids that the rules of Tents accept are the solutions of the puzzle.
+pub fn accepted_are_solutions()
+    ensures { (p : Tents) (g : List ℕ) → IsGridOf (tent_rules p) g
+        → (IsTrue ((tent_rules p).is_solution g)) ↔ IsTentSolution p g }
+{}
+
+/// The rules of Light Up keep to what every search relies on, for each puzzle.
+pub fn rules_of_lights_are_lawful()
+    ensures { (p : Light) → IsLight p → IsLawful (light_rules p) }
+{}
+
+/// The rules of Tents keep to what every search relies on, for each puzzle.
+pub fn rules_of_tents_are_lawful()
+    ensures { (p : Tents) → IsTents p → IsLawful (tent_rules p) }
+{}

@@ -1,0 +1,188 @@
+//! What the rules of Tents are to a search.
+
+ghost use Rattle.std.specs.Prelude.{◌≡◌, ◌<◌, true, refl, length, IfOk};
+ghost use Rattle.std.specs.List.{list_any};
+ghost use Rattle.grid_core.specs.Regions.{beside};
+ghost use Rattle.engine_core.specs.declared.mode.Mode.TheVariants.{Sweep};
+ghost use Rattle.grid_core.specs.Board.{has, SameShape};
+ghost use Rattle.fields_core.specs.CountHouse.{start_of};
+ghost use Rattle.fields_core.specs.Tents.{cells_of, tree};
+ghost use Rattle.fields_core.specs.TentHouses.{is_bare, tent_rules};
+ghost use Rattle.fields_core.specs.TentScratches.{ServesTents};
+ghost use Rattle.fields_core.specs.Ruled.{IsTentCounting};
+
+use crate::count_table::{CountScratch, CountTable};
+use crate::tent_cells::{cells, is_tree};
+use crate::tent_check::find_fault;
+use crate::tent_houses::houses_of_tents;
+use engine_core::{Mode, Rules};
+use gameid_core::TentsPuzzle;
+use grid_core::{Board, Grid, Pairing, step};
+use std::alloc::{AllocError, Global};
+use std::marker::Model;
+
+/// The rules of a puzzle of Tents: a copy of the puzzle, and its count houses.
+#[derive(Drop)]
+pub struct TentRules {
+    puzzle: TentsPuzzle,
+    table: CountTable,
+    ghost counting: { IsTentCounting puzzle },
+}
+
+impl Model for TentRules {
+    ghost use Rattle.std.specs.Prelude.{◌≡◌};
+    ghost use Rattle.fields_core.specs.Ruled.{RuledTents, tent_table};
+
+    ghost Value = { RuledTents };
+
+    ghost view = { λ r. record { tents = r.puzzle; counting = r.counting } };
+
+    ghost invariant = { λ r. r.table ≡ tent_table r.puzzle };
+}
+
+/// What a visit and a test of a whole grid work in: room for the sets of a house's cells, and a pairing of all cells.
+#[derive(Drop)]
+pub struct TentScratch {
+    pub(crate) counts: CountScratch,
+    pub(crate) pairing: Pairing,
+}
+
+impl TentRules {
+    /// The rules of the puzzle.
+    ///
+    /// # Errors
+    ///
+    /// When memory was refused.
+    pub fn new(alloc: Global, puzzle: &TentsPuzzle) -> Result<TentRules, AllocError>
+        ensures { IfOk result (λ rules. rules.tents ≡ puzzle.now) }
+    {
+        let _size = puzzle.size();
+        let houses = houses_of_tents(alloc, puzzle)?;
+        Ok(TentRules {
+            puzzle: puzzle.copy(alloc)?,
+            table: CountTable::of_houses(alloc, cells(puzzle), houses)?,
+        })
+    }
+}
+
+/// Whether a tree is beside the cell.
+fn is_beside_a_tree(puzzle: &TentsPuzzle, place: usize) -> bool
+    requires { place < cells_of puzzle.now }
+    ensures { result ≡ list_any (tree puzzle.now) (beside puzzle.now.size place) }
+{
+    let size = puzzle.size();
+    for direction in 0..4 {
+        let other = match step(size, place, direction) {
+            Some(other) => other,
+            None => continue,
+        };
+        if is_tree(puzzle, other) {
+            return true;
+        }
+    }
+    false
+}
+
+/// Whether the cell can have no tent: it has a tree, or no tree beside it.
+fn is_barred(puzzle: &TentsPuzzle, place: usize) -> bool
+    requires { place < cells_of puzzle.now }
+    ensures { result ≡ is_bare puzzle.now place }
+{
+    if is_tree(puzzle, place) {
+        return true;
+    }
+    !is_beside_a_tree(puzzle, place)
+}
+
+/// Writes the board that a search starts from: a tree, and a cell with no tree beside it, has only 0, and all other
+/// sets are full.
+fn start_tents(puzzle: &TentsPuzzle, board: &mut Board)
+    requires cells { length board.old.sets ≡ cells_of puzzle.now }
+    requires values { board.old.values ≡ 2 }
+    ensures start { has board.new ≡ start_of (cells_of puzzle.now) (is_bare puzzle.now) }
+    ensures shape { SameShape board.old board.new }
+{
+    board.fill();
+    for place in 0..cells(puzzle) {
+        if !is_barred(puzzle, place) {
+            continue;
+        }
+        board.strike(place, 1);
+    }
+}
+
+impl Rules for TentRules {
+    ghost use Rattle.fields_core.specs.TentLaws.{tent-lawful, serves-smaller-tents};
+
+    type Scratch = TentScratch;
+
+    const SETTLED: bool = true;
+
+    const MODE: Mode = Mode::Sweep;
+
+    ghost puzzle = { λ r. tent_rules r.tents };
+
+    ghost SETTLED = { true };
+
+    ghost MODE = { Sweep };
+
+    ghost mode_is = { λ _. refl };
+
+    ghost serves = { ServesTents };
+
+    ghost lawful = { tent-lawful };
+
+    ghost settled_is = { λ _. refl };
+
+    ghost serves_smaller = { serves-smaller-tents };
+
+    fn cells(&self) -> usize {
+        cells(&self.puzzle)
+    }
+
+    fn values(&self) -> u8 {
+        2
+    }
+
+    fn houses(&self) -> usize {
+        self.table.len()
+    }
+
+    fn bound(&self) -> usize {
+        cells(&self.puzzle) + 1
+    }
+
+    fn scope_len(&self, house: usize) -> usize {
+        self.table.scope_len(house)
+    }
+
+    fn scope(&self, house: usize, k: usize) -> usize {
+        self.table.scope(house, k)
+    }
+
+    fn house_at(&self, place: usize, from: usize) -> Option<usize> {
+        self.table.house_at(place, from)
+    }
+
+    fn start(&self, board: &mut Board) {
+        start_tents(&self.puzzle, board);
+    }
+
+    fn scratch(&self, alloc: Global) -> Result<TentScratch, AllocError> {
+        Ok(TentScratch {
+            counts: CountScratch::new(alloc, self.table.longest())?,
+            pairing: Pairing::new(alloc, cells(&self.puzzle))?,
+        })
+    }
+
+    fn visit(&self, house: usize, board: &mut Board, scratch: &mut TentScratch) -> bool {
+        self.table.visit(house, board, &mut scratch.counts)
+    }
+
+    fn accept(&self, scratch: &mut TentScratch, grid: &Grid) -> bool {
+        match find_fault(&self.puzzle, grid, &mut scratch.pairing) {
+            None => true,
+            Some(_) => false,
+        }
+    }
+}

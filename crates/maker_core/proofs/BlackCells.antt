@@ -1,0 +1,84 @@
+-- The cells of a grid that were drawn so far are the list of draws.
+use Rattle.std.proofs.Common.{◌≡◌, ℕ, zero, suc, ◌+◌, ◌<◌, Bool, true, false, List, [], ◌∷◌, ◌++◌, refl, ◌∙◌, ap, arith, add-one, take, length, length-append, cond, get_or-set_other, inl, inr}
+use Rattle.std.specs.Prelude.{nat_lt, slice_index, slice_set, All}
+use Rattle.std.proofs.lemmas.Grind.{common_steps}
+use Rattle.std.proofs.lemmas.Bool.{cases_eq, lt-ltb, le-ltb}
+use Rattle.std.proofs.lemmas.Grind.{get_or-set_at}
+use Rattle.std.proofs.lemmas.List.{take_more_set}
+use Rattle.std.proofs.lemmas.List.Elements.{All-append}
+use Rattle.rand_core.specs.Stream.{Stream}
+use Rattle.grid_core.specs.Grids.{IsGrid}
+use Rattle.maker_core.specs.Draws.{draw_below, black_cells}
+use Rattle.maker_core.proofs.DrawSteps.{black_cells-none, black_cells-more}
+
+-- the cells below `place` hold what was drawn, and the generator stands after those draws
+pub record IsDrawn (black cells place : ℕ) (s now : Stream) (grid : List ℕ) : Type 0 where
+  pub long : length grid ≡ cells
+  pub drawn : ◌≡◌ {A = List ℕ × Stream} (take place grid, now) (black_cells black place s)
+  pub white : black ≡ 0 → (k : ℕ) → k < place → slice_index grid k ≡ 0
+  pub full : black ≡ 100 → (k : ℕ) → k < place → slice_index grid k ≡ 1
+
+pub IsDrawn-none : (black cells : ℕ) (s : Stream) (grid : List ℕ) → length grid ≡ cells → IsDrawn black cells 0 s s grid
+IsDrawn-none black cells s grid long = record {
+  long = long;
+  drawn = black_cells-none black s;
+  white = λ e k lt. absurd (omega arith);
+  full = λ e k lt. absurd (omega arith);
+}
+
+-- a draw is never less than 0, and always less than 100
+drawn_white : (black d v : ℕ) → v ≡ cond (nat_lt d black) 1 0 → black ≡ 0 → v ≡ 0
+drawn_white black d v value e = value ∙ ap (λ b. cond b 1 0) (le-ltb d black (omega arith))
+
+drawn_full : (black d v : ℕ) → v ≡ cond (nat_lt d black) 1 0 → d < 100 → black ≡ 100 → v ≡ 1
+drawn_full black d v value below e = value ∙ ap (λ b. cond b 1 0) (lt-ltb d black (omega arith))
+
+-- one more cell of a number that all before it hold
+one_more : (grid : List ℕ) (place v x : ℕ) → place < length grid → v ≡ x → ((k : ℕ) → k < place → slice_index grid k ≡ x)
+    → (k : ℕ) → k < place + 1 → slice_index (slice_set grid place v) k ≡ x
+one_more grid place v x within is before k lt = elim (cases_eq k place) [
+  | inl e ↦ get_or-set_at grid place k v 0 e within ∙ is
+  | inr ne ↦ get_or-set_other grid place k v 0 ne ∙ before k (omega arith)
+]
+
+pub IsDrawn-more : (black cells place d v : ℕ) (s now u : Stream) (grid : List ℕ)
+    → IsDrawn black cells place s now grid → ◌≡◌ {A = ℕ × Stream} (d, u) (draw_below 100 now) → d < 100 → v ≡ cond (nat_lt d black) 1 0 → place < cells
+    → IsDrawn black cells (place + 1) s u (slice_set grid place v)
+IsDrawn-more black cells place d v s now u grid before draw below value within =
+    let l = before.long in
+    let inside : place < length grid = omega arith in
+    record {
+      long = grind (arith, common_steps);
+      drawn =
+          ap (λ xs. (xs, u)) (take_more_set grid place v inside ∙ ap (λ w. take place grid ++ w ∷ []) value)
+          ∙ black_cells-more black place d s now u (take place grid) before.drawn draw;
+      white = λ e. one_more grid place v 0 inside (drawn_white black d v value e) (before.white e);
+      full = λ e. one_more grid place v 1 inside (drawn_full black d v value below e) (before.full e);
+    }
+
+pub IsDrawn-all : (black cells : ℕ) (s now : Stream) (grid : List ℕ) → IsDrawn black cells cells s now grid
+    → ◌≡◌ {A = List ℕ × Stream} (grid, now) (black_cells black cells s)
+IsDrawn-all black cells s now grid all =
+    ap (λ xs. (xs, now)) (let l = all.long in grind (arith, common_steps)) ∙ all.drawn
+
+-- one more cell, of 0 or 1
+pub bit_below : (b : Bool) → cond b 1 0 < 2
+bit_below true = omega arith
+bit_below false = omega arith
+
+All-one : (v : ℕ) → v < 2 → All (λ v. v < 2) (v ∷ [])
+All-one v lt zero d h = lt
+All-one v lt (suc k) d h = absurd (omega arith)
+
+-- so many cells are drawn, each 0 or 1
+pub black_cells-grid : (black cells : ℕ) (s : Stream) → IsGrid cells 2 (black_cells black cells s).0
+unfolding black_cells
+black_cells-grid black zero s = record { each_cell = refl; each_value = λ k d lt. absurd (omega arith) }
+black_cells-grid black (suc cells) s =
+    let before = black_cells-grid black cells s in
+    let b = nat_lt (draw_below 100 (black_cells black cells s).1).0 black in
+    record {
+      each_cell = length-append (black_cells black cells s).0 (cond b 1 0 ∷ []) ∙ ap (λ n. n + 1) before.each_cell ∙ add-one cells;
+      each_value = All-append (λ v. v < 2) (black_cells black cells s).0 (cond b 1 0 ∷ []) before.each_value
+          (All-one (cond b 1 0) (bit_below b));
+    }

@@ -1,0 +1,33 @@
+-- Where a search starts from a solution alone, no other grid lies inside the start, and the verdict is one whatever the budget.
+use Rattle.std.proofs.Common.{◌≡◌, ℕ, true, List, slice_index, sym, arith}
+use Rattle.std.proofs.lemmas.Grind.{same_number_lists}
+use Rattle.grid_core.specs.Candidates.{IsInside, single}
+use Rattle.grid_core.proofs.GridLemmas.{single-at, single-is}
+use Rattle.engine_core.specs.Puzzle.{Puzzle, IsLawful}
+use Rattle.engine_core.specs.Verdict.{Outcome.OneGrid, Solves, IsTrueOf}
+use Rattle.engine_core.proofs.ClosingLemmas.{closure_inside, closure_closed, closure_largest}
+use Rattle.engine_core.proofs.WalkLemmas.{walk-unfold}
+use Rattle.maker_core.specs.Made.{has_one}
+use Rattle.maker_core.proofs.FoundAtOnce.{IsKnown, found_at_once}
+
+known : (p : Puzzle) → IsLawful p → IsKnown p
+known p laws = record {
+  laws = laws;
+  largest = λ K within. record { inside = closure_inside p K; closed = closure_closed p K within; largest = λ D closed inside. closure_largest p laws D K closed inside };
+  on = λ depth K within. walk-unfold p depth K within;
+}
+
+module _ (p : Puzzle) (laws : IsLawful p) (g : List ℕ) (solves : Solves p g) (inside : IsInside p.start (single g)) where
+  pub start_has_one : (budget : ℕ) → has_one p budget ≡ true
+  start_has_one budget =
+      found_at_once p budget g (known p laws) solves (λ c v lc lv on. sym (single-is g c v (inside c v (closure_inside p p.start c v on))).1)
+
+  pub start_only : IsTrueOf p (OneGrid g)
+  start_only = (
+    solves,
+    λ h other.
+        let long = solves.grid.each_cell in
+        let long' = other.grid.each_cell in
+        same_number_lists g h (omega arith) (λ k lt.
+        (single-is g k (slice_index h k) (inside k (slice_index h k) (laws.solutions_start h other.grid other.good k (slice_index h k) (single-at h k (omega arith))))).1),
+  )

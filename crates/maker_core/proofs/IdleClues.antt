@@ -1,0 +1,37 @@
+-- A puzzle that lacks a needed clue is within the puzzle without that clue alone.
+use Rattle.std.proofs.Common.{◌≡◌, ◌≢◌, ℕ, ◌<◌, false, true≢false, Some, List, length, get_or, map, sym, ◌∙◌, ap, subst, arith, ◌⊎◌, inl, inr}
+use Rattle.std.specs.Prelude.{is_some, All, Contains}
+use Rattle.std.proofs.lemmas.Bool.{cases_eq}
+use Rattle.std.proofs.lemmas.List.{get_or-map, length-map}
+use Rattle.maker_core.specs.Thinning.{Game, IsGame, has_clue, IsWithin, HasTwo, IsReason, AreReasons, LeavesNoIdleClue}
+use Rattle.maker_core.specs.declared.made.Kept.{Kept}
+use Rattle.maker_core.specs.declared.made.Why.TheVariants.{Needed}
+use Rattle.maker_core.proofs.ThinningLists.{passes_kept}
+use Rattle.maker_core.proofs.ThinningTurns.{some_of, two_in}
+
+lacking_within : {A : Type 0} (game : Game A) → IsGame game → (p q : A) (place n : ℕ) → IsWithin game q p → game.clue p place ≡ Some n → has_clue game q place ≡ false
+    → IsWithin game q (game.without p place)
+lacking_within game laws p q place n w e lacks = record {
+  frame = laws.same_through _ _ _ w.frame (laws.same_back _ _ (laws.without_frame p place n e));
+  clues = λ other m had. by other m had (cases_eq other place);
+}
+  where
+    by : (other m : ℕ) → game.clue q other ≡ Some m → (other ≡ place) ⊎ (other ≢ place) → game.clue (game.without p place) other ≡ Some m
+    by other m had (inl same) = absurd (true≢false (sym (ap is_some had) ∙ ap (has_clue game q) same ∙ lacks))
+    by other m had (inr apart) = laws.others_stay p place other apart ∙ w.clues other m had
+
+-- the reason of a clue that is left
+needed_at : {A : Type 0} (game : Game A) (budget : ℕ) (all p : A) (kept : List Kept) (place : ℕ) → AreReasons game budget all p kept → All (λ k. k.why ≡ Needed) kept
+    → Contains (map (λ k. k.place) kept) place → HasTwo (game.rules (game.without p place))
+needed_at game budget all p kept place reasons needed listed =
+    let entry : Kept = record { place = place; why = Needed } in
+    let below : listed.0 < length kept = omega (arith, listed.1, length-map kept (λ k. k.place)) in
+    let here : (get_or kept listed.0 entry).place ≡ place = sym (get_or-map (λ k. k.place) kept listed.0 entry place below) ∙ listed.2 in
+    subst (λ x. IsReason game budget all p x Needed) here (subst (λ w. IsReason game budget all p (get_or kept listed.0 entry).place w) (needed listed.0 entry below) (reasons.reasons listed.0 entry below))
+
+pub none_is_idle : {A : Type 0} (game : Game A) → IsGame game → LeavesNoIdleClue game
+none_is_idle game laws budget all p q kept place reasons needed w has lacks =
+    let n = some_of (game.clue p place) has in
+    let listed = passes_kept (has_clue game p) 0 (game.cells p) place (omega arith) (omega (arith, laws.clue_in p place n.0 n.1)) has in
+    two_in game laws _ _ (lacking_within game laws p q place n.0 w n.1 lacks)
+    (needed_at game budget all p kept place reasons needed (subst (λ xs. Contains xs place) (sym reasons.places) listed))

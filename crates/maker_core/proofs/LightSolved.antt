@@ -1,0 +1,205 @@
+-- White cells that were taken in turn, in any order, hold or see a bulb, and no bulb sees a bulb: the grid solves the
+-- puzzle with all numbers.
+use Rattle.std.proofs.Common.{◌≡◌, ℕ, zero, suc, ◌<◌, ◌≤◌, Bool, true, false, not, cond, List, [], ◌∷◌, ◌++◌, add-one, subst, length, get_or, get_or-set_other, refl, sym, ap, ◌∙◌, arith, inl, inr, ◌⊎◌, replicate}
+use Rattle.std.specs.Prelude.{◌||◌, ◌==◌, slice_index, slice_set, if◌then◌else◌, filter, Contains, IsPermutation}
+use Rattle.std.proofs.lemmas.Bool.{cases_lt, cases_eq, true≢false, false_from_ne_true, and_parts, or_cases, or_left, or_right, eqb-true, eq-eqb}
+use Rattle.std.proofs.lemmas.Grind.{get_or-set_at}
+use Rattle.std.proofs.lemmas.List.Elements.{filter_passes, All-contains, Contains-get_or, Contains-append_left, Contains-append_right}
+use Rattle.std.proofs.lemmas.List.Sorted.{Contains-permutation, IsPermutation-sym}
+use Rattle.std.specs.List.{range_with_len}
+use Rattle.std.proofs.lemmas.List.{get_or-replicate, length-replicate, get_or_past, get_or_default}
+use Rattle.grid_core.proofs.CandidateLemmas.{all_below-from}
+use Rattle.grid_core.specs.Grids.{IsGrid}
+use Rattle.gameid_core.specs.Puzzles.{Light}
+use Rattle.gameid_core.specs.declared.light_cell.LightCell.{LightCell}
+use Rattle.gameid_core.specs.declared.light_cell.LightCell.TheVariants.{White, Black, Numbered}
+use Rattle.fields_core.specs.Light.{cells_of, white, bulb, bulbs_beside, number_is, sees, sees_bulb, black_right, number_right, bulb_right, lit_right, is_lit}
+use Rattle.fields_core.proofs.LightFaultLemmas.{lit-from}
+use Rattle.fields_core.proofs.LightHouseLaws.{white-in}
+use Rattle.fields_core.proofs.LightSight.{bulb-in}
+use Rattle.maker_core.specs.LightFilling.{white_places, with_bulb, bulbs_after, numbered_cell, with_numbers}
+use Rattle.maker_core.proofs.LightBulbs.{filter_more, bulbs_after-grid, with_bulb-held, with_bulb-new}
+use Rattle.maker_core.proofs.LightSight.{number_at, same_white, same_sees, sees_back, sees_itself, seen_bulb, bulb_seen}
+
+-- the first k cells of the order hold or see a bulb, bulbs stand on white cells and none sees another
+pub record IsPlanted (p : Light) (order g : List ℕ) (k : ℕ) : Type 0 where
+  pub on_white : (c : ℕ) → bulb g c ≡ true → white p c ≡ true
+  pub apart : (c d : ℕ) → bulb g c ≡ true → bulb g d ≡ true → sees p c d ≡ false
+  pub lit : (j : ℕ) → j < k → (bulb g (slice_index order j) || sees_bulb p g (slice_index order j)) ≡ true
+
+pub no_bulb : (n c : ℕ) → bulb (replicate n 0) c ≡ true → ⊥
+no_bulb n c on =
+    let zeros : List ℕ = replicate n 0 in
+    let one : slice_index zeros c ≡ 1 = eqb-true (slice_index zeros c) 1 on in
+    let l : length zeros ≡ n = length-replicate {A = ℕ} n 0 in
+    let none : slice_index zeros c ≡ 0 = elim (cases_lt c n) [
+      | inl low ↦ get_or-replicate n c 0 0 low
+      | inr high ↦ get_or_past zeros c 0 (omega arith)
+    ] in
+    absurd (omega arith)
+
+planted_none : (p : Light) (order : List ℕ) → IsPlanted p order (replicate (cells_of p) 0) 0
+planted_none p order = record {
+  on_white = λ c on. absurd (no_bulb (cells_of p) c on);
+  apart = λ c d on _. absurd (no_bulb (cells_of p) c on);
+  lit = λ j lt. absurd (omega arith);
+}
+
+planted_held : (p : Light) (order g : List ℕ) (k : ℕ) → IsPlanted p order g k → (bulb g (slice_index order k) || sees_bulb p g (slice_index order k)) ≡ true → IsPlanted p order g (suc k)
+planted_held p order g k w held = record {
+  on_white = w.on_white;
+  apart = w.apart;
+  lit = λ j lt. elim (cases_eq j k) [
+    | inl e ↦ ap (λ n. bulb g (slice_index order n) || sees_bulb p g (slice_index order n)) e ∙ held
+    | inr ne ↦ w.lit j (omega arith)
+  ];
+}
+
+-- ---- a new bulb
+pub new_or_old : (g : List ℕ) (c d : ℕ) → bulb (slice_set g c 1) d ≡ true → (d ≡ c) ⊎ (bulb g d ≡ true)
+new_or_old g c d on = elim (cases_eq d c) [
+  | inl e ↦ inl e
+  | inr ne ↦ inr (ap (λ v. v == 1) (sym (get_or-set_other g c d 1 0 ne)) ∙ on)
+]
+
+pub old_stays : (g : List ℕ) (c d : ℕ) → c < length g → bulb g d ≡ true → bulb (slice_set g c 1) d ≡ true
+old_stays g c d lt on = elim (cases_eq d c) [
+  | inl e ↦ eq-eqb _ _ (get_or-set_at g c d 1 0 e lt)
+  | inr ne ↦ ap (λ v. v == 1) (get_or-set_other g c d 1 0 ne) ∙ on
+]
+
+lit_stays : (p : Light) (g : List ℕ) (c d : ℕ) → c < length g → (bulb g d || sees_bulb p g d) ≡ true → (bulb (slice_set g c 1) d || sees_bulb p (slice_set g c 1) d) ≡ true
+lit_stays p g c d lt on = elim (or_cases (bulb g d) (sees_bulb p g d) on) [
+  | inl own ↦ or_left _ _ (old_stays g c d lt own)
+  | inr seen ↦
+      let w = seen_bulb p g d seen in
+      or_right _ _ (bulb_seen p (slice_set g c 1) d w.0 w.1 w.2 (old_stays g c w.0 lt w.3))
+]
+
+planted_new : (p : Light) (order g : List ℕ) (k c : ℕ) → length g ≡ cells_of p → IsPlanted p order g k → c ≡ slice_index order k → white p c ≡ true → c < cells_of p
+    → (bulb g c || sees_bulb p g c) ≡ false → IsPlanted p order (slice_set g c 1) (suc k)
+planted_new p order g k c long w at on within none = record {
+  on_white = λ d here. elim (new_or_old g c d here) [
+    | inl e ↦ ap (white p) e ∙ on
+    | inr old ↦ w.on_white d old
+  ];
+  apart = λ d e here there. elim (new_or_old g c d here) [
+    | inl new ↦ elim (new_or_old g c e there) [
+      | inl too ↦ ap (λ x. sees p x e) new ∙ ap (sees p c) too ∙ sees_itself p c
+      | inr old ↦ ap (λ x. sees p x e) new ∙ unseen e old
+    ]
+    | inr old ↦ elim (new_or_old g c e there) [
+      | inl new ↦ false_from_ne_true _ (λ seen.
+          let back : sees p e d ≡ true = sees_back p d e (w.on_white d old) seen in
+          true≢false (sym back ∙ ap (λ x. sees p x d) new ∙ unseen d old))
+      | inr too ↦ w.apart d e old too
+    ]
+  ];
+  lit = λ j lt. elim (cases_eq j k) [
+    | inl e ↦ or_left _ _ (eq-eqb _ _ (get_or-set_at g c (slice_index order j) 1 0 (ap (slice_index order) e ∙ sym at) (omega arith)))
+    | inr ne ↦ lit_stays p g c (slice_index order j) (omega arith) (w.lit j (omega arith))
+  ];
+}
+  where
+    unseen : (d : ℕ) → bulb g d ≡ true → sees p c d ≡ false
+    unseen d old = false_from_ne_true _ (λ seen. true≢false (sym (or_right (bulb g c) _ (bulb_seen p g c d (bulb-in g (cells_of p) d long old) seen old)) ∙ none))
+
+pub planted : (p : Light) (order : List ℕ) → ((j : ℕ) → j < length order → white p (slice_index order j) ≡ true) → length p.cells ≡ cells_of p
+    → (k : ℕ) → k ≤ length order → IsPlanted p order (bulbs_after p order k) k
+unfolding bulbs_after
+planted p order whites long zero le = planted_none p order
+planted p order whites long (suc k) le = by (bulb (bulbs_after p order k) (slice_index order k) || sees_bulb p (bulbs_after p order k) (slice_index order k)) refl (planted p order whites long k (omega arith))
+  where
+    by : (b : Bool) → (bulb (bulbs_after p order k) (slice_index order k) || sees_bulb p (bulbs_after p order k) (slice_index order k)) ≡ b
+        → IsPlanted p order (bulbs_after p order k) k → IsPlanted p order (with_bulb p (bulbs_after p order k) (slice_index order k)) (suc k)
+    by true e before = rw (with_bulb-held p (bulbs_after p order k) (slice_index order k) e) (planted_held p order (bulbs_after p order k) k before e)
+    by false e before =
+        let on = whites k (omega arith) in
+        rw (with_bulb-new p (bulbs_after p order k) (slice_index order k) e)
+        (planted_new p order (bulbs_after p order k) k (slice_index order k) (bulbs_after-grid p order k).each_cell before refl on (white-in p (slice_index order k) long on) e)
+
+-- ---- the rules
+number_met : (cell : LightCell) (white_cell : Bool) (n : ℕ) → cell ≡ (if white_cell then White else Numbered n) → number_is cell n ≡ true
+number_met cell true n e = ap (λ x. number_is x n) e
+number_met cell false n e = ap (λ x. number_is x n) e ∙ eq-eqb n n refl
+
+pub lights_solved : (p : Light) (order g : List ℕ) (k : ℕ) → length p.cells ≡ cells_of p → IsGrid (cells_of p) 2 g → IsPlanted p order g k
+    → ((c : ℕ) → white p c ≡ true → (j : ℕ) × (j < k) × (slice_index order j ≡ c)) → is_lit (with_numbers p g) g ≡ true
+unfolding with_numbers numbered_cell black_right number_right bulb_right lit_right
+lights_solved p order g k long grid w each =
+    lit-from (with_numbers p g) g
+    (all_below-from (black_right (with_numbers p g) g) (cells_of p) black)
+    (all_below-from (number_right (with_numbers p g) g) (cells_of p) number)
+    (all_below-from (bulb_right (with_numbers p g) g) (cells_of p) alone)
+    (all_below-from (lit_right (with_numbers p g) g) (cells_of p) lit)
+  where
+    same_seen : (c : ℕ) → sees_bulb (with_numbers p g) g c ≡ true → sees_bulb p g c ≡ true
+    same_seen c seen =
+        let v = seen_bulb (with_numbers p g) g c seen in
+        bulb_seen p g c v.0 (bulb-in g (cells_of p) v.0 grid.each_cell v.3) (sym (same_sees p g long c v.0) ∙ v.2) v.3
+
+    black : (c : ℕ) → c < cells_of p → black_right (with_numbers p g) g c ≡ true
+    black c lt = by (white p c) refl
+      where
+        by : (b : Bool) → white p c ≡ b → black_right (with_numbers p g) g c ≡ true
+        by true e = or_left _ _ (same_white p g long c ∙ e)
+        by false e = or_right _ _ (eq-eqb (slice_index g c) 0 (none (slice_index g c) refl))
+          where
+            none : (v : ℕ) → v ≡ slice_index g c → slice_index g c ≡ 0
+            none v at = let small = grid.each_value c 0 (let l = grid.each_cell in omega arith) in elim (cases_eq (slice_index g c) 1) [
+              | inl one ↦ absurd (true≢false (sym (w.on_white c (eq-eqb _ _ one)) ∙ e))
+              | inr ne ↦ omega arith
+            ]
+
+    number : (c : ℕ) → c < cells_of p → number_right (with_numbers p g) g c ≡ true
+    number c lt = number_met (get_or (with_numbers p g).cells c Black) (white p c) (bulbs_beside p g c) (number_at p g c lt)
+
+    alone : (c : ℕ) → c < cells_of p → bulb_right (with_numbers p g) g c ≡ true
+    alone c lt = ap not (false_from_ne_true _ (λ both.
+        let parts = and_parts (bulb g c) _ both in
+        let v = seen_bulb p g c (same_seen c parts.1) in
+        true≢false (sym v.2 ∙ w.apart c v.0 parts.0 v.3)))
+
+    lit : (c : ℕ) → c < cells_of p → lit_right (with_numbers p g) g c ≡ true
+    lit c lt = by (white p c) refl
+      where
+        by : (b : Bool) → white p c ≡ b → lit_right (with_numbers p g) g c ≡ true
+        by false e = or_left _ _ (ap not (same_white p g long c ∙ e))
+        by true e =
+            let v = each c e in
+            elim (or_cases (bulb g c) (sees_bulb p g c) (ap (λ d. bulb g d || sees_bulb p g d) (sym v.2) ∙ w.lit v.0 v.1)) [
+              | inl own ↦ or_right _ _ (or_left _ _ own)
+              | inr seen ↦ or_right _ _ (or_right _ _ (let s = seen_bulb p g c seen in bulb_seen (with_numbers p g) g c s.0 s.1 (same_sees p g long c s.0 ∙ s.2) s.3))
+            ]
+
+-- ---- in any order of the white cells
+pub order_white : (p : Light) (order : List ℕ) → IsPermutation (white_places p) order → (j : ℕ) → j < length order → white p (slice_index order j) ≡ true
+unfolding white_places
+order_white p order mixed j lt =
+    All-contains (λ c. white p c ≡ true) (white_places p) (slice_index order j) (filter_passes (white p) (range_with_len 0 (cells_of p)))
+    (Contains-permutation order (white_places p) (slice_index order j) (IsPermutation-sym (white_places p) order mixed) (Contains-get_or order j 0 lt))
+
+listed : (test : ℕ → Bool) (n c : ℕ) → c < n → test c ≡ true → Contains (filter test (range_with_len 0 n)) c
+listed test zero c lt on = absurd (omega arith)
+listed test (suc n) c lt on = elim (cases_eq c n) [
+  | inl e ↦ subst (λ xs. Contains xs c) (sym now) (Contains-append_right (filter test (range_with_len 0 n)) (cond (test n) (n ∷ []) []) c
+      (subst (λ b. Contains (cond b (n ∷ []) []) c) (sym on ∙ ap test e) (subst (λ x. Contains (n ∷ []) x) (sym e) (0, omega arith, refl))))
+  | inr ne ↦ subst (λ xs. Contains xs c) (sym now) (Contains-append_left (filter test (range_with_len 0 n)) (cond (test n) (n ∷ []) []) c (listed test n c (omega arith) on))
+]
+  where
+    now : filter test (range_with_len 0 (suc n)) ≡ filter test (range_with_len 0 n) ++ cond (test n) (n ∷ []) []
+    now = ap (λ k. filter test (range_with_len 0 k)) (sym (add-one n)) ∙ filter_more test n
+
+order_each : (p : Light) (order : List ℕ) → length p.cells ≡ cells_of p → IsPermutation (white_places p) order → (c : ℕ) → white p c ≡ true
+    → (j : ℕ) × (j < length order) × (slice_index order j ≡ c)
+unfolding white_places
+order_each p order long mixed c on =
+    let w = Contains-permutation (white_places p) order c mixed (listed (white p) (cells_of p) c (white-in p c long on) on) in
+    (w.0, w.1, get_or_default order w.0 0 c w.1 ∙ w.2)
+
+pub lit_solved : (p : Light) (order g : List ℕ) → length p.cells ≡ cells_of p → IsPermutation (white_places p) order → g ≡ bulbs_after p order (length order)
+    → is_lit (with_numbers p g) g ≡ true
+lit_solved p order g long mixed is =
+    rw is (lights_solved p order (bulbs_after p order (length order)) (length order) long (bulbs_after-grid p order (length order))
+    (planted p order (order_white p order mixed) long (length order) (let z : length order ≤ length order = omega arith in z))
+    (order_each p order long mixed))

@@ -1,0 +1,86 @@
+-- The puzzle of a grid has the runs of its lines as clues, and the grid is a solution of it.
+use Rattle.std.proofs.Common.{◌≡◌, ℕ, ◌+◌, ◌-◌, ◌*◌, ◌<◌, List, [], length, subst, ◌⊎◌, Bool, true, false, refl, sym, ap, ◌∙◌, arith, inl, inr}
+use Rattle.std.specs.Prelude.{slice_index_or, IsTrue, ◌↔◌}
+use Rattle.std.proofs.lemmas.Bool.{cases_lt, lt-ltb, le-ltb, true≢false}
+use Rattle.std.proofs.lemmas.List.{same_lists, get_or_default}
+use Rattle.std.proofs.lemmas.List.FromFn.{get_or-map-range_with_len, length-map-range_with_len}
+use Rattle.grid_core.specs.Extent.{Extent}
+use Rattle.grid_core.specs.Grids.{IsGrid, row_cells, column_cells}
+use Rattle.gameid_core.specs.BlackRuns.{runs}
+use Rattle.gameid_core.specs.Lines.{line_list, lines_runs}
+use Rattle.gameid_core.specs.Puzzles.{Pattern, lines_of}
+use Rattle.pattern_core.specs.LineRules.{line_rules}
+use Rattle.pattern_core.specs.Solutions.{IsSolution}
+use Rattle.engine_core.specs.Verdict.{Solves}
+use Rattle.maker_core.specs.Made.{HasNoTwo, IsOnlySolution}
+use Rattle.maker_core.specs.Draws.{AreAll}
+use Rattle.maker_core.specs.PatternMaking.{pattern_of}
+
+-- a puzzle with those clues
+pub record HasRuns (size : Extent) (g : List ℕ) (p : Pattern) : Type 0 where
+  pub sized : p.size ≡ size
+  pub columns : (x : ℕ) → x < size.w → slice_index_or p.clues x [] ≡ runs (column_cells size g x)
+  pub rows : (y : ℕ) → y < size.h → slice_index_or p.clues (size.w + y) [] ≡ runs (row_cells size g y)
+
+pub runs_at : (size : Extent) (g : List ℕ) (line : ℕ) → line < lines_of size → slice_index_or (lines_runs size g) line [] ≡ runs (line_list size g line)
+runs_at size g line lt = get_or-map-range_with_len (λ line. runs (line_list size g line)) 0 (lines_of size) line line [] lt (omega arith)
+
+clue_at : (size : Extent) (g : List ℕ) (p : Pattern) → HasRuns size g p → (line : ℕ) → line < lines_of size
+    → slice_index_or p.clues line [] ≡ runs (line_list size g line)
+clue_at size g p has line lt = elim (cases_lt line size.w) [
+  | inl column ↦ has.columns line column ∙ rw (lt-ltb line size.w column) refl
+  | inr row ↦
+      let back : size.w + (line - size.w) ≡ line = omega arith in
+      ap (λ n. slice_index_or p.clues n []) (sym back) ∙ has.rows (line - size.w) (omega arith) ∙ rw (le-ltb line size.w row) refl
+]
+
+pub pattern_is : (size : Extent) (g : List ℕ) (p : Pattern) → length p.clues ≡ lines_of p.size → HasRuns size g p → p ≡ pattern_of size g
+pattern_is size g p lines has =
+    let same = has.sized in
+    let long : length p.clues ≡ lines_of size = lines ∙ ap lines_of same in
+    let clues : p.clues ≡ lines_runs size g =
+    same_lists p.clues (lines_runs size g) (long ∙ sym (length-map-range_with_len (λ line. runs (line_list size g line)) 0 (lines_of size)))
+    (λ k d lt. at k d lt (omega arith) long) in
+    ap (λ (s : Extent). record { size = s; clues = p.clues }) same ∙ ap (λ (c : List (List ℕ)). record { size = size; clues = c }) clues
+  where
+    at : (k : ℕ) (d : List ℕ) → k < length p.clues → k < lines_of size → length p.clues ≡ lines_of size → slice_index_or p.clues k d ≡ slice_index_or (lines_runs size g) k d
+    at k d lt below long =
+        get_or_default p.clues k d [] lt ∙ clue_at size g p has k below ∙ sym (runs_at size g k below)
+        ∙ get_or_default (lines_runs size g) k [] d (let l = length-map-range_with_len (λ line. runs (line_list size g line)) 0 (lines_of size) in omega arith)
+
+-- that grid is a solution of it
+pub pattern_solved : (size : Extent) (g : List ℕ) (p : Pattern) → HasRuns size g p → IsGrid (size.w * size.h) 2 g → IsSolution p g
+pattern_solved size g p has grid =
+    let same = sym has.sized in
+    record {
+      grid = subst (λ (s : Extent). IsGrid (s.w * s.h) 2 g) same grid;
+      columns = λ x lt. ap (λ (s : Extent). runs (column_cells s g x)) (sym same) ∙ sym (has.columns x (subst (λ (s : Extent). x < s.w) (sym same) lt));
+      rows = λ y lt.
+          ap (λ (s : Extent). runs (row_cells s g y)) (sym same)
+          ∙ sym (has.rows y (subst (λ (s : Extent). y < s.h) (sym same) lt))
+          ∙ ap (λ (s : Extent). slice_index_or p.clues (s.w + y) []) same;
+    }
+
+-- and the only one, where the rules have no two solutions
+pub pattern_only : (p : Pattern) (g : List ℕ)
+    → ((q : Pattern) (h : List ℕ) → IsGrid (q.size.w * q.size.h) 2 h → (IsTrue ((line_rules q).is_solution h)) ↔ IsSolution q h)
+    → HasNoTwo (line_rules p)
+    → IsSolution p g → IsOnlySolution (IsSolution p) g
+pattern_only p g accepted unique good =
+    let solves : (h : List ℕ) → IsSolution p h → Solves (line_rules p) h = λ h s. record { grid = s.grid; good = (accepted p h s.grid).1 s } in
+    (good, λ h s. unique g h (solves g good) (solves h s))
+
+-- with one colour alone the first try is the last
+pub record IsFirstSure (black done : ℕ) : Type 0 where
+  pub sure : (black ≡ 0) ⊎ (black ≡ 100) → done ≡ 0
+
+pub IsFirstSure-more : (black done : ℕ) (g : List ℕ) (passed : Bool) → (black ≡ 0 → AreAll 0 g) → (black ≡ 100 → AreAll 1 g)
+    → (AreAll 0 g ⊎ AreAll 1 g → passed ≡ true) → passed ≡ false → IsFirstSure black (done + 1)
+IsFirstSure-more black done g passed white full passes failed = record { sure = λ plain. absurd (true≢false (sym (passes (colour plain)) ∙ failed)) }
+  where
+    colour : (black ≡ 0) ⊎ (black ≡ 100) → AreAll 0 g ⊎ AreAll 1 g
+    colour (inl e) = inl (white e)
+    colour (inr e) = inr (full e)
+
+pub IsFirstSure-none : (black : ℕ) → IsFirstSure black 0
+IsFirstSure-none black = record { sure = λ plain. refl }

@@ -1,0 +1,38 @@
+-- The first filling passes at once, and what the search says of the puzzle that is left is said by the rules of Solo.
+use Rattle.std.proofs.Common.{◌≡◌, ℕ, ◌*◌, ◌<◌, Bool, true, List, sym, ap, ◌∙◌, subst, arith}
+use Rattle.rand_core.specs.Stream.{Stream}
+use Rattle.grid_core.specs.Grids.{IsGrid}
+use Rattle.gameid_core.specs.Puzzles.{Solo}
+use Rattle.engine_core.specs.Verdict.{Outcome.OneGrid, IsTrueOf}
+use Rattle.solo_core.specs.RuleSets.{houses_rules}
+use Rattle.solo_core.specs.Solutions.{IsSolution}
+use Rattle.solo_core.specs.SolutionLaws.{rule_from_test, test_from_rule}
+use Rattle.maker_core.specs.Draws.{Making, stream_after, filling_at, IsFirstPassing}
+use Rattle.maker_core.specs.Made.{IsOnlySolution}
+use Rattle.maker_core.specs.SoloFilling.{all_given}
+use Rattle.maker_core.specs.SoloMaking.{IsSoloSize, SolvesSolo, solo_passes}
+use Rattle.maker_core.proofs.SoloFull.{all_given-only, all_given-passes}
+
+-- the first filling of a stream passes
+pub first_at_once : {A : Type 0} (make : Making A) (passes : A → Bool) (s t : Stream) (tries : ℕ) (x : A)
+    → ◌≡◌ {A = A × Stream} (x, t) (make s) → passes x ≡ true → 0 < tries → IsFirstPassing make passes s tries 0 × (x ≡ filling_at make 0 s)
+unfolding stream_after
+first_at_once make passes s t tries x made passing some = (
+  record { within = some; passing = ap (λ q. passes q.0) (sym made) ∙ passing; failing = λ j lt. absurd (omega arith) },
+  ap (λ q. q.0) made,
+)
+
+pub full_only : (c r : ℕ) (p : Solo) (g : List ℕ) → IsSoloSize c r → IsGrid ((c * r) * (c * r)) (c * r) g → IsSolution (all_given c r g) g
+    → p ≡ all_given c r g → IsTrueOf (houses_rules p) (OneGrid g)
+full_only c r p g size fits solution full =
+    subst (λ q. IsTrueOf (houses_rules q) (OneGrid g)) (sym full) (all_given-only c r g size.c_low size.r_low size.n_high fits solution)
+
+pub full_passes : (c r : ℕ) (g : List ℕ) (budget : ℕ) → IsSoloSize c r → IsGrid ((c * r) * (c * r)) (c * r) g → IsSolution (all_given c r g) g
+    → solo_passes c r budget g ≡ true
+full_passes c r g budget size fits solution = all_given-passes c r g size.c_low size.r_low size.n_high fits solution budget
+
+pub only_by_rules : (p : Solo) (g made : List ℕ) → IsTrueOf (houses_rules p) (OneGrid g) → made ≡ g → IsOnlySolution (SolvesSolo p) made
+only_by_rules p g made w same = subst (IsOnlySolution (SolvesSolo p)) (sym same) (
+  record { grid = w.0.grid; solution = rule_from_test p g w.0.good },
+  λ h other. sym (w.1 h (record { grid = other.grid; good = test_from_rule p h other.solution })),
+)

@@ -1,0 +1,119 @@
+-- The grid of orders is a solution of the puzzle that gives all its cells: two cells that share a row, a column or a block
+-- come of two cells that shared one before the shuffles, and there the numbers differ.
+use Rattle.std.proofs.Common.{◌≡◌, ℕ, suc, ◌*◌, ◌/◌, ◌%◌, ◌<◌, true, eqb, List, length, slice_index, sym, ap, ◌∙◌, inl, inr, arith}
+use Rattle.std.proofs.lemmas.Bool.{or_cases, eqb-true}
+use native.Mathlib.Nat.{mul-pos}
+use Rattle.std.proofs.lemmas.Nat.{div_below, mod_below, same_from_place}
+use Rattle.std.proofs.lemmas.List.{get_or-map}
+use Rattle.std.proofs.lemmas.List.Elements.{All-from_get_or}
+use Rattle.std.proofs.lemmas.List.FromFn.{length-map-range_with_len, get_or-map-range_with_len}
+use Rattle.grid_core.specs.Grids.{IsGrid}
+use Rattle.solo_core.specs.Solutions.{IsSolution, share, block_of}
+use Rattle.maker_core.specs.SoloFilling.{first_number, numbered, all_given}
+use Rattle.maker_core.specs.SoloOrders.{IsOrder, IsLineOrder}
+use Rattle.maker_core.proofs.SoloNumbers.{row_apart, column_apart, block_apart, same_line}
+
+pub numbered-at : (c r : ℕ) (numbers rows columns : List ℕ) (place : ℕ) → place < (c * r) * (c * r)
+    → slice_index (numbered c r numbers rows columns) place
+    ≡ slice_index numbers (first_number c r (slice_index columns (place % (c * r))) (slice_index rows (place / (c * r))))
+unfolding numbered
+numbered-at c r numbers rows columns place lt =
+    get_or-map-range_with_len (λ place. slice_index numbers (first_number c r (slice_index columns (place % (c * r))) (slice_index rows (place / (c * r)))))
+    0 ((c * r) * (c * r)) place place 0 lt (omega arith)
+
+pub length-numbered : (c r : ℕ) (numbers rows columns : List ℕ) → length (numbered c r numbers rows columns) ≡ (c * r) * (c * r)
+unfolding numbered
+length-numbered c r numbers rows columns =
+    length-map-range_with_len (λ place. slice_index numbers (first_number c r (slice_index columns (place % (c * r))) (slice_index rows (place / (c * r))))) 0 ((c * r) * (c * r))
+
+module _ (c r : ℕ) (c_low : 0 < c) (r_low : 0 < r) (numbers rows columns : List ℕ)
+    (is_numbers : IsOrder (c * r) numbers) (is_rows : IsLineOrder r c rows) (is_columns : IsLineOrder c r columns) where
+  abbrev grid : List ℕ
+  grid = numbered c r numbers rows columns
+
+  -- the old column and the old row of a place
+  abbrev old_x : ℕ → ℕ
+  old_x place = slice_index columns (place % (c * r))
+
+  abbrev old_y : ℕ → ℕ
+  old_y place = slice_index rows (place / (c * r))
+
+  side_some : 0 < c * r
+  side_some = mul-pos c_low r_low
+
+  turned : r * c ≡ c * r
+  turned = omega arith
+
+  x_below : (place : ℕ) → place % (c * r) < c * r
+  x_below place = mod_below place (c * r) side_some
+
+  y_below : (place : ℕ) → place < (c * r) * (c * r) → place / (c * r) < r * c
+  y_below place lt = let far = div_below place (c * r) (c * r) side_some lt in omega arith
+
+  pub old_x_below : (place : ℕ) → old_x place < c * r
+  old_x_below place = is_columns.order.within (place % (c * r)) (x_below place)
+
+  pub old_y_below : (place : ℕ) → place < (c * r) * (c * r) → old_y place < c * r
+  old_y_below place lt = let w = is_rows.order.within (place / (c * r)) (y_below place lt) in omega arith
+
+  same_x : (j k : ℕ) → old_x j ≡ old_x k → j % (c * r) ≡ k % (c * r)
+  same_x j k e = is_columns.order.apart (j % (c * r)) (k % (c * r)) (x_below j) (x_below k) e
+
+  same_y : (j k : ℕ) → j < (c * r) * (c * r) → k < (c * r) * (c * r) → old_y j ≡ old_y k → j / (c * r) ≡ k / (c * r)
+  same_y j k lj lk e = is_rows.order.apart (j / (c * r)) (k / (c * r)) (y_below j lj) (y_below k lk) e
+
+  same_first : (j k : ℕ) → j < (c * r) * (c * r) → k < (c * r) * (c * r) → slice_index grid j ≡ slice_index grid k
+      → first_number c r (old_x j) (old_y j) ≡ first_number c r (old_x k) (old_y k)
+  same_first j k lj lk e =
+      is_numbers.apart (first_number c r (old_x j) (old_y j)) (first_number c r (old_x k) (old_y k)) (mod_below _ (c * r) side_some) (mod_below _ (c * r) side_some)
+      (sym (numbered-at c r numbers rows columns j lj) ∙ e ∙ numbered-at c r numbers rows columns k lk)
+
+  apart_in_row : (j k : ℕ) → j < (c * r) * (c * r) → k < (c * r) * (c * r) → slice_index grid j ≡ slice_index grid k → j / (c * r) ≡ k / (c * r) → j ≡ k
+  apart_in_row j k lj lk e row =
+      let old = same_first j k lj lk e ∙ ap (first_number c r (old_x k)) (ap (slice_index rows) (sym row)) in
+      let column = row_apart c r c_low r_low (old_x j) (old_x k) (old_y j) (old_x_below j) (old_x_below k) old in
+      same_line (c * r) j k row (same_x j k column)
+
+  apart_in_column : (j k : ℕ) → j < (c * r) * (c * r) → k < (c * r) * (c * r) → slice_index grid j ≡ slice_index grid k → j % (c * r) ≡ k % (c * r) → j ≡ k
+  apart_in_column j k lj lk e column =
+      let old = same_first j k lj lk e ∙ ap (λ x. first_number c r x (old_y k)) (ap (slice_index columns) (sym column)) in
+      let row = column_apart c r c_low r_low (old_x j) (old_y j) (old_y k) (old_y_below j lj) (old_y_below k lk) old in
+      same_line (c * r) j k (same_y j k lj lk row) column
+
+  apart_in_block : (j k : ℕ) → j < (c * r) * (c * r) → k < (c * r) * (c * r) → slice_index grid j ≡ slice_index grid k
+      → j / (c * r) / c ≡ k / (c * r) / c → j % (c * r) / r ≡ k % (c * r) / r → j ≡ k
+  apart_in_block j k lj lk e band stack =
+      let old = same_first j k lj lk e in
+      let bands = is_rows.together (j / (c * r)) (k / (c * r)) (y_below j lj) (y_below k lk) band in
+      let stacks = is_columns.together (j % (c * r)) (k % (c * r)) (x_below j) (x_below k) stack in
+      let w = block_apart c r c_low r_low (old_x j) (old_x k) (old_y j) (old_y k) stacks bands old in
+      same_line (c * r) j k (same_y j k lj lk w.1) (same_x j k w.0)
+
+  same_block : (j k : ℕ) → block_of (all_given c r grid) j ≡ block_of (all_given c r grid) k → (j / (c * r) / c ≡ k / (c * r) / c) × (j % (c * r) / r ≡ k % (c * r) / r)
+  same_block j k e =
+      same_from_place (j / (c * r) / c) (j % (c * r) / r) (k / (c * r) / c) (k % (c * r) / r) c (div_below (j % (c * r)) r c r_low (x_below j)) (div_below (k % (c * r)) r c r_low (x_below k)) e
+
+  apart_in_house : (j k : ℕ) → j < (c * r) * (c * r) → k < (c * r) * (c * r) → share (all_given c r grid) j k ≡ true → slice_index grid j ≡ slice_index grid k → j ≡ k
+  apart_in_house j k lj lk shared e = elim (or_cases (eqb (j / (c * r)) (k / (c * r))) _ shared) [
+    | inl row ↦ apart_in_row j k lj lk e (eqb-true (j / (c * r)) (k / (c * r)) row)
+    | inr more ↦ elim (or_cases (eqb (j % (c * r)) (k % (c * r))) _ more) [
+      | inl column ↦ apart_in_column j k lj lk e (eqb-true (j % (c * r)) (k % (c * r)) column)
+      | inr block ↦ let w = same_block j k (eqb-true (block_of (all_given c r grid) j) (block_of (all_given c r grid) k) block) in apart_in_block j k lj lk e w.0 w.1
+    ]
+  ]
+
+  pub is_grid : IsGrid ((c * r) * (c * r)) (c * r) grid
+  is_grid = record {
+    each_cell = length-numbered c r numbers rows columns;
+    each_value = All-from_get_or (λ v. v < c * r) grid 0 (λ place lt.
+        let long = length-numbered c r numbers rows columns in
+        let at = numbered-at c r numbers rows columns place (omega arith) in
+        let low = is_numbers.within (first_number c r (old_x place) (old_y place)) (mod_below _ (c * r) side_some) in
+        omega arith);
+  }
+
+  pub is_solution_of_all : IsSolution (all_given c r grid) grid
+  is_solution_of_all = record {
+    givens = λ place lt some. let long = length-numbered c r numbers rows columns in let at = get_or-map suc grid place 0 0 (omega arith) in omega arith;
+    different = λ j k lj lk ne shared e. ne (apart_in_house j k lj lk shared e);
+  }

@@ -1,0 +1,138 @@
+-- The reasons that were written are those of the clues that are left, by place.
+use Rattle.std.proofs.Common.{◌≡◌, ℕ, suc, ◌+◌, ◌<◌, ◌≤◌, Bool, true, false, eqb, cond, List, [], ◌∷◌, ◌++◌, Option, Some, None, length, get_or, map, take, drop, replicate, refl, sym, ◌∙◌, ap, subst, arith, length-take, ◌⊎◌, inl, inr}
+use Rattle.std.specs.Prelude.{is_some, filter, All, Contains, IsPermutation}
+use Rattle.std.specs.List.{range_with_len}
+use Rattle.std.proofs.lemmas.List.{take_more, append-nil, get_or-replicate, get_or_past, length-replicate}
+use Rattle.std.proofs.lemmas.List.Elements.{All-nil, All-cons}
+use Rattle.std.proofs.lemmas.List.Sorted.{Contains-permutation, IsPermutation-sym, length_permutation}
+use Rattle.std.proofs.lemmas.Map.Keys.{IsDistinct-IsPermutation}
+use Rattle.std.proofs.lemmas.Bool.{cases_lt}
+use Rattle.std.proofs.lemmas.Cmp.{nat_eq_equiv}
+use Rattle.std.proofs.lemmas.Grind.{common_steps}
+use Rattle.maker_core.specs.declared.made.Kept.{Kept}
+use Rattle.maker_core.specs.declared.made.Why.{Why}
+use Rattle.maker_core.specs.Thinning.{Game, IsGame, has_clue, clue_places, IsOnly, IsReason, AreReasons}
+use Rattle.maker_core.specs.ThinningSteps.{IsTold, IsThinning, reasons_from}
+use Rattle.maker_core.proofs.ThinningLists.{kept_passes, passes_kept, kept_once}
+use Rattle.maker_core.proofs.ThinningTurns.{some_of, none_of, within_itself}
+
+-- a whole list that was written through a slice of it
+pub whole_front : {X : Type 0} (n : ℕ) (xs ys : List X) → length xs ≡ n → take n (xs ++ ys) ≡ xs
+whole_front n xs ys e = grind (arith, common_steps)
+
+pub shuffled_whole : (len : ℕ) (places items now new : List ℕ) → items ≡ places → now ≡ items → IsPermutation now new → len ≡ length items
+    → IsPermutation places (take len (new ++ drop (length new) items))
+shuffled_whole len places items now new listed same mixed long =
+    let whole = whole_front len new (drop (length new) items) (length_permutation now new mixed ∙ ap length same ∙ sym long) in
+    subst (λ xs. IsPermutation xs (take len (new ++ drop (length new) items))) (same ∙ listed) (subst (λ xs. IsPermutation now xs) (sym whole) mixed)
+
+blank_at : (n place : ℕ) → get_or (replicate {A = Option Why} n None) place None ≡ None
+blank_at n place = by (cases_lt place n)
+  where
+    by : (place < n) ⊎ (n ≤ place) → get_or (replicate {A = Option Why} n None) place None ≡ None
+    by (inl below) = get_or-replicate n place None None below
+    by (inr past) = get_or_past (replicate n None) place None (omega (arith, past, length-replicate {A = Option Why} n None))
+
+one_reason : ℕ → Option Why → List Kept
+one_reason place None = []
+one_reason place (Some why) = record { place = place; why = why } ∷ []
+
+reasons_more : (xs : List (Option Why)) (o : Option Why) (a b : ℕ) → a + length xs ≡ b → reasons_from a (xs ++ o ∷ []) ≡ reasons_from a xs ++ one_reason b o
+unfolding reasons_from one_reason
+reasons_more [] None a b e = refl
+reasons_more [] (Some why) a b e = ap (λ place. record { place = place; why = why } ∷ []) (omega (arith, e))
+reasons_more (None ∷ xs) o a b e = reasons_more xs o (suc a) b (omega (arith, e))
+reasons_more (Some why ∷ xs) o a b e = ap (λ ks. record { place = a; why = why } ∷ ks) (reasons_more xs o (suc a) b (omega (arith, e)))
+
+-- one place more
+taken_more : (whys : List (Option Why)) (k : ℕ) (o : Option Why) → k < length whys → get_or whys k None ≡ o
+    → reasons_from 0 (take (k + 1) whys) ≡ reasons_from 0 (take k whys) ++ one_reason k o
+taken_more whys k o below is =
+    ap (reasons_from 0) (take_more whys k None below ∙ ap (λ x. take k whys ++ x ∷ []) is) ∙ reasons_more (take k whys) o 0 k (omega (arith, length-take k whys))
+
+pub reason_kept : (whys : List (Option Why)) (k : ℕ) (why : Why) (before after : List Kept) → k < length whys → get_or whys k None ≡ Some why
+    → before ≡ reasons_from 0 (take k whys) → after ≡ before ++ record { place = k; why = why } ∷ [] → after ≡ reasons_from 0 (take (k + 1) whys)
+unfolding one_reason
+reason_kept whys k why before after below is kept more =
+    more ∙ ap (λ ks. ks ++ record { place = k; why = why } ∷ []) kept ∙ sym (taken_more whys k (Some why) below is)
+
+pub reason_skipped : (whys : List (Option Why)) (k : ℕ) (before after : List Kept) → k < length whys → get_or whys k None ≡ None
+    → before ≡ reasons_from 0 (take k whys) → after ≡ before → after ≡ reasons_from 0 (take (k + 1) whys)
+unfolding one_reason
+reason_skipped whys k before after below is kept same =
+    same ∙ kept ∙ sym (append-nil (reasons_from 0 (take k whys))) ∙ sym (taken_more whys k None below is)
+
+pub no_reason : (o : Option Why) → ((why : Why) → o ≡ Some why → ⊥) → o ≡ None
+no_reason None never = refl
+no_reason (Some why) never = absurd (never why refl)
+
+-- what is told of each cell gives the reasons by place
+told_places : {A : Type 0} (game : Game A) (budget : ℕ) (all p : A) (whys : List (Option Why)) (a : ℕ)
+    → ((i : ℕ) → IsTold game budget all p (a + i) (get_or whys i None)) → map (λ k. k.place) (reasons_from a whys) ≡ filter (has_clue game p) (range_with_len a (length whys))
+unfolding reasons_from
+told_places game budget all p [] a told = refl
+told_places game budget all p (None ∷ whys) a told =
+    told_places game budget all p whys (suc a) (λ i. subst (λ x. IsTold game budget all p x (get_or whys i None)) (omega arith) (told (suc i)))
+    ∙ ap (λ x. filter (has_clue game p) (range_with_len x (length whys))) (omega arith)
+    ∙ ap (λ b. cond b (a ∷ filter (has_clue game p) (range_with_len (a + 1) (length whys))) (filter (has_clue game p) (range_with_len (a + 1) (length whys))))
+    (sym (ap is_some (subst (λ x. game.clue p x ≡ None) (omega arith) (told 0))))
+told_places game budget all p (Some why ∷ whys) a told =
+    ap (λ xs. a ∷ xs) (told_places game budget all p whys (suc a) (λ i. subst (λ x. IsTold game budget all p x (get_or whys i None)) (omega arith) (told (suc i)))
+    ∙ ap (λ x. filter (has_clue game p) (range_with_len x (length whys))) (omega arith))
+    ∙ ap (λ b. cond b (a ∷ filter (has_clue game p) (range_with_len (a + 1) (length whys))) (filter (has_clue game p) (range_with_len (a + 1) (length whys))))
+    (sym (subst (λ x. has_clue game p x ≡ true) (omega arith) (told 0).0))
+
+told_reasons : {A : Type 0} (game : Game A) (budget : ℕ) (all p : A) (whys : List (Option Why)) (a : ℕ)
+    → ((i : ℕ) → IsTold game budget all p (a + i) (get_or whys i None)) → All (λ k. IsReason game budget all p k.place k.why) (reasons_from a whys)
+unfolding reasons_from
+told_reasons game budget all p [] a told = All-nil (λ k. IsReason game budget all p k.place k.why)
+told_reasons game budget all p (None ∷ whys) a told =
+    told_reasons game budget all p whys (suc a) (λ i. subst (λ x. IsTold game budget all p x (get_or whys i None)) (omega arith) (told (suc i)))
+told_reasons game budget all p (Some why ∷ whys) a told =
+    All-cons (λ k. IsReason game budget all p k.place k.why) _ _ (subst (λ x. IsReason game budget all p x why) (omega arith) (told 0).1)
+    (told_reasons game budget all p whys (suc a) (λ i. subst (λ x. IsTold game budget all p x (get_or whys i None)) (omega arith) (told (suc i))))
+
+-- all clues were tried
+all_told : {A : Type 0} (game : Game A) (budget : ℕ) (all p : A) (whys : List (Option Why)) → IsThinning game budget all p whys []
+    → (i : ℕ) → IsTold game budget all p (0 + i) (get_or whys i None)
+all_told game budget all p whys now i = subst (λ x. IsTold game budget all p x (get_or whys i None)) (omega arith) (by (now.told i))
+  where
+    by : Contains [] i ⊎ IsTold game budget all p i (get_or whys i None) → IsTold game budget all p i (get_or whys i None)
+    by (inl held) = absurd (omega (arith, held.1))
+    by (inr told) = told
+
+pub reasons_left : {A : Type 0} (game : Game A) → IsGame game → (budget : ℕ) (all p : A) (answer : List ℕ) (whys : List (Option Why)) (kept : List Kept)
+    → all ≡ game.all_clues all answer → IsThinning game budget all p whys [] → kept ≡ reasons_from 0 whys → AreReasons game budget (game.all_clues p answer) p kept
+reasons_left game laws budget all p answer whys kept whole now is =
+    subst (λ x. AreReasons game budget x p kept) (whole ∙ sym (laws.same_all p all answer now.within.frame)) (subst (λ ks. AreReasons game budget all p ks) (sym is) (record {
+      places = told_places game budget all p whys 0 (all_told game budget all p whys now) ∙ ap (λ n. filter (has_clue game p) (range_with_len 0 n)) (now.room ∙ sym (laws.same_cells p all now.within.frame));
+      reasons = told_reasons game budget all p whys 0 (all_told game budget all p whys now);
+    }))
+
+-- the one solution is still the answer
+pub only_left : {A : Type 0} (game : Game A) → IsGame game → (budget : ℕ) (all p : A) (answer : List ℕ) (whys : List (Option Why))
+    → IsOnly (game.rules all) answer → IsThinning game budget all p whys [] → IsOnly (game.rules p) answer
+only_left game laws budget all p answer whys only now =
+    subst (λ g. IsOnly (game.rules p) g) (now.one.only.1 answer (laws.solutions_stay p all answer now.within only.0)) now.one.only
+
+-- before any clue is tried
+pub thinning_start : {A : Type 0} (game : Game A) → IsGame game → (budget : ℕ) (p : A) (answer order : List ℕ) (whys : List (Option Why))
+    → IsOnly (game.rules p) answer → IsPermutation (clue_places game p) order → whys ≡ replicate (game.cells p) None → IsThinning game budget p p whys order
+thinning_start game laws budget p answer order whys only mixed blank = record {
+  within = within_itself game laws p;
+  one = record { answer = answer; only = only };
+  waiting = λ place held. (kept_passes (has_clue game p) 0 (game.cells p) place (Contains-permutation _ _ place (IsPermutation-sym _ _ mixed) held)).1;
+  different = IsDistinct-IsPermutation eqb flips _ _ mixed (kept_once (has_clue game p) 0 (game.cells p));
+  told = λ place. by place (has_clue game p place) refl;
+  room = ap length blank ∙ length-replicate (game.cells p) None;
+}
+  where
+    flips : (x y : ℕ) → eqb x y ≡ eqb y x
+    flips x y = nat_eq_equiv.symm x y
+
+    held_in : (place n : ℕ) → has_clue game p place ≡ true → game.clue p place ≡ Some n → Contains order place
+    held_in place n held e = Contains-permutation _ _ place mixed (passes_kept (has_clue game p) 0 (game.cells p) place (omega arith) (omega (arith, laws.clue_in p place n e)) held)
+
+    by : (place : ℕ) → (b : Bool) → has_clue game p place ≡ b → Contains order place ⊎ IsTold game budget p p place (get_or whys place None)
+    by place true held = let n = some_of (game.clue p place) held in inl (held_in place n.0 held n.1)
+    by place false lacks = inr (subst (λ o. IsTold game budget p p place o) (sym (ap (λ xs. get_or xs place None) blank ∙ blank_at (game.cells p) place)) (none_of (game.clue p place) lacks))

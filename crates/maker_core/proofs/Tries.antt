@@ -1,0 +1,40 @@
+-- The loop over tries: so many fillings were made, and each failed.
+use Rattle.std.proofs.Common.{◌≡◌, ℕ, ◌+◌, ◌<◌, ◌≤◌, Bool, true, false, refl, sym, ◌∙◌, ap, arith, add-one, inl, inr}
+use Rattle.std.proofs.lemmas.Bool.{cases_eq}
+use Rattle.rand_core.specs.Stream.{Stream}
+use Rattle.maker_core.specs.Draws.{Making, stream_after, filling_at, IsFirstPassing, NonePasses}
+
+-- so many tries were made, each failed, and the generator stands where the last left it
+pub record IsTrying {A : Type 0} (make : Making A) (passes : A → Bool) (s : Stream) (done : ℕ) (now : Stream) : Type 0 where
+  pub stands : now ≡ stream_after make done s
+  pub failing : (j : ℕ) → j < done → passes (filling_at make j s) ≡ false
+
+module _ {A : Type 0} (make : Making A) (passes : A → Bool) (s : Stream) where
+  pub IsTrying-none : IsTrying make passes s 0 s
+  unfolding stream_after
+  IsTrying-none = record { stands = refl; failing = λ j h. absurd (omega arith) }
+
+  filling_is : (done : ℕ) (now t : Stream) (x : A) → IsTrying make passes s done now → ◌≡◌ {A = A × Stream} (x, t) (make now) → x ≡ filling_at make done s
+  filling_is done now t x p made = ap (λ q. q.0) made ∙ ap (λ u. (make u).0) p.stands
+
+  pub IsTrying-more : (done : ℕ) (now t : Stream) (x : A) → IsTrying make passes s done now → ◌≡◌ {A = A × Stream} (x, t) (make now)
+      → passes x ≡ false → IsTrying make passes s (done + 1) t
+  unfolding stream_after
+  IsTrying-more done now t x p made fails = record {
+    stands = rw add-one (ap (λ q. q.1) made ∙ ap (λ u. (make u).1) p.stands);
+    failing = λ j h. elim (cases_eq j done) [
+      | inl e ↦ ap (λ k. passes (filling_at make k s)) e ∙ ap passes (sym (filling_is done now t x p made)) ∙ fails
+      | inr ne ↦ p.failing j (omega arith)
+    ];
+  }
+
+  pub first_passing : (tries done : ℕ) (now t : Stream) (x : A) → IsTrying make passes s done now → ◌≡◌ {A = A × Stream} (x, t) (make now)
+      → passes x ≡ true → done < tries → (k : ℕ) × IsFirstPassing make passes s tries k × (x ≡ filling_at make k s)
+  first_passing tries done now t x p made passing within = (
+    done,
+    record { within = within; passing = ap passes (sym (filling_is done now t x p made)) ∙ passing; failing = p.failing },
+    filling_is done now t x p made,
+  )
+
+  pub none_passes : (tries done : ℕ) (now : Stream) → IsTrying make passes s done now → tries ≤ done → NonePasses make passes s tries
+  none_passes tries done now p all = record { failing = λ j h. p.failing j (omega arith) }

@@ -1,0 +1,10 @@
+use Rattle.std.proofs.Common.{◌≡◌, ◌+◌, ℕ, ◌<◌, length, slice_index}
+use Rattle.maker_core.proofs.solo_filling.full_puzzle.Given as goal
+
+abbrev pub invariant-loop-place : goal.invariant-loop-place
+invariant-loop-place l = record {
+  same_c : l.puzzle.c ≡ l.c;
+  same_r : l.puzzle.r ≡ l.r;
+  long : length l.puzzle.givens ≡ length l.grid;
+  same : (k : ℕ) → k < l.place → slice_index l.puzzle.givens k ≡ slice_index l.grid k + 1;
+}

@@ -1,0 +1,15 @@
+use Rattle.std.proofs.Common.{◌∙◌, ap}
+use Rattle.maker_core.specs.ThinningSteps.{reasons_from}
+use Rattle.maker_core.proofs.ThinningReasons.{reason_kept, reason_skipped, no_reason}
+use Rattle.maker_core.proofs.thin.reasons.Goals as goal
+use Rattle.maker_core.proofs.thin.reasons.Goals.{in-Some+in_ok-push, in_default}
+
+pub loop-place-init : goal.loop-place-init
+unfolding reasons_from
+loop-place-init c = c.new-kept.ensures.items
+
+pub loop-place-preserved : goal.loop-place-preserved
+loop-place-preserved c = elim c.match-whys-place.branch [
+  | in-Some+in_ok-push w ↦ reason_kept c.args.whys.now _ _ _ _ c.loop-place-test.true w.in-Some.is c.loop-place.invariant (ap (λ v. v.items) w.kept-is ∙ w.in_ok-push.ensures.items)
+  | in_default w ↦ reason_skipped c.args.whys.now _ _ _ c.loop-place-test.true (no_reason _ w.in_default.not-Some) c.loop-place.invariant (ap (λ v. v.items) w.kept-is)
+]

@@ -1,0 +1,53 @@
+-- What is drawn from a stream of random words, and the stream that is left; and the fillings that a maker tries.
+use Rattle.std.specs.Prelude.{◌≡◌, ℕ, zero, suc, ◌^◌, ◌<◌, Bool, true, false, cond, List, [], ◌∷◌, ◌++◌, nat_lt, length, slice_index}
+use Rattle.std.specs.List.{range_with_len}
+use Rattle.rand_core.specs.Stream.{Stream, next_u32}
+use Rattle.rand.specs.Uniform.{canon}
+use Rattle.rand.specs.Shuffle.{shuffled}
+
+-- a number below n, as `random_range(0..n)` draws it over `u32`
+abbrev pub draw_below : ℕ → Stream → ℕ × Stream
+draw_below n = canon (2 ^ 32) next_u32 n
+
+-- a list in the order that `SliceRandom::shuffle` brings it to
+abbrev pub shuffled_list : List ℕ → Stream → List ℕ × Stream
+shuffled_list items = shuffled items 0
+
+-- the numbers below n in a shuffled order
+abbrev pub shuffled_order : ℕ → Stream → List ℕ × Stream
+shuffled_order n = shuffled_list (range_with_len 0 n)
+
+-- for each of so many cells in turn, 1 for a black cell, where a draw below 100 is less than `black`, and else 0
+unfoldable pub black_cells : ℕ → ℕ → Stream → List ℕ × Stream
+black_cells black zero s = ([], s)
+black_cells black (suc k) s =
+    let before = black_cells black k s in
+    let draw = draw_below 100 before.1 in
+    (before.0 ++ cond (nat_lt draw.0 black) 1 0 ∷ [], draw.1)
+
+-- each cell holds that number
+abbrev pub AreAll : ℕ → List ℕ → Type 0
+AreAll v cells = (k : ℕ) → k < length cells → slice_index cells k ≡ v
+
+-- a filling made of a stream, and the stream that is left
+abbrev pub Making : Type 0 → Type 0
+Making A = Stream → A × Stream
+
+-- the stream that is left after k fillings
+unfoldable pub stream_after : {A : Type 0} → Making A → ℕ → Stream → Stream
+stream_after make zero s = s
+stream_after make (suc k) s = (make (stream_after make k s)).1
+
+-- the k-th filling of a stream, from 0
+abbrev pub filling_at : {A : Type 0} → Making A → ℕ → Stream → A
+filling_at make k s = (make (stream_after make k s)).0
+
+-- of the first so many fillings, the first that passes is the k-th
+pub record IsFirstPassing {A : Type 0} (make : Making A) (passes : A → Bool) (s : Stream) (tries k : ℕ) : Type 0 where
+  pub within : k < tries
+  pub passing : passes (filling_at make k s) ≡ true
+  pub failing : (j : ℕ) → j < k → passes (filling_at make j s) ≡ false
+
+-- none of the first so many fillings passes
+pub record NonePasses {A : Type 0} (make : Making A) (passes : A → Bool) (s : Stream) (tries : ℕ) : Type 0 where
+  pub failing : (j : ℕ) → j < tries → passes (filling_at make j s) ≡ false

@@ -1,0 +1,197 @@
+-- What fewer numbers change.
+use Rattle.std.proofs.Common.{◌≡◌, ◌≢◌, ℕ, ◌+◌, ◌-◌, ◌*◌, ◌/◌, ◌%◌, ◌<◌, ◌≤◌, Bool, true, false, true≢false, not, ◌&&◌, ◌||◌, eqb, cond, Option, Some, None, List, [], ◌∷◌, ◌++◌, length, map, get_or, set, refl, sym, ◌∙◌, ap, subst, arith, inl, inr, ◌⊎◌}
+use Rattle.std.specs.Prelude.{is_some, filter, slice_index, slice_index_or, slice_set}
+use Rattle.std.specs.List.{range_with_len}
+use Rattle.std.proofs.Math.Nat.{le_refl}
+use Rattle.std.proofs.Math.Path.{fun_ext}
+use Rattle.std.proofs.Math.ListN.{get_or-map}
+use Rattle.std.proofs.Math.Seq.{map-set_same}
+use Rattle.std.proofs.lemmas.Bool.{cases_lt, cases_eq, and_parts, and_from}
+use Rattle.std.proofs.lemmas.List.{get_or-set_other, get_or-set_same, get_or_past, length-set, length-map}
+use Rattle.grid_core.specs.Extent.{Extent}
+use Rattle.grid_core.specs.Candidates.{any_below, all_below}
+use Rattle.grid_core.specs.Regions.{beside, row_places, column_places}
+use Rattle.grid_core.proofs.CandidateLemmas.{all_below-at, all_below-from}
+use Rattle.gameid_core.specs.Puzzles.{Light}
+use Rattle.gameid_core.specs.declared.light_cell.LightCell.{LightCell}
+use Rattle.gameid_core.specs.declared.light_cell.LightCell.TheVariants.{White, Black, Numbered}
+use Rattle.engine_core.specs.Verdict.{Solves}
+use Rattle.fields_core.specs.CountHouse.{House, houses_below}
+use Rattle.fields_core.specs.Light.{cells_of, is_white, white, bulb, clear, joined_in_row, joined_in_column, sees, sees_bulb, bulbs_beside, number_is, black_right, number_right, bulb_right, lit_right, is_lit}
+use Rattle.fields_core.specs.LightHouses.{row_run, column_run, seen_from, begins_row_run, begins_column_run, numbered, number_house, light_houses, light_rules}
+use Rattle.maker_core.specs.Thinning.{IsWithin, IsGame}
+use Rattle.maker_core.specs.LightClues.{number_clue, SameLight, light_game}
+use Rattle.maker_core.specs.LightFilling.{numbered_cell, with_numbers}
+use Rattle.maker_core.specs.FewerHouseLaws.{IsFewer, fewer_itself, fewer_append, fewer_below, longest_of_fewer}
+
+with_cells : Extent → List LightCell → Light
+with_cells size cells = record { size = size; cells = cells }
+
+-- the second puzzle, of the first one's size
+resized : (p q : Light) → SameLight p q → q ≡ with_cells p.size q.cells
+unfolding with_cells
+resized p q same = ap (λ size. with_cells size q.cells) (sym same.size)
+
+-- ---- which cells are white decides all but the numbers
+white_map : (p : Light) (c : ℕ) → white p c ≡ get_or (map is_white p.cells) c false
+unfolding white
+white_map p c = sym (get_or-map is_white p.cells c Black)
+
+same_white : (p q : Light) → map is_white p.cells ≡ map is_white q.cells → white p ≡ white q
+same_white p q same = fun_ext λ c. white_map p c ∙ ap (λ whites. get_or whites c false) same ∙ sym (white_map q c)
+
+row_joined : Extent → (ℕ → Bool) → ℕ → ℕ → Bool
+row_joined size wh a b = eqb (a / size.w) (b / size.w) && clear (λ x. wh (a / size.w * size.w + x)) (a % size.w) (b % size.w)
+
+column_joined : Extent → (ℕ → Bool) → ℕ → ℕ → Bool
+column_joined size wh a b = eqb (a % size.w) (b % size.w) && clear (λ y. wh (y * size.w + a % size.w)) (a / size.w) (b / size.w)
+
+some_bulb : Extent → (ℕ → Bool) → List ℕ → ℕ → Bool
+some_bulb size wh g c = any_below (λ d. (not (eqb c d) && (row_joined size wh c d || column_joined size wh c d)) && bulb g d) (size.w * size.h)
+
+lit_but_numbers : Extent → (ℕ → Bool) → List ℕ → Bool
+lit_but_numbers size wh g =
+    all_below (λ c. wh c || eqb (slice_index g c) 0) (size.w * size.h)
+    && (all_below (λ c. not (bulb g c && some_bulb size wh g c)) (size.w * size.h)
+    && all_below (λ c. not (wh c) || (bulb g c || some_bulb size wh g c)) (size.w * size.h))
+
+lit_parts : (p : Light) (g : List ℕ) → is_lit p g ≡ true → (all_below (number_right p g) (cells_of p) ≡ true) × (lit_but_numbers p.size (white p) g ≡ true)
+unfolding is_lit lit_but_numbers some_bulb row_joined column_joined black_right bulb_right lit_right sees_bulb sees joined_in_row joined_in_column
+lit_parts p g lit =
+    let a = and_parts (all_below (black_right p g) (cells_of p)) ((all_below (number_right p g) (cells_of p)) && ((all_below (bulb_right p g) (cells_of p)) && (all_below (lit_right p g) (cells_of p)))) lit in
+    let b = and_parts (all_below (number_right p g) (cells_of p)) ((all_below (bulb_right p g) (cells_of p)) && (all_below (lit_right p g) (cells_of p))) a.1 in
+    (b.0, and_from (all_below (black_right p g) (cells_of p)) ((all_below (bulb_right p g) (cells_of p)) && (all_below (lit_right p g) (cells_of p))) a.0 b.1)
+
+lit_from : (p : Light) (g : List ℕ) → all_below (number_right p g) (cells_of p) ≡ true → lit_but_numbers p.size (white p) g ≡ true → is_lit p g ≡ true
+unfolding is_lit lit_but_numbers some_bulb row_joined column_joined black_right bulb_right lit_right sees_bulb sees joined_in_row joined_in_column
+lit_from p g numbers rest =
+    let a = and_parts (all_below (black_right p g) (cells_of p)) ((all_below (bulb_right p g) (cells_of p)) && (all_below (lit_right p g) (cells_of p))) rest in
+    and_from (all_below (black_right p g) (cells_of p)) ((all_below (number_right p g) (cells_of p)) && ((all_below (bulb_right p g) (cells_of p)) && (all_below (lit_right p g) (cells_of p)))) a.0 (and_from (all_below (number_right p g) (cells_of p)) ((all_below (bulb_right p g) (cells_of p)) && (all_below (lit_right p g) (cells_of p))) numbers a.1)
+
+-- ---- fewer numbers
+held : Option ℕ → ℕ
+held None = 0
+held (Some n) = n
+
+pub numbered_is : (cell : LightCell) (n : ℕ) → number_clue cell ≡ Some n → cell ≡ Numbered n
+unfolding held
+numbered_is White n e = absurd (true≢false (sym (ap is_some e)))
+numbered_is Black n e = absurd (true≢false (sym (ap is_some e)))
+numbered_is (Numbered m) n e = ap Numbered (ap held e)
+
+number_stays : (a b : LightCell) (bulbs : ℕ) → ((n : ℕ) → number_clue a ≡ Some n → number_clue b ≡ Some n) → number_is b bulbs ≡ true → number_is a bulbs ≡ true
+unfolding held
+number_stays White b bulbs clues right = refl
+number_stays Black b bulbs clues right = refl
+number_stays (Numbered n) White bulbs clues right = absurd (true≢false (sym (ap is_some (clues n refl))))
+number_stays (Numbered n) Black bulbs clues right = absurd (true≢false (sym (ap is_some (clues n refl))))
+number_stays (Numbered n) (Numbered m) bulbs clues right = ap (λ k. eqb bulbs k) (sym (ap held (clues n refl))) ∙ right
+
+lit_stays : (p : Light) (cells : List LightCell) (g : List ℕ) → map is_white p.cells ≡ map is_white cells
+    → ((place n : ℕ) → number_clue (slice_index_or p.cells place Black) ≡ Some n → number_clue (slice_index_or cells place Black) ≡ Some n)
+    → is_lit (with_cells p.size cells) g ≡ true → is_lit p g ≡ true
+unfolding with_cells number_right
+lit_stays p cells g same clues lit =
+    let parts = lit_parts (with_cells p.size cells) g lit in
+    lit_from p g
+    (all_below-from (number_right p g) (cells_of p) (λ c below. number_stays (slice_index_or p.cells c Black) (slice_index_or cells c Black) _ (clues c) (all_below-at (number_right (with_cells p.size cells) g) (cells_of p) c parts.0 below)))
+    (ap (λ wh. lit_but_numbers p.size wh g) (same_white p (with_cells p.size cells) same) ∙ parts.1)
+
+-- each solution of a puzzle with more numbers is one of the puzzle
+pub lit_by_fewer : (p q : Light) (g : List ℕ) → IsWithin light_game p q → is_lit q g ≡ true → is_lit p g ≡ true
+lit_by_fewer p q g w lit = lit_stays p q.cells g w.frame.black w.clues (subst (λ x. is_lit x g ≡ true) (resized p q w.frame) lit)
+
+solutions_stay : (p q : Light) (g : List ℕ) → IsWithin light_game p q → Solves (light_rules q) g → Solves (light_rules p) g
+unfolding with_cells
+solutions_stay p q g w s = record {
+  grid = (subst (λ x. Solves (light_rules x) g) (resized p q w.frame) s).grid;
+  good = lit_by_fewer p q g w s.good;
+}
+
+-- ---- houses and needs
+row_run_house : Extent → (ℕ → Bool) → ℕ → List House
+row_run_house size wh c =
+    cond (wh c && (eqb (c % size.w) 0 || not (wh (c - 1)))) (record { places = filter (row_joined size wh c) (row_places size (c / size.w)); least = 0; most = 1 } ∷ []) []
+
+column_run_house : Extent → (ℕ → Bool) → ℕ → List House
+column_run_house size wh c =
+    cond (wh c && (eqb (c / size.w) 0 || not (wh (c - size.w)))) (record { places = filter (column_joined size wh c) (column_places size (c % size.w)); least = 0; most = 1 } ∷ []) []
+
+seen_places : Extent → (ℕ → Bool) → ℕ → List ℕ
+seen_places size wh c = filter (row_joined size wh c) (row_places size (c / size.w)) ++ filter (λ d. not (eqb d c)) (filter (column_joined size wh c) (column_places size (c % size.w)))
+
+seen_house : Extent → (ℕ → Bool) → ℕ → List House
+seen_house size wh c = cond (wh c) (record { places = seen_places size wh c; least = 1; most = length (seen_places size wh c) } ∷ []) []
+
+houses_but_numbers : Extent → (ℕ → Bool) → List House
+houses_but_numbers size wh =
+    houses_below (row_run_house size wh) (size.w * size.h)
+    ++ (houses_below (column_run_house size wh) (size.w * size.h)
+    ++ houses_below (seen_house size wh) (size.w * size.h))
+
+houses_are : (p : Light) → light_houses p ≡ houses_below (number_house p) (cells_of p) ++ houses_but_numbers p.size (white p)
+unfolding light_houses houses_but_numbers row_run_house column_run_house seen_house seen_places row_joined column_joined row_run column_run seen_from begins_row_run begins_column_run joined_in_row joined_in_column
+houses_are p = refl
+
+without_number : Light → ℕ → Light
+without_number p place = record p { cells = set p.cells place Black }
+
+cleared : (cells : List LightCell) (place : ℕ) → slice_index_or (slice_set cells place Black) place Black ≡ Black
+cleared cells place = by (cases_lt place (length cells))
+  where
+    by : (place < length cells) ⊎ (length cells ≤ place) → slice_index_or (slice_set cells place Black) place Black ≡ Black
+    by (inl below) = get_or-set_same cells place Black Black below
+    by (inr past) = get_or_past (set cells place Black) place Black (omega (arith, past, length-set cells place Black))
+
+not_white : (cell : LightCell) (n : ℕ) → number_clue cell ≡ Some n → is_white cell ≡ false
+not_white White n e = absurd (true≢false (sym (ap is_some e)))
+not_white Black n e = refl
+not_white (Numbered m) n e = refl
+
+same_without : (p : Light) (place n : ℕ) → number_clue (slice_index_or p.cells place Black) ≡ Some n → SameLight (without_number p place) p
+unfolding without_number
+same_without p place n e = record { size = refl; black = map-set_same is_white p.cells place Black Black (sym (not_white _ n e)) }
+
+fewer_houses : (p : Light) (place n : ℕ) → number_clue (slice_index_or p.cells place Black) ≡ Some n → IsFewer (light_houses (without_number p place)) (light_houses p)
+unfolding without_number
+fewer_houses p place n e =
+    subst (λ xs. IsFewer xs (light_houses p)) (sym (houses_are (without_number p place))) (subst (λ ys. IsFewer (houses_below (number_house (without_number p place)) (cells_of p) ++ houses_but_numbers p.size (white (without_number p place))) ys) (sym (houses_are p))
+    (fewer_append _ _ _ _ (fewer_below (number_house (without_number p place)) (number_house p) (cells_of p) (λ c. by c (cases_eq c place)))
+    (subst (λ wh. IsFewer (houses_but_numbers p.size (white (without_number p place))) (houses_but_numbers p.size wh)) whites (fewer_itself _))))
+  where
+    whites : white (without_number p place) ≡ white p
+    whites = same_white (without_number p place) p (same_without p place n e).black
+
+    by : (c : ℕ) → (c ≡ place) ⊎ (c ≢ place) → (number_house (without_number p place) c ≡ number_house p c) ⊎ (number_house (without_number p place) c ≡ [])
+    by c (inl same) = inr (ap (λ cell. numbered cell (filter (white (without_number p place)) (beside p.size c))) (ap (λ k. slice_index_or (set p.cells place Black) k Black) same ∙ cleared p.cells place))
+    by c (inr apart) = inl (ap (λ cell. numbered cell (filter (white (without_number p place)) (beside p.size c))) (get_or-set_other p.cells place c Black Black apart) ∙ ap (λ wh. numbered (slice_index_or p.cells c Black) (filter wh (beside p.size c))) whites)
+
+clue_in : (cells : List LightCell) (place n : ℕ) → number_clue (slice_index_or cells place Black) ≡ Some n → place < length cells
+clue_in cells place n e = by (cases_lt place (length cells))
+  where
+    by : (place < length cells) ⊎ (length cells ≤ place) → place < length cells
+    by (inl below) = below
+    by (inr past) = absurd (true≢false (sym (sym (ap (λ cell. is_some (number_clue cell)) (get_or_past cells place Black past)) ∙ ap is_some e)))
+
+same_length : (p q : Light) → map is_white p.cells ≡ map is_white q.cells → length p.cells ≡ length q.cells
+same_length p q same = sym (length-map p.cells is_white) ∙ ap length same ∙ length-map q.cells is_white
+
+told_same : (p : Light) (cells : List LightCell) (g : List ℕ) → map is_white p.cells ≡ map is_white cells → light_game.all_clues p g ≡ light_game.all_clues (with_cells p.size cells) g
+unfolding with_cells with_numbers numbered_cell
+told_same p cells g same = ap (λ wh. with_cells p.size (map (λ place. cond (wh place) White (Numbered (bulbs_beside p g place))) (range_with_len 0 (cells_of p)))) (same_white p (with_cells p.size cells) same)
+
+pub light_is_game : IsGame light_game
+unfolding without_number
+light_is_game = record {
+  same_itself = λ p. record { size = refl; black = refl };
+  same_back = λ p q same. record { size = sym same.size; black = sym same.black };
+  same_through = λ p q r a b. record { size = a.size ∙ b.size; black = a.black ∙ b.black };
+  clue_in = λ p place n e. clue_in p.cells place n e;
+  same_cells = λ p q same. same_length p q same.black;
+  same_all = λ p q g same. told_same p q.cells g same.black ∙ ap (λ x. light_game.all_clues x g) (sym (resized p q same));
+  solutions_stay = solutions_stay;
+  without_frame = same_without;
+  without_it = λ p place. ap number_clue (cleared p.cells place);
+  others_stay = λ p place other apart. ap number_clue (get_or-set_other p.cells place other Black Black apart);
+  needs_less = λ p place n e. let less = fewer_houses p place n e in record { same_cells = refl; same_values = refl; houses_in = less.fewer; bound_in = le_refl _; scope_in = longest_of_fewer _ _ less };
+}

@@ -1,0 +1,59 @@
+-- What a maker of Light Up tries. A grid has 1 at a bulb and 0 elsewhere.
+use Rattle.std.specs.Prelude.{ℕ, zero, suc, ◌*◌, Bool, ◌||◌, ◌==◌, List, length, map, filter, replicate, slice_index, slice_set, if◌then◌else◌}
+use Rattle.std.specs.List.{range_with_len}
+use Rattle.grid_core.specs.Extent.{Extent}
+use Rattle.gameid_core.specs.Puzzles.{Light}
+use Rattle.gameid_core.specs.declared.light_cell.LightCell.{LightCell}
+use Rattle.gameid_core.specs.declared.light_cell.LightCell.TheVariants.{White, Black, Numbered}
+use Rattle.fields_core.specs.Light.{cells_of, white, bulb, sees_bulb, bulbs_beside}
+use Rattle.fields_core.specs.LightHouses.{light_rules}
+use Rattle.maker_core.specs.Draws.{Making, black_cells, shuffled_list}
+use Rattle.maker_core.specs.Made.{has_one}
+
+-- the puzzle without numbers that has these black cells: 1 for black
+unfoldable pub lights_of : Extent → List ℕ → Light
+lights_of size black = record { size = size; cells = map (λ v. if v == 1 then Black else White) black }
+
+-- its white cells, by place
+unfoldable pub white_places : Light → List ℕ
+white_places p = filter (white p) (range_with_len 0 (cells_of p))
+
+-- a cell gets a bulb if it neither holds nor sees one
+unfoldable pub with_bulb : Light → List ℕ → ℕ → List ℕ
+with_bulb p g c = if bulb g c || sees_bulb p g c then g else slice_set g c 1
+
+-- the bulbs when the first k cells of the order were taken in turn
+unfoldable pub bulbs_after : Light → List ℕ → ℕ → List ℕ
+bulbs_after p order zero = replicate (cells_of p) 0
+bulbs_after p order (suc k) = with_bulb p (bulbs_after p order k) (slice_index order k)
+
+-- the puzzle with a number on every black cell: how many bulbs stand beside it
+unfoldable pub numbered_cell : Light → List ℕ → ℕ → LightCell
+numbered_cell p g c = if white p c then White else Numbered (bulbs_beside p g c)
+
+unfoldable pub with_numbers : Light → List ℕ → Light
+with_numbers p g = record { size = p.size; cells = map (numbered_cell p g) (range_with_len 0 (cells_of p)) }
+
+-- black cells and bulbs
+pub record Lighting : Type 0 where
+  pub black : List ℕ
+  pub bulbs : List ℕ
+
+-- the white cells, listed by place and shuffled, are taken in turn
+unfoldable pub lit_up : Light → Making (List ℕ)
+lit_up p s = let shuffled = shuffled_list (white_places p) s in (bulbs_after p shuffled.0 (length shuffled.0), shuffled.1)
+
+-- black cells are drawn one by one; then the white cells are lit up
+unfoldable pub light_filling : Extent → ℕ → Making Lighting
+light_filling size black s =
+    let drawn = black_cells black (size.w * size.h) s in
+    let lit = lit_up (lights_of size drawn.0) drawn.1 in
+    (record { black = drawn.0; bulbs = lit.0 }, lit.1)
+
+-- its puzzle with all clues
+unfoldable pub light_puzzle_of : Extent → Lighting → Light
+light_puzzle_of size filling = with_numbers (lights_of size filling.black) filling.bulbs
+
+-- a filling passes where the verdict of its puzzle is one
+abbrev pub light_passes : Extent → ℕ → Lighting → Bool
+light_passes size budget filling = has_one (light_rules (light_puzzle_of size filling)) budget

@@ -1,0 +1,28 @@
+-- When a filling passes, and what a maker of puzzles gives.
+use Rattle.std.specs.Prelude.{◌≡◌, ℕ, Bool, true, false, List, None}
+use Rattle.engine_core.specs.Puzzle.{Puzzle}
+use Rattle.engine_core.specs.Verdict.{Outcome, Outcome.NoGrid, Outcome.OneGrid, Outcome.TwoGrids, Outcome.OutOfBudget, outcome, Solves}
+use Rattle.engine_core.specs.Walk.{walk}
+
+-- the verdict of the walk of the rules' start board with that budget
+abbrev pub verdict_of : Puzzle → ℕ → Outcome
+verdict_of rules budget = outcome budget None (walk rules 0 rules.start)
+
+-- whether a verdict is that there is one grid
+abbrev pub is_one : Outcome → Bool
+is_one NoGrid = false
+is_one (OneGrid first) = true
+is_one (TwoGrids first second) = false
+is_one (OutOfBudget first) = false
+
+-- whether the rules' verdict with that budget is one
+abbrev pub has_one : Puzzle → ℕ → Bool
+has_one rules budget = is_one (verdict_of rules budget)
+
+-- no two grids solve the rules
+abbrev pub HasNoTwo : Puzzle → Type 0
+HasNoTwo rules = (g h : List ℕ) → Solves rules g → Solves rules h → h ≡ g
+
+-- the grid is a solution and no other is
+abbrev pub IsOnlySolution : (List ℕ → Type 0) → List ℕ → Type 0
+IsOnlySolution solves g = solves g × ((h : List ℕ) → solves h → h ≡ g)

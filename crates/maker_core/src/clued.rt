@@ -1,0 +1,52 @@
+//! Puzzles whose clues can be taken away.
+
+ghost use Rattle.std.specs.Prelude.{◌≡◌, ◌<◌, Some, IfOk, IsTrue, ℕ};
+ghost use Rattle.maker_core.specs.Thinning.{Game, IsGame, has_clue};
+
+use engine_core::Rules;
+use std::alloc::{AllocError, Global};
+
+/// A puzzle with clues in cells, which can be taken away and put back.
+pub(crate) trait Clued: Drop {
+    /// What a search goes by.
+    type Search: Rules + Drop;
+
+    // What the clues are, and what the puzzle means to a search.
+    ghost game: { Game Self };
+
+    // The number can be a clue.
+    ghost can_be_clue: { Self → ℕ → Type 0 };
+
+    /// How many cells it has.
+    fn cells(&self) -> usize
+        ensures { result ≡ game.cells self.now };
+
+    /// Whether a cell has a clue.
+    fn has_clue(&self, place: usize) -> bool
+        requires { place < game.cells self.now }
+        ensures { result ≡ has_clue game self.now place };
+
+    /// Takes the clue of a cell away, and gives it.
+    fn take_clue(&mut self, place: usize) -> u8
+        requires { IsTrue (has_clue game self.old place) }
+        ensures clue { game.clue self.old place ≡ Some result }
+        ensures range { can_be_clue self.new result }
+        ensures without { self.new ≡ game.without self.old place };
+
+    /// Puts a clue that was taken away back.
+    fn put_clue(&mut self, place: usize, clue: u8)
+        requires range { can_be_clue self.old clue }
+        requires gone { (p : Self) × (game.clue p place ≡ Some clue) × (self.old ≡ game.without p place) }
+        ensures { (p : Self) → game.clue p place ≡ Some clue → self.old ≡ game.without p place → self.new ≡ p };
+
+    /// What a search of the puzzle goes by.
+    ///
+    /// # Errors
+    ///
+    /// When memory was refused.
+    fn search(&self, alloc: Global) -> Result<Self::Search, AllocError>
+        ensures { IfOk result (λ rules. Self.Search.puzzle rules ≡ game.rules self.now) };
+
+    /// Fewer clues lose no solution, and a search needs no more memory.
+    ghost lawful: { IsGame game };
+}

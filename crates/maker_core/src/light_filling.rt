@@ -1,0 +1,121 @@
+//! Fillings of Light Up: black cells, bulbs, and the numbers that they give.
+
+ghost use Rattle.std.specs.Prelude.{◌≡◌, ◌≤◌, ◌<◌, ◌*◌, ℕ, true, false, All, IfOk, length, replicate};
+ghost use Rattle.grid_core.specs.Grids.{IsGrid};
+ghost use Rattle.fields_core.specs.Light.{cells_of, white, is_lit};
+ghost use Rattle.maker_core.specs.LightFilling.{lights_of, white_places, bulbs_after, with_numbers, lit_up, Lighting, light_filling, light_puzzle_of};
+
+use crate::black::draw_black;
+use crate::draws::shuffle;
+use fields_core::{count_beside, is_white, sees_a_bulb};
+use gameid_core::{LightCell, LightPuzzle};
+use grid_core::{Grid, Size};
+use rand_core::Rng;
+use std::alloc::{AllocError, Global};
+
+/// The puzzle without numbers that has these black cells, 1 for black.
+fn with_black_cells(alloc: Global, size: Size, black: &Grid) -> Result<LightPuzzle, AllocError>
+    requires w_two { 2 ≤ size.w }
+    requires h_two { 2 ≤ size.h }
+    requires grid { IsGrid (size.w * size.h) 2 black.now }
+    ensures { IfOk result (λ p. p ≡ lights_of size black.now) }
+{
+    let mut puzzle = LightPuzzle::blank(alloc, size)?;
+    for place in 0..size.cells() {
+        if black.get(place) != 1 {
+            continue;
+        }
+        puzzle.set_cell(place, LightCell::Black);
+    }
+    Ok(puzzle)
+}
+
+/// The white cells, by place.
+fn white_cells(alloc: Global, puzzle: &LightPuzzle) -> Result<Vec<usize>, AllocError>
+    ensures { IfOk result (λ places. places.items ≡ white_places puzzle.now) }
+{
+    let mut places = Vec::new(alloc);
+    for place in 0..puzzle.size().cells() {
+        if !is_white(puzzle, place) {
+            continue;
+        }
+        places.push(place)?;
+    }
+    Ok(places)
+}
+
+/// Takes the cells of the list in turn, and puts a bulb into each that neither holds nor sees one.
+fn place_bulbs(puzzle: &LightPuzzle, order: &[usize], grid: &mut Grid)
+    requires within { All (λ c. c < cells_of puzzle.now) order.now }
+    requires none { grid.old ≡ replicate (cells_of puzzle.now) 0 }
+    ensures { grid.new ≡ bulbs_after puzzle.now order.now (length order.now) }
+{
+    for k in 0..order.len() {
+        let place = order[k];
+        if grid.get(place) == 1 {
+            continue;
+        }
+        if sees_a_bulb(puzzle, grid, place) {
+            continue;
+        }
+        grid.set(place, 1);
+    }
+}
+
+/// Writes a number on every black cell: how many bulbs stand beside it.
+fn number_cells(puzzle: &mut LightPuzzle, grid: &Grid)
+    requires { IsGrid (cells_of puzzle.old) 2 grid.now }
+    ensures { puzzle.new ≡ with_numbers puzzle.old grid.now }
+{
+    for place in 0..puzzle.size().cells() {
+        if is_white(puzzle, place) {
+            continue;
+        }
+        let bulbs = count_beside(puzzle, grid, place) as u8;
+        puzzle.set_cell(place, LightCell::Numbered(bulbs));
+    }
+}
+
+/// Takes the white cells of a puzzle without numbers, listed by place and shuffled, in turn, and puts a bulb into each
+/// that neither holds nor sees one. The grid solves the puzzle with the numbers that it gives.
+fn light_up<G: Rng>(alloc: Global, rng: &mut G, puzzle: &LightPuzzle) -> Result<Grid, AllocError>
+    ensures drawn { IfOk result (λ grid. (grid, G.stream rng.new) ≡ lit_up puzzle.now (G.stream rng.old)) }
+    ensures grid { IfOk result (λ grid. IsGrid (cells_of puzzle.now) 2 grid) }
+    ensures solved { IfOk result (λ grid. is_lit (with_numbers puzzle.now grid) grid ≡ true) }
+{
+    let mut order = white_cells(alloc, puzzle)?;
+    shuffle(rng, &mut order);
+    let mut grid = Grid::new(alloc, puzzle.size().cells())?;
+    place_bulbs(puzzle, &order, &mut grid);
+    Ok(grid)
+}
+
+/// A filling of Light Up, as a puzzle with a number on every black cell and its grid: black cells are drawn one by one;
+/// then the white cells, listed by place and shuffled, are taken in turn, and each that neither holds nor sees a bulb
+/// gets one.
+///
+/// # Errors
+///
+/// When memory was refused.
+pub(crate) fn fill_lights<G: Rng>(
+    alloc: Global,
+    rng: &mut G,
+    size: Size,
+    black: u8,
+) -> Result<(LightPuzzle, Grid), AllocError>
+    requires w_two { 2 ≤ size.w }
+    requires h_two { 2 ≤ size.h }
+    ensures drawn { IfOk result (λ made. (filling : Lighting)
+        × ((filling, G.stream rng.new) ≡ light_filling size black (G.stream rng.old))
+        × (made.0 ≡ light_puzzle_of size filling) × (made.1 ≡ filling.bulbs)) }
+    ensures grid { IfOk result (λ made. IsGrid (cells_of made.0) 2 made.1) }
+    ensures solved { IfOk result (λ made. is_lit made.0 made.1 ≡ true) }
+    ensures numbers { IfOk result (λ made. made.0 ≡ with_numbers made.0 made.1) }
+    ensures full { black ≡ 100 → IfOk result (λ made. (c : ℕ) → white made.0 c ≡ false) }
+{
+    let blacks = draw_black(alloc, rng, size.cells(), black)?;
+    let mut puzzle = with_black_cells(alloc, size, &blacks)?;
+    let grid = light_up(alloc, rng, &puzzle)?;
+    number_cells(&mut puzzle, &grid);
+    Ok((puzzle, grid))
+}

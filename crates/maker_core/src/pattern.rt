@@ -1,0 +1,94 @@
+//! The maker of Pattern.
+
+ghost use Rattle.std.specs.Prelude.{◌≡◌, ◌≢◌, ◌≤◌, ◌*◌, ◌⊎◌, true, ℕ, Err, IfOk, []};
+ghost use Rattle.grid_core.specs.Grids.{IsGrid};
+ghost use Rattle.pattern_core.specs.Solutions.{IsSolution};
+ghost use Rattle.maker_core.specs.declared.made.MakeFault.TheVariants.{Exhausted, SizeRange};
+ghost use Rattle.maker_core.specs.Draws.{AreAll, IsFirstPassing, NonePasses, filling_at};
+ghost use Rattle.maker_core.specs.Made.{IsOnlySolution};
+ghost use Rattle.maker_core.specs.PatternMaking.{pattern_filling, pattern_of, pattern_passes};
+
+use crate::black::draw_black;
+use crate::made::{Limits, Made, MakeFault};
+use crate::unique::is_unique;
+use gameid_core::PatternPuzzle;
+use grid_core::{Grid, Size};
+use pattern_core::PatternLines;
+use rand_core::Rng;
+use std::alloc::{AllocError, Global};
+
+/// The puzzle with all clues of the grid.
+fn puzzle_of(alloc: Global, size: Size, grid: &Grid) -> Result<PatternPuzzle, AllocError>
+    requires { IsGrid (size.w * size.h) 2 grid.now }
+    ensures puzzle { IfOk result (λ p. p ≡ pattern_of size grid.now) }
+    ensures solved { IfOk result (λ p. IsSolution p grid.now) }
+{
+    let puzzle = PatternPuzzle::of_grid(alloc, size, grid)?;
+    let _size = puzzle.size();
+    Ok(puzzle)
+}
+
+/// Whether the verdict of the puzzle of the grid is one. That of a grid of one colour is, whatever the budget.
+fn passes(
+    alloc: Global,
+    puzzle: &PatternPuzzle,
+    answer: &Grid,
+    budget: u64,
+) -> Result<bool, AllocError>
+    requires puzzle { puzzle.now ≡ pattern_of puzzle.now.size answer.now }
+    requires solved { IsSolution puzzle.now answer.now }
+    ensures verdict { IfOk result (λ unique. unique ≡ pattern_passes puzzle.now.size budget answer.now) }
+    ensures only { IfOk result (λ unique. unique ≡ true → IsOnlySolution (IsSolution puzzle.now) answer.now) }
+    ensures plain { AreAll 0 answer.now ⊎ AreAll 1 answer.now → IfOk result (λ unique. unique ≡ true) }
+{
+    pattern_core::accepted_are_solutions();
+    let _size = puzzle.size();
+    let rules = PatternLines::new(alloc, puzzle)?;
+    engine_core::closure_is_largest(&rules);
+    engine_core::walk_goes_on_from_the_closure(&rules);
+    is_unique(alloc, &rules, budget)
+}
+
+/// A puzzle of Pattern with exactly one solution, which is `answer`: 0 for a white cell and 1 for a black one.
+///
+/// Each try fills a grid: each cell in turn is black where a draw below 100 is less than `black`. The clues are the
+/// runs of its lines. The first filling whose puzzle the search finds to have one solution, within the budget of trials,
+/// is the puzzle made; a grid of one colour passes, so with `black` 0 or 100 the first try does. `kept` is empty, since the clues are not thinned.
+///
+/// # Errors
+///
+/// `Exhausted` where no filling of the tries passes, and at once where there are no tries; `Memory` where memory was
+/// refused.
+pub fn make_pattern<G: Rng>(
+    alloc: Global,
+    size: Size,
+    black: u8,
+    rng: &mut G,
+    limits: Limits,
+) -> Result<Made<PatternPuzzle>, MakeFault>
+    requires { black ≤ 100 }
+    ensures first { IfOk result (λ made. (k : ℕ)
+        × IsFirstPassing (pattern_filling size black) (pattern_passes size limits.budget) (G.stream rng.old) limits.tries k
+        × (made.answer ≡ filling_at (pattern_filling size black) k (G.stream rng.old))) }
+    ensures puzzle { IfOk result (λ made. made.puzzle ≡ pattern_of size made.answer) }
+    ensures only { IfOk result (λ made. IsOnlySolution (IsSolution made.puzzle) made.answer) }
+    ensures kept { IfOk result (λ made. made.kept.items ≡ []) }
+    ensures in_range { result ≢ Err SizeRange }
+    ensures no_tries { limits.tries ≡ 0 → result ≡ Err Exhausted }
+    ensures exhausted { result ≡ Err Exhausted → NonePasses (pattern_filling size black) (pattern_passes size limits.budget) (G.stream rng.old) limits.tries }
+    ensures plain { 1 ≤ limits.tries → (black ≡ 0) ⊎ (black ≡ 100) → result ≢ Err Exhausted }
+{
+    for _attempt in 0..limits.tries {
+        let answer = draw_black(alloc, rng, size.cells(), black)?;
+        let puzzle = puzzle_of(alloc, size, &answer)?;
+        if passes(alloc, &puzzle, &answer, limits.budget)? {
+            let kept = Vec::new(alloc);
+            return Ok(Made {
+                puzzle,
+                answer,
+                kept,
+            });
+        }
+    }
+    Err(MakeFault::Exhausted)
+}

@@ -1,0 +1,66 @@
+//! The maker of Solo.
+
+ghost use Rattle.std.specs.Prelude.{◌≡◌, ◌↔◌, ◌<◌, IsTrue, Err, IfOk};
+ghost use Rattle.maker_core.specs.declared.made.MakeFault.TheVariants.{Exhausted, SizeRange};
+ghost use Rattle.maker_core.specs.Draws.{IsFirstPassing, filling_at};
+ghost use Rattle.maker_core.specs.Made.{IsOnlySolution};
+ghost use Rattle.maker_core.specs.SoloClues.{solo_game};
+ghost use Rattle.maker_core.specs.SoloFilling.{solo_filling, all_given};
+ghost use Rattle.maker_core.specs.SoloMaking.{IsSoloSize, solo_passes, SolvesSolo};
+ghost use Rattle.maker_core.specs.Thinning.{IsWithin, AreReasons};
+
+use crate::made::{Limits, Made, MakeFault};
+use crate::solo_filling::{fill_solo, full_puzzle};
+use crate::thin::thin;
+use gameid_core::{MAX_NUMBERS, SoloPuzzle};
+use rand_core::Rng;
+use std::alloc::Global;
+
+/// A puzzle of Solo of `c` columns and `r` rows of sub-blocks with exactly one solution, which is `answer`: a cell
+/// holds the number v as v - 1.
+///
+/// A try fills a grid: a grid with every number once in each row, column and block whose numbers, bands of `c` rows, rows
+/// in each band, stacks of `r` columns and columns in each stack are shuffled in turn. With all cells given it has one
+/// solution, which the search finds without a trial, so the first try is the last. The givens are then tried once each,
+/// in a shuffled order, and each is taken away where the search still finds one solution. `kept` has an entry for each
+/// given that is left, by place: `Needed` where without it there are two solutions, `Budget` where the search without it
+/// gave up.
+///
+/// # Errors
+///
+/// `SizeRange` where `c` or `r` is below 2 or there are more than 31 numbers; `Exhausted` where there are no tries;
+/// `Memory` where memory was refused. They are tested in this order.
+pub fn make_solo<G: Rng>(
+    alloc: Global,
+    c: u8,
+    r: u8,
+    rng: &mut G,
+    limits: Limits,
+) -> Result<Made<SoloPuzzle>, MakeFault>
+    ensures first { IfOk result (λ made.
+        IsFirstPassing (solo_filling c r) (solo_passes c r limits.budget) (G.stream rng.old) limits.tries 0
+        × (made.answer ≡ filling_at (solo_filling c r) 0 (G.stream rng.old))) }
+    ensures size { IfOk result (λ made. (made.puzzle.c ≡ c) × (made.puzzle.r ≡ r)) }
+    ensures within { IfOk result (λ made. IsWithin solo_game made.puzzle (all_given c r made.answer)) }
+    ensures only { IfOk result (λ made. IsOnlySolution (SolvesSolo made.puzzle) made.answer) }
+    ensures reasons { IfOk result (λ made. AreReasons solo_game limits.budget (all_given c r made.answer) made.puzzle made.kept.items) }
+    ensures size_range { (result ≡ Err SizeRange) ↔ (IsSoloSize c r → ⊥) }
+    ensures exhausted { (result ≡ Err Exhausted) ↔ (IsSoloSize c r × (limits.tries ≡ 0)) }
+{
+    if !is_size(c, r) {
+        return Err(MakeFault::SizeRange);
+    }
+    if limits.tries == 0 {
+        return Err(MakeFault::Exhausted);
+    }
+    let answer = fill_solo(alloc, c, r, rng)?;
+    let puzzle = full_puzzle(alloc, c, r, &answer)?;
+    Ok(thin(alloc, puzzle, answer, rng, limits.budget)?)
+}
+
+/// Whether a puzzle can have so many columns and rows of sub-blocks.
+fn is_size(c: u8, r: u8) -> bool
+    ensures { IsTrue result ↔ IsSoloSize c r }
+{
+    c >= 2 && r >= 2 && u32::from(c) * u32::from(r) <= MAX_NUMBERS
+}

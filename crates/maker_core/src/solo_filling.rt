@@ -1,0 +1,157 @@
+//! The filling of Solo.
+
+ghost use Rattle.std.specs.Prelude.{◌≡◌, ◌+◌, ◌*◌, ◌<◌, ◌≤◌, ◌++◌, map, length, slice_index, IfOk};
+ghost use Rattle.grid_core.specs.Grids.{IsGrid};
+ghost use Rattle.gameid_core.specs.Head.{max_numbers};
+ghost use Rattle.solo_core.specs.Solutions.{IsSolution};
+ghost use Rattle.maker_core.specs.Draws.{shuffled_order};
+ghost use Rattle.maker_core.specs.SoloOrders.{IsOrder, AreGrouped, IsLineOrder};
+ghost use Rattle.maker_core.specs.SoloFilling.{group_added, line_order as lines_of_order, numbered as numbered_grid, solo_filling as filling_of, all_given};
+
+use crate::draws::order;
+use gameid_core::SoloPuzzle;
+use grid_core::Grid;
+use rand_core::Rng;
+use std::alloc::{AllocError, Global};
+
+/// A grid that has every number once in each row, column and block, of `c` columns and `r` rows of sub-blocks: the
+/// numbers, the bands of `c` rows, the rows of each band, the stacks of `r` columns and the columns of each stack of one
+/// such grid are shuffled in turn. A cell holds the number v as v - 1.
+///
+/// # Errors
+///
+/// When memory was refused. The generator may have been drawn from then.
+pub(crate) fn fill_solo<G: Rng>(
+    alloc: Global,
+    c: u8,
+    r: u8,
+    rng: &mut G,
+) -> Result<Grid, AllocError>
+    requires c_low { 2 ≤ c }
+    requires r_low { 2 ≤ r }
+    requires n_high { c * r ≤ max_numbers }
+    ensures filling { IfOk result (λ grid. (grid, G.stream rng.new) ≡ filling_of c r (G.stream rng.old)) }
+    ensures fits { IfOk result (λ grid. IsGrid ((c * r) * (c * r)) (c * r) grid) }
+    ensures solution { IfOk result (λ grid. IsSolution (all_given c r grid) grid) }
+{
+    let tall = usize::from(c);
+    let wide = usize::from(r);
+    let numbers = order(alloc, rng, tall * wide)?;
+    let rows = line_order(alloc, wide, tall, rng)?;
+    let columns = line_order(alloc, tall, wide, rng)?;
+    numbered(alloc, tall, wide, &numbers, &rows, &columns)
+}
+
+/// The puzzle that gives all cells of the grid.
+///
+/// # Errors
+///
+/// When memory was refused.
+pub(crate) fn full_puzzle(
+    alloc: Global,
+    c: u8,
+    r: u8,
+    grid: &Grid,
+) -> Result<SoloPuzzle, AllocError>
+    requires c_low { 2 ≤ c }
+    requires r_low { 2 ≤ r }
+    requires n_high { c * r ≤ max_numbers }
+    requires fits { IsGrid ((c * r) * (c * r)) (c * r) grid.now }
+    ensures { IfOk result (λ puzzle. puzzle ≡ all_given c r grid.now) }
+{
+    let mut puzzle = SoloPuzzle::blank(alloc, c, r)?;
+    for place in 0..grid.len() {
+        puzzle.set_given(place, grid.get(place) + 1);
+    }
+    Ok(puzzle)
+}
+
+/// So many groups of so many lines in a shuffled order: the groups first, and then the lines in each.
+fn line_order<G: Rng>(
+    alloc: Global,
+    count: usize,
+    size: usize,
+    rng: &mut G,
+) -> Result<Vec<usize>, AllocError>
+    requires some { 0 < size }
+    requires few { count * size ≤ max_numbers }
+    ensures drawn { IfOk result (λ v. (v.items, G.stream rng.new) ≡ lines_of_order count size (G.stream rng.old)) }
+    ensures grouped { IfOk result (λ v. IsLineOrder count size v.items) }
+{
+    let groups = order(alloc, rng, count)?;
+    let mut lines = Vec::new(alloc);
+    for k in 0..count {
+        push_group(alloc, size, groups[k], rng, &mut lines)?;
+    }
+    Ok(lines)
+}
+
+/// Appends the lines of a group in a shuffled order.
+fn push_group<G: Rng>(
+    alloc: Global,
+    size: usize,
+    group: usize,
+    rng: &mut G,
+    lines: &mut Vec<usize>,
+) -> Result<(), AllocError>
+    requires few { (group + 1) * size ≤ max_numbers }
+    ensures drawn { IfOk result (λ _. (lines.new.items, G.stream rng.new) ≡ group_added size group lines.old.items (shuffled_order size (G.stream rng.old))) }
+    ensures ordered { IfOk result (λ _. IsOrder size (shuffled_order size (G.stream rng.old)).0) }
+{
+    let inside = order(alloc, rng, size)?;
+    for k in 0..size {
+        lines.push(group * size + inside[k])?;
+    }
+    Ok(())
+}
+
+/// The grid in which each number has become another, and rows and columns stand in new orders.
+fn numbered(
+    alloc: Global,
+    c: usize,
+    r: usize,
+    numbers: &[usize],
+    rows: &[usize],
+    columns: &[usize],
+) -> Result<Grid, AllocError>
+    requires c_some { 0 < c }
+    requires r_some { 0 < r }
+    requires few { c * r ≤ max_numbers }
+    requires numbers { IsOrder (c * r) numbers.now }
+    requires rows { IsLineOrder r c rows.now }
+    requires columns { IsLineOrder c r columns.now }
+    ensures grid { IfOk result (λ grid. grid ≡ numbered_grid c r numbers.now rows.now columns.now) }
+    ensures fits { IfOk result (λ grid. IsGrid ((c * r) * (c * r)) (c * r) grid) }
+    ensures solution { IfOk result (λ grid. IsSolution (all_given c r grid) grid) }
+{
+    let cells = c * r * (c * r);
+    let mut grid = Grid::new(alloc, cells)?;
+    for place in 0..cells {
+        grid.set(place, number_at(c, r, numbers, rows, columns, place));
+    }
+    Ok(grid)
+}
+
+/// The number in a cell of that grid.
+fn number_at(
+    c: usize,
+    r: usize,
+    numbers: &[usize],
+    rows: &[usize],
+    columns: &[usize],
+    place: usize,
+) -> u8
+    requires c_some { 0 < c }
+    requires r_some { 0 < r }
+    requires few { c * r ≤ max_numbers }
+    requires numbers { IsOrder (c * r) numbers.now }
+    requires rows { IsLineOrder r c rows.now }
+    requires columns { IsLineOrder c r columns.now }
+    requires place { place < (c * r) * (c * r) }
+    ensures { result ≡ slice_index (numbered_grid c r numbers.now rows.now columns.now) place }
+{
+    let n = c * r;
+    let x = columns[place % n];
+    let y = rows[place / n];
+    numbers[(y % c * r + y / c + x) % n] as u8
+}

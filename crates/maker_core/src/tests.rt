@@ -1,0 +1,4 @@
+mod clues;
+mod makers;
+mod solo;
+mod thinned;

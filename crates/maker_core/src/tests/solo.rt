@@ -1,0 +1,76 @@
+//! Worked examples of Solo.
+
+ghost use Rattle.std.specs.Prelude.{IfOk};
+ghost use Rattle.grid_core.specs.Grids.{IsGrid};
+ghost use Rattle.gameid_core.specs.Puzzles.{solo_n};
+ghost use Rattle.solo_core.specs.Solutions.{cells_of};
+
+use crate::made::{Limits, Made, MakeFault, Why};
+use crate::solo::make_solo;
+use crate::solo_filling::{fill_solo, full_puzzle};
+use gameid_core::SoloPuzzle;
+use rand_chacha::ChaCha8Rng;
+use rand_core::SeedableRng;
+use solo_core::check_solo;
+use std::test::Fail;
+
+#[test]
+fn a_filling_of_two_by_three_blocks_is_a_solution(rt: HostRuntime) -> Result<(), Fail> {
+    let mut rng = ChaCha8Rng::from_seed([7; 32]);
+    let grid = fill_solo(rt.alloc(), 2, 3, &mut rng)?;
+    let puzzle = full_puzzle(rt.alloc(), 2, 3, &grid)?;
+    assert_eq!(rt; grid.len(), 36);
+    assert_eq!(rt; check_solo(&puzzle, &grid), None);
+    Ok(())
+}
+
+/// What is made of one seed.
+fn made(
+    rt: &HostRuntime,
+    c: u8,
+    r: u8,
+    budget: u64,
+    tries: u32,
+) -> Result<Made<SoloPuzzle>, MakeFault>
+    ensures { IfOk result (λ made. IsGrid (cells_of made.puzzle) (solo_n made.puzzle) made.answer) }
+{
+    let mut rng = ChaCha8Rng::from_seed([1; 32]);
+    make_solo(rt.alloc(), c, r, &mut rng, Limits { budget, tries })
+}
+
+/// Whether each given that was left, of some and not all cells, was left for this reason.
+fn all_kept(made: &Made<SoloPuzzle>, why: Why) -> bool {
+    !made.kept.is_empty() && made.kept.len() < 16 && made.kept.iter().all(|kept| kept.why == why)
+}
+
+#[test]
+fn no_budget_leaves_givens_for_want_of_it(rt: HostRuntime) -> Result<(), Fail> {
+    let made = made(&rt, 2, 2, 0, 1)?;
+    assert!(rt; all_kept(&made, Why::Budget));
+    assert_eq!(rt; check_solo(&made.puzzle, &made.answer), None);
+    Ok(())
+}
+
+#[test]
+fn enough_budget_leaves_givens_that_are_needed(rt: HostRuntime) -> Result<(), Fail> {
+    let made = made(&rt, 2, 2, 100_000, 1)?;
+    assert!(rt; all_kept(&made, Why::Needed));
+    assert_eq!(rt; check_solo(&made.puzzle, &made.answer), None);
+    Ok(())
+}
+
+/// Why nothing was made.
+fn fault(made: Result<Made<SoloPuzzle>, MakeFault>) -> Option<MakeFault> {
+    match made {
+        Ok(_made) => None,
+        Err(fault) => Some(fault),
+    }
+}
+
+#[test]
+fn sizes_and_tries_are_tested_first(rt: HostRuntime) -> Result<(), Fail> {
+    assert_eq!(rt; fault(made(&rt, 1, 4, 0, 0)), Some(MakeFault::SizeRange));
+    assert_eq!(rt; fault(made(&rt, 6, 6, 0, 1)), Some(MakeFault::SizeRange));
+    assert_eq!(rt; fault(made(&rt, 2, 2, 0, 0)), Some(MakeFault::Exhausted));
+    Ok(())
+}

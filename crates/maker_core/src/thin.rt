@@ -1,0 +1,133 @@
+//! Taking clues away while the puzzle keeps its one solution.
+
+ghost use Rattle.std.specs.Prelude.{◌≡◌, ◌<◌, [], IfOk, OnOk, IsTrue, IsPermutation};
+ghost use Rattle.engine_core.specs.Puzzle.{FitsIn, needs_of};
+ghost use Rattle.maker_core.specs.Thinning.{has_clue, clue_places, IsWithin, IsOnly, AreReasons};
+ghost use Rattle.maker_core.specs.ThinningSteps.{HasOne, IsLeft, IsAsked, IsThinning, reasons_from};
+
+use crate::clued::Clued;
+use crate::made::{Kept, Made, Why};
+use engine_core::{Store, Verdict};
+use grid_core::Grid;
+use rand::seq::SliceRandom;
+use rand_core::Rng;
+use std::alloc::{AllocError, Global};
+
+/// Takes the clues of a puzzle with all clues away, one after the other in an order that is drawn, and leaves those
+/// without which the search finds more solutions than the answer or gives up.
+///
+/// # Errors
+///
+/// When memory was refused.
+pub(crate) fn thin<P: Clued, G: Rng>(
+    alloc: Global,
+    puzzle: P,
+    answer: Grid,
+    rng: &mut G,
+    budget: u64,
+) -> Result<Made<P>, AllocError>
+    requires all { puzzle ≡ P.game.all_clues puzzle answer }
+    requires only { IsOnly (P.game.rules puzzle) answer }
+    ensures answer { IfOk result (λ made. made.answer ≡ answer) }
+    ensures within { IfOk result (λ made. IsWithin P.game made.puzzle puzzle) }
+    ensures only { IfOk result (λ made. IsOnly (P.game.rules made.puzzle) answer) }
+    ensures reasons { IfOk result (λ made. AreReasons P.game budget (P.game.all_clues made.puzzle answer) made.puzzle made.kept.items) }
+{
+    let mut puzzle = puzzle;
+    let rules = puzzle.search(alloc)?;
+    let mut store = Store::new(alloc, &rules)?;
+    let order = shuffled_clues(alloc, &puzzle, rng)?;
+    let mut whys = vec![in alloc; None; puzzle.cells()]?;
+    try_clues(alloc, &mut puzzle, &mut store, &order, &mut whys, budget)?;
+    let kept = reasons(alloc, &whys)?;
+    Ok(Made {
+        puzzle,
+        answer,
+        kept,
+    })
+}
+
+/// The cells that have a clue, by place.
+fn clue_list<P: Clued>(alloc: Global, puzzle: &P) -> Result<Vec<usize>, AllocError>
+    ensures { IfOk result (λ places. places.items ≡ clue_places P.game puzzle.now) }
+{
+    let mut places = Vec::new(alloc);
+    for place in 0..puzzle.cells() {
+        if puzzle.has_clue(place) {
+            places.push(place)?;
+        }
+    }
+    Ok(places)
+}
+
+/// The cells that have a clue, in an order that is drawn.
+fn shuffled_clues<P: Clued, G: Rng>(
+    alloc: Global,
+    puzzle: &P,
+    rng: &mut G,
+) -> Result<Vec<usize>, AllocError>
+    ensures { IfOk result (λ order. IsPermutation (clue_places P.game puzzle.now) order.items) }
+{
+    let mut order = clue_list(alloc, puzzle)?;
+    order.shuffle(rng);
+    Ok(order)
+}
+
+/// Tries each clue of the list once, and writes at its cell why it stays, if it does.
+fn try_clues<P: Clued>(
+    alloc: Global,
+    puzzle: &mut P,
+    store: &mut Store<P::Search>,
+    order: &[usize],
+    whys: &mut [Option<Why>],
+    budget: u64,
+) -> Result<(), AllocError>
+    requires fits { FitsIn (needs_of (P.game.rules puzzle.old)) store.old.made }
+    requires start { IsThinning P.game budget puzzle.old puzzle.old whys.old order.now }
+    ensures { OnOk result (IsThinning P.game budget puzzle.old puzzle.new whys.new []) }
+{
+    for &place in order {
+        whys[place] = try_clue(alloc, puzzle, store, place, budget)?;
+    }
+    Ok(())
+}
+
+/// Takes a clue away for good where the puzzle without it has one solution still; else leaves it and says why.
+fn try_clue<P: Clued>(
+    alloc: Global,
+    puzzle: &mut P,
+    store: &mut Store<P::Search>,
+    place: usize,
+    budget: u64,
+) -> Result<Option<Why>, AllocError>
+    requires clue { IsTrue (has_clue P.game puzzle.old place) }
+    requires one { HasOne (P.game.rules puzzle.old) }
+    requires fits { FitsIn (needs_of (P.game.rules puzzle.old)) store.old.made }
+    ensures left { IfOk result (λ why. IsLeft P.game place puzzle.old puzzle.new why) }
+    ensures asked { IfOk result (λ why. IsAsked P.game budget place puzzle.old why) }
+    ensures made { store.new.made ≡ store.old.made }
+{
+    let clue = puzzle.take_clue(place);
+    let rules = puzzle.search(alloc)?;
+    let why = match store.solve(&rules, budget) {
+        Verdict::One => return Ok(None),
+        Verdict::Several => Why::Needed,
+        Verdict::GaveUp { .. } => Why::Budget,
+        Verdict::None => unreachable!(),
+    };
+    puzzle.put_clue(place, clue);
+    Ok(Some(why))
+}
+
+/// The reasons that were written, by place.
+fn reasons(alloc: Global, whys: &[Option<Why>]) -> Result<Vec<Kept>, AllocError>
+    ensures { IfOk result (λ kept. kept.items ≡ reasons_from 0 whys.now) }
+{
+    let mut kept = Vec::new(alloc);
+    for place in 0..whys.len() {
+        if let Some(why) = whys[place] {
+            kept.push(Kept { place, why })?;
+        }
+    }
+    Ok(kept)
+}

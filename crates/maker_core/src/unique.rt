@@ -1,0 +1,23 @@
+//! Whether a puzzle's search answers that one grid solves it.
+
+ghost use Rattle.std.specs.Prelude.{◌≡◌, true, IfOk};
+ghost use Rattle.maker_core.specs.Made.{HasNoTwo, has_one};
+
+use engine_core::{Rules, Store, Verdict};
+use std::alloc::{AllocError, Global};
+
+/// Whether the verdict of the rules with that budget is one.
+///
+/// # Errors
+///
+/// When memory was refused.
+pub(crate) fn is_unique<R: Rules>(alloc: Global, rules: &R, budget: u64) -> Result<bool, AllocError>
+    ensures verdict { IfOk result (λ unique. unique ≡ has_one (R.puzzle rules.now) budget) }
+    ensures only { IfOk result (λ unique. unique ≡ true → HasNoTwo (R.puzzle rules.now)) }
+{
+    let mut store = Store::new(alloc, rules)?;
+    match store.solve(rules, budget) {
+        Verdict::One => Ok(true),
+        Verdict::None | Verdict::Several | Verdict::GaveUp { .. } => Ok(false),
+    }
+}

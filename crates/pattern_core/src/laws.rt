@@ -1,0 +1,19 @@
+//! What the rules of a search mean. These calls do nothing: their contracts are the laws.
+
+ghost use Rattle.std.specs.Prelude.{◌≡◌, ◌*◌, ◌↔◌, ℕ, List, IsTrue};
+ghost use Rattle.gameid_core.specs.Puzzles.{Pattern, IsPattern};
+ghost use Rattle.engine_core.specs.Puzzle.{IsLawful};
+ghost use Rattle.grid_core.specs.Grids.{IsGrid};
+ghost use Rattle.pattern_core.specs.LineRules.{line_rules};
+ghost use Rattle.pattern_core.specs.Solutions.{IsSolution};
+
+/// The grids that a search accepts are the solutions of its puzzle.
+pub fn accepted_are_solutions()
+    ensures { (p : Pattern) (g : List ℕ) → IsGrid (p.size.w * p.size.h) 2 g
+        → (IsTrue ((line_rules p).is_solution g)) ↔ IsSolution p g }
+{}
+
+/// The rules of a search keep to what every search relies on, for each puzzle.
+pub fn rules_are_lawful()
+    ensures { (p : Pattern) → IsPattern p → IsLawful (line_rules p) }
+{}

@@ -1,0 +1,183 @@
+-- The steps of a batch.
+use Rattle.std.proofs.Common.{◌≡◌, ◌∙◌, ◌==◌, ◌<◌, ◌+◌, ◌++◌, ℕ, true, false, List, [], ◌∷◌, length, ap, ap₂, sym, refl, subst, arith, if◌then◌else◌, append-nil, append_assoc, inr, max, Result, Ok, Err, IfErr, take, drop, get_or}
+use Rattle.std.proofs.lemmas.List.{take-append-drop, take_more}
+use Rattle.std.specs.List.{All, slice_split}
+use Rattle.std.proofs.lemmas.List.Splits.{slice_split_at, slice_split_none, length-slice_split}
+use Rattle.std.proofs.lemmas.List.Elements.{All-push, All-nil}
+use Rattle.std.specs.Str.Lines.{lines, lines_of_parts, strip_carriage_return}
+use Rattle.puzzles.specs.Answers.{Answer, Begins, BeginsAnswer, Text}
+use Rattle.puzzles.specs.Each.{AllowsEach, Answered, Begun, HasAnswers, Stopped, both, silence}
+use Rattle.puzzles.specs.Batches.{Batched}
+use Rattle.puzzles.specs.LineStates.{Holds}
+use Rattle.puzzles.specs.declared.batch.Batch.{Batch}
+
+parts_at : (p : Text) (parts : List Text) → 0 < length parts → lines_of_parts (p ∷ parts) ≡ strip_carriage_return p ∷ lines_of_parts parts
+parts_at p [] h = absurd (omega arith)
+parts_at p (q ∷ parts) h = refl
+
+-- a line, its end, and what follows
+lines_at : (p rest : Text) → All (λ b. (b == 10) ≡ false) p → lines (p ++ 10 ∷ rest) ≡ strip_carriage_return p ∷ lines rest
+lines_at p rest h =
+    let count = length-slice_split (λ b. b == 10) rest in
+    let some : 0 < length (slice_split (λ b. b == 10) rest) = omega arith in
+    ap lines_of_parts (slice_split_at (λ b. b == 10) p 10 rest h refl) ∙ parts_at p (slice_split (λ b. b == 10) rest) some
+
+lines_last : (p : Text) → All (λ b. (b == 10) ≡ false) p → lines p ≡ (if length p == 0 then [] else p ∷ [])
+lines_last p h = ap lines_of_parts (slice_split_none (λ b. b == 10) p h)
+
+module _ (allows : Text → Answer → Type 0) where
+  -- each list of lines has an allowed answer
+  each_has : HasAnswers allows → (ls : List Text) → (a : Answer) × AllowsEach allows ls a
+  each_has answers [] = (silence, refl)
+  each_has answers (l ∷ ls) =
+      let first = answers l in
+      let others = each_has answers ls in
+      (both first.0 others.0, (first.0, others.0, first.1, others.1, refl))
+
+  module _ {S : Type 0} (takes : S → Text → S → Type 0) (nothing : (s : S) → takes s [] s) (both_times : (s t u : S) (a b : Text) → takes s a t → takes t b u → takes s (a ++ b) u) where
+    -- with the answer to a line that ends here, which the lines after it follow
+    after_line : (start now : S) (batch : Batch) (seen : Text) (x : Answer) (b : Batched takes allows start batch seen now)
+        → allows (strip_carriage_return b.piece) x → (rest : Text) (z : Answer) → AllowsEach allows (lines rest) z
+        → AllowsEach allows (lines ((seen ++ 10 ∷ []) ++ rest)) (both (record { text = b.written; status = batch.status }) (both x z))
+    after_line start now batch seen x b allowed rest z h =
+        let here : AllowsEach allows (strip_carriage_return b.piece ∷ lines rest) (both x z) = (x, z, allowed, h, refl) in
+        let whole : AllowsEach allows (lines (b.piece ++ 10 ∷ rest)) (both x z) =
+        subst (λ (ls : List Text). AllowsEach allows ls (both x z)) (sym (lines_at b.piece rest b.in_line)) here in
+        subst (λ (t : Text). AllowsEach allows (lines t) (both (record { text = b.written; status = batch.status }) (both x z)))
+        (sym (append_assoc seen (10 ∷ []) rest)) (b.goes_on (10 ∷ rest) (both x z) whole)
+
+    pub step_answered : (start now new : S) (batch next : Batch) (seen : Text) (x : Answer) → Batched takes allows start batch seen now
+        → ((piece : Text) → Holds batch.line piece → allows (strip_carriage_return piece) x) → takes now x.text new
+        → Holds next.line [] → next.status ≡ max batch.status x.status → Batched takes allows start next (seen ++ 10 ∷ []) new
+    step_answered start now new batch next seen x b allowed took holds status = record {
+      piece = [];
+      written = b.written ++ x.text;
+      holds = holds;
+      in_line = All-nil (λ b. (b == 10) ≡ false);
+      took = both_times start now new b.written x.text b.took took;
+      goes_on = λ rest z h.
+          let regrouped : ◌≡◌ {A = Answer} (both (record { text = b.written; status = batch.status }) (both x z)) (both (record { text = b.written ++ x.text; status = next.status }) z) =
+          ap₂ (λ (t : Text) (s : ℕ). record { text = t; status = s }) (sym (append_assoc b.written x.text z.text)) (omega arith) in
+          subst (λ (a : Answer). AllowsEach allows (lines ((seen ++ 10 ∷ []) ++ rest)) a) regrouped (after_line start now batch seen x b (allowed b.piece b.holds) rest z h);
+    }
+
+    pub step_broken : HasAnswers allows → (start now new : S) (batch : Batch) (seen : Text) (x : Answer) → Batched takes allows start batch seen now
+        → ((piece : Text) → Holds batch.line piece → allows (strip_carriage_return piece) x) → ((w : Text) × takes now w new × Begins w x.text)
+        → Stopped takes allows start (seen ++ 10 ∷ []) new
+    step_broken answers start now new batch seen x b allowed w = record {
+      written = b.written ++ w.0;
+      took = both_times start now new b.written w.0 b.took w.1;
+      begun = λ rest.
+          let z = each_has answers (lines rest) in
+          let text_is : b.written ++ (x.text ++ z.0.text) ≡ (b.written ++ w.0) ++ (w.2.0 ++ z.0.text) =
+          ap (λ t. b.written ++ (t ++ z.0.text)) w.2.1 ∙ ap (λ t. b.written ++ t) (append_assoc w.0 w.2.0 z.0.text) ∙ sym (append_assoc b.written w.0 (w.2.0 ++ z.0.text)) in
+          inr (_, after_line start now batch seen x b (allowed b.piece b.holds) rest z.0 z.1, (w.2.0 ++ z.0.text, text_is));
+    }
+
+    -- no more was written
+    pub step_stopped : HasAnswers allows → (start now : S) (batch : Batch) (seen more : Text) → Batched takes allows start batch seen now
+        → Stopped takes allows start (seen ++ more) now
+    step_stopped answers start now batch seen more b = record {
+      written = b.written;
+      took = b.took;
+      begun = λ rest.
+          let z = each_has answers (lines (b.piece ++ (more ++ rest))) in
+          let allowed = subst (λ (t : Text). AllowsEach allows (lines t) (both (record { text = b.written; status = batch.status }) z.0))
+          (sym (append_assoc seen more rest)) (b.goes_on (more ++ rest) z.0 z.1) in
+          inr (_, allowed, (z.0.text, refl));
+    }
+
+    pub step_in_line : (start now : S) (batch next : Batch) (seen : Text) (byte : ℕ) → (byte == 10) ≡ false → Batched takes allows start batch seen now
+        → ((piece : Text) → Holds batch.line piece → Holds next.line (piece ++ byte ∷ [])) → next.status ≡ batch.status
+        → Batched takes allows start next (seen ++ byte ∷ []) now
+    step_in_line start now batch next seen byte other b holds status = record {
+      piece = b.piece ++ byte ∷ [];
+      written = b.written;
+      holds = holds b.piece b.holds;
+      in_line = All-push (λ x. (x == 10) ≡ false) b.piece byte b.in_line other;
+      took = b.took;
+      goes_on = λ rest z h.
+          let at : AllowsEach allows (lines (b.piece ++ byte ∷ rest)) z = subst (λ (t : Text). AllowsEach allows (lines t) z) (append_assoc b.piece (byte ∷ []) rest) h in
+          let moved = subst (λ (t : Text). AllowsEach allows (lines t) (both (record { text = b.written; status = batch.status }) z)) (sym (append_assoc seen (byte ∷ []) rest)) (b.goes_on (byte ∷ rest) z at) in
+          subst (λ (s : ℕ). AllowsEach allows (lines ((seen ++ byte ∷ []) ++ rest)) (both (record { text = b.written; status = s }) z)) (sym status) moved;
+    }
+
+    -- the end of the input, after a newline
+    pub last_none : (start now : S) (batch : Batch) (seen : Text) → Batched takes allows start batch seen now
+        → ((piece : Text) → Holds batch.line piece → true ≡ (length piece == 0)) → Answered takes allows start batch.status seen now
+    last_none start now batch seen b empty = record {
+      written = b.written;
+      took = b.took;
+      whole =
+          let lines_are : lines (b.piece ++ []) ≡ [] = ap lines (append-nil b.piece) ∙ lines_last b.piece b.in_line ∙ ap (λ t. if t then [] else b.piece ∷ []) (sym (empty b.piece b.holds)) in
+          let here : AllowsEach allows (lines (b.piece ++ [])) silence = subst (λ (ls : List Text). AllowsEach allows ls silence) (sym lines_are) refl in
+          let all = b.goes_on [] silence here in
+          let same : ◌≡◌ {A = Answer} (both (record { text = b.written; status = batch.status }) silence) (record { text = b.written; status = batch.status }) =
+          ap₂ (λ (t : Text) (s : ℕ). record { text = t; status = s }) (append-nil b.written) (omega arith) in
+          subst (λ (t : Text). AllowsEach allows (lines t) (record { text = b.written; status = batch.status })) (append-nil seen)
+          (subst (λ (a : Answer). AllowsEach allows (lines (seen ++ [])) a) same all);
+    }
+
+    -- with the answer to a last line that the end of the input ends
+    after_last : (start now : S) (batch : Batch) (seen : Text) (x : Answer) (b : Batched takes allows start batch seen now)
+        → false ≡ (length b.piece == 0) → allows b.piece x
+        → AllowsEach allows (lines seen) (record { text = b.written ++ x.text; status = max batch.status x.status })
+    after_last start now batch seen x b some allowed =
+        let lines_are : lines (b.piece ++ []) ≡ b.piece ∷ [] = ap lines (append-nil b.piece) ∙ lines_last b.piece b.in_line ∙ ap (λ t. if t then [] else b.piece ∷ []) (sym some) in
+        let one : AllowsEach allows (b.piece ∷ []) (both x silence) = (x, silence, allowed, refl, refl) in
+        let here : AllowsEach allows (lines (b.piece ++ [])) (both x silence) = subst (λ (ls : List Text). AllowsEach allows ls (both x silence)) (sym lines_are) one in
+        let same : ◌≡◌ {A = Answer} (both (record { text = b.written; status = batch.status }) (both x silence)) (record { text = b.written ++ x.text; status = max batch.status x.status }) =
+        ap₂ (λ (t : Text) (s : ℕ). record { text = t; status = s }) (ap (λ t. b.written ++ t) (append-nil x.text)) (omega arith) in
+        subst (λ (t : Text). AllowsEach allows (lines t) (record { text = b.written ++ x.text; status = max batch.status x.status })) (append-nil seen)
+        (subst (λ (a : Answer). AllowsEach allows (lines (seen ++ [])) a) same (b.goes_on [] (both x silence) here))
+
+    pub last_answered : (start now new : S) (batch : Batch) (seen : Text) (x : Answer) (status : ℕ) → Batched takes allows start batch seen now
+        → ((piece : Text) → Holds batch.line piece → false ≡ (length piece == 0)) → ((piece : Text) → Holds batch.line piece → allows piece x)
+        → takes now x.text new → status ≡ max batch.status x.status → Answered takes allows start status seen new
+    last_answered start now new batch seen x status b some allowed took is = record {
+      written = b.written ++ x.text;
+      took = both_times start now new b.written x.text b.took took;
+      whole = subst (λ (s : ℕ). AllowsEach allows (lines seen) (record { text = b.written ++ x.text; status = s })) (sym is)
+          (after_last start now batch seen x b (some b.piece b.holds) (allowed b.piece b.holds));
+    }
+
+    pub last_broken : (start now new : S) (batch : Batch) (seen : Text) (x : Answer) → Batched takes allows start batch seen now
+        → ((piece : Text) → Holds batch.line piece → false ≡ (length piece == 0)) → ((piece : Text) → Holds batch.line piece → allows piece x)
+        → ((w : Text) × takes now w new × Begins w x.text) → Begun takes allows start seen new
+    last_broken start now new batch seen x b some allowed w = record {
+      written = b.written ++ w.0;
+      took = both_times start now new b.written w.0 b.took w.1;
+      begun = inr (_, after_last start now batch seen x b (some b.piece b.holds) (allowed b.piece b.holds), (w.2.0, ap (λ t. b.written ++ t) w.2.1 ∙ sym (append_assoc b.written w.0 w.2.0)));
+    }
+
+    -- no more was written
+    pub last_stopped : HasAnswers allows → (start now : S) (batch : Batch) (seen : Text) → Batched takes allows start batch seen now → Begun takes allows start seen now
+    last_stopped answers start now batch seen b =
+        let s = step_stopped answers start now batch seen [] b in
+        record {
+          written = s.written;
+          took = s.took;
+          begun = subst (λ (t : Text). BeginsAnswer (AllowsEach allows (lines t)) s.written) (append-nil (seen ++ []) ∙ append-nil seen) (s.begun []);
+        }
+
+-- a fact that holds whatever the error
+pub on_any_err : {T E : Type 0} (r : Result T E) (P : Type 0) → P → IfErr r (λ _. P)
+on_any_err (Ok x) P p = tt
+on_any_err (Err e) P p = p
+
+-- what was written still begins an answer, when more of the input is known
+pub stopped_further : {S : Type 0} (takes : S → Text → S → Type 0) (allows : Text → Answer → Type 0) (start now : S) (seen more : Text)
+    → Stopped takes allows start seen now → Stopped takes allows start (seen ++ more) now
+stopped_further takes allows start now seen more s = record {
+  written = s.written;
+  took = s.took;
+  begun = λ rest. subst (λ (t : Text). BeginsAnswer (AllowsEach allows (lines t)) s.written) (sym (append_assoc seen more rest)) (s.begun (more ++ rest));
+}
+
+-- the bytes up to one more
+pub one_further : (seen chunk : Text) (i : ℕ) → i < length chunk → (seen ++ take i chunk) ++ get_or chunk i 0 ∷ [] ≡ seen ++ take (i + 1) chunk
+one_further seen chunk i h = append_assoc seen (take i chunk) (get_or chunk i 0 ∷ []) ∙ ap (λ t. seen ++ t) (sym (take_more chunk i 0 h))
+
+pub to_the_end : (seen chunk : Text) (i : ℕ) → i < length chunk → ((seen ++ take i chunk) ++ get_or chunk i 0 ∷ []) ++ drop (i + 1) chunk ≡ seen ++ chunk
+to_the_end seen chunk i h = ap (λ t. t ++ drop (i + 1) chunk) (one_further seen chunk i h) ∙ append_assoc seen (take (i + 1) chunk) (drop (i + 1) chunk)
+    ∙ ap (λ t. seen ++ t) (take-append-drop (i + 1) chunk)

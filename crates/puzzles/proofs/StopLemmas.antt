@@ -1,0 +1,39 @@
+-- Runs that end before their answers are whole, and those that deliver the last of an answer.
+use Rattle.std.proofs.Common.{[], refl, ◌≡◌, ◌≤◌, ℕ, Result, Ok, Err, IfErr, sym, subst, inl, inr, arith, true≢false}
+use Rattle.std.specs.Result.{IsErr, IsErrAnd}
+use Rattle.puzzles.specs.Answers.{Answer, BeginsAnswer, Text}
+use Rattle.puzzles.specs.Stops.{Tells, status_in, status_of}
+use Rattle.puzzles.specs.declared.stop.Stop.{Stop}
+use Rattle.puzzles.specs.declared.stop.Stop.TheVariants.{Memory, Broken}
+
+-- an exit with that stop
+pub if_err : {A : Type 0} (r : Result A Stop) (Q : Stop → Type 0) (stop : Stop) → Q stop → IsErr r × IsErrAnd r (λ e. e ≡ stop) → IfErr r Q
+if_err (Ok u) Q stop q h = tt
+if_err (Err e) Q stop q h = subst Q (sym h.1) q
+
+pub status_is : (r : Result ℕ Stop) (Q : ℕ → Type 0) (stop : Stop) → Q (status_of stop) → IsErr r × IsErrAnd r (λ e. e ≡ stop) → Q (status_in r)
+status_is (Ok u) Q stop q h = absurd (true≢false (sym h.0))
+status_is (Err e) Q stop q h = subst (λ (x : Stop). Q (status_of x)) (sym h.1) q
+
+-- a stop is no whole answer
+pub late : (stop : Stop) → 5 ≤ status_of stop
+late Memory = omega arith
+late Broken = omega arith
+
+-- what is told as one thing is told as another that follows from it
+pub tells_as : {S : Type 0} (takes : S → Text → S → Type 0) (A B : Answer → Type 0) (s t : S) (status : ℕ) → ((a : Answer) → A a → B a)
+    → Tells takes A s t status → Tells takes B s t status
+tells_as takes A B s t status follows told = record {
+  written = told.written;
+  took = told.took;
+  begun = begins told.begun;
+  whole = λ small. follows _ (told.whole small);
+}
+  where
+    begins : {w : Text} → BeginsAnswer A w → BeginsAnswer B w
+    begins (inl none) = inl none
+    begins (inr some) = inr (some.0, follows some.0 some.1, some.2)
+
+-- nothing was written
+pub tells_nothing : {S : Type 0} (takes : S → Text → S → Type 0) (allows : Answer → Type 0) (s : S) (status : ℕ) → takes s [] s → 5 ≤ status → Tells takes allows s s status
+tells_nothing takes allows s status nothing high = record { written = []; took = nothing; begun = inl refl; whole = λ small. absurd (omega arith) }

@@ -1,0 +1,24 @@
+use Rattle.std.proofs.Common.{◌∙◌, ap, refl, Ok, Err}
+use Rattle.grid_core.specs.Extent.{Extent}
+use Rattle.puzzles.proofs.MadeTents.{tents-told, small-told}
+use Rattle.puzzles.proofs.generate.generate_tents.Goals as goal
+
+pub returns-in_ok-write_tents-in-Ok-make_tents-clause-allowed : goal.returns-in_ok-write_tents-in-Ok-make_tents-clause-allowed
+returns-in_ok-write_tents-in-Ok-make_tents-clause-allowed c =
+    let m = c.in-Ok-make_tents in
+    let e = m.ensures in
+    let size = c.unwrap-size.result in
+    let same = (rw c.unwrap-size.ensures at c.new.ensures.exact).1 in
+    let f = rw c.generator-rng.ensures at e.first in
+    tents-told c.args.size.now c.args.seed c.args.limits.budget c.args.limits.tries size m.made.puzzle m.made.answer _ c.made_reply.result
+    e.size_range refl (ap (λ (s : Extent). Ok (s.w, s.h)) same ∙ c.in-Ok.ensures.exact)
+    (record { k = f.0; first = f.1; clues = f.2; filled = f.3; size_asked = e.size; only = e.only })
+    (rw c.in_ok-write_tents-in-Ok-make_tents.ensures.text at c.made_reply.ensures)
+
+pub returns-in-Err-SizeRange-clause-allowed : goal.returns-in-Err-SizeRange-clause-allowed
+returns-in-Err-SizeRange-clause-allowed c =
+    let size = c.unwrap-size.result in
+    let same = (rw c.unwrap-size.ensures at c.new.ensures.exact).1 in
+    small-told c.args.size.now c.args.seed c.args.limits.budget c.args.limits.tries size c.id_refused-in-Err-SizeRange.result
+    (c.in-Err-SizeRange.ensures.size_range.0 (ap Err c.in-Err-SizeRange.field-0-is)) (ap (λ (s : Extent). Ok (s.w, s.h)) same ∙ c.in-Ok.ensures.exact)
+    c.id_refused-in-Err-SizeRange.ensures

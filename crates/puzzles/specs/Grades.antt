@@ -1,0 +1,112 @@
+-- What `grade` says of a puzzle: the rule set that settles it, or else the verdict of its walk with a budget.
+use Rattle.std.specs.Prelude.{◌≡◌, ◌≢◌, ◌++◌, ℕ, Bool, List, if◌then◌else◌, codes, decimal, ⊤}
+use Rattle.engine_core.specs.Puzzle.{Puzzle}
+use Rattle.engine_core.specs.Stored.{is_settled}
+use Rattle.engine_core.specs.Verdict.{Outcome, Outcome.NoGrid, Outcome.OneGrid, Outcome.TwoGrids, Outcome.OutOfBudget, trials_in}
+use Rattle.engine_core.specs.Walk.{walk}
+use Rattle.gameid_core.specs.Puzzles.{Pattern, Solo, Light, Tents}
+use Rattle.fields_core.specs.LightHouses.{light_rules}
+use Rattle.fields_core.specs.TentHouses.{tent_rules}
+use Rattle.pattern_core.specs.LineRules.{line_rules}
+use Rattle.solo_core.specs.RuleSets.{singles_rules, houses_rules}
+use Rattle.puzzles.specs.Answers.{Answer, Text}
+use Rattle.puzzles.specs.Traces.{IsTrace, TellsVisits, TellsSweeps, pattern_house, solo_house}
+use Rattle.puzzles.specs.Verdicts.{verdict_of}
+use Rattle.puzzles.specs.declared.grade.Grade.{Grade}
+use Rattle.puzzles.specs.declared.grade.Grade.TheVariants.{ByRules, BySearch, NoSolution, SeveralSolutions, GaveUp}
+use Rattle.puzzles.specs.declared.grade.RuleSet.{RuleSet}
+use Rattle.puzzles.specs.declared.grade.RuleSet.TheVariants.{Singles, Houses, Lines, Local}
+
+-- by a verdict, where the whole walk has so many trials
+abbrev pub grade_by : ℕ → Outcome → Grade
+grade_by trials NoGrid = NoSolution
+grade_by trials (OneGrid g) = BySearch trials
+grade_by trials (TwoGrids g h) = SeveralSolutions
+grade_by trials (OutOfBudget found) = GaveUp
+
+-- by the walk of the rules' start board, with that budget
+unfoldable pub searched_grade : Puzzle → ℕ → Grade
+searched_grade rules budget = grade_by (trials_in (walk rules 0 rules.start)) (verdict_of rules budget)
+
+-- by the rule set, where the closure of its start board is full and the grid a solution
+abbrev pub settled_or : RuleSet → Puzzle → Grade → Grade
+settled_or set rules otherwise = if is_settled rules then ByRules set else otherwise
+
+abbrev pub houses_grade : ℕ → Solo → Grade
+houses_grade budget p = settled_or Houses (houses_rules p) (searched_grade (houses_rules p) budget)
+
+abbrev pub solo_grade : ℕ → Solo → Grade
+solo_grade budget p = settled_or Singles (singles_rules p) (houses_grade budget p)
+
+abbrev pub pattern_grade : ℕ → Pattern → Grade
+pattern_grade budget p = settled_or Lines (line_rules p) (searched_grade (line_rules p) budget)
+
+abbrev pub light_grade : ℕ → Light → Grade
+light_grade budget p = settled_or Local (light_rules p) (searched_grade (light_rules p) budget)
+
+abbrev pub tent_grade : ℕ → Tents → Grade
+tent_grade budget p = settled_or Local (tent_rules p) (searched_grade (tent_rules p) budget)
+
+-- some grid is a solution, and no other is
+abbrev pub HasOne : (List ℕ → Type 0) → Type 0
+HasOne solves = (g : List ℕ) × solves g × ((h : List ℕ) → solves h → g ≡ h)
+
+-- what a grade means: exactly one grid is a solution; none is; two different ones are; nothing
+abbrev pub IsRightGrade : (List ℕ → Type 0) → Grade → Type 0
+IsRightGrade solves (ByRules set) = HasOne solves
+IsRightGrade solves (BySearch trials) = HasOne solves
+IsRightGrade solves NoSolution = (g : List ℕ) → solves g → ⊥
+IsRightGrade solves SeveralSolutions = (g : List ℕ) × (h : List ℕ) × solves g × solves h × (g ≢ h)
+IsRightGrade solves GaveUp = ⊤
+
+abbrev pub rule_set_text : RuleSet → Text
+rule_set_text Singles = codes "singles"
+rule_set_text Houses = codes "houses"
+rule_set_text Lines = codes "lines"
+rule_set_text Local = codes "local"
+
+abbrev pub grade_text : Grade → Text
+grade_text (ByRules set) = rule_set_text set
+grade_text (BySearch trials) = codes "search " ++ decimal trials
+grade_text NoSolution = codes "none"
+grade_text SeveralSolutions = codes "several"
+grade_text GaveUp = codes "gave up"
+
+abbrev pub grade_status : Grade → ℕ
+grade_status (ByRules set) = 0
+grade_status (BySearch trials) = 0
+grade_status NoSolution = 1
+grade_status SeveralSolutions = 3
+grade_status GaveUp = 4
+
+-- the closing of the rule set that was tried last
+abbrev pub solo_trace : Solo → Text → Type 0
+solo_trace p = TellsVisits (solo_house p) (if is_settled (singles_rules p) then singles_rules p else houses_rules p)
+
+abbrev pub pattern_trace : Pattern → Text → Type 0
+pattern_trace p = TellsVisits (pattern_house p) (line_rules p)
+
+abbrev pub light_trace : Light → Text → Type 0
+light_trace p = TellsSweeps (light_rules p)
+
+abbrev pub tent_trace : Tents → Text → Type 0
+tent_trace p = TellsSweeps (tent_rules p)
+
+-- the grade's line, and the lines of a trace
+pub record IsTold (grade : Grade) (traced : Bool) (tells : Text → Type 0) (answer : Answer) : Type 0 where
+  pub lines : Text
+  pub trace : IsTrace traced tells lines
+  pub text : answer.text ≡ grade_text grade ++ codes "\n" ++ lines
+  pub status : answer.status ≡ grade_status grade
+
+-- the grade is right of the puzzle's solutions, and it is told
+pub record IsGradeOf (solves : List ℕ → Type 0) (grade : Grade) (traced : Bool) (tells : Text → Type 0) (answer : Answer) : Type 0 where
+  pub right : IsRightGrade solves grade
+  pub told : IsTold grade traced tells answer
+
+-- the ID spells that puzzle, and its grade is told
+pub record IsGraded {P : Type 0} (spells : P → Type 0) (solves : P → List ℕ → Type 0) (grade : P → Grade) (traced : Bool)
+    (trace : P → Text → Type 0) (answer : Answer) : Type 0 where
+  pub puzzle : P
+  pub spelled : spells puzzle
+  pub graded : IsGradeOf (solves puzzle) (grade puzzle) traced (trace puzzle) answer

@@ -1,0 +1,22 @@
+-- What is kept of a line that is being read.
+use Rattle.std.specs.Prelude.{◌≡◌, ◌==◌, ℕ, List, [], ◌∷◌, take, drop, if◌then◌else◌}
+use Rattle.gameid_core.specs.Head.{max_id}
+use Rattle.puzzles.specs.declared.lines.Tail.{Tail}
+use Rattle.puzzles.specs.declared.lines.Tail.TheVariants.{Nothing, Return, More}
+use Rattle.puzzles.specs.declared.lines.Line.{Line}
+
+-- what the bytes after those that are kept come to
+abbrev pub tail_of : List ℕ → Tail
+tail_of [] = Nothing
+tail_of (x ∷ []) = if x == 13 then Return else More
+tail_of (x ∷ y ∷ rest) = More
+
+-- the same with one more byte
+abbrev pub next_tail : Tail → ℕ → Tail
+next_tail Nothing byte = if byte == 13 then Return else More
+next_tail _ byte = More
+
+-- the state stands for these bytes, all that came since the last line
+pub record Holds (line : Line) (piece : List ℕ) : Type 0 where
+  pub kept : line.kept.items ≡ take max_id piece
+  pub tail : line.tail ≡ tail_of (drop max_id piece)

@@ -1,0 +1,35 @@
+-- How a run ends, and what it has written then.
+use Rattle.std.specs.Prelude.{◌≡◌, ◌<◌, ◌≤◌, ℕ, Bool, true, false, Result, Ok, Err}
+use Rattle.puzzles.specs.Answers.{Answer, BeginsAnswer, Text}
+use Rattle.puzzles.specs.declared.stop.Stop.{Stop}
+use Rattle.puzzles.specs.declared.stop.Stop.TheVariants.{Memory, Broken}
+
+-- the status of a run that ended before its answer was whole
+abbrev pub status_of : Stop → ℕ
+status_of Memory = 5
+status_of Broken = 6
+
+-- the sink failed
+abbrev pub is_broken : Stop → Bool
+is_broken Memory = false
+is_broken Broken = true
+
+-- the status that was found, or that of the stop
+abbrev pub status_in : Result ℕ Stop → ℕ
+status_in (Ok status) = status
+status_in (Err stop) = status_of stop
+
+-- What was written, and the status: a beginning of an allowed answer, or nothing, and with a status below 5 an allowed
+-- answer whole.
+pub record Tells {S : Type 0} (takes : S → Text → S → Type 0) (allows : Answer → Type 0) (old new : S) (status : ℕ) : Type 0 where
+  pub written : Text
+  pub took : takes old written new
+  pub begun : BeginsAnswer allows written
+  pub whole : status < 5 → allows (record { text = written; status = status })
+
+-- How the sink stands after that status: with one below 5 it has not failed and sent all on, and with 6 it failed.
+pub record IsLeft (status : ℕ) (failed flushed : Bool) : Type 0 where
+  pub within : status ≤ 6
+  pub sound : status < 5 → failed ≡ false
+  pub sent : status < 5 → flushed ≡ true
+  pub broken : status ≡ 6 → failed ≡ true

@@ -1,0 +1,87 @@
+//! Puzzles whose grids can be checked, and what each game tells of a grid.
+ghost use Rattle.std.specs.Prelude.{◌*◌, ◌<◌, List, ℕ, IfOk};
+ghost use Rattle.grid_core.specs.Grids.{IsGrid};
+ghost use Rattle.puzzles.specs.Answers.{Answer};
+ghost use Rattle.puzzles.specs.CheckAnswers.{pattern_told, solo_told, light_told, tent_told};
+ghost use Rattle.puzzles.specs.Replies.{answer_in};
+
+use crate::check_reply::{correct_reply, wrong_line_reply, wrong_place_reply, wrong_reply};
+use crate::printed::Printed;
+use crate::readable::Readable;
+use crate::reply::Reply;
+use fields_core::{LightFault, TentFault, check_lights, check_tents};
+use gameid_core::{LightPuzzle, PatternPuzzle, SoloPuzzle, TentsPuzzle};
+use grid_core::Grid;
+use pattern_core::{PatternFault, check_pattern};
+use solo_core::{SoloFault, check_solo};
+use std::alloc::{AllocError, Global};
+
+/// A puzzle whose grids can be checked.
+pub trait Checked: Readable {
+    // The answer to a grid.
+    ghost told: { Self → List ℕ → Answer → Type 0 };
+
+    /// The answer to a grid: that it is a solution, or the first rule that it breaks.
+    fn check_reply(&self, alloc: Global, grid: &Grid) -> Result<Reply, AllocError>
+        requires { IsGrid ((Self.extent self.now).w * (Self.extent self.now).h) (Self.value_count self.now) grid.now }
+        ensures told { IfOk result (λ r. told self.now grid.now (answer_in r)) }
+        ensures status { IfOk result (λ r. r.status < 5) };
+}
+
+impl Checked for PatternPuzzle {
+    ghost told = { pattern_told };
+
+    fn check_reply(&self, alloc: Global, grid: &Grid) -> Result<Reply, AllocError> {
+        match check_pattern(self, grid) {
+            None => correct_reply(alloc),
+            Some(PatternFault::Column(x)) => wrong_line_reply(alloc, "column ", x),
+            Some(PatternFault::Row(y)) => wrong_line_reply(alloc, "row ", y),
+        }
+    }
+}
+
+impl Checked for SoloPuzzle {
+    ghost told = { solo_told };
+
+    fn check_reply(&self, alloc: Global, grid: &Grid) -> Result<Reply, AllocError> {
+        let columns = self.columns();
+        match check_solo(self, grid) {
+            None => correct_reply(alloc),
+            Some(SoloFault::Given(place)) => wrong_place_reply(alloc, "given ", columns, place),
+            Some(SoloFault::Row(y)) => wrong_line_reply(alloc, "row ", y),
+            Some(SoloFault::Column(x)) => wrong_line_reply(alloc, "column ", x),
+            Some(SoloFault::Block(b)) => wrong_line_reply(alloc, "block ", b),
+        }
+    }
+}
+
+impl Checked for LightPuzzle {
+    ghost told = { light_told };
+
+    fn check_reply(&self, alloc: Global, grid: &Grid) -> Result<Reply, AllocError> {
+        let columns = self.columns();
+        match check_lights(self, grid) {
+            None => correct_reply(alloc),
+            Some(LightFault::Black(place)) => wrong_place_reply(alloc, "black ", columns, place),
+            Some(LightFault::Number(place)) => wrong_place_reply(alloc, "number ", columns, place),
+            Some(LightFault::Seen(place)) => wrong_place_reply(alloc, "seen ", columns, place),
+            Some(LightFault::Dark(place)) => wrong_place_reply(alloc, "dark ", columns, place),
+        }
+    }
+}
+
+impl Checked for TentsPuzzle {
+    ghost told = { tent_told };
+
+    fn check_reply(&self, alloc: Global, grid: &Grid) -> Result<Reply, AllocError> {
+        let columns = self.columns();
+        match check_tents(alloc, self, grid)? {
+            None => correct_reply(alloc),
+            Some(TentFault::Tree(place)) => wrong_place_reply(alloc, "tree ", columns, place),
+            Some(TentFault::Touch(place)) => wrong_place_reply(alloc, "touch ", columns, place),
+            Some(TentFault::Column(x)) => wrong_line_reply(alloc, "column ", x),
+            Some(TentFault::Row(y)) => wrong_line_reply(alloc, "row ", y),
+            Some(TentFault::Match) => wrong_reply(alloc, "match"),
+        }
+    }
+}

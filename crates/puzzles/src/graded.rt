@@ -1,0 +1,213 @@
+//! Grades, and traces whose visits and sweeps are made again.
+ghost use Rattle.std.specs.Prelude.{IfOk};
+ghost use Rattle.engine_core.specs.Puzzle.{IsBoardOf};
+
+use crate::fakes::{Endless, Slow, texts};
+use crate::printed::push_number;
+use crate::read_end::ReadEnd;
+use crate::run::{run, run_on_bytes};
+use crate::write_end::WriteEnd;
+use engine_core::{Rules, Store};
+use fields_core::LightRules;
+use gameid_core::{read_lights, read_pattern, read_solo};
+use grid_core::Board;
+use pattern_core::PatternLines;
+use solo_core::{SoloHouses, SoloSingles};
+use std::alloc::{AllocError, Global};
+use std::test::Fail;
+
+const LATIN: &str = "2x2:1_2_3_4_3_4_1_2_2_1_4_3_4_3_2_1";
+
+/// Single values and single places leave cells open here, and whole houses don't.
+const PAIRED: &str = "2x3:5c3c4d1a3g6a6a4c5_2c";
+
+/// What a grade writes, with a trace or without one, and its status.
+fn outcome(
+    alloc: Global,
+    game: &str,
+    id: &str,
+    budget: &str,
+    traced: bool,
+) -> Result<(Vec<u8>, u8), AllocError> {
+    let mut words = texts(alloc, &["grade", game, id, "--budget", budget])?;
+    if traced {
+        words.push(String::from_str(alloc, "--trace")?)?;
+    }
+    Ok(run_on_bytes(alloc, words.as_slice(), b"unread"))
+}
+
+#[test]
+fn grades_are_told(rt: HostRuntime) -> Result<(), Fail> {
+    for (game, id, budget, text, status) in [
+        ("pattern", "5x1:1/1//1/1/2.2", "0", "lines\n", 0),
+        ("solo", LATIN, "0", "singles\n", 0),
+        ("solo", PAIRED, "0", "houses\n", 0),
+        ("lightup", "2x2:2c", "0", "local\n", 0),
+        ("tents", "2x2:_c,0,1,1,0", "0", "local\n", 0),
+        ("pattern", "2x2:1/1/1/1", "100000", "several\n", 3),
+        ("pattern", "2x2:1/1/1/1", "1", "gave up\n", 4),
+        ("pattern", "2x1:1/1/1", "0", "none\n", 1),
+        ("tents", "5x3:aiaa,1,0,2,0,0,2,0,1", "100000", "none\n", 1),
+        ("lightup", "3x3:aBBa1aBb", "100000", "search 4\n", 0),
+        ("lightup", "3x3:aBBa1aBb", "4", "search 4\n", 0),
+        ("lightup", "3x3:aBBa1aBb", "3", "gave up\n", 4),
+        ("solo", "2x2:p", "100000", "several\n", 3),
+        ("solo", "2x2:1_1n", "0", "none\n", 1),
+        ("solo", "2x2:q", "0", "refused: too many\n", 2),
+        ("tents", "3x3", "0", "refused: no colon\n", 2),
+    ] {
+        let (taken, found) = outcome(rt.alloc(), game, id, budget, false)?;
+        assert_eq!(rt; taken.as_slice(), text.as_bytes(), "{id} with {budget}");
+        assert_eq!(rt; found, status, "{id} with {budget}");
+        let (taken, found) = outcome(rt.alloc(), game, id, budget, true)?;
+        assert!(rt;
+            taken.as_slice().starts_with(text.as_bytes()),
+            "{id} with {budget}"
+        );
+        assert_eq!(rt; found, status, "{id} with {budget}");
+        assert_eq!(rt; taken.len() > text.len(), status != 2, "{id} with {budget}");
+    }
+    Ok(())
+}
+
+/// The number of the line's house, where the houses of these kinds follow one another.
+fn house_in(line: &str, kinds: &[&str], per_kind: usize) -> Option<usize> {
+    let (kind, number) = line.split_once(' ')?;
+    let number = number.parse::<usize>().ok()?;
+    let before = kinds.iter().position(|k| *k == kind)?;
+    before.checked_mul(per_kind)?.checked_add(number)
+}
+
+/// The start board after visits of these houses.
+fn replayed<R: Rules>(alloc: Global, rules: &R, visits: &[usize]) -> Result<Board, AllocError>
+    ensures { IfOk result (λ board. IsBoardOf (R.puzzle rules.now) board) }
+{
+    let mut board = Board::new(alloc, rules.cells(), rules.values())?;
+    let mut scratch = rules.scratch(alloc)?;
+    rules.start(&mut board);
+    for house in visits {
+        if *house < rules.houses() {
+            rules.visit(*house, &mut board, &mut scratch);
+        }
+    }
+    Ok(board)
+}
+
+/// Whether a closing by the rules leaves the board that these visits leave.
+fn is_closed_by<R: Rules>(alloc: Global, rules: &R, visits: &[usize]) -> Result<bool, AllocError> {
+    let mut store = Store::new(alloc, rules)?;
+    store.close(rules);
+    let board = replayed(alloc, rules, visits)?;
+    for place in 0..rules.cells() {
+        for value in 0..rules.values() {
+            if board.has(place, value) != store.board().has(place, value) {
+                return Ok(false);
+            }
+        }
+    }
+    Ok(true)
+}
+
+/// The houses that the lines after the first tell.
+fn visits_told(
+    alloc: Global,
+    text: &str,
+    kinds: &[&str],
+    per_kind: usize,
+) -> Result<Vec<usize>, Fail> {
+    let mut visits = Vec::new(alloc);
+    for line in text.lines().skip(1) {
+        visits.push(house_in(line, kinds, per_kind).ok_or("a house")?)?;
+    }
+    Ok(visits)
+}
+
+/// The visits that a grade of an ID of Solo tells.
+fn solo_visits(alloc: Global, id: &str, n: usize) -> Result<Vec<usize>, Fail> {
+    let (taken, _status) = outcome(alloc, "solo", id, "0", true)?;
+    let text = str::from_utf8(taken.as_slice())?;
+    visits_told(alloc, text, &["row", "column", "block"], n)
+}
+
+#[test]
+fn traces_close_their_boards(rt: HostRuntime) -> Result<(), Fail> {
+    let alloc = rt.alloc();
+    let id = "5x1:1/1//1/1/2.2";
+    let lines = PatternLines::new(alloc, &read_pattern(alloc, id.as_bytes())?)?;
+    let (taken, _status) = outcome(alloc, "pattern", id, "0", true)?;
+    let text = str::from_utf8(taken.as_slice())?;
+    let visits = visits_told(alloc, text, &["column", "row"], 5)?;
+    assert!(rt; is_closed_by(alloc, &lines, visits.as_slice())?);
+    assert!(rt; !is_closed_by(alloc, &lines, &[])?);
+    let singles = SoloSingles::new(alloc, &read_solo(alloc, LATIN.as_bytes())?)?;
+    let visits = solo_visits(alloc, LATIN, 4)?;
+    assert!(rt; is_closed_by(alloc, &singles, visits.as_slice())?);
+    let houses = SoloHouses::new(alloc, &read_solo(alloc, PAIRED.as_bytes())?)?;
+    let visits = solo_visits(alloc, PAIRED, 6)?;
+    assert!(rt; is_closed_by(alloc, &houses, visits.as_slice())?);
+    assert!(rt; !is_closed_by(alloc, &houses, &[])?);
+    Ok(())
+}
+
+#[test]
+fn sweeps_close_their_board(rt: HostRuntime) -> Result<(), Fail> {
+    let alloc = rt.alloc();
+    let rules = LightRules::new(alloc, &read_lights(alloc, b"2x2:2c")?)?;
+    let (taken, _status) = outcome(alloc, "lightup", "2x2:2c", "0", true)?;
+    let text = str::from_utf8(taken.as_slice())?;
+    let line = text.strip_prefix("local\nsweeps ").ok_or("sweeps")?;
+    let sweeps = line
+        .strip_suffix('\n')
+        .ok_or("a line end")?
+        .parse::<usize>()?;
+    let mut visits = Vec::new(alloc);
+    for _sweep in 0..sweeps {
+        for house in 0..rules.houses() {
+            visits.push(house)?;
+        }
+    }
+    assert!(rt; is_closed_by(alloc, &rules, visits.as_slice())?);
+    assert!(rt; !is_closed_by(alloc, &rules, &[])?);
+    Ok(())
+}
+
+/// An ID of Solo 5x5 with every second number of a whole grid.
+fn half_given(alloc: Global) -> Result<String, AllocError> {
+    let mut id = String::from_str(alloc, "5x5:")?;
+    for place in 0..625usize {
+        if place % 2 == 0 {
+            id.push_str("a")?;
+        } else {
+            let (x, y) = (place % 25, place / 25);
+            push_number(&mut id, (y % 5 * 5 + y / 5 + x) % 25 + 1)?;
+        }
+    }
+    Ok(id)
+}
+
+#[test]
+fn a_long_trace_goes_out_in_pieces(rt: HostRuntime) -> Result<(), Fail> {
+    let id = half_given(rt.alloc())?;
+    let words = texts(rt.alloc(), &["grade", "solo", id.as_str(), "--trace"])?;
+    let (whole, status) = run_on_bytes(rt.alloc(), words.as_slice(), b"unread");
+    assert_eq!(rt; status, 0);
+    let mut pieces = 0;
+    for fails_at in 0..8u32 {
+        let mut source = ReadEnd::new(Endless {
+            byte: b'#',
+            calls: 0,
+        });
+        let mut sink = WriteEnd::new(Slow::new(rt.alloc(), 1_000_000, fails_at, true));
+        let status = run(rt.alloc(), words.as_slice(), &mut source, &mut sink);
+        let slow = sink.into_inner();
+        assert!(rt; whole.as_slice().starts_with(slow.taken.as_slice()));
+        if fails_at == 0 {
+            pieces = slow.calls;
+        }
+        let failed = fails_at > 0 && fails_at <= pieces;
+        assert_eq!(rt; status, if failed { 6 } else { 0 });
+        assert_eq!(rt; slow.taken.len() == whole.len(), !failed);
+    }
+    assert!(rt; pieces > 1);
+    Ok(())
+}
