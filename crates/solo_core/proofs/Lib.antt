@@ -1,5 +1,8 @@
 pub mod PairedFillings
 pub mod Marks
+pub mod WayLemmas
+pub mod Reaching
+pub mod Turned
 pub mod HouseLemmas
 pub mod RepeatLemmas
 pub mod StartLemmas

@@ -1,6 +1,6 @@
 //! Sets of values as bits.
 
-ghost use Rattle.std.specs.Prelude.{◌≡◌, ℕ, ◌<◌, ◌||◌, ◌==◌};
+ghost use Rattle.std.specs.Prelude.{◌≡◌, ℕ, ◌<◌, ◌&&◌, ◌||◌, ◌==◌};
 ghost use Rattle.engine_core.specs.Sets.{has_bit as is_set};
 
 /// The bits with bit `value` set too.
@@ -17,4 +17,16 @@ pub(crate) fn has_bit(bits: u32, value: u8) -> bool
     ensures { result ≡ is_set bits value }
 {
     (bits >> value) & 1 == 1
+}
+
+/// The bits with those of `more` too, where bit `value` is set.
+pub(crate) fn with_more(bits: u32, value: u8, more: u32) -> u32
+    requires { value < 32 }
+    ensures { (v : ℕ) → is_set result v ≡ (is_set bits v || (is_set bits value && is_set more v)) }
+{
+    if has_bit(bits, value) {
+        bits | more
+    } else {
+        bits
+    }
 }

@@ -1,18 +1,15 @@
 //! The cells of a house and their values as two sides to be paired.
 
 ghost use Rattle.std.specs.Prelude.{◌≤◌, length};
-ghost use Rattle.solo_core.specs.Deciding.{joins_with};
+ghost use Rattle.solo_core.specs.Deciding.{has_in};
 
 use grid_core::Edges;
 
-/// The cells of a house as lefts and the values as rights: each cell is joined to the values of its set, and the cell
-/// at `place` to `value` alone.
+/// The cells of a house as lefts and the values as rights: each cell is joined to the values of its set.
 #[derive(Drop)]
 pub(crate) struct Joined<'a> {
     pub(crate) sets: &'a [u32],
     pub(crate) values: u8,
-    pub(crate) place: usize,
-    pub(crate) value: u8,
     ghost few: { values ≤ 31 },
 }
 
@@ -21,7 +18,7 @@ impl Edges for Joined<'_> {
 
     ghost right_count = { λ e. e.values };
 
-    ghost joins = { λ e. joins_with e.sets.now e.place e.value };
+    ghost joins = { λ e. has_in e.sets.now };
 
     fn lefts(&self) -> usize {
         self.sets.len()
@@ -34,12 +31,7 @@ impl Edges for Joined<'_> {
     fn next(&self, left: usize, from: usize) -> Option<usize> {
         let set = self.sets[left];
         for right in from..usize::from(self.values) {
-            let joined = if left == self.place {
-                right == usize::from(self.value)
-            } else {
-                (set >> right) & 1 == 1
-            };
-            if joined {
+            if (set >> right) & 1 == 1 {
                 return Some(right);
             }
         }

@@ -1,21 +1,16 @@
-use Rattle.std.proofs.Common.{◌∙◌, arith, inl, inr}
-use Rattle.std.proofs.lemmas.Bool.{cases_eq}
-use Rattle.solo_core.proofs.Marks.{marked_stays, all_marked, none_kept}
+use Rattle.std.proofs.Common.{◌≡◌, ℕ, ◌<◌, List, length, slice_index, refl, sym, ◌∙◌, ap, arith, subst}
+use Rattle.engine_core.specs.Sets.{has_bit}
+use Rattle.solo_core.specs.Deciding.{has_in}
+use Rattle.solo_core.specs.Ways.{Reaches}
+use Rattle.solo_core.proofs.Turned.{decided_by_reach, decided_by_short}
 use Rattle.solo_core.proofs.keep_houses.keep_houses.Goals as goal
 
-pub loop-place-preserved : goal.loop-place-preserved
-loop-place-preserved c = record {
-  shown = c.mark_cell.ensures.shown;
-  marked = λ k lt. elim (cases_eq k c.loop-place.place) [
-    | inl e ↦ rw e c.mark_cell.ensures.marked
-    | inr ne ↦ marked_stays _ _ _ _ k (omega arith) (c.loop-place.invariant.marked k (omega arith)) c.mark_cell.ensures.stay
-  ];
-  room = c.mark_cell.ensures.room ∙ c.loop-place.invariant.room;
-}
+pub returns-in-Short-clause-decided : goal.returns-in-Short-clause-decided
+returns-in-Short-clause-decided c = decided_by_short c.args.values c.args.sets.now _ _ (c.in-Short.ensures.short refl) (c.clear.ensures.as_many ∙ c.requires.as_many) c.clear.ensures.none
 
-pub returns-clause-decided : goal.returns-clause-decided
-returns-clause-decided c = all_marked _ _ _ c.loop-place.invariant.shown (λ k lt. c.loop-place.invariant.marked k (omega arith))
-
-pub returns-then-kept-place-eq0-clause-decided : goal.returns-then-kept-place-eq0-clause-decided
-returns-then-kept-place-eq0-clause-decided c =
-    none_kept _ _ _ c.loop-place.place (omega arith) c.mark_cell.ensures.shown c.mark_cell.ensures.marked c.if-kept-place-eq0.true
+pub returns-in-All-clause-decided : goal.returns-in-All-clause-decided
+returns-in-All-clause-decided c = decided_by_reach c.args.values c.args.sets.now c.run.new.self.mates c.requires.square (c.in-All.ensures.all refl)
+    (has_in c.write_own_sets.new.reach) (has_in c.close_reach.new.reach)
+    (λ x v lt. ap (λ b. has_bit b v) (c.write_own_sets.ensures.own x (omega (arith, c.requires.square))))
+    (subst (λ (n : ℕ). Reaches n (has_in c.write_own_sets.new.reach) (has_in c.close_reach.new.reach)) (c.write_own_sets.ensures.as_many ∙ c.requires.square) c.close_reach.ensures.reaches)
+    _ c.keep_reached.ensures.as_many c.keep_reached.ensures.bits
