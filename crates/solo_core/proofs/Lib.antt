@@ -3,6 +3,7 @@ pub mod Marks
 pub mod WayLemmas
 pub mod Reaching
 pub mod Turned
+pub mod LowestBit
 pub mod HouseLemmas
 pub mod RepeatLemmas
 pub mod StartLemmas

@@ -1,6 +1,6 @@
 //! Sets of values as bits.
 
-ghost use Rattle.std.specs.Prelude.{◌≡◌, ℕ, ◌<◌, ◌&&◌, ◌||◌, ◌==◌};
+ghost use Rattle.std.specs.Prelude.{◌≡◌, ℕ, ◌<◌, ◌≤◌, ◌&&◌, ◌||◌, ◌==◌, true, MatchOption};
 ghost use Rattle.engine_core.specs.Sets.{has_bit as is_set};
 
 /// The bits with bit `value` set too.
@@ -29,4 +29,18 @@ pub(crate) fn with_more(bits: u32, value: u8, more: u32) -> u32
     } else {
         bits
     }
+}
+
+/// The least bit at or after `from` that is set, below `end`.
+pub(crate) fn next_bit(bits: u32, from: usize, end: usize) -> Option<usize>
+    requires { end ≤ 31 }
+    ensures { MatchOption result
+        ((v : ℕ) → from ≤ v → v < end → is_set bits v ≡ true → ⊥)
+        (λ v. (from ≤ v) × (v < end) × (is_set bits v ≡ true) × ((u : ℕ) → from ≤ u → u < v → is_set bits u ≡ true → ⊥)) }
+{
+    if from >= end {
+        return None;
+    }
+    let bit = from + (bits >> from).trailing_zeros() as usize;
+    if bit < end { Some(bit) } else { None }
 }
