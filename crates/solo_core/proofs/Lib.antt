@@ -4,6 +4,7 @@ pub mod WayLemmas
 pub mod Reaching
 pub mod Turned
 pub mod LowestBit
+pub mod KeptBits
 pub mod HouseLemmas
 pub mod RepeatLemmas
 pub mod StartLemmas

@@ -1,10 +1,10 @@
 -- What a filling shows of a house as wide as it is long: a value can stand in a cell exactly where it reaches the one that stands there.
 -- Along a way the values are moved on by one. Where there is no way, one filling with the value and the first one together would be a choice of different
 -- values that leaves one value out.
-use Rattle.std.proofs.Common.{◌≡◌, ℕ, zero, suc, ◌+◌, ◌-◌, ◌<◌, ◌≤◌, Bool, true, false, not, true≢false, eqb, ◌||◌, ◌&&◌, cond, List, ◌∷◌, length, get_or, slice_index, map, refl, sym, ◌∙◌, ap, arith, ◌⊎◌, inl, inr}
+use Rattle.std.proofs.Common.{◌≡◌, ℕ, zero, suc, ◌<◌, Bool, true, false, not, true≢false, eqb, ◌||◌, ◌&&◌, cond, List, length, get_or, slice_index, map, refl, sym, ◌∙◌, ap, arith, ◌⊎◌, inl, inr}
 use Rattle.std.specs.Prelude.{Contains}
 use Rattle.std.specs.List.{IsDistinct, range_with_len}
-use Rattle.std.proofs.lemmas.Bool.{cases_eq, cases_Bool, eq-eqb, ne_eqb, eqb-true, or_cases, or_left, or_right, and_parts, and_from}
+use Rattle.std.proofs.lemmas.Bool.{cases_eq, cases_Bool, eq-eqb, ne_eqb, eqb-true, or_cases, or_left, or_right}
 use Rattle.std.proofs.lemmas.List.FromFn.{get_or-map-range_with_len, length-map-range_with_len}
 use Rattle.std.proofs.lemmas.Map.Keys.{IsDistinct-from_apart}
 use Rattle.std.proofs.lemmas.Map.Steps.{length-le_from_distinct_below}
@@ -15,9 +15,9 @@ use Rattle.engine_core.specs.House.{IsDecided}
 use Rattle.engine_core.specs.Sets.{has_bit}
 use Rattle.solo_core.specs.NoRepeat.{no_repeat}
 use Rattle.solo_core.specs.Deciding.{has_in, is_struck}
-use Rattle.solo_core.specs.Ways.{IsWay, Reaches}
+use Rattle.solo_core.specs.Ways.{Reaches}
 use Rattle.solo_core.proofs.PairedFillings.{shown_by_pairing, struck_from_none, struck_by_short}
-use Rattle.std.proofs.lemmas.Nat.Bits.{bit_at-zero}
+use Rattle.solo_core.proofs.Marks.{no_bits}
 use Rattle.solo_core.proofs.WayLemmas.{Moves, moves}
 
 -- ---- n different numbers below n leave none out
@@ -222,12 +222,9 @@ pub decided_by_short : (n : ℕ) (sets kept xs : List ℕ) → IsShortSet (has_i
     → ((k : ℕ) → k < length kept → slice_index kept k ≡ 0) → IsDecided n (strikes_by_fillings no_repeat) sets kept
 decided_by_short n sets kept xs short len none = record {
   as_many = len;
-  bits = λ k v lk lv. ap (λ b. has_bit b v) (none k (omega arith)) ∙ no_bit v ∙ sym (ap (λ b. has_in sets k v && not b) (struck_by_short sets n k v xs short) ∙ and_false (has_in sets k v));
+  bits = λ k v lk lv. ap (λ b. has_bit b v) (none k (omega arith)) ∙ no_bits v ∙ sym (ap (λ b. has_in sets k v && not b) (struck_by_short sets n k v xs short) ∙ and_false (has_in sets k v));
 }
   where
-    no_bit : (v : ℕ) → has_bit 0 v ≡ false
-    no_bit v = ap (λ b. eqb b 1) (bit_at-zero v)
-
     and_false : (b : Bool) → (b && false) ≡ false
     and_false true = refl
     and_false false = refl

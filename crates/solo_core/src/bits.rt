@@ -44,3 +44,11 @@ pub(crate) fn next_bit(bits: u32, from: usize, end: usize) -> Option<usize>
     let bit = from + (bits >> from).trailing_zeros() as usize;
     if bit < end { Some(bit) } else { None }
 }
+
+/// Whether bit `value` is the only one that is set.
+pub(crate) fn is_alone(bits: u32, value: u8) -> bool
+    requires { value < 32 }
+    ensures { result ≡ true → (v : ℕ) → is_set bits v ≡ (v == value) }
+{
+    bits == 1 << value
+}

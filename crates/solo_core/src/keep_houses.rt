@@ -8,7 +8,7 @@ ghost use Rattle.grid_core.specs.Pairings.{IsPairing};
 ghost use Rattle.solo_core.specs.NoRepeat.{no_repeat};
 ghost use Rattle.solo_core.specs.Deciding.{has_in};
 
-use crate::bits::{has_bit, with_bit};
+use crate::bits::{has_bit, next_bit, with_bit};
 use crate::joined::Joined;
 use crate::keep_singles::clear;
 use crate::reach::close_reach;
@@ -80,10 +80,12 @@ fn reaching(values: u8, set: u32, own: usize, reach: &[u32]) -> u32
     ensures { (v : ℕ) → v < values → is_set result v ≡ (is_set set v && has_in reach.now v own) }
 {
     let mut kept = 0u32;
-    for value in 0..values {
-        if has_bit(set, value) && has_bit(reach[usize::from(value)], own as u8) {
-            kept = with_bit(kept, usize::from(value));
+    let mut from = 0;
+    while let Some(value) = next_bit(set, from, usize::from(values)) {
+        if has_bit(reach[value], own as u8) {
+            kept = with_bit(kept, value);
         }
+        from = value + 1;
     }
     kept
 }
