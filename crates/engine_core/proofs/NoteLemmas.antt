@@ -205,3 +205,14 @@ scope-all p laws h K K' lth e = fun_ext λ c. fun_ext λ v. elim (cases_Bool (K 
     or_none : (b : Bool) → (b || false) ≡ b
     or_none true = refl
     or_none false = refl
+
+-- a cell that keeps all that it had
+pub cell-noted-same : (V : Candidates) (place : ℕ) (K : Candidates) → ((v : ℕ) → V place v ≡ true → K place v ≡ true) → V ≡ cell_noted V place K
+unfolding cell_noted
+cell-noted-same V place K all = fun_ext λ c. fun_ext λ v. both (V c v) (eqb c place) (K c v)
+    (λ here on. let e = eqb-true c place here in ap (λ c. K c v) e ∙ all v (ap (λ c. V c v) (sym e) ∙ on))
+  where
+    both : (had here has : Bool) → (here ≡ true → had ≡ true → has ≡ true) → had ≡ (had && (not here || has))
+    both false here has h = refl
+    both true false has h = refl
+    both true true has h = rw (h refl refl) refl

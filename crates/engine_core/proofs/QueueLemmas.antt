@@ -295,3 +295,18 @@ emptied-dead p laws h K K' lt alive e = elim (cases_Bool (any_below (λ k. eqb (
     pos_of_ne : (n : ℕ) → eqb n 0 ≡ false → 0 < n
     pos_of_ne zero f = absurd (true≢false (sym (eq-eqb 0 0 refl) ∙ f))
     pos_of_ne (suc n) f = omega arith
+
+-- where nothing was struck, no house is called for
+pub woken-none : (p : Puzzle) (h : ℕ) (K K' : Candidates) (waits : ℕ → Bool) (j : ℕ) → K' ≡ K → waits j ≡ woken p h (counts_of p h K) K' waits j
+unfolding woken
+woken-none p h K K' waits j same = elim (cases_Bool (any_below (calls p h (counts_of p h K) K' j) (length (p.scope h)))) [
+  | inl on ↦
+      let w = any_below-some (calls p h (counts_of p h K) K' j) (length (p.scope h)) on in
+      let parts = and_parts (not (eqb (counts_of p h K w.0) (counts_of p h K' w.0))) (has_place (p.scope j) (slice_index (p.scope h) w.0)) w.2 in
+      absurd (true≢false (sym (eq-eqb (counts_of p h K w.0) (counts_of p h K' w.0) (ap (λ L. counts_of p h L w.0) (sym same))) ∙ not-true (eqb (counts_of p h K w.0) (counts_of p h K' w.0)) parts.0))
+  | inr off ↦ rw off (or_none (waits j))
+]
+  where
+    or_none : (b : Bool) → b ≡ (b || false)
+    or_none true = refl
+    or_none false = refl

@@ -1,10 +1,11 @@
 -- The bridge between what a house strikes from its own sets and what it strikes in the whole board.
-use Rattle.std.proofs.Common.{◌≡◌, ℕ, ◌<◌, ◌≤◌, Bool, true, false, not, ◌&&◌, eqb, List, [], map, length, get_or, slice_index, refl, sym, ap, ◌∙◌, arith, inl, inr}
+use Rattle.std.proofs.Common.{◌≡◌, ℕ, ◌<◌, ◌≤◌, Bool, true, false, not, ◌&&◌, eqb, List, [], map, length, get_or, slice_index, refl, sym, ap, subst, ◌∙◌, arith, inl, inr}
 use Rattle.std.specs.List.{range_with_len}
 use Rattle.std.proofs.Math.Path.{fun_ext}
 use Rattle.std.proofs.lemmas.Bool.{cases_Bool, cases_lt, true≢false, and_parts, and_from, and_left, not-true, false_from_ne_true, eqb-true, eq-eqb}
 use Rattle.std.proofs.lemmas.List.{get_or-map, length-map, same_lists}
 use Rattle.std.proofs.lemmas.List.FromFn.{get_or-map-range_with_len, length-map-range_with_len}
+use Rattle.grid_core.specs.Board.{Layout, has}
 use Rattle.grid_core.specs.Candidates.{Candidates, IsWithin, single}
 use Rattle.grid_core.proofs.CandidateLemmas.{any_below-here, any_below-some, any_below-same}
 use Rattle.grid_core.proofs.GridLemmas.{single-at, single-is}
@@ -200,3 +201,13 @@ sets-bits values places K sets long bits = same_lists (map (set_of_bits values) 
     let lk : k < length places = omega arith in
     get_or-map (set_of_bits values) sets k 0 d below ∙ set-bits (K (slice_index places k)) values (slice_index sets k) (bits k lk)
     ∙ sym (get_or-map (λ c. map (K c) (range_with_len 0 values)) places k 0 d lk))
+
+-- ---- what is read of a board, where its values are known by another name
+pub bits-of_values : (b : Layout) (n : ℕ) (places sets : List ℕ) → b.values ≡ n
+    → ((k : ℕ) → k < length places → IsBitsOf (has b (slice_index places k)) b.values (slice_index sets k))
+    → (k : ℕ) → k < length places → IsBitsOf (has b (slice_index places k)) n (slice_index sets k)
+bits-of_values b n places sets e bits k lt = subst (λ m. IsBitsOf (has b (slice_index places k)) m (slice_index sets k)) e (bits k lt)
+
+pub sets-of_values : (b : Layout) (n : ℕ) (places sets : List ℕ) → b.values ≡ n
+    → map (set_of_bits b.values) sets ≡ sets_at b.values places (has b) → map (set_of_bits n) sets ≡ sets_at n places (has b)
+sets-of_values b n places sets e same = subst (λ m. map (set_of_bits m) sets ≡ sets_at m places (has b)) e same

@@ -12,16 +12,14 @@ use grid_core::Board;
 
 /// Reads the set of each of the places into `sets`: bit `v` of the `k`-th says whether the `k`-th place has the value
 /// `v`.
-pub fn gather(board: &Board, places: &[usize], values: u8, sets: &mut [u32])
+pub fn gather(board: &Board, places: &[usize], sets: &mut [u32])
     requires places_in { (k : ℕ) → k < length places.now → slice_index places.now k < cells_of board.now }
     requires as_many { length sets.old ≡ length places.now }
-    requires values_of { values ≡ board.now.values }
-    requires few { values ≤ 31 }
-    ensures bits { (k : ℕ) → k < length places.now → IsBitsOf (has board.now (slice_index places.now k)) values (slice_index sets.new k) }
-    ensures sets { map (set_of_bits values) sets.new ≡ sets_at values places.now (has board.now) }
+    ensures bits { (k : ℕ) → k < length places.now → IsBitsOf (has board.now (slice_index places.now k)) board.now.values (slice_index sets.new k) }
+    ensures sets { map (set_of_bits board.now.values) sets.new ≡ sets_at board.now.values places.now (has board.now) }
 {
     for k in 0..places.len() {
-        sets[k] = cell_bits(board, places[k], values);
+        sets[k] = cell_bits(board, places[k]);
     }
 }
 
@@ -53,6 +51,9 @@ fn apply_cell(board: &mut Board, place: usize, values: u8, kept: u32) -> bool
     ensures unchanged { result ≡ false → has board.new ≡ has board.old }
     ensures changed { result ≡ true → HasStruck (has board.old) (has board.new) }
 {
+    if keeps_all(cell_bits(board, place), kept) {
+        return false;
+    }
     let mut struck = false;
     for value in 0..values {
         if !has_bit(kept, value) {
@@ -60,6 +61,13 @@ fn apply_cell(board: &mut Board, place: usize, values: u8, kept: u32) -> bool
         }
     }
     struck
+}
+
+/// Whether each bit of the set is kept.
+fn keeps_all(set: u32, kept: u32) -> bool
+    ensures { result ≡ true → (v : ℕ) → is_set set v ≡ (is_set set v && is_set kept v) }
+{
+    set & kept == set
 }
 
 /// Whether bit `value` is set.

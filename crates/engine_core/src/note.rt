@@ -27,10 +27,9 @@ fn remember<R: Rules>(rules: &R, house: usize, board: &Board, sets: &mut [u32])
     requires room { length ((R.puzzle rules.now).scope house) ≤ length sets.old }
     ensures sets { (k : ℕ) → k < length ((R.puzzle rules.now).scope house) → IsBitsOf (has board.now (slice_index ((R.puzzle rules.now).scope house) k)) (R.puzzle rules.now).values (slice_index sets.new k) }
 {
-    let values = rules.values();
     for k in 0..rules.scope_len(house) {
         let place = rules.scope(house, k);
-        sets[k] = cell_bits(board, place, values);
+        sets[k] = cell_bits(board, place);
     }
 }
 
@@ -49,6 +48,9 @@ fn note_cell(
     requires room { count_below (is_set set) values + len ≤ length trail.old }
     ensures noted { (K V : Candidates) (first : List (ℕ × ℕ)) (from : ℕ) → from ≤ length first → ((u : ℕ) → u < values → V place u ≡ is_set set u) → ((u : ℕ) → V place u ≡ true → u < values) → IsNoted (cells_of board.now) values K V first trail.old from len → IsNoted (cells_of board.now) values K (cell_noted V place (has board.now)) first trail.new from result }
 {
+    if cell_bits(board, place) == set {
+        return len;
+    }
     let mut end = len;
     for value in 0..values {
         if has_bit(set, value) && !board.has(place, value) {
@@ -86,6 +88,9 @@ pub(crate) fn visit_noting<R: Rules>(
 {
     remember(rules, house, board, sets);
     let struck = rules.visit(house, board, scratch);
+    if !struck {
+        return Noted { struck, len };
+    }
     let values = rules.values();
     let mut end = len;
     for k in 0..rules.scope_len(house) {

@@ -108,6 +108,12 @@ fn step<R: Rules>(
 {
     waits[house] = false;
     let noted = visit_noting(rules, house, board, scratch, sets, trail, len);
+    if !noted.struck {
+        return Stepped {
+            dead: false,
+            len: noted.len,
+        };
+    }
     let dead = wake(rules, house, board, sets, waits);
     Stepped {
         dead,

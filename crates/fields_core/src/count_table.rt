@@ -58,7 +58,7 @@ fn visit_house(house: &CountHouse, board: &mut Board, sets: &mut [u32], kept: &m
     let places = house.places();
     let sets = &mut sets[..places.len()];
     let kept = &mut kept[..places.len()];
-    gather(board, places, 2, sets);
+    gather(board, places, sets);
     keep(sets, house.least(), house.most(), kept);
     apply(board, places, 2, kept)
 }

@@ -121,7 +121,7 @@ fn visit_line(
     ensures changed { result ≡ true → HasStruck (has board.old) (has board.new) }
 {
     write_places(line.size, line.number, places);
-    gather(board, places, VALUES, sets);
+    gather(board, places, sets);
     keep(sets, line.clue, rows, kept);
     apply(board, places, VALUES, kept)
 }

@@ -1,5 +1,10 @@
 pub mod PairedFillings
 pub mod Marks
+pub mod WayLemmas
+pub mod Reaching
+pub mod Turned
+pub mod LowestBit
+pub mod KeptBits
 pub mod HouseLemmas
 pub mod RepeatLemmas
 pub mod StartLemmas

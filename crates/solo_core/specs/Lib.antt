@@ -10,5 +10,6 @@ pub mod Faults
 pub mod RuleSets
 pub mod RuleLaws
 pub mod Deciding
+pub mod Ways
 pub mod Work
 pub mod WorkLaws

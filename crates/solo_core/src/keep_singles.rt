@@ -26,7 +26,7 @@ pub(crate) fn keep_singles(values: u8, sets: &[u32], kept: &mut [u32])
 }
 
 /// Keeps nothing.
-fn clear(kept: &mut [u32])
+pub(crate) fn clear(kept: &mut [u32])
     ensures as_many { length kept.new ≡ length kept.old }
     ensures none { (k : ℕ) → k < length kept.new → slice_index kept.new k ≡ 0 }
 {

@@ -10,6 +10,7 @@ mod joined;
 mod keep_houses;
 mod keep_singles;
 mod laws;
+mod reach;
 mod solo_houses;
 mod solo_singles;
 mod start;

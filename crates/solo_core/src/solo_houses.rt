@@ -161,7 +161,7 @@ fn visit_cells(
     let sets = &mut sets[..len];
     let kept = &mut kept[..len];
     write_places(puzzle, house, places);
-    gather(board, places, n, sets);
+    gather(board, places, sets);
     keep_houses(n, sets, kept, pairing);
     apply(board, places, n, kept)
 }

@@ -141,7 +141,7 @@ impl Rules for Neighbours {
         let places = [house, house + 1];
         let mut sets = [0u32; 2];
         let mut kept = [0u32; 2];
-        gather(board, &places, self.values, &mut sets);
+        gather(board, &places, &mut sets);
         keep(self.values, &sets, &mut kept);
         apply(board, &places, self.values, &kept)
     }

@@ -1,7 +1,9 @@
-use Rattle.std.proofs.Common.{◌≡◌, refl, sym, subst, ◌∙◌, arith}
+use Rattle.std.proofs.Common.{◌≡◌, true, refl, sym, subst, ◌∙◌, arith}
 use Rattle.grid_core.specs.Board.{has}
 use Rattle.grid_core.proofs.BoardLemmas.{has-within}
-use Rattle.engine_core.proofs.HouseLemmas.{IsCellStruck, striking-first, striking-more, cell-first, cell-pass, cell-strike, cell-all, without-none, without-gone, without-inside}
+use Rattle.engine_core.proofs.HouseLemmas.{IsCellStruck, striking-first, striking-more, cell-first, cell-pass, cell-strike, cell-all, without-none, without-gone, without-inside, cell-kept}
+use Rattle.std.proofs.lemmas.Bool.{and_parts}
+use Rattle.engine_core.specs.Sets.{has_bit}
 use Rattle.engine_core.proofs.house.apply_cell.Goals as goal
 use Rattle.engine_core.proofs.house.apply_cell.Goals.{then-not-has_bit, else-not-has_bit}
 
@@ -41,3 +43,11 @@ returns-clause-left c =
     let at : c.loop-value.value ≡ c.args.values = omega arith in
     cell-all (has c.args.board.now) (has c.loop-value.board) c.args.place c.args.kept c.args.values
     (λ d v on. let w = has-within c.args.board.now d v on in omega (arith, w.1)) (subst (λ n. IsCellStruck (has c.args.board.now) c.args.place c.args.kept n (has c.loop-value.board)) at c.loop-value.invariant.left)
+
+pub returns-then-keeps_all-clause-left : goal.returns-then-keeps_all-clause-left
+returns-then-keeps_all-clause-left c =
+    let K = has c.args.board.now in
+    cell-kept K c.args.place c.args.kept (λ v on.
+    let within = has-within c.args.board.now c.args.place v on in
+    let bit : has_bit c.cell_bits.result v ≡ true = c.cell_bits.ensures.same v (omega (arith, within.1)) ∙ on in
+    (and_parts (has_bit c.cell_bits.result v) (has_bit c.args.kept v) (sym (c.keeps_all.ensures c.if-keeps_all.true v) ∙ bit)).1)

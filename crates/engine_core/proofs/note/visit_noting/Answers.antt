@@ -72,3 +72,10 @@ returns-clause-noted g c =
     let all : c.loop-k.k ≡ length (p.scope c.args.house) = omega arith in
     subst (λ (L : Candidates). IsNoted p.cells p.values K L c.args.trail.now c.loop-k.trail c.args.len c.loop-k.end)
     (scope-all p (g.met.R.Rules.lawful c.args.rules.now) c.args.house K K' c.requires.house_in c.visit-struck.ensures.left) (rw all at c.loop-k.invariant)
+
+pub returns-then-not-struck-clause-noted : goal.returns-then-not-struck-clause-noted
+returns-then-not-struck-clause-noted g c =
+    let p = g.R.Rules.puzzle c.args.rules.now in
+    let K = has c.args.board.now in
+    subst (λ (L : Candidates). IsNoted p.cells p.values K L c.args.trail.now c.args.trail.now c.args.len c.args.len) (sym (c.visit-struck.ensures.unchanged c.if-not-struck.true))
+    (noted-none p.cells p.values K c.args.trail.now c.args.len c.requires.within c.requires.entries c.requires.trail_room)

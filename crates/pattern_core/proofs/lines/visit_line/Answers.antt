@@ -2,6 +2,7 @@ use Rattle.std.proofs.Common.{◌*◌, arith, subst}
 use Rattle.grid_core.specs.Board.{has, cells_of}
 use Rattle.grid_core.specs.Candidates.{IsWithin}
 use Rattle.grid_core.proofs.BoardLemmas.{has-within}
+use Rattle.engine_core.specs.HouseLaws.{bits-of_values, sets-of_values}
 use Rattle.pattern_core.proofs.LineVisits.{places_inside, line_visited}
 use Rattle.pattern_core.proofs.lines.visit_line.Goals as goal
 
@@ -16,4 +17,4 @@ returns-clause-left c =
     let within : IsWithin (c.args.line.now.size.w * c.args.line.now.size.h) 2 (has c.args.board.now) =
     subst (λ n. IsWithin n 2 (has c.args.board.now)) c.requires.cells (subst (λ v. IsWithin (cells_of c.args.board.now) v (has c.args.board.now)) c.requires.values (has-within c.args.board.now)) in
     line_visited c.args.line.now.size c.args.line.now.number c.args.line.now.clue.now (has c.args.board.now) (has c.apply.new.board) c.write_places.new.places c.gather.new.sets c.keep.new.kept c.write_places.ensures
-    within (omega (arith, c.requires.sets, c.requires.places, c.gather.auto.sets, c.write_places.auto.places)) c.gather.ensures.bits c.gather.ensures.sets c.keep.ensures c.apply.ensures.left
+    within (omega (arith, c.requires.sets, c.requires.places, c.gather.auto.sets, c.write_places.auto.places)) (bits-of_values _ 2 _ _ c.requires.values c.gather.ensures.bits) (sets-of_values _ 2 _ _ c.requires.values c.gather.ensures.sets) c.keep.ensures c.apply.ensures.left
