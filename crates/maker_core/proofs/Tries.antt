@@ -46,6 +46,11 @@ module _ {A : Type 0} (make : Making A) (passes : A → Bool) (s : Stream) where
     ]
   ]
 
+  pub taken_is : (tries done : ℕ) (now t : Stream) (x : A) → IsTrying make passes s done now → ◌≡◌ {A = A × Stream} (x, t) (make now)
+      → passes x ≡ true → done < tries → (k : ℕ) → IsFirstPassing make passes s tries k → x ≡ filling_at make k s
+  taken_is tries done now t x p made passing within k first =
+      filling_is done now t x p made ∙ ap (λ n. filling_at make n s) (first_once tries done k (first_is tries done now t x p made passing within) first)
+
   pub left_after : (tries done : ℕ) (now t : Stream) (x : A) → IsTrying make passes s done now → ◌≡◌ {A = A × Stream} (x, t) (make now)
       → passes x ≡ true → done < tries → (k : ℕ) → IsFirstPassing make passes s tries k → t ≡ stream_after make (suc k) s
   unfolding stream_after

@@ -53,7 +53,10 @@ fn passes(
 ///
 /// Each try fills a grid: each cell in turn is black where a draw below 100 is less than `black`. The clues are the
 /// runs of its lines. The first filling whose puzzle the search finds to have one solution, within the budget of trials,
-/// is the puzzle made; a grid of one colour passes, so with `black` 0 or 100 the first try does. `kept` is empty, since the clues are not thinned.
+/// is the puzzle made; a grid of one colour passes, so with `black` 0 or 100 the first try does. `kept` is empty, since
+/// the clues are not thinned.
+///
+/// The generator is left where the last filling left it.
 ///
 /// # Errors
 ///

@@ -56,6 +56,8 @@ fn passes(alloc: Global, puzzle: &TentsPuzzle, budget: u64) -> Result<bool, Allo
 /// tents of each column and row. The first filling whose puzzle the search finds to have one solution, within the budget
 /// of trials, is the puzzle made. `kept` is empty, since the clues are not thinned.
 ///
+/// The generator is left where the last filling left it.
+///
 /// # Errors
 ///
 /// `SizeRange` where a side is below 4, tested first; `Exhausted` where no filling of the tries passes, and at once where

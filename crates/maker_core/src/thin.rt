@@ -3,7 +3,7 @@
 ghost use Rattle.std.specs.Prelude.{◌≡◌, ◌<◌, [], IfOk, OnOk, IsTrue, IsPermutation};
 ghost use Rattle.engine_core.specs.Puzzle.{FitsIn, needs_of};
 ghost use Rattle.maker_core.specs.Draws.{shuffled_list};
-ghost use Rattle.maker_core.specs.Thinning.{has_clue, clue_places, IsWithin, IsOnly, AreReasons};
+ghost use Rattle.maker_core.specs.Thinning.{has_clue, clue_places, stream_after_clues, IsWithin, IsOnly, AreReasons};
 ghost use Rattle.maker_core.specs.ThinningSteps.{HasOne, IsLeft, IsAsked, IsThinning, reasons_from};
 
 use crate::clued::Clued;
@@ -29,6 +29,7 @@ pub(crate) fn thin<P: Clued, G: Rng>(
 ) -> Result<Made<P>, AllocError>
     requires all { puzzle ≡ P.game.all_clues puzzle answer }
     requires only { IsOnly (P.game.rules puzzle) answer }
+    ensures drawn { IfOk result (λ _. G.stream rng.new ≡ stream_after_clues P.game puzzle (G.stream rng.old)) }
     ensures answer { IfOk result (λ made. made.answer ≡ answer) }
     ensures within { IfOk result (λ made. IsWithin P.game made.puzzle puzzle) }
     ensures only { IfOk result (λ made. IsOnly (P.game.rules made.puzzle) answer) }
