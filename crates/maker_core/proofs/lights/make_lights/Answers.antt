@@ -17,8 +17,8 @@ returns-then-branch-clause-first g c =
 
 pub returns-then-branch-clause-drawn : goal.returns-then-branch-clause-drawn
 returns-then-branch-clause-drawn g c =
-    let made = c.in_ok-puzzle.ensures.drawn in
-    left_passed _ _ _ _ _ _ _ _ _ _ _ _ (record { filling = made.0; drawn = made.1; puzzle = made.2; bulbs = made.3; verdict = c.in_ok-passes.ensures.verdict })
+    left_passed _ _ _ _ _ _ _ _ _ _ _ _
+    (record { filling = c.in_ok-puzzle.ensures.drawn.0; drawn = c.in_ok-puzzle.ensures.drawn.1; puzzle = c.in_ok-puzzle.ensures.drawn.2; bulbs = c.in_ok-puzzle.ensures.drawn.3; verdict = c.in_ok-passes.ensures.verdict })
     c.if-branch.true c.loop-attempt.invariant.trying c.loop-attempt-test.true c.in_ok-thin.ensures.drawn
 
 pub returns-then-branch-clause-size : goal.returns-then-branch-clause-size
