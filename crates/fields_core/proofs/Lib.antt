@@ -6,6 +6,7 @@ pub mod LightLines
 pub mod HouseLists
 pub mod LightSight
 pub mod LightFaultLemmas
+pub mod LightRuleLemmas
 pub mod PlaceLists
 pub mod LightHouseLaws
 pub mod StepLaws

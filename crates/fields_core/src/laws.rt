@@ -3,6 +3,7 @@
 ghost use Rattle.std.specs.Prelude.{◌≡◌, ◌↔◌, IsTrue, List, ℕ};
 ghost use Rattle.engine_core.specs.Puzzle.{IsGridOf, IsLawful};
 ghost use Rattle.fields_core.specs.LightHouses.{light_rules};
+ghost use Rattle.fields_core.specs.LightSolutions.{IsLightSolution};
 ghost use Rattle.fields_core.specs.TentHouses.{tent_rules};
 ghost use Rattle.fields_core.specs.TentSolutions.{IsTentSolution};
 ghost use Rattle.gameid_core.specs.Puzzles.{Light, IsLight, Tents, IsTents};
@@ -11,6 +12,12 @@ ghost use Rattle.gameid_core.specs.Puzzles.{Light, IsLight, Tents, IsTents};
 pub fn accepted_are_solutions()
     ensures { (p : Tents) (g : List ℕ) → IsGridOf (tent_rules p) g
         → (IsTrue ((tent_rules p).is_solution g)) ↔ IsTentSolution p g }
+{}
+
+/// The grids that the rules of Light Up accept are the solutions of the puzzle.
+pub fn accepted_lights_are_solutions()
+    ensures { (p : Light) (g : List ℕ) → IsGridOf (light_rules p) g
+        → (IsTrue ((light_rules p).is_solution g)) ↔ IsLightSolution p g }
 {}
 
 /// The rules of Light Up keep to what every search relies on, for each puzzle.

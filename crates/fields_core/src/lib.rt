@@ -20,7 +20,10 @@ mod tent_pairs;
 mod tent_rules;
 mod tent_touch;
 
-pub use laws::{accepted_are_solutions, rules_of_lights_are_lawful, rules_of_tents_are_lawful};
+pub use laws::{
+    accepted_are_solutions, accepted_lights_are_solutions, rules_of_lights_are_lawful,
+    rules_of_tents_are_lawful,
+};
 pub use light_cells::is_white;
 pub use light_check::check_lights;
 pub use light_fault::LightFault;

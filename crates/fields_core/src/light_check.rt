@@ -1,10 +1,11 @@
 //! The check of a grid of Light Up.
 
-ghost use Rattle.std.specs.Prelude.{◌≡◌, ◌<◌};
+ghost use Rattle.std.specs.Prelude.{◌≡◌, ◌<◌, ◌↔◌, None};
 ghost use Rattle.grid_core.specs.Grids.{IsGrid};
 ghost use Rattle.fields_core.specs.Firsts.{IsFirstWrong};
 ghost use Rattle.fields_core.specs.Light.{cells_of, black_right, number_right, bulb_right, lit_right};
 ghost use Rattle.fields_core.specs.LightFaults.{IsLightFault};
+ghost use Rattle.fields_core.specs.LightSolutions.{IsLightSolution};
 
 use crate::light_cells::{cells, is_white};
 use crate::light_fault::LightFault;
@@ -125,6 +126,7 @@ fn first_dark(puzzle: &LightPuzzle, grid: &Grid) -> Option<usize>
 pub fn check_lights(puzzle: &LightPuzzle, grid: &Grid) -> Option<LightFault>
     requires fits { IsGrid (cells_of puzzle.now) 2 grid.now }
     ensures fault { IsLightFault puzzle.now grid.now result }
+    ensures solution { (result ≡ None) ↔ IsLightSolution puzzle.now grid.now }
 {
     if let Some(place) = first_black(puzzle, grid) {
         return Some(LightFault::Black(place));

@@ -1,5 +1,5 @@
 -- What a try at a puzzle of Light Up shows: that the first filling that passes was made, or that it failed.
-use Rattle.std.proofs.Common.{◌≡◌, ℕ, ◌+◌, ◌<◌, Bool, true, false, not, ◌&&◌, List, slice_index, refl, sym, ap, subst, ◌∙◌, arith, inl, inr}
+use Rattle.std.proofs.Common.{◌≡◌, ℕ, suc, ◌+◌, ◌<◌, Bool, true, false, not, ◌&&◌, List, slice_index, refl, sym, ap, subst, ◌∙◌, arith, inl, inr}
 use Rattle.std.specs.Prelude.{◌==◌}
 use Rattle.std.proofs.lemmas.Bool.{true≢false, and_parts, or_cases, eqb-true, eq-eqb, cases_eq}
 use Rattle.rand_core.specs.Stream.{Stream}
@@ -13,13 +13,13 @@ use Rattle.fields_core.specs.Light.{cells_of, white, black_right, is_lit}
 use Rattle.fields_core.specs.LightHouses.{light_rules}
 use Rattle.fields_core.proofs.LightFaultLemmas.{lit-parts}
 use Rattle.maker_core.specs.declared.made.Kept.{Kept}
-use Rattle.maker_core.specs.Draws.{IsFirstPassing, filling_at}
+use Rattle.maker_core.specs.Draws.{IsFirstPassing, filling_at, stream_after}
 use Rattle.maker_core.specs.LightClues.{light_game}
 use Rattle.maker_core.specs.LightFilling.{Lighting, lights_of, light_filling, light_passes, light_puzzle_of, with_numbers, numbered_cell}
 use Rattle.maker_core.specs.Made.{has_one}
-use Rattle.maker_core.specs.Thinning.{IsWithin, AreReasons}
+use Rattle.maker_core.specs.Thinning.{IsWithin, AreReasons, stream_after_clues}
 use Rattle.maker_core.proofs.FoundAtOnce.{IsKnown, found_at_once}
-use Rattle.maker_core.proofs.Tries.{IsTrying, IsTrying-more, first_passing}
+use Rattle.maker_core.proofs.Tries.{IsTrying, IsTrying-more, first_passing, taken_is, left_after}
 
 -- ---- black cells alone
 start_black : (p : Light) (c v : ℕ) → white p c ≡ false → v < 2 → start_of (cells_of p) (λ d. not (white p d)) c v ≡ true → v ≡ 0
@@ -77,6 +77,18 @@ try_passed size black budget done tries s now t p q answer given passed w is try
       subst (IsWithin light_game q) (w.puzzle ∙ ap (light_puzzle_of size) first.2) inside,
       same ∙ w.bulbs ∙ ap (λ (f : Lighting). f.bulbs) first.2,
     )
+
+-- the stream that is left when the numbers of the first filling that passes were shuffled
+pub left_passed : (size : Extent) (black budget done tries : ℕ) (s now t left : Stream) (p : Light) (answer : List ℕ) (passed : Bool) → IsTry size black budget now t p answer passed
+    → passed ≡ true → IsTrying (light_filling size black) (light_passes size budget) s done now → done < tries → left ≡ stream_after_clues light_game p t
+    → (k : ℕ) → IsFirstPassing (light_filling size black) (light_passes size budget) s tries k
+    → left ≡ stream_after_clues light_game (light_puzzle_of size (filling_at (light_filling size black) k s)) (stream_after (light_filling size black) (suc k) s)
+left_passed size black budget done tries s now t left p answer passed w is trying within shuffled k first =
+    let passes = verdict_is size black budget now t p answer passed true w is in
+    let taken = taken_is (light_filling size black) (light_passes size budget) s tries done now t w.filling trying w.drawn passes within k first in
+    let stands = left_after (light_filling size black) (light_passes size budget) s tries done now t w.filling trying w.drawn passes within k first in
+    shuffled ∙ ap (λ q. stream_after_clues light_game q t) (w.puzzle ∙ ap (light_puzzle_of size) taken)
+    ∙ ap (stream_after_clues light_game (light_puzzle_of size (filling_at (light_filling size black) k s))) stands
 
 pub size_is : (size : Extent) (f : Lighting) (p q : Light) → p ≡ light_puzzle_of size f → q.size ≡ p.size → q.size ≡ size
 unfolding light_puzzle_of with_numbers lights_of

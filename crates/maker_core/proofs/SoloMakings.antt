@@ -9,8 +9,10 @@ use Rattle.solo_core.specs.Solutions.{IsSolution}
 use Rattle.solo_core.specs.SolutionLaws.{rule_from_test, test_from_rule}
 use Rattle.maker_core.specs.Draws.{Making, stream_after, filling_at, IsFirstPassing}
 use Rattle.maker_core.specs.Made.{IsOnlySolution}
-use Rattle.maker_core.specs.SoloFilling.{all_given}
+use Rattle.maker_core.specs.SoloClues.{solo_game}
+use Rattle.maker_core.specs.SoloFilling.{all_given, solo_filling}
 use Rattle.maker_core.specs.SoloMaking.{IsSoloSize, SolvesSolo, solo_passes}
+use Rattle.maker_core.specs.Thinning.{stream_after_clues}
 use Rattle.maker_core.proofs.SoloFull.{all_given-only, all_given-passes}
 
 -- the first filling of a stream passes
@@ -30,6 +32,14 @@ full_only c r p g size fits solution full =
 pub full_passes : (c r : ℕ) (g : List ℕ) (budget : ℕ) → IsSoloSize c r → IsGrid ((c * r) * (c * r)) (c * r) g → IsSolution (all_given c r g) g
     → solo_passes c r budget g ≡ true
 full_passes c r g budget size fits solution = all_given-passes c r g size.c_low size.r_low size.n_high fits solution budget
+
+-- the stream that is left when the one filling was made and its givens were shuffled
+pub left_once : (c r : ℕ) (p : Solo) (g given : List ℕ) (s t left : Stream) → ◌≡◌ {A = List ℕ × Stream} (g, t) (solo_filling c r s) → p ≡ all_given c r g → given ≡ g
+    → left ≡ stream_after_clues solo_game p t → left ≡ stream_after_clues solo_game (all_given c r given) (stream_after (solo_filling c r) 1 s)
+unfolding stream_after
+left_once c r p g given s t left made full same is =
+    is ∙ ap (λ q. stream_after_clues solo_game q t) (full ∙ ap (all_given c r) (sym same))
+    ∙ ap (stream_after_clues solo_game (all_given c r given)) (ap (λ q. q.1) made)
 
 pub only_by_rules : (p : Solo) (g made : List ℕ) → IsTrueOf (houses_rules p) (OneGrid g) → made ≡ g → IsOnlySolution (SolvesSolo p) made
 only_by_rules p g made w same = subst (IsOnlySolution (SolvesSolo p)) (sym same) (

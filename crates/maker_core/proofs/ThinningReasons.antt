@@ -1,10 +1,10 @@
 -- The reasons that were written are those of the clues that are left, by place.
-use Rattle.std.proofs.Common.{◌≡◌, ℕ, suc, ◌+◌, ◌<◌, ◌≤◌, Bool, true, false, eqb, cond, List, [], ◌∷◌, ◌++◌, Option, Some, None, length, get_or, map, take, drop, replicate, refl, sym, ◌∙◌, ap, subst, arith, length-take, ◌⊎◌, inl, inr}
+use Rattle.std.proofs.Common.{◌≡◌, ℕ, suc, ◌+◌, ◌<◌, ◌≤◌, Bool, true, false, eqb, cond, List, [], ◌∷◌, ◌++◌, Option, Some, None, length, get_or, map, take, replicate, refl, sym, ◌∙◌, ap, subst, arith, length-take, ◌⊎◌, inl, inr}
 use Rattle.std.specs.Prelude.{is_some, filter, All, Contains, IsPermutation}
 use Rattle.std.specs.List.{range_with_len}
 use Rattle.std.proofs.lemmas.List.{take_more, append-nil, get_or-replicate, get_or_past, length-replicate}
 use Rattle.std.proofs.lemmas.List.Elements.{All-nil, All-cons}
-use Rattle.std.proofs.lemmas.List.Sorted.{Contains-permutation, IsPermutation-sym, length_permutation}
+use Rattle.std.proofs.lemmas.List.Sorted.{Contains-permutation, IsPermutation-sym}
 use Rattle.std.proofs.lemmas.Map.Keys.{IsDistinct-IsPermutation}
 use Rattle.std.proofs.lemmas.Bool.{cases_lt}
 use Rattle.std.proofs.lemmas.Cmp.{nat_eq_equiv}
@@ -19,12 +19,6 @@ use Rattle.maker_core.proofs.ThinningTurns.{some_of, none_of, within_itself}
 -- a whole list that was written through a slice of it
 pub whole_front : {X : Type 0} (n : ℕ) (xs ys : List X) → length xs ≡ n → take n (xs ++ ys) ≡ xs
 whole_front n xs ys e = grind (arith, common_steps)
-
-pub shuffled_whole : (len : ℕ) (places items now new : List ℕ) → items ≡ places → now ≡ items → IsPermutation now new → len ≡ length items
-    → IsPermutation places (take len (new ++ drop (length new) items))
-shuffled_whole len places items now new listed same mixed long =
-    let whole = whole_front len new (drop (length new) items) (length_permutation now new mixed ∙ ap length same ∙ sym long) in
-    subst (λ xs. IsPermutation xs (take len (new ++ drop (length new) items))) (same ∙ listed) (subst (λ xs. IsPermutation now xs) (sym whole) mixed)
 
 blank_at : (n place : ℕ) → get_or (replicate {A = Option Why} n None) place None ≡ None
 blank_at n place = by (cases_lt place n)

@@ -1,6 +1,6 @@
 -- The loop over tries: so many fillings were made, and each failed.
-use Rattle.std.proofs.Common.{◌≡◌, ℕ, ◌+◌, ◌<◌, ◌≤◌, Bool, true, false, refl, sym, ◌∙◌, ap, arith, add-one, inl, inr}
-use Rattle.std.proofs.lemmas.Bool.{cases_eq}
+use Rattle.std.proofs.Common.{◌≡◌, ℕ, suc, ◌+◌, ◌<◌, ◌≤◌, Bool, true, false, refl, sym, ◌∙◌, ap, arith, add-one, inl, inr}
+use Rattle.std.proofs.lemmas.Bool.{cases_eq, cases_lt, true≢false}
 use Rattle.rand_core.specs.Stream.{Stream}
 use Rattle.maker_core.specs.Draws.{Making, stream_after, filling_at, IsFirstPassing, NonePasses}
 
@@ -28,13 +28,35 @@ module _ {A : Type 0} (make : Making A) (passes : A → Bool) (s : Stream) where
     ];
   }
 
+  first_is : (tries done : ℕ) (now t : Stream) (x : A) → IsTrying make passes s done now → ◌≡◌ {A = A × Stream} (x, t) (make now)
+      → passes x ≡ true → done < tries → IsFirstPassing make passes s tries done
+  first_is tries done now t x p made passing within =
+      record { within = within; passing = ap passes (sym (filling_is done now t x p made)) ∙ passing; failing = p.failing }
+
   pub first_passing : (tries done : ℕ) (now t : Stream) (x : A) → IsTrying make passes s done now → ◌≡◌ {A = A × Stream} (x, t) (make now)
       → passes x ≡ true → done < tries → (k : ℕ) × IsFirstPassing make passes s tries k × (x ≡ filling_at make k s)
-  first_passing tries done now t x p made passing within = (
-    done,
-    record { within = within; passing = ap passes (sym (filling_is done now t x p made)) ∙ passing; failing = p.failing },
-    filling_is done now t x p made,
-  )
+  first_passing tries done now t x p made passing within = (done, first_is tries done now t x p made passing within, filling_is done now t x p made)
+
+  first_once : (tries j k : ℕ) → IsFirstPassing make passes s tries j → IsFirstPassing make passes s tries k → j ≡ k
+  first_once tries j k a b = elim (cases_lt j k) [
+    | inl low ↦ absurd (true≢false (sym a.passing ∙ b.failing j low))
+    | inr high ↦ elim (cases_lt k j) [
+      | inl low ↦ absurd (true≢false (sym b.passing ∙ a.failing k low))
+      | inr same ↦ omega arith
+    ]
+  ]
+
+  pub taken_is : (tries done : ℕ) (now t : Stream) (x : A) → IsTrying make passes s done now → ◌≡◌ {A = A × Stream} (x, t) (make now)
+      → passes x ≡ true → done < tries → (k : ℕ) → IsFirstPassing make passes s tries k → x ≡ filling_at make k s
+  taken_is tries done now t x p made passing within k first =
+      filling_is done now t x p made ∙ ap (λ n. filling_at make n s) (first_once tries done k (first_is tries done now t x p made passing within) first)
+
+  pub left_after : (tries done : ℕ) (now t : Stream) (x : A) → IsTrying make passes s done now → ◌≡◌ {A = A × Stream} (x, t) (make now)
+      → passes x ≡ true → done < tries → (k : ℕ) → IsFirstPassing make passes s tries k → t ≡ stream_after make (suc k) s
+  unfolding stream_after
+  left_after tries done now t x p made passing within k first =
+      let same = first_once tries done k (first_is tries done now t x p made passing within) first in
+      ap (λ q. q.1) made ∙ ap (λ u. (make u).1) p.stands ∙ ap (λ n. (make (stream_after make n s)).1) same
 
   pub none_passes : (tries done : ℕ) (now : Stream) → IsTrying make passes s done now → tries ≤ done → NonePasses make passes s tries
   none_passes tries done now p all = record { failing = λ j h. p.failing j (omega arith) }

@@ -48,6 +48,10 @@ pub record IsFirstPassing {A : Type 0} (make : Making A) (passes : A → Bool) (
   pub passing : passes (filling_at make k s) ≡ true
   pub failing : (j : ℕ) → j < k → passes (filling_at make j s) ≡ false
 
+-- the stream that is left is that after the first filling that passes
+abbrev pub IsAfterFirst : {A : Type 0} → Making A → (A → Bool) → Stream → ℕ → Stream → Type 0
+IsAfterFirst make passes s tries left = (k : ℕ) → IsFirstPassing make passes s tries k → left ≡ stream_after make (suc k) s
+
 -- none of the first so many fillings passes
 pub record NonePasses {A : Type 0} (make : Making A) (passes : A → Bool) (s : Stream) (tries : ℕ) : Type 0 where
   pub failing : (j : ℕ) → j < tries → passes (filling_at make j s) ≡ false

@@ -3,6 +3,8 @@ use Rattle.std.specs.Prelude.{◌≡◌, ◌≢◌, ℕ, Bool, true, false, is_s
 use Rattle.std.specs.List.{range_with_len}
 use Rattle.engine_core.specs.Puzzle.{Puzzle, FitsIn, needs_of}
 use Rattle.engine_core.specs.Verdict.{Outcome.OneGrid, Outcome.OutOfBudget, Solves, IsTrueOf}
+use Rattle.rand_core.specs.Stream.{Stream}
+use Rattle.maker_core.specs.Draws.{shuffled_list}
 use Rattle.maker_core.specs.Made.{verdict_of}
 use Rattle.maker_core.specs.declared.made.Why.{Why}
 use Rattle.maker_core.specs.declared.made.Why.TheVariants.{Needed, Budget}
@@ -29,6 +31,10 @@ has_clue game p place = is_some (game.clue p place)
 
 abbrev pub clue_places : {A : Type 0} → Game A → A → List ℕ
 clue_places game p = filter (has_clue game p) (range_with_len 0 (game.cells p))
+
+-- the stream that is left when the clues of p were shuffled
+abbrev pub stream_after_clues : {A : Type 0} → Game A → A → Stream → Stream
+stream_after_clues game p s = (shuffled_list (clue_places game p) s).1
 
 -- each clue of p is a clue of q
 pub record IsWithin {A : Type 0} (game : Game A) (p q : A) : Type 0 where

@@ -1,17 +1,17 @@
 //! The maker of Light Up.
 
-ghost use Rattle.std.specs.Prelude.{◌≡◌, ◌≢◌, ◌≤◌, ◌↔◌, ℕ, true, false, IsTrue, Err, IfOk};
+ghost use Rattle.std.specs.Prelude.{◌≡◌, ◌≢◌, ◌≤◌, ◌↔◌, ℕ, suc, true, false, IsTrue, Err, IfOk};
 ghost use Rattle.grid_core.specs.Grids.{IsGrid};
 ghost use Rattle.gameid_core.specs.Puzzles.{IsWide};
 ghost use Rattle.fields_core.specs.Light.{cells_of, white, is_lit};
 ghost use Rattle.fields_core.specs.LightHouses.{light_rules};
 ghost use Rattle.maker_core.specs.declared.made.MakeFault.TheVariants.{Exhausted, SizeRange};
-ghost use Rattle.maker_core.specs.Draws.{IsFirstPassing, NonePasses, filling_at};
+ghost use Rattle.maker_core.specs.Draws.{IsFirstPassing, NonePasses, filling_at, stream_after};
 ghost use Rattle.maker_core.specs.LightClues.{light_game};
 ghost use Rattle.maker_core.specs.LightFilling.{light_filling, light_passes, light_puzzle_of, with_numbers};
 ghost use Rattle.maker_core.specs.LightMaking.{SolvesLights};
 ghost use Rattle.maker_core.specs.Made.{IsOnlySolution, has_one};
-ghost use Rattle.maker_core.specs.Thinning.{IsOnly, IsWithin, AreReasons};
+ghost use Rattle.maker_core.specs.Thinning.{IsOnly, IsWithin, AreReasons, stream_after_clues};
 
 use crate::light_filling::fill_lights;
 use crate::made::{Limits, Made, MakeFault};
@@ -59,6 +59,8 @@ fn passes(
 /// solution. `kept` has an entry for each number that is left, by place: `Needed` where without it there are two
 /// solutions, `Budget` where the search without it gave up.
 ///
+/// The generator is left where the last filling, and then the shuffle of the numbers, left it.
+///
 /// # Errors
 ///
 /// `SizeRange` where a side is below 2, tested first; `Exhausted` where no filling of the tries passes, and at once where
@@ -75,12 +77,18 @@ pub fn make_lights<G: Rng>(
         × IsFirstPassing (light_filling size black) (light_passes size limits.budget) (G.stream rng.old) limits.tries k
         × IsWithin light_game made.puzzle (light_puzzle_of size (filling_at (light_filling size black) k (G.stream rng.old)))
         × (made.answer ≡ (filling_at (light_filling size black) k (G.stream rng.old)).bulbs)) }
+    ensures drawn { IfOk result (λ _. (k : ℕ)
+        → IsFirstPassing (light_filling size black) (light_passes size limits.budget) (G.stream rng.old) limits.tries k
+        → G.stream rng.new ≡ stream_after_clues light_game (light_puzzle_of size (filling_at (light_filling size black) k (G.stream rng.old)))
+        (stream_after (light_filling size black) (suc k) (G.stream rng.old))) }
     ensures size { IfOk result (λ made. made.puzzle.size ≡ size) }
     ensures only { IfOk result (λ made. IsOnlySolution (SolvesLights made.puzzle) made.answer) }
     ensures reasons { IfOk result (λ made. AreReasons light_game limits.budget (with_numbers made.puzzle made.answer) made.puzzle made.kept.items) }
     ensures size_range { (result ≡ Err SizeRange) ↔ (IsWide size → ⊥) }
     ensures no_tries { IsWide size → limits.tries ≡ 0 → result ≡ Err Exhausted }
     ensures exhausted { result ≡ Err Exhausted → NonePasses (light_filling size black) (light_passes size limits.budget) (G.stream rng.old) limits.tries }
+    ensures all_drawn { result ≡ Err Exhausted → G.stream rng.new ≡ stream_after (light_filling size black) limits.tries (G.stream rng.old) }
+    ensures undrawn { result ≡ Err SizeRange → G.stream rng.new ≡ G.stream rng.old }
     ensures full { 1 ≤ limits.tries → black ≡ 100 → result ≢ Err Exhausted }
 {
     if !is_wide(size) {

@@ -4,7 +4,7 @@ ghost use Rattle.std.specs.Prelude.{◌≡◌, ◌≢◌, ◌≤◌, ◌*◌, �
 ghost use Rattle.grid_core.specs.Grids.{IsGrid};
 ghost use Rattle.pattern_core.specs.Solutions.{IsSolution};
 ghost use Rattle.maker_core.specs.declared.made.MakeFault.TheVariants.{Exhausted, SizeRange};
-ghost use Rattle.maker_core.specs.Draws.{AreAll, IsFirstPassing, NonePasses, filling_at};
+ghost use Rattle.maker_core.specs.Draws.{AreAll, IsAfterFirst, IsFirstPassing, NonePasses, filling_at, stream_after};
 ghost use Rattle.maker_core.specs.Made.{IsOnlySolution};
 ghost use Rattle.maker_core.specs.PatternMaking.{pattern_filling, pattern_of, pattern_passes};
 
@@ -53,7 +53,10 @@ fn passes(
 ///
 /// Each try fills a grid: each cell in turn is black where a draw below 100 is less than `black`. The clues are the
 /// runs of its lines. The first filling whose puzzle the search finds to have one solution, within the budget of trials,
-/// is the puzzle made; a grid of one colour passes, so with `black` 0 or 100 the first try does. `kept` is empty, since the clues are not thinned.
+/// is the puzzle made; a grid of one colour passes, so with `black` 0 or 100 the first try does. `kept` is empty, since
+/// the clues are not thinned.
+///
+/// The generator is left where the last filling left it.
 ///
 /// # Errors
 ///
@@ -70,12 +73,14 @@ pub fn make_pattern<G: Rng>(
     ensures first { IfOk result (λ made. (k : ℕ)
         × IsFirstPassing (pattern_filling size black) (pattern_passes size limits.budget) (G.stream rng.old) limits.tries k
         × (made.answer ≡ filling_at (pattern_filling size black) k (G.stream rng.old))) }
+    ensures drawn { IfOk result (λ _. IsAfterFirst (pattern_filling size black) (pattern_passes size limits.budget) (G.stream rng.old) limits.tries (G.stream rng.new)) }
     ensures puzzle { IfOk result (λ made. made.puzzle ≡ pattern_of size made.answer) }
     ensures only { IfOk result (λ made. IsOnlySolution (IsSolution made.puzzle) made.answer) }
     ensures kept { IfOk result (λ made. made.kept.items ≡ []) }
     ensures in_range { result ≢ Err SizeRange }
     ensures no_tries { limits.tries ≡ 0 → result ≡ Err Exhausted }
     ensures exhausted { result ≡ Err Exhausted → NonePasses (pattern_filling size black) (pattern_passes size limits.budget) (G.stream rng.old) limits.tries }
+    ensures all_drawn { result ≡ Err Exhausted → G.stream rng.new ≡ stream_after (pattern_filling size black) limits.tries (G.stream rng.old) }
     ensures plain { 1 ≤ limits.tries → (black ≡ 0) ⊎ (black ≡ 100) → result ≢ Err Exhausted }
 {
     for _attempt in 0..limits.tries {

@@ -5,7 +5,7 @@ ghost use Rattle.grid_core.specs.Grids.{IsGrid};
 ghost use Rattle.fields_core.specs.TentHouses.{tent_rules};
 ghost use Rattle.fields_core.specs.TentSolutions.{IsTentSolution};
 ghost use Rattle.maker_core.specs.declared.made.MakeFault.TheVariants.{Exhausted, SizeRange};
-ghost use Rattle.maker_core.specs.Draws.{IsFirstPassing, NonePasses, filling_at};
+ghost use Rattle.maker_core.specs.Draws.{IsAfterFirst, IsFirstPassing, NonePasses, filling_at, stream_after};
 ghost use Rattle.maker_core.specs.Made.{HasNoTwo, IsOnlySolution, has_one};
 ghost use Rattle.maker_core.specs.TentFilling.{tent_filling, tents_of, tents_pass};
 ghost use Rattle.maker_core.specs.TentMaking.{IsTentSize, SolvesTents};
@@ -56,6 +56,8 @@ fn passes(alloc: Global, puzzle: &TentsPuzzle, budget: u64) -> Result<bool, Allo
 /// tents of each column and row. The first filling whose puzzle the search finds to have one solution, within the budget
 /// of trials, is the puzzle made. `kept` is empty, since the clues are not thinned.
 ///
+/// The generator is left where the last filling left it.
+///
 /// # Errors
 ///
 /// `SizeRange` where a side is below 4, tested first; `Exhausted` where no filling of the tries passes, and at once where
@@ -70,12 +72,15 @@ pub fn make_tents<G: Rng>(
         × IsFirstPassing (tent_filling size) (tents_pass size limits.budget) (G.stream rng.old) limits.tries k
         × (made.puzzle ≡ tents_of size (filling_at (tent_filling size) k (G.stream rng.old)))
         × (made.answer ≡ (filling_at (tent_filling size) k (G.stream rng.old)).tents)) }
+    ensures drawn { IfOk result (λ _. IsAfterFirst (tent_filling size) (tents_pass size limits.budget) (G.stream rng.old) limits.tries (G.stream rng.new)) }
     ensures size { IfOk result (λ made. made.puzzle.size ≡ size) }
     ensures only { IfOk result (λ made. IsOnlySolution (SolvesTents made.puzzle) made.answer) }
     ensures kept { IfOk result (λ made. made.kept.items ≡ []) }
     ensures size_range { (result ≡ Err SizeRange) ↔ (IsTentSize size → ⊥) }
     ensures no_tries { IsTentSize size → limits.tries ≡ 0 → result ≡ Err Exhausted }
     ensures exhausted { result ≡ Err Exhausted → NonePasses (tent_filling size) (tents_pass size limits.budget) (G.stream rng.old) limits.tries }
+    ensures all_drawn { result ≡ Err Exhausted → G.stream rng.new ≡ stream_after (tent_filling size) limits.tries (G.stream rng.old) }
+    ensures undrawn { result ≡ Err SizeRange → G.stream rng.new ≡ G.stream rng.old }
 {
     fields_core::accepted_are_solutions();
     if !is_tent_size(size) {

@@ -2,14 +2,15 @@
 
 ghost use Rattle.std.specs.Prelude.{◌≡◌, ◌<◌, [], IfOk, OnOk, IsTrue, IsPermutation};
 ghost use Rattle.engine_core.specs.Puzzle.{FitsIn, needs_of};
-ghost use Rattle.maker_core.specs.Thinning.{has_clue, clue_places, IsWithin, IsOnly, AreReasons};
+ghost use Rattle.maker_core.specs.Draws.{shuffled_list};
+ghost use Rattle.maker_core.specs.Thinning.{has_clue, clue_places, stream_after_clues, IsWithin, IsOnly, AreReasons};
 ghost use Rattle.maker_core.specs.ThinningSteps.{HasOne, IsLeft, IsAsked, IsThinning, reasons_from};
 
 use crate::clued::Clued;
+use crate::draws::shuffle;
 use crate::made::{Kept, Made, Why};
 use engine_core::{Store, Verdict};
 use grid_core::Grid;
-use rand::seq::SliceRandom;
 use rand_core::Rng;
 use std::alloc::{AllocError, Global};
 
@@ -28,6 +29,7 @@ pub(crate) fn thin<P: Clued, G: Rng>(
 ) -> Result<Made<P>, AllocError>
     requires all { puzzle ≡ P.game.all_clues puzzle answer }
     requires only { IsOnly (P.game.rules puzzle) answer }
+    ensures drawn { IfOk result (λ _. G.stream rng.new ≡ stream_after_clues P.game puzzle (G.stream rng.old)) }
     ensures answer { IfOk result (λ made. made.answer ≡ answer) }
     ensures within { IfOk result (λ made. IsWithin P.game made.puzzle puzzle) }
     ensures only { IfOk result (λ made. IsOnly (P.game.rules made.puzzle) answer) }
@@ -66,10 +68,12 @@ fn shuffled_clues<P: Clued, G: Rng>(
     puzzle: &P,
     rng: &mut G,
 ) -> Result<Vec<usize>, AllocError>
-    ensures { IfOk result (λ order. IsPermutation (clue_places P.game puzzle.now) order.items) }
+    ensures drawn { IfOk result
+        (λ order. (order.items, G.stream rng.new) ≡ shuffled_list (clue_places P.game puzzle.now) (G.stream rng.old)) }
+    ensures permutation { IfOk result (λ order. IsPermutation (clue_places P.game puzzle.now) order.items) }
 {
     let mut order = clue_list(alloc, puzzle)?;
-    order.shuffle(rng);
+    shuffle(rng, &mut order);
     Ok(order)
 }
 

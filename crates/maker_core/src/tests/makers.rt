@@ -45,11 +45,12 @@ fn tents(rt: &HostRuntime, size: Size, tries: u32) -> Result<Made<TentsPuzzle>, 
     make_tents(rt.alloc(), size, &mut rng, Limits { budget, tries })
 }
 
-/// Why nothing was made.
-fn fault<P: Drop>(made: Result<Made<P>, MakeFault>) -> Option<MakeFault> {
+/// Why nothing was made; want of memory is handed up.
+fn fault<P: Drop>(made: Result<Made<P>, MakeFault>) -> Result<Option<MakeFault>, MakeFault> {
     match made {
-        Ok(_made) => None,
-        Err(fault) => Some(fault),
+        Ok(_made) => Ok(None),
+        Err(MakeFault::Memory) => Err(MakeFault::Memory),
+        Err(fault) => Ok(Some(fault)),
     }
 }
 
@@ -67,7 +68,7 @@ fn a_grid_of_one_colour_is_made_of_pattern(rt: HostRuntime) -> Result<(), Fail> 
         "2x2:///"
     );
     assert_eq!(rt;
-        fault(pattern(&rt, size, 50, 0)),
+        fault(pattern(&rt, size, 50, 0))?,
         Some(MakeFault::Exhausted)
     );
     Ok(())
@@ -82,14 +83,14 @@ fn a_grid_of_black_cells_is_made_of_light_up(rt: HostRuntime) -> Result<(), Fail
         "2x2:BBBB"
     );
     assert!(rt; made.kept.is_empty());
-    assert_eq!(rt; fault(lights(&rt, size, 0, 2)), Some(MakeFault::Exhausted));
+    assert_eq!(rt; fault(lights(&rt, size, 0, 2))?, Some(MakeFault::Exhausted));
     assert_eq!(rt;
-        fault(lights(&rt, size, 100, 0)),
+        fault(lights(&rt, size, 100, 0))?,
         Some(MakeFault::Exhausted)
     );
     let column = Size::new(1, 4).expect(&rt, "a size");
     assert_eq!(rt;
-        fault(lights(&rt, column, 100, 0)),
+        fault(lights(&rt, column, 100, 0))?,
         Some(MakeFault::SizeRange)
     );
     Ok(())
@@ -106,8 +107,8 @@ fn tents_have_trees(rt: HostRuntime) -> Result<(), Fail> {
         }
     }
     assert_eq!(rt; standing, 7);
-    assert_eq!(rt; fault(tents(&rt, size, 0)), Some(MakeFault::Exhausted));
+    assert_eq!(rt; fault(tents(&rt, size, 0))?, Some(MakeFault::Exhausted));
     let small = Size::new(3, 3).expect(&rt, "a size");
-    assert_eq!(rt; fault(tents(&rt, small, 0)), Some(MakeFault::SizeRange));
+    assert_eq!(rt; fault(tents(&rt, small, 0))?, Some(MakeFault::SizeRange));
     Ok(())
 }

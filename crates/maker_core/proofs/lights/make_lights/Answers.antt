@@ -1,5 +1,5 @@
 use Rattle.std.proofs.Common.{arith}
-use Rattle.maker_core.proofs.LightMakings.{IsFullFirst-none, IsFullFirst-more, try_failed, try_passed, size_is, all_again, reasons_are}
+use Rattle.maker_core.proofs.LightMakings.{IsFullFirst-none, IsFullFirst-more, try_failed, try_passed, left_passed, size_is, all_again, reasons_are}
 use Rattle.maker_core.proofs.Tries.{IsTrying-none, none_passes}
 use Rattle.maker_core.proofs.lights.make_lights.Goals as goal
 
@@ -14,6 +14,12 @@ returns-then-branch-clause-first g c =
     let made = c.in_ok-puzzle.ensures.drawn in
     try_passed _ _ _ _ _ _ _ _ _ _ _ _ _ (record { filling = made.0; drawn = made.1; puzzle = made.2; bulbs = made.3; verdict = c.in_ok-passes.ensures.verdict })
     c.if-branch.true c.loop-attempt.invariant.trying c.loop-attempt-test.true c.in_ok-thin.ensures.within c.in_ok-thin.ensures.answer
+
+pub returns-then-branch-clause-drawn : goal.returns-then-branch-clause-drawn
+returns-then-branch-clause-drawn g c =
+    left_passed _ _ _ _ _ _ _ _ _ _ _ _
+    (record { filling = c.in_ok-puzzle.ensures.drawn.0; drawn = c.in_ok-puzzle.ensures.drawn.1; puzzle = c.in_ok-puzzle.ensures.drawn.2; bulbs = c.in_ok-puzzle.ensures.drawn.3; verdict = c.in_ok-passes.ensures.verdict })
+    c.if-branch.true c.loop-attempt.invariant.trying c.loop-attempt-test.true c.in_ok-thin.ensures.drawn
 
 pub returns-then-branch-clause-size : goal.returns-then-branch-clause-size
 returns-then-branch-clause-size g c = size_is c.args.size c.in_ok-puzzle.ensures.drawn.0 c.in_ok-puzzle.puzzle c.in_ok-thin.field-0.puzzle c.in_ok-puzzle.ensures.drawn.2 c.in_ok-thin.ensures.within.frame.size

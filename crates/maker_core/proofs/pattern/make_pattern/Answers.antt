@@ -3,7 +3,7 @@ use Rattle.grid_core.specs.Extent.{Extent}
 use Rattle.maker_core.specs.Draws.{black_cells}
 use Rattle.maker_core.specs.PatternMaking.{pattern_passes}
 use Rattle.maker_core.proofs.PatternMakings.{IsFirstSure-none, IsFirstSure-more}
-use Rattle.maker_core.proofs.Tries.{IsTrying-none, IsTrying-more, first_passing}
+use Rattle.maker_core.proofs.Tries.{IsTrying-none, IsTrying-more, first_passing, left_after}
 use Rattle.maker_core.proofs.pattern.make_pattern.Goals as goal
 
 pub loop-attempt-init : goal.loop-attempt-init
@@ -12,6 +12,14 @@ loop-attempt-init g c = record { trying = IsTrying-none _ _ _; sure = IsFirstSur
 pub returns-then-branch-clause-first : goal.returns-then-branch-clause-first
 returns-then-branch-clause-first g c =
     first_passing _ _ _ _ _ _ _ _ c.loop-attempt.invariant.trying
+    (c.in_ok-answer.ensures.drawn ∙ ap (λ cells. black_cells c.args.black cells (g.G.Rng.stream c.loop-attempt.rng)) c.cells.ensures.value)
+    (ap (λ (size : Extent). pattern_passes size c.args.limits.budget c.in_ok-answer.answer) (sym (ap (λ p. p.size) c.in_ok-puzzle.ensures.puzzle))
+    ∙ sym c.in_ok-passes.ensures.verdict ∙ c.if-branch.true)
+    c.loop-attempt-test.true
+
+pub returns-then-branch-clause-drawn : goal.returns-then-branch-clause-drawn
+returns-then-branch-clause-drawn g c =
+    left_after _ _ _ _ _ _ _ _ c.loop-attempt.invariant.trying
     (c.in_ok-answer.ensures.drawn ∙ ap (λ cells. black_cells c.args.black cells (g.G.Rng.stream c.loop-attempt.rng)) c.cells.ensures.value)
     (ap (λ (size : Extent). pattern_passes size c.args.limits.budget c.in_ok-answer.answer) (sym (ap (λ p. p.size) c.in_ok-puzzle.ensures.puzzle))
     ∙ sym c.in_ok-passes.ensures.verdict ∙ c.if-branch.true)

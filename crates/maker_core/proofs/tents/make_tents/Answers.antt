@@ -3,7 +3,7 @@ use Rattle.gameid_core.specs.Puzzles.{Tents}
 use Rattle.fields_core.specs.TentHouses.{tent_rules}
 use Rattle.maker_core.specs.Made.{has_one}
 use Rattle.maker_core.proofs.TentMakings.{tents_size, tents_only}
-use Rattle.maker_core.proofs.Tries.{IsTrying-none, IsTrying-more}
+use Rattle.maker_core.proofs.Tries.{IsTrying-none, IsTrying-more, left_after}
 use Rattle.maker_core.proofs.tents.make_tents.Goals as goal
 
 pub loop-attempt-init : goal.loop-attempt-init
@@ -16,6 +16,12 @@ pub returns-then-branch-clause-only : goal.returns-then-branch-clause-only
 returns-then-branch-clause-only g c =
     tents_only c.args.size c.in_ok-camp.camp c.in_ok-puzzle.puzzle c.in_ok-puzzle.ensures c.in_ok-camp.ensures.tents c.in_ok-camp.ensures.solved c.accepted_are_solutions.ensures
     (c.in_ok-passes.ensures.only c.if-branch.true)
+
+pub returns-then-branch-clause-drawn : goal.returns-then-branch-clause-drawn
+returns-then-branch-clause-drawn g c =
+    left_after _ _ _ _ _ _ _ _ c.loop-attempt.invariant c.in_ok-camp.ensures.drawn
+    (ap (λ (p : Tents). has_one (tent_rules p) c.args.limits.budget) (sym c.in_ok-puzzle.ensures) ∙ sym c.in_ok-passes.ensures.verdict ∙ c.if-branch.true)
+    c.loop-attempt-test.true
 
 pub loop-attempt-preserved : goal.loop-attempt-preserved
 loop-attempt-preserved g c =

@@ -9,7 +9,7 @@ use Rattle.maker_core.proofs.thin.thin.Goals as goal
 pub try_clues-requires-clause-start : goal.try_clues-requires-clause-start
 try_clues-requires-clause-start g c =
     let blank : c.in_ok-whys.whys.items ≡ replicate {A = Option Why} c.cells.result None = search rules in
-    thinning_start g.P.Clued.game g.met.P.Clued.lawful _ _ _ _ _ c.requires.only (subst (λ xs. IsPermutation (clue_places g.P.Clued.game c.args.puzzle) xs) (sym c.deref.ensures.value) c.in_ok-order.ensures) (c.deref_mut.ensures.value ∙ blank ∙ ap (λ n. replicate {A = Option Why} n None) c.cells.ensures)
+    thinning_start g.P.Clued.game g.met.P.Clued.lawful _ _ _ _ _ c.requires.only (subst (λ xs. IsPermutation (clue_places g.P.Clued.game c.args.puzzle) xs) (sym c.deref.ensures.value) c.in_ok-order.ensures.permutation) (c.deref_mut.ensures.value ∙ blank ∙ ap (λ n. replicate {A = Option Why} n None) c.cells.ensures)
 
 pub returns-clause-only : goal.returns-clause-only
 returns-clause-only g c = only_left g.P.Clued.game g.met.P.Clued.lawful _ _ _ _ _ c.requires.only c.in_ok-try_clues.ensures

@@ -1,0 +1,197 @@
+-- In Light Up the test of a solution is the rule.
+use Rattle.std.proofs.Common.{◌≡◌, ℕ, zero, suc, ◌+◌, ◌*◌, ◌/◌, ◌%◌, ◌<◌, ◌≤◌, min, max, Bool, true, false, not, ◌&&◌, ◌||◌, eqb, List, get_or, slice_index, Option, Some, None, refl, sym, ap, ◌∙◌, inl, inr, arith}
+use Rattle.std.specs.Prelude.{◌↔◌}
+use Rattle.std.proofs.lemmas.Bool.{cases_lt, cases_Bool, or_left, or_right, or_cases, and_from, and_parts, true≢false, ne_eqb, eqb-true, eq-eqb, not-true}
+use Rattle.std.proofs.lemmas.Nat.{div-mul-add, mod-mul-add, le-div}
+use Rattle.std.proofs.Math.Nat.{mul-le-mul_right, mod-lt, div-mul-le_self}
+use Rattle.grid_core.specs.Grids.{IsGrid}
+use Rattle.grid_core.proofs.CandidateLemmas.{all_below-at, all_below-from, any_below-here, any_below-some}
+use Rattle.gameid_core.specs.Puzzles.{Light}
+use Rattle.gameid_core.specs.declared.light_cell.LightCell.{LightCell}
+use Rattle.gameid_core.specs.declared.light_cell.LightCell.TheVariants.{White, Black, Numbered}
+use Rattle.fields_core.specs.Light.{cells_of, white, bulb, bulbs_beside, number_is, joined_in_row, joined_in_column, sees, sees_bulb, black_right, number_right, bulb_right, lit_right, is_lit}
+use Rattle.fields_core.specs.LightSolutions.{row_of, column_of, IsFromTo, AreJoined, Sees, SeesBulb, IsLightSolution}
+use Rattle.fields_core.specs.LightFaults.{IsLightFault}
+use Rattle.fields_core.specs.declared.light_fault.LightFault.{LightFault}
+use Rattle.fields_core.proofs.LightFaultLemmas.{lit-from, lit-parts, fault-not}
+use Rattle.fields_core.proofs.LightHouseLaws.{clear-at, clear-from, row-parts, column-parts}
+use Rattle.fields_core.proofs.LightSight.{some-column}
+
+-- ---- who sees whom
+div-under : (a b w : ℕ) → 0 < w → a ≤ b → a / w ≤ b / w
+div-under a b w pos le = le-div (a / w) b w pos (let d = div-mul-le_self a w in omega arith)
+
+row-joined : (p : Light) (a b : ℕ) → joined_in_row p a b ≡ true → AreJoined p (row_of p) a b
+row-joined p a b on =
+    let w = row-parts p a b on in
+    record {
+      same_line = w.0;
+      all_white = λ c same between.
+          let here : a / p.size.w * p.size.w + a % p.size.w ≡ a = omega arith in
+          let there : a / p.size.w * p.size.w + b % p.size.w ≡ b = rw w.0 (omega arith) in
+          let at : a / p.size.w * p.size.w + c % p.size.w ≡ c = rw (sym same) (omega arith) in
+          let inside = columns-between (a / p.size.w * p.size.w) a b c (a % p.size.w) (b % p.size.w) (c % p.size.w) here there at between in
+          rw at at (clear-at (λ x. white p (a / p.size.w * p.size.w + x)) (a % p.size.w) (b % p.size.w) (c % p.size.w) w.1 inside.0 inside.1);
+    }
+  where
+    columns-between : (first a b c i j k : ℕ) → first + i ≡ a → first + j ≡ b → first + k ≡ c → IsFromTo a b c → (min i j ≤ k) × (k ≤ max i j)
+    columns-between first a b c i j k ea eb ec (inl up) = let l = up.0 in let h = up.1 in (omega arith, omega arith)
+    columns-between first a b c i j k ea eb ec (inr down) = let l = down.0 in let h = down.1 in (omega arith, omega arith)
+
+joined-row : (p : Light) (a b : ℕ) → 0 < p.size.w → AreJoined p (row_of p) a b → joined_in_row p a b ≡ true
+unfolding joined_in_row
+joined-row p a b pos is = and_from _ _ (eq-eqb (a / p.size.w) (b / p.size.w) is.same_line)
+    (clear-from (λ x. white p (a / p.size.w * p.size.w + x)) (a % p.size.w) (b % p.size.w) (λ x low high.
+    let la = mod-lt a pos in
+    let lb = mod-lt b pos in
+    let here : a / p.size.w * p.size.w + a % p.size.w ≡ a = omega arith in
+    let there : a / p.size.w * p.size.w + b % p.size.w ≡ b = rw is.same_line (omega arith) in
+    is.all_white (a / p.size.w * p.size.w + x) (div-mul-add (a / p.size.w) p.size.w x (omega arith))
+    (places-between (a / p.size.w * p.size.w) a b x (a % p.size.w) (b % p.size.w) here there low high)))
+  where
+    places-between : (first a b x i j : ℕ) → first + i ≡ a → first + j ≡ b → min i j ≤ x → x ≤ max i j → IsFromTo a b (first + x)
+    places-between first a b x i j ea eb low high = elim (cases_lt i j) [
+      | inl up ↦ inl (omega arith, omega arith)
+      | inr down ↦ inr (omega arith, omega arith)
+    ]
+
+column-joined : (p : Light) (a b : ℕ) → 0 < p.size.w → joined_in_column p a b ≡ true → AreJoined p (column_of p) a b
+column-joined p a b pos on =
+    let w = column-parts p a b on in
+    record {
+      same_line = w.0;
+      all_white = λ c same between.
+          let at : c / p.size.w * p.size.w + a % p.size.w ≡ c = rw (sym same) (omega arith) in
+          let inside = rows-between a b c p.size.w pos between in
+          rw at at (clear-at (λ y. white p (y * p.size.w + a % p.size.w)) (a / p.size.w) (b / p.size.w) (c / p.size.w) w.1 inside.0 inside.1);
+    }
+  where
+    rows-between : (a b c w : ℕ) → 0 < w → IsFromTo a b c → (min (a / w) (b / w) ≤ c / w) × (c / w ≤ max (a / w) (b / w))
+    rows-between a b c w pos (inl up) = let l = div-under a c w pos up.0 in let h = div-under c b w pos up.1 in (omega arith, omega arith)
+    rows-between a b c w pos (inr down) = let l = div-under b c w pos down.0 in let h = div-under c a w pos down.1 in (omega arith, omega arith)
+
+joined-column : (p : Light) (a b : ℕ) → 0 < p.size.w → AreJoined p (column_of p) a b → joined_in_column p a b ≡ true
+unfolding joined_in_column
+joined-column p a b pos is = and_from _ _ (eq-eqb (a % p.size.w) (b % p.size.w) is.same_line)
+    (clear-from (λ y. white p (y * p.size.w + a % p.size.w)) (a / p.size.w) (b / p.size.w) (λ y low high.
+    let here : a / p.size.w * p.size.w + a % p.size.w ≡ a = omega arith in
+    let there : b / p.size.w * p.size.w + a % p.size.w ≡ b = rw is.same_line (omega arith) in
+    is.all_white (y * p.size.w + a % p.size.w) (mod-mul-add y p.size.w (a % p.size.w) (mod-lt a pos))
+    (places-between a b (a / p.size.w) (b / p.size.w) y p.size.w (a % p.size.w) here there low high)))
+  where
+    places-between : (a b i j y w x : ℕ) → i * w + x ≡ a → j * w + x ≡ b → min i j ≤ y → y ≤ max i j → IsFromTo a b (y * w + x)
+    places-between a b i j y w x ea eb low high = elim (cases_lt i j) [
+      | inl up ↦ let l : i * w ≤ y * w = mul-le-mul_right w (omega arith) in let h : y * w ≤ j * w = mul-le-mul_right w (omega arith) in inl (omega arith, omega arith)
+      | inr down ↦ let l : j * w ≤ y * w = mul-le-mul_right w (omega arith) in let h : y * w ≤ i * w = mul-le-mul_right w (omega arith) in inr (omega arith, omega arith)
+    ]
+
+sees-rule : (p : Light) (a b : ℕ) → 0 < p.size.w → sees p a b ≡ true → Sees p a b
+unfolding sees
+sees-rule p a b pos on =
+    let parts = and_parts (not (eqb a b)) _ on in (
+      λ e. true≢false (sym (eq-eqb a b e) ∙ not-true (eqb a b) parts.0),
+      elim (or_cases (joined_in_row p a b) (joined_in_column p a b) parts.1) [
+        | inl row ↦ inl (row-joined p a b row)
+        | inr column ↦ inr (column-joined p a b pos column)
+      ],
+    )
+
+rule-sees : (p : Light) (a b : ℕ) → 0 < p.size.w → Sees p a b → sees p a b ≡ true
+unfolding sees
+rule-sees p a b pos is = and_from _ _ (ap not (ne_eqb a b is.0)) (elim is.1 [
+  | inl row ↦ or_left (joined_in_row p a b) (joined_in_column p a b) (joined-row p a b pos row)
+  | inr column ↦ or_right (joined_in_row p a b) (joined_in_column p a b) (joined-column p a b pos column)
+])
+
+bulb-rule : (p : Light) (g : List ℕ) (c : ℕ) → 0 < p.size.w → sees_bulb p g c ≡ true → SeesBulb p g c
+unfolding sees_bulb
+bulb-rule p g c pos on =
+    let w = any_below-some (λ d. sees p c d && bulb g d) (cells_of p) on in
+    let parts = and_parts (sees p c w.0) (bulb g w.0) w.2 in
+    record { other = w.0; within = w.1; has_bulb = parts.1; seen = sees-rule p c w.0 pos parts.0 }
+
+rule-bulb : (p : Light) (g : List ℕ) (c : ℕ) → 0 < p.size.w → SeesBulb p g c → sees_bulb p g c ≡ true
+unfolding sees_bulb
+rule-bulb p g c pos is = any_below-here (λ d. sees p c d && bulb g d) (cells_of p) is.other is.within (and_from _ _ (rule-sees p c is.other pos is.seen) is.has_bulb)
+
+-- ---- the four rules
+number-rule : (cell : LightCell) (bulbs n : ℕ) → number_is cell bulbs ≡ true → cell ≡ Numbered n → bulbs ≡ n
+number-rule cell bulbs n on e = eqb-true bulbs n (rw e at on)
+
+rule-number : (cell : LightCell) (bulbs : ℕ) → ((n : ℕ) → cell ≡ Numbered n → bulbs ≡ n) → number_is cell bulbs ≡ true
+rule-number White bulbs is = refl
+rule-number Black bulbs is = refl
+rule-number (Numbered n) bulbs is = eq-eqb bulbs n (is n refl)
+
+alone : (on seen : Bool) → (on ≡ true → seen ≡ true → ⊥) → not (on && seen) ≡ true
+alone true true none = absurd (none refl refl)
+alone true false none = refl
+alone false seen none = refl
+
+not-alone : (on seen : Bool) → not (on && seen) ≡ true → on ≡ true → seen ≡ true → ⊥
+not-alone true true right a b = true≢false (sym right)
+not-alone true false right a b = true≢false (sym b)
+not-alone false seen right a b = true≢false (sym a)
+
+pub rule-from-test : (p : Light) (g : List ℕ) → IsGrid (cells_of p) 2 g → is_lit p g ≡ true → IsLightSolution p g
+unfolding black_right number_right bulb_right lit_right
+rule-from-test p g grid on =
+    let parts = lit-parts p g on in
+    record {
+      none_on_black = λ c lt bulb_on. elim (or_cases (white p c) (eqb (slice_index g c) 0) (all_below-at (black_right p g) (cells_of p) c parts.black lt)) [
+        | inl is ↦ is
+        | inr zero_at ↦ let a = eqb-true (slice_index g c) 0 zero_at in let b = eqb-true (slice_index g c) 1 bulb_on in absurd (omega arith)
+      ];
+      numbers = λ c n lt e. number-rule (get_or p.cells c Black) (bulbs_beside p g c) n (all_below-at (number_right p g) (cells_of p) c parts.number lt) e;
+      none_seen = λ c d lc ld on_c on_d is.
+          not-alone (bulb g c) (sees_bulb p g c) (all_below-at (bulb_right p g) (cells_of p) c parts.seen lc) on_c
+          (rule-bulb p g c (some-column p c lc) (record { other = d; within = ld; has_bulb = on_d; seen = is }));
+      all_lit = λ c lt is_white. elim (or_cases (not (white p c)) (bulb g c || sees_bulb p g c) (all_below-at (lit_right p g) (cells_of p) c parts.lit lt)) [
+        | inl black ↦ absurd (true≢false (sym is_white ∙ not-true (white p c) black))
+        | inr lit ↦ elim (or_cases (bulb g c) (sees_bulb p g c) lit) [
+          | inl here ↦ inl here
+          | inr seen ↦ inr (bulb-rule p g c (some-column p c lt) seen)
+        ]
+      ];
+    }
+
+pub test-from-rule : (p : Light) (g : List ℕ) → IsGrid (cells_of p) 2 g → IsLightSolution p g → is_lit p g ≡ true
+unfolding black_right number_right bulb_right lit_right
+test-from-rule p g grid s = lit-from p g
+    (all_below-from (black_right p g) (cells_of p) black)
+    (all_below-from (number_right p g) (cells_of p) (λ c lt. rule-number (get_or p.cells c Black) (bulbs_beside p g c) (λ n e. s.numbers c n lt e)))
+    (all_below-from (bulb_right p g) (cells_of p) (λ c lt. alone (bulb g c) (sees_bulb p g c) (λ on seen.
+    let is = bulb-rule p g c (some-column p c lt) seen in s.none_seen c is.other lt is.within on is.has_bulb is.seen)))
+    (all_below-from (lit_right p g) (cells_of p) lit)
+  where
+    none-at : (v : ℕ) → v < 2 → eqb v 1 ≡ false → eqb v 0 ≡ true
+    none-at zero lt off = refl
+    none-at (suc zero) lt off = absurd (true≢false off)
+    none-at (suc (suc v)) lt off = absurd (omega arith)
+
+    black : (c : ℕ) → c < cells_of p → (white p c || eqb (slice_index g c) 0) ≡ true
+    black c lt = elim (cases_Bool (bulb g c)) [
+      | inl on ↦ or_left (white p c) (eqb (slice_index g c) 0) (s.none_on_black c lt on)
+      | inr off ↦ or_right (white p c) (eqb (slice_index g c) 0) (none-at (slice_index g c) (grid.each_value c 0 (let e = grid.each_cell in omega arith)) off)
+    ]
+
+    lit : (c : ℕ) → c < cells_of p → (not (white p c) || (bulb g c || sees_bulb p g c)) ≡ true
+    lit c lt = elim (cases_Bool (white p c)) [
+      | inl is_white ↦ or_right (not (white p c)) (bulb g c || sees_bulb p g c) (elim (s.all_lit c lt is_white) [
+        | inl here ↦ or_left (bulb g c) (sees_bulb p g c) here
+        | inr seen ↦ or_right (bulb g c) (sees_bulb p g c) (rule-bulb p g c (some-column p c lt) seen)
+      ])
+      | inr black_cell ↦ or_left (not (white p c)) (bulb g c || sees_bulb p g c) (ap not black_cell)
+    ]
+
+-- ---- nothing is wrong exactly with solutions
+some-not : (f : LightFault) → Some f ≡ None → ⊥
+some-not f e = true≢false (ap is_some e)
+  where
+    is_some : Option LightFault → Bool
+    is_some None = false
+    is_some (Some a) = true
+
+pub none-exactly : (p : Light) (g : List ℕ) (fault : Option LightFault) → IsGrid (cells_of p) 2 g → IsLightFault p g fault → (fault ≡ None) ↔ IsLightSolution p g
+none-exactly p g None grid is = (λ _. rule-from-test p g grid is, λ _. refl)
+none-exactly p g (Some f) grid is = (λ e. absurd (some-not f e), λ s. absurd (true≢false (sym (test-from-rule p g grid s) ∙ sym (fault-not p g f is))))
