@@ -13,37 +13,40 @@ ghost use Rattle.puzzles.specs.LineStates.{Holds};
 use crate::ends::{CALL_LIMIT, CHUNK, Sink, Source};
 use crate::lines::Line;
 use crate::output::{BROKEN, put_all};
-use crate::reply::{Reply, id_refused};
+use crate::reply::{Reply, id_refused_in};
 use crate::solve::{Stores, each_text_has_an_answer, solve_id};
 use crate::stop::Stop;
 use gameid_core::{Game, IdFault};
 use std::alloc::{AllocError, Global};
+use std::mem::replace;
 
-/// The line that is being read, the memory of the searches, and the greatest status so far.
+/// The line that is being read, the memory of the searches and of the answers' texts, and the greatest status so far.
 #[derive(Drop)]
 pub struct Batch {
     line: Line,
     stores: Stores,
+    text: String,
     status: u8,
 }
 
-/// The answer to a line, or to an over-long one.
+/// The answer to a line, or to an over-long one, in the memory of a text.
 fn line_reply(
     alloc: Global,
     stores: &mut Stores,
     game: Game,
     budget: u64,
     line: Option<&[u8]>,
+    text: String,
 ) -> Result<Reply, AllocError>
-    ensures allowed { IfOk result (λ r. (text : Text)
-        → MatchOption line.entry (max_id < length text) (λ l. l.now ≡ text)
-        → AllowsSolve game budget text (answer_in r)) }
+    ensures allowed { IfOk result (λ r. (id : Text)
+        → MatchOption line.entry (max_id < length id) (λ l. l.now ≡ id)
+        → AllowsSolve game budget id (answer_in r)) }
     ensures status { IfOk result (λ r. r.status < 5) }
 {
     gameid_core::over_long_is_too_long();
     match line {
-        Some(id) => solve_id(alloc, stores, game, id, budget),
-        None => id_refused(alloc, IdFault::TooLong),
+        Some(id) => solve_id(alloc, stores, game, id, budget, text),
+        None => id_refused_in(text, IdFault::TooLong),
     }
 }
 
@@ -55,6 +58,7 @@ impl Batch {
         Batch {
             line: Line::new(alloc),
             stores: Stores::none(),
+            text: String::new(alloc),
             status: 0,
         }
     }
@@ -77,7 +81,7 @@ impl Batch {
         }
     }
 
-    /// Puts the answer to a line that ended.
+    /// Puts the answer to a line that ended, and keeps the memory of its text for the next one.
     fn answer_line<O: Sink>(
         &mut self,
         alloc: Global,
@@ -96,8 +100,11 @@ impl Batch {
             → Stopped O.takes (AllowsSolve game budget) start (seen ++ 10 ∷ []) output.new) }
         ensures cause { IfErr result (λ e. O.has_failed output.new ≡ is_failure e) }
     {
-        let reply = line_reply(alloc, &mut self.stores, game, budget, self.line.ended())?;
+        let text = replace(&mut self.text, String::new(alloc));
+        let line = self.line.ended();
+        let reply = line_reply(alloc, &mut self.stores, game, budget, line, text)?;
         self.put_reply(&reply, output)?;
+        self.text = reply.text;
         self.line.clear();
         Ok(())
     }
@@ -177,7 +184,9 @@ impl Batch {
         if self.line.is_empty() {
             return Ok(());
         }
-        let reply = line_reply(alloc, &mut self.stores, game, budget, self.line.last())?;
+        let text = replace(&mut self.text, String::new(alloc));
+        let line = self.line.last();
+        let reply = line_reply(alloc, &mut self.stores, game, budget, line, text)?;
         self.put_reply(&reply, output)?;
         Ok(())
     }

@@ -38,7 +38,14 @@ fn reply_to(alloc: Global, request: Option<Request<'_>>) -> Result<Reply, AllocE
                 id: Some(id),
                 budget,
             },
-        ) => solve_id(alloc, &mut Stores::none(), game, id.as_bytes(), budget),
+        ) => solve_id(
+            alloc,
+            &mut Stores::none(),
+            game,
+            id.as_bytes(),
+            budget,
+            String::new(alloc),
+        ),
         Some(
             Request::Generate {
                 game,
