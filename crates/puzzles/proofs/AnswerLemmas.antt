@@ -2,12 +2,12 @@
 use Rattle.std.proofs.Common.{◌≡◌, ◌⊎◌, ℕ, List, Result, Ok, Err, Some, None, inl, inr, refl}
 use Rattle.std.specs.Prelude.{IfOk}
 use Rattle.engine_core.specs.Puzzle.{Puzzle}
-use Rattle.engine_core.specs.Verdict.{Outcome, Outcome.NoGrid, Outcome.OneGrid, Outcome.TwoGrids, Outcome.OutOfBudget, IsTrueOf, Solves}
+use Rattle.engine_core.specs.Verdict.{Outcome, Outcome.NoGrid, Outcome.OneGrid, Outcome.TwoGrids, Outcome.OutOfBudget, verdict_of, IsTrueOf, Solves}
 use Rattle.gameid_core.specs.declared.fault.IdFault.{IdFault}
 use Rattle.puzzles.specs.Answers.{Answer, Text}
 use Rattle.puzzles.specs.Outputs.{IsRefused, IsSolved}
 use Rattle.puzzles.specs.Replies.{answer_in}
-use Rattle.puzzles.specs.Verdicts.{IsRight, verdict_of, verdict_answer}
+use Rattle.puzzles.specs.Verdicts.{IsRight, verdict_answer}
 use Rattle.puzzles.specs.declared.reply.Reply.{Reply}
 
 -- what is true of the grids that the rules accept is right of the solutions, where these are the same

@@ -9,7 +9,7 @@ abbrev pub status_of : Stop → ℕ
 status_of Memory = 5
 status_of Broken = 6
 
--- the sink failed
+-- the cause is a failing end, and not want of memory
 abbrev pub is_broken : Stop → Bool
 is_broken Memory = false
 is_broken Broken = true

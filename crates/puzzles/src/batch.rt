@@ -5,7 +5,8 @@ ghost use Rattle.gameid_core.specs.Head.{max_id};
 ghost use Rattle.puzzles.specs.Answers.{Answer, Begins, Text};
 ghost use Rattle.puzzles.specs.Replies.{answer_in};
 ghost use Rattle.puzzles.specs.Each.{AllowsEach, Answered, Begun, HasAnswers, Stopped};
-ghost use Rattle.puzzles.specs.Batches.{Batched, StoppedUpTo, TakenUpTo, is_failure};
+ghost use Rattle.puzzles.specs.Batches.{Batched, StoppedUpTo, TakenUpTo};
+ghost use Rattle.puzzles.specs.Stops.{is_broken};
 ghost use Rattle.puzzles.specs.Runs.{IsBroken, Ran};
 ghost use Rattle.puzzles.specs.Outputs.{AllowsSolve};
 ghost use Rattle.puzzles.specs.LineStates.{Holds};
@@ -70,7 +71,7 @@ impl Batch {
         ensures status { OnOk result (self.new.status ≡ max self.old.status reply.now.status) }
         ensures begun { OnErr result ((written : List ℕ) × O.takes output.old written output.new
             × Begins written (answer_in reply.now).text) }
-        ensures cause { IfErr result (λ e. (O.has_failed output.new ≡ true) × (is_failure e ≡ true)) }
+        ensures cause { IfErr result (λ e. (O.has_failed output.new ≡ true) × (is_broken e ≡ true)) }
     {
         match put_all(output, reply.text.as_bytes()) {
             Ok(()) => {
@@ -98,7 +99,7 @@ impl Batch {
         ensures stopped { IfErr result (λ e. HasAnswers (AllowsSolve game budget) → (start : O) (seen : List ℕ)
             → Batched O.takes (AllowsSolve game budget) start self.old seen output.old
             → Stopped O.takes (AllowsSolve game budget) start (seen ++ 10 ∷ []) output.new) }
-        ensures cause { IfErr result (λ e. O.has_failed output.new ≡ is_failure e) }
+        ensures cause { IfErr result (λ e. O.has_failed output.new ≡ is_broken e) }
     {
         let text = replace(&mut self.text, String::new(alloc));
         let line = self.line.ended();
@@ -127,7 +128,7 @@ impl Batch {
         ensures stopped { IfErr result (λ e. HasAnswers (AllowsSolve game budget) → (start : O) (seen : List ℕ)
             → Batched O.takes (AllowsSolve game budget) start self.old seen output.old
             → Stopped O.takes (AllowsSolve game budget) start (seen ++ byte ∷ []) output.new) }
-        ensures cause { IfErr result (λ e. O.has_failed output.new ≡ is_failure e) }
+        ensures cause { IfErr result (λ e. O.has_failed output.new ≡ is_broken e) }
     {
         if byte == b'\n' {
             return self.answer_line(alloc, game, budget, output);
@@ -154,7 +155,7 @@ impl Batch {
         ensures stopped { IfErr result (λ e. HasAnswers (AllowsSolve game budget) → (start : O) (seen : List ℕ)
             → Batched O.takes (AllowsSolve game budget) start self.old seen output.old
             → Stopped O.takes (AllowsSolve game budget) start (seen ++ chunk.now) output.new) }
-        ensures cause { IfErr result (λ e. O.has_failed output.new ≡ is_failure e) }
+        ensures cause { IfErr result (λ e. O.has_failed output.new ≡ is_broken e) }
     {
         for byte in chunk {
             self.take_byte(alloc, game, budget, *byte, output)?;
@@ -179,7 +180,7 @@ impl Batch {
         ensures begun { IfErr result (λ e. HasAnswers (AllowsSolve game budget) → (start : O) (seen : List ℕ)
             → Batched O.takes (AllowsSolve game budget) start self.old seen output.old
             → Begun O.takes (AllowsSolve game budget) start seen output.new) }
-        ensures cause { IfErr result (λ e. O.has_failed output.new ≡ is_failure e) }
+        ensures cause { IfErr result (λ e. O.has_failed output.new ≡ is_broken e) }
     {
         if self.line.is_empty() {
             return Ok(());
@@ -213,7 +214,7 @@ fn take_input<I: Source, O: Sink>(
         input.old output.old batch.new input.new output.new) }
     ensures stopped { IfErr result (λ e. HasAnswers (AllowsSolve game budget) → StoppedUpTo I.gives O.takes (AllowsSolve game budget)
         input.old output.old input.new output.new) }
-    ensures cause { IfErr result (λ e. is_failure e ≡ true → IsBroken (I.has_failed input.new)
+    ensures cause { IfErr result (λ e. is_broken e ≡ true → IsBroken (I.has_failed input.new)
         (O.has_failed output.new) (I.call_count input.new) (I.has_ended input.new)) }
 {
     let mut buffer = [0u8; CHUNK];

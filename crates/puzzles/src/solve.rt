@@ -1,12 +1,12 @@
 //! The answers of `solve`.
 ghost use Rattle.std.specs.Prelude.{◌≡◌, ◌<◌, ◌*◌, List, ℕ, IfOk};
 ghost use Rattle.engine_core.specs.Puzzle.{FitsIn, needs_of};
-ghost use Rattle.engine_core.specs.Verdict.{IsTrueOf};
+ghost use Rattle.engine_core.specs.Verdict.{IsTrueOf, verdict_of};
 ghost use Rattle.puzzles.specs.Each.{HasAnswers};
 ghost use Rattle.puzzles.specs.GridTexts.{grid_text};
 ghost use Rattle.puzzles.specs.Outputs.{AllowsPattern, AllowsSolo, AllowsLights, AllowsTents, AllowsSolve};
 ghost use Rattle.puzzles.specs.Replies.{answer_in};
-ghost use Rattle.puzzles.specs.Verdicts.{verdict_of, verdict_answer};
+ghost use Rattle.puzzles.specs.Verdicts.{verdict_answer};
 
 use crate::printed::Printed;
 use crate::reply::{
