@@ -214,6 +214,8 @@ fn take_input<I: Source, O: Sink>(
         input.old output.old batch.new input.new output.new) }
     ensures stopped { IfErr result (λ e. HasAnswers (AllowsSolve game budget) → StoppedUpTo I.gives O.takes (AllowsSolve game budget)
         input.old output.old input.new output.new) }
+    ensures memory { IfErr result (λ e. is_broken e ≡ false
+        → (I.has_failed input.new ≡ false) × (O.has_failed output.new ≡ false)) }
     ensures cause { IfErr result (λ e. is_broken e ≡ true → IsBroken (I.has_failed input.new)
         (O.has_failed output.new) (I.call_count input.new) (I.has_ended input.new)) }
 {
@@ -246,7 +248,7 @@ pub fn solve_lines<I: Source, O: Sink>(
     ensures ran { Ran I.gives I.has_ended O.takes (λ read. AllowsEach (AllowsSolve game budget) (lines read))
         input.old input.new output.old output.new result }
     ensures status { result ≤ 6 }
-    ensures sound { result < 5
+    ensures sound { result ≤ 5
         → (I.has_failed input.new ≡ false) × (O.has_failed output.new ≡ false) }
     ensures sent { result < 5 → O.is_flushed output.new ≡ true }
     ensures broken { result ≡ 6 → IsBroken (I.has_failed input.new) (O.has_failed output.new)

@@ -49,6 +49,7 @@ fn take_whole<I: Source>(kept: &mut Kept, input: &mut I) -> Result<(), Stop>
     ensures fine { OnOk result ((I.has_failed input.new ≡ false) × (I.has_ended input.new ≡ true)) }
     ensures taken { OnOk result (KeptUpTo I.gives input.old kept.new input.new) }
     ensures read { (seen : List ℕ) × I.gives input.old seen input.new }
+    ensures memory { IfErr result (λ e. is_broken e ≡ false → I.has_failed input.new ≡ false) }
     ensures cause { IfErr result (λ e. is_broken e ≡ true
         → IsBroken (I.has_failed input.new) false (I.call_count input.new) (I.has_ended input.new)) }
 {
@@ -71,6 +72,7 @@ pub fn read_whole<I: Source>(alloc: Global, input: &mut I) -> Result<Option<Vec<
     ensures fine { OnOk result ((I.has_failed input.new ≡ false) × (I.has_ended input.new ≡ true)) }
     ensures whole { IfOk result (λ text. ReadWhole I.gives input.old text input.new) }
     ensures read { (seen : List ℕ) × I.gives input.old seen input.new }
+    ensures memory { IfErr result (λ e. is_broken e ≡ false → I.has_failed input.new ≡ false) }
     ensures cause { IfErr result (λ e. is_broken e ≡ true
         → IsBroken (I.has_failed input.new) false (I.call_count input.new) (I.has_ended input.new)) }
 {
