@@ -1,12 +1,7 @@
 -- When a filling passes, and what a maker of puzzles gives.
-use Rattle.std.specs.Prelude.{◌≡◌, ℕ, Bool, true, false, List, None}
+use Rattle.std.specs.Prelude.{◌≡◌, ℕ, Bool, true, false, List}
 use Rattle.engine_core.specs.Puzzle.{Puzzle}
-use Rattle.engine_core.specs.Verdict.{Outcome, Outcome.NoGrid, Outcome.OneGrid, Outcome.TwoGrids, Outcome.OutOfBudget, outcome, Solves}
-use Rattle.engine_core.specs.Walk.{walk}
-
--- the verdict of the walk of the rules' start board with that budget
-abbrev pub verdict_of : Puzzle → ℕ → Outcome
-verdict_of rules budget = outcome budget None (walk rules 0 rules.start)
+use Rattle.engine_core.specs.Verdict.{Outcome, Outcome.NoGrid, Outcome.OneGrid, Outcome.TwoGrids, Outcome.OutOfBudget, verdict_of, Solves}
 
 -- whether a verdict is that there is one grid
 abbrev pub is_one : Outcome → Bool

@@ -2,10 +2,9 @@
 use Rattle.std.specs.Prelude.{◌≡◌, ◌≢◌, ℕ, Bool, true, false, is_some, Option, Some, None, List, ◌<◌, map, filter, All}
 use Rattle.std.specs.List.{range_with_len}
 use Rattle.engine_core.specs.Puzzle.{Puzzle, FitsIn, needs_of}
-use Rattle.engine_core.specs.Verdict.{Outcome.OneGrid, Outcome.OutOfBudget, Solves, IsTrueOf}
+use Rattle.engine_core.specs.Verdict.{Outcome.OneGrid, Outcome.OutOfBudget, verdict_of, Solves, IsTrueOf}
 use Rattle.rand_core.specs.Stream.{Stream}
 use Rattle.maker_core.specs.Draws.{shuffled_list}
-use Rattle.maker_core.specs.Made.{verdict_of}
 use Rattle.maker_core.specs.declared.made.Why.{Why}
 use Rattle.maker_core.specs.declared.made.Why.TheVariants.{Needed, Budget}
 use Rattle.maker_core.specs.declared.made.Kept.{Kept}

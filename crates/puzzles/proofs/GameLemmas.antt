@@ -13,9 +13,11 @@ use Rattle.pattern_core.specs.LineRules.{line_rules}
 use Rattle.pattern_core.specs.Solutions as pattern
 use Rattle.solo_core.specs.RuleSets.{houses_rules, singles_rules}
 use Rattle.solo_core.specs.Solutions as solo
+use Rattle.maker_core.specs.LightMaking.{SolvesLights}
+use Rattle.maker_core.specs.SoloMaking.{SolvesSolo}
+use Rattle.maker_core.specs.TentMaking.{SolvesTents}
 use Rattle.puzzles.specs.Answers.{Text}
 use Rattle.puzzles.specs.Grades.{HasOne, IsGradeOf, IsRightGrade, IsTold, houses_grade, light_grade, light_trace, tent_grade, tent_trace, pattern_grade, pattern_trace, solo_grade, solo_trace}
-use Rattle.puzzles.specs.Outputs.{SolvesLights, SolvesSolo, SolvesTents}
 use Rattle.puzzles.specs.Stops.{Tells}
 use Rattle.puzzles.specs.Traces.{TellsSweeps, TellsVisits, pattern_house, solo_house}
 use Rattle.puzzles.specs.declared.grade.Grade.{Grade}
@@ -43,7 +45,7 @@ module _ {S : Type 0} (takes : S → Text → S → Type 0) (budget : ℕ) (trac
       (subst (λ (r : Light). Tells takes (IsTold grade traced (TellsSweeps (light_rules r))) s t status) e told)
     where
       same : (g : List ℕ) → Solves (light_rules q) g ↔ SolvesLights q g
-      same g = (λ h. (h.grid, h.good), λ h. record { grid = h.0; good = h.1 })
+      same g = (λ h. record { grid = h.grid; lit = h.good }, λ h. record { grid = h.grid; good = h.lit })
 
   pub tents_rightly : (p q : Tents) (grade : Grade) → q ≡ p
       → ((r : Tents) (g : List ℕ) → IsGridOf (tent_rules r) g → IsTrue ((tent_rules r).is_solution g) ↔ IsTentSolution r g)
@@ -54,7 +56,7 @@ module _ {S : Type 0} (takes : S → Text → S → Type 0) (budget : ℕ) (trac
       (subst (λ (r : Tents). Tells takes (IsTold grade traced (TellsSweeps (tent_rules r))) s t status) e told)
     where
       same : (g : List ℕ) → Solves (tent_rules q) g ↔ SolvesTents q g
-      same g = (λ h. (h.grid, (accepted q g h.grid).0 h.good), λ h. record { grid = h.0; good = (accepted q g h.0).1 h.1 })
+      same g = (λ h. record { grid = h.grid; solution = (accepted q g h.grid).0 h.good }, λ h. record { grid = h.grid; good = (accepted q g h.grid).1 h.solution })
 
   pub houses_rightly : (p q : Solo) (grade : Grade) → q ≡ p → ((r : Solo) (g : List ℕ) → IsTrue ((houses_rules r).is_solution g) ↔ solo.IsSolution r g)
       → grade ≡ houses_grade budget q → IsRightGrade (Solves (houses_rules q)) grade → Tells takes (IsTold grade traced (TellsVisits (solo_house p) (houses_rules q))) s t status
@@ -64,7 +66,7 @@ module _ {S : Type 0} (takes : S → Text → S → Type 0) (budget : ℕ) (trac
       (subst (λ (r : Solo). Tells takes (IsTold grade traced (TellsVisits (solo_house p) (houses_rules r))) s t status) e told)
     where
       same : (g : List ℕ) → Solves (houses_rules q) g ↔ SolvesSolo q g
-      same g = (λ h. (h.grid, (accepted q g).0 h.good), λ h. record { grid = h.0; good = (accepted q g).1 h.1 })
+      same g = (λ h. record { grid = h.grid; solution = (accepted q g).0 h.good }, λ h. record { grid = h.grid; good = (accepted q g).1 h.solution })
 
   -- a puzzle that single values and places settle
   pub singles_rightly : (p q : Solo) → q ≡ p → ((r : Solo) (g : List ℕ) → IsTrue ((singles_rules r).is_solution g) ↔ solo.IsSolution r g)
@@ -73,7 +75,7 @@ module _ {S : Type 0} (takes : S → Text → S → Type 0) (budget : ℕ) (trac
   singles_rightly p q e accepted settled one told = at p e told
     where
       same : (g : List ℕ) → Solves (singles_rules q) g ↔ SolvesSolo q g
-      same g = (λ h. (h.grid, (accepted q g).0 h.good), λ h. record { grid = h.0; good = (accepted q g).1 h.1 })
+      same g = (λ h. record { grid = h.grid; solution = (accepted q g).0 h.good }, λ h. record { grid = h.grid; good = (accepted q g).1 h.solution })
 
       -- the grade is by singles, and the trace too
       by_singles : (r : Solo) → is_settled (singles_rules r) ≡ true → IsRightGrade (SolvesSolo r) (ByRules Singles)

@@ -8,12 +8,11 @@ use Rattle.engine_core.specs.Puzzle.{Puzzle}
 use Rattle.engine_core.specs.Closing.{closure}
 use Rattle.engine_core.specs.Stored.{is_settled}
 use Rattle.engine_core.specs.Walk.{Mark, Mark.Trial, Mark.Found, IsFound, walk, walk_closed}
-use Rattle.engine_core.specs.Verdict.{Outcome, Outcome.OneGrid, Solves, outcome, spent, trials_in}
+use Rattle.engine_core.specs.Verdict.{Outcome, Outcome.OneGrid, Solves, outcome, verdict_of, spent, trials_in}
 use Rattle.puzzles.specs.Grades.{HasOne, IsGradeOf, IsRightGrade, IsTold, grade_by, searched_grade}
 use Rattle.puzzles.specs.Answers.{Text}
 use Rattle.puzzles.specs.Stops.{Tells}
 use Rattle.puzzles.proofs.StopLemmas.{tells_as}
-use Rattle.puzzles.specs.Verdicts.{verdict_of}
 use Rattle.puzzles.specs.declared.grade.Grade.{Grade}
 use Rattle.puzzles.specs.declared.grade.Grade.TheVariants.{ByRules, BySearch, NoSolution, SeveralSolutions, GaveUp}
 

@@ -14,7 +14,6 @@ pub mod LineLemmas
 pub mod BatchLemmas
 pub mod InputLemmas
 pub mod AnswerLemmas
-pub mod TentVerdicts
 pub mod PieceLemmas
 pub mod GradeLemmas
 pub mod StopLemmas
@@ -22,5 +21,4 @@ pub mod ToldLemmas
 pub mod GameLemmas
 pub mod MadeSolo
 pub mod CheckLemmas
-pub mod LightVerdicts
 pub mod MadeTents

@@ -1,8 +1,8 @@
 -- Runs that end before their answers are whole, and those that deliver the last of an answer.
-use Rattle.std.proofs.Common.{[], refl, ◌≡◌, ◌≤◌, ℕ, Result, Ok, Err, IfErr, sym, subst, inl, inr, arith, true≢false}
+use Rattle.std.proofs.Common.{[], refl, ◌≡◌, ◌≤◌, ℕ, Result, Ok, Err, IfErr, sym, subst, inl, inr, arith, true, false, true≢false}
 use Rattle.std.specs.Result.{IsErr, IsErrAnd}
 use Rattle.puzzles.specs.Answers.{Answer, BeginsAnswer, Text}
-use Rattle.puzzles.specs.Stops.{Tells, status_in, status_of}
+use Rattle.puzzles.specs.Stops.{Tells, is_broken, status_in, status_of}
 use Rattle.puzzles.specs.declared.stop.Stop.{Stop}
 use Rattle.puzzles.specs.declared.stop.Stop.TheVariants.{Memory, Broken}
 
@@ -37,3 +37,12 @@ tells_as takes A B s t status follows told = record {
 -- nothing was written
 pub tells_nothing : {S : Type 0} (takes : S → Text → S → Type 0) (allows : Answer → Type 0) (s : S) (status : ℕ) → takes s [] s → 5 ≤ status → Tells takes allows s s status
 tells_nothing takes allows s status nothing high = record { written = []; took = nothing; begun = inl refl; whole = λ small. absurd (omega arith) }
+
+-- a status of at most 5 is that of no failing end, and 6 is that of one
+pub of_memory : (stop : Stop) (n : ℕ) → n ≡ status_of stop → n ≤ 5 → is_broken stop ≡ false
+of_memory Memory n is low = refl
+of_memory Broken n is low = absurd (omega arith)
+
+pub of_failure : (stop : Stop) (n : ℕ) → n ≡ status_of stop → n ≡ 6 → is_broken stop ≡ true
+of_failure Memory n is six = absurd (omega arith)
+of_failure Broken n is six = refl

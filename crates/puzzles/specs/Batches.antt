@@ -1,13 +1,11 @@
 -- A batch, between two bytes of its input.
-use Rattle.std.specs.Prelude.{◌≡◌, ◌==◌, ◌++◌, Bool, true, false}
+use Rattle.std.specs.Prelude.{◌≡◌, ◌==◌, ◌++◌, false}
 use Rattle.std.specs.List.{All}
 use Rattle.std.specs.Str.Lines.{lines}
 use Rattle.puzzles.specs.Answers.{Answer, Text}
 use Rattle.puzzles.specs.Each.{AllowsEach, Stopped, both}
 use Rattle.puzzles.specs.LineStates.{Holds}
 use Rattle.puzzles.specs.declared.batch.Batch.{Batch}
-use Rattle.puzzles.specs.declared.stop.Stop.{Stop}
-use Rattle.puzzles.specs.declared.stop.Stop.TheVariants as stop
 
 -- After these bytes of the input, the answers to all lines that ended are written, and what came
 -- since is held: whatever follows, the rest of the answer is that to what is held and what follows.
@@ -32,8 +30,3 @@ pub record StoppedUpTo {I S : Type 0} (gives : I → Text → I → Type 0) (tak
   pub seen : Text
   pub gave : gives from seen to
   pub stopped : Stopped takes allows start seen now
-
--- the cause is a failing end, and not want of memory
-abbrev pub is_failure : Stop → Bool
-is_failure stop.Memory = false
-is_failure stop.Broken = true

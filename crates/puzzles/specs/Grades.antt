@@ -2,7 +2,7 @@
 use Rattle.std.specs.Prelude.{◌≡◌, ◌≢◌, ◌++◌, ℕ, Bool, List, if◌then◌else◌, codes, decimal, ⊤}
 use Rattle.engine_core.specs.Puzzle.{Puzzle}
 use Rattle.engine_core.specs.Stored.{is_settled}
-use Rattle.engine_core.specs.Verdict.{Outcome, Outcome.NoGrid, Outcome.OneGrid, Outcome.TwoGrids, Outcome.OutOfBudget, trials_in}
+use Rattle.engine_core.specs.Verdict.{Outcome, Outcome.NoGrid, Outcome.OneGrid, Outcome.TwoGrids, Outcome.OutOfBudget, verdict_of, trials_in}
 use Rattle.engine_core.specs.Walk.{walk}
 use Rattle.gameid_core.specs.Puzzles.{Pattern, Solo, Light, Tents}
 use Rattle.fields_core.specs.LightHouses.{light_rules}
@@ -11,7 +11,6 @@ use Rattle.pattern_core.specs.LineRules.{line_rules}
 use Rattle.solo_core.specs.RuleSets.{singles_rules, houses_rules}
 use Rattle.puzzles.specs.Answers.{Answer, Text}
 use Rattle.puzzles.specs.Traces.{IsTrace, TellsVisits, TellsSweeps, pattern_house, solo_house}
-use Rattle.puzzles.specs.Verdicts.{verdict_of}
 use Rattle.puzzles.specs.declared.grade.Grade.{Grade}
 use Rattle.puzzles.specs.declared.grade.Grade.TheVariants.{ByRules, BySearch, NoSolution, SeveralSolutions, GaveUp}
 use Rattle.puzzles.specs.declared.grade.RuleSet.{RuleSet}

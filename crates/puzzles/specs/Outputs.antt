@@ -2,23 +2,23 @@
 use Rattle.std.specs.Prelude.{◌≡◌, ◌*◌, ◌⊎◌, Bool, true, false, List, ℕ, Option, Some, None, Result, Err, is_ok}
 use Rattle.std.specs.Str.Lines.{lines}
 use Rattle.engine_core.specs.Puzzle.{Puzzle}
+use Rattle.engine_core.specs.Verdict.{verdict_of}
 use Rattle.gameid_core.specs.declared.fault.IdFault.{IdFault}
 use Rattle.gameid_core.specs.declared.game.Game.{Game}
 use Rattle.gameid_core.specs.declared.game.Game.TheVariants as game
-use Rattle.grid_core.specs.Grids.{IsGrid}
 use Rattle.gameid_core.specs.Puzzles.{Pattern, Solo, Light, Tents, solo_n}
 use Rattle.gameid_core.specs.LightText.{SpellsLight, light_of}
-use Rattle.fields_core.specs.Light.{is_lit}
 use Rattle.fields_core.specs.LightHouses.{light_rules}
 use Rattle.gameid_core.specs.TentsText.{SpellsTents, tents_of}
 use Rattle.fields_core.specs.TentHouses.{tent_rules}
-use Rattle.fields_core.specs.TentSolutions.{IsTentSolution}
 use Rattle.gameid_core.specs.SoloText.{SpellsSolo, solo_of}
 use Rattle.solo_core.specs.RuleSets.{houses_rules}
-use Rattle.solo_core.specs.Solutions as solo
 use Rattle.gameid_core.specs.PatternText.{SpellsPattern, pattern_of}
 use Rattle.pattern_core.specs.LineRules.{line_rules}
 use Rattle.pattern_core.specs.Solutions as pattern
+use Rattle.maker_core.specs.LightMaking.{SolvesLights}
+use Rattle.maker_core.specs.SoloMaking.{SolvesSolo}
+use Rattle.maker_core.specs.TentMaking.{SolvesTents}
 use Rattle.puzzles.specs.Answers.{Answer, Text}
 use Rattle.puzzles.specs.CheckAnswers.{AllowsGrid, pattern_told, solo_told, light_told, tent_told}
 use Rattle.puzzles.specs.Each.{AllowsEach}
@@ -28,7 +28,7 @@ use Rattle.puzzles.specs.GridTexts.{grid_text, pattern_cell, solo_cell, solo_ext
 use Rattle.puzzles.specs.Makings.{AllowsMade}
 use Rattle.puzzles.specs.Refusals.{refused, refused_words, fault_text}
 use Rattle.puzzles.specs.Requests.{Asked, solve, check, grade, generate}
-use Rattle.puzzles.specs.Verdicts.{IsRight, verdict_of, verdict_answer}
+use Rattle.puzzles.specs.Verdicts.{IsRight, verdict_answer}
 
 -- the ID has that first fault, and it is told
 pub record IsRefused {P : Type 0} (reading : Result P IdFault) (answer : Answer) : Type 0 where
@@ -56,10 +56,6 @@ AllowsPattern id budget answer = IsRefused (pattern_of id) answer
 abbrev pub printed_solo : Solo → List ℕ → Text
 printed_solo p g = grid_text (solo_cell p g) (solo_extent p)
 
--- a grid of the puzzle's numbers that solves it
-abbrev pub SolvesSolo : Solo → List ℕ → Type 0
-SolvesSolo p g = IsGrid (solo_n p * solo_n p) (solo_n p) g × solo.IsSolution p g
-
 -- the answers that `solve solo ID` allows
 abbrev pub AllowsSolo : Text → ℕ → Answer → Type 0
 AllowsSolo id budget answer = IsRefused (solo_of id) answer
@@ -68,10 +64,6 @@ AllowsSolo id budget answer = IsRefused (solo_of id) answer
 abbrev pub printed_lights : Light → List ℕ → Text
 printed_lights p g = grid_text (light_cell p g) p.size
 
--- bulbs and cells without one that light the puzzle by its rules
-abbrev pub SolvesLights : Light → List ℕ → Type 0
-SolvesLights p g = IsGrid (p.size.w * p.size.h) 2 g × (is_lit p g ≡ true)
-
 -- the answers that `solve lightup ID` allows
 abbrev pub AllowsLights : Text → ℕ → Answer → Type 0
 AllowsLights id budget answer = IsRefused (light_of id) answer
@@ -79,10 +71,6 @@ AllowsLights id budget answer = IsRefused (light_of id) answer
 
 abbrev pub printed_tents : Tents → List ℕ → Text
 printed_tents p g = grid_text (tents_cell p g) p.size
-
--- tents and cells without one that solve the puzzle
-abbrev pub SolvesTents : Tents → List ℕ → Type 0
-SolvesTents p g = IsGrid (p.size.w * p.size.h) 2 g × IsTentSolution p g
 
 -- the answers that `solve tents ID` allows
 abbrev pub AllowsTents : Text → ℕ → Answer → Type 0

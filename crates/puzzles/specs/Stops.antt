@@ -9,7 +9,7 @@ abbrev pub status_of : Stop → ℕ
 status_of Memory = 5
 status_of Broken = 6
 
--- the sink failed
+-- the cause is a failing end, and not want of memory
 abbrev pub is_broken : Stop → Bool
 is_broken Memory = false
 is_broken Broken = true
@@ -27,9 +27,9 @@ pub record Tells {S : Type 0} (takes : S → Text → S → Type 0) (allows : An
   pub begun : BeginsAnswer allows written
   pub whole : status < 5 → allows (record { text = written; status = status })
 
--- How the sink stands after that status: with one below 5 it has not failed and sent all on, and with 6 it failed.
+-- How the sink stands after that status: with 6 it failed, and with any other not; with one below 5 it sent all on.
 pub record IsLeft (status : ℕ) (failed flushed : Bool) : Type 0 where
   pub within : status ≤ 6
-  pub sound : status < 5 → failed ≡ false
+  pub sound : status ≤ 5 → failed ≡ false
   pub sent : status < 5 → flushed ≡ true
   pub broken : status ≡ 6 → failed ≡ true

@@ -1,14 +1,8 @@
--- What `solve` says of a puzzle: the verdict of its walk with a budget, and what that means of the solutions.
+-- What `solve` says of a puzzle by a verdict, and what that means of the solutions.
 use Rattle.std.specs.Prelude.{◌≡◌, ◌≢◌, ℕ, List, [], Some, None, ⊤}
-use Rattle.engine_core.specs.Puzzle.{Puzzle}
-use Rattle.engine_core.specs.Verdict.{Outcome, Outcome.NoGrid, Outcome.OneGrid, Outcome.TwoGrids, Outcome.OutOfBudget, outcome}
-use Rattle.engine_core.specs.Walk.{walk}
+use Rattle.engine_core.specs.Verdict.{Outcome, Outcome.NoGrid, Outcome.OneGrid, Outcome.TwoGrids, Outcome.OutOfBudget}
 use Rattle.puzzles.specs.Answers.{Answer, Text}
 use Rattle.puzzles.specs.Replies.{none_answer, one_answer, several_answer, gave_up_answer}
-
--- the verdict of the walk of the rules' start board with that budget
-abbrev pub verdict_of : Puzzle → ℕ → Outcome
-verdict_of rules budget = outcome budget None (walk rules 0 rules.start)
 
 -- no grid is a solution; this one is and no other; both are, and they differ; nothing, or that this one is
 abbrev pub IsRight : (List ℕ → Type 0) → Outcome → Type 0

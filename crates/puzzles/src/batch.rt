@@ -5,7 +5,8 @@ ghost use Rattle.gameid_core.specs.Head.{max_id};
 ghost use Rattle.puzzles.specs.Answers.{Answer, Begins, Text};
 ghost use Rattle.puzzles.specs.Replies.{answer_in};
 ghost use Rattle.puzzles.specs.Each.{AllowsEach, Answered, Begun, HasAnswers, Stopped};
-ghost use Rattle.puzzles.specs.Batches.{Batched, StoppedUpTo, TakenUpTo, is_failure};
+ghost use Rattle.puzzles.specs.Batches.{Batched, StoppedUpTo, TakenUpTo};
+ghost use Rattle.puzzles.specs.Stops.{is_broken};
 ghost use Rattle.puzzles.specs.Runs.{IsBroken, Ran};
 ghost use Rattle.puzzles.specs.Outputs.{AllowsSolve};
 ghost use Rattle.puzzles.specs.LineStates.{Holds};
@@ -13,37 +14,40 @@ ghost use Rattle.puzzles.specs.LineStates.{Holds};
 use crate::ends::{CALL_LIMIT, CHUNK, Sink, Source};
 use crate::lines::Line;
 use crate::output::{BROKEN, put_all};
-use crate::reply::{Reply, id_refused};
+use crate::reply::{Reply, id_refused_in};
 use crate::solve::{Stores, each_text_has_an_answer, solve_id};
 use crate::stop::Stop;
 use gameid_core::{Game, IdFault};
 use std::alloc::{AllocError, Global};
+use std::mem::replace;
 
-/// The line that is being read, the memory of the searches, and the greatest status so far.
+/// The line that is being read, the memory of the searches and of the answers' texts, and the greatest status so far.
 #[derive(Drop)]
 pub struct Batch {
     line: Line,
     stores: Stores,
+    text: String,
     status: u8,
 }
 
-/// The answer to a line, or to an over-long one.
+/// The answer to a line, or to an over-long one, in the memory of a text.
 fn line_reply(
     alloc: Global,
     stores: &mut Stores,
     game: Game,
     budget: u64,
     line: Option<&[u8]>,
+    text: String,
 ) -> Result<Reply, AllocError>
-    ensures allowed { IfOk result (λ r. (text : Text)
-        → MatchOption line.entry (max_id < length text) (λ l. l.now ≡ text)
-        → AllowsSolve game budget text (answer_in r)) }
+    ensures allowed { IfOk result (λ r. (id : Text)
+        → MatchOption line.entry (max_id < length id) (λ l. l.now ≡ id)
+        → AllowsSolve game budget id (answer_in r)) }
     ensures status { IfOk result (λ r. r.status < 5) }
 {
     gameid_core::over_long_is_too_long();
     match line {
-        Some(id) => solve_id(alloc, stores, game, id, budget),
-        None => id_refused(alloc, IdFault::TooLong),
+        Some(id) => solve_id(alloc, stores, game, id, budget, text),
+        None => id_refused_in(text, IdFault::TooLong),
     }
 }
 
@@ -55,6 +59,7 @@ impl Batch {
         Batch {
             line: Line::new(alloc),
             stores: Stores::none(),
+            text: String::new(alloc),
             status: 0,
         }
     }
@@ -66,7 +71,7 @@ impl Batch {
         ensures status { OnOk result (self.new.status ≡ max self.old.status reply.now.status) }
         ensures begun { OnErr result ((written : List ℕ) × O.takes output.old written output.new
             × Begins written (answer_in reply.now).text) }
-        ensures cause { IfErr result (λ e. (O.has_failed output.new ≡ true) × (is_failure e ≡ true)) }
+        ensures cause { IfErr result (λ e. (O.has_failed output.new ≡ true) × (is_broken e ≡ true)) }
     {
         match put_all(output, reply.text.as_bytes()) {
             Ok(()) => {
@@ -77,7 +82,7 @@ impl Batch {
         }
     }
 
-    /// Puts the answer to a line that ended.
+    /// Puts the answer to a line that ended, and keeps the memory of its text for the next one.
     fn answer_line<O: Sink>(
         &mut self,
         alloc: Global,
@@ -94,10 +99,13 @@ impl Batch {
         ensures stopped { IfErr result (λ e. HasAnswers (AllowsSolve game budget) → (start : O) (seen : List ℕ)
             → Batched O.takes (AllowsSolve game budget) start self.old seen output.old
             → Stopped O.takes (AllowsSolve game budget) start (seen ++ 10 ∷ []) output.new) }
-        ensures cause { IfErr result (λ e. O.has_failed output.new ≡ is_failure e) }
+        ensures cause { IfErr result (λ e. O.has_failed output.new ≡ is_broken e) }
     {
-        let reply = line_reply(alloc, &mut self.stores, game, budget, self.line.ended())?;
+        let text = replace(&mut self.text, String::new(alloc));
+        let line = self.line.ended();
+        let reply = line_reply(alloc, &mut self.stores, game, budget, line, text)?;
         self.put_reply(&reply, output)?;
+        self.text = reply.text;
         self.line.clear();
         Ok(())
     }
@@ -120,7 +128,7 @@ impl Batch {
         ensures stopped { IfErr result (λ e. HasAnswers (AllowsSolve game budget) → (start : O) (seen : List ℕ)
             → Batched O.takes (AllowsSolve game budget) start self.old seen output.old
             → Stopped O.takes (AllowsSolve game budget) start (seen ++ byte ∷ []) output.new) }
-        ensures cause { IfErr result (λ e. O.has_failed output.new ≡ is_failure e) }
+        ensures cause { IfErr result (λ e. O.has_failed output.new ≡ is_broken e) }
     {
         if byte == b'\n' {
             return self.answer_line(alloc, game, budget, output);
@@ -147,7 +155,7 @@ impl Batch {
         ensures stopped { IfErr result (λ e. HasAnswers (AllowsSolve game budget) → (start : O) (seen : List ℕ)
             → Batched O.takes (AllowsSolve game budget) start self.old seen output.old
             → Stopped O.takes (AllowsSolve game budget) start (seen ++ chunk.now) output.new) }
-        ensures cause { IfErr result (λ e. O.has_failed output.new ≡ is_failure e) }
+        ensures cause { IfErr result (λ e. O.has_failed output.new ≡ is_broken e) }
     {
         for byte in chunk {
             self.take_byte(alloc, game, budget, *byte, output)?;
@@ -172,12 +180,14 @@ impl Batch {
         ensures begun { IfErr result (λ e. HasAnswers (AllowsSolve game budget) → (start : O) (seen : List ℕ)
             → Batched O.takes (AllowsSolve game budget) start self.old seen output.old
             → Begun O.takes (AllowsSolve game budget) start seen output.new) }
-        ensures cause { IfErr result (λ e. O.has_failed output.new ≡ is_failure e) }
+        ensures cause { IfErr result (λ e. O.has_failed output.new ≡ is_broken e) }
     {
         if self.line.is_empty() {
             return Ok(());
         }
-        let reply = line_reply(alloc, &mut self.stores, game, budget, self.line.last())?;
+        let text = replace(&mut self.text, String::new(alloc));
+        let line = self.line.last();
+        let reply = line_reply(alloc, &mut self.stores, game, budget, line, text)?;
         self.put_reply(&reply, output)?;
         Ok(())
     }
@@ -204,7 +214,9 @@ fn take_input<I: Source, O: Sink>(
         input.old output.old batch.new input.new output.new) }
     ensures stopped { IfErr result (λ e. HasAnswers (AllowsSolve game budget) → StoppedUpTo I.gives O.takes (AllowsSolve game budget)
         input.old output.old input.new output.new) }
-    ensures cause { IfErr result (λ e. is_failure e ≡ true → IsBroken (I.has_failed input.new)
+    ensures memory { IfErr result (λ e. is_broken e ≡ false
+        → (I.has_failed input.new ≡ false) × (O.has_failed output.new ≡ false)) }
+    ensures cause { IfErr result (λ e. is_broken e ≡ true → IsBroken (I.has_failed input.new)
         (O.has_failed output.new) (I.call_count input.new) (I.has_ended input.new)) }
 {
     let mut buffer = [0u8; CHUNK];
@@ -236,7 +248,7 @@ pub fn solve_lines<I: Source, O: Sink>(
     ensures ran { Ran I.gives I.has_ended O.takes (λ read. AllowsEach (AllowsSolve game budget) (lines read))
         input.old input.new output.old output.new result }
     ensures status { result ≤ 6 }
-    ensures sound { result < 5
+    ensures sound { result ≤ 5
         → (I.has_failed input.new ≡ false) × (O.has_failed output.new ≡ false) }
     ensures sent { result < 5 → O.is_flushed output.new ≡ true }
     ensures broken { result ≡ 6 → IsBroken (I.has_failed input.new) (O.has_failed output.new)

@@ -56,7 +56,7 @@ pub fn check_input<P: Checked, I: Source, O: Sink>(
         (AllowsGrid (P.hides puzzle.now) (P.value_count puzzle.now) (P.extent puzzle.now) (P.cell_text puzzle.now) (P.told puzzle.now))
         input.old input.new output.old output.new result }
     ensures status { result ≤ 6 }
-    ensures sound { result < 5 → (I.has_failed input.new ≡ false) × (O.has_failed output.new ≡ false) }
+    ensures sound { result ≤ 5 → (I.has_failed input.new ≡ false) × (O.has_failed output.new ≡ false) }
     ensures sent { result < 5 → O.is_flushed output.new ≡ true }
     ensures broken { result ≡ 6 → IsBroken (I.has_failed input.new) (O.has_failed output.new)
         (I.call_count input.new) (I.has_ended input.new) }
@@ -86,7 +86,7 @@ fn check_read<P: Checked + Drop, I: Source, O: Sink>(
         (AllowsRead (λ p. AllowsGrid (P.hides p) (P.value_count p) (P.extent p) (P.cell_text p) (P.told p)) puzzle)
         input.old input.new output.old output.new result }
     ensures status { result ≤ 6 }
-    ensures sound { result < 5 → (I.has_failed input.new ≡ false) × (O.has_failed output.new ≡ false) }
+    ensures sound { result ≤ 5 → (I.has_failed input.new ≡ false) × (O.has_failed output.new ≡ false) }
     ensures sent { result < 5 → O.is_flushed output.new ≡ true }
     ensures broken { result ≡ 6 → IsBroken (I.has_failed input.new) (O.has_failed output.new)
         (I.call_count input.new) (I.has_ended input.new) }
@@ -119,7 +119,7 @@ pub fn check_id<I: Source, O: Sink>(
     ensures ran { Ran I.gives I.has_ended O.takes (AllowsCheck game id.now)
         input.old input.new output.old output.new result }
     ensures status { result ≤ 6 }
-    ensures sound { result < 5 → (I.has_failed input.new ≡ false) × (O.has_failed output.new ≡ false) }
+    ensures sound { result ≤ 5 → (I.has_failed input.new ≡ false) × (O.has_failed output.new ≡ false) }
     ensures sent { result < 5 → O.is_flushed output.new ≡ true }
     ensures broken { result ≡ 6 → IsBroken (I.has_failed input.new) (O.has_failed output.new)
         (I.call_count input.new) (I.has_ended input.new) }

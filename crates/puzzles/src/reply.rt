@@ -28,6 +28,15 @@ pub fn words_refused(alloc: Global) -> Result<Reply, AllocError>
     Ok(Reply { text, status: 2 })
 }
 
+/// A text of these words, in the memory of another one, of which nothing stays.
+fn begun(mut text: String, words: &str) -> Result<String, AllocError>
+    ensures { IfOk result (λ t. string_bytes t ≡ words.now) }
+{
+    text.clear();
+    text.push_str(words)?;
+    Ok(text)
+}
+
 /// Adds words to a text, and then a number in decimal.
 fn push_numbered(text: &mut String, words: &str, number: usize) -> Result<(), AllocError>
     ensures { OnOk result (string_bytes text.new
@@ -65,34 +74,41 @@ fn push_fault(text: &mut String, fault: IdFault) -> Result<(), AllocError>
 pub fn id_refused(alloc: Global, fault: IdFault) -> Result<Reply, AllocError>
     ensures { IfOk result (λ r. answer_in r ≡ refused (fault_text fault)) }
 {
-    let mut text = String::from_str(alloc, "refused: ")?;
+    id_refused_in(String::new(alloc), fault)
+}
+
+/// The answer to an ID with that first fault, in the memory of a text.
+pub fn id_refused_in(text: String, fault: IdFault) -> Result<Reply, AllocError>
+    ensures { IfOk result (λ r. answer_in r ≡ refused (fault_text fault)) }
+{
+    let mut text = begun(text, "refused: ")?;
     push_fault(&mut text, fault)?;
     text.push_str("\n")?;
     Ok(Reply { text, status: 2 })
 }
 
-/// The answer where no grid is a solution.
-pub fn none_reply(alloc: Global) -> Result<Reply, AllocError>
+/// The answer where no grid is a solution, in the memory of a text.
+pub fn none_reply(text: String) -> Result<Reply, AllocError>
     ensures { IfOk result (λ r. answer_in r ≡ none_answer) }
 {
-    let text = String::from_str(alloc, "none\n")?;
+    let text = begun(text, "none\n")?;
     Ok(Reply { text, status: 1 })
 }
 
-/// The answer where this grid is the one solution.
-pub fn one_reply<P: Printed>(alloc: Global, puzzle: &P, grid: &Grid) -> Result<Reply, AllocError>
+/// The answer where this grid is the one solution, in the memory of a text.
+pub fn one_reply<P: Printed>(text: String, puzzle: &P, grid: &Grid) -> Result<Reply, AllocError>
     requires { IsGrid ((P.extent puzzle.now).w * (P.extent puzzle.now).h) (P.value_count puzzle.now) grid.now }
     ensures { IfOk result (λ r. answer_in r
         ≡ one_answer (grid_text (P.cell_text puzzle.now grid.now) (P.extent puzzle.now))) }
 {
-    let mut text = String::from_str(alloc, "one\n")?;
+    let mut text = begun(text, "one\n")?;
     push_grid(&mut text, puzzle, grid)?;
     Ok(Reply { text, status: 0 })
 }
 
-/// The answer where these two grids are solutions.
+/// The answer where these two grids are solutions, in the memory of a text.
 pub fn several_reply<P: Printed>(
-    alloc: Global,
+    text: String,
     puzzle: &P,
     first: &Grid,
     second: &Grid,
@@ -103,24 +119,24 @@ pub fn several_reply<P: Printed>(
         ≡ several_answer (grid_text (P.cell_text puzzle.now first.now) (P.extent puzzle.now))
         (grid_text (P.cell_text puzzle.now second.now) (P.extent puzzle.now))) }
 {
-    let mut text = String::from_str(alloc, "several\n")?;
+    let mut text = begun(text, "several\n")?;
     push_grid(&mut text, puzzle, first)?;
     text.push_str("\n")?;
     push_grid(&mut text, puzzle, second)?;
     Ok(Reply { text, status: 3 })
 }
 
-/// The answer of a search that gave up and had found nothing.
-pub fn gave_up_reply(alloc: Global) -> Result<Reply, AllocError>
+/// The answer of a search that gave up and had found nothing, in the memory of a text.
+pub fn gave_up_reply(text: String) -> Result<Reply, AllocError>
     ensures { IfOk result (λ r. answer_in r ≡ gave_up_answer []) }
 {
-    let text = String::from_str(alloc, "gave up\n")?;
+    let text = begun(text, "gave up\n")?;
     Ok(Reply { text, status: 4 })
 }
 
-/// The answer of a search that gave up and had found this grid.
+/// The answer of a search that gave up and had found this grid, in the memory of a text.
 pub fn gave_up_with_reply<P: Printed>(
-    alloc: Global,
+    text: String,
     puzzle: &P,
     grid: &Grid,
 ) -> Result<Reply, AllocError>
@@ -128,7 +144,7 @@ pub fn gave_up_with_reply<P: Printed>(
     ensures { IfOk result (λ r. answer_in r
         ≡ gave_up_answer (grid_text (P.cell_text puzzle.now grid.now) (P.extent puzzle.now))) }
 {
-    let mut text = String::from_str(alloc, "gave up\n")?;
+    let mut text = begun(text, "gave up\n")?;
     push_grid(&mut text, puzzle, grid)?;
     Ok(Reply { text, status: 4 })
 }

@@ -38,7 +38,14 @@ fn reply_to(alloc: Global, request: Option<Request<'_>>) -> Result<Reply, AllocE
                 id: Some(id),
                 budget,
             },
-        ) => solve_id(alloc, &mut Stores::none(), game, id.as_bytes(), budget),
+        ) => solve_id(
+            alloc,
+            &mut Stores::none(),
+            game,
+            id.as_bytes(),
+            budget,
+            String::new(alloc),
+        ),
         Some(
             Request::Generate {
                 game,
@@ -61,8 +68,8 @@ fn reply_to(alloc: Global, request: Option<Request<'_>>) -> Result<Reply, AllocE
 }
 
 /// Does what the words after the program's name ask for, and gives the status:
-/// 0 to 4 where the whole answer was written, 5 where memory was wanted, and 6 where an end failed. After 5 and 6
-/// what was written is the beginning of an answer, or nothing.
+/// 0 to 4 where the whole answer was written, 5 where memory was wanted, and 6 where an end failed, and always where one
+/// did. After 5 and 6 what was written is the beginning of an answer, or nothing.
 pub fn run<I: Source, O: Sink>(alloc: Global, words: &[String], input: &mut I, output: &mut O) -> u8
     requires no_calls { I.call_count input.old ≡ 0 }
     requires input_fine { I.has_failed input.old ≡ false }
@@ -71,7 +78,7 @@ pub fn run<I: Source, O: Sink>(alloc: Global, words: &[String], input: &mut I, o
     ensures ran { Ran I.gives I.has_ended O.takes (Allows (asked_of (map string_bytes words.now)))
         input.old input.new output.old output.new result }
     ensures status { result ≤ 6 }
-    ensures sound { result < NO_MEMORY
+    ensures sound { result ≤ NO_MEMORY
         → (I.has_failed input.new ≡ false) × (O.has_failed output.new ≡ false) }
     ensures sent { result < NO_MEMORY → O.is_flushed output.new ≡ true }
     ensures broken { result ≡ 6 → IsBroken (I.has_failed input.new) (O.has_failed output.new)

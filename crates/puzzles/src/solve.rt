@@ -1,16 +1,16 @@
 //! The answers of `solve`.
 ghost use Rattle.std.specs.Prelude.{◌≡◌, ◌<◌, ◌*◌, List, ℕ, IfOk};
 ghost use Rattle.engine_core.specs.Puzzle.{FitsIn, needs_of};
-ghost use Rattle.engine_core.specs.Verdict.{IsTrueOf};
+ghost use Rattle.engine_core.specs.Verdict.{IsTrueOf, verdict_of};
 ghost use Rattle.puzzles.specs.Each.{HasAnswers};
 ghost use Rattle.puzzles.specs.GridTexts.{grid_text};
 ghost use Rattle.puzzles.specs.Outputs.{AllowsPattern, AllowsSolo, AllowsLights, AllowsTents, AllowsSolve};
 ghost use Rattle.puzzles.specs.Replies.{answer_in};
-ghost use Rattle.puzzles.specs.Verdicts.{verdict_of, verdict_answer};
+ghost use Rattle.puzzles.specs.Verdicts.{verdict_answer};
 
 use crate::printed::Printed;
 use crate::reply::{
-    Reply, gave_up_reply, gave_up_with_reply, id_refused, none_reply, one_reply, several_reply,
+    Reply, gave_up_reply, gave_up_with_reply, id_refused_in, none_reply, one_reply, several_reply,
 };
 use engine_core::{Rules, Store, Verdict};
 use fields_core::{LightRules, TentRules};
@@ -54,13 +54,14 @@ fn store_for<R: Rules>(
     }
 }
 
-/// The answer of a search by the rules of the puzzle.
+/// The answer of a search by the rules of the puzzle, in the memory of a text.
 fn searched<P: Printed, R: Rules>(
     alloc: Global,
     kept: &mut Option<Store<R>>,
     puzzle: &P,
     rules: &R,
     budget: u64,
+    text: String,
 ) -> Result<Reply, AllocError>
     requires cells { (R.puzzle rules.now).cells ≡ (P.extent puzzle.now).w * (P.extent puzzle.now).h }
     requires values { (R.puzzle rules.now).values ≡ P.value_count puzzle.now }
@@ -71,16 +72,16 @@ fn searched<P: Printed, R: Rules>(
 {
     let mut store = store_for(alloc, kept, rules)?;
     let reply = match store.solve(rules, budget) {
-        Verdict::None => none_reply(alloc),
-        Verdict::One => one_reply(alloc, puzzle, store.first().unwrap()),
+        Verdict::None => none_reply(text),
+        Verdict::One => one_reply(text, puzzle, store.first().unwrap()),
         Verdict::Several => {
             let first = store.first().unwrap();
-            several_reply(alloc, puzzle, first, store.second().unwrap())
+            several_reply(text, puzzle, first, store.second().unwrap())
         }
         Verdict::GaveUp { found: true } => {
-            gave_up_with_reply(alloc, puzzle, store.first().unwrap())
+            gave_up_with_reply(text, puzzle, store.first().unwrap())
         }
-        Verdict::GaveUp { found: false } => gave_up_reply(alloc),
+        Verdict::GaveUp { found: false } => gave_up_reply(text),
     }?;
     *kept = Some(store);
     Ok(reply)
@@ -92,6 +93,7 @@ fn solve_pattern(
     stores: &mut Stores,
     id: &[u8],
     budget: u64,
+    text: String,
 ) -> Result<Reply, AllocError>
     ensures allowed { IfOk result (λ r. AllowsPattern id.now budget (answer_in r)) }
     ensures status { IfOk result (λ r. r.status < 5) }
@@ -100,10 +102,10 @@ fn solve_pattern(
     match read_pattern(alloc, id) {
         Ok(puzzle) => {
             let rules = PatternLines::new(alloc, &puzzle)?;
-            searched(alloc, &mut stores.pattern, &puzzle, &rules, budget)
+            searched(alloc, &mut stores.pattern, &puzzle, &rules, budget, text)
         }
         Err(IdFault::Memory) => Err(AllocError),
-        Err(fault) => id_refused(alloc, fault),
+        Err(fault) => id_refused_in(text, fault),
     }
 }
 
@@ -113,6 +115,7 @@ fn solve_solo(
     stores: &mut Stores,
     id: &[u8],
     budget: u64,
+    text: String,
 ) -> Result<Reply, AllocError>
     ensures allowed { IfOk result (λ r. AllowsSolo id.now budget (answer_in r)) }
     ensures status { IfOk result (λ r. r.status < 5) }
@@ -121,10 +124,10 @@ fn solve_solo(
     match read_solo(alloc, id) {
         Ok(puzzle) => {
             let rules = SoloHouses::new(alloc, &puzzle)?;
-            searched(alloc, &mut stores.solo, &puzzle, &rules, budget)
+            searched(alloc, &mut stores.solo, &puzzle, &rules, budget, text)
         }
         Err(IdFault::Memory) => Err(AllocError),
-        Err(fault) => id_refused(alloc, fault),
+        Err(fault) => id_refused_in(text, fault),
     }
 }
 
@@ -134,6 +137,7 @@ fn solve_lights(
     stores: &mut Stores,
     id: &[u8],
     budget: u64,
+    text: String,
 ) -> Result<Reply, AllocError>
     ensures allowed { IfOk result (λ r. AllowsLights id.now budget (answer_in r)) }
     ensures status { IfOk result (λ r. r.status < 5) }
@@ -141,10 +145,10 @@ fn solve_lights(
     match read_lights(alloc, id) {
         Ok(puzzle) => {
             let rules = LightRules::new(alloc, &puzzle)?;
-            searched(alloc, &mut stores.lights, &puzzle, &rules, budget)
+            searched(alloc, &mut stores.lights, &puzzle, &rules, budget, text)
         }
         Err(IdFault::Memory) => Err(AllocError),
-        Err(fault) => id_refused(alloc, fault),
+        Err(fault) => id_refused_in(text, fault),
     }
 }
 
@@ -154,6 +158,7 @@ fn solve_tents(
     stores: &mut Stores,
     id: &[u8],
     budget: u64,
+    text: String,
 ) -> Result<Reply, AllocError>
     ensures allowed { IfOk result (λ r. AllowsTents id.now budget (answer_in r)) }
     ensures status { IfOk result (λ r. r.status < 5) }
@@ -162,16 +167,16 @@ fn solve_tents(
     match read_tents(alloc, id) {
         Ok(puzzle) => {
             let rules = TentRules::new(alloc, &puzzle)?;
-            searched(alloc, &mut stores.tents, &puzzle, &rules, budget)
+            searched(alloc, &mut stores.tents, &puzzle, &rules, budget, text)
         }
         Err(IdFault::Memory) => Err(AllocError),
-        Err(fault) => id_refused(alloc, fault),
+        Err(fault) => id_refused_in(text, fault),
     }
 }
 
 /// The answer to an ID of the game that is to be solved with so many trials at most: its first fault, or the verdict with
-/// its grids. The search works in the memory of `stores` where that is enough, and in new memory where not, which is
-/// left there for the next.
+/// its grids, in the memory of `text`, of which nothing else stays. The search works in the memory of `stores` where that
+/// is enough, and in new memory where not, which is left there for the next.
 ///
 /// # Errors
 ///
@@ -182,15 +187,16 @@ pub fn solve_id(
     game: Game,
     id: &[u8],
     budget: u64,
+    text: String,
 ) -> Result<Reply, AllocError>
     ensures allowed { IfOk result (λ r. AllowsSolve game budget id.now (answer_in r)) }
     ensures status { IfOk result (λ r. r.status < 5) }
 {
     match game {
-        Game::Solo => solve_solo(alloc, stores, id, budget),
-        Game::Pattern => solve_pattern(alloc, stores, id, budget),
-        Game::LightUp => solve_lights(alloc, stores, id, budget),
-        Game::Tents => solve_tents(alloc, stores, id, budget),
+        Game::Solo => solve_solo(alloc, stores, id, budget, text),
+        Game::Pattern => solve_pattern(alloc, stores, id, budget, text),
+        Game::LightUp => solve_lights(alloc, stores, id, budget, text),
+        Game::Tents => solve_tents(alloc, stores, id, budget, text),
     }
 }
 

@@ -2,7 +2,7 @@
 ghost use Rattle.std.specs.Prelude.{◌≡◌, ◌++◌, ◌==◌, ◌&&◌, [], List, ℕ, true, false, IfOk, IfErr, OnOk};
 ghost use Rattle.puzzles.specs.Checks.{begins_with_line_end, without_returns};
 ghost use Rattle.puzzles.specs.Texts.{IsKept, IsText, KeptUpTo, ReadWhole};
-ghost use Rattle.puzzles.specs.Batches.{is_failure};
+ghost use Rattle.puzzles.specs.Stops.{is_broken};
 ghost use Rattle.puzzles.specs.Runs.{IsBroken};
 
 use crate::ends::{CALL_LIMIT, CHUNK, Source};
@@ -49,7 +49,8 @@ fn take_whole<I: Source>(kept: &mut Kept, input: &mut I) -> Result<(), Stop>
     ensures fine { OnOk result ((I.has_failed input.new ≡ false) × (I.has_ended input.new ≡ true)) }
     ensures taken { OnOk result (KeptUpTo I.gives input.old kept.new input.new) }
     ensures read { (seen : List ℕ) × I.gives input.old seen input.new }
-    ensures cause { IfErr result (λ e. is_failure e ≡ true
+    ensures memory { IfErr result (λ e. is_broken e ≡ false → I.has_failed input.new ≡ false) }
+    ensures cause { IfErr result (λ e. is_broken e ≡ true
         → IsBroken (I.has_failed input.new) false (I.call_count input.new) (I.has_ended input.new)) }
 {
     let mut buffer = [0u8; CHUNK];
@@ -71,7 +72,8 @@ pub fn read_whole<I: Source>(alloc: Global, input: &mut I) -> Result<Option<Vec<
     ensures fine { OnOk result ((I.has_failed input.new ≡ false) × (I.has_ended input.new ≡ true)) }
     ensures whole { IfOk result (λ text. ReadWhole I.gives input.old text input.new) }
     ensures read { (seen : List ℕ) × I.gives input.old seen input.new }
-    ensures cause { IfErr result (λ e. is_failure e ≡ true
+    ensures memory { IfErr result (λ e. is_broken e ≡ false → I.has_failed input.new ≡ false) }
+    ensures cause { IfErr result (λ e. is_broken e ≡ true
         → IsBroken (I.has_failed input.new) false (I.call_count input.new) (I.has_ended input.new)) }
 {
     let mut kept = Kept {

@@ -1,6 +1,7 @@
-use Rattle.std.proofs.Common.{inl, inr, refl}
+use Rattle.std.proofs.Common.{◌∙◌, inl, inr, refl}
 use Rattle.puzzles.specs.Outputs.{AllowsSolve}
 use Rattle.puzzles.proofs.InputLemmas.{ran_answered, ran_begun, ran_stopped, stop_high}
+use Rattle.puzzles.proofs.StopLemmas.{of_failure, of_memory}
 use Rattle.puzzles.proofs.batch.solve_lines.Goals as goal
 
 pub returns-in-Err-clause-ran : goal.returns-in-Err-clause-ran
@@ -25,3 +26,17 @@ returns-clause-ran g c =
     let t = c.in-Ok.ensures.taken in
     ran_answered g.I.Source.gives g.I.Source.has_ended g.O.Sink.takes g.met.O.Sink.takes_both (AllowsSolve c.args.game c.args.budget)
     _ _ _ _ _ t.seen c.answer_last.new.self.status _ (inr refl) c.in-Ok.ensures.fine.1 t.gave (c.in-Ok-answer_last.ensures.whole c.args.output.now t.seen t.batched) c.if-finish.ensures.bytes
+
+pub returns-in-Err-clause-sound : goal.returns-in-Err-clause-sound
+returns-in-Err-clause-sound g c = λ low. c.in-Err.ensures.memory (of_memory c.in-Err.stop c.status.result c.status.ensures low)
+
+pub returns-in-Err-clause-broken : goal.returns-in-Err-clause-broken
+returns-in-Err-clause-broken g c = λ six. c.in-Err.ensures.cause (of_failure c.in-Err.stop c.status.result c.status.ensures six)
+
+pub returns-in-Err-answer_last-clause-sound : goal.returns-in-Err-answer_last-clause-sound
+returns-in-Err-answer_last-clause-sound g c = λ low.
+    (c.in-Ok.ensures.fine.0, c.in-Err-answer_last.ensures.cause ∙ of_memory c.in-Err-answer_last.stop _ c.status-in-Err-answer_last.ensures low)
+
+pub returns-in-Err-answer_last-clause-broken : goal.returns-in-Err-answer_last-clause-broken
+returns-in-Err-answer_last-clause-broken g c = λ six.
+    inr (inl (c.in-Err-answer_last.ensures.cause ∙ of_failure c.in-Err-answer_last.stop _ c.status-in-Err-answer_last.ensures six))

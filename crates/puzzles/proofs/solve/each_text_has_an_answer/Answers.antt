@@ -10,8 +10,11 @@ use Rattle.fields_core.specs.TentHouses.{tent_rules}
 use Rattle.pattern_core.specs.LineRules.{line_rules}
 use Rattle.pattern_core.specs.Solutions as pattern
 use Rattle.solo_core.specs.RuleSets.{houses_rules}
+use Rattle.maker_core.specs.LightMaking.{SolvesLights}
+use Rattle.maker_core.specs.SoloMaking.{SolvesSolo}
+use Rattle.maker_core.specs.TentMaking.{SolvesTents}
 use Rattle.puzzles.specs.Each.{HasAnswers}
-use Rattle.puzzles.specs.Outputs.{AllowsSolve, SolvesSolo, SolvesLights, SolvesTents, printed_solo, printed_pattern, printed_lights, printed_tents}
+use Rattle.puzzles.specs.Outputs.{AllowsSolve, printed_solo, printed_pattern, printed_lights, printed_tents}
 use Rattle.puzzles.proofs.AnswerLemmas.{answer_of, right_of}
 use Rattle.puzzles.proofs.solve.each_text_has_an_answer.Goals as goal
 
@@ -21,8 +24,8 @@ returns c = by
     by : (game : Game) (budget : ℕ) → HasAnswers (AllowsSolve game budget)
     by Solo budget text = answer_of (solo_of text) (SpellsSolo text) SolvesSolo houses_rules printed_solo budget (c.one_reading_of_solo.ensures.either text)
         (λ p s. right_of (houses_rules p) (SolvesSolo p) _
-        (λ g t. (t.grid, (c.accepted_are_solutions.ensures.houses p g).0 t.good))
-        (λ g t. record { grid = t.0; good = (c.accepted_are_solutions.ensures.houses p g).1 t.1 })
+        (λ g t. record { grid = t.grid; solution = (c.accepted_are_solutions.ensures.houses p g).0 t.good })
+        (λ g t. record { grid = t.grid; good = (c.accepted_are_solutions.ensures.houses p g).1 t.solution })
         (c.verdict_is_true.ensures (houses_rules p) (c.rules_are_lawful.ensures.houses p s.puzzle) budget))
     by Pattern budget text = answer_of (pattern_of text) (SpellsPattern text) pattern.IsSolution line_rules printed_pattern budget (c.one_reading.ensures.either text)
         (λ p s. right_of (line_rules p) (pattern.IsSolution p) _
@@ -31,10 +34,10 @@ returns c = by
         (c.verdict_is_true.ensures (line_rules p) (c.rules_are_lawful-2.ensures p s.puzzle) budget))
     by LightUp budget text = answer_of (light_of text) (SpellsLight text) SolvesLights light_rules printed_lights budget (c.one_reading_of_lights.ensures.either text)
         (λ p s. right_of (light_rules p) (SolvesLights p) _
-        (λ g t. (t.grid, t.good)) (λ g t. record { grid = t.0; good = t.1 })
+        (λ g t. record { grid = t.grid; lit = t.good }) (λ g t. record { grid = t.grid; good = t.lit })
         (c.verdict_is_true.ensures (light_rules p) (c.rules_of_lights_are_lawful.ensures p s.puzzle) budget))
     by Tents budget text = answer_of (tents_of text) (SpellsTents text) SolvesTents tent_rules printed_tents budget (c.one_reading_of_tents.ensures.either text)
         (λ p s. right_of (tent_rules p) (SolvesTents p) _
-        (λ g t. (t.grid, (c.accepted_are_solutions-3.ensures p g t.grid).0 t.good))
-        (λ g t. record { grid = t.0; good = (c.accepted_are_solutions-3.ensures p g t.0).1 t.1 })
+        (λ g t. record { grid = t.grid; solution = (c.accepted_are_solutions-3.ensures p g t.grid).0 t.good })
+        (λ g t. record { grid = t.grid; good = (c.accepted_are_solutions-3.ensures p g t.grid).1 t.solution })
         (c.verdict_is_true.ensures (tent_rules p) (c.rules_of_tents_are_lawful.ensures p s.puzzle) budget))
