@@ -1,6 +1,6 @@
 -- What a try at a puzzle of Light Up shows: that the first filling that passes was made, or that it failed.
 use Rattle.std.proofs.Common.{◌≡◌, ℕ, suc, ◌+◌, ◌<◌, Bool, true, false, not, ◌&&◌, List, slice_index, refl, sym, ap, subst, ◌∙◌, arith, inl, inr}
-use Rattle.std.specs.Prelude.{◌==◌}
+use Rattle.std.specs.Prelude.{◌==◌, ◌↔◌, IsTrue}
 use Rattle.std.proofs.lemmas.Bool.{true≢false, and_parts, or_cases, eqb-true, eq-eqb, cases_eq}
 use Rattle.rand_core.specs.Stream.{Stream}
 use Rattle.grid_core.specs.Candidates.{all_of}
@@ -11,13 +11,17 @@ use Rattle.gameid_core.specs.Puzzles.{Light}
 use Rattle.fields_core.specs.CountHouse.{start_of}
 use Rattle.fields_core.specs.Light.{cells_of, white, black_right, is_lit}
 use Rattle.fields_core.specs.LightHouses.{light_rules}
+use Rattle.fields_core.specs.LightSolutions.{IsLightSolution}
+use Rattle.engine_core.specs.Puzzle.{IsGridOf}
+use Rattle.engine_core.specs.Verdict.{Solves}
 use Rattle.fields_core.proofs.LightFaultLemmas.{lit-parts}
 use Rattle.maker_core.specs.declared.made.Kept.{Kept}
 use Rattle.maker_core.specs.Draws.{IsFirstPassing, filling_at, stream_after}
 use Rattle.maker_core.specs.LightClues.{light_game}
 use Rattle.maker_core.specs.LightFilling.{Lighting, lights_of, light_filling, light_passes, light_puzzle_of, with_numbers, numbered_cell}
-use Rattle.maker_core.specs.Made.{has_one}
-use Rattle.maker_core.specs.Thinning.{IsWithin, AreReasons, stream_after_clues}
+use Rattle.maker_core.specs.LightMaking.{SolvesLights}
+use Rattle.maker_core.specs.Made.{IsOnlySolution, has_one}
+use Rattle.maker_core.specs.Thinning.{IsOnly, IsWithin, AreReasons, stream_after_clues}
 use Rattle.maker_core.proofs.FoundAtOnce.{IsKnown, found_at_once}
 use Rattle.maker_core.proofs.Tries.{IsTrying, IsTrying-more, first_passing, taken_is, left_after}
 
@@ -47,6 +51,14 @@ black_passes p g budget known grid lit black =
     (λ c v lt few here.
     let inside = (known.largest (light_rules p).start known.laws.start_within).inside c v here in
     start_black p c v (black c) few inside ∙ sym (no_bulb_on p g c lit lt (black c)))
+
+-- ---- the solution by the rules of the search, and by the rules of the game
+pub lights_only : (p : Light) (g answer : List ℕ) → ((q : Light) (h : List ℕ) → IsGridOf (light_rules q) h → (IsTrue ((light_rules q).is_solution h)) ↔ IsLightSolution q h)
+    → answer ≡ g → IsOnly (light_rules p) g → IsOnlySolution (SolvesLights p) answer
+lights_only p g answer accepted is only =
+    let solves : (h : List ℕ) → SolvesLights p h → Solves (light_rules p) h = λ h s. record { grid = s.grid; good = (accepted p h s.grid).1 s.solution } in
+    subst (λ (a : List ℕ). IsOnlySolution (SolvesLights p) a) (sym is)
+    (record { grid = only.0.grid; solution = (accepted p g only.0.grid).0 only.0.good }, λ h s. sym (only.1 h (solves h s)))
 
 -- ---- a try
 -- what a try made of the generator that the last one left

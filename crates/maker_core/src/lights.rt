@@ -91,6 +91,7 @@ pub fn make_lights<G: Rng>(
     ensures undrawn { result ≡ Err SizeRange → G.stream rng.new ≡ G.stream rng.old }
     ensures full { 1 ≤ limits.tries → black ≡ 100 → result ≢ Err Exhausted }
 {
+    fields_core::accepted_lights_are_solutions();
     if !is_wide(size) {
         return Err(MakeFault::SizeRange);
     }

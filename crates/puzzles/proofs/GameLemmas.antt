@@ -6,6 +6,7 @@ use Rattle.engine_core.specs.Stored.{is_settled}
 use Rattle.engine_core.specs.Verdict.{Solves}
 use Rattle.gameid_core.specs.Puzzles.{Pattern, Solo, Light, Tents}
 use Rattle.fields_core.specs.LightHouses.{light_rules}
+use Rattle.fields_core.specs.LightSolutions.{IsLightSolution}
 use Rattle.fields_core.specs.TentHouses.{tent_rules}
 use Rattle.fields_core.specs.TentSolutions.{IsTentSolution}
 use Rattle.engine_core.specs.Puzzle.{IsGridOf}
@@ -38,14 +39,16 @@ module _ {S : Type 0} (takes : S → Text → S → Type 0) (budget : ℕ) (trac
       same : (g : List ℕ) → Solves (line_rules q) g ↔ pattern.IsSolution q g
       same g = (λ h. (accepted q g h.grid).0 h.good, λ h. record { grid = h.grid; good = (accepted q g h.grid).1 h })
 
-  pub lights_rightly : (p q : Light) (grade : Grade) → q ≡ p → grade ≡ light_grade budget q → IsRightGrade (Solves (light_rules q)) grade
-      → Tells takes (IsTold grade traced (TellsSweeps (light_rules q))) s t status → Tells takes (IsGradeOf (SolvesLights p) (light_grade budget p) traced (light_trace p)) s t status
-  lights_rightly p q grade e is right told = rightly takes (SolvesLights p) grade (light_grade budget p) traced (light_trace p) s t status
+  pub lights_rightly : (p q : Light) (grade : Grade) → q ≡ p
+      → ((r : Light) (g : List ℕ) → IsGridOf (light_rules r) g → IsTrue ((light_rules r).is_solution g) ↔ IsLightSolution r g)
+      → grade ≡ light_grade budget q → IsRightGrade (Solves (light_rules q)) grade → Tells takes (IsTold grade traced (TellsSweeps (light_rules q))) s t status
+      → Tells takes (IsGradeOf (SolvesLights p) (light_grade budget p) traced (light_trace p)) s t status
+  lights_rightly p q grade e accepted is right told = rightly takes (SolvesLights p) grade (light_grade budget p) traced (light_trace p) s t status
       (is ∙ ap (light_grade budget) e) (subst (λ (r : Light). IsRightGrade (SolvesLights r) grade) e (right_as (Solves (light_rules q)) (SolvesLights q) grade same right))
       (subst (λ (r : Light). Tells takes (IsTold grade traced (TellsSweeps (light_rules r))) s t status) e told)
     where
       same : (g : List ℕ) → Solves (light_rules q) g ↔ SolvesLights q g
-      same g = (λ h. record { grid = h.grid; lit = h.good }, λ h. record { grid = h.grid; good = h.lit })
+      same g = (λ h. record { grid = h.grid; solution = (accepted q g h.grid).0 h.good }, λ h. record { grid = h.grid; good = (accepted q g h.grid).1 h.solution })
 
   pub tents_rightly : (p q : Tents) (grade : Grade) → q ≡ p
       → ((r : Tents) (g : List ℕ) → IsGridOf (tent_rules r) g → IsTrue ((tent_rules r).is_solution g) ↔ IsTentSolution r g)

@@ -278,6 +278,7 @@ fn tell_lights<O: Sink>(
         output.old output.new (status_in result) }
     ensures left { IsLeft (status_in result) (O.has_failed output.new) (O.is_flushed output.new) }
 {
+    fields_core::accepted_lights_are_solutions();
     let rules = LightRules::new(alloc, puzzle)?;
     let mut store = Store::new(alloc, &rules)?;
     let grade = graded(&mut store, &rules, RuleSet::Local, budget);

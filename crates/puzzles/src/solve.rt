@@ -142,6 +142,7 @@ fn solve_lights(
     ensures allowed { IfOk result (λ r. AllowsLights id.now budget (answer_in r)) }
     ensures status { IfOk result (λ r. r.status < 5) }
 {
+    fields_core::accepted_lights_are_solutions();
     match read_lights(alloc, id) {
         Ok(puzzle) => {
             let rules = LightRules::new(alloc, &puzzle)?;
@@ -217,4 +218,5 @@ pub fn each_text_has_an_answer()
     fields_core::rules_of_lights_are_lawful();
     fields_core::rules_of_tents_are_lawful();
     fields_core::accepted_are_solutions();
+    fields_core::accepted_lights_are_solutions();
 }

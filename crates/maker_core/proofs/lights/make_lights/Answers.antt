@@ -1,5 +1,5 @@
 use Rattle.std.proofs.Common.{arith}
-use Rattle.maker_core.proofs.LightMakings.{IsFullFirst-none, IsFullFirst-more, try_failed, try_passed, left_passed, size_is, all_again, reasons_are}
+use Rattle.maker_core.proofs.LightMakings.{IsFullFirst-none, IsFullFirst-more, try_failed, try_passed, left_passed, size_is, all_again, reasons_are, lights_only}
 use Rattle.maker_core.proofs.Tries.{IsTrying-none, none_passes}
 use Rattle.maker_core.proofs.lights.make_lights.Goals as goal
 
@@ -23,6 +23,9 @@ returns-then-branch-clause-drawn g c =
 
 pub returns-then-branch-clause-size : goal.returns-then-branch-clause-size
 returns-then-branch-clause-size g c = size_is c.args.size c.in_ok-puzzle.ensures.drawn.0 c.in_ok-puzzle.puzzle c.in_ok-thin.field-0.puzzle c.in_ok-puzzle.ensures.drawn.2 c.in_ok-thin.ensures.within.frame.size
+
+pub returns-then-branch-clause-only : goal.returns-then-branch-clause-only
+returns-then-branch-clause-only g c = lights_only _ _ _ c.accepted_lights_are_solutions.ensures c.in_ok-thin.ensures.answer c.in_ok-thin.ensures.only
 
 pub returns-then-branch-clause-reasons : goal.returns-then-branch-clause-reasons
 returns-then-branch-clause-reasons g c = reasons_are _ _ _ _ _ c.in_ok-thin.ensures.answer c.in_ok-thin.ensures.reasons

@@ -5,7 +5,7 @@ use Rattle.puzzles.proofs.GameLemmas.{lights_rightly}
 use Rattle.puzzles.proofs.grade.tell_lights.Goals as goal
 
 pub returns-clause-told : goal.returns-clause-told
-returns-clause-told g c = lights_rightly g.O.Sink.takes _ _ _ _ _ c.args.puzzle.now c.in_ok-rules.rules.light _ c.in_ok-rules.ensures
+returns-clause-told g c = lights_rightly g.O.Sink.takes _ _ _ _ _ c.args.puzzle.now c.in_ok-rules.rules.light _ c.in_ok-rules.ensures c.accepted_lights_are_solutions.ensures
     c.graded-grade.ensures.grade c.graded-grade.ensures.right c.tell_with_sweeps.ensures.told
 
 pub returns-in_err-store-clause-told : goal.returns-in_err-store-clause-told

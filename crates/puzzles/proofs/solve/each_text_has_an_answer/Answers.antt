@@ -34,7 +34,8 @@ returns c = by
         (c.verdict_is_true.ensures (line_rules p) (c.rules_are_lawful-2.ensures p s.puzzle) budget))
     by LightUp budget text = answer_of (light_of text) (SpellsLight text) SolvesLights light_rules printed_lights budget (c.one_reading_of_lights.ensures.either text)
         (λ p s. right_of (light_rules p) (SolvesLights p) _
-        (λ g t. record { grid = t.grid; lit = t.good }) (λ g t. record { grid = t.grid; good = t.lit })
+        (λ g t. record { grid = t.grid; solution = (c.accepted_lights_are_solutions.ensures p g t.grid).0 t.good })
+        (λ g t. record { grid = t.grid; good = (c.accepted_lights_are_solutions.ensures p g t.grid).1 t.solution })
         (c.verdict_is_true.ensures (light_rules p) (c.rules_of_lights_are_lawful.ensures p s.puzzle) budget))
     by Tents budget text = answer_of (tents_of text) (SpellsTents text) SolvesTents tent_rules printed_tents budget (c.one_reading_of_tents.ensures.either text)
         (λ p s. right_of (tent_rules p) (SolvesTents p) _
