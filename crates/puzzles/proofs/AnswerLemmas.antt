@@ -5,7 +5,8 @@ use Rattle.engine_core.specs.Puzzle.{Puzzle}
 use Rattle.engine_core.specs.Verdict.{Outcome, Outcome.NoGrid, Outcome.OneGrid, Outcome.TwoGrids, Outcome.OutOfBudget, verdict_of, IsTrueOf, Solves}
 use Rattle.gameid_core.specs.declared.fault.IdFault.{IdFault}
 use Rattle.puzzles.specs.Answers.{Answer, Text}
-use Rattle.puzzles.specs.Outputs.{IsRefused, IsSolved}
+use Rattle.puzzles.specs.Refusals.{IsRefused}
+use Rattle.puzzles.specs.Solving.{IsSolved}
 use Rattle.puzzles.specs.Replies.{answer_in}
 use Rattle.puzzles.specs.Verdicts.{IsRight, verdict_answer}
 use Rattle.puzzles.specs.declared.reply.Reply.{Reply}

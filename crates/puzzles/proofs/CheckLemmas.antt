@@ -6,8 +6,8 @@ use Rattle.gameid_core.specs.declared.fault.IdFault.{IdFault}
 use Rattle.gameid_core.specs.declared.fault.IdFault.TheVariants.{TooLong, SeedId, NoColon, BadSize, Variant, SizeRange, BadByte, NumberRange, LineTooFull, TooFew, TooMany, Memory}
 use Rattle.puzzles.specs.Answers.{Answer, Text}
 use Rattle.puzzles.specs.CheckAnswers.{AllowsRead}
-use Rattle.puzzles.specs.Outputs.{IsRefused, IsAnswered}
-use Rattle.puzzles.specs.Refusals.{refused, fault_text}
+use Rattle.puzzles.specs.Checking.{IsAnswered}
+use Rattle.puzzles.specs.Refusals.{IsRefused, refused, fault_text}
 use Rattle.puzzles.specs.Runs.{Ran}
 
 pub told_fault : {P : Type 0} (allows : P → Text → Answer → Type 0) (r : Result P IdFault) (fault : IdFault) (input : Text) (answer : Answer) → r ≡ Err fault → fault ≢ Memory

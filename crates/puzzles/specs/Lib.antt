@@ -18,6 +18,9 @@ pub mod GridReading
 pub mod Refusals
 pub mod Each
 pub mod CheckAnswers
+pub mod Solving
+pub mod Grading
+pub mod Checking
 pub mod Outputs
 pub mod LineStates
 pub mod Batches

@@ -17,7 +17,7 @@ use Rattle.pattern_core.specs.Solutions as pattern
 use Rattle.maker_core.specs.Draws.{Making, IsFirstPassing, NonePasses, filling_at}
 use Rattle.maker_core.specs.Made.{IsOnlySolution}
 use Rattle.maker_core.specs.LightClues.{light_game}
-use Rattle.maker_core.specs.LightFilling.{light_filling, light_passes, light_puzzle_of}
+use Rattle.maker_core.specs.LightFilling.{light_filling, light_passes, light_puzzle_of, with_numbers}
 use Rattle.maker_core.specs.LightMaking.{SolvesLights}
 use Rattle.maker_core.specs.TentFilling as camp
 use Rattle.maker_core.specs.TentFilling.{tent_filling, tents_pass}
@@ -26,7 +26,8 @@ use Rattle.maker_core.specs.PatternMaking.{pattern_filling, pattern_of, pattern_
 use Rattle.maker_core.specs.SoloClues.{solo_game}
 use Rattle.maker_core.specs.SoloFilling.{solo_filling, all_given}
 use Rattle.maker_core.specs.SoloMaking.{solo_passes, SolvesSolo}
-use Rattle.maker_core.specs.Thinning.{IsWithin}
+use Rattle.maker_core.specs.Thinning.{AreReasons, IsWithin}
+use Rattle.maker_core.specs.declared.made.Kept.{Kept}
 use Rattle.puzzles.specs.Answers.{Answer, Text}
 use Rattle.puzzles.specs.GridTexts.{grid_text, pattern_cell, solo_cell, solo_extent, light_cell, tents_cell}
 use Rattle.puzzles.specs.Refusals.{refused, fault_text}
@@ -91,6 +92,7 @@ AllowsMadePattern text seed budget tries black = AllowsMaking game.Pattern text 
     ⊎ IsExhausted (pattern_filling (record { w = w; h = h }) black) (pattern_passes (record { w = w; h = h }) budget) (seed_stream seed) tries answer)
 
 -- The first filling gives the solution; the puzzle is of its size, has some of its numbers as givens, and no other solution.
+-- Each given that is left was kept for a reason: without it there are two solutions, or the search for them gave up.
 pub record IsSoloMade (c r budget tries : ℕ) (s : Stream) (p : Solo) (g : List ℕ) : Type 0 where
   pub first : IsFirstPassing (solo_filling c r) (solo_passes c r budget) s tries 0
   pub filled : g ≡ filling_at (solo_filling c r) 0 s
@@ -98,6 +100,8 @@ pub record IsSoloMade (c r budget tries : ℕ) (s : Stream) (p : Solo) (g : List
   pub rows : p.r ≡ r
   pub givens : IsWithin solo_game p (all_given c r g)
   pub only : IsOnlySolution (SolvesSolo p) g
+  pub kept : List Kept
+  pub reasons : AreReasons solo_game budget (all_given c r g) p kept
 
 -- there were no tries, and that is told
 pub record IsWithoutTries (tries : ℕ) (answer : Answer) : Type 0 where
@@ -111,7 +115,7 @@ AllowsMadeSolo text seed budget tries = AllowsMaking game.Solo text (λ c r answ
     ⊎ IsWithoutTries tries answer)
 
 -- The first of the fillings that passes gives the solution and the black cells; the puzzle has some of its numbers and no
--- other solution.
+-- other solution. Each number that is left was kept for a reason.
 pub record IsLightMade (size : Extent) (black budget tries : ℕ) (s : Stream) (p : Light) (g : List ℕ) : Type 0 where
   pub k : ℕ
   pub first : IsFirstPassing (light_filling size black) (light_passes size budget) s tries k
@@ -119,6 +123,8 @@ pub record IsLightMade (size : Extent) (black budget tries : ℕ) (s : Stream) (
   pub filled : g ≡ (filling_at (light_filling size black) k s).bulbs
   pub size_asked : p.size ≡ size
   pub only : IsOnlySolution (SolvesLights p) g
+  pub kept : List Kept
+  pub reasons : AreReasons light_game budget (with_numbers p g) p kept
 
 -- the answers that `generate lightup SIZE` allows
 abbrev pub AllowsMadeLights : Text → ℕ → ℕ → ℕ → ℕ → Answer → Type 0

@@ -1,5 +1,5 @@
 -- What is said of a refusal.
-use Rattle.std.specs.Prelude.{◌++◌, [], codes, decimal}
+use Rattle.std.specs.Prelude.{◌≡◌, ◌++◌, [], Result, Err, codes, decimal}
 use Rattle.gameid_core.specs.declared.fault.IdFault.{IdFault}
 use Rattle.gameid_core.specs.declared.fault.IdFault.TheVariants.{TooLong, SeedId, NoColon, BadSize, Variant, SizeRange, BadByte, NumberRange, LineTooFull, TooFew, TooMany, Memory}
 use Rattle.puzzles.specs.Answers.{Answer, Text}
@@ -24,3 +24,9 @@ fault_text (LineTooFull line) = codes "line " ++ decimal line ++ codes " too ful
 fault_text TooFew = codes "too few"
 fault_text TooMany = codes "too many"
 fault_text Memory = []
+
+-- the ID has that first fault, and it is told
+pub record IsRefused {P : Type 0} (reading : Result P IdFault) (answer : Answer) : Type 0 where
+  pub fault : IdFault
+  pub first : reading ≡ Err fault
+  pub told : answer ≡ refused (fault_text fault)

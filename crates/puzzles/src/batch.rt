@@ -8,7 +8,7 @@ ghost use Rattle.puzzles.specs.Each.{AllowsEach, Answered, Begun, HasAnswers, St
 ghost use Rattle.puzzles.specs.Batches.{Batched, StoppedUpTo, TakenUpTo};
 ghost use Rattle.puzzles.specs.Stops.{is_broken};
 ghost use Rattle.puzzles.specs.Runs.{IsBroken, Ran};
-ghost use Rattle.puzzles.specs.Outputs.{AllowsSolve};
+ghost use Rattle.puzzles.specs.Solving.{AllowsSolve};
 ghost use Rattle.puzzles.specs.LineStates.{Holds};
 
 use crate::ends::{CALL_LIMIT, CHUNK, Sink, Source};

@@ -2,7 +2,7 @@
 ghost use Rattle.std.specs.Prelude.{◌≡◌, ◌<◌, ◌≤◌, List, ℕ, true, false, IfOk, IfErr};
 ghost use Rattle.puzzles.specs.Answers.{Text};
 ghost use Rattle.puzzles.specs.CheckAnswers.{AllowsGrid, AllowsRead};
-ghost use Rattle.puzzles.specs.Outputs.{AllowsCheck, is_read};
+ghost use Rattle.puzzles.specs.Checking.{AllowsCheck, is_read};
 ghost use Rattle.puzzles.specs.Replies.{answer_in};
 ghost use Rattle.puzzles.specs.Texts.{IsText};
 ghost use Rattle.puzzles.specs.Runs.{Ran, IsBroken};

@@ -40,25 +40,39 @@ fn are_same(one: &Grid, other: &Grid) -> bool {
     true
 }
 
+/// The verdict of a search by deduction with enough trials, and whether its first grid is that one.
+fn deduced(
+    alloc: Global,
+    puzzle: &PatternPuzzle,
+    plain: Option<&Grid>,
+) -> Result<(Verdict, bool), Fail> {
+    let rules = PatternLines::new(alloc, puzzle)?;
+    let mut store = Store::new(alloc, &rules)?;
+    if !store.fits(&rules) {
+        Err("a store that is enough")?;
+    }
+    let verdict = store.solve(&rules, 1_000);
+    let is_same = match (store.first(), plain) {
+        (Some(one), Some(other)) => are_same(one, other),
+        (one, other) => one.is_none() && other.is_none(),
+    };
+    Ok((verdict, is_same))
+}
+
 #[test]
 fn the_searches_agree(rt: HostRuntime) -> Result<(), Fail> {
     for (w, h) in SIZES {
         let size = Size::new(w, h).ok_or("a size")?;
         for bits in 0..1u32 << size.cells().min(8) {
             let puzzle = puzzle_of(rt.alloc(), size, bits)?;
-            let found = plain::search(rt.alloc(), &puzzle)?;
-            let rules = PatternLines::new(rt.alloc(), &puzzle)?;
-            let mut store = Store::new(rt.alloc(), &rules)?;
-            assert!(rt; store.fits(&rules));
-            let verdict = store.solve(&rules, 1_000);
-            let plainly = if found.second.is_some() {
-                Verdict::Several
+            let plainly = plain::search(rt.alloc(), &puzzle)?;
+            assert!(rt; !plainly.gave_up);
+            let (verdict, is_same) = deduced(rt.alloc(), &puzzle, plainly.first.as_ref())?;
+            if plainly.second.is_some() {
+                assert_eq!(rt; verdict, Verdict::Several, "{w}x{h} of {bits}");
             } else {
-                Verdict::One
-            };
-            assert_eq!(rt; verdict, plainly, "{w}x{h} of {bits}");
-            if let (Verdict::One, Some(one), Some(other)) = (verdict, store.first(), &found.first) {
-                assert!(rt; are_same(one, other), "{w}x{h} of {bits}");
+                assert_eq!(rt; verdict, Verdict::One, "{w}x{h} of {bits}");
+                assert!(rt; is_same, "{w}x{h} of {bits}");
             }
         }
     }

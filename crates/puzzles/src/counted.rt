@@ -25,24 +25,55 @@ fn counts<R: Rules>(
     Ok(all)
 }
 
+/// The counts of searches of a puzzle of Pattern.
+fn pattern_counts(alloc: Global, id: &[u8], budgets: &[u64]) -> Result<Vec<(u64, usize)>, Fail> {
+    let rules = PatternLines::new(alloc, &read_pattern(alloc, id)?)?;
+    Ok(counts(alloc, &rules, budgets)?)
+}
+
+/// The counts of searches of a puzzle of Solo.
+fn solo_counts(alloc: Global, id: &[u8], budgets: &[u64]) -> Result<Vec<(u64, usize)>, Fail> {
+    let rules = SoloHouses::new(alloc, &read_solo(alloc, id)?)?;
+    Ok(counts(alloc, &rules, budgets)?)
+}
+
+/// The counts of searches of a puzzle of Light Up.
+fn light_counts(alloc: Global, id: &[u8], budgets: &[u64]) -> Result<Vec<(u64, usize)>, Fail> {
+    let rules = LightRules::new(alloc, &read_lights(alloc, id)?)?;
+    Ok(counts(alloc, &rules, budgets)?)
+}
+
 #[test]
-fn trials_are_counted(rt: HostRuntime) -> Result<(), Fail> {
-    let corners = PatternLines::new(rt.alloc(), &read_pattern(rt.alloc(), b"2x2:1/1/1/1")?)?;
-    let found = counts(rt.alloc(), &corners, &[2, 1, 0, u64::MAX])?;
+fn trials_of_pattern_are_counted(rt: HostRuntime) -> Result<(), Fail> {
+    let found = pattern_counts(rt.alloc(), b"2x2:1/1/1/1", &[2, 1, 0, u64::MAX])?;
     assert_eq!(rt;
         found.as_slice(),
         [(2, 1), (1, 1), (0, 0), (2, 1)].as_slice()
     );
-    let blank = SoloHouses::new(rt.alloc(), &read_solo(rt.alloc(), b"2x2:p")?)?;
-    let found = counts(rt.alloc(), &blank, &[8, 7])?;
+    Ok(())
+}
+
+#[test]
+fn trials_of_solo_are_counted(rt: HostRuntime) -> Result<(), Fail> {
+    let found = solo_counts(rt.alloc(), b"2x2:p", &[8, 7])?;
     assert_eq!(rt; found.as_slice(), [(8, 7), (7, 7)].as_slice());
-    let turned = LightRules::new(rt.alloc(), &read_lights(rt.alloc(), b"3x3:aBBa1aBb")?)?;
-    let found = counts(rt.alloc(), &turned, &[4, 3, 1, 0])?;
+    Ok(())
+}
+
+#[test]
+fn trials_of_light_up_are_counted(rt: HostRuntime) -> Result<(), Fail> {
+    let found = light_counts(rt.alloc(), b"3x3:aBBa1aBb", &[4, 3, 1, 0])?;
     assert_eq!(rt;
         found.as_slice(),
         [(4, 2), (3, 2), (1, 1), (0, 0)].as_slice()
     );
     Ok(())
+}
+
+/// Whether the store is enough for a puzzle of Pattern.
+fn is_enough(alloc: Global, store: &Store<PatternLines>, id: &[u8]) -> Result<bool, Fail> {
+    let rules = PatternLines::new(alloc, &read_pattern(alloc, id)?)?;
+    Ok(store.fits(&rules))
 }
 
 #[test]
@@ -60,9 +91,7 @@ fn stores_have_their_sizes(rt: HostRuntime) -> Result<(), Fail> {
     assert!(rt; store.fits(&corners));
     assert_eq!(rt; store.solve(&corners, 2), Verdict::Several);
     assert_eq!(rt; store.sizes(), sizes);
-    let full = PatternLines::new(rt.alloc(), &read_pattern(rt.alloc(), b"2x2:2/2/2/2")?)?;
-    let wide = PatternLines::new(rt.alloc(), &read_pattern(rt.alloc(), b"2x3:////")?)?;
-    assert!(rt; store.fits(&full));
-    assert!(rt; !store.fits(&wide));
+    assert!(rt; is_enough(rt.alloc(), &store, b"2x2:2/2/2/2")?);
+    assert!(rt; !is_enough(rt.alloc(), &store, b"2x3:////")?);
     Ok(())
 }

@@ -6,7 +6,7 @@ ghost use Rattle.engine_core.specs.Stored.{is_settled};
 ghost use Rattle.pattern_core.specs.Solutions as pattern;
 ghost use Rattle.solo_core.specs.RuleSets.{houses_rules};
 ghost use Rattle.puzzles.specs.Grades.{HasOne, IsGradeOf, IsRightGrade, IsTold, houses_grade, light_grade, light_trace, tent_grade, tent_trace, pattern_grade, pattern_trace, solo_grade, solo_trace, grade_status, grade_text, rule_set_text, searched_grade, settled_or};
-ghost use Rattle.puzzles.specs.Outputs.{AllowsGradePattern, AllowsGradeSolo, AllowsGradeLights, AllowsGradeTents, AllowsGrade};
+ghost use Rattle.puzzles.specs.Grading.{AllowsGradePattern, AllowsGradeSolo, AllowsGradeLights, AllowsGradeTents, AllowsGrade};
 ghost use Rattle.maker_core.specs.LightMaking.{SolvesLights};
 ghost use Rattle.maker_core.specs.SoloMaking.{SolvesSolo};
 ghost use Rattle.maker_core.specs.TentMaking.{SolvesTents};

@@ -129,23 +129,42 @@ fn solo_visits(alloc: Global, id: &str, n: usize) -> Result<Vec<usize>, Fail> {
     visits_told(alloc, text, &["row", "column", "block"], n)
 }
 
+/// Whether the visits close the board of a puzzle by these rules, and no visits leave it open.
+fn is_closed_by_these_alone<R: Rules>(
+    alloc: Global,
+    rules: &R,
+    visits: &[usize],
+) -> Result<bool, AllocError> {
+    Ok(is_closed_by(alloc, rules, visits)? && !is_closed_by(alloc, rules, &[])?)
+}
+
 #[test]
-fn traces_close_their_boards(rt: HostRuntime) -> Result<(), Fail> {
+fn traces_of_pattern_close_their_boards(rt: HostRuntime) -> Result<(), Fail> {
     let alloc = rt.alloc();
     let id = "5x1:1/1//1/1/2.2";
-    let lines = PatternLines::new(alloc, &read_pattern(alloc, id.as_bytes())?)?;
     let (taken, _status) = outcome(alloc, "pattern", id, "0", true)?;
     let text = str::from_utf8(taken.as_slice())?;
     let visits = visits_told(alloc, text, &["column", "row"], 5)?;
-    assert!(rt; is_closed_by(alloc, &lines, visits.as_slice())?);
-    assert!(rt; !is_closed_by(alloc, &lines, &[])?);
-    let singles = SoloSingles::new(alloc, &read_solo(alloc, LATIN.as_bytes())?)?;
+    let lines = PatternLines::new(alloc, &read_pattern(alloc, id.as_bytes())?)?;
+    assert!(rt; is_closed_by_these_alone(alloc, &lines, visits.as_slice())?);
+    Ok(())
+}
+
+#[test]
+fn traces_by_singles_close_their_boards(rt: HostRuntime) -> Result<(), Fail> {
+    let alloc = rt.alloc();
     let visits = solo_visits(alloc, LATIN, 4)?;
+    let singles = SoloSingles::new(alloc, &read_solo(alloc, LATIN.as_bytes())?)?;
     assert!(rt; is_closed_by(alloc, &singles, visits.as_slice())?);
-    let houses = SoloHouses::new(alloc, &read_solo(alloc, PAIRED.as_bytes())?)?;
+    Ok(())
+}
+
+#[test]
+fn traces_by_houses_close_their_boards(rt: HostRuntime) -> Result<(), Fail> {
+    let alloc = rt.alloc();
     let visits = solo_visits(alloc, PAIRED, 6)?;
-    assert!(rt; is_closed_by(alloc, &houses, visits.as_slice())?);
-    assert!(rt; !is_closed_by(alloc, &houses, &[])?);
+    let houses = SoloHouses::new(alloc, &read_solo(alloc, PAIRED.as_bytes())?)?;
+    assert!(rt; is_closed_by_these_alone(alloc, &houses, visits.as_slice())?);
     Ok(())
 }
 
@@ -166,8 +185,7 @@ fn sweeps_close_their_board(rt: HostRuntime) -> Result<(), Fail> {
             visits.push(house)?;
         }
     }
-    assert!(rt; is_closed_by(alloc, &rules, visits.as_slice())?);
-    assert!(rt; !is_closed_by(alloc, &rules, &[])?);
+    assert!(rt; is_closed_by_these_alone(alloc, &rules, visits.as_slice())?);
     Ok(())
 }
 

@@ -4,7 +4,7 @@ ghost use Rattle.engine_core.specs.Puzzle.{FitsIn, needs_of};
 ghost use Rattle.engine_core.specs.Verdict.{IsTrueOf, verdict_of};
 ghost use Rattle.puzzles.specs.Each.{HasAnswers};
 ghost use Rattle.puzzles.specs.GridTexts.{grid_text};
-ghost use Rattle.puzzles.specs.Outputs.{AllowsPattern, AllowsSolo, AllowsLights, AllowsTents, AllowsSolve};
+ghost use Rattle.puzzles.specs.Solving.{AllowsPattern, AllowsSolo, AllowsLights, AllowsTents, AllowsSolve};
 ghost use Rattle.puzzles.specs.Replies.{answer_in};
 ghost use Rattle.puzzles.specs.Verdicts.{verdict_answer};
 

@@ -1,5 +1,5 @@
 use Rattle.std.proofs.Common.{◌∙◌, inl, inr, refl}
-use Rattle.puzzles.specs.Outputs.{AllowsSolve}
+use Rattle.puzzles.specs.Solving.{AllowsSolve}
 use Rattle.puzzles.proofs.InputLemmas.{ran_answered, ran_begun, ran_stopped, stop_high}
 use Rattle.puzzles.proofs.StopLemmas.{of_failure, of_memory}
 use Rattle.puzzles.proofs.batch.solve_lines.Goals as goal

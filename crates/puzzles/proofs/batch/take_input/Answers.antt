@@ -1,5 +1,5 @@
 use Rattle.std.proofs.Common.{◌+◌, subst, take, ℕ, ap, refl, ◌∙◌, rules}
-use Rattle.puzzles.specs.Outputs.{AllowsSolve}
+use Rattle.puzzles.specs.Solving.{AllowsSolve}
 use Rattle.puzzles.proofs.BatchLemmas.{on_any_err}
 use Rattle.puzzles.proofs.InputLemmas.{stopped_here, stopped_in, taken_more, taken_no_more}
 use Rattle.puzzles.proofs.batch.take_input.Goals as goal

@@ -1,6 +1,6 @@
 use Rattle.std.proofs.Common.{◌≡◌, ◌<◌, length, false}
 use Rattle.puzzles.specs.Batches.{TakenUpTo}
-use Rattle.puzzles.specs.Outputs.{AllowsSolve}
+use Rattle.puzzles.specs.Solving.{AllowsSolve}
 use Rattle.puzzles.proofs.batch.take_input.Given as goal
 
 abbrev pub invariant-loop-turn : goal.invariant-loop-turn

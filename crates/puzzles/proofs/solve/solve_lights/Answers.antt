@@ -1,7 +1,7 @@
 use Rattle.gameid_core.specs.LightText.{SpellsLight, light_of}
 use Rattle.fields_core.specs.LightHouses.{light_rules}
 use Rattle.maker_core.specs.LightMaking.{SolvesLights}
-use Rattle.puzzles.specs.Outputs.{printed_lights}
+use Rattle.puzzles.specs.Solving.{printed_lights}
 use Rattle.puzzles.proofs.AnswerLemmas.{solved_of}
 use Rattle.puzzles.proofs.solve.solve_lights.Goals as goal
 

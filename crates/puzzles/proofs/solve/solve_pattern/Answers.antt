@@ -1,7 +1,7 @@
 use Rattle.gameid_core.specs.PatternText.{SpellsPattern, pattern_of}
 use Rattle.pattern_core.specs.LineRules.{line_rules}
 use Rattle.pattern_core.specs.Solutions as pattern
-use Rattle.puzzles.specs.Outputs.{printed_pattern}
+use Rattle.puzzles.specs.Solving.{printed_pattern}
 use Rattle.puzzles.proofs.AnswerLemmas.{solved_of}
 use Rattle.puzzles.proofs.solve.solve_pattern.Goals as goal
 

@@ -1,7 +1,7 @@
 use Rattle.gameid_core.specs.SoloText.{SpellsSolo, solo_of}
 use Rattle.maker_core.specs.SoloMaking.{SolvesSolo}
 use Rattle.solo_core.specs.RuleSets.{houses_rules}
-use Rattle.puzzles.specs.Outputs.{printed_solo}
+use Rattle.puzzles.specs.Solving.{printed_solo}
 use Rattle.puzzles.proofs.AnswerLemmas.{solved_of}
 use Rattle.puzzles.proofs.solve.solve_solo.Goals as goal
 

@@ -1,7 +1,7 @@
 use Rattle.gameid_core.specs.TentsText.{SpellsTents, tents_of}
 use Rattle.fields_core.specs.TentHouses.{tent_rules}
 use Rattle.maker_core.specs.TentMaking.{SolvesTents}
-use Rattle.puzzles.specs.Outputs.{printed_tents}
+use Rattle.puzzles.specs.Solving.{printed_tents}
 use Rattle.puzzles.proofs.AnswerLemmas.{solved_of}
 use Rattle.puzzles.proofs.solve.solve_tents.Goals as goal
 

@@ -1,4 +1,4 @@
-use Rattle.puzzles.specs.Outputs.{AllowsSolve}
+use Rattle.puzzles.specs.Solving.{AllowsSolve}
 use Rattle.puzzles.proofs.BatchLemmas.{last_answered, last_broken, last_none, last_stopped, on_any_err}
 use Rattle.puzzles.proofs.batch.Batch.answer_last.Goals as goal
 

@@ -1,6 +1,6 @@
 use Rattle.std.proofs.Common.{◌∷◌, []}
 use Rattle.std.specs.Str.Lines.{strip_carriage_return}
-use Rattle.puzzles.specs.Outputs.{AllowsSolve}
+use Rattle.puzzles.specs.Solving.{AllowsSolve}
 use Rattle.puzzles.proofs.BatchLemmas.{on_any_err, step_answered, step_broken, step_stopped}
 use Rattle.puzzles.proofs.batch.Batch.answer_line.Goals as goal
 

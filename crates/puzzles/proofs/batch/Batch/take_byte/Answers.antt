@@ -1,6 +1,6 @@
 use Rattle.std.proofs.Common.{◌∷◌, [], refl}
 use Rattle.std.proofs.lemmas.Bool.{ne_eqb}
-use Rattle.puzzles.specs.Outputs.{AllowsSolve}
+use Rattle.puzzles.specs.Solving.{AllowsSolve}
 use Rattle.puzzles.proofs.BatchLemmas.{on_any_err, step_in_line, step_stopped}
 use Rattle.puzzles.proofs.batch.Batch.take_byte.Goals as goal
 

@@ -1,5 +1,5 @@
 use Rattle.std.proofs.Common.{◌++◌, ◌∷◌, [], List, ℕ, drop, get_or, subst, take, ◌+◌}
-use Rattle.puzzles.specs.Outputs.{AllowsSolve}
+use Rattle.puzzles.specs.Solving.{AllowsSolve}
 use Rattle.puzzles.specs.Batches.{Batched}
 use Rattle.puzzles.specs.Each.{Stopped}
 use Rattle.puzzles.proofs.BatchLemmas.{on_any_err, one_further, stopped_further, to_the_end}

@@ -1,6 +1,6 @@
 use Rattle.std.proofs.Common.{◌≡◌, ◌<◌, ◌++◌, List, ℕ, take, false}
 use Rattle.puzzles.specs.Batches.{Batched}
-use Rattle.puzzles.specs.Outputs.{AllowsSolve}
+use Rattle.puzzles.specs.Solving.{AllowsSolve}
 use Rattle.puzzles.proofs.batch.Batch.take_chunk.Given as goal
 
 abbrev pub invariant-loop-byte : goal.invariant-loop-byte
