@@ -70,8 +70,8 @@ fn keeps_all(set: u32, kept: u32) -> bool
     set & kept == set
 }
 
-/// Whether bit `value` is set.
-pub(crate) fn has_bit(bits: u32, value: u8) -> bool
+/// Whether a set of values has the value: bit `value` of it.
+pub fn has_bit(bits: u32, value: u8) -> bool
     requires { value < 32 }
     ensures { result ≡ is_set bits value }
 {

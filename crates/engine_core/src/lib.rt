@@ -14,7 +14,7 @@ mod sets;
 mod store;
 mod sweep;
 
-pub use house::{apply, gather};
+pub use house::{apply, gather, has_bit};
 pub use laws::{
     closure_is_largest, picks_the_lowest_of_the_fewest, struck_where_no_filling_has_it,
     verdict_goes_by_counts, verdict_is_true, walk_finds_each_solution_once,

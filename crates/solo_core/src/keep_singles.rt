@@ -7,7 +7,8 @@ ghost use Rattle.engine_core.specs.House.{IsDecided};
 ghost use Rattle.solo_core.specs.Deciding.{has_in};
 ghost use Rattle.solo_core.specs.Singles.{has_other as some_other, is_elsewhere as some_elsewhere, taken_elsewhere, needed_for_other, has_empty_cell as some_empty, has_lost_value as some_lost, strikes_by_singles};
 
-use crate::bits::{has_bit, with_bit};
+use crate::bits::with_bit;
+use engine_core::has_bit;
 
 /// Decides what is kept of the sets of a house: a value is struck from a cell where another cell has only that value,
 /// where the cell is the only place of another value, where some cell has no value, or where some value has no place.

@@ -7,7 +7,8 @@ ghost use Rattle.engine_core.specs.House.{IsDecided};
 ghost use Rattle.solo_core.specs.NoRepeat.{no_repeat};
 ghost use Rattle.solo_core.specs.Deciding.{has_in, is_struck, joins_with};
 
-use crate::bits::{has_bit, with_bit};
+use crate::bits::with_bit;
+use engine_core::has_bit;
 use grid_core::{Edges, Paired, Pairing};
 
 /// The cells of a house as lefts and the values as rights: each cell is joined to the values of its set, and the cell
