@@ -39,6 +39,10 @@ impl Model for LightRules {
 
 impl LightRules {
     /// The rules of the puzzle.
+    ///
+    /// # Errors
+    ///
+    /// When memory was refused.
     pub fn new(alloc: Global, puzzle: &LightPuzzle) -> Result<LightRules, AllocError>
         ensures { IfOk result (λ rules. rules.light ≡ puzzle.now) }
     {

@@ -74,14 +74,17 @@ fn read(alloc: Global, text: &[u8]) -> Result<LightPuzzle, IdFault>
     Ok(LightPuzzle::of_cells(size, cells))
 }
 
-/// The puzzle that the ID spells, or the ID's first fault: the tests of the part before the colon come first, in
-/// their order and on the whole ID, and then the first fault that is met in the description from left to right.
-/// A fault's place is the number of bytes of the ID before it. `IdFault::Memory` comes only where memory was
-/// wanted for what was read so far.
+/// The puzzle that the ID spells.
 ///
 /// The description is the one that Light Up of Simon Tatham's Portable Puzzle Collection writes: the cells row by
 /// row from the top left, `a` to `z` for 1 to 26 white ones, `B` for a black one without a number, and `0` to `4`
 /// for a numbered one.
+///
+/// # Errors
+///
+/// The ID's first fault: the tests of the part before the colon come first, in their order and on the whole ID, and then
+/// the first fault that is met in the description from left to right. A fault's place is the number of bytes of the ID
+/// before it. `IdFault::Memory` comes only where memory was wanted for what was read so far.
 pub fn read_lights(alloc: Global, text: &[u8]) -> Result<LightPuzzle, IdFault>
     // What is read is spelled so.
     ensures found { IfOk result (λ p. SpellsLight text.now p) }

@@ -157,14 +157,17 @@ fn read(alloc: Global, text: &[u8]) -> Result<PatternPuzzle, IdFault>
     Ok(PatternPuzzle::of_clues(size, clues))
 }
 
-/// The puzzle that the ID spells, or the ID's first fault: the tests of the part before the colon come first, in
-/// their order and on the whole ID, and then the first fault that is met in the description from left to right.
-/// A fault's place is the number of bytes of the ID before it. `IdFault::Memory` comes only where memory was
-/// wanted for what was read so far.
+/// The puzzle that the ID spells.
 ///
 /// The description is the one that Pattern of Simon Tatham's Portable Puzzle Collection writes: a clue for each column
 /// from the left and then for each row from the top, with `/` between two clues; a clue is empty, or the lengths of the
 /// line's black runs with `.` between two of them.
+///
+/// # Errors
+///
+/// The ID's first fault: the tests of the part before the colon come first, in their order and on the whole ID, and then
+/// the first fault that is met in the description from left to right. A fault's place is the number of bytes of the ID
+/// before it. `IdFault::Memory` comes only where memory was wanted for what was read so far.
 pub fn read_pattern(alloc: Global, text: &[u8]) -> Result<PatternPuzzle, IdFault>
     // What is read is spelled so.
     ensures found { IfOk result (λ p. SpellsPattern text.now p) }

@@ -89,14 +89,17 @@ fn read(alloc: Global, text: &[u8]) -> Result<SoloPuzzle, IdFault>
     Ok(SoloPuzzle::of_givens(c, r, givens))
 }
 
-/// The puzzle that the ID spells, or the ID's first fault: the tests of the part before the colon come first, in
-/// their order and on the whole ID, and then the first fault that is met in the description from left to right.
-/// A fault's place is the number of bytes of the ID before it. `IdFault::Memory` comes only where memory was
-/// wanted for what was read so far.
+/// The puzzle that the ID spells.
 ///
 /// The description is the one that Solo of Simon Tatham's Portable Puzzle Collection writes: the cells row by row
 /// from the top left, a number for a given one, `a` to `z` for 1 to 26 blank ones, and `_` for none, which keeps
 /// two numbers apart.
+///
+/// # Errors
+///
+/// The ID's first fault: the tests of the part before the colon come first, in their order and on the whole ID, and then
+/// the first fault that is met in the description from left to right. A fault's place is the number of bytes of the ID
+/// before it. `IdFault::Memory` comes only where memory was wanted for what was read so far.
 pub fn read_solo(alloc: Global, text: &[u8]) -> Result<SoloPuzzle, IdFault>
     // What is read is spelled so.
     ensures found { IfOk result (λ p. SpellsSolo text.now p) }

@@ -129,15 +129,18 @@ fn read(alloc: Global, text: &[u8]) -> Result<TentsPuzzle, IdFault>
     Ok(TentsPuzzle::of_lists(size, places, counts))
 }
 
-/// The puzzle that the ID spells, or the ID's first fault: the tests of the part before the colon come first, in
-/// their order and on the whole ID, and then the first fault that is met in the description from left to right.
-/// A fault's place is the number of bytes of the ID before it. `IdFault::Memory` comes only where memory was
-/// wanted for what was read so far.
+/// The puzzle that the ID spells.
 ///
 /// The description is the one that Tents of Simon Tatham's Portable Puzzle Collection writes: the cells row by row
 /// from the top left and one tree after them, `_` for a tree, `a` to `y` for 1 to 25 blank cells and a tree, and `z`
 /// for 25 blank cells and no tree; and then, for each column from the left and each row from the top, a `,` and the
 /// number of its tents.
+///
+/// # Errors
+///
+/// The ID's first fault: the tests of the part before the colon come first, in their order and on the whole ID, and then
+/// the first fault that is met in the description from left to right. A fault's place is the number of bytes of the ID
+/// before it. `IdFault::Memory` comes only where memory was wanted for what was read so far.
 pub fn read_tents(alloc: Global, text: &[u8]) -> Result<TentsPuzzle, IdFault>
     // What is read is spelled so.
     ensures found { IfOk result (λ p. SpellsTents text.now p) }

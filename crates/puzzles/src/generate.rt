@@ -152,6 +152,10 @@ pub fn generate_tents(
 }
 
 /// The answer to a size of the game of which a puzzle is to be made. `black` is a percentage of cells.
+///
+/// # Errors
+///
+/// When memory was refused.
 pub fn generated(
     alloc: Global,
     game: Game,

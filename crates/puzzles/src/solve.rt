@@ -1,5 +1,5 @@
 //! The answers of `solve`.
-ghost use Rattle.std.specs.Prelude.{◌≡◌, ◌<◌, ◌*◌, List, ℕ, IfOk};
+ghost use Rattle.std.specs.Prelude.{◌≡◌, ◌<◌, ◌*◌, List, ℕ, None, IfOk};
 ghost use Rattle.engine_core.specs.Puzzle.{FitsIn, needs_of};
 ghost use Rattle.engine_core.specs.Verdict.{IsTrueOf, verdict_of};
 ghost use Rattle.puzzles.specs.Each.{HasAnswers};
@@ -30,7 +30,9 @@ pub struct Stores {
 
 impl Stores {
     /// No memory yet.
-    pub fn none() -> Stores {
+    pub fn none() -> Stores
+        ensures { ((result.solo ≡ None) × (result.pattern ≡ None)) × ((result.lights ≡ None) × (result.tents ≡ None)) }
+    {
         Stores {
             solo: None,
             pattern: None,
