@@ -4,7 +4,7 @@ ghost use Rattle.std.specs.Prelude.{◌≡◌, ◌+◌, ◌≤◌, length, take,
 ghost use Rattle.grid_core.specs.Board.{has, SameShape};
 ghost use Rattle.grid_core.specs.Candidates.{total};
 ghost use Rattle.engine_core.specs.Frames.{IsTrail, IsNoted};
-ghost use Rattle.engine_core.specs.Puzzle.{Puzzle, Needs, needs_of, IsBoardOf};
+ghost use Rattle.engine_core.specs.Puzzle.{Needs, needs_of, IsBoardOf};
 ghost use Rattle.engine_core.specs.ClosingList.{IsClosing};
 
 use crate::queue::{Closed, run_queue};

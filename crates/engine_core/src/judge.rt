@@ -1,9 +1,9 @@
 //! What a closed board is: dead, a grid, or a cell to branch on.
 
-ghost use Rattle.std.specs.Prelude.{if◌then◌else◌, ◌≡◌, ℕ, ◌<◌, length, true, IfSome};
+ghost use Rattle.std.specs.Prelude.{if◌then◌else◌, ◌≡◌, ◌<◌, length, true, IfSome};
 ghost use Rattle.grid_core.specs.Board.{has, cells_of};
 ghost use Rattle.grid_core.specs.Candidates.{is_full, grid_of, pick, better};
-ghost use Rattle.engine_core.specs.Puzzle.{Puzzle, Needs, needs_of, IsBoardOf, IsNext};
+ghost use Rattle.engine_core.specs.Puzzle.{Needs, needs_of, IsBoardOf, IsNext};
 ghost use Rattle.engine_core.specs.Frames.{Judges};
 
 use crate::rules::Rules;

@@ -1,10 +1,10 @@
 //! Closing by a queue of the houses that wait.
 
-ghost use Rattle.std.specs.Prelude.{◌≡◌, ℕ, Bool, ◌+◌, ◌<◌, ◌≤◌, ◌||◌, ◌&&◌, ◌==◌, not, length, slice_index, true, false, take, count_ones};
+ghost use Rattle.std.specs.Prelude.{◌≡◌, ℕ, ◌+◌, ◌<◌, ◌≤◌, ◌||◌, ◌&&◌, ◌==◌, not, length, slice_index, true, false, take, count_ones};
 ghost use Rattle.grid_core.specs.Board.{has, SameShape};
 ghost use Rattle.grid_core.specs.Candidates.{is_dead, total};
 ghost use Rattle.engine_core.specs.Frames.{IsTrail, IsNoted};
-ghost use Rattle.engine_core.specs.Puzzle.{Puzzle, Needs, needs_of, IsBoardOf, IsNext, has_place, after};
+ghost use Rattle.engine_core.specs.Puzzle.{Needs, needs_of, IsBoardOf, IsNext, has_place, after};
 ghost use Rattle.engine_core.specs.ClosingList.{IsClosing};
 ghost use Rattle.engine_core.specs.Queue.{is_waiting, counts_of, woken, but, is_emptied};
 

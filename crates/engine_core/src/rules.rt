@@ -1,8 +1,7 @@
 //! What a rule set offers a search, and what it owes.
 
-ghost use Rattle.std.specs.Prelude.{◌≡◌, ℕ, Bool, ◌<◌, ◌≤◌, IfOk, IsTrue, ◌↔◌, List, length, slice_index, true, false};
-ghost use Rattle.grid_core.specs.Board.{has, cells_of, SameShape, Layout};
-ghost use Rattle.grid_core.specs.Candidates.{Candidates};
+ghost use Rattle.std.specs.Prelude.{◌≡◌, Bool, ◌<◌, IfOk, length, slice_index, true, false};
+ghost use Rattle.grid_core.specs.Board.{has, SameShape};
 ghost use Rattle.engine_core.specs.Puzzle.{Puzzle, IsLawful, IsGridOf, Needs, needs_of, FitsIn, after, has_place, IsNext, IsBoardOf};
 ghost use Rattle.engine_core.specs.declared.mode.Mode.{Mode};
 ghost use Rattle.engine_core.specs.Closing.{HasStruck};

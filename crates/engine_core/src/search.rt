@@ -1,15 +1,15 @@
 //! The walk over trials on one board, with frames and a trail.
 
-ghost use Rattle.std.specs.Prelude.{◌≡◌, ℕ, Bool, ◌++◌, if◌then◌else◌, ◌+◌, ◌-◌, ◌<◌, ◌≤◌, length, slice_index, true, false, take, drop, max, [], ◌∷◌, Some, None, Option, IfSome};
+ghost use Rattle.std.specs.Prelude.{◌≡◌, ℕ, ◌++◌, ◌+◌, ◌-◌, ◌<◌, ◌≤◌, length, true, false, take, drop, max, [], ◌∷◌, Some, None};
 ghost use Rattle.grid_core.specs.Board.{has, SameShape, cells_of};
 ghost use Rattle.grid_core.specs.Candidates.{is_dead, total, only, without};
-ghost use Rattle.engine_core.specs.Puzzle.{Puzzle, Needs, needs_of, IsBoardOf, IsNext};
+ghost use Rattle.engine_core.specs.Puzzle.{Needs, needs_of, IsBoardOf};
 ghost use Rattle.engine_core.specs.Closing.{closure};
 ghost use Rattle.engine_core.specs.Walk.{walk};
-ghost use Rattle.engine_core.specs.Verdict.{outcome, tried, Outcome, Outcome.TwoGrids};
+ghost use Rattle.engine_core.specs.Verdict.{outcome, tried, Outcome.TwoGrids};
 ghost use Rattle.engine_core.specs.Counts.{deepest_of, boards_of, IsClosedIn, IsTurns};
 ghost use Rattle.engine_core.specs.Search.{restored, pending};
-ghost use Rattle.engine_core.specs.Frames.{IsTrail, IsNoted, IsMarked, Judges, Says, struck_at, levels_of, found_of, IsReady, singles};
+ghost use Rattle.engine_core.specs.Frames.{IsTrail, IsNoted, Says, levels_of, found_of, IsReady, singles};
 
 use crate::close::close_board;
 use crate::judge::{Judged, judge, next_value};

@@ -1,9 +1,9 @@
 //! The memory of a search, taken at once.
 
-ghost use Rattle.std.specs.Prelude.{◌≡◌, ℕ, ◌<◌, ◌≤◌, ◌↔◌, IfOk, IsTrue, List, length, slice_index, take, true, false, None as NoGrid, option_map, ◌+◌, ◌*◌, [], ◌∷◌};
-ghost use Rattle.grid_core.specs.Board.{has, cells_of, Layout};
+ghost use Rattle.std.specs.Prelude.{◌≡◌, ◌<◌, ◌≤◌, ◌↔◌, IfOk, IsTrue, take, true, false, None as NoGrid, option_map, ◌+◌, ◌*◌, [], ◌∷◌};
+ghost use Rattle.grid_core.specs.Board.{has, cells_of};
 ghost use Rattle.grid_core.specs.Candidates.{IsInside, is_full, grid_of};
-ghost use Rattle.engine_core.specs.Puzzle.{Puzzle, Needs, needs_of, FitsIn, IsBoardOf};
+ghost use Rattle.engine_core.specs.Puzzle.{needs_of, FitsIn, IsBoardOf};
 ghost use Rattle.engine_core.specs.ClosingList.{IsClosing};
 ghost use Rattle.engine_core.specs.Mode.{is_queue};
 ghost use Rattle.engine_core.specs.Walk.{walk};
@@ -69,7 +69,7 @@ pub struct Store<R: Rules> {
 }
 
 impl<R: Rules> Model for Store<R> {
-    ghost use Rattle.std.specs.Prelude.{◌≡◌, ℕ, ◌*◌, ◌<◌, ◌≤◌, List, length, take, if◌then◌else◌};
+    ghost use Rattle.std.specs.Prelude.{◌≡◌, ◌*◌, ◌<◌, ◌≤◌, take};
     ghost use Rattle.grid_core.specs.Board.{cells_of};
     ghost use Rattle.engine_core.specs.Mode.{is_queue};
     ghost use Rattle.engine_core.specs.Stored.{Stored};

@@ -5,7 +5,7 @@ ghost use Rattle.std.specs.List.{range_with_len};
 ghost use Rattle.grid_core.specs.Board.{has, SameShape};
 ghost use Rattle.grid_core.specs.Candidates.{total};
 ghost use Rattle.engine_core.specs.Frames.{IsTrail, IsNoted};
-ghost use Rattle.engine_core.specs.Puzzle.{Puzzle, Needs, needs_of, IsBoardOf, IsClosed};
+ghost use Rattle.engine_core.specs.Puzzle.{Needs, needs_of, IsBoardOf, IsClosed};
 ghost use Rattle.engine_core.specs.Closing.{replay, HasStruck};
 ghost use Rattle.engine_core.specs.ClosingList.{IsClosing};
 

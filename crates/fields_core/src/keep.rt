@@ -1,6 +1,6 @@
 //! What stays of the cells of a house in which the number of ones is bounded.
 
-ghost use Rattle.std.specs.Prelude.{◌≡◌, ℕ, ◌+◌, ◌<◌, ◌≤◌, ◌^◌, ◌&&◌, not, length, count_by};
+ghost use Rattle.std.specs.Prelude.{◌≡◌, ◌+◌, ◌<◌, ◌^◌, ◌&&◌, not, length, count_by};
 ghost use Rattle.engine_core.specs.Sets.{has_bit};
 ghost use Rattle.engine_core.specs.Filling.{strikes_by_fillings};
 ghost use Rattle.engine_core.specs.House.{IsDecided};

@@ -1,6 +1,6 @@
 //! What the rules of a search mean and keep to. These calls do nothing: their contracts are the laws.
 
-ghost use Rattle.std.specs.Prelude.{◌≡◌, ◌↔◌, IsTrue, List, ℕ};
+ghost use Rattle.std.specs.Prelude.{◌↔◌, IsTrue, List, ℕ};
 ghost use Rattle.engine_core.specs.Puzzle.{IsGridOf, IsLawful};
 ghost use Rattle.fields_core.specs.LightHouses.{light_rules};
 ghost use Rattle.fields_core.specs.LightSolutions.{IsLightSolution};

@@ -1,8 +1,8 @@
 //! The count houses of Light Up.
 
-ghost use Rattle.std.specs.Prelude.{◌≡◌, ◌<◌, ◌++◌, ◌∷◌, [], IfOk, OnOk, not, ◌==◌, filter};
+ghost use Rattle.std.specs.Prelude.{◌≡◌, ◌<◌, ◌++◌, IfOk, OnOk, ◌==◌, filter};
 ghost use Rattle.grid_core.specs.Regions.{beside as beside_places};
-ghost use Rattle.fields_core.specs.CountHouse.{House, houses_below};
+ghost use Rattle.fields_core.specs.CountHouse.{houses_below};
 ghost use Rattle.fields_core.specs.Light.{cells_of, white};
 ghost use Rattle.fields_core.specs.LightHouses.{row_run, column_run, seen_from, begins_row_run, begins_column_run, number_house, row_house, column_house, lit_house, light_houses};
 

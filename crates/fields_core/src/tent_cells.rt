@@ -1,8 +1,7 @@
 //! Trees, lines and neighbours of a puzzle of Tents.
 
-ghost use Rattle.std.specs.Prelude.{◌≡◌, ◌+◌, ◌*◌, ◌/◌, ◌%◌, ◌<◌, ◌^◌, slice_index};
+ghost use Rattle.std.specs.Prelude.{◌≡◌, ◌+◌, ◌/◌, ◌%◌, ◌<◌, ◌^◌, slice_index};
 ghost use Rattle.grid_core.specs.Regions.{row_places, column_places};
-ghost use Rattle.gameid_core.specs.Puzzles.{IsTents};
 ghost use Rattle.fields_core.specs.Tents.{cells_of, tree};
 
 use gameid_core::TentsPuzzle;

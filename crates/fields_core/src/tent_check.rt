@@ -1,12 +1,11 @@
 //! The check of a grid of Tents.
 
-ghost use Rattle.std.specs.Prelude.{◌≡◌, ◌<◌, ◌≤◌, ◌↔◌, ◌&&◌, IfOk, None};
+ghost use Rattle.std.specs.Prelude.{◌≡◌, ◌<◌, ◌≤◌, ◌↔◌, IfOk, None};
 ghost use Rattle.grid_core.specs.Grids.{IsGrid};
-ghost use Rattle.grid_core.specs.Candidates.{any_below};
 ghost use Rattle.fields_core.specs.Firsts.{IsFirstWrong};
 ghost use Rattle.fields_core.specs.TentFaults.{IsTentFault};
 ghost use Rattle.fields_core.specs.TentSolutions.{IsTentSolution};
-ghost use Rattle.fields_core.specs.Tents.{cells_of, tent, touches, tents_in_column, tents_in_row, tree_right, touch_right, column_right, row_right};
+ghost use Rattle.fields_core.specs.Tents.{cells_of, tents_in_column, tents_in_row, tree_right, touch_right, column_right, row_right};
 
 use crate::tent_cells::{
     cells, column_cell, column_number, columns, is_tree, row_cell, row_number, rows,

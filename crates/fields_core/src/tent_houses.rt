@@ -1,9 +1,9 @@
 //! The count houses of Tents.
 
-ghost use Rattle.std.specs.Prelude.{◌≡◌, ◌+◌, ◌<◌, ◌++◌, ◌∷◌, [], IfOk, OnOk, not, filter};
+ghost use Rattle.std.specs.Prelude.{◌≡◌, ◌+◌, ◌<◌, ◌++◌, ◌∷◌, [], IfOk, OnOk};
 ghost use Rattle.grid_core.specs.Regions.{row_places, column_places};
-ghost use Rattle.fields_core.specs.CountHouse.{House, houses_below};
-ghost use Rattle.fields_core.specs.Tents.{cells_of, tree};
+ghost use Rattle.fields_core.specs.CountHouse.{houses_below};
+ghost use Rattle.fields_core.specs.Tents.{cells_of};
 ghost use Rattle.fields_core.specs.TentHouses.{column_of_tents, row_of_tents, free_beside, tree_house, square_house, tent_houses};
 
 use crate::count_house::CountHouse;

@@ -1,7 +1,7 @@
 //! The puzzles of Light Up.
 
 ghost use Rattle.std.specs.Prelude.{◌≡◌, ◌<◌, ◌≤◌, ◌*◌, length, replicate, slice_get, slice_set, Some, IfOk};
-ghost use Rattle.gameid_core.specs.Puzzles.{Light, IsLight, IsLightCell, IsWide};
+ghost use Rattle.gameid_core.specs.Puzzles.{Light, IsLight, IsLightCell};
 ghost use Rattle.gameid_core.specs.declared.light_cell.LightCell.TheVariants.{White};
 
 use crate::light_cell::LightCell;

@@ -1,6 +1,6 @@
 //! The written text of a puzzle of Light Up.
 
-ghost use Rattle.std.specs.Prelude.{◌≡◌, ◌≤◌, ◌++◌, ◌∷◌, [], length, string_bytes, OnOk, IfOk, MatchOption, List, ℕ};
+ghost use Rattle.std.specs.Prelude.{◌≡◌, ◌≤◌, ◌++◌, length, string_bytes, OnOk, IfOk, MatchOption, List, ℕ};
 ghost use Rattle.std.specs.List.{AllByRecursion};
 ghost use Rattle.gameid_core.specs.declared.light_cell.LightCell.TheVariants.{White};
 ghost use Rattle.gameid_core.specs.Head.{max_id};

@@ -1,6 +1,6 @@
 //! The puzzles of Pattern.
 
-ghost use Rattle.std.specs.Prelude.{◌≡◌, ◌<◌, ◌≤◌, ◌+◌, ◌*◌, ℕ, length, [], map, slice_index, slice_index_or, IfOk};
+ghost use Rattle.std.specs.Prelude.{◌≡◌, ◌<◌, ◌+◌, ◌*◌, ℕ, length, [], map, slice_index, slice_index_or, IfOk};
 ghost use Rattle.grid_core.specs.Grids.{IsGrid, row_cells, column_cells};
 ghost use Rattle.gameid_core.specs.BlackRuns.{runs};
 ghost use Rattle.gameid_core.specs.Puzzles.{Pattern, IsPattern, lines_of};

@@ -1,6 +1,6 @@
 //! Game IDs of Pattern.
 
-ghost use Rattle.std.specs.Prelude.{◌≡◌, ℕ, ◌<◌, ◌≤◌, ◌+◌, ◌^◌, [], ◌∷◌, length, vec_len, map, IfOk, IfErr, Ok, Err, List, ◌⊎◌};
+ghost use Rattle.std.specs.Prelude.{◌≡◌, ℕ, ◌<◌, ◌≤◌, ◌+◌, ◌^◌, [], ◌∷◌, length, map, IfOk, IfErr, Ok, Err, List, ◌⊎◌};
 ghost use Rattle.gameid_core.specs.Steps.{Gives, Fails};
 ghost use Rattle.gameid_core.specs.Head.{head_of};
 ghost use Rattle.gameid_core.specs.declared.fault.IdFault.{IdFault};

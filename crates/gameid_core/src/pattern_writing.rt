@@ -1,6 +1,6 @@
 //! The written text of a puzzle of Pattern.
 
-ghost use Rattle.std.specs.Prelude.{◌≡◌, ◌≤◌, ◌++◌, ◌∷◌, map, decimal, string_bytes, length, OnOk, IfOk, List, ℕ};
+ghost use Rattle.std.specs.Prelude.{◌≡◌, ◌≤◌, ◌++◌, map, string_bytes, length, OnOk, IfOk, List, ℕ};
 ghost use Rattle.std.specs.List.{join_with_byte};
 ghost use Rattle.gameid_core.specs.Head.{max_id};
 ghost use Rattle.gameid_core.specs.Puzzles.{Pattern, IsPattern};

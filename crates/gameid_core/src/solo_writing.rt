@@ -1,7 +1,6 @@
 //! The written text of a puzzle of Solo.
 
-ghost use Rattle.std.specs.Prelude.{◌≡◌, ◌≤◌, ◌++◌, ◌∷◌, length, decimal, false, string_bytes, OnOk, IfOk, List, ℕ};
-ghost use Rattle.gameid_core.specs.Cells.{letters};
+ghost use Rattle.std.specs.Prelude.{◌≡◌, ◌≤◌, ◌++◌, length, false, string_bytes, OnOk, IfOk, List, ℕ};
 ghost use Rattle.gameid_core.specs.Head.{max_id};
 ghost use Rattle.gameid_core.specs.Puzzles.{Solo, IsSolo};
 ghost use Rattle.gameid_core.specs.SoloText.{IsWrittenSolo, before_given, cells_text, solo_text, SpellsSolo};

@@ -1,6 +1,6 @@
 //! The written text of a puzzle of Tents.
 
-ghost use Rattle.std.specs.Prelude.{◌≡◌, ◌≤◌, ◌<◌, ◌++◌, ◌∷◌, [], ℕ, List, map, length, decimal, string_bytes, OnOk, IfOk};
+ghost use Rattle.std.specs.Prelude.{◌≡◌, ◌≤◌, ◌<◌, ◌++◌, ◌∷◌, ℕ, List, length, decimal, string_bytes, OnOk, IfOk};
 ghost use Rattle.std.specs.List.{flat_map};
 ghost use Rattle.gameid_core.specs.Head.{max_id};
 ghost use Rattle.gameid_core.specs.Puzzles.{Tents, IsTents};

@@ -1,5 +1,5 @@
 //! The search for a free right, and the change of mates along the way to it.
-ghost use Rattle.std.specs.Prelude.{◌≡◌, ℕ, ◌+◌, ◌<◌, ◌≤◌, Bool, IsTrue, IfSome, IfNone, MatchOption, length, get_or, slice_set, take, None};
+ghost use Rattle.std.specs.Prelude.{◌≡◌, ◌+◌, ◌<◌, ◌≤◌, IsTrue, IfSome, IfNone, length, get_or, slice_set, take, None};
 ghost use Rattle.grid_core.specs.Augmenting.{IsOwnership, IsPartial, IsReach, SeesBelow, Extends, IsTrail, IsDeadEnd, owner_of};
 ghost use Rattle.grid_core.specs.Pairings.{IsPairing, IsShortSet};
 ghost use Rattle.grid_core.specs.SearchOutcome.{OutcomeGives};

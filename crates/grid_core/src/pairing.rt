@@ -1,6 +1,6 @@
 //! Pairings of two sides.
 
-ghost use Rattle.std.specs.Prelude.{◌≡◌, ℕ, ◌+◌, ◌<◌, ◌≤◌, Bool, IsTrue, MatchOption, IfOk, [], length, slice_index};
+ghost use Rattle.std.specs.Prelude.{◌≡◌, ℕ, ◌<◌, ◌≤◌, Bool, IsTrue, MatchOption, IfOk, [], length, slice_index};
 ghost use Rattle.grid_core.specs.Pairings.{IsPairing, IsShortSet};
 
 use crate::augmenting::pair_all;

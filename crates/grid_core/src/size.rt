@@ -1,6 +1,6 @@
 //! How many columns and rows a grid has.
 
-ghost use Rattle.std.specs.Prelude.{◌≡◌, ◌*◌, Some, IfSome};
+ghost use Rattle.std.specs.Prelude.{◌≡◌, ◌*◌, Some};
 ghost use Rattle.std.specs.Option.{SomeIff};
 ghost use Rattle.grid_core.specs.Extent.{Extent, IsExtent};
 
@@ -17,7 +17,7 @@ pub struct Size {
 }
 
 impl Model for Size {
-    ghost use Rattle.std.specs.Prelude.{ℕ, ◌<◌, ◌≤◌};
+    ghost use Rattle.std.specs.Prelude.{◌<◌};
     ghost use Rattle.grid_core.specs.Extent.{Extent, IsExtent};
 
     ghost Value = { Extent };

@@ -1,6 +1,6 @@
 //! Black cells, drawn one by one.
 
-ghost use Rattle.std.specs.Prelude.{◌≡◌, ◌≤◌, IfOk};
+ghost use Rattle.std.specs.Prelude.{◌≡◌, IfOk};
 ghost use Rattle.grid_core.specs.Grids.{IsGrid};
 ghost use Rattle.maker_core.specs.Draws.{AreAll, black_cells};
 

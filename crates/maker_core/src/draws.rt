@@ -1,9 +1,8 @@
 //! Draws from a generator, as fillings and thinnings use them.
 
-ghost use Rattle.std.specs.Prelude.{◌≡◌, ◌<◌, ◌≤◌, IfOk, IsPermutation};
+ghost use Rattle.std.specs.Prelude.{◌≡◌, ◌<◌, IfOk, IsPermutation};
 ghost use Rattle.std.specs.List.{range_with_len};
 ghost use Rattle.std.specs.List.{range_with_len};
-ghost use Rattle.rand_core.specs.Stream.{Stream};
 ghost use Rattle.maker_core.specs.Draws.{draw_below, shuffled_list, shuffled_order};
 
 use rand::RngExt;

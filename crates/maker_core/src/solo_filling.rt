@@ -1,11 +1,11 @@
 //! The filling of Solo.
 
-ghost use Rattle.std.specs.Prelude.{◌≡◌, ◌+◌, ◌*◌, ◌<◌, ◌≤◌, ◌++◌, map, length, slice_index, IfOk};
+ghost use Rattle.std.specs.Prelude.{◌≡◌, ◌+◌, ◌*◌, ◌<◌, ◌≤◌, slice_index, IfOk};
 ghost use Rattle.grid_core.specs.Grids.{IsGrid};
 ghost use Rattle.gameid_core.specs.Head.{max_numbers};
 ghost use Rattle.solo_core.specs.Solutions.{IsSolution};
 ghost use Rattle.maker_core.specs.Draws.{shuffled_order};
-ghost use Rattle.maker_core.specs.SoloOrders.{IsOrder, AreGrouped, IsLineOrder};
+ghost use Rattle.maker_core.specs.SoloOrders.{IsOrder, IsLineOrder};
 ghost use Rattle.maker_core.specs.SoloFilling.{group_added, line_order as lines_of_order, numbered as numbered_grid, solo_filling as filling_of, all_given};
 
 use crate::draws::order;

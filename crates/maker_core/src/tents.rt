@@ -3,7 +3,6 @@
 ghost use Rattle.std.specs.Prelude.{◌≡◌, ◌↔◌, ◌*◌, ℕ, true, [], IsTrue, Err, IfOk};
 ghost use Rattle.grid_core.specs.Grids.{IsGrid};
 ghost use Rattle.fields_core.specs.TentHouses.{tent_rules};
-ghost use Rattle.fields_core.specs.TentSolutions.{IsTentSolution};
 ghost use Rattle.maker_core.specs.declared.made.MakeFault.TheVariants.{Exhausted, SizeRange};
 ghost use Rattle.maker_core.specs.Draws.{IsAfterFirst, IsFirstPassing, NonePasses, filling_at, stream_after};
 ghost use Rattle.maker_core.specs.Made.{HasNoTwo, IsOnlySolution, has_one};

@@ -2,7 +2,7 @@
 use Rattle.std.proofs.Common.{◌≡◌, ◌∙◌, ℕ, zero, suc, ◌+◌, ◌*◌, ◌<◌, ◌≤◌, Bool, true, false, cond, ltb, List, [], ◌∷◌, length, slice_index, get_or, take, map, sym, ap, ap₂, subst, arith}
 use Rattle.std.specs.List.{AllByRecursion}
 use Rattle.std.proofs.lemmas.Bool.{true≢false, false_from_ne_true}
-use Rattle.std.proofs.lemmas.List.{get_or-map, take_all}
+use Rattle.std.proofs.lemmas.List.{get_or_default, take_all}
 use Rattle.std.proofs.Math.Path.{fun_ext}
 use Rattle.grid_core.specs.Extent.{Extent, IsExtent, max_side}
 use Rattle.grid_core.specs.Candidates.{Candidates, IsWithin}
@@ -44,8 +44,8 @@ unfolding after_line after
 after_line_read p line clue K is = ap (λ (c : List ℕ). after_line p.size line c K) is
 
 -- a clue that was read is the line's
-pub clue_read : {A : Type 0} (f : A → List ℕ) (xs : List A) (k : ℕ) (x : A) (clue : List ℕ) → k < length xs → clue ≡ f x → x ≡ get_or xs k x → clue ≡ get_or (map f xs) k []
-clue_read f xs k x clue lt is at = is ∙ ap f at ∙ sym (get_or-map f xs k x [] lt)
+pub clue_read : (clues : List (List ℕ)) (k : ℕ) (clue : List ℕ) → k < length clues → clue ≡ get_or clues k clue → clue ≡ get_or clues k []
+clue_read clues k clue lt at = at ∙ get_or_default clues k clue [] lt
 
 -- a line whose runs are not its clue refuses the grid
 pub line_refused : (p : Pattern) (g : List ℕ) (line : ℕ) (clue : List ℕ) (told : Bool) → line < lines_of p.size → clue ≡ clue_of p line

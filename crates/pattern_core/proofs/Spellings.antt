@@ -8,7 +8,8 @@ use Rattle.std.proofs.lemmas.List.{get_or_append_left, get_or_past, take_more, r
 use Rattle.gameid_core.specs.Puzzles.{used}
 use Rattle.engine_core.specs.Sets.{has_bit}
 use Rattle.pattern_core.specs.Track.{spelled, Track, track_of, track_bits, may_stay, IsSpelling}
-use Rattle.pattern_core.proofs.Words.{bits_or, bits_one, bits_none, bits_next, low_bits, no_high}
+use Rattle.engine_core.proofs.BitLemmas.{bits-either, bits-of_power, bits-of_zero}
+use Rattle.pattern_core.proofs.Words.{bits_next, low_bits, no_high}
 
 -- the cells with one more
 more_cells : (cells : List ℕ) (x p : ℕ) → (p ≡ length cells → ⊥) → get_or (cells ++ x ∷ []) p 2 ≡ get_or cells p 2
@@ -25,7 +26,7 @@ last_cell (y ∷ cells) x = last_cell cells x
 new_bit : (cells : List ℕ) (bits len v : ℕ) → len < 127 → len ≡ length cells → v < 2 → ((p : ℕ) → has_bit bits p ≡ eqb (get_or cells p 2) v)
     → (p : ℕ) → has_bit (bit_or bits (1 * 2 ^ len % 2 ^ 128)) p ≡ eqb (get_or (cells ++ v ∷ []) p 2) v
 new_bit cells bits len v low long small is p =
-    bits_or bits (1 * 2 ^ len % 2 ^ 128) p ∙ ap₂ (λ a b. a || b) (is p) (ap (λ n. has_bit n p) (one_shl len 128 (omega arith)) ∙ bits_one len p) ∙ by_place
+    bits-either bits (1 * 2 ^ len % 2 ^ 128) p ∙ ap₂ (λ a b. a || b) (is p) (ap (λ n. has_bit n p) (one_shl len 128 (omega arith)) ∙ bits-of_power len p) ∙ by_place
   where
     or_true : (b : Bool) → (b || true) ≡ true
     or_true true = refl
@@ -69,7 +70,7 @@ spelling_white cells white black len low s = record {
 
 pub spelling_none : IsSpelling (spelled []) 0 0 0
 unfolding spelled
-spelling_none = record { len_is = refl; whites = λ p. bits_none p; blacks = λ p. bits_none p }
+spelling_none = record { len_is = refl; whites = λ p. bits-of_zero p; blacks = λ p. bits-of_zero p }
 
 -- one more black cell of a run, and its white cell
 pub one_more : (cells : List ℕ) (k : ℕ) → (cells ++ replicate k 1) ++ 1 ∷ [] ≡ cells ++ replicate (k + 1) 1
@@ -130,11 +131,11 @@ track_spelled cells white black len low s =
     ]
 
     stays : (p : ℕ) → has_bit (bit_or (white * 2 % 2 ^ 128) 1) p ≡ may_stay cells p
-    stays zero = bits_or (white * 2 % 2 ^ 128) 1 zero ∙ ap (λ b. has_bit (white * 2 % 2 ^ 128) zero || b) (bits_one 0 zero) ∙ or_true (has_bit (white * 2 % 2 ^ 128) zero)
-    stays (suc p) = bits_or (white * 2 % 2 ^ 128) 1 (suc p) ∙ ap₂ (λ a b. a || b) (on p) (bits_one 0 (suc p) ∙ ne_eqb (suc p) 0 (λ e. absurd (omega arith))) ∙ or_false (eqb (get_or cells p 2) 0)
+    stays zero = bits-either (white * 2 % 2 ^ 128) 1 zero ∙ ap (λ b. has_bit (white * 2 % 2 ^ 128) zero || b) (bits-of_power 0 zero) ∙ or_true (has_bit (white * 2 % 2 ^ 128) zero)
+    stays (suc p) = bits-either (white * 2 % 2 ^ 128) 1 (suc p) ∙ ap₂ (λ a b. a || b) (on p) (bits-of_power 0 (suc p) ∙ ne_eqb (suc p) 0 (λ e. absurd (omega arith))) ∙ or_false (eqb (get_or cells p 2) 0)
 
     end_bit : (p : ℕ) → has_bit (1 * 2 ^ len % 2 ^ 128) p ≡ eqb p (length cells)
-    end_bit p = ap (λ n. has_bit n p) (one_shl len 128 (omega arith)) ∙ bits_one len p ∙ ap (eqb p) s.len_is
+    end_bit p = ap (λ n. has_bit n p) (one_shl len 128 (omega arith)) ∙ bits-of_power len p ∙ ap (eqb p) s.len_is
 
     ends : (p : ℕ) → has_bit (bit_or (1 * 2 ^ len % 2 ^ 128) (1 * 2 ^ len % 2 ^ 128 / 2)) p ≡ (eqb p (length cells) || eqb (suc p) (length cells))
-    ends p = bits_or (1 * 2 ^ len % 2 ^ 128) (1 * 2 ^ len % 2 ^ 128 / 2) p ∙ ap₂ (λ a b. a || b) (end_bit p) (bits_next (1 * 2 ^ len % 2 ^ 128) p ∙ end_bit (suc p))
+    ends p = bits-either (1 * 2 ^ len % 2 ^ 128) (1 * 2 ^ len % 2 ^ 128 / 2) p ∙ ap₂ (λ a b. a || b) (end_bit p) (bits_next (1 * 2 ^ len % 2 ^ 128) p ∙ end_bit (suc p))

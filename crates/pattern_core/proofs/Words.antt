@@ -1,49 +1,19 @@
 -- Words as sets of places.
-use Rattle.std.proofs.Common.{◌≡◌, ◌∙◌, ℕ, zero, suc, ◌*◌, ◌/◌, ◌%◌, ◌^◌, ◌<◌, ◌≤◌, Bool, true, false, not, ◌&&◌, ◌||◌, eqb, min, max, refl, sym, ap, ap₂, arith, inl, inr}
+use Rattle.std.proofs.Common.{◌≡◌, ◌∙◌, ℕ, zero, suc, ◌*◌, ◌/◌, ◌%◌, ◌^◌, ◌<◌, ◌≤◌, Bool, true, false, not, ◌&&◌, ◌||◌, eqb, refl, sym, ap, ap₂, arith, inl, inr}
 use Rattle.std.specs.Prelude.{bit_and, bit_or}
 use Rattle.std.specs.Int.{bit_at}
 use Rattle.std.proofs.lemmas.Bool.{cases_eq, eq-eqb, ne_eqb, false_from_ne_true, true≢false}
 use Rattle.std.proofs.lemmas.Nat.{div-add-mod'}
 use Rattle.std.proofs.Math.Nat.{mod-lt}
-use Rattle.std.proofs.lemmas.Nat.Bits.{bit_at_and, bit_at_or, bit_at-suc, bit_at-zero, bit_at-lt, bit_at-pow_same, bit_at-pow_other, bit_at_cat_low, bit_at_lowest, bit_at_above, same_from_bits_below}
+use Rattle.std.proofs.lemmas.Nat.Bits.{bit_at-suc, bit_at-zero, bit_at-lt, bit_at_cat_low, bit_at_lowest, bit_at_above, same_from_bits_below}
 use Rattle.grid_core.specs.Candidates.{any_below}
 use Rattle.grid_core.proofs.CandidateLemmas.{any_below-none, any_below-some, any_below-same}
 use Rattle.engine_core.specs.Sets.{has_bit}
+use Rattle.engine_core.proofs.BitLemmas.{bits-both, bits-either, bits-of_zero}
 use Rattle.pattern_core.specs.Track.{came, ahead, moved, track_bits}
-
-bits_and_of : (x y : ℕ) → x < 2 → y < 2 → eqb (min x y) 1 ≡ (eqb x 1 && eqb y 1)
-bits_and_of zero zero a b = refl
-bits_and_of zero (suc zero) a b = refl
-bits_and_of (suc zero) zero a b = refl
-bits_and_of (suc zero) (suc zero) a b = refl
-bits_and_of (suc (suc x)) y a b = absurd (omega arith)
-bits_and_of x (suc (suc y)) a b = absurd (omega arith)
-
-bits_or_of : (x y : ℕ) → x < 2 → y < 2 → eqb (max x y) 1 ≡ (eqb x 1 || eqb y 1)
-bits_or_of zero zero a b = refl
-bits_or_of zero (suc zero) a b = refl
-bits_or_of (suc zero) zero a b = refl
-bits_or_of (suc zero) (suc zero) a b = refl
-bits_or_of (suc (suc x)) y a b = absurd (omega arith)
-bits_or_of x (suc (suc y)) a b = absurd (omega arith)
-
-pub bits_and : (a b p : ℕ) → has_bit (bit_and a b) p ≡ (has_bit a p && has_bit b p)
-bits_and a b p = ap (λ n. eqb n 1) (bit_at_and a b p) ∙ bits_and_of (bit_at a p) (bit_at b p) (bit_at-lt a p) (bit_at-lt b p)
-
-pub bits_or : (a b p : ℕ) → has_bit (bit_or a b) p ≡ (has_bit a p || has_bit b p)
-bits_or a b p = ap (λ n. eqb n 1) (bit_at_or a b p) ∙ bits_or_of (bit_at a p) (bit_at b p) (bit_at-lt a p) (bit_at-lt b p)
-
-pub bits_none : (p : ℕ) → has_bit 0 p ≡ false
-bits_none p = ap (λ n. eqb n 1) (bit_at-zero p)
 
 pub bits_next : (a p : ℕ) → has_bit (a / 2) p ≡ has_bit a (suc p)
 bits_next a p = ap (λ n. eqb n 1) (sym (bit_at-suc a p))
-
-pub bits_one : (k p : ℕ) → has_bit (2 ^ k) p ≡ eqb p k
-bits_one k p = elim (cases_eq p k) [
-  | inl e ↦ ap (λ n. eqb n 1) (ap (bit_at (2 ^ k)) e ∙ bit_at-pow_same k) ∙ sym (eq-eqb p k e)
-  | inr ne ↦ ap (λ n. eqb n 1) (bit_at-pow_other k p ne) ∙ sym (ne_eqb p k ne)
-]
 
 -- a word without what does not fit
 pub low_bits : (a w p : ℕ) → p < w → has_bit (a % 2 ^ w) p ≡ has_bit a p
@@ -57,7 +27,7 @@ pub bits_on : (a m p : ℕ) → p < 128 → has_bit (bit_and a m * 2 % 2 ^ 128) 
 unfolding came
 bits_on a m zero lt = low_bits (bit_and a m * 2) 128 zero lt ∙ ap (λ n. eqb n 1) (bit_at_lowest (bit_and a m * 2) ∙ (let z : bit_and a m * 2 % 2 ≡ 0 = omega arith in z))
 bits_on a m (suc p) lt =
-    low_bits (bit_and a m * 2) 128 (suc p) lt ∙ sym (bits_next (bit_and a m * 2) p) ∙ ap (λ n. has_bit n p) (let z : bit_and a m * 2 / 2 ≡ bit_and a m = omega arith in z) ∙ bits_and a m p
+    low_bits (bit_and a m * 2) 128 (suc p) lt ∙ sym (bits_next (bit_and a m * 2) p) ∙ ap (λ n. has_bit n p) (let z : bit_and a m * 2 / 2 ≡ bit_and a m = omega arith in z) ∙ bits-both a m p
 
 -- a word with no bit set is 0
 pub no_bits : (a : ℕ) → a < 2 ^ 128 → any_below (has_bit a) 128 ≡ false → a ≡ 0
@@ -69,7 +39,7 @@ no_bits a fits none = same_from_bits_below 128 a 0 fits (omega arith) (λ p lt. 
     off (suc (suc x)) lt e = absurd (omega arith)
 
 pub bits_of_none : any_below (has_bit 0) 128 ≡ false
-bits_of_none = false_from_ne_true (any_below (has_bit 0) 128) (λ on. let w = any_below-some (has_bit 0) 128 on in true≢false (sym w.2 ∙ bits_none w.0))
+bits_of_none = false_from_ne_true (any_below (has_bit 0) 128) (λ on. let w = any_below-some (has_bit 0) 128 on in true≢false (sym w.2 ∙ bits-of_zero w.0))
 
 -- the test of a word for a bit
 pub some_bit_is : (bits : ℕ) → bits < 2 ^ 128 → not (eqb bits 0) ≡ any_below (has_bit bits) 128
@@ -88,18 +58,18 @@ module _ (stay white black ends set : ℕ) (x y : Bool) (is_x : x ≡ has_bit se
       → ((p : ℕ) → has_bit b p ≡ (y && has_bit (bit_and black (after / 2)) p))
       → (p : ℕ) → has_bit (bit_or w b) p ≡ ahead (track_bits stay white black ends) (has_bit set 0) (has_bit set 1) (has_bit after) p
   unfolding ahead track_bits
-  ahead_word after w b is_w is_b p = bits_or w b p ∙ ap₂ (λ m n. m || n)
-      (is_w p ∙ ap₂ (λ m n. m && n) is_x (bits_or (bit_and stay after) (bit_and white (after / 2)) p
-      ∙ ap₂ (λ m n. m || n) (bits_and stay after p) (bits_and white (after / 2) p ∙ ap (λ n. has_bit white p && n) (bits_next after p))))
-      (is_b p ∙ ap₂ (λ m n. m && n) is_y (bits_and black (after / 2) p ∙ ap (λ n. has_bit black p && n) (bits_next after p)))
+  ahead_word after w b is_w is_b p = bits-either w b p ∙ ap₂ (λ m n. m || n)
+      (is_w p ∙ ap₂ (λ m n. m && n) is_x (bits-either (bit_and stay after) (bit_and white (after / 2)) p
+      ∙ ap₂ (λ m n. m || n) (bits-both stay after p) (bits-both white (after / 2) p ∙ ap (λ n. has_bit white p && n) (bits_next after p))))
+      (is_b p ∙ ap₂ (λ m n. m && n) is_y (bits-both black (after / 2) p ∙ ap (λ n. has_bit black p && n) (bits_next after p)))
 
   pub moved_word : (reached w b : ℕ) → ((p : ℕ) → has_bit w p ≡ (x && has_bit (bit_or (bit_and reached stay) (bit_and reached white * 2 % 2 ^ 128)) p))
       → ((p : ℕ) → has_bit b p ≡ (y && has_bit (bit_and reached black * 2 % 2 ^ 128) p))
       → (p : ℕ) → p < 128 → has_bit (bit_or w b) p ≡ moved (track_bits stay white black ends) (has_bit set 0) (has_bit set 1) (has_bit reached) p
   unfolding moved track_bits
-  moved_word reached w b is_w is_b p lt = bits_or w b p ∙ ap₂ (λ m n. m || n)
-      (is_w p ∙ ap₂ (λ m n. m && n) is_x (bits_or (bit_and reached stay) (bit_and reached white * 2 % 2 ^ 128) p
-      ∙ ap₂ (λ m n. m || n) (bits_and reached stay p) (bits_on reached white p lt)))
+  moved_word reached w b is_w is_b p lt = bits-either w b p ∙ ap₂ (λ m n. m || n)
+      (is_w p ∙ ap₂ (λ m n. m && n) is_x (bits-either (bit_and reached stay) (bit_and reached white * 2 % 2 ^ 128) p
+      ∙ ap₂ (λ m n. m || n) (bits-both reached stay p) (bits_on reached white p lt)))
       (is_b p ∙ ap₂ (λ m n. m && n) is_y (bits_on reached black p lt))
 
   and_turned : (m n : Bool) → (m && n) ≡ (n && m)
@@ -113,11 +83,11 @@ module _ (stay white black ends set : ℕ) (x y : Bool) (is_x : x ≡ has_bit se
   white_word reached after some is = and_turned some x ∙ ap₂ (λ m n. m && n) is_x (is
       ∙ any_below-same (has_bit (bit_and reached (bit_or (bit_and stay after) (bit_and white (after / 2)))))
       (λ p. has_bit reached p && ((has_bit stay p && has_bit after p) || (has_bit white p && has_bit after (suc p)))) 128
-      (λ p lt. bits_and reached (bit_or (bit_and stay after) (bit_and white (after / 2))) p ∙ ap (λ n. has_bit reached p && n) (bits_or (bit_and stay after) (bit_and white (after / 2)) p
-      ∙ ap₂ (λ m n. m || n) (bits_and stay after p) (bits_and white (after / 2) p ∙ ap (λ n. has_bit white p && n) (bits_next after p)))))
+      (λ p lt. bits-both reached (bit_or (bit_and stay after) (bit_and white (after / 2))) p ∙ ap (λ n. has_bit reached p && n) (bits-either (bit_and stay after) (bit_and white (after / 2)) p
+      ∙ ap₂ (λ m n. m || n) (bits-both stay after p) (bits-both white (after / 2) p ∙ ap (λ n. has_bit white p && n) (bits_next after p)))))
 
   pub black_word : (reached after : ℕ) (some : Bool) → some ≡ any_below (has_bit (bit_and reached (bit_and black (after / 2)))) 128
       → (some && y) ≡ (has_bit set 1 && any_below (λ p. has_bit reached p && (has_bit black p && has_bit after (suc p))) 128)
   black_word reached after some is = and_turned some y ∙ ap₂ (λ m n. m && n) is_y (is
       ∙ any_below-same (has_bit (bit_and reached (bit_and black (after / 2)))) (λ p. has_bit reached p && (has_bit black p && has_bit after (suc p))) 128
-      (λ p lt. bits_and reached (bit_and black (after / 2)) p ∙ ap (λ n. has_bit reached p && n) (bits_and black (after / 2) p ∙ ap (λ n. has_bit black p && n) (bits_next after p))))
+      (λ p lt. bits-both reached (bit_and black (after / 2)) p ∙ ap (λ n. has_bit reached p && n) (bits-both black (after / 2) p ∙ ap (λ n. has_bit black p && n) (bits_next after p))))

@@ -1,6 +1,6 @@
 //! What the rules of a search mean. These calls do nothing: their contracts are the laws.
 
-ghost use Rattle.std.specs.Prelude.{◌≡◌, ◌*◌, ◌↔◌, ℕ, List, IsTrue};
+ghost use Rattle.std.specs.Prelude.{◌*◌, ◌↔◌, ℕ, List, IsTrue};
 ghost use Rattle.gameid_core.specs.Puzzles.{Pattern, IsPattern};
 ghost use Rattle.engine_core.specs.Puzzle.{IsLawful};
 ghost use Rattle.grid_core.specs.Grids.{IsGrid};

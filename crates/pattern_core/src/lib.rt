@@ -8,6 +8,7 @@ mod lines;
 #[cfg(test)]
 mod listing;
 mod table;
+mod track;
 mod walk;
 
 pub use check::check_pattern;

@@ -1,6 +1,6 @@
 //! The lines of a puzzle as the houses of a search: the columns from the left, and then the rows from the top.
 
-ghost use Rattle.std.specs.Prelude.{◌≡◌, ℕ, ◌+◌, ◌*◌, ◌<◌, ◌≤◌, IfOk, true, false, [], length, map, refl, slice_index, slice_index_or};
+ghost use Rattle.std.specs.Prelude.{◌≡◌, ℕ, ◌+◌, ◌*◌, ◌<◌, ◌≤◌, IfOk, true, false, length, refl, slice_index};
 ghost use Rattle.grid_core.specs.Extent.{IsExtent};
 ghost use Rattle.grid_core.specs.Board.{has, cells_of, SameShape};
 ghost use Rattle.std.specs.List.{AllByRecursion};
@@ -11,6 +11,7 @@ ghost use Rattle.pattern_core.specs.Lines.{line_places};
 ghost use Rattle.pattern_core.specs.LineRules.{line_rules, after_line};
 
 use crate::table::keep;
+use crate::track::SpelledClue;
 use crate::walk::{has_clue, line_len};
 use engine_core::{Mode, Rules, apply, gather};
 use gameid_core::PatternPuzzle;
@@ -22,26 +23,25 @@ use std::marker::Model;
 const VALUES: u8 = 2;
 
 /// The rules of one puzzle, to be searched: each column and each row strikes what no filling with its clue's runs
-/// has. They keep a copy of what they need of the puzzle. A visit takes no memory, and its steps are of a few word
-/// operations each: one for each cell of the clue spelled out, and two for each cell of the line, so no more than three
-/// times the cells of the line times the numbers of its clue and one.
+/// has. They keep a copy of what they need of the puzzle. A visit takes no memory, and its steps are two for each cell of
+/// the line, of a few word operations each.
 #[derive(Drop)]
 pub struct PatternLines {
     size: Size,
-    clues: Vec<Vec<u8>>,
+    clues: Vec<SpelledClue>,
     ghost extent: { IsExtent size },
 }
 
 impl Model for PatternLines {
-    ghost use Rattle.std.specs.Prelude.{◌≡◌, ◌+◌, length, map};
+    ghost use Rattle.std.specs.Prelude.{◌≡◌};
     ghost use Rattle.gameid_core.specs.Puzzles.{IsPattern};
     ghost use Rattle.pattern_core.specs.LineRules.{Ruled};
 
     ghost Value = { Ruled };
 
-    ghost view = { λ r. record { pattern = record { size = r.size; clues = map (λ clue. clue.items) r.clues.items }; extent = r.extent } };
+    ghost view = { λ r. record { pattern = record { size = r.size; clues = r.clues.items }; extent = r.extent } };
 
-    ghost invariant = { λ r. IsPattern (record { size = r.size; clues = map (λ clue. clue.items) r.clues.items }) };
+    ghost invariant = { λ r. IsPattern (record { size = r.size; clues = r.clues.items }) };
 }
 
 /// What a visit of a line works in, for lines up to some length.
@@ -94,7 +94,7 @@ fn write_places(size: Size, line: usize, places: &mut [usize])
 struct Line<'a> {
     size: Size,
     number: usize,
-    clue: &'a [u8],
+    clue: &'a SpelledClue,
 }
 
 /// Strikes from the line's cells what no filling with the clue's runs has, and says whether that was anything.
@@ -181,7 +181,7 @@ impl PatternLines {
         let lines = usize::from(size.w()) + usize::from(size.h());
         let mut clues = Vec::with_capacity(alloc, lines)?;
         for line in 0..lines {
-            clues.push(Vec::from_slice(alloc, puzzle.line(line))?)?;
+            clues.push(SpelledClue::new(alloc, puzzle.line(line))?)?;
         }
         Ok(PatternLines { size, clues })
     }
@@ -281,7 +281,7 @@ impl Rules for PatternLines {
 
     fn accept(&self, _scratch: &mut LineScratch, grid: &Grid) -> bool {
         for line in 0..self.houses() {
-            if !has_clue(self.size, grid, line, &self.clues[line]) {
+            if !has_clue(self.size, grid, line, self.clues[line].numbers()) {
                 return false;
             }
         }

@@ -1,6 +1,6 @@
 //! The placements of a line's runs, listed by recursion from the first cell on.
-ghost use Rattle.std.specs.Prelude.{◌≡◌, ℕ, ◌<◌, ◌≤◌, ◌++◌, ◌↔◌, ◌⊎◌, List, ◌&&◌, not, map, true, false, length, get_or, drop, MatchOption};
-ghost use Rattle.engine_core.specs.Sets.{has_bit, set_of_bits};
+ghost use Rattle.std.specs.Prelude.{◌≡◌, ℕ, ◌<◌, ◌≤◌, ◌++◌, ◌↔◌, ◌⊎◌, List, ◌&&◌, true, false, length, get_or, drop, MatchOption};
+ghost use Rattle.engine_core.specs.Sets.{has_bit};
 ghost use Rattle.engine_core.specs.Filling.{strikes_by_fillings};
 ghost use Rattle.engine_core.specs.House.{IsDecided};
 ghost use Rattle.gameid_core.specs.BlackRuns.{run_of};

@@ -1,14 +1,12 @@
 //! The values that some filling of a line with its clue's runs shows, by a table over the line's places and the places
 //! along its clue.
 //!
-//! The clue is spelled out as cells: each run's black cells, and a white cell after it. A line goes along these cells:
-//! a black cell or the white cell after a run takes it one place on, and before a run it may stay where it is for any
-//! number of white cells. A row of the table has one bit for each place along the clue, and is read and written as one
-//! word: it says from which of them the line can still come to the end of the clue. The rows are filled from the last
-//! cell backwards; then one word, the places that can be reached, goes forwards, and a value of a cell stays where the
-//! two meet.
+//! A line goes along the cells of its spelled clue (see `track`). A row of the table has one bit for each place along the
+//! clue, and is read and written as one word: it says from which of them the line can still come to the end of the clue.
+//! The rows are filled from the last cell backwards; then one word, the places that can be reached, goes forwards, and a
+//! value of a cell stays where the two meet.
 
-ghost use Rattle.std.specs.Prelude.{◌≡◌, ℕ, suc, ◌+◌, ◌<◌, ◌≤◌, ◌&&◌, ◌||◌, ◌++◌, List, [], ◌∷◌, length, get_or, replicate};
+ghost use Rattle.std.specs.Prelude.{◌≡◌, ℕ, suc, ◌<◌, ◌≤◌, ◌&&◌, ◌||◌, length};
 ghost use Rattle.std.specs.List.{AllByRecursion};
 ghost use Rattle.grid_core.specs.Candidates.{any_below};
 ghost use Rattle.gameid_core.specs.Puzzles.{used};
@@ -16,96 +14,10 @@ ghost use Rattle.engine_core.specs.Filling.{strikes_by_fillings};
 ghost use Rattle.engine_core.specs.Sets.{has_bit};
 ghost use Rattle.engine_core.specs.House.{IsDecided};
 ghost use Rattle.pattern_core.specs.Lines.{has_runs};
-ghost use Rattle.pattern_core.specs.Track.{spelled, track_of, track_bits, IsBelow, IsSpelling, ahead, moved, AreRows, AreKept};
+ghost use Rattle.pattern_core.specs.Track.{track_bits, IsBelow, ahead, moved, AreRows, AreKept};
 
-/// How a line goes along a spelled clue, a bit for each place.
-#[derive(Clone, Copy)]
-struct Track {
-    stay: u128,
-    white: u128,
-    black: u128,
-    ends: u128,
-}
-
-/// The first cells of a spelled clue, a bit for each, and how many there are.
-#[derive(Clone, Copy)]
-struct Spelling {
-    white: u128,
-    black: u128,
-    len: u8,
-}
-
-/// Adds a black cell.
-fn push_black(spelling: Spelling) -> Spelling
-    requires { spelling.len < 127 }
-    ensures cells { (cells : List ℕ) → IsSpelling cells spelling.white spelling.black spelling.len
-        → IsSpelling (cells ++ 1 ∷ []) result.white result.black result.len }
-    ensures len { result.len ≡ spelling.len + 1 }
-{
-    Spelling {
-        black: spelling.black | (1 << spelling.len),
-        len: spelling.len + 1,
-        ..spelling
-    }
-}
-
-/// Adds a white cell.
-fn push_white(spelling: Spelling) -> Spelling
-    requires { spelling.len < 127 }
-    ensures cells { (cells : List ℕ) → IsSpelling cells spelling.white spelling.black spelling.len
-        → IsSpelling (cells ++ 0 ∷ []) result.white result.black result.len }
-    ensures len { result.len ≡ spelling.len + 1 }
-{
-    Spelling {
-        white: spelling.white | (1 << spelling.len),
-        len: spelling.len + 1,
-        ..spelling
-    }
-}
-
-/// Adds the black cells of a run and the white cell after it.
-fn push_run(spelling: Spelling, number: u8) -> Spelling
-    requires { spelling.len + number < 127 }
-    ensures cells { (cells : List ℕ) → IsSpelling cells spelling.white spelling.black spelling.len
-        → IsSpelling (cells ++ (replicate number 1 ++ 0 ∷ [])) result.white result.black result.len }
-    ensures len { result.len ≡ spelling.len + (number + 1) }
-{
-    let mut longer = spelling;
-    for _k in 0..number {
-        longer = push_black(longer);
-    }
-    push_white(longer)
-}
-
-/// Spells a clue.
-fn spell(clue: &[u8]) -> Track
-    requires { used clue.now ≤ 127 }
-    ensures { track_bits result.stay result.white result.black result.ends ≡ track_of (spelled clue.now) }
-{
-    let mut cells = Spelling {
-        white: 0,
-        black: 0,
-        len: 0,
-    };
-    for k in 0..clue.len() {
-        cells = push_run(cells, clue[k]);
-    }
-    let end = 1u128 << cells.len;
-    Track {
-        stay: (cells.white << 1) | 1,
-        white: cells.white,
-        black: cells.black,
-        ends: end | (end >> 1),
-    }
-}
-
-/// Whether the set has the value.
-fn allows(set: u32, value: u32) -> bool
-    requires { value < 32 }
-    ensures { result ≡ has_bit set value }
-{
-    (set >> value) & 1 == 1
-}
+use crate::track::{SpelledClue, Track};
+use engine_core::has_bit as allows;
 
 /// The bits where the test holds, and none where it doesn't.
 fn only_if(test: bool, bits: u128) -> u128
@@ -198,18 +110,16 @@ fn keep_cells(track: Track, sets: &[u32], rows: &[u128], kept: &mut [u32])
 }
 
 /// For each cell of a line, the values that some filling of the line with the clue's runs has there. It takes no
-/// memory: the table is written into `rows`, one for each cell and one more. Its steps, of a few word operations each,
-/// are one for each cell of the spelled clue, and two for each cell of the line. A clue that fits the line has at most
-/// one cell more than the line, and none where it has no numbers, so these are no more than three times the cells of
-/// the line times the numbers of its clue and one.
-pub(crate) fn keep(sets: &[u32], clue: &[u8], rows: &mut [u128], kept: &mut [u32])
+/// memory: the table is written into `rows`, one for each cell and one more. Its steps are two for each cell of the line,
+/// of a few word operations each.
+pub(crate) fn keep(sets: &[u32], clue: &SpelledClue, rows: &mut [u128], kept: &mut [u32])
     requires as_many { length kept.old ≡ length sets.now }
     requires room { length sets.now < length rows.old }
     requires positive { AllByRecursion (λ n. 0 < n) clue.now }
     requires fits { used clue.now ≤ 127 }
     ensures { IsDecided 2 (strikes_by_fillings (has_runs clue.now)) sets.now kept.new }
 {
-    let track = spell(clue);
+    let track = clue.track();
     fill_rows(track, sets, rows);
     keep_cells(track, sets, rows, kept);
 }

@@ -1,8 +1,9 @@
-ghost use Rattle.std.specs.Prelude.{ℕ, ◌<◌, ◌≤◌};
+ghost use Rattle.std.specs.Prelude.{◌<◌, ◌≤◌};
 ghost use Rattle.std.specs.List.{AllByRecursion};
 ghost use Rattle.gameid_core.specs.Puzzles.{used};
 
 use super::*;
+use crate::track::SpelledClue;
 use crate::{listing, table};
 use engine_core::Rules;
 use gameid_core::{PatternPuzzle, read_pattern};
@@ -92,10 +93,11 @@ fn the_first_wrong_line(rt: HostRuntime) -> Result<(), Fail> {
 }
 
 /// Whether the table and the listing keep the same on every board of every line of up to 6 cells.
-fn agree(clue: &[u8]) -> bool
+fn agree(alloc: Global, clue: &[u8]) -> Result<bool, Fail>
     requires positive { AllByRecursion (λ n. 0 < n) clue.now }
     requires fits { used clue.now ≤ 127 }
 {
+    let spelled = SpelledClue::new(alloc, clue)?;
     for cells in 1..7 {
         for board in 0..1usize << (2 * cells) {
             let mut sets = [0u32; 6];
@@ -105,37 +107,38 @@ fn agree(clue: &[u8]) -> bool
             let mut rows = [0u128; 7];
             let mut by_table = [0u32; 6];
             let mut by_list = [0u32; 6];
-            table::keep(&sets[..cells], clue, &mut rows, &mut by_table[..cells]);
+            table::keep(&sets[..cells], &spelled, &mut rows, &mut by_table[..cells]);
             listing::keep(&sets[..cells], clue, &mut by_list[..cells]);
             if by_table != by_list {
-                return false;
+                return Ok(false);
             }
         }
     }
-    true
+    Ok(true)
 }
 
 #[test]
-fn the_table_and_the_listing_agree(rt: HostRuntime) {
-    assert!(rt; agree(&[]));
-    assert!(rt; agree(&[1]));
-    assert!(rt; agree(&[2]));
-    assert!(rt; agree(&[3]));
-    assert!(rt; agree(&[4]));
-    assert!(rt; agree(&[5]));
-    assert!(rt; agree(&[6]));
-    assert!(rt; agree(&[1, 1]));
-    assert!(rt; agree(&[1, 2]));
-    assert!(rt; agree(&[2, 1]));
-    assert!(rt; agree(&[1, 3]));
-    assert!(rt; agree(&[2, 2]));
-    assert!(rt; agree(&[3, 1]));
-    assert!(rt; agree(&[1, 4]));
-    assert!(rt; agree(&[2, 3]));
-    assert!(rt; agree(&[3, 2]));
-    assert!(rt; agree(&[4, 1]));
-    assert!(rt; agree(&[1, 1, 1]));
-    assert!(rt; agree(&[1, 1, 2]));
-    assert!(rt; agree(&[1, 2, 1]));
-    assert!(rt; agree(&[2, 1, 1]));
+fn the_table_and_the_listing_agree(rt: HostRuntime) -> Result<(), Fail> {
+    assert!(rt; agree(rt.alloc(), &[])?);
+    assert!(rt; agree(rt.alloc(), &[1])?);
+    assert!(rt; agree(rt.alloc(), &[2])?);
+    assert!(rt; agree(rt.alloc(), &[3])?);
+    assert!(rt; agree(rt.alloc(), &[4])?);
+    assert!(rt; agree(rt.alloc(), &[5])?);
+    assert!(rt; agree(rt.alloc(), &[6])?);
+    assert!(rt; agree(rt.alloc(), &[1, 1])?);
+    assert!(rt; agree(rt.alloc(), &[1, 2])?);
+    assert!(rt; agree(rt.alloc(), &[2, 1])?);
+    assert!(rt; agree(rt.alloc(), &[1, 3])?);
+    assert!(rt; agree(rt.alloc(), &[2, 2])?);
+    assert!(rt; agree(rt.alloc(), &[3, 1])?);
+    assert!(rt; agree(rt.alloc(), &[1, 4])?);
+    assert!(rt; agree(rt.alloc(), &[2, 3])?);
+    assert!(rt; agree(rt.alloc(), &[3, 2])?);
+    assert!(rt; agree(rt.alloc(), &[4, 1])?);
+    assert!(rt; agree(rt.alloc(), &[1, 1, 1])?);
+    assert!(rt; agree(rt.alloc(), &[1, 1, 2])?);
+    assert!(rt; agree(rt.alloc(), &[1, 2, 1])?);
+    assert!(rt; agree(rt.alloc(), &[2, 1, 1])?);
+    Ok(())
 }

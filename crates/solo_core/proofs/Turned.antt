@@ -17,7 +17,7 @@ use Rattle.solo_core.specs.NoRepeat.{no_repeat}
 use Rattle.solo_core.specs.Deciding.{has_in, is_struck}
 use Rattle.solo_core.specs.Ways.{Reaches}
 use Rattle.solo_core.proofs.PairedFillings.{shown_by_pairing, struck_from_none, struck_by_short}
-use Rattle.solo_core.proofs.Marks.{no_bits}
+use Rattle.engine_core.proofs.BitLemmas.{bits-of_zero}
 use Rattle.solo_core.proofs.WayLemmas.{Moves, moves}
 
 -- ---- n different numbers below n leave none out
@@ -222,7 +222,7 @@ pub decided_by_short : (n : ℕ) (sets kept xs : List ℕ) → IsShortSet (has_i
     → ((k : ℕ) → k < length kept → slice_index kept k ≡ 0) → IsDecided n (strikes_by_fillings no_repeat) sets kept
 decided_by_short n sets kept xs short len none = record {
   as_many = len;
-  bits = λ k v lk lv. ap (λ b. has_bit b v) (none k (omega arith)) ∙ no_bits v ∙ sym (ap (λ b. has_in sets k v && not b) (struck_by_short sets n k v xs short) ∙ and_false (has_in sets k v));
+  bits = λ k v lk lv. ap (λ b. has_bit b v) (none k (omega arith)) ∙ bits-of_zero v ∙ sym (ap (λ b. has_in sets k v && not b) (struck_by_short sets n k v xs short) ∙ and_false (has_in sets k v));
 }
   where
     and_false : (b : Bool) → (b && false) ≡ false

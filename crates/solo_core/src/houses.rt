@@ -1,6 +1,6 @@
 //! The houses of a puzzle: the rows from the top, the columns from the left, and the blocks.
 
-ghost use Rattle.std.specs.Prelude.{◌≡◌, ℕ, ◌*◌, ◌<◌, slice_index, length};
+ghost use Rattle.std.specs.Prelude.{◌≡◌, ◌*◌, ◌<◌, slice_index, length};
 ghost use Rattle.gameid_core.specs.Puzzles.{IsSolo, solo_n};
 ghost use Rattle.engine_core.specs.Puzzle.{IsNext, has_place};
 ghost use Rattle.solo_core.specs.Solutions.{cells_of};

@@ -1,6 +1,6 @@
 //! What the rules of a search mean. These calls do nothing: their contracts are the laws.
 
-ghost use Rattle.std.specs.Prelude.{◌≡◌, ◌<◌, ◌↔◌, IsTrue, List, ℕ};
+ghost use Rattle.std.specs.Prelude.{◌<◌, ◌↔◌, IsTrue, List, ℕ};
 ghost use Rattle.engine_core.specs.Puzzle.{IsLawful, has_place};
 ghost use Rattle.gameid_core.specs.Puzzles.{Solo, IsSolo};
 ghost use Rattle.solo_core.specs.RuleSets.{houses_rules, singles_rules};

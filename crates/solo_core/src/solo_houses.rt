@@ -1,6 +1,6 @@
 //! The rule set of houses: a visit strikes what no filling of the house without repeat allows.
 
-ghost use Rattle.std.specs.Prelude.{◌≡◌, ℕ, ◌<◌, ◌≤◌, IfOk, true, false, length, refl};
+ghost use Rattle.std.specs.Prelude.{◌≡◌, ◌<◌, ◌≤◌, IfOk, true, false, length, refl};
 ghost use Rattle.std.proofs.Props.{props};
 ghost use Rattle.grid_core.specs.Board.{has, SameShape};
 ghost use Rattle.gameid_core.specs.Puzzles.{IsSolo, solo_n};

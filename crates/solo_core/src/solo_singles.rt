@@ -1,6 +1,6 @@
 //! The rule set of singles: a visit strikes by the cells that have one value and the values that have one place.
 
-ghost use Rattle.std.specs.Prelude.{◌≡◌, ℕ, ◌<◌, ◌≤◌, IfOk, true, false, length, refl};
+ghost use Rattle.std.specs.Prelude.{◌≡◌, ◌<◌, ◌≤◌, IfOk, true, false, length, refl};
 ghost use Rattle.std.proofs.Props.{props};
 ghost use Rattle.grid_core.specs.Board.{has, SameShape};
 ghost use Rattle.gameid_core.specs.Puzzles.{IsSolo, solo_n};

@@ -1,8 +1,5 @@
 //! Clues taken away and put back, and searches of the thinner puzzles.
 
-ghost use Rattle.std.specs.Prelude.{◌≡◌};
-ghost use Rattle.engine_core.specs.Puzzle.{FitsIn, needs_of};
-
 use crate::clued::Clued;
 use engine_core::{Store, Verdict};
 use gameid_core::{LightCell, LightPuzzle, read_solo};

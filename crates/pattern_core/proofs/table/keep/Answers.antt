@@ -6,7 +6,7 @@ use Rattle.pattern_core.proofs.table.keep.Goals as goal
 
 pub keep_cells-requires-clause-below : goal.keep_cells-requires-clause-below
 keep_cells-requires-clause-below c =
-    subst (IsBelow 128) (sym c.spell-track.ensures) (track_below (spelled c.args.clue.now) 128 (omega (arith, length-spelled c.args.clue.now, c.requires.fits)))
+    subst (IsBelow 128) (sym c.track-track.ensures) (track_below (spelled c.args.clue.now) 128 (omega (arith, length-spelled c.args.clue.now, c.requires.fits)))
 
 pub returns : goal.returns
-returns c = decided_by_track c.args.clue.now c.args.sets.now _ _ c.spell-track.ensures c.requires.positive c.keep_cells.ensures
+returns c = decided_by_track c.args.clue.now c.args.sets.now _ _ c.track-track.ensures c.requires.positive c.keep_cells.ensures

@@ -1,13 +1,13 @@
 use Rattle.std.proofs.Common.{arith}
 use Rattle.pattern_core.specs.Track.{track_bits}
-use Rattle.pattern_core.proofs.Words.{bits_one}
+use Rattle.engine_core.proofs.BitLemmas.{bits-of_power}
 use Rattle.pattern_core.proofs.TableSteps.{reached_first, reached_next, kept_here}
 use Rattle.pattern_core.proofs.table.keep_cells.Goals as goal
 
 pub loop-at-init : goal.loop-at-init
 loop-at-init c = (
   record { as_many = c.requires.as_many; bits = λ k v lt small. absurd (omega arith) },
-  reached_first (track_bits c.args.track.stay c.args.track.white c.args.track.black c.args.track.ends) c.args.sets.now 1 (λ p. bits_one 0 p),
+  reached_first (track_bits c.args.track.stay c.args.track.white c.args.track.black c.args.track.ends) c.args.sets.now 1 (λ p. bits-of_power 0 p),
 )
 
 pub loop-at-preserved : goal.loop-at-preserved

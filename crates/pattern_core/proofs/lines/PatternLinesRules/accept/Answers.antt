@@ -1,5 +1,4 @@
 use Rattle.std.proofs.Common.{◌∙◌, ◌<◌, sym, ap, arith}
-use Rattle.std.proofs.lemmas.List.{length-map}
 use Rattle.pattern_core.specs.LineLaws.{is_solution-each}
 use Rattle.gameid_core.specs.Puzzles.{lines_of}
 use Rattle.pattern_core.specs.LineRules.{Ruled, is_solution}
@@ -11,8 +10,8 @@ returns-then-not-has_clue-clause-solution c =
     let same = ap (λ (r : Ruled). is_solution r.pattern c.args.grid.now) c.self.view_is in
     let lines = c.self.invariant.lines in
     let low : c.loop-line.line < lines_of c.self.inside.size = omega (arith, c.loop-line-test.true, c.houses-line-end.ensures, ap (λ (r : Ruled). lines_of r.pattern.size) c.self.view_is) in
-    sym (sym same ∙ line_refused _ c.args.grid.now c.loop-line.line c.deref.result.now c.has_clue.result low
-    (clue_read (λ clue. clue.items) c.self.inside.clues.items c.loop-line.line c.index.result.now c.deref.result.now (omega (arith, low, lines, length-map c.self.inside.clues.items (λ clue. clue.items))) c.deref.ensures.value c.index.ensures)
+    sym (sym same ∙ line_refused _ c.args.grid.now c.loop-line.line c.numbers.result.now c.has_clue.result low
+    (c.numbers.ensures ∙ clue_read c.self.inside.clues.items c.loop-line.line c.index.result.now (omega (arith, low, lines)) c.index.ensures)
     c.has_clue.ensures.1 c.if-not-has_clue.true)
 
 pub returns-clause-solution : goal.returns-clause-solution

@@ -1,5 +1,4 @@
 use Rattle.std.proofs.Common.{◌∙◌, ◌<◌, ap, arith, length}
-use Rattle.std.proofs.lemmas.List.{length-map}
 use Rattle.grid_core.specs.Board.{has}
 use Rattle.gameid_core.specs.Puzzles.{lines_of}
 use Rattle.engine_core.specs.Puzzle.{after}
@@ -27,9 +26,8 @@ pub returns-clause-left : goal.returns-clause-left
 returns-clause-left c =
     let low : c.args.house < lines_of c.self.inside.size = let e = ap (λ (r : Ruled). lines_of r.pattern.size) c.self.view_is in omega (arith, e, c.requires.house_in) in
     c.visit_within.ensures.left
-    ∙ after_line_read _ c.args.house c.deref.result.now (has c.args.board.now)
-    (clue_read (λ clue. clue.items) c.self.inside.clues.items c.args.house c.index.result.now c.deref.result.now
-    (omega (arith, low, c.self.invariant.lines, length-map c.self.inside.clues.items (λ clue. clue.items))) c.deref.ensures.value c.index.ensures)
+    ∙ after_line_read _ c.args.house c.index.result.now (has c.args.board.now)
+    (clue_read c.self.inside.clues.items c.args.house c.index.result.now (omega (arith, low, c.self.invariant.lines)) c.index.ensures)
     ∙ ap (λ (r : Ruled). after (line_rules r.pattern) c.args.house (has c.args.board.now)) c.self.view_is
 
 pub visit_within-requires-clause-rows : goal.visit_within-requires-clause-rows
@@ -40,11 +38,9 @@ visit_within-requires-clause-rows c =
 pub visit_within-requires-clause-positive : goal.visit_within-requires-clause-positive
 visit_within-requires-clause-positive c =
     let low : c.args.house < lines_of c.self.inside.size = let e = ap (λ (r : Ruled). lines_of r.pattern.size) c.self.view_is in omega (arith, e, c.requires.house_in) in
-    (clue_of_line _ c.args.house c.deref.result.now c.self.invariant low (clue_read (λ clue. clue.items) c.self.inside.clues.items c.args.house c.index.result.now c.deref.result.now
-    (omega (arith, low, c.self.invariant.lines, length-map c.self.inside.clues.items (λ clue. clue.items))) c.deref.ensures.value c.index.ensures)).0
+    (clue_of_line _ c.args.house c.index.result.now c.self.invariant low (clue_read c.self.inside.clues.items c.args.house c.index.result.now (omega (arith, low, c.self.invariant.lines)) c.index.ensures)).0
 
 pub visit_within-requires-clause-fits : goal.visit_within-requires-clause-fits
 visit_within-requires-clause-fits c =
     let low : c.args.house < lines_of c.self.inside.size = let e = ap (λ (r : Ruled). lines_of r.pattern.size) c.self.view_is in omega (arith, e, c.requires.house_in) in
-    (clue_of_line _ c.args.house c.deref.result.now c.self.invariant low (clue_read (λ clue. clue.items) c.self.inside.clues.items c.args.house c.index.result.now c.deref.result.now
-    (omega (arith, low, c.self.invariant.lines, length-map c.self.inside.clues.items (λ clue. clue.items))) c.deref.ensures.value c.index.ensures)).1
+    (clue_of_line _ c.args.house c.index.result.now c.self.invariant low (clue_read c.self.inside.clues.items c.args.house c.index.result.now (omega (arith, low, c.self.invariant.lines)) c.index.ensures)).1

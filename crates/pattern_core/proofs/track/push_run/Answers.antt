@@ -1,7 +1,7 @@
 use Rattle.std.proofs.Common.{◌≡◌, ◌∙◌, ◌++◌, ℕ, List, [], ◌∷◌, replicate, sym, ap, arith, subst, append-nil}
 use Rattle.pattern_core.specs.Track.{IsSpelling}
 use Rattle.pattern_core.proofs.Spellings.{one_more, run_ended}
-use Rattle.pattern_core.proofs.table.push_run.Goals as goal
+use Rattle.pattern_core.proofs.track.push_run.Goals as goal
 
 pub loop-k-init : goal.loop-k-init
 loop-k-init c = (

@@ -3,7 +3,7 @@ use Rattle.std.proofs.lemmas.List.{take_all}
 use Rattle.gameid_core.specs.Puzzles.{used}
 use Rattle.pattern_core.specs.Track.{spelled, IsSpelling}
 use Rattle.pattern_core.proofs.Spellings.{spelling_none, spelled-more, used-more, used-front, track_spelled}
-use Rattle.pattern_core.proofs.table.spell.Goals as goal
+use Rattle.pattern_core.proofs.track.spell.Goals as goal
 
 pub loop-k-init : goal.loop-k-init
 loop-k-init c = (refl, spelling_none)

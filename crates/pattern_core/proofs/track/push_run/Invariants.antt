@@ -1,6 +1,6 @@
 use Rattle.std.proofs.Common.{◌≡◌, ℕ, List, ◌++◌, ◌+◌, replicate}
 use Rattle.pattern_core.specs.Track.{IsSpelling}
-use Rattle.pattern_core.proofs.table.push_run.Given as goal
+use Rattle.pattern_core.proofs.track.push_run.Given as goal
 
 abbrev pub invariant-loop-k : goal.invariant-loop-k
 invariant-loop-k l = (l.longer.len ≡ l.fn.spelling.len + l._k)
