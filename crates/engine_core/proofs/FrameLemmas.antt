@@ -9,7 +9,10 @@ use Rattle.grid_core.specs.Candidates.{Candidates, IsInside, IsWithin, total, is
 use Rattle.std.proofs.lemmas.Bool.{eqb-true, ne_eqb, eq-eqb, or_cases, or_left, or_right, and_parts}
 use Rattle.grid_core.proofs.CandidateLemmas.{count_below-or, count_below-lt, count_below-le, count_below-few, count_below-pos, count_below-bound, is_dead-not}
 use Rattle.grid_core.proofs.GridLemmas.{only-at, only-other, only-here, pick-two}
-use Rattle.engine_core.specs.Puzzle.{Puzzle}
+use Rattle.engine_core.specs.Puzzle.{Puzzle, IsLawful, IsClosed}
+use Rattle.engine_core.specs.Queue.{IsClosedBut}
+use Rattle.engine_core.proofs.ClosingLemmas.{closure_closed}
+use Rattle.engine_core.proofs.QueueLemmas.{closed-but_only}
 use Rattle.grid_core.specs.Board.{Layout, has, cells_of}
 use Rattle.engine_core.specs.Puzzle.{IsBoardOf}
 use Rattle.engine_core.specs.Closing.{closure}
@@ -160,11 +163,12 @@ singles-room p K cell lt two =
     let all = count_below-bound (λ c. true) p.cells in
     omega arith
 
-pub split-room : (p : Puzzle) (K K' : Candidates) (n cell : ℕ) → IsInside K' K → n ≤ singles p K → is_dead p.cells p.values K' ≡ false → pick p.cells p.values K' ≡ Some cell → IsOpen p (record { board = K'; cell = cell; next = 0 }) n
-split-room p K K' n cell inside single alive picked =
+pub split-room : (p : Puzzle) (K K' : Candidates) (n cell : ℕ) → IsInside K' K → n ≤ singles p K → is_dead p.cells p.values K' ≡ false → pick p.cells p.values K' ≡ Some cell
+    → IsWithin p.cells p.values K → (is_dead p.cells p.values K' ≡ false → K' ≡ closure p K) → IsOpen p (record { board = K'; cell = cell; next = 0 }) n
+split-room p K K' n cell inside single alive picked within reached =
     let two = pick-two p.cells p.values K' cell picked in
     let more = singles-inside p K' K inside alive in
-    record { single = omega arith; cell_in = two.0; two = two.1 }
+    record { single = omega arith; cell_in = two.0; two = two.1; closed = subst (IsClosed p) (sym (reached alive)) (closure_closed p K within) }
 
 pub open-room : (p : Puzzle) (level : Level) (n : ℕ) → IsOpen p level n → n < p.cells
 open-room p level n o = let less = singles-room p level.board level.cell o.cell_in o.two in let s = o.single in omega arith
@@ -346,7 +350,7 @@ ready-retried p K trail frames n len next ready pos lt =
         | inl e ↦
             let o = ready.open_levels k less in
             subst (λ (g : Frame). IsOpen p (level_at K (take len trail) g) k) (sym (frame_at-here frames (n - 1) f lt) ∙ ap (frame_at (set frames (n - 1) f)) (sym e))
-            (let q : IsOpen p (level_at K (take len trail) top) k = subst (λ (m : ℕ). IsOpen p (level_at K (take len trail) (frame_at frames m)) k) e o in record { single = q.single; cell_in = q.cell_in; two = q.two })
+            (let q : IsOpen p (level_at K (take len trail) top) k = subst (λ (m : ℕ). IsOpen p (level_at K (take len trail) (frame_at frames m)) k) e o in record { single = q.single; cell_in = q.cell_in; two = q.two; closed = q.closed })
         | inr ne ↦ subst (λ (g : Frame). IsOpen p (level_at K (take len trail) g) k) (sym (frame_at-other frames (n - 1) k f ne)) (ready.open_levels k less)
       ];
     }
@@ -441,6 +445,16 @@ pub turn-single : (p : Puzzle) (K K1 K2 : Candidates) (trail : List (ℕ × ℕ)
     → n ≤ singles p K2
 turn-single p K K1 K2 trail frames n len v ready pos back ltv on e =
     rw e (trial-single p K1 trail frames n v (ready-back p K K1 trail frames n len ready pos back) pos ltv on)
+
+-- the board of a trial was closed before it
+pub turn-closed : (p : Puzzle) (laws : IsLawful p) (K K1 K2 : Candidates) (trail : List (ℕ × ℕ)) (frames : List Frame) (n len v : ℕ) → IsReady p K trail frames n len → 0 < n
+    → K1 ≡ restored K (drop (frame_at frames (n - 1)).mark (take len trail)) → K2 ≡ only K1 (frame_at frames (n - 1)).cell v
+    → IsClosedBut p K2 (Some (frame_at frames (n - 1)).cell)
+turn-closed p laws K K1 K2 trail frames n len v ready pos back e =
+    let top = frame_at frames (n - 1) in
+    let r = ready-back p K K1 trail frames n len ready pos back in
+    let o : IsOpen p (record { board = K1; cell = top.cell; next = top.next }) (n - 1) = subst (λ (l : Level). IsOpen p l (n - 1)) (top-level K1 trail top) (r.open_levels (n - 1) (omega arith)) in
+    rw e (closed-but_only p laws K1 top.cell v o.cell_in o.closed)
 
 pub turn-answer : (p : Puzzle) (K K1 K2 : Candidates) (trail trail2 : List (ℕ × ℕ)) (frames : List Frame) (n len len2 v budget trials : ℕ) (found : Option (List ℕ)) → IsReady p K trail frames n len → 0 < n → n - 1 < length frames
     → K1 ≡ restored K (drop (frame_at frames (n - 1)).mark (take len trail))

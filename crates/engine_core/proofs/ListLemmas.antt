@@ -10,7 +10,7 @@ use Rattle.engine_core.specs.Closing.{replay, closure}
 use Rattle.engine_core.specs.ClosingList.{IsDead, IsAlive, HasLost, IsCalledNext, IsCalledFor, IsClosingList, IsClosing}
 use Rattle.engine_core.specs.Queue.{counts_of, woken, but, visits_left, IsRested}
 use Rattle.engine_core.specs.declared.mode.Closing.TheVariants.{Dead, Open}
-use Rattle.engine_core.proofs.QueueLemmas.{visits_first, visits_left-pos, rested_first, closed_from_rested, turn_enough, turn_rested}
+use Rattle.engine_core.proofs.QueueLemmas.{visits_first, visits_left-pos, closed_from_rested, turn_enough, turn_rested}
 use Rattle.engine_core.proofs.ClosingLemmas.{after_inside, replay_inside, replay-push, replay_closure, replay_dead}
 
 -- ---- lists with one visit more
@@ -117,14 +117,14 @@ pub record IsRunning (p : Puzzle) (K0 : Candidates) (t : List ℕ) (K : Candidat
   pub called : IsCalledFor p K0 t
   pub due : (j : ℕ) → j < p.houses → waits j ≡ true → IsDue p j K0 t
 
-pub running-first : (p : Puzzle) (laws : IsLawful p) (K : Candidates) (waits : ℕ → Bool) → p.by_queue ≡ true → IsAlive p K → ((h : ℕ) → h < p.houses → waits h ≡ true) → IsRunning p K [] K waits
+pub running-first : (p : Puzzle) (laws : IsLawful p) (K : Candidates) (waits : ℕ → Bool) → p.by_queue ≡ true → IsAlive p K → IsRested p K waits → IsRunning p K [] K waits
 unfolding replay IsDue
-running-first p laws K waits queue alive all = record {
+running-first p laws K waits queue alive rested = record {
   left = refl;
   houses = tt;
   alive = λ n le. rw (take_all {A = ℕ} n [] (omega arith)) alive;
   enough = let first = visits_first p laws K waits queue in omega arith;
-  rested = rested_first p K waits all;
+  rested = rested;
   called = tt;
   due = λ j lt on. tt;
 }

@@ -1,14 +1,15 @@
-use Rattle.std.proofs.Common.{add-one, ◌≡◌, ℕ, zero, suc, ◌+◌, ◌-◌, ◌*◌, ◌<◌, ◌≤◌, Bool, true, false, not, cond, ◌&&◌, ◌||◌, eqb, List, [], ◌∷◌, ◌++◌, length, slice_index, take, get_or, set, get_or-set_same, get_or-set_other, refl, sym, ap, ◌∙◌, inl, inr, arith}
+use Rattle.std.proofs.Common.{add-one, ◌≡◌, ℕ, zero, suc, ◌+◌, ◌-◌, ◌*◌, ◌<◌, ◌≤◌, Bool, true, false, not, cond, ◌&&◌, ◌||◌, eqb, List, [], ◌∷◌, ◌++◌, length, slice_index, take, get_or, set, get_or-set_same, get_or-set_other, Option, Some, None, refl, sym, ap, ◌∙◌, inl, inr, arith}
 use Rattle.std.proofs.lemmas.Bool.{and_left, and_right, cases_Bool, cases_eq, true≢false, and_parts, and_from, or_cases, or_left, or_right, or_parts, not-true, not-false, not_from_false, not_from_true, false_from_ne_true, eqb-true, eq-eqb, ne_eqb}
 use Rattle.std.proofs.Math.Nat.{mul-le-mul_right}
 use Rattle.std.proofs.Math.Seq.{take-suc-set}
-use Rattle.grid_core.specs.Candidates.{Candidates, IsWithin, any_below, count_below, sum_below, is_dead}
+use Rattle.grid_core.specs.Candidates.{Candidates, IsWithin, any_below, count_below, sum_below, is_dead, only}
 use Rattle.grid_core.proofs.CandidateLemmas.{any_below-here, any_below-some, any_below-none, count_below-le, count_below-lt, count_below-any, count_below-kept, count_below-pos, count_below-none, count_below-bound, count_below-same, any_below-same, sum_below-le, sum_below-add, is_dead-not, is_dead-here, is_dead-each}
 use Rattle.grid_core.specs.Board.{Layout, SameShape, has, cells_of}
 use Rattle.grid_core.proofs.BoardLemmas.{has-within}
+use Rattle.grid_core.proofs.GridLemmas.{only-inside, only-other}
 use Rattle.engine_core.specs.Puzzle.{Puzzle, IsLawful, IsClosed, IsInsideAt, IsBoardOf, after, has_place, share}
 use Rattle.engine_core.specs.Places.{has_place-at, has_place-here}
-use Rattle.engine_core.specs.Queue.{calls, counts_of, woken, but, visits_left, IsRested, is_waiting, is_emptied}
+use Rattle.engine_core.specs.Queue.{calls, counts_of, woken, but, visits_left, IsRested, is_waiting, is_emptied, IsClosedBut, waits_from}
 use Rattle.engine_core.proofs.ClosingLemmas.{after_inside}
 
 -- ---- what a visit leaves in the cells of other houses
@@ -67,10 +68,22 @@ rested_after p laws h K waits lth within rested = λ j c v ltj asleep on.
           ])
     ]
 
--- where every house waits, nothing is asked; where none waits, the board is closed
-pub rested_first : (p : Puzzle) (K : Candidates) (waits : ℕ → Bool) → ((h : ℕ) → h < p.houses → waits h ≡ true) → IsRested p K waits
-rested_first p K waits all = λ h c v lt asleep on. absurd (true≢false (sym (all h lt) ∙ asleep))
+-- where every house waits, nothing is asked, and where those of the place do, no more than that the others are closed
+pub rested_from : (p : Puzzle) (K : Candidates) (from : Option ℕ) (waits : ℕ → Bool) → IsClosedBut p K from → ((j : ℕ) → j < p.houses → waits j ≡ waits_from p from j) → IsRested p K waits
+unfolding waits_from
+rested_from p K None waits but all = λ h c v lt asleep on. absurd (true≢false (sym (all h lt) ∙ asleep))
+rested_from p K (Some place) waits but same = λ h c v lt asleep on. but.1 h c v lt (sym (same h lt) ∙ asleep) on
 
+-- a closed board whose cell lost values is closed but for the houses that have it
+pub closed-but_only : (p : Puzzle) (laws : IsLawful p) (K : Candidates) (cell v : ℕ) → cell < p.cells → IsClosed p K → IsClosedBut p (only K cell v) (Some cell)
+closed-but_only p laws K cell v lt closed = (
+  lt,
+  λ h c w lth out on. false_from_ne_true (p.strikes h (only K cell v) c w) (λ struck.
+      true≢false (sym (laws.strikes_inside h K (only K cell v) lth (λ d u member has. ap (λ (f : ℕ → Bool). f u) (only-other K cell v d (λ e. true≢false (sym member ∙ (ap (has_place (p.scope h)) e ∙ out)))) ∙ has) c w struck)
+      ∙ closed h c w lth (only-inside K cell v c w on))),
+)
+
+-- where no house waits, the board is closed
 pub closed_from_rested : (p : Puzzle) (K : Candidates) (waits : ℕ → Bool) → ((h : ℕ) → h < p.houses → waits h ≡ false) → IsRested p K waits → IsClosed p K
 closed_from_rested p K waits none rested = λ h c v lt on. rested h c v lt (none h lt) on
 

@@ -1,7 +1,7 @@
 -- The working words of the search: the trail and the frames. No public contract uses them.
 use Rattle.std.specs.Prelude.{◌≡◌, ℕ, zero, suc, ◌+◌, ◌<◌, ◌≤◌, Bool, true, false, List, [], ◌∷◌, not, ◌&&◌, ◌||◌, nat_le, ◌⊎◌, length, drop, take, slice_index_or, Option, Some, None, if◌then◌else◌, ◌==◌}
 use Rattle.grid_core.specs.Candidates.{Candidates, is_dead, is_full, grid_of, pick, count_below, total}
-use Rattle.engine_core.specs.Puzzle.{Puzzle}
+use Rattle.engine_core.specs.Puzzle.{Puzzle, IsClosed}
 use Rattle.engine_core.specs.Search.{Level, restored}
 use Rattle.engine_core.specs.Verdict.{Outcome, Outcome.NoGrid, Outcome.OneGrid, Outcome.TwoGrids, Outcome.OutOfBudget}
 use Rattle.engine_core.specs.declared.search.Frame.{Frame}
@@ -65,11 +65,13 @@ found_of some first = if some then Some first else None
 unfoldable pub singles : Puzzle → Candidates → ℕ
 singles p K = count_below (λ c. count_below (K c) p.values == 1) p.cells
 
--- the level of this number: its cell has two values or more, and as many cells have one value as levels lie outside it
+-- the level of this number: its board is closed, its cell has two values or more, and as many cells have one value as
+-- levels lie outside it
 pub record IsOpen (p : Puzzle) (level : Level) (number : ℕ) : Type 0 where
   pub single : number ≤ singles p level.board
   pub cell_in : level.cell < p.cells
   pub two : 2 ≤ count_below (level.board level.cell) p.values
+  pub closed : IsClosed p level.board
 
 -- the trail and the frames are in order
 pub record IsReady (p : Puzzle) (K : Candidates) (trail : List (ℕ × ℕ)) (frames : List Frame) (depth len : ℕ) : Type 0 where

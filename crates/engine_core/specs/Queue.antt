@@ -1,5 +1,5 @@
 -- The working words of the queue: which houses wait, and how many visits can still come. No public contract uses them.
-use Rattle.std.specs.Prelude.{◌≡◌, ℕ, ◌+◌, ◌-◌, ◌*◌, ◌<◌, Bool, true, false, not, ◌&&◌, ◌||◌, ◌==◌, List, length, slice_index, slice_index_or}
+use Rattle.std.specs.Prelude.{◌≡◌, ℕ, Option, Some, None, ◌+◌, ◌-◌, ◌*◌, ◌<◌, Bool, true, false, not, ◌&&◌, ◌||◌, ◌==◌, List, length, slice_index, slice_index_or}
 use Rattle.grid_core.specs.Candidates.{Candidates, any_below, count_below, sum_below}
 use Rattle.engine_core.specs.Puzzle.{Puzzle, has_place, share}
 
@@ -36,3 +36,13 @@ is_emptied p h K = any_below (λ k. counts_of p h K k == 0) (length (p.scope h))
 -- whether the house is marked
 abbrev pub is_waiting : List Bool → ℕ → Bool
 is_waiting waits j = slice_index_or waits j false
+
+-- where a place is named, no house strikes a value that its cell still has, but for those that have the place
+abbrev pub IsClosedBut : Puzzle → Candidates → Option ℕ → Type 0
+IsClosedBut p K None = Unit {0}
+IsClosedBut p K (Some place) = (place < p.cells) × ((h c v : ℕ) → h < p.houses → has_place (p.scope h) place ≡ false → K c v ≡ true → p.strikes h K c v ≡ false)
+
+-- the houses that a closing begins with: those that have the place, or all where none is named
+unfoldable pub waits_from : Puzzle → Option ℕ → ℕ → Bool
+waits_from p None j = true
+waits_from p (Some place) j = has_place (p.scope j) place

@@ -6,15 +6,18 @@ ghost use Rattle.grid_core.specs.Candidates.{total};
 ghost use Rattle.engine_core.specs.Frames.{IsTrail, IsNoted};
 ghost use Rattle.engine_core.specs.Puzzle.{Needs, needs_of, IsBoardOf};
 ghost use Rattle.engine_core.specs.ClosingList.{IsClosing};
+ghost use Rattle.engine_core.specs.Queue.{IsClosedBut};
 
-use crate::queue::{Closed, run_queue};
+use crate::queue::{Closed, run_queue, wait_from};
 use crate::rules::{Rules, by_queue};
 use crate::sweep::run_sweeps;
 use grid_core::Board;
 
-/// Closes the board, and notes what that strikes.
+/// Closes the board, and notes what that strikes. Where `from` names a place, the board was closed before that place's
+/// cell lost values, so that a queue need not begin with the other houses.
 pub(crate) fn close_board<R: Rules>(
     rules: &R,
+    from: Option<usize>,
     board: &mut Board,
     scratch: &mut R::Scratch,
     sets: &mut [u32],
@@ -24,6 +27,7 @@ pub(crate) fn close_board<R: Rules>(
     len: usize,
 ) -> Closed
     requires board_of { IsBoardOf (R.puzzle rules.now) board.old }
+    requires closed_but { IsClosedBut (R.puzzle rules.now) (has board.old) from }
     requires served { R.serves scratch.old (needs_of (R.puzzle rules.now)) }
     requires room { (needs_of (R.puzzle rules.now)).scope ≤ length sets.old }
     requires waits_room { (R.puzzle rules.now).by_queue ≡ true → (R.puzzle rules.now).houses ≤ length waits.old }
@@ -40,6 +44,7 @@ pub(crate) fn close_board<R: Rules>(
     if by_queue(rules) {
         let houses = rules.houses();
         let waits = &mut waits[..houses];
+        wait_from(rules, from, waits);
         run_queue(rules, board, scratch, sets, waits, trace, trail, len)
     } else {
         run_sweeps(rules, board, scratch, sets, trail, len)

@@ -1,12 +1,12 @@
 //! Closing by a queue of the houses that wait.
 
-ghost use Rattle.std.specs.Prelude.{◌≡◌, ℕ, ◌+◌, ◌<◌, ◌≤◌, ◌||◌, ◌&&◌, ◌==◌, not, length, slice_index, true, false, take, count_ones};
+ghost use Rattle.std.specs.Prelude.{◌≡◌, ℕ, ◌+◌, ◌<◌, ◌≤◌, ◌||◌, ◌&&◌, ◌==◌, not, length, slice_index, true, false, take, count_ones, IfSome};
 ghost use Rattle.grid_core.specs.Board.{has, SameShape};
 ghost use Rattle.grid_core.specs.Candidates.{is_dead, total};
 ghost use Rattle.engine_core.specs.Frames.{IsTrail, IsNoted};
 ghost use Rattle.engine_core.specs.Puzzle.{Needs, needs_of, IsBoardOf, IsNext, has_place, after};
 ghost use Rattle.engine_core.specs.ClosingList.{IsClosing};
-ghost use Rattle.engine_core.specs.Queue.{is_waiting, counts_of, woken, but, is_emptied};
+ghost use Rattle.engine_core.specs.Queue.{is_waiting, counts_of, woken, but, is_emptied, IsRested, waits_from};
 
 use crate::mode::Closing;
 use crate::note::visit_noting;
@@ -41,18 +41,45 @@ fn next_waiting(waits: &[bool]) -> Option<usize>
     None
 }
 
+/// Marks the houses that have the place.
+fn mark_place<R: Rules>(rules: &R, place: usize, waits: &mut [bool])
+    requires place_in { place < (R.puzzle rules.now).cells }
+    requires waits_of { length waits.old ≡ (R.puzzle rules.now).houses }
+    ensures { (j : ℕ) → j < (R.puzzle rules.now).houses → is_waiting waits.new j ≡ (is_waiting waits.old j || has_place ((R.puzzle rules.now).scope j) place) }
+{
+    let mut from = 0;
+    while let Some(found) = rules.house_at(place, from) {
+        waits[found] = true;
+        from = found + 1;
+    }
+}
+
 /// Marks the houses that have the place, but for the one just visited where it is settled.
 fn wake_place<R: Rules>(rules: &R, house: usize, place: usize, waits: &mut [bool])
+    requires house_in { house < (R.puzzle rules.now).houses }
     requires place_in { place < (R.puzzle rules.now).cells }
     requires waits_of { length waits.old ≡ (R.puzzle rules.now).houses }
     ensures { (j : ℕ) → j < (R.puzzle rules.now).houses → is_waiting waits.new j ≡ (is_waiting waits.old j || (has_place ((R.puzzle rules.now).scope j) place && not ((R.puzzle rules.now).settled && (j == house)))) }
 {
-    let mut from = 0;
-    while let Some(found) = rules.house_at(place, from) {
-        if !(R::SETTLED && found == house) {
-            waits[found] = true;
+    let waited = waits[house];
+    mark_place(rules, place, waits);
+    if R::SETTLED {
+        waits[house] = waited;
+    }
+}
+
+/// Marks the houses that a closing begins with: those that have the place, or all where none is named.
+pub(crate) fn wait_from<R: Rules>(rules: &R, from: Option<usize>, waits: &mut [bool])
+    requires place_in { IfSome from (λ place. place < (R.puzzle rules.now).cells) }
+    requires waits_of { length waits.old ≡ (R.puzzle rules.now).houses }
+    ensures { (j : ℕ) → j < (R.puzzle rules.now).houses → is_waiting waits.new j ≡ waits_from (R.puzzle rules.now) from j }
+{
+    match from {
+        None => waits.fill(true),
+        Some(place) => {
+            waits.fill(false);
+            mark_place(rules, place, waits);
         }
-        from = found + 1;
     }
 }
 
@@ -121,8 +148,8 @@ fn step<R: Rules>(
     }
 }
 
-/// Closes the board: visits the houses that wait, all of them at first, until none waits or a cell has no value. It
-/// writes down each house that it visits, and notes each strike.
+/// Closes the board: visits the houses that wait until none waits or a cell has no value. At first each house waits that
+/// strikes anything; it may be more. It writes down each house that it visits, and notes each strike.
 pub(crate) fn run_queue<R: Rules>(
     rules: &R,
     board: &mut Board,
@@ -138,6 +165,7 @@ pub(crate) fn run_queue<R: Rules>(
     requires served { R.serves scratch.old (needs_of (R.puzzle rules.now)) }
     requires room { (h : ℕ) → h < (R.puzzle rules.now).houses → length ((R.puzzle rules.now).scope h) ≤ length sets.old }
     requires waits_of { length waits.old ≡ (R.puzzle rules.now).houses }
+    requires rested { IsRested (R.puzzle rules.now) (has board.old) (is_waiting waits.old) }
     requires trace_room { (R.puzzle rules.now).bound ≤ length trace.old }
     requires within { len ≤ length trail.old }
     requires entries { IsTrail (R.puzzle rules.now).cells (R.puzzle rules.now).values trail.old len }
@@ -158,7 +186,6 @@ pub(crate) fn run_queue<R: Rules>(
             len: end,
         };
     }
-    waits.fill(true);
     while let Some(house) = next_waiting(waits) {
         trace[visits] = house;
         visits += 1;

@@ -7,6 +7,7 @@ ghost use Rattle.engine_core.specs.Puzzle.{Needs, needs_of, IsBoardOf};
 ghost use Rattle.engine_core.specs.Closing.{closure};
 ghost use Rattle.engine_core.specs.Walk.{walk};
 ghost use Rattle.engine_core.specs.Verdict.{outcome, tried, Outcome.TwoGrids};
+ghost use Rattle.engine_core.specs.Queue.{IsClosedBut};
 ghost use Rattle.engine_core.specs.Counts.{deepest_of, boards_of, IsClosedIn, IsTurns};
 ghost use Rattle.engine_core.specs.Search.{restored, pending};
 ghost use Rattle.engine_core.specs.Frames.{IsTrail, IsNoted, Says, levels_of, found_of, IsReady, singles};
@@ -57,9 +58,10 @@ fn undo(board: &mut Board, trail: &[(usize, u8)], len: usize, mark: usize)
     }
 }
 
-/// Closes the board, and notes what that strikes.
+/// The same as `close_board`, as a search sees it.
 fn close_noting<R: Rules>(
     rules: &R,
+    from: Option<usize>,
     board: &mut Board,
     scratch: &mut R::Scratch,
     sets: &mut [u32],
@@ -69,6 +71,7 @@ fn close_noting<R: Rules>(
     len: usize,
 ) -> Closed
     requires board_of { IsBoardOf (R.puzzle rules.now) board.old }
+    requires closed_but { IsClosedBut (R.puzzle rules.now) (has board.old) from }
     requires served { R.serves scratch.old (needs_of (R.puzzle rules.now)) }
     requires sets_room { (needs_of (R.puzzle rules.now)).scope ≤ length sets.old }
     requires waits_room { (R.puzzle rules.now).by_queue ≡ true → (R.puzzle rules.now).houses ≤ length waits.old }
@@ -84,12 +87,13 @@ fn close_noting<R: Rules>(
     ensures shape { SameShape board.old board.new }
     ensures keeps { (needs : Needs) → R.serves scratch.old needs → R.serves scratch.new needs }
 {
-    close_board(rules, board, scratch, sets, waits, trace, trail, len)
+    close_board(rules, from, board, scratch, sets, waits, trace, trail, len)
 }
 
-/// How far a search is.
+/// How far a search is. The board was closed before the cell that is named as changed lost values.
 #[derive(Clone, Copy)]
 pub(crate) struct Progress {
+    pub changed: Option<usize>,
     pub len: usize,
     pub depth: usize,
     pub found: bool,
@@ -113,6 +117,7 @@ fn descend<R: Rules>(
     at: Progress,
 ) -> Progress
     requires board_of { IsBoardOf (R.puzzle rules.now) board.old }
+    requires closed_but { IsClosedBut (R.puzzle rules.now) (has board.old) at.changed }
     requires served { R.serves scratch.old (needs_of (R.puzzle rules.now)) }
     requires ready { IsReady (R.puzzle rules.now) (has board.old) trail.old frames.old at.depth at.len }
     requires single { at.depth ≤ singles (R.puzzle rules.now) (has board.old) }
@@ -135,7 +140,10 @@ fn descend<R: Rules>(
     ensures shape { SameShape board.old board.new }
     ensures keeps { (needs : Needs) → R.serves scratch.old needs → R.serves scratch.new needs }
 {
-    let closed = close_noting(rules, board, scratch, sets, waits, trace, trail, at.len);
+    let from = at.changed;
+    let closed = close_noting(
+        rules, from, board, scratch, sets, waits, trace, trail, at.len,
+    );
     let len = closed.len;
     let turns = at.turns + closed.visits.max(closed.sweeps) as u128;
     match judge(rules, board, scratch, at.found, first, second) {
@@ -296,6 +304,7 @@ fn search<R: Rules>(
                 };
                 at.deepest = at.deepest.max(at.depth);
                 at.len = keep_noting(board, top.cell, value, values, trail, at.len);
+                at.changed = Some(top.cell);
                 at = descend(
                     rules, board, scratch, sets, waits, trace, trail, frames, first, second, at,
                 );
@@ -356,6 +365,7 @@ pub(crate) fn walk_board<R: Rules>(
     ensures keeps { (needs : Needs) → R.serves scratch.old needs → R.serves scratch.new needs }
 {
     let from = Progress {
+        changed: None,
         len: 0,
         depth: 0,
         found: false,

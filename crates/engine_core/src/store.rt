@@ -184,6 +184,7 @@ impl<R: Rules> Store<R> {
     {
         let closed = close_board(
             rules,
+            None,
             &mut self.board,
             &mut self.scratch,
             &mut self.scope,

@@ -1,5 +1,5 @@
 //! Where the input comes from and where the text goes, one system call at a time.
-ghost use Rattle.std.specs.Prelude.{◌≡◌, ◌+◌, ◌<◌, ◌≤◌, ◌++◌, ℕ, Bool, true, false, not, List, [], length, is_none, IfSome};
+ghost use Rattle.std.specs.Prelude.{◌≡◌, ◌+◌, ◌<◌, ◌≤◌, ◌++◌, ℕ, Bool, false, not, List, [], length, is_none, IfSome};
 ghost use Rattle.puzzles.specs.Ends.{moved, is_end};
 
 /// Most calls of `fetch` in one run.

@@ -1,6 +1,6 @@
 //! A plain search for solutions of a puzzle of Pattern, for the tests of the search by deduction: grid by grid, in the
 //! order of their cells, white before black, with a test of each whole grid.
-ghost use Rattle.std.specs.Prelude.{◌≡◌, ◌↔◌, IsTrue, ◌<◌, ◌≤◌, ◌*◌, ◌+◌, ◌-◌, ◌∷◌, ◌++◌, ℕ, IfOk, MatchOption, length, slice_index, take, replicate};
+ghost use Rattle.std.specs.Prelude.{◌≡◌, ◌↔◌, IsTrue, ◌<◌, ◌*◌, ◌+◌, ◌-◌, ℕ, IfOk, MatchOption, length, slice_index};
 ghost use Rattle.grid_core.specs.Grids.{IsGrid};
 ghost use Rattle.pattern_core.specs.Solutions.{IsSolution};
 ghost use Rattle.puzzles.specs.PlainSearch.{IsFound};

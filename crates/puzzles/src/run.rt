@@ -1,5 +1,5 @@
 //! One run of the program.
-ghost use Rattle.std.specs.Prelude.{◌≡◌, ◌<◌, ◌≤◌, List, ℕ, true, false, map, option_map, string_bytes, IfOk, IfSome};
+ghost use Rattle.std.specs.Prelude.{◌≡◌, ◌<◌, ◌≤◌, true, false, map, option_map, string_bytes, IfOk, IfSome};
 ghost use Rattle.puzzles.specs.Answers.{BeginsAnswer, Text};
 ghost use Rattle.puzzles.specs.Outputs.{Allows, is_put_whole, reads_input};
 ghost use Rattle.puzzles.specs.Replies.{answer_in};

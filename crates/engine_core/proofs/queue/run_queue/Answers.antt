@@ -1,5 +1,5 @@
-use Rattle.std.proofs.Common.{◌≡◌, ◌<◌, true, false, length, take, replicate, arith, sym, ◌∙◌, refl, rules, ℕ}
-use Rattle.std.proofs.lemmas.List.{get_or-replicate, length-set}
+use Rattle.std.proofs.Common.{◌<◌, take, arith, sym, ◌∙◌, refl, ℕ}
+use Rattle.std.proofs.lemmas.List.{length-set}
 use Rattle.grid_core.specs.Board.{has}
 use Rattle.engine_core.specs.Puzzle.{IsBoardOf}
 use Rattle.engine_core.specs.Queue.{is_waiting}
@@ -17,11 +17,9 @@ returns-then-has_empty_cell-clause-closing g c =
 pub loop-house-init : goal.loop-house-init
 loop-house-init g c =
     let p = g.R.Rules.puzzle c.args.rules.now in
-    let made : c.fill.new.self ≡ replicate (length c.args.waits.now) true = search rules in
     record {
-      running = running-first p (g.met.R.Rules.lawful c.args.rules.now) (has c.args.board.now) (is_waiting c.fill.new.self) c.requires.queue
-          (sym (dead_of p c.args.board.now c.requires.board_of) ∙ sym c.if-has_empty_cell.ensures)
-          (λ h lt. rw made (get_or-replicate (length c.args.waits.now) h true false (rw c.requires.waits_of lt)));
+      running = running-first p (g.met.R.Rules.lawful c.args.rules.now) (has c.args.board.now) (is_waiting c.args.waits.now) c.requires.queue
+          (sym (dead_of p c.args.board.now c.requires.board_of) ∙ sym c.if-has_empty_cell.ensures) c.requires.rested;
       visits = omega arith;
       noted = noted-none p.cells p.values (has c.args.board.now) c.args.trail.now c.args.len c.requires.within c.requires.entries c.requires.trail_room;
       shape = record { same_values = refl; same_cells = refl };

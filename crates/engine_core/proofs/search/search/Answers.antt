@@ -5,7 +5,7 @@ use Rattle.engine_core.specs.Search.{pending}
 use Rattle.engine_core.specs.Frames.{found_of}
 use Rattle.engine_core.proofs.QueueLemmas.{IsBoardOf-same}
 use Rattle.engine_core.proofs.CountLemmas.{counted-first, counted-same, counted-more, counted-trials, counted-turns, counted-deepest}
-use Rattle.engine_core.proofs.FrameLemmas.{open-cell, ready-back, levels-back, pop-pending, ready-popped, trial-pending, out-answer, room-of, noted-of, turn-ready, turn-single, turn-answer, turn-tried, done-one, done-none, done-tried, out-tried}
+use Rattle.engine_core.proofs.FrameLemmas.{open-cell, ready-back, levels-back, pop-pending, ready-popped, trial-pending, out-answer, room-of, noted-of, turn-ready, turn-single, turn-closed, turn-answer, turn-tried, done-one, done-none, done-tried, out-tried}
 use Rattle.engine_core.proofs.search.search.Goals as goal
 
 pub slice_copy_out-top : goal.slice_copy_out-top
@@ -117,6 +117,11 @@ descend-at-requires-clause-single g c =
     let next = c.in-Some.ensures in
     let ltv : c.in-Some.value < p.values = omega (arith, next.1, c.values-values.ensures) in
     turn-single p (has c.loop-at.board) (has c.undo.new.board) (has c.keep_noting.new.board) c.loop-at.trail c.loop-at.frames n c.loop-at.at.len c.in-Some.value i.ready c.loop-at-test.true c.undo.ensures.left ltv next.2 c.keep_noting.ensures.left
+
+pub descend-at-requires-clause-closed_but : goal.descend-at-requires-clause-closed_but
+descend-at-requires-clause-closed_but g c =
+    turn-closed (g.R.Rules.puzzle c.args.rules.now) (g.met.R.Rules.lawful c.args.rules.now) (has c.loop-at.board) (has c.undo.new.board) (has c.keep_noting.new.board) c.loop-at.trail c.loop-at.frames c.loop-at.at.depth c.loop-at.at.len c.in-Some.value c.loop-at.invariant.ready c.loop-at-test.true
+    c.undo.ensures.left c.keep_noting.ensures.left
 
 pub returns-then-at-clause-says : goal.returns-then-at-clause-says
 returns-then-at-clause-says g c =
