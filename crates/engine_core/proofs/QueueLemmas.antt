@@ -8,7 +8,7 @@ use Rattle.grid_core.specs.Board.{Layout, SameShape, has, cells_of}
 use Rattle.grid_core.proofs.BoardLemmas.{has-within}
 use Rattle.grid_core.proofs.GridLemmas.{only-inside, only-other}
 use Rattle.engine_core.specs.Puzzle.{Puzzle, IsLawful, IsClosed, IsInsideAt, IsBoardOf, after, has_place, share}
-use Rattle.engine_core.specs.Places.{has_place-at, has_place-here}
+use Rattle.engine_core.specs.PlaceLaws.{has_place-at, has_place-here}
 use Rattle.engine_core.specs.Queue.{calls, counts_of, woken, but, visits_left, IsRested, is_waiting, is_emptied, IsClosedBut, waits_from}
 use Rattle.engine_core.proofs.ClosingLemmas.{after_inside}
 

@@ -1,6 +1,6 @@
 pub mod Mode
 pub mod Puzzle
-pub mod Places
+pub mod PlaceLaws
 pub mod Closing
 pub mod ClosingList
 pub mod Filling

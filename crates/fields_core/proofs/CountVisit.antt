@@ -4,7 +4,7 @@ use Rattle.std.proofs.Math.Path.{fun_ext}
 use Rattle.grid_core.specs.Candidates.{Candidates}
 use Rattle.grid_core.specs.Board.{Layout, has}
 use Rattle.grid_core.proofs.BoardLemmas.{has-within}
-use Rattle.engine_core.specs.Places.{has_place-here}
+use Rattle.engine_core.specs.PlaceLaws.{has_place-here}
 use Rattle.engine_core.specs.Filling.{strikes_by_fillings}
 use Rattle.engine_core.specs.Sets.{set_of_bits, IsBitsOf}
 use Rattle.engine_core.specs.House.{sets_at, IsDecided, kept_in}

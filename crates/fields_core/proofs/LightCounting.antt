@@ -9,7 +9,7 @@ use Rattle.grid_core.specs.Grids.{IsGrid}
 use Rattle.grid_core.specs.Regions.{row_places, column_places, steps}
 use Rattle.grid_core.proofs.CandidateLemmas.{all_below-at, any_below-here, any_below-some}
 use Rattle.engine_core.specs.Puzzle.{has_place}
-use Rattle.engine_core.specs.Places.{has_place-here}
+use Rattle.engine_core.specs.PlaceLaws.{has_place-here}
 use Rattle.gameid_core.specs.Puzzles.{Light, IsLight, IsLightCell}
 use Rattle.gameid_core.specs.declared.light_cell.LightCell.{LightCell}
 use Rattle.gameid_core.specs.declared.light_cell.LightCell.TheVariants.{White, Black, Numbered}

@@ -4,7 +4,7 @@ use Rattle.std.proofs.Common.{◌≡◌, ◌⊎◌, ℕ, zero, suc, ◌+◌, ◌
 use Rattle.std.proofs.lemmas.Bool.{cases_eq, cases_lt, or_left, or_right, eqb-true, true≢false, false_from_ne_true, eq-eqb}
 use Rattle.std.proofs.lemmas.List.{append-nil, length-append, drop_all, get_or_append_left, get_or-append_right, length-take, get_or-take, take_more, take_all, get_or-set_same, get_or-set_other, length-set, get_or_default}
 use Rattle.engine_core.specs.Puzzle.{has_place, IsNext}
-use Rattle.engine_core.specs.Places.{has_place-at, has_place-here}
+use Rattle.engine_core.specs.PlaceLaws.{has_place-at, has_place-here}
 use Rattle.engine_core.specs.House.{AreDifferent}
 use Rattle.fields_core.specs.CountHouse.{House, Table, no_house, house_of, AreHouses}
 use Rattle.fields_core.specs.PlaceIndex.{number_if, houses_at, IsIndex, IsNextOf}

@@ -3,7 +3,7 @@ use Rattle.std.proofs.Common.{◌≡◌, ℕ, zero, suc, ◌+◌, ◌<◌, ◌�
 use Rattle.std.specs.List.{filter, count_by}
 use Rattle.std.proofs.lemmas.Bool.{cases_Bool, or_left, or_right, or_cases, true≢false, false_from_ne_true, eqb-true, eq-eqb}
 use Rattle.engine_core.specs.Puzzle.{has_place}
-use Rattle.engine_core.specs.Places.{has_place-at, has_place-here}
+use Rattle.engine_core.specs.PlaceLaws.{has_place-at, has_place-here}
 use Rattle.engine_core.specs.House.{AreDifferent}
 use Rattle.fields_core.specs.Count.{ones}
 use Rattle.fields_core.specs.Light.{bulb}

@@ -5,7 +5,7 @@ use Rattle.std.proofs.lemmas.Bool.{cases_eq, cases_lt, lt-ltb, le-ltb, ne_eqb, e
 use Rattle.grid_core.specs.Candidates.{Candidates, all_of, without}
 use Rattle.grid_core.specs.Board.{Layout, SameShape}
 use Rattle.engine_core.specs.Puzzle.{has_place, longest, after}
-use Rattle.engine_core.specs.Places.{has_place-at, has_place-here}
+use Rattle.engine_core.specs.PlaceLaws.{has_place-at, has_place-here}
 use Rattle.engine_core.proofs.StoreLemmas.{scope_le-longest}
 use Rattle.gameid_core.specs.Puzzles.{Light}
 use Rattle.fields_core.specs.CountHouse.{House, Table, house_of, start_of, after_house, count_puzzle}

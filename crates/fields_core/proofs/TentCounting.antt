@@ -13,7 +13,7 @@ use Rattle.grid_core.specs.Candidates.{all_below}
 use Rattle.grid_core.proofs.RegionLemmas.{row-at, column-at}
 use Rattle.grid_core.proofs.CandidateLemmas.{all_below-at, any_below-here}
 use Rattle.engine_core.specs.Puzzle.{has_place}
-use Rattle.engine_core.specs.Places.{has_place-at, has_place-here}
+use Rattle.engine_core.specs.PlaceLaws.{has_place-at, has_place-here}
 use Rattle.engine_core.specs.Filling.{Set, has_value}
 use Rattle.engine_core.specs.FillingLaws.{filling_from_test, has_value_below}
 use Rattle.gameid_core.specs.Puzzles.{Tents, IsTents, AreCounts, line_cells}

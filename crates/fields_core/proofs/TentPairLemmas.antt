@@ -9,10 +9,10 @@ use Rattle.grid_core.specs.Grids.{IsGrid}
 use Rattle.grid_core.specs.Regions.{steps}
 use Rattle.grid_core.specs.Candidates.{all_below}
 use Rattle.grid_core.specs.Pairings.{IsPairing, IsShortSet}
-use Rattle.grid_core.specs.ShortSets.{no_choice}
+use Rattle.grid_core.specs.ShortSetLaws.{no_choice}
 use Rattle.grid_core.proofs.CandidateLemmas.{all_below-at, all_below-from}
 use Rattle.engine_core.specs.Puzzle.{has_place}
-use Rattle.engine_core.specs.Places.{has_place-here}
+use Rattle.engine_core.specs.PlaceLaws.{has_place-here}
 use Rattle.engine_core.specs.Filling.{has_value, Fills}
 use Rattle.engine_core.specs.FillingLaws.{test_from_filling}
 use Rattle.engine_core.specs.House.{AreDifferent}

@@ -4,7 +4,7 @@ use Rattle.std.proofs.lemmas.Bool.{cases_Bool, or_left, or_right, or_cases, and_
 use Rattle.grid_core.specs.Grids.{IsGrid}
 use Rattle.grid_core.specs.Candidates.{any_below, all_below}
 use Rattle.grid_core.proofs.CandidateLemmas.{all_below-at, all_below-from, any_below-some, any_below-none}
-use Rattle.engine_core.specs.Places.{has_place-here}
+use Rattle.engine_core.specs.PlaceLaws.{has_place-here}
 use Rattle.gameid_core.specs.Puzzles.{Tents}
 use Rattle.fields_core.specs.CountHouse.{Table}
 use Rattle.fields_core.specs.Tents.{cells_of, tree, tent, touches, tents_in_column, tents_in_row, tree_right, touch_right, column_right, row_right, can_be_paired, is_camp}

@@ -5,7 +5,7 @@ use Rattle.grid_core.specs.Candidates.{Candidates, IsInside, IsWithin, all_of, s
 use Rattle.grid_core.specs.Grids.{IsGrid}
 use Rattle.grid_core.proofs.GridLemmas.{single-is}
 use Rattle.engine_core.specs.Puzzle.{IsLawful, after}
-use Rattle.engine_core.specs.Places.{has_place-here}
+use Rattle.engine_core.specs.PlaceLaws.{has_place-here}
 use Rattle.engine_core.specs.Filling.{strikes_by_fillings}
 use Rattle.engine_core.specs.House.{strikes_at, Decision}
 use Rattle.engine_core.specs.HouseLaws.{strikes_at-inside, strikes_at-in_scope, by_fillings-monotone, by_fillings-settled, by_fillings-closed}

@@ -6,4 +6,4 @@ pub mod Regions
 pub mod Pairings
 pub mod Augmenting
 pub mod SearchOutcome
-pub mod ShortSets
+pub mod ShortSetLaws

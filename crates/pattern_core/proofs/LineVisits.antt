@@ -8,7 +8,7 @@ use Rattle.grid_core.specs.Extent.{Extent, IsExtent, max_side}
 use Rattle.grid_core.specs.Candidates.{Candidates, IsWithin}
 use Rattle.gameid_core.specs.Puzzles.{Pattern, IsPattern, IsClue, AreClues, line_cells, lines_of, used}
 use Rattle.gameid_core.specs.BlackRuns.{runs}
-use Rattle.engine_core.specs.Places.{has_place-here}
+use Rattle.engine_core.specs.PlaceLaws.{has_place-here}
 use Rattle.engine_core.specs.Puzzle.{after}
 use Rattle.engine_core.specs.Filling.{strikes_by_fillings}
 use Rattle.engine_core.specs.Sets.{set_of_bits, IsBitsOf}

@@ -15,7 +15,7 @@ use Rattle.grid_core.proofs.GridLemmas.{single-is}
 use Rattle.gameid_core.specs.Puzzles.{Pattern, lines_of, line_cells}
 use Rattle.gameid_core.specs.BlackRuns.{runs}
 use Rattle.engine_core.specs.Puzzle.{Needs, FitsIn, IsLawful, after, has_place, share}
-use Rattle.engine_core.specs.Places.{has_place-at, has_place-here}
+use Rattle.engine_core.specs.PlaceLaws.{has_place-at, has_place-here}
 use Rattle.engine_core.specs.Filling.{strikes_by_fillings}
 use Rattle.engine_core.specs.House.{strikes_at, AreDifferent}
 use Rattle.engine_core.specs.HouseLaws.{strikes_at-inside, strikes_at-in_scope, by_fillings-monotone, by_fillings-settled, by_fillings-closed}

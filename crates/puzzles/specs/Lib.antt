@@ -3,7 +3,9 @@ pub mod Numbers
 pub mod Requests
 pub mod Ends
 pub mod ReadEnds
+pub mod ReadEndLaws
 pub mod WriteEnds
+pub mod WriteEndLaws
 pub mod Answers
 pub mod Texts
 pub mod Runs

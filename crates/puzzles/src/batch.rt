@@ -230,6 +230,46 @@ fn take_input<I: Source, O: Sink>(
     Err(Stop::Broken)
 }
 
+/// Answers the lines of the input as `solve_lines` says, in the memory of a batch that has taken nothing.
+fn answer_lines<I: Source, O: Sink>(
+    alloc: Global,
+    game: Game,
+    budget: u64,
+    batch: &mut Batch,
+    input: &mut I,
+    output: &mut O,
+) -> u8
+    requires no_calls { I.call_count input.old ≡ 0 }
+    requires input_fine { I.has_failed input.old ≡ false }
+    requires input_open { I.has_ended input.old ≡ false }
+    requires output_fine { O.has_failed output.old ≡ false }
+    requires no_line { Holds batch.old.line [] }
+    requires no_status { batch.old.status ≡ 0 }
+    ensures ran { Ran I.gives I.has_ended O.takes (λ read. AllowsEach (AllowsSolve game budget) (lines read))
+        input.old input.new output.old output.new result }
+    ensures status { result ≤ 6 }
+    ensures sound { result ≤ 5
+        → (I.has_failed input.new ≡ false) × (O.has_failed output.new ≡ false) }
+    ensures sent { result < 5 → O.is_flushed output.new ≡ true }
+    ensures broken { result ≡ 6 → IsBroken (I.has_failed input.new) (O.has_failed output.new)
+        (I.call_count input.new) (I.has_ended input.new) }
+{
+    each_text_has_an_answer();
+    match take_input(alloc, game, budget, batch, input, output) {
+        Ok(()) => {}
+        Err(stop) => return stop.status(),
+    }
+    match batch.answer_last(alloc, game, budget, output) {
+        Ok(()) => {}
+        Err(stop) => return stop.status(),
+    }
+    if output.finish() {
+        batch.status
+    } else {
+        BROKEN
+    }
+}
+
 /// Answers the lines of the input in order, each as an ID of the game, and gives the status of the run: the greatest of
 /// the answers' statuses, 0 where there is no line, 5 where memory was wanted and 6 where an end failed. A line ends at
 /// `\n`, and the last one also at the end of the input where it isn't empty; one `\r` before the `\n` is no part of it. A
@@ -254,19 +294,6 @@ pub fn solve_lines<I: Source, O: Sink>(
     ensures broken { result ≡ 6 → IsBroken (I.has_failed input.new) (O.has_failed output.new)
         (I.call_count input.new) (I.has_ended input.new) }
 {
-    each_text_has_an_answer();
     let mut batch = Batch::new(alloc);
-    match take_input(alloc, game, budget, &mut batch, input, output) {
-        Ok(()) => {}
-        Err(stop) => return stop.status(),
-    }
-    match batch.answer_last(alloc, game, budget, output) {
-        Ok(()) => {}
-        Err(stop) => return stop.status(),
-    }
-    if output.finish() {
-        batch.status
-    } else {
-        BROKEN
-    }
+    answer_lines(alloc, game, budget, &mut batch, input, output)
 }

@@ -10,7 +10,7 @@ use Rattle.grid_core.specs.Candidates.{count_below}
 use Rattle.grid_core.proofs.CandidateLemmas.{count_below-few, count_below-or}
 use Rattle.gameid_core.specs.Puzzles.{Solo, IsSolo, solo_n}
 use Rattle.engine_core.specs.Puzzle.{has_place}
-use Rattle.engine_core.specs.Places.{has_place-at, has_place-here}
+use Rattle.engine_core.specs.PlaceLaws.{has_place-at, has_place-here}
 use Rattle.solo_core.specs.Solutions.{cells_of, row_of, column_of, block_of}
 use Rattle.solo_core.specs.Houses.{house_count, square, house_places, lies_in}
 

@@ -2,7 +2,7 @@ use Rattle.std.proofs.Common.{◌∙◌, inl, inr, refl}
 use Rattle.puzzles.specs.Solving.{AllowsSolve}
 use Rattle.puzzles.proofs.InputLemmas.{ran_answered, ran_begun, ran_stopped, stop_high}
 use Rattle.puzzles.proofs.StopLemmas.{of_failure, of_memory}
-use Rattle.puzzles.proofs.batch.solve_lines.Goals as goal
+use Rattle.puzzles.proofs.batch.answer_lines.Goals as goal
 
 pub returns-in-Err-clause-ran : goal.returns-in-Err-clause-ran
 returns-in-Err-clause-ran g c = ran_stopped g.I.Source.gives g.I.Source.has_ended g.O.Sink.takes g.met.O.Sink.takes_both (AllowsSolve c.args.game c.args.budget)
@@ -21,8 +21,8 @@ returns-then-finish-clause-ran g c =
     ran_answered g.I.Source.gives g.I.Source.has_ended g.O.Sink.takes g.met.O.Sink.takes_both (AllowsSolve c.args.game c.args.budget)
     _ _ _ _ _ t.seen c.answer_last.new.self.status _ (inl refl) c.in-Ok.ensures.fine.1 t.gave (c.in-Ok-answer_last.ensures.whole c.args.output.now t.seen t.batched) c.if-finish.ensures.bytes
 
-pub returns-clause-ran : goal.returns-clause-ran
-returns-clause-ran g c =
+pub returns-else-finish-clause-ran : goal.returns-else-finish-clause-ran
+returns-else-finish-clause-ran g c =
     let t = c.in-Ok.ensures.taken in
     ran_answered g.I.Source.gives g.I.Source.has_ended g.O.Sink.takes g.met.O.Sink.takes_both (AllowsSolve c.args.game c.args.budget)
     _ _ _ _ _ t.seen c.answer_last.new.self.status _ (inr refl) c.in-Ok.ensures.fine.1 t.gave (c.in-Ok-answer_last.ensures.whole c.args.output.now t.seen t.batched) c.if-finish.ensures.bytes
