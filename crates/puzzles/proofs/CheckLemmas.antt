@@ -1,39 +1,9 @@
--- The answers of `check` for an ID that was read, or that has a fault, are those for the ID.
-use Rattle.std.proofs.Common.{◌≡◌, ◌≢◌, ◌⊎◌, inl, inr, ℕ, Bool, false, Result, Ok, Err, refl, true≢false}
+-- Runs of `check` that leave their input unread, or that leave what is allowed.
+use Rattle.std.proofs.Common.{◌≡◌, inl, inr, ℕ, Bool, false, Result, Ok, Err, refl, true≢false}
 use Rattle.std.specs.Prelude.{IfOk, IfErr, is_ok}
-use Rattle.gameid_core.specs.Steps.{Fails}
 use Rattle.gameid_core.specs.declared.fault.IdFault.{IdFault}
-use Rattle.gameid_core.specs.declared.fault.IdFault.TheVariants.{TooLong, SeedId, NoColon, BadSize, Variant, SizeRange, BadByte, NumberRange, LineTooFull, TooFew, TooMany, Memory}
 use Rattle.puzzles.specs.Answers.{Answer, Text}
-use Rattle.puzzles.specs.CheckAnswers.{AllowsRead}
-use Rattle.puzzles.specs.Checking.{IsAnswered}
-use Rattle.puzzles.specs.Refusals.{IsRefused, refused, fault_text}
 use Rattle.puzzles.specs.Runs.{Ran}
-
-pub told_fault : {P : Type 0} (allows : P → Text → Answer → Type 0) (r : Result P IdFault) (fault : IdFault) (input : Text) (answer : Answer) → r ≡ Err fault → fault ≢ Memory
-    → answer ≡ refused (fault_text fault) → AllowsRead allows r input answer
-told_fault allows r fault input answer is other told = rw is (other, told)
-
-first_fault : {P : Type 0} (fault : IdFault) (reading : Result P IdFault) → fault ≢ Memory → Fails fault reading → reading ≡ Err fault
-first_fault Memory reading other fails = absurd (other refl)
-first_fault TooLong reading other fails = fails
-first_fault SeedId reading other fails = fails
-first_fault NoColon reading other fails = fails
-first_fault BadSize reading other fails = fails
-first_fault Variant reading other fails = fails
-first_fault SizeRange reading other fails = fails
-first_fault (BadByte p) reading other fails = fails
-first_fault (NumberRange p) reading other fails = fails
-first_fault (LineTooFull p) reading other fails = fails
-first_fault TooFew reading other fails = fails
-first_fault TooMany reading other fails = fails
-
--- by what the reader ensures
-pub read_allows : {P : Type 0} (spells : P → Type 0) (allows : P → Text → Answer → Type 0) (reading r : Result P IdFault)
-    → IfOk r spells → IfErr r (λ f. Fails f reading) → (input : Text) (answer : Answer) → AllowsRead allows r input answer
-    → IsRefused reading answer ⊎ IsAnswered spells (λ p. allows p input) answer
-read_allows spells allows reading (Ok p) spelled fails input answer h = inr (record { puzzle = p; spelled = spelled; allowed = h })
-read_allows spells allows reading (Err f) spelled fails input answer h = inl (record { fault = f; first = first_fault f reading h.0 fails; told = h.1 })
 
 -- what reads an ID that has a fault is refused, and leaves the input unread
 pub unread_fault : {P : Type 0} (spells : P → Type 0) (reading r : Result P IdFault) (calls : ℕ)

@@ -13,6 +13,7 @@ pub mod GridsRead
 pub mod LineLemmas
 pub mod BatchLemmas
 pub mod InputLemmas
+pub mod IdLemmas
 pub mod AnswerLemmas
 pub mod PieceLemmas
 pub mod GradeLemmas

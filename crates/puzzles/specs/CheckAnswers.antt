@@ -1,7 +1,5 @@
 -- What `check` answers to an input, given a puzzle.
-use Rattle.std.specs.Prelude.{◌≡◌, ◌≤◌, ◌⊎◌, ◌++◌, ◌/◌, ◌%◌, ℕ, List, Option, Some, None, length, codes, decimal, option_map, Result, Ok, Err, ◌≢◌}
-use Rattle.gameid_core.specs.declared.fault.IdFault.{IdFault}
-use Rattle.gameid_core.specs.declared.fault.IdFault.TheVariants.{Memory}
+use Rattle.std.specs.Prelude.{◌≡◌, ◌≤◌, ◌⊎◌, ◌++◌, ◌/◌, ◌%◌, ℕ, List, Option, Some, None, length, codes, decimal, option_map}
 use Rattle.gameid_core.specs.Puzzles.{Pattern, Solo, Light, Tents, solo_n}
 use Rattle.grid_core.specs.Extent.{Extent}
 use Rattle.pattern_core.specs.Faults.{IsCheck}
@@ -20,7 +18,7 @@ use Rattle.puzzles.specs.Answers.{Answer, Text}
 use Rattle.puzzles.specs.Checks.{IsPrinted, without_returns}
 use Rattle.puzzles.specs.GridReading.{IsShown}
 use Rattle.puzzles.specs.GridTexts.{grid_text}
-use Rattle.puzzles.specs.Refusals.{refused, fault_text}
+use Rattle.puzzles.specs.Refusals.{refused}
 
 -- nothing is wrong; or this is
 abbrev pub checked : Option Text → Answer
@@ -94,8 +92,3 @@ pub record IsNoGrid (is_of : List ℕ → Type 0) (answer : Answer) : Type 0 whe
 abbrev pub AllowsGrid : (ℕ → Type 0) → ℕ → Extent → (List ℕ → ℕ → Text) → (List ℕ → Answer → Type 0) → Text → Answer → Type 0
 AllowsGrid hides values size cell tells input answer =
     IsChecked (IsInputOf hides values size cell input) tells answer ⊎ IsNoGrid (IsInputOf hides values size cell input) answer
-
--- the answers to an input where the puzzle was read, and to the ID's fault where it has one
-abbrev pub AllowsRead : {P : Type 0} → (P → Text → Answer → Type 0) → Result P IdFault → Text → Answer → Type 0
-AllowsRead allows (Ok p) input answer = allows p input answer
-AllowsRead allows (Err fault) input answer = (fault ≢ Memory) × (answer ≡ refused (fault_text fault))

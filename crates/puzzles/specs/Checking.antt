@@ -1,5 +1,5 @@
 -- The answers that `check` allows.
-use Rattle.std.specs.Prelude.{◌⊎◌, Bool, is_ok}
+use Rattle.std.specs.Prelude.{Bool, is_ok}
 use Rattle.gameid_core.specs.declared.game.Game.{Game}
 use Rattle.gameid_core.specs.declared.game.Game.TheVariants as game
 use Rattle.gameid_core.specs.Puzzles.{solo_n}
@@ -11,24 +11,18 @@ use Rattle.puzzles.specs.Answers.{Answer, Text}
 use Rattle.puzzles.specs.CheckAnswers.{AllowsGrid, pattern_told, solo_told, light_told, tent_told}
 use Rattle.puzzles.specs.GridReading.{hides_nothing, light_hides, tent_hides}
 use Rattle.puzzles.specs.GridTexts.{pattern_cell, solo_cell, solo_extent, light_cell, tents_cell}
-use Rattle.puzzles.specs.Refusals.{IsRefused}
-
--- The ID spells that puzzle, and the answer to the input is one of these.
-pub record IsAnswered {P : Type 0} (spells : P → Type 0) (allows : P → Answer → Type 0) (answer : Answer) : Type 0 where
-  pub puzzle : P
-  pub spelled : spells puzzle
-  pub allowed : allows puzzle answer
+use Rattle.puzzles.specs.IdAnswers.{AllowsId}
 
 -- the answers that `check` allows to an ID of the game and an input
 abbrev pub AllowsCheck : Game → Text → Text → Answer → Type 0
-AllowsCheck game.Pattern id input answer = IsRefused (pattern_of id) answer
-    ⊎ IsAnswered (SpellsPattern id) (λ p. AllowsGrid hides_nothing 2 p.size (pattern_cell p) (pattern_told p) input) answer
-AllowsCheck game.Solo id input answer = IsRefused (solo_of id) answer
-    ⊎ IsAnswered (SpellsSolo id) (λ p. AllowsGrid hides_nothing (solo_n p) (solo_extent p) (solo_cell p) (solo_told p) input) answer
-AllowsCheck game.LightUp id input answer = IsRefused (light_of id) answer
-    ⊎ IsAnswered (SpellsLight id) (λ p. AllowsGrid (light_hides p) 2 p.size (light_cell p) (light_told p) input) answer
-AllowsCheck game.Tents id input answer = IsRefused (tents_of id) answer
-    ⊎ IsAnswered (SpellsTents id) (λ p. AllowsGrid (tent_hides p) 2 p.size (tents_cell p) (tent_told p) input) answer
+AllowsCheck game.Pattern id input answer = AllowsId (pattern_of id) (SpellsPattern id)
+    (λ p. AllowsGrid hides_nothing 2 p.size (pattern_cell p) (pattern_told p) input) answer
+AllowsCheck game.Solo id input answer = AllowsId (solo_of id) (SpellsSolo id)
+    (λ p. AllowsGrid hides_nothing (solo_n p) (solo_extent p) (solo_cell p) (solo_told p) input) answer
+AllowsCheck game.LightUp id input answer = AllowsId (light_of id) (SpellsLight id)
+    (λ p. AllowsGrid (light_hides p) 2 p.size (light_cell p) (light_told p) input) answer
+AllowsCheck game.Tents id input answer = AllowsId (tents_of id) (SpellsTents id)
+    (λ p. AllowsGrid (tent_hides p) 2 p.size (tents_cell p) (tent_told p) input) answer
 
 -- the ID spells a puzzle of the game
 abbrev pub is_read : Game → Text → Bool

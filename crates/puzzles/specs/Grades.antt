@@ -31,20 +31,21 @@ searched_grade rules budget = grade_by (trials_in (walk rules 0 rules.start)) (v
 abbrev pub settled_or : RuleSet → Puzzle → Grade → Grade
 settled_or set rules otherwise = if is_settled rules then ByRules set else otherwise
 
-abbrev pub houses_grade : ℕ → Solo → Grade
-houses_grade budget p = settled_or Houses (houses_rules p) (searched_grade (houses_rules p) budget)
+-- by a game's last rule set, and else by a search with it
+abbrev pub last_grade : RuleSet → Puzzle → ℕ → Grade
+last_grade set rules budget = settled_or set rules (searched_grade rules budget)
 
 abbrev pub solo_grade : ℕ → Solo → Grade
-solo_grade budget p = settled_or Singles (singles_rules p) (houses_grade budget p)
+solo_grade budget p = settled_or Singles (singles_rules p) (last_grade Houses (houses_rules p) budget)
 
 abbrev pub pattern_grade : ℕ → Pattern → Grade
-pattern_grade budget p = settled_or Lines (line_rules p) (searched_grade (line_rules p) budget)
+pattern_grade budget p = last_grade Lines (line_rules p) budget
 
 abbrev pub light_grade : ℕ → Light → Grade
-light_grade budget p = settled_or Local (light_rules p) (searched_grade (light_rules p) budget)
+light_grade budget p = last_grade Local (light_rules p) budget
 
 abbrev pub tent_grade : ℕ → Tents → Grade
-tent_grade budget p = settled_or Local (tent_rules p) (searched_grade (tent_rules p) budget)
+tent_grade budget p = last_grade Local (tent_rules p) budget
 
 -- some grid is a solution, and no other is
 abbrev pub HasOne : (List ℕ → Type 0) → Type 0
@@ -102,10 +103,3 @@ pub record IsTold (grade : Grade) (traced : Bool) (tells : Text → Type 0) (ans
 pub record IsGradeOf (solves : List ℕ → Type 0) (grade : Grade) (traced : Bool) (tells : Text → Type 0) (answer : Answer) : Type 0 where
   pub right : IsRightGrade solves grade
   pub told : IsTold grade traced tells answer
-
--- the ID spells that puzzle, and its grade is told
-pub record IsGraded {P : Type 0} (spells : P → Type 0) (solves : P → List ℕ → Type 0) (grade : P → Grade) (traced : Bool)
-    (trace : P → Text → Type 0) (answer : Answer) : Type 0 where
-  pub puzzle : P
-  pub spelled : spells puzzle
-  pub graded : IsGradeOf (solves puzzle) (grade puzzle) traced (trace puzzle) answer

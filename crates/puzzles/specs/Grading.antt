@@ -1,5 +1,5 @@
 -- The answers that `grade` allows.
-use Rattle.std.specs.Prelude.{◌⊎◌, Bool, ℕ}
+use Rattle.std.specs.Prelude.{Bool, ℕ}
 use Rattle.gameid_core.specs.declared.game.Game.{Game}
 use Rattle.gameid_core.specs.declared.game.Game.TheVariants as game
 use Rattle.gameid_core.specs.LightText.{SpellsLight, light_of}
@@ -11,32 +11,16 @@ use Rattle.maker_core.specs.LightMaking.{SolvesLights}
 use Rattle.maker_core.specs.SoloMaking.{SolvesSolo}
 use Rattle.maker_core.specs.TentMaking.{SolvesTents}
 use Rattle.puzzles.specs.Answers.{Answer, Text}
-use Rattle.puzzles.specs.Grades.{IsGraded, pattern_grade, pattern_trace, solo_grade, solo_trace, light_grade, light_trace, tent_grade, tent_trace}
-use Rattle.puzzles.specs.Refusals.{IsRefused}
+use Rattle.puzzles.specs.Grades.{IsGradeOf, pattern_grade, pattern_trace, solo_grade, solo_trace, light_grade, light_trace, tent_grade, tent_trace}
+use Rattle.puzzles.specs.IdAnswers.{AllowsId}
 
--- the answers that `grade pattern ID` allows, with a trace or without one
-abbrev pub AllowsGradePattern : Text → ℕ → Bool → Answer → Type 0
-AllowsGradePattern id budget traced answer = IsRefused (pattern_of id) answer
-    ⊎ IsGraded (SpellsPattern id) pattern.IsSolution (pattern_grade budget) traced pattern_trace answer
-
--- the answers that `grade solo ID` allows
-abbrev pub AllowsGradeSolo : Text → ℕ → Bool → Answer → Type 0
-AllowsGradeSolo id budget traced answer = IsRefused (solo_of id) answer
-    ⊎ IsGraded (SpellsSolo id) SolvesSolo (solo_grade budget) traced solo_trace answer
-
--- the answers that `grade lightup ID` allows
-abbrev pub AllowsGradeLights : Text → ℕ → Bool → Answer → Type 0
-AllowsGradeLights id budget traced answer = IsRefused (light_of id) answer
-    ⊎ IsGraded (SpellsLight id) SolvesLights (light_grade budget) traced light_trace answer
-
--- the answers that `grade tents ID` allows
-abbrev pub AllowsGradeTents : Text → ℕ → Bool → Answer → Type 0
-AllowsGradeTents id budget traced answer = IsRefused (tents_of id) answer
-    ⊎ IsGraded (SpellsTents id) SolvesTents (tent_grade budget) traced tent_trace answer
-
--- the answers that `grade GAME ID` allows
+-- the answers that `grade` allows to an ID of the game, with a trace or without one
 abbrev pub AllowsGrade : Game → Text → ℕ → Bool → Answer → Type 0
-AllowsGrade game.Pattern id budget traced answer = AllowsGradePattern id budget traced answer
-AllowsGrade game.Solo id budget traced answer = AllowsGradeSolo id budget traced answer
-AllowsGrade game.LightUp id budget traced answer = AllowsGradeLights id budget traced answer
-AllowsGrade game.Tents id budget traced answer = AllowsGradeTents id budget traced answer
+AllowsGrade game.Pattern id budget traced answer = AllowsId (pattern_of id) (SpellsPattern id)
+    (λ p. IsGradeOf (pattern.IsSolution p) (pattern_grade budget p) traced (pattern_trace p)) answer
+AllowsGrade game.Solo id budget traced answer = AllowsId (solo_of id) (SpellsSolo id)
+    (λ p. IsGradeOf (SolvesSolo p) (solo_grade budget p) traced (solo_trace p)) answer
+AllowsGrade game.LightUp id budget traced answer = AllowsId (light_of id) (SpellsLight id)
+    (λ p. IsGradeOf (SolvesLights p) (light_grade budget p) traced (light_trace p)) answer
+AllowsGrade game.Tents id budget traced answer = AllowsId (tents_of id) (SpellsTents id)
+    (λ p. IsGradeOf (SolvesTents p) (tent_grade budget p) traced (tent_trace p)) answer

@@ -18,6 +18,7 @@ pub mod Grades
 pub mod Checks
 pub mod GridReading
 pub mod Refusals
+pub mod IdAnswers
 pub mod Each
 pub mod CheckAnswers
 pub mod Solving

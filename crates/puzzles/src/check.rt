@@ -1,8 +1,9 @@
 //! `check`: the grid that the input gives, against a puzzle.
 ghost use Rattle.std.specs.Prelude.{◌≡◌, ◌<◌, ◌≤◌, List, ℕ, true, false, IfOk, IfErr};
 ghost use Rattle.puzzles.specs.Answers.{Text};
-ghost use Rattle.puzzles.specs.CheckAnswers.{AllowsGrid, AllowsRead};
+ghost use Rattle.puzzles.specs.CheckAnswers.{AllowsGrid};
 ghost use Rattle.puzzles.specs.Checking.{AllowsCheck, is_read};
+ghost use Rattle.puzzles.specs.IdAnswers.{AllowsRead};
 ghost use Rattle.puzzles.specs.Replies.{answer_in};
 ghost use Rattle.puzzles.specs.Texts.{IsText};
 ghost use Rattle.puzzles.specs.Runs.{Ran, IsBroken};
@@ -83,7 +84,7 @@ fn check_read<P: Checked + Drop, I: Source, O: Sink>(
     requires input_open { I.has_ended input.old ≡ false }
     requires output_fine { O.has_failed output.old ≡ false }
     ensures ran { Ran I.gives I.has_ended O.takes
-        (AllowsRead (λ p. AllowsGrid (P.hides p) (P.value_count p) (P.extent p) (P.cell_text p) (P.told p)) puzzle)
+        (λ text. AllowsRead puzzle (λ p. AllowsGrid (P.hides p) (P.value_count p) (P.extent p) (P.cell_text p) (P.told p) text))
         input.old input.new output.old output.new result }
     ensures status { result ≤ 6 }
     ensures sound { result ≤ 5 → (I.has_failed input.new ≡ false) × (O.has_failed output.new ≡ false) }

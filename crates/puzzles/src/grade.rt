@@ -1,33 +1,29 @@
 //! The answers of `grade`.
-ghost use Rattle.std.specs.Prelude.{◌≡◌, ◌++◌, ◌<◌, true, false, IfOk, codes, string_bytes};
+ghost use Rattle.std.specs.Prelude.{◌≡◌, ◌++◌, ◌<◌, ℕ, true, false, IfOk, codes, string_bytes};
 ghost use Rattle.engine_core.specs.Verdict.{Solves};
 ghost use Rattle.engine_core.specs.Puzzle.{needs_of, FitsIn};
 ghost use Rattle.engine_core.specs.Stored.{is_settled};
-ghost use Rattle.pattern_core.specs.Solutions as pattern;
-ghost use Rattle.solo_core.specs.RuleSets.{houses_rules};
-ghost use Rattle.puzzles.specs.Grades.{HasOne, IsGradeOf, IsRightGrade, IsTold, houses_grade, light_grade, light_trace, tent_grade, tent_trace, pattern_grade, pattern_trace, solo_grade, solo_trace, grade_status, grade_text, rule_set_text, searched_grade, settled_or};
-ghost use Rattle.puzzles.specs.Grading.{AllowsGradePattern, AllowsGradeSolo, AllowsGradeLights, AllowsGradeTents, AllowsGrade};
-ghost use Rattle.maker_core.specs.LightMaking.{SolvesLights};
-ghost use Rattle.maker_core.specs.SoloMaking.{SolvesSolo};
-ghost use Rattle.maker_core.specs.TentMaking.{SolvesTents};
+ghost use Rattle.puzzles.specs.Answers.{Text};
+ghost use Rattle.puzzles.specs.Grades.{HasOne, IsGradeOf, IsRightGrade, IsTold, last_grade, light_grade, light_trace, tent_grade, tent_trace, pattern_grade, pattern_trace, solo_grade, solo_trace, grade_status, grade_text, rule_set_text, searched_grade};
+ghost use Rattle.puzzles.specs.Grading.{AllowsGrade};
+ghost use Rattle.puzzles.specs.IdAnswers.{AllowsRead};
 ghost use Rattle.puzzles.specs.Refusals.{refused, fault_text};
 ghost use Rattle.puzzles.specs.Stops.{IsLeft, Tells, status_in};
-ghost use Rattle.puzzles.specs.Traces.{TellsSweeps, TellsVisits, solo_house};
+ghost use Rattle.puzzles.specs.Traces.{TellsSweeps, TellsVisits};
 
 use crate::ends::Sink;
 use crate::output::deliver;
 use crate::reply::{Reply, id_refused};
+use crate::solvable::Solvable;
 use crate::stop::Stop;
 use crate::trace::{Housed, push_closing, put_closing};
 use engine_core::{Rules, Store, Verdict};
-use fields_core::{LightRules, TentRules};
 use gameid_core::{
     Game, IdFault, LightPuzzle, PatternPuzzle, SoloPuzzle, TentsPuzzle, read_lights, read_pattern,
     read_solo, read_tents,
 };
 use itoa::Buffer;
-use pattern_core::PatternLines;
-use solo_core::{SoloHouses, SoloSingles};
+use solo_core::SoloSingles;
 use std::alloc::{AllocError, Global};
 
 /// The names of the rule sets.
@@ -135,9 +131,9 @@ fn searched<R: Rules>(store: &mut Store<R>, rules: &R, budget: u64) -> Grade
 }
 
 /// The grade of a puzzle by its last rule set, and else by a search with it.
-fn graded<R: Rules>(store: &mut Store<R>, rules: &R, set: RuleSet, budget: u64) -> Grade
+fn last_grade<R: Rules>(store: &mut Store<R>, rules: &R, set: RuleSet, budget: u64) -> Grade
     requires { FitsIn (needs_of (R.puzzle rules.now)) store.old.made }
-    ensures grade { result ≡ settled_or set (R.puzzle rules.now) (searched_grade (R.puzzle rules.now) budget) }
+    ensures grade { result ≡ last_grade set (R.puzzle rules.now) budget }
     ensures right { IsRightGrade (Solves (R.puzzle rules.now)) result }
     ensures made { store.new.made ≡ store.old.made }
 {
@@ -201,181 +197,159 @@ fn tell_with_sweeps<R: Rules, O: Sink>(
     Ok(deliver(output, &Reply { text, status }))
 }
 
-/// Tells the grade of a puzzle of Pattern.
-fn tell_pattern<O: Sink>(
+/// Tells the grade of a puzzle by its last rule set, which is closed by visits, and else by a search with it.
+fn tell_by_visits<P: Solvable + Housed, O: Sink>(
     alloc: Global,
-    puzzle: &PatternPuzzle,
+    set: RuleSet,
+    puzzle: &P,
     budget: u64,
     traced: bool,
     output: &mut O,
 ) -> Result<u8, Stop>
-    requires { O.has_failed output.old ≡ false }
-    ensures told { Tells O.takes (IsGradeOf (pattern.IsSolution puzzle.now) (pattern_grade budget puzzle.now) traced (pattern_trace puzzle.now))
-        output.old output.new (status_in result) }
+    requires queue { (P.rules_of puzzle.now).by_queue ≡ true }
+    requires not_failed { O.has_failed output.old ≡ false }
+    ensures told { Tells O.takes (IsGradeOf (P.solves puzzle.now) (last_grade set (P.rules_of puzzle.now) budget) traced
+        (TellsVisits (P.house_with puzzle.now) (P.rules_of puzzle.now))) output.old output.new (status_in result) }
     ensures left { IsLeft (status_in result) (O.has_failed output.new) (O.is_flushed output.new) }
 {
-    pattern_core::accepted_are_solutions();
-    let rules = PatternLines::new(alloc, puzzle)?;
+    let rules = puzzle.rules(alloc)?;
     let mut store = Store::new(alloc, &rules)?;
-    let grade = graded(&mut store, &rules, RuleSet::Lines, budget);
+    let grade = last_grade(&mut store, &rules, set, budget);
     tell_with_visits(alloc, grade, traced, puzzle, &rules, &mut store, output)
 }
 
-/// Tells the grade of a puzzle of Solo that single values and places don't settle.
-fn tell_solo_by_houses<O: Sink>(
+/// The same by a rule set that is closed by sweeps.
+fn tell_by_sweeps<P: Solvable, O: Sink>(
     alloc: Global,
-    puzzle: &SoloPuzzle,
+    set: RuleSet,
+    puzzle: &P,
     budget: u64,
     traced: bool,
     output: &mut O,
 ) -> Result<u8, Stop>
-    requires { O.has_failed output.old ≡ false }
-    ensures told { Tells O.takes (IsGradeOf (SolvesSolo puzzle.now) (houses_grade budget puzzle.now) traced
-        (TellsVisits (solo_house puzzle.now) (houses_rules puzzle.now))) output.old output.new (status_in result) }
+    requires sweeps { (P.rules_of puzzle.now).by_queue ≡ false }
+    requires not_failed { O.has_failed output.old ≡ false }
+    ensures told { Tells O.takes (IsGradeOf (P.solves puzzle.now) (last_grade set (P.rules_of puzzle.now) budget) traced
+        (TellsSweeps (P.rules_of puzzle.now))) output.old output.new (status_in result) }
     ensures left { IsLeft (status_in result) (O.has_failed output.new) (O.is_flushed output.new) }
 {
-    solo_core::accepted_are_solutions();
-    let rules = SoloHouses::new(alloc, puzzle)?;
+    let rules = puzzle.rules(alloc)?;
     let mut store = Store::new(alloc, &rules)?;
-    let grade = graded(&mut store, &rules, RuleSet::Houses, budget);
-    tell_with_visits(alloc, grade, traced, puzzle, &rules, &mut store, output)
-}
-
-/// Tells the grade of a puzzle of Solo.
-fn tell_solo<O: Sink>(
-    alloc: Global,
-    puzzle: &SoloPuzzle,
-    budget: u64,
-    traced: bool,
-    output: &mut O,
-) -> Result<u8, Stop>
-    requires { O.has_failed output.old ≡ false }
-    ensures told { Tells O.takes (IsGradeOf (SolvesSolo puzzle.now) (solo_grade budget puzzle.now) traced (solo_trace puzzle.now))
-        output.old output.new (status_in result) }
-    ensures left { IsLeft (status_in result) (O.has_failed output.new) (O.is_flushed output.new) }
-{
-    solo_core::accepted_are_solutions();
-    let singles = SoloSingles::new(alloc, puzzle)?;
-    let mut store = Store::new(alloc, &singles)?;
-    if settles(&mut store, &singles) {
-        let grade = Grade::ByRules(RuleSet::Singles);
-        tell_with_visits(alloc, grade, traced, puzzle, &singles, &mut store, output)
-    } else {
-        tell_solo_by_houses(alloc, puzzle, budget, traced, output)
-    }
-}
-
-/// Tells the grade of a puzzle of Light Up.
-fn tell_lights<O: Sink>(
-    alloc: Global,
-    puzzle: &LightPuzzle,
-    budget: u64,
-    traced: bool,
-    output: &mut O,
-) -> Result<u8, Stop>
-    requires { O.has_failed output.old ≡ false }
-    ensures told { Tells O.takes (IsGradeOf (SolvesLights puzzle.now) (light_grade budget puzzle.now) traced (light_trace puzzle.now))
-        output.old output.new (status_in result) }
-    ensures left { IsLeft (status_in result) (O.has_failed output.new) (O.is_flushed output.new) }
-{
-    fields_core::accepted_lights_are_solutions();
-    let rules = LightRules::new(alloc, puzzle)?;
-    let mut store = Store::new(alloc, &rules)?;
-    let grade = graded(&mut store, &rules, RuleSet::Local, budget);
+    let grade = last_grade(&mut store, &rules, set, budget);
     tell_with_sweeps(alloc, grade, traced, &rules, &mut store, output)
 }
 
-/// Tells the grade of a puzzle of Tents.
-fn tell_tents<O: Sink>(
+/// A puzzle that can be graded.
+pub trait Graded: Solvable {
+    ghost use Rattle.puzzles.specs.declared.grade.Grade.{Grade};
+
+    // The grade with a budget.
+    ghost grade_of: { ℕ → Self → Grade };
+
+    // What the lines of a trace tell.
+    ghost trace_of: { Self → Text → Type 0 };
+
+    /// Tells the grade, and where one is asked for a trace.
+    fn tell<O: Sink>(
+        &self,
+        alloc: Global,
+        budget: u64,
+        traced: bool,
+        output: &mut O,
+    ) -> Result<u8, Stop>
+        requires { O.has_failed output.old ≡ false }
+        ensures told { Tells O.takes (IsGradeOf (Self.solves self.now) (grade_of budget self.now) traced (trace_of self.now))
+            output.old output.new (status_in result) }
+        ensures left { IsLeft (status_in result) (O.has_failed output.new) (O.is_flushed output.new) };
+}
+
+impl Graded for PatternPuzzle {
+    ghost grade_of = { pattern_grade };
+
+    ghost trace_of = { pattern_trace };
+
+    fn tell<O: Sink>(
+        &self,
+        alloc: Global,
+        budget: u64,
+        traced: bool,
+        output: &mut O,
+    ) -> Result<u8, Stop> {
+        tell_by_visits(alloc, RuleSet::Lines, self, budget, traced, output)
+    }
+}
+
+impl Graded for SoloPuzzle {
+    ghost grade_of = { solo_grade };
+
+    ghost trace_of = { solo_trace };
+
+    fn tell<O: Sink>(
+        &self,
+        alloc: Global,
+        budget: u64,
+        traced: bool,
+        output: &mut O,
+    ) -> Result<u8, Stop> {
+        solo_core::accepted_are_solutions();
+        let singles = SoloSingles::new(alloc, self)?;
+        let mut store = Store::new(alloc, &singles)?;
+        if settles(&mut store, &singles) {
+            let grade = Grade::ByRules(RuleSet::Singles);
+            tell_with_visits(alloc, grade, traced, self, &singles, &mut store, output)
+        } else {
+            tell_by_visits(alloc, RuleSet::Houses, self, budget, traced, output)
+        }
+    }
+}
+
+impl Graded for LightPuzzle {
+    ghost grade_of = { light_grade };
+
+    ghost trace_of = { light_trace };
+
+    fn tell<O: Sink>(
+        &self,
+        alloc: Global,
+        budget: u64,
+        traced: bool,
+        output: &mut O,
+    ) -> Result<u8, Stop> {
+        tell_by_sweeps(alloc, RuleSet::Local, self, budget, traced, output)
+    }
+}
+
+impl Graded for TentsPuzzle {
+    ghost grade_of = { tent_grade };
+
+    ghost trace_of = { tent_trace };
+
+    fn tell<O: Sink>(
+        &self,
+        alloc: Global,
+        budget: u64,
+        traced: bool,
+        output: &mut O,
+    ) -> Result<u8, Stop> {
+        tell_by_sweeps(alloc, RuleSet::Local, self, budget, traced, output)
+    }
+}
+
+/// Tells the grade of a puzzle that was read, or the fault of its ID.
+fn grade_read<P: Graded + Drop, O: Sink>(
     alloc: Global,
-    puzzle: &TentsPuzzle,
+    puzzle: Result<P, IdFault>,
     budget: u64,
     traced: bool,
     output: &mut O,
 ) -> Result<u8, Stop>
     requires { O.has_failed output.old ≡ false }
-    ensures told { Tells O.takes (IsGradeOf (SolvesTents puzzle.now) (tent_grade budget puzzle.now) traced (tent_trace puzzle.now))
+    ensures told { Tells O.takes (AllowsRead puzzle (λ p. IsGradeOf (P.solves p) (P.grade_of budget p) traced (P.trace_of p)))
         output.old output.new (status_in result) }
     ensures left { IsLeft (status_in result) (O.has_failed output.new) (O.is_flushed output.new) }
 {
-    fields_core::accepted_are_solutions();
-    let rules = TentRules::new(alloc, puzzle)?;
-    let mut store = Store::new(alloc, &rules)?;
-    let grade = graded(&mut store, &rules, RuleSet::Local, budget);
-    tell_with_sweeps(alloc, grade, traced, &rules, &mut store, output)
-}
-
-/// Tells the grade of an ID of Pattern.
-fn grade_pattern<O: Sink>(
-    alloc: Global,
-    id: &[u8],
-    budget: u64,
-    traced: bool,
-    output: &mut O,
-) -> Result<u8, Stop>
-    requires { O.has_failed output.old ≡ false }
-    ensures told { Tells O.takes (AllowsGradePattern id.now budget traced) output.old output.new (status_in result) }
-    ensures left { IsLeft (status_in result) (O.has_failed output.new) (O.is_flushed output.new) }
-{
-    match read_pattern(alloc, id) {
-        Ok(puzzle) => tell_pattern(alloc, &puzzle, budget, traced, output),
-        Err(IdFault::Memory) => Err(Stop::Memory),
-        Err(fault) => refuse(alloc, fault, output),
-    }
-}
-
-/// Tells the grade of an ID of Solo.
-fn grade_solo<O: Sink>(
-    alloc: Global,
-    id: &[u8],
-    budget: u64,
-    traced: bool,
-    output: &mut O,
-) -> Result<u8, Stop>
-    requires { O.has_failed output.old ≡ false }
-    ensures told { Tells O.takes (AllowsGradeSolo id.now budget traced) output.old output.new (status_in result) }
-    ensures left { IsLeft (status_in result) (O.has_failed output.new) (O.is_flushed output.new) }
-{
-    match read_solo(alloc, id) {
-        Ok(puzzle) => tell_solo(alloc, &puzzle, budget, traced, output),
-        Err(IdFault::Memory) => Err(Stop::Memory),
-        Err(fault) => refuse(alloc, fault, output),
-    }
-}
-
-/// Tells the grade of an ID of Light Up.
-fn grade_lights<O: Sink>(
-    alloc: Global,
-    id: &[u8],
-    budget: u64,
-    traced: bool,
-    output: &mut O,
-) -> Result<u8, Stop>
-    requires { O.has_failed output.old ≡ false }
-    ensures told { Tells O.takes (AllowsGradeLights id.now budget traced) output.old output.new (status_in result) }
-    ensures left { IsLeft (status_in result) (O.has_failed output.new) (O.is_flushed output.new) }
-{
-    match read_lights(alloc, id) {
-        Ok(puzzle) => tell_lights(alloc, &puzzle, budget, traced, output),
-        Err(IdFault::Memory) => Err(Stop::Memory),
-        Err(fault) => refuse(alloc, fault, output),
-    }
-}
-
-/// Tells the grade of an ID of Tents.
-fn grade_tents<O: Sink>(
-    alloc: Global,
-    id: &[u8],
-    budget: u64,
-    traced: bool,
-    output: &mut O,
-) -> Result<u8, Stop>
-    requires { O.has_failed output.old ≡ false }
-    ensures told { Tells O.takes (AllowsGradeTents id.now budget traced) output.old output.new (status_in result) }
-    ensures left { IsLeft (status_in result) (O.has_failed output.new) (O.is_flushed output.new) }
-{
-    match read_tents(alloc, id) {
-        Ok(puzzle) => tell_tents(alloc, &puzzle, budget, traced, output),
+    match puzzle {
+        Ok(puzzle) => puzzle.tell(alloc, budget, traced, output),
         Err(IdFault::Memory) => Err(Stop::Memory),
         Err(fault) => refuse(alloc, fault, output),
     }
@@ -395,10 +369,10 @@ fn tell_id<O: Sink>(
     ensures left { IsLeft (status_in result) (O.has_failed output.new) (O.is_flushed output.new) }
 {
     match game {
-        Game::Solo => grade_solo(alloc, id, budget, traced, output),
-        Game::Pattern => grade_pattern(alloc, id, budget, traced, output),
-        Game::LightUp => grade_lights(alloc, id, budget, traced, output),
-        Game::Tents => grade_tents(alloc, id, budget, traced, output),
+        Game::Solo => grade_read(alloc, read_solo(alloc, id), budget, traced, output),
+        Game::Pattern => grade_read(alloc, read_pattern(alloc, id), budget, traced, output),
+        Game::LightUp => grade_read(alloc, read_lights(alloc, id), budget, traced, output),
+        Game::Tents => grade_read(alloc, read_tents(alloc, id), budget, traced, output),
     }
 }
 

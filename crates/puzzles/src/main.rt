@@ -33,6 +33,7 @@ pub mod readable;
 pub mod reply;
 pub mod run;
 pub mod seed;
+pub mod solvable;
 pub mod solve;
 pub mod stop;
 #[cfg(test)]

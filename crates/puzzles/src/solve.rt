@@ -4,7 +4,8 @@ ghost use Rattle.engine_core.specs.Puzzle.{FitsIn, needs_of};
 ghost use Rattle.engine_core.specs.Verdict.{IsTrueOf, verdict_of};
 ghost use Rattle.puzzles.specs.Each.{HasAnswers};
 ghost use Rattle.puzzles.specs.GridTexts.{grid_text};
-ghost use Rattle.puzzles.specs.Solving.{AllowsPattern, AllowsSolo, AllowsLights, AllowsTents, AllowsSolve};
+ghost use Rattle.puzzles.specs.IdAnswers.{AllowsRead};
+ghost use Rattle.puzzles.specs.Solving.{IsSolved, AllowsSolve};
 ghost use Rattle.puzzles.specs.Replies.{answer_in};
 ghost use Rattle.puzzles.specs.Verdicts.{verdict_answer};
 
@@ -12,6 +13,7 @@ use crate::printed::Printed;
 use crate::reply::{
     Reply, gave_up_reply, gave_up_with_reply, id_refused_in, none_reply, one_reply, several_reply,
 };
+use crate::solvable::Solvable;
 use engine_core::{Rules, Store, Verdict};
 use fields_core::{LightRules, TentRules};
 use gameid_core::{Game, IdFault, read_lights, read_pattern, read_solo, read_tents};
@@ -89,88 +91,22 @@ fn searched<P: Printed, R: Rules>(
     Ok(reply)
 }
 
-/// The answer to an ID of Pattern that is to be solved.
-fn solve_pattern(
+/// The answer to a puzzle that was read and is to be solved, or to the fault of its ID.
+fn solve_read<P: Solvable + Drop>(
     alloc: Global,
-    stores: &mut Stores,
-    id: &[u8],
+    kept: &mut Option<Store<P::Search>>,
+    puzzle: Result<P, IdFault>,
     budget: u64,
     text: String,
 ) -> Result<Reply, AllocError>
-    ensures allowed { IfOk result (λ r. AllowsPattern id.now budget (answer_in r)) }
+    ensures allowed { IfOk result (λ r. AllowsRead puzzle
+        (λ p. IsSolved (P.solves p) (P.rules_of p) (P.cell_text p) (P.extent p) budget) (answer_in r)) }
     ensures status { IfOk result (λ r. r.status < 5) }
 {
-    pattern_core::accepted_are_solutions();
-    match read_pattern(alloc, id) {
+    match puzzle {
         Ok(puzzle) => {
-            let rules = PatternLines::new(alloc, &puzzle)?;
-            searched(alloc, &mut stores.pattern, &puzzle, &rules, budget, text)
-        }
-        Err(IdFault::Memory) => Err(AllocError),
-        Err(fault) => id_refused_in(text, fault),
-    }
-}
-
-/// The answer to an ID of Solo that is to be solved.
-fn solve_solo(
-    alloc: Global,
-    stores: &mut Stores,
-    id: &[u8],
-    budget: u64,
-    text: String,
-) -> Result<Reply, AllocError>
-    ensures allowed { IfOk result (λ r. AllowsSolo id.now budget (answer_in r)) }
-    ensures status { IfOk result (λ r. r.status < 5) }
-{
-    solo_core::accepted_are_solutions();
-    match read_solo(alloc, id) {
-        Ok(puzzle) => {
-            let rules = SoloHouses::new(alloc, &puzzle)?;
-            searched(alloc, &mut stores.solo, &puzzle, &rules, budget, text)
-        }
-        Err(IdFault::Memory) => Err(AllocError),
-        Err(fault) => id_refused_in(text, fault),
-    }
-}
-
-/// The answer to an ID of Light Up that is to be solved.
-fn solve_lights(
-    alloc: Global,
-    stores: &mut Stores,
-    id: &[u8],
-    budget: u64,
-    text: String,
-) -> Result<Reply, AllocError>
-    ensures allowed { IfOk result (λ r. AllowsLights id.now budget (answer_in r)) }
-    ensures status { IfOk result (λ r. r.status < 5) }
-{
-    fields_core::accepted_lights_are_solutions();
-    match read_lights(alloc, id) {
-        Ok(puzzle) => {
-            let rules = LightRules::new(alloc, &puzzle)?;
-            searched(alloc, &mut stores.lights, &puzzle, &rules, budget, text)
-        }
-        Err(IdFault::Memory) => Err(AllocError),
-        Err(fault) => id_refused_in(text, fault),
-    }
-}
-
-/// The answer to an ID of Tents that is to be solved.
-fn solve_tents(
-    alloc: Global,
-    stores: &mut Stores,
-    id: &[u8],
-    budget: u64,
-    text: String,
-) -> Result<Reply, AllocError>
-    ensures allowed { IfOk result (λ r. AllowsTents id.now budget (answer_in r)) }
-    ensures status { IfOk result (λ r. r.status < 5) }
-{
-    fields_core::accepted_are_solutions();
-    match read_tents(alloc, id) {
-        Ok(puzzle) => {
-            let rules = TentRules::new(alloc, &puzzle)?;
-            searched(alloc, &mut stores.tents, &puzzle, &rules, budget, text)
+            let rules = puzzle.rules(alloc)?;
+            searched(alloc, kept, &puzzle, &rules, budget, text)
         }
         Err(IdFault::Memory) => Err(AllocError),
         Err(fault) => id_refused_in(text, fault),
@@ -196,10 +132,22 @@ pub fn solve_id(
     ensures status { IfOk result (λ r. r.status < 5) }
 {
     match game {
-        Game::Solo => solve_solo(alloc, stores, id, budget, text),
-        Game::Pattern => solve_pattern(alloc, stores, id, budget, text),
-        Game::LightUp => solve_lights(alloc, stores, id, budget, text),
-        Game::Tents => solve_tents(alloc, stores, id, budget, text),
+        Game::Solo => {
+            let puzzle = read_solo(alloc, id);
+            solve_read(alloc, &mut stores.solo, puzzle, budget, text)
+        }
+        Game::Pattern => {
+            let puzzle = read_pattern(alloc, id);
+            solve_read(alloc, &mut stores.pattern, puzzle, budget, text)
+        }
+        Game::LightUp => {
+            let puzzle = read_lights(alloc, id);
+            solve_read(alloc, &mut stores.lights, puzzle, budget, text)
+        }
+        Game::Tents => {
+            let puzzle = read_tents(alloc, id);
+            solve_read(alloc, &mut stores.tents, puzzle, budget, text)
+        }
     }
 }
 

@@ -14,7 +14,8 @@ use Rattle.maker_core.specs.LightMaking.{SolvesLights}
 use Rattle.maker_core.specs.SoloMaking.{SolvesSolo}
 use Rattle.maker_core.specs.TentMaking.{SolvesTents}
 use Rattle.puzzles.specs.Each.{HasAnswers}
-use Rattle.puzzles.specs.Solving.{AllowsSolve, printed_solo, printed_pattern, printed_lights, printed_tents}
+use Rattle.puzzles.specs.GridTexts.{pattern_cell, solo_cell, solo_extent, light_cell, tents_cell}
+use Rattle.puzzles.specs.Solving.{AllowsSolve}
 use Rattle.puzzles.proofs.AnswerLemmas.{answer_of, right_of}
 use Rattle.puzzles.proofs.solve.each_text_has_an_answer.Goals as goal
 
@@ -22,23 +23,23 @@ pub returns : goal.returns
 returns c = by
   where
     by : (game : Game) (budget : ℕ) → HasAnswers (AllowsSolve game budget)
-    by Solo budget text = answer_of (solo_of text) (SpellsSolo text) SolvesSolo houses_rules printed_solo budget (c.one_reading_of_solo.ensures.either text)
+    by Solo budget text = answer_of SolvesSolo houses_rules solo_cell solo_extent budget (solo_of text) (SpellsSolo text) (c.one_reading_of_solo.ensures.either text)
         (λ p s. right_of (houses_rules p) (SolvesSolo p) _
-        (λ g t. record { grid = t.grid; solution = (c.accepted_are_solutions.ensures.houses p g).0 t.good })
-        (λ g t. record { grid = t.grid; good = (c.accepted_are_solutions.ensures.houses p g).1 t.solution })
+        (λ g. let same = c.accepted_are_solutions.ensures.houses p g in
+        (λ t. record { grid = t.grid; solution = same.0 t.good }, λ t. record { grid = t.grid; good = same.1 t.solution }))
         (c.verdict_is_true.ensures (houses_rules p) (c.rules_are_lawful.ensures.houses p s.puzzle) budget))
-    by Pattern budget text = answer_of (pattern_of text) (SpellsPattern text) pattern.IsSolution line_rules printed_pattern budget (c.one_reading.ensures.either text)
+    by Pattern budget text = answer_of pattern.IsSolution line_rules pattern_cell (λ p. p.size) budget (pattern_of text) (SpellsPattern text) (c.one_reading.ensures.either text)
         (λ p s. right_of (line_rules p) (pattern.IsSolution p) _
-        (λ g t. (c.accepted_are_solutions-2.ensures p g t.grid).0 t.good)
-        (λ g t. record { grid = t.grid; good = (c.accepted_are_solutions-2.ensures p g t.grid).1 t })
+        (λ g. let same = c.accepted_are_solutions-2.ensures p g in
+        (λ t. (same t.grid).0 t.good, λ t. record { grid = t.grid; good = (same t.grid).1 t }))
         (c.verdict_is_true.ensures (line_rules p) (c.rules_are_lawful-2.ensures p s.puzzle) budget))
-    by LightUp budget text = answer_of (light_of text) (SpellsLight text) SolvesLights light_rules printed_lights budget (c.one_reading_of_lights.ensures.either text)
+    by LightUp budget text = answer_of SolvesLights light_rules light_cell (λ p. p.size) budget (light_of text) (SpellsLight text) (c.one_reading_of_lights.ensures.either text)
         (λ p s. right_of (light_rules p) (SolvesLights p) _
-        (λ g t. record { grid = t.grid; solution = (c.accepted_lights_are_solutions.ensures p g t.grid).0 t.good })
-        (λ g t. record { grid = t.grid; good = (c.accepted_lights_are_solutions.ensures p g t.grid).1 t.solution })
+        (λ g. let same = c.accepted_lights_are_solutions.ensures p g in
+        (λ t. record { grid = t.grid; solution = (same t.grid).0 t.good }, λ t. record { grid = t.grid; good = (same t.grid).1 t.solution }))
         (c.verdict_is_true.ensures (light_rules p) (c.rules_of_lights_are_lawful.ensures p s.puzzle) budget))
-    by Tents budget text = answer_of (tents_of text) (SpellsTents text) SolvesTents tent_rules printed_tents budget (c.one_reading_of_tents.ensures.either text)
+    by Tents budget text = answer_of SolvesTents tent_rules tents_cell (λ p. p.size) budget (tents_of text) (SpellsTents text) (c.one_reading_of_tents.ensures.either text)
         (λ p s. right_of (tent_rules p) (SolvesTents p) _
-        (λ g t. record { grid = t.grid; solution = (c.accepted_are_solutions-3.ensures p g t.grid).0 t.good })
-        (λ g t. record { grid = t.grid; good = (c.accepted_are_solutions-3.ensures p g t.grid).1 t.solution })
+        (λ g. let same = c.accepted_are_solutions-3.ensures p g in
+        (λ t. record { grid = t.grid; solution = (same t.grid).0 t.good }, λ t. record { grid = t.grid; good = (same t.grid).1 t.solution }))
         (c.verdict_is_true.ensures (tent_rules p) (c.rules_of_tents_are_lawful.ensures p s.puzzle) budget))
