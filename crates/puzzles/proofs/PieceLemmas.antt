@@ -1,8 +1,9 @@
 -- A text that is put piece by piece: what was put and what is left of it are the text so far.
-use Rattle.std.proofs.Common.{◌≡◌, ◌∙◌, ◌++◌, ◌+◌, ◌≤◌, ℕ, zero, suc, [], sym, ap, append_assoc, append-nil, arith, add-one, inl, inr}
+use Rattle.std.proofs.Common.{◌≡◌, ◌∙◌, ◌++◌, ◌∷◌, ◌+◌, ◌<◌, ◌≤◌, ℕ, length, refl, subst, zero, suc, [], sym, ap, append_assoc, append-nil, arith, add-one, inl, inr}
 use Rattle.std.proofs.lemmas.Bool.{cases_lt}
 use Rattle.puzzles.specs.Answers.{Text, Begins, PutUpTo, PutBegun}
 use Rattle.puzzles.specs.GridTexts.{each_below}
+use Rattle.puzzles.specs.Traces.{KeptOrPut, PutInPieces, TakesPieces, joined}
 
 -- a text begins itself
 begins_itself : (text other : Text) → other ≡ text → Begins text other
@@ -17,6 +18,14 @@ each_begins f i (suc n) le = elim (cases_lt i (suc n)) [
   | inr ge ↦ let e : suc n ≡ i = omega arith in begins_itself (each_below f i) (each_below f (suc n)) (ap (each_below f) e)
 ]
 
+-- one more line is in the text, after what was put of it
+line_split : (text done held longer line : Text) (f : ℕ → Text) (i : ℕ) → text ++ each_below f i ≡ done ++ held → longer ≡ held ++ line → line ≡ f i
+    → text ++ each_below f (i + 1) ≡ done ++ longer
+unfolding each_below
+line_split text done held longer line f i split more is =
+    ap (λ (k : ℕ). text ++ each_below f k) (add-one i) ∙ sym (append_assoc text (each_below f i) (f i)) ∙ ap (λ (l : Text). l ++ f i) split
+    ∙ append_assoc done held (f i) ∙ ap (λ (l : Text). done ++ (held ++ l)) (sym is) ∙ ap (λ (l : Text). done ++ l) (sym more)
+
 module _ {S : Type 0} (takes : S → Text → S → Type 0) (nothing : (s : S) → takes s [] s) (both : (s t u : S) (a b : Text) → takes s a t → takes t b u → takes s (a ++ b) u) where
   -- before the first line
   pub no_line : (s : S) (text : Text) (f : ℕ → Text) → PutUpTo takes s (text ++ each_below f 0) text s
@@ -26,12 +35,10 @@ module _ {S : Type 0} (takes : S → Text → S → Type 0) (nothing : (s : S) �
   -- one more line is in the text, and nothing more was put
   pub line_added : (s t : S) (text held longer line : Text) (f : ℕ → Text) (i : ℕ) → PutUpTo takes s (text ++ each_below f i) held t
       → longer ≡ held ++ line → line ≡ f i → PutUpTo takes s (text ++ each_below f (i + 1)) longer t
-  unfolding each_below
   line_added s t text held longer line f i put more is = record {
     done = put.done;
     took = put.took;
-    split = ap (λ (k : ℕ). text ++ each_below f k) (add-one i) ∙ sym (append_assoc text (each_below f i) (f i)) ∙ ap (λ (l : Text). l ++ f i) put.split
-        ∙ append_assoc put.done held (f i) ∙ ap (λ (l : Text). put.done ++ (held ++ l)) (sym is) ∙ ap (λ (l : Text). put.done ++ l) (sym more);
+    split = line_split text put.done held longer line f i put.split more is;
   }
 
   -- what was held was put up to a rest
@@ -68,3 +75,34 @@ lines_begun takes s t text f i n le begun =
             ∙ append_assoc begun.done begun.begun.0 h.0,
       );
     }
+
+module _ {S : Type 0} (takes : S → Text → S → Type 0) (most : ℕ) where
+  -- before the first line
+  pub no_pieces : (s : S) (text : Text) (f : ℕ → Text) → PutInPieces takes most s (text ++ each_below f 0) text s
+  unfolding each_below
+  no_pieces s text f = record { pieces = []; took = refl; split = append-nil text }
+
+  -- one more line is in the text, and no piece more was put
+  pub line_held : (s t : S) (text held longer line : Text) (f : ℕ → Text) (i : ℕ) → PutInPieces takes most s (text ++ each_below f i) held t
+      → longer ≡ held ++ line → line ≡ f i → PutInPieces takes most s (text ++ each_below f (i + 1)) longer t
+  line_held s t text held longer line f i put more is = record {
+    pieces = put.pieces;
+    took = put.took;
+    split = line_split text (joined put.pieces) held longer line f i put.split more is;
+  }
+
+  -- what was held was kept, or is one piece more
+  pub next_piece : (s t u : S) (text held rest : Text) → PutInPieces takes most s text held t → length held < most → KeptOrPut takes t held rest u
+      → PutInPieces takes most s text rest u
+  next_piece s t u text held rest put short next = elim next [
+    | inl kept ↦ record {
+      pieces = put.pieces;
+      took = subst (λ (v : S). TakesPieces takes most s put.pieces v) (sym kept.1) put.took;
+      split = put.split ∙ ap (λ (l : Text). joined put.pieces ++ l) (sym kept.0);
+    }
+    | inr all ↦ record {
+      pieces = held ∷ put.pieces;
+      took = (t, put.took, all.1, short);
+      split = put.split ∙ sym (append-nil (joined put.pieces ++ held)) ∙ ap (λ (l : Text). (joined put.pieces ++ held) ++ l) (sym all.0);
+    }
+  ]

@@ -27,6 +27,7 @@ pub fn read_number(text: &[u8]) -> Option<(u8, usize)>
     ensures within { IfSome result (λ r. r.1 ≤ length text.now) }
     ensures read { (n : ℕ) (after : Text) → n < 100 → first_digit after ≡ None
         → text.now ≡ decimal n ++ after → result ≡ Some (n, length (decimal n)) }
+    ensures none { first_digit text.now ≡ None → result ≡ None }
 {
     let (byte, rest) = text.split_first()?;
     let first = digit(*byte)?;

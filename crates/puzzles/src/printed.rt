@@ -1,5 +1,5 @@
 //! Puzzles whose grids can be printed, and how each game prints a cell.
-ghost use Rattle.std.specs.Prelude.{◌≡◌, ◌+◌, ◌*◌, ◌<◌, ◌++◌, ℕ, List, length, decimal, OnOk, string_bytes};
+ghost use Rattle.std.specs.Prelude.{◌≡◌, ◌+◌, ◌*◌, ◌<◌, ◌≤◌, ◌++◌, ℕ, List, length, decimal, IsOk, OnOk, string_bytes, string_len, string_capacity};
 ghost use Rattle.grid_core.specs.Extent.{Extent, IsExtent};
 ghost use Rattle.grid_core.specs.Grids.{IsGrid};
 ghost use Rattle.gameid_core.specs.Puzzles.{Pattern, Solo, Light, Tents, solo_n};
@@ -39,9 +39,12 @@ pub trait Printed {
         ensures { OnOk result (string_bytes text.new ≡ string_bytes text.old ++ cell_text self.now grid.now place) };
 }
 
-/// Adds a number to a text, in decimal.
+/// Adds a number to a text, in decimal, which is at most 20 digits.
 pub fn push_number(text: &mut String, number: usize) -> Result<(), AllocError>
-    ensures { OnOk result (string_bytes text.new ≡ string_bytes text.old ++ decimal number) }
+    ensures number { OnOk result (string_bytes text.new ≡ string_bytes text.old ++ decimal number) }
+    ensures short { OnOk result (string_len text.new ≤ string_len text.old + 20) }
+    ensures room { string_len text.old + 20 ≤ string_capacity text.old → IsOk result }
+    ensures capacity { string_capacity text.old ≤ string_capacity text.new }
 {
     let mut buffer = Buffer::new();
     text.push_str(buffer.format(number))

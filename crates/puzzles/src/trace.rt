@@ -1,10 +1,10 @@
 //! The lines of a trace: which houses a closing visited, or how many sweeps it made.
-ghost use Rattle.std.specs.Prelude.{◌≡◌, ◌++◌, ℕ, true, false, OnOk, IfErr, string_bytes};
+ghost use Rattle.std.specs.Prelude.{◌≡◌, ◌++◌, ◌+◌, ◌<◌, ◌≤◌, ℕ, true, false, IsOk, OnOk, IfErr, string_bytes, string_len, string_capacity};
 ghost use Rattle.gameid_core.specs.Puzzles.{Pattern, Solo};
 ghost use Rattle.puzzles.specs.Answers.{PutUpTo, PutBegun};
 ghost use Rattle.puzzles.specs.Stops.{is_broken};
 ghost use Rattle.engine_core.specs.Puzzle.{needs_of, FitsIn};
-ghost use Rattle.puzzles.specs.Traces.{AddsTrace, BeginsTrace, PutsTrace, TellsSweeps, TellsVisits, house_text, line_of, solo_house, pattern_house, sweeps_text, visits_text};
+ghost use Rattle.puzzles.specs.Traces.{AddsTrace, BeginsTrace, KeptOrPut, PutInPieces, PutsPieces, PutsTrace, TellsSweeps, TellsVisits, house_text, line_of, solo_house, pattern_house, sweeps_text, visits_text};
 
 use crate::ends::Sink;
 use crate::output::put_all;
@@ -16,6 +16,9 @@ use std::alloc::AllocError;
 
 /// How many bytes of a trace are gathered before they are put.
 const PIECE: usize = 4_096;
+
+/// Most bytes of the line of a visit: the longest kind, a space, a number and a line end.
+const LINE: usize = 28;
 
 /// A house with a name, by its number among its kind.
 #[derive(Clone, Copy)]
@@ -67,7 +70,10 @@ impl Housed for PatternPuzzle {
 
 /// Adds the line of a visit to a text.
 fn push_visit(text: &mut String, house: House) -> Result<(), AllocError>
-    ensures { OnOk result (string_bytes text.new ≡ string_bytes text.old ++ line_of house) }
+    ensures line { OnOk result (string_bytes text.new ≡ string_bytes text.old ++ line_of house) }
+    ensures short { OnOk result (string_len text.new ≤ string_len text.old + LINE) }
+    ensures room { string_len text.old + LINE ≤ string_capacity text.old → IsOk result }
+    ensures capacity { string_capacity text.old ≤ string_capacity text.new }
 {
     let number = match house {
         House::Row(y) => {
@@ -103,6 +109,10 @@ fn put_piece<O: Sink>(text: &mut String, output: &mut O) -> Result<(), Stop>
         × (O.has_failed output.new ≡ false)) }
     ensures err { IfErr result (λ stop. PutBegun O.takes output.old (string_bytes text.old) output.new
         × (O.has_failed output.new ≡ is_broken stop)) }
+    ensures whole { OnOk result (KeptOrPut O.takes output.old (string_bytes text.old) (string_bytes text.new) output.new) }
+    ensures small { OnOk result (string_len text.new < PIECE) }
+    ensures room { IfErr result (λ stop. is_broken stop ≡ true) }
+    ensures capacity { string_capacity text.old ≤ string_capacity text.new }
 {
     if text.len() < PIECE {
         return Ok(());
@@ -128,6 +138,11 @@ pub fn put_visits<P: Housed, O: Sink>(
         (string_bytes text.new) output.new × (O.has_failed output.new ≡ false)) }
     ensures err { IfErr result (λ stop. PutBegun O.takes output.old (string_bytes text.old ++ visits_text (P.house_with puzzle.now) visits.now)
         output.new × (O.has_failed output.new ≡ is_broken stop)) }
+    ensures pieces { string_len text.old < PIECE → OnOk result (PutInPieces O.takes (PIECE + LINE) output.old
+        (string_bytes text.old ++ visits_text (P.house_with puzzle.now) visits.now) (string_bytes text.new) output.new) }
+    ensures small { string_len text.old < PIECE → OnOk result (string_len text.new < PIECE) }
+    ensures room { string_len text.old < PIECE → PIECE + LINE ≤ string_capacity text.old
+        → IfErr result (λ stop. is_broken stop ≡ true) }
 {
     for number in visits {
         push_visit(text, puzzle.house(*number))?;
@@ -153,6 +168,11 @@ pub fn put_closing<R: Rules, P: Housed, O: Sink>(
         (string_bytes text.new) output.new × (O.has_failed output.new ≡ false)) }
     ensures err { IfErr result (λ stop. BeginsTrace O.takes traced (TellsVisits (P.house_with puzzle.now) (R.puzzle rules.now)) output.old (string_bytes text.old)
         output.new × (O.has_failed output.new ≡ is_broken stop)) }
+    ensures pieces { string_len text.old < PIECE → OnOk result (PutsPieces O.takes (PIECE + LINE) traced
+        (TellsVisits (P.house_with puzzle.now) (R.puzzle rules.now)) output.old (string_bytes text.old) (string_bytes text.new) output.new) }
+    ensures small { string_len text.old < PIECE → OnOk result (string_len text.new < PIECE) }
+    ensures room { string_len text.old < PIECE → PIECE + LINE ≤ string_capacity text.old
+        → IfErr result (λ stop. is_broken stop ≡ true) }
 {
     if traced {
         store.close(rules);

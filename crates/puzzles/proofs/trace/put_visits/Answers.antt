@@ -1,11 +1,12 @@
 use Rattle.std.proofs.Common.{rules, ◌≡◌, ◌++◌, false, string_bytes, arith, length, slice_index}
 use Rattle.puzzles.specs.Answers.{PutBegun}
 use Rattle.puzzles.specs.Traces.{line_of, visits_text}
-use Rattle.puzzles.proofs.PieceLemmas.{no_line, line_added, piece_put, piece_begun, put_begins, lines_begun}
+use Rattle.puzzles.proofs.PieceLemmas.{no_line, line_added, piece_put, piece_begun, put_begins, lines_begun, no_pieces, line_held, next_piece}
 use Rattle.std.proofs.Common.{Result, Ok, Err, IfErr, sym, subst, ap, ◌+◌}
 use Rattle.std.specs.Result.{IsErr, IsErrAnd}
 use Rattle.puzzles.specs.declared.stop.Stop.{Stop}
 use Rattle.puzzles.specs.declared.stop.Stop.TheVariants.{Memory}
+use Rattle.puzzles.specs.declared.trace.TheConstants.{PIECE, LINE}
 use Rattle.puzzles.proofs.trace.put_visits.Goals as goal
 
 -- an exit with that stop
@@ -14,7 +15,7 @@ if_err (Ok u) Q stop q h = tt
 if_err (Err e) Q stop q h = subst Q (sym h.1) q
 
 pub loop-number-init : goal.loop-number-init
-loop-number-init g c = (no_line g.O.Sink.takes g.met.O.Sink.takes_nothing g.met.O.Sink.takes_both _ _ _, search rules)
+loop-number-init g c = (no_line g.O.Sink.takes g.met.O.Sink.takes_nothing g.met.O.Sink.takes_both _ _ _, search rules, λ small. small, λ _. no_pieces g.O.Sink.takes (PIECE + LINE) _ _ _, omega arith)
 
 pub returns-in_err-push_visit-clause-err : goal.returns-in_err-push_visit-clause-err
 returns-in_err-push_visit-clause-err g c =
@@ -29,14 +30,19 @@ returns-in_err-put_piece-clause-err g c =
     let begun : PutBegun g.O.Sink.takes c.args.output.now (string_bytes c.args.text.now ++ visits_text (g.P.Housed.house_with c.args.puzzle.now) c.args.visits.now) c.put_piece.new.output =
     lines_begun g.O.Sink.takes _ _ _ (λ k. line_of (g.P.Housed.house_with c.args.puzzle.now (slice_index c.args.visits.now k))) (c.loop-number.number-index + 1) (length c.args.visits.now) (omega arith)
     (piece_begun g.O.Sink.takes g.met.O.Sink.takes_nothing g.met.O.Sink.takes_both _ _ _ _ _
-    (line_added g.O.Sink.takes g.met.O.Sink.takes_nothing g.met.O.Sink.takes_both _ _ _ _ _ _ _ _ c.loop-number.invariant.0 c.in_ok-push_visit.ensures (ap line_of c.house.ensures))
+    (line_added g.O.Sink.takes g.met.O.Sink.takes_nothing g.met.O.Sink.takes_both _ _ _ _ _ _ _ _ c.loop-number.invariant.0 c.in_ok-push_visit.ensures.line (ap line_of c.house.ensures))
     c.in_err-put_piece.ensures.err.0) in
     if_err _ _ _ (begun, c.in_err-put_piece.ensures.err.1) c.from_residual-in_err-put_piece.ensures
 
 pub loop-number-preserved : goal.loop-number-preserved
 loop-number-preserved g c = (
   piece_put g.O.Sink.takes g.met.O.Sink.takes_nothing g.met.O.Sink.takes_both _ _ _ _ _ _
-      (line_added g.O.Sink.takes g.met.O.Sink.takes_nothing g.met.O.Sink.takes_both _ _ _ _ _ _ _ _ c.loop-number.invariant.0 c.in_ok-push_visit.ensures (ap line_of c.house.ensures))
+      (line_added g.O.Sink.takes g.met.O.Sink.takes_nothing g.met.O.Sink.takes_both _ _ _ _ _ _ _ _ c.loop-number.invariant.0 c.in_ok-push_visit.ensures.line (ap line_of c.house.ensures))
       c.in_ok-put_piece.ensures.ok.0,
   c.in_ok-put_piece.ensures.ok.1,
+  λ small. c.in_ok-put_piece.ensures.small,
+  λ small. next_piece g.O.Sink.takes (PIECE + LINE) _ _ _ _ _ _
+      (line_held g.O.Sink.takes (PIECE + LINE) _ _ _ _ _ _ _ _ (c.loop-number.invariant.3 small) c.in_ok-push_visit.ensures.line (ap line_of c.house.ensures))
+      (omega (arith, c.loop-number.invariant.2 small, c.in_ok-push_visit.ensures.short, c.push_visit.new.text.bytes.ok.0)) c.in_ok-put_piece.ensures.whole,
+  omega (arith, c.loop-number.invariant.4, c.push_visit.ensures.capacity, c.put_piece.ensures.capacity),
 )
