@@ -92,7 +92,8 @@ AllowsMadePattern text seed budget tries black = AllowsMaking game.Pattern text 
     ⊎ IsExhausted (pattern_filling (record { w = w; h = h }) black) (pattern_passes (record { w = w; h = h }) budget) (seed_stream seed) tries answer)
 
 -- The first filling gives the solution; the puzzle is of its size, has some of its numbers as givens, and no other solution.
--- Each given that is left was kept for a reason: without it there are two solutions, or the search for them gave up.
+-- Each given that is left was kept for a reason: without it there are two solutions, or the search of a puzzle that has all
+-- the others, and maybe more of the filling's numbers, gave up.
 pub record IsSoloMade (c r budget tries : ℕ) (s : Stream) (p : Solo) (g : List ℕ) : Type 0 where
   pub first : IsFirstPassing (solo_filling c r) (solo_passes c r budget) s tries 0
   pub filled : g ≡ filling_at (solo_filling c r) 0 s
