@@ -1,4 +1,4 @@
-use Rattle.std.proofs.Common.{add-one, ◌≡◌, ℕ, zero, suc, ◌+◌, ◌-◌, ◌*◌, ◌<◌, ◌≤◌, Bool, true, false, not, cond, ◌&&◌, ◌||◌, eqb, List, [], ◌∷◌, ◌++◌, length, slice_index, take, get_or, set, get_or-set_same, get_or-set_other, Option, Some, None, refl, sym, ap, ◌∙◌, inl, inr, arith}
+use Rattle.std.proofs.Common.{add-one, ◌≡◌, ℕ, zero, suc, ◌+◌, ◌-◌, ◌*◌, ◌<◌, ◌≤◌, Bool, true, false, not, cond, ◌&&◌, ◌||◌, eqb, List, [], ◌∷◌, ◌++◌, length, slice_index, take, get_or, set, get_or-set_same, get_or-set_other, Option, Some, None, IfSome, refl, sym, ap, ◌∙◌, inl, inr, arith}
 use Rattle.std.proofs.lemmas.Bool.{and_left, and_right, cases_Bool, cases_eq, true≢false, and_parts, and_from, or_cases, or_left, or_right, or_parts, not-true, not-false, not_from_false, not_from_true, false_from_ne_true, eqb-true, eq-eqb, ne_eqb}
 use Rattle.std.proofs.Math.Nat.{mul-le-mul_right}
 use Rattle.std.proofs.Math.Seq.{take-suc-set}
@@ -6,7 +6,7 @@ use Rattle.grid_core.specs.Candidates.{Candidates, IsWithin, any_below, count_be
 use Rattle.grid_core.proofs.CandidateLemmas.{any_below-here, any_below-some, any_below-none, count_below-le, count_below-lt, count_below-any, count_below-kept, count_below-pos, count_below-none, count_below-bound, count_below-same, any_below-same, sum_below-le, sum_below-add, is_dead-not, is_dead-here, is_dead-each}
 use Rattle.grid_core.specs.Board.{Layout, SameShape, has, cells_of}
 use Rattle.grid_core.proofs.BoardLemmas.{has-within}
-use Rattle.grid_core.proofs.GridLemmas.{only-inside, only-other}
+use Rattle.grid_core.proofs.GridLemmas.{only-inside, only-other, only-here}
 use Rattle.engine_core.specs.Puzzle.{Puzzle, IsLawful, IsClosed, IsInsideAt, IsBoardOf, after, has_place, share}
 use Rattle.engine_core.specs.PlaceLaws.{has_place-at, has_place-here}
 use Rattle.engine_core.specs.Queue.{calls, counts_of, woken, but, visits_left, IsRested, is_waiting, is_emptied, IsClosedBut, waits_from}
@@ -71,17 +71,33 @@ rested_after p laws h K waits lth within rested = λ j c v ltj asleep on.
 -- where every house waits, nothing is asked, and where those of the place do, no more than that the others are closed
 pub rested_from : (p : Puzzle) (K : Candidates) (from : Option ℕ) (waits : ℕ → Bool) → IsClosedBut p K from → ((j : ℕ) → j < p.houses → waits j ≡ waits_from p from j) → IsRested p K waits
 unfolding waits_from
-rested_from p K None waits but all = λ h c v lt asleep on. absurd (true≢false (sym (all h lt) ∙ asleep))
-rested_from p K (Some place) waits but same = λ h c v lt asleep on. but.1 h c v lt (sym (same h lt) ∙ asleep) on
+rested_from p K None waits around all = λ h c v lt asleep on. absurd (true≢false (sym (all h lt) ∙ asleep))
+rested_from p K (Some place) waits around same = λ h c v lt asleep on. around.closed h c v lt (sym (same h lt) ∙ asleep) on
 
--- a closed board whose cell lost values is closed but for the houses that have it
-pub closed-but_only : (p : Puzzle) (laws : IsLawful p) (K : Candidates) (cell v : ℕ) → cell < p.cells → IsClosed p K → IsClosedBut p (only K cell v) (Some cell)
-closed-but_only p laws K cell v lt closed = (
-  lt,
-  λ h c w lth out on. false_from_ne_true (p.strikes h (only K cell v) c w) (λ struck.
+-- a closed board whose cell lost all values but one is closed around it
+pub closed-but_only : (p : Puzzle) (laws : IsLawful p) (K : Candidates) (cell v : ℕ) → cell < p.cells → v < p.values → K cell v ≡ true → IsClosed p K → is_dead p.cells p.values K ≡ false → IsClosedBut p (only K cell v) (Some cell)
+closed-but_only p laws K cell v lt ltv on closed alive = record {
+  place_in = lt;
+  closed = λ h c w lth out still. false_from_ne_true (p.strikes h (only K cell v) c w) (λ struck.
       true≢false (sym (laws.strikes_inside h K (only K cell v) lth (λ d u member has. ap (λ (f : ℕ → Bool). f u) (only-other K cell v d (λ e. true≢false (sym member ∙ (ap (has_place (p.scope h)) e ∙ out)))) ∙ has) c w struck)
-      ∙ closed h c w lth (only-inside K cell v c w on))),
-)
+      ∙ closed h c w lth (only-inside K cell v c w still)));
+  alive = is_dead-each p.cells p.values (only K cell v) (λ c ltc. elim (cases_eq c cell) [
+    | inl here ↦ rw here (count_below-pos (only K cell v cell) p.values v ltv (only-here K cell v on))
+    | inr apart ↦ rw (only-other K cell v c apart) (is_dead-not p.cells p.values K c alive ltc)
+  ]);
+}
+
+pub dead_of : (p : Puzzle) (b : Layout) → IsBoardOf p b → is_dead (cells_of b) b.values (has b) ≡ is_dead p.cells p.values (has b)
+dead_of p b of = ap (λ (n : ℕ). is_dead n b.values (has b)) of.same_cells ∙ ap (λ (v : ℕ). is_dead p.cells v (has b)) of.same_values
+
+-- what the test for an empty cell and the marks ask of the board
+pub alive_of : (p : Puzzle) (b : Layout) (from : Option ℕ) → IsBoardOf p b → IsClosedBut p (has b) from → IfSome from (λ _. is_dead (cells_of b) b.values (has b) ≡ false)
+alive_of p b None of around = tt
+alive_of p b (Some place) of around = dead_of p b of ∙ around.alive
+
+pub marked_of : (p : Puzzle) (K : Candidates) (from : Option ℕ) → IsClosedBut p K from → IfSome from (λ place. place < p.cells)
+marked_of p K None around = tt
+marked_of p K (Some place) around = around.place_in
 
 -- where no house waits, the board is closed
 pub closed_from_rested : (p : Puzzle) (K : Candidates) (waits : ℕ → Bool) → ((h : ℕ) → h < p.houses → waits h ≡ false) → IsRested p K waits → IsClosed p K
@@ -280,9 +296,6 @@ pushed t n h lt = rw add-one (take-suc-set t n h lt)
 
 pub IsBoardOf-same : (p : Puzzle) (b b' : Layout) → IsBoardOf p b → SameShape b b' → IsBoardOf p b'
 IsBoardOf-same p b b' of same = record { same_cells = same.same_cells ∙ of.same_cells; same_values = same.same_values ∙ of.same_values }
-
-pub dead_of : (p : Puzzle) (b : Layout) → IsBoardOf p b → is_dead (cells_of b) b.values (has b) ≡ is_dead p.cells p.values (has b)
-dead_of p b of = ap (λ (n : ℕ). is_dead n b.values (has b)) of.same_cells ∙ ap (λ (v : ℕ). is_dead p.cells v (has b)) of.same_values
 
 pub within_of : (p : Puzzle) (b : Layout) → IsBoardOf p b → IsWithin p.cells p.values (has b)
 within_of p b of = λ c v on. let w = has-within b c v on in (omega (arith, w.0, of.same_cells), omega (arith, w.1, of.same_values))

@@ -1,4 +1,4 @@
-use Rattle.std.proofs.Common.{◌≡◌, ◌<◌, ◌^◌, get_or, sym}
+use Rattle.std.proofs.Common.{◌≡◌, get_or}
 use Rattle.std.proofs.lemmas.List.{get_or_read}
 use Rattle.grid_core.proofs.BoardLemmas.{has-bits, small-at}
 use Rattle.grid_core.proofs.board.Board.bits.Goals as goal
