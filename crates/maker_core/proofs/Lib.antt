@@ -26,3 +26,4 @@ pub mod ThinningReasons
 pub mod PutBack
 pub mod SoloMakings
 pub mod IdleClues
+pub mod Switches

@@ -16,3 +16,4 @@ pub mod SoloCluesLaws
 pub mod LightClues
 pub mod FewerHouseLaws
 pub mod LightCluesLaws
+pub mod Switch

@@ -14,6 +14,7 @@ mod pattern;
 mod solo;
 mod solo_clues;
 mod solo_filling;
+mod switch;
 mod tent_filling;
 mod tents;
 mod thin;

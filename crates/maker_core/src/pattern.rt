@@ -10,6 +10,7 @@ ghost use Rattle.maker_core.specs.PatternMaking.{pattern_filling, pattern_of, pa
 
 use crate::black::draw_black;
 use crate::made::{Limits, Made, MakeFault};
+use crate::switch::has_switch;
 use crate::unique::is_unique;
 use gameid_core::PatternPuzzle;
 use grid_core::{Grid, Size};
@@ -18,7 +19,7 @@ use rand_core::Rng;
 use std::alloc::{AllocError, Global};
 
 /// The puzzle with all clues of the grid.
-fn puzzle_of(alloc: Global, size: Size, grid: &Grid) -> Result<PatternPuzzle, AllocError>
+pub(crate) fn puzzle_of(alloc: Global, size: Size, grid: &Grid) -> Result<PatternPuzzle, AllocError>
     requires { IsGrid (size.w * size.h) 2 grid.now }
     ensures puzzle { IfOk result (λ p. p ≡ pattern_of size grid.now) }
     ensures solved { IfOk result (λ p. IsSolution p grid.now) }
@@ -28,24 +29,30 @@ fn puzzle_of(alloc: Global, size: Size, grid: &Grid) -> Result<PatternPuzzle, Al
     Ok(puzzle)
 }
 
-/// Whether the verdict of the puzzle of the grid is one. That of a grid of one colour is, whatever the budget.
+/// Whether the verdict of the puzzle of the grid is one. That of a grid of one colour is, whatever the budget. A puzzle
+/// in which a second solution is found close by isn't searched. The grid is left as it was.
 fn passes(
     alloc: Global,
     puzzle: &PatternPuzzle,
-    answer: &Grid,
+    answer: &mut Grid,
     budget: u64,
 ) -> Result<bool, AllocError>
-    requires puzzle { puzzle.now ≡ pattern_of puzzle.now.size answer.now }
-    requires solved { IsSolution puzzle.now answer.now }
-    ensures verdict { IfOk result (λ unique. unique ≡ pattern_passes puzzle.now.size budget answer.now) }
-    ensures only { IfOk result (λ unique. unique ≡ true → IsOnlySolution (IsSolution puzzle.now) answer.now) }
-    ensures plain { AreAll 0 answer.now ⊎ AreAll 1 answer.now → IfOk result (λ unique. unique ≡ true) }
+    requires puzzle { puzzle.now ≡ pattern_of puzzle.now.size answer.old }
+    requires solved { IsSolution puzzle.now answer.old }
+    ensures verdict { IfOk result (λ unique. unique ≡ pattern_passes puzzle.now.size budget answer.old) }
+    ensures only { IfOk result (λ unique. unique ≡ true → IsOnlySolution (IsSolution puzzle.now) answer.old) }
+    ensures plain { AreAll 0 answer.old ⊎ AreAll 1 answer.old → IfOk result (λ unique. unique ≡ true) }
+    ensures same { answer.new ≡ answer.old }
 {
     pattern_core::accepted_are_solutions();
+    engine_core::verdict_is_true();
     let _size = puzzle.size();
     let rules = PatternLines::new(alloc, puzzle)?;
     engine_core::closure_is_largest(&rules);
     engine_core::walk_goes_on_from_the_closure(&rules);
+    if has_switch(puzzle, answer) {
+        return Ok(false);
+    }
     is_unique(alloc, &rules, budget)
 }
 
@@ -84,9 +91,9 @@ pub fn make_pattern<G: Rng>(
     ensures plain { 1 ≤ limits.tries → (black ≡ 0) ⊎ (black ≡ 100) → result ≢ Err Exhausted }
 {
     for _attempt in 0..limits.tries {
-        let answer = draw_black(alloc, rng, size.cells(), black)?;
+        let mut answer = draw_black(alloc, rng, size.cells(), black)?;
         let puzzle = puzzle_of(alloc, size, &answer)?;
-        if passes(alloc, &puzzle, &answer, limits.budget)? {
+        if passes(alloc, &puzzle, &mut answer, limits.budget)? {
             let kept = Vec::new(alloc);
             return Ok(Made {
                 puzzle,

@@ -1,4 +1,5 @@
 mod clues;
 mod makers;
 mod solo;
+mod switch;
 mod thinned;

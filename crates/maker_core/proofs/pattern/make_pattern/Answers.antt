@@ -11,11 +11,12 @@ loop-attempt-init g c = record { trying = IsTrying-none _ _ _; sure = IsFirstSur
 
 pub returns-then-branch-clause-first : goal.returns-then-branch-clause-first
 returns-then-branch-clause-first g c =
-    first_passing _ _ _ _ _ _ _ _ c.loop-attempt.invariant.trying
+    let w = first_passing _ _ _ _ _ _ _ _ c.loop-attempt.invariant.trying
     (c.in_ok-answer.ensures.drawn ∙ ap (λ cells. black_cells c.args.black cells (g.G.Rng.stream c.loop-attempt.rng)) c.cells.ensures.value)
     (ap (λ (size : Extent). pattern_passes size c.args.limits.budget c.in_ok-answer.answer) (sym (ap (λ p. p.size) c.in_ok-puzzle.ensures.puzzle))
     ∙ sym c.in_ok-passes.ensures.verdict ∙ c.if-branch.true)
-    c.loop-attempt-test.true
+    c.loop-attempt-test.true in
+    (w.0, w.1, c.passes.ensures.same ∙ w.2)
 
 pub returns-then-branch-clause-drawn : goal.returns-then-branch-clause-drawn
 returns-then-branch-clause-drawn g c =

@@ -1,0 +1,53 @@
+-- Cells turned and turned back leave a grid as it was, and a puzzle with two solutions has no verdict of one.
+use Rattle.std.proofs.Common.{◌≡◌, ◌≢◌, ℕ, ◌*◌, ◌<◌, Bool, true, false, List, length, refl, sym, ap, ◌∙◌, arith, not, Option, Some, None}
+use Rattle.std.specs.Prelude.{slice_index, slice_set, is_some, IsTrue, ◌↔◌}
+use Rattle.std.proofs.lemmas.Bool.{true≢false}
+use Rattle.std.proofs.lemmas.List.{length-set, get_or-set_same}
+use Rattle.std.proofs.lemmas.List.Elements.{All-set}
+use Rattle.grid_core.specs.Grids.{IsGrid}
+use Rattle.gameid_core.specs.Puzzles.{Pattern}
+use Rattle.engine_core.specs.Puzzle.{Puzzle}
+use Rattle.engine_core.specs.Verdict.{Outcome, Outcome.NoGrid, Outcome.OneGrid, Outcome.TwoGrids, Outcome.OutOfBudget, verdict_of, Solves, IsTrueOf}
+use Rattle.pattern_core.specs.Faults.{IsCheck}
+use Rattle.pattern_core.specs.declared.fault.PatternFault.{PatternFault}
+use Rattle.pattern_core.specs.LineRules.{line_rules}
+use Rattle.pattern_core.specs.Solutions.{IsSolution}
+use Rattle.maker_core.specs.Made.{is_one, has_one}
+use Rattle.maker_core.specs.Switch.{HasOther}
+use Rattle.maker_core.proofs.PutBack.{set_back}
+
+pub grid_with : (n c v : ℕ) (g h : List ℕ) → v < 2 → h ≡ slice_set g c v → IsGrid n 2 g → IsGrid n 2 h
+grid_with n c v g h few e grid = rw e (record {
+  each_cell = length-set g c v ∙ grid.each_cell;
+  each_value = All-set (λ x. x < 2) g c v few grid.each_value;
+})
+
+-- one number put back, after those that were written later
+pub undone : (g h back k : List ℕ) (i u was : ℕ) → h ≡ slice_set g i u → was ≡ slice_index g i → back ≡ h → k ≡ slice_set back i was → k ≡ g
+undone g h back k i u was e is same f = f ∙ (ap (λ xs. slice_set xs i was) (same ∙ e) ∙ set_back g i u was 0 (sym is))
+
+-- no fault was told
+pub solved_by : (p : Pattern) (g : List ℕ) (fault : Option PatternFault) (told : Bool) → IsCheck p g fault → is_some fault ≡ not told → told ≡ true → IsSolution p g
+solved_by p g None told good e on = good
+solved_by p g (Some fault) told wrong e on = absurd (true≢false (e ∙ ap not on))
+
+-- the last cell written has another number than before
+pub turned_other : (g before h : List ℕ) (i : ℕ) → i < length before → slice_index g i ≡ 1 → h ≡ slice_set before i 0 → h ≢ g
+turned_other g before h i lt black e same =
+    let white : slice_index h i ≡ 0 = ap (λ xs. slice_index xs i) e ∙ get_or-set_same before i 0 0 lt in
+    let here : slice_index h i ≡ 1 = ap (λ xs. slice_index xs i) same ∙ black in
+    absurd (omega (arith, white, here))
+
+-- two solutions refute a verdict of one
+two_fail : (rules : Puzzle) (g h : List ℕ) (o : Outcome) → IsTrueOf rules o → Solves rules g → Solves rules h → h ≢ g → is_one o ≡ false
+two_fail rules g h NoGrid true_of sg sh ne = refl
+two_fail rules g h (OneGrid first) true_of sg sh ne = absurd (ne (sym (true_of.1 h sh) ∙ true_of.1 g sg))
+two_fail rules g h (TwoGrids first second) true_of sg sh ne = refl
+two_fail rules g h (OutOfBudget first) true_of sg sh ne = refl
+
+pub other_fails : (p : Pattern) (g : List ℕ) (budget : ℕ)
+    → ((q : Pattern) (h : List ℕ) → IsGrid (q.size.w * q.size.h) 2 h → (IsTrue ((line_rules q).is_solution h)) ↔ IsSolution q h)
+    → IsTrueOf (line_rules p) (verdict_of (line_rules p) budget) → IsSolution p g → HasOther p g → has_one (line_rules p) budget ≡ false
+other_fails p g budget accepted true_of good other =
+    let solves : (h : List ℕ) → IsSolution p h → Solves (line_rules p) h = λ h s. record { grid = s.grid; good = (accepted p h s.grid).1 s } in
+    two_fail (line_rules p) g other.0 (verdict_of (line_rules p) budget) true_of (solves g good) (solves other.0 other.1) other.2
