@@ -1,40 +1,24 @@
 //! Runs over many lines, and over readers and writers that cut or fail. What they are to write follows from the rules
 //! and the formats by hand.
-use crate::ends::{Sink, Source};
-use crate::fakes::{Chunks, Endless, Slow, texts};
-use crate::read_end::ReadEnd;
-use crate::run::run;
-use crate::write_end::WriteEnd;
+use crate::fakes::{Chunks, Endless, Slow};
+use crate::seen::{Seen, observe};
 use std::alloc::{AllocError, Global};
 use std::test::Fail;
 
-/// What a run over many lines did.
-#[derive(Drop)]
-struct Seen {
-    taken: Vec<u8>,
-    status: u8,
-    writes: u32,
-    flushes: u32,
-}
+/// Three lines, without a line end after the last, and their answers.
+const LINES: &[u8] = b"1x1:/\n\n2x1:1/1/1";
+
+const ANSWERS: &[u8] = b"one\n.\nrefused: no colon\nnone\n";
 
 /// Solves the lines of the input, which comes in so many bytes a call.
-fn solved(alloc: Global, game: &str, input: &[u8], most: usize) -> Result<Seen, AllocError> {
-    let words = texts(alloc, &["solve", game])?;
-    let mut source = ReadEnd::new(Chunks {
-        rest: input,
-        most,
-        fails_at: 0,
-        calls: 0,
-    });
-    let mut sink = WriteEnd::new(Slow::new(alloc, 4_096, 0, true));
-    let status = run(alloc, words.as_slice(), &mut source, &mut sink);
-    let slow = sink.into_inner();
-    Ok(Seen {
-        taken: slow.taken,
-        status,
-        writes: slow.calls,
-        flushes: slow.flushes,
-    })
+fn solved<'a>(
+    alloc: Global,
+    game: &str,
+    input: &'a [u8],
+    most: usize,
+) -> Result<Seen<Chunks<'a>>, AllocError> {
+    let writer = Slow::new(alloc, 4_096, 0, true);
+    observe(alloc, &["solve", game], Chunks::new(input, most, 0), writer)
 }
 
 #[test]
@@ -47,17 +31,27 @@ fn lines_are_answered_however_they_are_cut(rt: HostRuntime) -> Result<(), Fail> 
     ] {
         for most in [1, 2, 3, 4_096] {
             let seen = solved(rt.alloc(), "pattern", input, most)?;
-            assert_eq!(rt;
-                seen.taken.as_slice(),
-                b"one\n.\nrefused: no colon\nnone\n".as_slice(),
-                "by {most}"
-            );
+            assert_eq!(rt; seen.writer.taken.as_slice(), ANSWERS, "by {most}");
             assert_eq!(rt; seen.status, 2, "by {most}");
-            assert_eq!(rt; seen.writes, 3);
-            assert_eq!(rt; seen.flushes, 1);
+            assert_eq!(rt; seen.writer.calls, 3);
+            assert_eq!(rt; seen.writer.flushes, 1);
         }
     }
     Ok(())
+}
+
+/// Whether the lines of the input have these answers, sent at their end, with this status.
+fn answers(
+    alloc: Global,
+    game: &str,
+    input: &str,
+    most: usize,
+    text: &str,
+    status: u8,
+) -> Result<bool, AllocError> {
+    let seen = solved(alloc, game, input.as_bytes(), most)?;
+    let is_told = seen.writer.taken.as_slice() == text.as_bytes();
+    Ok(is_told && seen.status == status && seen.writer.flushes == 1)
 }
 
 #[test]
@@ -99,9 +93,13 @@ fn each_line_has_its_answer(rt: HostRuntime) -> Result<(), Fail> {
     ] {
         for most in [1, 4_096] {
             let seen = solved(rt.alloc(), game, input.as_bytes(), most)?;
-            assert_eq!(rt; seen.taken.as_slice(), text.as_bytes(), "{game} by {most}");
+            assert_eq!(rt;
+                seen.writer.taken.as_slice(),
+                text.as_bytes(),
+                "{game} by {most}"
+            );
             assert_eq!(rt; seen.status, status, "{game} by {most}");
-            assert_eq!(rt; seen.flushes, 1);
+            assert_eq!(rt; seen.writer.flushes, 1);
         }
     }
     Ok(())
@@ -128,7 +126,7 @@ fn an_over_long_line_is_skipped(rt: HostRuntime) -> Result<(), Fail> {
     ] {
         let input = long_line(rt.alloc(), count, rest.as_bytes())?;
         let seen = solved(rt.alloc(), "pattern", input.as_slice(), 4_096)?;
-        assert_eq!(rt; seen.taken.as_slice(), text.as_bytes(), "{count}");
+        assert_eq!(rt; seen.writer.taken.as_slice(), text.as_bytes(), "{count}");
         assert_eq!(rt; seen.status, 2, "{count}");
     }
     Ok(())
@@ -136,29 +134,21 @@ fn an_over_long_line_is_skipped(rt: HostRuntime) -> Result<(), Fail> {
 
 #[test]
 fn a_failing_reader_leaves_a_beginning(rt: HostRuntime) -> Result<(), Fail> {
-    let words = texts(rt.alloc(), &["solve", "pattern"])?;
-    let input = b"1x1:/\n\n2x1:1/1/1";
-    let whole = b"one\n.\nrefused: no colon\nnone\n";
     for fails_at in 1..18u32 {
-        let mut source = ReadEnd::new(Chunks {
-            rest: input,
-            most: 1,
-            fails_at,
-            calls: 0,
-        });
-        let mut sink = WriteEnd::new(Slow::new(rt.alloc(), 4_096, 0, true));
-        let status = run(rt.alloc(), words.as_slice(), &mut source, &mut sink);
-        assert_eq!(rt; status, 6);
-        assert!(rt; source.failed() && !source.ended() && !sink.failed());
-        assert_eq!(rt; source.into_inner().calls, fails_at);
+        let writer = Slow::new(rt.alloc(), 4_096, 0, true);
+        let reader = Chunks::new(LINES, 1, fails_at);
+        let seen = observe(rt.alloc(), &["solve", "pattern"], reader, writer)?;
+        assert_eq!(rt; seen.status, 6);
+        assert!(rt; seen.source_failed && !seen.source_ended && !seen.sink_failed);
+        assert_eq!(rt; seen.reader.calls, fails_at);
         let written = match fails_at {
             0..7 => 0,
             7 => 6,
             _ => 24,
         };
         assert_eq!(rt;
-            sink.into_inner().taken.as_slice(),
-            &whole[..written],
+            seen.writer.taken.as_slice(),
+            &ANSWERS[..written],
             "at {fails_at}"
         );
     }
@@ -167,39 +157,31 @@ fn a_failing_reader_leaves_a_beginning(rt: HostRuntime) -> Result<(), Fail> {
 
 #[test]
 fn a_failing_writer_ends_the_run(rt: HostRuntime) -> Result<(), Fail> {
-    let words = texts(rt.alloc(), &["solve", "pattern"])?;
-    let whole = b"one\n.\nrefused: no colon\nnone\n";
     for (fails_at, reads, written) in [(1, 6, 0), (2, 7, 6), (3, 17, 24)] {
-        let mut source = ReadEnd::new(Chunks {
-            rest: b"1x1:/\n\n2x1:1/1/1",
-            most: 1,
-            fails_at: 0,
-            calls: 0,
-        });
-        let mut sink = WriteEnd::new(Slow::new(rt.alloc(), 4_096, fails_at, true));
-        let status = run(rt.alloc(), words.as_slice(), &mut source, &mut sink);
-        assert_eq!(rt; status, 6);
-        assert!(rt; sink.failed());
-        assert_eq!(rt; source.into_inner().calls, reads);
-        let slow = sink.into_inner();
-        assert_eq!(rt; slow.calls, fails_at);
-        assert_eq!(rt; slow.taken.as_slice(), &whole[..written]);
+        let writer = Slow::new(rt.alloc(), 4_096, fails_at, true);
+        let reader = Chunks::new(LINES, 1, 0);
+        let seen = observe(rt.alloc(), &["solve", "pattern"], reader, writer)?;
+        assert_eq!(rt; seen.status, 6);
+        assert!(rt; seen.sink_failed);
+        assert_eq!(rt; seen.reader.calls, reads);
+        assert_eq!(rt; seen.writer.calls, fails_at);
+        assert_eq!(rt; seen.writer.taken.as_slice(), &ANSWERS[..written]);
     }
     Ok(())
 }
 
 #[test]
 fn an_endless_reader_is_given_up(rt: HostRuntime) -> Result<(), Fail> {
-    let words = texts(rt.alloc(), &["solve", "pattern"])?;
-    let mut source = ReadEnd::new(Endless {
-        byte: b'#',
-        calls: 0,
-    });
-    let mut sink = WriteEnd::new(Slow::new(rt.alloc(), 1, 0, true));
-    let status = run(rt.alloc(), words.as_slice(), &mut source, &mut sink);
-    assert_eq!(rt; status, 6);
-    assert!(rt; !source.failed() && !source.ended());
-    assert_eq!(rt; source.into_inner().calls, 1_048_576);
-    assert!(rt; sink.into_inner().taken.is_empty());
+    let writer = Slow::new(rt.alloc(), 1, 0, true);
+    let seen = observe(
+        rt.alloc(),
+        &["solve", "pattern"],
+        Endless::new(b'#'),
+        writer,
+    )?;
+    assert_eq!(rt; seen.status, 6);
+    assert!(rt; !seen.source_failed && !seen.source_ended);
+    assert_eq!(rt; seen.reader.calls, 1_048_576);
+    assert!(rt; seen.writer.taken.is_empty());
     Ok(())
 }

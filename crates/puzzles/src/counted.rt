@@ -70,15 +70,20 @@ fn trials_of_light_up_are_counted(rt: HostRuntime) -> Result<(), Fail> {
     Ok(())
 }
 
-/// Whether the store is enough for a puzzle of Pattern.
-fn is_enough(alloc: Global, store: &Store<PatternLines>, id: &[u8]) -> Result<bool, Fail> {
+/// The sizes of a store for a puzzle of Pattern, before and after a search, and what the search found.
+fn sizes_around(alloc: Global, id: &[u8]) -> Result<(Sizes, Verdict, Sizes), Fail> {
     let rules = PatternLines::new(alloc, &read_pattern(alloc, id)?)?;
-    Ok(store.fits(&rules))
+    let mut store = Store::new(alloc, &rules)?;
+    let before = store.sizes();
+    if !store.fits(&rules) {
+        Err("a store that is enough")?;
+    }
+    let verdict = store.solve(&rules, 2);
+    Ok((before, verdict, store.sizes()))
 }
 
 #[test]
 fn stores_have_their_sizes(rt: HostRuntime) -> Result<(), Fail> {
-    let corners = PatternLines::new(rt.alloc(), &read_pattern(rt.alloc(), b"2x2:1/1/1/1")?)?;
     let sizes = Sizes {
         frames: 4,
         trail: 8,
@@ -86,12 +91,24 @@ fn stores_have_their_sizes(rt: HostRuntime) -> Result<(), Fail> {
         queue: 4,
         scope: 2,
     };
-    let mut store = Store::new(rt.alloc(), &corners)?;
-    assert_eq!(rt; store.sizes(), sizes);
-    assert!(rt; store.fits(&corners));
-    assert_eq!(rt; store.solve(&corners, 2), Verdict::Several);
-    assert_eq!(rt; store.sizes(), sizes);
-    assert!(rt; is_enough(rt.alloc(), &store, b"2x2:2/2/2/2")?);
-    assert!(rt; !is_enough(rt.alloc(), &store, b"2x3:////")?);
+    let (before, verdict, after) = sizes_around(rt.alloc(), b"2x2:1/1/1/1")?;
+    assert_eq!(rt; before, sizes);
+    assert_eq!(rt; verdict, Verdict::Several);
+    assert_eq!(rt; after, sizes);
+    Ok(())
+}
+
+/// Whether a store for one puzzle of Pattern is enough for another.
+fn is_enough(alloc: Global, id: &[u8], other: &[u8]) -> Result<bool, Fail> {
+    let rules = PatternLines::new(alloc, &read_pattern(alloc, id)?)?;
+    let store = Store::new(alloc, &rules)?;
+    let others = PatternLines::new(alloc, &read_pattern(alloc, other)?)?;
+    Ok(store.fits(&others))
+}
+
+#[test]
+fn a_store_fits_puzzles_of_its_size(rt: HostRuntime) -> Result<(), Fail> {
+    assert!(rt; is_enough(rt.alloc(), b"2x2:1/1/1/1", b"2x2:2/2/2/2")?);
+    assert!(rt; !is_enough(rt.alloc(), b"2x2:1/1/1/1", b"2x3:////")?);
     Ok(())
 }

@@ -10,6 +10,13 @@ pub struct Endless {
     pub calls: u32,
 }
 
+impl Endless {
+    /// A reader of this byte, before any call.
+    pub fn new(byte: u8) -> Endless {
+        Endless { byte, calls: 0 }
+    }
+}
+
 impl Read for Endless {
     fn read(&mut self, buf: &mut [u8]) -> io::Result<usize> {
         self.calls = self.calls.saturating_add(1);
@@ -30,6 +37,18 @@ pub struct Chunks<'a> {
     pub most: usize,
     pub fails_at: u32,
     pub calls: u32,
+}
+
+impl<'a> Chunks<'a> {
+    /// A reader of these bytes, before any call. It fails at no call where `fails_at` is 0.
+    pub fn new(rest: &'a [u8], most: usize, fails_at: u32) -> Chunks<'a> {
+        Chunks {
+            rest,
+            most,
+            fails_at,
+            calls: 0,
+        }
+    }
 }
 
 impl Read for Chunks<'_> {

@@ -2,11 +2,9 @@
 ghost use Rattle.std.specs.Prelude.{IfOk};
 ghost use Rattle.engine_core.specs.Puzzle.{IsBoardOf};
 
-use crate::fakes::{Endless, Slow, texts};
+use crate::fakes::{Endless, Slow};
 use crate::printed::push_number;
-use crate::read_end::ReadEnd;
-use crate::run::{run, run_on_bytes};
-use crate::write_end::WriteEnd;
+use crate::seen;
 use engine_core::{Rules, Store};
 use fields_core::LightRules;
 use gameid_core::{read_lights, read_pattern, read_solo};
@@ -21,51 +19,62 @@ const LATIN: &str = "2x2:1_2_3_4_3_4_1_2_2_1_4_3_4_3_2_1";
 /// Single values and single places leave cells open here, and whole houses don't.
 const PAIRED: &str = "2x3:5c3c4d1a3g6a6a4c5_2c";
 
-/// What a grade writes, with a trace or without one, and its status.
-fn outcome(
-    alloc: Global,
-    game: &str,
-    id: &str,
-    budget: &str,
-    traced: bool,
-) -> Result<(Vec<u8>, u8), AllocError> {
-    let mut words = texts(alloc, &["grade", game, id, "--budget", budget])?;
-    if traced {
-        words.push(String::from_str(alloc, "--trace")?)?;
-    }
-    Ok(run_on_bytes(alloc, words.as_slice(), b"unread"))
+/// What a grade with a trace writes, and its status.
+fn traced(alloc: Global, game: &str, id: &str, budget: &str) -> Result<(Vec<u8>, u8), AllocError> {
+    let words = ["grade", game, id, "--budget", budget, "--trace"];
+    seen::outcome(alloc, &words, b"unread")
 }
+
+/// Games, IDs and budgets, and what grades tell without a trace.
+const GRADES: [(&str, &str, &str, &str, u8); 16] = [
+    ("pattern", "5x1:1/1//1/1/2.2", "0", "lines\n", 0),
+    ("solo", LATIN, "0", "singles\n", 0),
+    ("solo", PAIRED, "0", "houses\n", 0),
+    ("lightup", "2x2:2c", "0", "local\n", 0),
+    ("tents", "2x2:_c,0,1,1,0", "0", "local\n", 0),
+    ("pattern", "2x2:1/1/1/1", "100000", "several\n", 3),
+    ("pattern", "2x2:1/1/1/1", "1", "gave up\n", 4),
+    ("pattern", "2x1:1/1/1", "0", "none\n", 1),
+    ("tents", "5x3:aiaa,1,0,2,0,0,2,0,1", "100000", "none\n", 1),
+    ("lightup", "3x3:aBBa1aBb", "100000", "search 4\n", 0),
+    ("lightup", "3x3:aBBa1aBb", "4", "search 4\n", 0),
+    ("lightup", "3x3:aBBa1aBb", "3", "gave up\n", 4),
+    ("solo", "2x2:p", "100000", "several\n", 3),
+    ("solo", "2x2:1_1n", "0", "none\n", 1),
+    ("solo", "2x2:q", "0", "refused: too many\n", 2),
+    ("tents", "3x3", "0", "refused: no colon\n", 2),
+];
 
 #[test]
 fn grades_are_told(rt: HostRuntime) -> Result<(), Fail> {
-    for (game, id, budget, text, status) in [
-        ("pattern", "5x1:1/1//1/1/2.2", "0", "lines\n", 0),
-        ("solo", LATIN, "0", "singles\n", 0),
-        ("solo", PAIRED, "0", "houses\n", 0),
-        ("lightup", "2x2:2c", "0", "local\n", 0),
-        ("tents", "2x2:_c,0,1,1,0", "0", "local\n", 0),
-        ("pattern", "2x2:1/1/1/1", "100000", "several\n", 3),
-        ("pattern", "2x2:1/1/1/1", "1", "gave up\n", 4),
-        ("pattern", "2x1:1/1/1", "0", "none\n", 1),
-        ("tents", "5x3:aiaa,1,0,2,0,0,2,0,1", "100000", "none\n", 1),
-        ("lightup", "3x3:aBBa1aBb", "100000", "search 4\n", 0),
-        ("lightup", "3x3:aBBa1aBb", "4", "search 4\n", 0),
-        ("lightup", "3x3:aBBa1aBb", "3", "gave up\n", 4),
-        ("solo", "2x2:p", "100000", "several\n", 3),
-        ("solo", "2x2:1_1n", "0", "none\n", 1),
-        ("solo", "2x2:q", "0", "refused: too many\n", 2),
-        ("tents", "3x3", "0", "refused: no colon\n", 2),
-    ] {
-        let (taken, found) = outcome(rt.alloc(), game, id, budget, false)?;
-        assert_eq!(rt; taken.as_slice(), text.as_bytes(), "{id} with {budget}");
-        assert_eq!(rt; found, status, "{id} with {budget}");
-        let (taken, found) = outcome(rt.alloc(), game, id, budget, true)?;
+    for (game, id, budget, text, status) in GRADES {
+        let words = ["grade", game, id, "--budget", budget];
         assert!(rt;
-            taken.as_slice().starts_with(text.as_bytes()),
+            seen::tells(rt.alloc(), &words, b"unread", text, status)?,
             "{id} with {budget}"
         );
-        assert_eq!(rt; found, status, "{id} with {budget}");
-        assert_eq!(rt; taken.len() > text.len(), status != 2, "{id} with {budget}");
+    }
+    Ok(())
+}
+
+/// Whether a grade with a trace begins with this text, has this status, and is longer just where there is a trace.
+fn is_traced(alloc: Global, words: [&str; 3], text: &str, status: u8) -> Result<bool, AllocError> {
+    let (taken, found) = traced(alloc, words[0], words[1], words[2])?;
+    let is_longer = taken.len() > text.len();
+    Ok(
+        taken.as_slice().starts_with(text.as_bytes())
+            && found == status
+            && is_longer == (status != 2),
+    )
+}
+
+#[test]
+fn grades_with_traces_begin_alike(rt: HostRuntime) -> Result<(), Fail> {
+    for (game, id, budget, text, status) in GRADES {
+        assert!(rt;
+            is_traced(rt.alloc(), [game, id, budget], text, status)?,
+            "{id} with {budget}"
+        );
     }
     Ok(())
 }
@@ -124,7 +133,7 @@ fn visits_told(
 
 /// The visits that a grade of an ID of Solo tells.
 fn solo_visits(alloc: Global, id: &str, n: usize) -> Result<Vec<usize>, Fail> {
-    let (taken, _status) = outcome(alloc, "solo", id, "0", true)?;
+    let (taken, _status) = traced(alloc, "solo", id, "0")?;
     let text = str::from_utf8(taken.as_slice())?;
     visits_told(alloc, text, &["row", "column", "block"], n)
 }
@@ -142,7 +151,7 @@ fn is_closed_by_these_alone<R: Rules>(
 fn traces_of_pattern_close_their_boards(rt: HostRuntime) -> Result<(), Fail> {
     let alloc = rt.alloc();
     let id = "5x1:1/1//1/1/2.2";
-    let (taken, _status) = outcome(alloc, "pattern", id, "0", true)?;
+    let (taken, _status) = traced(alloc, "pattern", id, "0")?;
     let text = str::from_utf8(taken.as_slice())?;
     let visits = visits_told(alloc, text, &["column", "row"], 5)?;
     let lines = PatternLines::new(alloc, &read_pattern(alloc, id.as_bytes())?)?;
@@ -168,23 +177,31 @@ fn traces_by_houses_close_their_boards(rt: HostRuntime) -> Result<(), Fail> {
     Ok(())
 }
 
+/// The number of sweeps that a grade of an ID of Light Up tells.
+fn sweeps_told(alloc: Global, id: &str) -> Result<usize, Fail> {
+    let (taken, _status) = traced(alloc, "lightup", id, "0")?;
+    let text = str::from_utf8(taken.as_slice())?;
+    let line = text.strip_prefix("local\nsweeps ").ok_or("sweeps")?;
+    let number = line.strip_suffix('\n').ok_or("a line end")?;
+    Ok(number.parse::<usize>()?)
+}
+
+/// The houses of so many sweeps, in their order.
+fn swept(alloc: Global, sweeps: usize, houses: usize) -> Result<Vec<usize>, AllocError> {
+    let mut visits = Vec::new(alloc);
+    for _sweep in 0..sweeps {
+        for house in 0..houses {
+            visits.push(house)?;
+        }
+    }
+    Ok(visits)
+}
+
 #[test]
 fn sweeps_close_their_board(rt: HostRuntime) -> Result<(), Fail> {
     let alloc = rt.alloc();
     let rules = LightRules::new(alloc, &read_lights(alloc, b"2x2:2c")?)?;
-    let (taken, _status) = outcome(alloc, "lightup", "2x2:2c", "0", true)?;
-    let text = str::from_utf8(taken.as_slice())?;
-    let line = text.strip_prefix("local\nsweeps ").ok_or("sweeps")?;
-    let sweeps = line
-        .strip_suffix('\n')
-        .ok_or("a line end")?
-        .parse::<usize>()?;
-    let mut visits = Vec::new(alloc);
-    for _sweep in 0..sweeps {
-        for house in 0..rules.houses() {
-            visits.push(house)?;
-        }
-    }
+    let visits = swept(alloc, sweeps_told(alloc, "2x2:2c")?, rules.houses())?;
     assert!(rt; is_closed_by_these_alone(alloc, &rules, visits.as_slice())?);
     Ok(())
 }
@@ -206,25 +223,20 @@ fn half_given(alloc: Global) -> Result<String, AllocError> {
 #[test]
 fn a_long_trace_goes_out_in_pieces(rt: HostRuntime) -> Result<(), Fail> {
     let id = half_given(rt.alloc())?;
-    let words = texts(rt.alloc(), &["grade", "solo", id.as_str(), "--trace"])?;
-    let (whole, status) = run_on_bytes(rt.alloc(), words.as_slice(), b"unread");
+    let words = ["grade", "solo", id.as_str(), "--trace"];
+    let (whole, status) = seen::outcome(rt.alloc(), &words, b"unread")?;
     assert_eq!(rt; status, 0);
     let mut pieces = 0;
     for fails_at in 0..8u32 {
-        let mut source = ReadEnd::new(Endless {
-            byte: b'#',
-            calls: 0,
-        });
-        let mut sink = WriteEnd::new(Slow::new(rt.alloc(), 1_000_000, fails_at, true));
-        let status = run(rt.alloc(), words.as_slice(), &mut source, &mut sink);
-        let slow = sink.into_inner();
-        assert!(rt; whole.as_slice().starts_with(slow.taken.as_slice()));
+        let writer = Slow::new(rt.alloc(), 1_000_000, fails_at, true);
+        let seen = seen::observe(rt.alloc(), &words, Endless::new(b'#'), writer)?;
+        assert!(rt; whole.as_slice().starts_with(seen.writer.taken.as_slice()));
         if fails_at == 0 {
-            pieces = slow.calls;
+            pieces = seen.writer.calls;
         }
         let failed = fails_at > 0 && fails_at <= pieces;
-        assert_eq!(rt; status, if failed { 6 } else { 0 });
-        assert_eq!(rt; slow.taken.len() == whole.len(), !failed);
+        assert_eq!(rt; seen.status, if failed { 6 } else { 0 });
+        assert_eq!(rt; seen.writer.taken.len() == whole.len(), !failed);
     }
     assert!(rt; pieces > 1);
     Ok(())

@@ -33,6 +33,8 @@ pub mod readable;
 pub mod reply;
 pub mod run;
 pub mod seed;
+#[cfg(test)]
+mod seen;
 pub mod solvable;
 pub mod solve;
 pub mod stop;

@@ -1,10 +1,10 @@
 //! Whole runs. What they are to write follows from the rules and the formats by hand.
-use crate::ends::{Sink, Source};
+use crate::ends::Source;
 use crate::fakes::{Chunks, Endless, Slow, texts};
 use crate::read_end::ReadEnd;
-use crate::run::{run, run_on_bytes};
+use crate::run::run_on_bytes;
+use crate::seen;
 use crate::words::{Request, read_words};
-use crate::write_end::WriteEnd;
 use gameid_core::Game;
 use std::alloc::{AllocError, Global};
 use std::test::Fail;
@@ -14,14 +14,16 @@ const SOLVED: [&str; 3] = ["solve", "pattern", "5x1:1/1//1/1/2.2"];
 
 const ANSWER: &[u8] = b"one\n##.##\n";
 
+/// Solo 2x2 with all of a solution given.
+const GIVEN: &str = "2x2:1_2_3_4_3_4_1_2_2_1_4_3_4_3_2_1";
+
 /// The first two solutions of Solo 2x2 without givens, by trials of the lowest numbers first.
 const TWO_SOLOS: &str =
     "several\n1 2 3 4\n3 4 1 2\n2 1 4 3\n4 3 2 1\n\n1 2 3 4\n3 4 1 2\n2 3 4 1\n4 1 2 3\n";
 
-/// What a run writes, and its status.
-fn outcome(alloc: Global, words: &[&str]) -> Result<(Vec<u8>, u8), AllocError> {
-    let words = texts(alloc, words)?;
-    Ok(run_on_bytes(alloc, words.as_slice(), b"unread"))
+/// Whether a run that reads no input writes this text, and has this status.
+fn tells(alloc: Global, words: &[&str], text: &str, status: u8) -> Result<bool, AllocError> {
+    seen::tells(alloc, words, b"unread", text, status)
 }
 
 #[test]
@@ -48,18 +50,18 @@ fn patterns_are_solved(rt: HostRuntime) -> Result<(), Fail> {
         ("65x1:p", "refused: size range\n", 2),
         ("", "refused: no colon\n", 2),
     ] {
-        let (taken, found) = outcome(rt.alloc(), &["solve", "pattern", id])?;
-        assert_eq!(rt; taken.as_slice(), text.as_bytes(), "{id}");
-        assert_eq!(rt; found, status, "{id}");
+        assert!(rt;
+            tells(rt.alloc(), &["solve", "pattern", id], text, status)?,
+            "{id}"
+        );
     }
     Ok(())
 }
 
 #[test]
 fn solos_are_solved(rt: HostRuntime) -> Result<(), Fail> {
-    let given = "2x2:1_2_3_4_3_4_1_2_2_1_4_3_4_3_2_1";
     for (id, text, status) in [
-        (given, "one\n1 2 3 4\n3 4 1 2\n2 1 4 3\n4 3 2 1\n", 0),
+        (GIVEN, "one\n1 2 3 4\n3 4 1 2\n2 1 4 3\n4 3 2 1\n", 0),
         (
             "2x2:1b4i3_2a",
             "one\n1 2 3 4\n3 4 1 2\n2 1 4 3\n4 3 2 1\n",
@@ -84,16 +86,16 @@ fn solos_are_solved(rt: HostRuntime) -> Result<(), Fail> {
         ("1x4:p", "refused: size range\n", 2),
         ("6x6:p", "refused: size range\n", 2),
     ] {
-        let (taken, found) = outcome(rt.alloc(), &["solve", "solo", id])?;
-        assert_eq!(rt; taken.as_slice(), text.as_bytes(), "{id}");
-        assert_eq!(rt; found, status, "{id}");
+        assert!(rt;
+            tells(rt.alloc(), &["solve", "solo", id], text, status)?,
+            "{id}"
+        );
     }
     Ok(())
 }
 
 #[test]
 fn lights_are_solved(rt: HostRuntime) -> Result<(), Fail> {
-    let turned = "one\n.##\nO1.\n#.O\n";
     for (id, budget, text, status) in [
         ("2x2:2c", "0", "one\n2O\nO.\n", 0),
         ("2x2:Bc", "100000", "several\n#.\n.O\n\n#O\nO.\n", 3),
@@ -101,16 +103,18 @@ fn lights_are_solved(rt: HostRuntime) -> Result<(), Fail> {
         ("2x2:1c", "1", "gave up\n", 4),
         ("2x2:BBBB", "0", "one\n##\n##\n", 0),
         ("2x2:1BBB", "0", "none\n", 1),
-        ("3x3:aBBa1aBb", "4", turned, 0),
+        ("3x3:aBBa1aBb", "4", "one\n.##\nO1.\n#.O\n", 0),
         ("3x3:aBBa1aBb", "3", "gave up\n.##\nO1.\n#.O\n", 4),
         ("3x3:aBBa1aBb", "0", "gave up\n", 4),
         ("2x2:5c", "0", "refused: bad byte at 4\n", 2),
         ("2x2:2d", "0", "refused: too many\n", 2),
         ("1x2:b", "0", "refused: size range\n", 2),
     ] {
-        let (taken, found) = outcome(rt.alloc(), &["solve", "lightup", id, "--budget", budget])?;
-        assert_eq!(rt; taken.as_slice(), text.as_bytes(), "{id} with {budget}");
-        assert_eq!(rt; found, status, "{id} with {budget}");
+        let words = ["solve", "lightup", id, "--budget", budget];
+        assert!(rt;
+            tells(rt.alloc(), &words, text, status)?,
+            "{id} with {budget}"
+        );
     }
     Ok(())
 }
@@ -123,50 +127,54 @@ fn tents_are_solved(rt: HostRuntime) -> Result<(), Fail> {
         ("4x6:z,0,0,0,0,0,0,0,0,0,0", "refused: too many\n", 2),
         ("2x2:d,0,0,0,0", "one\n..\n..\n", 0),
     ] {
-        let (taken, found) = outcome(rt.alloc(), &["solve", "tents", id, "--budget", "0"])?;
-        assert_eq!(rt; taken.as_slice(), text.as_bytes(), "{id}");
-        assert_eq!(rt; found, status, "{id}");
+        let words = ["solve", "tents", id, "--budget", "0"];
+        assert!(rt; tells(rt.alloc(), &words, text, status)?, "{id}");
     }
     Ok(())
 }
 
+const CORNERS: &str = "several\n.#\n#.\n\n#.\n.#\n";
+
+const MOST: &str = "18446744073709551615";
+
+const BUDGETS: [(&str, &str, &str, &str, u8); 12] = [
+    ("pattern", "2x2:1/1/1/1", "2", CORNERS, 3),
+    ("pattern", "2x2:1/1/1/1", MOST, CORNERS, 3),
+    ("pattern", "2x2:1/1/1/1", "0002", CORNERS, 3),
+    ("pattern", "2x2:1/1/1/1", "1", "gave up\n.#\n#.\n", 4),
+    ("pattern", "2x2:1/1/1/1", "0", "gave up\n", 4),
+    ("pattern", "5x1:1/1//1/1/2.2", "0", "one\n##.##\n", 0),
+    ("solo", "2x2:1_1n", "0", "none\n", 1),
+    (
+        "solo",
+        "2x2:p",
+        "7",
+        "gave up\n1 2 3 4\n3 4 1 2\n2 1 4 3\n4 3 2 1\n",
+        4,
+    ),
+    ("pattern", "1x1:/", "x", "refused: words\n", 2),
+    ("pattern", "1x1:/", "", "refused: words\n", 2),
+    ("pattern", "1x1:/", "+5", "refused: words\n", 2),
+    (
+        "pattern",
+        "1x1:/",
+        "18446744073709551616",
+        "refused: words\n",
+        2,
+    ),
+];
+
 #[test]
 fn a_budget_is_kept(rt: HostRuntime) -> Result<(), Fail> {
-    let corners = "several\n.#\n#.\n\n#.\n.#\n";
-    let most = "18446744073709551615";
-    for (game, id, budget, text, status) in [
-        ("pattern", "2x2:1/1/1/1", "2", corners, 3),
-        ("pattern", "2x2:1/1/1/1", most, corners, 3),
-        ("pattern", "2x2:1/1/1/1", "0002", corners, 3),
-        ("pattern", "2x2:1/1/1/1", "1", "gave up\n.#\n#.\n", 4),
-        ("pattern", "2x2:1/1/1/1", "0", "gave up\n", 4),
-        ("pattern", "5x1:1/1//1/1/2.2", "0", "one\n##.##\n", 0),
-        ("solo", "2x2:1_1n", "0", "none\n", 1),
-        (
-            "solo",
-            "2x2:p",
-            "7",
-            "gave up\n1 2 3 4\n3 4 1 2\n2 1 4 3\n4 3 2 1\n",
-            4,
-        ),
-        ("pattern", "1x1:/", "x", "refused: words\n", 2),
-        ("pattern", "1x1:/", "", "refused: words\n", 2),
-        ("pattern", "1x1:/", "+5", "refused: words\n", 2),
-        (
-            "pattern",
-            "1x1:/",
-            "18446744073709551616",
-            "refused: words\n",
-            2,
-        ),
-    ] {
-        let (taken, found) = outcome(rt.alloc(), &["solve", game, id, "--budget", budget])?;
-        assert_eq!(rt; taken.as_slice(), text.as_bytes(), "{id} with {budget}");
-        assert_eq!(rt; found, status, "{id} with {budget}");
+    for (game, id, budget, text, status) in BUDGETS {
+        let words = ["solve", game, id, "--budget", budget];
+        assert!(rt;
+            tells(rt.alloc(), &words, text, status)?,
+            "{id} with {budget}"
+        );
     }
-    let (taken, found) = outcome(rt.alloc(), &["solve", "solo", "2x2:p", "--budget=8"])?;
-    assert_eq!(rt; taken.as_slice(), TWO_SOLOS.as_bytes());
-    assert_eq!(rt; found, 3);
+    let words = ["solve", "solo", "2x2:p", "--budget=8"];
+    assert!(rt; tells(rt.alloc(), &words, TWO_SOLOS, 3)?);
     Ok(())
 }
 
@@ -195,9 +203,7 @@ fn other_words_are_refused(rt: HostRuntime) -> Result<(), Fail> {
         &["pattern", "solve", "1x1:/"],
     ];
     for (k, words) in rows.iter().enumerate() {
-        let (taken, found) = outcome(rt.alloc(), words)?;
-        assert_eq!(rt; taken.as_slice(), b"refused: words\n".as_slice(), "row {k}");
-        assert_eq!(rt; found, 2, "row {k}");
+        assert!(rt; tells(rt.alloc(), words, "refused: words\n", 2)?, "row {k}");
     }
     Ok(())
 }
@@ -300,56 +306,39 @@ fn commands_are_read(rt: HostRuntime) -> Result<(), Fail> {
 
 #[test]
 fn a_failing_writer_keeps_a_beginning(rt: HostRuntime) -> Result<(), Fail> {
-    let words = texts(rt.alloc(), &SOLVED)?;
     for fails_at in 0..11u32 {
-        let mut source = ReadEnd::new(Endless {
-            byte: b'#',
-            calls: 0,
-        });
-        let mut sink = WriteEnd::new(Slow::new(rt.alloc(), 1, fails_at, true));
-        let status = run(rt.alloc(), words.as_slice(), &mut source, &mut sink);
-        assert_eq!(rt; sink.failed(), fails_at > 0);
-        assert_eq!(rt; source.calls(), 0);
-        let slow = sink.into_inner();
-        assert_eq!(rt; status, if fails_at == 0 { 0 } else { 6 });
-        assert_eq!(rt; slow.flushes, if fails_at == 0 { 1 } else { 0 });
-        let count = if fails_at == 0 {
-            10
-        } else {
-            fails_at as usize - 1
-        };
+        let writer = Slow::new(rt.alloc(), 1, fails_at, true);
+        let seen = seen::observe(rt.alloc(), &SOLVED, Endless::new(b'#'), writer)?;
+        let is_fine = fails_at == 0;
+        assert_eq!(rt; seen.sink_failed, !is_fine);
+        assert_eq!(rt; seen.status, if is_fine { 0 } else { 6 });
+        assert_eq!(rt; seen.writer.flushes, if is_fine { 1 } else { 0 });
+        let count = if is_fine { 10 } else { fails_at as usize - 1 };
         assert!(rt; count <= ANSWER.len());
-        assert_eq!(rt; slow.taken.as_slice(), &ANSWER[..count]);
-        assert_eq!(rt; source.into_inner().calls, 0);
+        assert_eq!(rt; seen.writer.taken.as_slice(), &ANSWER[..count]);
+        assert_eq!(rt; seen.fetches, 0);
+        assert_eq!(rt; seen.reader.calls, 0);
     }
     Ok(())
 }
 
 #[test]
 fn a_failing_end_is_told(rt: HostRuntime) -> Result<(), Fail> {
-    let words = texts(rt.alloc(), &SOLVED)?;
     // No byte is taken, and then no flush works.
     for (most, calls, written) in [(0, 1, b"".as_slice()), (4_096, 1, ANSWER)] {
-        let mut source = ReadEnd::new(b"unread".as_slice());
-        let mut sink = WriteEnd::new(Slow::new(rt.alloc(), most, 0, false));
-        let status = run(rt.alloc(), words.as_slice(), &mut source, &mut sink);
-        assert_eq!(rt; status, 6);
-        assert!(rt; sink.failed());
-        let slow = sink.into_inner();
-        assert_eq!(rt; slow.calls, calls);
-        assert_eq!(rt; slow.taken.as_slice(), written);
+        let writer = Slow::new(rt.alloc(), most, 0, false);
+        let seen = seen::observe(rt.alloc(), &SOLVED, b"unread".as_slice(), writer)?;
+        assert_eq!(rt; seen.status, 6);
+        assert!(rt; seen.sink_failed);
+        assert_eq!(rt; seen.writer.calls, calls);
+        assert_eq!(rt; seen.writer.taken.as_slice(), written);
     }
     Ok(())
 }
 
 #[test]
 fn a_source_gives_its_bytes(rt: HostRuntime) {
-    let mut source = ReadEnd::new(Chunks {
-        rest: b"abcde",
-        most: 2,
-        fails_at: 0,
-        calls: 0,
-    });
+    let mut source = ReadEnd::new(Chunks::new(b"abcde", 2, 0));
     let mut buffer = [0u8; 4];
     for (k, count) in [2, 2, 1, 0].iter().enumerate() {
         assert!(rt; !source.ended() && !source.failed() && source.calls() < 4);
@@ -358,12 +347,7 @@ fn a_source_gives_its_bytes(rt: HostRuntime) {
     }
     assert!(rt; source.ended());
     assert!(rt; !source.failed());
-    let mut failing = ReadEnd::new(Chunks {
-        rest: b"abcde",
-        most: 2,
-        fails_at: 1,
-        calls: 0,
-    });
+    let mut failing = ReadEnd::new(Chunks::new(b"abcde", 2, 1));
     assert_eq!(rt; failing.fetch(&mut buffer), None);
     assert!(rt; failing.failed());
     assert!(rt; !failing.ended());

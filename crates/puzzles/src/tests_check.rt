@@ -1,9 +1,6 @@
 //! Runs of `check`. What they are to write follows from the rules and the formats by hand.
-use crate::ends::{Sink, Source};
-use crate::fakes::{Chunks, Endless, Slow, texts};
-use crate::read_end::ReadEnd;
-use crate::run::{run, run_on_bytes};
-use crate::write_end::WriteEnd;
+use crate::fakes::{Chunks, Endless, Slow};
+use crate::seen::{Seen, observe, tells};
 use std::alloc::{AllocError, Global};
 use std::test::Fail;
 
@@ -18,11 +15,8 @@ const RIGHT: &str =
 
 const SMALL: &str = "1 2 3 4\n3 4 1 2\n2 1 4 3\n4 3 2 1\n";
 
-/// What `check` writes, and its status.
-fn outcome(alloc: Global, game: &str, id: &str, input: &[u8]) -> Result<(Vec<u8>, u8), AllocError> {
-    let words = texts(alloc, &["check", game, id])?;
-    Ok(run_on_bytes(alloc, words.as_slice(), input))
-}
+/// What is told of a text that is the printed form of no grid.
+const REFUSED: &str = "refused: grid\n";
 
 #[test]
 fn grids_are_checked(rt: HostRuntime) -> Result<(), Fail> {
@@ -63,35 +57,36 @@ fn grids_are_checked(rt: HostRuntime) -> Result<(), Fail> {
             1,
         ),
     ] {
-        let (taken, found) = outcome(rt.alloc(), game, id, input.as_bytes())?;
-        assert_eq!(rt; taken.as_slice(), text.as_bytes(), "{game} {id} {input}");
-        assert_eq!(rt; found, status, "{game} {id} {input}");
+        let words = ["check", game, id];
+        let is_told = tells(rt.alloc(), &words, input.as_bytes(), text, status)?;
+        assert!(rt; is_told, "{game} {id} {input}");
     }
     Ok(())
 }
 
 #[test]
 fn line_ends_are_read(rt: HostRuntime) -> Result<(), Fail> {
-    let refused = "refused: grid\n";
     for (input, text, status) in [
         ("#.", "correct\n", 0),
         ("#.\n", "correct\n", 0),
         ("#.\r\n", "correct\n", 0),
-        ("#.\r", refused, 2),
-        ("#\r.", refused, 2),
-        ("#.\r\r\n", refused, 2),
-        ("#", refused, 2),
-        ("", refused, 2),
-        ("\n#.", refused, 2),
-        ("#.\n\n", refused, 2),
-        ("#.\n#.\n", refused, 2),
-        ("#. ", refused, 2),
-        ("#x", refused, 2),
-        ("#..", refused, 2),
+        ("#.\r", REFUSED, 2),
+        ("#\r.", REFUSED, 2),
+        ("#.\r\r\n", REFUSED, 2),
+        ("#", REFUSED, 2),
+        ("", REFUSED, 2),
+        ("\n#.", REFUSED, 2),
+        ("#.\n\n", REFUSED, 2),
+        ("#.\n#.\n", REFUSED, 2),
+        ("#. ", REFUSED, 2),
+        ("#x", REFUSED, 2),
+        ("#..", REFUSED, 2),
     ] {
-        let (taken, found) = outcome(rt.alloc(), "pattern", "2x1:1//1", input.as_bytes())?;
-        assert_eq!(rt; taken.as_slice(), text.as_bytes(), "{input}");
-        assert_eq!(rt; found, status, "{input}");
+        let words = ["check", "pattern", "2x1:1//1"];
+        assert!(rt;
+            tells(rt.alloc(), &words, input.as_bytes(), text, status)?,
+            "{input}"
+        );
     }
     Ok(())
 }
@@ -113,49 +108,44 @@ fn other_texts_are_no_grids(rt: HostRuntime) -> Result<(), Fail> {
         ("tents", "2x2:_c,0,1,1,0", "^^\n.."),
         ("tents", "2x2:_c,0,1,1,0", "TT\n.."),
     ] {
-        let (taken, found) = outcome(rt.alloc(), game, id, input.as_bytes())?;
-        assert_eq!(rt;
-            taken.as_slice(),
-            b"refused: grid\n".as_slice(),
+        let words = ["check", game, id];
+        assert!(rt;
+            tells(rt.alloc(), &words, input.as_bytes(), REFUSED, 2)?,
             "{id} {input}"
         );
-        assert_eq!(rt; found, 2, "{id} {input}");
     }
     Ok(())
 }
 
 /// A check of this grid, which comes in so many bytes a call and fails at one call.
-fn checked_in_pieces(
+fn checked_in_pieces<'a>(
     alloc: Global,
-    input: &[u8],
+    input: &'a [u8],
     most: usize,
     fails_at: u32,
-) -> Result<(Vec<u8>, u8, u32), AllocError> {
-    let words = texts(alloc, &["check", "solo", SOLO])?;
-    let mut source = ReadEnd::new(Chunks {
-        rest: input,
-        most,
-        fails_at,
-        calls: 0,
-    });
-    let mut sink = WriteEnd::new(Slow::new(alloc, 4_096, 0, true));
-    let status = run(alloc, words.as_slice(), &mut source, &mut sink);
-    Ok((sink.into_inner().taken, status, source.into_inner().calls))
+) -> Result<Seen<Chunks<'a>>, AllocError> {
+    let writer = Slow::new(alloc, 4_096, 0, true);
+    let reader = Chunks::new(input, most, fails_at);
+    observe(alloc, &["check", "solo", SOLO], reader, writer)
 }
 
 #[test]
 fn an_input_is_read_however_it_is_cut(rt: HostRuntime) -> Result<(), Fail> {
     for (most, calls) in [(1, 73), (2, 37), (3, 25), (4_096, 2)] {
-        let (taken, status, read) = checked_in_pieces(rt.alloc(), RIGHT.as_bytes(), most, 0)?;
-        assert_eq!(rt; taken.as_slice(), b"correct\n".as_slice(), "by {most}");
-        assert_eq!(rt; status, 0, "by {most}");
-        assert_eq!(rt; read, calls, "by {most}");
+        let seen = checked_in_pieces(rt.alloc(), RIGHT.as_bytes(), most, 0)?;
+        assert_eq!(rt;
+            seen.writer.taken.as_slice(),
+            b"correct\n".as_slice(),
+            "by {most}"
+        );
+        assert_eq!(rt; seen.status, 0, "by {most}");
+        assert_eq!(rt; seen.reader.calls, calls, "by {most}");
     }
     for fails_at in [1, 7] {
-        let (taken, status, read) = checked_in_pieces(rt.alloc(), RIGHT.as_bytes(), 1, fails_at)?;
-        assert!(rt; taken.is_empty());
-        assert_eq!(rt; status, 6);
-        assert_eq!(rt; read, fails_at);
+        let seen = checked_in_pieces(rt.alloc(), RIGHT.as_bytes(), 1, fails_at)?;
+        assert!(rt; seen.writer.taken.is_empty());
+        assert_eq!(rt; seen.status, 6);
+        assert_eq!(rt; seen.reader.calls, fails_at);
     }
     Ok(())
 }
@@ -164,28 +154,24 @@ fn an_input_is_read_however_it_is_cut(rt: HostRuntime) -> Result<(), Fail> {
 fn long_inputs_are_no_grids(rt: HostRuntime) -> Result<(), Fail> {
     for count in [16_384, 16_385, 100_000] {
         let ends = vec![in rt.alloc(); b'\n'; count]?;
-        let (taken, status, read) = checked_in_pieces(rt.alloc(), ends.as_slice(), 4_096, 0)?;
-        assert_eq!(rt; taken.as_slice(), b"refused: grid\n".as_slice());
-        assert_eq!(rt; status, 2);
-        assert_eq!(rt; read as usize, count.div_ceil(4_096) + 1);
+        let seen = checked_in_pieces(rt.alloc(), ends.as_slice(), 4_096, 0)?;
+        assert_eq!(rt; seen.writer.taken.as_slice(), b"refused: grid\n".as_slice());
+        assert_eq!(rt; seen.status, 2);
+        assert_eq!(rt; seen.reader.calls as usize, count.div_ceil(4_096) + 1);
     }
     Ok(())
 }
 
 #[test]
 fn an_input_without_end_is_a_fault(rt: HostRuntime) -> Result<(), Fail> {
-    let words = texts(rt.alloc(), &["check", "pattern", "2x1:1//1"])?;
-    let mut source = ReadEnd::new(Endless {
-        byte: b'#',
-        calls: 0,
-    });
-    let mut sink = WriteEnd::new(Slow::new(rt.alloc(), 4_096, 0, true));
-    let status = run(rt.alloc(), words.as_slice(), &mut source, &mut sink);
-    assert_eq!(rt; status, 6);
-    assert_eq!(rt; source.calls(), 1_048_576);
-    assert!(rt; !source.ended() && !source.failed() && !sink.failed());
-    assert_eq!(rt; source.into_inner().calls, 1_048_576);
-    assert_eq!(rt; sink.into_inner().calls, 0);
+    let words = ["check", "pattern", "2x1:1//1"];
+    let writer = Slow::new(rt.alloc(), 4_096, 0, true);
+    let seen = observe(rt.alloc(), &words, Endless::new(b'#'), writer)?;
+    assert_eq!(rt; seen.status, 6);
+    assert_eq!(rt; seen.fetches, 1_048_576);
+    assert!(rt; !seen.source_ended && !seen.source_failed && !seen.sink_failed);
+    assert_eq!(rt; seen.reader.calls, 1_048_576);
+    assert_eq!(rt; seen.writer.calls, 0);
     Ok(())
 }
 
@@ -197,16 +183,11 @@ fn a_refused_id_leaves_the_input_unread(rt: HostRuntime) -> Result<(), Fail> {
         ("lightup", "2x2", "refused: no colon\n"),
         ("tents", "2x2#1", "refused: seed id\n"),
     ] {
-        let words = texts(rt.alloc(), &["check", game, id])?;
-        let mut source = ReadEnd::new(Endless {
-            byte: b'#',
-            calls: 0,
-        });
-        let mut sink = WriteEnd::new(Slow::new(rt.alloc(), 4_096, 0, true));
-        let status = run(rt.alloc(), words.as_slice(), &mut source, &mut sink);
-        assert_eq!(rt; sink.into_inner().taken.as_slice(), text.as_bytes(), "{id}");
-        assert_eq!(rt; status, 2, "{id}");
-        assert_eq!(rt; source.into_inner().calls, 0, "{id}");
+        let writer = Slow::new(rt.alloc(), 4_096, 0, true);
+        let seen = observe(rt.alloc(), &["check", game, id], Endless::new(b'#'), writer)?;
+        assert_eq!(rt; seen.writer.taken.as_slice(), text.as_bytes(), "{id}");
+        assert_eq!(rt; seen.status, 2, "{id}");
+        assert_eq!(rt; seen.reader.calls, 0, "{id}");
     }
     Ok(())
 }
