@@ -1,5 +1,5 @@
 //! Puzzles whose printed grids can be read, and how each game reads a cell.
-ghost use Rattle.std.specs.Prelude.{◌≡◌, ◌*◌, ◌<◌, ◌≤◌, ◌==◌, ◌++◌, ◌∷◌, ℕ, List, Some, IfSome, if◌then◌else◌, length, slice_index};
+ghost use Rattle.std.specs.Prelude.{◌≡◌, ◌*◌, ◌<◌, ◌≤◌, ◌==◌, ◌++◌, ◌∷◌, [], ℕ, List, Some, None, IfSome, if◌then◌else◌, length, slice_index};
 ghost use Rattle.puzzles.specs.Answers.{Text};
 ghost use Rattle.puzzles.specs.GridReading.{IsShown, Follows, hides_nothing, light_hides, tent_hides};
 
@@ -30,6 +30,7 @@ pub trait Readable: Printed {
 fn read_mark(text: &[u8], mark: u8) -> Option<(u8, usize)>
     ensures range { IfSome result (λ r. r.0 < 2) }
     ensures within { IfSome result (λ r. r.1 ≤ length text.now) }
+    ensures none { text.now ≡ [] → result ≡ None }
     ensures read { (byte : ℕ) (after : Text) → text.now ≡ byte ∷ after
         → result ≡ Some ((if byte == mark then 1 else 0), 1) }
 {
@@ -41,6 +42,7 @@ fn read_mark(text: &[u8], mark: u8) -> Option<(u8, usize)>
 fn read_hidden(text: &[u8]) -> Option<(u8, usize)>
     ensures zero { IfSome result (λ r. r.0 ≡ 0) }
     ensures within { IfSome result (λ r. r.1 ≤ length text.now) }
+    ensures none { text.now ≡ [] → result ≡ None }
     ensures read { 1 ≤ length text.now → result ≡ Some (0, 1) }
 {
     if text.is_empty() { None } else { Some((0, 1)) }
