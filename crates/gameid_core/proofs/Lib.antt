@@ -1,4 +1,5 @@
 pub mod CellsReading
+pub mod EachBelow
 pub mod FirstFaults
 pub mod HeadLaws
 pub mod Joined
@@ -24,6 +25,10 @@ pub mod PatternSpelling
 pub mod PatternTexts
 pub mod PatternTokens
 pub mod PatternWritten
+pub mod PrintedCells
+pub mod PrintedGrids
+pub mod PrintedNumbers
+pub mod PrintedRows
 pub mod Reading
 pub mod Results
 pub mod RunLaws

@@ -12,3 +12,5 @@ pub mod SoloText
 pub mod LightText
 pub mod TentsText
 pub mod Lines
+pub mod GridTexts
+pub mod GridReading

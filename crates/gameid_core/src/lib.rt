@@ -5,8 +5,11 @@
 #![tactic(auto)]
 
 mod black_runs;
+mod digits;
 mod fault;
 mod game;
+mod grid_reader;
+mod grid_text;
 mod head;
 mod laws;
 mod light_cell;
@@ -19,6 +22,8 @@ mod number;
 mod pattern_puzzle;
 mod pattern_text;
 mod pattern_writing;
+mod printed;
+mod readable;
 mod runs;
 mod solo_puzzle;
 mod solo_text;
@@ -31,6 +36,8 @@ mod writing;
 pub use black_runs::runs_by_first_cells;
 pub use fault::IdFault;
 pub use game::Game;
+pub use grid_reader::read_grid;
+pub use grid_text::push_grid;
 pub use head::{MAX_ID, MAX_NUMBERS, read_size};
 pub use laws::over_long_is_too_long;
 pub use light_cell::LightCell;
@@ -40,6 +47,8 @@ pub use light_writing::{one_written_text_of_lights, write_lights};
 pub use pattern_puzzle::PatternPuzzle;
 pub use pattern_text::{first_fault, one_reading, read_pattern};
 pub use pattern_writing::{one_written_text, write_pattern};
+pub use printed::Printed;
+pub use readable::Readable;
 pub use solo_puzzle::SoloPuzzle;
 pub use solo_text::{first_fault_of_solo, one_reading_of_solo, read_solo};
 pub use solo_writing::{one_written_text_of_solo, write_solo};

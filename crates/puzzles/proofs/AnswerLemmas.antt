@@ -6,7 +6,7 @@ use Rattle.engine_core.specs.Verdict.{Outcome, Outcome.NoGrid, Outcome.OneGrid, 
 use Rattle.gameid_core.specs.declared.fault.IdFault.{IdFault}
 use Rattle.grid_core.specs.Extent.{Extent}
 use Rattle.puzzles.specs.Answers.{Answer, Text}
-use Rattle.puzzles.specs.GridTexts.{grid_text}
+use Rattle.gameid_core.specs.GridTexts.{grid_text}
 use Rattle.puzzles.specs.IdAnswers.{AllowsId, AllowsRead}
 use Rattle.puzzles.specs.Solving.{IsSolved}
 use Rattle.puzzles.specs.Replies.{answer_in}

@@ -2,14 +2,9 @@ pub mod ParsedLemmas
 pub mod NumberLemmas
 pub mod PutLemmas
 pub mod RunLemmas
-pub mod EachBelow
 pub mod Ranks
 pub mod Searched
 pub mod Returns
-pub mod CellReading
-pub mod NumberReading
-pub mod RowReading
-pub mod GridsRead
 pub mod LineLemmas
 pub mod BatchLemmas
 pub mod InputLemmas

@@ -5,7 +5,7 @@ use Rattle.gameid_core.specs.declared.game.Game.TheVariants as game
 use Rattle.gameid_core.specs.Puzzles.{Solo}
 use Rattle.gameid_core.specs.SoloText.{solo_text}
 use Rattle.puzzles.specs.Answers.{Text}
-use Rattle.puzzles.specs.GridTexts.{grid_text, solo_cell, solo_extent}
+use Rattle.gameid_core.specs.GridTexts.{grid_text, solo_cell, solo_extent}
 use Rattle.puzzles.specs.Makings.{made_answer, exhausted_answer, AllowsMadeSolo, IsSoloMade}
 use Rattle.puzzles.specs.Replies.{answer_in}
 use Rattle.puzzles.specs.Seeds.{seed_stream}

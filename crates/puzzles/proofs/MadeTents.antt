@@ -13,7 +13,7 @@ use Rattle.maker_core.specs.declared.made.MakeFault.{MakeFault}
 use Rattle.maker_core.specs.declared.made.MakeFault.TheVariants as fault
 use Rattle.maker_core.specs.TentMaking.{IsTentSize}
 use Rattle.puzzles.specs.Answers.{Text}
-use Rattle.puzzles.specs.GridTexts.{grid_text, tents_cell}
+use Rattle.gameid_core.specs.GridTexts.{grid_text, tents_cell}
 use Rattle.puzzles.specs.Makings.{made_answer, size_to_make, AllowsMadeTents, IsTentsMade}
 use Rattle.puzzles.specs.Refusals.{refused, fault_text}
 use Rattle.puzzles.specs.Replies.{answer_in}

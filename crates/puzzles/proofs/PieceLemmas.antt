@@ -2,7 +2,7 @@
 use Rattle.std.proofs.Common.{◌≡◌, ◌∙◌, ◌++◌, ◌∷◌, ◌+◌, ◌<◌, ◌≤◌, ℕ, length, refl, subst, zero, suc, [], sym, ap, append_assoc, append-nil, arith, add-one, inl, inr}
 use Rattle.std.proofs.lemmas.Bool.{cases_lt}
 use Rattle.puzzles.specs.Answers.{Text, Begins, PutUpTo, PutBegun}
-use Rattle.puzzles.specs.GridTexts.{each_below}
+use Rattle.gameid_core.specs.GridTexts.{each_below}
 use Rattle.puzzles.specs.Traces.{KeptOrPut, PutInPieces, TakesPieces, joined}
 
 -- a text begins itself

@@ -15,9 +15,10 @@ use Rattle.fields_core.specs.TentFaults.{IsTentFault}
 use Rattle.fields_core.specs.declared.tent_fault.TentFault.{TentFault}
 use Rattle.fields_core.specs.declared.tent_fault.TentFault.TheVariants as tent
 use Rattle.puzzles.specs.Answers.{Answer, Text}
-use Rattle.puzzles.specs.Checks.{IsPrinted, without_returns}
-use Rattle.puzzles.specs.GridReading.{IsShown}
-use Rattle.puzzles.specs.GridTexts.{grid_text}
+use Rattle.gameid_core.specs.GridReading.{IsPrinted}
+use Rattle.puzzles.specs.Checks.{without_returns}
+use Rattle.gameid_core.specs.GridReading.{IsShown}
+use Rattle.gameid_core.specs.GridTexts.{grid_text}
 use Rattle.puzzles.specs.Refusals.{refused}
 
 -- nothing is wrong; or this is

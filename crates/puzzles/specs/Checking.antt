@@ -9,8 +9,8 @@ use Rattle.gameid_core.specs.SoloText.{SpellsSolo, solo_of}
 use Rattle.gameid_core.specs.PatternText.{SpellsPattern, pattern_of}
 use Rattle.puzzles.specs.Answers.{Answer, Text}
 use Rattle.puzzles.specs.CheckAnswers.{AllowsGrid, pattern_told, solo_told, light_told, tent_told}
-use Rattle.puzzles.specs.GridReading.{hides_nothing, light_hides, tent_hides}
-use Rattle.puzzles.specs.GridTexts.{pattern_cell, solo_cell, solo_extent, light_cell, tents_cell}
+use Rattle.gameid_core.specs.GridReading.{hides_nothing, light_hides, tent_hides}
+use Rattle.gameid_core.specs.GridTexts.{pattern_cell, solo_cell, solo_extent, light_cell, tents_cell}
 use Rattle.puzzles.specs.IdAnswers.{AllowsId}
 
 -- the answers that `check` allows to an ID of the game and an input

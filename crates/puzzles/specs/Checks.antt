@@ -1,5 +1,5 @@
 -- What `check` takes for a grid.
-use Rattle.std.specs.Prelude.{◌≡◌, ◌⊎◌, ◌++◌, ◌∷◌, ◌==◌, ◌&&◌, [], Bool, false, codes, if◌then◌else◌}
+use Rattle.std.specs.Prelude.{◌∷◌, ◌==◌, ◌&&◌, [], Bool, false, if◌then◌else◌}
 use Rattle.puzzles.specs.Answers.{Text}
 
 -- a line end, byte 10, comes first
@@ -12,7 +12,3 @@ unfoldable pub without_returns : Text → Text
 without_returns [] = []
 without_returns (byte ∷ rest) =
     if (byte == 13) && begins_with_line_end rest then without_returns rest else byte ∷ without_returns rest
-
--- the text is that printed form, with or without its last line end
-abbrev pub IsPrinted : Text → Text → Type 0
-IsPrinted text printed = (text ≡ printed) ⊎ (text ++ codes "\n" ≡ printed)

@@ -11,12 +11,10 @@ pub mod Texts
 pub mod Runs
 pub mod Replies
 pub mod Verdicts
-pub mod GridTexts
 pub mod Stops
 pub mod Traces
 pub mod Grades
 pub mod Checks
-pub mod GridReading
 pub mod Refusals
 pub mod IdAnswers
 pub mod Each

@@ -29,7 +29,7 @@ use Rattle.maker_core.specs.SoloMaking.{solo_passes, SolvesSolo}
 use Rattle.maker_core.specs.Thinning.{AreReasons, IsWithin}
 use Rattle.maker_core.specs.declared.made.Kept.{Kept}
 use Rattle.puzzles.specs.Answers.{Answer, Text}
-use Rattle.puzzles.specs.GridTexts.{grid_text, pattern_cell, solo_cell, solo_extent, light_cell, tents_cell}
+use Rattle.gameid_core.specs.GridTexts.{grid_text, pattern_cell, solo_cell, solo_extent, light_cell, tents_cell}
 use Rattle.puzzles.specs.Refusals.{refused, fault_text}
 use Rattle.puzzles.specs.Seeds.{seed_stream}
 

@@ -18,7 +18,7 @@ use Rattle.maker_core.specs.LightMaking.{SolvesLights}
 use Rattle.maker_core.specs.SoloMaking.{SolvesSolo}
 use Rattle.maker_core.specs.TentMaking.{SolvesTents}
 use Rattle.puzzles.specs.Answers.{Answer, Text}
-use Rattle.puzzles.specs.GridTexts.{grid_text, pattern_cell, solo_cell, solo_extent, light_cell, tents_cell}
+use Rattle.gameid_core.specs.GridTexts.{grid_text, pattern_cell, solo_cell, solo_extent, light_cell, tents_cell}
 use Rattle.puzzles.specs.IdAnswers.{AllowsId}
 use Rattle.puzzles.specs.Verdicts.{IsRight, verdict_answer}
 

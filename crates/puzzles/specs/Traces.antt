@@ -4,7 +4,7 @@ use Rattle.engine_core.specs.ClosingList.{IsClosingList, IsClosingSweeps}
 use Rattle.engine_core.specs.Puzzle.{Puzzle}
 use Rattle.gameid_core.specs.Puzzles.{Pattern, Solo, solo_n}
 use Rattle.puzzles.specs.Answers.{Text, PutUpTo, PutBegun}
-use Rattle.puzzles.specs.GridTexts.{each_below}
+use Rattle.gameid_core.specs.GridTexts.{each_below}
 use Rattle.puzzles.specs.declared.trace.House.{House}
 use Rattle.puzzles.specs.declared.trace.House.TheVariants.{Row, Column, Block}
 

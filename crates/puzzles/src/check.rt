@@ -11,13 +11,12 @@ ghost use Rattle.puzzles.specs.Runs.{Ran, IsBroken};
 use crate::check_reply::grid_refused;
 use crate::checked::Checked;
 use crate::ends::{Sink, Source};
-use crate::grid_reader::read_grid;
 use crate::output::deliver;
 use crate::reply::{Reply, id_refused};
 use crate::text::{read_whole, without_returns};
 use gameid_core::{
     Game, IdFault, one_reading, one_reading_of_lights, one_reading_of_solo, one_reading_of_tents,
-    read_lights, read_pattern, read_solo, read_tents,
+    read_grid, read_lights, read_pattern, read_solo, read_tents,
 };
 use std::alloc::{AllocError, Global};
 

@@ -4,7 +4,7 @@ ghost use Rattle.puzzles.specs.CheckAnswers.{checked, place_text};
 ghost use Rattle.puzzles.specs.Refusals.{refused};
 ghost use Rattle.puzzles.specs.Replies.{answer_in};
 
-use crate::printed::push_number;
+use crate::decimal::push_number;
 use crate::reply::Reply;
 use std::alloc::{AllocError, Global};
 

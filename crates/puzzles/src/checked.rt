@@ -6,11 +6,9 @@ ghost use Rattle.puzzles.specs.CheckAnswers.{pattern_told, solo_told, light_told
 ghost use Rattle.puzzles.specs.Replies.{answer_in};
 
 use crate::check_reply::{correct_reply, wrong_line_reply, wrong_place_reply, wrong_reply};
-use crate::printed::Printed;
-use crate::readable::Readable;
 use crate::reply::Reply;
 use fields_core::{LightFault, TentFault, check_lights, check_tents};
-use gameid_core::{LightPuzzle, PatternPuzzle, SoloPuzzle, TentsPuzzle};
+use gameid_core::{LightPuzzle, PatternPuzzle, Printed, Readable, SoloPuzzle, TentsPuzzle};
 use grid_core::Grid;
 use pattern_core::{PatternFault, check_pattern};
 use solo_core::{SoloFault, check_solo};

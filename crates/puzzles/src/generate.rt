@@ -1,15 +1,16 @@
 //! The answers of `generate`.
 ghost use Rattle.std.specs.Prelude.{◌≡◌, ◌≤◌, ◌<◌, ◌*◌, IfOk, string_bytes};
 ghost use Rattle.grid_core.specs.Grids.{IsGrid};
-ghost use Rattle.puzzles.specs.GridTexts.{grid_text};
+ghost use Rattle.gameid_core.specs.GridTexts.{grid_text};
 ghost use Rattle.puzzles.specs.Makings.{made_answer, exhausted_answer, AllowsMade, AllowsMadePattern, AllowsMadeSolo, AllowsMadeLights, AllowsMadeTents};
 ghost use Rattle.puzzles.specs.Replies.{answer_in};
 
-use crate::grid_text::push_grid;
-use crate::printed::Printed;
 use crate::reply::{Reply, id_refused};
 use crate::seed::generator;
-use gameid_core::{Game, IdFault, read_size, write_lights, write_pattern, write_solo, write_tents};
+use gameid_core::{
+    Game, IdFault, Printed, push_grid, read_size, write_lights, write_pattern, write_solo,
+    write_tents,
+};
 use grid_core::{Grid, Size};
 use maker_core::{Limits, MakeFault, make_lights, make_pattern, make_solo, make_tents};
 use std::alloc::{AllocError, Global};

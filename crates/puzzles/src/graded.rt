@@ -2,8 +2,8 @@
 ghost use Rattle.std.specs.Prelude.{IfOk};
 ghost use Rattle.engine_core.specs.Puzzle.{IsBoardOf};
 
+use crate::decimal::push_number;
 use crate::fakes::{Endless, Slow};
-use crate::printed::push_number;
 use crate::seen;
 use engine_core::{Rules, Store};
 use fields_core::LightRules;

@@ -11,25 +11,21 @@ pub mod checked;
 mod compared;
 #[cfg(test)]
 mod counted;
+pub mod decimal;
 pub mod ends;
 #[cfg(test)]
 mod fakes;
-pub mod front;
 pub mod generate;
 pub mod grade;
 #[cfg(test)]
 mod graded;
-pub mod grid_reader;
-pub mod grid_text;
 pub mod lines;
 #[cfg(test)]
 mod makings;
 pub mod output;
 #[cfg(test)]
 mod plain;
-pub mod printed;
 pub mod read_end;
-pub mod readable;
 pub mod reply;
 pub mod run;
 pub mod seed;

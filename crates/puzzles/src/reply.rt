@@ -2,13 +2,11 @@
 ghost use Rattle.std.specs.Prelude.{◌≡◌, ◌*◌, [], ◌≢◌, ◌++◌, ◌<◌, IfOk, OnOk, codes, decimal, string_bytes};
 ghost use Rattle.gameid_core.specs.declared.fault.IdFault.TheVariants.{Memory};
 ghost use Rattle.grid_core.specs.Grids.{IsGrid};
-ghost use Rattle.puzzles.specs.GridTexts.{grid_text};
+ghost use Rattle.gameid_core.specs.GridTexts.{grid_text};
 ghost use Rattle.puzzles.specs.Refusals.{refused, refused_words, fault_text};
 ghost use Rattle.puzzles.specs.Replies.{answer_in, none_answer, one_answer, several_answer, gave_up_answer};
 
-use crate::grid_text::push_grid;
-use crate::printed::Printed;
-use gameid_core::IdFault;
+use gameid_core::{IdFault, Printed, push_grid};
 use grid_core::Grid;
 use itoa::Buffer;
 use std::alloc::{AllocError, Global};

@@ -11,10 +11,9 @@ ghost use Rattle.pattern_core.specs.LineRules.{line_rules};
 ghost use Rattle.pattern_core.specs.Solutions as pattern;
 ghost use Rattle.solo_core.specs.RuleSets.{houses_rules};
 
-use crate::printed::Printed;
 use engine_core::Rules;
 use fields_core::{LightRules, TentRules};
-use gameid_core::{LightPuzzle, PatternPuzzle, SoloPuzzle, TentsPuzzle};
+use gameid_core::{LightPuzzle, PatternPuzzle, Printed, SoloPuzzle, TentsPuzzle};
 use pattern_core::PatternLines;
 use solo_core::SoloHouses;
 use std::alloc::{AllocError, Global};

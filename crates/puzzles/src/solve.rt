@@ -3,20 +3,19 @@ ghost use Rattle.std.specs.Prelude.{◌≡◌, ◌<◌, ◌*◌, List, ℕ, None
 ghost use Rattle.engine_core.specs.Puzzle.{FitsIn, needs_of};
 ghost use Rattle.engine_core.specs.Verdict.{IsTrueOf, verdict_of};
 ghost use Rattle.puzzles.specs.Each.{HasAnswers};
-ghost use Rattle.puzzles.specs.GridTexts.{grid_text};
+ghost use Rattle.gameid_core.specs.GridTexts.{grid_text};
 ghost use Rattle.puzzles.specs.IdAnswers.{AllowsRead};
 ghost use Rattle.puzzles.specs.Solving.{IsSolved, AllowsSolve};
 ghost use Rattle.puzzles.specs.Replies.{answer_in};
 ghost use Rattle.puzzles.specs.Verdicts.{verdict_answer};
 
-use crate::printed::Printed;
 use crate::reply::{
     Reply, gave_up_reply, gave_up_with_reply, id_refused_in, none_reply, one_reply, several_reply,
 };
 use crate::solvable::Solvable;
 use engine_core::{Rules, Store, Verdict};
 use fields_core::{LightRules, TentRules};
-use gameid_core::{Game, IdFault, read_lights, read_pattern, read_solo, read_tents};
+use gameid_core::{Game, IdFault, Printed, read_lights, read_pattern, read_solo, read_tents};
 use pattern_core::PatternLines;
 use solo_core::SoloHouses;
 use std::alloc::{AllocError, Global};

@@ -6,9 +6,9 @@ ghost use Rattle.puzzles.specs.Stops.{is_broken};
 ghost use Rattle.engine_core.specs.Puzzle.{needs_of, FitsIn};
 ghost use Rattle.puzzles.specs.Traces.{AddsTrace, BeginsTrace, KeptOrPut, PutInPieces, PutsPieces, PutsTrace, TellsSweeps, TellsVisits, house_text, line_of, solo_house, pattern_house, sweeps_text, visits_text};
 
+use crate::decimal::push_number;
 use crate::ends::Sink;
 use crate::output::put_all;
-use crate::printed::push_number;
 use crate::stop::Stop;
 use engine_core::{Rules, Store};
 use gameid_core::{PatternPuzzle, SoloPuzzle};

@@ -14,7 +14,7 @@ use Rattle.maker_core.specs.LightMaking.{SolvesLights}
 use Rattle.maker_core.specs.SoloMaking.{SolvesSolo}
 use Rattle.maker_core.specs.TentMaking.{SolvesTents}
 use Rattle.puzzles.specs.Each.{HasAnswers}
-use Rattle.puzzles.specs.GridTexts.{pattern_cell, solo_cell, solo_extent, light_cell, tents_cell}
+use Rattle.gameid_core.specs.GridTexts.{pattern_cell, solo_cell, solo_extent, light_cell, tents_cell}
 use Rattle.puzzles.specs.Solving.{AllowsSolve}
 use Rattle.puzzles.proofs.AnswerLemmas.{answer_of, right_of}
 use Rattle.puzzles.proofs.solve.each_text_has_an_answer.Goals as goal

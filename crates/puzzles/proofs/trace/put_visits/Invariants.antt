@@ -1,6 +1,6 @@
 use Rattle.std.proofs.Common.{◌≡◌, ◌++◌, ◌+◌, ◌<◌, ◌≤◌, false, string_bytes, string_len, string_capacity, slice_index}
 use Rattle.puzzles.specs.Answers.{PutUpTo}
-use Rattle.puzzles.specs.GridTexts.{each_below}
+use Rattle.gameid_core.specs.GridTexts.{each_below}
 use Rattle.puzzles.specs.Traces.{PutInPieces, line_of}
 use Rattle.puzzles.specs.declared.trace.TheConstants.{PIECE, LINE}
 use Rattle.puzzles.proofs.trace.put_visits.Given as goal

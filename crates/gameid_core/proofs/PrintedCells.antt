@@ -1,0 +1,57 @@
+-- What is printed of a cell is read back: one byte for each cell, or a number.
+use Rattle.std.proofs.Common.{◌≡◌, ◌≢◌, ◌∙◌, ◌+◌, ◌*◌, ◌<◌, ◌≤◌, ◌++◌, ◌∷◌, ◌==◌, ℕ, List, Bool, true, false, [], Option, Some, zero, suc, length, slice_index, sym, ap, refl, arith, if◌then◌else◌, codes, decimal}
+use Rattle.std.specs.Prelude.{IsTrue, ◌↔◌}
+use Rattle.std.proofs.lemmas.Bool.{ne_eqb, true≢false}
+use Rattle.std.proofs.lemmas.Fmt.{decimal_digit}
+use Rattle.gameid_core.specs.Puzzles.{IsLightCell}
+use Rattle.gameid_core.specs.declared.light_cell.LightCell.{LightCell}
+use Rattle.gameid_core.specs.declared.light_cell.LightCell.TheVariants.{White, Black, Numbered}
+use Rattle.grid_core.specs.Extent.{Extent}
+use Rattle.gameid_core.specs.GridReading.{IsShown}
+use Rattle.gameid_core.specs.GridTexts.{light_text}
+
+-- the number of a place is below `values`
+pub number_fits : (hides : ℕ → Type 0) (values : ℕ) (size : Extent) (g : List ℕ) (place : ℕ) → IsShown hides values size g
+    → place < size.w * size.h → slice_index g place < values
+number_fits hides values size g place s lt = s.grid.each_value place 0 (omega (arith, s.grid.each_cell))
+
+-- a cell that is one of two marks
+pub mark_read : (mark other v : ℕ) (text after : List ℕ) (result : Option (ℕ × ℕ)) → v < 2 → (mark == mark) ≡ true → (other == mark) ≡ false
+    → ((byte : ℕ) (rest : List ℕ) → text ≡ byte ∷ rest → result ≡ Some ((if byte == mark then 1 else 0), 1))
+    → text ≡ (if v == 1 then mark ∷ [] else (other ∷ [])) ++ after
+    → result ≡ Some (v, length (if v == 1 then mark ∷ [] else (other ∷ [])))
+mark_read mark other zero text after result small same different read is = read other after is ∙ ap (λ (b : Bool). Some ((if b then 1 else 0), 1)) different
+mark_read mark other (suc zero) text after result small same different read is = read mark after is ∙ ap (λ (b : Bool). Some ((if b then 1 else 0), 1)) same
+mark_read mark other (suc (suc v)) text after result small same different read is = absurd (omega arith)
+
+-- a black cell is one byte
+pub black_read : (cell : LightCell) (o : Option LightCell) (v : ℕ) (text after : List ℕ) (result : Option (ℕ × ℕ)) → o ≡ Some cell → cell ≢ White → IsLightCell cell → v ≡ 0
+    → (1 ≤ length text → result ≡ Some (0, 1)) → text ≡ light_text o v ++ after → result ≡ Some (v, length (light_text o v))
+black_read White o v text after result at black small none read is = absurd (black refl)
+black_read Black o v text after result at black small none read is =
+    let more : text ≡ light_text (Some Black) v ++ after = rw at at is in
+    rw at (read (omega (arith, ap length more)) ∙ ap (λ (n : ℕ). Some (n, 1)) (sym none))
+black_read (Numbered n) o v text after result at black small none read is =
+    let digit = decimal_digit n (omega arith) in
+    let more : text ≡ decimal n ++ after = rw at at is in
+    let one : text ≡ (48 + n) ∷ after = more ∙ ap (λ (t : List ℕ). t ++ after) digit in
+    rw at (read (omega (arith, ap length one)) ∙ ap (λ (m : ℕ). Some (m, 1)) (sym none) ∙ ap (λ (t : List ℕ). Some (v, length t)) (sym digit))
+
+-- a white cell
+pub white_read : (o : Option LightCell) (v : ℕ) (text after : List ℕ) (result : Option (ℕ × ℕ)) → o ≡ Some White → v < 2
+    → ((byte : ℕ) (rest : List ℕ) → text ≡ byte ∷ rest → result ≡ Some ((if byte == 79 then 1 else 0), 1))
+    → text ≡ light_text o v ++ after → result ≡ Some (v, length (light_text o v))
+white_read o v text after result at small read is = rw at (mark_read 79 46 v text after result small refl refl read (rw at at is))
+
+-- a cell without a tree
+pub tent_read : (tree : ℕ) (answer : Bool) (v : ℕ) (text after : List ℕ) (result : Option (ℕ × ℕ))
+    → (IsTrue answer ↔ (tree ≡ 1)) → answer ≡ false → v < 2
+    → ((byte : ℕ) (rest : List ℕ) → text ≡ byte ∷ rest → result ≡ Some ((if byte == 94 then 1 else 0), 1))
+    → text ≡ (if tree == 1 then codes "T" else (if v == 1 then codes "^" else codes ".")) ++ after
+    → result ≡ Some (v, length (if tree == 1 then codes "T" else (if v == 1 then codes "^" else codes ".")))
+tent_read tree answer v text after result means none small read is =
+    let other : (tree == 1) ≡ false = ne_eqb tree 1 (λ here. true≢false (sym (means.1 here) ∙ none)) in
+    rw other (mark_read 94 46 v text after result small refl refl read (rw other at is))
+
+pub same_some : (a b : LightCell) (o : Option LightCell) → o ≡ Some a → o ≡ Some b → a ≡ b
+same_some a b o is also = cc

@@ -1,0 +1,78 @@
+-- A grid is read row by row: it agrees so far with every grid whose printed form the text begins with, so in the end it
+-- is the only one.
+use Rattle.std.proofs.Common.{◌≡◌, ◌∙◌, ◌*◌, ◌<◌, ◌≤◌, ◌++◌, ◌⊎◌, inl, inr, ℕ, List, [], Option, Some, None, length, take, sym, ap, ap₂, subst, arith, codes, append-nil}
+use Rattle.std.proofs.lemmas.Bool.{cases_lt}
+use Rattle.std.proofs.lemmas.List.{ext_get_or, get_or_default, get_or_past, take-append-le}
+use Rattle.std.proofs.Math.Seq.{take-length}
+use Rattle.std.proofs.Math.Nat.{mul_comm}
+use Rattle.grid_core.specs.Extent.{Extent}
+use Rattle.gameid_core.specs.GridReading.{IsShown, IsReadOf, FitUpTo, AgreeUpTo, IsPrinted}
+
+-- numbers that fit are a grid
+pub is_shown : (hides : ℕ → Type 0) (values : ℕ) (size : Extent) (g : List ℕ) (y : ℕ) → size.h ≤ y → y ≤ size.h → length g ≡ size.w * size.h
+    → FitUpTo hides values g (y * size.w) → IsShown hides values size g
+is_shown hides values size g y over under cells fit = record {
+  grid = record { each_cell = cells; each_value = λ k d lt. subst (λ (n : ℕ). n < values) (get_or_default g k 0 d lt) (fit k (within k lt)).0 };
+  hidden = λ place hidden. elim (cases_lt place (length g)) [
+    | inl lt ↦ (fit place (within place lt)).1 hidden
+    | inr past ↦ get_or_past g place 0 past
+  ];
+}
+  where
+    within : (k : ℕ) → k < length g → k < y * size.w
+    within k lt = let same : y ≡ size.h = omega arith in let all : y * size.w ≡ size.w * size.h = ap (λ (n : ℕ). n * size.w) same ∙ mul_comm size.h size.w in omega arith
+
+-- grids that agree are the same
+pub same_grid : (hides : ℕ → Type 0) (values : ℕ) (size : Extent) (g h : List ℕ) (y : ℕ) → size.h ≤ y → y ≤ size.h → length g ≡ size.w * size.h
+    → IsShown hides values size h → AgreeUpTo g h (y * size.w) → g ≡ h
+same_grid hides values size g h y over under cells shown agree =
+    ext_get_or 0 g h (cells ∙ sym shown.grid.each_cell)
+    (λ k lt. agree k (let same : y ≡ size.h = omega arith in let all : y * size.w ≡ size.w * size.h = ap (λ (n : ℕ). n * size.w) same ∙ mul_comm size.h size.w in omega arith))
+
+-- the text, with a line end after it, begins with each printed form that it is
+pub begins_with_form : (text ended printed : List ℕ) → ended ≡ text ++ codes "\n" → IsPrinted text printed → (more : List ℕ) × (ended ≡ printed ++ more)
+begins_with_form text ended printed is form = elim form [
+  | inl whole ↦ (codes "\n", is ∙ ap (λ (t : List ℕ). t ++ codes "\n") whole)
+  | inr but_its_end ↦ ([], is ∙ but_its_end ∙ sym (append-nil printed))
+]
+
+-- the text without the line end that was put after it
+front_is : (text ended : List ℕ) (n : ℕ) → ended ≡ text ++ codes "\n" → n ≡ length text → take n ended ≡ text
+front_is text ended n is all = ap₂ (λ (k : ℕ) (t : List ℕ). take k t) all is ∙ take-append-le (length text) text (codes "\n") (omega arith) ∙ take-length text
+
+pub either_form : (text front ended bytes printed : List ℕ) (n : ℕ) → front ≡ text ++ codes "\n" → ended ≡ text ++ codes "\n" → n ≡ length text → bytes ≡ printed
+    → (take n front ≡ bytes) ⊎ (ended ≡ bytes) → IsPrinted text printed
+either_form text front ended bytes printed n is same all form one = elim one [
+  | inl short ↦ inl (sym (front_is text front n is all) ∙ short ∙ form)
+  | inr long ↦ inr (sym same ∙ long ∙ form)
+]
+
+pub form_either : (text front ended bytes printed : List ℕ) (n : ℕ) → front ≡ text ++ codes "\n" → ended ≡ text ++ codes "\n" → n ≡ length text → bytes ≡ printed
+    → IsPrinted text printed → (take n front ≡ bytes) ⊎ (ended ≡ bytes)
+form_either text front ended bytes printed n is same all form one = elim one [
+  | inl short ↦ inl (front_is text front n is all ∙ short ∙ sym form)
+  | inr long ↦ inr (same ∙ long ∙ sym form)
+]
+
+-- What was read of the text with a line end after it is what the text is the printed form of.
+module _ (hides : ℕ → Type 0) (values : ℕ) (size : Extent) (printed : List ℕ → List ℕ) (text ended : List ℕ) (field : Option (List ℕ)) where
+  pub none_read : ended ≡ text ++ codes "\n" → field ≡ None
+      → ((g : List ℕ) (more : List ℕ) → IsShown hides values size g → ended ≡ printed g ++ more → field ≡ Some g)
+      → IsReadOf hides values size (λ g. IsPrinted text (printed g)) None
+  none_read is none reads g shown form = let more = begins_with_form text ended (printed g) is form in absurd (cc (reads g more.0 shown more.1, none))
+
+  only_read : (found : List ℕ) → ended ≡ text ++ codes "\n" → field ≡ Some found
+      → ((g : List ℕ) (more : List ℕ) → IsShown hides values size g → ended ≡ printed g ++ more → field ≡ Some g)
+      → (g : List ℕ) → IsShown hides values size g → IsPrinted text (printed g) → found ≡ g
+  only_read found is some reads g shown form = let more = begins_with_form text ended (printed g) is form in cc (reads g more.0 shown more.1, some)
+
+  pub one_read : (found : List ℕ) → ended ≡ text ++ codes "\n" → field ≡ Some found → IsShown hides values size found
+      → ((g : List ℕ) (more : List ℕ) → IsShown hides values size g → ended ≡ printed g ++ more → field ≡ Some g)
+      → IsPrinted text (printed found) → IsReadOf hides values size (λ g. IsPrinted text (printed g)) (Some found)
+  one_read found is some shown reads form = (shown, form, only_read found is some reads)
+
+  pub other_read : (found : List ℕ) → ended ≡ text ++ codes "\n" → field ≡ Some found
+      → ((g : List ℕ) (more : List ℕ) → IsShown hides values size g → ended ≡ printed g ++ more → field ≡ Some g)
+      → (IsPrinted text (printed found) → ⊥) → IsReadOf hides values size (λ g. IsPrinted text (printed g)) None
+  other_read found is some reads other g shown form =
+      other (subst (λ (h : List ℕ). IsPrinted text (printed h)) (sym (only_read found is some reads g shown form)) form)

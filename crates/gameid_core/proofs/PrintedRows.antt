@@ -1,0 +1,174 @@
+-- A row is read cell by cell: what is left of it is what is printed of the cells from there on, its line end and what
+-- follows.
+use Rattle.std.proofs.Common.{◌≡◌, ◌∙◌, ◌+◌, ◌*◌, ◌%◌, ◌<◌, ◌≤◌, ◌-◌, ◌++◌, ◌∷◌, ℕ, List, zero, suc, [], Option, Some, None, length, take, drop, slice_index, set, sym, ap, ap₂, subst, refl, arith, codes, ◌⊎◌, inl, inr, append_assoc, append-nil, add-one, ◌≢◌, get_or-set_other, get_or-set_same}
+use Rattle.std.proofs.lemmas.Bool.{cases_lt}
+use Rattle.std.proofs.lemmas.Grind.{common_steps}
+use Rattle.std.proofs.lemmas.Nat.{mod-mul-add}
+use Rattle.std.proofs.Math.Nat.{suc-mul, mul-le-mul_right, mul_comm}
+use Rattle.std.proofs.Math.Seq.{drop-append_seam}
+use Rattle.grid_core.specs.Extent.{Extent}
+use Rattle.gameid_core.specs.GridReading.{Follows, FitUpTo, AgreeUpTo}
+use Rattle.gameid_core.specs.GridTexts.{each_below}
+
+-- the texts of the n numbers from k on
+unfoldable pub each_from : (ℕ → List ℕ) → ℕ → ℕ → List ℕ
+each_from text k zero = []
+each_from text k (suc n) = text k ++ each_from text (suc k) n
+
+both_parts : (f : ℕ → List ℕ) (k n : ℕ) → each_below f (k + n) ≡ each_below f k ++ each_from f k n
+unfolding each_below each_from
+both_parts f k zero = let e : k + zero ≡ k = omega arith in ap (each_below f) e ∙ sym (append-nil (each_below f k))
+both_parts f k (suc n) =
+    let e : k + suc n ≡ suc k + n = omega arith in
+    ap (each_below f) e ∙ both_parts f (suc k) n ∙ append_assoc (each_below f k) (f k) (each_from f (suc k) n)
+
+pub from_zero : (f : ℕ → List ℕ) (n : ℕ) → each_below f n ≡ each_from f 0 n
+unfolding each_below
+from_zero f n = let e : n ≡ 0 + n = omega arith in ap (each_below f) e ∙ both_parts f 0 n
+
+-- what is left of n texts from the k-th on, and a tail
+abbrev pub LeftOf : (ℕ → List ℕ) → ℕ → List ℕ → ℕ → List ℕ → Type 0
+LeftOf f n tail k rest = (m : ℕ) → k + m ≡ n → rest ≡ each_from f k m ++ tail
+
+-- what is left of a row of w cells, from the x-th on
+abbrev pub Left : (ℕ → List ℕ) → ℕ → List ℕ → ℕ → List ℕ → Type 0
+Left f w more x rest = LeftOf f w (codes "\n" ++ more) x rest
+
+pub all_left : (f : ℕ → List ℕ) (w : ℕ) (more text : List ℕ) → text ≡ (each_below f w ++ codes "\n") ++ more → Left f w more 0 text
+all_left f w more text is m e =
+    is ∙ append_assoc (each_below f w) (codes "\n") more ∙ ap (λ (t : List ℕ). t ++ (codes "\n" ++ more)) (from_zero f w ∙ ap (each_from f 0) (sym (let z : m ≡ w = omega arith in z)))
+
+-- what is left after a cell
+pub record AfterCell (f : ℕ → List ℕ) (w : ℕ) (more : List ℕ) (x : ℕ) (rest : List ℕ) : Type 0 where
+  pub after : List ℕ
+  pub split : rest ≡ f x ++ after
+  pub left : Left f w more (x + 1) after
+  pub follows : ((x + 1 ≡ w) × (after ≡ codes "\n" ++ more)) ⊎ ((x + 1 < w) × ((t : List ℕ) × (after ≡ f (x + 1) ++ t)))
+
+end_or_cell : (f : ℕ → List ℕ) (w : ℕ) (more : List ℕ) (x m : ℕ) → x + 1 + m ≡ w
+    → ((x + 1 ≡ w) × (each_from f (suc x) m ++ (codes "\n" ++ more) ≡ codes "\n" ++ more))
+    ⊎ ((x + 1 < w) × ((t : List ℕ) × (each_from f (suc x) m ++ (codes "\n" ++ more) ≡ f (x + 1) ++ t)))
+unfolding each_from
+end_or_cell f w more x zero e = inl (omega arith, refl)
+end_or_cell f w more x (suc m) e = inr (
+  omega arith,
+  (
+    each_from f (suc (suc x)) m ++ (codes "\n" ++ more),
+    ap (λ (t : List ℕ). t ++ (codes "\n" ++ more)) (ap (λ (k : ℕ). f k ++ each_from f (suc (suc x)) m) (sym (add-one x))) ∙ append_assoc (f (x + 1)) (each_from f (suc (suc x)) m) (codes "\n" ++ more),
+  ),
+)
+
+pub after_cell : (f : ℕ → List ℕ) (w : ℕ) (more rest : List ℕ) (x : ℕ) → x < w → Left f w more x rest → AfterCell f w more x rest
+unfolding each_from
+after_cell f w more rest x lt left =
+    let m = w - x - 1 in
+    record {
+      after = each_from f (suc x) m ++ (codes "\n" ++ more);
+      split = left (suc m) (omega arith) ∙ append_assoc (f x) (each_from f (suc x) m) (codes "\n" ++ more);
+      left = λ k e. let here : suc x ≡ x + 1 = omega arith in let rest_of : m ≡ k = omega arith in
+          ap₂ (λ (a b : ℕ). each_from f a b ++ (codes "\n" ++ more)) here rest_of;
+      follows = end_or_cell f w more x m (omega arith);
+    }
+
+pub none_left : (f : ℕ → List ℕ) (w : ℕ) (more rest : List ℕ) (x : ℕ) → x ≡ w → Left f w more x rest → rest ≡ 10 ∷ more
+unfolding each_from
+none_left f w more rest x e left = left 0 (omega arith)
+
+-- what follows a cell, as the reader of cells wants it
+pub cell_follows : (cell : ℕ → List ℕ) (size : Extent) (y w x : ℕ) (more rest : List ℕ) → w ≡ size.w
+    → (a : AfterCell (λ k. cell (y * w + k)) w more x rest) → Follows cell size (y * w + x) a.after
+cell_follows cell size y w x more rest wide a = elim a.follows [
+  | inl end ↦ inl (more, end.1)
+  | inr next ↦
+      let same : y * w + x + 1 ≡ y * w + (x + 1) = omega arith in
+      let rem : (y * w + x + 1) % size.w ≡ x + 1 = ap₂ (λ (n d : ℕ). n % d) same (sym wide) ∙ mod-mul-add y w (x + 1) next.0 in
+      inr (λ zero_rem. absurd (omega arith), (next.1.0, next.1.1 ∙ ap (λ (n : ℕ). cell n ++ next.1.0) (sym same)))
+]
+
+-- what is left of the slice
+pub cut_off : (front after rest : List ℕ) (n m : ℕ) → rest ≡ front ++ after → n ≡ length front → m ≡ length rest → take (m - n) (drop n rest) ≡ after
+cut_off front after rest n m split e all =
+    let dropped : drop n rest ≡ after = ap₂ (λ (k : ℕ) (t : List ℕ). drop k t) e split ∙ drop-append_seam front after in
+    grind (arith, common_steps, dropped)
+
+pub fit_more : (hides : ℕ → Type 0) (values : ℕ) (g new : List ℕ) (n k v : ℕ) → n < length g → new ≡ set g n v → k ≡ n + 1 → FitUpTo hides values g n → v < values
+    → (hides n → v ≡ 0) → FitUpTo hides values new k
+fit_more hides values g new n k v within written next fit small zero_there place lt = rw written (elim (cases_lt place n) [
+  | inl below ↦ let other : place ≢ n = omega arith in rw get_or-set_other (fit place below)
+  | inr here ↦ let same : place ≡ n = omega arith in rw (same, get_or-set_same) (small, zero_there)
+])
+
+pub agree_more : (g new h : List ℕ) (n k v : ℕ) → n < length g → new ≡ set g n v → k ≡ n + 1 → AgreeUpTo g h n → v ≡ slice_index h n → AgreeUpTo new h k
+agree_more g new h n k v within written next agree is place lt = rw written (elim (cases_lt place n) [
+  | inl below ↦ let other : place ≢ n = omega arith in rw get_or-set_other (agree place below)
+  | inr here ↦ let same : place ≡ n = omega arith in rw (same, get_or-set_same) is
+])
+
+-- what the reader of cells gives for the next cell
+pub record KnownCell (f : ℕ → List ℕ) (w : ℕ) (more rest : List ℕ) (x v : ℕ) (result : Option (ℕ × ℕ)) : Type 0 where
+  pub cell : AfterCell f w more x rest
+  pub read : result ≡ Some (v, length (f x))
+
+pub known_cell : (cell : ℕ → List ℕ) (size : Extent) (y w x v : ℕ) (more rest : List ℕ) (result : Option (ℕ × ℕ)) → w ≡ size.w → x < w
+    → Left (λ k. cell (y * w + k)) w more x rest
+    → ((after : List ℕ) → Follows cell size (y * w + x) after → rest ≡ cell (y * w + x) ++ after → result ≡ Some (v, length (cell (y * w + x))))
+    → KnownCell (λ k. cell (y * w + k)) w more rest x v result
+known_cell cell size y w x v more rest result wide lt left reads =
+    let a = after_cell (λ k. cell (y * w + k)) w more rest x lt left in
+    record {
+      cell = a;
+      read = reads a.after (cell_follows cell size y w x more rest wide a) a.split;
+    }
+
+-- the cell was read: what is left after it, and the number
+pub cell_read : (f : ℕ → List ℕ) (w x v value count m : ℕ) (more rest : List ℕ) (result : Option (ℕ × ℕ)) → KnownCell f w more rest x v result
+    → result ≡ Some (value, count) → m ≡ length rest → Left f w more (x + 1) (take (m - count) (drop count rest)) × (value ≡ v)
+cell_read f w x v value count m more rest result known is all =
+    let both : ◌≡◌ {A = Option (ℕ × ℕ)} (Some (value, count)) (Some (v, length (f x))) = sym is ∙ known.read in
+    let pair : ◌≡◌ {A = ℕ × ℕ} (value, count) (v, length (f x)) = cc in
+    let counted : count ≡ length (f x) = ap (λ (p : ℕ × ℕ). p.1) pair in (
+      subst (Left f w more (x + 1)) (sym (cut_off (f x) known.cell.after rest count m known.cell.split counted all)) known.cell.left,
+      ap (λ (p : ℕ × ℕ). p.0) pair,
+    )
+
+-- the cell is always read
+pub cell_not_missed : (f : ℕ → List ℕ) (w x v : ℕ) (more rest : List ℕ) (result : Option (ℕ × ℕ)) → KnownCell f w more rest x v result → result ≡ None → ⊥
+cell_not_missed f w x v more rest result known none = absurd (cc (known.read, none))
+
+pub next_row : (y w : ℕ) → (y + 1) * w ≡ y * w + w
+next_row y w = ap (λ (n : ℕ). n * w) (add-one y) ∙ suc-mul y w
+
+pub in_grid : (size : Extent) (y w x cells : ℕ) → w ≡ size.w → x < w → y < size.h → cells ≡ size.w * size.h → y * w + x < cells
+in_grid size y w x cells wide lt below all =
+    let next : (y + 1) * w ≡ y * w + w = next_row y w in
+    let high : (y + 1) * w ≤ size.h * w = mul-le-mul_right w (let l : y + 1 ≤ size.h = omega arith in l) in
+    let turned : size.w * size.h ≡ size.h * w = mul_comm size.w size.h ∙ ap (λ (n : ℕ). size.h * n) (sym wide) in
+    omega arith
+
+pub line_end : (rest more left : List ℕ) (byte : ℕ) → rest ≡ byte ∷ more → rest ≡ 10 ∷ left → (byte ≡ 10) × (more ≡ left)
+line_end rest more left byte split is = (cc, cc)
+
+pub row_end : (y w x width : ℕ) → w ≤ x → x ≤ w → w ≡ width → (y + 1) * width ≡ y * w + x
+row_end y w x width over under wide = let at_end : w ≡ x = omega arith in next_row y width ∙ ap₂ (λ (a b : ℕ). y * a + b) (sym wide) (sym wide ∙ at_end)
+
+-- ---- the rows of a grid
+
+pub all_rows_left : (f : ℕ → List ℕ) (n : ℕ) (tail text : List ℕ) → text ≡ each_below f n ++ tail → LeftOf f n tail 0 text
+all_rows_left f n tail text is m e = is ∙ ap (λ (t : List ℕ). t ++ tail) (from_zero f n ∙ ap (each_from f 0) (sym (let z : m ≡ n = omega arith in z)))
+
+-- the next row, and what is left after it
+pub record NextRow (f : ℕ → List ℕ) (n : ℕ) (tail : List ℕ) (k : ℕ) (rest : List ℕ) : Type 0 where
+  pub after : List ℕ
+  pub split : rest ≡ f k ++ after
+  pub left : LeftOf f n tail (k + 1) after
+
+pub row_first : (f : ℕ → List ℕ) (n : ℕ) (tail rest : List ℕ) (k : ℕ) → k < n → LeftOf f n tail k rest → NextRow f n tail k rest
+unfolding each_from
+row_first f n tail rest k lt left =
+    let m = n - k - 1 in
+    record {
+      after = each_from f (suc k) m ++ tail;
+      split = left (suc m) (omega arith) ∙ append_assoc (f k) (each_from f (suc k) m) tail;
+      left = λ j e. let here : suc k ≡ k + 1 = omega arith in let rest_of : m ≡ j = omega arith in
+          ap₂ (λ (a b : ℕ). each_from f a b ++ tail) here rest_of;
+    }

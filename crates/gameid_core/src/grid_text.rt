@@ -1,0 +1,38 @@
+//! Printed grids.
+ghost use Rattle.std.specs.Prelude.{◌≡◌, ◌*◌, ◌<◌, ◌++◌, OnOk, string_bytes};
+ghost use Rattle.grid_core.specs.Grids.{IsGrid};
+ghost use Rattle.gameid_core.specs.GridTexts.{row_text, grid_text};
+
+use crate::printed::Printed;
+use grid_core::Grid;
+use std::alloc::AllocError;
+
+fn push_row<P: Printed>(
+    text: &mut String,
+    puzzle: &P,
+    grid: &Grid,
+    y: usize,
+) -> Result<(), AllocError>
+    requires grid { IsGrid ((P.extent puzzle.now).w * (P.extent puzzle.now).h) (P.value_count puzzle.now) grid.now }
+    requires row { y < (P.extent puzzle.now).h }
+    ensures { OnOk result (string_bytes text.new
+        ≡ string_bytes text.old ++ row_text (P.cell_text puzzle.now grid.now) (P.extent puzzle.now) y) }
+{
+    let w = puzzle.columns();
+    for x in 0..w {
+        puzzle.push_cell(text, grid, y * w + x)?;
+    }
+    text.push_str("\n")
+}
+
+/// Adds a grid of the puzzle to a text, each row ended by a line end.
+pub fn push_grid<P: Printed>(text: &mut String, puzzle: &P, grid: &Grid) -> Result<(), AllocError>
+    requires { IsGrid ((P.extent puzzle.now).w * (P.extent puzzle.now).h) (P.value_count puzzle.now) grid.now }
+    ensures { OnOk result (string_bytes text.new
+        ≡ string_bytes text.old ++ grid_text (P.cell_text puzzle.now grid.now) (P.extent puzzle.now)) }
+{
+    for y in 0..puzzle.rows() {
+        push_row(text, puzzle, grid, y)?;
+    }
+    Ok(())
+}

@@ -1,0 +1,16 @@
+//! Numbers in texts.
+ghost use Rattle.std.specs.Prelude.{◌≡◌, ◌+◌, ◌≤◌, ◌++◌, decimal, IsOk, OnOk, string_bytes, string_len, string_capacity};
+
+use itoa::Buffer;
+use std::alloc::AllocError;
+
+/// Adds a number to a text, in decimal, which is at most 20 digits.
+pub fn push_number(text: &mut String, number: usize) -> Result<(), AllocError>
+    ensures number { OnOk result (string_bytes text.new ≡ string_bytes text.old ++ decimal number) }
+    ensures short { OnOk result (string_len text.new ≤ string_len text.old + 20) }
+    ensures room { string_len text.old + 20 ≤ string_capacity text.old → IsOk result }
+    ensures capacity { string_capacity text.old ≤ string_capacity text.new }
+{
+    let mut buffer = Buffer::new();
+    text.push_str(buffer.format(number))
+}
