@@ -41,15 +41,15 @@ fn lines_are_answered_however_they_are_cut(rt: HostRuntime) -> Result<(), Fail> 
 }
 
 /// Whether the lines of the input have these answers, sent at their end, with this status.
-fn answers(
+fn is_answered(
     alloc: Global,
     game: &str,
-    input: &str,
+    input: &[u8],
     most: usize,
     text: &str,
     status: u8,
 ) -> Result<bool, AllocError> {
-    let seen = solved(alloc, game, input.as_bytes(), most)?;
+    let seen = solved(alloc, game, input, most)?;
     let is_told = seen.writer.taken.as_slice() == text.as_bytes();
     Ok(is_told && seen.status == status && seen.writer.flushes == 1)
 }
@@ -92,14 +92,8 @@ fn each_line_has_its_answer(rt: HostRuntime) -> Result<(), Fail> {
         ),
     ] {
         for most in [1, 4_096] {
-            let seen = solved(rt.alloc(), game, input.as_bytes(), most)?;
-            assert_eq!(rt;
-                seen.writer.taken.as_slice(),
-                text.as_bytes(),
-                "{game} by {most}"
-            );
-            assert_eq!(rt; seen.status, status, "{game} by {most}");
-            assert_eq!(rt; seen.writer.flushes, 1);
+            let fine = is_answered(rt.alloc(), game, input.as_bytes(), most, text, status)?;
+            assert!(rt; fine, "{game} {input} by {most}");
         }
     }
     Ok(())
@@ -125,32 +119,31 @@ fn an_over_long_line_is_skipped(rt: HostRuntime) -> Result<(), Fail> {
         (16_384, "", "refused: no colon\n"),
     ] {
         let input = long_line(rt.alloc(), count, rest.as_bytes())?;
-        let seen = solved(rt.alloc(), "pattern", input.as_slice(), 4_096)?;
-        assert_eq!(rt; seen.writer.taken.as_slice(), text.as_bytes(), "{count}");
-        assert_eq!(rt; seen.status, 2, "{count}");
+        let fine = is_answered(rt.alloc(), "pattern", input.as_slice(), 4_096, text, 2)?;
+        assert!(rt; fine, "{count} {rest}");
     }
     Ok(())
+}
+
+/// Whether a run tells that its reader failed, at this call, with this written before.
+fn is_cut_short(alloc: Global, fails_at: u32, written: &[u8]) -> Result<bool, AllocError> {
+    let writer = Slow::new(alloc, 4_096, 0, true);
+    let reader = Chunks::new(LINES, 1, fails_at);
+    let seen = observe(alloc, &["solve", "pattern"], reader, writer)?;
+    let is_told = seen.status == 6 && seen.source_failed && !seen.source_ended && !seen.sink_failed;
+    Ok(is_told && seen.reader.calls == fails_at && seen.writer.taken.as_slice() == written)
 }
 
 #[test]
 fn a_failing_reader_leaves_a_beginning(rt: HostRuntime) -> Result<(), Fail> {
     for fails_at in 1..18u32 {
-        let writer = Slow::new(rt.alloc(), 4_096, 0, true);
-        let reader = Chunks::new(LINES, 1, fails_at);
-        let seen = observe(rt.alloc(), &["solve", "pattern"], reader, writer)?;
-        assert_eq!(rt; seen.status, 6);
-        assert!(rt; seen.source_failed && !seen.source_ended && !seen.sink_failed);
-        assert_eq!(rt; seen.reader.calls, fails_at);
         let written = match fails_at {
             0..7 => 0,
             7 => 6,
             _ => 24,
         };
-        assert_eq!(rt;
-            seen.writer.taken.as_slice(),
-            &ANSWERS[..written],
-            "at {fails_at}"
-        );
+        let fine = is_cut_short(rt.alloc(), fails_at, &ANSWERS[..written])?;
+        assert!(rt; fine, "at {fails_at}");
     }
     Ok(())
 }

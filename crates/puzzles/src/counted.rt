@@ -25,10 +25,14 @@ fn counts<R: Rules>(
     Ok(all)
 }
 
+/// The rules of a puzzle of Pattern.
+fn pattern_rules(alloc: Global, id: &[u8]) -> Result<PatternLines, Fail> {
+    Ok(PatternLines::new(alloc, &read_pattern(alloc, id)?)?)
+}
+
 /// The counts of searches of a puzzle of Pattern.
 fn pattern_counts(alloc: Global, id: &[u8], budgets: &[u64]) -> Result<Vec<(u64, usize)>, Fail> {
-    let rules = PatternLines::new(alloc, &read_pattern(alloc, id)?)?;
-    Ok(counts(alloc, &rules, budgets)?)
+    Ok(counts(alloc, &pattern_rules(alloc, id)?, budgets)?)
 }
 
 /// The counts of searches of a puzzle of Solo.
@@ -72,7 +76,7 @@ fn trials_of_light_up_are_counted(rt: HostRuntime) -> Result<(), Fail> {
 
 /// The sizes of a store for a puzzle of Pattern, before and after a search, and what the search found.
 fn sizes_around(alloc: Global, id: &[u8]) -> Result<(Sizes, Verdict, Sizes), Fail> {
-    let rules = PatternLines::new(alloc, &read_pattern(alloc, id)?)?;
+    let rules = pattern_rules(alloc, id)?;
     let mut store = Store::new(alloc, &rules)?;
     let before = store.sizes();
     if !store.fits(&rules) {
@@ -100,10 +104,8 @@ fn stores_have_their_sizes(rt: HostRuntime) -> Result<(), Fail> {
 
 /// Whether a store for one puzzle of Pattern is enough for another.
 fn is_enough(alloc: Global, id: &[u8], other: &[u8]) -> Result<bool, Fail> {
-    let rules = PatternLines::new(alloc, &read_pattern(alloc, id)?)?;
-    let store = Store::new(alloc, &rules)?;
-    let others = PatternLines::new(alloc, &read_pattern(alloc, other)?)?;
-    Ok(store.fits(&others))
+    let store = Store::new(alloc, &pattern_rules(alloc, id)?)?;
+    Ok(store.fits(&pattern_rules(alloc, other)?))
 }
 
 #[test]

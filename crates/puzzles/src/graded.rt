@@ -177,6 +177,11 @@ fn traces_by_houses_close_their_boards(rt: HostRuntime) -> Result<(), Fail> {
     Ok(())
 }
 
+/// The rules of a puzzle of Light Up.
+fn light_rules(alloc: Global, id: &str) -> Result<LightRules, Fail> {
+    Ok(LightRules::new(alloc, &read_lights(alloc, id.as_bytes())?)?)
+}
+
 /// The number of sweeps that a grade of an ID of Light Up tells.
 fn sweeps_told(alloc: Global, id: &str) -> Result<usize, Fail> {
     let (taken, _status) = traced(alloc, "lightup", id, "0")?;
@@ -200,7 +205,7 @@ fn swept(alloc: Global, sweeps: usize, houses: usize) -> Result<Vec<usize>, Allo
 #[test]
 fn sweeps_close_their_board(rt: HostRuntime) -> Result<(), Fail> {
     let alloc = rt.alloc();
-    let rules = LightRules::new(alloc, &read_lights(alloc, b"2x2:2c")?)?;
+    let rules = light_rules(alloc, "2x2:2c")?;
     let visits = swept(alloc, sweeps_told(alloc, "2x2:2c")?, rules.houses())?;
     assert!(rt; is_closed_by_these_alone(alloc, &rules, visits.as_slice())?);
     Ok(())
@@ -220,24 +225,40 @@ fn half_given(alloc: Global) -> Result<String, AllocError> {
     Ok(id)
 }
 
+/// In how many pieces a run writes its answer.
+fn pieces_of(alloc: Global, words: &[&str]) -> Result<u32, AllocError> {
+    let writer = Slow::new(alloc, 1_000_000, 0, true);
+    let seen = seen::observe(alloc, words, Endless::new(b'#'), writer)?;
+    Ok(seen.writer.calls)
+}
+
+/// Whether a run whose writer fails at one piece writes this text up to there, and a run with fewer pieces all of it.
+fn is_cut_at(
+    alloc: Global,
+    words: &[&str],
+    whole: &[u8],
+    fails_at: u32,
+    pieces: u32,
+) -> Result<bool, AllocError> {
+    let writer = Slow::new(alloc, 1_000_000, fails_at, true);
+    let seen = seen::observe(alloc, words, Endless::new(b'#'), writer)?;
+    let is_whole = seen.writer.taken.len() == whole.len();
+    let is_told = seen.status == if is_whole { 0 } else { 6 };
+    let is_begun = whole.starts_with(seen.writer.taken.as_slice());
+    Ok(is_begun && is_told && is_whole == (fails_at > pieces))
+}
+
 #[test]
 fn a_long_trace_goes_out_in_pieces(rt: HostRuntime) -> Result<(), Fail> {
     let id = half_given(rt.alloc())?;
     let words = ["grade", "solo", id.as_str(), "--trace"];
     let (whole, status) = seen::outcome(rt.alloc(), &words, b"unread")?;
     assert_eq!(rt; status, 0);
-    let mut pieces = 0;
-    for fails_at in 0..8u32 {
-        let writer = Slow::new(rt.alloc(), 1_000_000, fails_at, true);
-        let seen = seen::observe(rt.alloc(), &words, Endless::new(b'#'), writer)?;
-        assert!(rt; whole.as_slice().starts_with(seen.writer.taken.as_slice()));
-        if fails_at == 0 {
-            pieces = seen.writer.calls;
-        }
-        let failed = fails_at > 0 && fails_at <= pieces;
-        assert_eq!(rt; seen.status, if failed { 6 } else { 0 });
-        assert_eq!(rt; seen.writer.taken.len() == whole.len(), !failed);
-    }
+    let pieces = pieces_of(rt.alloc(), &words)?;
     assert!(rt; pieces > 1);
+    for fails_at in 1..8u32 {
+        let fine = is_cut_at(rt.alloc(), &words, whole.as_slice(), fails_at, pieces)?;
+        assert!(rt; fine, "at {fails_at} of {pieces}");
+    }
     Ok(())
 }
