@@ -67,7 +67,12 @@ fn is_either(first: &[u8], second: &[u8], printed: &[u8]) -> bool
     first == printed || second == printed
 }
 
-/// The grid of the puzzle that the text is the printed form of, with or without the last line end, if there is one.
+/// The one grid of the puzzle whose printed form the text is, with or without the last line end; nothing where the text is
+/// no grid's. The grid has a number for each cell, by place, and 0 where nothing is shown of the number.
+///
+/// # Errors
+///
+/// When memory was refused.
 pub fn read_grid<P: Readable>(
     alloc: Global,
     puzzle: &P,

@@ -1,4 +1,4 @@
-//! Printed grids.
+//! Printed grids. Their form is this project's own.
 ghost use Rattle.std.specs.Prelude.{◌≡◌, ◌*◌, ◌<◌, ◌++◌, OnOk, string_bytes};
 ghost use Rattle.grid_core.specs.Grids.{IsGrid};
 ghost use Rattle.gameid_core.specs.GridTexts.{row_text, grid_text};
@@ -7,6 +7,7 @@ use crate::printed::Printed;
 use grid_core::Grid;
 use std::alloc::AllocError;
 
+/// Adds a row of a grid to a text, and its line end.
 fn push_row<P: Printed>(
     text: &mut String,
     puzzle: &P,
@@ -25,7 +26,12 @@ fn push_row<P: Printed>(
     text.push_str("\n")
 }
 
-/// Adds a grid of the puzzle to a text, each row ended by a line end.
+/// Adds a grid of the puzzle to a text: its rows from the top, each cell as the game prints it, and a line end after each
+/// row. The grid has a number for each cell, by place.
+///
+/// # Errors
+///
+/// When memory was refused.
 pub fn push_grid<P: Printed>(text: &mut String, puzzle: &P, grid: &Grid) -> Result<(), AllocError>
     requires { IsGrid ((P.extent puzzle.now).w * (P.extent puzzle.now).h) (P.value_count puzzle.now) grid.now }
     ensures { OnOk result (string_bytes text.new

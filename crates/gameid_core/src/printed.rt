@@ -14,7 +14,8 @@ use crate::writing::push_number;
 use grid_core::Grid;
 use std::alloc::AllocError;
 
-/// A puzzle whose grids can be printed.
+/// A puzzle whose grids can be printed. A grid has a number for each cell, by place: 0 white and 1 black in Pattern, one
+/// less than the number in Solo, 1 for a bulb in Light Up and for a tent in Tents.
 pub trait Printed {
     // The columns and rows of its grids.
     ghost extent: { Self → Extent };
@@ -25,17 +26,21 @@ pub trait Printed {
     // What is printed of the grid at a place.
     ghost cell_text: { Self → List ℕ → ℕ → List ℕ };
 
-    /// How many columns its grids have.
+    /// How many columns its grids have, from 1 to 64.
     fn columns(&self) -> usize
         ensures value { result ≡ (extent self.now).w }
         ensures lawful { IsExtent (extent self.now) };
 
-    /// How many rows its grids have.
+    /// How many rows its grids have, from 1 to 64.
     fn rows(&self) -> usize
         ensures value { result ≡ (extent self.now).h }
         ensures lawful { IsExtent (extent self.now) };
 
     /// Adds to a text what is printed of the grid at a place.
+    ///
+    /// # Errors
+    ///
+    /// When memory was refused.
     fn push_cell(&self, text: &mut String, grid: &Grid, place: usize) -> Result<(), AllocError>
         requires grid { IsGrid ((extent self.now).w * (extent self.now).h) (value_count self.now) grid.now }
         requires place { place < length grid.now }
