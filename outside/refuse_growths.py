@@ -65,37 +65,79 @@ WRITE = """
     if (file >= 0) { ssize_t done = write(file, digits + at, 24 - at); (void)done; close(file); }
 """
 
+SOLO = "1 2 3 4\n3 4 1 2\n2 1 4 3\n4 3 2 1\n"
+TWO_SOLOS = "several\n" + SOLO + "\n1 2 3 4\n3 4 1 2\n2 3 4 1\n4 1 2 3\n"
+TWO_PATTERNS = "several\n.#\n#.\n\n#.\n.#\n"
+GIVEN = "2x2:1_2_3_4_3_4_1_2_2_1_4_3_4_3_2_1"
+CAMP = "5x3:aiaa,1,0,2,0,0,2,0,1"
+
+# The words, the input, and the text and status with ample memory. No text stands for what that run writes, whatever it is.
 RUNS = [
-    ("solve pattern 5x1:1/1//1/1/2.2", "one\n##.##\n", 0),
-    ("solve pattern 2x2:1/1/1/1", "several\n.#\n#.\n\n#.\n.#\n", 3),
-    ("solve pattern 2x1:1/1/1", "none\n", 1),
-    ("solve pattern 3x1:1/1/1/2.1", "refused: line 3 too full\n", 2),
-    ("solve solo 2x2:1_1n --budget 0", "none\n", 1),
-    ("solve solo 2x2:p --budget 7", "gave up\n1 2 3 4\n3 4 1 2\n2 1 4 3\n4 3 2 1\n", 4),
-    ("solve lightup 3x3:aBBa1aBb", "one\n.##\nO1.\n#.O\n", 0),
-    ("solve chess 1x1:/", "refused: words\n", 2),
+    ("solve chess 1x1:/", "", "refused: words\n", 2),
+    ("solve pattern 5x1:1/1//1/1/2.2", "", "one\n##.##\n", 0),
+    ("solve pattern 2x2:1/1/1/1", "", TWO_PATTERNS, 3),
+    ("solve pattern 2x1:1/1/1", "", "none\n", 1),
+    ("solve pattern 3x1:1/1/1/2.1", "", "refused: line 3 too full\n", 2),
+    ("solve solo 2x2:1_1n --budget 0", "", "none\n", 1),
+    ("solve solo 2x2:p", "", TWO_SOLOS, 3),
+    ("solve solo 2x2:__p_", "", TWO_SOLOS, 3),
+    ("solve solo 2:p", "", TWO_SOLOS, 3),
+    ("solve solo 2x2:p --budget 8", "", TWO_SOLOS, 3),
+    ("solve solo 2x2:p --budget 7", "", "gave up\n" + SOLO, 4),
+    ("solve lightup 2x2:2c", "", "one\n2O\nO.\n", 0),
+    ("solve lightup 2x2:Bc", "", "several\n#.\n.O\n\n#O\nO.\n", 3),
+    ("solve lightup 2x2:1c --budget 2", "", "none\n", 1),
+    ("solve lightup 2x2:1c --budget 1", "", "gave up\n", 4),
+    ("solve lightup 3x3:aBBa1aBb", "", "one\n.##\nO1.\n#.O\n", 0),
+    (f"solve tents {CAMP} --budget 0", "", "none\n", 1),
+    ("solve pattern", "1x1:/\n\n2x1:1/1/1", "one\n.\nrefused: no colon\nnone\n", 2),
+    ("solve pattern", "1x1:/\r\n\r\n2x1:1/1/1\r\n", "one\n.\nrefused: no colon\nnone\n", 2),
+    ("solve pattern", "_" * 16_385 + "\n1x1:/\n", "refused: too long\none\n.\n", 2),
+    ("solve pattern", "", "", 0),
+    ("check pattern 2x1:1//1", "#.\n", "correct\n", 0),
+    ("check pattern 2x1:1//1", "#.\n#.\n", "refused: grid\n", 2),
+    ("check lightup 2x2:2c", "2O\nOO\n", "wrong: seen 1,0\n", 1),
+    (f"check solo {GIVEN}", SOLO, "correct\n", 0),
+    (f"check tents {CAMP}", "^T^..\n.....\n.T^T.\n", "wrong: match\n", 1),
+    ("grade pattern 5x1:1/1//1/1/2.2", "", "lines\n", 0),
+    ("grade pattern 5x1:1/1//1/1/2.2 --trace", "", None, 0),
+    ("grade pattern 2x2:1/1/1/1", "", "several\n", 3),
+    ("grade pattern 2x2:1/1/1/1 --budget 1", "", "gave up\n", 4),
+    (f"grade solo {GIVEN}", "", "singles\n", 0),
+    (f"grade solo {GIVEN} --trace", "", None, 0),
+    ("grade lightup 2x2:2c", "", "local\n", 0),
+    ("grade lightup 2x2:2c --trace", "", None, 0),
+    (f"grade tents {CAMP}", "", "none\n", 1),
+    ("generate pattern 2x2 --seed 1 --black 100", "", "2x2:2/2/2/2\n##\n##\n", 0),
+    ("generate pattern 2x2 --seed 1 --black 0", "", "2x2:///\n..\n..\n", 0),
+    ("generate lightup 2x2 --seed 1 --black 100", "", "2x2:BBBB\n##\n##\n", 0),
+    ("generate lightup 2x2 --seed 1 --black 0 --tries 2", "", "exhausted\n", 4),
+    ("generate solo 2x2 --seed 1 --tries 0", "", "exhausted\n", 4),
+    ("generate solo 2x2 --seed 1", "", None, 0),
+    ("generate tents 3x3 --seed 1", "", "refused: size range\n", 2),
 ]
 
 
-def run(words, environment):
-    done = subprocess.run(words, capture_output=True, check=False, env=environment)
+def run(words, given, environment):
+    done = subprocess.run(words, input=given.encode(), capture_output=True, check=False, env=environment)
     return done.stdout.decode(), done.returncode, done.stderr.decode()
 
 
-def refusals(words, command, shim, counted):
-    """The number of each growth with what came where it was refused; 0 for ample memory."""
-    ample = command(words, {"LD_PRELOAD": str(shim), "COUNTED": str(counted)})
-    yield 0, ample
+def refusals(words, given, shim, counted):
+    """The number of each growth with what came where it was refused, and what comes with ample memory; 0 for that run."""
+    ample = run(words, given, {"LD_PRELOAD": str(shim), "COUNTED": str(counted)})
+    yield 0, ample, ample
     for number in range(1, int(counted.read_text()) + 1):
-        yield number, command(words, {"LD_PRELOAD": str(shim), "REFUSED": str(number)})
+        yield number, run(words, given, {"LD_PRELOAD": str(shim), "REFUSED": str(number)}), ample
 
 
-def is_right_run(number, found, text, status):
+def is_right_run(number, found, ample, text, status):
     output, code, errors = found
-    return (output, code) == (text, status) or (number > 0 and code == 5 and text.startswith(output) and not errors)
+    wanted = ample[0] if text is None else text
+    return (output, code) == (wanted, status) or (number > 0 and code == 5 and wanted.startswith(output) and not errors)
 
 
-def is_right_test(number, found):
+def is_right_test(number, found, _ample):
     output, code, errors = found
     wants = any(errors.startswith(f"error: {fault}\nthe test failed: its result") for fault in ("Memory", "AllocError"))
     return (code == 0 and "test result: ok" in output) or (number > 0 and code == 101 and wants)
@@ -104,8 +146,8 @@ def is_right_test(number, found):
 def count(results, is_right, name):
     """How many runs ended as they may, and how many didn't."""
     passed = failed = 0
-    for number, found in results:
-        if is_right(number, found):
+    for number, found, ample in results:
+        if is_right(number, found, ample):
             passed += 1
         else:
             failed += 1
@@ -114,17 +156,18 @@ def count(results, is_right, name):
 
 
 def jobs(words):
-    """A name, a command line and a judge for each run or test."""
+    """A name, a command line, an input and a judge for each run or test."""
     if words[0] != "--tests":
-        for line, text, status in RUNS:
-            yield line, [words[0], *line.split()], lambda n, found, t=text, s=status: is_right_run(n, found, t, s)
+        for line, given, text, status in RUNS:
+            judge = lambda number, found, ample, t=text, s=status: is_right_run(number, found, ample, t, s)
+            yield line, [words[0], *line.split()], given, judge
         return
     for program in words[1:]:
         listed = subprocess.run([program, "--list"], capture_output=True, check=True, text=True).stdout
         for line in listed.splitlines():
             if line.endswith(": test"):
                 name = line.removesuffix(": test")
-                yield f"{program} {name}", [program, name], is_right_test
+                yield f"{program} {name}", [program, name], "", is_right_test
 
 
 def main():
@@ -135,8 +178,8 @@ def main():
     source.write_text(SHIM.replace("FILE_WRITE", WRITE))
     subprocess.run(["cc", "-shared", "-fPIC", "-o", shim, source, "-ldl"], check=True)
     passed = failed = 0
-    for name, words, is_right in jobs(sys.argv[1:]):
-        right, wrong = count(refusals(words, run, shim, counted), is_right, name)
+    for name, words, given, is_right in jobs(sys.argv[1:]):
+        right, wrong = count(refusals(words, given, shim, counted), is_right, name)
         passed, failed = passed + right, failed + wrong
     print(f"{passed} passed, {failed} failed")
     sys.exit(1 if failed else 0)

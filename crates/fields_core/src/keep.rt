@@ -38,12 +38,12 @@ fn stays(set: u32, value: u32, must: usize, may: usize, least: usize, most: usiz
     requires most_fits { most < 2 ^ 32 }
     ensures { result ≡ stays_in_count least most must may set value }
 {
-    let black: usize = if set >> 1 & 1 == 1 { 1 } else { 0 };
-    let not_white: usize = if set >> 0 & 1 == 1 { 0 } else { 1 };
+    let one: usize = if set >> 1 & 1 == 1 { 1 } else { 0 };
+    let not_zero: usize = if set >> 0 & 1 == 1 { 0 } else { 1 };
     set >> value & 1 == 1
         && least <= most
-        && least + black <= value as usize + may
-        && value as usize + must <= most + not_white
+        && least + one <= value as usize + may
+        && value as usize + must <= most + not_zero
 }
 
 /// The values of a cell that stay.
@@ -52,12 +52,12 @@ fn keep_cell(set: u32, must: usize, may: usize, least: usize, most: usize) -> u3
     requires may_fits { may < 2 ^ 32 }
     requires least_fits { least < 2 ^ 32 }
     requires most_fits { most < 2 ^ 32 }
-    ensures white { has_bit result 0 ≡ stays_in_count least most must may set 0 }
-    ensures black { has_bit result 1 ≡ stays_in_count least most must may set 1 }
+    ensures zero { has_bit result 0 ≡ stays_in_count least most must may set 0 }
+    ensures one { has_bit result 1 ≡ stays_in_count least most must may set 1 }
 {
-    let white = stays(set, 0, must, may, least, most);
-    let black = stays(set, 1, must, may, least, most);
-    match (white, black) {
+    let zero = stays(set, 0, must, may, least, most);
+    let one = stays(set, 1, must, may, least, most);
+    match (zero, one) {
         (false, false) => 0,
         (true, false) => 1,
         (false, true) => 2,

@@ -9,7 +9,7 @@ ghost use Rattle.fields_core.specs.TentSolutions.{IsTentSolution};
 ghost use Rattle.gameid_core.specs.Puzzles.{Light, IsLight, Tents, IsTents};
 
 /// The grids that the rules of Tents accept are the solutions of the puzzle.
-pub fn accepted_are_solutions()
+pub fn accepted_tents_are_solutions()
     ensures { (p : Tents) (g : List ℕ) → IsGridOf (tent_rules p) g
         → (IsTrue ((tent_rules p).is_solution g)) ↔ IsTentSolution p g }
 {}

@@ -21,7 +21,7 @@ mod tent_rules;
 mod tent_touch;
 
 pub use laws::{
-    accepted_are_solutions, accepted_lights_are_solutions, rules_of_lights_are_lawful,
+    accepted_lights_are_solutions, accepted_tents_are_solutions, rules_of_lights_are_lawful,
     rules_of_tents_are_lawful,
 };
 pub use light_cells::is_white;

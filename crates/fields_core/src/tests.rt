@@ -148,20 +148,3 @@ fn a_tree_in_a_corner_closes(rt: HostRuntime) -> Result<(), Fail> {
     }
     Ok(())
 }
-
-#[test]
-fn a_copy_of_tents_is_the_same(rt: HostRuntime) -> Result<(), Fail> {
-    let puzzle = read_tents(rt.alloc(), b"3x2:a_c,1,0,1,2,0")?;
-    let copy = puzzle.copy(rt.alloc())?;
-    let size = copy.size();
-    assert_eq!(rt; (size.w(), size.h()), (3, 2));
-    for (place, tree) in [false, true, true, false, false, false].iter().enumerate() {
-        assert!(rt; place < size.cells());
-        assert_eq!(rt; copy.tree(place), *tree, "cell {place}");
-    }
-    for (line, tents) in [1, 0, 1, 2, 0].iter().enumerate() {
-        assert!(rt; line < usize::from(size.w()) + usize::from(size.h()));
-        assert_eq!(rt; copy.count(line), *tents, "line {line}");
-    }
-    Ok(())
-}

@@ -49,7 +49,11 @@ fn runs_of(alloc: Global, cells: &[u8]) -> Result<Vec<u8>, AllocError>
 }
 
 /// The runs of each line of a grid, columns from the left and then rows from the top.
-pub fn runs_of_lines(alloc: Global, size: Size, grid: &Grid) -> Result<Vec<Vec<u8>>, AllocError>
+pub(crate) fn runs_of_lines(
+    alloc: Global,
+    size: Size,
+    grid: &Grid,
+) -> Result<Vec<Vec<u8>>, AllocError>
     requires { length grid.now ≡ size.w * size.h }
     ensures runs { IfOk result (λ v. map (λ clue. clue.items) v.items ≡ lines_runs size grid.now) }
     ensures lawful { IsExtent size }

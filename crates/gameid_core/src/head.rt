@@ -46,7 +46,8 @@ fn sides(text: &[u8]) -> Result<(u32, u32, &[u8]), IdFault>
 /// # Errors
 ///
 /// The first that fails of these tests, which an ID meets in the part before its colon: `BadSize` where the text does not
-/// begin with a size, `Variant` where more follows, `SizeRange` where the size is outside the game's limits.
+/// begin with a size, `Variant` where more follows, `SizeRange` where the size is outside the game's limits: sides from 2
+/// on with a product of at most 31 in Solo, sides from 1 to 64 in Pattern, and from 2 to 64 in Light Up and Tents.
 #[tactic(auto, unfolding(crate::specs::Head::size_of))]
 pub fn read_size(game: Game, text: &[u8]) -> Result<(u8, u8), IdFault>
     ensures exact { result ≡ size_of game text.now }
@@ -87,7 +88,7 @@ fn colon_in(text: &[u8]) -> Option<usize>
 
 /// The first six tests of an ID, in their order: the size, and the place of the description.
 #[tactic(auto, unfolding(crate::specs::Head::head_of, crate::specs::Head::head_at))]
-pub fn read_head(game: Game, text: &[u8]) -> Result<(u8, u8, usize), IdFault>
+pub(crate) fn read_head(game: Game, text: &[u8]) -> Result<(u8, u8, usize), IdFault>
     ensures exact { result ≡ head_of game text.now }
     ensures range { IfOk result (λ head. in_range game head.0 head.1 ≡ true) }
     ensures within { IfOk result (λ head. head.2 ≤ length text.now) }

@@ -1,7 +1,8 @@
-//! Game IDs of four games of Simon Tatham's Portable Puzzle Collection: the puzzles, their readers and their writers.
+//! Game IDs of four games of Simon Tatham's Portable Puzzle Collection: the puzzles, their readers and their writers; and
+//! printed grids.
 //!
 //! An ID is a size, `:` and a description. The general form is that of the collection's manual; the descriptions are
-//! those that the source code of each game writes.
+//! those that the source code of each game writes. The form of printed grids is this project's own.
 #![tactic(auto)]
 
 mod black_runs;
@@ -45,8 +46,8 @@ pub use light_puzzle::LightPuzzle;
 pub use light_text::{first_fault_of_lights, one_reading_of_lights, read_lights};
 pub use light_writing::{one_written_text_of_lights, write_lights};
 pub use pattern_puzzle::PatternPuzzle;
-pub use pattern_text::{first_fault, one_reading, read_pattern};
-pub use pattern_writing::{one_written_text, write_pattern};
+pub use pattern_text::{first_fault_of_pattern, one_reading_of_pattern, read_pattern};
+pub use pattern_writing::{one_written_text_of_pattern, write_pattern};
 pub use printed::Printed;
 pub use readable::Readable;
 pub use solo_puzzle::SoloPuzzle;

@@ -23,7 +23,7 @@ fn ones_of(cells: &[u8]) -> u8
 }
 
 /// How many cells of each line of a grid are 1, columns from the left and then rows from the top.
-pub fn ones_of_lines(alloc: Global, size: Size, grid: &Grid) -> Result<Vec<u8>, AllocError>
+pub(crate) fn ones_of_lines(alloc: Global, size: Size, grid: &Grid) -> Result<Vec<u8>, AllocError>
     requires { length grid.now ≡ size.w * size.h }
     ensures ones { IfOk result (λ v. v.items ≡ lines_ones size grid.now) }
     ensures lawful { IsExtent size }
@@ -37,7 +37,7 @@ pub fn ones_of_lines(alloc: Global, size: Size, grid: &Grid) -> Result<Vec<u8>, 
 }
 
 /// The numbers of a grid by place.
-pub fn numbers_of(alloc: Global, grid: &Grid) -> Result<Vec<u8>, AllocError>
+pub(crate) fn numbers_of(alloc: Global, grid: &Grid) -> Result<Vec<u8>, AllocError>
     ensures { IfOk result (λ v. v.items ≡ grid.now) }
 {
     let mut numbers = Vec::new(alloc);

@@ -9,7 +9,7 @@ use grid_core::{Grid, Size};
 use std::alloc::{AllocError, Global};
 
 /// The cells of a line: columns first, then rows.
-pub fn cells_of(size: Size, line: usize) -> u8
+pub(crate) fn cells_of(size: Size, line: usize) -> u8
     ensures { result ≡ line_cells size line }
 {
     if line < usize::from(size.w()) {
@@ -20,7 +20,7 @@ pub fn cells_of(size: Size, line: usize) -> u8
 }
 
 /// How many lines there are.
-pub fn lines(size: Size) -> usize
+pub(crate) fn lines(size: Size) -> usize
     ensures value { result ≡ lines_of size }
     ensures lawful { IsExtent size }
 {
@@ -43,7 +43,12 @@ fn place_of(size: Size, line: usize, k: usize) -> usize
 }
 
 /// The numbers of a line, downwards in a column and rightwards in a row.
-pub fn line_of(alloc: Global, size: Size, grid: &Grid, line: usize) -> Result<Vec<u8>, AllocError>
+pub(crate) fn line_of(
+    alloc: Global,
+    size: Size,
+    grid: &Grid,
+    line: usize,
+) -> Result<Vec<u8>, AllocError>
     requires cells { length grid.now ≡ size.w * size.h }
     requires line { line < lines_of size }
     ensures list { IfOk result (λ v. v.items ≡ line_list size grid.now line) }

@@ -182,14 +182,14 @@ pub fn read_pattern(alloc: Global, text: &[u8]) -> Result<PatternPuzzle, IdFault
 }
 
 /// Each text spells exactly one puzzle of Pattern or has exactly one fault, and never both.
-pub fn one_reading()
+pub fn one_reading_of_pattern()
     ensures one { (text : List ℕ) (p q : Pattern) → SpellsPattern text p → SpellsPattern text q → p ≡ q }
     ensures apart { (text : List ℕ) (p : Pattern) (f : IdFault) → SpellsPattern text p → pattern_of text ≡ Err f → ⊥ }
     ensures either { (text : List ℕ) → ((p : Pattern) × SpellsPattern text p) ⊎ ((f : IdFault) × (pattern_of text ≡ Err f)) }
 {}
 
-/// A description's fault is that of its first token with one, or of its end, after tokens without fault.
-pub fn first_fault()
+/// The fault of a description of Pattern is that of its first token with one, or of its end, after tokens without fault.
+pub fn first_fault_of_pattern()
     ensures { (size : Extent) (at : ℕ) (description : List ℕ) (f : IdFault) → clues_at size at description ≡ Err f
         → FirstFault (pattern_step size) (pattern_end size) at nothing_yet (words description) f }
 {}

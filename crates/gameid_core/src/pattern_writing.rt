@@ -66,7 +66,7 @@ pub fn write_pattern(alloc: Global, puzzle: &PatternPuzzle) -> Result<String, Al
 
 /// Each puzzle of Pattern has exactly one written text: the one that spells it with both numbers of the size and no
 /// leading zeros.
-pub fn one_written_text()
+pub fn one_written_text_of_pattern()
     ensures some { (p : Pattern) → IsPattern p → IsWrittenPattern (pattern_text p) p }
     ensures one { (text other : List ℕ) (p : Pattern) → IsWrittenPattern text p → IsWrittenPattern other p → text ≡ other }
 {}

@@ -109,6 +109,7 @@ fn faults_of_descriptions(rt: HostRuntime) -> Result<(), Fail> {
         (Game::Solo, "1x4:p", IdFault::SizeRange),
         (Game::Solo, "6x6:p", IdFault::SizeRange),
         (Game::Pattern, "3x1:1/1/1/2.1", IdFault::LineTooFull(3)),
+        (Game::Pattern, "2x1:1/1/1.1/", IdFault::LineTooFull(2)),
         (Game::Pattern, "2x2:1/1/1", IdFault::TooFew),
         (Game::Pattern, "2x2:1/1/1/1/", IdFault::TooMany),
         (Game::Pattern, "2x2:1./1/1/1", IdFault::BadByte(5)),
@@ -141,6 +142,7 @@ fn faults_of_descriptions(rt: HostRuntime) -> Result<(), Fail> {
 #[test]
 fn cut_ids(rt: HostRuntime) -> Result<(), Fail> {
     for (game, text, answers) in [
+        (Game::Pattern, "5x1:1/1//1/1/2.2", "ccccfffffffff..b."),
         (
             Game::Solo,
             "2x2:1_2_3_4_3_4_1_2_2_1_4_3_4_3_2_1",
@@ -339,13 +341,21 @@ fn puzzles_of_grids(rt: HostRuntime) -> Result<(), Fail> {
 #[test]
 fn puzzles_of_parts(rt: HostRuntime) -> Result<(), Fail> {
     let none = [0; 26];
-    for (w, h, trees, tents, want) in [
-        (2, 2, &[1, 0, 0, 0][..], &[0, 1, 0, 0][..], "2x2:_c,0,1,1,0"),
+    for (w, h, trees, tents, first, want) in [
+        (
+            2,
+            2,
+            &[1, 0, 0, 0][..],
+            &[0, 1, 0, 0][..],
+            0,
+            "2x2:_c,0,1,1,0",
+        ),
         (
             13,
             2,
             &none[..],
             &none[..],
+            0,
             "13x2:za,0,0,0,0,0,0,0,0,0,0,0,0,0,0,0",
         ),
         (
@@ -353,6 +363,7 @@ fn puzzles_of_parts(rt: HostRuntime) -> Result<(), Fail> {
             2,
             &[0, 1, 0, 0, 0, 1][..],
             &[1, 0, 1, 0, 0, 0][..],
+            1,
             "3x2:ac_,1,0,1,2,0",
         ),
     ] {
@@ -366,7 +377,7 @@ fn puzzles_of_parts(rt: HostRuntime) -> Result<(), Fail> {
         assert!(rt; tents.fits(size.cells(), 2));
         let puzzle = TentsPuzzle::of_parts(rt.alloc(), size, &trees, &tents)?;
         assert_eq!(rt; write_tents(rt.alloc(), &puzzle)?.as_str(), want);
-        assert_eq!(rt; puzzle.count(0), tents.get(0));
+        assert_eq!(rt; puzzle.count(0), first);
         assert_eq!(rt; puzzle.tree(1), trees.get(1) == 1);
     }
     Ok(())

@@ -1,4 +1,5 @@
-//! The lines, blocks and neighbours of a grid, by length and k-th cell.
+//! The places of the cells of a grid's rows, columns and blocks, and of those beside a cell. Rows, columns, blocks and the
+//! cells of each are counted from 0.
 
 ghost use Rattle.std.specs.Prelude.{◌≡◌, ◌+◌, ◌*◌, ◌<◌, slice_index, IfSome};
 ghost use Rattle.std.specs.List.{slice_get};

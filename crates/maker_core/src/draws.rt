@@ -2,7 +2,6 @@
 
 ghost use Rattle.std.specs.Prelude.{◌≡◌, ◌<◌, IfOk, IsPermutation};
 ghost use Rattle.std.specs.List.{range_with_len};
-ghost use Rattle.std.specs.List.{range_with_len};
 ghost use Rattle.maker_core.specs.Draws.{draw_below, shuffled_list, shuffled_order};
 
 use rand::RngExt;
@@ -11,7 +10,7 @@ use rand_core::Rng;
 use std::alloc::{AllocError, Global};
 
 /// A number below `n`.
-pub fn draw<G: Rng>(rng: &mut G, n: u32) -> u32
+pub(crate) fn draw<G: Rng>(rng: &mut G, n: u32) -> u32
     requires { 0 < n }
     ensures below { result < n }
     ensures drawn { (result, G.stream rng.new) ≡ draw_below n (G.stream rng.old) }
@@ -20,7 +19,7 @@ pub fn draw<G: Rng>(rng: &mut G, n: u32) -> u32
 }
 
 /// Brings the list to a shuffled order.
-pub fn shuffle<G: Rng>(rng: &mut G, items: &mut Vec<usize>)
+pub(crate) fn shuffle<G: Rng>(rng: &mut G, items: &mut Vec<usize>)
     ensures drawn { (items.new.items, G.stream rng.new) ≡ shuffled_list items.old.items (G.stream rng.old) }
     ensures permutation { IsPermutation items.old.items items.new.items }
 {
@@ -28,7 +27,7 @@ pub fn shuffle<G: Rng>(rng: &mut G, items: &mut Vec<usize>)
 }
 
 /// The numbers below `n` in a shuffled order.
-pub fn order<G: Rng>(alloc: Global, rng: &mut G, n: usize) -> Result<Vec<usize>, AllocError>
+pub(crate) fn order<G: Rng>(alloc: Global, rng: &mut G, n: usize) -> Result<Vec<usize>, AllocError>
     ensures drawn { IfOk result
         (λ v. (v.items, G.stream rng.new) ≡ shuffled_order n (G.stream rng.old)) }
     ensures permutation { IfOk result (λ v. IsPermutation (range_with_len 0 n) v.items) }

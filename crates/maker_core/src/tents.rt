@@ -81,7 +81,7 @@ pub fn make_tents<G: Rng>(
     ensures all_drawn { result ≡ Err Exhausted → G.stream rng.new ≡ stream_after (tent_filling size) limits.tries (G.stream rng.old) }
     ensures undrawn { result ≡ Err SizeRange → G.stream rng.new ≡ G.stream rng.old }
 {
-    fields_core::accepted_are_solutions();
+    fields_core::accepted_tents_are_solutions();
     if !is_tent_size(size) {
         return Err(MakeFault::SizeRange);
     }

@@ -23,8 +23,8 @@ use std::marker::Model;
 const VALUES: u8 = 2;
 
 /// The rules of one puzzle, to be searched: each column and each row strikes what no filling with its clue's runs
-/// has. They keep a copy of what they need of the puzzle. A visit takes no memory, and its steps are two for each cell of
-/// the line, of a few word operations each.
+/// has. They keep a copy of what they need of the puzzle. A visit takes no memory. It goes over the cells of the line five
+/// times: to name them, to gather their sets, twice to decide, and to strike.
 #[derive(Drop)]
 pub struct PatternLines {
     size: Size,

@@ -253,6 +253,7 @@ fn answer_lines<I: Source, O: Sink>(
     ensures sent { result < 5 → O.is_flushed output.new ≡ true }
     ensures broken { result ≡ 6 → IsBroken (I.has_failed input.new) (O.has_failed output.new)
         (I.call_count input.new) (I.has_ended input.new) }
+    ensures ended { result < 5 → I.has_ended input.new ≡ true }
 {
     each_text_has_an_answer();
     match take_input(alloc, game, budget, batch, input, output) {
@@ -293,6 +294,7 @@ pub fn solve_lines<I: Source, O: Sink>(
     ensures sent { result < 5 → O.is_flushed output.new ≡ true }
     ensures broken { result ≡ 6 → IsBroken (I.has_failed input.new) (O.has_failed output.new)
         (I.call_count input.new) (I.has_ended input.new) }
+    ensures ended { result < 5 → I.has_ended input.new ≡ true }
 {
     let mut batch = Batch::new(alloc);
     answer_lines(alloc, game, budget, &mut batch, input, output)

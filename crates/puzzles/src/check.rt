@@ -1,5 +1,6 @@
 //! `check`: the grid that the input gives, against a puzzle.
 ghost use Rattle.std.specs.Prelude.{◌≡◌, ◌<◌, ◌≤◌, List, ℕ, true, false, IfOk, IfErr};
+ghost use Rattle.gameid_core.specs.declared.fault.IdFault.TheVariants.{Memory};
 ghost use Rattle.puzzles.specs.Answers.{Text};
 ghost use Rattle.puzzles.specs.CheckAnswers.{AllowsGrid};
 ghost use Rattle.puzzles.specs.Checking.{AllowsCheck, is_read};
@@ -13,10 +14,11 @@ use crate::checked::Checked;
 use crate::ends::{Sink, Source};
 use crate::output::deliver;
 use crate::reply::{Reply, id_refused};
+use crate::run::NO_MEMORY;
 use crate::text::{read_whole, without_returns};
 use gameid_core::{
-    Game, IdFault, one_reading, one_reading_of_lights, one_reading_of_solo, one_reading_of_tents,
-    read_grid, read_lights, read_pattern, read_solo, read_tents,
+    Game, IdFault, one_reading_of_lights, one_reading_of_pattern, one_reading_of_solo,
+    one_reading_of_tents, read_grid, read_lights, read_pattern, read_solo, read_tents,
 };
 use std::alloc::{AllocError, Global};
 
@@ -42,7 +44,7 @@ fn input_reply<P: Checked>(
 }
 
 /// Reads the input to its end, answers to its grid and gives the status of the run.
-pub fn check_input<P: Checked, I: Source, O: Sink>(
+fn check_input<P: Checked, I: Source, O: Sink>(
     alloc: Global,
     puzzle: &P,
     input: &mut I,
@@ -60,6 +62,7 @@ pub fn check_input<P: Checked, I: Source, O: Sink>(
     ensures sent { result < 5 → O.is_flushed output.new ≡ true }
     ensures broken { result ≡ 6 → IsBroken (I.has_failed input.new) (O.has_failed output.new)
         (I.call_count input.new) (I.has_ended input.new) }
+    ensures ended { result < 5 → I.has_ended input.new ≡ true }
 {
     let text = match read_whole(alloc, input) {
         Ok(text) => text,
@@ -67,7 +70,7 @@ pub fn check_input<P: Checked, I: Source, O: Sink>(
     };
     match input_reply(alloc, puzzle, text) {
         Ok(reply) => deliver(output, &reply),
-        Err(_) => 5,
+        Err(_) => NO_MEMORY,
     }
 }
 
@@ -91,15 +94,16 @@ fn check_read<P: Checked + Drop, I: Source, O: Sink>(
     ensures broken { result ≡ 6 → IsBroken (I.has_failed input.new) (O.has_failed output.new)
         (I.call_count input.new) (I.has_ended input.new) }
     ensures unread { IfErr puzzle (λ fault. I.call_count input.new ≡ 0) }
+    ensures ended { IfErr puzzle (λ fault. fault ≡ Memory) → result < 5 → I.has_ended input.new ≡ true }
 {
     let fault = match puzzle {
         Ok(puzzle) => return check_input(alloc, &puzzle, input, output),
-        Err(IdFault::Memory) => return 5,
+        Err(IdFault::Memory) => return NO_MEMORY,
         Err(fault) => fault,
     };
     match id_refused(alloc, fault) {
         Ok(reply) => deliver(output, &reply),
-        Err(_) => 5,
+        Err(_) => NO_MEMORY,
     }
 }
 
@@ -124,10 +128,11 @@ pub fn check_id<I: Source, O: Sink>(
     ensures broken { result ≡ 6 → IsBroken (I.has_failed input.new) (O.has_failed output.new)
         (I.call_count input.new) (I.has_ended input.new) }
     ensures unread { is_read game id.now ≡ false → I.call_count input.new ≡ 0 }
+    ensures ended { is_read game id.now ≡ true → result < 5 → I.has_ended input.new ≡ true }
 {
     match game {
         Game::Pattern => {
-            one_reading();
+            one_reading_of_pattern();
             check_read(alloc, read_pattern(alloc, id), input, output)
         }
         Game::Solo => {

@@ -19,7 +19,12 @@ pub trait Checked: Readable {
     // The answer to a grid.
     ghost told: { Self → List ℕ → Answer → Type 0 };
 
-    /// The answer to a grid: that it is a solution, or the first rule that it breaks.
+    /// The answer to a grid: that it is a solution, or the first rule that it breaks. The grid has a number for each cell, by
+    /// place.
+    ///
+    /// # Errors
+    ///
+    /// When memory was refused.
     fn check_reply(&self, alloc: Global, grid: &Grid) -> Result<Reply, AllocError>
         requires { IsGrid ((Self.extent self.now).w * (Self.extent self.now).h) (Self.value_count self.now) grid.now }
         ensures told { IfOk result (λ r. told self.now grid.now (answer_in r)) }

@@ -42,7 +42,7 @@ fn exhausted_reply(alloc: Global) -> Result<Reply, AllocError>
 }
 
 /// The answer to a size of Pattern of which a puzzle is to be made.
-pub fn generate_pattern(
+fn generate_pattern(
     alloc: Global,
     size: &[u8],
     seed: u64,
@@ -72,12 +72,7 @@ pub fn generate_pattern(
 }
 
 /// The answer to a size of Solo of which a puzzle is to be made.
-pub fn generate_solo(
-    alloc: Global,
-    size: &[u8],
-    seed: u64,
-    limits: Limits,
-) -> Result<Reply, AllocError>
+fn generate_solo(alloc: Global, size: &[u8], seed: u64, limits: Limits) -> Result<Reply, AllocError>
     ensures allowed { IfOk result (λ r. AllowsMadeSolo size.now seed limits.budget limits.tries (answer_in r)) }
     ensures status { IfOk result (λ r. r.status < 5) }
 {
@@ -95,7 +90,7 @@ pub fn generate_solo(
 }
 
 /// The answer to a size of Light Up of which a puzzle is to be made.
-pub fn generate_lights(
+fn generate_lights(
     alloc: Global,
     size: &[u8],
     seed: u64,
@@ -125,7 +120,7 @@ pub fn generate_lights(
 }
 
 /// The answer to a size of Tents of which a puzzle is to be made.
-pub fn generate_tents(
+fn generate_tents(
     alloc: Global,
     size: &[u8],
     seed: u64,

@@ -249,7 +249,11 @@ pub trait Graded: Solvable {
     // What the lines of a trace tell.
     ghost trace_of: { Self → Text → Type 0 };
 
-    /// Tells the grade, and where one is asked for a trace.
+    /// Tells the grade, and where one is asked for a trace, and gives the status of the run.
+    ///
+    /// # Errors
+    ///
+    /// When memory was refused, or the sink failed. A beginning of the text was put then, or nothing.
     fn tell<O: Sink>(
         &self,
         alloc: Global,

@@ -14,6 +14,10 @@ pub const BROKEN: u8 = 6;
 pub struct Broken;
 
 /// Puts all of the bytes, in as many calls as the sink needs.
+///
+/// # Errors
+///
+/// Where the sink failed. It took a beginning of the bytes then.
 pub fn put_all<O: Sink>(output: &mut O, bytes: &[u8]) -> Result<(), Broken>
     requires { O.has_failed output.old ≡ false }
     ensures ok { OnOk result ((O.takes output.old bytes.now output.new)

@@ -6,9 +6,9 @@ ghost use Rattle.gameid_core.specs.GridTexts.{grid_text};
 ghost use Rattle.puzzles.specs.Refusals.{refused, refused_words, fault_text};
 ghost use Rattle.puzzles.specs.Replies.{answer_in, none_answer, one_answer, several_answer, gave_up_answer};
 
+use crate::decimal::push_number;
 use gameid_core::{IdFault, Printed, push_grid};
 use grid_core::Grid;
-use itoa::Buffer;
 use std::alloc::{AllocError, Global};
 
 /// What a command has to say: its whole text, with line ends, and the status of the run.
@@ -19,6 +19,10 @@ pub struct Reply {
 }
 
 /// The answer to words that ask for nothing.
+///
+/// # Errors
+///
+/// When memory was refused.
 pub fn words_refused(alloc: Global) -> Result<Reply, AllocError>
     ensures { IfOk result (λ r. answer_in r ≡ refused_words) }
 {
@@ -40,9 +44,8 @@ fn push_numbered(text: &mut String, words: &str, number: usize) -> Result<(), Al
     ensures { OnOk result (string_bytes text.new
         ≡ string_bytes text.old ++ (words.now ++ decimal number)) }
 {
-    let mut buffer = Buffer::new();
     text.push_str(words)?;
-    text.push_str(buffer.format(number))
+    push_number(text, number)
 }
 
 /// Adds a fault to a text.
@@ -69,6 +72,10 @@ fn push_fault(text: &mut String, fault: IdFault) -> Result<(), AllocError>
 }
 
 /// The answer to an ID with that first fault.
+///
+/// # Errors
+///
+/// When memory was refused.
 pub fn id_refused(alloc: Global, fault: IdFault) -> Result<Reply, AllocError>
     ensures { IfOk result (λ r. answer_in r ≡ refused (fault_text fault)) }
 {
@@ -76,6 +83,10 @@ pub fn id_refused(alloc: Global, fault: IdFault) -> Result<Reply, AllocError>
 }
 
 /// The answer to an ID with that first fault, in the memory of a text.
+///
+/// # Errors
+///
+/// When memory was refused.
 pub fn id_refused_in(text: String, fault: IdFault) -> Result<Reply, AllocError>
     ensures { IfOk result (λ r. answer_in r ≡ refused (fault_text fault)) }
 {
@@ -86,6 +97,10 @@ pub fn id_refused_in(text: String, fault: IdFault) -> Result<Reply, AllocError>
 }
 
 /// The answer where no grid is a solution, in the memory of a text.
+///
+/// # Errors
+///
+/// When memory was refused.
 pub fn none_reply(text: String) -> Result<Reply, AllocError>
     ensures { IfOk result (λ r. answer_in r ≡ none_answer) }
 {
@@ -94,6 +109,10 @@ pub fn none_reply(text: String) -> Result<Reply, AllocError>
 }
 
 /// The answer where this grid is the one solution, in the memory of a text.
+///
+/// # Errors
+///
+/// When memory was refused.
 pub fn one_reply<P: Printed>(text: String, puzzle: &P, grid: &Grid) -> Result<Reply, AllocError>
     requires { IsGrid ((P.extent puzzle.now).w * (P.extent puzzle.now).h) (P.value_count puzzle.now) grid.now }
     ensures { IfOk result (λ r. answer_in r
@@ -105,6 +124,10 @@ pub fn one_reply<P: Printed>(text: String, puzzle: &P, grid: &Grid) -> Result<Re
 }
 
 /// The answer where these two grids are solutions, in the memory of a text.
+///
+/// # Errors
+///
+/// When memory was refused.
 pub fn several_reply<P: Printed>(
     text: String,
     puzzle: &P,
@@ -125,6 +148,10 @@ pub fn several_reply<P: Printed>(
 }
 
 /// The answer of a search that gave up and had found nothing, in the memory of a text.
+///
+/// # Errors
+///
+/// When memory was refused.
 pub fn gave_up_reply(text: String) -> Result<Reply, AllocError>
     ensures { IfOk result (λ r. answer_in r ≡ gave_up_answer []) }
 {
@@ -133,6 +160,10 @@ pub fn gave_up_reply(text: String) -> Result<Reply, AllocError>
 }
 
 /// The answer of a search that gave up and had found this grid, in the memory of a text.
+///
+/// # Errors
+///
+/// When memory was refused.
 pub fn gave_up_with_reply<P: Printed>(
     text: String,
     puzzle: &P,

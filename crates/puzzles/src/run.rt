@@ -70,6 +70,7 @@ fn reply_to(alloc: Global, request: Option<Request<'_>>) -> Result<Reply, AllocE
 /// Does what the words after the program's name ask for, and gives the status:
 /// 0 to 4 where the whole answer was written, 5 where memory was wanted, and 6 where an end failed, and always where one
 /// did. After 5 and 6 what was written is the beginning of an answer, or nothing.
+/// An input that is read at all is read to its end, unless memory was wanted or an end failed.
 pub fn run<I: Source, O: Sink>(alloc: Global, words: &[String], input: &mut I, output: &mut O) -> u8
     requires no_calls { I.call_count input.old ≡ 0 }
     requires input_fine { I.has_failed input.old ≡ false }
@@ -85,6 +86,8 @@ pub fn run<I: Source, O: Sink>(alloc: Global, words: &[String], input: &mut I, o
         (I.call_count input.new) (I.has_ended input.new) }
     ensures unread { reads_input (asked_of (map string_bytes words.now)) ≡ false
         → I.call_count input.new ≡ 0 }
+    ensures ended { reads_input (asked_of (map string_bytes words.now)) ≡ true
+        → result < NO_MEMORY → I.has_ended input.new ≡ true }
 {
     let request = match read_words(alloc, words) {
         Ok(request) => request,

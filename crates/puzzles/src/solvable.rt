@@ -88,7 +88,7 @@ impl Solvable for TentsPuzzle {
     ghost solves = { SolvesTents };
 
     fn rules(&self, alloc: Global) -> Result<TentRules, AllocError> {
-        fields_core::accepted_are_solutions();
+        fields_core::accepted_tents_are_solutions();
         TentRules::new(alloc, self)
     }
 }

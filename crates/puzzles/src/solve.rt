@@ -156,7 +156,7 @@ pub fn each_text_has_an_answer()
     ensures { (game : Game) (budget : ℕ) → HasAnswers (AllowsSolve game budget) }
 {
     gameid_core::one_reading_of_solo();
-    gameid_core::one_reading();
+    gameid_core::one_reading_of_pattern();
     gameid_core::one_reading_of_lights();
     gameid_core::one_reading_of_tents();
     engine_core::verdict_is_true();
@@ -166,6 +166,6 @@ pub fn each_text_has_an_answer()
     pattern_core::accepted_are_solutions();
     fields_core::rules_of_lights_are_lawful();
     fields_core::rules_of_tents_are_lawful();
-    fields_core::accepted_are_solutions();
+    fields_core::accepted_tents_are_solutions();
     fields_core::accepted_lights_are_solutions();
 }

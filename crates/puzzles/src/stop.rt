@@ -4,6 +4,7 @@ ghost use Rattle.puzzles.specs.Stops.{status_of};
 ghost use Rattle.puzzles.specs.declared.stop.Stop.TheVariants.{Memory};
 
 use crate::output::BROKEN;
+use crate::run::NO_MEMORY;
 use std::alloc::AllocError;
 
 /// Why a run ended before its answer was whole.
@@ -21,7 +22,7 @@ impl Stop {
         ensures { result ≡ status_of self }
     {
         match self {
-            Stop::Memory => 5,
+            Stop::Memory => NO_MEMORY,
             Stop::Broken => BROKEN,
         }
     }

@@ -30,6 +30,7 @@ fn tells(alloc: Global, words: &[&str], text: &str, status: u8) -> Result<bool, 
 fn patterns_are_solved(rt: HostRuntime) -> Result<(), Fail> {
     for (id, text, status) in [
         ("5x1:1/1//1/1/2.2", "one\n##.##\n", 0),
+        ("3x3:2/2/2/1.1/3/1", "one\n#.#\n###\n.#.\n", 0),
         ("1x1:/", "one\n.\n", 0),
         ("1x1:01/1", "one\n#\n", 0),
         ("1:1/1", "one\n#\n", 0),
@@ -38,6 +39,7 @@ fn patterns_are_solved(rt: HostRuntime) -> Result<(), Fail> {
         ("3x2:1/2/1/2/2", "several\n.##\n##.\n\n##.\n.##\n", 3),
         ("2x3:3/1.1/2/1/2", "one\n##\n#.\n##\n", 0),
         ("3x1:1/1/1/2.1", "refused: line 3 too full\n", 2),
+        ("2x1:1/1/1.1/", "refused: line 2 too full\n", 2),
         ("2x2:1/1/1", "refused: too few\n", 2),
         ("2x2:1/1/1/1/", "refused: too many\n", 2),
         ("2x2:1./1/1/1", "refused: bad byte at 5\n", 2),
@@ -69,6 +71,7 @@ fn solos_are_solved(rt: HostRuntime) -> Result<(), Fail> {
         ),
         ("2x2:p", TWO_SOLOS, 3),
         ("2x2:__p_", TWO_SOLOS, 3),
+        ("2x2:hh", TWO_SOLOS, 3),
         ("2:p", TWO_SOLOS, 3),
         ("2x2:1_1n", "none\n", 1),
         ("2x2:5o", "refused: number range at 4\n", 2),
@@ -98,13 +101,19 @@ fn solos_are_solved(rt: HostRuntime) -> Result<(), Fail> {
 fn lights_are_solved(rt: HostRuntime) -> Result<(), Fail> {
     for (id, budget, text, status) in [
         ("2x2:2c", "0", "one\n2O\nO.\n", 0),
+        ("2x2:2c", MOST, "one\n2O\nO.\n", 0),
         ("2x2:Bc", "100000", "several\n#.\n.O\n\n#O\nO.\n", 3),
+        ("2x2:Bc", MOST, "several\n#.\n.O\n\n#O\nO.\n", 3),
         ("2x2:1c", "2", "none\n", 1),
+        ("2x2:1c", MOST, "none\n", 1),
         ("2x2:1c", "1", "gave up\n", 4),
+        ("2x2:1c", "0", "gave up\n", 4),
         ("2x2:BBBB", "0", "one\n##\n##\n", 0),
         ("2x2:1BBB", "0", "none\n", 1),
+        ("3x3:aBBa1aBb", "100000", "one\n.##\nO1.\n#.O\n", 0),
         ("3x3:aBBa1aBb", "4", "one\n.##\nO1.\n#.O\n", 0),
         ("3x3:aBBa1aBb", "3", "gave up\n.##\nO1.\n#.O\n", 4),
+        ("3x3:aBBa1aBb", "1", "gave up\n.##\nO1.\n#.O\n", 4),
         ("3x3:aBBa1aBb", "0", "gave up\n", 4),
         ("2x2:5c", "0", "refused: bad byte at 4\n", 2),
         ("2x2:2d", "0", "refused: too many\n", 2),
@@ -137,7 +146,7 @@ const CORNERS: &str = "several\n.#\n#.\n\n#.\n.#\n";
 
 const MOST: &str = "18446744073709551615";
 
-const BUDGETS: [(&str, &str, &str, &str, u8); 12] = [
+const BUDGETS: [(&str, &str, &str, &str, u8); 13] = [
     ("pattern", "2x2:1/1/1/1", "2", CORNERS, 3),
     ("pattern", "2x2:1/1/1/1", MOST, CORNERS, 3),
     ("pattern", "2x2:1/1/1/1", "0002", CORNERS, 3),
@@ -145,6 +154,13 @@ const BUDGETS: [(&str, &str, &str, &str, u8); 12] = [
     ("pattern", "2x2:1/1/1/1", "0", "gave up\n", 4),
     ("pattern", "5x1:1/1//1/1/2.2", "0", "one\n##.##\n", 0),
     ("solo", "2x2:1_1n", "0", "none\n", 1),
+    (
+        "solo",
+        GIVEN,
+        "0",
+        "one\n1 2 3 4\n3 4 1 2\n2 1 4 3\n4 3 2 1\n",
+        0,
+    ),
     (
         "solo",
         "2x2:p",

@@ -64,7 +64,11 @@ fn take_whole<I: Source>(kept: &mut Kept, input: &mut I) -> Result<(), Stop>
     Err(Stop::Broken)
 }
 
-/// Reads the input to its end, and gives its bytes, or nothing where they are too many.
+/// Reads the input to its end, and gives its bytes, or nothing where they are more than 16,384.
+///
+/// # Errors
+///
+/// When memory was refused, or the source failed, or its calls were used up before its end.
 pub fn read_whole<I: Source>(alloc: Global, input: &mut I) -> Result<Option<Vec<u8>>, Stop>
     requires no_calls { I.call_count input.old ≡ 0 }
     requires input_fine { I.has_failed input.old ≡ false }
@@ -92,6 +96,10 @@ fn is_dropped(byte: u8, rest: &[u8]) -> bool
 }
 
 /// The text without each carriage return that stands directly before a line end.
+///
+/// # Errors
+///
+/// When memory was refused.
 pub fn without_returns(alloc: Global, text: &[u8]) -> Result<Vec<u8>, AllocError>
     ensures { IfOk result (λ v. v.items ≡ without_returns text.now) }
 {

@@ -94,7 +94,7 @@ fn push_visit(text: &mut String, house: House) -> Result<(), AllocError>
 }
 
 /// Adds the line of a closing by sweeps to a text.
-pub fn push_sweeps(text: &mut String, sweeps: usize) -> Result<(), AllocError>
+fn push_sweeps(text: &mut String, sweeps: usize) -> Result<(), AllocError>
     ensures { OnOk result (string_bytes text.new ≡ string_bytes text.old ++ sweeps_text sweeps) }
 {
     text.push_str("sweeps ")?;
@@ -127,6 +127,10 @@ fn put_piece<O: Sink>(text: &mut String, output: &mut O) -> Result<(), Stop>
 }
 
 /// Puts a text and then a line for each visit, but for the end of these, which is left in the text.
+///
+/// # Errors
+///
+/// When memory was refused, or the sink failed. A beginning of the text and the lines was put then.
 pub fn put_visits<P: Housed, O: Sink>(
     puzzle: &P,
     visits: &[usize],
@@ -153,6 +157,10 @@ pub fn put_visits<P: Housed, O: Sink>(
 
 /// Puts a text and, where a trace is asked for, the visits of a closing by these rules, but for the end, which is left in
 /// the text.
+///
+/// # Errors
+///
+/// When memory was refused, or the sink failed. A beginning of the text and the lines was put then.
 pub fn put_closing<R: Rules, P: Housed, O: Sink>(
     puzzle: &P,
     rules: &R,
@@ -183,6 +191,10 @@ pub fn put_closing<R: Rules, P: Housed, O: Sink>(
 }
 
 /// Adds to a text, where a trace is asked for, the number of sweeps of a closing by these rules.
+///
+/// # Errors
+///
+/// When memory was refused.
 pub fn push_closing<R: Rules>(
     rules: &R,
     store: &mut Store<R>,

@@ -19,11 +19,13 @@ pub const BUDGET: u64 = 100_000;
 /// The tries where the words name none.
 pub const TRIES: u32 = 1_000;
 
-/// The percentages of black cells where the words name none, and the highest.
+/// The percentage of black cells in Pattern where the words name none.
 pub const PATTERN_BLACK: u64 = 50;
 
+/// The percentage of black cells in Light Up where the words name none.
 pub const LIGHT_UP_BLACK: u64 = 20;
 
+/// The highest percentage of black cells.
 pub const MOST_BLACK: u64 = 100;
 
 /// What the words ask for.

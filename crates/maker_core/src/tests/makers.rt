@@ -100,13 +100,15 @@ fn a_grid_of_black_cells_is_made_of_light_up(rt: HostRuntime) -> Result<(), Fail
 fn tents_have_trees(rt: HostRuntime) -> Result<(), Fail> {
     let size = Size::new(6, 6).expect(&rt, "a size");
     let made = tents(&rt, size, 1_000)?;
-    let mut standing = 0u32;
-    for place in 0..made.answer.len() {
-        if made.answer.get(place) == 1 {
-            standing = standing.saturating_add(1);
-        }
+    let cells = made.puzzle.size().cells();
+    assert_eq!(rt; made.answer.len(), cells);
+    let (mut standing, mut trees) = (0u32, 0u32);
+    for place in 0..cells {
+        standing = standing.saturating_add(u32::from(made.answer.get(place)));
+        trees = trees.saturating_add(u32::from(made.puzzle.tree(place)));
     }
-    assert_eq!(rt; standing, 7);
+    assert!(rt; 1 <= standing && standing <= 7);
+    assert_eq!(rt; trees, standing);
     assert_eq!(rt; fault(tents(&rt, size, 0))?, Some(MakeFault::Exhausted));
     let small = Size::new(3, 3).expect(&rt, "a size");
     assert_eq!(rt; fault(tents(&rt, small, 0))?, Some(MakeFault::SizeRange));

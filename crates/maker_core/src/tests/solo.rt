@@ -8,10 +8,11 @@ ghost use Rattle.solo_core.specs.Solutions.{cells_of};
 use crate::made::{Limits, Made, MakeFault, Why};
 use crate::solo::make_solo;
 use crate::solo_filling::{fill_solo, full_puzzle};
+use engine_core::{Store, Verdict};
 use gameid_core::SoloPuzzle;
 use rand_chacha::ChaCha8Rng;
 use rand_core::SeedableRng;
-use solo_core::check_solo;
+use solo_core::{SoloHouses, check_solo};
 use std::test::Fail;
 
 #[test]
@@ -24,7 +25,7 @@ fn a_filling_of_two_by_three_blocks_is_a_solution(rt: HostRuntime) -> Result<(),
     Ok(())
 }
 
-/// What is made of one seed.
+/// What is made of the generator that the program has for seed 1.
 fn made(
     rt: &HostRuntime,
     c: u8,
@@ -34,7 +35,9 @@ fn made(
 ) -> Result<Made<SoloPuzzle>, MakeFault>
     ensures { IfOk result (λ made. IsGrid (cells_of made.puzzle) (solo_n made.puzzle) made.answer) }
 {
-    let mut rng = ChaCha8Rng::from_seed([1; 32]);
+    let mut key = [0; 32];
+    key[0] = 1;
+    let mut rng = ChaCha8Rng::from_seed(key);
     make_solo(rt.alloc(), c, r, &mut rng, Limits { budget, tries })
 }
 
@@ -47,6 +50,9 @@ fn all_kept(made: &Made<SoloPuzzle>, why: Why) -> bool {
 fn no_budget_leaves_givens_for_want_of_it(rt: HostRuntime) -> Result<(), Fail> {
     let made = made(&rt, 2, 2, 0, 1)?;
     assert!(rt; all_kept(&made, Why::Budget));
+    let rules = SoloHouses::new(rt.alloc(), &made.puzzle)?;
+    let mut store = Store::new(rt.alloc(), &rules)?;
+    assert_eq!(rt; store.solve(&rules, 0), Verdict::One);
     assert_eq!(rt; check_solo(&made.puzzle, &made.answer), None);
     Ok(())
 }

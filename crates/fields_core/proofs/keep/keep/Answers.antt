@@ -6,7 +6,7 @@ use Rattle.fields_core.proofs.keep.keep.Goals.{then-empty-eq0, else-empty-eq0}
 pub loop-k-preserved : goal.loop-k-preserved
 loop-k-preserved c = λ k v h i. kept_step _ _ _ _ _ _ k v c.loop-k.invariant
     (λ u j. elim c.if-empty-eq0.branch [
-      | then-empty-eq0 w ↦ rw w.kept-is (both_values _ _ _ _ _ _ w.keep_cell.ensures.white w.keep_cell.ensures.black u j
+      | then-empty-eq0 w ↦ rw w.kept-is (both_values _ _ _ _ _ _ w.keep_cell.ensures.zero w.keep_cell.ensures.one u j
           ∙ kept_some c.args.sets.now _ _ _ _ c.loop-k.k u (sym c.empty_cells-empty.ensures ∙ w.if-empty-eq0.true) c.must_be_one-must.ensures c.may_be_one-may.ensures (omega arith) j)
       | else-empty-eq0 w ↦ rw w.kept-is (kept_none c.args.sets.now _ _ c.loop-k.k u (λ z. absurd (omega (arith, c.empty_cells-empty.ensures))))
     ])

@@ -14,7 +14,7 @@ returns-then-branch-clause-size g c = tents_size c.args.size c.in_ok-camp.camp c
 
 pub returns-then-branch-clause-only : goal.returns-then-branch-clause-only
 returns-then-branch-clause-only g c =
-    tents_only c.args.size c.in_ok-camp.camp c.in_ok-puzzle.puzzle c.in_ok-puzzle.ensures c.in_ok-camp.ensures.tents c.in_ok-camp.ensures.solved c.accepted_are_solutions.ensures
+    tents_only c.args.size c.in_ok-camp.camp c.in_ok-puzzle.puzzle c.in_ok-puzzle.ensures c.in_ok-camp.ensures.tents c.in_ok-camp.ensures.solved c.accepted_tents_are_solutions.ensures
     (c.in_ok-passes.ensures.only c.if-branch.true)
 
 pub returns-then-branch-clause-drawn : goal.returns-then-branch-clause-drawn

@@ -28,7 +28,7 @@ returns c = by
         (λ g. let same = c.accepted_are_solutions.ensures.houses p g in
         (λ t. record { grid = t.grid; solution = same.0 t.good }, λ t. record { grid = t.grid; good = same.1 t.solution }))
         (c.verdict_is_true.ensures (houses_rules p) (c.rules_are_lawful.ensures.houses p s.puzzle) budget))
-    by Pattern budget text = answer_of pattern.IsSolution line_rules pattern_cell (λ p. p.size) budget (pattern_of text) (SpellsPattern text) (c.one_reading.ensures.either text)
+    by Pattern budget text = answer_of pattern.IsSolution line_rules pattern_cell (λ p. p.size) budget (pattern_of text) (SpellsPattern text) (c.one_reading_of_pattern.ensures.either text)
         (λ p s. right_of (line_rules p) (pattern.IsSolution p) _
         (λ g. let same = c.accepted_are_solutions-2.ensures p g in
         (λ t. (same t.grid).0 t.good, λ t. record { grid = t.grid; good = (same t.grid).1 t }))
@@ -40,6 +40,6 @@ returns c = by
         (c.verdict_is_true.ensures (light_rules p) (c.rules_of_lights_are_lawful.ensures p s.puzzle) budget))
     by Tents budget text = answer_of SolvesTents tent_rules tents_cell (λ p. p.size) budget (tents_of text) (SpellsTents text) (c.one_reading_of_tents.ensures.either text)
         (λ p s. right_of (tent_rules p) (SolvesTents p) _
-        (λ g. let same = c.accepted_are_solutions-3.ensures p g in
+        (λ g. let same = c.accepted_tents_are_solutions.ensures p g in
         (λ t. record { grid = t.grid; solution = (same t.grid).0 t.good }, λ t. record { grid = t.grid; good = (same t.grid).1 t.solution }))
         (c.verdict_is_true.ensures (tent_rules p) (c.rules_of_tents_are_lawful.ensures p s.puzzle) budget))

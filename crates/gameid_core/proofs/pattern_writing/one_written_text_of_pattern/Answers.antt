@@ -1,7 +1,7 @@
 use Rattle.std.proofs.Common.{sym, ◌∙◌}
 use Rattle.gameid_core.proofs.PatternWritten.{pattern_is_written}
 use Rattle.gameid_core.proofs.PatternForm.{pattern_form}
-use Rattle.gameid_core.proofs.pattern_writing.one_written_text.Goals as goal
+use Rattle.gameid_core.proofs.pattern_writing.one_written_text_of_pattern.Goals as goal
 
 pub returns-clause-some : goal.returns-clause-some
 returns-clause-some c = pattern_is_written

@@ -1,7 +1,7 @@
 use Rattle.gameid_core.specs.PatternText.{pattern_step, pattern_end, nothing_yet, clues_at}
 use Rattle.gameid_core.specs.Words.{words}
 use Rattle.gameid_core.proofs.FirstFaults as laws
-use Rattle.gameid_core.proofs.pattern_text.first_fault.Goals as goal
+use Rattle.gameid_core.proofs.pattern_text.first_fault_of_pattern.Goals as goal
 
 pub returns : goal.returns
 unfolding clues_at
