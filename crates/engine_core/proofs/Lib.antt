@@ -1,6 +1,7 @@
 pub mod BitLemmas
 pub mod SetLemmas
 pub mod ClosingLemmas
+pub mod WaitLemmas
 pub mod QueueLemmas
 pub mod ListLemmas
 pub mod SweepLemmas
@@ -13,6 +14,9 @@ pub mod PickLemmas
 pub mod VerdictLemmas
 pub mod SearchLemmas
 pub mod TrailLemmas
+pub mod TrialLemmas
 pub mod FrameLemmas
 pub mod NoteLemmas
 pub mod CountLemmas
+pub mod EndLemmas
+pub mod SearchingLemmas

@@ -1,15 +1,15 @@
-use Rattle.std.proofs.Common.{add-one, ◌≡◌, ℕ, zero, suc, ◌+◌, ◌-◌, ◌*◌, ◌<◌, ◌≤◌, Bool, true, false, not, cond, ◌&&◌, ◌||◌, eqb, List, [], ◌∷◌, ◌++◌, length, slice_index, take, get_or, set, get_or-set_same, get_or-set_other, Option, Some, None, IfSome, refl, sym, ap, ◌∙◌, inl, inr, arith}
+use Rattle.std.proofs.Common.{add-one, ◌≡◌, ℕ, zero, suc, ◌+◌, ◌-◌, ◌*◌, ◌<◌, ◌≤◌, Bool, true, false, not, cond, ◌&&◌, ◌||◌, eqb, List, [], ◌∷◌, ◌++◌, length, slice_index, take, set, Option, Some, None, IfSome, refl, sym, ap, ◌∙◌, inl, inr, arith}
 use Rattle.std.proofs.lemmas.Bool.{and_left, and_right, cases_Bool, cases_eq, true≢false, and_parts, and_from, or_cases, or_left, or_right, or_parts, not-true, not-false, not_from_false, not_from_true, false_from_ne_true, eqb-true, eq-eqb, ne_eqb}
 use Rattle.std.proofs.Math.Nat.{mul-le-mul_right}
 use Rattle.std.proofs.Math.Seq.{take-suc-set}
 use Rattle.grid_core.specs.Candidates.{Candidates, IsWithin, any_below, count_below, sum_below, is_dead, only}
-use Rattle.grid_core.proofs.CandidateLemmas.{any_below-here, any_below-some, any_below-none, count_below-le, count_below-lt, count_below-any, count_below-kept, count_below-pos, count_below-none, count_below-bound, count_below-same, any_below-same, sum_below-le, sum_below-add, is_dead-not, is_dead-here, is_dead-each}
+use Rattle.grid_core.proofs.CandidateLemmas.{any_below-here, any_below-some, any_below-none, count_below-le, count_below-lt, count_below-any, count_below-kept, count_below-pos, count_below-none, count_below-bound, count_below-same, sum_below-le, sum_below-add, is_dead-not, is_dead-here, is_dead-each, is_dead-inside}
 use Rattle.grid_core.specs.Board.{Layout, SameShape, has, cells_of}
 use Rattle.grid_core.proofs.BoardLemmas.{has-within}
 use Rattle.grid_core.proofs.GridLemmas.{only-inside, only-other, only-here}
 use Rattle.engine_core.specs.Puzzle.{Puzzle, IsLawful, IsClosed, IsInsideAt, IsBoardOf, after, has_place, share}
 use Rattle.engine_core.specs.PlaceLaws.{has_place-at, has_place-here}
-use Rattle.engine_core.specs.Queue.{calls, counts_of, woken, but, visits_left, IsRested, is_waiting, is_emptied, IsClosedBut, waits_from}
+use Rattle.engine_core.specs.Queue.{calls, counts_of, woken, but, visits_left, IsRested, empties, IsClosedBut, waits_from}
 use Rattle.engine_core.proofs.ClosingLemmas.{after_inside}
 
 -- ---- what a visit leaves in the cells of other houses
@@ -208,63 +208,71 @@ pub any_below-more : (p : ℕ → Bool) (n : ℕ) → any_below p (n + 1) ≡ (a
 unfolding any_below
 any_below-more p n = rw add-one refl
 
-pub wake_more : (w a h n : Bool) → ((w || (a && n)) || (h && n)) ≡ (w || ((a || h) && n))
-wake_more true a h n = refl
-wake_more false true h true = refl
-wake_more false true true false = refl
-wake_more false true false false = refl
-wake_more false false h n = refl
-
-pub wake_none : (w a n : Bool) → (w || (a && n)) ≡ (w || ((a || false) && n))
-wake_none w true n = refl
-wake_none w false n = refl
-
-pub or_false : (x : Bool) → (x || false) ≡ x
+or_false : (x : Bool) → (x || false) ≡ x
 or_false true = refl
 or_false false = refl
 
-pub step_then : (w0 w w' a h n x : Bool) → w' ≡ (w || (h && n)) → w ≡ (w0 || (a && n)) → x ≡ true → w' ≡ (w0 || ((a || (x && h)) && n))
-step_then w0 w w' a h n x e f g = rw (e, f, g) (wake_more w0 a h n)
+pub unwoken : (x : Bool) → x ≡ (x || false)
+unwoken x = sym (or_false x)
 
-pub step_else : (w0 w w' a h n x : Bool) → w' ≡ w → w ≡ (w0 || (a && n)) → x ≡ false → w' ≡ (w0 || ((a || (x && h)) && n))
-step_else w0 w w' a h n x e f g = rw (e, f, g) (wake_none w0 a n)
+or_assoc : (x y z : Bool) → ((x || y) || z) ≡ (x || (y || z))
+or_assoc true y z = refl
+or_assoc false y z = refl
 
--- the waiting houses depend on the numbers before the visit at the house's cells, and on who waited
-pub woken-same : (p : Puzzle) (h : ℕ) (before before' : ℕ → ℕ) (K : Candidates) (waits waits' : ℕ → Bool) (j : ℕ) → ((k : ℕ) → k < length (p.scope h) → before k ≡ before' k) → waits j ≡ waits' j → woken p h before K waits j ≡ woken p h before' K waits' j
-unfolding woken
-woken-same p h before before' K waits waits' j same e =
-    rw (e, any_below-same (calls p h before K j) (calls p h before' K j) (length (p.scope h)) (λ k lt. ap (λ (x : ℕ). not (eqb x (counts_of p h K k)) && has_place (p.scope j) (slice_index (p.scope h) k)) (same k lt)))
+step_then : (w0 w w' a h x : Bool) → w' ≡ (w || h) → w ≡ (w0 || a) → x ≡ true → w' ≡ (w0 || (a || (x && h)))
+step_then w0 w w' a h x e f g = rw (e, f, g) (or_assoc w0 a h)
 
-pub is_waiting-clear : (waits : List Bool) (h j : ℕ) → h < length waits → is_waiting (set waits h false) j ≡ but (is_waiting waits) h j
-unfolding but
-is_waiting-clear waits h j lt = elim (cases_eq j h) [
-  | inl e ↦ rw (eq-eqb j h e, e, get_or-set_same waits h false false lt) (sym (and_right (get_or waits h false) false refl))
-  | inr ne ↦ rw (ne_eqb j h ne, get_or-set_other waits h j false false ne) (sym (and_true_r (get_or waits j false)))
-]
+step_else : (w0 w w' a h x : Bool) → w' ≡ w → w ≡ (w0 || a) → x ≡ false → w' ≡ (w0 || (a || (x && h)))
+step_else w0 w w' a h x e f g = rw (e, f, g) (ap (λ b. w0 || b) (unwoken a))
+
+-- the marks after a visit: of the house, then those that it called for, then its own where it is settled
+pub woken-from : (p : Puzzle) (h : ℕ) (before : ℕ → ℕ) (K : Candidates) (waits : ℕ → Bool) (j : ℕ) (cleared called left : Bool)
+    → cleared ≡ but waits h j → called ≡ (cleared || any_below (calls p h before K j) (length (p.scope h))) → left ≡ (called && not (p.settled && eqb j h))
+    → left ≡ woken p h before K (but waits h) j
+unfolding woken but
+woken-from p h before K waits j cleared called left e f g = rw (g, f, e) (settled_out (waits j) (eqb j h) (any_below (calls p h before K j) (length (p.scope h))) p.settled)
   where
-    and_true_r : (x : Bool) → (x && true) ≡ x
-    and_true_r true = refl
-    and_true_r false = refl
+    settled_out : (w e a s : Bool) → (((w && not e) || a) && not (s && e)) ≡ ((w && not e) || (a && not (s && e)))
+    settled_out true true a s = refl
+    settled_out true false true true = refl
+    settled_out true false true false = refl
+    settled_out true false false true = refl
+    settled_out true false false false = refl
+    settled_out false e a s = refl
 
 pub wake_then : (p : Puzzle) (h : ℕ) (before : ℕ → ℕ) (K : Candidates) (j k place : ℕ) (w0 w w' : Bool) → place ≡ slice_index (p.scope h) k
-    → w' ≡ (w || (has_place (p.scope j) place && not (p.settled && eqb j h)))
-    → w ≡ (w0 || (any_below (calls p h before K j) k && not (p.settled && eqb j h)))
+    → w' ≡ (w || has_place (p.scope j) place)
+    → w ≡ (w0 || any_below (calls p h before K j) k)
     → (before k ≡ count_below (K (slice_index (p.scope h) k)) p.values → ⊥)
-    → w' ≡ (w0 || (any_below (calls p h before K j) (k + 1) && not (p.settled && eqb j h)))
+    → w' ≡ (w0 || any_below (calls p h before K j) (k + 1))
 unfolding counts_of
 wake_then p h before K j k place w0 w w' at e f ne =
-    rw any_below-more (step_then w0 w w' (any_below (calls p h before K j) k) (has_place (p.scope j) (slice_index (p.scope h) k)) (not (p.settled && eqb j h)) (not (eqb (before k) (counts_of p h K k)))
+    rw any_below-more (step_then w0 w w' (any_below (calls p h before K j) k) (has_place (p.scope j) (slice_index (p.scope h) k)) (not (eqb (before k) (counts_of p h K k)))
     (rw at at e) f (not_from_false (eqb (before k) (counts_of p h K k)) (ne_eqb (before k) (counts_of p h K k) ne)))
 
 pub wake_else : (p : Puzzle) (h : ℕ) (before : ℕ → ℕ) (K : Candidates) (j k : ℕ) (w0 w w' : Bool)
     → w' ≡ w
-    → w ≡ (w0 || (any_below (calls p h before K j) k && not (p.settled && eqb j h)))
+    → w ≡ (w0 || any_below (calls p h before K j) k)
     → before k ≡ count_below (K (slice_index (p.scope h) k)) p.values
-    → w' ≡ (w0 || (any_below (calls p h before K j) (k + 1) && not (p.settled && eqb j h)))
+    → w' ≡ (w0 || any_below (calls p h before K j) (k + 1))
 unfolding counts_of
 wake_else p h before K j k w0 w w' e f same =
-    rw any_below-more (step_else w0 w w' (any_below (calls p h before K j) k) (has_place (p.scope j) (slice_index (p.scope h) k)) (not (p.settled && eqb j h)) (not (eqb (before k) (counts_of p h K k)))
+    rw any_below-more (step_else w0 w w' (any_below (calls p h before K j) k) (has_place (p.scope j) (slice_index (p.scope h) k)) (not (eqb (before k) (counts_of p h K k)))
     e f (not_from_true (eqb (before k) (counts_of p h K k)) (eq-eqb (before k) (counts_of p h K k) same)))
+
+-- a cell that lost values is empty where it has none, and one that lost none counts for nothing
+pub empties_then : (p : Puzzle) (h : ℕ) (before : ℕ → ℕ) (K : Candidates) (k : ℕ) (d d' now : Bool) → d' ≡ (d || now) → d ≡ any_below (empties p h before K) k
+    → (before k ≡ count_below (K (slice_index (p.scope h) k)) p.values → ⊥) → now ≡ eqb (count_below (K (slice_index (p.scope h) k)) p.values) 0
+    → d' ≡ any_below (empties p h before K) (k + 1)
+unfolding counts_of
+empties_then p h before K k d d' now e f ne g =
+    rw any_below-more (rw (e, f, g) (ap (λ b. any_below (empties p h before K) k || (b && eqb (count_below (K (slice_index (p.scope h) k)) p.values) 0)) (sym (not_from_false _ (ne_eqb (before k) (count_below (K (slice_index (p.scope h) k)) p.values) ne)))))
+
+pub empties_else : (p : Puzzle) (h : ℕ) (before : ℕ → ℕ) (K : Candidates) (k : ℕ) (d d' : Bool) → d' ≡ d → d ≡ any_below (empties p h before K) k
+    → before k ≡ count_below (K (slice_index (p.scope h) k)) p.values → d' ≡ any_below (empties p h before K) (k + 1)
+unfolding counts_of
+empties_else p h before K k d d' e f same =
+    rw any_below-more (rw (e, f) (unwoken _ ∙ ap (λ b. any_below (empties p h before K) k || b) (sym (and_left _ (eqb (count_below (K (slice_index (p.scope h) k)) p.values) 0) (not_from_true _ (eq-eqb (before k) (count_below (K (slice_index (p.scope h) k)) p.values) same))))))
 
 -- ---- one turn of the queue
 visits_left-same : (p : Puzzle) (K : Candidates) (waits waits' : ℕ → Bool) → ((j : ℕ) → j < p.houses → waits j ≡ waits' j) → visits_left p K waits ≡ visits_left p K waits'
@@ -301,26 +309,48 @@ pub within_of : (p : Puzzle) (b : Layout) → IsBoardOf p b → IsWithin p.cells
 within_of p b of = λ c v on. let w = has-within b c v on in (omega (arith, w.0, of.same_cells), omega (arith, w.1, of.same_values))
 
 -- ---- a visit that empties a cell empties one of its own house
-pub emptied-dead : (p : Puzzle) (laws : IsLawful p) (h : ℕ) (K K' : Candidates) → h < p.houses → is_dead p.cells p.values K ≡ false → K' ≡ after p h K → is_emptied p h K' ≡ is_dead p.cells p.values K'
+emptied-alive : (p : Puzzle) (laws : IsLawful p) (h : ℕ) (K K' : Candidates) → h < p.houses → is_dead p.cells p.values K ≡ false → K' ≡ after p h K
+    → is_dead p.cells p.values K' ≡ any_below (empties p h (counts_of p h K) K') (length (p.scope h))
 unfolding counts_of
-emptied-dead p laws h K K' lt alive e = elim (cases_Bool (any_below (λ k. eqb (count_below (K' (slice_index (p.scope h) k)) p.values) 0) (length (p.scope h)))) [
+emptied-alive p laws h K K' lt alive e = elim (cases_Bool (any_below (empties p h (counts_of p h K) K') (length (p.scope h)))) [
   | inl some ↦
-      let w = any_below-some (λ k. eqb (count_below (K' (slice_index (p.scope h) k)) p.values) 0) (length (p.scope h)) some in
-      some ∙ sym (is_dead-here p.cells p.values K' (slice_index (p.scope h) w.0) (laws.scope_within h _ lt (has_place-here (p.scope h) w.0 w.1)) (eqb-true _ _ w.2))
-  | inr none ↦ none ∙ sym (is_dead-each p.cells p.values K' (λ c less. elim (cases_Bool (has_place (p.scope h) c)) [
+      let w = any_below-some (empties p h (counts_of p h K) K') (length (p.scope h)) some in
+      let c = slice_index (p.scope h) w.0 in
+      let both = and_parts (not (eqb (count_below (K c) p.values) (count_below (K' c) p.values))) (eqb (count_below (K' c) p.values) 0) w.2 in
+      is_dead-here p.cells p.values K' c (laws.scope_within h c lt (has_place-here (p.scope h) w.0 w.1)) (eqb-true _ _ both.1) ∙ sym some
+  | inr none ↦ is_dead-each p.cells p.values K' (λ c less. elim (cases_Bool (has_place (p.scope h) c)) [
     | inl member ↦
         let w = has_place-at (p.scope h) c member in
-        rw w.2 at (pos_of_ne (count_below (K' (slice_index (p.scope h) w.0)) p.values) (any_below-none (λ k. eqb (count_below (K' (slice_index (p.scope h) k)) p.values) 0) (length (p.scope h)) none w.0 w.1))
+        let some : 0 < count_below (K (slice_index (p.scope h) w.0)) p.values = is_dead-not p.cells p.values K (slice_index (p.scope h) w.0) alive (rw w.2 less) in
+        rw w.2 at (still_some (count_below (K (slice_index (p.scope h) w.0)) p.values) (count_below (K' (slice_index (p.scope h) w.0)) p.values) some
+        (any_below-none (empties p h (counts_of p h K) K') (length (p.scope h)) none w.0 w.1))
     | inr out ↦
         let some : 0 < count_below (K c) p.values = is_dead-not p.cells p.values K c alive less in
         let same : count_below (K c) p.values ≤ count_below (K' c) p.values = count_below-le (K c) (K' c) p.values (λ v _ on. rw e (after-outside p laws h K c v lt out on)) in
         omega arith
-  ]))
+  ]) ∙ sym none
 ]
   where
-    pos_of_ne : (n : ℕ) → eqb n 0 ≡ false → 0 < n
-    pos_of_ne zero f = absurd (true≢false (sym (eq-eqb 0 0 refl) ∙ f))
-    pos_of_ne (suc n) f = omega arith
+    still_some : (x y : ℕ) → 0 < x → (not (eqb x y) && eqb y 0) ≡ false → 0 < y
+    still_some x zero pos f = absurd (true≢false (sym (and_from (not (eqb x 0)) (eqb 0 0) (not_from_false (eqb x 0) (ne_eqb x 0 (λ z. absurd (omega arith)))) (eq-eqb 0 0 refl)) ∙ f))
+    still_some x (suc y) pos f = omega arith
+
+-- a board is dead after a visit where it was before, or where a cell of the house lost its last values
+pub emptied-dead : (p : Puzzle) (laws : IsLawful p) (h : ℕ) (K K' : Candidates) → h < p.houses → K' ≡ after p h K
+    → is_dead p.cells p.values K' ≡ (is_dead p.cells p.values K || any_below (empties p h (counts_of p h K) K') (length (p.scope h)))
+emptied-dead p laws h K K' lt e = elim (cases_Bool (is_dead p.cells p.values K)) [
+  | inl dead ↦ is_dead-inside p.cells p.values K' K (λ c v on. after_inside p h K c v (sym (ap (λ (L : Candidates). L c v) e) ∙ on)) dead
+      ∙ sym (or_left (is_dead p.cells p.values K) (any_below (empties p h (counts_of p h K) K') (length (p.scope h))) dead)
+  | inr alive ↦ emptied-alive p laws h K K' lt alive e ∙ ap (λ b. b || any_below (empties p h (counts_of p h K) K') (length (p.scope h))) (sym alive)
+]
+
+-- where the board was alive before a visit, the visit tells whether it is dead
+pub dead_by : (now was told : Bool) → now ≡ (was || told) → was ≡ false → now ≡ told
+dead_by now was told e alive = rw alive at e
+
+-- where nothing was struck, the board is as dead as before
+pub unstruck-dead : (p : Puzzle) (K K' : Candidates) → K' ≡ K → is_dead p.cells p.values K' ≡ (is_dead p.cells p.values K || false)
+unstruck-dead p K K' e = ap (is_dead p.cells p.values) e ∙ unwoken (is_dead p.cells p.values K)
 
 -- where nothing was struck, no house is called for
 pub woken-none : (p : Puzzle) (h : ℕ) (K K' : Candidates) (waits : ℕ → Bool) (j : ℕ) → K' ≡ K → waits j ≡ woken p h (counts_of p h K) K' waits j

@@ -11,6 +11,7 @@ pub mod HouseLaws
 pub mod Queue
 pub mod Walk
 pub mod Verdict
+pub mod Trials
 pub mod Counts
 pub mod Search
 pub mod Frames

@@ -11,8 +11,11 @@ mod queue;
 mod rules;
 mod search;
 mod sets;
+mod step;
 mod store;
 mod sweep;
+mod trials;
+mod waits;
 
 pub use house::{apply, gather, has_bit};
 pub use laws::{
@@ -24,6 +27,7 @@ pub use mode::{Closing, Mode};
 pub use rules::Rules;
 pub use search::Verdict;
 pub use store::{Sizes, Store};
+pub use trials::trials_made_are_the_first;
 
 #[cfg(test)]
 mod tests;

@@ -1,4 +1,4 @@
--- The states of a search for augmenting paths, over lists of numbers.
+-- The states of a search for augmenting paths, over lists of numbers. No public contract uses these words.
 use Rattle.std.specs.Prelude.{◌≡◌, ℕ, ◌<◌, ◌≤◌, Bool, true, false, IsTrue, List, length, get_or, Option, Some, None}
 
 -- the first `count` entries of a list differ from one another

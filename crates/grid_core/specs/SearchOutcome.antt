@@ -1,4 +1,4 @@
--- What a search's outcome says.
+-- What a search's outcome says. No public contract uses these words.
 use Rattle.std.specs.Prelude.{ℕ}
 use Rattle.grid_core.specs.declared.augmenting.Outcome.{Outcome}
 use Rattle.grid_core.specs.declared.augmenting.Outcome.TheVariants.{Free, Closed}

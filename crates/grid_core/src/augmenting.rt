@@ -139,7 +139,8 @@ fn shift<E: Edges>(
     mates: &mut [usize],
     owners: &mut [Option<usize>],
 )
-    requires partial { IsPartial (E.joins edges.now) (E.right_count edges.now) root mates.old owners.old }
+    requires partial { IsPartial (E.joins edges.now) (E.right_count edges.now) root mates.old
+        owners.old }
     requires trail { IsTrail (E.joins edges.now) (E.right_count edges.now) root owners.old
         queue.now came.now parents.now place }
     requires place_in { place < length queue.now }
@@ -150,7 +151,8 @@ fn shift<E: Edges>(
     requires right_in { right < E.right_count edges.now }
     requires joined { IsTrue (E.joins edges.now (get_or queue.now place 0) right) }
     requires free { owner_of owners.old right ≡ None }
-    ensures { IsPartial (E.joins edges.now) (E.right_count edges.now) (root + 1) mates.new owners.new }
+    ensures { IsPartial (E.joins edges.now) (E.right_count edges.now) (root + 1) mates.new
+        owners.new }
 {
     while place > 0 {
         let left = queue[place];

@@ -32,8 +32,10 @@ impl Model for Size {
 impl Size {
     /// The size of `w` columns and `h` rows, where both are from 1 to `MAX_SIDE`.
     pub fn new(w: u8, h: u8) -> Option<Size>
-        ensures exact { SomeIff result (IsExtent (record { w = w; h = h })) (record { w = w; h = h }) }
-        ensures taken { IsExtent (record { w = w; h = h }) → result ≡ Some (record { w = w; h = h }) }
+        ensures exact { SomeIff result (IsExtent (record { w = w; h = h }))
+            (record { w = w; h = h }) }
+        ensures taken { IsExtent (record { w = w; h = h })
+            → result ≡ Some (record { w = w; h = h }) }
     {
         if w == 0 || w > MAX_SIDE || h == 0 || h > MAX_SIDE {
             return None;

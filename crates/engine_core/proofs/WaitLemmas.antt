@@ -1,0 +1,142 @@
+-- Marks of houses as the bits of words.
+use Rattle.std.proofs.Common.{◌≡◌, ◌≢◌, ℕ, ◌+◌, ◌-◌, ◌*◌, ◌/◌, ◌%◌, ◌^◌, ◌<◌, ◌≤◌, Bool, true, false, not, ◌&&◌, ◌||◌, eqb, List, get_or, set, bit_and, bit_or, length, replicate, refl, sym, ap, ◌∙◌, Some, inl, inr, arith, w64}
+use Rattle.std.specs.Int.{bit_at, trailing_zeros}
+use Rattle.std.proofs.Math.Nat.{div-div-eq-div-mul, div-le_self}
+use Rattle.std.proofs.lemmas.Bool.{cases_eq, cases_lt, and_right, or_right, eq-eqb, ne_eqb, not_from_true}
+use Rattle.std.proofs.lemmas.List.{get_or-set_same, get_or-set_other, get_or-replicate}
+use Rattle.std.proofs.lemmas.Nat.{pow-add}
+use Rattle.std.proofs.lemmas.Nat.Bits.{bit_at_set_same, bit_at_set_other, bit_at_clear_same, bit_at_clear_other, bit_at_ones, bit_at-zero, bit_at-trailing_zeros, bit_at_above}
+use Rattle.engine_core.specs.Sets.{has_bit}
+use Rattle.engine_core.specs.Puzzle.{IsNext}
+use Rattle.engine_core.specs.Queue.{is_waiting, but}
+
+-- ---- a house's word and bit
+same_house : (j h : ℕ) → j / 64 ≡ h / 64 → j % 64 ≡ h % 64 → j ≡ h
+same_house j h words bits = omega arith
+
+-- a word written anew
+word-same : (waits : List ℕ) (w y j : ℕ) → w < length waits → j / 64 ≡ w → is_waiting (set waits w y) j ≡ has_bit y (j % 64)
+unfolding is_waiting
+word-same waits w y j lt e = ap (λ (x : ℕ). has_bit x (j % 64)) (ap (λ (k : ℕ). get_or (set waits w y) k 0) e ∙ get_or-set_same waits w y 0 lt)
+
+word-other : (waits : List ℕ) (w y j : ℕ) → j / 64 ≢ w → is_waiting (set waits w y) j ≡ is_waiting waits j
+unfolding is_waiting
+word-other waits w y j ne = ap (λ (x : ℕ). has_bit x (j % 64)) (get_or-set_other waits w (j / 64) y 0 ne)
+
+word-is : (waits : List ℕ) (w j : ℕ) → j / 64 ≡ w → is_waiting waits j ≡ has_bit (get_or waits w 0) (j % 64)
+unfolding is_waiting
+word-is waits w j e = ap (λ (k : ℕ). has_bit (get_or waits k 0) (j % 64)) e
+
+or_false : (x : Bool) → x ≡ (x || false)
+or_false true = refl
+or_false false = refl
+
+and_true : (x : Bool) → x ≡ (x && true)
+and_true true = refl
+and_true false = refl
+
+pub waiting-mark : (waits : List ℕ) (h j : ℕ) → h / 64 < length waits
+    → is_waiting (set waits (h / 64) (bit_or (get_or waits (h / 64) 0) (1 * 2 ^ (h % 64) % 18446744073709551616))) j ≡ (is_waiting waits j || eqb j h)
+waiting-mark waits h j lt =
+    let bit : h % 64 < 64 = omega arith in
+    let old = get_or waits (h / 64) 0 in
+    let new = bit_or old (1 * 2 ^ (h % 64) % 18446744073709551616) in
+    elim (cases_eq (j / 64) (h / 64)) [
+      | inl word ↦ word-same waits (h / 64) new j lt word ∙ elim (cases_eq (j % 64) (h % 64)) [
+        | inl same ↦
+            ap (λ (k : ℕ). has_bit new k) same ∙ ap (λ (b : ℕ). eqb b 1) (bit_at_set_same w64 old (h % 64) bit) ∙ sym (or_right (is_waiting waits j) (eqb j h) (eq-eqb j h (same_house j h word same)))
+        | inr other ↦
+            let ne : j ≢ h = λ e. other (ap (λ (k : ℕ). k % 64) e) in
+            ap (λ (b : ℕ). eqb b 1) (bit_at_set_other w64 old (h % 64) bit (j % 64) other) ∙ sym (word-is waits (h / 64) j word) ∙ or_false (is_waiting waits j) ∙ ap (λ b. is_waiting waits j || b) (sym (ne_eqb j h ne))
+      ]
+      | inr apart ↦
+          let ne : j ≢ h = λ e. apart (ap (λ (k : ℕ). k / 64) e) in
+          word-other waits (h / 64) new j apart ∙ or_false (is_waiting waits j) ∙ ap (λ b. is_waiting waits j || b) (sym (ne_eqb j h ne))
+    ]
+
+pub waiting-unmark : (waits : List ℕ) (h j : ℕ) → h / 64 < length waits
+    → is_waiting (set waits (h / 64) (bit_and (get_or waits (h / 64) 0) (18446744073709551615 - 1 * 2 ^ (h % 64) % 18446744073709551616))) j ≡ but (is_waiting waits) h j
+unfolding but
+waiting-unmark waits h j lt =
+    let bit : h % 64 < 64 = omega arith in
+    let old = get_or waits (h / 64) 0 in
+    let new = bit_and old (18446744073709551615 - 1 * 2 ^ (h % 64) % 18446744073709551616) in
+    elim (cases_eq (j / 64) (h / 64)) [
+      | inl word ↦ word-same waits (h / 64) new j lt word ∙ elim (cases_eq (j % 64) (h % 64)) [
+        | inl same ↦
+            ap (λ (k : ℕ). has_bit new k) same ∙ ap (λ (b : ℕ). eqb b 1) (bit_at_clear_same w64 old (h % 64) bit) ∙ sym (and_right (is_waiting waits j) (not (eqb j h)) (not_from_true (eqb j h) (eq-eqb j h (same_house j h word same))))
+        | inr other ↦
+            let ne : j ≢ h = λ e. other (ap (λ (k : ℕ). k % 64) e) in
+            let small : j % 64 < 64 = omega arith in
+            ap (λ (b : ℕ). eqb b 1) (bit_at_clear_other w64 old (h % 64) bit (j % 64) small other) ∙ sym (word-is waits (h / 64) j word) ∙ and_true (is_waiting waits j) ∙ ap (λ b. is_waiting waits j && not b) (sym (ne_eqb j h ne))
+      ]
+      | inr apart ↦
+          let ne : j ≢ h = λ e. apart (ap (λ (k : ℕ). k / 64) e) in
+          word-other waits (h / 64) new j apart ∙ and_true (is_waiting waits j) ∙ ap (λ b. is_waiting waits j && not b) (sym (ne_eqb j h ne))
+    ]
+
+-- ---- all marks at once
+pub waiting-all : (words j : ℕ) → j / 64 < words → is_waiting (replicate words 18446744073709551615) j ≡ true
+unfolding is_waiting
+waiting-all words j lt =
+    let small : j % 64 < 64 = omega arith in
+    ap (λ (x : ℕ). has_bit x (j % 64)) (get_or-replicate words (j / 64) 18446744073709551615 0 lt) ∙ ap (λ (b : ℕ). eqb b 1) (bit_at_ones 64 (j % 64) small)
+
+pub waiting-none : (words j : ℕ) → j / 64 < words → is_waiting (replicate words 0) j ≡ false
+unfolding is_waiting
+waiting-none words j lt = ap (λ (x : ℕ). has_bit x (j % 64)) (get_or-replicate words (j / 64) 0 0 lt) ∙ ap (λ (b : ℕ). eqb b 1) (bit_at-zero (j % 64))
+
+-- ---- the bits of a word from one on
+shifted : (word from i : ℕ) → bit_at (word / 2 ^ from) i ≡ bit_at word (from + i)
+shifted word from i = ap (λ (x : ℕ). x % 2) (div-div-eq-div-mul word (2 ^ from) (2 ^ i) ∙ ap (λ (x : ℕ). word / x) (sym (pow-add 2 from i)))
+
+-- where nothing is left above, no bit is set from there on
+pub none_left : (word from j : ℕ) → word / 2 ^ from ≡ 0 → from ≤ j → has_bit word j ≡ false
+none_left word from j none le =
+    let e : from + (j - from) ≡ j = omega arith in
+    ap (λ (b : ℕ). eqb b 1) (ap (bit_at word) (sym e) ∙ sym (shifted word from (j - from)) ∙ ap (λ (x : ℕ). bit_at x (j - from)) none ∙ bit_at-zero (j - from))
+
+-- the lowest bit of what is left above
+pub lowest_left : (word from : ℕ) → word < 2 ^ 64 → (word / 2 ^ from ≡ 0 → ⊥) → IsNext (has_bit word) 64 from (Some (from + trailing_zeros w64 (word / 2 ^ from)))
+lowest_left word from small some =
+    let left = word / 2 ^ from in
+    let z = trailing_zeros w64 left in
+    let le : left ≤ word = div-le_self word (2 ^ from) in
+    let pos : 0 < left = omega arith in
+    let w = bit_at-trailing_zeros w64 left pos (omega arith) in
+    let here : bit_at word (from + z) ≡ 1 = sym (shifted word from z) ∙ w.1 in (
+      omega arith,
+      below word (from + z) small here,
+      ap (λ (b : ℕ). eqb b 1) here,
+      λ j from_j lt.
+          let e : from + (j - from) ≡ j = omega arith in
+          ap (λ (b : ℕ). eqb b 1) (ap (bit_at word) (sym e) ∙ sym (shifted word from (j - from)) ∙ w.2 (j - from) (omega arith)),
+    )
+  where
+    below : (word k : ℕ) → word < 2 ^ 64 → bit_at word k ≡ 1 → k < 64
+    below word k small on = elim (cases_lt k 64) [
+      | inl lt ↦ lt
+      | inr above ↦ absurd (let none : bit_at word k ≡ 0 = bit_at_above word 64 k small above in omega arith)
+    ]
+
+-- ---- one word after another
+-- where no bit of a word is set from one to another, no house there waits
+pub none_in_word : (waits : List ℕ) (w low high : ℕ) → high ≤ 64 → ((b : ℕ) → low ≤ b → b < high → has_bit (get_or waits w 0) b ≡ false)
+    → (j : ℕ) → w * 64 + low ≤ j → j < w * 64 + high → is_waiting waits j ≡ false
+none_in_word waits w low high small none j le lt =
+    let word : j / 64 ≡ w = omega arith in
+    word-is waits w j word ∙ none (j % 64) (omega arith) (omega arith)
+
+pub none_so_far : (waits : List ℕ) (from w low high : ℕ) → high ≤ 64 → ((j : ℕ) → from ≤ j → j < w * 64 + low → is_waiting waits j ≡ false)
+    → ((b : ℕ) → low ≤ b → b < high → has_bit (get_or waits w 0) b ≡ false)
+    → (j : ℕ) → from ≤ j → j < w * 64 + high → is_waiting waits j ≡ false
+none_so_far waits from w low high small before none j le lt = elim (cases_lt j (w * 64 + low)) [
+  | inl less ↦ before j le less
+  | inr above ↦ none_in_word waits w low high small none j above lt
+]
+
+pub waits_in_word : (waits : List ℕ) (w b : ℕ) → b < 64 → has_bit (get_or waits w 0) b ≡ true → is_waiting waits (w * 64 + b) ≡ true
+waits_in_word waits w b lt on =
+    let word : (w * 64 + b) / 64 ≡ w = omega arith in
+    let bit : (w * 64 + b) % 64 ≡ b = omega arith in
+    word-is waits w (w * 64 + b) word ∙ ap (has_bit (get_or waits w 0)) bit ∙ on
