@@ -138,6 +138,7 @@ unfolding black_right number_right bulb_right lit_right
 rule-from-test p g grid on =
     let parts = lit-parts p g on in
     record {
+      grid = grid;
       none_on_black = λ c lt bulb_on. elim (or_cases (white p c) (eqb (slice_index g c) 0) (all_below-at (black_right p g) (cells_of p) c parts.black lt)) [
         | inl is ↦ is
         | inr zero_at ↦ let a = eqb-true (slice_index g c) 0 zero_at in let b = eqb-true (slice_index g c) 1 bulb_on in absurd (omega arith)

@@ -81,6 +81,7 @@ rule-from-test p g grid on =
     let parts = camp-parts p g on in
     let w = given p g parts.paired in
     record {
+      grid = grid;
       none_on_trees = λ c lt tent_on. elim (or_cases (not (tree p c)) (eqb (slice_index g c) 0) (all_below-at (tree_right p g) (cells_of p) c parts.trees lt)) [
         | inl bare ↦ not-true (tree p c) bare
         | inr zero_at ↦ let a = eqb-true (slice_index g c) 0 zero_at in let b = eqb-true (slice_index g c) 1 tent_on in absurd (omega arith)

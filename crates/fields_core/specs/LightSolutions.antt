@@ -2,6 +2,7 @@
 -- stands on a black cell, each numbered black cell has that many bulbs beside it, no bulb sees another, and each white
 -- cell holds a bulb or sees one.
 use Rattle.std.specs.Prelude.{◌≡◌, ◌≢◌, ℕ, ◌/◌, ◌%◌, ◌<◌, ◌≤◌, ◌⊎◌, true, List, slice_index_or}
+use Rattle.grid_core.specs.Grids.{IsGrid}
 use Rattle.gameid_core.specs.Puzzles.{Light}
 use Rattle.gameid_core.specs.declared.light_cell.LightCell.TheVariants.{Black, Numbered}
 use Rattle.fields_core.specs.Light.{cells_of, white, bulb, bulbs_beside}
@@ -34,6 +35,7 @@ pub record SeesBulb (p : Light) (g : List ℕ) (c : ℕ) : Type 0 where
   pub seen : Sees p c other
 
 pub record IsLightSolution (p : Light) (g : List ℕ) : Type 0 where
+  pub grid : IsGrid (cells_of p) 2 g
   pub none_on_black : (c : ℕ) → c < cells_of p → bulb g c ≡ true → white p c ≡ true
   pub numbers : (c n : ℕ) → c < cells_of p → slice_index_or p.cells c Black ≡ Numbered n → bulbs_beside p g c ≡ n
   pub none_seen : (c d : ℕ) → c < cells_of p → d < cells_of p → bulb g c ≡ true → bulb g d ≡ true → Sees p c d → ⊥

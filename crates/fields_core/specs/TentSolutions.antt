@@ -2,6 +2,7 @@
 -- stands on a tree, no two tents touch, each column and row has its number of tents, and the tents are paired one to one
 -- with the trees, each with a tree beside it. Two pairings of one set of tents are one solution.
 use Rattle.std.specs.Prelude.{◌≡◌, ℕ, ◌+◌, ◌<◌, true, false, List, slice_index}
+use Rattle.grid_core.specs.Grids.{IsGrid}
 use Rattle.grid_core.specs.Regions.{beside}
 use Rattle.engine_core.specs.Puzzle.{has_place}
 use Rattle.gameid_core.specs.Puzzles.{Tents}
@@ -15,6 +16,7 @@ pub record IsPairedBy (p : Tents) (g : List ℕ) (tree_of : ℕ → ℕ) : Type 
   pub none_out : (d : ℕ) → d < cells_of p → tree p d ≡ true → (c : ℕ) × (c < cells_of p) × (tent g c ≡ true) × (tree_of c ≡ d)
 
 pub record IsTentSolution (p : Tents) (g : List ℕ) : Type 0 where
+  pub grid : IsGrid (cells_of p) 2 g
   pub none_on_trees : (c : ℕ) → c < cells_of p → tent g c ≡ true → tree p c ≡ false
   pub none_touch : (c d : ℕ) → c < cells_of p → d < cells_of p → tent g c ≡ true → tent g d ≡ true → touches p.size c d ≡ false
   pub columns : (x : ℕ) → x < p.size.w → tents_in_column p.size g x ≡ slice_index p.counts x

@@ -25,7 +25,7 @@ use Rattle.gameid_core.proofs.Reading.{place}
 
 -- ---- numbers
 
-front_parts : (text : List ℕ) → digits_front text ++ after_digits text ≡ text
+pub front_parts : (text : List ℕ) → digits_front text ++ after_digits text ≡ text
 unfolding digits_front after_digits
 front_parts [] = refl
 front_parts (b ∷ after) =
@@ -34,7 +34,7 @@ front_parts (b ∷ after) =
       | false ↦ refl
     ]
 
-front_digits : (text : List ℕ) → all_ascii_digits (digits_front text) ≡ true
+pub front_digits : (text : List ℕ) → all_ascii_digits (digits_front text) ≡ true
 unfolding digits_front
 front_digits [] = refl
 front_digits (b ∷ after) =
@@ -198,7 +198,7 @@ size_lacks k front a b other x small_a small_b (inl e) =
     rw (e, list_any-append (λ c. eqb c k) (decimal a) (120 ∷ decimal b), digits_lack k (decimal a) other (digits_decimal own a small_a), x, digits_lack k (decimal b) other (digits_decimal own b small_b)) refl
 size_lacks k front a b other x small_a small_b (inr e) = rw e.1 (digits_lack k (decimal a) other (digits_decimal own a small_a))
 
-place_of : (p : ℕ → Bool) (front : List ℕ) (c : ℕ) (rest : List ℕ) → list_any p front ≡ false → p c ≡ true → position_or_len p (front ++ c ∷ rest) ≡ length front
+pub place_of : (p : ℕ → Bool) (front : List ℕ) (c : ℕ) (rest : List ℕ) → list_any p front ≡ false → p c ≡ true → position_or_len p (front ++ c ∷ rest) ≡ length front
 place_of p [] c rest none here = rw here refl
 place_of p (b ∷ front) c rest none here =
     elim (p b) as (λ v. p b ≡ v → position_or_len p ((b ∷ front) ++ c ∷ rest) ≡ length (b ∷ front)) [
@@ -207,7 +207,7 @@ place_of p (b ∷ front) c rest none here =
           rw e (omega (arith, place_of p front c rest tail here))
     ] refl
 
-position_at : (p : ℕ → Bool) (front : List ℕ) (c : ℕ) (rest : List ℕ) → list_any p front ≡ false → p c ≡ true → position p (front ++ c ∷ rest) ≡ Some (length front)
+pub position_at : (p : ℕ → Bool) (front : List ℕ) (c : ℕ) (rest : List ℕ) → list_any p front ≡ false → p c ≡ true → position p (front ++ c ∷ rest) ≡ Some (length front)
 position_at p front c rest none here =
     let at = place_of p front c rest none here in
     let within : ltb (length front) (length (front ++ c ∷ rest)) ≡ true = lt-ltb _ _ (omega (arith, length-append front (c ∷ rest))) in

@@ -2,6 +2,7 @@ pub mod CellsReading
 pub mod EachBelow
 pub mod FirstFaults
 pub mod HeadLaws
+pub mod HeadTestLaws
 pub mod Joined
 pub mod Letters
 pub mod LightForm

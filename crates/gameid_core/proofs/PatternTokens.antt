@@ -8,7 +8,7 @@ use Rattle.gameid_core.specs.declared.fault.IdFault.TheVariants.{BadByte}
 use Rattle.gameid_core.specs.Words.{begins, digits_front, after_digits, Cuts}
 use Rattle.gameid_core.specs.Puzzles.{used}
 use Rattle.gameid_core.specs.PatternText.{GivesNumber, clue_token, clue_number}
-use Rattle.gameid_core.specs.Runs.{TakesNumber}
+use Rattle.gameid_core.specs.FirstTokens.{TakesNumber}
 use Rattle.gameid_core.proofs.Numbers.{front_turn}
 use Rattle.gameid_core.proofs.Tokens.{cuts_some, cuts_single, cuts_number, cuts_joined}
 

@@ -7,11 +7,11 @@ use Rattle.gameid_core.specs.Puzzles.{IsLightCell}
 use Rattle.gameid_core.specs.declared.light_cell.LightCell.{LightCell}
 use Rattle.gameid_core.specs.declared.light_cell.LightCell.TheVariants.{White, Black, Numbered}
 use Rattle.grid_core.specs.Extent.{Extent}
-use Rattle.gameid_core.specs.GridReading.{IsShown}
-use Rattle.gameid_core.specs.GridTexts.{light_text}
+use Rattle.gameid_core.specs.GridReading.{IsAsShown}
+use Rattle.gameid_core.specs.GridTexts.{light_mark}
 
 -- the number of a place is below `values`
-pub number_fits : (hides : ℕ → Type 0) (values : ℕ) (size : Extent) (g : List ℕ) (place : ℕ) → IsShown hides values size g
+pub number_fits : (hides : ℕ → Type 0) (values : ℕ) (size : Extent) (g : List ℕ) (place : ℕ) → IsAsShown hides values size g
     → place < size.w * size.h → slice_index g place < values
 number_fits hides values size g place s lt = s.grid.each_value place 0 (omega (arith, s.grid.each_cell))
 
@@ -26,10 +26,10 @@ mark_read mark other (suc (suc v)) text after result small same different read i
 
 -- a black cell is one byte
 pub black_read : (cell : LightCell) (o : Option LightCell) (v : ℕ) (text after : List ℕ) (result : Option (ℕ × ℕ)) → o ≡ Some cell → cell ≢ White → IsLightCell cell → v ≡ 0
-    → (1 ≤ length text → result ≡ Some (0, 1)) → text ≡ light_text o v ++ after → result ≡ Some (v, length (light_text o v))
+    → (1 ≤ length text → result ≡ Some (0, 1)) → text ≡ light_mark o v ++ after → result ≡ Some (v, length (light_mark o v))
 black_read White o v text after result at black small none read is = absurd (black refl)
 black_read Black o v text after result at black small none read is =
-    let more : text ≡ light_text (Some Black) v ++ after = rw at at is in
+    let more : text ≡ light_mark (Some Black) v ++ after = rw at at is in
     rw at (read (omega (arith, ap length more)) ∙ ap (λ (n : ℕ). Some (n, 1)) (sym none))
 black_read (Numbered n) o v text after result at black small none read is =
     let digit = decimal_digit n (omega arith) in
@@ -40,7 +40,7 @@ black_read (Numbered n) o v text after result at black small none read is =
 -- a white cell
 pub white_read : (o : Option LightCell) (v : ℕ) (text after : List ℕ) (result : Option (ℕ × ℕ)) → o ≡ Some White → v < 2
     → ((byte : ℕ) (rest : List ℕ) → text ≡ byte ∷ rest → result ≡ Some ((if byte == 79 then 1 else 0), 1))
-    → text ≡ light_text o v ++ after → result ≡ Some (v, length (light_text o v))
+    → text ≡ light_mark o v ++ after → result ≡ Some (v, length (light_mark o v))
 white_read o v text after result at small read is = rw at (mark_read 79 46 v text after result small refl refl read (rw at at is))
 
 -- a cell without a tree

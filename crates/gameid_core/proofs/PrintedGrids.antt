@@ -6,11 +6,11 @@ use Rattle.std.proofs.lemmas.List.{ext_get_or, get_or_default, get_or_past, take
 use Rattle.std.proofs.Math.Seq.{take-length}
 use Rattle.std.proofs.Math.Nat.{mul_comm}
 use Rattle.grid_core.specs.Extent.{Extent}
-use Rattle.gameid_core.specs.GridReading.{IsShown, IsReadOf, FitUpTo, AgreeUpTo, IsPrinted}
+use Rattle.gameid_core.specs.GridReading.{IsAsShown, IsReadOf, FitUpTo, AgreeUpTo, IsPrinted}
 
 -- numbers that fit are a grid
 pub is_shown : (hides : ℕ → Type 0) (values : ℕ) (size : Extent) (g : List ℕ) (y : ℕ) → size.h ≤ y → y ≤ size.h → length g ≡ size.w * size.h
-    → FitUpTo hides values g (y * size.w) → IsShown hides values size g
+    → FitUpTo hides values g (y * size.w) → IsAsShown hides values size g
 is_shown hides values size g y over under cells fit = record {
   grid = record { each_cell = cells; each_value = λ k d lt. subst (λ (n : ℕ). n < values) (get_or_default g k 0 d lt) (fit k (within k lt)).0 };
   hidden = λ place hidden. elim (cases_lt place (length g)) [
@@ -24,7 +24,7 @@ is_shown hides values size g y over under cells fit = record {
 
 -- grids that agree are the same
 pub same_grid : (hides : ℕ → Type 0) (values : ℕ) (size : Extent) (g h : List ℕ) (y : ℕ) → size.h ≤ y → y ≤ size.h → length g ≡ size.w * size.h
-    → IsShown hides values size h → AgreeUpTo g h (y * size.w) → g ≡ h
+    → IsAsShown hides values size h → AgreeUpTo g h (y * size.w) → g ≡ h
 same_grid hides values size g h y over under cells shown agree =
     ext_get_or 0 g h (cells ∙ sym shown.grid.each_cell)
     (λ k lt. agree k (let same : y ≡ size.h = omega arith in let all : y * size.w ≡ size.w * size.h = ap (λ (n : ℕ). n * size.w) same ∙ mul_comm size.h size.w in omega arith))
@@ -57,22 +57,22 @@ form_either text front ended bytes printed n is same all form one = elim one [
 -- What was read of the text with a line end after it is what the text is the printed form of.
 module _ (hides : ℕ → Type 0) (values : ℕ) (size : Extent) (printed : List ℕ → List ℕ) (text ended : List ℕ) (field : Option (List ℕ)) where
   pub none_read : ended ≡ text ++ codes "\n" → field ≡ None
-      → ((g : List ℕ) (more : List ℕ) → IsShown hides values size g → ended ≡ printed g ++ more → field ≡ Some g)
+      → ((g : List ℕ) (more : List ℕ) → IsAsShown hides values size g → ended ≡ printed g ++ more → field ≡ Some g)
       → IsReadOf hides values size (λ g. IsPrinted text (printed g)) None
   none_read is none reads g shown form = let more = begins_with_form text ended (printed g) is form in absurd (cc (reads g more.0 shown more.1, none))
 
   only_read : (found : List ℕ) → ended ≡ text ++ codes "\n" → field ≡ Some found
-      → ((g : List ℕ) (more : List ℕ) → IsShown hides values size g → ended ≡ printed g ++ more → field ≡ Some g)
-      → (g : List ℕ) → IsShown hides values size g → IsPrinted text (printed g) → found ≡ g
+      → ((g : List ℕ) (more : List ℕ) → IsAsShown hides values size g → ended ≡ printed g ++ more → field ≡ Some g)
+      → (g : List ℕ) → IsAsShown hides values size g → IsPrinted text (printed g) → found ≡ g
   only_read found is some reads g shown form = let more = begins_with_form text ended (printed g) is form in cc (reads g more.0 shown more.1, some)
 
-  pub one_read : (found : List ℕ) → ended ≡ text ++ codes "\n" → field ≡ Some found → IsShown hides values size found
-      → ((g : List ℕ) (more : List ℕ) → IsShown hides values size g → ended ≡ printed g ++ more → field ≡ Some g)
+  pub one_read : (found : List ℕ) → ended ≡ text ++ codes "\n" → field ≡ Some found → IsAsShown hides values size found
+      → ((g : List ℕ) (more : List ℕ) → IsAsShown hides values size g → ended ≡ printed g ++ more → field ≡ Some g)
       → IsPrinted text (printed found) → IsReadOf hides values size (λ g. IsPrinted text (printed g)) (Some found)
   one_read found is some shown reads form = (shown, form, only_read found is some reads)
 
   pub other_read : (found : List ℕ) → ended ≡ text ++ codes "\n" → field ≡ Some found
-      → ((g : List ℕ) (more : List ℕ) → IsShown hides values size g → ended ≡ printed g ++ more → field ≡ Some g)
+      → ((g : List ℕ) (more : List ℕ) → IsAsShown hides values size g → ended ≡ printed g ++ more → field ≡ Some g)
       → (IsPrinted text (printed found) → ⊥) → IsReadOf hides values size (λ g. IsPrinted text (printed g)) None
   other_read found is some reads other g shown form =
       other (subst (λ (h : List ℕ). IsPrinted text (printed h)) (sym (only_read found is some reads g shown form)) form)

@@ -1,5 +1,5 @@
 -- What the tokens of a text are, and what they make together.
-use Rattle.std.proofs.Common.{◌≡◌, ℕ, true, false, cond, ◌&&◌, List, ◌∷◌, refl, sym, ap, subst, ◌∙◌, ◌⊎◌, inl, inr, arith, []}
+use Rattle.std.proofs.Common.{◌≡◌, ℕ, true, false, cond, ◌&&◌, List, ◌∷◌, refl, sym, ap, subst, ◌∙◌, ◌⊎◌, inl, inr, arith, map, []}
 use Rattle.std.specs.List.{AllByRecursion, concat}
 use Rattle.std.specs.Str.{all_ascii_digits}
 use Rattle.std.specs.Char.{is_ascii_digit}
@@ -50,3 +50,7 @@ numeral_word (b ∷ more) w d = record { some = omega arith; digits = rw d w.0 }
 
 pub alone : (b : ℕ) (more : List ℕ) → IsWord (b ∷ more) → joins b ≡ false → more ≡ []
 alone b more w e = elim w.1 [ inl j ↦ absurd (false≢true (sym e ∙ j)) | inr n ↦ n ]
+
+pub concat_bytes : (text : List ℕ) → concat (map (λ b. b ∷ []) text) ≡ text
+concat_bytes [] = refl
+concat_bytes (b ∷ bs) = ap (λ (t : List ℕ). b ∷ t) (concat_bytes bs)

@@ -7,7 +7,7 @@ use Rattle.grid_core.specs.Extent.{Extent}
 use Rattle.grid_core.specs.Grids.{IsGrid}
 
 -- A grid that holds 0 wherever what is printed shows nothing of the number.
-pub record IsShown (hides : ℕ → Type 0) (values : ℕ) (size : Extent) (g : List ℕ) : Type 0 where
+pub record IsAsShown (hides : ℕ → Type 0) (values : ℕ) (size : Extent) (g : List ℕ) : Type 0 where
   pub grid : IsGrid (size.w * size.h) values g
   pub hidden : (place : ℕ) → hides place → slice_index g place ≡ 0
 
@@ -23,9 +23,9 @@ tent_hides p place = slice_index p.trees place ≡ 1
 
 -- The one grid of which this is so; or there is none.
 abbrev pub IsReadOf : (ℕ → Type 0) → ℕ → Extent → (List ℕ → Type 0) → Option (List ℕ) → Type 0
-IsReadOf hides values size is None = (g : List ℕ) → IsShown hides values size g → is g → ⊥
+IsReadOf hides values size is None = (g : List ℕ) → IsAsShown hides values size g → is g → ⊥
 IsReadOf hides values size is (Some g) =
-    IsShown hides values size g × is g × ((h : List ℕ) → IsShown hides values size h → is h → g ≡ h)
+    IsAsShown hides values size g × is g × ((h : List ℕ) → IsAsShown hides values size h → is h → g ≡ h)
 
 -- what may stand after what is printed of a cell: a line end, or the next cell of the row
 abbrev pub Follows : (ℕ → List ℕ) → Extent → ℕ → List ℕ → Type 0

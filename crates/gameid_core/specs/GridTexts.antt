@@ -27,14 +27,14 @@ abbrev pub solo_cell : Solo → List ℕ → ℕ → List ℕ
 solo_cell p g place = (if place % solo_n p == 0 then [] else codes " ") ++ decimal (slice_index g place + 1)
 
 -- Light Up: 'O' a bulb, '.' a white cell without one, '#' a black cell without a number, its number else
-abbrev pub light_text : Option LightCell → ℕ → List ℕ
-light_text None value = []
-light_text (Some White) value = if value == 1 then codes "O" else codes "."
-light_text (Some Black) value = codes "#"
-light_text (Some (Numbered n)) value = decimal n
+abbrev pub light_mark : Option LightCell → ℕ → List ℕ
+light_mark None value = []
+light_mark (Some White) value = if value == 1 then codes "O" else codes "."
+light_mark (Some Black) value = codes "#"
+light_mark (Some (Numbered n)) value = decimal n
 
 abbrev pub light_cell : Light → List ℕ → ℕ → List ℕ
-light_cell p g place = light_text (slice_get p.cells place) (slice_index g place)
+light_cell p g place = light_mark (slice_get p.cells place) (slice_index g place)
 
 -- Tents: 'T' a tree, '^' a tent, '.' any other cell
 abbrev pub tents_cell : Tents → List ℕ → ℕ → List ℕ

@@ -2,12 +2,13 @@ pub mod Words
 pub mod Steps
 pub mod FirstFault
 pub mod Head
+pub mod HeadTests
 pub mod SizeText
 pub mod Puzzles
 pub mod BlackRuns
 pub mod PatternText
 pub mod Cells
-pub mod Runs
+pub mod FirstTokens
 pub mod SoloText
 pub mod LightText
 pub mod TentsText

@@ -1,6 +1,6 @@
 //! Grids read from what is printed of them.
 ghost use Rattle.std.specs.Prelude.{◌≡◌, ◌+◌, ◌*◌, ◌<◌, ◌≤◌, ◌++◌, ◌⊎◌, ◌↔◌, IsTrue, ℕ, List, Some, IfOk, IfSome, MatchOption, length, slice_index};
-ghost use Rattle.gameid_core.specs.GridReading.{IsShown, IsReadOf, FitUpTo, AgreeUpTo, IsPrinted};
+ghost use Rattle.gameid_core.specs.GridReading.{IsAsShown, IsReadOf, FitUpTo, AgreeUpTo, IsPrinted};
 ghost use Rattle.gameid_core.specs.GridTexts.{row_text, grid_text};
 
 use crate::grid_text::push_grid;
@@ -20,7 +20,7 @@ fn read_row<'a, P: Readable>(
     ensures cells { length grid.new ≡ length grid.old }
     ensures fit { IfSome result (λ rest. FitUpTo (P.hides puzzle.now) (P.value_count puzzle.now) grid.old (y * (P.extent puzzle.now).w)
         → FitUpTo (P.hides puzzle.now) (P.value_count puzzle.now) grid.new ((y + 1) * (P.extent puzzle.now).w)) }
-    ensures read { (g : List ℕ) (more : List ℕ) → IsShown (P.hides puzzle.now) (P.value_count puzzle.now) (P.extent puzzle.now) g
+    ensures read { (g : List ℕ) (more : List ℕ) → IsAsShown (P.hides puzzle.now) (P.value_count puzzle.now) (P.extent puzzle.now) g
         → text.now ≡ row_text (P.cell_text puzzle.now g) (P.extent puzzle.now) y ++ more
         → AgreeUpTo grid.old g (y * (P.extent puzzle.now).w)
         → MatchOption result ⊥ (λ rest. rest.now ≡ more) × AgreeUpTo grid.new g ((y + 1) * (P.extent puzzle.now).w) }
@@ -43,9 +43,9 @@ fn candidate<P: Readable>(
     text: &[u8],
 ) -> Result<Option<Grid>, AllocError>
     ensures shown { IfOk result (λ found. IfSome found
-        (λ g. IsShown (P.hides puzzle.now) (P.value_count puzzle.now) (P.extent puzzle.now) g)) }
+        (λ g. IsAsShown (P.hides puzzle.now) (P.value_count puzzle.now) (P.extent puzzle.now) g)) }
     ensures read { IfOk result (λ found. (g : List ℕ) (more : List ℕ)
-        → IsShown (P.hides puzzle.now) (P.value_count puzzle.now) (P.extent puzzle.now) g
+        → IsAsShown (P.hides puzzle.now) (P.value_count puzzle.now) (P.extent puzzle.now) g
         → text.now ≡ grid_text (P.cell_text puzzle.now g) (P.extent puzzle.now) ++ more
         → found ≡ Some g) }
 {

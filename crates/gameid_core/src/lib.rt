@@ -40,7 +40,7 @@ pub use game::Game;
 pub use grid_reader::read_grid;
 pub use grid_text::push_grid;
 pub use head::{MAX_ID, MAX_NUMBERS, read_size};
-pub use laws::over_long_is_too_long;
+pub use laws::{first_failed_test, over_long_is_too_long, tokens_lose_nothing};
 pub use light_cell::LightCell;
 pub use light_puzzle::LightPuzzle;
 pub use light_text::{first_fault_of_lights, one_reading_of_lights, read_lights};

@@ -1,12 +1,12 @@
 //! Reading game IDs of Light Up.
 
-ghost use Rattle.std.specs.Prelude.{◌≡◌, map, ◌⊎◌, ℕ, List, ◌<◌, ◌≤◌, ◌+◌, ◌*◌, ◌^◌, ◌∷◌, [], length, IfOk, IfErr, Ok, Err};
+ghost use Rattle.std.specs.Prelude.{◌≡◌, ◌↔◌, map, ◌⊎◌, ℕ, List, ◌<◌, ◌≤◌, ◌+◌, ◌*◌, ◌^◌, ◌∷◌, [], length, IfOk, IfErr, Ok, Err};
 ghost use Rattle.grid_core.specs.Extent.{max_side};
 ghost use Rattle.gameid_core.specs.Steps.{Gives, Fails};
 ghost use Rattle.gameid_core.specs.Head.{head_of};
 ghost use Rattle.gameid_core.specs.declared.fault.IdFault.{IdFault};
 ghost use Rattle.gameid_core.specs.Puzzles.{Light};
-ghost use Rattle.gameid_core.specs.Runs.{GivesRun};
+ghost use Rattle.gameid_core.specs.FirstTokens.{GivesRun};
 ghost use Rattle.gameid_core.specs.LightText.{SpellsLight, light_token, light_cells_at, light_of};
 ghost use Rattle.gameid_core.specs.Cells.{fill_step, fill_end};
 ghost use Rattle.gameid_core.specs.FirstFault.{FirstFault};
@@ -107,6 +107,6 @@ pub fn one_reading_of_lights()
 
 /// A description's fault is that of its first token with one, or of its end, after tokens without fault.
 pub fn first_fault_of_lights()
-    ensures { (all at : ℕ) (description : List ℕ) (f : IdFault) → light_cells_at all at description ≡ Err f
-        → FirstFault (fill_step light_token all) (fill_end all) at [] (map (λ b. b ∷ []) description) f }
+    ensures { (all at : ℕ) (description : List ℕ) (f : IdFault) → (light_cells_at all at description ≡ Err f)
+        ↔ FirstFault (fill_step light_token all) (fill_end all) at [] (map (λ b. b ∷ []) description) f }
 {}

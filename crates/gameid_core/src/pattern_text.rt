@@ -1,6 +1,6 @@
 //! Game IDs of Pattern.
 
-ghost use Rattle.std.specs.Prelude.{◌≡◌, ℕ, ◌<◌, ◌≤◌, ◌+◌, ◌^◌, [], ◌∷◌, length, map, IfOk, IfErr, Ok, Err, List, ◌⊎◌};
+ghost use Rattle.std.specs.Prelude.{◌≡◌, ◌↔◌, ℕ, ◌<◌, ◌≤◌, ◌+◌, ◌^◌, [], ◌∷◌, length, map, IfOk, IfErr, Ok, Err, List, ◌⊎◌};
 ghost use Rattle.gameid_core.specs.Steps.{Gives, Fails};
 ghost use Rattle.gameid_core.specs.Head.{head_of};
 ghost use Rattle.gameid_core.specs.declared.fault.IdFault.{IdFault};
@@ -9,7 +9,7 @@ ghost use Rattle.gameid_core.specs.Puzzles.{Pattern};
 ghost use Rattle.gameid_core.specs.PatternText.{SpellsPattern, pattern_of, GivesNumber, clue_number, clue_token, clues_at, pattern_step, pattern_end, nothing_yet};
 ghost use Rattle.gameid_core.specs.Words.{digits_front, after_digits, words};
 ghost use Rattle.gameid_core.specs.FirstFault.{FirstFault};
-ghost use Rattle.gameid_core.specs.Runs.{TakesNumber};
+ghost use Rattle.gameid_core.specs.FirstTokens.{TakesNumber};
 ghost use Rattle.grid_core.specs.Extent.{Extent};
 
 use crate::fault::IdFault;
@@ -190,6 +190,6 @@ pub fn one_reading_of_pattern()
 
 /// The fault of a description of Pattern is that of its first token with one, or of its end, after tokens without fault.
 pub fn first_fault_of_pattern()
-    ensures { (size : Extent) (at : ℕ) (description : List ℕ) (f : IdFault) → clues_at size at description ≡ Err f
-        → FirstFault (pattern_step size) (pattern_end size) at nothing_yet (words description) f }
+    ensures { (size : Extent) (at : ℕ) (description : List ℕ) (f : IdFault) → (clues_at size at description ≡ Err f)
+        ↔ FirstFault (pattern_step size) (pattern_end size) at nothing_yet (words description) f }
 {}

@@ -1,6 +1,6 @@
 //! Puzzles whose printed grids can be read, and how each game reads a cell.
 ghost use Rattle.std.specs.Prelude.{◌≡◌, ◌*◌, ◌<◌, ◌≤◌, ◌==◌, ◌++◌, ◌∷◌, [], ℕ, List, Some, None, IfSome, if◌then◌else◌, length, slice_index};
-ghost use Rattle.gameid_core.specs.GridReading.{IsShown, Follows, hides_nothing, light_hides, tent_hides};
+ghost use Rattle.gameid_core.specs.GridReading.{IsAsShown, Follows, hides_nothing, light_hides, tent_hides};
 
 use crate::digits::read_number;
 use crate::light_cell::LightCell;
@@ -23,7 +23,7 @@ pub trait Readable: Printed {
         ensures hidden { IfSome result (λ r. hides self.now place → r.0 ≡ 0) }
         ensures within { IfSome result (λ r. r.1 ≤ length text.now) }
         ensures read { (g : List ℕ) (after : List ℕ)
-            → IsShown (hides self.now) (Self.value_count self.now) (Self.extent self.now) g
+            → IsAsShown (hides self.now) (Self.value_count self.now) (Self.extent self.now) g
             → Follows (Self.cell_text self.now g) (Self.extent self.now) place after
             → text.now ≡ Self.cell_text self.now g place ++ after
             → result ≡ Some (slice_index g place, length (Self.cell_text self.now g place)) };

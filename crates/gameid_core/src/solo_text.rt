@@ -1,9 +1,9 @@
 //! Reading game IDs of Solo.
 
-ghost use Rattle.std.specs.Prelude.{◌≡◌, [], ◌⊎◌, ℕ, List, ◌<◌, ◌≤◌, ◌+◌, ◌*◌, ◌^◌, ◌∷◌, ◌&&◌, true, nat_le, length, IfOk, IfErr, Ok, Err};
+ghost use Rattle.std.specs.Prelude.{◌≡◌, ◌↔◌, [], ◌⊎◌, ℕ, List, ◌<◌, ◌≤◌, ◌+◌, ◌*◌, ◌^◌, ◌∷◌, ◌&&◌, true, nat_le, length, IfOk, IfErr, Ok, Err};
 ghost use Rattle.gameid_core.specs.Steps.{Gives, Fails};
 ghost use Rattle.gameid_core.specs.Words.{begins, words};
-ghost use Rattle.gameid_core.specs.Runs.{TakesRun};
+ghost use Rattle.gameid_core.specs.FirstTokens.{TakesRun};
 ghost use Rattle.gameid_core.specs.SoloText.{SpellsSolo, solo_token, solo_cells_at, solo_of};
 ghost use Rattle.gameid_core.specs.Puzzles.{Solo};
 ghost use Rattle.gameid_core.specs.Head.{head_of, max_numbers};
@@ -122,6 +122,6 @@ pub fn one_reading_of_solo()
 
 /// A description's fault is that of its first token with one, or of its end, after tokens without fault.
 pub fn first_fault_of_solo()
-    ensures { (n at : ℕ) (description : List ℕ) (f : IdFault) → solo_cells_at n at description ≡ Err f
-        → FirstFault (fill_step (solo_token n) (n * n)) (fill_end (n * n)) at [] (words description) f }
+    ensures { (n at : ℕ) (description : List ℕ) (f : IdFault) → (solo_cells_at n at description ≡ Err f)
+        ↔ FirstFault (fill_step (solo_token n) (n * n)) (fill_end (n * n)) at [] (words description) f }
 {}

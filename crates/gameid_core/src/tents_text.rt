@@ -1,6 +1,6 @@
 //! Reading game IDs of Tents.
 
-ghost use Rattle.std.specs.Prelude.{◌≡◌, ◌⊎◌, ℕ, List, ◌<◌, ◌≤◌, ◌+◌, ◌^◌, ◌++◌, ◌∷◌, length, OnOk, IfOk, IfErr, Ok, Err};
+ghost use Rattle.std.specs.Prelude.{◌≡◌, ◌↔◌, ◌⊎◌, ℕ, List, ◌<◌, ◌≤◌, ◌+◌, ◌^◌, ◌++◌, ◌∷◌, length, OnOk, IfOk, IfErr, Ok, Err};
 ghost use Rattle.gameid_core.specs.Steps.{Gives, Fails};
 ghost use Rattle.gameid_core.specs.Head.{head_of};
 ghost use Rattle.gameid_core.specs.declared.fault.IdFault.{IdFault};
@@ -9,7 +9,7 @@ ghost use Rattle.gameid_core.specs.TentsText.{SpellsTents, tents_at, tents_of, t
 ghost use Rattle.grid_core.specs.Extent.{Extent};
 ghost use Rattle.gameid_core.specs.FirstFault.{FirstFault};
 ghost use Rattle.gameid_core.specs.Words.{words};
-ghost use Rattle.gameid_core.specs.Runs.{TakesNumber};
+ghost use Rattle.gameid_core.specs.FirstTokens.{TakesNumber};
 
 use crate::fault::IdFault;
 use crate::game::Game;
@@ -163,6 +163,6 @@ pub fn one_reading_of_tents()
 
 /// A description's fault is that of its first token with one, or of its end, after tokens without fault.
 pub fn first_fault_of_tents()
-    ensures { (size : Extent) (at : ℕ) (description : List ℕ) (f : IdFault) → tents_at size at description ≡ Err f
-        → FirstFault (tents_step size) (tents_end size) at no_places (words description) f }
+    ensures { (size : Extent) (at : ℕ) (description : List ℕ) (f : IdFault) → (tents_at size at description ≡ Err f)
+        ↔ FirstFault (tents_step size) (tents_end size) at no_places (words description) f }
 {}

@@ -2,11 +2,6 @@ pub mod FirstRun
 pub mod WalkLemmas
 pub mod NextLine
 pub mod LineVisits
-pub mod Listings
-pub mod ListingRests
-pub mod ListingClues
-pub mod ListingSteps
-pub mod ListingKept
 pub mod Leads
 pub mod SpelledRuns
 pub mod Words

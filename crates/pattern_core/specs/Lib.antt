@@ -3,5 +3,4 @@ pub mod Lines
 pub mod LineRules
 pub mod LineLaws
 pub mod Faults
-pub mod Listing
 pub mod Track

@@ -1,5 +1,5 @@
 -- A clue spelled out as cells, and how a line goes along it. The places along the clue are numbered from 0, before its
--- first cell. A line that is at a place has passed what is spelled before it.
+-- first cell. A line that is at a place has passed what is spelled before it. No public contract uses these words.
 use Rattle.std.specs.Prelude.{◌≡◌, ℕ, zero, suc, ◌<◌, ◌≤◌, Bool, true, false, ◌&&◌, ◌||◌, ◌==◌, List, [], ◌∷◌, ◌++◌, length, get_or, replicate, drop, map}
 use Rattle.engine_core.specs.Filling.{Set, some_filling}
 use Rattle.engine_core.specs.Sets.{has_bit, set_of_bits}

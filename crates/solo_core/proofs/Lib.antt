@@ -12,3 +12,4 @@ pub mod StartLemmas
 pub mod VisitLemmas
 pub mod AnyLemmas
 pub mod SinglesLemmas
+pub mod SinglesInHouses

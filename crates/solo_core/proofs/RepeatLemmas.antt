@@ -3,6 +3,7 @@ use Rattle.std.proofs.Common.{◌≡◌, ℕ, suc, ◌+◌, ◌-◌, ◌*◌, �
 use Rattle.std.specs.List.{list_any}
 use Rattle.std.proofs.lemmas.Bool.{cases_lt, lt-ltb, le-ltb, and_cases, eqb-true, eq-eqb, or_left, or_right, true≢false, not-false, false_from_ne_true}
 use Rattle.std.proofs.lemmas.List.{get_or-map, length-map, get_or_default, take_more, map-append}
+use Rattle.grid_core.specs.Grids.{IsGrid}
 use Rattle.grid_core.specs.ShortSetLaws.{contains_from_member}
 use Rattle.gameid_core.specs.Puzzles.{Solo, IsSolo, solo_n}
 use Rattle.solo_core.specs.Solutions.{cells_of, row_of, column_of, block_of, share, IsSolution, is_solution}
@@ -137,5 +138,5 @@ no_solution p g (Block b) w s = no_line p g s (block_of p)
     (λ j k e. or_right (eqb (row_of p j) (row_of p k)) (eqb (column_of p j) (column_of p k) || eqb (block_of p j) (block_of p k))
     (or_right (eqb (column_of p j) (column_of p k)) (eqb (block_of p j) (block_of p k)) (eq-eqb (block_of p j) (block_of p k) e))) b w.3.1
 
-pub no_test : (p : Solo) (g : List ℕ) (fault : SoloFault) → IsFirstFault p g (Some fault) → false ≡ is_solution p g
-no_test p g fault w = sym (false_from_ne_true (is_solution p g) (λ on. no_solution p g fault w (rule_from_test p g on)))
+pub no_test : (p : Solo) (g : List ℕ) (fault : SoloFault) → IsGrid (cells_of p) (solo_n p) g → IsFirstFault p g (Some fault) → false ≡ is_solution p g
+no_test p g fault grid w = sym (false_from_ne_true (is_solution p g) (λ on. no_solution p g fault w (rule_from_test p g grid on)))

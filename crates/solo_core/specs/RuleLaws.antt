@@ -58,7 +58,7 @@ module _ (p : Solo) (ok : IsSolo p) (settled : Bool) (decides : Decision) (monot
       (and_from (ltb v (solo_n p)) _ (lt-ltb v (solo_n p) (let e = w.1 in omega arith)) (elim (cases_eq (slice_index p.givens c) 0) [
         | inl blank ↦ or_left (eqb (slice_index p.givens c) 0) (eqb (v + 1) (slice_index p.givens c)) (eq-eqb (slice_index p.givens c) 0 blank)
         | inr given ↦ or_right (eqb (slice_index p.givens c) 0) (eqb (v + 1) (slice_index p.givens c))
-            (eq-eqb (v + 1) (slice_index p.givens c) (ap (λ u. u + 1) (sym w.1) ∙ (rule_from_test p g on).givens c lt (omega arith)))
+            (eq-eqb (v + 1) (slice_index p.givens c) (ap (λ u. u + 1) (sym w.1) ∙ (rule_from_test p g grid on).givens c lt (omega arith)))
       ]))
 
   within_start : IsWithin (cells_of p) (solo_n p) (start p)
@@ -83,7 +83,7 @@ module _ (p : Solo) (ok : IsSolo p) (settled : Bool) (decides : Decision) (monot
     strikes_inside = λ h K L lt inside c v on. strikes_at-inside (solo_n p) (house_places p h) decides monotone K L inside c v on;
     strikes_in_scope = λ h K c v lt on. strikes_at-in_scope (solo_n p) (house_places p h) decides K c v on;
     solutions_start = λ g grid on. inside_start g grid on;
-    solutions_closed = λ g grid on h c v lt here. keeps h g lt grid (house_of_solution p ok g (rule_from_test p g on) h lt) c v here;
+    solutions_closed = λ g grid on h c v lt here. keeps h g lt grid (house_of_solution p ok g (rule_from_test p g grid on) h lt) c v here;
     settles = settles;
     bound_of_queue = λ _. bound_enough;
     bound_of_sweeps = λ e. absurd (true≢false e);

@@ -175,7 +175,7 @@ module _ (n : ℕ) (f : List ℕ) (long : length f ≡ n) (holds : no_repeat f �
 -- from cells that have one value each, all different, nothing is struck of what they have
 module _ (n : ℕ) (f : List ℕ) (long : length f ≡ n) (holds : no_repeat f ≡ true) (small : (k : ℕ) → k < n → get_or f k 0 < n)
     (at : Has) (own : (k : ℕ) → k < n → at k (get_or f k 0) ≡ true) (only : (k v : ℕ) → k < n → at k v ≡ true → v ≡ get_or f k 0) where
-  own_stays : (k v : ℕ) → k < n → v ≡ get_or f k 0 → strikes_where n n at k v ≡ false
+  pub own_stays : (k v : ℕ) → k < n → v ≡ get_or f k 0 → strikes_where n n at k v ≡ false
   own_stays k v lk e = false_from_ne_true (strikes_where n n at k v) (λ on. elim (four_cases n n at k v on) [
     | inl a ↦ taken a
     | inr more ↦ elim more [ inl a ↦ needed a | inr rest ↦ elim rest [ inl a ↦ empty a | inr a ↦ lost a ] ]

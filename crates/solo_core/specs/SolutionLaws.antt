@@ -5,6 +5,7 @@ use Rattle.std.proofs.lemmas.Bool.{cases_lt, cases_eq, cases_order, cases_Bool, 
 use Rattle.std.proofs.lemmas.Nat.{mul-add-lt, mul-le, div_below, mod_below}
 use Rattle.std.proofs.lemmas.List.{get_or-map, length-map}
 use Rattle.grid_core.specs.Candidates.{all_below}
+use Rattle.grid_core.specs.Grids.{IsGrid}
 use Rattle.grid_core.proofs.CandidateLemmas.{all_below-at, all_below-from}
 use Rattle.gameid_core.specs.Puzzles.{Solo, IsSolo, solo_n}
 use Rattle.solo_core.specs.Solutions.{cells_of, row_of, column_of, block_of, share, IsSolution, given_stands, are_apart, is_solution}
@@ -45,11 +46,12 @@ test_from_apart p g j k differ = elim (cases_eq j k) [
   ])
 ]
 
-pub rule_from_test : (p : Solo) (g : List ℕ) → is_solution p g ≡ true → IsSolution p g
+pub rule_from_test : (p : Solo) (g : List ℕ) → IsGrid (cells_of p) (solo_n p) g → is_solution p g ≡ true → IsSolution p g
 unfolding is_solution
-rule_from_test p g on =
+rule_from_test p g grid on =
     let parts = and_parts (all_below (given_stands p g) (cells_of p)) (all_below (λ j. all_below (are_apart p g j) (cells_of p)) (cells_of p)) on in
     record {
+      grid = grid;
       givens = λ place lt. given_from_test p g place (all_below-at (given_stands p g) (cells_of p) place parts.0 lt);
       different = λ j k lj lk. apart_from_test p g j k
           (all_below-at (are_apart p g j) (cells_of p) k (all_below-at (λ i. all_below (are_apart p g i) (cells_of p)) (cells_of p) j parts.1 lj) lk);
@@ -170,11 +172,11 @@ apart_in_house p ok g h h_in holds j k lj lk ne a b same =
         let len = l.len in
         get_or-map (slice_index g) (house_places p h) (l.index c) 0 0 (omega arith) ∙ ap (slice_index g) (l.covers c lc on)
 
-pub rule_from_houses : (p : Solo) → IsSolo p → (g : List ℕ)
+pub rule_from_houses : (p : Solo) → IsSolo p → (g : List ℕ) → IsGrid (cells_of p) (solo_n p) g
     → ((place : ℕ) → place < cells_of p → 1 ≤ slice_index p.givens place → slice_index g place + 1 ≡ slice_index p.givens place)
     → ((h : ℕ) → h < house_count p → no_repeat (map (slice_index g) (house_places p h)) ≡ true)
     → IsSolution p g
-rule_from_houses p ok g givens houses = record { givens = givens; different = different }
+rule_from_houses p ok g grid givens houses = record { grid = grid; givens = givens; different = different }
   where
     different : (j k : ℕ) → j < cells_of p → k < cells_of p → (j ≡ k → ⊥) → share p j k ≡ true → slice_index g j ≡ slice_index g k → ⊥
     different j k lj lk ne together same = elim (or_cases (eqb (row_of p j) (row_of p k)) (eqb (column_of p j) (column_of p k) || eqb (block_of p j) (block_of p k)) together) [

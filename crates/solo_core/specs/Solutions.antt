@@ -3,6 +3,7 @@
 -- c cells tall, and c of them lie beside each other; all are counted row by row from the top left.
 use Rattle.std.specs.Prelude.{◌≡◌, ℕ, ◌+◌, ◌*◌, ◌/◌, ◌%◌, ◌<◌, ◌≤◌, Bool, true, not, ◌&&◌, ◌||◌, ◌==◌, List, slice_index}
 use Rattle.grid_core.specs.Candidates.{all_below}
+use Rattle.grid_core.specs.Grids.{IsGrid}
 use Rattle.gameid_core.specs.Puzzles.{Solo, solo_n}
 
 abbrev pub cells_of : Solo → ℕ
@@ -23,12 +24,13 @@ abbrev pub share : Solo → ℕ → ℕ → Bool
 share p j k = (row_of p j == row_of p k) || ((column_of p j == column_of p k) || (block_of p j == block_of p k))
 
 pub record IsSolution (p : Solo) (g : List ℕ) : Type 0 where
+  pub grid : IsGrid (cells_of p) (solo_n p) g
   -- a given stands
   pub givens : (place : ℕ) → place < cells_of p → 1 ≤ slice_index p.givens place → slice_index g place + 1 ≡ slice_index p.givens place
   -- different places of one row, column or block hold different numbers
   pub different : (j k : ℕ) → j < cells_of p → k < cells_of p → (j ≡ k → ⊥) → share p j k ≡ true → slice_index g j ≡ slice_index g k → ⊥
 
--- the same as a test
+-- what stands and differs, as a test of a grid of the puzzle
 abbrev pub given_stands : Solo → List ℕ → ℕ → Bool
 given_stands p g place = (slice_index p.givens place == 0) || (slice_index g place + 1 == slice_index p.givens place)
 

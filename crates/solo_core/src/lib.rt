@@ -18,7 +18,10 @@ mod start;
 pub use cells::Cells;
 pub use check::check_solo;
 pub use fault::SoloFault;
-pub use laws::{accepted_are_solutions, houses_are_rows_columns_and_blocks, rules_are_lawful};
+pub use laws::{
+    accepted_are_solutions, houses_are_rows_columns_and_blocks, houses_strike_what_singles_strike,
+    rules_are_lawful,
+};
 pub use solo_houses::{HousesScratch, SoloHouses};
 pub use solo_singles::SoloSingles;
 

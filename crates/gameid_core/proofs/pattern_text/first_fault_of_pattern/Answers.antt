@@ -5,4 +5,4 @@ use Rattle.gameid_core.proofs.pattern_text.first_fault_of_pattern.Goals as goal
 
 pub returns : goal.returns
 unfolding clues_at
-returns c = λ size at description f e. laws.first_fault (pattern_step size) (pattern_end size) at nothing_yet (words description) f e
+returns c = λ size at description f. (laws.first_fault (pattern_step size) (pattern_end size) at nothing_yet (words description) f, laws.first_fault_is (pattern_step size) (pattern_end size) at nothing_yet (words description) f)

@@ -7,4 +7,4 @@ pub returns-in-None : goal.returns-in-None
 returns-in-None c = sym (test_from_rule _ _ c.in-None.ensures)
 
 pub returns-in-Some : goal.returns-in-Some
-returns-in-Some c = no_test _ _ _ c.in-Some.ensures
+returns-in-Some c = no_test _ _ _ c.requires.fits c.in-Some.ensures

@@ -1,0 +1,304 @@
+-- The first of the tests before the colon that fails is the fault that is read.
+use Rattle.std.proofs.Common.{◌≡◌, ◌↔◌, ℕ, ◌+◌, ◌≤◌, true, false, cond, eqb, ltb, List, ◌∷◌, ◌++◌, length, take, drop, get_or, append_assoc, Some, None, Result, Ok, Err, refl, sym, ap, subst, ◌∙◌, ◌⊎◌, inl, inr, arith, []}
+use Rattle.std.specs.Prelude.{position}
+use Rattle.std.specs.List.{AllByRecursion, list_any, position_or_len}
+use Rattle.std.specs.Char.{is_ascii_digit}
+use Rattle.std.proofs.lemmas.Bool.{false≢true, eqb-true, eqb-false, eq-eqb, ne_eqb, ltb-true, ltb-false, le-ltb, or_right}
+use Rattle.std.proofs.lemmas.List.{take_at}
+use Rattle.gameid_core.specs.declared.fault.IdFault.{IdFault}
+use Rattle.gameid_core.specs.declared.fault.IdFault.TheVariants.{TooLong, SeedId, NoColon, BadSize, Variant, SizeRange}
+use Rattle.gameid_core.specs.declared.game.Game.{Game}
+use Rattle.gameid_core.specs.Steps.{◌>>=◌}
+use Rattle.gameid_core.specs.Words.{begins, digits_front, after_digits, value}
+use Rattle.gameid_core.specs.Head.{side_at, sides_at, size_of, head_at, head_of, has_hash, in_range, max_id}
+use Rattle.gameid_core.specs.HeadTests.{Lacks, Comes, HasNumber, HasSize, FailsSize, FailsHead, size_tests, head_tests, IsFirstFailed}
+use Rattle.gameid_core.proofs.Numerals.{front_numeral, is_lead, begins_front, lead_is_digit}
+use Rattle.gameid_core.proofs.Numbers.{front_turn}
+use Rattle.gameid_core.proofs.Results.{ok_is}
+use Rattle.gameid_core.proofs.HeadLaws.{front_parts, front_digits, position_at}
+
+-- ---- the first that fails
+
+first_failed_one : (fails : IdFault → Type 0) (tests : List IdFault) (f g : IdFault) → IsFirstFailed fails tests f → IsFirstFailed fails tests g → f ≡ g
+first_failed_one fails [] f g p q = absurd p
+first_failed_one fails (t ∷ tests) f g (inl p) (inl q) = sym p.0 ∙ q.0
+first_failed_one fails (t ∷ tests) f g (inl p) (inr q) = absurd (q.0 p.1)
+first_failed_one fails (t ∷ tests) f g (inr p) (inl q) = absurd (p.0 q.1)
+first_failed_one fails (t ∷ tests) f g (inr p) (inr q) = first_failed_one fails tests f g p.1 q.1
+
+-- what was read tells the first test that fails, or all of them pass
+abbrev IsJudged : {A : Type 0} → (IdFault → Type 0) → List IdFault → Result A IdFault → Type 0
+IsJudged fails tests (Ok x) = AllByRecursion (λ t. fails t → ⊥) tests
+IsJudged fails tests (Err f) = IsFirstFailed fails tests f
+
+none_failed : (fails : IdFault → Type 0) (tests : List IdFault) (f : IdFault) → AllByRecursion (λ t. fails t → ⊥) tests → IsFirstFailed fails tests f → ⊥
+none_failed fails [] f all p = p
+none_failed fails (t ∷ tests) f all (inl p) = all.0 p.1
+none_failed fails (t ∷ tests) f all (inr p) = none_failed fails tests f all.1 p.1
+
+abbrev failed : {A : Type 0} → IdFault → Result A IdFault
+failed e = Err e
+
+err_is : {A : Type 0} (g f : IdFault) → failed {A = A} g ≡ failed f → g ≡ f
+err_is g f e = cc
+
+exactly : {A : Type 0} (fails : IdFault → Type 0) (tests : List IdFault) (r : Result A IdFault) (f : IdFault) → IsJudged fails tests r → (r ≡ Err f) ↔ IsFirstFailed fails tests f
+exactly fails tests (Ok x) f all = (λ e. absurd cc, λ p. absurd (none_failed fails tests f all p))
+exactly {A = A} fails tests (Err g) f p =
+    (λ e. subst (λ h. IsFirstFailed fails tests h) (err_is {A = A} g f e) p, λ q. ap (failed {A = A}) (first_failed_one fails tests g f p q))
+
+-- ---- a number
+
+after_stops : (text : List ℕ) → begins is_ascii_digit (after_digits text) ≡ false
+unfolding after_digits
+after_stops [] = refl
+after_stops (b ∷ after) =
+    elim (is_ascii_digit b) as (λ v. is_ascii_digit b ≡ v → begins is_ascii_digit (cond v (after_digits after) (b ∷ after)) ≡ false) [
+      | true ↦ λ e. after_stops after
+      | false ↦ λ e. e
+    ] refl
+
+number_in : (text : List ℕ) → begins is_lead text ≡ true → HasNumber text (digits_front text) (after_digits text)
+number_in [] e = absurd (false≢true e)
+number_in (b ∷ after) e = record {
+  parts = sym (front_parts (b ∷ after));
+  digits = front_digits (b ∷ after);
+  lead = rw (front_turn (b ∷ after) b after refl (lead_is_digit b e)).0 e;
+  all = after_stops (b ∷ after);
+}
+
+number_leads : (text number rest : List ℕ) → HasNumber text number rest → begins is_lead text ≡ true
+number_leads text number rest h = ap (begins is_lead) h.parts ∙ begins_front is_lead number rest h.lead
+
+number_is : (text number rest : List ℕ) → HasNumber text number rest → (digits_front text ≡ number) × (after_digits text ≡ rest)
+number_is text number rest h =
+    let f = front_numeral number rest h.digits h.all in
+    (ap digits_front h.parts ∙ f.0, ap after_digits h.parts ∙ f.1)
+
+side_read : (text number rest : List ℕ) → HasNumber text number rest → side_at text ≡ Ok (value number, rest)
+unfolding side_at
+side_read text number rest h =
+    let f = number_is text number rest h in
+    rw (number_leads text number rest h, f.0, f.1) refl
+
+-- what is read of a side
+abbrev IsSideRead : List ℕ → Result (ℕ × List ℕ) IdFault → Type 0
+IsSideRead text (Ok x) = (number : List ℕ) × HasNumber text number x.1 × (value number ≡ x.0)
+IsSideRead text (Err f) = (f ≡ BadSize) × ((number rest : List ℕ) → HasNumber text number rest → ⊥)
+
+side_judged : (text : List ℕ) → IsSideRead text (side_at text)
+unfolding side_at
+side_judged text =
+    elim (begins is_lead text) as (λ v. begins is_lead text ≡ v → IsSideRead text (cond v (Ok (value (digits_front text), after_digits text)) (Err BadSize))) [
+      | true ↦ λ e. (digits_front text, number_in text e, refl)
+      | false ↦ λ e. (refl, λ number rest h. absurd (false≢true (sym e ∙ number_leads text number rest h)))
+    ] refl
+
+-- ---- a size
+
+abbrev sides_ok : ℕ → ℕ → List ℕ → Result (ℕ × ℕ × List ℕ) IdFault
+sides_ok a b rest = Ok (a, b, rest)
+
+triple : (v w a b : ℕ) (rest : List ℕ) → v ≡ a → w ≡ b → sides_ok v w rest ≡ sides_ok a b rest
+triple v w a b rest p q = rw (p, q) refl
+
+size_read : (text : List ℕ) (a b : ℕ) (rest : List ℕ) → HasSize text a b rest → sides_at text ≡ sides_ok a b rest
+unfolding sides_at
+size_read text a b rest (inl h) =
+    rw (side_read text h.side rest h.number, h.alone) (triple (value h.side) (value h.side) a b rest h.both.0 h.both.1)
+size_read text a b rest (inr h) =
+    rw (side_read text h.left (120 ∷ h.after) h.first, side_read h.after h.right rest h.second) (triple (value h.left) (value h.right) a b rest h.both.0 h.both.1)
+
+x_first : (text : List ℕ) → begins (λ c. eqb c 120) text ≡ true → text ≡ 120 ∷ drop 1 text
+x_first [] e = absurd (false≢true e)
+x_first (c ∷ text) e = ap (λ (k : ℕ). k ∷ text) (eqb-true c 120 e)
+
+-- what is read of both sides
+abbrev AreSidesRead : List ℕ → Result (ℕ × ℕ × List ℕ) IdFault → Type 0
+AreSidesRead text (Ok x) = HasSize text x.0 x.1 x.2
+AreSidesRead text (Err f) = (f ≡ BadSize) × ((a b : ℕ) (rest : List ℕ) → HasSize text a b rest → ⊥)
+
+sides_judged : (text : List ℕ) → AreSidesRead text (sides_at text)
+unfolding sides_at
+sides_judged text = of_first (side_at text) (side_judged text)
+  where
+    of_second : (number rest : List ℕ) → HasNumber text number rest → begins (λ c. eqb c 120) rest ≡ true → (r : Result (ℕ × List ℕ) IdFault) → IsSideRead (drop 1 rest) r → AreSidesRead text (r >>= (λ second. Ok (value number, second.0, second.1)))
+    of_second number rest h x (Ok y) s =
+        inr (record {
+          left = number;
+          right = s.0;
+          after = drop 1 rest;
+          first = subst (λ t. HasNumber text number t) (x_first rest x) h;
+          second = s.1;
+          both = (refl, s.2);
+        })
+    of_second number rest h x (Err f) s = (
+      s.0,
+      λ a b more size. elim size [
+        | inl one ↦
+            let same : more ≡ rest = sym (number_is text one.side more one.number).1 ∙ (number_is text number rest h).1 in
+            absurd (false≢true (sym one.alone ∙ ap (begins (λ c. eqb c 120)) same ∙ x))
+        | inr two ↦
+            let same : 120 ∷ two.after ≡ rest = sym (number_is text two.left (120 ∷ two.after) two.first).1 ∙ (number_is text number rest h).1 in
+            absurd (s.1 two.right more (subst (λ t. HasNumber t two.right more) (ap (drop 1) same) two.second))
+      ],
+    )
+
+    of_first : (r : Result (ℕ × List ℕ) IdFault) → IsSideRead text r → AreSidesRead text (r >>= (λ first. cond (begins (λ c. eqb c 120) first.1) (side_at (drop 1 first.1) >>= (λ second. Ok (first.0, second.0, second.1))) (Ok (first.0, first.0, first.1))))
+    of_first (Err f) s = (s.0, λ a b rest size. elim size [ inl one ↦ absurd (s.1 one.side rest one.number) | inr two ↦ absurd (s.1 two.left (120 ∷ two.after) two.first) ])
+    of_first (Ok x) s =
+        rw (← s.2) (elim (begins (λ c. eqb c 120) x.1) as (λ v. begins (λ c. eqb c 120) x.1 ≡ v → AreSidesRead text (cond v (side_at (drop 1 x.1) >>= (λ second. Ok (value s.0, second.0, second.1))) (Ok (value s.0, value s.0, x.1)))) [
+          | true ↦ λ e. of_second s.0 x.1 s.1 e (side_at (drop 1 x.1)) (side_judged (drop 1 x.1))
+          | false ↦ λ e. inl (record { side = s.0; number = s.1; alone = e; both = (refl, refl) })
+        ] refl)
+
+-- a text begins with one size at most
+size_is : (text : List ℕ) (a b m n : ℕ) (rest more : List ℕ) → HasSize text a b rest → HasSize text m n more → (a ≡ m) × (b ≡ n) × (rest ≡ more)
+size_is text a b m n rest more p q =
+    let x : ℕ × ℕ × List ℕ = (a, b, rest) in
+    let y : ℕ × ℕ × List ℕ = (m, n, more) in
+    let same : x ≡ y = ok_is x y (sym (size_read text a b rest p) ∙ size_read text m n more q) in
+    (ap (λ (z : ℕ × ℕ × List ℕ). z.0) same, ap (λ (z : ℕ × ℕ × List ℕ). z.1) same, ap (λ (z : ℕ × ℕ × List ℕ). z.2) same)
+
+pub size_judged : (game : Game) (text : List ℕ) → IsJudged {A = ℕ × ℕ} (FailsSize game text) size_tests (size_of game text)
+unfolding size_of
+size_judged game text = of_sides (sides_at text) (sides_judged text)
+  where
+    of_range : (a b : ℕ) (rest : List ℕ) → HasSize text a b rest → length rest ≤ 0 → IsJudged {A = ℕ × ℕ} (FailsSize game text) size_tests (cond (in_range game a b) (Ok (a, b)) (Err SizeRange))
+    of_range a b rest h none =
+        let some : FailsSize game text BadSize → ⊥ = λ no. no a b rest h in
+        let whole : FailsSize game text Variant → ⊥ = λ v. (let same = size_is text v.0 v.1 a b v.2 rest v.3 h in omega (arith, v.4, ap length same.2, none)) in
+        elim (in_range game a b) as (λ v. in_range game a b ≡ v → IsJudged {A = ℕ × ℕ} (FailsSize game text) size_tests (cond v (Ok (a, b)) (Err SizeRange))) [
+          | true ↦ λ e. (some, (whole, ((λ s. (let same = size_is text s.0 s.1 a b s.2 rest s.3 h in false≢true (sym s.4 ∙ ap (λ k. in_range game k s.1) same.0 ∙ ap (λ k. in_range game a k) same.1 ∙ e))), tt)))
+          | false ↦ λ e. inr (some, inr (whole, inl (refl, (a, b, rest, h, e))))
+        ] refl
+
+    of_sides : (r : Result (ℕ × ℕ × List ℕ) IdFault) → AreSidesRead text r → IsJudged {A = ℕ × ℕ} (FailsSize game text) size_tests (r >>= (λ sides. cond (ltb 0 (length sides.2)) (Err Variant) (cond (in_range game sides.0 sides.1) (Ok (sides.0, sides.1)) (Err SizeRange))))
+    of_sides (Err f) h = inl (sym h.0, h.1)
+    of_sides (Ok x) h =
+        elim (ltb 0 (length x.2)) as (λ v. ltb 0 (length x.2) ≡ v → IsJudged {A = ℕ × ℕ} (FailsSize game text) size_tests (cond v (Err Variant) (cond (in_range game x.0 x.1) (Ok (x.0, x.1)) (Err SizeRange)))) [
+          | true ↦ λ e. inr ((λ no. no x.0 x.1 x.2 h), inl (refl, (x.0, x.1, x.2, h, ltb-true _ _ e)))
+          | false ↦ λ e. of_range x.0 x.1 x.2 h (ltb-false _ _ e)
+        ] refl
+
+-- ---- where a byte stands
+
+abbrev Split : ℕ → List ℕ → Type 0
+Split byte text = (front rest : List ℕ) × (text ≡ front ++ byte ∷ rest) × Lacks byte front
+
+split : (byte : ℕ) (text : List ℕ) → Lacks byte text ⊎ Split byte text
+split byte [] = inl tt
+split byte (b ∷ text) =
+    elim (eqb b byte) as (λ v. eqb b byte ≡ v → Lacks byte (b ∷ text) ⊎ Split byte (b ∷ text)) [
+      | true ↦ λ e. inr ([], text, ap (λ (k : ℕ). k ∷ text) (eqb-true b byte e), tt)
+      | false ↦ λ e. elim (split byte text) [
+        | inl none ↦ inl (eqb-false b byte e, none)
+        | inr s ↦ inr (b ∷ s.0, s.1, ap (λ (t : List ℕ). b ∷ t) s.2, (eqb-false b byte e, s.3))
+      ]
+    ] refl
+
+lacks_front : (byte : ℕ) (xs ys : List ℕ) → Lacks byte (xs ++ ys) → Lacks byte xs
+lacks_front byte [] ys h = tt
+lacks_front byte (x ∷ xs) ys h = (h.0, lacks_front byte xs ys h.1)
+
+no_byte : (byte : ℕ) (front rest : List ℕ) → Lacks byte (front ++ byte ∷ rest) → ⊥
+no_byte byte [] rest h = h.0 refl
+no_byte byte (b ∷ front) rest h = no_byte byte front rest h.1
+
+any_lacks : (byte : ℕ) (text : List ℕ) → Lacks byte text → list_any (λ b. eqb b byte) text ≡ false
+any_lacks byte [] h = refl
+any_lacks byte (b ∷ text) h = rw (ne_eqb b byte h.0, any_lacks byte text h.1) refl
+
+any_has : (byte : ℕ) (front rest : List ℕ) → list_any (λ b. eqb b byte) (front ++ byte ∷ rest) ≡ true
+any_has byte [] rest = rw (eq-eqb byte byte refl) refl
+any_has byte (b ∷ front) rest = or_right (eqb b byte) (list_any (λ c. eqb c byte) (front ++ byte ∷ rest)) (any_has byte front rest)
+
+none_at : (byte : ℕ) (text : List ℕ) → Lacks byte text → position_or_len (λ b. eqb b byte) text ≡ length text
+none_at byte [] h = refl
+none_at byte (b ∷ text) h = rw (ne_eqb b byte h.0) (omega (arith, none_at byte text h.1))
+
+position_none : (byte : ℕ) (text : List ℕ) → Lacks byte text → position (λ b. eqb b byte) text ≡ None
+position_none byte text h =
+    let past : ltb (length text) (length text) ≡ false = le-ltb _ _ (omega arith) in
+    rw (none_at byte text h, past) refl
+
+head_byte : (b c : ℕ) (xs ys : List ℕ) → b ∷ xs ≡ c ∷ ys → b ≡ c
+head_byte b c xs ys e = ap (λ t. get_or t 0 0) e
+
+-- one byte with no other before it, and the other with none of the one before it, can't both stand in a text
+crossed : (byte other : ℕ) → (byte ≡ other → ⊥) → (text f g r s : List ℕ) → text ≡ f ++ byte ∷ r → Lacks other f → text ≡ g ++ other ∷ s → Lacks byte g → ⊥
+crossed byte other apart text [] [] r s p lp q lq = apart (head_byte byte other r s (sym p ∙ q))
+crossed byte other apart text [] (c ∷ g) r s p lp q lq = lq.0 (sym (head_byte byte c r (g ++ other ∷ s) (sym p ∙ q)))
+crossed byte other apart text (b ∷ f) [] r s p lp q lq = lp.0 (head_byte b other (f ++ byte ∷ r) s (sym p ∙ q))
+crossed byte other apart text (b ∷ f) (c ∷ g) r s p lp q lq = crossed byte other apart (drop 1 text) f g r s (ap (drop 1) p) lp.1 (ap (drop 1) q) lq.1
+
+-- what stands before the first of a byte is one text
+front_is : (byte : ℕ) (text f g r s : List ℕ) → text ≡ f ++ byte ∷ r → Lacks byte f → text ≡ g ++ byte ∷ s → Lacks byte g → f ≡ g
+front_is byte text [] [] r s p lp q lq = refl
+front_is byte text [] (c ∷ g) r s p lp q lq = absurd (lq.0 (sym (head_byte byte c r (g ++ byte ∷ s) (sym p ∙ q))))
+front_is byte text (b ∷ f) [] r s p lp q lq = absurd (lp.0 (head_byte b byte (f ++ byte ∷ r) s (sym p ∙ q)))
+front_is byte text (b ∷ f) (c ∷ g) r s p lp q lq =
+    let first : b ≡ c = head_byte b c (f ++ byte ∷ r) (g ++ byte ∷ s) (sym p ∙ q) in
+    let more : f ≡ g = front_is byte (drop 1 text) f g r s (ap (drop 1) p) lp.1 (ap (drop 1) q) lq.1 in
+    rw (first, more) refl
+
+-- ---- the part before the colon
+
+passed : {A : Type 0} (fails : IdFault → Type 0) (t : IdFault) (tests : List IdFault) (r : Result A IdFault) → (fails t → ⊥) → IsJudged fails tests r → IsJudged fails (t ∷ tests) r
+passed fails t tests (Ok x) passes h = (passes, h)
+passed fails t tests (Err f) passes h = inr (passes, h)
+
+all_moved : (fails other : IdFault → Type 0) (tests : List IdFault) → AllByRecursion (λ t. fails t ↔ other t) tests → AllByRecursion (λ t. fails t → ⊥) tests → AllByRecursion (λ t. other t → ⊥) tests
+all_moved fails other [] same h = tt
+all_moved fails other (t ∷ tests) same h = ((λ x. h.0 (same.0.1 x)), all_moved fails other tests same.1 h.1)
+
+first_moved : (fails other : IdFault → Type 0) (tests : List IdFault) (f : IdFault) → AllByRecursion (λ t. fails t ↔ other t) tests → IsFirstFailed fails tests f → IsFirstFailed other tests f
+first_moved fails other [] f same h = h
+first_moved fails other (t ∷ tests) f same (inl h) = inl (h.0, same.0.0 h.1)
+first_moved fails other (t ∷ tests) f same (inr h) = inr ((λ x. h.0 (same.0.1 x)), first_moved fails other tests f same.1 h.1)
+
+judged_moved : {A B : Type 0} (fails other : IdFault → Type 0) (tests : List IdFault) (g : A → B) (r : Result A IdFault) → AllByRecursion (λ t. fails t ↔ other t) tests → IsJudged fails tests r → IsJudged other tests (r >>= (λ x. Ok (g x)))
+judged_moved fails other tests g (Ok x) same h = all_moved fails other tests same h
+judged_moved fails other tests g (Err f) same h = first_moved fails other tests f same h
+
+head_at_judged : (game : Game) (text : List ℕ) → IsJudged {A = ℕ × ℕ × ℕ} (FailsHead game text) (SeedId ∷ NoColon ∷ size_tests) (head_at game text (position (λ b. eqb b 58) text))
+unfolding head_at
+head_at_judged game text =
+    elim (split 58 text) [
+      | inl none ↦ rw (position_none 58 text none) (without none (split 35 text))
+      | inr s ↦ let at : position (λ b. eqb b 58) text ≡ Some (length s.0) = ap (position (λ b. eqb b 58)) s.2 ∙ position_at (λ b. eqb b 58) s.0 58 s.1 (any_lacks 58 s.0 s.3) refl in
+          let before : take (length s.0) text ≡ s.0 = ap (take (length s.0)) s.2 ∙ take_at s.0 (58 ∷ s.1) (length s.0) refl in
+          rw (at, before) (behind s.0 s.1 s.2 s.3 (split 35 s.0))
+    ]
+  where
+    without : Lacks 58 text → Lacks 35 text ⊎ Split 35 text → IsJudged {A = ℕ × ℕ × ℕ} (FailsHead game text) (SeedId ∷ NoColon ∷ size_tests) (cond (has_hash text) (Err SeedId) (Err NoColon))
+    without none (inl h) =
+        rw (any_lacks 35 text h) (inr ((λ c. no_byte 35 c.0 c.1 (subst (Lacks 35) c.2.parts h)), inl (refl, none)))
+    without none (inr s) =
+        let hash : has_hash text ≡ true = ap (list_any (λ b. eqb b 35)) s.2 ∙ any_has 35 s.0 s.1 in
+        rw hash (inl (refl, (s.0, s.1, record { parts = s.2; first = lacks_front 58 s.0 (35 ∷ s.1) (subst (Lacks 58) s.2 none) })))
+
+    behind : (front rest : List ℕ) → text ≡ front ++ 58 ∷ rest → Lacks 58 front → Lacks 35 front ⊎ Split 35 front → IsJudged {A = ℕ × ℕ × ℕ} (FailsHead game text) (SeedId ∷ NoColon ∷ size_tests) (cond (has_hash front) (Err SeedId) (size_of game front >>= (λ size. Ok (size.0, size.1, length front + 1))))
+    behind front rest parts lacks (inl h) =
+        let seed : FailsHead game text SeedId → ⊥ = λ c. crossed 58 35 (λ e. absurd (omega (arith, e))) text front c.0 rest c.1 parts h c.2.parts c.2.first in
+        let colon : FailsHead game text NoColon → ⊥ = λ none. no_byte 58 front rest (subst (Lacks 58) parts none) in
+        let same : (t : IdFault) → ((FailsSize game front t) ↔ ((f r : List ℕ) × Comes 58 text f r × FailsSize game f t)) = λ t. (λ x. (front, rest, record { parts = parts; first = lacks }, x), λ c. subst (λ f. FailsSize game f t) (front_is 58 text c.0 front c.1 rest c.2.parts c.2.first parts lacks) c.3) in
+        rw (any_lacks 35 front h) (passed (FailsHead game text) SeedId (NoColon ∷ size_tests) _ seed (passed (FailsHead game text) NoColon size_tests _ colon (judged_moved (FailsSize game front) (FailsHead game text) size_tests _ (size_of game front) (same BadSize, (same Variant, (same SizeRange, tt))) (size_judged game front))))
+    behind front rest parts lacks (inr s) =
+        let hash : has_hash front ≡ true = ap (list_any (λ b. eqb b 35)) s.2 ∙ any_has 35 s.0 s.1 in
+        let whole : text ≡ s.0 ++ 35 ∷ (s.1 ++ 58 ∷ rest) = parts ∙ ap (λ t. t ++ 58 ∷ rest) s.2 ∙ append_assoc s.0 (35 ∷ s.1) (58 ∷ rest) in
+        rw hash (inl (refl, (s.0, s.1 ++ 58 ∷ rest, record { parts = whole; first = lacks_front 58 s.0 (35 ∷ s.1) (subst (Lacks 58) s.2 lacks) })))
+
+pub head_judged : (game : Game) (text : List ℕ) → IsJudged {A = ℕ × ℕ × ℕ} (FailsHead game text) head_tests (head_of game text)
+unfolding head_of
+head_judged game text =
+    elim (ltb max_id (length text)) as (λ v. ltb max_id (length text) ≡ v → IsJudged {A = ℕ × ℕ × ℕ} (FailsHead game text) head_tests (cond v (Err TooLong) (head_at game text (position (λ b. eqb b 58) text)))) [
+      | true ↦ λ e. inl (refl, ltb-true _ _ e)
+      | false ↦ λ e. passed (FailsHead game text) TooLong (SeedId ∷ NoColon ∷ size_tests) _ (λ over. absurd (omega (arith, ltb-false _ _ e))) (head_at_judged game text)
+    ] refl
+
+pub size_exact : (game : Game) (text : List ℕ) (f : IdFault) → (size_of game text ≡ Err f) ↔ IsFirstFailed (FailsSize game text) size_tests f
+size_exact game text f = exactly (FailsSize game text) size_tests (size_of game text) f (size_judged game text)
+
+pub head_exact : (game : Game) (text : List ℕ) (f : IdFault) → (head_of game text ≡ Err f) ↔ IsFirstFailed (FailsHead game text) head_tests f
+head_exact game text f = exactly (FailsHead game text) head_tests (head_of game text) f (head_judged game text)

@@ -1,0 +1,78 @@
+-- The tests of the part before the colon, each in its own words, and which of them is the first that fails.
+use Rattle.std.specs.Prelude.{◌≡◌, ◌≢◌, ◌⊎◌, ℕ, ◌<◌, true, false, ◌&&◌, List, [], ◌∷◌, ◌++◌, length, nat_le, ◌==◌}
+use Rattle.std.specs.List.{AllByRecursion}
+use Rattle.std.specs.Char.{is_ascii_digit}
+use Rattle.std.specs.Str.{all_ascii_digits}
+use Rattle.gameid_core.specs.declared.fault.IdFault.{IdFault}
+use Rattle.gameid_core.specs.declared.fault.IdFault.TheVariants.{TooLong, SeedId, NoColon, BadSize, Variant, SizeRange}
+use Rattle.gameid_core.specs.declared.game.Game.{Game}
+use Rattle.gameid_core.specs.Words.{begins, value}
+use Rattle.gameid_core.specs.Head.{in_range, max_id}
+
+-- Of a text ----------------------------------------------------------------------------------------------------
+
+-- the byte stands nowhere in the text
+abbrev pub Lacks : ℕ → List ℕ → Type 0
+Lacks byte text = AllByRecursion (λ b. b ≢ byte) text
+
+-- the byte stands in the text, with no ':' before it: what stands before it, and what after
+pub record Comes (byte : ℕ) (text front rest : List ℕ) : Type 0 where
+  pub parts : text ≡ front ++ byte ∷ rest
+  pub first : Lacks 58 front
+
+-- the text begins with a number, which is a digit 1 to 9 and all digits that follow
+pub record HasNumber (text number rest : List ℕ) : Type 0 where
+  pub parts : text ≡ number ++ rest
+  pub digits : all_ascii_digits number ≡ true
+  pub lead : begins (λ b. nat_le 49 b && nat_le b 57) number ≡ true
+  pub all : begins is_ascii_digit rest ≡ false
+
+-- the text begins with a number and no 'x' behind it: both sides are that number
+pub record HasOneSide (text : List ℕ) (a b : ℕ) (rest : List ℕ) : Type 0 where
+  pub side : List ℕ
+  pub number : HasNumber text side rest
+  pub alone : begins (λ c. c == 120) rest ≡ false
+  pub both : (value side ≡ a) × (value side ≡ b)
+
+-- the text begins with a number, 'x' and a number
+pub record HasTwoSides (text : List ℕ) (a b : ℕ) (rest : List ℕ) : Type 0 where
+  pub left : List ℕ
+  pub right : List ℕ
+  pub after : List ℕ
+  pub first : HasNumber text left (120 ∷ after)
+  pub second : HasNumber after right rest
+  pub both : (value left ≡ a) × (value right ≡ b)
+
+-- the text begins with a size of these sides, and goes on with that rest
+abbrev pub HasSize : List ℕ → ℕ → ℕ → List ℕ → Type 0
+HasSize text a b rest = HasOneSide text a b rest ⊎ HasTwoSides text a b rest
+
+-- The tests ----------------------------------------------------------------------------------------------------
+
+-- what fails a text that is to be a size alone: it begins with none, goes on behind it, or is outside the limits
+abbrev pub FailsSize : Game → List ℕ → IdFault → Type 0
+FailsSize game text BadSize = (a b : ℕ) (rest : List ℕ) → HasSize text a b rest → ⊥
+FailsSize game text Variant = (a b : ℕ) × (rest : List ℕ) × HasSize text a b rest × (0 < length rest)
+FailsSize game text SizeRange = (a b : ℕ) × (rest : List ℕ) × HasSize text a b rest × (in_range game a b ≡ false)
+FailsSize game text fault = ⊥
+
+-- what fails an ID: too many bytes, a '#' with no ':' before it, no ':', or what stands before the first ':'
+abbrev pub FailsHead : Game → List ℕ → IdFault → Type 0
+FailsHead game text TooLong = max_id < length text
+FailsHead game text SeedId = (front rest : List ℕ) × Comes 35 text front rest
+FailsHead game text NoColon = Lacks 58 text
+FailsHead game text fault = (front rest : List ℕ) × Comes 58 text front rest × FailsSize game front fault
+
+-- Their order --------------------------------------------------------------------------------------------------
+
+abbrev pub size_tests : List IdFault
+size_tests = BadSize ∷ Variant ∷ SizeRange ∷ []
+
+abbrev pub head_tests : List IdFault
+head_tests = TooLong ∷ SeedId ∷ NoColon ∷ size_tests
+
+-- of these tests the first that fails
+abbrev pub IsFirstFailed : (IdFault → Type 0) → List IdFault → IdFault → Type 0
+IsFirstFailed fails [] fault = ⊥
+IsFirstFailed fails (test ∷ tests) fault =
+    ((test ≡ fault) × fails test) ⊎ ((fails test → ⊥) × IsFirstFailed fails tests fault)
