@@ -1,4 +1,4 @@
--- Where the closure of the start leaves each cell only its number of a solution, the verdict is one, whatever the budget.
+-- Where the closure of the start leaves each cell only its number of a solution, the verdict is that one, whatever the budget.
 use Rattle.std.proofs.Common.{◌≡◌, ℕ, zero, suc, ◌<◌, ◌≤◌, true, List, [], ◌∷◌, length, slice_index, None, refl, sym, ap, ◌∙◌, arith}
 use Rattle.grid_core.specs.Candidates.{Candidates, IsInside, IsWithin, single, grid_of, count_below}
 use Rattle.grid_core.proofs.CandidateLemmas.{count_below-pos, count_below-few, is_dead-each, is_full-each}
@@ -6,9 +6,9 @@ use Rattle.grid_core.proofs.GridLemmas.{single-at, grid_of-full}
 use Rattle.engine_core.specs.Puzzle.{Puzzle, IsLawful, IsClosed}
 use Rattle.engine_core.specs.Closing.{closure, IsLargestClosed}
 use Rattle.engine_core.specs.Walk.{Mark, Mark.Found, walk, walk_closed}
-use Rattle.engine_core.specs.Verdict.{outcome, Solves}
+use Rattle.engine_core.specs.Verdict.{Outcome.OneGrid, outcome, Solves}
 use Rattle.engine_core.proofs.WalkLemmas.{walk_closed-solved}
-use Rattle.maker_core.specs.Made.{is_one, has_one}
+use Rattle.maker_core.specs.Made.{IsFound}
 
 -- each value that the board has is the grid's
 pub record IsGridAlone (p : Puzzle) (g : List ℕ) (E : Candidates) : Type 0 where
@@ -32,7 +32,7 @@ closed_walk p g f E s =
     let same : grid_of p.cells p.values E ≡ g = grid_of-full p.cells p.values E g full long (λ c lt. s.solves.grid.each_value c 0 (omega arith)) s.has in
     walk_closed-solved p f 0 E alive full (ap p.is_solution same ∙ s.solves.good) ∙ ap (λ (h : List ℕ). Found h ∷ []) same
 
-found_one : (budget : ℕ) (g : List ℕ) → is_one (outcome budget None (Found g ∷ [])) ≡ true
+pub found_one : (budget : ℕ) (g : List ℕ) → outcome budget None (Found g ∷ []) ≡ OneGrid g
 unfolding outcome
 found_one zero g = refl
 found_one (suc budget) g = refl
@@ -48,10 +48,10 @@ pub closed_start : (p : Puzzle) → IsKnown p → IsClosed p (closure p p.start)
 closed_start p known = (known.largest p.start known.laws.start_within).closed
 
 pub found_at_once : (p : Puzzle) (budget : ℕ) (g : List ℕ) → IsKnown p → Solves p g
-    → ((c v : ℕ) → c < p.cells → v < p.values → closure p p.start c v ≡ true → v ≡ slice_index g c) → has_one p budget ≡ true
+    → ((c v : ℕ) → c < p.cells → v < p.values → closure p p.start c v ≡ true → v ≡ slice_index g c) → IsFound p budget g
 found_at_once p budget g known s alone =
     let largest = known.largest p.start known.laws.start_within in
     let stays : IsInside (single g) (closure p p.start) = largest.largest (single g) (known.laws.solutions_closed g s.grid s.good) (known.laws.solutions_start g s.grid s.good) in
     let marks : walk p 0 p.start ≡ Found g ∷ [] =
     known.on 0 p.start known.laws.start_within ∙ closed_walk p g (walk p 1) (closure p p.start) (record { solves = s; has = stays; alone = alone }) in
-    ap (λ (found : List Mark). is_one (outcome budget None found)) marks ∙ found_one budget g
+    ap (outcome budget None) marks ∙ found_one budget g

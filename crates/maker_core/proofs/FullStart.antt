@@ -1,5 +1,5 @@
--- Where a search starts from a solution alone, no other grid lies inside the start, and the verdict is one whatever the budget.
-use Rattle.std.proofs.Common.{◌≡◌, ℕ, true, List, slice_index, sym, arith}
+-- Where a search starts from a solution alone, no other grid lies inside the start, and the verdict is that one whatever the budget.
+use Rattle.std.proofs.Common.{ℕ, List, slice_index, sym, arith}
 use Rattle.std.proofs.lemmas.Grind.{same_number_lists}
 use Rattle.grid_core.specs.Candidates.{IsInside, single}
 use Rattle.grid_core.proofs.GridLemmas.{single-at, single-is}
@@ -7,10 +7,10 @@ use Rattle.engine_core.specs.Puzzle.{Puzzle, IsLawful}
 use Rattle.engine_core.specs.Verdict.{Outcome.OneGrid, Solves, IsTrueOf}
 use Rattle.engine_core.proofs.ClosingLemmas.{closure_inside, closure_closed, closure_largest}
 use Rattle.engine_core.proofs.WalkLemmas.{walk-unfold}
-use Rattle.maker_core.specs.Made.{has_one}
+use Rattle.maker_core.specs.Made.{IsFound}
 use Rattle.maker_core.proofs.FoundAtOnce.{IsKnown, found_at_once}
 
-known : (p : Puzzle) → IsLawful p → IsKnown p
+pub known : (p : Puzzle) → IsLawful p → IsKnown p
 known p laws = record {
   laws = laws;
   largest = λ K within. record { inside = closure_inside p K; closed = closure_closed p K within; largest = λ D closed inside. closure_largest p laws D K closed inside };
@@ -18,8 +18,8 @@ known p laws = record {
 }
 
 module _ (p : Puzzle) (laws : IsLawful p) (g : List ℕ) (solves : Solves p g) (inside : IsInside p.start (single g)) where
-  pub start_has_one : (budget : ℕ) → has_one p budget ≡ true
-  start_has_one budget =
+  pub start_found : (budget : ℕ) → IsFound p budget g
+  start_found budget =
       found_at_once p budget g (known p laws) solves (λ c v lc lv on. sym (single-is g c v (inside c v (closure_inside p p.start c v on))).1)
 
   pub start_only : IsTrueOf p (OneGrid g)

@@ -19,8 +19,8 @@ use Rattle.maker_core.specs.declared.made.Kept.{Kept}
 use Rattle.maker_core.specs.Draws.{IsFirstPassing, filling_at, stream_after}
 use Rattle.maker_core.specs.LightClues.{light_game}
 use Rattle.maker_core.specs.LightFilling.{Lighting, lights_of, light_filling, light_passes, light_puzzle_of, with_numbers, numbered_cell}
-use Rattle.maker_core.specs.LightMaking.{SolvesLights}
-use Rattle.maker_core.specs.Made.{IsOnlySolution, has_one}
+use Rattle.maker_core.specs.LightMaking.{IsLightMade}
+use Rattle.maker_core.specs.Made.{is_one, has_one, IsFound, IsOnlySolution}
 use Rattle.maker_core.specs.Thinning.{IsOnly, IsWithin, AreReasons, stream_after_clues}
 use Rattle.maker_core.proofs.FoundAtOnce.{IsKnown, found_at_once}
 use Rattle.maker_core.proofs.Tries.{IsTrying, IsTrying-more, first_passing, taken_is, left_after}
@@ -47,18 +47,17 @@ no_bulb_on p g c lit lt off =
 pub black_passes : (p : Light) (g : List ℕ) (budget : ℕ) → IsKnown (light_rules p) → IsGrid (cells_of p) 2 g → is_lit p g ≡ true → ((c : ℕ) → white p c ≡ false)
     → has_one (light_rules p) budget ≡ true
 black_passes p g budget known grid lit black =
-    found_at_once (light_rules p) budget g known (record { grid = grid; good = lit })
+    ap is_one (found_at_once (light_rules p) budget g known (record { grid = grid; good = lit })
     (λ c v lt few here.
     let inside = (known.largest (light_rules p).start known.laws.start_within).inside c v here in
-    start_black p c v (black c) few inside ∙ sym (no_bulb_on p g c lit lt (black c)))
+    start_black p c v (black c) few inside ∙ sym (no_bulb_on p g c lit lt (black c))))
 
 -- ---- the solution by the rules of the search, and by the rules of the game
 pub lights_only : (p : Light) (g answer : List ℕ) → ((q : Light) (h : List ℕ) → IsGridOf (light_rules q) h → (IsTrue ((light_rules q).is_solution h)) ↔ IsLightSolution q h)
-    → answer ≡ g → IsOnly (light_rules p) g → IsOnlySolution (SolvesLights p) answer
+    → answer ≡ g → IsOnly (light_rules p) g → IsOnlySolution (IsLightSolution p) answer
 lights_only p g answer accepted is only =
-    let solves : (h : List ℕ) → SolvesLights p h → Solves (light_rules p) h = λ h s. record { grid = s.grid; good = (accepted p h s.grid).1 s.solution } in
-    subst (λ (a : List ℕ). IsOnlySolution (SolvesLights p) a) (sym is)
-    (record { grid = only.0.grid; solution = (accepted p g only.0.grid).0 only.0.good }, λ h s. sym (only.1 h (solves h s)))
+    let solves : (h : List ℕ) → IsLightSolution p h → Solves (light_rules p) h = λ h s. record { grid = s.grid; good = (accepted p h s.grid).1 s } in
+    subst (λ (a : List ℕ). IsOnlySolution (IsLightSolution p) a) (sym is) ((accepted p g only.0.grid).0 only.0.good, λ h s. sym (only.1 h (solves h s)))
 
 -- ---- a try
 -- what a try made of the generator that the last one left
@@ -110,10 +109,27 @@ pub all_again : (p : Light) (g : List ℕ) → p ≡ with_numbers p g → p ≡ 
 unfolding with_numbers numbered_cell
 all_again p g again = again
 
-pub reasons_are : (budget : ℕ) (p : Light) (answer given : List ℕ) (kept : List Kept) → given ≡ answer → AreReasons light_game budget (light_game.all_clues p answer) p kept
+reasons_are : (budget : ℕ) (p : Light) (answer given : List ℕ) (kept : List Kept) → given ≡ answer → AreReasons light_game budget (light_game.all_clues p answer) p kept
     → AreReasons light_game budget (with_numbers p given) p kept
 unfolding with_numbers numbered_cell
 reasons_are budget p answer given kept same reasons = subst (λ (g : List ℕ). AreReasons light_game budget (light_game.all_clues p g) p kept) (sym same) reasons
+
+-- what is left of a filling's puzzle is what a maker gives
+pub made_lights : (size : Extent) (black budget tries : ℕ) (s : Stream) (p : Light) (g made : List ℕ) (kept : List Kept)
+    → (k : ℕ) × IsFirstPassing (light_filling size black) (light_passes size budget) s tries k
+    × IsWithin light_game p (light_puzzle_of size (filling_at (light_filling size black) k s)) × (made ≡ (filling_at (light_filling size black) k s).bulbs)
+    → p.size ≡ size → IsOnlySolution (IsLightSolution p) made → made ≡ g → IsFound (light_rules p) budget g
+    → AreReasons light_game budget (light_game.all_clues p g) p kept → IsLightMade size black budget tries s p made kept
+made_lights size black budget tries s p g made kept taken sized only same found reasons = record {
+  k = taken.0;
+  first = taken.1;
+  numbers = taken.2;
+  filled = taken.3;
+  size_asked = sized;
+  only = only;
+  verdict = subst (IsFound (light_rules p) budget) (sym same) found;
+  reasons = reasons_are budget p g made kept same reasons;
+}
 
 -- where each cell is black the first try is the last
 pub record IsFullFirst (black done : ℕ) : Type 0 where

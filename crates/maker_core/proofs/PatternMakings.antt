@@ -12,7 +12,7 @@ use Rattle.gameid_core.specs.Puzzles.{Pattern, lines_of}
 use Rattle.pattern_core.specs.LineRules.{line_rules}
 use Rattle.pattern_core.specs.Solutions.{IsSolution}
 use Rattle.engine_core.specs.Verdict.{Solves}
-use Rattle.maker_core.specs.Made.{HasNoTwo, IsOnlySolution}
+use Rattle.maker_core.specs.Made.{HasOne, IsFound, IsOnlySolution}
 use Rattle.maker_core.specs.Draws.{AreAll}
 use Rattle.maker_core.specs.PatternMaking.{pattern_of}
 
@@ -61,14 +61,15 @@ pattern_solved size g p has grid =
           ∙ ap (λ (s : Extent). slice_index_or p.clues (s.w + y) []) same;
     }
 
--- and the only one, where the rules have no two solutions
+-- and the one that the verdict names, where it is one
 pub pattern_only : (p : Pattern) (g : List ℕ)
     → ((q : Pattern) (h : List ℕ) → IsGrid (q.size.w * q.size.h) 2 h → (IsTrue ((line_rules q).is_solution h)) ↔ IsSolution q h)
-    → HasNoTwo (line_rules p)
-    → IsSolution p g → IsOnlySolution (IsSolution p) g
-pattern_only p g accepted unique good =
+    → (budget : ℕ) → HasOne (line_rules p) budget
+    → IsSolution p g → IsOnlySolution (IsSolution p) g × IsFound (line_rules p) budget g
+pattern_only p g accepted budget one good =
     let solves : (h : List ℕ) → IsSolution p h → Solves (line_rules p) h = λ h s. record { grid = s.grid; good = (accepted p h s.grid).1 s } in
-    (good, λ h s. unique g h (solves g good) (solves h s))
+    let same = one.only.1 g (solves g good) in
+    ((good, λ h s. sym (one.only.1 h (solves h s)) ∙ same), subst (IsFound (line_rules p) budget) same one.found)
 
 -- with one colour alone the first try is the last
 pub record IsFirstSure (black done : ℕ) : Type 0 where

@@ -21,7 +21,7 @@ use Rattle.pattern_core.specs.LineLaws.{length-line_places, place_in_row, cell_i
 use Rattle.pattern_core.specs.LineRules.{line_rules}
 use Rattle.pattern_core.specs.Solutions.{IsSolution}
 use Rattle.maker_core.specs.Draws.{AreAll}
-use Rattle.maker_core.specs.Made.{has_one}
+use Rattle.maker_core.specs.Made.{is_one, has_one}
 use Rattle.maker_core.specs.PatternMaking.{pattern_of}
 use Rattle.maker_core.proofs.FoundAtOnce.{IsKnown, closed_start, found_at_once}
 use Rattle.maker_core.proofs.PatternMakings.{runs_at}
@@ -161,6 +161,6 @@ plain_alone size g E c v extent long plain closed lt few on =
 pub plain_passes : (p : Pattern) (g : List ℕ) (budget : ℕ) → IsExtent p.size → p ≡ pattern_of p.size g → IsSolution p g → AreAll 0 g ⊎ AreAll 1 g
     → IsKnown (line_rules p) → has_one (line_rules p) budget ≡ true
 plain_passes p g budget extent made good plain known =
-    found_at_once (line_rules p) budget g known (record { grid = good.grid; good = is_solution-from p g good })
+    ap is_one (found_at_once (line_rules p) budget g known (record { grid = good.grid; good = is_solution-from p g good })
     (λ c v lt few here. plain_alone p.size g (closure (line_rules p) (line_rules p).start) c v extent good.grid.each_cell plain
-    (subst (λ (q : Pattern). IsClosed (line_rules q) (closure (line_rules p) (line_rules p).start)) made (closed_start (line_rules p) known)) lt few here)
+    (subst (λ (q : Pattern). IsClosed (line_rules q) (closure (line_rules p) (line_rules p).start)) made (closed_start (line_rules p) known)) lt few here))

@@ -13,9 +13,9 @@ use Rattle.solo_core.specs.Solutions.{IsSolution}
 use Rattle.solo_core.specs.SolutionLaws.{test_from_rule}
 use Rattle.solo_core.specs.RuleSets.{start, houses_rules}
 use Rattle.solo_core.specs.RuleLaws.{houses_lawful}
-use Rattle.maker_core.specs.Made.{has_one}
+use Rattle.maker_core.specs.Made.{IsFound}
 use Rattle.maker_core.specs.SoloFilling.{all_given}
-use Rattle.maker_core.proofs.FullStart.{start_has_one, start_only}
+use Rattle.maker_core.proofs.FullStart.{start_found, start_only}
 
 pub given-at : (g : List ℕ) (place : ℕ) → place < length g → slice_index (map suc g) place ≡ slice_index g place + 1
 given-at g place lt = let at = get_or-map suc g place 0 0 lt in omega arith
@@ -55,11 +55,11 @@ module _ (c r : ℕ) (g : List ℕ) (c_low : 2 ≤ c) (r_low : 2 ≤ r) (n_high 
   all_given-solves : IsSolution (all_given c r g) g → Solves (houses_rules (all_given c r g)) g
   all_given-solves solves = record { grid = fits; good = test_from_rule (all_given c r g) g solves }
 
-  -- no other grid solves it, and its verdict with any budget is one
+  -- no other grid solves it, and its verdict with any budget says so
   pub all_given-only : IsSolution (all_given c r g) g → IsTrueOf (houses_rules (all_given c r g)) (OneGrid g)
   all_given-only solves =
       start_only (houses_rules (all_given c r g)) (houses_lawful (all_given c r g) all_given-solo) g (all_given-solves solves) start_inside
 
-  pub all_given-passes : IsSolution (all_given c r g) g → (budget : ℕ) → has_one (houses_rules (all_given c r g)) budget ≡ true
-  all_given-passes solves budget =
-      start_has_one (houses_rules (all_given c r g)) (houses_lawful (all_given c r g) all_given-solo) g (all_given-solves solves) start_inside budget
+  pub all_given-found : IsSolution (all_given c r g) g → (budget : ℕ) → IsFound (houses_rules (all_given c r g)) budget g
+  all_given-found solves budget =
+      start_found (houses_rules (all_given c r g)) (houses_lawful (all_given c r g) all_given-solo) g (all_given-solves solves) start_inside budget

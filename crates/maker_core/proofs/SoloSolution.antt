@@ -114,6 +114,7 @@ module _ (c r : ℕ) (c_low : 0 < c) (r_low : 0 < r) (numbers rows columns : Lis
 
   pub is_solution_of_all : IsSolution (all_given c r grid) grid
   is_solution_of_all = record {
+    grid = is_grid;
     givens = λ place lt some. let long = length-numbered c r numbers rows columns in let at = get_or-map suc grid place 0 0 (omega arith) in omega arith;
     different = λ j k lj lk ne shared e. ne (apart_in_house j k lj lk shared e);
   }

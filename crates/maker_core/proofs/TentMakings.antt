@@ -5,7 +5,7 @@ use Rattle.std.proofs.lemmas.Bool.{cases_lt, lt-ltb, le-ltb}
 use Rattle.std.proofs.lemmas.Grind.{same_number_lists}
 use Rattle.std.proofs.lemmas.List.FromFn.{get_or-map-range_with_len, length-map-range_with_len}
 use Rattle.grid_core.specs.Extent.{Extent}
-use Rattle.grid_core.specs.Grids.{IsGrid, row_cells, column_cells}
+use Rattle.grid_core.specs.Grids.{row_cells, column_cells}
 use Rattle.gameid_core.specs.Lines.{line_list, lines_ones, ones}
 use Rattle.gameid_core.specs.Puzzles.{Tents, lines_of}
 use Rattle.engine_core.specs.Puzzle.{IsGridOf}
@@ -13,9 +13,8 @@ use Rattle.engine_core.specs.Verdict.{Solves}
 use Rattle.fields_core.specs.TentHouses.{tent_rules}
 use Rattle.fields_core.specs.TentSolutions.{IsTentSolution}
 use Rattle.maker_core.specs.declared.camp.Camp.{Camp}
-use Rattle.maker_core.specs.Made.{HasNoTwo, IsOnlySolution}
+use Rattle.maker_core.specs.Made.{HasOne, IsFound, IsOnlySolution}
 use Rattle.maker_core.specs.TentFilling.{tents_of}
-use Rattle.maker_core.specs.TentMaking.{SolvesTents}
 
 -- a puzzle with those trees and numbers
 pub record HasParts (size : Extent) (camp : Camp) (p : Tents) : Type 0 where
@@ -52,13 +51,11 @@ pub tents_size : (size : Extent) (camp : Camp) (p : Tents) → p ≡ tents_of si
 unfolding tents_of
 tents_size size camp p is = ap (λ (q : Tents). q.size) is
 
-pub tents_only : (size : Extent) (camp : Camp) (p : Tents) → p ≡ tents_of size camp → IsGrid (size.w * size.h) 2 camp.tents → IsTentSolution (tents_of size camp) camp.tents
+pub tents_only : (size : Extent) (camp : Camp) (p : Tents) → p ≡ tents_of size camp → IsTentSolution (tents_of size camp) camp.tents
     → ((q : Tents) (h : List ℕ) → IsGridOf (tent_rules q) h → (IsTrue ((tent_rules q).is_solution h)) ↔ IsTentSolution q h)
-    → HasNoTwo (tent_rules p) → IsOnlySolution (SolvesTents p) camp.tents
-tents_only size camp p is grid solution accepted unique =
-    let solves : (h : List ℕ) → SolvesTents p h → Solves (tent_rules p) h = λ h s. record { grid = s.grid; good = (accepted p h s.grid).1 s.solution } in
-    let good : SolvesTents p camp.tents = record {
-      grid = subst (λ (s : Extent). IsGrid (s.w * s.h) 2 camp.tents) (sym (tents_size size camp p is)) grid;
-      solution = subst (λ (q : Tents). IsTentSolution q camp.tents) (sym is) solution;
-    } in
-    (good, λ h s. unique camp.tents h (solves camp.tents good) (solves h s))
+    → (budget : ℕ) → HasOne (tent_rules p) budget → IsOnlySolution (IsTentSolution p) camp.tents × IsFound (tent_rules p) budget camp.tents
+tents_only size camp p is solution accepted budget one =
+    let solves : (h : List ℕ) → IsTentSolution p h → Solves (tent_rules p) h = λ h s. record { grid = s.grid; good = (accepted p h s.grid).1 s } in
+    let good = subst (λ (q : Tents). IsTentSolution q camp.tents) (sym is) solution in
+    let same = one.only.1 camp.tents (solves camp.tents good) in
+    ((good, λ h s. sym (one.only.1 h (solves h s)) ∙ same), subst (IsFound (tent_rules p) budget) same one.found)

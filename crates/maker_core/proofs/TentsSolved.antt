@@ -282,6 +282,7 @@ row_count size g y lt =
 pub camp_solves : (size : Extent) (order : List ℕ) (k : ℕ) (camp : Camp) → IsCamp size order k camp → IsTentSolution (tents_of size camp) camp.tents
 unfolding tents_of
 camp_solves size order k camp w = record {
+  grid = w.tents_grid;
   none_on_trees = λ c lt on. let none = w.off_trees c on in ne_eqb (slice_index camp.trees c) 1 (λ e. absurd (omega arith));
   none_touch = λ c d _ _ onc ond. w.apart c d onc ond;
   columns = λ x lt. column_count size camp.tents x lt;

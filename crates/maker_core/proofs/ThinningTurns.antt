@@ -7,8 +7,9 @@ use Rattle.std.proofs.lemmas.List.{get_or-set_other, length-set}
 use Rattle.std.proofs.lemmas.Grind.{get_or-set_at}
 use Rattle.std.proofs.Math.Seq.{drop-cons}
 use Rattle.engine_core.specs.Puzzle.{Needs, FitsIn, needs_of}
+use Rattle.maker_core.specs.Made.{HasOne}
 use Rattle.maker_core.specs.Thinning.{Game, IsGame, IsWithin, HasTwo, IsReason}
-use Rattle.maker_core.specs.ThinningSteps.{HasOne, IsVerdict, IsTried, IsTold, IsThinning}
+use Rattle.maker_core.specs.ThinningSteps.{IsVerdict, IsTried, IsTold, IsThinning}
 use Rattle.maker_core.specs.declared.made.Why.{Why}
 use Rattle.maker_core.specs.declared.made.Why.TheVariants.{Needed, Budget}
 use Rattle.maker_core.proofs.ThinningLists.{contains_next, contains_head, contains_split, head_apart}
@@ -95,10 +96,10 @@ tried_within : {A : Type 0} (game : Game A) → IsGame game → (budget place n 
 tried_within game laws budget place n p new None e tried = subst (λ x. IsWithin game x p) (sym tried.0) (thinner game laws p place n e)
 tried_within game laws budget place n p new (Some why) e tried = subst (λ x. IsWithin game x p) (sym tried.0) (within_itself game laws p)
 
-tried_one : {A : Type 0} (game : Game A) (budget place : ℕ) (p new : A) (why : Option Why) → HasOne (game.rules p)
-    → IsTried game budget place p new why → HasOne (game.rules new)
-tried_one game budget place p new None one tried = subst (λ x. HasOne (game.rules x)) (sym tried.0) tried.1
-tried_one game budget place p new (Some why) one tried = subst (λ x. HasOne (game.rules x)) (sym tried.0) one
+tried_one : {A : Type 0} (game : Game A) (budget place : ℕ) (p new : A) (why : Option Why) → HasOne (game.rules p) budget
+    → IsTried game budget place p new why → HasOne (game.rules new) budget
+tried_one game budget place p new None one tried = subst (λ x. HasOne (game.rules x) budget) (sym tried.0) tried.1
+tried_one game budget place p new (Some why) one tried = subst (λ x. HasOne (game.rules x) budget) (sym tried.0) one
 
 tried_others : {A : Type 0} (game : Game A) → IsGame game → (budget place other : ℕ) (p new : A) (why : Option Why) → other ≢ place
     → IsTried game budget place p new why → game.clue new other ≡ game.clue p other

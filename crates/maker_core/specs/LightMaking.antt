@@ -1,11 +1,25 @@
--- What solves a puzzle of Light Up that was made.
-use Rattle.std.specs.Prelude.{ℕ, List}
-use Rattle.grid_core.specs.Grids.{IsGrid}
+-- What a maker of Light Up gives.
+use Rattle.std.specs.Prelude.{◌≡◌, ℕ, List}
+use Rattle.rand_core.specs.Stream.{Stream}
+use Rattle.grid_core.specs.Extent.{Extent}
 use Rattle.gameid_core.specs.Puzzles.{Light}
-use Rattle.fields_core.specs.Light.{cells_of}
+use Rattle.fields_core.specs.LightHouses.{light_rules}
 use Rattle.fields_core.specs.LightSolutions.{IsLightSolution}
+use Rattle.maker_core.specs.Draws.{IsFirstPassing, filling_at}
+use Rattle.maker_core.specs.LightClues.{light_game}
+use Rattle.maker_core.specs.LightFilling.{light_filling, light_passes, light_puzzle_of, with_numbers}
+use Rattle.maker_core.specs.Made.{IsFound, IsOnlySolution}
+use Rattle.maker_core.specs.Thinning.{AreReasons, IsWithin}
+use Rattle.maker_core.specs.declared.made.Kept.{Kept}
 
--- a grid of the puzzle that meets the rules
-pub record SolvesLights (p : Light) (g : List ℕ) : Type 0 where
-  pub grid : IsGrid (cells_of p) 2 g
-  pub solution : IsLightSolution p g
+-- The first of the fillings that passes gives the solution and the black cells; the puzzle has some of its numbers and no
+-- other solution, and its own verdict says so. Each number that is left was kept for a reason.
+pub record IsLightMade (size : Extent) (black budget tries : ℕ) (s : Stream) (p : Light) (g : List ℕ) (kept : List Kept) : Type 0 where
+  pub k : ℕ
+  pub first : IsFirstPassing (light_filling size black) (light_passes size budget) s tries k
+  pub numbers : IsWithin light_game p (light_puzzle_of size (filling_at (light_filling size black) k s))
+  pub filled : g ≡ (filling_at (light_filling size black) k s).bulbs
+  pub size_asked : p.size ≡ size
+  pub only : IsOnlySolution (IsLightSolution p) g
+  pub verdict : IsFound (light_rules p) budget g
+  pub reasons : AreReasons light_game budget (with_numbers p g) p kept

@@ -1,7 +1,7 @@
 -- When a filling passes, and what a maker of puzzles gives.
 use Rattle.std.specs.Prelude.{◌≡◌, ℕ, Bool, true, false, List}
 use Rattle.engine_core.specs.Puzzle.{Puzzle}
-use Rattle.engine_core.specs.Verdict.{Outcome, Outcome.NoGrid, Outcome.OneGrid, Outcome.TwoGrids, Outcome.OutOfBudget, verdict_of, Solves}
+use Rattle.engine_core.specs.Verdict.{Outcome, Outcome.NoGrid, Outcome.OneGrid, Outcome.TwoGrids, Outcome.OutOfBudget, verdict_of, IsTrueOf}
 
 -- whether a verdict is that there is one grid
 abbrev pub is_one : Outcome → Bool
@@ -14,9 +14,15 @@ is_one (OutOfBudget first) = false
 abbrev pub has_one : Puzzle → ℕ → Bool
 has_one rules budget = is_one (verdict_of rules budget)
 
--- no two grids solve the rules
-abbrev pub HasNoTwo : Puzzle → Type 0
-HasNoTwo rules = (g h : List ℕ) → Solves rules g → Solves rules h → h ≡ g
+-- the verdict with the budget is that the grid is the one solution
+abbrev pub IsFound : Puzzle → ℕ → List ℕ → Type 0
+IsFound rules budget g = verdict_of rules budget ≡ OneGrid g
+
+-- so it is of some grid, which is a solution, and no other is
+pub record HasOne (rules : Puzzle) (budget : ℕ) : Type 0 where
+  pub answer : List ℕ
+  pub found : IsFound rules budget answer
+  pub only : IsTrueOf rules (OneGrid answer)
 
 -- the grid is a solution and no other is
 abbrev pub IsOnlySolution : (List ℕ → Type 0) → List ℕ → Type 0

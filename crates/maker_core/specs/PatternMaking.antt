@@ -1,11 +1,14 @@
--- What a maker of Pattern tries.
-use Rattle.std.specs.Prelude.{ℕ, ◌*◌, Bool, List}
+-- What a maker of Pattern tries, and what it gives.
+use Rattle.std.specs.Prelude.{◌≡◌, ℕ, ◌*◌, Bool, List, []}
+use Rattle.rand_core.specs.Stream.{Stream}
 use Rattle.grid_core.specs.Extent.{Extent}
 use Rattle.gameid_core.specs.Lines.{lines_runs}
 use Rattle.gameid_core.specs.Puzzles.{Pattern}
 use Rattle.pattern_core.specs.LineRules.{line_rules}
-use Rattle.maker_core.specs.Draws.{Making, black_cells}
-use Rattle.maker_core.specs.Made.{has_one}
+use Rattle.pattern_core.specs.Solutions.{IsSolution}
+use Rattle.maker_core.specs.Draws.{Making, black_cells, IsFirstPassing, filling_at}
+use Rattle.maker_core.specs.Made.{has_one, IsFound, IsOnlySolution}
+use Rattle.maker_core.specs.declared.made.Kept.{Kept}
 
 -- a filling is a grid whose cells are drawn one by one
 abbrev pub pattern_filling : Extent → ℕ → Making (List ℕ)
@@ -18,3 +21,14 @@ pattern_of size g = record { size = size; clues = lines_runs size g }
 -- a filling passes where the verdict of its puzzle is one
 abbrev pub pattern_passes : Extent → ℕ → List ℕ → Bool
 pattern_passes size budget g = has_one (line_rules (pattern_of size g)) budget
+
+-- The first of the fillings that passes gives the solution, and its lines the clues; it is the only solution, and the
+-- verdict says so. Clues are not thinned.
+pub record IsPatternMade (size : Extent) (black budget tries : ℕ) (s : Stream) (p : Pattern) (g : List ℕ) (kept : List Kept) : Type 0 where
+  pub k : ℕ
+  pub first : IsFirstPassing (pattern_filling size black) (pattern_passes size budget) s tries k
+  pub filled : g ≡ filling_at (pattern_filling size black) k s
+  pub clues : p ≡ pattern_of size g
+  pub only : IsOnlySolution (IsSolution p) g
+  pub verdict : IsFound (line_rules p) budget g
+  pub unthinned : kept ≡ []

@@ -45,6 +45,7 @@ solution_stays : (p : Solo) (givens g : List ℕ) → ((place n : ℕ) → given
     → IsSolution (with_givens p.c p.r givens) g → IsSolution p g
 unfolding with_givens
 solution_stays p givens g clues s = record {
+  grid = s.grid;
   givens = λ place below low. let same = clue_is (slice_index givens place) (slice_index p.givens place) (clues place (slice_index p.givens place) (is_clue _ low)) in s.givens place below (omega (arith, low, same)) ∙ same;
   different = s.different;
 }
@@ -57,7 +58,7 @@ solutions_stay : (p q : Solo) (g : List ℕ) → IsWithin solo_game p q → Solv
 unfolding with_givens
 solutions_stay p q g w s = record {
   grid = (subst (λ x. Solves (houses_rules x) g) (resized p q w.frame) s).grid;
-  good = test_from_rule p g (solved_by_fewer p q g w (rule_from_test q g s.good));
+  good = test_from_rule p g (solved_by_fewer p q g w (rule_from_test q g s.grid s.good));
 }
 
 cleared : (givens : List ℕ) (place : ℕ) → slice_index (slice_set givens place 0) place ≡ 0

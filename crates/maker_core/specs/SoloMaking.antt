@@ -1,12 +1,16 @@
--- What a maker of Solo tries, and what solves the puzzle that it makes.
-use Rattle.std.specs.Prelude.{ℕ, ◌*◌, ◌≤◌, Bool, List}
-use Rattle.grid_core.specs.Grids.{IsGrid}
+-- What a maker of Solo tries, and what it gives.
+use Rattle.std.specs.Prelude.{◌≡◌, ℕ, ◌*◌, ◌≤◌, Bool, List}
+use Rattle.rand_core.specs.Stream.{Stream}
 use Rattle.gameid_core.specs.Head.{max_numbers}
-use Rattle.gameid_core.specs.Puzzles.{Solo, solo_n}
+use Rattle.gameid_core.specs.Puzzles.{Solo}
 use Rattle.solo_core.specs.RuleSets.{houses_rules}
-use Rattle.solo_core.specs.Solutions.{IsSolution, cells_of}
-use Rattle.maker_core.specs.Made.{has_one}
-use Rattle.maker_core.specs.SoloFilling.{all_given}
+use Rattle.solo_core.specs.Solutions.{IsSolution}
+use Rattle.maker_core.specs.Draws.{IsFirstPassing, filling_at}
+use Rattle.maker_core.specs.Made.{has_one, IsFound, IsOnlySolution}
+use Rattle.maker_core.specs.SoloClues.{solo_game}
+use Rattle.maker_core.specs.SoloFilling.{solo_filling, all_given}
+use Rattle.maker_core.specs.Thinning.{AreReasons, IsWithin}
+use Rattle.maker_core.specs.declared.made.Kept.{Kept}
 
 -- sizes within the game's limits
 pub record IsSoloSize (c r : ℕ) : Type 0 where
@@ -18,7 +22,15 @@ pub record IsSoloSize (c r : ℕ) : Type 0 where
 abbrev pub solo_passes : ℕ → ℕ → ℕ → List ℕ → Bool
 solo_passes c r budget g = has_one (houses_rules (all_given c r g)) budget
 
--- a grid of the puzzle that is a solution
-pub record SolvesSolo (p : Solo) (g : List ℕ) : Type 0 where
-  pub grid : IsGrid (cells_of p) (solo_n p) g
-  pub solution : IsSolution p g
+-- The first filling gives the solution; the puzzle is of its size, has some of its numbers as givens, and no other solution,
+-- and its own verdict says so. Each given that is left was kept for a reason: without it there are two solutions, or the
+-- search of a puzzle that has all the others, and maybe more of the filling's numbers, gave up.
+pub record IsSoloMade (c r budget tries : ℕ) (s : Stream) (p : Solo) (g : List ℕ) (kept : List Kept) : Type 0 where
+  pub first : IsFirstPassing (solo_filling c r) (solo_passes c r budget) s tries 0
+  pub filled : g ≡ filling_at (solo_filling c r) 0 s
+  pub columns : p.c ≡ c
+  pub rows : p.r ≡ r
+  pub givens : IsWithin solo_game p (all_given c r g)
+  pub only : IsOnlySolution (IsSolution p) g
+  pub verdict : IsFound (houses_rules p) budget g
+  pub reasons : AreReasons solo_game budget (all_given c r g) p kept

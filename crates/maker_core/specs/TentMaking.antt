@@ -1,17 +1,28 @@
--- Which sizes a maker of Tents takes, and what solves a puzzle that was made.
-use Rattle.std.specs.Prelude.{ℕ, ◌≤◌, List}
+-- Which sizes a maker of Tents takes, and what it gives.
+use Rattle.std.specs.Prelude.{◌≡◌, ℕ, ◌≤◌, List, []}
+use Rattle.rand_core.specs.Stream.{Stream}
 use Rattle.grid_core.specs.Extent.{Extent}
-use Rattle.grid_core.specs.Grids.{IsGrid}
 use Rattle.gameid_core.specs.Puzzles.{Tents}
-use Rattle.fields_core.specs.Tents.{cells_of}
+use Rattle.fields_core.specs.TentHouses.{tent_rules}
 use Rattle.fields_core.specs.TentSolutions.{IsTentSolution}
+use Rattle.maker_core.specs.Draws.{IsFirstPassing, filling_at}
+use Rattle.maker_core.specs.Made.{IsFound, IsOnlySolution}
+use Rattle.maker_core.specs.TentFilling.{tent_filling, tents_of, tents_pass}
+use Rattle.maker_core.specs.declared.made.Kept.{Kept}
 
 -- both sides are at least 4
 pub record IsTentSize (size : Extent) : Type 0 where
   pub w_four : 4 ≤ size.w
   pub h_four : 4 ≤ size.h
 
--- a grid of the puzzle that meets the rules
-pub record SolvesTents (p : Tents) (g : List ℕ) : Type 0 where
-  pub grid : IsGrid (cells_of p) 2 g
-  pub solution : IsTentSolution p g
+-- The first of the fillings that passes gives the solution and the puzzle, which has no other solution, and its verdict
+-- says so. Clues are not thinned.
+pub record IsTentsMade (size : Extent) (budget tries : ℕ) (s : Stream) (p : Tents) (g : List ℕ) (kept : List Kept) : Type 0 where
+  pub k : ℕ
+  pub first : IsFirstPassing (tent_filling size) (tents_pass size budget) s tries k
+  pub clues : p ≡ tents_of size (filling_at (tent_filling size) k s)
+  pub filled : g ≡ (filling_at (tent_filling size) k s).tents
+  pub size_asked : p.size ≡ size
+  pub only : IsOnlySolution (IsTentSolution p) g
+  pub verdict : IsFound (tent_rules p) budget g
+  pub unthinned : kept ≡ []

@@ -2,15 +2,11 @@
 use Rattle.std.specs.Prelude.{◌≡◌, ℕ, suc, true, Option, Some, None, List, [], ◌∷◌, length, get_or, eqb, Contains, ◌⊎◌}
 use Rattle.std.specs.List.{IsDistinct}
 use Rattle.engine_core.specs.Puzzle.{Puzzle}
-use Rattle.maker_core.specs.Thinning.{Game, has_clue, IsWithin, IsOnly, HasTwo, GivesUp, IsReason}
+use Rattle.maker_core.specs.Made.{HasOne}
+use Rattle.maker_core.specs.Thinning.{Game, has_clue, IsWithin, HasTwo, GivesUp, IsReason}
 use Rattle.maker_core.specs.declared.made.Why.{Why}
 use Rattle.maker_core.specs.declared.made.Why.TheVariants.{Needed, Budget}
 use Rattle.maker_core.specs.declared.made.Kept.{Kept}
-
--- one grid is a solution, and no other is
-pub record HasOne (rules : Puzzle) : Type 0 where
-  pub answer : List ℕ
-  pub only : IsOnly rules answer
 
 -- what the verdict of a puzzle without a clue says for this reason
 abbrev pub IsVerdict : Puzzle → ℕ → Why → Type 0
@@ -24,7 +20,7 @@ IsLeft game place old new (Some why) = new ≡ old
 
 -- the verdict without the clue is one, or the reason
 abbrev pub IsAsked : {A : Type 0} → Game A → ℕ → ℕ → A → Option Why → Type 0
-IsAsked game budget place old None = HasOne (game.rules (game.without old place))
+IsAsked game budget place old None = HasOne (game.rules (game.without old place)) budget
 IsAsked game budget place old (Some why) = IsVerdict (game.rules (game.without old place)) budget why
 
 abbrev pub IsTried : {A : Type 0} → Game A → ℕ → ℕ → A → A → Option Why → Type 0
@@ -38,7 +34,7 @@ IsTold game budget all p place (Some why) = (has_clue game p place ≡ true) × 
 -- the clues of these cells are still to be tried, and all others are told of
 pub record IsThinning {A : Type 0} (game : Game A) (budget : ℕ) (all p : A) (whys : List (Option Why)) (rest : List ℕ) : Type 0 where
   pub within : IsWithin game p all
-  pub one : HasOne (game.rules p)
+  pub one : HasOne (game.rules p) budget
   pub waiting : (place : ℕ) → Contains rest place → has_clue game p place ≡ true
   pub different : IsDistinct eqb rest
   pub told : (place : ℕ) → Contains rest place ⊎ IsTold game budget all p place (get_or whys place None)

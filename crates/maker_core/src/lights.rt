@@ -8,10 +8,10 @@ ghost use Rattle.fields_core.specs.LightHouses.{light_rules};
 ghost use Rattle.maker_core.specs.declared.made.MakeFault.TheVariants.{Exhausted, SizeRange};
 ghost use Rattle.maker_core.specs.Draws.{IsFirstPassing, NonePasses, filling_at, stream_after};
 ghost use Rattle.maker_core.specs.LightClues.{light_game};
-ghost use Rattle.maker_core.specs.LightFilling.{light_filling, light_passes, light_puzzle_of, with_numbers};
-ghost use Rattle.maker_core.specs.LightMaking.{SolvesLights};
-ghost use Rattle.maker_core.specs.Made.{IsOnlySolution, has_one};
-ghost use Rattle.maker_core.specs.Thinning.{IsOnly, IsWithin, AreReasons, stream_after_clues};
+ghost use Rattle.maker_core.specs.LightFilling.{light_filling, light_passes, light_puzzle_of};
+ghost use Rattle.maker_core.specs.LightMaking.{IsLightMade};
+ghost use Rattle.maker_core.specs.Made.{IsFound, has_one};
+ghost use Rattle.maker_core.specs.Thinning.{IsOnly, stream_after_clues};
 
 use crate::light_filling::fill_lights;
 use crate::made::{Limits, Made, MakeFault};
@@ -41,6 +41,7 @@ fn passes(
     requires solved { is_lit puzzle.now answer.now ≡ true }
     ensures verdict { IfOk result (λ unique. unique ≡ has_one (light_rules puzzle.now) budget) }
     ensures only { IfOk result (λ unique. unique ≡ true → IsOnly (light_rules puzzle.now) answer.now) }
+    ensures found { IfOk result (λ unique. unique ≡ true → IsFound (light_rules puzzle.now) budget answer.now) }
     ensures black { ((c : ℕ) → white puzzle.now c ≡ false) → IfOk result (λ unique. unique ≡ true) }
 {
     let rules = LightRules::new(alloc, puzzle)?;
@@ -73,17 +74,12 @@ pub fn make_lights<G: Rng>(
     limits: Limits,
 ) -> Result<Made<LightPuzzle>, MakeFault>
     requires { black ≤ 100 }
-    ensures first { IfOk result (λ made. (k : ℕ)
-        × IsFirstPassing (light_filling size black) (light_passes size limits.budget) (G.stream rng.old) limits.tries k
-        × IsWithin light_game made.puzzle (light_puzzle_of size (filling_at (light_filling size black) k (G.stream rng.old)))
-        × (made.answer ≡ (filling_at (light_filling size black) k (G.stream rng.old)).bulbs)) }
+    ensures made { IfOk result (λ made.
+        IsLightMade size black limits.budget limits.tries (G.stream rng.old) made.puzzle made.answer made.kept.items) }
     ensures drawn { IfOk result (λ _. (k : ℕ)
         → IsFirstPassing (light_filling size black) (light_passes size limits.budget) (G.stream rng.old) limits.tries k
         → G.stream rng.new ≡ stream_after_clues light_game (light_puzzle_of size (filling_at (light_filling size black) k (G.stream rng.old)))
         (stream_after (light_filling size black) (suc k) (G.stream rng.old))) }
-    ensures size { IfOk result (λ made. made.puzzle.size ≡ size) }
-    ensures only { IfOk result (λ made. IsOnlySolution (SolvesLights made.puzzle) made.answer) }
-    ensures reasons { IfOk result (λ made. AreReasons light_game limits.budget (with_numbers made.puzzle made.answer) made.puzzle made.kept.items) }
     ensures size_range { (result ≡ Err SizeRange) ↔ (IsWide size → ⊥) }
     ensures no_tries { IsWide size → limits.tries ≡ 0 → result ≡ Err Exhausted }
     ensures exhausted { result ≡ Err Exhausted → NonePasses (light_filling size black) (light_passes size limits.budget) (G.stream rng.old) limits.tries }

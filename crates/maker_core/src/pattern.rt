@@ -1,12 +1,13 @@
 //! The maker of Pattern.
 
-ghost use Rattle.std.specs.Prelude.{◌≡◌, ◌≢◌, ◌≤◌, ◌*◌, ◌⊎◌, true, ℕ, Err, IfOk, []};
+ghost use Rattle.std.specs.Prelude.{◌≡◌, ◌≢◌, ◌≤◌, ◌*◌, ◌⊎◌, true, Err, IfOk};
 ghost use Rattle.grid_core.specs.Grids.{IsGrid};
+ghost use Rattle.pattern_core.specs.LineRules.{line_rules};
 ghost use Rattle.pattern_core.specs.Solutions.{IsSolution};
 ghost use Rattle.maker_core.specs.declared.made.MakeFault.TheVariants.{Exhausted, SizeRange};
-ghost use Rattle.maker_core.specs.Draws.{AreAll, IsAfterFirst, IsFirstPassing, NonePasses, filling_at, stream_after};
-ghost use Rattle.maker_core.specs.Made.{IsOnlySolution};
-ghost use Rattle.maker_core.specs.PatternMaking.{pattern_filling, pattern_of, pattern_passes};
+ghost use Rattle.maker_core.specs.Draws.{AreAll, IsAfterFirst, NonePasses, stream_after};
+ghost use Rattle.maker_core.specs.Made.{IsFound, IsOnlySolution};
+ghost use Rattle.maker_core.specs.PatternMaking.{IsPatternMade, pattern_filling, pattern_of, pattern_passes};
 
 use crate::black::draw_black;
 use crate::made::{Limits, Made, MakeFault};
@@ -41,6 +42,7 @@ fn passes(
     requires solved { IsSolution puzzle.now answer.old }
     ensures verdict { IfOk result (λ unique. unique ≡ pattern_passes puzzle.now.size budget answer.old) }
     ensures only { IfOk result (λ unique. unique ≡ true → IsOnlySolution (IsSolution puzzle.now) answer.old) }
+    ensures found { IfOk result (λ unique. unique ≡ true → IsFound (line_rules puzzle.now) budget answer.old) }
     ensures plain { AreAll 0 answer.old ⊎ AreAll 1 answer.old → IfOk result (λ unique. unique ≡ true) }
     ensures same { answer.new ≡ answer.old }
 {
@@ -77,13 +79,9 @@ pub fn make_pattern<G: Rng>(
     limits: Limits,
 ) -> Result<Made<PatternPuzzle>, MakeFault>
     requires { black ≤ 100 }
-    ensures first { IfOk result (λ made. (k : ℕ)
-        × IsFirstPassing (pattern_filling size black) (pattern_passes size limits.budget) (G.stream rng.old) limits.tries k
-        × (made.answer ≡ filling_at (pattern_filling size black) k (G.stream rng.old))) }
+    ensures made { IfOk result (λ made.
+        IsPatternMade size black limits.budget limits.tries (G.stream rng.old) made.puzzle made.answer made.kept.items) }
     ensures drawn { IfOk result (λ _. IsAfterFirst (pattern_filling size black) (pattern_passes size limits.budget) (G.stream rng.old) limits.tries (G.stream rng.new)) }
-    ensures puzzle { IfOk result (λ made. made.puzzle ≡ pattern_of size made.answer) }
-    ensures only { IfOk result (λ made. IsOnlySolution (IsSolution made.puzzle) made.answer) }
-    ensures kept { IfOk result (λ made. made.kept.items ≡ []) }
     ensures in_range { result ≢ Err SizeRange }
     ensures no_tries { limits.tries ≡ 0 → result ≡ Err Exhausted }
     ensures exhausted { result ≡ Err Exhausted → NonePasses (pattern_filling size black) (pattern_passes size limits.budget) (G.stream rng.old) limits.tries }

@@ -1,13 +1,12 @@
 //! The maker of Solo.
 
-ghost use Rattle.std.specs.Prelude.{◌≡◌, ◌↔◌, ◌<◌, ◌⊎◌, IsTrue, Err, IfOk};
+ghost use Rattle.std.specs.Prelude.{◌≡◌, ◌↔◌, ◌⊎◌, IsTrue, Err, IfOk};
 ghost use Rattle.maker_core.specs.declared.made.MakeFault.TheVariants.{Exhausted, SizeRange};
-ghost use Rattle.maker_core.specs.Draws.{IsFirstPassing, filling_at, stream_after};
-ghost use Rattle.maker_core.specs.Made.{IsOnlySolution};
+ghost use Rattle.maker_core.specs.Draws.{stream_after};
 ghost use Rattle.maker_core.specs.SoloClues.{solo_game};
 ghost use Rattle.maker_core.specs.SoloFilling.{solo_filling, all_given};
-ghost use Rattle.maker_core.specs.SoloMaking.{IsSoloSize, solo_passes, SolvesSolo};
-ghost use Rattle.maker_core.specs.Thinning.{IsWithin, AreReasons, stream_after_clues};
+ghost use Rattle.maker_core.specs.SoloMaking.{IsSoloMade, IsSoloSize};
+ghost use Rattle.maker_core.specs.Thinning.{stream_after_clues};
 
 use crate::made::{Limits, Made, MakeFault};
 use crate::solo_filling::{fill_solo, full_puzzle};
@@ -39,15 +38,10 @@ pub fn make_solo<G: Rng>(
     rng: &mut G,
     limits: Limits,
 ) -> Result<Made<SoloPuzzle>, MakeFault>
-    ensures first { IfOk result (λ made.
-        IsFirstPassing (solo_filling c r) (solo_passes c r limits.budget) (G.stream rng.old) limits.tries 0
-        × (made.answer ≡ filling_at (solo_filling c r) 0 (G.stream rng.old))) }
+    ensures made { IfOk result (λ made.
+        IsSoloMade c r limits.budget limits.tries (G.stream rng.old) made.puzzle made.answer made.kept.items) }
     ensures drawn { IfOk result (λ made. G.stream rng.new ≡ stream_after_clues solo_game (all_given c r made.answer)
         (stream_after (solo_filling c r) 1 (G.stream rng.old))) }
-    ensures size { IfOk result (λ made. (made.puzzle.c ≡ c) × (made.puzzle.r ≡ r)) }
-    ensures within { IfOk result (λ made. IsWithin solo_game made.puzzle (all_given c r made.answer)) }
-    ensures only { IfOk result (λ made. IsOnlySolution (SolvesSolo made.puzzle) made.answer) }
-    ensures reasons { IfOk result (λ made. AreReasons solo_game limits.budget (all_given c r made.answer) made.puzzle made.kept.items) }
     ensures size_range { (result ≡ Err SizeRange) ↔ (IsSoloSize c r → ⊥) }
     ensures exhausted { (result ≡ Err Exhausted) ↔ (IsSoloSize c r × (limits.tries ≡ 0)) }
     ensures undrawn { (result ≡ Err SizeRange) ⊎ (result ≡ Err Exhausted) → G.stream rng.new ≡ G.stream rng.old }

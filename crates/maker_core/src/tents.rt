@@ -1,13 +1,13 @@
 //! The maker of Tents.
 
-ghost use Rattle.std.specs.Prelude.{◌≡◌, ◌↔◌, ◌*◌, ℕ, true, [], IsTrue, Err, IfOk};
+ghost use Rattle.std.specs.Prelude.{◌≡◌, ◌↔◌, ◌*◌, true, IsTrue, Err, IfOk};
 ghost use Rattle.grid_core.specs.Grids.{IsGrid};
 ghost use Rattle.fields_core.specs.TentHouses.{tent_rules};
 ghost use Rattle.maker_core.specs.declared.made.MakeFault.TheVariants.{Exhausted, SizeRange};
-ghost use Rattle.maker_core.specs.Draws.{IsAfterFirst, IsFirstPassing, NonePasses, filling_at, stream_after};
-ghost use Rattle.maker_core.specs.Made.{HasNoTwo, IsOnlySolution, has_one};
+ghost use Rattle.maker_core.specs.Draws.{IsAfterFirst, NonePasses, stream_after};
+ghost use Rattle.maker_core.specs.Made.{HasOne, has_one};
 ghost use Rattle.maker_core.specs.TentFilling.{tent_filling, tents_of, tents_pass};
-ghost use Rattle.maker_core.specs.TentMaking.{IsTentSize, SolvesTents};
+ghost use Rattle.maker_core.specs.TentMaking.{IsTentSize, IsTentsMade};
 
 use crate::camp::Camp;
 use crate::made::{Limits, Made, MakeFault};
@@ -41,7 +41,7 @@ fn puzzle_of(alloc: Global, size: Size, camp: &Camp) -> Result<TentsPuzzle, Allo
 /// Whether the verdict of the puzzle is one.
 fn passes(alloc: Global, puzzle: &TentsPuzzle, budget: u64) -> Result<bool, AllocError>
     ensures verdict { IfOk result (λ unique. unique ≡ has_one (tent_rules puzzle.now) budget) }
-    ensures only { IfOk result (λ unique. unique ≡ true → HasNoTwo (tent_rules puzzle.now)) }
+    ensures only { IfOk result (λ unique. unique ≡ true → HasOne (tent_rules puzzle.now) budget) }
 {
     let rules = TentRules::new(alloc, puzzle)?;
     is_unique(alloc, &rules, budget)
@@ -67,14 +67,9 @@ pub fn make_tents<G: Rng>(
     rng: &mut G,
     limits: Limits,
 ) -> Result<Made<TentsPuzzle>, MakeFault>
-    ensures first { IfOk result (λ made. (k : ℕ)
-        × IsFirstPassing (tent_filling size) (tents_pass size limits.budget) (G.stream rng.old) limits.tries k
-        × (made.puzzle ≡ tents_of size (filling_at (tent_filling size) k (G.stream rng.old)))
-        × (made.answer ≡ (filling_at (tent_filling size) k (G.stream rng.old)).tents)) }
+    ensures made { IfOk result (λ made.
+        IsTentsMade size limits.budget limits.tries (G.stream rng.old) made.puzzle made.answer made.kept.items) }
     ensures drawn { IfOk result (λ _. IsAfterFirst (tent_filling size) (tents_pass size limits.budget) (G.stream rng.old) limits.tries (G.stream rng.new)) }
-    ensures size { IfOk result (λ made. made.puzzle.size ≡ size) }
-    ensures only { IfOk result (λ made. IsOnlySolution (SolvesTents made.puzzle) made.answer) }
-    ensures kept { IfOk result (λ made. made.kept.items ≡ []) }
     ensures size_range { (result ≡ Err SizeRange) ↔ (IsTentSize size → ⊥) }
     ensures no_tries { IsTentSize size → limits.tries ≡ 0 → result ≡ Err Exhausted }
     ensures exhausted { result ≡ Err Exhausted → NonePasses (tent_filling size) (tents_pass size limits.budget) (G.stream rng.old) limits.tries }

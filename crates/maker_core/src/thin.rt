@@ -4,7 +4,8 @@ ghost use Rattle.std.specs.Prelude.{◌≡◌, ◌<◌, [], IfOk, OnOk, IsTrue, 
 ghost use Rattle.engine_core.specs.Puzzle.{FitsIn, needs_of};
 ghost use Rattle.maker_core.specs.Draws.{shuffled_list};
 ghost use Rattle.maker_core.specs.Thinning.{has_clue, clue_places, stream_after_clues, IsWithin, IsOnly, AreReasons};
-ghost use Rattle.maker_core.specs.ThinningSteps.{HasOne, IsLeft, IsAsked, IsThinning, reasons_from};
+ghost use Rattle.maker_core.specs.Made.{HasOne, IsFound};
+ghost use Rattle.maker_core.specs.ThinningSteps.{IsLeft, IsAsked, IsThinning, reasons_from};
 
 use crate::clued::Clued;
 use crate::draws::shuffle;
@@ -29,10 +30,12 @@ pub(crate) fn thin<P: Clued, G: Rng>(
 ) -> Result<Made<P>, AllocError>
     requires all { puzzle ≡ P.game.all_clues puzzle answer }
     requires only { IsOnly (P.game.rules puzzle) answer }
+    requires found { IsFound (P.game.rules puzzle) budget answer }
     ensures drawn { IfOk result (λ _. G.stream rng.new ≡ stream_after_clues P.game puzzle (G.stream rng.old)) }
     ensures answer { IfOk result (λ made. made.answer ≡ answer) }
     ensures within { IfOk result (λ made. IsWithin P.game made.puzzle puzzle) }
     ensures only { IfOk result (λ made. IsOnly (P.game.rules made.puzzle) answer) }
+    ensures found { IfOk result (λ made. IsFound (P.game.rules made.puzzle) budget answer) }
     ensures reasons { IfOk result (λ made. AreReasons P.game budget (P.game.all_clues made.puzzle answer) made.puzzle made.kept.items) }
 {
     let mut puzzle = puzzle;
@@ -105,7 +108,7 @@ fn try_clue<P: Clued>(
     budget: u64,
 ) -> Result<Option<Why>, AllocError>
     requires clue { IsTrue (has_clue P.game puzzle.old place) }
-    requires one { HasOne (P.game.rules puzzle.old) }
+    requires one { HasOne (P.game.rules puzzle.old) budget }
     requires fits { FitsIn (needs_of (P.game.rules puzzle.old)) store.old.made }
     ensures left { IfOk result (λ why. IsLeft P.game place puzzle.old puzzle.new why) }
     ensures asked { IfOk result (λ why. IsAsked P.game budget place puzzle.old why) }

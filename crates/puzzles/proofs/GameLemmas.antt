@@ -4,10 +4,10 @@ use Rattle.std.specs.Prelude.{◌↔◌, IsTrue}
 use Rattle.engine_core.specs.Puzzle.{Puzzle}
 use Rattle.engine_core.specs.Stored.{is_settled}
 use Rattle.engine_core.specs.Verdict.{Solves}
-use Rattle.gameid_core.specs.Puzzles.{Solo}
+use Rattle.gameid_core.specs.Puzzles.{Solo, solo_n}
+use Rattle.grid_core.specs.Grids.{IsGrid}
 use Rattle.solo_core.specs.RuleSets.{houses_rules, singles_rules}
 use Rattle.solo_core.specs.Solutions as solo
-use Rattle.maker_core.specs.SoloMaking.{SolvesSolo}
 use Rattle.puzzles.specs.Answers.{Text}
 use Rattle.puzzles.specs.Grades.{HasOne, IsGradeOf, IsRightGrade, IsTold, last_grade, solo_grade, solo_trace}
 use Rattle.puzzles.specs.Stops.{Tells}
@@ -29,25 +29,25 @@ module _ {S : Type 0} (takes : S → Text → S → Type 0) (traced : Bool) (s t
       (subst (λ (r : Puzzle). Tells takes (IsTold grade traced (tells r)) s t status) e told)
 
   -- a puzzle of Solo that single values and places settle: the grade is by these, and the trace too
-  pub by_singles : (p : Solo) (q : Puzzle) → q ≡ singles_rules p → (budget : ℕ) → ((g : List ℕ) → IsTrue ((singles_rules p).is_solution g) ↔ solo.IsSolution p g)
+  pub by_singles : (p : Solo) (q : Puzzle) → q ≡ singles_rules p → (budget : ℕ) → ((g : List ℕ) → IsGrid (solo.cells_of p) (solo_n p) g → IsTrue ((singles_rules p).is_solution g) ↔ solo.IsSolution p g)
       → is_settled q ≡ true → HasOne (Solves q) → Tells takes (IsTold (ByRules Singles) traced (TellsVisits (solo_house p) q)) s t status
-      → Tells takes (IsGradeOf (SolvesSolo p) (solo_grade budget p) traced (solo_trace p)) s t status
+      → Tells takes (IsGradeOf (solo.IsSolution p) (solo_grade budget p) traced (solo_trace p)) s t status
   by_singles p q e budget accepted settled one told =
       let is : is_settled (singles_rules p) ≡ true = ap is_settled (sym e) ∙ settled in
-      rightly takes (SolvesSolo p) (ByRules Singles) (solo_grade budget p) traced (solo_trace p) s t status
+      rightly takes (solo.IsSolution p) (ByRules Singles) (solo_grade budget p) traced (solo_trace p) s t status
       (ap (λ (b : Bool). if b then ByRules Singles else last_grade Houses (houses_rules p) budget) (sym is))
-      (right_as (Solves (singles_rules p)) (SolvesSolo p) (ByRules Singles) same (subst (λ (r : Puzzle). HasOne (Solves r)) e one))
+      (right_as (Solves (singles_rules p)) (solo.IsSolution p) (ByRules Singles) same (subst (λ (r : Puzzle). HasOne (Solves r)) e one))
       (subst (λ (b : Bool). Tells takes (IsTold (ByRules Singles) traced (TellsVisits (solo_house p) (if b then singles_rules p else houses_rules p))) s t status) (sym is)
       (subst (λ (r : Puzzle). Tells takes (IsTold (ByRules Singles) traced (TellsVisits (solo_house p) r)) s t status) e told))
     where
-      same : (g : List ℕ) → Solves (singles_rules p) g ↔ SolvesSolo p g
-      same g = (λ h. record { grid = h.grid; solution = (accepted g).0 h.good }, λ h. record { grid = h.grid; good = (accepted g).1 h.solution })
+      same : (g : List ℕ) → Solves (singles_rules p) g ↔ solo.IsSolution p g
+      same g = (λ h. (accepted g h.grid).0 h.good, λ h. record { grid = h.grid; good = (accepted g h.grid).1 h })
 
   -- a puzzle of Solo that they don't settle
   pub by_houses : (p : Solo) (q : Puzzle) → q ≡ singles_rules p → (budget : ℕ) → is_settled q ≡ false
-      → Tells takes (IsGradeOf (SolvesSolo p) (last_grade Houses (houses_rules p) budget) traced (TellsVisits (solo_house p) (houses_rules p))) s t status
-      → Tells takes (IsGradeOf (SolvesSolo p) (solo_grade budget p) traced (solo_trace p)) s t status
+      → Tells takes (IsGradeOf (solo.IsSolution p) (last_grade Houses (houses_rules p) budget) traced (TellsVisits (solo_house p) (houses_rules p))) s t status
+      → Tells takes (IsGradeOf (solo.IsSolution p) (solo_grade budget p) traced (solo_trace p)) s t status
   by_houses p q e budget unsettled told = subst
-      (λ (b : Bool). Tells takes (IsGradeOf (SolvesSolo p) (if b then ByRules Singles else last_grade Houses (houses_rules p) budget) traced
+      (λ (b : Bool). Tells takes (IsGradeOf (solo.IsSolution p) (if b then ByRules Singles else last_grade Houses (houses_rules p) budget) traced
       (TellsVisits (solo_house p) (if b then singles_rules p else houses_rules p))) s t status)
       (sym unsettled ∙ ap is_settled e) told

@@ -48,7 +48,7 @@ unfolding is_full is_dead
 full_alive cells values K e = none_zero (λ c. count_below (K c) values) cells e
 
 -- the walk from a full board whose grid is a solution finds that grid
-full_walk : (p : Puzzle) (walk_of : Candidates → List Mark) (E : Candidates) → is_full p.cells p.values E ≡ true
+pub full_walk : (p : Puzzle) (walk_of : Candidates → List Mark) (E : Candidates) → is_full p.cells p.values E ≡ true
     → p.is_solution (grid_of p.cells p.values E) ≡ true → walk_closed p walk_of 0 E ≡ Found (grid_of p.cells p.values E) ∷ []
 unfolding walk_closed
 full_walk p walk_of E full good = rw (full_alive p.cells p.values E full) (rw full (rw good refl))

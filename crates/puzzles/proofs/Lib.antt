@@ -3,7 +3,6 @@ pub mod NumberLemmas
 pub mod PutLemmas
 pub mod RunLemmas
 pub mod Ranks
-pub mod Searched
 pub mod Returns
 pub mod LineLemmas
 pub mod BatchLemmas
@@ -18,3 +17,9 @@ pub mod GameLemmas
 pub mod MadeSolo
 pub mod CheckLemmas
 pub mod MadeTents
+pub mod RewrittenIds
+pub mod SettledLemmas
+pub mod GradedAlike
+pub mod SolvedAsMade
+pub mod CorrectGrids
+pub mod OneAnswer

@@ -6,15 +6,16 @@ use Rattle.std.proofs.lemmas.Bool.{true≢false, false_from_ne_true, and_parts, 
 use Rattle.grid_core.specs.Extent.{Extent}
 use Rattle.gameid_core.specs.Head.{size_of}
 use Rattle.gameid_core.specs.Puzzles.{Tents}
-use Rattle.gameid_core.specs.TentsText.{tents_text}
+use Rattle.gameid_core.specs.TentsText.{SpellsTents, tents_text}
 use Rattle.gameid_core.specs.declared.fault.IdFault.TheVariants as id
 use Rattle.gameid_core.specs.declared.game.Game.TheVariants as game
 use Rattle.maker_core.specs.declared.made.MakeFault.{MakeFault}
 use Rattle.maker_core.specs.declared.made.MakeFault.TheVariants as fault
-use Rattle.maker_core.specs.TentMaking.{IsTentSize}
+use Rattle.maker_core.specs.TentMaking.{IsTentSize, IsTentsMade}
+use Rattle.maker_core.specs.declared.made.Kept.{Kept}
 use Rattle.puzzles.specs.Answers.{Text}
 use Rattle.gameid_core.specs.GridTexts.{grid_text, tents_cell}
-use Rattle.puzzles.specs.Makings.{made_answer, size_to_make, AllowsMadeTents, IsTentsMade}
+use Rattle.puzzles.specs.Makings.{made_answer, size_to_make, AllowsMadeTents}
 use Rattle.puzzles.specs.Refusals.{refused, fault_text}
 use Rattle.puzzles.specs.Replies.{answer_in}
 use Rattle.puzzles.specs.Seeds.{seed_stream}
@@ -47,18 +48,18 @@ read_small text size small read =
     small (record { w_four = leb-true 4 size.w w.0; h_four = leb-true 4 size.h w.1 })) in
     rw (sym read, below) refl
 
-pub tents-told : {A E : Type 0} (text : Text) (seed budget tries : ℕ) (size : Extent) (p : Tents) (g : List ℕ) (r : Result A MakeFault) (result : Result Reply E)
+pub tents-told : {A E : Type 0} (text : Text) (seed budget tries : ℕ) (size : Extent) (p : Tents) (g : List ℕ) (kept : List Kept) (r : Result A MakeFault) (result : Result Reply E)
     → (r ≡ Err fault.SizeRange) ↔ (IsTentSize size → ⊥) → refuses r ≡ false → Ok (size.w, size.h) ≡ size_of game.Tents text
-    → IsTentsMade size budget tries (seed_stream seed) p g
+    → IsTentsMade size budget tries (seed_stream seed) p g kept → SpellsTents (tents_text p) p
     → IfOk result (λ a. answer_in a ≡ made_answer (tents_text p) (grid_text (tents_cell p g) p.size))
     → IfOk result (λ a. AllowsMadeTents text seed budget tries (answer_in a))
-tents-told text seed budget tries size p g r (Ok a) range not_refused read made told = inr (record {
+tents-told text seed budget tries size p g kept r (Ok a) range not_refused read made spelled told = inr (record {
   w = size.w;
   h = size.h;
   read = read_large text size r range not_refused read;
-  allowed = inl (record { puzzle = p; solution = g; made = made; told = told });
+  allowed = inl (record { puzzle = p; solution = g; kept = kept; made = made; spelled = spelled; told = told });
 })
-tents-told text seed budget tries size p g r (Err e) range not_refused read made told = tt
+tents-told text seed budget tries size p g kept r (Err e) range not_refused read made spelled told = tt
 
 pub small-told : {E : Type 0} (text : Text) (seed budget tries : ℕ) (size : Extent) (result : Result Reply E)
     → (IsTentSize size → ⊥) → Ok (size.w, size.h) ≡ size_of game.Tents text

@@ -1,4 +1,4 @@
--- A batch, between two bytes of its input.
+-- A batch, between two bytes of its input. No contract of a run uses these words.
 use Rattle.std.specs.Prelude.{◌≡◌, ◌==◌, ◌++◌, false}
 use Rattle.std.specs.List.{All}
 use Rattle.std.specs.Str.Lines.{lines}

@@ -17,9 +17,10 @@ use Rattle.fields_core.specs.declared.tent_fault.TentFault.TheVariants as tent
 use Rattle.puzzles.specs.Answers.{Answer, Text}
 use Rattle.gameid_core.specs.GridReading.{IsPrinted}
 use Rattle.puzzles.specs.Checks.{without_returns}
-use Rattle.gameid_core.specs.GridReading.{IsShown}
+use Rattle.gameid_core.specs.GridReading.{IsAsShown}
 use Rattle.gameid_core.specs.GridTexts.{grid_text}
 use Rattle.puzzles.specs.Refusals.{refused}
+use Rattle.puzzles.specs.Texts.{text_limit}
 
 -- nothing is wrong; or this is
 abbrev pub checked : Option Text → Answer
@@ -54,28 +55,28 @@ tent_fault p (tent.Row y) = codes "row " ++ decimal y
 tent_fault p tent.Match = codes "match"
 
 -- the first broken rule of the grid is told, or that there is none
-pub record IsTold {F : Type 0} (is : Option F → Type 0) (fault_text : F → Text) (answer : Answer) : Type 0 where
+pub record IsFaultTold {F : Type 0} (is : Option F → Type 0) (fault_text : F → Text) (answer : Answer) : Type 0 where
   pub fault : Option F
   pub first : is fault
   pub told : answer ≡ checked (option_map fault_text fault)
 
 abbrev pub pattern_told : Pattern → List ℕ → Answer → Type 0
-pattern_told p g answer = IsTold (IsCheck p g) pattern_fault answer
+pattern_told p g answer = IsFaultTold (IsCheck p g) pattern_fault answer
 
 abbrev pub solo_told : Solo → List ℕ → Answer → Type 0
-solo_told p g answer = IsTold (IsFirstFault p g) (solo_fault p) answer
+solo_told p g answer = IsFaultTold (IsFirstFault p g) (solo_fault p) answer
 
 abbrev pub light_told : Light → List ℕ → Answer → Type 0
-light_told p g answer = IsTold (IsLightFault p g) (light_fault p) answer
+light_told p g answer = IsFaultTold (IsLightFault p g) (light_fault p) answer
 
 abbrev pub tent_told : Tents → List ℕ → Answer → Type 0
-tent_told p g answer = IsTold (IsTentFault p g) (tent_fault p) answer
+tent_told p g answer = IsFaultTold (IsTentFault p g) (tent_fault p) answer
 
 -- The input isn't too long, and without its returns it is the printed form of that grid, with or without the last line
 -- end. The grid is 0 wherever what is printed shows nothing of the number.
 pub record IsInputOf (hides : ℕ → Type 0) (values : ℕ) (size : Extent) (cell : List ℕ → ℕ → Text) (input : Text) (g : List ℕ) : Type 0 where
-  pub small : length input ≤ 16384
-  pub shown : IsShown hides values size g
+  pub small : length input ≤ text_limit
+  pub shown : IsAsShown hides values size g
   pub printed : IsPrinted (without_returns input) (grid_text (cell g) size)
 
 -- The one grid of the input is checked.

@@ -25,6 +25,10 @@ pub mod Checking
 pub mod Outputs
 pub mod LineStates
 pub mod Batches
-pub mod PlainSearch
 pub mod Seeds
 pub mod Makings
+pub mod LawsOfIds
+pub mod LawsOfGrades
+pub mod LawsOfMakings
+pub mod LawsOfChecks
+pub mod LawsOfAnswers

@@ -1,4 +1,4 @@
--- What is kept of a line that is being read.
+-- What is kept of a line that is being read. No contract of a run uses these words.
 use Rattle.std.specs.Prelude.{◌≡◌, ◌==◌, ℕ, List, [], ◌∷◌, take, drop, if◌then◌else◌}
 use Rattle.gameid_core.specs.Head.{max_id}
 use Rattle.puzzles.specs.declared.lines.Tail.{Tail}

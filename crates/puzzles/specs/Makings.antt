@@ -7,26 +7,18 @@ use Rattle.gameid_core.specs.declared.fault.IdFault.{IdFault}
 use Rattle.gameid_core.specs.declared.fault.IdFault.TheVariants.{SizeRange}
 use Rattle.gameid_core.specs.declared.game.Game.{Game}
 use Rattle.gameid_core.specs.declared.game.Game.TheVariants as game
-use Rattle.gameid_core.specs.Puzzles.{Pattern, Solo, Light, Tents}
-use Rattle.gameid_core.specs.LightText.{light_text}
-use Rattle.gameid_core.specs.TentsText.{tents_text}
-use Rattle.gameid_core.specs.SoloText.{solo_text}
-use Rattle.gameid_core.specs.PatternText.{pattern_text}
+use Rattle.gameid_core.specs.LightText.{SpellsLight, light_text}
+use Rattle.gameid_core.specs.TentsText.{SpellsTents, tents_text}
+use Rattle.gameid_core.specs.SoloText.{SpellsSolo, solo_text}
+use Rattle.gameid_core.specs.PatternText.{SpellsPattern, pattern_text}
 use Rattle.gameid_core.specs.Steps.{◌>>=◌}
-use Rattle.pattern_core.specs.Solutions as pattern
-use Rattle.maker_core.specs.Draws.{Making, IsFirstPassing, NonePasses, filling_at}
-use Rattle.maker_core.specs.Made.{IsOnlySolution}
-use Rattle.maker_core.specs.LightClues.{light_game}
-use Rattle.maker_core.specs.LightFilling.{light_filling, light_passes, light_puzzle_of, with_numbers}
-use Rattle.maker_core.specs.LightMaking.{SolvesLights}
-use Rattle.maker_core.specs.TentFilling as camp
+use Rattle.maker_core.specs.Draws.{Making, NonePasses}
+use Rattle.maker_core.specs.LightFilling.{light_filling, light_passes}
+use Rattle.maker_core.specs.LightMaking.{IsLightMade}
 use Rattle.maker_core.specs.TentFilling.{tent_filling, tents_pass}
-use Rattle.maker_core.specs.TentMaking.{SolvesTents}
-use Rattle.maker_core.specs.PatternMaking.{pattern_filling, pattern_of, pattern_passes}
-use Rattle.maker_core.specs.SoloClues.{solo_game}
-use Rattle.maker_core.specs.SoloFilling.{solo_filling, all_given}
-use Rattle.maker_core.specs.SoloMaking.{solo_passes, SolvesSolo}
-use Rattle.maker_core.specs.Thinning.{AreReasons, IsWithin}
+use Rattle.maker_core.specs.TentMaking.{IsTentsMade}
+use Rattle.maker_core.specs.PatternMaking.{IsPatternMade, pattern_filling, pattern_passes}
+use Rattle.maker_core.specs.SoloMaking.{IsSoloMade}
 use Rattle.maker_core.specs.declared.made.Kept.{Kept}
 use Rattle.puzzles.specs.Answers.{Answer, Text}
 use Rattle.gameid_core.specs.GridTexts.{grid_text, pattern_cell, solo_cell, solo_extent, light_cell, tents_cell}
@@ -64,12 +56,15 @@ pub record IsOfSize (game : Game) (text : Text) (allows : ℕ → ℕ → Answer
 abbrev pub AllowsMaking : Game → Text → (ℕ → ℕ → Answer → Type 0) → Answer → Type 0
 AllowsMaking game text allows answer = IsSizeRefused game text answer ⊎ IsOfSize game text allows answer
 
--- a puzzle is told that was made with that solution
-pub record IsHandedOut {P : Type 0} (is_made : P → List ℕ → Type 0) (written : P → Text) (printed : P → List ℕ → Text)
+-- a puzzle is told that was made with that solution and with what is known of each clue that was left; its ID spells it
+pub record IsHandedOut {P : Type 0} (is_made : P → List ℕ → List Kept → Type 0) (spells : Text → P → Type 0) (written : P → Text)
+    (printed : P → List ℕ → Text)
     (answer : Answer) : Type 0 where
   pub puzzle : P
   pub solution : List ℕ
-  pub made : is_made puzzle solution
+  pub kept : List Kept
+  pub made : is_made puzzle solution kept
+  pub spelled : spells (written puzzle) puzzle
   pub told : answer ≡ made_answer (written puzzle) (printed puzzle solution)
 
 -- none of the fillings passes, and that is told
@@ -77,32 +72,11 @@ pub record IsExhausted {A : Type 0} (make : Making A) (passes : A → Bool) (s :
   pub none : NonePasses make passes s tries
   pub told : answer ≡ exhausted_answer
 
--- The first of the fillings that passes gives the solution, and its lines the clues; it is the only solution.
-pub record IsPatternMade (size : Extent) (black budget tries : ℕ) (s : Stream) (p : Pattern) (g : List ℕ) : Type 0 where
-  pub k : ℕ
-  pub first : IsFirstPassing (pattern_filling size black) (pattern_passes size budget) s tries k
-  pub filled : g ≡ filling_at (pattern_filling size black) k s
-  pub clues : p ≡ pattern_of size g
-  pub only : IsOnlySolution (pattern.IsSolution p) g
-
 -- the answers that `generate pattern SIZE` allows
 abbrev pub AllowsMadePattern : Text → ℕ → ℕ → ℕ → ℕ → Answer → Type 0
 AllowsMadePattern text seed budget tries black = AllowsMaking game.Pattern text (λ w h answer.
-    IsHandedOut (IsPatternMade (record { w = w; h = h }) black budget tries (seed_stream seed)) pattern_text (λ p g. grid_text (pattern_cell p g) p.size) answer
+    IsHandedOut (IsPatternMade (record { w = w; h = h }) black budget tries (seed_stream seed)) SpellsPattern pattern_text (λ p g. grid_text (pattern_cell p g) p.size) answer
     ⊎ IsExhausted (pattern_filling (record { w = w; h = h }) black) (pattern_passes (record { w = w; h = h }) budget) (seed_stream seed) tries answer)
-
--- The first filling gives the solution; the puzzle is of its size, has some of its numbers as givens, and no other solution.
--- Each given that is left was kept for a reason: without it there are two solutions, or the search of a puzzle that has all
--- the others, and maybe more of the filling's numbers, gave up.
-pub record IsSoloMade (c r budget tries : ℕ) (s : Stream) (p : Solo) (g : List ℕ) : Type 0 where
-  pub first : IsFirstPassing (solo_filling c r) (solo_passes c r budget) s tries 0
-  pub filled : g ≡ filling_at (solo_filling c r) 0 s
-  pub columns : p.c ≡ c
-  pub rows : p.r ≡ r
-  pub givens : IsWithin solo_game p (all_given c r g)
-  pub only : IsOnlySolution (SolvesSolo p) g
-  pub kept : List Kept
-  pub reasons : AreReasons solo_game budget (all_given c r g) p kept
 
 -- there were no tries, and that is told
 pub record IsWithoutTries (tries : ℕ) (answer : Answer) : Type 0 where
@@ -112,40 +86,19 @@ pub record IsWithoutTries (tries : ℕ) (answer : Answer) : Type 0 where
 -- the answers that `generate solo SIZE` allows: it is exhausted only without tries
 abbrev pub AllowsMadeSolo : Text → ℕ → ℕ → ℕ → Answer → Type 0
 AllowsMadeSolo text seed budget tries = AllowsMaking game.Solo text (λ c r answer.
-    IsHandedOut (IsSoloMade c r budget tries (seed_stream seed)) solo_text (λ p g. grid_text (solo_cell p g) (solo_extent p)) answer
+    IsHandedOut (IsSoloMade c r budget tries (seed_stream seed)) SpellsSolo solo_text (λ p g. grid_text (solo_cell p g) (solo_extent p)) answer
     ⊎ IsWithoutTries tries answer)
-
--- The first of the fillings that passes gives the solution and the black cells; the puzzle has some of its numbers and no
--- other solution. Each number that is left was kept for a reason.
-pub record IsLightMade (size : Extent) (black budget tries : ℕ) (s : Stream) (p : Light) (g : List ℕ) : Type 0 where
-  pub k : ℕ
-  pub first : IsFirstPassing (light_filling size black) (light_passes size budget) s tries k
-  pub numbers : IsWithin light_game p (light_puzzle_of size (filling_at (light_filling size black) k s))
-  pub filled : g ≡ (filling_at (light_filling size black) k s).bulbs
-  pub size_asked : p.size ≡ size
-  pub only : IsOnlySolution (SolvesLights p) g
-  pub kept : List Kept
-  pub reasons : AreReasons light_game budget (with_numbers p g) p kept
 
 -- the answers that `generate lightup SIZE` allows
 abbrev pub AllowsMadeLights : Text → ℕ → ℕ → ℕ → ℕ → Answer → Type 0
 AllowsMadeLights text seed budget tries black = AllowsMaking game.LightUp text (λ w h answer.
-    IsHandedOut (IsLightMade (record { w = w; h = h }) black budget tries (seed_stream seed)) light_text (λ p g. grid_text (light_cell p g) p.size) answer
+    IsHandedOut (IsLightMade (record { w = w; h = h }) black budget tries (seed_stream seed)) SpellsLight light_text (λ p g. grid_text (light_cell p g) p.size) answer
     ⊎ IsExhausted (light_filling (record { w = w; h = h }) black) (light_passes (record { w = w; h = h }) budget) (seed_stream seed) tries answer)
-
--- The first of the fillings that passes gives the solution and the puzzle, which has no other solution.
-pub record IsTentsMade (size : Extent) (budget tries : ℕ) (s : Stream) (p : Tents) (g : List ℕ) : Type 0 where
-  pub k : ℕ
-  pub first : IsFirstPassing (tent_filling size) (tents_pass size budget) s tries k
-  pub clues : p ≡ camp.tents_of size (filling_at (tent_filling size) k s)
-  pub filled : g ≡ (filling_at (tent_filling size) k s).tents
-  pub size_asked : p.size ≡ size
-  pub only : IsOnlySolution (SolvesTents p) g
 
 -- the answers that `generate tents SIZE` allows
 abbrev pub AllowsMadeTents : Text → ℕ → ℕ → ℕ → Answer → Type 0
 AllowsMadeTents text seed budget tries = AllowsMaking game.Tents text (λ w h answer.
-    IsHandedOut (IsTentsMade (record { w = w; h = h }) budget tries (seed_stream seed)) tents_text (λ p g. grid_text (tents_cell p g) p.size) answer
+    IsHandedOut (IsTentsMade (record { w = w; h = h }) budget tries (seed_stream seed)) SpellsTents tents_text (λ p g. grid_text (tents_cell p g) p.size) answer
     ⊎ IsExhausted (tent_filling (record { w = w; h = h })) (tents_pass (record { w = w; h = h }) budget) (seed_stream seed) tries answer)
 
 -- the answers that `generate GAME SIZE` allows

@@ -29,9 +29,9 @@ asked_in (request.Generate game size seed budget tries black) =
     generate game size.now seed budget tries black
 
 -- the percentage of a request that has one is at most 100
-abbrev pub IsWithin : Request → Type 0
-IsWithin (request.Generate game size seed budget tries black) = black ≤ 100
-IsWithin _ = ⊤
+abbrev pub IsInRange : Request → Type 0
+IsInRange (request.Generate game size seed budget tries black) = black ≤ 100
+IsInRange _ = ⊤
 
 abbrev pub game_of : Text → Option Game
 game_of text = if bytes_eq text (codes "solo") then Some Solo

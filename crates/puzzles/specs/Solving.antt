@@ -14,9 +14,9 @@ use Rattle.pattern_core.specs.Solutions as pattern
 use Rattle.solo_core.specs.RuleSets.{houses_rules}
 use Rattle.fields_core.specs.LightHouses.{light_rules}
 use Rattle.fields_core.specs.TentHouses.{tent_rules}
-use Rattle.maker_core.specs.LightMaking.{SolvesLights}
-use Rattle.maker_core.specs.SoloMaking.{SolvesSolo}
-use Rattle.maker_core.specs.TentMaking.{SolvesTents}
+use Rattle.solo_core.specs.Solutions as solo
+use Rattle.fields_core.specs.LightSolutions.{IsLightSolution}
+use Rattle.fields_core.specs.TentSolutions.{IsTentSolution}
 use Rattle.puzzles.specs.Answers.{Answer, Text}
 use Rattle.gameid_core.specs.GridTexts.{grid_text, pattern_cell, solo_cell, solo_extent, light_cell, tents_cell}
 use Rattle.puzzles.specs.IdAnswers.{AllowsId}
@@ -33,8 +33,8 @@ abbrev pub AllowsSolve : Game → ℕ → Text → Answer → Type 0
 AllowsSolve game.Pattern budget id answer = AllowsId (pattern_of id) (SpellsPattern id)
     (λ p. IsSolved (pattern.IsSolution p) (line_rules p) (pattern_cell p) p.size budget) answer
 AllowsSolve game.Solo budget id answer = AllowsId (solo_of id) (SpellsSolo id)
-    (λ p. IsSolved (SolvesSolo p) (houses_rules p) (solo_cell p) (solo_extent p) budget) answer
+    (λ p. IsSolved (solo.IsSolution p) (houses_rules p) (solo_cell p) (solo_extent p) budget) answer
 AllowsSolve game.LightUp budget id answer = AllowsId (light_of id) (SpellsLight id)
-    (λ p. IsSolved (SolvesLights p) (light_rules p) (light_cell p) p.size budget) answer
+    (λ p. IsSolved (IsLightSolution p) (light_rules p) (light_cell p) p.size budget) answer
 AllowsSolve game.Tents budget id answer = AllowsId (tents_of id) (SpellsTents id)
-    (λ p. IsSolved (SolvesTents p) (tent_rules p) (tents_cell p) p.size budget) answer
+    (λ p. IsSolved (IsTentSolution p) (tent_rules p) (tents_cell p) p.size budget) answer

@@ -119,8 +119,10 @@ fn an_over_long_line_is_skipped(rt: HostRuntime) -> Result<(), Fail> {
         (16_384, "", "refused: no colon\n"),
     ] {
         let input = long_line(rt.alloc(), count, rest.as_bytes())?;
-        let fine = is_answered(rt.alloc(), "pattern", input.as_slice(), 4_096, text, 2)?;
-        assert!(rt; fine, "{count} {rest}");
+        for most in [1, 2, 3, 4_096] {
+            let fine = is_answered(rt.alloc(), "pattern", input.as_slice(), most, text, 2)?;
+            assert!(rt; fine, "{count} {rest} by {most}");
+        }
     }
     Ok(())
 }

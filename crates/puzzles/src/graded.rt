@@ -131,10 +131,13 @@ fn visits_told(
     Ok(visits)
 }
 
-/// The visits that a grade of an ID of Solo tells.
-fn solo_visits(alloc: Global, id: &str, n: usize) -> Result<Vec<usize>, Fail> {
+/// The visits that a grade of an ID of Solo tells after this line.
+fn solo_visits(alloc: Global, id: &str, n: usize, grade: &str) -> Result<Vec<usize>, Fail> {
     let (taken, _status) = traced(alloc, "solo", id, "0")?;
     let text = str::from_utf8(taken.as_slice())?;
+    if !text.starts_with(grade) {
+        Err("the grade")?;
+    }
     visits_told(alloc, text, &["row", "column", "block"], n)
 }
 
@@ -147,22 +150,38 @@ fn is_closed_by_these_alone<R: Rules>(
     Ok(is_closed_by(alloc, rules, visits)? && !is_closed_by(alloc, rules, &[])?)
 }
 
+/// Whether a grade of an ID of Pattern with a trace begins with this line, and its visits close the board.
+fn pattern_is_closed(alloc: Global, id: &str, budget: &str, grade: &str) -> Result<bool, Fail> {
+    let (taken, _status) = traced(alloc, "pattern", id, budget)?;
+    let text = str::from_utf8(taken.as_slice())?;
+    let puzzle = read_pattern(alloc, id.as_bytes())?;
+    let columns = usize::from(puzzle.size().w());
+    let visits = visits_told(alloc, text, &["column", "row"], columns)?;
+    let lines = PatternLines::new(alloc, &puzzle)?;
+    let is_closed = is_closed_by_these_alone(alloc, &lines, visits.as_slice())?;
+    Ok(text.starts_with(grade) && is_closed)
+}
+
 #[test]
 fn traces_of_pattern_close_their_boards(rt: HostRuntime) -> Result<(), Fail> {
-    let alloc = rt.alloc();
-    let id = "5x1:1/1//1/1/2.2";
-    let (taken, _status) = traced(alloc, "pattern", id, "0")?;
-    let text = str::from_utf8(taken.as_slice())?;
-    let visits = visits_told(alloc, text, &["column", "row"], 5)?;
-    let lines = PatternLines::new(alloc, &read_pattern(alloc, id.as_bytes())?)?;
-    assert!(rt; is_closed_by_these_alone(alloc, &lines, visits.as_slice())?);
+    for (id, budget, grade) in [
+        ("5x1:1/1//1/1/2.2", "0", "lines\n"),
+        ("3x2:1/2/1/2/2", "2", "several\n"),
+        ("3x2:1/2/1/2/2", "0", "gave up\n"),
+        ("2x1:1/1/1", "0", "none\n"),
+    ] {
+        assert!(rt;
+            pattern_is_closed(rt.alloc(), id, budget, grade)?,
+            "{id} with {budget}"
+        );
+    }
     Ok(())
 }
 
 #[test]
 fn traces_by_singles_close_their_boards(rt: HostRuntime) -> Result<(), Fail> {
     let alloc = rt.alloc();
-    let visits = solo_visits(alloc, LATIN, 4)?;
+    let visits = solo_visits(alloc, LATIN, 4, "singles\n")?;
     let singles = SoloSingles::new(alloc, &read_solo(alloc, LATIN.as_bytes())?)?;
     assert!(rt; is_closed_by(alloc, &singles, visits.as_slice())?);
     Ok(())
@@ -171,9 +190,16 @@ fn traces_by_singles_close_their_boards(rt: HostRuntime) -> Result<(), Fail> {
 #[test]
 fn traces_by_houses_close_their_boards(rt: HostRuntime) -> Result<(), Fail> {
     let alloc = rt.alloc();
-    let visits = solo_visits(alloc, PAIRED, 6)?;
-    let houses = SoloHouses::new(alloc, &read_solo(alloc, PAIRED.as_bytes())?)?;
-    assert!(rt; is_closed_by_these_alone(alloc, &houses, visits.as_slice())?);
+    for (id, n, grade) in [
+        (PAIRED, 6, "houses\n"),
+        ("2x2:1o", 4, "gave up\n"),
+        ("2x2:1_1n", 4, "none\n"),
+    ] {
+        let visits = solo_visits(alloc, id, n, grade)?;
+        let houses = SoloHouses::new(alloc, &read_solo(alloc, id.as_bytes())?)?;
+        let is_closed = is_closed_by_these_alone(alloc, &houses, visits.as_slice())?;
+        assert!(rt; is_closed, "{id}");
+    }
     Ok(())
 }
 
@@ -182,11 +208,12 @@ fn light_rules(alloc: Global, id: &str) -> Result<LightRules, Fail> {
     Ok(LightRules::new(alloc, &read_lights(alloc, id.as_bytes())?)?)
 }
 
-/// The number of sweeps that a grade of an ID of Light Up tells.
-fn sweeps_told(alloc: Global, id: &str) -> Result<usize, Fail> {
-    let (taken, _status) = traced(alloc, "lightup", id, "0")?;
+/// The number of sweeps that a grade of an ID of Light Up tells after this line.
+fn sweeps_told(alloc: Global, id: &str, budget: &str, grade: &str) -> Result<usize, Fail> {
+    let (taken, _status) = traced(alloc, "lightup", id, budget)?;
     let text = str::from_utf8(taken.as_slice())?;
-    let line = text.strip_prefix("local\nsweeps ").ok_or("sweeps")?;
+    let rest = text.strip_prefix(grade).ok_or("the grade")?;
+    let line = rest.strip_prefix("sweeps ").ok_or("sweeps")?;
     let number = line.strip_suffix('\n').ok_or("a line end")?;
     Ok(number.parse::<usize>()?)
 }
@@ -203,11 +230,24 @@ fn swept(alloc: Global, sweeps: usize, houses: usize) -> Result<Vec<usize>, Allo
 }
 
 #[test]
-fn sweeps_close_their_board(rt: HostRuntime) -> Result<(), Fail> {
+fn sweeps_close_their_boards(rt: HostRuntime) -> Result<(), Fail> {
     let alloc = rt.alloc();
-    let rules = light_rules(alloc, "2x2:2c")?;
-    let visits = swept(alloc, sweeps_told(alloc, "2x2:2c")?, rules.houses())?;
-    assert!(rt; is_closed_by_these_alone(alloc, &rules, visits.as_slice())?);
+    // The second has the first beside a part that no deduction decides.
+    for (id, budget, grade) in [
+        ("2x2:2c", "0", "local\n"),
+        ("5x2:2aBBcBb", "100000", "several\n"),
+        ("5x2:2aBBcBb", "0", "gave up\n"),
+        ("2x2:3c", "0", "none\n"),
+    ] {
+        let rules = light_rules(alloc, id)?;
+        let visits = swept(
+            alloc,
+            sweeps_told(alloc, id, budget, grade)?,
+            rules.houses(),
+        )?;
+        let is_closed = is_closed_by_these_alone(alloc, &rules, visits.as_slice())?;
+        assert!(rt; is_closed, "{id} with {budget}");
+    }
     Ok(())
 }
 

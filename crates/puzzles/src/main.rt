@@ -19,12 +19,13 @@ pub mod generate;
 pub mod grade;
 #[cfg(test)]
 mod graded;
+#[cfg(test)]
+mod hostile;
+pub mod laws;
 pub mod lines;
 #[cfg(test)]
 mod makings;
 pub mod output;
-#[cfg(test)]
-mod plain;
 pub mod read_end;
 pub mod reply;
 pub mod run;
@@ -39,6 +40,8 @@ mod tests;
 #[cfg(test)]
 mod tests_check;
 pub mod text;
+#[cfg(test)]
+mod tied;
 pub mod trace;
 pub mod words;
 pub mod write_end;

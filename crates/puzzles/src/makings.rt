@@ -10,7 +10,7 @@ fn outcome(alloc: Global, words: &[&str]) -> Result<(Vec<u8>, u8), AllocError> {
 }
 
 /// The ID and the grid of what `generate` writes.
-fn parts(written: &[u8]) -> (&[u8], &[u8]) {
+pub fn parts(written: &[u8]) -> (&[u8], &[u8]) {
     match written.iter().position(|b| *b == b'\n') {
         Some(end) => (&written[..end], &written[end + 1..]),
         None => (written, &[]),

@@ -3,7 +3,7 @@ ghost use Rattle.std.specs.Prelude.{◌≡◌, ◌<◌, ◌≤◌, true, false, 
 ghost use Rattle.puzzles.specs.Answers.{BeginsAnswer, Text};
 ghost use Rattle.puzzles.specs.Outputs.{Allows, is_put_whole, reads_input};
 ghost use Rattle.puzzles.specs.Replies.{answer_in};
-ghost use Rattle.puzzles.specs.Requests.{asked_in, asked_of, IsWithin};
+ghost use Rattle.puzzles.specs.Requests.{asked_in, asked_of, IsInRange};
 ghost use Rattle.puzzles.specs.Runs.{Ran, IsBroken};
 
 use crate::batch::solve_lines;
@@ -25,7 +25,7 @@ pub const NO_MEMORY: u8 = 5;
 
 /// The answer to a request that is made whole before it is put, and leaves the input unread.
 fn reply_to(alloc: Global, request: Option<Request<'_>>) -> Result<Reply, AllocError>
-    requires within { IfSome request IsWithin }
+    requires within { IfSome request IsInRange }
     requires whole { is_put_whole (option_map asked_in request) ≡ true }
     ensures allowed { IfOk result (λ r. (input : Text)
         → Allows (option_map asked_in request.entry) input (answer_in r)) }

@@ -3,13 +3,13 @@ ghost use Rattle.std.specs.Prelude.{◌≡◌, ◌*◌, ◌↔◌, List, ℕ, If
 ghost use Rattle.engine_core.specs.Puzzle.{Puzzle};
 ghost use Rattle.engine_core.specs.Verdict.{Solves};
 ghost use Rattle.fields_core.specs.LightHouses.{light_rules};
+ghost use Rattle.fields_core.specs.LightSolutions.{IsLightSolution};
 ghost use Rattle.fields_core.specs.TentHouses.{tent_rules};
-ghost use Rattle.maker_core.specs.LightMaking.{SolvesLights};
-ghost use Rattle.maker_core.specs.SoloMaking.{SolvesSolo};
-ghost use Rattle.maker_core.specs.TentMaking.{SolvesTents};
+ghost use Rattle.fields_core.specs.TentSolutions.{IsTentSolution};
 ghost use Rattle.pattern_core.specs.LineRules.{line_rules};
 ghost use Rattle.pattern_core.specs.Solutions as pattern;
 ghost use Rattle.solo_core.specs.RuleSets.{houses_rules};
+ghost use Rattle.solo_core.specs.Solutions as solo;
 
 use engine_core::Rules;
 use fields_core::{LightRules, TentRules};
@@ -59,7 +59,7 @@ impl Solvable for SoloPuzzle {
 
     ghost rules_of = { houses_rules };
 
-    ghost solves = { SolvesSolo };
+    ghost solves = { solo.IsSolution };
 
     fn rules(&self, alloc: Global) -> Result<SoloHouses, AllocError> {
         solo_core::accepted_are_solutions();
@@ -72,7 +72,7 @@ impl Solvable for LightPuzzle {
 
     ghost rules_of = { light_rules };
 
-    ghost solves = { SolvesLights };
+    ghost solves = { IsLightSolution };
 
     fn rules(&self, alloc: Global) -> Result<LightRules, AllocError> {
         fields_core::accepted_lights_are_solutions();
@@ -85,7 +85,7 @@ impl Solvable for TentsPuzzle {
 
     ghost rules_of = { tent_rules };
 
-    ghost solves = { SolvesTents };
+    ghost solves = { IsTentSolution };
 
     fn rules(&self, alloc: Global) -> Result<TentRules, AllocError> {
         fields_core::accepted_tents_are_solutions();

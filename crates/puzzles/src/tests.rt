@@ -102,6 +102,7 @@ fn lights_are_solved(rt: HostRuntime) -> Result<(), Fail> {
     for (id, budget, text, status) in [
         ("2x2:2c", "0", "one\n2O\nO.\n", 0),
         ("2x2:2c", MOST, "one\n2O\nO.\n", 0),
+        ("2x2:Bc", "0", "gave up\n", 4),
         ("2x2:Bc", "100000", "several\n#.\n.O\n\n#O\nO.\n", 3),
         ("2x2:Bc", MOST, "several\n#.\n.O\n\n#O\nO.\n", 3),
         ("2x2:1c", "2", "none\n", 1),

@@ -1,5 +1,5 @@
 //! The lines of a trace: which houses a closing visited, or how many sweeps it made.
-ghost use Rattle.std.specs.Prelude.{◌≡◌, ◌++◌, ◌+◌, ◌<◌, ◌≤◌, ℕ, true, false, IsOk, OnOk, IfErr, string_bytes, string_len, string_capacity};
+ghost use Rattle.std.specs.Prelude.{◌≡◌, ◌++◌, ◌+◌, ◌<◌, ◌≤◌, ℕ, true, false, OnOk, IfErr, string_bytes, string_len};
 ghost use Rattle.gameid_core.specs.Puzzles.{Pattern, Solo};
 ghost use Rattle.puzzles.specs.Answers.{PutUpTo, PutBegun};
 ghost use Rattle.puzzles.specs.Stops.{is_broken};
@@ -72,8 +72,6 @@ impl Housed for PatternPuzzle {
 fn push_visit(text: &mut String, house: House) -> Result<(), AllocError>
     ensures line { OnOk result (string_bytes text.new ≡ string_bytes text.old ++ line_of house) }
     ensures short { OnOk result (string_len text.new ≤ string_len text.old + LINE) }
-    ensures room { string_len text.old + LINE ≤ string_capacity text.old → IsOk result }
-    ensures capacity { string_capacity text.old ≤ string_capacity text.new }
 {
     let number = match house {
         House::Row(y) => {
@@ -111,8 +109,6 @@ fn put_piece<O: Sink>(text: &mut String, output: &mut O) -> Result<(), Stop>
         × (O.has_failed output.new ≡ is_broken stop)) }
     ensures whole { OnOk result (KeptOrPut O.takes output.old (string_bytes text.old) (string_bytes text.new) output.new) }
     ensures small { OnOk result (string_len text.new < PIECE) }
-    ensures room { IfErr result (λ stop. is_broken stop ≡ true) }
-    ensures capacity { string_capacity text.old ≤ string_capacity text.new }
 {
     if text.len() < PIECE {
         return Ok(());
@@ -145,8 +141,6 @@ pub fn put_visits<P: Housed, O: Sink>(
     ensures pieces { string_len text.old < PIECE → OnOk result (PutInPieces O.takes (PIECE + LINE) output.old
         (string_bytes text.old ++ visits_text (P.house_with puzzle.now) visits.now) (string_bytes text.new) output.new) }
     ensures small { string_len text.old < PIECE → OnOk result (string_len text.new < PIECE) }
-    ensures room { string_len text.old < PIECE → PIECE + LINE ≤ string_capacity text.old
-        → IfErr result (λ stop. is_broken stop ≡ true) }
 {
     for number in visits {
         push_visit(text, puzzle.house(*number))?;
@@ -179,8 +173,6 @@ pub fn put_closing<R: Rules, P: Housed, O: Sink>(
     ensures pieces { string_len text.old < PIECE → OnOk result (PutsPieces O.takes (PIECE + LINE) traced
         (TellsVisits (P.house_with puzzle.now) (R.puzzle rules.now)) output.old (string_bytes text.old) (string_bytes text.new) output.new) }
     ensures small { string_len text.old < PIECE → OnOk result (string_len text.new < PIECE) }
-    ensures room { string_len text.old < PIECE → PIECE + LINE ≤ string_capacity text.old
-        → IfErr result (λ stop. is_broken stop ≡ true) }
 {
     if traced {
         store.close(rules);

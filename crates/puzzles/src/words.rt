@@ -6,7 +6,7 @@ ghost use Rattle.clap.specs.Simple.{app_of, subcommand_rows_of};
 ghost use Rattle.clap.specs.Matches.{found_of};
 ghost use Rattle.clap.specs.declared.builder.command.Command.TheViews.{out-Command as fields_of};
 ghost use Rattle.puzzles.specs.CommandLine.{required_word, optional_word, text_option, flag, solve_app, check_app, grade_app, generate_needs_app, generate_app, bare_app, puzzles_app, parsed};
-ghost use Rattle.puzzles.specs.Requests.{asked_in, game_of, game_in, budget_in, solve_in, check_in, trace_in, grade_in, seed_in, tries_in, black_in, generate_in, asked_by, asked_of, IsWithin};
+ghost use Rattle.puzzles.specs.Requests.{asked_in, game_of, game_in, budget_in, solve_in, check_in, trace_in, grade_in, seed_in, tries_in, black_in, generate_in, asked_by, asked_of, IsInRange};
 
 use clap::error::ErrorKind;
 use clap::{Arg, ArgAction, ArgMatches, Command};
@@ -234,7 +234,7 @@ fn budget_from<'a>(matches: &ArgMatches<'a>) -> Option<u64>
 
 fn solve_request<'a>(matches: &ArgMatches<'a>) -> Option<Request<'a>>
     ensures value { option_map asked_in result ≡ solve_in (rows_of (found_of matches.now)) }
-    ensures within { IfSome result IsWithin }
+    ensures within { IfSome result IsInRange }
 {
     let game = game_from(matches)?;
     let budget = budget_from(matches)?;
@@ -244,7 +244,7 @@ fn solve_request<'a>(matches: &ArgMatches<'a>) -> Option<Request<'a>>
 
 fn check_request<'a>(matches: &ArgMatches<'a>) -> Option<Request<'a>>
     ensures value { option_map asked_in result ≡ check_in (rows_of (found_of matches.now)) }
-    ensures within { IfSome result IsWithin }
+    ensures within { IfSome result IsInRange }
 {
     let game = game_from(matches)?;
     let id = text_of(matches, "id")?;
@@ -262,7 +262,7 @@ fn trace_from<'a>(matches: &ArgMatches<'a>) -> bool
 
 fn grade_request<'a>(matches: &ArgMatches<'a>) -> Option<Request<'a>>
     ensures value { option_map asked_in result ≡ grade_in (rows_of (found_of matches.now)) }
-    ensures within { IfSome result IsWithin }
+    ensures within { IfSome result IsInRange }
 {
     let game = game_from(matches)?;
     let id = text_of(matches, "id")?;
@@ -307,7 +307,7 @@ fn black_from<'a>(game: Game, matches: &ArgMatches<'a>) -> Option<u8>
 
 fn generate_request<'a>(matches: &ArgMatches<'a>) -> Option<Request<'a>>
     ensures value { option_map asked_in result ≡ generate_in (rows_of (found_of matches.now)) }
-    ensures within { IfSome result IsWithin }
+    ensures within { IfSome result IsInRange }
 {
     let game = game_from(matches)?;
     let size = text_of(matches, "size")?;
@@ -327,7 +327,7 @@ fn generate_request<'a>(matches: &ArgMatches<'a>) -> Option<Request<'a>>
 
 fn request_by<'a>(name: &str, matches: &ArgMatches<'a>) -> Option<Request<'a>>
     ensures value { option_map asked_in result ≡ asked_by name.now (rows_of (found_of matches.now)) }
-    ensures within { IfSome result IsWithin }
+    ensures within { IfSome result IsInRange }
 {
     match name {
         "solve" => solve_request(matches),
@@ -341,7 +341,7 @@ fn request_by<'a>(name: &str, matches: &ArgMatches<'a>) -> Option<Request<'a>>
 fn request_in<'a>(matches: &ArgMatches<'a>) -> Option<Request<'a>>
     ensures value { option_map asked_in result
         ≡ option_and_then (λ p. asked_by p.0 p.1) (subcommand_rows_of matches.now) }
-    ensures within { IfSome result IsWithin }
+    ensures within { IfSome result IsInRange }
 {
     let (name, found) = matches.subcommand()?;
     request_by(name, found)
@@ -354,7 +354,7 @@ fn request_in<'a>(matches: &ArgMatches<'a>) -> Option<Request<'a>>
 /// When memory was refused.
 pub fn read_words<'a>(alloc: Global, words: &'a [String]) -> Result<Option<Request<'a>>, AllocError>
     ensures value { IfOk result (λ r. option_map asked_in r ≡ asked_of (map string_bytes words.entry.now)) }
-    ensures within { IfOk result (λ r. IfSome r IsWithin) }
+    ensures within { IfOk result (λ r. IfSome r IsInRange) }
 {
     match matches_of(alloc, words)? {
         Some(matches) => Ok(request_in(&matches)),

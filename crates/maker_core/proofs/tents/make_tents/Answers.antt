@@ -1,21 +1,33 @@
 use Rattle.std.proofs.Common.{sym, ◌∙◌, ap}
 use Rattle.gameid_core.specs.Puzzles.{Tents}
 use Rattle.fields_core.specs.TentHouses.{tent_rules}
+use Rattle.maker_core.specs.declared.camp.Camp.{Camp}
 use Rattle.maker_core.specs.Made.{has_one}
+use Rattle.maker_core.specs.TentFilling.{tents_of}
 use Rattle.maker_core.proofs.TentMakings.{tents_size, tents_only}
-use Rattle.maker_core.proofs.Tries.{IsTrying-none, IsTrying-more, left_after}
+use Rattle.maker_core.proofs.Tries.{IsTrying-none, IsTrying-more, first_passing, left_after}
 use Rattle.maker_core.proofs.tents.make_tents.Goals as goal
 
 pub loop-attempt-init : goal.loop-attempt-init
 loop-attempt-init g c = IsTrying-none _ _ _
 
-pub returns-then-branch-clause-size : goal.returns-then-branch-clause-size
-returns-then-branch-clause-size g c = tents_size c.args.size c.in_ok-camp.camp c.in_ok-puzzle.puzzle c.in_ok-puzzle.ensures
-
-pub returns-then-branch-clause-only : goal.returns-then-branch-clause-only
-returns-then-branch-clause-only g c =
-    tents_only c.args.size c.in_ok-camp.camp c.in_ok-puzzle.puzzle c.in_ok-puzzle.ensures c.in_ok-camp.ensures.tents c.in_ok-camp.ensures.solved c.accepted_tents_are_solutions.ensures
-    (c.in_ok-passes.ensures.only c.if-branch.true)
+pub returns-then-branch-clause-made : goal.returns-then-branch-clause-made
+returns-then-branch-clause-made g c =
+    let taken = first_passing _ _ _ _ _ _ _ _ c.loop-attempt.invariant c.in_ok-camp.ensures.drawn
+    (ap (λ (p : Tents). has_one (tent_rules p) c.args.limits.budget) (sym c.in_ok-puzzle.ensures) ∙ sym c.in_ok-passes.ensures.verdict ∙ c.if-branch.true)
+    c.loop-attempt-test.true in
+    let only = tents_only c.args.size c.in_ok-camp.camp c.in_ok-puzzle.puzzle c.in_ok-puzzle.ensures c.in_ok-camp.ensures.solved c.accepted_tents_are_solutions.ensures
+    c.args.limits.budget (c.in_ok-passes.ensures.only c.if-branch.true) in
+    record {
+      k = taken.0;
+      first = taken.1;
+      clues = c.in_ok-puzzle.ensures ∙ ap (tents_of c.args.size) taken.2;
+      filled = ap (λ (camp : Camp). camp.tents) taken.2;
+      size_asked = tents_size c.args.size c.in_ok-camp.camp c.in_ok-puzzle.puzzle c.in_ok-puzzle.ensures;
+      only = only.0;
+      verdict = only.1;
+      unthinned = c.new.ensures.items;
+    }
 
 pub returns-then-branch-clause-drawn : goal.returns-then-branch-clause-drawn
 returns-then-branch-clause-drawn g c =

@@ -3,16 +3,19 @@ use Rattle.maker_core.specs.ThinningSteps.{reasons_from}
 use Rattle.maker_core.specs.Thinning.{clue_places}
 use Rattle.std.specs.Prelude.{IsPermutation}
 use Rattle.maker_core.specs.declared.made.Why.{Why}
-use Rattle.maker_core.proofs.ThinningReasons.{whole_front, thinning_start, only_left, reasons_left}
+use Rattle.maker_core.proofs.ThinningReasons.{whole_front, thinning_start, only_left, found_left, reasons_left}
 use Rattle.maker_core.proofs.thin.thin.Goals as goal
 
 pub try_clues-requires-clause-start : goal.try_clues-requires-clause-start
 try_clues-requires-clause-start g c =
     let blank : c.in_ok-whys.whys.items ≡ replicate {A = Option Why} c.cells.result None = search rules in
-    thinning_start g.P.Clued.game g.met.P.Clued.lawful _ _ _ _ _ c.requires.only (subst (λ xs. IsPermutation (clue_places g.P.Clued.game c.args.puzzle) xs) (sym c.deref.ensures.value) c.in_ok-order.ensures.permutation) (c.deref_mut.ensures.value ∙ blank ∙ ap (λ n. replicate {A = Option Why} n None) c.cells.ensures)
+    thinning_start g.P.Clued.game g.met.P.Clued.lawful _ _ _ _ _ c.requires.only c.requires.found (subst (λ xs. IsPermutation (clue_places g.P.Clued.game c.args.puzzle) xs) (sym c.deref.ensures.value) c.in_ok-order.ensures.permutation) (c.deref_mut.ensures.value ∙ blank ∙ ap (λ n. replicate {A = Option Why} n None) c.cells.ensures)
 
 pub returns-clause-only : goal.returns-clause-only
 returns-clause-only g c = only_left g.P.Clued.game g.met.P.Clued.lawful _ _ _ _ _ c.requires.only c.in_ok-try_clues.ensures
+
+pub returns-clause-found : goal.returns-clause-found
+returns-clause-found g c = found_left g.P.Clued.game g.met.P.Clued.lawful _ _ _ _ _ c.requires.only c.in_ok-try_clues.ensures
 
 pub returns-clause-reasons : goal.returns-clause-reasons
 returns-clause-reasons g c = reasons_left g.P.Clued.game g.met.P.Clued.lawful _ _ _ _ _ _ c.requires.all c.in_ok-try_clues.ensures

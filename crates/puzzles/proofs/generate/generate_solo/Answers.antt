@@ -7,10 +7,8 @@ pub returns-in_ok-write_solo-in-Ok-make_solo-clause-allowed :
 returns-in_ok-write_solo-in-Ok-make_solo-clause-allowed c =
     let m = c.in-Ok-make_solo in
     let e = m.ensures in
-    let s = rw c.generator-rng.ensures at e.first.0 in
-    let f = rw c.generator-rng.ensures at e.first.1 in
-    solo-told c.args.size.now c.args.seed c.args.limits.budget c.args.limits.tries _ _ m.made.puzzle m.made.answer c.made_reply.result (sym c.in-Ok.ensures.exact)
-    (record { first = s; filled = f; columns = e.size.0; rows = e.size.1; givens = e.within; only = e.only; kept = _; reasons = e.reasons })
+    solo-told c.args.size.now c.args.seed c.args.limits.budget c.args.limits.tries _ _ m.made.puzzle m.made.answer _ c.made_reply.result (sym c.in-Ok.ensures.exact)
+    (rw c.generator-rng.ensures at e.made) (rw c.in_ok-write_solo-in-Ok-make_solo.ensures.text at c.in_ok-write_solo-in-Ok-make_solo.ensures.read_again)
     (rw c.in_ok-write_solo-in-Ok-make_solo.ensures.text at c.made_reply.ensures)
 
 pub returns-in-Err-Exhausted-clause-allowed : goal.returns-in-Err-Exhausted-clause-allowed

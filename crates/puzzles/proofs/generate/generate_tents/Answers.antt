@@ -9,10 +9,9 @@ returns-in_ok-write_tents-in-Ok-make_tents-clause-allowed c =
     let e = m.ensures in
     let size = c.unwrap-size.result in
     let same = (rw c.unwrap-size.ensures at c.new.ensures.exact).1 in
-    let f = rw c.generator-rng.ensures at e.first in
-    tents-told c.args.size.now c.args.seed c.args.limits.budget c.args.limits.tries size m.made.puzzle m.made.answer _ c.made_reply.result
+    tents-told c.args.size.now c.args.seed c.args.limits.budget c.args.limits.tries size m.made.puzzle m.made.answer _ _ c.made_reply.result
     e.size_range refl (ap (λ (s : Extent). Ok (s.w, s.h)) same ∙ c.in-Ok.ensures.exact)
-    (record { k = f.0; first = f.1; clues = f.2; filled = f.3; size_asked = e.size; only = e.only })
+    (rw c.generator-rng.ensures at e.made) (rw c.in_ok-write_tents-in-Ok-make_tents.ensures.text at c.in_ok-write_tents-in-Ok-make_tents.ensures.read_again)
     (rw c.in_ok-write_tents-in-Ok-make_tents.ensures.text at c.made_reply.ensures)
 
 pub returns-in-Err-SizeRange-clause-allowed : goal.returns-in-Err-SizeRange-clause-allowed

@@ -10,9 +10,9 @@ use Rattle.fields_core.specs.TentHouses.{tent_rules}
 use Rattle.pattern_core.specs.LineRules.{line_rules}
 use Rattle.pattern_core.specs.Solutions as pattern
 use Rattle.solo_core.specs.RuleSets.{houses_rules}
-use Rattle.maker_core.specs.LightMaking.{SolvesLights}
-use Rattle.maker_core.specs.SoloMaking.{SolvesSolo}
-use Rattle.maker_core.specs.TentMaking.{SolvesTents}
+use Rattle.solo_core.specs.Solutions as solo
+use Rattle.fields_core.specs.LightSolutions.{IsLightSolution}
+use Rattle.fields_core.specs.TentSolutions.{IsTentSolution}
 use Rattle.puzzles.specs.Each.{HasAnswers}
 use Rattle.gameid_core.specs.GridTexts.{pattern_cell, solo_cell, solo_extent, light_cell, tents_cell}
 use Rattle.puzzles.specs.Solving.{AllowsSolve}
@@ -23,23 +23,23 @@ pub returns : goal.returns
 returns c = by
   where
     by : (game : Game) (budget : ℕ) → HasAnswers (AllowsSolve game budget)
-    by Solo budget text = answer_of SolvesSolo houses_rules solo_cell solo_extent budget (solo_of text) (SpellsSolo text) (c.one_reading_of_solo.ensures.either text)
-        (λ p s. right_of (houses_rules p) (SolvesSolo p) _
+    by Solo budget text = answer_of solo.IsSolution houses_rules solo_cell solo_extent budget (solo_of text) (SpellsSolo text) (c.one_reading_of_solo.ensures.either text)
+        (λ p s. right_of (houses_rules p) (solo.IsSolution p) _
         (λ g. let same = c.accepted_are_solutions.ensures.houses p g in
-        (λ t. record { grid = t.grid; solution = same.0 t.good }, λ t. record { grid = t.grid; good = same.1 t.solution }))
+        (λ t. (same t.grid).0 t.good, λ t. record { grid = t.grid; good = (same t.grid).1 t }))
         (c.verdict_is_true.ensures (houses_rules p) (c.rules_are_lawful.ensures.houses p s.puzzle) budget))
     by Pattern budget text = answer_of pattern.IsSolution line_rules pattern_cell (λ p. p.size) budget (pattern_of text) (SpellsPattern text) (c.one_reading_of_pattern.ensures.either text)
         (λ p s. right_of (line_rules p) (pattern.IsSolution p) _
         (λ g. let same = c.accepted_are_solutions-2.ensures p g in
         (λ t. (same t.grid).0 t.good, λ t. record { grid = t.grid; good = (same t.grid).1 t }))
         (c.verdict_is_true.ensures (line_rules p) (c.rules_are_lawful-2.ensures p s.puzzle) budget))
-    by LightUp budget text = answer_of SolvesLights light_rules light_cell (λ p. p.size) budget (light_of text) (SpellsLight text) (c.one_reading_of_lights.ensures.either text)
-        (λ p s. right_of (light_rules p) (SolvesLights p) _
+    by LightUp budget text = answer_of IsLightSolution light_rules light_cell (λ p. p.size) budget (light_of text) (SpellsLight text) (c.one_reading_of_lights.ensures.either text)
+        (λ p s. right_of (light_rules p) (IsLightSolution p) _
         (λ g. let same = c.accepted_lights_are_solutions.ensures p g in
-        (λ t. record { grid = t.grid; solution = (same t.grid).0 t.good }, λ t. record { grid = t.grid; good = (same t.grid).1 t.solution }))
+        (λ t. (same t.grid).0 t.good, λ t. record { grid = t.grid; good = (same t.grid).1 t }))
         (c.verdict_is_true.ensures (light_rules p) (c.rules_of_lights_are_lawful.ensures p s.puzzle) budget))
-    by Tents budget text = answer_of SolvesTents tent_rules tents_cell (λ p. p.size) budget (tents_of text) (SpellsTents text) (c.one_reading_of_tents.ensures.either text)
-        (λ p s. right_of (tent_rules p) (SolvesTents p) _
+    by Tents budget text = answer_of IsTentSolution tent_rules tents_cell (λ p. p.size) budget (tents_of text) (SpellsTents text) (c.one_reading_of_tents.ensures.either text)
+        (λ p s. right_of (tent_rules p) (IsTentSolution p) _
         (λ g. let same = c.accepted_tents_are_solutions.ensures p g in
-        (λ t. record { grid = t.grid; solution = (same t.grid).0 t.good }, λ t. record { grid = t.grid; good = (same t.grid).1 t.solution }))
+        (λ t. (same t.grid).0 t.good, λ t. record { grid = t.grid; good = (same t.grid).1 t }))
         (c.verdict_is_true.ensures (tent_rules p) (c.rules_of_tents_are_lawful.ensures p s.puzzle) budget))

@@ -15,7 +15,7 @@ if_err (Ok u) Q stop q h = tt
 if_err (Err e) Q stop q h = subst Q (sym h.1) q
 
 pub loop-number-init : goal.loop-number-init
-loop-number-init g c = (no_line g.O.Sink.takes g.met.O.Sink.takes_nothing g.met.O.Sink.takes_both _ _ _, search rules, λ small. small, λ _. no_pieces g.O.Sink.takes (PIECE + LINE) _ _ _, omega arith)
+loop-number-init g c = (no_line g.O.Sink.takes g.met.O.Sink.takes_nothing g.met.O.Sink.takes_both _ _ _, search rules, λ small. small, λ _. no_pieces g.O.Sink.takes (PIECE + LINE) _ _ _)
 
 pub returns-in_err-push_visit-clause-err : goal.returns-in_err-push_visit-clause-err
 returns-in_err-push_visit-clause-err g c =
@@ -44,5 +44,4 @@ loop-number-preserved g c = (
   λ small. next_piece g.O.Sink.takes (PIECE + LINE) _ _ _ _ _ _
       (line_held g.O.Sink.takes (PIECE + LINE) _ _ _ _ _ _ _ _ (c.loop-number.invariant.3 small) c.in_ok-push_visit.ensures.line (ap line_of c.house.ensures))
       (omega (arith, c.loop-number.invariant.2 small, c.in_ok-push_visit.ensures.short, c.push_visit.new.text.bytes.ok.0)) c.in_ok-put_piece.ensures.whole,
-  omega (arith, c.loop-number.invariant.4, c.push_visit.ensures.capacity, c.put_piece.ensures.capacity),
 )

@@ -1,4 +1,4 @@
-use Rattle.std.proofs.Common.{◌≡◌, ◌++◌, ◌+◌, ◌<◌, ◌≤◌, false, string_bytes, string_len, string_capacity, slice_index}
+use Rattle.std.proofs.Common.{◌≡◌, ◌++◌, ◌+◌, ◌<◌, false, string_bytes, string_len, slice_index}
 use Rattle.puzzles.specs.Answers.{PutUpTo}
 use Rattle.gameid_core.specs.GridTexts.{each_below}
 use Rattle.puzzles.specs.Traces.{PutInPieces, line_of}
@@ -12,4 +12,3 @@ invariant-loop-number g l = PutUpTo g.O.Sink.takes l.fn.output
     × (string_len l.fn.text < PIECE → string_len l.text < PIECE)
     × (string_len l.fn.text < PIECE → PutInPieces g.O.Sink.takes (PIECE + LINE) l.fn.output
     (string_bytes l.fn.text ++ each_below (λ k. line_of (g.P.Housed.house_with l.puzzle (slice_index l.visits k))) l.number-index) (string_bytes l.text) l.output)
-    × (string_capacity l.fn.text ≤ string_capacity l.text)
