@@ -1,37 +1,80 @@
 #!/usr/bin/env python3
-"""Times `generate` over some seeds, and prints milliseconds per puzzle.
+"""Times `generate`, and prints what it answers in how many seconds, by size and by the share of black cells.
 
-usage: made.py PROGRAM [COUNT [LIMIT]]     PROGRAM as `rt run` leaves it: crates/puzzles/out/puzzles
+usage: made.py PROGRAM [SEEDS [LIMIT [GAME]]]     PROGRAM as `rt run` leaves it: crates/puzzles/out/puzzles
 
-COUNT seeds are tried for each kind (5 where nothing is said), one run of the program each, so the time to start it is in
-the number. A run of more than LIMIT seconds (60 where nothing is said) is stopped, and counted as stopped at that time.
-Nothing is asserted; puzzles made and tries exhausted are counted by status.
+Each kind is made for the seeds from 1 to SEEDS (3 where nothing is said), one run of the program each, so the time to start
+it is in the number. A run of more than LIMIT seconds (60 where nothing is said) is stopped. A cell is the middle one of the
+times in seconds; `exhausted` stands before it where that run made no puzzle, and `over LIMIT` where it was stopped. Of runs that
+differ in that the number that made a puzzle is added. `-` is not tried: no smaller size made one. Nothing is asserted.
 """
-import collections
 import subprocess
 import sys
 import time
 
-KINDS = ["solo 2x2", "solo 3x3", "solo 4x4", "solo 5x5", "pattern 10x10", "pattern 30x30", "lightup 7x7",
-         "lightup 14x14", "tents 8x8", "tents 15x15"]
+# The sizes of a game, ascending, and the values of --black, or none.
+KINDS = [
+    ("lightup", ["5x5", "7x7", "10x10", "14x14", "20x20", "30x30"], ["15", "20", "25", "30", "35", "40", "45"]),
+    ("pattern", ["5x5", "10x10", "15x15", "20x20", "30x30", "40x40"], ["30", "40", "50", "60", "70"]),
+    ("tents", ["4x4", "6x6", "8x8", "10x10", "15x15", "20x20"], [None]),
+    ("solo", ["2x2", "2x3", "3x3", "3x4", "4x4", "4x5", "5x5"], [None]),
+]
+
+
+def made(words, limit):
+    """The seconds of a run, and how it ended: 0 made, 1 exhausted, 2 stopped."""
+    start = time.perf_counter()
+    try:
+        done = subprocess.run(words, capture_output=True, check=False, timeout=limit)
+    except subprocess.TimeoutExpired:
+        return 2, limit
+    if done.returncode not in (0, 4):
+        sys.exit(f"{' '.join(words)}: status {done.returncode}")
+    return (1 if done.returncode else 0), time.perf_counter() - start
+
+
+def cell(runs, limit):
+    """The text of a cell: of the runs, sorted by how they ended and by time, the middle one's."""
+    ended, seconds = sorted(runs)[len(runs) // 2]
+    text = [f"{seconds:.2g}", f"exhausted {seconds:.2g}", f"over {limit:g}"][ended]
+    good = sum(1 for how, _ in runs if how == 0)
+    return text if good in (0, len(runs)) else f"{text} ({good} of {len(runs)})"
+
+
+def measured(program, words, seeds, limit):
+    """Runs for the seeds, until more than half of them were stopped."""
+    runs = []
+    for seed in range(1, seeds + 1):
+        runs.append(made([program, "generate", *words, "--seed", str(seed)], limit))
+        if sum(1 for ended, _ in runs if ended == 2) > seeds // 2:
+            return [(2, limit)] * seeds
+    return runs
 
 
 def main():
     if len(sys.argv) < 2:
         sys.exit(__doc__)
-    program, count = sys.argv[1], int(sys.argv[2]) if len(sys.argv) > 2 else 5
+    program = sys.argv[1]
+    seeds = int(sys.argv[2]) if len(sys.argv) > 2 else 3
     limit = float(sys.argv[3]) if len(sys.argv) > 3 else 60
-    for kind in KINDS:
-        times, statuses = [], collections.Counter()
-        for seed in range(1, count + 1):
-            start = time.perf_counter()
-            words = [program, "generate", *kind.split(), "--seed", str(seed)]
-            try:
-                statuses[subprocess.run(words, capture_output=True, check=False, timeout=limit).returncode] += 1
-            except subprocess.TimeoutExpired:
-                statuses["stopped"] += 1
-            times.append(1e3 * (time.perf_counter() - start))
-        print(f"{kind}: {sum(times) / count:.1f} milliseconds, at most {max(times):.1f}, by status {dict(statuses)}")
+    for game, sizes, shares in KINDS:
+        if len(sys.argv) > 4 and game != sys.argv[4]:
+            continue
+        heads = [f"--black {share}" for share in shares if share] or ["seconds"]
+        print(f"| {game} | " + " | ".join(heads) + " |")
+        print("|---" * (len(heads) + 1) + "|", flush=True)
+        tried = {share: True for share in shares}
+        for size in sizes:
+            cells = []
+            for share in shares:
+                if not tried[share]:
+                    cells.append("-")
+                    continue
+                runs = measured(program, [game, size] + (["--black", share] if share else []), seeds, limit)
+                tried[share] = any(ended == 0 for ended, _ in runs)
+                cells.append(cell(runs, limit))
+            print(f"| {size} | " + " | ".join(cells) + " |", flush=True)
+        print()
 
 
 main()

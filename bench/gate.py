@@ -1,0 +1,64 @@
+#!/usr/bin/env python3
+"""What the gate costs: runs .ci/run at the top of the repository and prints processor minutes by crate.
+
+    bench/gate.py            (Linux; its own output goes to standard error, the gate's to standard output)
+
+Each second it reads the processor time of every prover's process from /proc. What a process uses in its last second
+is lost, so a sum is some percent low. A crate's part is its proof, its tests, or its wrong bodies.
+"""
+import os
+import subprocess
+import sys
+import time
+
+TICKS = os.sysconf("SC_CLK_TCK")
+PARTS = ("proof", "tests", "wrong bodies")
+
+
+def part_of(words, folder):
+    if "/rt-edit-" in folder:
+        return "wrong bodies"
+    return "tests" if "--test" in words else "proof"
+
+
+def sample(seen):
+    """Notes of each prover's process its crate, its part and its processor seconds so far."""
+    for name in os.listdir("/proc"):
+        if not name.isdigit():
+            continue
+        try:
+            with open(f"/proc/{name}/cmdline", "rb") as file:
+                words = file.read().decode(errors="replace").split("\0")
+            if "--crate-name" not in words:
+                continue
+            with open(f"/proc/{name}/stat") as file:
+                fields = file.read().rpartition(")")[2].split()
+            part = part_of(words, os.readlink(f"/proc/{name}/cwd"))
+        except OSError:  # it has ended
+            continue
+        crate = words[words.index("--crate-name") + 1]
+        used = (int(fields[11]) + int(fields[12])) / TICKS
+        seen[name, fields[19]] = (crate, part, used)
+
+
+def main():
+    top = os.path.dirname(os.path.dirname(os.path.abspath(__file__)))
+    start, seen = time.time(), {}
+    gate = subprocess.Popen(["bash", f"{top}/.ci/run"], cwd=top)
+    while gate.poll() is None:
+        sample(seen)
+        time.sleep(1)
+    sums = {}
+    for crate, part, used in seen.values():
+        sums[crate, part] = sums.get((crate, part), 0) + used / 60
+    print("| Crate | Proof | Tests | Wrong bodies |\n|---|---|---|---|", file=sys.stderr)
+    for crate in sorted({crate for crate, _ in sums}):
+        row = " | ".join(f"{sums.get((crate, part), 0):.1f}" for part in PARTS)
+        print(f"| `{crate}` | {row} |", file=sys.stderr)
+    wall = (time.time() - start) / 60
+    print(f"{sum(sums.values()):.0f} processor minutes, {wall:.0f} of wall time", file=sys.stderr)
+    sys.exit(gate.returncode)
+
+
+if __name__ == "__main__":
+    main()
