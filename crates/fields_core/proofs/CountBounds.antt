@@ -5,17 +5,26 @@ use Rattle.std.proofs.lemmas.List.{length-append, length-take, take-append-drop}
 use Rattle.std.proofs.Math.Seq.{get_or-append_seam, drop-cons}
 use Rattle.engine_core.specs.Filling.{Set, has_value, Fills, IsShown}
 use Rattle.engine_core.specs.FillingLaws.{Fills-cons, Fills-tail, Fills-append, Fills-parts}
-use Rattle.fields_core.specs.Count.{ones, counts_between, must_of, may_of}
+use Rattle.fields_core.specs.Count.{nonzeros, counts_between}
+
+-- how many cells must hold a one, and how many may
+abbrev pub must_of : List Set → ℕ
+must_of [] = 0
+must_of (set ∷ sets) = (if has_value set 0 then 0 else 1) + must_of sets
+
+abbrev pub may_of : List Set → ℕ
+may_of [] = 0
+may_of (set ∷ sets) = (if has_value set 1 then 1 else 0) + may_of sets
 
 -- each set has 0 or 1, and nothing else
 pub record IsCounted (sets : List Set) : Type 0 where
   pub some : (k : ℕ) → k < length sets → (has_value (get_or sets k []) 0 ≡ true) ⊎ (has_value (get_or sets k []) 1 ≡ true)
   pub two : (k v : ℕ) → k < length sets → has_value (get_or sets k []) v ≡ true → v < 2
 
-pub ones-append : (f g : List ℕ) → ones (f ++ g) ≡ ones f + ones g
-ones-append [] g = (let z : ones g ≡ 0 + ones g = omega arith in z)
+pub ones-append : (f g : List ℕ) → nonzeros (f ++ g) ≡ nonzeros f + nonzeros g
+ones-append [] g = (let z : nonzeros g ≡ 0 + nonzeros g = omega arith in z)
 ones-append (zero ∷ f) g = ones-append f g
-ones-append (suc x ∷ f) g = ap suc (ones-append f g) ∙ (let z : suc (ones f + ones g) ≡ suc (ones f) + ones g = omega arith in z)
+ones-append (suc x ∷ f) g = ap suc (ones-append f g) ∙ (let z : suc (nonzeros f + nonzeros g) ≡ suc (nonzeros f) + nonzeros g = omega arith in z)
 
 counted_tail : (set : Set) (sets : List Set) → IsCounted (set ∷ sets) → IsCounted sets
 counted_tail set sets c = record { some = λ k h. c.some (suc k) (omega arith); two = λ k v h e. c.two (suc k) v (omega arith) e }
@@ -31,7 +40,7 @@ may_here : Set → ℕ
 may_here set = cond (has_value set 1) 1 0
 
 -- a filling has as many ones as must be at least, and as may be at most
-pub ones_bounds : (sets : List Set) (f : List ℕ) → IsCounted sets → Fills sets f → (must_of sets ≤ ones f) × (ones f ≤ may_of sets)
+pub ones_bounds : (sets : List Set) (f : List ℕ) → IsCounted sets → Fills sets f → (must_of sets ≤ nonzeros f) × (nonzeros f ≤ may_of sets)
 ones_bounds [] [] c p = (omega arith, omega arith)
 ones_bounds [] (v ∷ f) c p = absurd (omega (arith, p.len))
 ones_bounds (set ∷ sets) [] c p = absurd (omega (arith, p.len))
@@ -47,8 +56,8 @@ ones_bounds (set ∷ sets) (v ∷ f) c p = by v (p.each 0 (omega arith)) (c.two 
     high : (b : Bool) → b ≡ true → ◌≡◌ {A = ℕ} (cond b 1 0) 1
     high b e = rw e refl
 
-    by : (u : ℕ) → has_value set u ≡ true → u < 2 → (must_of sets ≤ ones f) × (ones f ≤ may_of sets)
-        → (cond (has_value set 0) 0 1 + must_of sets ≤ ones (u ∷ f)) × (ones (u ∷ f) ≤ cond (has_value set 1) 1 0 + may_of sets)
+    by : (u : ℕ) → has_value set u ≡ true → u < 2 → (must_of sets ≤ nonzeros f) × (nonzeros f ≤ may_of sets)
+        → (cond (has_value set 0) 0 1 + must_of sets ≤ nonzeros (u ∷ f)) × (nonzeros (u ∷ f) ≤ cond (has_value set 1) 1 0 + may_of sets)
     by zero has b r = (let a = low (has_value set 0) has in omega arith, omega arith)
     by (suc zero) has b r = (let a = low_most (has_value set 0) in omega arith, let a = high (has_value set 1) has in omega arith)
     by (suc (suc u)) has b r = absurd (omega arith)
@@ -66,7 +75,7 @@ must_le_may (set ∷ sets) c = by (has_value set 0) (has_value set 1) (c.some 0 
     by false false (inr e) r = absurd (true≢false (sym e))
 
 -- each number between the bounds is that of a filling
-pub ones_reached : (sets : List Set) (k : ℕ) → IsCounted sets → must_of sets ≤ k → k ≤ may_of sets → (f : List ℕ) × Fills sets f × (ones f ≡ k)
+pub ones_reached : (sets : List Set) (k : ℕ) → IsCounted sets → must_of sets ≤ k → k ≤ may_of sets → (f : List ℕ) × Fills sets f × (nonzeros f ≡ k)
 ones_reached [] k c low high = ([], Fills-none, omega arith)
 ones_reached (set ∷ sets) k c low high = by (true_or_false (has_value set 0)) (true_or_false (has_value set 1)) (λ j. ones_reached sets j (counted_tail set sets c))
   where
@@ -74,10 +83,10 @@ ones_reached (set ∷ sets) k c low high = by (true_or_false (has_value set 0)) 
     true_or_false true = inl refl
     true_or_false false = inr refl
 
-    white : has_value set 0 ≡ true → (f : List ℕ) × Fills sets f × (ones f ≡ k) → (f : List ℕ) × Fills (set ∷ sets) f × (ones f ≡ k)
+    white : has_value set 0 ≡ true → (f : List ℕ) × Fills sets f × (nonzeros f ≡ k) → (f : List ℕ) × Fills (set ∷ sets) f × (nonzeros f ≡ k)
     white has (f, p, e) = (0 ∷ f, Fills-cons set sets 0 f has p, e)
 
-    black : has_value set 1 ≡ true → 0 < k → (f : List ℕ) × Fills sets f × (ones f ≡ k - 1) → (f : List ℕ) × Fills (set ∷ sets) f × (ones f ≡ k)
+    black : has_value set 1 ≡ true → 0 < k → (f : List ℕ) × Fills sets f × (nonzeros f ≡ k - 1) → (f : List ℕ) × Fills (set ∷ sets) f × (nonzeros f ≡ k)
     black has pos (f, p, e) = (1 ∷ f, Fills-cons set sets 1 f has p, omega arith)
 
     must_is : (b : Bool) → has_value set 0 ≡ b → must_of (set ∷ sets) ≡ cond b 0 1 + must_of sets
@@ -87,8 +96,8 @@ ones_reached (set ∷ sets) k c low high = by (true_or_false (has_value set 0)) 
     may_is b e = ap (λ t. cond t 1 0 + may_of sets) e
 
     by : (has_value set 0 ≡ true) ⊎ (has_value set 0 ≡ false) → (has_value set 1 ≡ true) ⊎ (has_value set 1 ≡ false)
-        → ((j : ℕ) → must_of sets ≤ j → j ≤ may_of sets → (f : List ℕ) × Fills sets f × (ones f ≡ j))
-        → (f : List ℕ) × Fills (set ∷ sets) f × (ones f ≡ k)
+        → ((j : ℕ) → must_of sets ≤ j → j ≤ may_of sets → (f : List ℕ) × Fills sets f × (nonzeros f ≡ j))
+        → (f : List ℕ) × Fills (set ∷ sets) f × (nonzeros f ≡ k)
     by (inl z) (inl o) rest =
         let a = must_is true z in
         let b = may_is true o in
@@ -111,23 +120,23 @@ ones_reached (set ∷ sets) k c low high = by (true_or_false (has_value set 0)) 
 
 -- the value stays at a cell exactly where the bounds of the others leave room for it
 module _ (front back : List Set) (set : Set) (value : ℕ) (c : IsCounted (front ++ back)) (small : value < 2) (has : has_value set value ≡ true) where
-  one_of : ones (value ∷ []) ≡ value
+  one_of : nonzeros (value ∷ []) ≡ value
   one_of = by value small
     where
-      by : (v : ℕ) → v < 2 → ones (v ∷ []) ≡ v
+      by : (v : ℕ) → v < 2 → nonzeros (v ∷ []) ≡ v
       by zero h = refl
       by (suc zero) h = refl
       by (suc (suc v)) h = absurd (omega arith)
 
-  with_value : (f : List ℕ) → ones (value ∷ f) ≡ value + ones f
-  with_value f = ones-append (value ∷ []) f ∙ ap (λ n. n + ones f) one_of
+  with_value : (f : List ℕ) → nonzeros (value ∷ f) ≡ value + nonzeros f
+  with_value f = ones-append (value ∷ []) f ∙ ap (λ n. n + nonzeros f) one_of
 
   pub count_shown : (least most : ℕ) → least ≤ most → least ≤ value + may_of (front ++ back) → value + must_of (front ++ back) ≤ most
       → IsShown (counts_between least most) (front ++ set ∷ back) (length front) value
   count_shown least most order low high = by (ones_reached (front ++ back) (max least (value + must_of (front ++ back)) - value) c (omega arith)
       (let a = must_le_may (front ++ back) c in omega arith))
     where
-      by : (g : List ℕ) × Fills (front ++ back) g × (ones g ≡ max least (value + must_of (front ++ back)) - value)
+      by : (g : List ℕ) × Fills (front ++ back) g × (nonzeros g ≡ max least (value + must_of (front ++ back)) - value)
           → IsShown (counts_between least most) (front ++ set ∷ back) (length front) value
       by (g, p, e) = (
         take (length front) g ++ value ∷ drop (length front) g,
@@ -147,17 +156,17 @@ module _ (front back : List Set) (set : Set) (value : ℕ) (c : IsCounted (front
           parts : Fills front (take (length front) g) × Fills back (drop (length front) g)
           parts = Fills-parts front back (take (length front) g) (drop (length front) g) cut_long (subst (Fills (front ++ back)) (sym (take-append-drop (length front) g)) p)
 
-          total : ones (take (length front) g ++ value ∷ drop (length front) g) ≡ max least (value + must_of (front ++ back))
+          total : nonzeros (take (length front) g ++ value ∷ drop (length front) g) ≡ max least (value + must_of (front ++ back))
           total =
               let a = ones-append (take (length front) g) (value ∷ drop (length front) g) in
               let b = with_value (drop (length front) g) in
               let d = ones-append (take (length front) g) (drop (length front) g) in
-              let f = ap ones (take-append-drop (length front) g) in
+              let f = ap nonzeros (take-append-drop (length front) g) in
               omega arith
 
           between : counts_between least most (take (length front) g ++ value ∷ drop (length front) g) ≡ true
-          between = rw (le-leb least (ones (take (length front) g ++ value ∷ drop (length front) g)) (let t = total in omega arith))
-              (le-leb (ones (take (length front) g ++ value ∷ drop (length front) g)) most (let t = total in omega arith))
+          between = rw (le-leb least (nonzeros (take (length front) g ++ value ∷ drop (length front) g)) (let t = total in omega arith))
+              (le-leb (nonzeros (take (length front) g ++ value ∷ drop (length front) g)) most (let t = total in omega arith))
 
           middle : get_or (take (length front) g ++ value ∷ drop (length front) g) (length front) 0 ≡ value
           middle = ap (λ k. get_or (take (length front) g ++ value ∷ drop (length front) g) k 0) (sym cut_long)
@@ -183,13 +192,13 @@ module _ (front back : List Set) (set : Set) (value : ℕ) (c : IsCounted (front
       parts = Fills-parts front (set ∷ back) (take (length front) f) (value ∷ drop (suc (length front)) f)
           (let i = inside in omega (arith, length-take (length front) f)) (subst (Fills (front ++ set ∷ back)) whole s.fills)
 
-      others : (must_of (front ++ back) ≤ ones (take (length front) f ++ drop (suc (length front)) f)) × (ones (take (length front) f ++ drop (suc (length front)) f) ≤ may_of (front ++ back))
+      others : (must_of (front ++ back) ≤ nonzeros (take (length front) f ++ drop (suc (length front)) f)) × (nonzeros (take (length front) f ++ drop (suc (length front)) f) ≤ may_of (front ++ back))
       others = ones_bounds (front ++ back) (take (length front) f ++ drop (suc (length front)) f) c
           (Fills-append front back (take (length front) f) (drop (suc (length front)) f) parts.0 (Fills-tail set back value (drop (suc (length front)) f) parts.1))
 
-      total : ones f ≡ value + ones (take (length front) f ++ drop (suc (length front)) f)
+      total : nonzeros f ≡ value + nonzeros (take (length front) f ++ drop (suc (length front)) f)
       total =
-          let a = ap ones whole in
+          let a = ap nonzeros whole in
           let b = ones-append (take (length front) f) (value ∷ drop (suc (length front)) f) in
           let d = with_value (drop (suc (length front)) f) in
           let e = ones-append (take (length front) f) (drop (suc (length front)) f) in
@@ -199,7 +208,7 @@ module _ (front back : List Set) (set : Set) (value : ℕ) (c : IsCounted (front
       and_parts true b h = (refl, h)
       and_parts false b h = absurd (true≢false (sym h))
 
-      limits : (least ≤ ones f) × (ones f ≤ most)
+      limits : (least ≤ nonzeros f) × (nonzeros f ≤ most)
       limits =
-          let p = and_parts (leb least (ones f)) (leb (ones f) most) s.holds_true in
-          (leb-true least (ones f) p.0, leb-true (ones f) most p.1)
+          let p = and_parts (leb least (nonzeros f)) (leb (nonzeros f) most) s.holds_true in
+          (leb-true least (nonzeros f) p.0, leb-true (nonzeros f) most p.1)

@@ -11,8 +11,8 @@ use Rattle.std.proofs.Math.Seq.{drop-cons}
 use Rattle.engine_core.specs.Filling.{Set, has_value, IsShown, strikes_by_fillings}
 use Rattle.engine_core.specs.Sets.{has_bit, set_of_bits}
 use Rattle.engine_core.specs.FillingLaws.{has_value_below, shown_from_test}
-use Rattle.fields_core.specs.Count.{counts_between, must_of, may_of, stays_in_count}
-use Rattle.fields_core.proofs.CountBounds.{IsCounted}
+use Rattle.fields_core.specs.Count.{counts_between, stays_in_count}
+use Rattle.fields_core.proofs.CountBounds.{IsCounted, must_of, may_of}
 use Rattle.fields_core.proofs.StaysLaws.{stays_middle, stays_by_bounds}
 
 has_at_two : (bits v : ℕ) → v < 2 → has_value (set_of_bits 2 bits) v ≡ has_bit bits v

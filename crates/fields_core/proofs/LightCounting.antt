@@ -13,9 +13,9 @@ use Rattle.engine_core.specs.PlaceLaws.{has_place-here}
 use Rattle.gameid_core.specs.Puzzles.{Light, IsLight, IsLightCell}
 use Rattle.gameid_core.specs.declared.light_cell.LightCell.{LightCell}
 use Rattle.gameid_core.specs.declared.light_cell.LightCell.TheVariants.{White, Black, Numbered}
-use Rattle.fields_core.specs.Count.{ones, counts_between}
+use Rattle.fields_core.specs.Count.{nonzeros, counts_between}
 use Rattle.fields_core.specs.CountHouse.{House, meets, IsHouse, IsCounting}
-use Rattle.fields_core.specs.Light.{cells_of, white, bulb, joined_in_row, joined_in_column, sees, sees_bulb, bulbs_beside, black_right, number_right, bulb_right, lit_right, is_lit}
+use Rattle.fields_core.specs.Light.{light_cells, white, bulb, joined_in_row, joined_in_column, sees, sees_bulb, bulbs_beside, black_right, number_right, bulb_right, lit_right, is_lit}
 use Rattle.fields_core.specs.LightHouses.{row_run, column_run, seen_from, begins_row_run, begins_column_run, numbered, number_house, row_house, column_house, lit_house, light_houses}
 use Rattle.fields_core.proofs.LightFaultLemmas.{lit-parts}
 use Rattle.fields_core.proofs.LightSight.{bulb-in, row-of, column-of}
@@ -26,15 +26,15 @@ use Rattle.fields_core.proofs.LightHouseLaws.{EachOf, each-none, each-one, each-
 
 -- a house of the board that each solution meets
 pub record IsMet (p : Light) (house : House) : Type 0 where
-  pub is_house : IsHouse (cells_of p) house
-  pub met : (g : List ℕ) → IsGrid (cells_of p) 2 g → is_lit p g ≡ true → meets house g ≡ true
+  pub is_house : IsHouse (light_cells p) house
+  pub met : (g : List ℕ) → IsGrid (light_cells p) 2 g → is_lit p g ≡ true → meets house g ≡ true
 
 -- what is used of a puzzle
 pub record IsBoard (p : Light) : Type 0 where
   pub some : 0 < p.size.w
   pub w_few : p.size.w ≤ 256
   pub h_few : p.size.h ≤ 256
-  pub long : length p.cells ≡ cells_of p
+  pub long : length p.cells ≡ light_cells p
   pub number : (c n : ℕ) → get_or p.cells c Black ≡ Numbered n → n ≤ 4
 
 pub small-at : (cells : ℕ) (g : List ℕ) → IsGrid cells 2 g → (c : ℕ) → slice_index g c < 2
@@ -43,36 +43,36 @@ small-at cells g grid c = elim (cases_lt c (length g)) [
   | inr high ↦ let z = get_or_past g c 0 high in omega arith
 ]
 
-pub between-from : (least most : ℕ) (f : List ℕ) → least ≤ ones f → ones f ≤ most → counts_between least most f ≡ true
-between-from least most f low high = and_from _ _ (le-leb least (ones f) low) (le-leb (ones f) most high)
+pub between-from : (least most : ℕ) (f : List ℕ) → least ≤ nonzeros f → nonzeros f ≤ most → counts_between least most f ≡ true
+between-from least most f low high = and_from _ _ (le-leb least (nonzeros f) low) (le-leb (nonzeros f) most high)
 
 pub filter-few : (test : ℕ → Bool) (xs : List ℕ) → length (filter test xs) ≤ length xs
 filter-few test xs = let a = length-filter test xs in let b = count_by-le-length test xs in omega arith
 
 -- bulbs stand on white cells
-bulb-white : (p : Light) (g : List ℕ) → IsGrid (cells_of p) 2 g → is_lit p g ≡ true → (d : ℕ) → bulb g d ≡ true → white p d ≡ true
+bulb-white : (p : Light) (g : List ℕ) → IsGrid (light_cells p) 2 g → is_lit p g ≡ true → (d : ℕ) → bulb g d ≡ true → white p d ≡ true
 unfolding black_right
 bulb-white p g grid good d on =
-    elim (or_cases (white p d) (eqb (slice_index g d) 0) (all_below-at (black_right p g) (cells_of p) d (lit-parts p g good).black (bulb-in g (cells_of p) d grid.each_cell on))) [
+    elim (or_cases (white p d) (eqb (slice_index g d) 0) (all_below-at (black_right p g) (light_cells p) d (lit-parts p g good).black (bulb-in g (light_cells p) d grid.each_cell on))) [
       | inl is ↦ is
       | inr none ↦ let a = eqb-true (slice_index g d) 0 none in let b = eqb-true (slice_index g d) 1 on in absurd (omega arith)
     ]
 
 -- no bulb sees another
-no-sight : (p : Light) (g : List ℕ) → IsGrid (cells_of p) 2 g → is_lit p g ≡ true → (d e : ℕ) → bulb g d ≡ true → bulb g e ≡ true
+no-sight : (p : Light) (g : List ℕ) → IsGrid (light_cells p) 2 g → is_lit p g ≡ true → (d e : ℕ) → bulb g d ≡ true → bulb g e ≡ true
     → (joined_in_row p d e || joined_in_column p d e) ≡ true → d ≡ e
 unfolding bulb_right sees_bulb sees
 no-sight p g grid good d e bd be joined = elim (cases_eq d e) [
   | inl same ↦ same
   | inr other ↦
-      let seen = any_below-here (λ f. not (eqb d f) && (joined_in_row p d f || joined_in_column p d f) && eqb (slice_index g f) 1) (cells_of p) e (bulb-in g (cells_of p) e grid.each_cell be)
+      let seen = any_below-here (λ f. not (eqb d f) && (joined_in_row p d f || joined_in_column p d f) && eqb (slice_index g f) 1) (light_cells p) e (bulb-in g (light_cells p) e grid.each_cell be)
       (and_from _ _ (and_from _ _ (ap not (ne_eqb d e other)) joined) be) in
-      let right = all_below-at (bulb_right p g) (cells_of p) d (lit-parts p g good).seen (bulb-in g (cells_of p) d grid.each_cell bd) in
+      let right = all_below-at (bulb_right p g) (light_cells p) d (lit-parts p g good).seen (bulb-in g (light_cells p) d grid.each_cell bd) in
       absurd (true≢false (sym (and_from _ _ bd seen) ∙ not-true _ right))
 ]
 
 -- ---- the houses of numbers
-number-kind : (p : Light) (c : ℕ) → IsBoard p → c < cells_of p → EachOf (IsMet p) (number_house p c)
+number-kind : (p : Light) (c : ℕ) → IsBoard p → c < light_cells p → EachOf (IsMet p) (number_house p c)
 unfolding number_right meets
 number-kind p c board lt = by (get_or p.cells c Black) refl
   where
@@ -93,12 +93,12 @@ number-kind p c board lt = by (get_or p.cells c Black) refl
       met = λ g grid good. meet g grid good;
     })
       where
-        right : (g : List ℕ) → IsGrid (cells_of p) 2 g → is_lit p g ≡ true → bulbs_beside p g c ≡ n
-        right g grid good = eqb-true (bulbs_beside p g c) n (rw e at (all_below-at (number_right p g) (cells_of p) c (lit-parts p g good).number lt))
+        right : (g : List ℕ) → IsGrid (light_cells p) 2 g → is_lit p g ≡ true → bulbs_beside p g c ≡ n
+        right g grid good = eqb-true (bulbs_beside p g c) n (rw e at (all_below-at (number_right p g) (light_cells p) c (lit-parts p g good).number lt))
 
-        meet : (g : List ℕ) → IsGrid (cells_of p) 2 g → is_lit p g ≡ true → meets (record { places = filter (white p) (steps p.size c 4); least = n; most = n }) g ≡ true
+        meet : (g : List ℕ) → IsGrid (light_cells p) 2 g → is_lit p g ≡ true → meets (record { places = filter (white p) (steps p.size c 4); least = n; most = n }) g ≡ true
         meet g grid good =
-            let a = ones-bulbs g (filter (white p) (steps p.size c 4)) (small-at (cells_of p) g grid) in
+            let a = ones-bulbs g (filter (white p) (steps p.size c 4)) (small-at (light_cells p) g grid) in
             let b = count-filter (bulb g) (white p) (steps p.size c 4) (bulb-white p g grid good) in
             let f = right g grid good in
             between-from n n (map (slice_index g) (filter (white p) (steps p.size c 4))) (omega arith) (omega arith)
@@ -116,7 +116,7 @@ row-kind p c board = record {
   };
   met = λ g grid good.
       let run = filter (joined_in_row p c) (row_places p.size (c / p.size.w)) in
-      let a = ones-bulbs g run (small-at (cells_of p) g grid) in
+      let a = ones-bulbs g run (small-at (light_cells p) g grid) in
       let one = count-one (bulb g) run distinct (λ d e md me bd be. no-sight p g grid good d e bd be
       (or_left _ _ (row-both p c d e (place-filter (joined_in_row p c) (row_places p.size (c / p.size.w)) d md).1 (place-filter (joined_in_row p c) (row_places p.size (c / p.size.w)) e me).1))) in
       between-from 0 1 (map (slice_index g) run) (omega arith) (omega arith);
@@ -137,7 +137,7 @@ column-kind p c board = record {
   };
   met = λ g grid good.
       let run = filter (joined_in_column p c) (column_places p.size (c % p.size.w)) in
-      let a = ones-bulbs g run (small-at (cells_of p) g grid) in
+      let a = ones-bulbs g run (small-at (light_cells p) g grid) in
       let one = count-one (bulb g) run distinct (λ d e md me bd be. no-sight p g grid good d e bd be
       (or_right _ _ (column-both p c d e (place-filter (joined_in_column p c) (column_places p.size (c % p.size.w)) d md).1 (place-filter (joined_in_column p c) (column_places p.size (c % p.size.w)) e me).1))) in
       between-from 0 1 (map (slice_index g) run) (omega arith) (omega arith);
@@ -153,7 +153,7 @@ in-row-run p c d pos on =
     let w = row-of p c d pos on in
     place-kept (joined_in_row p c) (row_places p.size (c / p.size.w)) d (rw w.2 at (has_place-here (row_places p.size (c / p.size.w)) w.0 (omega (arith, w.1, row-long p.size (c / p.size.w))))) on
 
-in-column-run : (p : Light) (c d : ℕ) → 0 < p.size.w → d < cells_of p → joined_in_column p c d ≡ true → has_place (column_run p c) d ≡ true
+in-column-run : (p : Light) (c d : ℕ) → 0 < p.size.w → d < light_cells p → joined_in_column p c d ≡ true → has_place (column_run p c) d ≡ true
 unfolding column_run
 in-column-run p c d pos lt on =
     let w = column-of p c d pos lt on in
@@ -183,7 +183,7 @@ column-run-distinct : (p : Light) (c : ℕ) → IsBoard p → AreDistinct (colum
 unfolding column_run
 column-run-distinct p c board = distinct-filter (joined_in_column p c) (column_places p.size (c % p.size.w)) (column-distinct p.size (c % p.size.w) board.some)
 
-lit-kind : (p : Light) (c : ℕ) → IsBoard p → c < cells_of p → white p c ≡ true → IsMet p (record { places = seen_from p c; least = 1; most = length (seen_from p c) })
+lit-kind : (p : Light) (c : ℕ) → IsBoard p → c < light_cells p → white p c ≡ true → IsMet p (record { places = seen_from p c; least = 1; most = length (seen_from p c) })
 unfolding seen_from meets lit_right sees_bulb sees
 lit-kind p c board lt on = record {
   is_house = record {
@@ -198,7 +198,7 @@ lit-kind p c board lt on = record {
   };
   met = λ g grid good.
       let all = row_run p c ++ filter (λ d. not (eqb d c)) (column_run p c) in
-      let a = ones-bulbs g all (small-at (cells_of p) g grid) in
+      let a = ones-bulbs g all (small-at (light_cells p) g grid) in
       let b = count_by-le-length (bulb g) all in
       let s = some-bulb g grid good in
       let k = count-some (bulb g) all s.0 s.1 s.2 in
@@ -231,13 +231,13 @@ lit-kind p c board lt on = record {
     distinct : AreDistinct (row_run p c ++ filter (λ d. not (eqb d c)) (column_run p c))
     distinct = distinct-append (row_run p c) (filter (λ d. not (eqb d c)) (column_run p c)) (row-run-distinct p c) (distinct-filter (λ d. not (eqb d c)) (column_run p c) (column-run-distinct p c board)) apart
 
-    some-bulb : (g : List ℕ) → IsGrid (cells_of p) 2 g → is_lit p g ≡ true → (d : ℕ) × (has_place (row_run p c ++ filter (λ d. not (eqb d c)) (column_run p c)) d ≡ true) × (bulb g d ≡ true)
-    some-bulb g grid good = elim (or_cases (not (white p c)) _ (all_below-at (lit_right p g) (cells_of p) c (lit-parts p g good).lit lt)) [
+    some-bulb : (g : List ℕ) → IsGrid (light_cells p) 2 g → is_lit p g ≡ true → (d : ℕ) × (has_place (row_run p c ++ filter (λ d. not (eqb d c)) (column_run p c)) d ≡ true) × (bulb g d ≡ true)
+    some-bulb g grid good = elim (or_cases (not (white p c)) _ (all_below-at (lit_right p g) (light_cells p) c (lit-parts p g good).lit lt)) [
       | inl black ↦ absurd (true≢false (sym on ∙ not-true (white p c) black))
       | inr lit ↦ elim (or_cases (bulb g c) _ lit) [
         | inl own ↦ (c, place-front (row_run p c) (filter (λ d. not (eqb d c)) (column_run p c)) c (in-row-run p c c board.some (row-self p c on)), own)
         | inr seen ↦
-            let w = any_below-some (λ e. not (eqb c e) && (joined_in_row p c e || joined_in_column p c e) && eqb (slice_index g e) 1) (cells_of p) seen in
+            let w = any_below-some (λ e. not (eqb c e) && (joined_in_row p c e || joined_in_column p c e) && eqb (slice_index g e) 1) (light_cells p) seen in
             let both = and_parts (not (eqb c w.0) && (joined_in_row p c w.0 || joined_in_column p c w.0)) _ w.2 in
             let parts = and_parts (not (eqb c w.0)) _ both.0 in (
               w.0,
@@ -254,10 +254,10 @@ lit-kind p c board lt on = record {
 
 each-met : (p : Light) → IsBoard p → EachOf (IsMet p) (light_houses p)
 unfolding light_houses
-each-met p board = each-append (IsMet p) _ _ (each-below (IsMet p) (number_house p) (cells_of p) (λ c lt. number-kind p c board lt))
-    (each-append (IsMet p) _ _ (each-below (IsMet p) (row_house p) (cells_of p) (λ c lt. each-if (IsMet p) (begins_row_run p c) _ (λ _. row-kind p c board)))
-    (each-append (IsMet p) _ _ (each-below (IsMet p) (column_house p) (cells_of p) (λ c lt. each-if (IsMet p) (begins_column_run p c) _ (λ _. column-kind p c board)))
-    (each-below (IsMet p) (lit_house p) (cells_of p) (λ c lt. each-if (IsMet p) (white p c) _ (λ on. lit-kind p c board lt on)))))
+each-met p board = each-append (IsMet p) _ _ (each-below (IsMet p) (number_house p) (light_cells p) (λ c lt. number-kind p c board lt))
+    (each-append (IsMet p) _ _ (each-below (IsMet p) (row_house p) (light_cells p) (λ c lt. each-if (IsMet p) (begins_row_run p c) _ (λ _. row-kind p c board)))
+    (each-append (IsMet p) _ _ (each-below (IsMet p) (column_house p) (light_cells p) (λ c lt. each-if (IsMet p) (begins_column_run p c) _ (λ _. column-kind p c board)))
+    (each-below (IsMet p) (lit_house p) (light_cells p) (λ c lt. each-if (IsMet p) (white p c) _ (λ on. lit-kind p c board lt on)))))
 
 -- ---- a puzzle's board
 number-few : (cells : List LightCell) (c n : ℕ) → AllByRecursion IsLightCell cells → get_or cells c Black ≡ Numbered n → n ≤ 4
@@ -282,12 +282,12 @@ light-board p is = record {
   number = λ c n e. number-few p.cells c n is.each e;
 }
 
-pub light-counting : (p : Light) → IsLight p → IsCounting (cells_of p) (λ c. not (white p c)) (light_houses p) (is_lit p)
+pub light-counting : (p : Light) → IsLight p → IsCounting (light_cells p) (λ c. not (white p c)) (light_houses p) (is_lit p)
 unfolding black_right
 light-counting p is = record {
   few_cells = let b = light-board p is in let a : p.size.w * p.size.h ≤ 256 * p.size.h = mul-le-mul_right p.size.h b.w_few in let h = b.h_few in omega arith;
   are_houses = λ h lt. (each-met p (light-board p is) h lt).is_house;
-  blocked_zero = λ g grid good c lt blocked. elim (or_cases (white p c) (eqb (slice_index g c) 0) (all_below-at (black_right p g) (cells_of p) c (lit-parts p g good).black lt)) [
+  blocked_zero = λ g grid good c lt blocked. elim (or_cases (white p c) (eqb (slice_index g c) 0) (all_below-at (black_right p g) (light_cells p) c (lit-parts p g good).black lt)) [
     | inl on ↦ absurd (true≢false (sym on ∙ not-true (white p c) blocked))
     | inr none ↦ eqb-true (slice_index g c) 0 none
   ];

@@ -5,28 +5,28 @@ use Rattle.grid_core.specs.Candidates.{all_below}
 use Rattle.grid_core.proofs.CandidateLemmas.{all_below-at}
 use Rattle.gameid_core.specs.Puzzles.{Light}
 use Rattle.fields_core.specs.Firsts.{IsFirst}
-use Rattle.fields_core.specs.Light.{cells_of, black_right, number_right, bulb_right, lit_right, is_lit}
+use Rattle.fields_core.specs.Light.{light_cells, black_right, number_right, bulb_right, lit_right, is_lit}
 use Rattle.fields_core.specs.LightFaults.{IsLightFault}
 use Rattle.fields_core.specs.declared.light_fault.LightFault.{LightFault}
 use Rattle.fields_core.specs.declared.light_fault.LightFault.TheVariants.{Black, Number, Seen, Dark}
 
-pub lit-from : (p : Light) (g : List ℕ) → all_below (black_right p g) (cells_of p) ≡ true → all_below (number_right p g) (cells_of p) ≡ true
-    → all_below (bulb_right p g) (cells_of p) ≡ true → all_below (lit_right p g) (cells_of p) ≡ true → is_lit p g ≡ true
+pub lit-from : (p : Light) (g : List ℕ) → all_below (black_right p g) (light_cells p) ≡ true → all_below (number_right p g) (light_cells p) ≡ true
+    → all_below (bulb_right p g) (light_cells p) ≡ true → all_below (lit_right p g) (light_cells p) ≡ true → is_lit p g ≡ true
 unfolding is_lit
 lit-from p g a b c d = and_from _ _ a (and_from _ _ b (and_from _ _ c d))
 
 pub record LitParts (p : Light) (g : List ℕ) : Type 0 where
-  pub black : all_below (black_right p g) (cells_of p) ≡ true
-  pub number : all_below (number_right p g) (cells_of p) ≡ true
-  pub seen : all_below (bulb_right p g) (cells_of p) ≡ true
-  pub lit : all_below (lit_right p g) (cells_of p) ≡ true
+  pub black : all_below (black_right p g) (light_cells p) ≡ true
+  pub number : all_below (number_right p g) (light_cells p) ≡ true
+  pub seen : all_below (bulb_right p g) (light_cells p) ≡ true
+  pub lit : all_below (lit_right p g) (light_cells p) ≡ true
 
 pub lit-parts : (p : Light) (g : List ℕ) → is_lit p g ≡ true → LitParts p g
 unfolding is_lit
 lit-parts p g on =
-    let a = and_parts (all_below (black_right p g) (cells_of p)) _ on in
-    let b = and_parts (all_below (number_right p g) (cells_of p)) _ a.1 in
-    let c = and_parts (all_below (bulb_right p g) (cells_of p)) _ b.1 in
+    let a = and_parts (all_below (black_right p g) (light_cells p)) _ on in
+    let b = and_parts (all_below (number_right p g) (light_cells p)) _ a.1 in
+    let c = and_parts (all_below (bulb_right p g) (light_cells p)) _ b.1 in
     record { black = a.0; number = b.0; seen = c.0; lit = c.1 }
 
 pub first-breaks : (right : ℕ → Bool) (n c : ℕ) → IsFirst right n c → all_below right n ≡ true → ⊥

@@ -10,7 +10,7 @@ use Rattle.grid_core.proofs.CandidateLemmas.{all_below-at, all_below-from}
 use Rattle.gameid_core.specs.Puzzles.{Light}
 use Rattle.gameid_core.specs.declared.light_cell.LightCell.TheVariants.{Black}
 use Rattle.fields_core.specs.CountHouse.{House, house_of, houses_below}
-use Rattle.fields_core.specs.Light.{cells_of, is_white, white, clear, joined_in_row, joined_in_column}
+use Rattle.fields_core.specs.Light.{light_cells, is_white, white, clear, joined_in_row, joined_in_column}
 use Rattle.fields_core.proofs.HouseLists.{row-long, column-long}
 use Rattle.fields_core.proofs.PlaceLists.{AreDistinct, distinct-from}
 
@@ -113,7 +113,7 @@ row-self p c on = and_from _ _ (eq-eqb (c / p.size.w) (c / p.size.w) refl) (clea
     let e : c / p.size.w * p.size.w + i ≡ c = omega arith in rw e on))
 
 -- a white cell lies in the grid
-pub white-in : (p : Light) (c : ℕ) → length p.cells ≡ cells_of p → white p c ≡ true → c < cells_of p
+pub white-in : (p : Light) (c : ℕ) → length p.cells ≡ light_cells p → white p c ≡ true → c < light_cells p
 unfolding white
 white-in p c long on = elim (cases_lt c (length p.cells)) [
   | inl low ↦ omega arith

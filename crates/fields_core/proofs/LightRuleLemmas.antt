@@ -9,8 +9,8 @@ use Rattle.grid_core.proofs.CandidateLemmas.{all_below-at, all_below-from, any_b
 use Rattle.gameid_core.specs.Puzzles.{Light}
 use Rattle.gameid_core.specs.declared.light_cell.LightCell.{LightCell}
 use Rattle.gameid_core.specs.declared.light_cell.LightCell.TheVariants.{White, Black, Numbered}
-use Rattle.fields_core.specs.Light.{cells_of, white, bulb, bulbs_beside, number_is, joined_in_row, joined_in_column, sees, sees_bulb, black_right, number_right, bulb_right, lit_right, is_lit}
-use Rattle.fields_core.specs.LightSolutions.{row_of, column_of, IsFromTo, AreJoined, Sees, SeesBulb, IsLightSolution}
+use Rattle.fields_core.specs.Light.{light_cells, white, bulb, bulbs_beside, number_is, joined_in_row, joined_in_column, sees, sees_bulb, black_right, number_right, bulb_right, lit_right, is_lit}
+use Rattle.fields_core.specs.LightSolutions.{light_row, light_column, IsFromTo, AreJoined, Sees, SeesBulb, IsLightSolution}
 use Rattle.fields_core.specs.LightFaults.{IsLightFault}
 use Rattle.fields_core.specs.declared.light_fault.LightFault.{LightFault}
 use Rattle.fields_core.proofs.LightFaultLemmas.{lit-from, lit-parts, fault-not}
@@ -21,7 +21,7 @@ use Rattle.fields_core.proofs.LightSight.{some-column}
 div-under : (a b w : ℕ) → 0 < w → a ≤ b → a / w ≤ b / w
 div-under a b w pos le = le-div (a / w) b w pos (let d = div-mul-le_self a w in omega arith)
 
-row-joined : (p : Light) (a b : ℕ) → joined_in_row p a b ≡ true → AreJoined p (row_of p) a b
+row-joined : (p : Light) (a b : ℕ) → joined_in_row p a b ≡ true → AreJoined p (light_row p) a b
 row-joined p a b on =
     let w = row-parts p a b on in
     record {
@@ -38,7 +38,7 @@ row-joined p a b on =
     columns-between first a b c i j k ea eb ec (inl up) = let l = up.0 in let h = up.1 in (omega arith, omega arith)
     columns-between first a b c i j k ea eb ec (inr down) = let l = down.0 in let h = down.1 in (omega arith, omega arith)
 
-joined-row : (p : Light) (a b : ℕ) → 0 < p.size.w → AreJoined p (row_of p) a b → joined_in_row p a b ≡ true
+joined-row : (p : Light) (a b : ℕ) → 0 < p.size.w → AreJoined p (light_row p) a b → joined_in_row p a b ≡ true
 unfolding joined_in_row
 joined-row p a b pos is = and_from _ _ (eq-eqb (a / p.size.w) (b / p.size.w) is.same_line)
     (clear-from (λ x. white p (a / p.size.w * p.size.w + x)) (a % p.size.w) (b % p.size.w) (λ x low high.
@@ -55,7 +55,7 @@ joined-row p a b pos is = and_from _ _ (eq-eqb (a / p.size.w) (b / p.size.w) is.
       | inr down ↦ inr (omega arith, omega arith)
     ]
 
-column-joined : (p : Light) (a b : ℕ) → 0 < p.size.w → joined_in_column p a b ≡ true → AreJoined p (column_of p) a b
+column-joined : (p : Light) (a b : ℕ) → 0 < p.size.w → joined_in_column p a b ≡ true → AreJoined p (light_column p) a b
 column-joined p a b pos on =
     let w = column-parts p a b on in
     record {
@@ -70,7 +70,7 @@ column-joined p a b pos on =
     rows-between a b c w pos (inl up) = let l = div-under a c w pos up.0 in let h = div-under c b w pos up.1 in (omega arith, omega arith)
     rows-between a b c w pos (inr down) = let l = div-under b c w pos down.0 in let h = div-under c a w pos down.1 in (omega arith, omega arith)
 
-joined-column : (p : Light) (a b : ℕ) → 0 < p.size.w → AreJoined p (column_of p) a b → joined_in_column p a b ≡ true
+joined-column : (p : Light) (a b : ℕ) → 0 < p.size.w → AreJoined p (light_column p) a b → joined_in_column p a b ≡ true
 unfolding joined_in_column
 joined-column p a b pos is = and_from _ _ (eq-eqb (a % p.size.w) (b % p.size.w) is.same_line)
     (clear-from (λ y. white p (y * p.size.w + a % p.size.w)) (a / p.size.w) (b / p.size.w) (λ y low high.
@@ -106,13 +106,13 @@ rule-sees p a b pos is = and_from _ _ (ap not (ne_eqb a b is.0)) (elim is.1 [
 bulb-rule : (p : Light) (g : List ℕ) (c : ℕ) → 0 < p.size.w → sees_bulb p g c ≡ true → SeesBulb p g c
 unfolding sees_bulb
 bulb-rule p g c pos on =
-    let w = any_below-some (λ d. sees p c d && bulb g d) (cells_of p) on in
+    let w = any_below-some (λ d. sees p c d && bulb g d) (light_cells p) on in
     let parts = and_parts (sees p c w.0) (bulb g w.0) w.2 in
     record { other = w.0; within = w.1; has_bulb = parts.1; seen = sees-rule p c w.0 pos parts.0 }
 
 rule-bulb : (p : Light) (g : List ℕ) (c : ℕ) → 0 < p.size.w → SeesBulb p g c → sees_bulb p g c ≡ true
 unfolding sees_bulb
-rule-bulb p g c pos is = any_below-here (λ d. sees p c d && bulb g d) (cells_of p) is.other is.within (and_from _ _ (rule-sees p c is.other pos is.seen) is.has_bulb)
+rule-bulb p g c pos is = any_below-here (λ d. sees p c d && bulb g d) (light_cells p) is.other is.within (and_from _ _ (rule-sees p c is.other pos is.seen) is.has_bulb)
 
 -- ---- the four rules
 number-rule : (cell : LightCell) (bulbs n : ℕ) → number_is cell bulbs ≡ true → cell ≡ Numbered n → bulbs ≡ n
@@ -133,21 +133,21 @@ not-alone true true right a b = true≢false (sym right)
 not-alone true false right a b = true≢false (sym b)
 not-alone false seen right a b = true≢false (sym a)
 
-pub rule-from-test : (p : Light) (g : List ℕ) → IsGrid (cells_of p) 2 g → is_lit p g ≡ true → IsLightSolution p g
+pub rule-from-test : (p : Light) (g : List ℕ) → IsGrid (light_cells p) 2 g → is_lit p g ≡ true → IsLightSolution p g
 unfolding black_right number_right bulb_right lit_right
 rule-from-test p g grid on =
     let parts = lit-parts p g on in
     record {
       grid = grid;
-      none_on_black = λ c lt bulb_on. elim (or_cases (white p c) (eqb (slice_index g c) 0) (all_below-at (black_right p g) (cells_of p) c parts.black lt)) [
+      none_on_black = λ c lt bulb_on. elim (or_cases (white p c) (eqb (slice_index g c) 0) (all_below-at (black_right p g) (light_cells p) c parts.black lt)) [
         | inl is ↦ is
         | inr zero_at ↦ let a = eqb-true (slice_index g c) 0 zero_at in let b = eqb-true (slice_index g c) 1 bulb_on in absurd (omega arith)
       ];
-      numbers = λ c n lt e. number-rule (get_or p.cells c Black) (bulbs_beside p g c) n (all_below-at (number_right p g) (cells_of p) c parts.number lt) e;
+      numbers = λ c n lt e. number-rule (get_or p.cells c Black) (bulbs_beside p g c) n (all_below-at (number_right p g) (light_cells p) c parts.number lt) e;
       none_seen = λ c d lc ld on_c on_d is.
-          not-alone (bulb g c) (sees_bulb p g c) (all_below-at (bulb_right p g) (cells_of p) c parts.seen lc) on_c
+          not-alone (bulb g c) (sees_bulb p g c) (all_below-at (bulb_right p g) (light_cells p) c parts.seen lc) on_c
           (rule-bulb p g c (some-column p c lc) (record { other = d; within = ld; has_bulb = on_d; seen = is }));
-      all_lit = λ c lt is_white. elim (or_cases (not (white p c)) (bulb g c || sees_bulb p g c) (all_below-at (lit_right p g) (cells_of p) c parts.lit lt)) [
+      all_lit = λ c lt is_white. elim (or_cases (not (white p c)) (bulb g c || sees_bulb p g c) (all_below-at (lit_right p g) (light_cells p) c parts.lit lt)) [
         | inl black ↦ absurd (true≢false (sym is_white ∙ not-true (white p c) black))
         | inr lit ↦ elim (or_cases (bulb g c) (sees_bulb p g c) lit) [
           | inl here ↦ inl here
@@ -156,27 +156,27 @@ rule-from-test p g grid on =
       ];
     }
 
-pub test-from-rule : (p : Light) (g : List ℕ) → IsGrid (cells_of p) 2 g → IsLightSolution p g → is_lit p g ≡ true
+pub test-from-rule : (p : Light) (g : List ℕ) → IsGrid (light_cells p) 2 g → IsLightSolution p g → is_lit p g ≡ true
 unfolding black_right number_right bulb_right lit_right
 test-from-rule p g grid s = lit-from p g
-    (all_below-from (black_right p g) (cells_of p) black)
-    (all_below-from (number_right p g) (cells_of p) (λ c lt. rule-number (get_or p.cells c Black) (bulbs_beside p g c) (λ n e. s.numbers c n lt e)))
-    (all_below-from (bulb_right p g) (cells_of p) (λ c lt. alone (bulb g c) (sees_bulb p g c) (λ on seen.
+    (all_below-from (black_right p g) (light_cells p) black)
+    (all_below-from (number_right p g) (light_cells p) (λ c lt. rule-number (get_or p.cells c Black) (bulbs_beside p g c) (λ n e. s.numbers c n lt e)))
+    (all_below-from (bulb_right p g) (light_cells p) (λ c lt. alone (bulb g c) (sees_bulb p g c) (λ on seen.
     let is = bulb-rule p g c (some-column p c lt) seen in s.none_seen c is.other lt is.within on is.has_bulb is.seen)))
-    (all_below-from (lit_right p g) (cells_of p) lit)
+    (all_below-from (lit_right p g) (light_cells p) lit)
   where
     none-at : (v : ℕ) → v < 2 → eqb v 1 ≡ false → eqb v 0 ≡ true
     none-at zero lt off = refl
     none-at (suc zero) lt off = absurd (true≢false off)
     none-at (suc (suc v)) lt off = absurd (omega arith)
 
-    black : (c : ℕ) → c < cells_of p → (white p c || eqb (slice_index g c) 0) ≡ true
+    black : (c : ℕ) → c < light_cells p → (white p c || eqb (slice_index g c) 0) ≡ true
     black c lt = elim (cases_Bool (bulb g c)) [
       | inl on ↦ or_left (white p c) (eqb (slice_index g c) 0) (s.none_on_black c lt on)
       | inr off ↦ or_right (white p c) (eqb (slice_index g c) 0) (none-at (slice_index g c) (grid.each_value c 0 (let e = grid.each_cell in omega arith)) off)
     ]
 
-    lit : (c : ℕ) → c < cells_of p → (not (white p c) || (bulb g c || sees_bulb p g c)) ≡ true
+    lit : (c : ℕ) → c < light_cells p → (not (white p c) || (bulb g c || sees_bulb p g c)) ≡ true
     lit c lt = elim (cases_Bool (white p c)) [
       | inl is_white ↦ or_right (not (white p c)) (bulb g c || sees_bulb p g c) (elim (s.all_lit c lt is_white) [
         | inl here ↦ or_left (bulb g c) (sees_bulb p g c) here
@@ -193,6 +193,6 @@ some-not f e = true≢false (ap is_some e)
     is_some None = false
     is_some (Some a) = true
 
-pub none-exactly : (p : Light) (g : List ℕ) (fault : Option LightFault) → IsGrid (cells_of p) 2 g → IsLightFault p g fault → (fault ≡ None) ↔ IsLightSolution p g
+pub none-exactly : (p : Light) (g : List ℕ) (fault : Option LightFault) → IsGrid (light_cells p) 2 g → IsLightFault p g fault → (fault ≡ None) ↔ IsLightSolution p g
 none-exactly p g None grid is = (λ _. rule-from-test p g grid is, λ _. refl)
 none-exactly p g (Some f) grid is = (λ e. absurd (some-not f e), λ s. absurd (true≢false (sym (test-from-rule p g grid s) ∙ sym (fault-not p g f is))))

@@ -11,7 +11,7 @@ use Rattle.grid_core.specs.Regions.{row_places, column_places, steps, step}
 use Rattle.grid_core.proofs.RegionLemmas.{row-at, column-at}
 use Rattle.grid_core.proofs.CandidateLemmas.{any_below-here, any_below-some}
 use Rattle.gameid_core.specs.Puzzles.{Light}
-use Rattle.fields_core.specs.Light.{cells_of, bulb, sees, sees_bulb, joined_in_row, joined_in_column}
+use Rattle.fields_core.specs.Light.{light_cells, bulb, sees, sees_bulb, joined_in_row, joined_in_column}
 
 -- the cell does not see a bulb at the other along the line
 pub record IsBlind (joined : ℕ → Bool) (g : List ℕ) (c d : ℕ) : Type 0 where
@@ -37,10 +37,10 @@ pub blind-apart : (joined : ℕ → Bool) (g : List ℕ) (c d : ℕ) (b : Bool) 
 blind-apart joined g c d b e off = record { blind = λ on other. sym e ∙ off }
 
 -- a bulb that is seen
-pub seen-here : (p : Light) (g : List ℕ) (c d v : ℕ) → d < cells_of p → (d ≡ c → ⊥) → v ≡ slice_index g d → v ≡ 1 → (joined_in_row p c d || joined_in_column p c d) ≡ true → sees_bulb p g c ≡ true
+pub seen-here : (p : Light) (g : List ℕ) (c d v : ℕ) → d < light_cells p → (d ≡ c → ⊥) → v ≡ slice_index g d → v ≡ 1 → (joined_in_row p c d || joined_in_column p c d) ≡ true → sees_bulb p g c ≡ true
 unfolding sees_bulb sees
 seen-here p g c d v lt other at one joined =
-    any_below-here (λ e. not (eqb c e) && (joined_in_row p c e || joined_in_column p c e) && eqb (slice_index g e) 1) (cells_of p) d lt
+    any_below-here (λ e. not (eqb c e) && (joined_in_row p c e || joined_in_column p c e) && eqb (slice_index g e) 1) (light_cells p) d lt
     (and_from _ _ (and_from _ _ (ap not (ne_eqb c d (λ e. other (sym e)))) joined) (eq-eqb (slice_index g d) 1 (sym at ∙ one)))
 
 -- the cells of a row and of a column, by column and by row
@@ -51,7 +51,7 @@ row-of p c d pos on =
     let lt = mod-lt d pos in
     (d % p.size.w, lt, sym (row-at p.size (c / p.size.w) (d % p.size.w) lt) ∙ rw same (omega arith))
 
-pub column-of : (p : Light) (c d : ℕ) → 0 < p.size.w → d < cells_of p → joined_in_column p c d ≡ true → (y : ℕ) × (y < p.size.h) × (slice_index (column_places p.size (c % p.size.w)) y ≡ d)
+pub column-of : (p : Light) (c d : ℕ) → 0 < p.size.w → d < light_cells p → joined_in_column p c d ≡ true → (y : ℕ) × (y < p.size.h) × (slice_index (column_places p.size (c % p.size.w)) y ≡ d)
 unfolding joined_in_column
 column-of p c d pos below on =
     let same = eqb-true (c % p.size.w) (d % p.size.w) (and_parts _ _ on).0 in
@@ -62,14 +62,14 @@ pub row-blind : (p : Light) (g : List ℕ) (c n : ℕ) → 0 < p.size.w → p.si
 row-blind p g c n pos ge before d on other = false_from_ne_true (joined_in_row p c d) (λ joined.
     let w = row-of p c d pos joined in true≢false (sym joined ∙ (rw w.2 at (before w.0 (omega (arith, w.1)))).blind on other))
 
-pub column-blind : (p : Light) (g : List ℕ) (c n : ℕ) → 0 < p.size.w → p.size.h ≤ n → ((d : ℕ) → bulb g d ≡ true → d < cells_of p) → AreBlind (joined_in_column p c) g c (column_places p.size (c % p.size.w)) n → (d : ℕ) → bulb g d ≡ true → (c ≡ d → ⊥) → joined_in_column p c d ≡ false
+pub column-blind : (p : Light) (g : List ℕ) (c n : ℕ) → 0 < p.size.w → p.size.h ≤ n → ((d : ℕ) → bulb g d ≡ true → d < light_cells p) → AreBlind (joined_in_column p c) g c (column_places p.size (c % p.size.w)) n → (d : ℕ) → bulb g d ≡ true → (c ≡ d → ⊥) → joined_in_column p c d ≡ false
 column-blind p g c n pos ge within before d on other = false_from_ne_true (joined_in_column p c d) (λ joined.
     let w = column-of p c d pos (within d on) joined in true≢false (sym joined ∙ (rw w.2 at (before w.0 (omega (arith, w.1)))).blind on other))
 
 pub sees-none : (p : Light) (g : List ℕ) (c : ℕ) → ((d : ℕ) → bulb g d ≡ true → (c ≡ d → ⊥) → joined_in_row p c d ≡ false) → ((d : ℕ) → bulb g d ≡ true → (c ≡ d → ⊥) → joined_in_column p c d ≡ false) → false ≡ sees_bulb p g c
 unfolding sees_bulb sees
 sees-none p g c row column = sym (false_from_ne_true _ (λ on.
-    let w = any_below-some (λ e. not (eqb c e) && (joined_in_row p c e || joined_in_column p c e) && eqb (slice_index g e) 1) (cells_of p) on in
+    let w = any_below-some (λ e. not (eqb c e) && (joined_in_row p c e || joined_in_column p c e) && eqb (slice_index g e) 1) (light_cells p) on in
     let both = and_parts _ _ w.2 in
     let apart = and_parts (not (eqb c w.0)) _ both.0 in
     let other : c ≡ w.0 → ⊥ = λ e. true≢false (sym (eq-eqb c w.0 e) ∙ not-true (eqb c w.0) apart.0) in
@@ -135,7 +135,7 @@ counted-more g size place n bulbs d v before e at one = record {
   same = let s = before.same in let both = count-append (bulb g) (steps size place n) (d ∷ []) in let c = count-one g d v at one in let w = ap (count_by (bulb g)) (steps-some size place n d e) in omega arith;
 }
 
-pub some-column : (p : Light) (c : ℕ) → c < cells_of p → 0 < p.size.w
+pub some-column : (p : Light) (c : ℕ) → c < light_cells p → 0 < p.size.w
 some-column p c lt = by p.size.w lt
   where
     by : (w : ℕ) → c < w * p.size.h → 0 < w

@@ -5,7 +5,7 @@ use Rattle.std.proofs.lemmas.Bool.{cases_Bool, or_left, or_right, or_cases, true
 use Rattle.engine_core.specs.Puzzle.{has_place}
 use Rattle.engine_core.specs.PlaceLaws.{has_place-at, has_place-here}
 use Rattle.engine_core.specs.House.{AreDifferent}
-use Rattle.fields_core.specs.Count.{ones}
+use Rattle.fields_core.specs.Count.{nonzeros}
 use Rattle.fields_core.specs.Light.{bulb}
 use Rattle.fields_core.proofs.LightSight.{count-append}
 
@@ -146,14 +146,14 @@ count-filter test keeps (x ∷ xs) all = by (count-filter test keeps xs all) (ke
         omega arith
 
 -- the ones of a grid's cells are its bulbs
-pub ones-bulbs : (g : List ℕ) (xs : List ℕ) → ((c : ℕ) → slice_index g c < 2) → ones (map (slice_index g) xs) ≡ count_by (bulb g) xs
+pub ones-bulbs : (g : List ℕ) (xs : List ℕ) → ((c : ℕ) → slice_index g c < 2) → nonzeros (map (slice_index g) xs) ≡ count_by (bulb g) xs
 ones-bulbs g [] small = refl
 ones-bulbs g (x ∷ xs) small =
     let c = count-cons (bulb g) x xs in
     let r = ones-bulbs g xs small in
-    by (slice_index g x) (small x) ∙ (let e : cond (bulb g x) 1 0 + ones (map (slice_index g) xs) ≡ count_by (bulb g) (x ∷ xs) = omega arith in e)
+    by (slice_index g x) (small x) ∙ (let e : cond (bulb g x) 1 0 + nonzeros (map (slice_index g) xs) ≡ count_by (bulb g) (x ∷ xs) = omega arith in e)
   where
-    by : (v : ℕ) → v < 2 → ones (v ∷ map (slice_index g) xs) ≡ cond (eqb v 1) 1 0 + ones (map (slice_index g) xs)
-    by zero lt = (let e : ones (map (slice_index g) xs) ≡ 0 + ones (map (slice_index g) xs) = omega arith in e)
-    by (suc zero) lt = (let e : suc (ones (map (slice_index g) xs)) ≡ 1 + ones (map (slice_index g) xs) = omega arith in e)
+    by : (v : ℕ) → v < 2 → nonzeros (v ∷ map (slice_index g) xs) ≡ cond (eqb v 1) 1 0 + nonzeros (map (slice_index g) xs)
+    by zero lt = (let e : nonzeros (map (slice_index g) xs) ≡ 0 + nonzeros (map (slice_index g) xs) = omega arith in e)
+    by (suc zero) lt = (let e : suc (nonzeros (map (slice_index g) xs)) ≡ 1 + nonzeros (map (slice_index g) xs) = omega arith in e)
     by (suc (suc v)) lt = absurd (omega arith)

@@ -10,14 +10,14 @@ use Rattle.engine_core.proofs.StoreLemmas.{scope_le-longest}
 use Rattle.gameid_core.specs.Puzzles.{Light}
 use Rattle.fields_core.specs.CountHouse.{House, Table, house_of, start_of, after_house, count_puzzle}
 use Rattle.fields_core.specs.CountLaws.{after-house}
-use Rattle.fields_core.specs.Light.{cells_of}
+use Rattle.fields_core.specs.Light.{light_cells}
 use Rattle.fields_core.specs.LightHouses.{light_houses}
 use Rattle.fields_core.specs.Ruled.{light_table}
 
 pub light-houses : (t : Table) (p q : Light) → t ≡ light_table p → p ≡ q → t.houses ≡ light_houses q
 light-houses t p q e f = ap (λ (u : Table). u.houses) e ∙ ap light_houses f
 
-pub table-of : (t : Table) (p q : Light) (cells : ℕ) (houses : List House) → t ≡ record { cells = cells; houses = houses } → cells ≡ cells_of p → houses ≡ light_houses p → q ≡ p → t ≡ light_table q
+pub table-of : (t : Table) (p q : Light) (cells : ℕ) (houses : List House) → t ≡ record { cells = cells; houses = houses } → cells ≡ light_cells p → houses ≡ light_houses p → q ≡ p → t ≡ light_table q
 table-of t p q cells houses e low is same = e ∙ rw (low, is, same) refl
 
 pub room-for : (had need : List House) (h room : ℕ) → had ≡ need → h < length need → longest (λ h. (house_of need h).places) (length need) ≤ room → length (house_of had h).places ≤ room

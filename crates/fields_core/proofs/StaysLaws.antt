@@ -2,8 +2,8 @@
 use Rattle.std.proofs.Common.{◌≡◌, ℕ, ◌+◌, ◌<◌, Bool, true, false, not, true≢false, ◌&&◌, cond, leb, List, [], ◌∷◌, ◌++◌, length, refl, sym, ap, arith, le-leb, leb-true}
 use Rattle.engine_core.specs.Filling.{Set, has_value, strikes_by_fillings}
 use Rattle.engine_core.specs.FillingLaws.{shown_from_test, test_from_shown}
-use Rattle.fields_core.specs.Count.{counts_between, must_of, may_of}
-use Rattle.fields_core.proofs.CountBounds.{IsCounted, count_shown, count_bounds}
+use Rattle.fields_core.specs.Count.{counts_between}
+use Rattle.fields_core.proofs.CountBounds.{IsCounted, count_shown, count_bounds, must_of, may_of}
 
 -- the bounds of a list with one set in the middle
 must_middle : (front back : List Set) (set : Set) → must_of (front ++ set ∷ back) ≡ cond (has_value set 0) 0 1 + must_of (front ++ back)

@@ -18,7 +18,7 @@ use Rattle.engine_core.specs.Filling.{Set, has_value}
 use Rattle.engine_core.specs.FillingLaws.{filling_from_test, has_value_below}
 use Rattle.gameid_core.specs.Puzzles.{Tents, IsTents, AreCounts, line_cells}
 use Rattle.fields_core.specs.CountHouse.{House, meets, IsHouse, IsCounting}
-use Rattle.fields_core.specs.Tents.{cells_of, tree, tent, are_near, touches, tents_in_column, tents_in_row, tree_right, touch_right, column_right, row_right, names_none_twice, leaves_none_out, trees_beside, can_be_paired, is_camp}
+use Rattle.fields_core.specs.Tents.{tent_cells, tree, tent, are_near, touches, tents_in_column, tents_in_row, tree_right, touch_right, column_right, row_right, names_none_twice, leaves_none_out, trees_beside, can_be_paired, is_camp}
 use Rattle.fields_core.specs.TentHouses.{column_of_tents, row_of_tents, free_beside, tree_house, square_house, tent_houses, is_bare}
 use Rattle.fields_core.proofs.HouseLists.{row-long, column-long}
 use Rattle.fields_core.proofs.PlaceLists.{place-filter, place-kept, AreDistinct, different-from, distinct-filter, count-some, count-one, ones-bulbs}
@@ -30,8 +30,8 @@ use Rattle.fields_core.proofs.TentBeside.{cell-below, cell-after, cell-in, besid
 
 -- the parts of a solution
 pub record CampParts (p : Tents) (g : List ℕ) : Type 0 where
-  pub trees : all_below (tree_right p g) (cells_of p) ≡ true
-  pub touch : all_below (touch_right p g) (cells_of p) ≡ true
+  pub trees : all_below (tree_right p g) (tent_cells p) ≡ true
+  pub touch : all_below (touch_right p g) (tent_cells p) ≡ true
   pub columns : all_below (column_right p g) p.size.w ≡ true
   pub rows : all_below (row_right p g) p.size.h ≡ true
   pub paired : can_be_paired p g ≡ true
@@ -39,8 +39,8 @@ pub record CampParts (p : Tents) (g : List ℕ) : Type 0 where
 pub camp-parts : (p : Tents) (g : List ℕ) → is_camp p g ≡ true → CampParts p g
 unfolding is_camp
 camp-parts p g on =
-    let a = and_parts (all_below (tree_right p g) (cells_of p)) _ on in
-    let b = and_parts (all_below (touch_right p g) (cells_of p)) _ a.1 in
+    let a = and_parts (all_below (tree_right p g) (tent_cells p)) _ on in
+    let b = and_parts (all_below (touch_right p g) (tent_cells p)) _ a.1 in
     let c = and_parts (all_below (column_right p g) p.size.w) _ b.1 in
     let d = and_parts (all_below (row_right p g) p.size.h) _ c.1 in
     record { trees = a.0; touch = b.0; columns = c.0; rows = d.0; paired = d.1 }
@@ -50,16 +50,16 @@ pub record IsField (p : Tents) : Type 0 where
   pub some : 0 < p.size.w
   pub w_few : p.size.w ≤ 256
   pub h_few : p.size.h ≤ 256
-  pub long : length p.trees ≡ cells_of p
+  pub long : length p.trees ≡ tent_cells p
   pub number : (k : ℕ) → slice_index p.counts k ≤ 256
 
 -- a house of the board that each solution meets
 pub record IsMet (p : Tents) (house : House) : Type 0 where
-  pub is_house : IsHouse (cells_of p) house
-  pub met : (g : List ℕ) → IsGrid (cells_of p) 2 g → is_camp p g ≡ true → meets house g ≡ true
+  pub is_house : IsHouse (tent_cells p) house
+  pub met : (g : List ℕ) → IsGrid (tent_cells p) 2 g → is_camp p g ≡ true → meets house g ≡ true
 
 -- ---- columns and rows
-column-within : (p : Tents) (x d : ℕ) → x < p.size.w → has_place (column_places p.size x) d ≡ true → d < cells_of p
+column-within : (p : Tents) (x d : ℕ) → x < p.size.w → has_place (column_places p.size x) d ≡ true → d < tent_cells p
 column-within p x d lt on =
     let w = has_place-at (column_places p.size x) d on in
     let k : w.0 < p.size.h = omega (arith, w.1, column-long p.size x) in
@@ -67,7 +67,7 @@ column-within p x d lt on =
     let m : (w.0 + 1) * p.size.w ≤ p.size.h * p.size.w = mul-le-mul_right p.size.w (omega arith) in
     omega arith
 
-row-within : (p : Tents) (y d : ℕ) → y < p.size.h → has_place (row_places p.size y) d ≡ true → d < cells_of p
+row-within : (p : Tents) (y d : ℕ) → y < p.size.h → has_place (row_places p.size y) d ≡ true → d < tent_cells p
 row-within p y d lt on =
     let w = has_place-at (row_places p.size y) d on in
     let k : w.0 < p.size.w = omega (arith, w.1, row-long p.size y) in
@@ -86,7 +86,7 @@ column-kind p x field lt = record {
     most_small = let n = field.number x in omega arith;
   };
   met = λ g grid good.
-      let a = ones-bulbs g (column_places p.size x) (small-at (cells_of p) g grid) in
+      let a = ones-bulbs g (column_places p.size x) (small-at (tent_cells p) g grid) in
       let e = eqb-true (tents_in_column p.size g x) (slice_index p.counts x) (all_below-at (column_right p g) p.size.w x (camp-parts p g good).columns lt) in
       between-from (slice_index p.counts x) (slice_index p.counts x) (map (slice_index g) (column_places p.size x)) (omega arith) (omega arith);
 }
@@ -102,7 +102,7 @@ row-kind p y field lt = record {
     most_small = let n = field.number (p.size.w + y) in omega arith;
   };
   met = λ g grid good.
-      let a = ones-bulbs g (row_places p.size y) (small-at (cells_of p) g grid) in
+      let a = ones-bulbs g (row_places p.size y) (small-at (tent_cells p) g grid) in
       let e = eqb-true (tents_in_row p.size g y) (slice_index p.counts (p.size.w + y)) (all_below-at (row_right p g) p.size.h y (camp-parts p g good).rows lt) in
       between-from (slice_index p.counts (p.size.w + y)) (slice_index p.counts (p.size.w + y)) (map (slice_index g) (row_places p.size y)) (omega arith) (omega arith);
 }
@@ -114,40 +114,40 @@ tent-in g cells d long on = elim (cases_lt d (length g)) [
   | inr high ↦ let one = eqb-true (slice_index g d) 1 on in let none = get_or_past g d 0 high in absurd (omega arith)
 ]
 
-set-has : (p : Tents) (t c : ℕ) → has_value (trees_beside p t) c ≡ true → (c < cells_of p) × (tree p c ≡ true) × (has_place (steps p.size t 4) c ≡ true)
+set-has : (p : Tents) (t c : ℕ) → has_value (trees_beside p t) c ≡ true → (c < tent_cells p) × (tree p c ≡ true) × (has_place (steps p.size t 4) c ≡ true)
 set-has p t c on =
     let below = has_value_below (trees_beside p t) c on in
-    let long = length-map-range_with_len (λ d. tree p d && has_place (steps p.size t 4) d) 0 (cells_of p) in
-    let lt : c < cells_of p = omega arith in
-    let at = get_or-map-range_with_len (λ d. tree p d && has_place (steps p.size t 4) d) 0 (cells_of p) c c false lt (omega arith) in
+    let long = length-map-range_with_len (λ d. tree p d && has_place (steps p.size t 4) d) 0 (tent_cells p) in
+    let lt : c < tent_cells p = omega arith in
+    let at = get_or-map-range_with_len (λ d. tree p d && has_place (steps p.size t 4) d) 0 (tent_cells p) c c false lt (omega arith) in
     let w = and_parts (tree p c) (has_place (steps p.size t 4) c) (sym at ∙ on) in
     (lt, w.0, w.1)
 
 -- the tents of a grid by place, and the sets of trees beside them
 unfoldable pub tents_of : Tents → List ℕ → List ℕ
-tents_of p g = filter (tent g) (range_with_len 0 (cells_of p))
+tents_of p g = filter (tent g) (range_with_len 0 (tent_cells p))
 
 -- a list that gives each tent a tree beside it, names no tree twice and leaves none out
 pub record IsGiven (p : Tents) (g chosen : List ℕ) : Type 0 where
   pub long : length chosen ≡ length (tents_of p g)
-  pub each : (k : ℕ) → k < length (tents_of p g) → (slice_index chosen k < cells_of p) × (tree p (slice_index chosen k) ≡ true) × (has_place (steps p.size (slice_index (tents_of p g) k) 4) (slice_index chosen k) ≡ true)
+  pub each : (k : ℕ) → k < length (tents_of p g) → (slice_index chosen k < tent_cells p) × (tree p (slice_index chosen k) ≡ true) × (has_place (steps p.size (slice_index (tents_of p g) k) 4) (slice_index chosen k) ≡ true)
   pub none_twice : names_none_twice chosen ≡ true
-  pub none_out : (c : ℕ) → c < cells_of p → tree p c ≡ true → has_place chosen c ≡ true
+  pub none_out : (c : ℕ) → c < tent_cells p → tree p c ≡ true → has_place chosen c ≡ true
 
 pub given : (p : Tents) (g : List ℕ) → can_be_paired p g ≡ true → (chosen : List ℕ) × IsGiven p g chosen
 unfolding can_be_paired tents_of
 given p g paired =
-    let w = filling_from_test (map (trees_beside p) (filter (tent g) (range_with_len 0 (cells_of p)))) (λ chosen. names_none_twice chosen && leaves_none_out p chosen) paired in
+    let w = filling_from_test (map (trees_beside p) (filter (tent g) (range_with_len 0 (tent_cells p)))) (λ chosen. names_none_twice chosen && leaves_none_out p chosen) paired in
     let tests = and_parts (names_none_twice w.0) (leaves_none_out p w.0) w.2 in
     let fills = w.1 in (
       w.0,
       record {
-        long = fills.len ∙ length-map (filter (tent g) (range_with_len 0 (cells_of p))) (trees_beside p);
-        each = λ k lt. set-has p (slice_index (filter (tent g) (range_with_len 0 (cells_of p))) k) (slice_index w.0 k)
-            (sym (ap (λ (s : Set). has_value s (get_or w.0 k 0)) (get_or-map (trees_beside p) (filter (tent g) (range_with_len 0 (cells_of p))) k 0 [] lt))
-            ∙ fills.each k (omega (arith, length-map (filter (tent g) (range_with_len 0 (cells_of p))) (trees_beside p))));
+        long = fills.len ∙ length-map (filter (tent g) (range_with_len 0 (tent_cells p))) (trees_beside p);
+        each = λ k lt. set-has p (slice_index (filter (tent g) (range_with_len 0 (tent_cells p))) k) (slice_index w.0 k)
+            (sym (ap (λ (s : Set). has_value s (get_or w.0 k 0)) (get_or-map (trees_beside p) (filter (tent g) (range_with_len 0 (tent_cells p))) k 0 [] lt))
+            ∙ fills.each k (omega (arith, length-map (filter (tent g) (range_with_len 0 (tent_cells p))) (trees_beside p))));
         none_twice = tests.0;
-        none_out = λ c lt on. elim (or_cases (not (tree p c)) (has_place w.0 c) (all_below-at (λ c. not (tree p c) || has_place w.0 c) (cells_of p) c tests.1 lt)) [
+        none_out = λ c lt on. elim (or_cases (not (tree p c)) (has_place w.0 c) (all_below-at (λ c. not (tree p c) || has_place w.0 c) (tent_cells p) c tests.1 lt)) [
           | inl bare ↦ absurd (true≢false (sym on ∙ not-true (tree p c) bare))
           | inr here ↦ here
         ];
@@ -158,38 +158,38 @@ pub in-range : (n c : ℕ) → c < n → has_place (range_with_len 0 n) c ≡ tr
 in-range n c lt = rw (let z : 0 + c ≡ c = omega arith in get_or-range_with_len 0 n c 0 lt ∙ z) at (has_place-here (range_with_len 0 n) c (omega (arith, length-range_with_len 0 n)))
 
 -- a tree has a tent beside it
-tree-tent : (p : Tents) (g : List ℕ) → IsGrid (cells_of p) 2 g → is_camp p g ≡ true → (c : ℕ) → c < cells_of p → tree p c ≡ true → (t : ℕ) × (t < cells_of p) × (tent g t ≡ true) × (has_place (steps p.size t 4) c ≡ true)
+tree-tent : (p : Tents) (g : List ℕ) → IsGrid (tent_cells p) 2 g → is_camp p g ≡ true → (c : ℕ) → c < tent_cells p → tree p c ≡ true → (t : ℕ) × (t < tent_cells p) × (tent g t ≡ true) × (has_place (steps p.size t 4) c ≡ true)
 unfolding tents_of
 tree-tent p g grid good c lt on =
     let v = given p g (camp-parts p g good).paired in
     let is = v.1 in
     let w = has_place-at v.0 c (is.none_out c lt on) in
     let k : w.0 < length (tents_of p g) = omega (arith, w.1, is.long) in
-    let tents = filter (tent g) (range_with_len 0 (cells_of p)) in
+    let tents = filter (tent g) (range_with_len 0 (tent_cells p)) in
     let t = slice_index tents w.0 in
-    let member = place-filter (tent g) (range_with_len 0 (cells_of p)) t (has_place-here tents w.0 k) in
-    (t, tent-in g (cells_of p) t grid.each_cell member.1, member.1, rw w.2 at (is.each w.0 k).2)
+    let member = place-filter (tent g) (range_with_len 0 (tent_cells p)) t (has_place-here tents w.0 k) in
+    (t, tent-in g (tent_cells p) t grid.each_cell member.1, member.1, rw w.2 at (is.each w.0 k).2)
 
 -- a tent has a tree beside it
-tent-tree : (p : Tents) (g : List ℕ) → IsGrid (cells_of p) 2 g → is_camp p g ≡ true → (t : ℕ) → tent g t ≡ true → (c : ℕ) × (tree p c ≡ true) × (has_place (steps p.size t 4) c ≡ true)
+tent-tree : (p : Tents) (g : List ℕ) → IsGrid (tent_cells p) 2 g → is_camp p g ≡ true → (t : ℕ) → tent g t ≡ true → (c : ℕ) × (tree p c ≡ true) × (has_place (steps p.size t 4) c ≡ true)
 unfolding tents_of
 tent-tree p g grid good t on =
     let v = given p g (camp-parts p g good).paired in
     let is = v.1 in
-    let tents = filter (tent g) (range_with_len 0 (cells_of p)) in
-    let w = has_place-at tents t (place-kept (tent g) (range_with_len 0 (cells_of p)) t (in-range (cells_of p) t (tent-in g (cells_of p) t grid.each_cell on)) on) in
+    let tents = filter (tent g) (range_with_len 0 (tent_cells p)) in
+    let w = has_place-at tents t (place-kept (tent g) (range_with_len 0 (tent_cells p)) t (in-range (tent_cells p) t (tent-in g (tent_cells p) t grid.each_cell on)) on) in
     let e = is.each w.0 w.1 in
     (slice_index v.0 w.0, e.1, rw w.2 at e.2)
 
 -- no tent stands on a tree
-tree-bare : (p : Tents) (g : List ℕ) → is_camp p g ≡ true → (c : ℕ) → c < cells_of p → tree p c ≡ true → slice_index g c ≡ 0
+tree-bare : (p : Tents) (g : List ℕ) → is_camp p g ≡ true → (c : ℕ) → c < tent_cells p → tree p c ≡ true → slice_index g c ≡ 0
 unfolding tree_right
-tree-bare p g good c lt on = elim (or_cases (not (tree p c)) (eqb (slice_index g c) 0) (all_below-at (tree_right p g) (cells_of p) c (camp-parts p g good).trees lt)) [
+tree-bare p g good c lt on = elim (or_cases (not (tree p c)) (eqb (slice_index g c) 0) (all_below-at (tree_right p g) (tent_cells p) c (camp-parts p g good).trees lt)) [
   | inl bare ↦ absurd (true≢false (sym on ∙ not-true (tree p c) bare))
   | inr none ↦ eqb-true (slice_index g c) 0 none
 ]
 
-tree-kind : (p : Tents) (c : ℕ) → IsField p → c < cells_of p → tree p c ≡ true → IsMet p (record { places = free_beside p c; least = 1; most = length (free_beside p c) })
+tree-kind : (p : Tents) (c : ℕ) → IsField p → c < tent_cells p → tree p c ≡ true → IsMet p (record { places = free_beside p c; least = 1; most = length (free_beside p c) })
 unfolding meets
 tree-kind p c field lt on = record {
   is_house = record {
@@ -200,7 +200,7 @@ tree-kind p c field lt on = record {
     most_small = few;
   };
   met = λ g grid good.
-      let a = ones-bulbs g (free_beside p c) (small-at (cells_of p) g grid) in
+      let a = ones-bulbs g (free_beside p c) (small-at (tent_cells p) g grid) in
       let b = count_by-le-length (tent g) (free_beside p c) in
       let w = tree-tent p g grid good c lt on in
       let free : not (tree p w.0) ≡ true = ap not (false_from_ne_true (tree p w.0) (λ is. let z = tree-bare p g good w.0 w.1 is in let o = eqb-true (slice_index g w.0) 1 w.2 in absurd (omega arith))) in
@@ -243,7 +243,7 @@ in-square w c d lt on = elim (or_cases (eqb c d) _ on) [
   ]
 ]
 
-square-apart : (p : Tents) (g : List ℕ) → IsGrid (cells_of p) 2 g → is_camp p g ≡ true → (c d e : ℕ) → IsInSquare p.size.w c d → IsInSquare p.size.w c e → tent g d ≡ true → tent g e ≡ true → d ≡ e
+square-apart : (p : Tents) (g : List ℕ) → IsGrid (tent_cells p) 2 g → is_camp p g ≡ true → (c d e : ℕ) → IsInSquare p.size.w c d → IsInSquare p.size.w c e → tent g d ≡ true → tent g e ≡ true → d ≡ e
 unfolding touch_right touches
 square-apart p g grid good c d e sd se td te = elim (cases_eq d e) [
   | inl same ↦ same
@@ -253,8 +253,8 @@ square-apart p g grid good c d e sd se td te = elim (cases_eq d e) [
       let near = and_from _ _ (ap not (ne_eqb d e other)) (and_from _ _
       (and_from _ _ (le-leb (d / p.size.w) (e / p.size.w + 1) (omega arith)) (le-leb (e / p.size.w) (d / p.size.w + 1) (omega arith)))
       (and_from _ _ (le-leb (d % p.size.w) (e % p.size.w + 1) (omega arith)) (le-leb (e % p.size.w) (d % p.size.w + 1) (omega arith)))) in
-      let some = any_below-here (λ f. (not (eqb d f) && (are_near (d / p.size.w) (f / p.size.w) && are_near (d % p.size.w) (f % p.size.w))) && tent g f) (cells_of p) e (tent-in g (cells_of p) e grid.each_cell te) (and_from _ _ near te) in
-      absurd (true≢false (sym (and_from _ _ td some) ∙ not-true _ (all_below-at (touch_right p g) (cells_of p) d (camp-parts p g good).touch (tent-in g (cells_of p) d grid.each_cell td))))
+      let some = any_below-here (λ f. (not (eqb d f) && (are_near (d / p.size.w) (f / p.size.w) && are_near (d % p.size.w) (f % p.size.w))) && tent g f) (tent_cells p) e (tent-in g (tent_cells p) e grid.each_cell te) (and_from _ _ near te) in
+      absurd (true≢false (sym (and_from _ _ td some) ∙ not-true _ (all_below-at (touch_right p g) (tent_cells p) d (camp-parts p g good).touch (tent-in g (tent_cells p) d grid.each_cell td))))
 ]
 
 square-distinct : (w c : ℕ) → 1 < w → AreDistinct (square_at w c)
@@ -282,7 +282,7 @@ square-kind p c field right bottom = record {
     most_small = omega arith;
   };
   met = λ g grid good.
-      let a = ones-bulbs g (square_at p.size.w c) (small-at (cells_of p) g grid) in
+      let a = ones-bulbs g (square_at p.size.w c) (small-at (tent_cells p) g grid) in
       let one = count-one (tent g) (square_at p.size.w c) distinct (λ d e md me td te. square-apart p g grid good c d e (in-square p.size.w c d right md) (in-square p.size.w c e right me) td te) in
       between-from 0 1 (map (slice_index g) (square_at p.size.w c)) (omega arith) (omega arith);
 }
@@ -298,8 +298,8 @@ each-met : (p : Tents) → IsField p → EachOf (IsMet p) (tent_houses p)
 unfolding tent_houses square_at
 each-met p field = each-append (IsMet p) _ _ (each-below (IsMet p) (column_of_tents p) p.size.w (λ x lt. each-one (IsMet p) _ (column-kind p x field lt)))
     (each-append (IsMet p) _ _ (each-below (IsMet p) (row_of_tents p) p.size.h (λ y lt. each-one (IsMet p) _ (row-kind p y field lt)))
-    (each-append (IsMet p) _ _ (each-below (IsMet p) (tree_house p) (cells_of p) (λ c lt. each-if (IsMet p) (tree p c) _ (λ on. tree-kind p c field lt on)))
-    (each-below (IsMet p) (square_house p) (cells_of p) (λ c lt. each-if (IsMet p) (ltb (c % p.size.w + 1) p.size.w && ltb (c / p.size.w + 1) p.size.h) _ (λ on.
+    (each-append (IsMet p) _ _ (each-below (IsMet p) (tree_house p) (tent_cells p) (λ c lt. each-if (IsMet p) (tree p c) _ (λ on. tree-kind p c field lt on)))
+    (each-below (IsMet p) (square_house p) (tent_cells p) (λ c lt. each-if (IsMet p) (ltb (c % p.size.w + 1) p.size.w && ltb (c / p.size.w + 1) p.size.h) _ (λ on.
     let w = and_parts (ltb (c % p.size.w + 1) p.size.w) (ltb (c / p.size.w + 1) p.size.h) on in
     square-kind p c field (ltb-true (c % p.size.w + 1) p.size.w w.0) (ltb-true (c / p.size.w + 1) p.size.h w.1))))))
 
@@ -325,14 +325,14 @@ tent-field p is = record {
   number = λ k. counts-few p.size 0 p.counts k (let s = is.size.extent.w_high in omega arith) (let s = is.size.extent.h_high in omega arith) is.range;
 }
 
-pub tent-counting : (p : Tents) → IsTents p → IsCounting (cells_of p) (is_bare p) (tent_houses p) (is_camp p)
+pub tent-counting : (p : Tents) → IsTents p → IsCounting (tent_cells p) (is_bare p) (tent_houses p) (is_camp p)
 unfolding is_bare
 tent-counting p is = record {
   few_cells = let b = tent-field p is in let a : p.size.w * p.size.h ≤ 256 * p.size.h = mul-le-mul_right p.size.h b.w_few in let h = b.h_few in omega arith;
   are_houses = λ h lt. (each-met p (tent-field p is) h lt).is_house;
   blocked_zero = λ g grid good c lt bare. elim (or_cases (tree p c) _ bare) [
     | inl on ↦ tree-bare p g good c lt on
-    | inr alone ↦ zero-from (slice_index g c) (small-at (cells_of p) g grid c) (λ one.
+    | inr alone ↦ zero-from (slice_index g c) (small-at (tent_cells p) g grid c) (λ one.
         let w = tent-tree p g grid good c (eq-eqb (slice_index g c) 1 one) in
         true≢false (sym (any-here (tree p) (steps p.size c 4) w.0 w.2 w.1) ∙ not-true (list_any (tree p) (steps p.size c 4)) alone))
   ];

@@ -7,7 +7,7 @@ use Rattle.grid_core.specs.Extent.{Extent}
 use Rattle.grid_core.specs.Regions.{steps, step}
 use Rattle.engine_core.specs.Puzzle.{has_place, IsNext}
 use Rattle.gameid_core.specs.Puzzles.{Tents}
-use Rattle.fields_core.specs.Tents.{cells_of, tree, tent}
+use Rattle.fields_core.specs.Tents.{tent_cells, tree, tent}
 use Rattle.fields_core.specs.TentPairs.{suits, suits_beside, may_pair}
 use Rattle.fields_core.specs.TentHouses.{is_bare}
 use Rattle.fields_core.proofs.StepLaws.{some-inj, step-up, step-left, step-right, step-down, steps-some}
@@ -68,15 +68,15 @@ passed-unsuited p g c from n other before at off = record {
   ];
 }
 
-pub next-none : (p : Tents) (g : List ℕ) (c from n : ℕ) → IsPassed p g c from n → 4 ≤ n → IsNext (suits_beside p g c) (cells_of p) from None
+pub next-none : (p : Tents) (g : List ℕ) (c from n : ℕ) → IsPassed p g c from n → 4 ≤ n → IsNext (suits_beside p g c) (tent_cells p) from None
 next-none p g c from n passed all = λ j ge lt. false_from_ne_true (suits_beside p g c j) (λ on.
     let w = and_parts (has_place (steps p.size c 4) j) (suits p g c j) on in
     let s = steps-some p.size c 4 j w.0 in
     let lt = s.1 in
     true≢false (sym w.1 ∙ passed.none s.0 j (omega arith) s.2 ge))
 
-pub next-found : (p : Tents) (g : List ℕ) (c from n other : ℕ) → 2 ≤ p.size.w → IsPassed p g c from n → n < 4 → Some other ≡ step p.size c n → from ≤ other → other < cells_of p → suits p g c other ≡ true
-    → IsNext (suits_beside p g c) (cells_of p) from (Some other)
+pub next-found : (p : Tents) (g : List ℕ) (c from n other : ℕ) → 2 ≤ p.size.w → IsPassed p g c from n → n < 4 → Some other ≡ step p.size c n → from ≤ other → other < tent_cells p → suits p g c other ≡ true
+    → IsNext (suits_beside p g c) (tent_cells p) from (Some other)
 next-found p g c from n other wide passed low at ge lt on = (
   ge,
   lt,
@@ -95,10 +95,10 @@ next-found p g c from n other wide passed low at ge lt on = (
 
 -- ---- the next cell that a cell is joined to
 abbrev pub IsNextJoined : Tents → List ℕ → ℕ → ℕ → Option ℕ → Type 0
-IsNextJoined p g c from o = MatchOption o ((r : ℕ) → from ≤ r → r < cells_of p → may_pair p g c r ≡ true → ⊥)
-    (λ r. (from ≤ r) × (r < cells_of p) × (may_pair p g c r ≡ true) × ((q : ℕ) → from ≤ q → q < r → may_pair p g c q ≡ true → ⊥))
+IsNextJoined p g c from o = MatchOption o ((r : ℕ) → from ≤ r → r < tent_cells p → may_pair p g c r ≡ true → ⊥)
+    (λ r. (from ≤ r) × (r < tent_cells p) × (may_pair p g c r ≡ true) × ((q : ℕ) → from ≤ q → q < r → may_pair p g c q ≡ true → ⊥))
 
-pub joined-beside : (p : Tents) (g : List ℕ) (c from : ℕ) (o : Option ℕ) → true ≡ (tent g c || tree p c) → IsNext (suits_beside p g c) (cells_of p) from o → IsNextJoined p g c from o
+pub joined-beside : (p : Tents) (g : List ℕ) (c from : ℕ) (o : Option ℕ) → true ≡ (tent g c || tree p c) → IsNext (suits_beside p g c) (tent_cells p) from o → IsNextJoined p g c from o
 unfolding may_pair
 joined-beside p g c from None either next = λ r ge lt on. true≢false (sym (rw (sym either) at on) ∙ next r ge lt)
 joined-beside p g c from (Some d) either next = (next.0, next.1, rw (sym either) next.2, λ q ge lt on. true≢false (sym (rw (sym either) at on) ∙ next.3 q ge lt))
@@ -107,11 +107,11 @@ joined-self : (p : Tents) (g : List ℕ) (c d : ℕ) → false ≡ (tent g c || 
 unfolding may_pair
 joined-self p g c d neither on = eqb-true c d (rw (sym neither) at on)
 
-pub none-itself : (p : Tents) (g : List ℕ) (c from : ℕ) → false ≡ (tent g c || tree p c) → c < from → (r : ℕ) → from ≤ r → r < cells_of p → may_pair p g c r ≡ true → ⊥
+pub none-itself : (p : Tents) (g : List ℕ) (c from : ℕ) → false ≡ (tent g c || tree p c) → c < from → (r : ℕ) → from ≤ r → r < tent_cells p → may_pair p g c r ≡ true → ⊥
 none-itself p g c from neither past r ge lt on = let e = joined-self p g c r neither on in absurd (omega arith)
 
-pub next-itself : (p : Tents) (g : List ℕ) (c from : ℕ) → false ≡ (tent g c || tree p c) → from ≤ c → c < cells_of p
-    → (from ≤ c) × (c < cells_of p) × (may_pair p g c c ≡ true) × ((q : ℕ) → from ≤ q → q < c → may_pair p g c q ≡ true → ⊥)
+pub next-itself : (p : Tents) (g : List ℕ) (c from : ℕ) → false ≡ (tent g c || tree p c) → from ≤ c → c < tent_cells p
+    → (from ≤ c) × (c < tent_cells p) × (may_pair p g c c ≡ true) × ((q : ℕ) → from ≤ q → q < c → may_pair p g c q ≡ true → ⊥)
 unfolding may_pair
 next-itself p g c from neither ge lt = (
   ge,

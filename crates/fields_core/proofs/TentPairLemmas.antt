@@ -9,7 +9,7 @@ use Rattle.grid_core.specs.Grids.{IsGrid}
 use Rattle.grid_core.specs.Regions.{steps}
 use Rattle.grid_core.specs.Candidates.{all_below}
 use Rattle.grid_core.specs.Pairings.{IsPairing, IsShortSet}
-use Rattle.grid_core.specs.ShortSetLaws.{no_choice}
+use Rattle.grid_core.proofs.ShortSets.{no_choice}
 use Rattle.grid_core.proofs.CandidateLemmas.{all_below-at, all_below-from}
 use Rattle.engine_core.specs.Puzzle.{has_place}
 use Rattle.engine_core.specs.PlaceLaws.{has_place-here}
@@ -17,7 +17,7 @@ use Rattle.engine_core.specs.Filling.{has_value, Fills}
 use Rattle.engine_core.specs.FillingLaws.{test_from_filling}
 use Rattle.engine_core.specs.House.{AreDifferent}
 use Rattle.gameid_core.specs.Puzzles.{Tents}
-use Rattle.fields_core.specs.Tents.{cells_of, tree, tent, tree_right, names_none_twice, leaves_none_out, trees_beside, can_be_paired}
+use Rattle.fields_core.specs.Tents.{tent_cells, tree, tent, tree_right, names_none_twice, leaves_none_out, trees_beside, can_be_paired}
 use Rattle.fields_core.specs.TentPairs.{may_pair}
 use Rattle.fields_core.specs.TentSolutions.{IsPairedBy}
 use Rattle.fields_core.proofs.PlaceLists.{place-filter, place-kept, AreDistinct, different-from, distinct-from, distinct-filter}
@@ -28,15 +28,15 @@ use Rattle.fields_core.proofs.TentCounting.{tents_of, IsGiven, given, tent-in, i
 -- what is used of a grid: its cells, and that no tent stands on a tree
 pub record IsPitched (p : Tents) (g : List ℕ) : Type 0 where
   pub wide : 0 < p.size.w
-  pub long : length g ≡ cells_of p
+  pub long : length g ≡ tent_cells p
   pub bare : (c : ℕ) → tent g c ≡ true → tree p c ≡ true → ⊥
 
-pub pitched : (p : Tents) (g : List ℕ) → 0 < p.size.w → IsGrid (cells_of p) 2 g → all_below (tree_right p g) (cells_of p) ≡ true → IsPitched p g
+pub pitched : (p : Tents) (g : List ℕ) → 0 < p.size.w → IsGrid (tent_cells p) 2 g → all_below (tree_right p g) (tent_cells p) ≡ true → IsPitched p g
 unfolding tree_right
 pitched p g wide grid right = record {
   wide = wide;
   long = grid.each_cell;
-  bare = λ c on tree_on. elim (or_cases (not (tree p c)) (eqb (slice_index g c) 0) (all_below-at (tree_right p g) (cells_of p) c right (tent-in g (cells_of p) c grid.each_cell on))) [
+  bare = λ c on tree_on. elim (or_cases (not (tree p c)) (eqb (slice_index g c) 0) (all_below-at (tree_right p g) (tent_cells p) c right (tent-in g (tent_cells p) c grid.each_cell on))) [
     | inl none ↦ true≢false (sym tree_on ∙ not-true (tree p c) none)
     | inr zero_at ↦ let a = eqb-true (slice_index g c) 0 zero_at in let b = eqb-true (slice_index g c) 1 on in absurd (omega arith)
   ];
@@ -70,27 +70,27 @@ join-other p g c d off none same = rw (off, none) (eq-eqb c d same)
 -- ---- the tents by place
 pub tents-distinct : (p : Tents) (g : List ℕ) → AreDistinct (tents_of p g)
 unfolding tents_of
-tents-distinct p g = distinct-filter (tent g) (range_with_len 0 (cells_of p)) (range-distinct (cells_of p))
+tents-distinct p g = distinct-filter (tent g) (range_with_len 0 (tent_cells p)) (range-distinct (tent_cells p))
 
-pub tent-listed : (p : Tents) (g : List ℕ) (c : ℕ) → length g ≡ cells_of p → tent g c ≡ true → has_place (tents_of p g) c ≡ true
+pub tent-listed : (p : Tents) (g : List ℕ) (c : ℕ) → length g ≡ tent_cells p → tent g c ≡ true → has_place (tents_of p g) c ≡ true
 unfolding tents_of
-tent-listed p g c long on = place-kept (tent g) (range_with_len 0 (cells_of p)) c (in-range (cells_of p) c (tent-in g (cells_of p) c long on)) on
+tent-listed p g c long on = place-kept (tent g) (range_with_len 0 (tent_cells p)) c (in-range (tent_cells p) c (tent-in g (tent_cells p) c long on)) on
 
 pub listed-tent : (p : Tents) (g : List ℕ) (c : ℕ) → has_place (tents_of p g) c ≡ true → tent g c ≡ true
 unfolding tents_of
-listed-tent p g c on = (place-filter (tent g) (range_with_len 0 (cells_of p)) c on).1
+listed-tent p g c on = (place-filter (tent g) (range_with_len 0 (tent_cells p)) c on).1
 
 -- ---- a whole pairing of the cells pairs tents and trees
 some-columns : (w h c : ℕ) → c < w * h → 0 < w
 some-columns zero h c lt = absurd (omega arith)
 some-columns (suc w) h c lt = omega arith
 
-set-of : (p : Tents) (t c : ℕ) → t < cells_of p → tree p c ≡ true → has_place (steps p.size t 4) c ≡ true → has_value (trees_beside p t) c ≡ true
+set-of : (p : Tents) (t c : ℕ) → t < tent_cells p → tree p c ≡ true → has_place (steps p.size t 4) c ≡ true → has_value (trees_beside p t) c ≡ true
 set-of p t c inside on beside =
     let lt = beside-in p.size t c (some-columns p.size.w p.size.h t inside) inside beside in
-    get_or-map-range_with_len (λ d. tree p d && has_place (steps p.size t 4) d) 0 (cells_of p) c c false lt (omega arith) ∙ and_from _ _ on beside
+    get_or-map-range_with_len (λ d. tree p d && has_place (steps p.size t 4) d) 0 (tent_cells p) c c false lt (omega arith) ∙ and_from _ _ on beside
 
-pub pairs-from : (p : Tents) (g : List ℕ) (tree_of : ℕ → ℕ) → length g ≡ cells_of p → IsPairedBy p g tree_of → can_be_paired p g ≡ true
+pub pairs-from : (p : Tents) (g : List ℕ) (tree_of : ℕ → ℕ) → length g ≡ tent_cells p → IsPairedBy p g tree_of → can_be_paired p g ≡ true
 unfolding can_be_paired tents_of
 pairs-from p g tree_of long is =
     test_from_filling (map (trees_beside p) (tents_of p g)) (λ chosen. names_none_twice chosen && leaves_none_out p chosen) chosen fills (and_from _ _ twice none_out)
@@ -98,8 +98,8 @@ pairs-from p g tree_of long is =
     chosen : List ℕ
     chosen = map tree_of (tents_of p g)
 
-    below : (t : ℕ) → tent g t ≡ true → t < cells_of p
-    below t on = tent-in g (cells_of p) t long on
+    below : (t : ℕ) → tent g t ≡ true → t < tent_cells p
+    below t on = tent-in g (tent_cells p) t long on
 
     fills : Fills (map (trees_beside p) (tents_of p g)) chosen
     fills = record {
@@ -117,23 +117,23 @@ pairs-from p g tree_of long is =
         (λ a b at_a at_b. let x = listed-tent p g a at_a in let y = listed-tent p g b at_b in is.own a b (below a x) (below b y) x y)))
 
     none_out : leaves_none_out p chosen ≡ true
-    none_out = all_below-from (λ c. not (tree p c) || has_place chosen c) (cells_of p) each
+    none_out = all_below-from (λ c. not (tree p c) || has_place chosen c) (tent_cells p) each
       where
-        each : (c : ℕ) → c < cells_of p → (not (tree p c) || has_place chosen c) ≡ true
+        each : (c : ℕ) → c < tent_cells p → (not (tree p c) || has_place chosen c) ≡ true
         each c lt = elim (cases_Bool (tree p c)) [
           | inl on ↦ let w = is.none_out c lt on in or_right (not (tree p c)) (has_place chosen c) (rw w.3 at (place-map tree_of (tents_of p g) w.0 (tent-listed p g w.0 long w.2)))
           | inr off ↦ or_left (not (tree p c)) (has_place chosen c) (ap not off)
         ]
 
-whole-paired : (p : Tents) (g mates : List ℕ) → IsPitched p g → IsPairing (may_pair p g) (cells_of p) (cells_of p) mates → IsPairedBy p g (slice_index mates)
+whole-paired : (p : Tents) (g mates : List ℕ) → IsPitched p g → IsPairing (may_pair p g) (tent_cells p) (tent_cells p) mates → IsPairedBy p g (slice_index mates)
 whole-paired p g mates pitch whole = record {
   is_tree = λ c lt on. (joined-tent p g c (slice_index mates c) on (whole.joined c lt)).1;
   is_beside = λ c lt on. (joined-tent p g c (slice_index mates c) on (whole.joined c lt)).0;
   own = λ c d lc ld on_c on_d. whole.own c d lc ld;
-  none_out = λ d lt on. by d on (each-named (slice_index mates) (cells_of p) d whole.in_range whole.own lt);
+  none_out = λ d lt on. by d on (each-named (slice_index mates) (tent_cells p) d whole.in_range whole.own lt);
 }
   where
-    by : (d : ℕ) → tree p d ≡ true → (l : ℕ) × (l < cells_of p) × (slice_index mates l ≡ d) → (c : ℕ) × (c < cells_of p) × (tent g c ≡ true) × (slice_index mates c ≡ d)
+    by : (d : ℕ) → tree p d ≡ true → (l : ℕ) × (l < tent_cells p) × (slice_index mates l ≡ d) → (c : ℕ) × (c < tent_cells p) × (tent g c ≡ true) × (slice_index mates c ≡ d)
     by d on (l, low, is) =
         let j : may_pair p g l d ≡ true = rw is at (whole.joined l low) in
         elim (cases_Bool (tent g l)) [
@@ -144,7 +144,7 @@ whole-paired p g mates pitch whole = record {
           ]
         ]
 
-pub whole-pairs : (p : Tents) (g mates : List ℕ) → IsPitched p g → IsPairing (may_pair p g) (cells_of p) (cells_of p) mates → can_be_paired p g ≡ true
+pub whole-pairs : (p : Tents) (g mates : List ℕ) → IsPitched p g → IsPairing (may_pair p g) (tent_cells p) (tent_cells p) mates → can_be_paired p g ≡ true
 whole-pairs p g mates pitch whole = pairs-from p g (slice_index mates) pitch.long (whole-paired p g mates pitch whole)
 
 -- ---- a pairing of tents and trees is a choice for each cell
@@ -176,7 +176,7 @@ module _ (p : Tents) (g chosen : List ℕ) (pitch : IsPitched p g) (is : IsGiven
   abbrev IsRight : ℕ → ℕ → Type 0
   IsRight c d = IsTents c d ⊎ (IsTrees c d ⊎ IsOther c d)
 
-  right-is : (c : ℕ) → c < cells_of p → IsRight c (right_of c)
+  right-is : (c : ℕ) → c < tent_cells p → IsRight c (right_of c)
   unfolding right_of
   right-is c lt = by (tent g c) (tree p c) refl refl
     where
@@ -191,18 +191,18 @@ module _ (p : Tents) (g chosen : List ℕ) (pitch : IsPitched p g) (is : IsGiven
   tree-of : (k : ℕ) → k < length (tents_of p g) → tree p (slice_index chosen k) ≡ true
   tree-of k lt = (is.each k lt).1
 
-  right-in : (c d : ℕ) → c < cells_of p → IsRight c d → d < cells_of p
+  right-in : (c d : ℕ) → c < tent_cells p → IsRight c d → d < tent_cells p
   right-in c d lt (inl t) = rw t.gives at (is.each t.k t.within).0
-  right-in c d lt (inr (inl t)) = tent-in g (cells_of p) d pitch.long (rw t.gives at (tent-of t.k t.within))
+  right-in c d lt (inr (inl t)) = tent-in g (tent_cells p) d pitch.long (rw t.gives at (tent-of t.k t.within))
   right-in c d lt (inr (inr o)) = rw o.gives at lt
 
-  right-joined : (c d : ℕ) → c < cells_of p → IsRight c d → may_pair p g c d ≡ true
+  right-joined : (c d : ℕ) → c < tent_cells p → IsRight c d → may_pair p g c d ≡ true
   right-joined c d lt (inl t) = let e = is.each t.k t.within in join-tent p g c d t.on (rw (t.at, t.gives) at e.2) (rw t.gives at e.1)
   right-joined c d lt (inr (inl t)) =
       let e = is.each t.k t.within in
       let on : tent g d ≡ true = rw t.gives at (tent-of t.k t.within) in
       let near : has_place (steps p.size d 4) c ≡ true = rw (t.gives, t.at) at e.2 in
-      join-tree p g c d t.off t.on (beside-both p.size d c pitch.wide (tent-in g (cells_of p) d pitch.long on) lt near) on
+      join-tree p g c d t.off t.on (beside-both p.size d c pitch.wide (tent-in g (tent_cells p) d pitch.long on) lt near) on
   right-joined c d lt (inr (inr o)) = join-other p g c d o.off o.none o.gives
 
   chosen-different : AreDifferent chosen
@@ -228,11 +228,11 @@ module _ (p : Tents) (g chosen : List ℕ) (pitch : IsPitched p g) (is : IsGiven
   right-own b c d (inr (inr o)) (inr (inl u)) = absurd (true≢false (sym (rw u.gives at (tent-of u.k u.within)) ∙ ap (tent g) (sym o.gives) ∙ o.off))
   right-own b c d (inr (inr o)) (inr (inr q)) = o.gives ∙ sym q.gives
 
-  chosen-whole : (short : List ℕ) → IsShortSet (may_pair p g) (cells_of p) (cells_of p) short → ⊥
-  chosen-whole short few = no_choice (may_pair p g) (cells_of p) (cells_of p) short few right_of
+  chosen-whole : (short : List ℕ) → IsShortSet (may_pair p g) (tent_cells p) (tent_cells p) short → ⊥
+  chosen-whole short few = no_choice (may_pair p g) (tent_cells p) (tent_cells p) short few right_of
       (λ l lt. right-in l (right_of l) lt (right-is l lt))
       (λ l lt. right-joined l (right_of l) lt (right-is l lt))
       (λ l m ll lm e. right-own l m (right_of m) (rw e at (right-is l ll)) (right-is m lm))
 
-pub short-unpaired : (p : Tents) (g short : List ℕ) → IsPitched p g → IsShortSet (may_pair p g) (cells_of p) (cells_of p) short → can_be_paired p g ≡ false
+pub short-unpaired : (p : Tents) (g short : List ℕ) → IsPitched p g → IsShortSet (may_pair p g) (tent_cells p) (tent_cells p) short → can_be_paired p g ≡ false
 short-unpaired p g short pitch few = false_from_ne_true (can_be_paired p g) (λ on. let w = given p g on in chosen-whole p g w.0 pitch w.1 short few)

@@ -7,7 +7,7 @@ use Rattle.grid_core.proofs.CandidateLemmas.{all_below-at, all_below-from, any_b
 use Rattle.engine_core.specs.PlaceLaws.{has_place-here}
 use Rattle.gameid_core.specs.Puzzles.{Tents}
 use Rattle.fields_core.specs.CountHouse.{Table}
-use Rattle.fields_core.specs.Tents.{cells_of, tree, tent, touches, tents_in_column, tents_in_row, tree_right, touch_right, column_right, row_right, can_be_paired, is_camp}
+use Rattle.fields_core.specs.Tents.{tent_cells, tree, tent, touches, tents_in_column, tents_in_row, tree_right, touch_right, column_right, row_right, can_be_paired, is_camp}
 use Rattle.fields_core.specs.TentHouses.{tent_houses}
 use Rattle.fields_core.specs.TentSolutions.{IsPairedBy, IsTentSolution}
 use Rattle.fields_core.specs.TentFaults.{IsTentFault}
@@ -20,7 +20,7 @@ use Rattle.fields_core.proofs.BelowLemmas.{index_of, index-is, distinct-none-twi
 use Rattle.fields_core.proofs.TentCounting.{CampParts, camp-parts, tents_of, IsGiven, given, tent-in}
 use Rattle.fields_core.proofs.TentPairLemmas.{tents-distinct, tent-listed, listed-tent, pairs-from}
 
-pub camp-from : (p : Tents) (g : List ℕ) → all_below (tree_right p g) (cells_of p) ≡ true → all_below (touch_right p g) (cells_of p) ≡ true
+pub camp-from : (p : Tents) (g : List ℕ) → all_below (tree_right p g) (tent_cells p) ≡ true → all_below (touch_right p g) (tent_cells p) ≡ true
     → all_below (column_right p g) p.size.w ≡ true → all_below (row_right p g) p.size.h ≡ true → true ≡ can_be_paired p g → is_camp p g ≡ true
 unfolding is_camp
 camp-from p g a b c d e = and_from _ _ a (and_from _ _ b (and_from _ _ c (and_from _ _ d (sym e))))
@@ -39,7 +39,7 @@ pub tent-table : (t : Table) (p q : Tents) → t ≡ tent_table p → p ≡ q �
 tent-table t p q e f = ap (λ (u : Table). u.houses) e ∙ ap tent_houses f
 
 -- ---- the test of a solution is the rule
-gives-tree : (p : Tents) (g chosen : List ℕ) → length g ≡ cells_of p → IsGiven p g chosen → IsPairedBy p g (λ c. slice_index chosen (index_of (tents_of p g) c))
+gives-tree : (p : Tents) (g chosen : List ℕ) → length g ≡ tent_cells p → IsGiven p g chosen → IsPairedBy p g (λ c. slice_index chosen (index_of (tents_of p g) c))
 gives-tree p g chosen long is = record {
   is_tree = λ c lt on. (is.each (place c) (stands c on).0).1;
   is_beside = λ c lt on. rw (stands c on).1 at (is.each (place c) (stands c on).0).2;
@@ -58,7 +58,7 @@ gives-tree p g chosen long is = record {
       let tent_on = listed-tent p g t here in
       let v = index-is (tents_of p g) t here in
       let same = different-from (tents_of p g) (tents-distinct p g) (place t) (index_of chosen d) v.0 low v.1 in
-      (t, tent-in g (cells_of p) t long tent_on, tent_on, ap (slice_index chosen) same ∙ w.1);
+      (t, tent-in g (tent_cells p) t long tent_on, tent_on, ap (slice_index chosen) same ∙ w.1);
 }
   where
     place : ℕ → ℕ
@@ -75,20 +75,20 @@ alone : (tent_on touched : Bool) → (tent_on ≡ true → touched ≡ false) �
 alone true touched none = ap not (none refl)
 alone false touched none = refl
 
-pub rule-from-test : (p : Tents) (g : List ℕ) → IsGrid (cells_of p) 2 g → is_camp p g ≡ true → IsTentSolution p g
+pub rule-from-test : (p : Tents) (g : List ℕ) → IsGrid (tent_cells p) 2 g → is_camp p g ≡ true → IsTentSolution p g
 unfolding tree_right touch_right column_right row_right
 rule-from-test p g grid on =
     let parts = camp-parts p g on in
     let w = given p g parts.paired in
     record {
       grid = grid;
-      none_on_trees = λ c lt tent_on. elim (or_cases (not (tree p c)) (eqb (slice_index g c) 0) (all_below-at (tree_right p g) (cells_of p) c parts.trees lt)) [
+      none_on_trees = λ c lt tent_on. elim (or_cases (not (tree p c)) (eqb (slice_index g c) 0) (all_below-at (tree_right p g) (tent_cells p) c parts.trees lt)) [
         | inl bare ↦ not-true (tree p c) bare
         | inr zero_at ↦ let a = eqb-true (slice_index g c) 0 zero_at in let b = eqb-true (slice_index g c) 1 tent_on in absurd (omega arith)
       ];
       none_touch = λ c d lc ld on_c on_d.
-          let alone = not-true _ (all_below-at (touch_right p g) (cells_of p) c parts.touch lc) in
-          let none = any_below-none (λ d. touches p.size c d && tent g d) (cells_of p) (rw on_c at alone) d ld in
+          let alone = not-true _ (all_below-at (touch_right p g) (tent_cells p) c parts.touch lc) in
+          let none = any_below-none (λ d. touches p.size c d && tent g d) (tent_cells p) (rw on_c at alone) d ld in
           no-two (touches p.size c d) (tent g d) none on_d;
       columns = λ x lt. eqb-true (tents_in_column p.size g x) (slice_index p.counts x) (all_below-at (column_right p g) p.size.w x parts.columns lt);
       rows = λ y lt. eqb-true (tents_in_row p.size g y) (slice_index p.counts (p.size.w + y)) (all_below-at (row_right p g) p.size.h y parts.rows lt);
@@ -96,11 +96,11 @@ rule-from-test p g grid on =
       paired = gives-tree p g w.0 grid.each_cell w.1;
     }
 
-pub test-from-rule : (p : Tents) (g : List ℕ) → IsGrid (cells_of p) 2 g → IsTentSolution p g → is_camp p g ≡ true
+pub test-from-rule : (p : Tents) (g : List ℕ) → IsGrid (tent_cells p) 2 g → IsTentSolution p g → is_camp p g ≡ true
 unfolding tree_right touch_right column_right row_right
 test-from-rule p g grid s = camp-from p g
-    (all_below-from (tree_right p g) (cells_of p) trees)
-    (all_below-from (touch_right p g) (cells_of p) (λ c lt. alone (tent g c) _ (touched c lt)))
+    (all_below-from (tree_right p g) (tent_cells p) trees)
+    (all_below-from (touch_right p g) (tent_cells p) (λ c lt. alone (tent g c) _ (touched c lt)))
     (all_below-from (column_right p g) p.size.w (λ x lt. eq-eqb _ _ (s.columns x lt)))
     (all_below-from (row_right p g) p.size.h (λ y lt. eq-eqb _ _ (s.rows y lt)))
     (sym (pairs-from p g s.tree_of grid.each_cell s.paired))
@@ -110,15 +110,15 @@ test-from-rule p g grid s = camp-from p g
     none-at (suc zero) lt off = absurd (true≢false off)
     none-at (suc (suc v)) lt off = absurd (omega arith)
 
-    trees : (c : ℕ) → c < cells_of p → (not (tree p c) || eqb (slice_index g c) 0) ≡ true
+    trees : (c : ℕ) → c < tent_cells p → (not (tree p c) || eqb (slice_index g c) 0) ≡ true
     trees c lt = elim (cases_Bool (tent g c)) [
       | inl on ↦ or_left (not (tree p c)) (eqb (slice_index g c) 0) (ap not (s.none_on_trees c lt on))
       | inr off ↦ or_right (not (tree p c)) (eqb (slice_index g c) 0) (none-at (slice_index g c) (grid.each_value c 0 (let e = grid.each_cell in omega arith)) off)
     ]
 
-    touched : (c : ℕ) → c < cells_of p → tent g c ≡ true → any_below (λ d. touches p.size c d && tent g d) (cells_of p) ≡ false
+    touched : (c : ℕ) → c < tent_cells p → tent g c ≡ true → any_below (λ d. touches p.size c d && tent g d) (tent_cells p) ≡ false
     touched c lt on = false_from_ne_true _ (λ some.
-        let w = any_below-some (λ d. touches p.size c d && tent g d) (cells_of p) some in
+        let w = any_below-some (λ d. touches p.size c d && tent g d) (tent_cells p) some in
         let both = and_parts (touches p.size c w.0) (tent g w.0) w.2 in
         true≢false (sym both.0 ∙ s.none_touch c w.0 lt w.1 on both.1))
 
@@ -130,6 +130,6 @@ some-not f e = true≢false (ap is_some e)
     is_some None = false
     is_some (Some a) = true
 
-pub none-exactly : (p : Tents) (g : List ℕ) (fault : Option TentFault) → IsGrid (cells_of p) 2 g → IsTentFault p g fault → (fault ≡ None) ↔ IsTentSolution p g
+pub none-exactly : (p : Tents) (g : List ℕ) (fault : Option TentFault) → IsGrid (tent_cells p) 2 g → IsTentFault p g fault → (fault ≡ None) ↔ IsTentSolution p g
 none-exactly p g None grid is = (λ _. rule-from-test p g grid is, λ _. refl)
 none-exactly p g (Some f) grid is = (λ e. absurd (some-not f e), λ s. absurd (true≢false (sym (test-from-rule p g grid s) ∙ sym (camp-not p g f is))))

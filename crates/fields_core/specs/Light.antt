@@ -7,8 +7,8 @@ use Rattle.gameid_core.specs.Puzzles.{Light}
 use Rattle.gameid_core.specs.declared.light_cell.LightCell.{LightCell}
 use Rattle.gameid_core.specs.declared.light_cell.LightCell.TheVariants.{White, Black, Numbered}
 
-abbrev pub cells_of : Light → ℕ
-cells_of p = p.size.w * p.size.h
+abbrev pub light_cells : Light → ℕ
+light_cells p = p.size.w * p.size.h
 
 abbrev pub is_white : LightCell → Bool
 is_white White = true
@@ -40,7 +40,7 @@ sees p a b = not (a == b) && (joined_in_row p a b || joined_in_column p a b)
 
 -- the cell sees a bulb
 unfoldable pub sees_bulb : Light → List ℕ → ℕ → Bool
-sees_bulb p g c = any_below (λ d. sees p c d && bulb g d) (cells_of p)
+sees_bulb p g c = any_below (λ d. sees p c d && bulb g d) (light_cells p)
 
 -- how many bulbs stand beside the cell
 abbrev pub bulbs_beside : Light → List ℕ → ℕ → ℕ
@@ -69,7 +69,7 @@ lit_right p g c = not (white p c) || (bulb g c || sees_bulb p g c)
 -- white cell holds a bulb or sees one
 unfoldable pub is_lit : Light → List ℕ → Bool
 is_lit p g =
-    all_below (black_right p g) (cells_of p)
-    && (all_below (number_right p g) (cells_of p)
-    && (all_below (bulb_right p g) (cells_of p)
-    && all_below (lit_right p g) (cells_of p)))
+    all_below (black_right p g) (light_cells p)
+    && (all_below (number_right p g) (light_cells p)
+    && (all_below (bulb_right p g) (light_cells p)
+    && all_below (lit_right p g) (light_cells p)))

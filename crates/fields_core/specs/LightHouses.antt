@@ -6,7 +6,7 @@ use Rattle.gameid_core.specs.Puzzles.{Light}
 use Rattle.gameid_core.specs.declared.light_cell.LightCell.{LightCell}
 use Rattle.gameid_core.specs.declared.light_cell.LightCell.TheVariants.{White, Black, Numbered}
 use Rattle.fields_core.specs.CountHouse.{House, houses_below, count_puzzle}
-use Rattle.fields_core.specs.Light.{cells_of, white, joined_in_row, joined_in_column, is_lit}
+use Rattle.fields_core.specs.Light.{light_cells, white, joined_in_row, joined_in_column, is_lit}
 
 -- the run of white cells of the row that the cell is in, from the left; and of the column, from the top
 unfoldable pub row_run : Light → ℕ → List ℕ
@@ -49,11 +49,11 @@ lit_house p c = if white p c then record { places = seen_from p c; least = 1; mo
 -- the houses of numbers, of runs in rows, of runs in columns and of white cells, each by place
 unfoldable pub light_houses : Light → List House
 light_houses p =
-    houses_below (number_house p) (cells_of p)
-    ++ (houses_below (row_house p) (cells_of p)
-    ++ (houses_below (column_house p) (cells_of p)
-    ++ houses_below (lit_house p) (cells_of p)))
+    houses_below (number_house p) (light_cells p)
+    ++ (houses_below (row_house p) (light_cells p)
+    ++ (houses_below (column_house p) (light_cells p)
+    ++ houses_below (lit_house p) (light_cells p)))
 
 -- what the rules of Light Up mean to a search
 abbrev pub light_rules : Light → Puzzle
-light_rules p = count_puzzle (cells_of p) (λ c. not (white p c)) (light_houses p) (is_lit p)
+light_rules p = count_puzzle (light_cells p) (λ c. not (white p c)) (light_houses p) (is_lit p)

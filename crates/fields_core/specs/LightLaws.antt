@@ -3,12 +3,12 @@ use Rattle.std.specs.Prelude.{ℕ, ◌≤◌, not}
 use Rattle.std.proofs.Common.{arith}
 use Rattle.engine_core.specs.Puzzle.{IsLawful, Needs, FitsIn}
 use Rattle.fields_core.specs.CountLaws.{count-lawful}
-use Rattle.fields_core.specs.Light.{cells_of, white, is_lit}
+use Rattle.fields_core.specs.Light.{light_cells, white, is_lit}
 use Rattle.fields_core.specs.LightHouses.{light_houses, light_rules}
 use Rattle.fields_core.specs.Ruled.{RuledLight}
 
 pub light-lawful : (r : RuledLight) → IsLawful (light_rules r.light)
-light-lawful r = count-lawful (cells_of r.light) (λ c. not (white r.light c)) (light_houses r.light) (is_lit r.light) r.counting
+light-lawful r = count-lawful (light_cells r.light) (λ c. not (white r.light c)) (light_houses r.light) (is_lit r.light) r.counting
 
 -- room for the longest scope serves rules whose scopes are no longer
 pub serves-smaller : (room : ℕ) (need had : Needs) → FitsIn need had → had.scope ≤ room → need.scope ≤ room

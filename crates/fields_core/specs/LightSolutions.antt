@@ -5,14 +5,14 @@ use Rattle.std.specs.Prelude.{◌≡◌, ◌≢◌, ℕ, ◌/◌, ◌%◌, ◌<�
 use Rattle.grid_core.specs.Grids.{IsGrid}
 use Rattle.gameid_core.specs.Puzzles.{Light}
 use Rattle.gameid_core.specs.declared.light_cell.LightCell.TheVariants.{Black, Numbered}
-use Rattle.fields_core.specs.Light.{cells_of, white, bulb, bulbs_beside}
+use Rattle.fields_core.specs.Light.{light_cells, white, bulb, bulbs_beside}
 
 -- the row and the column of a cell
-abbrev pub row_of : Light → ℕ → ℕ
-row_of p c = c / p.size.w
+abbrev pub light_row : Light → ℕ → ℕ
+light_row p c = c / p.size.w
 
-abbrev pub column_of : Light → ℕ → ℕ
-column_of p c = c % p.size.w
+abbrev pub light_column : Light → ℕ → ℕ
+light_column p c = c % p.size.w
 
 -- one of two places, or one between them
 abbrev pub IsFromTo : ℕ → ℕ → ℕ → Type 0
@@ -25,18 +25,18 @@ pub record AreJoined (p : Light) (line : ℕ → ℕ) (a b : ℕ) : Type 0 where
 
 -- different white cells of one row or one column with only white cells between them
 abbrev pub Sees : Light → ℕ → ℕ → Type 0
-Sees p a b = (a ≢ b) × (AreJoined p (row_of p) a b ⊎ AreJoined p (column_of p) a b)
+Sees p a b = (a ≢ b) × (AreJoined p (light_row p) a b ⊎ AreJoined p (light_column p) a b)
 
 -- the cell sees a bulb
 pub record SeesBulb (p : Light) (g : List ℕ) (c : ℕ) : Type 0 where
   pub other : ℕ
-  pub within : other < cells_of p
+  pub within : other < light_cells p
   pub has_bulb : bulb g other ≡ true
   pub seen : Sees p c other
 
 pub record IsLightSolution (p : Light) (g : List ℕ) : Type 0 where
-  pub grid : IsGrid (cells_of p) 2 g
-  pub none_on_black : (c : ℕ) → c < cells_of p → bulb g c ≡ true → white p c ≡ true
-  pub numbers : (c n : ℕ) → c < cells_of p → slice_index_or p.cells c Black ≡ Numbered n → bulbs_beside p g c ≡ n
-  pub none_seen : (c d : ℕ) → c < cells_of p → d < cells_of p → bulb g c ≡ true → bulb g d ≡ true → Sees p c d → ⊥
-  pub all_lit : (c : ℕ) → c < cells_of p → white p c ≡ true → (bulb g c ≡ true) ⊎ SeesBulb p g c
+  pub grid : IsGrid (light_cells p) 2 g
+  pub none_on_black : (c : ℕ) → c < light_cells p → bulb g c ≡ true → white p c ≡ true
+  pub numbers : (c n : ℕ) → c < light_cells p → slice_index_or p.cells c Black ≡ Numbered n → bulbs_beside p g c ≡ n
+  pub none_seen : (c d : ℕ) → c < light_cells p → d < light_cells p → bulb g c ≡ true → bulb g d ≡ true → Sees p c d → ⊥
+  pub all_lit : (c : ℕ) → c < light_cells p → white p c ≡ true → (bulb g c ≡ true) ⊎ SeesBulb p g c

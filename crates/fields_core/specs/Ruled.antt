@@ -2,14 +2,14 @@
 use Rattle.std.specs.Prelude.{not}
 use Rattle.gameid_core.specs.Puzzles.{Light, Tents}
 use Rattle.fields_core.specs.CountHouse.{Table, IsCounting}
-use Rattle.fields_core.specs.Light.{cells_of, white, is_lit}
+use Rattle.fields_core.specs.Light.{light_cells, white, is_lit}
 use Rattle.fields_core.specs.LightHouses.{light_houses}
 use Rattle.fields_core.specs.Tents as tents
 use Rattle.fields_core.specs.TentHouses.{tent_houses, is_bare}
 
 -- the count houses keep to what those of every game keep to
 abbrev pub IsLightCounting : Light → Type 0
-IsLightCounting p = IsCounting (cells_of p) (λ c. not (white p c)) (light_houses p) (is_lit p)
+IsLightCounting p = IsCounting (light_cells p) (λ c. not (white p c)) (light_houses p) (is_lit p)
 
 abbrev pub IsTentCounting : Tents → Type 0
 IsTentCounting p = IsCounting (tents.cells_of p) (is_bare p) (tent_houses p) (tents.is_camp p)
@@ -26,7 +26,7 @@ pub record RuledTents : Type 0 where
 
 -- their count houses
 abbrev pub light_table : Light → Table
-light_table p = record { cells = cells_of p; houses = light_houses p }
+light_table p = record { cells = light_cells p; houses = light_houses p }
 
 abbrev pub tent_table : Tents → Table
 tent_table p = record { cells = tents.cells_of p; houses = tent_houses p }

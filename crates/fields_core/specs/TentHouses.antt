@@ -5,7 +5,7 @@ use Rattle.grid_core.specs.Regions.{beside, row_places, column_places}
 use Rattle.engine_core.specs.Puzzle.{Puzzle}
 use Rattle.gameid_core.specs.Puzzles.{Tents}
 use Rattle.fields_core.specs.CountHouse.{House, houses_below, count_puzzle}
-use Rattle.fields_core.specs.Tents.{cells_of, tree, is_camp}
+use Rattle.fields_core.specs.Tents.{tent_cells, tree, is_camp}
 
 -- a column, and a row, has its number of tents
 abbrev pub column_of_tents : Tents → ℕ → List House
@@ -34,8 +34,8 @@ unfoldable pub tent_houses : Tents → List House
 tent_houses p =
     houses_below (column_of_tents p) p.size.w
     ++ (houses_below (row_of_tents p) p.size.h
-    ++ (houses_below (tree_house p) (cells_of p)
-    ++ houses_below (square_house p) (cells_of p)))
+    ++ (houses_below (tree_house p) (tent_cells p)
+    ++ houses_below (square_house p) (tent_cells p)))
 
 -- a tree, and a cell with no tree beside it, has no tent
 unfoldable pub is_bare : Tents → ℕ → Bool
@@ -43,4 +43,4 @@ is_bare p c = tree p c || not (list_any (tree p) (beside p.size c))
 
 -- what the rules of Tents mean to a search
 abbrev pub tent_rules : Tents → Puzzle
-tent_rules p = count_puzzle (cells_of p) (is_bare p) (tent_houses p) (is_camp p)
+tent_rules p = count_puzzle (tent_cells p) (is_bare p) (tent_houses p) (is_camp p)

@@ -2,14 +2,14 @@
 use Rattle.std.proofs.Common.{arith}
 use Rattle.engine_core.specs.Puzzle.{IsLawful, Needs, FitsIn}
 use Rattle.fields_core.specs.CountLaws.{count-lawful}
-use Rattle.fields_core.specs.Tents.{cells_of, is_camp}
+use Rattle.fields_core.specs.Tents.{tent_cells, is_camp}
 use Rattle.fields_core.specs.TentHouses.{tent_houses, is_bare, tent_rules}
 use Rattle.fields_core.specs.Ruled.{RuledTents}
 use Rattle.fields_core.specs.TentScratches.{ServesTents}
 use Rattle.fields_core.specs.declared.tent_rules.TentScratch.{TentScratch}
 
 pub tent-lawful : (r : RuledTents) → IsLawful (tent_rules r.tents)
-tent-lawful r = count-lawful (cells_of r.tents) (is_bare r.tents) (tent_houses r.tents) (is_camp r.tents) r.counting
+tent-lawful r = count-lawful (tent_cells r.tents) (is_bare r.tents) (tent_houses r.tents) (is_camp r.tents) r.counting
 
 -- room for the longest scope and for a pairing of the cells serves rules with as many cells whose scopes are no longer
 pub serves-smaller-tents : (scratch : TentScratch) (need had : Needs) → FitsIn need had → ServesTents scratch had → ServesTents scratch need

@@ -9,8 +9,8 @@ use Rattle.engine_core.specs.Puzzle.{has_place}
 use Rattle.engine_core.specs.Filling.{Set, some_filling}
 use Rattle.gameid_core.specs.Puzzles.{Tents}
 
-abbrev pub cells_of : Tents → ℕ
-cells_of p = p.size.w * p.size.h
+abbrev pub tent_cells : Tents → ℕ
+tent_cells p = p.size.w * p.size.h
 
 -- a tree stands on the cell
 abbrev pub tree : Tents → ℕ → Bool
@@ -40,7 +40,7 @@ unfoldable pub tree_right : Tents → List ℕ → ℕ → Bool
 tree_right p g c = not (tree p c) || (slice_index g c == 0)
 
 unfoldable pub touch_right : Tents → List ℕ → ℕ → Bool
-touch_right p g c = not (tent g c && any_below (λ d. touches p.size c d && tent g d) (cells_of p))
+touch_right p g c = not (tent g c && any_below (λ d. touches p.size c d && tent g d) (tent_cells p))
 
 unfoldable pub column_right : Tents → List ℕ → ℕ → Bool
 column_right p g x = tents_in_column p.size g x == slice_index p.counts x
@@ -55,22 +55,22 @@ names_none_twice (x ∷ xs) = not (has_place xs x) && names_none_twice xs
 
 -- each tree stands in the list
 abbrev pub leaves_none_out : Tents → List ℕ → Bool
-leaves_none_out p chosen = all_below (λ c. not (tree p c) || has_place chosen c) (cells_of p)
+leaves_none_out p chosen = all_below (λ c. not (tree p c) || has_place chosen c) (tent_cells p)
 
 -- the trees beside a cell, as whether each cell is one
 abbrev pub trees_beside : Tents → ℕ → Set
-trees_beside p c = map (λ d. tree p d && has_place (beside p.size c) d) (range_with_len 0 (cells_of p))
+trees_beside p c = map (λ d. tree p d && has_place (beside p.size c) d) (range_with_len 0 (tent_cells p))
 
 -- some list gives each tent a tree beside it, names no tree twice and leaves none out
 unfoldable pub can_be_paired : Tents → List ℕ → Bool
 can_be_paired p g =
-    some_filling (map (trees_beside p) (filter (tent g) (range_with_len 0 (cells_of p))))
+    some_filling (map (trees_beside p) (filter (tent g) (range_with_len 0 (tent_cells p))))
     (λ chosen. names_none_twice chosen && leaves_none_out p chosen)
 
 unfoldable pub is_camp : Tents → List ℕ → Bool
 is_camp p g =
-    all_below (tree_right p g) (cells_of p)
-    && (all_below (touch_right p g) (cells_of p)
+    all_below (tree_right p g) (tent_cells p)
+    && (all_below (touch_right p g) (tent_cells p)
     && (all_below (column_right p g) p.size.w
     && (all_below (row_right p g) p.size.h
     && can_be_paired p g)))

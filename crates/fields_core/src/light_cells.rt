@@ -3,14 +3,14 @@
 ghost use Rattle.std.specs.Prelude.{◌≡◌, ◌+◌, ◌*◌, ◌<◌, ◌/◌, ◌%◌, min, max, slice_index};
 ghost use Rattle.grid_core.specs.Regions.{row_places, column_places};
 ghost use Rattle.gameid_core.specs.Puzzles.{IsLight};
-ghost use Rattle.fields_core.specs.Light.{cells_of, white, clear, joined_in_row, joined_in_column};
+ghost use Rattle.fields_core.specs.Light.{light_cells, white, clear, joined_in_row, joined_in_column};
 
 use gameid_core::{LightCell, LightPuzzle};
 use grid_core::{column_place, row_place};
 
 /// Whether the cell is white.
 pub fn is_white(puzzle: &LightPuzzle, place: usize) -> bool
-    requires { place < cells_of puzzle.now }
+    requires { place < light_cells puzzle.now }
     ensures { result ≡ white puzzle.now place }
 {
     let _size = puzzle.size();
@@ -38,17 +38,17 @@ pub(crate) fn rows(puzzle: &LightPuzzle) -> usize
 
 /// The number of cells.
 pub(crate) fn cells(puzzle: &LightPuzzle) -> usize
-    ensures { result ≡ cells_of puzzle.now }
+    ensures { result ≡ light_cells puzzle.now }
 {
     puzzle.size().cells()
 }
 
 /// The cell in column `x` of the row that the place is in.
 pub(crate) fn row_cell(puzzle: &LightPuzzle, place: usize, x: usize) -> usize
-    requires place_in { place < cells_of puzzle.now }
+    requires place_in { place < light_cells puzzle.now }
     requires x_in { x < puzzle.now.size.w }
     ensures place { result ≡ slice_index (row_places puzzle.now.size (place / puzzle.now.size.w)) x }
-    ensures within { result < cells_of puzzle.now }
+    ensures within { result < light_cells puzzle.now }
 {
     let w = columns(puzzle);
     row_place(puzzle.size(), place / w, x)
@@ -56,10 +56,10 @@ pub(crate) fn row_cell(puzzle: &LightPuzzle, place: usize, x: usize) -> usize
 
 /// The cell in row `y` of the column that the place is in.
 pub(crate) fn column_cell(puzzle: &LightPuzzle, place: usize, y: usize) -> usize
-    requires place_in { place < cells_of puzzle.now }
+    requires place_in { place < light_cells puzzle.now }
     requires y_in { y < puzzle.now.size.h }
     ensures place { result ≡ slice_index (column_places puzzle.now.size (place % puzzle.now.size.w)) y }
-    ensures within { result < cells_of puzzle.now }
+    ensures within { result < light_cells puzzle.now }
 {
     let w = columns(puzzle);
     column_place(puzzle.size(), place % w, y)
@@ -113,8 +113,8 @@ fn is_column_clear(puzzle: &LightPuzzle, x: usize, from: usize, to: usize) -> bo
 
 /// Whether two cells lie in one row and are white, and each cell between them too.
 pub(crate) fn are_joined_in_row(puzzle: &LightPuzzle, a: usize, b: usize) -> bool
-    requires a_in { a < cells_of puzzle.now }
-    requires b_in { b < cells_of puzzle.now }
+    requires a_in { a < light_cells puzzle.now }
+    requires b_in { b < light_cells puzzle.now }
     ensures { result ≡ joined_in_row puzzle.now a b }
 {
     let w = usize::from(puzzle.size().w());
@@ -126,8 +126,8 @@ pub(crate) fn are_joined_in_row(puzzle: &LightPuzzle, a: usize, b: usize) -> boo
 
 /// Whether two cells lie in one column and are white, and each cell between them too.
 pub(crate) fn are_joined_in_column(puzzle: &LightPuzzle, a: usize, b: usize) -> bool
-    requires a_in { a < cells_of puzzle.now }
-    requires b_in { b < cells_of puzzle.now }
+    requires a_in { a < light_cells puzzle.now }
+    requires b_in { b < light_cells puzzle.now }
     ensures { result ≡ joined_in_column puzzle.now a b }
 {
     let w = usize::from(puzzle.size().w());

@@ -3,7 +3,7 @@
 ghost use Rattle.std.specs.Prelude.{◌≡◌, ◌<◌, ◌↔◌, None};
 ghost use Rattle.grid_core.specs.Grids.{IsGrid};
 ghost use Rattle.fields_core.specs.Firsts.{IsFirstWrong};
-ghost use Rattle.fields_core.specs.Light.{cells_of, black_right, number_right, bulb_right, lit_right};
+ghost use Rattle.fields_core.specs.Light.{light_cells, black_right, number_right, bulb_right, lit_right};
 ghost use Rattle.fields_core.specs.LightFaults.{IsLightFault};
 ghost use Rattle.fields_core.specs.LightSolutions.{IsLightSolution};
 
@@ -15,8 +15,8 @@ use grid_core::Grid;
 
 /// Whether no bulb stands on the cell if it is black.
 fn is_black_right(puzzle: &LightPuzzle, grid: &Grid, place: usize) -> bool
-    requires fits { IsGrid (cells_of puzzle.now) 2 grid.now }
-    requires place_in { place < cells_of puzzle.now }
+    requires fits { IsGrid (light_cells puzzle.now) 2 grid.now }
+    requires place_in { place < light_cells puzzle.now }
     ensures { result ≡ black_right puzzle.now grid.now place }
 {
     if is_white(puzzle, place) {
@@ -27,8 +27,8 @@ fn is_black_right(puzzle: &LightPuzzle, grid: &Grid, place: usize) -> bool
 
 /// Whether the cell's number, if it has one, is that of the bulbs beside it.
 fn is_number_right(puzzle: &LightPuzzle, grid: &Grid, place: usize) -> bool
-    requires fits { IsGrid (cells_of puzzle.now) 2 grid.now }
-    requires place_in { place < cells_of puzzle.now }
+    requires fits { IsGrid (light_cells puzzle.now) 2 grid.now }
+    requires place_in { place < light_cells puzzle.now }
     ensures { result ≡ number_right puzzle.now grid.now place }
 {
     let _size = puzzle.size();
@@ -41,8 +41,8 @@ fn is_number_right(puzzle: &LightPuzzle, grid: &Grid, place: usize) -> bool
 
 /// Whether the cell's bulb, if it has one, sees no other.
 fn is_bulb_right(puzzle: &LightPuzzle, grid: &Grid, place: usize) -> bool
-    requires fits { IsGrid (cells_of puzzle.now) 2 grid.now }
-    requires place_in { place < cells_of puzzle.now }
+    requires fits { IsGrid (light_cells puzzle.now) 2 grid.now }
+    requires place_in { place < light_cells puzzle.now }
     ensures { result ≡ bulb_right puzzle.now grid.now place }
 {
     if grid.get(place) != 1 {
@@ -53,8 +53,8 @@ fn is_bulb_right(puzzle: &LightPuzzle, grid: &Grid, place: usize) -> bool
 
 /// Whether the cell, if it is white, holds a bulb or sees one.
 fn is_lit_right(puzzle: &LightPuzzle, grid: &Grid, place: usize) -> bool
-    requires fits { IsGrid (cells_of puzzle.now) 2 grid.now }
-    requires place_in { place < cells_of puzzle.now }
+    requires fits { IsGrid (light_cells puzzle.now) 2 grid.now }
+    requires place_in { place < light_cells puzzle.now }
     ensures { result ≡ lit_right puzzle.now grid.now place }
 {
     if !is_white(puzzle, place) {
@@ -68,8 +68,8 @@ fn is_lit_right(puzzle: &LightPuzzle, grid: &Grid, place: usize) -> bool
 
 /// The first black cell with a bulb.
 fn first_black(puzzle: &LightPuzzle, grid: &Grid) -> Option<usize>
-    requires { IsGrid (cells_of puzzle.now) 2 grid.now }
-    ensures { IsFirstWrong (black_right puzzle.now grid.now) (cells_of puzzle.now) result }
+    requires { IsGrid (light_cells puzzle.now) 2 grid.now }
+    ensures { IsFirstWrong (black_right puzzle.now grid.now) (light_cells puzzle.now) result }
 {
     for place in 0..cells(puzzle) {
         if !is_black_right(puzzle, grid, place) {
@@ -81,8 +81,8 @@ fn first_black(puzzle: &LightPuzzle, grid: &Grid) -> Option<usize>
 
 /// The first cell with a wrong number.
 fn first_number(puzzle: &LightPuzzle, grid: &Grid) -> Option<usize>
-    requires { IsGrid (cells_of puzzle.now) 2 grid.now }
-    ensures { IsFirstWrong (number_right puzzle.now grid.now) (cells_of puzzle.now) result }
+    requires { IsGrid (light_cells puzzle.now) 2 grid.now }
+    ensures { IsFirstWrong (number_right puzzle.now grid.now) (light_cells puzzle.now) result }
 {
     for place in 0..cells(puzzle) {
         if !is_number_right(puzzle, grid, place) {
@@ -94,8 +94,8 @@ fn first_number(puzzle: &LightPuzzle, grid: &Grid) -> Option<usize>
 
 /// The first bulb that sees another.
 fn first_seen(puzzle: &LightPuzzle, grid: &Grid) -> Option<usize>
-    requires { IsGrid (cells_of puzzle.now) 2 grid.now }
-    ensures { IsFirstWrong (bulb_right puzzle.now grid.now) (cells_of puzzle.now) result }
+    requires { IsGrid (light_cells puzzle.now) 2 grid.now }
+    ensures { IsFirstWrong (bulb_right puzzle.now grid.now) (light_cells puzzle.now) result }
 {
     for place in 0..cells(puzzle) {
         if !is_bulb_right(puzzle, grid, place) {
@@ -107,8 +107,8 @@ fn first_seen(puzzle: &LightPuzzle, grid: &Grid) -> Option<usize>
 
 /// The first white cell that neither holds a bulb nor sees one.
 fn first_dark(puzzle: &LightPuzzle, grid: &Grid) -> Option<usize>
-    requires { IsGrid (cells_of puzzle.now) 2 grid.now }
-    ensures { IsFirstWrong (lit_right puzzle.now grid.now) (cells_of puzzle.now) result }
+    requires { IsGrid (light_cells puzzle.now) 2 grid.now }
+    ensures { IsFirstWrong (lit_right puzzle.now grid.now) (light_cells puzzle.now) result }
 {
     for place in 0..cells(puzzle) {
         if !is_lit_right(puzzle, grid, place) {
@@ -124,7 +124,7 @@ fn first_dark(puzzle: &LightPuzzle, grid: &Grid) -> Option<usize>
 /// and each number is that of the bulbs beside its cell (the rules of Light Up in the manual of Simon Tatham's
 /// Portable Puzzle Collection).
 pub fn check_lights(puzzle: &LightPuzzle, grid: &Grid) -> Option<LightFault>
-    requires fits { IsGrid (cells_of puzzle.now) 2 grid.now }
+    requires fits { IsGrid (light_cells puzzle.now) 2 grid.now }
     ensures fault { IsLightFault puzzle.now grid.now result }
     ensures solution { (result ≡ None) ↔ IsLightSolution puzzle.now grid.now }
 {

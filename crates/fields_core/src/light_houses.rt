@@ -3,7 +3,7 @@
 ghost use Rattle.std.specs.Prelude.{◌≡◌, ◌<◌, ◌++◌, IfOk, OnOk, ◌==◌, filter};
 ghost use Rattle.grid_core.specs.Regions.{beside as beside_places};
 ghost use Rattle.fields_core.specs.CountHouse.{houses_below};
-ghost use Rattle.fields_core.specs.Light.{cells_of, white};
+ghost use Rattle.fields_core.specs.Light.{light_cells, white};
 ghost use Rattle.fields_core.specs.LightHouses.{row_run, column_run, seen_from, begins_row_run, begins_column_run, number_house, row_house, column_house, lit_house, light_houses};
 
 use crate::count_house::CountHouse;
@@ -16,7 +16,7 @@ use std::alloc::{AllocError, Global};
 
 /// The run of white cells of the row that the cell is in, from the left.
 fn run_in_row(alloc: Global, puzzle: &LightPuzzle, place: usize) -> Result<Vec<usize>, AllocError>
-    requires { place < cells_of puzzle.now }
+    requires { place < light_cells puzzle.now }
     ensures { IfOk result (λ run. run.items ≡ row_run puzzle.now place) }
 {
     let mut run = Vec::new(alloc);
@@ -36,7 +36,7 @@ fn run_in_column(
     puzzle: &LightPuzzle,
     place: usize,
 ) -> Result<Vec<usize>, AllocError>
-    requires { place < cells_of puzzle.now }
+    requires { place < light_cells puzzle.now }
     ensures { IfOk result (λ run. run.items ≡ column_run puzzle.now place) }
 {
     let mut run = Vec::new(alloc);
@@ -52,7 +52,7 @@ fn run_in_column(
 
 /// The white cells beside the cell.
 fn white_beside(alloc: Global, puzzle: &LightPuzzle, place: usize) -> Result<Vec<usize>, AllocError>
-    requires { place < cells_of puzzle.now }
+    requires { place < light_cells puzzle.now }
     ensures { IfOk result (λ places. places.items ≡ filter (white puzzle.now) (beside_places puzzle.now.size place)) }
 {
     let size = puzzle.size();
@@ -72,7 +72,7 @@ fn white_beside(alloc: Global, puzzle: &LightPuzzle, place: usize) -> Result<Vec
 
 /// The cell and the cells that it sees: those of its row, and then the others of its column.
 fn seen(alloc: Global, puzzle: &LightPuzzle, place: usize) -> Result<Vec<usize>, AllocError>
-    requires { place < cells_of puzzle.now }
+    requires { place < light_cells puzzle.now }
     ensures { IfOk result (λ places. places.items ≡ seen_from puzzle.now place) }
 {
     let mut places = run_in_row(alloc, puzzle, place)?;
@@ -87,7 +87,7 @@ fn seen(alloc: Global, puzzle: &LightPuzzle, place: usize) -> Result<Vec<usize>,
 
 /// Whether a run of white cells of a row begins at the cell.
 fn begins_in_row(puzzle: &LightPuzzle, place: usize) -> bool
-    requires { place < cells_of puzzle.now }
+    requires { place < light_cells puzzle.now }
     ensures { result ≡ begins_row_run puzzle.now place }
 {
     let w = columns(puzzle);
@@ -102,7 +102,7 @@ fn begins_in_row(puzzle: &LightPuzzle, place: usize) -> bool
 
 /// Whether a run of white cells of a column begins at the cell.
 fn begins_in_column(puzzle: &LightPuzzle, place: usize) -> bool
-    requires { place < cells_of puzzle.now }
+    requires { place < light_cells puzzle.now }
     ensures { result ≡ begins_column_run puzzle.now place }
 {
     let w = columns(puzzle);
@@ -122,7 +122,7 @@ fn push_number(
     puzzle: &LightPuzzle,
     place: usize,
 ) -> Result<(), AllocError>
-    requires { place < cells_of puzzle.now }
+    requires { place < light_cells puzzle.now }
     ensures { OnOk result (houses.new.items ≡ houses.old.items ++ number_house puzzle.now place) }
 {
     let _size = puzzle.size();
@@ -144,7 +144,7 @@ fn push_row(
     puzzle: &LightPuzzle,
     place: usize,
 ) -> Result<(), AllocError>
-    requires { place < cells_of puzzle.now }
+    requires { place < light_cells puzzle.now }
     ensures { OnOk result (houses.new.items ≡ houses.old.items ++ row_house puzzle.now place) }
 {
     if !begins_in_row(puzzle, place) {
@@ -162,7 +162,7 @@ fn push_column(
     puzzle: &LightPuzzle,
     place: usize,
 ) -> Result<(), AllocError>
-    requires { place < cells_of puzzle.now }
+    requires { place < light_cells puzzle.now }
     ensures { OnOk result (houses.new.items ≡ houses.old.items ++ column_house puzzle.now place) }
 {
     if !begins_in_column(puzzle, place) {
@@ -180,7 +180,7 @@ fn push_lit(
     puzzle: &LightPuzzle,
     place: usize,
 ) -> Result<(), AllocError>
-    requires { place < cells_of puzzle.now }
+    requires { place < light_cells puzzle.now }
     ensures { OnOk result (houses.new.items ≡ houses.old.items ++ lit_house puzzle.now place) }
 {
     if !is_white(puzzle, place) {
@@ -198,7 +198,7 @@ fn push_numbers(
     houses: &mut Vec<CountHouse>,
     puzzle: &LightPuzzle,
 ) -> Result<(), AllocError>
-    ensures { OnOk result (houses.new.items ≡ houses.old.items ++ houses_below (number_house puzzle.now) (cells_of puzzle.now)) }
+    ensures { OnOk result (houses.new.items ≡ houses.old.items ++ houses_below (number_house puzzle.now) (light_cells puzzle.now)) }
 {
     for place in 0..cells(puzzle) {
         push_number(alloc, houses, puzzle, place)?;
@@ -212,7 +212,7 @@ fn push_rows(
     houses: &mut Vec<CountHouse>,
     puzzle: &LightPuzzle,
 ) -> Result<(), AllocError>
-    ensures { OnOk result (houses.new.items ≡ houses.old.items ++ houses_below (row_house puzzle.now) (cells_of puzzle.now)) }
+    ensures { OnOk result (houses.new.items ≡ houses.old.items ++ houses_below (row_house puzzle.now) (light_cells puzzle.now)) }
 {
     for place in 0..cells(puzzle) {
         push_row(alloc, houses, puzzle, place)?;
@@ -226,7 +226,7 @@ fn push_columns(
     houses: &mut Vec<CountHouse>,
     puzzle: &LightPuzzle,
 ) -> Result<(), AllocError>
-    ensures { OnOk result (houses.new.items ≡ houses.old.items ++ houses_below (column_house puzzle.now) (cells_of puzzle.now)) }
+    ensures { OnOk result (houses.new.items ≡ houses.old.items ++ houses_below (column_house puzzle.now) (light_cells puzzle.now)) }
 {
     for place in 0..cells(puzzle) {
         push_column(alloc, houses, puzzle, place)?;
@@ -240,7 +240,7 @@ fn push_lits(
     houses: &mut Vec<CountHouse>,
     puzzle: &LightPuzzle,
 ) -> Result<(), AllocError>
-    ensures { OnOk result (houses.new.items ≡ houses.old.items ++ houses_below (lit_house puzzle.now) (cells_of puzzle.now)) }
+    ensures { OnOk result (houses.new.items ≡ houses.old.items ++ houses_below (lit_house puzzle.now) (light_cells puzzle.now)) }
 {
     for place in 0..cells(puzzle) {
         push_lit(alloc, houses, puzzle, place)?;

@@ -4,7 +4,7 @@ ghost use Rattle.std.specs.Prelude.{◌≡◌, ◌≤◌, true, not, refl, lengt
 ghost use Rattle.engine_core.specs.declared.mode.Mode.TheVariants.{Sweep};
 ghost use Rattle.grid_core.specs.Board.{has, SameShape};
 ghost use Rattle.fields_core.specs.CountHouse.{start_of};
-ghost use Rattle.fields_core.specs.Light.{cells_of, white};
+ghost use Rattle.fields_core.specs.Light.{light_cells, white};
 ghost use Rattle.fields_core.specs.LightHouses.{light_rules};
 ghost use Rattle.fields_core.specs.Ruled.{IsLightCounting};
 
@@ -57,9 +57,9 @@ impl LightRules {
 
 /// Writes the board that a search starts from: a black cell has only 0, and all other sets are full.
 fn start_lights(puzzle: &LightPuzzle, board: &mut Board)
-    requires cells { length board.old.sets ≡ cells_of puzzle.now }
+    requires cells { length board.old.sets ≡ light_cells puzzle.now }
     requires values { board.old.values ≡ 2 }
-    ensures start { has board.new ≡ start_of (cells_of puzzle.now) (λ c. not (white puzzle.now c)) }
+    ensures start { has board.new ≡ start_of (light_cells puzzle.now) (λ c. not (white puzzle.now c)) }
     ensures shape { SameShape board.old board.new }
 {
     board.fill();

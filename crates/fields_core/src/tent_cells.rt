@@ -2,7 +2,7 @@
 
 ghost use Rattle.std.specs.Prelude.{◌≡◌, ◌+◌, ◌/◌, ◌%◌, ◌<◌, ◌^◌, slice_index};
 ghost use Rattle.grid_core.specs.Regions.{row_places, column_places};
-ghost use Rattle.fields_core.specs.Tents.{cells_of, tree};
+ghost use Rattle.fields_core.specs.Tents.{tent_cells, tree};
 
 use gameid_core::TentsPuzzle;
 use grid_core::{column_place, row_place};
@@ -23,14 +23,14 @@ pub(crate) fn rows(puzzle: &TentsPuzzle) -> usize
 
 /// The number of cells.
 pub(crate) fn cells(puzzle: &TentsPuzzle) -> usize
-    ensures { result ≡ cells_of puzzle.now }
+    ensures { result ≡ tent_cells puzzle.now }
 {
     puzzle.size().cells()
 }
 
 /// Whether a tree stands on the cell.
 pub(crate) fn is_tree(puzzle: &TentsPuzzle, place: usize) -> bool
-    requires { place < cells_of puzzle.now }
+    requires { place < tent_cells puzzle.now }
     ensures { result ≡ tree puzzle.now place }
 {
     let _size = puzzle.size();
@@ -60,7 +60,7 @@ pub(crate) fn column_cell(puzzle: &TentsPuzzle, x: usize, y: usize) -> usize
     requires x_in { x < puzzle.now.size.w }
     requires y_in { y < puzzle.now.size.h }
     ensures place { result ≡ slice_index (column_places puzzle.now.size x) y }
-    ensures within { result < cells_of puzzle.now }
+    ensures within { result < tent_cells puzzle.now }
 {
     column_place(puzzle.size(), x, y)
 }
@@ -70,14 +70,14 @@ pub(crate) fn row_cell(puzzle: &TentsPuzzle, y: usize, x: usize) -> usize
     requires y_in { y < puzzle.now.size.h }
     requires x_in { x < puzzle.now.size.w }
     ensures place { result ≡ slice_index (row_places puzzle.now.size y) x }
-    ensures within { result < cells_of puzzle.now }
+    ensures within { result < tent_cells puzzle.now }
 {
     row_place(puzzle.size(), y, x)
 }
 
 /// The row of a cell.
 pub(crate) fn row_of(puzzle: &TentsPuzzle, place: usize) -> usize
-    requires { place < cells_of puzzle.now }
+    requires { place < tent_cells puzzle.now }
     ensures row { result ≡ place / puzzle.now.size.w }
     ensures small { result < 2 ^ 32 }
 {
@@ -87,7 +87,7 @@ pub(crate) fn row_of(puzzle: &TentsPuzzle, place: usize) -> usize
 
 /// The column of a cell.
 pub(crate) fn column_of(puzzle: &TentsPuzzle, place: usize) -> usize
-    requires { place < cells_of puzzle.now }
+    requires { place < tent_cells puzzle.now }
     ensures column { result ≡ place % puzzle.now.size.w }
     ensures small { result < 2 ^ 32 }
 {

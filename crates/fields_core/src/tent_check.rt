@@ -5,7 +5,7 @@ ghost use Rattle.grid_core.specs.Grids.{IsGrid};
 ghost use Rattle.fields_core.specs.Firsts.{IsFirstWrong};
 ghost use Rattle.fields_core.specs.TentFaults.{IsTentFault};
 ghost use Rattle.fields_core.specs.TentSolutions.{IsTentSolution};
-ghost use Rattle.fields_core.specs.Tents.{cells_of, tents_in_column, tents_in_row, tree_right, touch_right, column_right, row_right};
+ghost use Rattle.fields_core.specs.Tents.{tent_cells, tents_in_column, tents_in_row, tree_right, touch_right, column_right, row_right};
 
 use crate::tent_cells::{
     cells, column_cell, column_number, columns, is_tree, row_cell, row_number, rows,
@@ -19,8 +19,8 @@ use std::alloc::{AllocError, Global};
 
 /// Whether no tent stands on the cell if it has a tree.
 fn is_tree_right(puzzle: &TentsPuzzle, grid: &Grid, place: usize) -> bool
-    requires fits { IsGrid (cells_of puzzle.now) 2 grid.now }
-    requires place_in { place < cells_of puzzle.now }
+    requires fits { IsGrid (tent_cells puzzle.now) 2 grid.now }
+    requires place_in { place < tent_cells puzzle.now }
     ensures { result ≡ tree_right puzzle.now grid.now place }
 {
     if !is_tree(puzzle, place) {
@@ -31,8 +31,8 @@ fn is_tree_right(puzzle: &TentsPuzzle, grid: &Grid, place: usize) -> bool
 
 /// Whether the cell's tent, if it has one, touches no other.
 fn is_touch_right(puzzle: &TentsPuzzle, grid: &Grid, place: usize) -> bool
-    requires fits { IsGrid (cells_of puzzle.now) 2 grid.now }
-    requires place_in { place < cells_of puzzle.now }
+    requires fits { IsGrid (tent_cells puzzle.now) 2 grid.now }
+    requires place_in { place < tent_cells puzzle.now }
     ensures { result ≡ touch_right puzzle.now grid.now place }
 {
     if grid.get(place) != 1 {
@@ -43,7 +43,7 @@ fn is_touch_right(puzzle: &TentsPuzzle, grid: &Grid, place: usize) -> bool
 
 /// How many tents stand in the column.
 fn count_column(puzzle: &TentsPuzzle, grid: &Grid, x: usize) -> usize
-    requires fits { IsGrid (cells_of puzzle.now) 2 grid.now }
+    requires fits { IsGrid (tent_cells puzzle.now) 2 grid.now }
     requires x_in { x < puzzle.now.size.w }
     ensures { result ≡ tents_in_column puzzle.now.size grid.now x }
 {
@@ -59,7 +59,7 @@ fn count_column(puzzle: &TentsPuzzle, grid: &Grid, x: usize) -> usize
 
 /// How many tents stand in the row.
 fn count_row(puzzle: &TentsPuzzle, grid: &Grid, y: usize) -> usize
-    requires fits { IsGrid (cells_of puzzle.now) 2 grid.now }
+    requires fits { IsGrid (tent_cells puzzle.now) 2 grid.now }
     requires y_in { y < puzzle.now.size.h }
     ensures { result ≡ tents_in_row puzzle.now.size grid.now y }
 {
@@ -75,7 +75,7 @@ fn count_row(puzzle: &TentsPuzzle, grid: &Grid, y: usize) -> usize
 
 /// Whether the column has its number of tents.
 fn is_column_right(puzzle: &TentsPuzzle, grid: &Grid, x: usize) -> bool
-    requires fits { IsGrid (cells_of puzzle.now) 2 grid.now }
+    requires fits { IsGrid (tent_cells puzzle.now) 2 grid.now }
     requires x_in { x < puzzle.now.size.w }
     ensures { result ≡ column_right puzzle.now grid.now x }
 {
@@ -84,7 +84,7 @@ fn is_column_right(puzzle: &TentsPuzzle, grid: &Grid, x: usize) -> bool
 
 /// Whether the row has its number of tents.
 fn is_row_right(puzzle: &TentsPuzzle, grid: &Grid, y: usize) -> bool
-    requires fits { IsGrid (cells_of puzzle.now) 2 grid.now }
+    requires fits { IsGrid (tent_cells puzzle.now) 2 grid.now }
     requires y_in { y < puzzle.now.size.h }
     ensures { result ≡ row_right puzzle.now grid.now y }
 {
@@ -93,8 +93,8 @@ fn is_row_right(puzzle: &TentsPuzzle, grid: &Grid, y: usize) -> bool
 
 /// The first tree with a tent on it.
 fn first_tree(puzzle: &TentsPuzzle, grid: &Grid) -> Option<usize>
-    requires { IsGrid (cells_of puzzle.now) 2 grid.now }
-    ensures { IsFirstWrong (tree_right puzzle.now grid.now) (cells_of puzzle.now) result }
+    requires { IsGrid (tent_cells puzzle.now) 2 grid.now }
+    ensures { IsFirstWrong (tree_right puzzle.now grid.now) (tent_cells puzzle.now) result }
 {
     for place in 0..cells(puzzle) {
         if !is_tree_right(puzzle, grid, place) {
@@ -106,8 +106,8 @@ fn first_tree(puzzle: &TentsPuzzle, grid: &Grid) -> Option<usize>
 
 /// The first tent that touches another.
 fn first_touch(puzzle: &TentsPuzzle, grid: &Grid) -> Option<usize>
-    requires { IsGrid (cells_of puzzle.now) 2 grid.now }
-    ensures { IsFirstWrong (touch_right puzzle.now grid.now) (cells_of puzzle.now) result }
+    requires { IsGrid (tent_cells puzzle.now) 2 grid.now }
+    ensures { IsFirstWrong (touch_right puzzle.now grid.now) (tent_cells puzzle.now) result }
 {
     for place in 0..cells(puzzle) {
         if !is_touch_right(puzzle, grid, place) {
@@ -119,7 +119,7 @@ fn first_touch(puzzle: &TentsPuzzle, grid: &Grid) -> Option<usize>
 
 /// The first column without its number of tents.
 fn first_column(puzzle: &TentsPuzzle, grid: &Grid) -> Option<usize>
-    requires { IsGrid (cells_of puzzle.now) 2 grid.now }
+    requires { IsGrid (tent_cells puzzle.now) 2 grid.now }
     ensures { IsFirstWrong (column_right puzzle.now grid.now) puzzle.now.size.w result }
 {
     for x in 0..columns(puzzle) {
@@ -132,7 +132,7 @@ fn first_column(puzzle: &TentsPuzzle, grid: &Grid) -> Option<usize>
 
 /// The first row without its number of tents.
 fn first_row(puzzle: &TentsPuzzle, grid: &Grid) -> Option<usize>
-    requires { IsGrid (cells_of puzzle.now) 2 grid.now }
+    requires { IsGrid (tent_cells puzzle.now) 2 grid.now }
     ensures { IsFirstWrong (row_right puzzle.now grid.now) puzzle.now.size.h result }
 {
     for y in 0..rows(puzzle) {
@@ -149,8 +149,8 @@ pub(crate) fn find_fault(
     grid: &Grid,
     pairing: &mut Pairing,
 ) -> Option<TentFault>
-    requires fits { IsGrid (cells_of puzzle.now) 2 grid.now }
-    requires room { cells_of puzzle.now ≤ pairing.old.room }
+    requires fits { IsGrid (tent_cells puzzle.now) 2 grid.now }
+    requires room { tent_cells puzzle.now ≤ pairing.old.room }
     ensures fault { IsTentFault puzzle.now grid.now result }
     ensures room { pairing.new.room ≡ pairing.old.room }
 {
@@ -186,7 +186,7 @@ pub fn check_tents(
     puzzle: &TentsPuzzle,
     grid: &Grid,
 ) -> Result<Option<TentFault>, AllocError>
-    requires fits { IsGrid (cells_of puzzle.now) 2 grid.now }
+    requires fits { IsGrid (tent_cells puzzle.now) 2 grid.now }
     ensures fault { IfOk result (λ fault. IsTentFault puzzle.now grid.now fault) }
     ensures solution { IfOk result (λ fault. (fault ≡ None) ↔ IsTentSolution puzzle.now grid.now) }
 {

@@ -3,7 +3,7 @@
 ghost use Rattle.std.specs.Prelude.{◌≡◌, ◌+◌, ◌<◌, ◌++◌, ◌∷◌, [], IfOk, OnOk};
 ghost use Rattle.grid_core.specs.Regions.{row_places, column_places};
 ghost use Rattle.fields_core.specs.CountHouse.{houses_below};
-ghost use Rattle.fields_core.specs.Tents.{cells_of};
+ghost use Rattle.fields_core.specs.Tents.{tent_cells};
 ghost use Rattle.fields_core.specs.TentHouses.{column_of_tents, row_of_tents, free_beside, tree_house, square_house, tent_houses};
 
 use crate::count_house::CountHouse;
@@ -45,7 +45,7 @@ fn treeless_beside(
     puzzle: &TentsPuzzle,
     place: usize,
 ) -> Result<Vec<usize>, AllocError>
-    requires { place < cells_of puzzle.now }
+    requires { place < tent_cells puzzle.now }
     ensures { IfOk result (λ places. places.items ≡ free_beside puzzle.now place) }
 {
     let size = puzzle.size();
@@ -102,7 +102,7 @@ fn push_tree(
     puzzle: &TentsPuzzle,
     place: usize,
 ) -> Result<(), AllocError>
-    requires { place < cells_of puzzle.now }
+    requires { place < tent_cells puzzle.now }
     ensures { OnOk result (houses.new.items ≡ houses.old.items ++ tree_house puzzle.now place) }
 {
     if !is_tree(puzzle, place) {
@@ -148,7 +148,7 @@ fn push_trees(
     houses: &mut Vec<CountHouse>,
     puzzle: &TentsPuzzle,
 ) -> Result<(), AllocError>
-    ensures { OnOk result (houses.new.items ≡ houses.old.items ++ houses_below (tree_house puzzle.now) (cells_of puzzle.now)) }
+    ensures { OnOk result (houses.new.items ≡ houses.old.items ++ houses_below (tree_house puzzle.now) (tent_cells puzzle.now)) }
 {
     for place in 0..cells(puzzle) {
         push_tree(alloc, houses, puzzle, place)?;
@@ -158,7 +158,7 @@ fn push_trees(
 
 /// The four cells of the square of 2 by 2 cells whose top left cell is the place.
 fn square(alloc: Global, puzzle: &TentsPuzzle, place: usize) -> Result<Vec<usize>, AllocError>
-    requires { place < cells_of puzzle.now }
+    requires { place < tent_cells puzzle.now }
     ensures { IfOk result (λ places. places.items ≡ place ∷ (place + 1) ∷ (place + puzzle.now.size.w) ∷ (place + puzzle.now.size.w + 1) ∷ []) }
 {
     let w = usize::from(puzzle.size().w());
@@ -178,7 +178,7 @@ fn push_square(
     puzzle: &TentsPuzzle,
     place: usize,
 ) -> Result<(), AllocError>
-    requires { place < cells_of puzzle.now }
+    requires { place < tent_cells puzzle.now }
     ensures { OnOk result (houses.new.items ≡ houses.old.items ++ square_house puzzle.now place) }
 {
     if column_of(puzzle, place) + 1 >= columns(puzzle) {
@@ -198,7 +198,7 @@ fn push_squares(
     houses: &mut Vec<CountHouse>,
     puzzle: &TentsPuzzle,
 ) -> Result<(), AllocError>
-    ensures { OnOk result (houses.new.items ≡ houses.old.items ++ houses_below (square_house puzzle.now) (cells_of puzzle.now)) }
+    ensures { OnOk result (houses.new.items ≡ houses.old.items ++ houses_below (square_house puzzle.now) (tent_cells puzzle.now)) }
 {
     for place in 0..cells(puzzle) {
         push_square(alloc, houses, puzzle, place)?;

@@ -4,7 +4,7 @@ ghost use Rattle.std.specs.Prelude.{◌≡◌, ◌<◌, ◌≤◌, ◌||◌, tru
 ghost use Rattle.grid_core.specs.Grids.{IsGrid};
 ghost use Rattle.grid_core.specs.Candidates.{all_below};
 ghost use Rattle.engine_core.specs.Puzzle.{IsNext};
-ghost use Rattle.fields_core.specs.Tents.{cells_of, tent, tree, tree_right, can_be_paired};
+ghost use Rattle.fields_core.specs.Tents.{tent_cells, tent, tree, tree_right, can_be_paired};
 ghost use Rattle.fields_core.specs.TentPairs.{suits, suits_beside, may_pair};
 
 use crate::tent_cells::{cells, is_tree};
@@ -17,13 +17,13 @@ use grid_core::{Edges, Grid, Paired, Pairing, step};
 struct TentEdges<'a> {
     puzzle: &'a TentsPuzzle,
     grid: &'a Grid,
-    ghost fits: { IsGrid (cells_of puzzle.now) 2 grid.now },
+    ghost fits: { IsGrid (tent_cells puzzle.now) 2 grid.now },
 }
 
 impl Edges for TentEdges<'_> {
-    ghost left_count = { λ e. cells_of e.puzzle.now };
+    ghost left_count = { λ e. tent_cells e.puzzle.now };
 
-    ghost right_count = { λ e. cells_of e.puzzle.now };
+    ghost right_count = { λ e. tent_cells e.puzzle.now };
 
     ghost joins = { λ e. may_pair e.puzzle.now e.grid.now };
 
@@ -48,8 +48,8 @@ impl Edges for TentEdges<'_> {
 
 /// Whether the cell has a tent or a tree.
 fn has_either(puzzle: &TentsPuzzle, grid: &Grid, place: usize) -> bool
-    requires fits { IsGrid (cells_of puzzle.now) 2 grid.now }
-    requires place_in { place < cells_of puzzle.now }
+    requires fits { IsGrid (tent_cells puzzle.now) 2 grid.now }
+    requires place_in { place < tent_cells puzzle.now }
     ensures { result ≡ (tent grid.now place || tree puzzle.now place) }
 {
     if grid.get(place) == 1 {
@@ -60,9 +60,9 @@ fn has_either(puzzle: &TentsPuzzle, grid: &Grid, place: usize) -> bool
 
 /// Whether the other cell has a tree, if the cell has a tent, and else whether it has a tent.
 fn is_suited(puzzle: &TentsPuzzle, grid: &Grid, place: usize, other: usize) -> bool
-    requires fits { IsGrid (cells_of puzzle.now) 2 grid.now }
-    requires place_in { place < cells_of puzzle.now }
-    requires other_in { other < cells_of puzzle.now }
+    requires fits { IsGrid (tent_cells puzzle.now) 2 grid.now }
+    requires place_in { place < tent_cells puzzle.now }
+    requires other_in { other < tent_cells puzzle.now }
     ensures { result ≡ suits puzzle.now grid.now place other }
 {
     if grid.get(place) == 1 {
@@ -74,9 +74,9 @@ fn is_suited(puzzle: &TentsPuzzle, grid: &Grid, place: usize, other: usize) -> b
 /// The least place at or after `from` of a cell beside the cell that suits it: a tree for a tent, and a tent for a
 /// tree.
 fn next_beside(puzzle: &TentsPuzzle, grid: &Grid, place: usize, from: usize) -> Option<usize>
-    requires fits { IsGrid (cells_of puzzle.now) 2 grid.now }
-    requires place_in { place < cells_of puzzle.now }
-    ensures { IsNext (suits_beside puzzle.now grid.now place) (cells_of puzzle.now) from result }
+    requires fits { IsGrid (tent_cells puzzle.now) 2 grid.now }
+    requires place_in { place < tent_cells puzzle.now }
+    ensures { IsNext (suits_beside puzzle.now grid.now place) (tent_cells puzzle.now) from result }
 {
     let size = puzzle.size();
     for direction in 0..4 {
@@ -97,9 +97,9 @@ fn next_beside(puzzle: &TentsPuzzle, grid: &Grid, place: usize, from: usize) -> 
 /// Whether the tents can be paired one to one with the trees so that each tent is beside its own tree. The pairing has
 /// room for all cells.
 pub(crate) fn are_paired(puzzle: &TentsPuzzle, grid: &Grid, pairing: &mut Pairing) -> bool
-    requires fits { IsGrid (cells_of puzzle.now) 2 grid.now }
-    requires room { cells_of puzzle.now ≤ pairing.old.room }
-    requires no_tent_on_a_tree { all_below (tree_right puzzle.now grid.now) (cells_of puzzle.now) ≡ true }
+    requires fits { IsGrid (tent_cells puzzle.now) 2 grid.now }
+    requires room { tent_cells puzzle.now ≤ pairing.old.room }
+    requires no_tent_on_a_tree { all_below (tree_right puzzle.now grid.now) (tent_cells puzzle.now) ≡ true }
     ensures paired { result ≡ can_be_paired puzzle.now grid.now }
     ensures room { pairing.new.room ≡ pairing.old.room }
 {

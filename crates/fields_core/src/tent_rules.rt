@@ -6,7 +6,7 @@ ghost use Rattle.grid_core.specs.Regions.{beside};
 ghost use Rattle.engine_core.specs.declared.mode.Mode.TheVariants.{Sweep};
 ghost use Rattle.grid_core.specs.Board.{has, SameShape};
 ghost use Rattle.fields_core.specs.CountHouse.{start_of};
-ghost use Rattle.fields_core.specs.Tents.{cells_of, tree};
+ghost use Rattle.fields_core.specs.Tents.{tent_cells, tree};
 ghost use Rattle.fields_core.specs.TentHouses.{is_bare, tent_rules};
 ghost use Rattle.fields_core.specs.TentScratches.{ServesTents};
 ghost use Rattle.fields_core.specs.Ruled.{IsTentCounting};
@@ -67,7 +67,7 @@ impl TentRules {
 
 /// Whether a tree is beside the cell.
 fn is_beside_a_tree(puzzle: &TentsPuzzle, place: usize) -> bool
-    requires { place < cells_of puzzle.now }
+    requires { place < tent_cells puzzle.now }
     ensures { result ≡ list_any (tree puzzle.now) (beside puzzle.now.size place) }
 {
     let size = puzzle.size();
@@ -85,7 +85,7 @@ fn is_beside_a_tree(puzzle: &TentsPuzzle, place: usize) -> bool
 
 /// Whether the cell can have no tent: it has a tree, or no tree beside it.
 fn is_barred(puzzle: &TentsPuzzle, place: usize) -> bool
-    requires { place < cells_of puzzle.now }
+    requires { place < tent_cells puzzle.now }
     ensures { result ≡ is_bare puzzle.now place }
 {
     if is_tree(puzzle, place) {
@@ -97,9 +97,9 @@ fn is_barred(puzzle: &TentsPuzzle, place: usize) -> bool
 /// Writes the board that a search starts from: a tree, and a cell with no tree beside it, has only 0, and all other
 /// sets are full.
 fn start_tents(puzzle: &TentsPuzzle, board: &mut Board)
-    requires cells { length board.old.sets ≡ cells_of puzzle.now }
+    requires cells { length board.old.sets ≡ tent_cells puzzle.now }
     requires values { board.old.values ≡ 2 }
-    ensures start { has board.new ≡ start_of (cells_of puzzle.now) (is_bare puzzle.now) }
+    ensures start { has board.new ≡ start_of (tent_cells puzzle.now) (is_bare puzzle.now) }
     ensures shape { SameShape board.old board.new }
 {
     board.fill();

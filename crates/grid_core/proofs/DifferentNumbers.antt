@@ -12,7 +12,7 @@ use Rattle.std.proofs.lemmas.Map.Keys.{IsDistinct-from_apart}
 use Rattle.std.proofs.lemmas.Map.Steps.{length-le_from_distinct_below}
 use Rattle.std.proofs.lemmas.List.Sums.{length-filter}
 use Rattle.grid_core.specs.Augmenting.{IsApart}
-use Rattle.grid_core.specs.ShortSetLaws.{contains_from_member, member_from_contains}
+use Rattle.grid_core.proofs.ShortSets.{contains_from_member, member_from_contains}
 use Rattle.std.proofs.lemmas.Grind.{common_steps}
 
 length_cut : (xs : List ℕ) (count : ℕ) → count ≤ length xs → length (take count xs) ≡ count

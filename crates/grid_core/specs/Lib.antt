@@ -6,4 +6,3 @@ pub mod Regions
 pub mod Pairings
 pub mod Augmenting
 pub mod SearchOutcome
-pub mod ShortSetLaws

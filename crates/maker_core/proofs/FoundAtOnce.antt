@@ -8,7 +8,7 @@ use Rattle.engine_core.specs.Closing.{closure, IsLargestClosed}
 use Rattle.engine_core.specs.Walk.{Mark, Mark.Found, walk, walk_closed}
 use Rattle.engine_core.specs.Verdict.{Outcome.OneGrid, outcome, Solves}
 use Rattle.engine_core.proofs.WalkLemmas.{walk_closed-solved}
-use Rattle.maker_core.specs.Made.{IsFound}
+use Rattle.maker_core.specs.Made.{TellsOne}
 
 -- each value that the board has is the grid's
 pub record IsGridAlone (p : Puzzle) (g : List ℕ) (E : Candidates) : Type 0 where
@@ -48,7 +48,7 @@ pub closed_start : (p : Puzzle) → IsKnown p → IsClosed p (closure p p.start)
 closed_start p known = (known.largest p.start known.laws.start_within).closed
 
 pub found_at_once : (p : Puzzle) (budget : ℕ) (g : List ℕ) → IsKnown p → Solves p g
-    → ((c v : ℕ) → c < p.cells → v < p.values → closure p p.start c v ≡ true → v ≡ slice_index g c) → IsFound p budget g
+    → ((c v : ℕ) → c < p.cells → v < p.values → closure p p.start c v ≡ true → v ≡ slice_index g c) → TellsOne p budget g
 found_at_once p budget g known s alone =
     let largest = known.largest p.start known.laws.start_within in
     let stays : IsInside (single g) (closure p p.start) = largest.largest (single g) (known.laws.solutions_closed g s.grid s.good) (known.laws.solutions_start g s.grid s.good) in

@@ -7,7 +7,7 @@ use Rattle.engine_core.specs.Puzzle.{Puzzle, IsLawful}
 use Rattle.engine_core.specs.Verdict.{Outcome.OneGrid, Solves, IsTrueOf}
 use Rattle.engine_core.proofs.ClosingLemmas.{closure_inside, closure_closed, closure_largest}
 use Rattle.engine_core.proofs.WalkLemmas.{walk-unfold}
-use Rattle.maker_core.specs.Made.{IsFound}
+use Rattle.maker_core.specs.Made.{TellsOne}
 use Rattle.maker_core.proofs.FoundAtOnce.{IsKnown, found_at_once}
 
 pub known : (p : Puzzle) → IsLawful p → IsKnown p
@@ -18,7 +18,7 @@ known p laws = record {
 }
 
 module _ (p : Puzzle) (laws : IsLawful p) (g : List ℕ) (solves : Solves p g) (inside : IsInside p.start (single g)) where
-  pub start_found : (budget : ℕ) → IsFound p budget g
+  pub start_found : (budget : ℕ) → TellsOne p budget g
   start_found budget =
       found_at_once p budget g (known p laws) solves (λ c v lc lv on. sym (single-is g c v (inside c v (closure_inside p p.start c v on))).1)
 

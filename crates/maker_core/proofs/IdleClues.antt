@@ -3,14 +3,14 @@ use Rattle.std.proofs.Common.{◌≡◌, ◌≢◌, ℕ, ◌<◌, false, true≢
 use Rattle.std.specs.Prelude.{is_some, All, Contains}
 use Rattle.std.proofs.lemmas.Bool.{cases_eq}
 use Rattle.std.proofs.lemmas.List.{get_or-map, length-map}
-use Rattle.maker_core.specs.Thinning.{Game, IsGame, has_clue, IsWithin, HasTwo, IsReason, AreReasons, LeavesNoIdleClue}
+use Rattle.maker_core.specs.Thinning.{Game, IsGame, has_clue, IsThinnedFrom, HasTwo, IsReason, AreReasons, LeavesNoIdleClue}
 use Rattle.maker_core.specs.declared.made.Kept.{Kept}
 use Rattle.maker_core.specs.declared.made.Why.TheVariants.{Needed}
 use Rattle.maker_core.proofs.ThinningLists.{passes_kept}
 use Rattle.maker_core.proofs.ThinningTurns.{some_of, two_in}
 
-lacking_within : {A : Type 0} (game : Game A) → IsGame game → (p q : A) (place n : ℕ) → IsWithin game q p → game.clue p place ≡ Some n → has_clue game q place ≡ false
-    → IsWithin game q (game.without p place)
+lacking_within : {A : Type 0} (game : Game A) → IsGame game → (p q : A) (place n : ℕ) → IsThinnedFrom game q p → game.clue p place ≡ Some n → has_clue game q place ≡ false
+    → IsThinnedFrom game q (game.without p place)
 lacking_within game laws p q place n w e lacks = record {
   frame = laws.same_through _ _ _ w.frame (laws.same_back _ _ (laws.without_frame p place n e));
   clues = λ other m had. by other m had (cases_eq other place);

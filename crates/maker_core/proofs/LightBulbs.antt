@@ -8,7 +8,7 @@ use Rattle.std.proofs.lemmas.List.Elements.{filter-append}
 use Rattle.std.proofs.lemmas.List.{length-replicate, get_or-replicate}
 use Rattle.grid_core.specs.Grids.{IsGrid}
 use Rattle.gameid_core.specs.Puzzles.{Light}
-use Rattle.fields_core.specs.Light.{cells_of, white, bulb, sees_bulb}
+use Rattle.fields_core.specs.Light.{light_cells, white, bulb, sees_bulb}
 use Rattle.maker_core.specs.LightFilling.{with_bulb, bulbs_after, white_places}
 use Rattle.maker_core.proofs.DrawSteps.{range_more}
 
@@ -27,7 +27,7 @@ pub white_more : (p : Light) (k : ℕ) (test : Bool) (xs ys : List ℕ) → xs �
 white_more p k test xs ys before is on now =
     now ∙ ap (λ zs. zs ++ k ∷ []) before ∙ ap (λ b. filter (white p) (range_with_len 0 k) ++ cond b (k ∷ []) []) (sym on ∙ is) ∙ sym (filter_more (white p) k)
 
-pub white_all : (p : Light) (k : ℕ) (xs : List ℕ) → xs ≡ filter (white p) (range_with_len 0 k) → k ≡ cells_of p → xs ≡ white_places p
+pub white_all : (p : Light) (k : ℕ) (xs : List ℕ) → xs ≡ filter (white p) (range_with_len 0 k) → k ≡ light_cells p → xs ≡ white_places p
 unfolding white_places
 white_all p k xs is all = is ∙ ap (λ n. filter (white p) (range_with_len 0 n)) all
 
@@ -38,22 +38,22 @@ set_value g c k d small lt = elim (cases_eq k c) [
   | inr ne ↦ rw (get_or-set_other g c k 1 d ne) (small k d lt)
 ]
 
-with_bulb-grid : (p : Light) (g : List ℕ) (c : ℕ) (b : Bool) → IsGrid (cells_of p) 2 g → IsGrid (cells_of p) 2 (cond b g (slice_set g c 1))
+with_bulb-grid : (p : Light) (g : List ℕ) (c : ℕ) (b : Bool) → IsGrid (light_cells p) 2 g → IsGrid (light_cells p) 2 (cond b g (slice_set g c 1))
 with_bulb-grid p g c true grid = grid
 with_bulb-grid p g c false grid = record {
   each_cell = length-set g c 1 ∙ grid.each_cell;
   each_value = λ k d lt. set_value g c k d grid.each_value (let l = length-set g c 1 in omega arith);
 }
 
-pub bulbs_after-grid : (p : Light) (order : List ℕ) (k : ℕ) → IsGrid (cells_of p) 2 (bulbs_after p order k)
+pub bulbs_after-grid : (p : Light) (order : List ℕ) (k : ℕ) → IsGrid (light_cells p) 2 (bulbs_after p order k)
 unfolding bulbs_after with_bulb
 bulbs_after-grid p order zero = record {
-  each_cell = length-replicate (cells_of p) 0;
-  each_value = λ k d lt. rw (get_or-replicate (cells_of p) k 0 d (let l = length-replicate {A = ℕ} (cells_of p) 0 in omega arith)) (omega arith);
+  each_cell = length-replicate (light_cells p) 0;
+  each_value = λ k d lt. rw (get_or-replicate (light_cells p) k 0 d (let l = length-replicate {A = ℕ} (light_cells p) 0 in omega arith)) (omega arith);
 }
 bulbs_after-grid p order (suc k) = with_bulb-grid p (bulbs_after p order k) (slice_index order k) _ (bulbs_after-grid p order k)
 
-pub bulbs_none : (p : Light) (order : List ℕ) → replicate (cells_of p) 0 ≡ bulbs_after p order 0
+pub bulbs_none : (p : Light) (order : List ℕ) → replicate (light_cells p) 0 ≡ bulbs_after p order 0
 unfolding bulbs_after
 bulbs_none p order = refl
 

@@ -11,7 +11,7 @@ use Rattle.gameid_core.specs.Puzzles.{Light}
 use Rattle.gameid_core.specs.declared.light_cell.LightCell.{LightCell}
 use Rattle.gameid_core.specs.declared.light_cell.LightCell.TheVariants.{White, Black, Numbered}
 use Rattle.grid_core.specs.Regions.{beside}
-use Rattle.fields_core.specs.Light.{cells_of, white, is_white, bulb, bulbs_beside}
+use Rattle.fields_core.specs.Light.{light_cells, white, is_white, bulb, bulbs_beside}
 use Rattle.fields_core.proofs.PlaceLists.{count-cons}
 use Rattle.fields_core.proofs.StepLaws.{steps-few}
 use Rattle.maker_core.specs.LightFilling.{lights_of, numbered_cell, with_numbers}
@@ -110,15 +110,15 @@ numbered_here size p q r g place bulbs n test w same within is off count cast re
     IsRewritten-more size (numbered_cell p g) (old_cell p) place q r (Numbered n) w within rewritten
     (ap Numbered (cast ∙ count ∙ ap (λ (s : Extent). count_by (bulb g) (beside s place)) (w.sized ∙ same)) ∙ ap (λ b. if b then White else Numbered (bulbs_beside p g place)) (sym here))
 
-pub numbers_start : (p : Light) (g : List ℕ) → length p.cells ≡ cells_of p → IsRewritten p.size (numbered_cell p g) (old_cell p) 0 p
+pub numbers_start : (p : Light) (g : List ℕ) → length p.cells ≡ light_cells p → IsRewritten p.size (numbered_cell p g) (old_cell p) 0 p
 numbers_start p g long = IsRewritten-none p.size (numbered_cell p g) (old_cell p) p refl long (λ k lt. refl)
 
-pub numbered_all : (p q : Light) (g : List ℕ) (place : ℕ) → IsRewritten p.size (numbered_cell p g) (old_cell p) place q → cells_of p ≤ place → q ≡ with_numbers p g
+pub numbered_all : (p q : Light) (g : List ℕ) (place : ℕ) → IsRewritten p.size (numbered_cell p g) (old_cell p) place q → light_cells p ≤ place → q ≡ with_numbers p g
 unfolding with_numbers
 numbered_all p q g place w all =
-    IsRewritten-all p.size (numbered_cell p g) (old_cell p) place q (map (numbered_cell p g) (range_with_len 0 (cells_of p))) w all
-    (length-map-range_with_len (numbered_cell p g) 0 (cells_of p))
-    (λ k lt. get_or-map-range_with_len (numbered_cell p g) 0 (cells_of p) k k Black lt (omega arith))
+    IsRewritten-all p.size (numbered_cell p g) (old_cell p) place q (map (numbered_cell p g) (range_with_len 0 (light_cells p))) w all
+    (length-map-range_with_len (numbered_cell p g) 0 (light_cells p))
+    (λ k lt. get_or-map-range_with_len (numbered_cell p g) 0 (light_cells p) k k Black lt (omega arith))
 
 count-few : (test : ℕ → Bool) (xs : List ℕ) → count_by test xs ≤ length xs
 count-few test [] = omega arith

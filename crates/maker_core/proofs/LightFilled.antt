@@ -9,7 +9,7 @@ use Rattle.rand_core.specs.Stream.{Stream}
 use Rattle.grid_core.specs.Extent.{Extent}
 use Rattle.gameid_core.specs.Puzzles.{Light}
 use Rattle.gameid_core.specs.declared.light_cell.LightCell.TheVariants.{White, Black, Numbered}
-use Rattle.fields_core.specs.Light.{cells_of, white, is_white, bulbs_beside, is_lit}
+use Rattle.fields_core.specs.Light.{light_cells, white, is_white, bulbs_beside, is_lit}
 use Rattle.fields_core.proofs.LightHouseLaws.{white-in}
 use Rattle.maker_core.specs.Draws.{AreAll, shuffled_list, black_cells}
 use Rattle.maker_core.specs.LightFilling.{lights_of, white_places, bulbs_after, numbered_cell, with_numbers, lit_up, Lighting, light_filling, light_puzzle_of}
@@ -27,7 +27,7 @@ mixed_order : (p : Light) (items new order : List ℕ) (s t : Stream) → IsShuf
 mixed_order p items new order s t w =
     subst (λ (xs : List ℕ). IsPermutation xs order) w.listed (subst (λ (ys : List ℕ). IsPermutation items ys) (sym w.lent) w.mixed)
 
-pub order_within : (p : Light) (items new order : List ℕ) (s t : Stream) → IsShuffled p items new order s t → length p.cells ≡ cells_of p → All (λ c. c < cells_of p) order
+pub order_within : (p : Light) (items new order : List ℕ) (s t : Stream) → IsShuffled p items new order s t → length p.cells ≡ light_cells p → All (λ c. c < light_cells p) order
 order_within p items new order s t w long k d lt =
     let on = order_white p order (mixed_order p items new order s t w) k lt in
     rw (get_or_default order k d 0 lt) (white-in p (slice_index order k) long on)
@@ -40,7 +40,7 @@ lit_up_is p items new order g s t w is =
     ∙ ap (λ (q : List ℕ × Stream). (bulbs_after p q.0 (length q.0), q.1)) w.drawn
     ∙ ap (λ xs. (bulbs_after p (shuffled_list xs s).0 (length (shuffled_list xs s).0), (shuffled_list xs s).1)) w.listed
 
-pub lit_up_solved : (p : Light) (items new order g : List ℕ) (s t : Stream) → IsShuffled p items new order s t → length p.cells ≡ cells_of p → g ≡ bulbs_after p order (length order)
+pub lit_up_solved : (p : Light) (items new order g : List ℕ) (s t : Stream) → IsShuffled p items new order s t → length p.cells ≡ light_cells p → g ≡ bulbs_after p order (length order)
     → is_lit (with_numbers p g) g ≡ true
 lit_up_solved p items new order g s t w long is = lit_solved p order g long (mixed_order p items new order s t w) is
 
@@ -62,7 +62,7 @@ pub puzzle_is : (size : Extent) (cells bulbs : List ℕ) (p q : Light) → p ≡
 unfolding light_puzzle_of
 puzzle_is size cells bulbs p q blacks numbers = numbers ∙ ap (λ r. with_numbers r bulbs) blacks
 
-pub cells_are : (size : Extent) (cells : List ℕ) → cells_of (lights_of size cells) ≡ size.w * size.h
+pub cells_are : (size : Extent) (cells : List ℕ) → light_cells (lights_of size cells) ≡ size.w * size.h
 unfolding lights_of
 cells_are size cells = refl
 
@@ -77,13 +77,13 @@ black_at size cells all c = elim (cases_lt c (length cells)) [
   | inr high ↦ ap is_white (get_or_past (map (λ v. if v == 1 then Black else White) cells) c Black (let l = length-map cells (λ v. if v == 1 then Black else White) in omega arith))
 ]
 
-black_long : (size : Extent) (cells : List ℕ) → length cells ≡ size.w * size.h → length (lights_of size cells).cells ≡ cells_of (lights_of size cells)
+black_long : (size : Extent) (cells : List ℕ) → length cells ≡ size.w * size.h → length (lights_of size cells).cells ≡ light_cells (lights_of size cells)
 unfolding lights_of
 black_long size cells long = length-map cells (λ v. if v == 1 then Black else White) ∙ long
 
-pub numbered_cells : (size : Extent) (cells bulbs : List ℕ) (p q : Light) → p ≡ lights_of size cells → q ≡ with_numbers p bulbs → cells_of p ≡ cells_of q
+pub numbered_cells : (size : Extent) (cells bulbs : List ℕ) (p q : Light) → p ≡ lights_of size cells → q ≡ with_numbers p bulbs → light_cells p ≡ light_cells q
 unfolding with_numbers
-numbered_cells size cells bulbs p q is numbers = sym (ap cells_of numbers)
+numbered_cells size cells bulbs p q is numbers = sym (ap light_cells numbers)
 
 pub none_white : (size : Extent) (cells bulbs : List ℕ) (p q : Light) → AreAll 1 cells → p ≡ lights_of size cells → q ≡ with_numbers p bulbs → length cells ≡ size.w * size.h
     → (c : ℕ) → white q c ≡ false
@@ -95,15 +95,15 @@ bulbs_same : (p : Light) (g : List ℕ) (c : ℕ) → bulbs_beside (with_numbers
 unfolding with_numbers
 bulbs_same p g c = refl
 
-again_at : (p : Light) (g : List ℕ) → length p.cells ≡ cells_of p → (c : ℕ) → numbered_cell p g c ≡ numbered_cell (with_numbers p g) g c
+again_at : (p : Light) (g : List ℕ) → length p.cells ≡ light_cells p → (c : ℕ) → numbered_cell p g c ≡ numbered_cell (with_numbers p g) g c
 unfolding numbered_cell
 again_at p g long c =
     ap (λ b. if b then White else Numbered (bulbs_beside p g c)) (sym (same_white p g long c))
     ∙ ap (λ n. if white (with_numbers p g) c then White else Numbered n) (sym (bulbs_same p g c))
 
-again : (p : Light) (g : List ℕ) → length p.cells ≡ cells_of p → with_numbers p g ≡ with_numbers (with_numbers p g) g
+again : (p : Light) (g : List ℕ) → length p.cells ≡ light_cells p → with_numbers p g ≡ with_numbers (with_numbers p g) g
 unfolding with_numbers
-again p g long = ap (λ (f : ℕ → LightCell). record { size = p.size; cells = map f (range_with_len 0 (cells_of p)) }) (λ i c. again_at p g long c i)
+again p g long = ap (λ (f : ℕ → LightCell). record { size = p.size; cells = map f (range_with_len 0 (light_cells p)) }) (λ i c. again_at p g long c i)
 
 pub numbers_again : (size : Extent) (cells bulbs : List ℕ) (p q : Light) → p ≡ lights_of size cells → q ≡ with_numbers p bulbs → length cells ≡ size.w * size.h → q ≡ with_numbers q bulbs
 numbers_again size cells bulbs p q is numbers long =

@@ -9,7 +9,7 @@ use Rattle.grid_core.specs.Grids.{IsGrid}
 use Rattle.grid_core.proofs.CandidateLemmas.{all_below-at}
 use Rattle.gameid_core.specs.Puzzles.{Light}
 use Rattle.fields_core.specs.CountHouse.{start_of}
-use Rattle.fields_core.specs.Light.{cells_of, white, black_right, is_lit}
+use Rattle.fields_core.specs.Light.{light_cells, white, black_right, is_lit}
 use Rattle.fields_core.specs.LightHouses.{light_rules}
 use Rattle.fields_core.specs.LightSolutions.{IsLightSolution}
 use Rattle.engine_core.specs.Puzzle.{IsGridOf}
@@ -20,31 +20,31 @@ use Rattle.maker_core.specs.Draws.{IsFirstPassing, filling_at, stream_after}
 use Rattle.maker_core.specs.LightClues.{light_game}
 use Rattle.maker_core.specs.LightFilling.{Lighting, lights_of, light_filling, light_passes, light_puzzle_of, with_numbers, numbered_cell}
 use Rattle.maker_core.specs.LightMaking.{IsLightMade}
-use Rattle.maker_core.specs.Made.{is_one, has_one, IsFound, IsOnlySolution}
-use Rattle.maker_core.specs.Thinning.{IsOnly, IsWithin, AreReasons, stream_after_clues}
+use Rattle.maker_core.specs.Made.{is_one, has_one, TellsOne, IsOnlySolution}
+use Rattle.maker_core.specs.Thinning.{IsOnly, IsThinnedFrom, AreReasons, stream_after_clues}
 use Rattle.maker_core.proofs.FoundAtOnce.{IsKnown, found_at_once}
 use Rattle.maker_core.proofs.Tries.{IsTrying, IsTrying-more, first_passing, taken_is, left_after}
 
 -- ---- black cells alone
-start_black : (p : Light) (c v : ℕ) → white p c ≡ false → v < 2 → start_of (cells_of p) (λ d. not (white p d)) c v ≡ true → v ≡ 0
+start_black : (p : Light) (c v : ℕ) → white p c ≡ false → v < 2 → start_of (light_cells p) (λ d. not (white p d)) c v ≡ true → v ≡ 0
 unfolding start_of
 start_black p c v off few on =
-    let parts = and_parts (all_of (cells_of p) 2 c v) _ on in
+    let parts = and_parts (all_of (light_cells p) 2 c v) _ on in
     elim (cases_eq v 1) [
       | inl one ↦ absurd (true≢false (sym parts.1 ∙ ap (λ b. not (not b && (v == 1))) off ∙ ap not (eq-eqb v 1 one)))
       | inr other ↦ omega arith
     ]
 
-no_bulb_on : (p : Light) (g : List ℕ) (c : ℕ) → is_lit p g ≡ true → c < cells_of p → white p c ≡ false → slice_index g c ≡ 0
+no_bulb_on : (p : Light) (g : List ℕ) (c : ℕ) → is_lit p g ≡ true → c < light_cells p → white p c ≡ false → slice_index g c ≡ 0
 unfolding black_right
 no_bulb_on p g c lit lt off =
     let parts = lit-parts p g lit in
-    elim (or_cases (white p c) (slice_index g c == 0) (all_below-at (black_right p g) (cells_of p) c parts.black lt)) [
+    elim (or_cases (white p c) (slice_index g c == 0) (all_below-at (black_right p g) (light_cells p) c parts.black lt)) [
       | inl on ↦ absurd (true≢false (sym on ∙ off))
       | inr none ↦ eqb-true _ _ none
     ]
 
-pub black_passes : (p : Light) (g : List ℕ) (budget : ℕ) → IsKnown (light_rules p) → IsGrid (cells_of p) 2 g → is_lit p g ≡ true → ((c : ℕ) → white p c ≡ false)
+pub black_passes : (p : Light) (g : List ℕ) (budget : ℕ) → IsKnown (light_rules p) → IsGrid (light_cells p) 2 g → is_lit p g ≡ true → ((c : ℕ) → white p c ≡ false)
     → has_one (light_rules p) budget ≡ true
 black_passes p g budget known grid lit black =
     ap is_one (found_at_once (light_rules p) budget g known (record { grid = grid; good = lit })
@@ -78,14 +78,14 @@ try_failed size black budget done s now t p answer passed w failed trying =
     IsTrying-more (light_filling size black) (light_passes size budget) s done now t w.filling trying w.drawn (verdict_is size black budget now t p answer passed false w failed)
 
 pub try_passed : (size : Extent) (black budget done tries : ℕ) (s now t : Stream) (p q : Light) (answer given : List ℕ) (passed : Bool) → IsTry size black budget now t p answer passed
-    → passed ≡ true → IsTrying (light_filling size black) (light_passes size budget) s done now → done < tries → IsWithin light_game q p → given ≡ answer
+    → passed ≡ true → IsTrying (light_filling size black) (light_passes size budget) s done now → done < tries → IsThinnedFrom light_game q p → given ≡ answer
     → (k : ℕ) × IsFirstPassing (light_filling size black) (light_passes size budget) s tries k
-    × IsWithin light_game q (light_puzzle_of size (filling_at (light_filling size black) k s)) × (given ≡ (filling_at (light_filling size black) k s).bulbs)
+    × IsThinnedFrom light_game q (light_puzzle_of size (filling_at (light_filling size black) k s)) × (given ≡ (filling_at (light_filling size black) k s).bulbs)
 try_passed size black budget done tries s now t p q answer given passed w is trying within inside same =
     let first = first_passing (light_filling size black) (light_passes size budget) s tries done now t w.filling trying w.drawn (verdict_is size black budget now t p answer passed true w is) within in (
       first.0,
       first.1,
-      subst (IsWithin light_game q) (w.puzzle ∙ ap (light_puzzle_of size) first.2) inside,
+      subst (IsThinnedFrom light_game q) (w.puzzle ∙ ap (light_puzzle_of size) first.2) inside,
       same ∙ w.bulbs ∙ ap (λ (f : Lighting). f.bulbs) first.2,
     )
 
@@ -117,8 +117,8 @@ reasons_are budget p answer given kept same reasons = subst (λ (g : List ℕ). 
 -- what is left of a filling's puzzle is what a maker gives
 pub made_lights : (size : Extent) (black budget tries : ℕ) (s : Stream) (p : Light) (g made : List ℕ) (kept : List Kept)
     → (k : ℕ) × IsFirstPassing (light_filling size black) (light_passes size budget) s tries k
-    × IsWithin light_game p (light_puzzle_of size (filling_at (light_filling size black) k s)) × (made ≡ (filling_at (light_filling size black) k s).bulbs)
-    → p.size ≡ size → IsOnlySolution (IsLightSolution p) made → made ≡ g → IsFound (light_rules p) budget g
+    × IsThinnedFrom light_game p (light_puzzle_of size (filling_at (light_filling size black) k s)) × (made ≡ (filling_at (light_filling size black) k s).bulbs)
+    → p.size ≡ size → IsOnlySolution (IsLightSolution p) made → made ≡ g → TellsOne (light_rules p) budget g
     → AreReasons light_game budget (light_game.all_clues p g) p kept → IsLightMade size black budget tries s p made kept
 made_lights size black budget tries s p g made kept taken sized only same found reasons = record {
   k = taken.0;
@@ -127,7 +127,7 @@ made_lights size black budget tries s p g made kept taken sized only same found 
   filled = taken.3;
   size_asked = sized;
   only = only;
-  verdict = subst (IsFound (light_rules p) budget) (sym same) found;
+  verdict = subst (TellsOne (light_rules p) budget) (sym same) found;
   reasons = reasons_are budget p g made kept same reasons;
 }
 

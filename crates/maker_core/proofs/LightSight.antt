@@ -8,25 +8,25 @@ use Rattle.std.proofs.lemmas.List.FromFn.{get_or-map-range_with_len, length-map-
 use Rattle.grid_core.proofs.CandidateLemmas.{any_below-here, any_below-some}
 use Rattle.gameid_core.specs.Puzzles.{Light}
 use Rattle.gameid_core.specs.declared.light_cell.LightCell.TheVariants.{White, Black, Numbered}
-use Rattle.fields_core.specs.Light.{cells_of, is_white, white, bulb, bulbs_beside, clear, joined_in_row, joined_in_column, sees, sees_bulb}
+use Rattle.fields_core.specs.Light.{light_cells, is_white, white, bulb, bulbs_beside, clear, joined_in_row, joined_in_column, sees, sees_bulb}
 use Rattle.fields_core.proofs.LightHouseLaws.{clear-from, row-both, row-self, column-both}
 use Rattle.maker_core.specs.LightFilling.{numbered_cell, with_numbers}
 
 -- ---- numbers change no colour
-pub number_at : (p : Light) (g : List ℕ) (c : ℕ) → c < cells_of p → get_or (with_numbers p g).cells c Black ≡ numbered_cell p g c
+pub number_at : (p : Light) (g : List ℕ) (c : ℕ) → c < light_cells p → get_or (with_numbers p g).cells c Black ≡ numbered_cell p g c
 unfolding with_numbers
-number_at p g c lt = get_or-map-range_with_len (numbered_cell p g) 0 (cells_of p) c c Black lt (omega arith)
+number_at p g c lt = get_or-map-range_with_len (numbered_cell p g) 0 (light_cells p) c c Black lt (omega arith)
 
 colour_of : (b : Bool) (n : ℕ) → is_white (if b then White else Numbered n) ≡ b
 colour_of true n = refl
 colour_of false n = refl
 
-pub same_white : (p : Light) (g : List ℕ) → length p.cells ≡ cells_of p → (c : ℕ) → white (with_numbers p g) c ≡ white p c
+pub same_white : (p : Light) (g : List ℕ) → length p.cells ≡ light_cells p → (c : ℕ) → white (with_numbers p g) c ≡ white p c
 unfolding white numbered_cell with_numbers
-same_white p g long c = elim (cases_lt c (cells_of p)) [
+same_white p g long c = elim (cases_lt c (light_cells p)) [
   | inl low ↦ ap is_white (number_at p g c low) ∙ colour_of (white p c) (bulbs_beside p g c)
   | inr high ↦
-      ap is_white (get_or_past (map (numbered_cell p g) (range_with_len 0 (cells_of p))) c Black (let l = length-map-range_with_len (numbered_cell p g) 0 (cells_of p) in omega arith))
+      ap is_white (get_or_past (map (numbered_cell p g) (range_with_len 0 (light_cells p))) c Black (let l = length-map-range_with_len (numbered_cell p g) 0 (light_cells p) in omega arith))
       ∙ sym (ap is_white (get_or_past p.cells c Black (omega arith)))
 ]
 
@@ -34,7 +34,7 @@ same_white p g long c = elim (cases_lt c (cells_of p)) [
 clear_same : (f g : ℕ → Bool) (j k : ℕ) → ((i : ℕ) → f i ≡ g i) → clear f j k ≡ clear g j k
 clear_same f g j k same = ap (λ (h : ℕ → Bool). clear h j k) (λ i x. same x i)
 
-pub same_sees : (p : Light) (g : List ℕ) → length p.cells ≡ cells_of p → (a b : ℕ) → sees (with_numbers p g) a b ≡ sees p a b
+pub same_sees : (p : Light) (g : List ℕ) → length p.cells ≡ light_cells p → (a b : ℕ) → sees (with_numbers p g) a b ≡ sees p a b
 unfolding sees joined_in_row joined_in_column with_numbers
 same_sees p g long a b =
     let row : joined_in_row (with_numbers p g) a b ≡ joined_in_row p a b =
@@ -72,13 +72,13 @@ unfolding sees
 sees_itself p a = ap (λ t. not t && (joined_in_row p a a || joined_in_column p a a)) (eq-eqb a a refl)
 
 -- a bulb that is seen
-pub seen_bulb : (p : Light) (g : List ℕ) (c : ℕ) → sees_bulb p g c ≡ true → (d : ℕ) × (d < cells_of p) × (sees p c d ≡ true) × (bulb g d ≡ true)
+pub seen_bulb : (p : Light) (g : List ℕ) (c : ℕ) → sees_bulb p g c ≡ true → (d : ℕ) × (d < light_cells p) × (sees p c d ≡ true) × (bulb g d ≡ true)
 unfolding sees_bulb
 seen_bulb p g c on =
-    let w = any_below-some (λ d. sees p c d && bulb g d) (cells_of p) on in
+    let w = any_below-some (λ d. sees p c d && bulb g d) (light_cells p) on in
     let parts = and_parts (sees p c w.0) _ w.2 in
     (w.0, w.1, parts.0, parts.1)
 
-pub bulb_seen : (p : Light) (g : List ℕ) (c d : ℕ) → d < cells_of p → sees p c d ≡ true → bulb g d ≡ true → sees_bulb p g c ≡ true
+pub bulb_seen : (p : Light) (g : List ℕ) (c d : ℕ) → d < light_cells p → sees p c d ≡ true → bulb g d ≡ true → sees_bulb p g c ≡ true
 unfolding sees_bulb
-bulb_seen p g c d lt sight on = any_below-here (λ d. sees p c d && bulb g d) (cells_of p) d lt (and_from _ _ sight on)
+bulb_seen p g c d lt sight on = any_below-here (λ d. sees p c d && bulb g d) (light_cells p) d lt (and_from _ _ sight on)

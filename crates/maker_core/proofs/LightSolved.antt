@@ -13,7 +13,7 @@ use Rattle.grid_core.specs.Grids.{IsGrid}
 use Rattle.gameid_core.specs.Puzzles.{Light}
 use Rattle.gameid_core.specs.declared.light_cell.LightCell.{LightCell}
 use Rattle.gameid_core.specs.declared.light_cell.LightCell.TheVariants.{White, Black, Numbered}
-use Rattle.fields_core.specs.Light.{cells_of, white, bulb, bulbs_beside, number_is, sees, sees_bulb, black_right, number_right, bulb_right, lit_right, is_lit}
+use Rattle.fields_core.specs.Light.{light_cells, white, bulb, bulbs_beside, number_is, sees, sees_bulb, black_right, number_right, bulb_right, lit_right, is_lit}
 use Rattle.fields_core.proofs.LightFaultLemmas.{lit-from}
 use Rattle.fields_core.proofs.LightHouseLaws.{white-in}
 use Rattle.fields_core.proofs.LightSight.{bulb-in}
@@ -38,10 +38,10 @@ no_bulb n c on =
     ] in
     absurd (omega arith)
 
-planted_none : (p : Light) (order : List ℕ) → IsPlanted p order (replicate (cells_of p) 0) 0
+planted_none : (p : Light) (order : List ℕ) → IsPlanted p order (replicate (light_cells p) 0) 0
 planted_none p order = record {
-  on_white = λ c on. absurd (no_bulb (cells_of p) c on);
-  apart = λ c d on _. absurd (no_bulb (cells_of p) c on);
+  on_white = λ c on. absurd (no_bulb (light_cells p) c on);
+  apart = λ c d on _. absurd (no_bulb (light_cells p) c on);
   lit = λ j lt. absurd (omega arith);
 }
 
@@ -76,7 +76,7 @@ lit_stays p g c d lt on = elim (or_cases (bulb g d) (sees_bulb p g d) on) [
       or_right _ _ (bulb_seen p (slice_set g c 1) d w.0 w.1 w.2 (old_stays g c w.0 lt w.3))
 ]
 
-planted_new : (p : Light) (order g : List ℕ) (k c : ℕ) → length g ≡ cells_of p → IsPlanted p order g k → c ≡ slice_index order k → white p c ≡ true → c < cells_of p
+planted_new : (p : Light) (order g : List ℕ) (k c : ℕ) → length g ≡ light_cells p → IsPlanted p order g k → c ≡ slice_index order k → white p c ≡ true → c < light_cells p
     → (bulb g c || sees_bulb p g c) ≡ false → IsPlanted p order (slice_set g c 1) (suc k)
 planted_new p order g k c long w at on within none = record {
   on_white = λ d here. elim (new_or_old g c d here) [
@@ -102,9 +102,9 @@ planted_new p order g k c long w at on within none = record {
 }
   where
     unseen : (d : ℕ) → bulb g d ≡ true → sees p c d ≡ false
-    unseen d old = false_from_ne_true _ (λ seen. true≢false (sym (or_right (bulb g c) _ (bulb_seen p g c d (bulb-in g (cells_of p) d long old) seen old)) ∙ none))
+    unseen d old = false_from_ne_true _ (λ seen. true≢false (sym (or_right (bulb g c) _ (bulb_seen p g c d (bulb-in g (light_cells p) d long old) seen old)) ∙ none))
 
-pub planted : (p : Light) (order : List ℕ) → ((j : ℕ) → j < length order → white p (slice_index order j) ≡ true) → length p.cells ≡ cells_of p
+pub planted : (p : Light) (order : List ℕ) → ((j : ℕ) → j < length order → white p (slice_index order j) ≡ true) → length p.cells ≡ light_cells p
     → (k : ℕ) → k ≤ length order → IsPlanted p order (bulbs_after p order k) k
 unfolding bulbs_after
 planted p order whites long zero le = planted_none p order
@@ -123,22 +123,22 @@ number_met : (cell : LightCell) (white_cell : Bool) (n : ℕ) → cell ≡ (if w
 number_met cell true n e = ap (λ x. number_is x n) e
 number_met cell false n e = ap (λ x. number_is x n) e ∙ eq-eqb n n refl
 
-pub lights_solved : (p : Light) (order g : List ℕ) (k : ℕ) → length p.cells ≡ cells_of p → IsGrid (cells_of p) 2 g → IsPlanted p order g k
+pub lights_solved : (p : Light) (order g : List ℕ) (k : ℕ) → length p.cells ≡ light_cells p → IsGrid (light_cells p) 2 g → IsPlanted p order g k
     → ((c : ℕ) → white p c ≡ true → (j : ℕ) × (j < k) × (slice_index order j ≡ c)) → is_lit (with_numbers p g) g ≡ true
 unfolding with_numbers numbered_cell black_right number_right bulb_right lit_right
 lights_solved p order g k long grid w each =
     lit-from (with_numbers p g) g
-    (all_below-from (black_right (with_numbers p g) g) (cells_of p) black)
-    (all_below-from (number_right (with_numbers p g) g) (cells_of p) number)
-    (all_below-from (bulb_right (with_numbers p g) g) (cells_of p) alone)
-    (all_below-from (lit_right (with_numbers p g) g) (cells_of p) lit)
+    (all_below-from (black_right (with_numbers p g) g) (light_cells p) black)
+    (all_below-from (number_right (with_numbers p g) g) (light_cells p) number)
+    (all_below-from (bulb_right (with_numbers p g) g) (light_cells p) alone)
+    (all_below-from (lit_right (with_numbers p g) g) (light_cells p) lit)
   where
     same_seen : (c : ℕ) → sees_bulb (with_numbers p g) g c ≡ true → sees_bulb p g c ≡ true
     same_seen c seen =
         let v = seen_bulb (with_numbers p g) g c seen in
-        bulb_seen p g c v.0 (bulb-in g (cells_of p) v.0 grid.each_cell v.3) (sym (same_sees p g long c v.0) ∙ v.2) v.3
+        bulb_seen p g c v.0 (bulb-in g (light_cells p) v.0 grid.each_cell v.3) (sym (same_sees p g long c v.0) ∙ v.2) v.3
 
-    black : (c : ℕ) → c < cells_of p → black_right (with_numbers p g) g c ≡ true
+    black : (c : ℕ) → c < light_cells p → black_right (with_numbers p g) g c ≡ true
     black c lt = by (white p c) refl
       where
         by : (b : Bool) → white p c ≡ b → black_right (with_numbers p g) g c ≡ true
@@ -151,16 +151,16 @@ lights_solved p order g k long grid w each =
               | inr ne ↦ omega arith
             ]
 
-    number : (c : ℕ) → c < cells_of p → number_right (with_numbers p g) g c ≡ true
+    number : (c : ℕ) → c < light_cells p → number_right (with_numbers p g) g c ≡ true
     number c lt = number_met (get_or (with_numbers p g).cells c Black) (white p c) (bulbs_beside p g c) (number_at p g c lt)
 
-    alone : (c : ℕ) → c < cells_of p → bulb_right (with_numbers p g) g c ≡ true
+    alone : (c : ℕ) → c < light_cells p → bulb_right (with_numbers p g) g c ≡ true
     alone c lt = ap not (false_from_ne_true _ (λ both.
         let parts = and_parts (bulb g c) _ both in
         let v = seen_bulb p g c (same_seen c parts.1) in
         true≢false (sym v.2 ∙ w.apart c v.0 parts.0 v.3)))
 
-    lit : (c : ℕ) → c < cells_of p → lit_right (with_numbers p g) g c ≡ true
+    lit : (c : ℕ) → c < light_cells p → lit_right (with_numbers p g) g c ≡ true
     lit c lt = by (white p c) refl
       where
         by : (b : Bool) → white p c ≡ b → lit_right (with_numbers p g) g c ≡ true
@@ -176,7 +176,7 @@ lights_solved p order g k long grid w each =
 pub order_white : (p : Light) (order : List ℕ) → IsPermutation (white_places p) order → (j : ℕ) → j < length order → white p (slice_index order j) ≡ true
 unfolding white_places
 order_white p order mixed j lt =
-    All-contains (λ c. white p c ≡ true) (white_places p) (slice_index order j) (filter_passes (white p) (range_with_len 0 (cells_of p)))
+    All-contains (λ c. white p c ≡ true) (white_places p) (slice_index order j) (filter_passes (white p) (range_with_len 0 (light_cells p)))
     (Contains-permutation order (white_places p) (slice_index order j) (IsPermutation-sym (white_places p) order mixed) (Contains-get_or order j 0 lt))
 
 listed : (test : ℕ → Bool) (n c : ℕ) → c < n → test c ≡ true → Contains (filter test (range_with_len 0 n)) c
@@ -190,14 +190,14 @@ listed test (suc n) c lt on = elim (cases_eq c n) [
     now : filter test (range_with_len 0 (suc n)) ≡ filter test (range_with_len 0 n) ++ cond (test n) (n ∷ []) []
     now = ap (λ k. filter test (range_with_len 0 k)) (sym (add-one n)) ∙ filter_more test n
 
-order_each : (p : Light) (order : List ℕ) → length p.cells ≡ cells_of p → IsPermutation (white_places p) order → (c : ℕ) → white p c ≡ true
+order_each : (p : Light) (order : List ℕ) → length p.cells ≡ light_cells p → IsPermutation (white_places p) order → (c : ℕ) → white p c ≡ true
     → (j : ℕ) × (j < length order) × (slice_index order j ≡ c)
 unfolding white_places
 order_each p order long mixed c on =
-    let w = Contains-permutation (white_places p) order c mixed (listed (white p) (cells_of p) c (white-in p c long on) on) in
+    let w = Contains-permutation (white_places p) order c mixed (listed (white p) (light_cells p) c (white-in p c long on) on) in
     (w.0, w.1, get_or_default order w.0 0 c w.1 ∙ w.2)
 
-pub lit_solved : (p : Light) (order g : List ℕ) → length p.cells ≡ cells_of p → IsPermutation (white_places p) order → g ≡ bulbs_after p order (length order)
+pub lit_solved : (p : Light) (order g : List ℕ) → length p.cells ≡ light_cells p → IsPermutation (white_places p) order → g ≡ bulbs_after p order (length order)
     → is_lit (with_numbers p g) g ≡ true
 lit_solved p order g long mixed is =
     rw is (lights_solved p order (bulbs_after p order (length order)) (length order) long (bulbs_after-grid p order (length order))

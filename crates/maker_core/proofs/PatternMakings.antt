@@ -12,7 +12,7 @@ use Rattle.gameid_core.specs.Puzzles.{Pattern, lines_of}
 use Rattle.pattern_core.specs.LineRules.{line_rules}
 use Rattle.pattern_core.specs.Solutions.{IsSolution}
 use Rattle.engine_core.specs.Verdict.{Solves}
-use Rattle.maker_core.specs.Made.{HasOne, IsFound, IsOnlySolution}
+use Rattle.maker_core.specs.Made.{HasOne, TellsOne, IsOnlySolution}
 use Rattle.maker_core.specs.Draws.{AreAll}
 use Rattle.maker_core.specs.PatternMaking.{pattern_of}
 
@@ -65,11 +65,11 @@ pattern_solved size g p has grid =
 pub pattern_only : (p : Pattern) (g : List ℕ)
     → ((q : Pattern) (h : List ℕ) → IsGrid (q.size.w * q.size.h) 2 h → (IsTrue ((line_rules q).is_solution h)) ↔ IsSolution q h)
     → (budget : ℕ) → HasOne (line_rules p) budget
-    → IsSolution p g → IsOnlySolution (IsSolution p) g × IsFound (line_rules p) budget g
+    → IsSolution p g → IsOnlySolution (IsSolution p) g × TellsOne (line_rules p) budget g
 pattern_only p g accepted budget one good =
     let solves : (h : List ℕ) → IsSolution p h → Solves (line_rules p) h = λ h s. record { grid = s.grid; good = (accepted p h s.grid).1 s } in
     let same = one.only.1 g (solves g good) in
-    ((good, λ h s. sym (one.only.1 h (solves h s)) ∙ same), subst (IsFound (line_rules p) budget) same one.found)
+    ((good, λ h s. sym (one.only.1 h (solves h s)) ∙ same), subst (TellsOne (line_rules p) budget) same one.found)
 
 -- with one colour alone the first try is the last
 pub record IsFirstSure (black done : ℕ) : Type 0 where

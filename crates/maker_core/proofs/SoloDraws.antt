@@ -4,8 +4,8 @@ use Rattle.std.proofs.lemmas.List.{append_assoc, map-append, take_more, take_all
 use Rattle.rand_core.specs.Stream.{Stream}
 use Rattle.maker_core.specs.Draws.{shuffled_order}
 use Rattle.maker_core.specs.SoloFilling.{lines_of_groups, group_added}
-use Rattle.maker_core.specs.SoloOrders.{IsOrder, AreGrouped}
-use Rattle.maker_core.proofs.SoloOrderLemmas.{AreGrouped-none, AreGrouped-more}
+use Rattle.maker_core.specs.SoloOrders.{IsOrder}
+use Rattle.maker_core.proofs.SoloOrderLemmas.{AreGrouped, AreGrouped-none, AreGrouped-more}
 
 -- one more line of a group
 pub line-more : (f : ℕ → ℕ) (old lines new inside : List ℕ) (k x : ℕ) → k < length inside → lines ≡ old ++ map f (take k inside)

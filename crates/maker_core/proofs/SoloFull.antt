@@ -13,7 +13,7 @@ use Rattle.solo_core.specs.Solutions.{IsSolution}
 use Rattle.solo_core.specs.SolutionLaws.{test_from_rule}
 use Rattle.solo_core.specs.RuleSets.{start, houses_rules}
 use Rattle.solo_core.specs.RuleLaws.{houses_lawful}
-use Rattle.maker_core.specs.Made.{IsFound}
+use Rattle.maker_core.specs.Made.{TellsOne}
 use Rattle.maker_core.specs.SoloFilling.{all_given}
 use Rattle.maker_core.proofs.FullStart.{start_found, start_only}
 
@@ -60,6 +60,6 @@ module _ (c r : ℕ) (g : List ℕ) (c_low : 2 ≤ c) (r_low : 2 ≤ r) (n_high 
   all_given-only solves =
       start_only (houses_rules (all_given c r g)) (houses_lawful (all_given c r g) all_given-solo) g (all_given-solves solves) start_inside
 
-  pub all_given-found : IsSolution (all_given c r g) g → (budget : ℕ) → IsFound (houses_rules (all_given c r g)) budget g
+  pub all_given-found : IsSolution (all_given c r g) g → (budget : ℕ) → TellsOne (houses_rules (all_given c r g)) budget g
   all_given-found solves budget =
       start_found (houses_rules (all_given c r g)) (houses_lawful (all_given c r g) all_given-solo) g (all_given-solves solves) start_inside budget

@@ -8,11 +8,11 @@ use Rattle.solo_core.specs.RuleSets.{houses_rules}
 use Rattle.solo_core.specs.Solutions.{IsSolution}
 use Rattle.solo_core.specs.SolutionLaws.{rule_from_test, test_from_rule}
 use Rattle.maker_core.specs.Draws.{Making, stream_after, filling_at, IsFirstPassing}
-use Rattle.maker_core.specs.Made.{is_one, IsFound, IsOnlySolution}
+use Rattle.maker_core.specs.Made.{is_one, TellsOne, IsOnlySolution}
 use Rattle.maker_core.specs.SoloClues.{solo_game}
 use Rattle.maker_core.specs.SoloFilling.{all_given, solo_filling}
 use Rattle.maker_core.specs.SoloMaking.{IsSoloMade, IsSoloSize, solo_passes}
-use Rattle.maker_core.specs.Thinning.{AreReasons, IsWithin, stream_after_clues}
+use Rattle.maker_core.specs.Thinning.{AreReasons, IsThinnedFrom, stream_after_clues}
 use Rattle.maker_core.specs.declared.made.Kept.{Kept}
 use Rattle.maker_core.proofs.SoloFull.{all_given-only, all_given-found}
 
@@ -31,9 +31,9 @@ full_only c r p g size fits solution full =
     subst (λ q. IsTrueOf (houses_rules q) (OneGrid g)) (sym full) (all_given-only c r g size.c_low size.r_low size.n_high fits solution)
 
 pub full_found : (c r : ℕ) (p : Solo) (g : List ℕ) (budget : ℕ) → IsSoloSize c r → IsGrid ((c * r) * (c * r)) (c * r) g → IsSolution (all_given c r g) g
-    → p ≡ all_given c r g → IsFound (houses_rules p) budget g
+    → p ≡ all_given c r g → TellsOne (houses_rules p) budget g
 full_found c r p g budget size fits solution full =
-    subst (λ q. IsFound (houses_rules q) budget g) (sym full) (all_given-found c r g size.c_low size.r_low size.n_high fits solution budget)
+    subst (λ q. TellsOne (houses_rules q) budget g) (sym full) (all_given-found c r g size.c_low size.r_low size.n_high fits solution budget)
 
 pub full_passes : (c r : ℕ) (g : List ℕ) (budget : ℕ) → IsSoloSize c r → IsGrid ((c * r) * (c * r)) (c * r) g → IsSolution (all_given c r g) g
     → solo_passes c r budget g ≡ true
@@ -56,10 +56,10 @@ only_by_rules p g made w same = subst (IsOnlySolution (IsSolution p)) (sym same)
 -- what is left of the full puzzle is what a maker gives
 pub made_solo : (c r budget tries : ℕ) (s : Stream) (full p : Solo) (g made : List ℕ) (kept : List Kept) → full ≡ all_given c r g → made ≡ g
     → IsFirstPassing (solo_filling c r) (solo_passes c r budget) s tries 0 × (g ≡ filling_at (solo_filling c r) 0 s)
-    → IsWithin solo_game p full → IsTrueOf (houses_rules p) (OneGrid g) → IsFound (houses_rules p) budget g
+    → IsThinnedFrom solo_game p full → IsTrueOf (houses_rules p) (OneGrid g) → TellsOne (houses_rules p) budget g
     → AreReasons solo_game budget (all_given p.c p.r g) p kept → IsSoloMade c r budget tries s p made kept
 made_solo c r budget tries s full p g made kept whole same taken within only found reasons =
-    let inside : IsWithin solo_game p (all_given c r g) = subst (IsWithin solo_game p) whole within in
+    let inside : IsThinnedFrom solo_game p (all_given c r g) = subst (IsThinnedFrom solo_game p) whole within in
     let columns : p.c ≡ c = inside.frame.c in
     let rows : p.r ≡ r = inside.frame.r in
     record {
@@ -67,9 +67,9 @@ made_solo c r budget tries s full p g made kept whole same taken within only fou
       filled = same ∙ taken.1;
       columns = columns;
       rows = rows;
-      givens = subst (λ h. IsWithin solo_game p (all_given c r h)) (sym same) inside;
+      givens = subst (λ h. IsThinnedFrom solo_game p (all_given c r h)) (sym same) inside;
       only = only_by_rules p g made only same;
-      verdict = subst (IsFound (houses_rules p) budget) (sym same) found;
+      verdict = subst (TellsOne (houses_rules p) budget) (sym same) found;
       reasons = subst (λ q. AreReasons solo_game budget q p kept)
           (ap (λ x. all_given x p.r g) columns ∙ ap (λ x. all_given c x g) rows ∙ ap (all_given c r) (sym same)) reasons;
     }

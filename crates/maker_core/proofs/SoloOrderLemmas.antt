@@ -11,7 +11,13 @@ use Rattle.std.proofs.lemmas.List.Elements.{All-get_or, All-from_get_or}
 use Rattle.std.proofs.lemmas.List.FromFn.{length-range_with_len, get_or-range_with_len}
 use Rattle.std.proofs.lemmas.List.Sorted.{length_permutation, All-permutation}
 use Rattle.std.proofs.lemmas.Map.Keys.{IsDistinct-from_apart, IsDistinct-IsPermutation, apart_from_distinct}
-use Rattle.maker_core.specs.SoloOrders.{IsOrder, AreGrouped, IsLineOrder}
+use Rattle.maker_core.specs.SoloOrders.{IsOrder, IsLineOrder}
+
+-- the lines of the first k groups, each group's own lines beside each other
+pub record AreGrouped (size : ℕ) (groups : List ℕ) (k : ℕ) (lines : List ℕ) : Type 0 where
+  pub len : length lines ≡ k * size
+  pub group : (y : ℕ) → y < k * size → slice_index lines y / size ≡ slice_index groups (y / size)
+  pub apart : (y z : ℕ) → y < k * size → z < k * size → y / size ≡ z / size → slice_index lines y ≡ slice_index lines z → y ≡ z
 
 -- ---- a shuffled list of the numbers below n
 range_below : (n : ℕ) (i : ℕ) → i < length (range_with_len 0 n) → get_or (range_with_len 0 n) i 0 < n

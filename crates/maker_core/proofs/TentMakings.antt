@@ -13,7 +13,7 @@ use Rattle.engine_core.specs.Verdict.{Solves}
 use Rattle.fields_core.specs.TentHouses.{tent_rules}
 use Rattle.fields_core.specs.TentSolutions.{IsTentSolution}
 use Rattle.maker_core.specs.declared.camp.Camp.{Camp}
-use Rattle.maker_core.specs.Made.{HasOne, IsFound, IsOnlySolution}
+use Rattle.maker_core.specs.Made.{HasOne, TellsOne, IsOnlySolution}
 use Rattle.maker_core.specs.TentFilling.{tents_of}
 
 -- a puzzle with those trees and numbers
@@ -53,9 +53,9 @@ tents_size size camp p is = ap (λ (q : Tents). q.size) is
 
 pub tents_only : (size : Extent) (camp : Camp) (p : Tents) → p ≡ tents_of size camp → IsTentSolution (tents_of size camp) camp.tents
     → ((q : Tents) (h : List ℕ) → IsGridOf (tent_rules q) h → (IsTrue ((tent_rules q).is_solution h)) ↔ IsTentSolution q h)
-    → (budget : ℕ) → HasOne (tent_rules p) budget → IsOnlySolution (IsTentSolution p) camp.tents × IsFound (tent_rules p) budget camp.tents
+    → (budget : ℕ) → HasOne (tent_rules p) budget → IsOnlySolution (IsTentSolution p) camp.tents × TellsOne (tent_rules p) budget camp.tents
 tents_only size camp p is solution accepted budget one =
     let solves : (h : List ℕ) → IsTentSolution p h → Solves (tent_rules p) h = λ h s. record { grid = s.grid; good = (accepted p h s.grid).1 s } in
     let good = subst (λ (q : Tents). IsTentSolution q camp.tents) (sym is) solution in
     let same = one.only.1 camp.tents (solves camp.tents good) in
-    ((good, λ h s. sym (one.only.1 h (solves h s)) ∙ same), subst (IsFound (tent_rules p) budget) same one.found)
+    ((good, λ h s. sym (one.only.1 h (solves h s)) ∙ same), subst (TellsOne (tent_rules p) budget) same one.found)

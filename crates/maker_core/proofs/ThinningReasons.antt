@@ -11,7 +11,7 @@ use Rattle.std.proofs.lemmas.Cmp.{nat_eq_equiv}
 use Rattle.std.proofs.lemmas.Grind.{common_steps}
 use Rattle.maker_core.specs.declared.made.Kept.{Kept}
 use Rattle.maker_core.specs.declared.made.Why.{Why}
-use Rattle.maker_core.specs.Made.{IsFound}
+use Rattle.maker_core.specs.Made.{TellsOne}
 use Rattle.maker_core.specs.Thinning.{Game, IsGame, has_clue, clue_places, IsOnly, IsReason, AreReasons}
 use Rattle.maker_core.specs.ThinningSteps.{IsTold, IsThinning, reasons_from}
 use Rattle.maker_core.proofs.ThinningLists.{kept_passes, passes_kept, kept_once}
@@ -111,13 +111,13 @@ only_left game laws budget all p answer whys only now =
     subst (λ g. IsOnly (game.rules p) g) (now.one.only.1 answer (laws.solutions_stay p all answer now.within only.0)) now.one.only
 
 pub found_left : {A : Type 0} (game : Game A) → IsGame game → (budget : ℕ) (all p : A) (answer : List ℕ) (whys : List (Option Why))
-    → IsOnly (game.rules all) answer → IsThinning game budget all p whys [] → IsFound (game.rules p) budget answer
+    → IsOnly (game.rules all) answer → IsThinning game budget all p whys [] → TellsOne (game.rules p) budget answer
 found_left game laws budget all p answer whys only now =
-    subst (IsFound (game.rules p) budget) (now.one.only.1 answer (laws.solutions_stay p all answer now.within only.0)) now.one.found
+    subst (TellsOne (game.rules p) budget) (now.one.only.1 answer (laws.solutions_stay p all answer now.within only.0)) now.one.found
 
 -- before any clue is tried
 pub thinning_start : {A : Type 0} (game : Game A) → IsGame game → (budget : ℕ) (p : A) (answer order : List ℕ) (whys : List (Option Why))
-    → IsOnly (game.rules p) answer → IsFound (game.rules p) budget answer → IsPermutation (clue_places game p) order → whys ≡ replicate (game.cells p) None → IsThinning game budget p p whys order
+    → IsOnly (game.rules p) answer → TellsOne (game.rules p) budget answer → IsPermutation (clue_places game p) order → whys ≡ replicate (game.cells p) None → IsThinning game budget p p whys order
 thinning_start game laws budget p answer order whys only found mixed blank = record {
   within = within_itself game laws p;
   one = record { answer = answer; found = found; only = only };

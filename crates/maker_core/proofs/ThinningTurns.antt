@@ -8,8 +8,8 @@ use Rattle.std.proofs.lemmas.Grind.{get_or-set_at}
 use Rattle.std.proofs.Math.Seq.{drop-cons}
 use Rattle.engine_core.specs.Puzzle.{Needs, FitsIn, needs_of}
 use Rattle.maker_core.specs.Made.{HasOne}
-use Rattle.maker_core.specs.Thinning.{Game, IsGame, IsWithin, HasTwo, IsReason}
-use Rattle.maker_core.specs.ThinningSteps.{IsVerdict, IsTried, IsTold, IsThinning}
+use Rattle.maker_core.specs.Thinning.{Game, IsGame, IsThinnedFrom, HasTwo, IsReason}
+use Rattle.maker_core.specs.ThinningSteps.{IsAsked, IsLeft, IsVerdict, IsTold, IsThinning}
 use Rattle.maker_core.specs.declared.made.Why.{Why}
 use Rattle.maker_core.specs.declared.made.Why.TheVariants.{Needed, Budget}
 use Rattle.maker_core.proofs.ThinningLists.{contains_next, contains_head, contains_split, head_apart}
@@ -25,22 +25,22 @@ none_of (Some n) e = absurd (true≢false e)
 none_some : (o : Option ℕ) (n : ℕ) → o ≡ None → o ≡ Some n → ⊥
 none_some o n e f = true≢false (sym (ap is_some f) ∙ ap is_some e)
 
-pub within_itself : {A : Type 0} (game : Game A) → IsGame game → (p : A) → IsWithin game p p
+pub within_itself : {A : Type 0} (game : Game A) → IsGame game → (p : A) → IsThinnedFrom game p p
 within_itself game laws p = record { frame = laws.same_itself p; clues = λ place n e. e }
 
-pub within_through : {A : Type 0} (game : Game A) → IsGame game → (p q r : A) → IsWithin game p q → IsWithin game q r → IsWithin game p r
+pub within_through : {A : Type 0} (game : Game A) → IsGame game → (p q r : A) → IsThinnedFrom game p q → IsThinnedFrom game q r → IsThinnedFrom game p r
 within_through game laws p q r first second =
     record { frame = laws.same_through p q r first.frame second.frame; clues = λ place n e. second.clues place n (first.clues place n e) }
 
-pub thinner : {A : Type 0} (game : Game A) → IsGame game → (p : A) (place n : ℕ) → game.clue p place ≡ Some n → IsWithin game (game.without p place) p
+pub thinner : {A : Type 0} (game : Game A) → IsGame game → (p : A) (place n : ℕ) → game.clue p place ≡ Some n → IsThinnedFrom game (game.without p place) p
 thinner game laws p place n e = record { frame = laws.without_frame p place n e; clues = λ other m had. by other m had (cases_eq other place) }
   where
     by : (other m : ℕ) → game.clue (game.without p place) other ≡ Some m → (other ≡ place) ⊎ (other ≢ place) → game.clue p other ≡ Some m
     by other m had (inl same) = absurd (none_some _ m (laws.without_it p place) (ap (game.clue (game.without p place)) (sym same) ∙ had))
     by other m had (inr apart) = sym (laws.others_stay p place other apart) ∙ had
 
-pub without_within : {A : Type 0} (game : Game A) → IsGame game → (p q : A) (place n : ℕ) → IsWithin game p q → game.clue p place ≡ Some n
-    → IsWithin game (game.without p place) (game.without q place)
+pub without_within : {A : Type 0} (game : Game A) → IsGame game → (p q : A) (place n : ℕ) → IsThinnedFrom game p q → game.clue p place ≡ Some n
+    → IsThinnedFrom game (game.without p place) (game.without q place)
 without_within game laws p q place n w e = record {
   frame = laws.same_through _ _ _ (laws.same_through _ _ _ (laws.without_frame p place n e) w.frame) (laws.same_back _ _ (laws.without_frame q place n (w.clues place n e)));
   clues = λ other m had. by other m had (cases_eq other place);
@@ -50,7 +50,7 @@ without_within game laws p q place n w e = record {
     by other m had (inl same) = absurd (none_some _ m (laws.without_it p place) (ap (game.clue (game.without p place)) (sym same) ∙ had))
     by other m had (inr apart) = laws.others_stay q place other apart ∙ w.clues other m (sym (laws.others_stay p place other apart) ∙ had)
 
-pub two_in : {A : Type 0} (game : Game A) → IsGame game → (p q : A) → IsWithin game p q → HasTwo (game.rules q) → HasTwo (game.rules p)
+pub two_in : {A : Type 0} (game : Game A) → IsGame game → (p q : A) → IsThinnedFrom game p q → HasTwo (game.rules q) → HasTwo (game.rules p)
 two_in game laws p q w two = record {
   first = two.first;
   second = two.second;
@@ -60,7 +60,7 @@ two_in game laws p q w two = record {
 }
 
 pub reason_in : {A : Type 0} (game : Game A) → IsGame game → (budget : ℕ) (all p q : A) (place : ℕ) (why : Why)
-    → IsWithin game (game.without p place) (game.without q place) → IsReason game budget all q place why → IsReason game budget all p place why
+    → IsThinnedFrom game (game.without p place) (game.without q place) → IsReason game budget all q place why → IsReason game budget all p place why
 reason_in game laws budget all p q place Needed w two = two_in game laws _ _ w two
 reason_in game laws budget all p q place Budget w hard = record {
   thicker = hard.thicker;
@@ -72,14 +72,14 @@ reason_in game laws budget all p q place Budget w hard = record {
 
 -- what is told of a cell stays true where other clues go
 pub told_in : {A : Type 0} (game : Game A) → IsGame game → (budget : ℕ) (all p q : A) (place : ℕ) (o : Option Why)
-    → IsWithin game p q → game.clue p place ≡ game.clue q place → IsTold game budget all q place o → IsTold game budget all p place o
+    → IsThinnedFrom game p q → game.clue p place ≡ game.clue q place → IsTold game budget all q place o → IsTold game budget all p place o
 told_in game laws budget all p q place None w same told = same ∙ told
 told_in game laws budget all p q place (Some why) w same told =
     let n = some_of (game.clue q place) told.0 in
     (ap is_some same ∙ told.0, reason_in game laws budget all p q place why (without_within game laws p q place n.0 w (same ∙ n.1)) told.1)
 
 -- the verdict without the clue is a reason
-verdict_reason : {A : Type 0} (game : Game A) → IsGame game → (budget : ℕ) (all p : A) (place n : ℕ) (why : Why) → IsWithin game p all
+verdict_reason : {A : Type 0} (game : Game A) → IsGame game → (budget : ℕ) (all p : A) (place n : ℕ) (why : Why) → IsThinnedFrom game p all
     → game.clue p place ≡ Some n → IsVerdict (game.rules (game.without p place)) budget why → IsReason game budget all p place why
 verdict_reason game laws budget all p place n Needed w e two = two
 verdict_reason game laws budget all p place n Budget w e gave_up = record {
@@ -90,11 +90,15 @@ verdict_reason game laws budget all p place n Budget w e gave_up = record {
   gave_up = gave_up;
 }
 
+-- a clue was tried: what is left of it, and what was asked
+abbrev pub IsTried : {A : Type 0} → Game A → ℕ → ℕ → A → A → Option Why → Type 0
+IsTried game budget place old new why = IsLeft game place old new why × IsAsked game budget place old why
+
 -- the puzzle after a clue was tried has no clue more
 tried_within : {A : Type 0} (game : Game A) → IsGame game → (budget place n : ℕ) (p new : A) (why : Option Why) → game.clue p place ≡ Some n
-    → IsTried game budget place p new why → IsWithin game new p
-tried_within game laws budget place n p new None e tried = subst (λ x. IsWithin game x p) (sym tried.0) (thinner game laws p place n e)
-tried_within game laws budget place n p new (Some why) e tried = subst (λ x. IsWithin game x p) (sym tried.0) (within_itself game laws p)
+    → IsTried game budget place p new why → IsThinnedFrom game new p
+tried_within game laws budget place n p new None e tried = subst (λ x. IsThinnedFrom game x p) (sym tried.0) (thinner game laws p place n e)
+tried_within game laws budget place n p new (Some why) e tried = subst (λ x. IsThinnedFrom game x p) (sym tried.0) (within_itself game laws p)
 
 tried_one : {A : Type 0} (game : Game A) (budget place : ℕ) (p new : A) (why : Option Why) → HasOne (game.rules p) budget
     → IsTried game budget place p new why → HasOne (game.rules new) budget
@@ -106,7 +110,7 @@ tried_others : {A : Type 0} (game : Game A) → IsGame game → (budget place ot
 tried_others game laws budget place other p new None apart tried = ap (λ x. game.clue x other) tried.0 ∙ laws.others_stay p place other apart
 tried_others game laws budget place other p new (Some why) apart tried = ap (λ x. game.clue x other) tried.0
 
-tried_told : {A : Type 0} (game : Game A) → IsGame game → (budget place n : ℕ) (all p new : A) (why : Option Why) → IsWithin game p all → game.clue p place ≡ Some n
+tried_told : {A : Type 0} (game : Game A) → IsGame game → (budget place n : ℕ) (all p new : A) (why : Option Why) → IsThinnedFrom game p all → game.clue p place ≡ Some n
     → IsTried game budget place p new why → IsTold game budget all new place why
 tried_told game laws budget place n all p new None w e tried = ap (λ x. game.clue x place) tried.0 ∙ laws.without_it p place
 tried_told game laws budget place n all p new (Some why) w e tried =

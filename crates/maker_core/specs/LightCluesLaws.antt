@@ -17,9 +17,9 @@ use Rattle.gameid_core.specs.declared.light_cell.LightCell.{LightCell}
 use Rattle.gameid_core.specs.declared.light_cell.LightCell.TheVariants.{White, Black, Numbered}
 use Rattle.engine_core.specs.Verdict.{Solves}
 use Rattle.fields_core.specs.CountHouse.{House, houses_below}
-use Rattle.fields_core.specs.Light.{cells_of, is_white, white, bulb, clear, joined_in_row, joined_in_column, sees, sees_bulb, bulbs_beside, number_is, black_right, number_right, bulb_right, lit_right, is_lit}
+use Rattle.fields_core.specs.Light.{light_cells, is_white, white, bulb, clear, joined_in_row, joined_in_column, sees, sees_bulb, bulbs_beside, number_is, black_right, number_right, bulb_right, lit_right, is_lit}
 use Rattle.fields_core.specs.LightHouses.{row_run, column_run, seen_from, begins_row_run, begins_column_run, numbered, number_house, light_houses, light_rules}
-use Rattle.maker_core.specs.Thinning.{IsWithin, IsGame}
+use Rattle.maker_core.specs.Thinning.{IsThinnedFrom, IsGame}
 use Rattle.maker_core.specs.LightClues.{number_clue, SameLight, light_game}
 use Rattle.maker_core.specs.LightFilling.{numbered_cell, with_numbers}
 use Rattle.maker_core.specs.FewerHouseLaws.{IsFewer, fewer_itself, fewer_append, fewer_below, longest_of_fewer}
@@ -55,18 +55,18 @@ lit_but_numbers size wh g =
     && (all_below (λ c. not (bulb g c && some_bulb size wh g c)) (size.w * size.h)
     && all_below (λ c. not (wh c) || (bulb g c || some_bulb size wh g c)) (size.w * size.h))
 
-lit_parts : (p : Light) (g : List ℕ) → is_lit p g ≡ true → (all_below (number_right p g) (cells_of p) ≡ true) × (lit_but_numbers p.size (white p) g ≡ true)
+lit_parts : (p : Light) (g : List ℕ) → is_lit p g ≡ true → (all_below (number_right p g) (light_cells p) ≡ true) × (lit_but_numbers p.size (white p) g ≡ true)
 unfolding is_lit lit_but_numbers some_bulb row_joined column_joined black_right bulb_right lit_right sees_bulb sees joined_in_row joined_in_column
 lit_parts p g lit =
-    let a = and_parts (all_below (black_right p g) (cells_of p)) ((all_below (number_right p g) (cells_of p)) && ((all_below (bulb_right p g) (cells_of p)) && (all_below (lit_right p g) (cells_of p)))) lit in
-    let b = and_parts (all_below (number_right p g) (cells_of p)) ((all_below (bulb_right p g) (cells_of p)) && (all_below (lit_right p g) (cells_of p))) a.1 in
-    (b.0, and_from (all_below (black_right p g) (cells_of p)) ((all_below (bulb_right p g) (cells_of p)) && (all_below (lit_right p g) (cells_of p))) a.0 b.1)
+    let a = and_parts (all_below (black_right p g) (light_cells p)) ((all_below (number_right p g) (light_cells p)) && ((all_below (bulb_right p g) (light_cells p)) && (all_below (lit_right p g) (light_cells p)))) lit in
+    let b = and_parts (all_below (number_right p g) (light_cells p)) ((all_below (bulb_right p g) (light_cells p)) && (all_below (lit_right p g) (light_cells p))) a.1 in
+    (b.0, and_from (all_below (black_right p g) (light_cells p)) ((all_below (bulb_right p g) (light_cells p)) && (all_below (lit_right p g) (light_cells p))) a.0 b.1)
 
-lit_from : (p : Light) (g : List ℕ) → all_below (number_right p g) (cells_of p) ≡ true → lit_but_numbers p.size (white p) g ≡ true → is_lit p g ≡ true
+lit_from : (p : Light) (g : List ℕ) → all_below (number_right p g) (light_cells p) ≡ true → lit_but_numbers p.size (white p) g ≡ true → is_lit p g ≡ true
 unfolding is_lit lit_but_numbers some_bulb row_joined column_joined black_right bulb_right lit_right sees_bulb sees joined_in_row joined_in_column
 lit_from p g numbers rest =
-    let a = and_parts (all_below (black_right p g) (cells_of p)) ((all_below (bulb_right p g) (cells_of p)) && (all_below (lit_right p g) (cells_of p))) rest in
-    and_from (all_below (black_right p g) (cells_of p)) ((all_below (number_right p g) (cells_of p)) && ((all_below (bulb_right p g) (cells_of p)) && (all_below (lit_right p g) (cells_of p)))) a.0 (and_from (all_below (number_right p g) (cells_of p)) ((all_below (bulb_right p g) (cells_of p)) && (all_below (lit_right p g) (cells_of p))) numbers a.1)
+    let a = and_parts (all_below (black_right p g) (light_cells p)) ((all_below (bulb_right p g) (light_cells p)) && (all_below (lit_right p g) (light_cells p))) rest in
+    and_from (all_below (black_right p g) (light_cells p)) ((all_below (number_right p g) (light_cells p)) && ((all_below (bulb_right p g) (light_cells p)) && (all_below (lit_right p g) (light_cells p)))) a.0 (and_from (all_below (number_right p g) (light_cells p)) ((all_below (bulb_right p g) (light_cells p)) && (all_below (lit_right p g) (light_cells p))) numbers a.1)
 
 -- ---- fewer numbers
 held : Option ℕ → ℕ
@@ -94,14 +94,14 @@ unfolding with_cells number_right
 lit_stays p cells g same clues lit =
     let parts = lit_parts (with_cells p.size cells) g lit in
     lit_from p g
-    (all_below-from (number_right p g) (cells_of p) (λ c below. number_stays (slice_index_or p.cells c Black) (slice_index_or cells c Black) _ (clues c) (all_below-at (number_right (with_cells p.size cells) g) (cells_of p) c parts.0 below)))
+    (all_below-from (number_right p g) (light_cells p) (λ c below. number_stays (slice_index_or p.cells c Black) (slice_index_or cells c Black) _ (clues c) (all_below-at (number_right (with_cells p.size cells) g) (light_cells p) c parts.0 below)))
     (ap (λ wh. lit_but_numbers p.size wh g) (same_white p (with_cells p.size cells) same) ∙ parts.1)
 
 -- each solution of a puzzle with more numbers is one of the puzzle
-pub lit_by_fewer : (p q : Light) (g : List ℕ) → IsWithin light_game p q → is_lit q g ≡ true → is_lit p g ≡ true
+pub lit_by_fewer : (p q : Light) (g : List ℕ) → IsThinnedFrom light_game p q → is_lit q g ≡ true → is_lit p g ≡ true
 lit_by_fewer p q g w lit = lit_stays p q.cells g w.frame.black w.clues (subst (λ x. is_lit x g ≡ true) (resized p q w.frame) lit)
 
-solutions_stay : (p q : Light) (g : List ℕ) → IsWithin light_game p q → Solves (light_rules q) g → Solves (light_rules p) g
+solutions_stay : (p q : Light) (g : List ℕ) → IsThinnedFrom light_game p q → Solves (light_rules q) g → Solves (light_rules p) g
 unfolding with_cells
 solutions_stay p q g w s = record {
   grid = (subst (λ x. Solves (light_rules x) g) (resized p q w.frame) s).grid;
@@ -129,7 +129,7 @@ houses_but_numbers size wh =
     ++ (houses_below (column_run_house size wh) (size.w * size.h)
     ++ houses_below (seen_house size wh) (size.w * size.h))
 
-houses_are : (p : Light) → light_houses p ≡ houses_below (number_house p) (cells_of p) ++ houses_but_numbers p.size (white p)
+houses_are : (p : Light) → light_houses p ≡ houses_below (number_house p) (light_cells p) ++ houses_but_numbers p.size (white p)
 unfolding light_houses houses_but_numbers row_run_house column_run_house seen_house seen_places row_joined column_joined row_run column_run seen_from begins_row_run begins_column_run joined_in_row joined_in_column
 houses_are p = refl
 
@@ -155,8 +155,8 @@ same_without p place n e = record { size = refl; black = map-set_same is_white p
 fewer_houses : (p : Light) (place n : ℕ) → number_clue (slice_index_or p.cells place Black) ≡ Some n → IsFewer (light_houses (without_number p place)) (light_houses p)
 unfolding without_number
 fewer_houses p place n e =
-    subst (λ xs. IsFewer xs (light_houses p)) (sym (houses_are (without_number p place))) (subst (λ ys. IsFewer (houses_below (number_house (without_number p place)) (cells_of p) ++ houses_but_numbers p.size (white (without_number p place))) ys) (sym (houses_are p))
-    (fewer_append _ _ _ _ (fewer_below (number_house (without_number p place)) (number_house p) (cells_of p) (λ c. by c (cases_eq c place)))
+    subst (λ xs. IsFewer xs (light_houses p)) (sym (houses_are (without_number p place))) (subst (λ ys. IsFewer (houses_below (number_house (without_number p place)) (light_cells p) ++ houses_but_numbers p.size (white (without_number p place))) ys) (sym (houses_are p))
+    (fewer_append _ _ _ _ (fewer_below (number_house (without_number p place)) (number_house p) (light_cells p) (λ c. by c (cases_eq c place)))
     (subst (λ wh. IsFewer (houses_but_numbers p.size (white (without_number p place))) (houses_but_numbers p.size wh)) whites (fewer_itself _))))
   where
     whites : white (without_number p place) ≡ white p
@@ -178,7 +178,7 @@ same_length p q same = sym (length-map p.cells is_white) ∙ ap length same ∙ 
 
 told_same : (p : Light) (cells : List LightCell) (g : List ℕ) → map is_white p.cells ≡ map is_white cells → light_game.all_clues p g ≡ light_game.all_clues (with_cells p.size cells) g
 unfolding with_cells with_numbers numbered_cell
-told_same p cells g same = ap (λ wh. with_cells p.size (map (λ place. cond (wh place) White (Numbered (bulbs_beside p g place))) (range_with_len 0 (cells_of p)))) (same_white p (with_cells p.size cells) same)
+told_same p cells g same = ap (λ wh. with_cells p.size (map (λ place. cond (wh place) White (Numbered (bulbs_beside p g place))) (range_with_len 0 (light_cells p)))) (same_white p (with_cells p.size cells) same)
 
 pub light_is_game : IsGame light_game
 unfolding without_number

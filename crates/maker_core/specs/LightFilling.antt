@@ -5,7 +5,7 @@ use Rattle.grid_core.specs.Extent.{Extent}
 use Rattle.gameid_core.specs.Puzzles.{Light}
 use Rattle.gameid_core.specs.declared.light_cell.LightCell.{LightCell}
 use Rattle.gameid_core.specs.declared.light_cell.LightCell.TheVariants.{White, Black, Numbered}
-use Rattle.fields_core.specs.Light.{cells_of, white, bulb, sees_bulb, bulbs_beside}
+use Rattle.fields_core.specs.Light.{light_cells, white, bulb, sees_bulb, bulbs_beside}
 use Rattle.fields_core.specs.LightHouses.{light_rules}
 use Rattle.maker_core.specs.Draws.{Making, black_cells, shuffled_list}
 use Rattle.maker_core.specs.Made.{has_one}
@@ -16,7 +16,7 @@ lights_of size black = record { size = size; cells = map (λ v. if v == 1 then B
 
 -- its white cells, by place
 unfoldable pub white_places : Light → List ℕ
-white_places p = filter (white p) (range_with_len 0 (cells_of p))
+white_places p = filter (white p) (range_with_len 0 (light_cells p))
 
 -- a cell gets a bulb if it neither holds nor sees one
 unfoldable pub with_bulb : Light → List ℕ → ℕ → List ℕ
@@ -24,7 +24,7 @@ with_bulb p g c = if bulb g c || sees_bulb p g c then g else slice_set g c 1
 
 -- the bulbs when the first k cells of the order were taken in turn
 unfoldable pub bulbs_after : Light → List ℕ → ℕ → List ℕ
-bulbs_after p order zero = replicate (cells_of p) 0
+bulbs_after p order zero = replicate (light_cells p) 0
 bulbs_after p order (suc k) = with_bulb p (bulbs_after p order k) (slice_index order k)
 
 -- the puzzle with a number on every black cell: how many bulbs stand beside it
@@ -32,7 +32,7 @@ unfoldable pub numbered_cell : Light → List ℕ → ℕ → LightCell
 numbered_cell p g c = if white p c then White else Numbered (bulbs_beside p g c)
 
 unfoldable pub with_numbers : Light → List ℕ → Light
-with_numbers p g = record { size = p.size; cells = map (numbered_cell p g) (range_with_len 0 (cells_of p)) }
+with_numbers p g = record { size = p.size; cells = map (numbered_cell p g) (range_with_len 0 (light_cells p)) }
 
 -- black cells and bulbs
 pub record Lighting : Type 0 where

@@ -8,8 +8,8 @@ use Rattle.fields_core.specs.LightSolutions.{IsLightSolution}
 use Rattle.maker_core.specs.Draws.{IsFirstPassing, filling_at}
 use Rattle.maker_core.specs.LightClues.{light_game}
 use Rattle.maker_core.specs.LightFilling.{light_filling, light_passes, light_puzzle_of, with_numbers}
-use Rattle.maker_core.specs.Made.{IsFound, IsOnlySolution}
-use Rattle.maker_core.specs.Thinning.{AreReasons, IsWithin}
+use Rattle.maker_core.specs.Made.{TellsOne, IsOnlySolution}
+use Rattle.maker_core.specs.Thinning.{AreReasons, IsThinnedFrom}
 use Rattle.maker_core.specs.declared.made.Kept.{Kept}
 
 -- The first of the fillings that passes gives the solution and the black cells; the puzzle has some of its numbers and no
@@ -17,9 +17,9 @@ use Rattle.maker_core.specs.declared.made.Kept.{Kept}
 pub record IsLightMade (size : Extent) (black budget tries : ℕ) (s : Stream) (p : Light) (g : List ℕ) (kept : List Kept) : Type 0 where
   pub k : ℕ
   pub first : IsFirstPassing (light_filling size black) (light_passes size budget) s tries k
-  pub numbers : IsWithin light_game p (light_puzzle_of size (filling_at (light_filling size black) k s))
+  pub numbers : IsThinnedFrom light_game p (light_puzzle_of size (filling_at (light_filling size black) k s))
   pub filled : g ≡ (filling_at (light_filling size black) k s).bulbs
   pub size_asked : p.size ≡ size
   pub only : IsOnlySolution (IsLightSolution p) g
-  pub verdict : IsFound (light_rules p) budget g
+  pub verdict : TellsOne (light_rules p) budget g
   pub reasons : AreReasons light_game budget (with_numbers p g) p kept

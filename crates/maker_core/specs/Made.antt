@@ -15,13 +15,13 @@ abbrev pub has_one : Puzzle → ℕ → Bool
 has_one rules budget = is_one (verdict_of rules budget)
 
 -- the verdict with the budget is that the grid is the one solution
-abbrev pub IsFound : Puzzle → ℕ → List ℕ → Type 0
-IsFound rules budget g = verdict_of rules budget ≡ OneGrid g
+abbrev pub TellsOne : Puzzle → ℕ → List ℕ → Type 0
+TellsOne rules budget g = verdict_of rules budget ≡ OneGrid g
 
 -- so it is of some grid, which is a solution, and no other is
 pub record HasOne (rules : Puzzle) (budget : ℕ) : Type 0 where
   pub answer : List ℕ
-  pub found : IsFound rules budget answer
+  pub found : TellsOne rules budget answer
   pub only : IsTrueOf rules (OneGrid answer)
 
 -- the grid is a solution and no other is

@@ -7,7 +7,7 @@ use Rattle.gameid_core.specs.Puzzles.{Pattern}
 use Rattle.pattern_core.specs.LineRules.{line_rules}
 use Rattle.pattern_core.specs.Solutions.{IsSolution}
 use Rattle.maker_core.specs.Draws.{Making, black_cells, IsFirstPassing, filling_at}
-use Rattle.maker_core.specs.Made.{has_one, IsFound, IsOnlySolution}
+use Rattle.maker_core.specs.Made.{has_one, TellsOne, IsOnlySolution}
 use Rattle.maker_core.specs.declared.made.Kept.{Kept}
 
 -- a filling is a grid whose cells are drawn one by one
@@ -30,5 +30,5 @@ pub record IsPatternMade (size : Extent) (black budget tries : ℕ) (s : Stream)
   pub filled : g ≡ filling_at (pattern_filling size black) k s
   pub clues : p ≡ pattern_of size g
   pub only : IsOnlySolution (IsSolution p) g
-  pub verdict : IsFound (line_rules p) budget g
+  pub verdict : TellsOne (line_rules p) budget g
   pub unthinned : kept ≡ []

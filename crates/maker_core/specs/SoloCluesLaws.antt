@@ -10,7 +10,7 @@ use Rattle.solo_core.specs.RuleSets.{houses_rules}
 use Rattle.solo_core.specs.Houses.{house_places}
 use Rattle.solo_core.specs.Solutions.{IsSolution}
 use Rattle.solo_core.specs.SolutionLaws.{rule_from_test, test_from_rule}
-use Rattle.maker_core.specs.Thinning.{IsWithin, IsGame}
+use Rattle.maker_core.specs.Thinning.{IsThinnedFrom, IsGame}
 use Rattle.maker_core.specs.SoloClues.{given_clue, SameSolo, solo_game}
 
 with_givens : ℕ → ℕ → List ℕ → Solo
@@ -51,10 +51,10 @@ solution_stays p givens g clues s = record {
 }
 
 -- each solution of a puzzle with more givens is one of the puzzle
-pub solved_by_fewer : (p q : Solo) (g : List ℕ) → IsWithin solo_game p q → IsSolution q g → IsSolution p g
+pub solved_by_fewer : (p q : Solo) (g : List ℕ) → IsThinnedFrom solo_game p q → IsSolution q g → IsSolution p g
 solved_by_fewer p q g w s = solution_stays p q.givens g w.clues (subst (λ x. IsSolution x g) (resized p q w.frame) s)
 
-solutions_stay : (p q : Solo) (g : List ℕ) → IsWithin solo_game p q → Solves (houses_rules q) g → Solves (houses_rules p) g
+solutions_stay : (p q : Solo) (g : List ℕ) → IsThinnedFrom solo_game p q → Solves (houses_rules q) g → Solves (houses_rules p) g
 unfolding with_givens
 solutions_stay p q g w s = record {
   grid = (subst (λ x. Solves (houses_rules x) g) (resized p q w.frame) s).grid;

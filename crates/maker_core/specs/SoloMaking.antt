@@ -6,10 +6,10 @@ use Rattle.gameid_core.specs.Puzzles.{Solo}
 use Rattle.solo_core.specs.RuleSets.{houses_rules}
 use Rattle.solo_core.specs.Solutions.{IsSolution}
 use Rattle.maker_core.specs.Draws.{IsFirstPassing, filling_at}
-use Rattle.maker_core.specs.Made.{has_one, IsFound, IsOnlySolution}
+use Rattle.maker_core.specs.Made.{has_one, TellsOne, IsOnlySolution}
 use Rattle.maker_core.specs.SoloClues.{solo_game}
 use Rattle.maker_core.specs.SoloFilling.{solo_filling, all_given}
-use Rattle.maker_core.specs.Thinning.{AreReasons, IsWithin}
+use Rattle.maker_core.specs.Thinning.{AreReasons, IsThinnedFrom}
 use Rattle.maker_core.specs.declared.made.Kept.{Kept}
 
 -- sizes within the game's limits
@@ -30,7 +30,7 @@ pub record IsSoloMade (c r budget tries : ℕ) (s : Stream) (p : Solo) (g : List
   pub filled : g ≡ filling_at (solo_filling c r) 0 s
   pub columns : p.c ≡ c
   pub rows : p.r ≡ r
-  pub givens : IsWithin solo_game p (all_given c r g)
+  pub givens : IsThinnedFrom solo_game p (all_given c r g)
   pub only : IsOnlySolution (IsSolution p) g
-  pub verdict : IsFound (houses_rules p) budget g
+  pub verdict : TellsOne (houses_rules p) budget g
   pub reasons : AreReasons solo_game budget (all_given c r g) p kept

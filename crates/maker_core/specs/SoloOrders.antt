@@ -7,12 +7,6 @@ pub record IsOrder (n : ℕ) (xs : List ℕ) : Type 0 where
   pub within : (k : ℕ) → k < n → slice_index xs k < n
   pub apart : (j k : ℕ) → j < n → k < n → slice_index xs j ≡ slice_index xs k → j ≡ k
 
--- the lines of the first k groups, each group's own lines beside each other
-pub record AreGrouped (size : ℕ) (groups : List ℕ) (k : ℕ) (lines : List ℕ) : Type 0 where
-  pub len : length lines ≡ k * size
-  pub group : (y : ℕ) → y < k * size → slice_index lines y / size ≡ slice_index groups (y / size)
-  pub apart : (y z : ℕ) → y < k * size → z < k * size → y / size ≡ z / size → slice_index lines y ≡ slice_index lines z → y ≡ z
-
 -- so many groups of so many lines, in an order in which the lines of one group stay one group
 pub record IsLineOrder (count size : ℕ) (lines : List ℕ) : Type 0 where
   pub order : IsOrder (count * size) lines

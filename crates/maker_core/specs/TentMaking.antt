@@ -6,7 +6,7 @@ use Rattle.gameid_core.specs.Puzzles.{Tents}
 use Rattle.fields_core.specs.TentHouses.{tent_rules}
 use Rattle.fields_core.specs.TentSolutions.{IsTentSolution}
 use Rattle.maker_core.specs.Draws.{IsFirstPassing, filling_at}
-use Rattle.maker_core.specs.Made.{IsFound, IsOnlySolution}
+use Rattle.maker_core.specs.Made.{TellsOne, IsOnlySolution}
 use Rattle.maker_core.specs.TentFilling.{tent_filling, tents_of, tents_pass}
 use Rattle.maker_core.specs.declared.made.Kept.{Kept}
 
@@ -24,5 +24,5 @@ pub record IsTentsMade (size : Extent) (budget tries : ℕ) (s : Stream) (p : Te
   pub filled : g ≡ (filling_at (tent_filling size) k s).tents
   pub size_asked : p.size ≡ size
   pub only : IsOnlySolution (IsTentSolution p) g
-  pub verdict : IsFound (tent_rules p) budget g
+  pub verdict : TellsOne (tent_rules p) budget g
   pub unthinned : kept ≡ []

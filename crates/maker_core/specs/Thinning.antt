@@ -36,7 +36,7 @@ abbrev pub stream_after_clues : {A : Type 0} → Game A → A → Stream → Str
 stream_after_clues game p s = (shuffled_list (clue_places game p) s).1
 
 -- each clue of p is a clue of q
-pub record IsWithin {A : Type 0} (game : Game A) (p q : A) : Type 0 where
+pub record IsThinnedFrom {A : Type 0} (game : Game A) (p q : A) : Type 0 where
   pub frame : game.same_frame p q
   pub clues : (place n : ℕ) → game.clue p place ≡ Some n → game.clue q place ≡ Some n
 
@@ -62,8 +62,8 @@ pub record GivesUp (rules : Puzzle) (budget : ℕ) : Type 0 where
 pub record IsHard {A : Type 0} (game : Game A) (budget : ℕ) (all p : A) (place : ℕ) : Type 0 where
   pub thicker : A
   pub lacks : game.clue thicker place ≡ None
-  pub over : IsWithin game (game.without p place) thicker
-  pub under : IsWithin game thicker all
+  pub over : IsThinnedFrom game (game.without p place) thicker
+  pub under : IsThinnedFrom game thicker all
   pub gave_up : GivesUp (game.rules thicker) budget
 
 -- the clue of the cell was left for this reason
@@ -80,7 +80,7 @@ pub record AreReasons {A : Type 0} (game : Game A) (budget : ℕ) (all p : A) (k
 abbrev pub LeavesNoIdleClue : {A : Type 0} → Game A → Type 0
 LeavesNoIdleClue {A} game = (budget : ℕ) (all p q : A) (kept : List Kept) (place : ℕ)
     → AreReasons game budget all p kept → All (λ k. k.why ≡ Needed) kept
-    → IsWithin game q p → has_clue game p place ≡ true → has_clue game q place ≡ false → HasTwo (game.rules q)
+    → IsThinnedFrom game q p → has_clue game p place ≡ true → has_clue game q place ≡ false → HasTwo (game.rules q)
 
 -- what fewer clues change: no solution is lost, and a search needs no more memory
 pub record IsGame {A : Type 0} (game : Game A) : Type 0 where
@@ -90,7 +90,7 @@ pub record IsGame {A : Type 0} (game : Game A) : Type 0 where
   pub clue_in : (p : A) (place n : ℕ) → game.clue p place ≡ Some n → place < game.cells p
   pub same_cells : (p q : A) → game.same_frame p q → game.cells p ≡ game.cells q
   pub same_all : (p q : A) (g : List ℕ) → game.same_frame p q → game.all_clues p g ≡ game.all_clues q g
-  pub solutions_stay : (p q : A) (g : List ℕ) → IsWithin game p q → Solves (game.rules q) g → Solves (game.rules p) g
+  pub solutions_stay : (p q : A) (g : List ℕ) → IsThinnedFrom game p q → Solves (game.rules q) g → Solves (game.rules p) g
   pub without_frame : (p : A) (place n : ℕ) → game.clue p place ≡ Some n → game.same_frame (game.without p place) p
   pub without_it : (p : A) (place : ℕ) → game.clue (game.without p place) place ≡ None
   pub others_stay : (p : A) (place other : ℕ) → other ≢ place → game.clue (game.without p place) other ≡ game.clue p other

@@ -3,7 +3,7 @@ use Rattle.std.specs.Prelude.{◌≡◌, ℕ, suc, true, Option, Some, None, Lis
 use Rattle.std.specs.List.{IsDistinct}
 use Rattle.engine_core.specs.Puzzle.{Puzzle}
 use Rattle.maker_core.specs.Made.{HasOne}
-use Rattle.maker_core.specs.Thinning.{Game, has_clue, IsWithin, HasTwo, GivesUp, IsReason}
+use Rattle.maker_core.specs.Thinning.{Game, has_clue, IsThinnedFrom, HasTwo, GivesUp, IsReason}
 use Rattle.maker_core.specs.declared.made.Why.{Why}
 use Rattle.maker_core.specs.declared.made.Why.TheVariants.{Needed, Budget}
 use Rattle.maker_core.specs.declared.made.Kept.{Kept}
@@ -23,9 +23,6 @@ abbrev pub IsAsked : {A : Type 0} → Game A → ℕ → ℕ → A → Option Wh
 IsAsked game budget place old None = HasOne (game.rules (game.without old place)) budget
 IsAsked game budget place old (Some why) = IsVerdict (game.rules (game.without old place)) budget why
 
-abbrev pub IsTried : {A : Type 0} → Game A → ℕ → ℕ → A → A → Option Why → Type 0
-IsTried game budget place old new why = IsLeft game place old new why × IsAsked game budget place old why
-
 -- what is told of a cell whose clue was tried: it has none, or the reason
 abbrev pub IsTold : {A : Type 0} → Game A → ℕ → A → A → ℕ → Option Why → Type 0
 IsTold game budget all p place None = game.clue p place ≡ None
@@ -33,7 +30,7 @@ IsTold game budget all p place (Some why) = (has_clue game p place ≡ true) × 
 
 -- the clues of these cells are still to be tried, and all others are told of
 pub record IsThinning {A : Type 0} (game : Game A) (budget : ℕ) (all p : A) (whys : List (Option Why)) (rest : List ℕ) : Type 0 where
-  pub within : IsWithin game p all
+  pub within : IsThinnedFrom game p all
   pub one : HasOne (game.rules p) budget
   pub waiting : (place : ℕ) → Contains rest place → has_clue game p place ≡ true
   pub different : IsDistinct eqb rest

@@ -2,7 +2,7 @@
 
 ghost use Rattle.std.specs.Prelude.{◌≡◌, ◌≤◌, ◌<◌, ◌*◌, ℕ, true, false, All, IfOk, length, replicate};
 ghost use Rattle.grid_core.specs.Grids.{IsGrid};
-ghost use Rattle.fields_core.specs.Light.{cells_of, white, is_lit};
+ghost use Rattle.fields_core.specs.Light.{light_cells, white, is_lit};
 ghost use Rattle.maker_core.specs.LightFilling.{lights_of, white_places, bulbs_after, with_numbers, lit_up, Lighting, light_filling, light_puzzle_of};
 
 use crate::black::draw_black;
@@ -46,8 +46,8 @@ fn white_cells(alloc: Global, puzzle: &LightPuzzle) -> Result<Vec<usize>, AllocE
 
 /// Takes the cells of the list in turn, and puts a bulb into each that neither holds nor sees one.
 fn place_bulbs(puzzle: &LightPuzzle, order: &[usize], grid: &mut Grid)
-    requires within { All (λ c. c < cells_of puzzle.now) order.now }
-    requires none { grid.old ≡ replicate (cells_of puzzle.now) 0 }
+    requires within { All (λ c. c < light_cells puzzle.now) order.now }
+    requires none { grid.old ≡ replicate (light_cells puzzle.now) 0 }
     ensures { grid.new ≡ bulbs_after puzzle.now order.now (length order.now) }
 {
     for k in 0..order.len() {
@@ -64,7 +64,7 @@ fn place_bulbs(puzzle: &LightPuzzle, order: &[usize], grid: &mut Grid)
 
 /// Writes a number on every black cell: how many bulbs stand beside it.
 fn number_cells(puzzle: &mut LightPuzzle, grid: &Grid)
-    requires { IsGrid (cells_of puzzle.old) 2 grid.now }
+    requires { IsGrid (light_cells puzzle.old) 2 grid.now }
     ensures { puzzle.new ≡ with_numbers puzzle.old grid.now }
 {
     for place in 0..puzzle.size().cells() {
@@ -80,7 +80,7 @@ fn number_cells(puzzle: &mut LightPuzzle, grid: &Grid)
 /// that neither holds nor sees one. The grid solves the puzzle with the numbers that it gives.
 fn light_up<G: Rng>(alloc: Global, rng: &mut G, puzzle: &LightPuzzle) -> Result<Grid, AllocError>
     ensures drawn { IfOk result (λ grid. (grid, G.stream rng.new) ≡ lit_up puzzle.now (G.stream rng.old)) }
-    ensures grid { IfOk result (λ grid. IsGrid (cells_of puzzle.now) 2 grid) }
+    ensures grid { IfOk result (λ grid. IsGrid (light_cells puzzle.now) 2 grid) }
     ensures solved { IfOk result (λ grid. is_lit (with_numbers puzzle.now grid) grid ≡ true) }
 {
     let mut order = white_cells(alloc, puzzle)?;
@@ -108,7 +108,7 @@ pub(crate) fn fill_lights<G: Rng>(
     ensures drawn { IfOk result (λ made. (filling : Lighting)
         × ((filling, G.stream rng.new) ≡ light_filling size black (G.stream rng.old))
         × (made.0 ≡ light_puzzle_of size filling) × (made.1 ≡ filling.bulbs)) }
-    ensures grid { IfOk result (λ made. IsGrid (cells_of made.0) 2 made.1) }
+    ensures grid { IfOk result (λ made. IsGrid (light_cells made.0) 2 made.1) }
     ensures solved { IfOk result (λ made. is_lit made.0 made.1 ≡ true) }
     ensures numbers { IfOk result (λ made. made.0 ≡ with_numbers made.0 made.1) }
     ensures full { black ≡ 100 → IfOk result (λ made. (c : ℕ) → white made.0 c ≡ false) }

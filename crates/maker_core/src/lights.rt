@@ -3,14 +3,14 @@
 ghost use Rattle.std.specs.Prelude.{◌≡◌, ◌≢◌, ◌≤◌, ◌↔◌, ℕ, suc, true, false, IsTrue, Err, IfOk};
 ghost use Rattle.grid_core.specs.Grids.{IsGrid};
 ghost use Rattle.gameid_core.specs.Puzzles.{IsWide};
-ghost use Rattle.fields_core.specs.Light.{cells_of, white, is_lit};
+ghost use Rattle.fields_core.specs.Light.{light_cells, white, is_lit};
 ghost use Rattle.fields_core.specs.LightHouses.{light_rules};
 ghost use Rattle.maker_core.specs.declared.made.MakeFault.TheVariants.{Exhausted, SizeRange};
 ghost use Rattle.maker_core.specs.Draws.{IsFirstPassing, NonePasses, filling_at, stream_after};
 ghost use Rattle.maker_core.specs.LightClues.{light_game};
 ghost use Rattle.maker_core.specs.LightFilling.{light_filling, light_passes, light_puzzle_of};
 ghost use Rattle.maker_core.specs.LightMaking.{IsLightMade};
-ghost use Rattle.maker_core.specs.Made.{IsFound, has_one};
+ghost use Rattle.maker_core.specs.Made.{TellsOne, has_one};
 ghost use Rattle.maker_core.specs.Thinning.{IsOnly, stream_after_clues};
 
 use crate::light_filling::fill_lights;
@@ -37,11 +37,11 @@ fn passes(
     answer: &Grid,
     budget: u64,
 ) -> Result<bool, AllocError>
-    requires grid { IsGrid (cells_of puzzle.now) 2 answer.now }
+    requires grid { IsGrid (light_cells puzzle.now) 2 answer.now }
     requires solved { is_lit puzzle.now answer.now ≡ true }
     ensures verdict { IfOk result (λ unique. unique ≡ has_one (light_rules puzzle.now) budget) }
     ensures only { IfOk result (λ unique. unique ≡ true → IsOnly (light_rules puzzle.now) answer.now) }
-    ensures found { IfOk result (λ unique. unique ≡ true → IsFound (light_rules puzzle.now) budget answer.now) }
+    ensures found { IfOk result (λ unique. unique ≡ true → TellsOne (light_rules puzzle.now) budget answer.now) }
     ensures black { ((c : ℕ) → white puzzle.now c ≡ false) → IfOk result (λ unique. unique ≡ true) }
 {
     let rules = LightRules::new(alloc, puzzle)?;

@@ -6,7 +6,7 @@ ghost use Rattle.pattern_core.specs.LineRules.{line_rules};
 ghost use Rattle.pattern_core.specs.Solutions.{IsSolution};
 ghost use Rattle.maker_core.specs.declared.made.MakeFault.TheVariants.{Exhausted, SizeRange};
 ghost use Rattle.maker_core.specs.Draws.{AreAll, IsAfterFirst, NonePasses, stream_after};
-ghost use Rattle.maker_core.specs.Made.{IsFound, IsOnlySolution};
+ghost use Rattle.maker_core.specs.Made.{TellsOne, IsOnlySolution};
 ghost use Rattle.maker_core.specs.PatternMaking.{IsPatternMade, pattern_filling, pattern_of, pattern_passes};
 
 use crate::black::draw_black;
@@ -42,7 +42,7 @@ fn passes(
     requires solved { IsSolution puzzle.now answer.old }
     ensures verdict { IfOk result (λ unique. unique ≡ pattern_passes puzzle.now.size budget answer.old) }
     ensures only { IfOk result (λ unique. unique ≡ true → IsOnlySolution (IsSolution puzzle.now) answer.old) }
-    ensures found { IfOk result (λ unique. unique ≡ true → IsFound (line_rules puzzle.now) budget answer.old) }
+    ensures found { IfOk result (λ unique. unique ≡ true → TellsOne (line_rules puzzle.now) budget answer.old) }
     ensures plain { AreAll 0 answer.old ⊎ AreAll 1 answer.old → IfOk result (λ unique. unique ≡ true) }
     ensures same { answer.new ≡ answer.old }
 {

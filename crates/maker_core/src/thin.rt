@@ -3,8 +3,8 @@
 ghost use Rattle.std.specs.Prelude.{◌≡◌, ◌<◌, [], IfOk, OnOk, IsTrue, IsPermutation};
 ghost use Rattle.engine_core.specs.Puzzle.{FitsIn, needs_of};
 ghost use Rattle.maker_core.specs.Draws.{shuffled_list};
-ghost use Rattle.maker_core.specs.Thinning.{has_clue, clue_places, stream_after_clues, IsWithin, IsOnly, AreReasons};
-ghost use Rattle.maker_core.specs.Made.{HasOne, IsFound};
+ghost use Rattle.maker_core.specs.Thinning.{has_clue, clue_places, stream_after_clues, IsThinnedFrom, IsOnly, AreReasons};
+ghost use Rattle.maker_core.specs.Made.{HasOne, TellsOne};
 ghost use Rattle.maker_core.specs.ThinningSteps.{IsLeft, IsAsked, IsThinning, reasons_from};
 
 use crate::clued::Clued;
@@ -30,12 +30,12 @@ pub(crate) fn thin<P: Clued, G: Rng>(
 ) -> Result<Made<P>, AllocError>
     requires all { puzzle ≡ P.game.all_clues puzzle answer }
     requires only { IsOnly (P.game.rules puzzle) answer }
-    requires found { IsFound (P.game.rules puzzle) budget answer }
+    requires found { TellsOne (P.game.rules puzzle) budget answer }
     ensures drawn { IfOk result (λ _. G.stream rng.new ≡ stream_after_clues P.game puzzle (G.stream rng.old)) }
     ensures answer { IfOk result (λ made. made.answer ≡ answer) }
-    ensures within { IfOk result (λ made. IsWithin P.game made.puzzle puzzle) }
+    ensures within { IfOk result (λ made. IsThinnedFrom P.game made.puzzle puzzle) }
     ensures only { IfOk result (λ made. IsOnly (P.game.rules made.puzzle) answer) }
-    ensures found { IfOk result (λ made. IsFound (P.game.rules made.puzzle) budget answer) }
+    ensures found { IfOk result (λ made. TellsOne (P.game.rules made.puzzle) budget answer) }
     ensures reasons { IfOk result (λ made. AreReasons P.game budget (P.game.all_clues made.puzzle answer) made.puzzle made.kept.items) }
 {
     let mut puzzle = puzzle;

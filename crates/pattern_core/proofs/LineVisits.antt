@@ -15,7 +15,7 @@ use Rattle.engine_core.specs.Sets.{set_of_bits, IsBitsOf}
 use Rattle.engine_core.specs.House.{sets_at, IsDecided, kept_in}
 use Rattle.engine_core.specs.HouseLaws.{visited}
 use Rattle.pattern_core.specs.Lines.{line_places, numbers_of, has_runs, clue_of, HasClue}
-use Rattle.pattern_core.specs.Faults.{IsFirstWrong}
+use Rattle.pattern_core.specs.Faults.{IsFirstWrongLine}
 use Rattle.pattern_core.specs.LineRules.{is_solution, after_line, line_rules}
 use Rattle.pattern_core.specs.LineLaws.{in_grid, is_solution-line}
 
@@ -60,7 +60,7 @@ copied_pattern p size clues n same front all = ap₂ (λ (s : Extent) (c : List 
 
 -- the first wrong line
 pub wrong_line : (p : Pattern) (g : List ℕ) (size : Extent) (line : ℕ) (clue : List ℕ) (told : Bool) → size ≡ p.size → clue ≡ clue_of p line
-    → (runs (numbers_of size g line) ≡ clue → told ≡ true) → told ≡ false → ((k : ℕ) → k < line → HasClue p g k) → IsFirstWrong p g line
+    → (runs (numbers_of size g line) ≡ clue → told ≡ true) → told ≡ false → ((k : ℕ) → k < line → HasClue p g k) → IsFirstWrongLine p g line
 wrong_line p g size line clue told same is tells off before = record {
   wrong = λ has. true≢false (sym (tells (ap (λ (s : Extent). runs (numbers_of s g line)) same ∙ has ∙ sym is)) ∙ off);
   before = before;

@@ -9,7 +9,7 @@ use Rattle.grid_core.specs.Grids.{IsGrid}
 use Rattle.solo_core.specs.RuleSets.{houses_rules, singles_rules}
 use Rattle.solo_core.specs.Solutions as solo
 use Rattle.puzzles.specs.Answers.{Text}
-use Rattle.puzzles.specs.Grades.{HasOne, IsGradeOf, IsRightGrade, IsTold, last_grade, solo_grade, solo_trace}
+use Rattle.puzzles.specs.Grades.{HasOneSolution, IsGradeOf, IsRightGrade, TellsGrade, last_grade, solo_grade, solo_trace}
 use Rattle.puzzles.specs.Stops.{Tells}
 use Rattle.puzzles.specs.Traces.{TellsVisits, solo_house}
 use Rattle.puzzles.specs.declared.grade.Grade.{Grade}
@@ -22,23 +22,23 @@ module _ {S : Type 0} (takes : S → Text → S → Type 0) (traced : Bool) (s t
   -- the rules q are the last ones of the game, p, and the grids that they accept are the solutions
   pub graded_by : (grade : Grade) (p q : Puzzle) (solves : List ℕ → Type 0) (set : RuleSet) (budget : ℕ) (tells : Puzzle → Text → Type 0)
       → q ≡ p → ((g : List ℕ) → Solves p g ↔ solves g)
-      → grade ≡ last_grade set q budget → IsRightGrade (Solves q) grade → Tells takes (IsTold grade traced (tells q)) s t status
+      → grade ≡ last_grade set q budget → IsRightGrade (Solves q) grade → Tells takes (TellsGrade grade traced (tells q)) s t status
       → Tells takes (IsGradeOf solves (last_grade set p budget) traced (tells p)) s t status
   graded_by grade p q solves set budget tells e same is right told = rightly takes solves grade (last_grade set p budget) traced (tells p) s t status
       (is ∙ ap (λ (r : Puzzle). last_grade set r budget) e) (right_as (Solves p) solves grade same (subst (λ (r : Puzzle). IsRightGrade (Solves r) grade) e right))
-      (subst (λ (r : Puzzle). Tells takes (IsTold grade traced (tells r)) s t status) e told)
+      (subst (λ (r : Puzzle). Tells takes (TellsGrade grade traced (tells r)) s t status) e told)
 
   -- a puzzle of Solo that single values and places settle: the grade is by these, and the trace too
   pub by_singles : (p : Solo) (q : Puzzle) → q ≡ singles_rules p → (budget : ℕ) → ((g : List ℕ) → IsGrid (solo.cells_of p) (solo_n p) g → IsTrue ((singles_rules p).is_solution g) ↔ solo.IsSolution p g)
-      → is_settled q ≡ true → HasOne (Solves q) → Tells takes (IsTold (ByRules Singles) traced (TellsVisits (solo_house p) q)) s t status
+      → is_settled q ≡ true → HasOneSolution (Solves q) → Tells takes (TellsGrade (ByRules Singles) traced (TellsVisits (solo_house p) q)) s t status
       → Tells takes (IsGradeOf (solo.IsSolution p) (solo_grade budget p) traced (solo_trace p)) s t status
   by_singles p q e budget accepted settled one told =
       let is : is_settled (singles_rules p) ≡ true = ap is_settled (sym e) ∙ settled in
       rightly takes (solo.IsSolution p) (ByRules Singles) (solo_grade budget p) traced (solo_trace p) s t status
       (ap (λ (b : Bool). if b then ByRules Singles else last_grade Houses (houses_rules p) budget) (sym is))
-      (right_as (Solves (singles_rules p)) (solo.IsSolution p) (ByRules Singles) same (subst (λ (r : Puzzle). HasOne (Solves r)) e one))
-      (subst (λ (b : Bool). Tells takes (IsTold (ByRules Singles) traced (TellsVisits (solo_house p) (if b then singles_rules p else houses_rules p))) s t status) (sym is)
-      (subst (λ (r : Puzzle). Tells takes (IsTold (ByRules Singles) traced (TellsVisits (solo_house p) r)) s t status) e told))
+      (right_as (Solves (singles_rules p)) (solo.IsSolution p) (ByRules Singles) same (subst (λ (r : Puzzle). HasOneSolution (Solves r)) e one))
+      (subst (λ (b : Bool). Tells takes (TellsGrade (ByRules Singles) traced (TellsVisits (solo_house p) (if b then singles_rules p else houses_rules p))) s t status) (sym is)
+      (subst (λ (r : Puzzle). Tells takes (TellsGrade (ByRules Singles) traced (TellsVisits (solo_house p) r)) s t status) e told))
     where
       same : (g : List ℕ) → Solves (singles_rules p) g ↔ solo.IsSolution p g
       same g = (λ h. (accepted g h.grid).0 h.good, λ h. record { grid = h.grid; good = (accepted g h.grid).1 h })

@@ -9,7 +9,7 @@ use Rattle.engine_core.specs.Closing.{closure}
 use Rattle.engine_core.specs.Stored.{is_settled}
 use Rattle.engine_core.specs.Walk.{Mark, Mark.Trial, Mark.Found, IsFound, walk, walk_closed}
 use Rattle.engine_core.specs.Verdict.{Outcome, Outcome.OneGrid, Solves, outcome, verdict_of, spent, trials_in}
-use Rattle.puzzles.specs.Grades.{HasOne, IsGradeOf, IsRightGrade, IsTold, grade_by, searched_grade}
+use Rattle.puzzles.specs.Grades.{HasOneSolution, IsGradeOf, IsRightGrade, TellsGrade, grade_by, searched_grade}
 use Rattle.puzzles.specs.Answers.{Text}
 use Rattle.puzzles.specs.Stops.{Tells}
 use Rattle.puzzles.proofs.StopLemmas.{tells_as}
@@ -55,7 +55,7 @@ full_walk p walk_of E full good = rw (full_alive p.cells p.values E full) (rw fu
 
 -- a puzzle that is settled has the grid of its closure as its one solution
 pub settled_has_one : (p : Puzzle) → walk p 0 p.start ≡ walk_closed p (walk p 1) 0 (closure p p.start)
-    → ((g : List ℕ) → IsFound g (walk p 0 p.start) ↔ Solves p g) → is_settled p ≡ true → HasOne (Solves p)
+    → ((g : List ℕ) → IsFound g (walk p 0 p.start) ↔ Solves p g) → is_settled p ≡ true → HasOneSolution (Solves p)
 settled_has_one p goes_on finds settled =
     let parts = and_parts (is_full p.cells p.values (closure p p.start)) (p.is_solution (grid_of p.cells p.values (closure p p.start))) settled in
     let g : List ℕ = grid_of p.cells p.values (closure p p.start) in
@@ -79,6 +79,6 @@ right_as A B GaveUp same right = tt
 
 -- a grade that is told of a puzzle, and is right, is told rightly
 pub rightly : {S : Type 0} (takes : S → Text → S → Type 0) (solves : List ℕ → Type 0) (grade is : Grade) (traced : Bool) (tells : Text → Type 0) (s t : S) (status : ℕ)
-    → grade ≡ is → IsRightGrade solves grade → Tells takes (IsTold grade traced tells) s t status → Tells takes (IsGradeOf solves is traced tells) s t status
+    → grade ≡ is → IsRightGrade solves grade → Tells takes (TellsGrade grade traced tells) s t status → Tells takes (IsGradeOf solves is traced tells) s t status
 rightly takes solves grade is traced tells s t status e right told = subst (λ (x : Grade). Tells takes (IsGradeOf solves x traced tells) s t status) e
-    (tells_as takes (IsTold grade traced tells) (IsGradeOf solves grade traced tells) s t status (λ a t. record { right = right; told = t }) told)
+    (tells_as takes (TellsGrade grade traced tells) (IsGradeOf solves grade traced tells) s t status (λ a t. record { right = right; told = t }) told)

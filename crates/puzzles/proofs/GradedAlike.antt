@@ -7,7 +7,7 @@ use Rattle.engine_core.specs.Verdict.{Outcome, Outcome.NoGrid, Outcome.OneGrid, 
 use Rattle.engine_core.specs.Walk.{walk}
 use Rattle.gameid_core.specs.declared.fault.IdFault.{IdFault}
 use Rattle.puzzles.specs.Answers.{Answer, Begins, Text}
-use Rattle.puzzles.specs.Grades.{IsTold, grade_by, grade_status, grade_text, last_grade, rule_set_text, searched_grade, settled_or}
+use Rattle.puzzles.specs.Grades.{TellsGrade, grade_by, grade_status, grade_text, last_grade, rule_set_text, searched_grade, settled_or}
 use Rattle.puzzles.specs.IdAnswers.{AllowsId}
 use Rattle.puzzles.specs.LawsOfGrades.{NamesRules}
 use Rattle.puzzles.specs.Refusals.{refused, fault_text}
@@ -168,7 +168,7 @@ pub refusals_apart : (first second : Text) → NamesRules (refused second) ↔ (
 refusals_apart first second = (λ named. absurd (none_named second named), λ e. absurd (omega (arith, e)))
 
 module _ (grade : Grade) (rules : Puzzle) (laws : IsLawful rules) (budget : ℕ) (traced : Bool) (tells : Text → Type 0)
-    (printed : List ℕ → Text) (solved graded : Answer) (goes : GoesWith grade rules budget) (told : IsTold grade traced tells graded) where
+    (printed : List ℕ → Text) (solved graded : Answer) (goes : GoesWith grade rules budget) (told : TellsGrade grade traced tells graded) where
   pub status_alike : solved ≡ verdict_answer printed (verdict_of rules budget) → graded.status ≡ solved.status
   status_alike is = told.status ∙ goes.status ∙ sym (ap (λ (a : Answer). a.status) is ∙ told_status printed (verdict_of rules budget))
 

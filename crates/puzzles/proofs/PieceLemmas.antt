@@ -3,7 +3,7 @@ use Rattle.std.proofs.Common.{◌≡◌, ◌∙◌, ◌++◌, ◌∷◌, ◌+◌
 use Rattle.std.proofs.lemmas.Bool.{cases_lt}
 use Rattle.puzzles.specs.Answers.{Text, Begins, PutUpTo, PutBegun}
 use Rattle.gameid_core.specs.GridTexts.{each_below}
-use Rattle.puzzles.specs.Traces.{KeptOrPut, PutInPieces, TakesPieces, joined}
+use Rattle.puzzles.specs.TracePieces.{KeptOrPut, PutInPieces, TakesPieces, joined}
 
 -- a text begins itself
 begins_itself : (text other : Text) → other ≡ text → Begins text other

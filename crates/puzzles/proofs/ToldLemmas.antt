@@ -1,16 +1,16 @@
 -- A grade's line and the lines of its trace, on their way to a sink: what was put of them, and what is delivered then.
 use Rattle.std.proofs.Common.{◌≡◌, ◌∙◌, ◌++◌, ◌≤◌, ℕ, Bool, [], refl, sym, ap, inr, arith, append_assoc, codes}
 use Rattle.puzzles.specs.Answers.{Answer, Delivers, Text}
-use Rattle.puzzles.specs.Grades.{IsTold, grade_status, grade_text}
+use Rattle.puzzles.specs.Grades.{TellsGrade, grade_status, grade_text}
 use Rattle.puzzles.specs.Stops.{Tells}
-use Rattle.puzzles.specs.Traces.{AddsTrace, BeginsTrace, PutsTrace}
+use Rattle.puzzles.specs.TracePieces.{AddsTrace, BeginsTrace, PutsTrace}
 use Rattle.puzzles.specs.declared.grade.Grade.{Grade}
 
 module _ {S : Type 0} (takes : S → Text → S → Type 0) (nothing : (s : S) → takes s [] s) (both : (s t u : S) (a b : Text) → takes s a t → takes t b u → takes s (a ++ b) u)
     (grade : Grade) (traced : Bool) (tells : Text → Type 0) where
   -- the rest was delivered
   pub told_whole : (s t u : S) (line rest : Text) (a : Answer) (status : ℕ) → line ≡ grade_text grade ++ codes "\n" → PutsTrace takes traced tells s line rest t
-      → Delivers takes t a u status → a.text ≡ rest → a.status ≡ grade_status grade → Tells takes (IsTold grade traced tells) s u status
+      → Delivers takes t a u status → a.text ≡ rest → a.status ≡ grade_status grade → Tells takes (TellsGrade grade traced tells) s u status
   told_whole s t u line rest a status is p d same ends = record {
     written = p.put.done ++ d.written;
     took = both s t u p.put.done d.written p.put.took d.took;
@@ -32,7 +32,7 @@ module _ {S : Type 0} (takes : S → Text → S → Type 0) (nothing : (s : S) �
 
   -- a beginning was put
   pub told_begun : (s u : S) (line : Text) (status : ℕ) → line ≡ grade_text grade ++ codes "\n" → BeginsTrace takes traced tells s line u → 5 ≤ status
-      → Tells takes (IsTold grade traced tells) s u status
+      → Tells takes (TellsGrade grade traced tells) s u status
   told_begun s u line status is p high = record {
     written = p.begun.done;
     took = p.begun.took;

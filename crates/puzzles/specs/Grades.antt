@@ -48,13 +48,13 @@ abbrev pub tent_grade : ℕ → Tents → Grade
 tent_grade budget p = last_grade Local (tent_rules p) budget
 
 -- some grid is a solution, and no other is
-abbrev pub HasOne : (List ℕ → Type 0) → Type 0
-HasOne solves = (g : List ℕ) × solves g × ((h : List ℕ) → solves h → g ≡ h)
+abbrev pub HasOneSolution : (List ℕ → Type 0) → Type 0
+HasOneSolution solves = (g : List ℕ) × solves g × ((h : List ℕ) → solves h → g ≡ h)
 
 -- what a grade means: exactly one grid is a solution; none is; two different ones are; nothing
 abbrev pub IsRightGrade : (List ℕ → Type 0) → Grade → Type 0
-IsRightGrade solves (ByRules set) = HasOne solves
-IsRightGrade solves (BySearch trials) = HasOne solves
+IsRightGrade solves (ByRules set) = HasOneSolution solves
+IsRightGrade solves (BySearch trials) = HasOneSolution solves
 IsRightGrade solves NoSolution = (g : List ℕ) → solves g → ⊥
 IsRightGrade solves SeveralSolutions = (g : List ℕ) × (h : List ℕ) × solves g × solves h × (g ≢ h)
 IsRightGrade solves GaveUp = ⊤
@@ -93,7 +93,7 @@ abbrev pub tent_trace : Tents → Text → Type 0
 tent_trace p = TellsSweeps (tent_rules p)
 
 -- the grade's line, and the lines of a trace
-pub record IsTold (grade : Grade) (traced : Bool) (tells : Text → Type 0) (answer : Answer) : Type 0 where
+pub record TellsGrade (grade : Grade) (traced : Bool) (tells : Text → Type 0) (answer : Answer) : Type 0 where
   pub lines : Text
   pub trace : IsTrace traced tells lines
   pub text : answer.text ≡ grade_text grade ++ codes "\n" ++ lines
@@ -102,4 +102,4 @@ pub record IsTold (grade : Grade) (traced : Bool) (tells : Text → Type 0) (ans
 -- the grade is right of the puzzle's solutions, and it is told
 pub record IsGradeOf (solves : List ℕ → Type 0) (grade : Grade) (traced : Bool) (tells : Text → Type 0) (answer : Answer) : Type 0 where
   pub right : IsRightGrade solves grade
-  pub told : IsTold grade traced tells answer
+  pub told : TellsGrade grade traced tells answer

@@ -13,6 +13,7 @@ pub mod Replies
 pub mod Verdicts
 pub mod Stops
 pub mod Traces
+pub mod TracePieces
 pub mod Grades
 pub mod Checks
 pub mod Refusals

@@ -1,4 +1,4 @@
--- How a run ends, and what it has written then.
+-- How the steps of a run end, and what they have written then. No contract of a run uses these words.
 use Rattle.std.specs.Prelude.{◌≡◌, ◌<◌, ◌≤◌, ℕ, Bool, true, false, Result, Ok, Err}
 use Rattle.puzzles.specs.Answers.{Answer, BeginsAnswer, Text}
 use Rattle.puzzles.specs.declared.stop.Stop.{Stop}
@@ -28,7 +28,7 @@ pub record Tells {S : Type 0} (takes : S → Text → S → Type 0) (allows : An
   pub whole : status < 5 → allows (record { text = written; status = status })
 
 -- How the sink stands after that status: with 6 it failed, and with any other not; with one below 5 it sent all on.
-pub record IsLeft (status : ℕ) (failed flushed : Bool) : Type 0 where
+pub record IsSinkAfter (status : ℕ) (failed flushed : Bool) : Type 0 where
   pub within : status ≤ 6
   pub sound : status ≤ 5 → failed ≡ false
   pub sent : status < 5 → flushed ≡ true

@@ -4,11 +4,11 @@ ghost use Rattle.engine_core.specs.Verdict.{Solves};
 ghost use Rattle.engine_core.specs.Puzzle.{needs_of, FitsIn};
 ghost use Rattle.engine_core.specs.Stored.{is_settled};
 ghost use Rattle.puzzles.specs.Answers.{Text};
-ghost use Rattle.puzzles.specs.Grades.{HasOne, IsGradeOf, IsRightGrade, IsTold, last_grade, light_grade, light_trace, tent_grade, tent_trace, pattern_grade, pattern_trace, solo_grade, solo_trace, grade_status, grade_text, rule_set_text, searched_grade};
+ghost use Rattle.puzzles.specs.Grades.{HasOneSolution, IsGradeOf, IsRightGrade, TellsGrade, last_grade, light_grade, light_trace, tent_grade, tent_trace, pattern_grade, pattern_trace, solo_grade, solo_trace, grade_status, grade_text, rule_set_text, searched_grade};
 ghost use Rattle.puzzles.specs.Grading.{AllowsGrade};
 ghost use Rattle.puzzles.specs.IdAnswers.{AllowsRead};
 ghost use Rattle.puzzles.specs.Refusals.{refused, fault_text};
-ghost use Rattle.puzzles.specs.Stops.{IsLeft, Tells, status_in};
+ghost use Rattle.puzzles.specs.Stops.{IsSinkAfter, Tells, status_in};
 ghost use Rattle.puzzles.specs.Traces.{TellsSweeps, TellsVisits};
 
 use crate::ends::Sink;
@@ -107,7 +107,7 @@ fn grade_line(alloc: Global, grade: Grade) -> Result<String, AllocError>
 fn settles<R: Rules>(store: &mut Store<R>, rules: &R) -> bool
     requires { FitsIn (needs_of (R.puzzle rules.now)) store.old.made }
     ensures settled { result ≡ is_settled (R.puzzle rules.now) }
-    ensures one { result ≡ true → HasOne (Solves (R.puzzle rules.now)) }
+    ensures one { result ≡ true → HasOneSolution (Solves (R.puzzle rules.now)) }
     ensures made { store.new.made ≡ store.old.made }
 {
     engine_core::walk_finds_each_solution_once(rules);
@@ -148,7 +148,7 @@ fn last_grade<R: Rules>(store: &mut Store<R>, rules: &R, set: RuleSet, budget: u
 fn refuse<O: Sink>(alloc: Global, fault: IdFault, output: &mut O) -> Result<u8, Stop>
     requires { O.has_failed output.old ≡ false }
     ensures told { Tells O.takes (λ a. a ≡ refused (fault_text fault)) output.old output.new (status_in result) }
-    ensures left { IsLeft (status_in result) (O.has_failed output.new) (O.is_flushed output.new) }
+    ensures left { IsSinkAfter (status_in result) (O.has_failed output.new) (O.is_flushed output.new) }
 {
     let reply = id_refused(alloc, fault)?;
     Ok(deliver(output, &reply))
@@ -167,8 +167,8 @@ fn tell_with_visits<R: Rules, P: Housed, O: Sink>(
     requires fits { FitsIn (needs_of (R.puzzle rules.now)) store.old.made }
     requires queue { (R.puzzle rules.now).by_queue ≡ true }
     requires not_failed { O.has_failed output.old ≡ false }
-    ensures told { Tells O.takes (IsTold grade traced (TellsVisits (P.house_with puzzle.now) (R.puzzle rules.now))) output.old output.new (status_in result) }
-    ensures left { IsLeft (status_in result) (O.has_failed output.new) (O.is_flushed output.new) }
+    ensures told { Tells O.takes (TellsGrade grade traced (TellsVisits (P.house_with puzzle.now) (R.puzzle rules.now))) output.old output.new (status_in result) }
+    ensures left { IsSinkAfter (status_in result) (O.has_failed output.new) (O.is_flushed output.new) }
 {
     let mut text = grade_line(alloc, grade)?;
     put_closing(puzzle, rules, store, traced, &mut text, output)?;
@@ -188,8 +188,8 @@ fn tell_with_sweeps<R: Rules, O: Sink>(
     requires fits { FitsIn (needs_of (R.puzzle rules.now)) store.old.made }
     requires sweeps { (R.puzzle rules.now).by_queue ≡ false }
     requires not_failed { O.has_failed output.old ≡ false }
-    ensures told { Tells O.takes (IsTold grade traced (TellsSweeps (R.puzzle rules.now))) output.old output.new (status_in result) }
-    ensures left { IsLeft (status_in result) (O.has_failed output.new) (O.is_flushed output.new) }
+    ensures told { Tells O.takes (TellsGrade grade traced (TellsSweeps (R.puzzle rules.now))) output.old output.new (status_in result) }
+    ensures left { IsSinkAfter (status_in result) (O.has_failed output.new) (O.is_flushed output.new) }
 {
     let mut text = grade_line(alloc, grade)?;
     push_closing(rules, store, traced, &mut text)?;
@@ -210,7 +210,7 @@ fn tell_by_visits<P: Solvable + Housed, O: Sink>(
     requires not_failed { O.has_failed output.old ≡ false }
     ensures told { Tells O.takes (IsGradeOf (P.solves puzzle.now) (last_grade set (P.rules_of puzzle.now) budget) traced
         (TellsVisits (P.house_with puzzle.now) (P.rules_of puzzle.now))) output.old output.new (status_in result) }
-    ensures left { IsLeft (status_in result) (O.has_failed output.new) (O.is_flushed output.new) }
+    ensures left { IsSinkAfter (status_in result) (O.has_failed output.new) (O.is_flushed output.new) }
 {
     let rules = puzzle.rules(alloc)?;
     let mut store = Store::new(alloc, &rules)?;
@@ -231,7 +231,7 @@ fn tell_by_sweeps<P: Solvable, O: Sink>(
     requires not_failed { O.has_failed output.old ≡ false }
     ensures told { Tells O.takes (IsGradeOf (P.solves puzzle.now) (last_grade set (P.rules_of puzzle.now) budget) traced
         (TellsSweeps (P.rules_of puzzle.now))) output.old output.new (status_in result) }
-    ensures left { IsLeft (status_in result) (O.has_failed output.new) (O.is_flushed output.new) }
+    ensures left { IsSinkAfter (status_in result) (O.has_failed output.new) (O.is_flushed output.new) }
 {
     let rules = puzzle.rules(alloc)?;
     let mut store = Store::new(alloc, &rules)?;
@@ -264,7 +264,7 @@ pub trait Graded: Solvable {
         requires { O.has_failed output.old ≡ false }
         ensures told { Tells O.takes (IsGradeOf (Self.solves self.now) (grade_of budget self.now) traced (trace_of self.now))
             output.old output.new (status_in result) }
-        ensures left { IsLeft (status_in result) (O.has_failed output.new) (O.is_flushed output.new) };
+        ensures left { IsSinkAfter (status_in result) (O.has_failed output.new) (O.is_flushed output.new) };
 }
 
 impl Graded for PatternPuzzle {
@@ -350,7 +350,7 @@ fn grade_read<P: Graded + Drop, O: Sink>(
     requires { O.has_failed output.old ≡ false }
     ensures told { Tells O.takes (AllowsRead puzzle (λ p. IsGradeOf (P.solves p) (P.grade_of budget p) traced (P.trace_of p)))
         output.old output.new (status_in result) }
-    ensures left { IsLeft (status_in result) (O.has_failed output.new) (O.is_flushed output.new) }
+    ensures left { IsSinkAfter (status_in result) (O.has_failed output.new) (O.is_flushed output.new) }
 {
     match puzzle {
         Ok(puzzle) => puzzle.tell(alloc, budget, traced, output),
@@ -370,7 +370,7 @@ fn tell_id<O: Sink>(
 ) -> Result<u8, Stop>
     requires { O.has_failed output.old ≡ false }
     ensures told { Tells O.takes (AllowsGrade game id.now budget traced) output.old output.new (status_in result) }
-    ensures left { IsLeft (status_in result) (O.has_failed output.new) (O.is_flushed output.new) }
+    ensures left { IsSinkAfter (status_in result) (O.has_failed output.new) (O.is_flushed output.new) }
 {
     match game {
         Game::Solo => grade_read(alloc, read_solo(alloc, id), budget, traced, output),
@@ -393,7 +393,7 @@ pub fn grade_id<O: Sink>(
 ) -> u8
     requires { O.has_failed output.old ≡ false }
     ensures told { Tells O.takes (AllowsGrade game id.now budget traced) output.old output.new result }
-    ensures left { IsLeft result (O.has_failed output.new) (O.is_flushed output.new) }
+    ensures left { IsSinkAfter result (O.has_failed output.new) (O.is_flushed output.new) }
 {
     match tell_id(alloc, game, id, budget, traced, output) {
         Ok(status) => status,

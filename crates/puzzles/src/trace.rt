@@ -4,7 +4,8 @@ ghost use Rattle.gameid_core.specs.Puzzles.{Pattern, Solo};
 ghost use Rattle.puzzles.specs.Answers.{PutUpTo, PutBegun};
 ghost use Rattle.puzzles.specs.Stops.{is_broken};
 ghost use Rattle.engine_core.specs.Puzzle.{needs_of, FitsIn};
-ghost use Rattle.puzzles.specs.Traces.{AddsTrace, BeginsTrace, KeptOrPut, PutInPieces, PutsPieces, PutsTrace, TellsSweeps, TellsVisits, house_text, line_of, solo_house, pattern_house, sweeps_text, visits_text};
+ghost use Rattle.puzzles.specs.TracePieces.{AddsTrace, BeginsTrace, KeptOrPut, PutInPieces, PutsPieces, PutsTrace};
+ghost use Rattle.puzzles.specs.Traces.{TellsSweeps, TellsVisits, house_text, line_of, solo_house, pattern_house, sweeps_text, visits_text};
 
 use crate::decimal::push_number;
 use crate::ends::Sink;

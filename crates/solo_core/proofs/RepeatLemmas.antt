@@ -4,7 +4,7 @@ use Rattle.std.specs.List.{list_any}
 use Rattle.std.proofs.lemmas.Bool.{cases_lt, lt-ltb, le-ltb, and_cases, eqb-true, eq-eqb, or_left, or_right, true≢false, not-false, false_from_ne_true}
 use Rattle.std.proofs.lemmas.List.{get_or-map, length-map, get_or_default, take_more, map-append}
 use Rattle.grid_core.specs.Grids.{IsGrid}
-use Rattle.grid_core.specs.ShortSetLaws.{contains_from_member}
+use Rattle.grid_core.proofs.ShortSets.{contains_from_member}
 use Rattle.gameid_core.specs.Puzzles.{Solo, IsSolo, solo_n}
 use Rattle.solo_core.specs.Solutions.{cells_of, row_of, column_of, block_of, share, IsSolution, is_solution}
 use Rattle.solo_core.specs.SolutionLaws.{lies_in_row, lies_in_column, lies_in_block, apart_in_house, rule_from_test}

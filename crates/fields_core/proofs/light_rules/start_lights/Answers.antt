@@ -1,13 +1,13 @@
 use Rattle.std.proofs.Common.{not, sym, ap, ◌∙◌, arith}
-use Rattle.fields_core.specs.Light.{cells_of, white}
+use Rattle.fields_core.specs.Light.{light_cells, white}
 use Rattle.fields_core.proofs.RuleLemmas.{start-blocked, start-all, same-shape}
 use Rattle.fields_core.proofs.light_rules.start_lights.Goals as goal
 
 pub loop-place-preserved : goal.loop-place-preserved
 loop-place-preserved c = record {
-  started = start-blocked (cells_of c.args.puzzle.now) (λ c'. not (white c.args.puzzle.now c')) c.loop-place.place _ _ c.loop-place.invariant.started (ap not (sym c.is_white.ensures ∙ c.if-is_white.false)) c.strike.ensures.left;
+  started = start-blocked (light_cells c.args.puzzle.now) (λ c'. not (white c.args.puzzle.now c')) c.loop-place.place _ _ c.loop-place.invariant.started (ap not (sym c.is_white.ensures ∙ c.if-is_white.false)) c.strike.ensures.left;
   shape = same-shape _ _ _ c.loop-place.invariant.shape c.strike.ensures.shape;
 }
 
 pub returns-clause-start : goal.returns-clause-start
-returns-clause-start c = start-all (cells_of c.args.puzzle.now) (λ c'. not (white c.args.puzzle.now c')) c.loop-place.place _ c.loop-place.invariant.started (omega (arith, c.cells-place-end.ensures, c.loop-place-test.false))
+returns-clause-start c = start-all (light_cells c.args.puzzle.now) (λ c'. not (white c.args.puzzle.now c')) c.loop-place.place _ c.loop-place.invariant.started (omega (arith, c.cells-place-end.ensures, c.loop-place-test.false))

@@ -1,7 +1,7 @@
 use Rattle.std.proofs.Common.{◌*◌, length, replicate, sym, ◌∙◌, ap, subst}
 use Rattle.grid_core.specs.Extent.{Extent}
 use Rattle.grid_core.specs.Grids.{IsGrid}
-use Rattle.fields_core.specs.Light.{cells_of}
+use Rattle.fields_core.specs.Light.{light_cells}
 use Rattle.maker_core.proofs.LightBulbs.{bulbs_after-grid}
 use Rattle.maker_core.proofs.LightFilled.{order_within, lit_up_is, lit_up_solved}
 use Rattle.maker_core.proofs.light_filling.light_up.Goals as goal
@@ -21,7 +21,7 @@ returns-clause-drawn g c =
     c.place_bulbs.ensures
 
 pub returns-clause-grid : goal.returns-clause-grid
-returns-clause-grid g c = subst (IsGrid (cells_of c.args.puzzle.now) 2) (sym c.place_bulbs.ensures) (bulbs_after-grid c.args.puzzle.now c.deref.result.now (length c.deref.result.now))
+returns-clause-grid g c = subst (IsGrid (light_cells c.args.puzzle.now) 2) (sym c.place_bulbs.ensures) (bulbs_after-grid c.args.puzzle.now c.deref.result.now (length c.deref.result.now))
 
 pub returns-clause-solved : goal.returns-clause-solved
 returns-clause-solved g c =

@@ -1,6 +1,6 @@
 use Rattle.std.proofs.Common.{arith, subst, sym, ◌∙◌}
 use Rattle.grid_core.specs.Grids.{IsGrid}
-use Rattle.fields_core.specs.Light.{cells_of}
+use Rattle.fields_core.specs.Light.{light_cells}
 use Rattle.maker_core.proofs.LightBulbs.{bulbs_none, bulb_held, seen_held, bulbs_more, bulbs_after-grid}
 use Rattle.maker_core.proofs.light_filling.place_bulbs.Goals as goal
 
@@ -9,7 +9,7 @@ loop-k-init c = c.requires.none ∙ bulbs_none c.args.puzzle.now c.args.order.no
 
 pub get-requires : goal.get-requires
 get-requires c =
-    let grid : IsGrid (cells_of c.args.puzzle.now) 2 c.loop-k.grid = subst (IsGrid (cells_of c.args.puzzle.now) 2) (sym c.loop-k.invariant) (bulbs_after-grid c.args.puzzle.now c.args.order.now c.loop-k.k) in
+    let grid : IsGrid (light_cells c.args.puzzle.now) 2 c.loop-k.grid = subst (IsGrid (light_cells c.args.puzzle.now) 2) (sym c.loop-k.invariant) (bulbs_after-grid c.args.puzzle.now c.args.order.now c.loop-k.k) in
     let long = grid.each_cell in
     let within = c.requires.within c.loop-k.k 0 c.loop-k-test.true in
     omega arith
@@ -18,14 +18,14 @@ pub loop-k-preserved-then-get-eq1 : goal.loop-k-preserved-then-get-eq1
 loop-k-preserved-then-get-eq1 c = bulb_held _ _ _ _ _ c.loop-k.invariant c.get.ensures c.if-get-eq1.true
 
 pub sees_a_bulb-requires-clause-fits : goal.sees_a_bulb-requires-clause-fits
-sees_a_bulb-requires-clause-fits c = subst (IsGrid (cells_of c.args.puzzle.now) 2) (sym c.loop-k.invariant) (bulbs_after-grid c.args.puzzle.now c.args.order.now c.loop-k.k)
+sees_a_bulb-requires-clause-fits c = subst (IsGrid (light_cells c.args.puzzle.now) 2) (sym c.loop-k.invariant) (bulbs_after-grid c.args.puzzle.now c.args.order.now c.loop-k.k)
 
 pub loop-k-preserved-then-sees_a_bulb : goal.loop-k-preserved-then-sees_a_bulb
 loop-k-preserved-then-sees_a_bulb c = seen_held _ _ _ _ c.loop-k.invariant (sym c.sees_a_bulb.ensures ∙ c.if-sees_a_bulb.true)
 
 pub set-requires : goal.set-requires
 set-requires c =
-    let grid : IsGrid (cells_of c.args.puzzle.now) 2 c.loop-k.grid = subst (IsGrid (cells_of c.args.puzzle.now) 2) (sym c.loop-k.invariant) (bulbs_after-grid c.args.puzzle.now c.args.order.now c.loop-k.k) in
+    let grid : IsGrid (light_cells c.args.puzzle.now) 2 c.loop-k.grid = subst (IsGrid (light_cells c.args.puzzle.now) 2) (sym c.loop-k.invariant) (bulbs_after-grid c.args.puzzle.now c.args.order.now c.loop-k.k) in
     let long = grid.each_cell in
     let within = c.requires.within c.loop-k.k 0 c.loop-k-test.true in
     omega arith

@@ -1,7 +1,7 @@
 use Rattle.std.proofs.Common.{◌≡◌, List, ℕ}
 use Rattle.rand_core.specs.Stream.{Stream}
 use Rattle.maker_core.specs.SoloFilling.{lines_of_groups}
-use Rattle.maker_core.specs.SoloOrders.{AreGrouped}
+use Rattle.maker_core.proofs.SoloOrderLemmas.{AreGrouped}
 use Rattle.maker_core.specs.Draws.{shuffled_order}
 use Rattle.maker_core.proofs.solo_filling.line_order.Given as goal
 

@@ -1,7 +1,8 @@
 use Rattle.std.proofs.Common.{◌≡◌, ◌++◌, ◌+◌, ◌<◌, false, string_bytes, string_len, slice_index}
 use Rattle.puzzles.specs.Answers.{PutUpTo}
 use Rattle.gameid_core.specs.GridTexts.{each_below}
-use Rattle.puzzles.specs.Traces.{PutInPieces, line_of}
+use Rattle.puzzles.specs.Traces.{line_of}
+use Rattle.puzzles.specs.TracePieces.{PutInPieces}
 use Rattle.puzzles.specs.declared.trace.TheConstants.{PIECE, LINE}
 use Rattle.puzzles.proofs.trace.put_visits.Given as goal
 
