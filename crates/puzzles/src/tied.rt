@@ -13,12 +13,7 @@ fn alike(alloc: Global, first: &[&str], second: &[&str], input: &[u8]) -> Result
 
 /// Whether `grade` has the status of `solve` and, without budget, names rules exactly where
 /// `solve` finds the one grid.
-fn grade_goes_along(
-    alloc: Global,
-    game: &str,
-    id: &str,
-    budget: &str,
-) -> Result<bool, AllocError> {
+fn grade_goes_along(alloc: Global, game: &str, id: &str, budget: &str) -> Result<bool, AllocError> {
     let (_, solved) = seen::outcome(alloc, &["solve", game, id, "--budget", budget], b"")?;
     let (told, graded) = seen::outcome(alloc, &["grade", game, id, "--budget", budget], b"")?;
     let named = ["singles\n", "houses\n", "lines\n", "local\n"]
@@ -70,7 +65,10 @@ fn grades_agree(rt: HostRuntime) -> Result<(), Fail> {
         ("tents", "2x2:_c,0,1,1,0"),
     ] {
         for budget in ["0", "1", "7", "100000"] {
-            assert!(rt; grade_goes_along(rt.alloc(), game, id, budget)?, "{game} {id} {budget}");
+            assert!(rt;
+                grade_goes_along(rt.alloc(), game, id, budget)?,
+                "{game} {id} {budget}"
+            );
         }
     }
     Ok(())
