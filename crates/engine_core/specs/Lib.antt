@@ -8,6 +8,11 @@ pub mod FillingLaws
 pub mod Sets
 pub mod House
 pub mod HouseLaws
+pub mod Every
+pub mod Houses
+pub mod HousesLaws
+pub mod HouseList
+pub mod HouseIndex
 pub mod Queue
 pub mod Walk
 pub mod Verdict
@@ -16,6 +21,7 @@ pub mod Counts
 pub mod Search
 pub mod Frames
 pub mod Stored
+pub mod Working
 pub mod StoreParts
 pub mod Neighbours
 pub mod NeighboursLaws

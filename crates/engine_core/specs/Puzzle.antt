@@ -53,8 +53,8 @@ pub record IsLawful (p : Puzzle) : Type 0 where
   -- a solution lies inside the start, and nothing of it is ever struck
   pub solutions_start : (g : List ℕ) → IsGridOf p g → p.is_solution g ≡ true → IsInside (single g) p.start
   pub solutions_closed : (g : List ℕ) → IsGridOf p g → p.is_solution g ≡ true → IsClosed p (single g)
-  -- a visit of a settled house leaves nothing for a second one
-  pub settles : p.settled ≡ true → (h : ℕ) (K : Candidates) (c v : ℕ) → h < p.houses → after p h K c v ≡ true → p.strikes h (after p h K) c v ≡ false
+  -- a visit of a settled house leaves no value of the board for a second one
+  pub settles : p.settled ≡ true → (h : ℕ) (K : Candidates) (c v : ℕ) → h < p.houses → v < p.values → after p h K c v ≡ true → p.strikes h (after p h K) c v ≡ false
   -- the bound is large enough: in a queue for each house once, and each cell's houses once more for each value that the cell
   -- can lose; in sweeps for each value that the cells can lose, and one sweep more
   pub bound_of_queue : p.by_queue ≡ true → p.houses + sum_below (λ c. (p.values - 1) * share p c) p.cells ≤ p.bound

@@ -1,6 +1,7 @@
 -- Houses that count the ones of their cells.
-use Rattle.std.specs.Prelude.{ℕ, zero, suc, ◌+◌, Bool, ◌&&◌, List, [], ◌∷◌, nat_le, if◌then◌else◌}
-use Rattle.engine_core.specs.Sets.{has_bit}
+use Rattle.std.specs.Prelude.{ℕ, zero, suc, Bool, not, ◌&&◌, ◌==◌, List, [], ◌∷◌, nat_le}
+use Rattle.std.specs.List.{list_any}
+use Rattle.grid_core.specs.Candidates.{Candidates}
 
 -- how many ones a filling has; any number but 0 counts as one
 abbrev pub nonzeros : List ℕ → ℕ
@@ -12,8 +13,17 @@ nonzeros (suc _ ∷ filling) = suc (nonzeros filling)
 abbrev pub counts_between : ℕ → ℕ → List ℕ → Bool
 counts_between least most filling = nat_le least (nonzeros filling) && nat_le (nonzeros filling) most
 
--- whether a value of a cell stays, by the bounds of the whole house
-abbrev pub stays_in_count : ℕ → ℕ → ℕ → ℕ → ℕ → ℕ → Bool
-stays_in_count least most must may set v =
-    has_bit set v && (nat_le least most && (nat_le (least + (if has_bit set 1 then 1 else 0)) (v + may)
-    && nat_le (v + must) (most + (if has_bit set 0 then 0 else 1))))
+-- a cell with both of the values 0 and 1, and one with neither
+abbrev pub is_open : Candidates → ℕ → Bool
+is_open K c = K c 0 && K c 1
+
+abbrev pub is_empty : Candidates → ℕ → Bool
+is_empty K c = not (K c 0) && not (K c 1)
+
+-- the board without what is struck from the cells of a list
+abbrev pub struck_at : List ℕ → (ℕ → ℕ → Bool) → Candidates → Candidates
+struck_at places struck K c v = K c v && not (list_any (λ d. d == c) places && struck c v)
+
+-- the value alone is struck, and from cells with both values alone
+abbrev pub strikes_open : ℕ → Candidates → ℕ → ℕ → Bool
+strikes_open value K c v = (v == value) && is_open K c

@@ -41,7 +41,7 @@ count-lawful cells blocked houses is_solution counting = record {
   solutions_closed = λ g grid good h c v lt on. by_fillings-closed 2 (places h) (holds h) g
       (λ k less. let e = grid.each_cell in let i = (counting.are_houses h lt).within (slice_index (places h) k) (has_place-here (places h) k less) in omega arith)
       (λ d less. grid.each_value d 0 less) (counting.meets_each g grid good h lt) c v on;
-  settles = λ settled h K c v lt on. by_fillings-settled 2 (places h) (holds h) K (λ d u. K d u && not (strikes_at 2 (places h) (decides h) K d u)) (counting.are_houses h lt).different (λ d u. refl) c v on;
+  settles = λ settled h K c v lt _ on. by_fillings-settled 2 (places h) (holds h) K (λ d u. K d u && not (strikes_at 2 (places h) (decides h) K d u)) (counting.are_houses h lt).different (λ d u. refl) c v on;
   bound_of_queue = λ e. absurd (true≢false (sym e));
   bound_of_sweeps = λ e. omega arith;
   some_values = omega arith;

@@ -1,7 +1,6 @@
 -- The rules of Light Up are lawful.
-use Rattle.std.specs.Prelude.{ℕ, ◌≤◌, not}
-use Rattle.std.proofs.Common.{arith}
-use Rattle.engine_core.specs.Puzzle.{IsLawful, Needs, FitsIn}
+use Rattle.std.specs.Prelude.{not}
+use Rattle.engine_core.specs.Puzzle.{IsLawful}
 use Rattle.fields_core.specs.CountLaws.{count-lawful}
 use Rattle.fields_core.specs.Light.{light_cells, white, is_lit}
 use Rattle.fields_core.specs.LightHouses.{light_houses, light_rules}
@@ -9,7 +8,3 @@ use Rattle.fields_core.specs.Ruled.{RuledLight}
 
 pub light-lawful : (r : RuledLight) → IsLawful (light_rules r.light)
 light-lawful r = count-lawful (light_cells r.light) (λ c. not (white r.light c)) (light_houses r.light) (is_lit r.light) r.counting
-
--- room for the longest scope serves rules whose scopes are no longer
-pub serves-smaller : (room : ℕ) (need had : Needs) → FitsIn need had → had.scope ≤ room → need.scope ≤ room
-serves-smaller room need had fits served = let f = fits.scope_in in omega arith

@@ -6,16 +6,16 @@ use Rattle.fields_core.specs.Tents.{tent_cells, is_camp}
 use Rattle.fields_core.specs.TentHouses.{tent_houses, is_bare, tent_rules}
 use Rattle.fields_core.specs.Ruled.{RuledTents}
 use Rattle.fields_core.specs.TentScratches.{ServesTents}
-use Rattle.fields_core.specs.declared.tent_rules.TentScratch.{TentScratch}
+use Rattle.fields_core.specs.declared.tent_pairs.TentScratch.{TentScratch}
 
 pub tent-lawful : (r : RuledTents) → IsLawful (tent_rules r.tents)
 tent-lawful r = count-lawful (tent_cells r.tents) (is_bare r.tents) (tent_houses r.tents) (is_camp r.tents) r.counting
 
--- room for the longest scope and for a pairing of the cells serves rules with as many cells whose scopes are no longer
+-- room for a pairing of the cells serves rules with as many cells
 pub serves-smaller-tents : (scratch : TentScratch) (need had : Needs) → FitsIn need had → ServesTents scratch had → ServesTents scratch need
 serves-smaller-tents scratch need had fits served =
-    let scope = fits.scope_in in
     let cells = fits.same_cells in
-    let counts = served.counts in
     let pairing = served.pairing in
-    record { counts = omega arith; pairing = omega arith }
+    let tents = served.tents in
+    let numbers = served.numbers in
+    record { pairing = omega arith; tents = omega arith; numbers = omega arith }

@@ -1,18 +1,32 @@
--- The cells of a grid of Tents as two sides to be paired.
-use Rattle.std.specs.Prelude.{ℕ, Bool, ◌&&◌, ◌||◌, ◌==◌, if◌then◌else◌, List}
+-- Tents and trees as two sides to be paired, each numbered by place.
+use Rattle.std.specs.Prelude.{◌≡◌, ℕ, ◌<◌, ◌≤◌, Bool, List, filter, length, slice_index}
+use Rattle.std.specs.List.{range_with_len}
+use Rattle.grid_core.specs.Candidates.{count_below}
 use Rattle.grid_core.specs.Regions.{beside}
 use Rattle.engine_core.specs.Puzzle.{has_place}
 use Rattle.gameid_core.specs.Puzzles.{Tents}
-use Rattle.fields_core.specs.Tents.{tree, tent}
+use Rattle.fields_core.specs.Tents.{tent_cells, tree}
 
--- a tree for a cell with a tent, and a tent for any other cell
-abbrev pub suits : Tents → List ℕ → ℕ → ℕ → Bool
-suits p g c d = if tent g c then tree p d else tent g d
+-- the places of the trees, ascending, and how many there are
+abbrev pub trees_of : Tents → List ℕ
+trees_of p = filter (tree p) (range_with_len 0 (tent_cells p))
 
--- a cell beside the cell that suits it
-abbrev pub suits_beside : Tents → List ℕ → ℕ → ℕ → Bool
-suits_beside p g c d = has_place (beside p.size c) d && suits p g c d
+abbrev pub tree_count : Tents → ℕ
+tree_count p = count_below (tree p) (tent_cells p)
 
--- a tent is joined to the trees beside it, a tree to the tents beside it, and any other cell to itself
+-- the tree of this number is beside the cell
+abbrev pub tree_beside : Tents → ℕ → ℕ → Bool
+tree_beside p c r = has_place (beside p.size c) (slice_index (trees_of p) r)
+
+-- a tent, by its number in the list, is joined to the trees beside it
 unfoldable pub may_pair : Tents → List ℕ → ℕ → ℕ → Bool
-may_pair p g c d = if tent g c || tree p c then suits_beside p g c d else c == d
+may_pair p tents l r = tree_beside p (slice_index tents l) r
+
+-- cells of the puzzle
+abbrev pub AreIn : Tents → List ℕ → Type 0
+AreIn p places = (l : ℕ) → l < length places → slice_index places l < tent_cells p
+
+-- for each cell, how many trees stand before it
+pub record AreNumbered (p : Tents) (numbers : List ℕ) : Type 0 where
+  pub long : tent_cells p ≤ length numbers
+  pub each : (c : ℕ) → c < tent_cells p → slice_index numbers c ≡ count_below (tree p) c

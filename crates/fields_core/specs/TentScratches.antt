@@ -1,9 +1,13 @@
--- What a visit and a test of a whole grid of Tents work in.
-use Rattle.std.specs.Prelude.{◌≤◌}
+-- What a test of a whole grid of Tents works in.
+use Rattle.std.specs.Prelude.{ℕ, ◌≤◌, length}
 use Rattle.engine_core.specs.Puzzle.{Needs}
-use Rattle.fields_core.specs.declared.tent_rules.TentScratch.{TentScratch}
+use Rattle.fields_core.specs.declared.tent_pairs.TentScratch.{TentScratch}
 
--- there is room for the longest scope, and for a pairing of the cells
-pub record ServesTents (scratch : TentScratch) (needs : Needs) : Type 0 where
-  pub counts : needs.scope ≤ scratch.counts
-  pub pairing : needs.cells ≤ scratch.pairing.room
+-- there is room for so many tents, trees and cells
+pub record HasRoom (scratch : TentScratch) (n : ℕ) : Type 0 where
+  pub pairing : n ≤ scratch.pairing.room
+  pub tents : n ≤ length scratch.tents.items
+  pub numbers : n ≤ length scratch.numbers.items
+
+abbrev pub ServesTents : TentScratch → Needs → Type 0
+ServesTents scratch needs = HasRoom scratch needs.cells

@@ -1,13 +1,14 @@
 -- The tests of the part before the colon, each in its own words, and which of them is the first that fails.
-use Rattle.std.specs.Prelude.{◌≡◌, ◌≢◌, ◌⊎◌, ℕ, ◌<◌, true, false, ◌&&◌, List, [], ◌∷◌, ◌++◌, length, nat_le, ◌==◌}
+use Rattle.std.specs.Prelude.{◌≡◌, ◌≢◌, ◌⊎◌, ℕ, ◌<◌, Bool, true, false, ◌&&◌, List, [], ◌∷◌, ◌++◌, length, nat_le, ◌==◌}
 use Rattle.std.specs.List.{AllByRecursion}
 use Rattle.std.specs.Char.{is_ascii_digit}
 use Rattle.std.specs.Str.{all_ascii_digits}
 use Rattle.gameid_core.specs.declared.fault.IdFault.{IdFault}
 use Rattle.gameid_core.specs.declared.fault.IdFault.TheVariants.{TooLong, SeedId, NoColon, BadSize, Variant, SizeRange}
 use Rattle.gameid_core.specs.declared.game.Game.{Game}
+use Rattle.gameid_core.specs.declared.game.Game.TheVariants.{Solo}
 use Rattle.gameid_core.specs.Words.{begins, value}
-use Rattle.gameid_core.specs.Head.{in_range, max_id}
+use Rattle.gameid_core.specs.Head.{Sides, in_range, max_id}
 
 -- Of a text ----------------------------------------------------------------------------------------------------
 
@@ -27,33 +28,41 @@ pub record HasNumber (text number rest : List ℕ) : Type 0 where
   pub lead : begins (λ b. nat_le 49 b && nat_le b 57) number ≡ true
   pub all : begins is_ascii_digit rest ≡ false
 
--- the text begins with a number and no 'x' behind it: both sides are that number
-pub record HasOneSide (text : List ℕ) (a b : ℕ) (rest : List ℕ) : Type 0 where
+-- the text begins with a number and no 'x' after it: both sides are that number
+pub record HasOneSide (text : List ℕ) (size : Sides) : Type 0 where
   pub side : List ℕ
-  pub number : HasNumber text side rest
-  pub alone : begins (λ c. c == 120) rest ≡ false
-  pub both : (value side ≡ a) × (value side ≡ b)
+  pub number : HasNumber text side size.rest
+  pub alone : begins (λ c. c == 120) size.rest ≡ false
+  pub both : (value side ≡ size.w) × (value side ≡ size.h)
+  pub plain : size.x ≡ false
+
+-- what follows two numbers: in Solo an 'x' there is part of the size
+abbrev pub GoesOn : Game → List ℕ → Bool → List ℕ → Type 0
+GoesOn game after true rest = (game ≡ Solo) × (after ≡ 120 ∷ rest)
+GoesOn game after false rest = (game ≡ Solo → begins (λ c. c == 120) after ≡ false) × (after ≡ rest)
 
 -- the text begins with a number, 'x' and a number
-pub record HasTwoSides (text : List ℕ) (a b : ℕ) (rest : List ℕ) : Type 0 where
+pub record HasTwoSides (game : Game) (text : List ℕ) (size : Sides) : Type 0 where
   pub left : List ℕ
   pub right : List ℕ
+  pub behind : List ℕ
   pub after : List ℕ
-  pub first : HasNumber text left (120 ∷ after)
-  pub second : HasNumber after right rest
-  pub both : (value left ≡ a) × (value right ≡ b)
+  pub first : HasNumber text left (120 ∷ behind)
+  pub second : HasNumber behind right after
+  pub goes_on : GoesOn game after size.x size.rest
+  pub both : (value left ≡ size.w) × (value right ≡ size.h)
 
--- the text begins with a size of these sides, and goes on with that rest
-abbrev pub HasSize : List ℕ → ℕ → ℕ → List ℕ → Type 0
-HasSize text a b rest = HasOneSide text a b rest ⊎ HasTwoSides text a b rest
+-- the text begins with that size
+abbrev pub HasSize : Game → List ℕ → Sides → Type 0
+HasSize game text size = HasOneSide text size ⊎ HasTwoSides game text size
 
 -- The tests ----------------------------------------------------------------------------------------------------
 
 -- what fails a text that is to be a size alone: it begins with none, goes on behind it, or is outside the limits
 abbrev pub FailsSize : Game → List ℕ → IdFault → Type 0
-FailsSize game text BadSize = (a b : ℕ) (rest : List ℕ) → HasSize text a b rest → ⊥
-FailsSize game text Variant = (a b : ℕ) × (rest : List ℕ) × HasSize text a b rest × (0 < length rest)
-FailsSize game text SizeRange = (a b : ℕ) × (rest : List ℕ) × HasSize text a b rest × (in_range game a b ≡ false)
+FailsSize game text BadSize = (size : Sides) → HasSize game text size → ⊥
+FailsSize game text Variant = (size : Sides) × HasSize game text size × (0 < length size.rest)
+FailsSize game text SizeRange = (size : Sides) × HasSize game text size × (in_range game size.w size.h ≡ false)
 FailsSize game text fault = ⊥
 
 -- what fails an ID: too many bytes, a '#' with no ':' before it, no ':', or what stands before the first ':'

@@ -8,7 +8,7 @@ use Rattle.gameid_core.specs.declared.light_cell.LightCell.{LightCell}
 use Rattle.gameid_core.specs.declared.light_cell.LightCell.TheVariants.{White, Black, Numbered}
 use Rattle.gameid_core.specs.Words.{begins}
 use Rattle.gameid_core.specs.Steps.{◌>>=◌, reading}
-use Rattle.gameid_core.specs.Head.{head_of, max_id}
+use Rattle.gameid_core.specs.Head.{extent_of, head_of, max_id}
 use Rattle.gameid_core.specs.SizeText.{size_text, IsSizeText}
 use Rattle.gameid_core.specs.Cells.{is_letter, fill_step, fill_end, letters}
 use Rattle.gameid_core.specs.Puzzles.{Light, IsLight}
@@ -77,8 +77,8 @@ light_cells_at all at description = reading (fill_step light_token all) (fill_en
 unfoldable pub light_of : List ℕ → Result Light IdFault
 light_of text = do
   head ← head_of game.LightUp text
-  cells ← light_cells_at (head.0 * head.1) head.2 (drop head.2 text)
-  Ok (record { size = record { w = head.0; h = head.1 }; cells = cells })
+  cells ← light_cells_at (head.size.w * head.size.h) head.description (drop head.description text)
+  Ok (record { size = extent_of head.size; cells = cells })
 
 -- The written text ---------------------------------------------------------------------------------------------
 

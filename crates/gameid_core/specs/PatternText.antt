@@ -9,7 +9,7 @@ use Rattle.gameid_core.specs.declared.fault.IdFault.TheVariants.{BadByte, Number
 use Rattle.gameid_core.specs.declared.game.Game.TheVariants as game
 use Rattle.gameid_core.specs.Words.{IsNumeral, IsPlain, begins, words, value}
 use Rattle.gameid_core.specs.Steps.{◌>>=◌, reading}
-use Rattle.gameid_core.specs.Head.{head_of, max_id}
+use Rattle.gameid_core.specs.Head.{extent_of, head_of, max_id}
 use Rattle.gameid_core.specs.SizeText.{size_text, IsSizeText}
 use Rattle.gameid_core.specs.Puzzles.{Pattern, IsPattern, line_cells, lines_of, used}
 
@@ -76,8 +76,8 @@ clues_at size at description = reading (pattern_step size) (pattern_end size) at
 unfoldable pub pattern_of : List ℕ → Result Pattern IdFault
 pattern_of text = do
   head ← head_of game.Pattern text
-  clues ← clues_at (record { w = head.0; h = head.1 }) head.2 (drop head.2 text)
-  Ok (record { size = record { w = head.0; h = head.1 }; clues = clues })
+  clues ← clues_at (extent_of head.size) head.description (drop head.description text)
+  Ok (record { size = extent_of head.size; clues = clues })
 
 -- The written text ---------------------------------------------------------------------------------------------
 

@@ -1,5 +1,5 @@
 -- What the puzzles are, without where they lie in memory.
-use Rattle.std.specs.Prelude.{◌≡◌, ℕ, ◌+◌, ◌*◌, ◌<◌, ◌≤◌, List, [], ◌∷◌, length, nat_lt, if◌then◌else◌}
+use Rattle.std.specs.Prelude.{◌≡◌, ℕ, Bool, ◌+◌, ◌*◌, ◌<◌, ◌≤◌, List, [], ◌∷◌, length, nat_lt, if◌then◌else◌}
 use Rattle.std.specs.List.{AllByRecursion}
 use Rattle.grid_core.specs.Extent.{Extent, IsExtent}
 use Rattle.gameid_core.specs.declared.light_cell.LightCell.{LightCell}
@@ -37,11 +37,16 @@ pub record IsPattern (p : Pattern) : Type 0 where
   pub lines : length p.clues ≡ lines_of p.size
   pub clues : AreClues p.size 0 p.clues
 
--- the givens by place, 0 for a blank cell
+-- columns and rows of sub-blocks, whether both diagonals, too, hold every number once, and the givens by place, 0 for a
+-- blank cell
 pub record Solo : Type 0 where
   pub c : ℕ
   pub r : ℕ
+  pub x : Bool
   pub givens : List ℕ
+
+abbrev pub solo_puzzle : ℕ → ℕ → Bool → List ℕ → Solo
+solo_puzzle c r x givens = record { c = c; r = r; x = x; givens = givens }
 
 -- the numbers of a grid, which are also its rows
 abbrev pub solo_n : Solo → ℕ

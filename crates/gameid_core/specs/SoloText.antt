@@ -7,9 +7,9 @@ use Rattle.gameid_core.specs.declared.game.Game.TheVariants as game
 use Rattle.gameid_core.specs.Words.{begins, words, value}
 use Rattle.gameid_core.specs.Steps.{◌>>=◌, reading}
 use Rattle.gameid_core.specs.Head.{head_of, max_id}
-use Rattle.gameid_core.specs.SizeText.{size_text, IsSizeText}
+use Rattle.gameid_core.specs.SizeText.{solo_size_text, IsSoloSizeText}
 use Rattle.gameid_core.specs.Cells.{is_letter, fill_step, fill_end, letters}
-use Rattle.gameid_core.specs.Puzzles.{Solo, IsSolo, solo_n}
+use Rattle.gameid_core.specs.Puzzles.{Solo, IsSolo, solo_n, solo_puzzle}
 
 -- What a text spells -------------------------------------------------------------------------------------------
 
@@ -46,7 +46,7 @@ pub record SpellsSolo (text : List ℕ) (p : Solo) : Type 0 where
   pub front : List ℕ
   pub tokens : List SoloToken
   pub parts : text ≡ front ++ 58 ∷ flat_map solo_token_text tokens
-  pub size : IsSizeText front p.c p.r
+  pub size : IsSoloSizeText front p.c p.r p.x
   pub each : AllByRecursion (IsSoloToken (solo_n p)) tokens
   pub apart : AreApart tokens
   pub cells : flat_map solo_token_cells tokens ≡ p.givens
@@ -73,7 +73,7 @@ AreNeeded behind (gap ∷ tokens) = (behind ≡ true) × BeginsWithGiven tokens 
 -- the text spells the puzzle, with both numbers of the size and with no letter and no '_' more than is needed
 pub record IsWrittenSolo (text : List ℕ) (p : Solo) : Type 0 where
   pub spells : SpellsSolo text p
-  pub both : spells.front ≡ size_text p.c p.r
+  pub both : spells.front ≡ solo_size_text p.c p.r p.x
   pub full : AreFull spells.tokens
   pub needed : AreNeeded false spells.tokens
 
@@ -94,8 +94,8 @@ solo_cells_at n at description = reading (fill_step (solo_token n) (n * n)) (fil
 unfoldable pub solo_of : List ℕ → Result Solo IdFault
 solo_of text = do
   head ← head_of game.Solo text
-  givens ← solo_cells_at (head.0 * head.1) head.2 (drop head.2 text)
-  Ok (record { c = head.0; r = head.1; givens = givens })
+  givens ← solo_cells_at (head.size.w * head.size.h) head.description (drop head.description text)
+  Ok (solo_puzzle head.size.w head.size.h head.size.x givens)
 
 -- The written text ---------------------------------------------------------------------------------------------
 
@@ -111,4 +111,4 @@ cells_text k touches (zero ∷ cells) = cells_text (k + 1) touches cells
 cells_text k touches (suc v ∷ cells) = before_given k touches ++ (decimal (suc v) ++ cells_text 0 true cells)
 
 abbrev pub solo_text : Solo → List ℕ
-solo_text p = size_text p.c p.r ++ 58 ∷ cells_text 0 false p.givens
+solo_text p = solo_size_text p.c p.r p.x ++ 58 ∷ cells_text 0 false p.givens

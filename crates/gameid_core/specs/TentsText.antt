@@ -7,7 +7,7 @@ use Rattle.gameid_core.specs.declared.fault.IdFault.TheVariants.{BadByte, Number
 use Rattle.gameid_core.specs.declared.game.Game.TheVariants as game
 use Rattle.gameid_core.specs.Words.{IsNumeral, IsPlain, begins, words, value}
 use Rattle.gameid_core.specs.Steps.{◌>>=◌, reading}
-use Rattle.gameid_core.specs.Head.{head_of, max_id}
+use Rattle.gameid_core.specs.Head.{extent_of, head_of, max_id}
 use Rattle.gameid_core.specs.SizeText.{size_text, IsSizeText}
 use Rattle.gameid_core.specs.Puzzles.{Tents, IsTents, line_cells, lines_of}
 
@@ -115,8 +115,8 @@ tents_at size at description = reading (tents_step size) (tents_end size) at no_
 unfoldable pub tents_of : List ℕ → Result Tents IdFault
 tents_of text = do
   head ← head_of game.Tents text
-  s ← tents_at (record { w = head.0; h = head.1 }) head.2 (drop head.2 text)
-  Ok (record { size = record { w = head.0; h = head.1 }; trees = take (head.0 * head.1) s.places; counts = s.counts })
+  s ← tents_at (extent_of head.size) head.description (drop head.description text)
+  Ok (record { size = extent_of head.size; trees = take (head.size.w * head.size.h) s.places; counts = s.counts })
 
 -- The written text ---------------------------------------------------------------------------------------------
 

@@ -46,7 +46,7 @@ pub record Extends (seen : List Bool) (queue : List ℕ) (count : ℕ) (seen' : 
   pub seen_kept : (r : ℕ) → get_or seen r false ≡ true → get_or seen' r false ≡ true
 
 -- the way from a place of the queue back to the root
-pub record IsTrail (joins : ℕ → ℕ → Bool) (rights root : ℕ) (owners : List (Option ℕ)) (queue came parents : List ℕ) (place : ℕ) : Type 0 where
+pub record IsWayBack (joins : ℕ → ℕ → Bool) (rights root : ℕ) (owners : List (Option ℕ)) (queue came parents : List ℕ) (place : ℕ) : Type 0 where
   pub root_first : get_or queue 0 0 ≡ root
   pub apart : (i j : ℕ) → i < j → j ≤ place → get_or queue i 0 ≡ get_or queue j 0 → ⊥
   pub below : (j : ℕ) → j ≤ place → get_or queue j 0 ≤ root

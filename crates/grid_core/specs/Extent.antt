@@ -7,7 +7,7 @@ pub record Extent : Type 0 where
 
 -- the most cells that a side has
 abbrev pub max_side : ℕ
-max_side = 64
+max_side = 120
 
 -- each side is from 1 to the most
 pub record IsExtent (e : Extent) : Type 0 where

@@ -1,9 +1,13 @@
 -- What is drawn from a stream of random words, and the stream that is left; and the fillings that a maker tries.
 use Rattle.std.specs.Prelude.{◌≡◌, ℕ, zero, suc, ◌^◌, ◌<◌, Bool, true, false, cond, List, [], ◌∷◌, ◌++◌, nat_lt, length, slice_index}
 use Rattle.std.specs.List.{range_with_len}
-use Rattle.rand_core.specs.Stream.{Stream, next_u32}
+use Rattle.rand_core.specs.Stream.{Call, Stream, next_u32}
 use Rattle.rand.specs.Uniform.{canon}
 use Rattle.rand.specs.Shuffle.{shuffled}
+
+-- each word that is asked for is below 2 ^ 32, as every generator's is
+pub record HasWords (s : Stream) : Type 0 where
+  pub below : (calls : List Call) → s.u32_after calls < 2 ^ 32
 
 -- a number below n, as `random_range(0..n)` draws it over `u32`
 abbrev pub draw_below : ℕ → Stream → ℕ × Stream

@@ -3,7 +3,9 @@ pub mod LightFilling
 pub mod LightMaking
 pub mod Made
 pub mod PatternMaking
+pub mod Flips
 pub mod SoloFilling
+pub mod SoloXFilling
 pub mod SoloMaking
 pub mod SoloOrders
 pub mod TentFilling

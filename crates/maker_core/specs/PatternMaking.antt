@@ -15,12 +15,12 @@ abbrev pub pattern_filling : Extent → ℕ → Making (List ℕ)
 pattern_filling size black = black_cells black (size.w * size.h)
 
 -- the puzzle of a grid: the clue of each line is its runs
-abbrev pub pattern_of : Extent → List ℕ → Pattern
-pattern_of size g = record { size = size; clues = lines_runs size g }
+abbrev pub clued_by : Extent → List ℕ → Pattern
+clued_by size g = record { size = size; clues = lines_runs size g }
 
 -- a filling passes where the verdict of its puzzle is one
 abbrev pub pattern_passes : Extent → ℕ → List ℕ → Bool
-pattern_passes size budget g = has_one (line_rules (pattern_of size g)) budget
+pattern_passes size budget g = has_one (line_rules (clued_by size g)) budget
 
 -- The first of the fillings that passes gives the solution, and its lines the clues; it is the only solution, and the
 -- verdict says so. Clues are not thinned.
@@ -28,7 +28,7 @@ pub record IsPatternMade (size : Extent) (black budget tries : ℕ) (s : Stream)
   pub k : ℕ
   pub first : IsFirstPassing (pattern_filling size black) (pattern_passes size budget) s tries k
   pub filled : g ≡ filling_at (pattern_filling size black) k s
-  pub clues : p ≡ pattern_of size g
+  pub clues : p ≡ clued_by size g
   pub only : IsOnlySolution (IsSolution p) g
   pub verdict : TellsOne (line_rules p) budget g
   pub unthinned : kept ≡ []

@@ -1,25 +1,31 @@
 -- What fewer givens change.
-use Rattle.std.proofs.Common.{◌≡◌, ℕ, zero, suc, ◌<◌, ◌≤◌, true≢false, Option, Some, None, List, length, map, set, refl, sym, ◌∙◌, ap, subst, arith, inl, inr, ◌⊎◌}
+use Rattle.std.proofs.Common.{◌≡◌, ℕ, zero, suc, ◌+◌, ◌<◌, ◌≤◌, true, true≢false, Option, Some, None, List, length, set, refl, sym, ◌∙◌, ap, subst, arith, inl, inr, ◌⊎◌}
 use Rattle.std.specs.Prelude.{is_some, slice_index, slice_set}
+use Rattle.std.specs.List.{list_all}
 use Rattle.std.proofs.Math.Nat.{le_refl}
-use Rattle.std.proofs.lemmas.Bool.{cases_lt}
+use Rattle.std.proofs.lemmas.Bool.{cases_lt, and_parts, and_from}
 use Rattle.std.proofs.lemmas.List.{get_or-set_other, get_or-set_same, get_or_past, length-set}
-use Rattle.gameid_core.specs.Puzzles.{Solo}
+use Rattle.grid_core.specs.Candidates.{all_below}
+use Rattle.grid_core.proofs.CandidateLemmas.{all_below-at, all_below-from}
+use Rattle.gameid_core.specs.Puzzles.{Solo, solo_puzzle}
 use Rattle.engine_core.specs.Verdict.{Solves}
 use Rattle.solo_core.specs.RuleSets.{houses_rules}
-use Rattle.solo_core.specs.Houses.{house_places}
-use Rattle.solo_core.specs.Solutions.{IsSolution}
-use Rattle.solo_core.specs.SolutionLaws.{rule_from_test, test_from_rule}
+use Rattle.solo_core.specs.declared.solo_house.SoloHouse.{SoloHouse}
+use Rattle.solo_core.specs.declared.solo_house.SoloHouse.TheVariants.{Row, Column, Block, Diagonal}
+use Rattle.solo_core.specs.Cells.{cells_of}
+use Rattle.solo_core.specs.Houses.{houses_of, IsHouseOf, lies_in, places_of}
+use Rattle.solo_core.specs.NoRepeat.{no_repeat}
+use Rattle.solo_core.specs.Solutions.{IsSolution, given_stands, numbers_of, is_solution}
+use Rattle.solo_core.specs.SolutionLaws.{given_from_test, test_from_given}
+use Rattle.maker_core.specs.SoloFilling.{all_given}
 use Rattle.maker_core.specs.Thinning.{IsThinnedFrom, IsGame}
 use Rattle.maker_core.specs.SoloClues.{given_clue, SameSolo, solo_game}
 
-with_givens : ℕ → ℕ → List ℕ → Solo
-with_givens c r givens = record { c = c; r = r; givens = givens }
-
--- the second puzzle, of the first one's size
-resized : (p q : Solo) → SameSolo p q → q ≡ with_givens p.c p.r q.givens
-unfolding with_givens
-resized p q same = ap (λ c. with_givens c q.r q.givens) (sym same.c) ∙ ap (λ r. with_givens p.c r q.givens) (sym same.r)
+-- the second puzzle, with the first one's size
+resized : (p q : Solo) → SameSolo p q → q ≡ solo_puzzle p.c p.r p.x q.givens
+resized p q same =
+    ap (λ c. solo_puzzle c q.r q.x q.givens) (sym same.c) ∙ ap (λ r. solo_puzzle p.c r q.x q.givens) (sym same.r)
+    ∙ ap (λ x. solo_puzzle p.c p.r x q.givens) (sym same.x)
 
 held : Option ℕ → ℕ
 held None = 0
@@ -30,7 +36,7 @@ unfolding held
 clue_is zero n e = absurd (true≢false (sym (ap is_some e)))
 clue_is (suc v) n e = ap held e
 
-is_clue : (v : ℕ) → 1 ≤ v → given_clue v ≡ Some v
+pub is_clue : (v : ℕ) → 1 ≤ v → given_clue v ≡ Some v
 is_clue zero low = absurd (omega arith)
 is_clue (suc v) low = refl
 
@@ -41,25 +47,66 @@ given_in givens place n e = by (cases_lt place (length givens))
     by (inl below) = below
     by (inr past) = absurd (true≢false (sym (sym (ap (λ v. is_some (given_clue v)) (get_or_past givens place 0 past)) ∙ ap is_some e)))
 
-solution_stays : (p : Solo) (givens g : List ℕ) → ((place n : ℕ) → given_clue (slice_index p.givens place) ≡ Some n → given_clue (slice_index givens place) ≡ Some n)
-    → IsSolution (with_givens p.c p.r givens) g → IsSolution p g
-unfolding with_givens
+-- ---- solutions
+-- puzzles of one size have the same houses
+pub house_stays : (p : Solo) (givens : List ℕ) (house : SoloHouse) → IsHouseOf p house → IsHouseOf (solo_puzzle p.c p.r p.x givens) house
+house_stays p givens (Row y) is = is
+house_stays p givens (Column i) is = is
+house_stays p givens (Block b) is = is
+house_stays p givens (Diagonal d) is = is
+
+pub lies_alike : (p : Solo) (givens : List ℕ) (house : SoloHouse) (place : ℕ) → lies_in p house place ≡ lies_in (solo_puzzle p.c p.r p.x givens) house place
+lies_alike p givens (Row y) place = refl
+lies_alike p givens (Column i) place = refl
+lies_alike p givens (Block b) place = refl
+lies_alike p givens (Diagonal d) place = refl
+
+places_alike : (p : Solo) (givens : List ℕ) (house : SoloHouse) → places_of p house ≡ places_of (solo_puzzle p.c p.r p.x givens) house
+places_alike p givens (Row y) = refl
+places_alike p givens (Column i) = refl
+places_alike p givens (Block b) = refl
+places_alike p givens (Diagonal d) = refl
+
+-- the clues of p are clues of the puzzle with these givens
+abbrev pub HasClues : Solo → List ℕ → Type 0
+HasClues p givens = (place n : ℕ) → given_clue (slice_index p.givens place) ≡ Some n → given_clue (slice_index givens place) ≡ Some n
+
+given_stays : (p : Solo) (givens g : List ℕ) (place : ℕ) → HasClues p givens → (1 ≤ slice_index givens place → slice_index g place + 1 ≡ slice_index givens place)
+    → 1 ≤ slice_index p.givens place → slice_index g place + 1 ≡ slice_index p.givens place
+given_stays p givens g place clues stands low =
+    let same = clue_is (slice_index givens place) (slice_index p.givens place) (clues place (slice_index p.givens place) (is_clue _ low)) in
+    stands (omega (arith, low, same)) ∙ same
+
+-- what differs in a puzzle of the same size differs in the puzzle
+pub solution_stays : (p : Solo) (givens g : List ℕ) → HasClues p givens → IsSolution (solo_puzzle p.c p.r p.x givens) g → IsSolution p g
 solution_stays p givens g clues s = record {
   grid = s.grid;
-  givens = λ place below low. let same = clue_is (slice_index givens place) (slice_index p.givens place) (clues place (slice_index p.givens place) (is_clue _ low)) in s.givens place below (omega (arith, low, same)) ∙ same;
-  different = s.different;
+  givens = λ place below. given_stays p givens g place clues (s.givens place below);
+  different = λ house is j k lj lk ne a b. s.different house (house_stays p givens house is) j k lj lk ne
+      (sym (lies_alike p givens house j) ∙ a) (sym (lies_alike p givens house k) ∙ b);
 }
 
 -- each solution of a puzzle with more givens is one of the puzzle
 pub solved_by_fewer : (p q : Solo) (g : List ℕ) → IsThinnedFrom solo_game p q → IsSolution q g → IsSolution p g
 solved_by_fewer p q g w s = solution_stays p q.givens g w.clues (subst (λ x. IsSolution x g) (resized p q w.frame) s)
 
+test_stays : (p : Solo) (givens g : List ℕ) → HasClues p givens → is_solution (solo_puzzle p.c p.r p.x givens) g ≡ true → is_solution p g ≡ true
+unfolding is_solution
+test_stays p givens g clues on =
+    let q = solo_puzzle p.c p.r p.x givens in
+    let parts = and_parts (all_below (given_stands q g) (cells_of q)) _ on in
+    and_from _ _
+    (all_below-from (given_stands p g) (cells_of p) (λ place below.
+    test_from_given p g place (given_stays p givens g place clues (given_from_test q g place (all_below-at (given_stands q g) (cells_of q) place parts.0 below)))))
+    (same_tests ∙ parts.1)
+  where
+    same_tests : list_all (λ house. no_repeat (numbers_of p g house)) (houses_of p) ≡ list_all (λ house. no_repeat (numbers_of (solo_puzzle p.c p.r p.x givens) g house)) (houses_of p)
+    same_tests = refl
+
 solutions_stay : (p q : Solo) (g : List ℕ) → IsThinnedFrom solo_game p q → Solves (houses_rules q) g → Solves (houses_rules p) g
-unfolding with_givens
-solutions_stay p q g w s = record {
-  grid = (subst (λ x. Solves (houses_rules x) g) (resized p q w.frame) s).grid;
-  good = test_from_rule p g (solved_by_fewer p q g w (rule_from_test q g s.grid s.good));
-}
+solutions_stay p q g w s =
+    let same = subst (λ x. Solves (houses_rules x) g) (resized p q w.frame) s in
+    record { grid = same.grid; good = test_stays p q.givens g w.clues same.good }
 
 cleared : (givens : List ℕ) (place : ℕ) → slice_index (slice_set givens place 0) place ≡ 0
 cleared givens place = by (cases_lt place (length givens))
@@ -69,16 +116,15 @@ cleared givens place = by (cases_lt place (length givens))
     by (inr past) = get_or_past (set givens place 0) place 0 (omega (arith, past, length-set givens place 0))
 
 pub solo_is_game : IsGame solo_game
-unfolding with_givens house_places
 solo_is_game = record {
-  same_itself = λ p. record { c = refl; r = refl; cells = refl };
-  same_back = λ p q same. record { c = sym same.c; r = sym same.r; cells = sym same.cells };
-  same_through = λ p q r a b. record { c = a.c ∙ b.c; r = a.r ∙ b.r; cells = a.cells ∙ b.cells };
+  same_itself = λ p. record { c = refl; r = refl; x = refl; cells = refl };
+  same_back = λ p q same. record { c = sym same.c; r = sym same.r; x = sym same.x; cells = sym same.cells };
+  same_through = λ p q r a b. record { c = a.c ∙ b.c; r = a.r ∙ b.r; x = a.x ∙ b.x; cells = a.cells ∙ b.cells };
   clue_in = λ p place n e. given_in p.givens place n e;
   same_cells = λ p q same. same.cells;
-  same_all = λ p q g same. ap (λ c. with_givens c p.r (map suc g)) same.c ∙ ap (λ r. with_givens q.c r (map suc g)) same.r;
+  same_all = λ p q g same. ap (λ c. all_given c p.r p.x g) same.c ∙ ap (λ r. all_given q.c r p.x g) same.r ∙ ap (λ x. all_given q.c q.r x g) same.x;
   solutions_stay = solutions_stay;
-  without_frame = λ p place n e. record { c = refl; r = refl; cells = length-set p.givens place 0 };
+  without_frame = λ p place n e. record { c = refl; r = refl; x = refl; cells = length-set p.givens place 0 };
   without_it = λ p place. ap given_clue (cleared p.givens place);
   others_stay = λ p place other apart. ap given_clue (get_or-set_other p.givens place other 0 0 apart);
   needs_less = λ p place n e. record { same_cells = refl; same_values = refl; houses_in = le_refl _; bound_in = le_refl _; scope_in = le_refl _ };

@@ -1,11 +1,11 @@
--- The filling of Solo: a grid that has every number once in each row, column and block, and in which the numbers, the
+-- The filling of plain Solo: a grid that has every number once in each row, column and block, and in which the numbers, the
 -- bands, the rows of each band, the stacks and the columns of each stack are then shuffled. A band is c rows, a stack is
 -- r columns. A grid holds the number v as v - 1.
-use Rattle.std.specs.Prelude.{ℕ, zero, suc, ◌+◌, ◌*◌, ◌/◌, ◌%◌, List, [], ◌++◌, map, slice_index}
+use Rattle.std.specs.Prelude.{ℕ, zero, suc, ◌+◌, ◌*◌, ◌/◌, ◌%◌, Bool, List, [], ◌++◌, map, slice_index}
 use Rattle.std.specs.List.{range_with_len}
 use Rattle.rand_core.specs.Stream.{Stream}
-use Rattle.gameid_core.specs.Puzzles.{Solo}
-use Rattle.maker_core.specs.Draws.{shuffled_order}
+use Rattle.gameid_core.specs.Puzzles.{Solo, solo_puzzle}
+use Rattle.maker_core.specs.Draws.{Making, shuffled_order}
 
 -- the number in column x and row y before anything is shuffled
 abbrev pub first_number : ℕ → ℕ → ℕ → ℕ → ℕ
@@ -30,20 +30,20 @@ line_order count size s =
     lines_of_groups size groups.0 count groups.1
 
 -- the grid, row by row, in which each number has become another, and rows and columns stand in a new order
-unfoldable pub numbered : ℕ → ℕ → List ℕ → List ℕ → List ℕ → List ℕ
-numbered c r numbers rows columns =
+unfoldable pub rearranged : ℕ → ℕ → List ℕ → List ℕ → List ℕ → List ℕ
+rearranged c r numbers rows columns =
     map (λ place. slice_index numbers (first_number c r (slice_index columns (place % (c * r))) (slice_index rows (place / (c * r)))))
     (range_with_len 0 ((c * r) * (c * r)))
 
 -- the grid that is made of a stream, and the stream that is left: the numbers are shuffled first, then the r bands and
 -- the rows in each, then the c stacks and the columns in each
-abbrev pub solo_filling : ℕ → ℕ → Stream → List ℕ × Stream
-solo_filling c r s =
+abbrev pub plain_filling : ℕ → ℕ → Making (List ℕ)
+plain_filling c r s =
     let numbers = shuffled_order (c * r) s in
     let rows = line_order r c numbers.1 in
     let columns = line_order c r rows.1 in
-    (numbered c r numbers.0 rows.0 columns.0, columns.1)
+    (rearranged c r numbers.0 rows.0 columns.0, columns.1)
 
 -- the puzzle that gives all cells of the grid
-abbrev pub all_given : ℕ → ℕ → List ℕ → Solo
-all_given c r g = record { c = c; r = r; givens = map suc g }
+abbrev pub all_given : ℕ → ℕ → Bool → List ℕ → Solo
+all_given c r x g = solo_puzzle c r x (map suc g)

@@ -20,8 +20,8 @@ abbrev pub is_free : Camp → ℕ → Bool
 is_free camp c = (slice_index camp.trees c == 0) && (slice_index camp.tents c == 0)
 
 -- the free cells beside a cell: up, left, right, down
-unfoldable pub free_beside : Extent → Camp → ℕ → List ℕ
-free_beside size camp c = filter (is_free camp) (beside size c)
+unfoldable pub free_cells_beside : Extent → Camp → ℕ → List ℕ
+free_cells_beside size camp c = filter (is_free camp) (beside size c)
 
 -- the cell touches a tent
 unfoldable pub touches_tent : Extent → List ℕ → ℕ → Bool
@@ -30,13 +30,13 @@ touches_tent size tents c = any_below (λ d. touches size c d && tent tents d) (
 -- fewer tents stand than a fifth of the cells, and the cell has no tree, touches no tent and has free cells beside it
 unfoldable pub may_pitch : Extent → Camp → ℕ → Bool
 may_pitch size camp c =
-    nat_lt camp.pitched (size.w * size.h / 5) && ((slice_index camp.trees c == 0) && (not (touches_tent size camp.tents c) && nat_lt 0 (length (free_beside size camp c))))
+    nat_lt camp.pitched (size.w * size.h / 5) && ((slice_index camp.trees c == 0) && (not (touches_tent size camp.tents c) && nat_lt 0 (length (free_cells_beside size camp c))))
 
 -- a tent in the cell and a tree in one of the free cells beside it, which a draw names
 unfoldable pub pitch : Extent → Camp → ℕ → Making Camp
 pitch size camp c s =
-    let draw = draw_below (length (free_beside size camp c)) s in
-    (record { trees = slice_set camp.trees (slice_index (free_beside size camp c) draw.0) 1; tents = slice_set camp.tents c 1; pitched = suc camp.pitched }, draw.1)
+    let draw = draw_below (length (free_cells_beside size camp c)) s in
+    (record { trees = slice_set camp.trees (slice_index (free_cells_beside size camp c) draw.0) 1; tents = slice_set camp.tents c 1; pitched = suc camp.pitched }, draw.1)
 
 -- the cell is taken
 unfoldable pub take_cell : Extent → Camp → ℕ → Making Camp
@@ -54,9 +54,9 @@ tent_filling size s =
     camp_after size order.0 (length order.0) order.1
 
 -- its puzzle: the trees, and how many tents each line has
-unfoldable pub tents_of : Extent → Camp → Tents
-tents_of size camp = record { size = size; trees = camp.trees; counts = lines_ones size camp.tents }
+unfoldable pub tents_puzzle_of : Extent → Camp → Tents
+tents_puzzle_of size camp = record { size = size; trees = camp.trees; counts = lines_ones size camp.tents }
 
 -- a filling passes where the verdict of its puzzle is one
 abbrev pub tents_pass : Extent → ℕ → Camp → Bool
-tents_pass size budget camp = has_one (tent_rules (tents_of size camp)) budget
+tents_pass size budget camp = has_one (tent_rules (tents_puzzle_of size camp)) budget

@@ -7,7 +7,7 @@ use Rattle.fields_core.specs.TentHouses.{tent_rules}
 use Rattle.fields_core.specs.TentSolutions.{IsTentSolution}
 use Rattle.maker_core.specs.Draws.{IsFirstPassing, filling_at}
 use Rattle.maker_core.specs.Made.{TellsOne, IsOnlySolution}
-use Rattle.maker_core.specs.TentFilling.{tent_filling, tents_of, tents_pass}
+use Rattle.maker_core.specs.TentFilling.{tent_filling, tents_puzzle_of, tents_pass}
 use Rattle.maker_core.specs.declared.made.Kept.{Kept}
 
 -- both sides are at least 4
@@ -20,7 +20,7 @@ pub record IsTentSize (size : Extent) : Type 0 where
 pub record IsTentsMade (size : Extent) (budget tries : ℕ) (s : Stream) (p : Tents) (g : List ℕ) (kept : List Kept) : Type 0 where
   pub k : ℕ
   pub first : IsFirstPassing (tent_filling size) (tents_pass size budget) s tries k
-  pub clues : p ≡ tents_of size (filling_at (tent_filling size) k s)
+  pub clues : p ≡ tents_puzzle_of size (filling_at (tent_filling size) k s)
   pub filled : g ≡ (filling_at (tent_filling size) k s).tents
   pub size_asked : p.size ≡ size
   pub only : IsOnlySolution (IsTentSolution p) g

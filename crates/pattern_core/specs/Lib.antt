@@ -4,3 +4,4 @@ pub mod LineRules
 pub mod LineLaws
 pub mod Faults
 pub mod Track
+pub mod LineClues

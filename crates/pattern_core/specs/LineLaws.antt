@@ -6,7 +6,7 @@ use Rattle.std.proofs.lemmas.Nat.{mod-mul-add}
 use Rattle.std.proofs.lemmas.Simd.{map-map}
 use Rattle.std.proofs.lemmas.List.FromFn.{length-map-range_with_len, get_or-map-range_with_len}
 use Rattle.std.proofs.Math.Nat.{mul-le-mul_right}
-use Rattle.grid_core.specs.Extent.{Extent, IsExtent}
+use Rattle.grid_core.specs.Extent.{Extent, IsExtent, max_side}
 use Rattle.grid_core.specs.Candidates.{IsInside, all_of, single, sum_below, count_below}
 use Rattle.grid_core.specs.Grids.{IsGrid, row_cells, column_cells}
 use Rattle.grid_core.specs.Regions.{row_places, column_places}
@@ -238,8 +238,11 @@ all-within : (cells values c v : ℕ) → all_of cells values c v ≡ true → (
 unfolding all_of
 all-within cells values c v on = let w = and_parts _ _ on in (ltb-true c cells w.0, ltb-true v values w.1)
 
-few_cells : (size : Extent) → IsExtent size → size.w * size.h ≤ 65536
-few_cells size e = let a : size.w * size.h ≤ 256 * size.h = mul-le-mul_right size.h (let le : size.w ≤ 256 = let z = e.w_high in omega arith in le) in let z = e.h_high in omega arith
+pub few_cells : (size : Extent) → IsExtent size → size.w * size.h ≤ 65536
+few_cells size e =
+    let rows : size.w * size.h ≤ max_side * size.h = mul-le-mul_right size.h e.w_high in
+    let columns : size.h * max_side ≤ max_side * max_side = mul-le-mul_right max_side e.h_high in
+    omega arith
 
 pub line_rules-lawful : (p : Pattern) → IsExtent p.size → IsLawful (line_rules p)
 unfolding after
@@ -252,7 +255,7 @@ line_rules-lawful p extent = record {
       (λ k less. let e = grid.each_cell in let z = in_grid p.size h (slice_index (line_places p.size h) k) lt (has_place-here (line_places p.size h) k less) in omega arith)
       (λ d less. grid.each_value d 0 less)
       (ap (has_runs (clue_of p h)) (numbers_of-places p.size g h) ∙ has_runs-from (clue_of p h) (numbers_of p.size g h) (is_solution-line p g h good lt)) c v on;
-  settles = λ settled h K c v lt on.
+  settles = λ settled h K c v lt _ on.
       by_fillings-settled 2 (line_places p.size h) (has_runs (clue_of p h)) K (λ d u. K d u && not (strikes_at 2 (line_places p.size h) (strikes_by_fillings (has_runs (clue_of p h))) K d u)) (different_places p.size h) (λ d u. refl) c v on;
   bound_of_queue = λ e. let z = few_shares p (p.size.w * p.size.h) in omega arith;
   bound_of_sweeps = λ e. absurd (true≢false e);

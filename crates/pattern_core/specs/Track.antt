@@ -1,8 +1,12 @@
 -- A clue spelled out as cells, and how a line goes along it. The places along the clue are numbered from 0, before its
 -- first cell. A line that is at a place has passed what is spelled before it. No public contract uses these words.
-use Rattle.std.specs.Prelude.{◌≡◌, ℕ, zero, suc, ◌<◌, ◌≤◌, Bool, true, false, ◌&&◌, ◌||◌, ◌==◌, List, [], ◌∷◌, ◌++◌, length, get_or, replicate, drop, map}
+use Rattle.std.specs.Prelude.{◌≡◌, ℕ, zero, suc, ◌<◌, ◌≤◌, Bool, true, false, ◌&&◌, ◌||◌, ◌==◌, List, [], ◌∷◌, ◌++◌, length, get_or, replicate, drop, map, if◌then◌else◌}
+use Rattle.std.specs.List.{AllByRecursion}
+use Rattle.gameid_core.specs.BlackRuns.{runs}
+use Rattle.gameid_core.specs.Puzzles.{used}
 use Rattle.engine_core.specs.Filling.{Set, some_filling}
 use Rattle.engine_core.specs.Sets.{has_bit, set_of_bits}
+use Rattle.pattern_core.specs.declared.track.Steps.{Steps}
 
 -- 1 for each black cell of a run, and 0 for a white cell after it
 unfoldable pub spelled : List ℕ → List ℕ
@@ -30,12 +34,13 @@ track_of cells = record {
   ends = λ p. (p == length cells) || (suc p == length cells);
 }
 
--- the same as bits, one for each place
-unfoldable pub track_bits : ℕ → ℕ → ℕ → ℕ → Track
-track_bits stay white black ends = record { stay = has_bit stay; white = has_bit white; black = has_bit black; ends = has_bit ends }
+-- the steps along a clue, as sets of places, of which `has` tells what they have
+abbrev pub along : {A : Type 0} → (A → ℕ → Bool) → Steps A → Track
+along has steps = record { stay = has steps.stay; white = has steps.white; black = has steps.black; ends = has steps.ends }
 
 -- no line goes on from so far a place
 pub record IsBelow (n : ℕ) (t : Track) : Type 0 where
+  pub first : 0 < n
   pub white : (p : ℕ) → t.white p ≡ true → suc p < n
   pub black : (p : ℕ) → t.black p ≡ true → suc p < n
 
@@ -53,14 +58,14 @@ some_leads t sets test p = some_filling sets (λ cells. leads t p cells && test 
 unfoldable pub ahead : Track → Bool → Bool → (ℕ → Bool) → ℕ → Bool
 ahead t white black after p = (white && ((t.stay p && after p) || (t.white p && after (suc p)))) || (black && (t.black p && after (suc p)))
 
--- one step on from a place that was reached and may be left
-unfoldable pub came : (ℕ → Bool) → (ℕ → Bool) → ℕ → Bool
-came reached leaves zero = false
-came reached leaves (suc p) = reached p && leaves p
+-- each place one further on
+unfoldable pub one_on : (ℕ → Bool) → ℕ → Bool
+one_on places zero = false
+one_on places (suc p) = places p
 
 -- the places reached by a cell of this set
 unfoldable pub moved : Track → Bool → Bool → (ℕ → Bool) → ℕ → Bool
-moved t white black reached p = (white && ((reached p && t.stay p) || came reached t.white p)) || (black && came reached t.black p)
+moved t white black reached p = (white && ((t.stay p && reached p) || one_on (λ q. t.white q && reached q) p)) || (black && one_on (λ q. t.black q && reached q) p)
 
 -- every filling passes
 unfoldable pub any_cells : List ℕ → Bool
@@ -74,19 +79,34 @@ cell_is k v cells = get_or cells k 0 == v
 abbrev pub sets_of : List ℕ → List Set
 sets_of sets = map (set_of_bits 2) sets
 
--- the rows of the table from `from` on: bit p of row i says whether there is a way from place p along the clue to an end,
--- by the cells from i on
-pub record AreRows (t : Track) (sets rows : List ℕ) (from : ℕ) : Type 0 where
+-- the rows of the table from `from` on: row i has the places along the clue from which there is a way to an end, by the
+-- cells from i on
+pub record AreRows {A : Type 0} (has : A → ℕ → Bool) (t : Track) (sets : List ℕ) (rows : List A) (from : ℕ) : Type 0 where
   pub room : length sets < length rows
-  pub row : (i p : ℕ) → from ≤ i → i ≤ length sets → has_bit (get_or rows i 0) p ≡ some_leads t (drop i (sets_of sets)) any_cells p
+  pub row : (i p : ℕ) (row : A) → from ≤ i → i ≤ length sets → has (get_or rows i row) p ≡ some_leads t (drop i (sets_of sets)) any_cells p
 
 -- the bits kept of the cells before `upto` are those that some filling shows
 pub record AreKept (t : Track) (sets kept : List ℕ) (upto : ℕ) : Type 0 where
   pub as_many : length kept ≡ length sets
   pub bits : (k v : ℕ) → k < upto → v < 2 → has_bit (get_or kept k 0) v ≡ (has_bit (get_or sets k 0) v && some_leads t (sets_of sets) (cell_is k v) 0)
 
--- the bits of spelled cells so far
-pub record IsSpelling (cells : List ℕ) (white black len : ℕ) : Type 0 where
-  pub len_is : len ≡ length cells
-  pub whites : (p : ℕ) → has_bit white p ≡ (get_or cells p 2 == 0)
-  pub blacks : (p : ℕ) → has_bit black p ≡ (get_or cells p 2 == 1)
+-- what is spelled so far: its white places, its black ones, and the place after it
+pub record IsSpelling {A : Type 0} (has : A → ℕ → Bool) (cells : List ℕ) (white black next : A) : Type 0 where
+  pub whites : (p : ℕ) → has white p ≡ (get_or cells p 2 == 0)
+  pub blacks : (p : ℕ) → has black p ≡ (get_or cells p 2 == 1)
+  pub nexts : (p : ℕ) → has next p ≡ (p == length cells)
+
+-- so many cells from a place on, 1 for a black one
+unfoldable pub cells_from : (ℕ → Bool) → ℕ → ℕ → List ℕ
+cells_from black zero p = []
+cells_from black (suc n) p = (if black p then 1 else 0) ∷ cells_from black n (suc p)
+
+-- the clue that a track spells: the runs of its black cells, of so many places
+unfoldable pub clue_along : ℕ → Track → List ℕ
+clue_along n t = runs (cells_from t.black n 0)
+
+-- the track is that of a clue, whose places are so few
+pub record IsTrack (n : ℕ) (t : Track) : Type 0 where
+  pub spells : t ≡ track_of (spelled (clue_along n t))
+  pub positive : AllByRecursion (λ k. 0 < k) (clue_along n t)
+  pub fits : used (clue_along n t) < n

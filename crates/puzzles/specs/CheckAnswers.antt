@@ -40,6 +40,7 @@ solo_fault p (solo.Given place) = codes "given " ++ place_text (solo_n p) place
 solo_fault p (solo.Row y) = codes "row " ++ decimal y
 solo_fault p (solo.Column x) = codes "column " ++ decimal x
 solo_fault p (solo.Block b) = codes "block " ++ decimal b
+solo_fault p (solo.Diagonal d) = codes "diagonal " ++ decimal d
 
 abbrev pub light_fault : Light → LightFault → Text
 light_fault p (light.Black place) = codes "black " ++ place_text p.size.w place

@@ -1,5 +1,5 @@
--- What `grade` says of a puzzle: the rule set that settles it, or else the verdict of its walk with a budget.
-use Rattle.std.specs.Prelude.{◌≡◌, ◌≢◌, ◌++◌, ℕ, Bool, List, if◌then◌else◌, codes, decimal, ⊤}
+-- What `grade` says of a puzzle: the first rule set of a list that settles it, or else the verdict of a search.
+use Rattle.std.specs.Prelude.{◌≡◌, ◌≢◌, ◌++◌, ℕ, Bool, List, [], ◌∷◌, if◌then◌else◌, codes, decimal, ⊤}
 use Rattle.engine_core.specs.Puzzle.{Puzzle}
 use Rattle.engine_core.specs.Stored.{is_settled}
 use Rattle.engine_core.specs.Verdict.{Outcome, Outcome.NoGrid, Outcome.OneGrid, Outcome.TwoGrids, Outcome.OutOfBudget, verdict_of, trials_in}
@@ -8,13 +8,13 @@ use Rattle.gameid_core.specs.Puzzles.{Pattern, Solo, Light, Tents}
 use Rattle.fields_core.specs.LightHouses.{light_rules}
 use Rattle.fields_core.specs.TentHouses.{tent_rules}
 use Rattle.pattern_core.specs.LineRules.{line_rules}
-use Rattle.solo_core.specs.RuleSets.{singles_rules, houses_rules}
+use Rattle.solo_core.specs.RuleSets.{singles_rules, houses_rules, crossings_rules}
 use Rattle.puzzles.specs.Answers.{Answer, Text}
-use Rattle.puzzles.specs.Traces.{IsTrace, TellsVisits, TellsSweeps, pattern_house, solo_house}
+use Rattle.puzzles.specs.Traces.{IsTrace, TellsVisits, TellsSweeps, pattern_name, solo_name}
 use Rattle.puzzles.specs.declared.grade.Grade.{Grade}
 use Rattle.puzzles.specs.declared.grade.Grade.TheVariants.{ByRules, BySearch, NoSolution, SeveralSolutions, GaveUp}
 use Rattle.puzzles.specs.declared.grade.RuleSet.{RuleSet}
-use Rattle.puzzles.specs.declared.grade.RuleSet.TheVariants.{Singles, Houses, Lines, Local}
+use Rattle.puzzles.specs.declared.grade.RuleSet.TheVariants.{Singles, Houses, Crossings, Lines, Local}
 
 -- by a verdict, where the whole walk has so many trials
 abbrev pub grade_by : ℕ → Outcome → Grade
@@ -27,25 +27,60 @@ grade_by trials (OutOfBudget found) = GaveUp
 unfoldable pub searched_grade : Puzzle → ℕ → Grade
 searched_grade rules budget = grade_by (trials_in (walk rules 0 rules.start)) (verdict_of rules budget)
 
+-- a rule set that may settle a puzzle, by its name
+pub record Settling : Type 0 where
+  pub set : RuleSet
+  pub rules : Puzzle
+
 -- by the rule set, where the closure of its start board is full and the grid a solution
 abbrev pub settled_or : RuleSet → Puzzle → Grade → Grade
 settled_or set rules otherwise = if is_settled rules then ByRules set else otherwise
 
--- by a game's last rule set, and else by a search with it
-abbrev pub last_grade : RuleSet → Puzzle → ℕ → Grade
-last_grade set rules budget = settled_or set rules (searched_grade rules budget)
+-- by the first of the rule sets that settles the puzzle
+abbrev pub first_settled : List Settling → Grade → Grade
+first_settled [] otherwise = otherwise
+first_settled (first ∷ rest) otherwise = settled_or first.set first.rules (first_settled rest otherwise)
+
+-- the rules that were tried last: those of the first set that settles the puzzle, and else those of the last in the list
+abbrev pub last_tried : Puzzle → List Settling → Puzzle
+last_tried before [] = before
+last_tried before (first ∷ rest) = if is_settled first.rules then first.rules else last_tried first.rules rest
+
+-- by the rule sets in turn, and else by a search with rules of its own
+abbrev pub listed_grade : List Settling → Puzzle → ℕ → Grade
+listed_grade sets search budget = first_settled sets (searched_grade search budget)
+
+-- a list of one
+abbrev pub only_set : RuleSet → Puzzle → List Settling
+only_set set rules = record { set = set; rules = rules } ∷ []
+
+-- the rule sets that are tried in each game, in order
+abbrev pub after_singles : Solo → List Settling
+after_singles p = record { set = Houses; rules = houses_rules p } ∷ only_set Crossings (crossings_rules p)
+
+abbrev pub solo_sets : Solo → List Settling
+solo_sets p = record { set = Singles; rules = singles_rules p } ∷ after_singles p
+
+abbrev pub pattern_sets : Pattern → List Settling
+pattern_sets p = only_set Lines (line_rules p)
+
+abbrev pub light_sets : Light → List Settling
+light_sets p = only_set Local (light_rules p)
+
+abbrev pub tent_sets : Tents → List Settling
+tent_sets p = only_set Local (tent_rules p)
 
 abbrev pub solo_grade : ℕ → Solo → Grade
-solo_grade budget p = settled_or Singles (singles_rules p) (last_grade Houses (houses_rules p) budget)
+solo_grade budget p = listed_grade (solo_sets p) (houses_rules p) budget
 
 abbrev pub pattern_grade : ℕ → Pattern → Grade
-pattern_grade budget p = last_grade Lines (line_rules p) budget
+pattern_grade budget p = listed_grade (pattern_sets p) (line_rules p) budget
 
 abbrev pub light_grade : ℕ → Light → Grade
-light_grade budget p = last_grade Local (light_rules p) budget
+light_grade budget p = listed_grade (light_sets p) (light_rules p) budget
 
 abbrev pub tent_grade : ℕ → Tents → Grade
-tent_grade budget p = last_grade Local (tent_rules p) budget
+tent_grade budget p = listed_grade (tent_sets p) (tent_rules p) budget
 
 -- some grid is a solution, and no other is
 abbrev pub HasOneSolution : (List ℕ → Type 0) → Type 0
@@ -62,6 +97,7 @@ IsRightGrade solves GaveUp = ⊤
 abbrev pub rule_set_text : RuleSet → Text
 rule_set_text Singles = codes "singles"
 rule_set_text Houses = codes "houses"
+rule_set_text Crossings = codes "crossings"
 rule_set_text Lines = codes "lines"
 rule_set_text Local = codes "local"
 
@@ -79,18 +115,18 @@ grade_status NoSolution = 1
 grade_status SeveralSolutions = 3
 grade_status GaveUp = 4
 
--- the closing of the rule set that was tried last
+-- the closing by the rules that were tried last
 abbrev pub solo_trace : Solo → Text → Type 0
-solo_trace p = TellsVisits (solo_house p) (if is_settled (singles_rules p) then singles_rules p else houses_rules p)
+solo_trace p = TellsVisits (solo_name p) (last_tried (houses_rules p) (solo_sets p))
 
 abbrev pub pattern_trace : Pattern → Text → Type 0
-pattern_trace p = TellsVisits (pattern_house p) (line_rules p)
+pattern_trace p = TellsVisits (pattern_name p) (last_tried (line_rules p) (pattern_sets p))
 
 abbrev pub light_trace : Light → Text → Type 0
-light_trace p = TellsSweeps (light_rules p)
+light_trace p = TellsSweeps (last_tried (light_rules p) (light_sets p))
 
 abbrev pub tent_trace : Tents → Text → Type 0
-tent_trace p = TellsSweeps (tent_rules p)
+tent_trace p = TellsSweeps (last_tried (tent_rules p) (tent_sets p))
 
 -- the grade's line, and the lines of a trace
 pub record TellsGrade (grade : Grade) (traced : Bool) (tells : Text → Type 0) (answer : Answer) : Type 0 where

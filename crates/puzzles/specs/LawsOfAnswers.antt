@@ -1,9 +1,9 @@
 -- How many answers a request allows.
-use Rattle.std.specs.Prelude.{◌≡◌, ℕ, Option, Some, false}
-use Rattle.gameid_core.specs.declared.game.Game.{Game}
+use Rattle.std.specs.Prelude.{◌≡◌, Option, Some, Bool, true, false}
+use Rattle.gameid_core.specs.declared.game.Game.TheVariants.{LightUp, Solo}
 use Rattle.puzzles.specs.Answers.{Answer, Text}
 use Rattle.puzzles.specs.Outputs.{Allows}
-use Rattle.puzzles.specs.Requests.{solve, grade}
+use Rattle.puzzles.specs.Requests.{Asked, generate, grade}
 
 -- one answer is allowed, and no other
 pub record HasOneAnswer (allows : Answer → Type 0) : Type 0 where
@@ -11,11 +11,14 @@ pub record HasOneAnswer (allows : Answer → Type 0) : Type 0 where
   pub allowed : allows answer
   pub only : (other : Answer) → allows other → answer ≡ other
 
--- a solve, of an ID or of each line of the input
-abbrev pub SolvingHasOneAnswer : Type 0
-SolvingHasOneAnswer = (game : Game) (id : Option Text) (budget : ℕ) (input : Text) → HasOneAnswer (Allows (Some (solve game id budget)) input)
+-- The request has an answer that its words and the input fix. A trace is open, and so is which clues of a made puzzle of
+-- Solo or Light Up are left.
+abbrev pub is_fixed : Option Asked → Bool
+is_fixed (Some (grade game id budget true)) = false
+is_fixed (Some (generate Solo size seed budget tries black)) = false
+is_fixed (Some (generate LightUp size seed budget tries black)) = false
+is_fixed _ = true
 
--- no two answers are allowed to a grade without a trace
-abbrev pub GradingHasNoTwoAnswers : Type 0
-GradingHasNoTwoAnswers = (game : Game) (id : Text) (budget : ℕ) (input : Text) (answer other : Answer)
-    → Allows (Some (grade game id budget false)) input answer → Allows (Some (grade game id budget false)) input other → answer ≡ other
+-- a solve, a check, a grade without a trace, a making of Pattern or Tents, and words that are refused, on any input
+abbrev pub FixedRequestsHaveOneAnswer : Type 0
+FixedRequestsHaveOneAnswer = (asked : Option Asked) (input : Text) → is_fixed asked ≡ true → HasOneAnswer (Allows asked input)

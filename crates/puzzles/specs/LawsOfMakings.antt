@@ -1,5 +1,5 @@
--- What `solve` says of what `generate` hands out.
-use Rattle.std.specs.Prelude.{◌≡◌, ◌≢◌, ◌↔◌, ℕ, List, Contains}
+-- What `solve` and `check` say of what `generate` hands out.
+use Rattle.std.specs.Prelude.{◌≡◌, ◌≢◌, ◌↔◌, ℕ, List, Bool, true, Contains}
 use Rattle.rand_core.specs.Stream.{Stream}
 use Rattle.grid_core.specs.Extent.{Extent}
 use Rattle.gameid_core.specs.declared.game.Game.{Game}
@@ -14,16 +14,21 @@ use Rattle.maker_core.specs.SoloMaking.{IsSoloMade}
 use Rattle.maker_core.specs.declared.made.Kept.{Kept}
 use Rattle.maker_core.specs.declared.made.Why.TheVariants.{Needed}
 use Rattle.puzzles.specs.Answers.{Answer, Text}
+use Rattle.puzzles.specs.Checking.{AllowsCheck, is_read}
+use Rattle.puzzles.specs.LawsOfChecks.{Passes}
 use Rattle.puzzles.specs.Makings.{AllowsMade, made_answer}
 use Rattle.puzzles.specs.Replies.{one_answer}
 use Rattle.puzzles.specs.Solving.{AllowsSolve}
 
--- an ID is handed out with a grid, and with that budget the one answer to it is that this grid is the solution
+-- An ID is handed out with a grid. The ID is read, with that budget the one answer to it is that this grid is the solution,
+-- and the grid passes.
 pub record IsSolvedAsMade (game : Game) (budget : ℕ) (answer : Answer) : Type 0 where
   pub id : Text
   pub grid : Text
   pub told : answer ≡ made_answer id grid
+  pub read : is_read game id ≡ true
   pub solved : (said : Answer) → AllowsSolve game budget id said ↔ (said ≡ one_answer grid)
+  pub passes : Passes (AllowsCheck game id) grid
 
 abbrev pub MadePuzzlesAreSolved : Type 0
 MadePuzzlesAreSolved = (game : Game) (size : Text) (seed budget tries black : ℕ) (answer : Answer)
@@ -35,8 +40,8 @@ IsNeeded kept place = Contains kept (record { place = place; why = Needed })
 
 -- an ID of a made puzzle without a clue that is needed has never one solution, whatever the budget
 abbrev pub SoloNeedsItsClues : Type 0
-SoloNeedsItsClues = (c r budget tries : ℕ) (s : Stream) (p : Solo) (g : List ℕ) (kept : List Kept) (place : ℕ)
-    → IsSoloMade c r budget tries s p g kept → IsNeeded kept place
+SoloNeedsItsClues = (c r : ℕ) (x : Bool) (budget tries : ℕ) (s : Stream) (p : Solo) (g : List ℕ) (kept : List Kept) (place : ℕ)
+    → IsSoloMade c r x budget tries s p g kept → IsNeeded kept place
     → (id : Text) (any : ℕ) (said : Answer) → SpellsSolo id (solo_game.without p place) → AllowsSolve game.Solo any id said → said.status ≢ 0
 
 abbrev pub LightsNeedTheirClues : Type 0

@@ -16,7 +16,11 @@ abbrev pub next_tail : Tail → ℕ → Tail
 next_tail Nothing byte = if byte == 13 then Return else More
 next_tail _ byte = More
 
--- the state stands for these bytes, all that came since the last line
-pub record Holds (line : Line) (piece : List ℕ) : Type 0 where
-  pub kept : line.kept.items ≡ take max_id piece
-  pub tail : line.tail ≡ tail_of (drop max_id piece)
+-- the state stands for these bytes, all that came since the last line, of which no more than so many are kept
+pub record HoldsUpTo (most : ℕ) (line : Line) (piece : List ℕ) : Type 0 where
+  pub kept : line.kept.items ≡ take most piece
+  pub tail : line.tail ≡ tail_of (drop most piece)
+
+-- no more than the bytes of an ID are kept
+abbrev pub Holds : Line → List ℕ → Type 0
+Holds line piece = HoldsUpTo max_id line piece

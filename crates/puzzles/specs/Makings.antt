@@ -1,8 +1,7 @@
 -- The answers of `generate`.
-use Rattle.std.specs.Prelude.{◌≡◌, ◌⊎◌, ◌++◌, ◌&&◌, nat_le, ℕ, Bool, List, Result, Ok, Err, codes, if◌then◌else◌}
+use Rattle.std.specs.Prelude.{◌≡◌, ◌⊎◌, ◌++◌, ◌&&◌, nat_le, ℕ, Bool, false, List, Result, Ok, Err, codes, if◌then◌else◌}
 use Rattle.rand_core.specs.Stream.{Stream}
-use Rattle.grid_core.specs.Extent.{Extent}
-use Rattle.gameid_core.specs.Head.{size_of}
+use Rattle.gameid_core.specs.Head.{SizeRead, extent_of, size_of}
 use Rattle.gameid_core.specs.declared.fault.IdFault.{IdFault}
 use Rattle.gameid_core.specs.declared.fault.IdFault.TheVariants.{SizeRange}
 use Rattle.gameid_core.specs.declared.game.Game.{Game}
@@ -18,7 +17,7 @@ use Rattle.maker_core.specs.LightMaking.{IsLightMade}
 use Rattle.maker_core.specs.TentFilling.{tent_filling, tents_pass}
 use Rattle.maker_core.specs.TentMaking.{IsTentsMade}
 use Rattle.maker_core.specs.PatternMaking.{IsPatternMade, pattern_filling, pattern_passes}
-use Rattle.maker_core.specs.SoloMaking.{IsSoloMade}
+use Rattle.maker_core.specs.SoloMaking.{IsSoloMade, NoneFound}
 use Rattle.maker_core.specs.declared.made.Kept.{Kept}
 use Rattle.puzzles.specs.Answers.{Answer, Text}
 use Rattle.gameid_core.specs.GridTexts.{grid_text, pattern_cell, solo_cell, solo_extent, light_cell, tents_cell}
@@ -34,9 +33,9 @@ abbrev pub exhausted_answer : Answer
 exhausted_answer = record { text = codes "exhausted\n"; status = 4 }
 
 -- the size that the whole text is, within the limits of what is made: a side of Tents is at least 4
-abbrev pub size_to_make : Game → Text → Result (ℕ × ℕ) IdFault
+abbrev pub size_to_make : Game → Text → Result SizeRead IdFault
 size_to_make game.Tents text =
-    size_of game.Tents text >>= (λ size. if nat_le 4 size.0 && nat_le 4 size.1 then Ok size else Err SizeRange)
+    size_of game.Tents text >>= (λ size. if nat_le 4 size.w && nat_le 4 size.h then Ok size else Err SizeRange)
 size_to_make game text = size_of game text
 
 -- the first fault of the size is told
@@ -46,14 +45,13 @@ pub record IsSizeRefused (game : Game) (text : Text) (answer : Answer) : Type 0 
   pub told : answer ≡ refused (fault_text fault)
 
 -- the size that was read, and an answer that it allows
-pub record IsOfSize (game : Game) (text : Text) (allows : ℕ → ℕ → Answer → Type 0) (answer : Answer) : Type 0 where
-  pub w : ℕ
-  pub h : ℕ
-  pub read : size_to_make game text ≡ Ok (w, h)
-  pub allowed : allows w h answer
+pub record IsOfSize (game : Game) (text : Text) (allows : SizeRead → Answer → Type 0) (answer : Answer) : Type 0 where
+  pub size : SizeRead
+  pub read : size_to_make game text ≡ Ok size
+  pub allowed : allows size answer
 
 -- what is allowed for a size text: its fault, or what is made of the size
-abbrev pub AllowsMaking : Game → Text → (ℕ → ℕ → Answer → Type 0) → Answer → Type 0
+abbrev pub AllowsMaking : Game → Text → (SizeRead → Answer → Type 0) → Answer → Type 0
 AllowsMaking game text allows answer = IsSizeRefused game text answer ⊎ IsOfSize game text allows answer
 
 -- a puzzle is told that was made with that solution and with what is known of each clue that was left; its ID spells it
@@ -74,32 +72,37 @@ pub record IsExhausted {A : Type 0} (make : Making A) (passes : A → Bool) (s :
 
 -- the answers that `generate pattern SIZE` allows
 abbrev pub AllowsMadePattern : Text → ℕ → ℕ → ℕ → ℕ → Answer → Type 0
-AllowsMadePattern text seed budget tries black = AllowsMaking game.Pattern text (λ w h answer.
-    IsHandedOut (IsPatternMade (record { w = w; h = h }) black budget tries (seed_stream seed)) SpellsPattern pattern_text (λ p g. grid_text (pattern_cell p g) p.size) answer
-    ⊎ IsExhausted (pattern_filling (record { w = w; h = h }) black) (pattern_passes (record { w = w; h = h }) budget) (seed_stream seed) tries answer)
+AllowsMadePattern text seed budget tries black = AllowsMaking game.Pattern text (λ size answer.
+    IsHandedOut (IsPatternMade (extent_of size) black budget tries (seed_stream seed)) SpellsPattern pattern_text
+    (λ p g. grid_text (pattern_cell p g) p.size) answer
+    ⊎ IsExhausted (pattern_filling (extent_of size) black) (pattern_passes (extent_of size) budget) (seed_stream seed) tries answer)
 
--- there were no tries, and that is told
-pub record IsWithoutTries (tries : ℕ) (answer : Answer) : Type 0 where
-  pub none : tries ≡ 0
+-- no try found a grid, and that is told; without diagonals there were no tries
+pub record IsUnfilled (size : SizeRead) (budget tries : ℕ) (s : Stream) (answer : Answer) : Type 0 where
+  pub none : NoneFound size.w size.h size.x budget s tries
+  pub plain : size.x ≡ false → tries ≡ 0
   pub told : answer ≡ exhausted_answer
 
--- the answers that `generate solo SIZE` allows: it is exhausted only without tries
+-- the answers that `generate solo SIZE` allows
 abbrev pub AllowsMadeSolo : Text → ℕ → ℕ → ℕ → Answer → Type 0
-AllowsMadeSolo text seed budget tries = AllowsMaking game.Solo text (λ c r answer.
-    IsHandedOut (IsSoloMade c r budget tries (seed_stream seed)) SpellsSolo solo_text (λ p g. grid_text (solo_cell p g) (solo_extent p)) answer
-    ⊎ IsWithoutTries tries answer)
+AllowsMadeSolo text seed budget tries = AllowsMaking game.Solo text (λ size answer.
+    IsHandedOut (IsSoloMade size.w size.h size.x budget tries (seed_stream seed)) SpellsSolo solo_text
+    (λ p g. grid_text (solo_cell p g) (solo_extent p)) answer
+    ⊎ IsUnfilled size budget tries (seed_stream seed) answer)
 
 -- the answers that `generate lightup SIZE` allows
 abbrev pub AllowsMadeLights : Text → ℕ → ℕ → ℕ → ℕ → Answer → Type 0
-AllowsMadeLights text seed budget tries black = AllowsMaking game.LightUp text (λ w h answer.
-    IsHandedOut (IsLightMade (record { w = w; h = h }) black budget tries (seed_stream seed)) SpellsLight light_text (λ p g. grid_text (light_cell p g) p.size) answer
-    ⊎ IsExhausted (light_filling (record { w = w; h = h }) black) (light_passes (record { w = w; h = h }) budget) (seed_stream seed) tries answer)
+AllowsMadeLights text seed budget tries black = AllowsMaking game.LightUp text (λ size answer.
+    IsHandedOut (IsLightMade (extent_of size) black budget tries (seed_stream seed)) SpellsLight light_text
+    (λ p g. grid_text (light_cell p g) p.size) answer
+    ⊎ IsExhausted (light_filling (extent_of size) black) (light_passes (extent_of size) budget) (seed_stream seed) tries answer)
 
 -- the answers that `generate tents SIZE` allows
 abbrev pub AllowsMadeTents : Text → ℕ → ℕ → ℕ → Answer → Type 0
-AllowsMadeTents text seed budget tries = AllowsMaking game.Tents text (λ w h answer.
-    IsHandedOut (IsTentsMade (record { w = w; h = h }) budget tries (seed_stream seed)) SpellsTents tents_text (λ p g. grid_text (tents_cell p g) p.size) answer
-    ⊎ IsExhausted (tent_filling (record { w = w; h = h })) (tents_pass (record { w = w; h = h }) budget) (seed_stream seed) tries answer)
+AllowsMadeTents text seed budget tries = AllowsMaking game.Tents text (λ size answer.
+    IsHandedOut (IsTentsMade (extent_of size) budget tries (seed_stream seed)) SpellsTents tents_text
+    (λ p g. grid_text (tents_cell p g) p.size) answer
+    ⊎ IsExhausted (tent_filling (extent_of size)) (tents_pass (extent_of size) budget) (seed_stream seed) tries answer)
 
 -- the answers that `generate GAME SIZE` allows
 abbrev pub AllowsMade : Game → Text → ℕ → ℕ → ℕ → ℕ → Answer → Type 0

@@ -1,39 +1,47 @@
 -- The first rule of Solo that a grid breaks.
-use Rattle.std.specs.Prelude.{◌≡◌, ℕ, ◌+◌, ◌<◌, ◌≤◌, ◌-◌, ◌*◌, nat_lt, if◌then◌else◌, List, slice_index, Option, Some, None}
-use Rattle.gameid_core.specs.Puzzles.{Solo, solo_n}
-use Rattle.solo_core.specs.Solutions.{cells_of, row_of, column_of, block_of, IsSolution}
+use Rattle.std.specs.Prelude.{◌≡◌, ℕ, ◌+◌, ◌<◌, ◌≤◌, true, List, length, slice_index, slice_index_or, Option, Some, None}
+use Rattle.gameid_core.specs.Puzzles.{Solo}
+use Rattle.solo_core.specs.Cells.{cells_of}
+use Rattle.solo_core.specs.Houses.{houses_of, lies_in}
+use Rattle.solo_core.specs.Solutions.{IsSolution}
+use Rattle.solo_core.specs.declared.solo_house.SoloHouse.{SoloHouse}
+use Rattle.solo_core.specs.declared.solo_house.SoloHouse.TheVariants.{Row, Column, Block, Diagonal}
 use Rattle.solo_core.specs.declared.fault.SoloFault.{SoloFault}
-use Rattle.solo_core.specs.declared.fault.SoloFault.TheVariants.{Given, Row, Column, Block}
+use Rattle.solo_core.specs.declared.fault.SoloFault.TheVariants.{Given, Row as BadRow, Column as BadColumn, Block as BadBlock, Diagonal as BadDiagonal}
 
 -- the cell holds its given, where it has one
 abbrev pub Stands : Solo → List ℕ → ℕ → Type 0
-Stands p g place = 1 ≤ slice_index p.givens place → slice_index g place + 1 ≡ slice_index p.givens place
-
--- two different places of the line or block with that number hold the same
-abbrev pub Repeats : Solo → (ℕ → ℕ) → List ℕ → ℕ → Type 0
-Repeats p number_of g i =
-    (j : ℕ) × (k : ℕ) × (j < cells_of p) × (k < cells_of p) × (j ≡ k → ⊥) × (number_of j ≡ i) × (number_of k ≡ i) × (slice_index g j ≡ slice_index g k)
-
--- of the first n, none holds a number twice
-abbrev pub NoneRepeats : Solo → (ℕ → ℕ) → List ℕ → ℕ → Type 0
-NoneRepeats p number_of g n = (i : ℕ) → i < n → Repeats p number_of g i → ⊥
-
--- the i-th is the first that holds a number twice
-abbrev pub FirstRepeats : Solo → (ℕ → ℕ) → List ℕ → ℕ → Type 0
-FirstRepeats p number_of g i = (i < solo_n p) × Repeats p number_of g i × NoneRepeats p number_of g i
+Stands p g place =
+    1 ≤ slice_index p.givens place → slice_index g place + 1 ≡ slice_index p.givens place
 
 abbrev pub AllStand : Solo → List ℕ → Type 0
 AllStand p g = (place : ℕ) → place < cells_of p → Stands p g place
 
--- no rule is broken; or this one is, and none before it
+-- two different places of the house hold the same
+abbrev pub Repeats : Solo → List ℕ → SoloHouse → Type 0
+Repeats p g house =
+    (j : ℕ) × (k : ℕ) × (j < cells_of p) × (k < cells_of p) × (j ≡ k → ⊥)
+    × (lies_in p house j ≡ true) × (lies_in p house k ≡ true) × (slice_index g j ≡ slice_index g k)
+
+-- it is the first house that holds a number twice
+abbrev pub RepeatsFirst : Solo → List ℕ → SoloHouse → Type 0
+RepeatsFirst p g house =
+    (h : ℕ) × (h < length (houses_of p)) × (house ≡ slice_index_or (houses_of p) h house) × Repeats p g house
+    × ((i : ℕ) → i < h → Repeats p g (slice_index_or (houses_of p) i house) → ⊥)
+
+-- no rule is broken; or this one is, and none before it: the givens come first, by place, and then the houses
 abbrev pub IsFirstFault : Solo → List ℕ → Option SoloFault → Type 0
 IsFirstFault p g None = IsSolution p g
-IsFirstFault p g (Some (Given place)) = (place < cells_of p) × (Stands p g place → ⊥) × ((q : ℕ) → q < place → Stands p g q)
-IsFirstFault p g (Some (Row y)) = AllStand p g × FirstRepeats p (row_of p) g y
-IsFirstFault p g (Some (Column x)) = AllStand p g × NoneRepeats p (row_of p) g (solo_n p) × FirstRepeats p (column_of p) g x
-IsFirstFault p g (Some (Block b)) =
-    AllStand p g × NoneRepeats p (row_of p) g (solo_n p) × NoneRepeats p (column_of p) g (solo_n p) × FirstRepeats p (block_of p) g b
+IsFirstFault p g (Some (Given place)) =
+    (place < cells_of p) × (Stands p g place → ⊥) × ((q : ℕ) → q < place → Stands p g q)
+IsFirstFault p g (Some (BadRow y)) = AllStand p g × RepeatsFirst p g (Row y)
+IsFirstFault p g (Some (BadColumn i)) = AllStand p g × RepeatsFirst p g (Column i)
+IsFirstFault p g (Some (BadBlock b)) = AllStand p g × RepeatsFirst p g (Block b)
+IsFirstFault p g (Some (BadDiagonal d)) = AllStand p g × RepeatsFirst p g (Diagonal d)
 
--- the row, column or block that a house is
-abbrev pub fault_at : Solo → ℕ → SoloFault
-fault_at p h = if nat_lt h (solo_n p) then Row h else (if nat_lt h (2 * solo_n p) then Column (h - solo_n p) else Block (h - 2 * solo_n p))
+-- the fault of a house
+abbrev pub fault_of : SoloHouse → SoloFault
+fault_of (Row y) = BadRow y
+fault_of (Column i) = BadColumn i
+fault_of (Block b) = BadBlock b
+fault_of (Diagonal d) = BadDiagonal d

@@ -1,20 +1,23 @@
--- Laws of the houses' lists: each has n different places of the grid, exactly those that lie in its row, column or block.
-use Rattle.std.proofs.Common.{◌≡◌, ℕ, ◌+◌, ◌-◌, ◌*◌, ◌/◌, ◌%◌, ◌<◌, ◌≤◌, Bool, true, eqb, List, map, length, slice_index, refl, sym, ap, subst, ◌∙◌, ◌||◌, inl, inr, ◌⊎◌, arith}
-use Rattle.std.specs.List.{range_with_len}
-use Rattle.std.proofs.Math.Path.{fun_ext}
-use Rattle.std.proofs.lemmas.Bool.{cases_lt, lt-ltb, le-ltb, eq-eqb, eqb-true, or_cases, or_left, or_right}
-use Rattle.std.proofs.lemmas.Nat.{mul-add-lt, div-mul-add, mod-mul-add, div_below, mod_below, div-add-mod'}
-use Rattle.std.proofs.lemmas.List.FromFn.{get_or-map-range_with_len, length-map-range_with_len}
-use Rattle.grid_core.specs.Regions.{row_places, column_places, block_places}
-use Rattle.grid_core.specs.Candidates.{count_below}
-use Rattle.grid_core.proofs.CandidateLemmas.{count_below-few, count_below-or}
-use Rattle.gameid_core.specs.Puzzles.{Solo, IsSolo, solo_n}
+-- Laws of the houses: each has n different places of the grid, exactly those that lie in it.
+use Rattle.std.proofs.Common.{◌≡◌, ℕ, ◌+◌, ◌-◌, ◌*◌, ◌/◌, ◌%◌, ◌<◌, Bool, true, false, eqb, List, [], ◌∷◌, map, length, slice_index, if◌then◌else◌, refl, sym, ap, ◌∙◌, inl, inr, arith}
+use Rattle.std.specs.Prelude.{All, ◌↔◌, IsTrue}
 use Rattle.engine_core.specs.Puzzle.{has_place}
 use Rattle.engine_core.specs.PlaceLaws.{has_place-at, has_place-here}
-use Rattle.solo_core.specs.Solutions.{cells_of, row_of, column_of, block_of}
-use Rattle.solo_core.specs.Houses.{house_count, square, house_places, lies_in}
+use Rattle.std.specs.List.{range_with_len}
+use Rattle.std.proofs.lemmas.Bool.{cases_lt, cases_Bool, eq-eqb, eqb-true}
+use Rattle.std.proofs.lemmas.Nat.{mul-add-lt, mul-le, div-mul-add, mod-mul-add, div_below, mod_below, div-add-mod'}
+use Rattle.std.proofs.lemmas.List.Elements.{All-append, All-nil, All-cons}
+use Rattle.std.proofs.lemmas.List.FromFn.{get_or-map-range_with_len, length-map-range_with_len}
+use Rattle.grid_core.specs.Regions.{block_places}
+use Rattle.gameid_core.specs.Puzzles.{Solo, IsSolo, solo_n}
+use Rattle.engine_core.specs.House.{AreDifferent}
+use Rattle.engine_core.specs.Every.{of_first, of_rest, of_value}
+use Rattle.solo_core.specs.declared.solo_house.SoloHouse.{SoloHouse}
+use Rattle.solo_core.specs.declared.solo_house.SoloHouse.TheVariants.{Row, Column, Block, Diagonal}
+use Rattle.solo_core.specs.Cells.{cells_of}
+use Rattle.solo_core.specs.Houses.{houses_of, IsHouseOf, lies_in, places_of}
 
--- the list has n different places below `cells`, which are those that lie in the house
+-- the list has n different places below `cells`, which are those that pass the test
 pub record Lists (places : List ℕ) (n cells : ℕ) (lies : ℕ → Bool) : Type 0 where
   pub len : length places ≡ n
   pub within : (k : ℕ) → k < n → slice_index places k < cells
@@ -45,24 +48,22 @@ by_function f index n cells lies within lies_at back index_in covers = record {
     at k lt = get_or-map-range_with_len f 0 n k k 0 lt (omega arith)
 
 -- ---- lines of a square grid
-row_lists : (n h : ℕ) → h < n → Lists (map (λ x. h * n + x) (range_with_len 0 n)) n (n * n) (λ place. eqb (place / n) h)
-row_lists n h lt = by_function (λ x. h * n + x) (λ place. place % n) n (n * n) (λ place. eqb (place / n) h)
-    (λ k l. mul-add-lt h n k n lt l)
-    (λ k l. eq-eqb ((h * n + k) / n) h (div-mul-add h n k l))
-    (λ k l. mod-mul-add h n k l)
+row_lists : (n y : ℕ) → y < n → Lists (map (λ x. y * n + x) (range_with_len 0 n)) n (n * n) (λ place. eqb (place / n) y)
+row_lists n y lt = by_function (λ x. y * n + x) (λ place. place % n) n (n * n) (λ place. eqb (place / n) y)
+    (λ k l. mul-add-lt y n k n lt l)
+    (λ k l. eq-eqb ((y * n + k) / n) y (div-mul-add y n k l))
+    (λ k l. mod-mul-add y n k l)
     (λ place l. mod_below place n (omega arith))
-    (λ place l on. ap (λ y. y * n + place % n) (sym (eqb-true (place / n) h on)) ∙ div-add-mod' place n)
+    (λ place l on. ap (λ u. u * n + place % n) (sym (eqb-true (place / n) y on)) ∙ div-add-mod' place n)
 
-column_lists : (n x : ℕ) → x < n → Lists (map (λ y. y * n + x) (range_with_len 0 n)) n (n * n) (λ place. eqb (n + place % n) (n + x))
-column_lists n x lt = by_function (λ y. y * n + x) (λ place. place / n) n (n * n) (λ place. eqb (n + place % n) (n + x))
-    (λ k l. mul-add-lt k n x n l lt)
-    (λ k l. eq-eqb (n + (k * n + x) % n) (n + x) (ap (λ c. n + c) (mod-mul-add k n x lt)))
-    (λ k l. div-mul-add k n x lt)
+-- a line that has one cell in each row: in row y that in column f y
+falling_lists : (n : ℕ) (f : ℕ → ℕ) → 0 < n → ((y : ℕ) → y < n → f y < n) → Lists (map (λ y. y * n + f y) (range_with_len 0 n)) n (n * n) (λ place. eqb (place % n) (f (place / n)))
+falling_lists n f pos f_in = by_function (λ y. y * n + f y) (λ place. place / n) n (n * n) (λ place. eqb (place % n) (f (place / n)))
+    (λ k l. mul-add-lt k n (f k) n l (f_in k l))
+    (λ k l. eq-eqb _ _ (mod-mul-add k n (f k) (f_in k l) ∙ ap f (sym (div-mul-add k n (f k) (f_in k l)))))
+    (λ k l. div-mul-add k n (f k) (f_in k l))
     (λ place l. div_below place n n (omega arith) l)
-    (λ place l on. ap (λ c. place / n * n + c) (same_after (place % n) (eqb-true (n + place % n) (n + x) on)) ∙ div-add-mod' place n)
-  where
-    same_after : (c : ℕ) → n + c ≡ n + x → x ≡ c
-    same_after c e = omega arith
+    (λ place l on. ap (λ c. place / n * n + c) (sym (eqb-true (place % n) (f (place / n)) on)) ∙ div-add-mod' place n)
 
 -- ---- blocks, r wide and c tall
 module _ (c r b : ℕ) (c_pos : 0 < c) (r_pos : 0 < r) (b_in : b < c * r) where
@@ -129,111 +130,73 @@ module _ (c r b : ℕ) (c_pos : 0 < c) (r_pos : 0 < r) (b_in : b < c * r) where
       let wide_is : (y % c * r + x % r) % r ≡ x % r = mod-mul-add (y % c) r (x % r) low in
       rw (band_is, stack_is, tall_is, wide_is, div-add-mod' y c, div-add-mod' x r) (div-add-mod' place (c * r))
 
-  block_lists : Lists (block_places c r b) (c * r) ((c * r) * (c * r)) (λ place. eqb (2 * (c * r) + block_at place) (2 * (c * r) + b))
-  block_lists = by_function (λ k. ((b / c) * c + k / r) * (c * r) + ((b % c) * r + k % r)) index_at (c * r) ((c * r) * (c * r)) (λ place. eqb (2 * (c * r) + block_at place) (2 * (c * r) + b))
+  block_lists : Lists (block_places c r b) (c * r) ((c * r) * (c * r)) (λ place. eqb (block_at place) b)
+  block_lists = by_function (λ k. ((b / c) * c + k / r) * (c * r) + ((b % c) * r + k % r)) index_at (c * r) ((c * r) * (c * r)) (λ place. eqb (block_at place) b)
       (λ k l. mul-add-lt (y_of k) (c * r) (x_of k) (c * r) (y_in k l) (x_in k))
-      (λ k l. eq-eqb (2 * (c * r) + block_at (y_of k * (c * r) + x_of k)) (2 * (c * r) + b) (ap (λ z. 2 * (c * r) + z) (in_block k l)))
+      (λ k l. eq-eqb (block_at (y_of k * (c * r) + x_of k)) b (in_block k l))
       (λ k l. at_index k l)
       (λ place l. index_below place)
-      (λ place l on. covered place (same_after (block_at place) (eqb-true (2 * (c * r) + block_at place) (2 * (c * r) + b) on)))
-    where
-      same_after : (z : ℕ) → 2 * (c * r) + z ≡ 2 * (c * r) + b → z ≡ b
-      same_after z e = omega arith
+      (λ place l on. covered place (eqb-true (block_at place) b on))
 
 -- ---- the houses of a puzzle
-lies_row : (p : Solo) (h : ℕ) → h < solo_n p → (λ place. eqb (row_of p place) h) ≡ lies_in p h
-unfolding lies_in
-lies_row p h row = fun_ext λ place. rw (lt-ltb h (solo_n p) row) refl
+pub some_numbers : (p : Solo) → IsSolo p → 0 < solo_n p
+some_numbers p ok = let c_low = ok.c_low in let r_low = ok.r_low in omega (arith, mul-le 1 1 p.c p.r (omega arith) (omega arith))
 
-lies_column : (p : Solo) (h : ℕ) → solo_n p ≤ h → h < 2 * solo_n p → (λ place. eqb (solo_n p + column_of p place) h) ≡ lies_in p h
-unfolding lies_in
-lies_column p h below column = fun_ext λ place. rw (le-ltb h (solo_n p) below, lt-ltb h (2 * solo_n p) column) refl
+pub lists_house : (p : Solo) → IsSolo p → (house : SoloHouse) → IsHouseOf p house → Lists (places_of p house) (solo_n p) (cells_of p) (lies_in p house)
+unfolding block_at
+lists_house p ok (Row y) lt = row_lists (solo_n p) y lt
+lists_house p ok (Column i) lt = falling_lists (solo_n p) (λ y. i) (some_numbers p ok) (λ y l. lt)
+lists_house p ok (Block b) lt = let c_low = ok.c_low in let r_low = ok.r_low in block_lists p.c p.r b (omega arith) (omega arith) lt
+lists_house p ok (Diagonal d) lt = falling_lists (solo_n p) (λ y. if eqb d 0 then y else solo_n p - 1 - y) (some_numbers p ok) (λ y l. elim (cases_Bool (eqb d 0)) [
+  | inl first ↦ rw first l
+  | inr second ↦ rw second (omega arith)
+])
 
-lies_block : (p : Solo) (h : ℕ) → solo_n p ≤ h → 2 * solo_n p ≤ h → (λ place. eqb (2 * solo_n p + block_of p place) h) ≡ lies_in p h
-unfolding lies_in
-lies_block p h below block = fun_ext λ place. rw (le-ltb h (solo_n p) below, le-ltb h (2 * solo_n p) block) refl
+-- the list of a function's values, each of which keeps to something
+pub each_value : {X : Type 0} (P : X → Type 0) (f : ℕ → X) (n : ℕ) → ((k : ℕ) → k < n → P (f k)) → All P (map f (range_with_len 0 n))
+each_value P f n each k d lt = let e = length-map-range_with_len f 0 n in rw (get_or-map-range_with_len f 0 n k k d (omega arith) (omega arith)) (each k (omega arith))
 
-pub lists_house : (p : Solo) → IsSolo p → (h : ℕ) → h < house_count p → Lists (house_places p h) (solo_n p) (cells_of p) (lies_in p h)
-unfolding house_places block_at
-lists_house p ok h h_in =
-    let c_low = ok.c_low in
-    let r_low = ok.r_low in
-    elim (cases_lt h (p.c * p.r)) [
-      | inl row ↦ rw (lt-ltb h (p.c * p.r) row)
-          (subst (Lists (row_places (square p) h) (p.c * p.r) (cells_of p)) (lies_row p h row) (row_lists (p.c * p.r) h row))
-      | inr below ↦ elim (cases_lt h (2 * (p.c * p.r))) [
-        | inl column ↦
-            let e : p.c * p.r + (h - p.c * p.r) ≡ h = omega arith in
-            rw (le-ltb h (p.c * p.r) below, lt-ltb h (2 * (p.c * p.r)) column)
-            (subst (Lists (column_places (square p) (h - p.c * p.r)) (p.c * p.r) (cells_of p))
-            (ap (λ z place. eqb (p.c * p.r + column_of p place) z) e ∙ lies_column p h below column)
-            (column_lists (p.c * p.r) (h - p.c * p.r) (omega arith)))
-        | inr block ↦
-            let e : 2 * (p.c * p.r) + (h - 2 * (p.c * p.r)) ≡ h = omega arith in
-            rw (le-ltb h (p.c * p.r) below, le-ltb h (2 * (p.c * p.r)) block)
-            (subst (Lists (block_places p.c p.r (h - 2 * (p.c * p.r))) (p.c * p.r) (cells_of p))
-            (ap (λ z place. eqb (2 * (p.c * p.r) + block_of p place) z) e ∙ lies_block p h below block)
-            (block_lists p.c p.r (h - 2 * (p.c * p.r)) (omega arith) (omega arith) (omega arith)))
-      ]
-    ]
-
-pub house_distinct : (places : List ℕ) (n cells : ℕ) (lies : ℕ → Bool) → Lists places n cells lies
-    → (j k : ℕ) → j < length places → k < length places → slice_index places j ≡ slice_index places k → j ≡ k
-house_distinct places n cells lies l j k lj lk e =
-    let long = l.len in
-    sym (l.index_of j (omega arith)) ∙ ap l.index e ∙ l.index_of k (omega arith)
-
-pub house_has : (places : List ℕ) (n cells : ℕ) (lies : ℕ → Bool) → Lists places n cells lies
-    → (c : ℕ) → has_place places c ≡ true → (c < cells) × (lies c ≡ true)
-house_has places n cells lies l c on =
-    let w = has_place-at places c on in
-    let long = l.len in
-    let lk : w.0 < n = omega arith in
-    (rw w.2 at (l.within w.0 lk), ap lies (sym w.2) ∙ l.lies_at w.0 lk)
-
-pub house_holds : (places : List ℕ) (n cells : ℕ) (lies : ℕ → Bool) → Lists places n cells lies
-    → (c : ℕ) → c < cells → lies c ≡ true → has_place places c ≡ true
-house_holds places n cells lies l c lt on =
-    let long = l.len in
-    let inside = l.index_in c lt in
-    rw (l.covers c lt on) at (has_place-here places (l.index c) (omega arith))
-
--- a place lies in the row, the column and the block that are its own
-pub lies_in-cases : (p : Solo) (h place : ℕ) → lies_in p h place ≡ true
-    → (h ≡ row_of p place) ⊎ ((h ≡ solo_n p + column_of p place) ⊎ (h ≡ 2 * solo_n p + block_of p place))
-unfolding lies_in
-lies_in-cases p h place on = elim (cases_lt h (solo_n p)) [
-  | inl row ↦ inl (sym (eqb-true (row_of p place) h (rw (lt-ltb h (solo_n p) row) at on)))
-  | inr below ↦ elim (cases_lt h (2 * solo_n p)) [
-    | inl column ↦ inr (inl (sym (eqb-true (solo_n p + column_of p place) h (rw (le-ltb h (solo_n p) below, lt-ltb h (2 * solo_n p) column) at on))))
-    | inr block ↦ inr (inr (sym (eqb-true (2 * solo_n p + block_of p place) h (rw (le-ltb h (solo_n p) below, le-ltb h (2 * solo_n p) block) at on))))
-  ]
-]
-
-is : ℕ → ℕ → Bool
-is z h = eqb h z
-
--- a place is in at most three houses
-pub three_houses : (p : Solo) → IsSolo p → (place : ℕ) → count_below (λ h. has_place (house_places p h) place) (house_count p) ≤ 3
-unfolding is
-three_houses p ok place =
-    let all = count_below-or (is (row_of p place)) (λ h. is (solo_n p + column_of p place) h || is (2 * solo_n p + block_of p place) h) (λ h. has_place (house_places p h) place) (house_count p) cases in
-    let rest = count_below-or (is (solo_n p + column_of p place)) (is (2 * solo_n p + block_of p place)) (λ h. is (solo_n p + column_of p place) h || is (2 * solo_n p + block_of p place) h) (house_count p)
-    (λ h lt on. or_cases (is (solo_n p + column_of p place) h) (is (2 * solo_n p + block_of p place) h) on) in
-    let a = once (row_of p place) (house_count p) in
-    let b = once (solo_n p + column_of p place) (house_count p) in
-    let d = once (2 * solo_n p + block_of p place) (house_count p) in
-    omega arith
+-- they are the puzzle's, and all of them
+pub all_houses : (p : Solo) → All (IsHouseOf p) (houses_of p)
+all_houses p =
+    All-append (IsHouseOf p) (map Row (range_with_len 0 (solo_n p))) _ (each_value (IsHouseOf p) Row (solo_n p) (λ k lt. lt))
+    (All-append (IsHouseOf p) (map Column (range_with_len 0 (solo_n p))) _ (each_value (IsHouseOf p) Column (solo_n p) (λ k lt. lt))
+    (All-append (IsHouseOf p) (map Block (range_with_len 0 (solo_n p))) (diagonals p.x) (each_value (IsHouseOf p) Block (solo_n p) (λ k lt. lt)) (all_diagonals p.x refl)))
   where
-    once : (z n : ℕ) → count_below (is z) n ≤ 1
-    once z n = count_below-few (is z) n (λ k j lk lj a b. eqb-true k z a ∙ sym (eqb-true j z b))
+    diagonals : Bool → List SoloHouse
+    diagonals x = if x then Diagonal 0 ∷ Diagonal 1 ∷ [] else []
 
-    cases : (h : ℕ) → h < house_count p → has_place (house_places p h) place ≡ true
-        → (is (row_of p place) h ≡ true) ⊎ ((is (solo_n p + column_of p place) h || is (2 * solo_n p + block_of p place) h) ≡ true)
-    cases h lt on = elim (lies_in-cases p h place (house_has (house_places p h) (solo_n p) (cells_of p) (lies_in p h) (lists_house p ok h lt) place on).1) [
-      | inl e ↦ inl (eq-eqb h (row_of p place) e)
-      | inr more ↦ elim more [
-        | inl e ↦ inr (or_left (eqb h (solo_n p + column_of p place)) (eqb h (2 * solo_n p + block_of p place)) (eq-eqb h (solo_n p + column_of p place) e))
-        | inr e ↦ inr (or_right (eqb h (solo_n p + column_of p place)) (eqb h (2 * solo_n p + block_of p place)) (eq-eqb h (2 * solo_n p + block_of p place) e))
-      ]
+    all_diagonals : (x : Bool) → p.x ≡ x → All (IsHouseOf p) (diagonals x)
+    all_diagonals true e = All-cons (IsHouseOf p) (Diagonal 0) (Diagonal 1 ∷ []) (omega arith, e) (All-cons (IsHouseOf p) (Diagonal 1) [] (omega arith, e) (All-nil (IsHouseOf p)))
+    all_diagonals false e = All-nil (IsHouseOf p)
+
+-- what holds of each house of the list holds of each house of the puzzle
+pub each_house : (p : Solo) (P : SoloHouse → Type 0) → All P (houses_of p) → (house : SoloHouse) → IsHouseOf p house → P house
+each_house p P all (Row y) lt = of_value P Row (solo_n p) (of_first P (map Row (range_with_len 0 (solo_n p))) _ all) y lt
+each_house p P all (Column i) lt = of_value P Column (solo_n p)
+    (of_first P (map Column (range_with_len 0 (solo_n p))) _ (of_rest P (map Row (range_with_len 0 (solo_n p))) _ all)) i lt
+each_house p P all (Block b) lt = of_value P Block (solo_n p)
+    (of_first P (map Block (range_with_len 0 (solo_n p))) _ (of_rest P (map Column (range_with_len 0 (solo_n p))) _ (of_rest P (map Row (range_with_len 0 (solo_n p))) _ all))) b lt
+each_house p P all (Diagonal d) (lt, is) =
+    let last = rw is at (of_rest P (map Block (range_with_len 0 (solo_n p))) _ (of_rest P (map Column (range_with_len 0 (solo_n p))) _ (of_rest P (map Row (range_with_len 0 (solo_n p))) _ all))) in
+    elim (cases_lt d 1) [
+      | inl first ↦ let e : 0 ≡ d = omega arith in rw e at (last 0 (Diagonal 0) (omega arith))
+      | inr second ↦ let e : 1 ≡ d = omega arith in rw e at (last 1 (Diagonal 0) (omega arith))
     ]
+
+-- ---- places of a list
+module _ (places : List ℕ) (n cells : ℕ) (lies : ℕ → Bool) (l : Lists places n cells lies) where
+  pub listed-within : (k : ℕ) → k < length places → slice_index places k < cells
+  listed-within k lt = let e = l.len in l.within k (omega arith)
+
+  pub listed-different : AreDifferent places
+  listed-different j k lj lk e =
+      let long = l.len in
+      sym (l.index_of j (omega arith)) ∙ ap l.index e ∙ l.index_of k (omega arith)
+
+  -- a place is in the list where it passes the test
+  pub listed-has : (place : ℕ) → place < cells → (IsTrue (has_place places place)) ↔ (IsTrue (lies place))
+  listed-has place lt = (
+    λ has. let w = has_place-at places place has in let l_in : w.0 < n = let a = w.1 in let e = l.len in omega arith in rw w.2 at (l.lies_at w.0 l_in),
+    λ on. rw (l.covers place lt on) at (has_place-here places (l.index place) (let e = l.len in let i = l.index_in place lt in omega arith)),
+  )

@@ -1,64 +1,49 @@
 -- The laws that every rule set keeps to, for the rule sets of Solo.
-use Rattle.std.proofs.Common.{◌≡◌, ℕ, zero, suc, ◌+◌, ◌-◌, ◌*◌, ◌<◌, ◌≤◌, Bool, true, false, eqb, ltb, List, map, slice_index, refl, sym, ap, ◌∙◌, inl, inr, arith}
-use Rattle.std.proofs.lemmas.Bool.{cases_eq, and_parts, and_from, or_left, or_right, lt-ltb, ltb-true, eq-eqb, true≢false}
-use Rattle.std.proofs.lemmas.Nat.{mul-le}
-use Rattle.std.proofs.lemmas.List.Elements.{All-get_or}
-use Rattle.grid_core.specs.Candidates.{Candidates, IsInside, IsWithin, single, sum_below}
+use Rattle.std.proofs.Common.{◌≡◌, ℕ, ◌+◌, ◌*◌, ◌/◌, ◌%◌, ◌<◌, Bool, true, false, eqb, ltb, inl, inr, ap, List, ◌++◌, map, length, get_or, slice_index, sym, ◌∙◌, arith}
+use Rattle.std.specs.Prelude.{All}
+use Rattle.std.specs.List.{range_with_len}
+use Rattle.std.proofs.lemmas.Bool.{cases_eq, and_parts, and_from, or_left, or_right, eq-eqb, lt-ltb, ltb-true, true≢false}
+use Rattle.std.proofs.lemmas.Nat.{mul-le, mul-add-lt, div_below, mod_below}
+use Rattle.std.proofs.lemmas.List.{get_or-map, length-map}
+use Rattle.std.proofs.lemmas.List.Elements.{All-append, All-map}
+use Rattle.grid_core.specs.Candidates.{IsInside, IsWithin, single}
 use Rattle.grid_core.specs.Grids.{IsGrid}
-use Rattle.grid_core.proofs.CandidateLemmas.{sum_below-le}
 use Rattle.grid_core.proofs.GridLemmas.{single-is}
 use Rattle.gameid_core.specs.Puzzles.{Solo, IsSolo, solo_n}
-use Rattle.engine_core.specs.Puzzle.{IsLawful, after, share}
+use Rattle.engine_core.specs.Puzzle.{IsLawful}
 use Rattle.engine_core.specs.Filling.{strikes_by_fillings}
-use Rattle.engine_core.specs.House.{Decision, IsMonotone, strikes_at}
-use Rattle.engine_core.specs.HouseLaws.{strikes_at-inside, strikes_at-in_scope, by_fillings-monotone, by_fillings-settled, by_fillings-closed}
-use Rattle.solo_core.specs.Solutions.{cells_of, is_solution}
+use Rattle.engine_core.specs.House.{Decision, IsMonotone}
+use Rattle.engine_core.specs.HouseLaws.{by_fillings-monotone}
+use Rattle.engine_core.specs.Houses.{House, IsSettled, Keeps, IsSound, IsSetting}
+use Rattle.engine_core.specs.HousesLaws.{by_houses-lawful, bound_enough, by_fillings-settles, by_fillings-keeps}
+use Rattle.solo_core.specs.declared.solo_house.SoloHouse.{SoloHouse}
+use Rattle.solo_core.specs.declared.solo_house.SoloHouse.TheVariants.{Row, Column, Block}
+use Rattle.solo_core.specs.Cells.{cells_of}
+use Rattle.solo_core.specs.RuleSets.{start, deciding, row_crossing, column_crossing, crossings_of, setting_of, rules_of, singles_rules, houses_rules, crossings_rules}
+use Rattle.solo_core.specs.Houses.{houses_of, IsHouseOf, lies_in, places_of}
+use Rattle.solo_core.specs.Solutions.{numbers_of, is_solution}
+use Rattle.solo_core.specs.HouseLaws.{Lists, lists_house, listed-within, listed-different, some_numbers, each_value, all_houses}
 use Rattle.solo_core.specs.SolutionLaws.{rule_from_test, house_of_solution}
-use Rattle.solo_core.specs.Houses.{house_count, house_places, lies_in}
-use Rattle.solo_core.specs.HouseLaws.{Lists, lists_house, house_has, house_distinct, three_houses}
 use Rattle.solo_core.specs.NoRepeat.{no_repeat}
-use Rattle.solo_core.specs.RuleSets.{start, bound_of, rules_of, houses_rules, singles_rules}
 use Rattle.solo_core.specs.Singles.{strikes_by_singles}
-use Rattle.solo_core.specs.SinglesLaws.{singles-monotone, singles-closed}
+use Rattle.solo_core.specs.SinglesLaws.{singles-monotone, singles-keeps}
+use Rattle.solo_core.specs.Crossing.{crossing, in_block_alone, in_line_alone}
+use Rattle.solo_core.specs.CrossingLaws.{crossing-monotone, crossing-settles, crossing-within, crossing-different, crossing-sound}
 
-sum_of_one : (k m : ℕ) → sum_below (λ _. k) m ≡ m * k
-unfolding sum_below
-sum_of_one k zero = omega arith
-sum_of_one k (suc m) = let rest = sum_of_one k m in omega arith
-
--- what a house's strikes keep of a solution
-abbrev pub KeepsSolutions : Decision → Solo → Type 0
-KeepsSolutions decides p = (h : ℕ) (g : List ℕ) → h < house_count p → IsGrid (cells_of p) (solo_n p) g
-    → no_repeat (map (slice_index g) (house_places p h)) ≡ true
-    → (c v : ℕ) → single g c v ≡ true → strikes_at (solo_n p) (house_places p h) decides (single g) c v ≡ false
-
-module _ (p : Solo) (ok : IsSolo p) (settled : Bool) (decides : Decision) (monotone : IsMonotone decides) (keeps : KeepsSolutions decides p)
-    (settles : settled ≡ true → (h : ℕ) (K : Candidates) (c v : ℕ) → h < house_count p → after (rules_of settled decides p) h K c v ≡ true
-    → strikes_at (solo_n p) (house_places p h) decides (after (rules_of settled decides p) h K) c v ≡ false) where
-  n : ℕ
-  n = solo_n p
-
-  listed : (h : ℕ) → h < house_count p → Lists (house_places p h) (solo_n p) (cells_of p) (lies_in p h)
-  listed h lt = lists_house p ok h lt
-
-  some : 1 ≤ solo_n p
-  some =
-      let c_low = ok.c_low in
-      let r_low = ok.r_low in
-      omega (arith, mul-le 1 1 p.c p.r (omega arith) (omega arith))
-
+module _ (p : Solo) (ok : IsSolo p) where
+  -- ---- the start
   -- a solution lies inside the start
   inside_start : (g : List ℕ) → IsGrid (cells_of p) (solo_n p) g → is_solution p g ≡ true → IsInside (single g) (start p)
   unfolding start
   inside_start g grid on c v here =
       let w = single-is g c v here in
       let lt : c < cells_of p = let e = grid.each_cell in omega arith in
-      let small : slice_index g c < solo_n p = All-get_or (λ u. u < solo_n p) g c 0 w.0 grid.each_value in
+      let small : slice_index g c < solo_n p = grid.each_value c 0 w.0 in
       and_from (ltb c (cells_of p)) _ (lt-ltb c (cells_of p) lt)
       (and_from (ltb v (solo_n p)) _ (lt-ltb v (solo_n p) (let e = w.1 in omega arith)) (elim (cases_eq (slice_index p.givens c) 0) [
         | inl blank ↦ or_left (eqb (slice_index p.givens c) 0) (eqb (v + 1) (slice_index p.givens c)) (eq-eqb (slice_index p.givens c) 0 blank)
         | inr given ↦ or_right (eqb (slice_index p.givens c) 0) (eqb (v + 1) (slice_index p.givens c))
-            (eq-eqb (v + 1) (slice_index p.givens c) (ap (λ u. u + 1) (sym w.1) ∙ (rule_from_test p g grid on).givens c lt (omega arith)))
+            (eq-eqb (v + 1) (slice_index p.givens c) (ap (λ u. u + 1) (sym w.1) ∙ (rule_from_test p ok g grid on).givens c lt (omega arith)))
       ]))
 
   within_start : IsWithin (cells_of p) (solo_n p) (start p)
@@ -68,53 +53,107 @@ module _ (p : Solo) (ok : IsSolo p) (settled : Bool) (decides : Decision) (monot
       let u = and_parts (ltb v (solo_n p)) _ w.1 in
       (ltb-true c (cells_of p) w.0, ltb-true v (solo_n p) u.0)
 
-  -- a cell's values can call for visits of three houses each
-  bound_enough : house_count p + sum_below (λ c. (solo_n p - 1) * share (rules_of settled decides p) c) (cells_of p) ≤ bound_of p
-  unfolding share
-  bound_enough =
-      let each = sum_below-le (λ c. (solo_n p - 1) * share (rules_of settled decides p) c) (λ _. solo_n p * 3) (cells_of p)
-      (λ c lt. mul-le (solo_n p - 1) (share (rules_of settled decides p) c) (solo_n p) 3 (omega arith) (let few = three_houses p ok c in omega arith)) in
-      let all = sum_of_one (solo_n p * 3) (cells_of p) in
-      let e : cells_of p * (solo_n p * 3) ≡ 3 * (solo_n p * solo_n p * solo_n p) = omega arith in
-      omega arith
-
-  pub rules_lawful : IsLawful (rules_of settled decides p)
-  rules_lawful = record {
-    strikes_inside = λ h K L lt inside c v on. strikes_at-inside (solo_n p) (house_places p h) decides monotone K L inside c v on;
-    strikes_in_scope = λ h K c v lt on. strikes_at-in_scope (solo_n p) (house_places p h) decides K c v on;
-    solutions_start = λ g grid on. inside_start g grid on;
-    solutions_closed = λ g grid on h c v lt here. keeps h g lt grid (house_of_solution p ok g (rule_from_test p g grid on) h lt) c v here;
-    settles = settles;
-    bound_of_queue = λ _. bound_enough;
-    bound_of_sweeps = λ e. absurd (true≢false e);
-    some_values = some;
+  fine : (settled : Bool) (houses : List House) → IsSetting (setting_of settled p houses)
+  fine settled houses = record {
+    some_values = some_numbers p ok;
     few_values = ok.n_high;
     few_cells = let high = ok.n_high in omega (arith, mul-le (solo_n p) (solo_n p) 31 31 high high);
     start_within = within_start;
-    scope_within = λ h c lt on. (house_has (house_places p h) (solo_n p) (cells_of p) (lies_in p h) (listed h lt) c on).0;
-    scope_distinct = λ h j k lt lj lk e. house_distinct (house_places p h) (solo_n p) (cells_of p) (lies_in p h) (listed h lt) j k lj lk e;
+    solutions_start = inside_start;
   }
 
--- ---- the rule set of houses
-keeps_by_fillings : (p : Solo) → IsSolo p → KeepsSolutions (strikes_by_fillings no_repeat) p
-keeps_by_fillings p ok h g lt grid holds c v on = by_fillings-closed (solo_n p) (house_places p h) no_repeat g
-    (λ k lk. let l = lists_house p ok h lt in let len = l.len in let cells = grid.each_cell in let w = l.within k (omega arith) in omega arith)
-    (λ c lc. All-get_or (λ u. u < solo_n p) g c 0 lc grid.each_value)
-    holds c v on
+  pub rules_lawful : (settled : Bool) (houses : List House) → All (IsSound (setting_of settled p houses)) houses → IsLawful (rules_of settled p houses)
+  rules_lawful settled houses sound = by_houses-lawful (setting_of settled p houses) houses (fine settled houses) sound
+      (λ _. bound_enough (setting_of settled p houses) houses (omega arith)) (λ e. absurd (true≢false e))
 
-pub houses_lawful : (p : Solo) → IsSolo p → IsLawful (houses_rules p)
-unfolding after
-houses_lawful p ok = rules_lawful p ok true (strikes_by_fillings no_repeat) (by_fillings-monotone no_repeat) (keeps_by_fillings p ok)
-    (λ _ h K c v lt on. let l = lists_house p ok h lt in
-    by_fillings-settled (solo_n p) (house_places p h) no_repeat K (after (houses_rules p) h K) (house_distinct (house_places p h) (solo_n p) (cells_of p) (lies_in p h) l) (λ d u. refl) c v on)
+  -- ---- houses that decide alike
+  listed : (house : SoloHouse) → IsHouseOf p house → Lists (places_of p house) (solo_n p) (cells_of p) (lies_in p house)
+  listed house is = lists_house p ok house is
 
--- ---- the rule set of singles
-keeps_by_singles : (p : Solo) → IsSolo p → KeepsSolutions (strikes_by_singles (solo_n p)) p
-keeps_by_singles p ok h g lt grid holds c v on = singles-closed (solo_n p) (house_places p h) g ((lists_house p ok h lt).len)
-    (λ k lk. let l = lists_house p ok h lt in let len = l.len in let cells = grid.each_cell in let w = l.within k (omega arith) in omega arith)
-    (λ c lc. All-get_or (λ u. u < solo_n p) g c 0 lc grid.each_value)
-    holds c v on
+  inside : (house : SoloHouse) → IsHouseOf p house → (k : ℕ) → k < length (places_of p house) → slice_index (places_of p house) k < cells_of p
+  inside house is = listed-within (places_of p house) (solo_n p) (cells_of p) (lies_in p house) (listed house is)
 
-pub singles_lawful : (p : Solo) → IsSolo p → IsLawful (singles_rules p)
-singles_lawful p ok = rules_lawful p ok false (strikes_by_singles (solo_n p)) (singles-monotone (solo_n p)) (keeps_by_singles p ok)
-    (λ e. absurd (true≢false (sym e)))
+  different : (house : SoloHouse) → IsHouseOf p house → (j k : ℕ) → j < length (places_of p house) → k < length (places_of p house) → slice_index (places_of p house) j ≡ slice_index (places_of p house) k → j ≡ k
+  different house is = listed-different (places_of p house) (solo_n p) (cells_of p) (lies_in p house) (listed house is)
+
+  -- the numbers of a house of a grid: n of them, below n
+  numbers_small : (g : List ℕ) → IsGrid (cells_of p) (solo_n p) g → (c : ℕ) → c < length g → slice_index g c < solo_n p
+  numbers_small g grid c lt = grid.each_value c 0 lt
+
+  inside_grid : (g : List ℕ) → IsGrid (cells_of p) (solo_n p) g → (house : SoloHouse) → IsHouseOf p house → (k : ℕ) → k < length (places_of p house) → slice_index (places_of p house) k < length g
+  inside_grid g grid house is k lt = let e = grid.each_cell in let w = inside house is k lt in omega arith
+
+  pub alike_sound : (settled : Bool) (all : List House) (decides : Decision) → IsMonotone decides
+      → ((f : List ℕ) → length f ≡ solo_n p → no_repeat f ≡ true → ((k : ℕ) → k < solo_n p → get_or f k 0 < solo_n p) → Keeps decides f)
+      → (settled ≡ true → IsSettled decides)
+      → All (IsSound (setting_of settled p all)) (deciding decides p)
+  alike_sound settled all decides monotone keeps settles = All-map (IsSound (setting_of settled p all)) (λ house. record { places = places_of p house; decides = decides }) (houses_of p) (λ k d lt.
+      each (get_or (houses_of p) k d) (all_houses p k d lt))
+    where
+      each : (house : SoloHouse) → IsHouseOf p house → IsSound (setting_of settled p all) (record { places = places_of p house; decides = decides })
+      each house is = record {
+        within = inside house is;
+        different = different house is;
+        monotone = monotone;
+        keeps = λ g grid on. keeps (numbers_of p g house) (length-map (places_of p house) (slice_index g) ∙ (listed house is).len)
+            (house_of_solution p ok g (rule_from_test p ok g grid on) house is)
+            (λ k lt.
+            let lk : k < length (places_of p house) = let e = (listed house is).len in omega arith in
+            rw (get_or-map (slice_index g) (places_of p house) k 0 0 lk) (numbers_small g grid (slice_index (places_of p house) k) (inside_grid g grid house is k lk)));
+        settles = settles;
+      }
+
+  -- ---- crossings of a block and a line
+  crossing_is_sound : (all : List House) (b : ℕ) (line : SoloHouse) → b < solo_n p → IsHouseOf p line → IsSound (setting_of true p all) (crossing (places_of p (Block b)) (places_of p line))
+  crossing_is_sound all b line b_in is = record {
+    within = crossing-within (places_of p (Block b)) (places_of p line) (cells_of p) (inside (Block b) b_in) (inside line is);
+    different = crossing-different (places_of p (Block b)) (places_of p line) (different (Block b) b_in) (different line is);
+    monotone = crossing-monotone (in_block_alone (places_of p (Block b)) (places_of p line)) (in_line_alone (places_of p (Block b)));
+    keeps = λ g grid on.
+        let s = rule_from_test p ok g grid on in
+        crossing-sound (places_of p (Block b)) (places_of p line) (solo_n p) g (numbers_small g grid) ((listed (Block b) b_in).len) ((listed line is).len)
+        (inside_grid g grid (Block b) b_in) (inside_grid g grid line is) (house_of_solution p ok g s (Block b) b_in) (house_of_solution p ok g s line is);
+    settles = λ _. crossing-settles (in_block_alone (places_of p (Block b)) (places_of p line)) (in_line_alone (places_of p (Block b)));
+  }
+
+  each_crossing : (all : List House) → All (IsSound (setting_of true p all)) (crossings_of p)
+  each_crossing all = All-append (IsSound (setting_of true p all)) (map (row_crossing p) (range_with_len 0 (solo_n p * p.c))) (map (column_crossing p) (range_with_len 0 (solo_n p * p.r)))
+      (each_value (IsSound (setting_of true p all)) (row_crossing p) (solo_n p * p.c) (λ m lt.
+      let b_in : m / p.c < solo_n p = div_below m p.c (solo_n p) c_pos lt in
+      crossing_is_sound all (m / p.c) (Row (m / p.c / p.c * p.c + m % p.c)) b_in
+      (let w = mul-add-lt (m / p.c / p.c) p.c (m % p.c) p.r (div_below (m / p.c) p.c p.r c_pos (omega arith)) (mod_below m p.c c_pos) in omega arith)))
+      (each_value (IsSound (setting_of true p all)) (column_crossing p) (solo_n p * p.r) (λ m lt.
+      let b_in : m / p.r < solo_n p = div_below m p.r (solo_n p) r_pos lt in
+      crossing_is_sound all (m / p.r) (Column (m / p.r % p.c * p.r + m % p.r)) b_in
+      (let w = mul-add-lt (m / p.r % p.c) p.r (m % p.r) p.c (mod_below (m / p.r) p.c c_pos) (mod_below m p.r r_pos) in omega arith)))
+    where
+      c_pos : 0 < p.c
+      c_pos = let low = ok.c_low in omega arith
+
+      r_pos : 0 < p.r
+      r_pos = let low = ok.r_low in omega arith
+
+  -- ---- the three rule sets
+  by_fillings : (all : List House) → All (IsSound (setting_of true p all)) (deciding (strikes_by_fillings no_repeat) p)
+  by_fillings all = alike_sound true all (strikes_by_fillings no_repeat) (by_fillings-monotone no_repeat) (λ f long holds small. by_fillings-keeps no_repeat f holds) (λ _. by_fillings-settles no_repeat)
+
+  pub singles_sound : All (IsSound (setting_of false p (deciding (strikes_by_singles (solo_n p)) p))) (deciding (strikes_by_singles (solo_n p)) p)
+  singles_sound = alike_sound false (deciding (strikes_by_singles (solo_n p)) p) (strikes_by_singles (solo_n p)) (singles-monotone (solo_n p)) (singles-keeps (solo_n p)) (λ e. absurd (true≢false (sym e)))
+
+  pub fillings_sound : All (IsSound (setting_of true p (deciding (strikes_by_fillings no_repeat) p))) (deciding (strikes_by_fillings no_repeat) p)
+  fillings_sound = by_fillings (deciding (strikes_by_fillings no_repeat) p)
+
+  pub crossings_sound : All (IsSound (setting_of true p (deciding (strikes_by_fillings no_repeat) p ++ crossings_of p))) (deciding (strikes_by_fillings no_repeat) p ++ crossings_of p)
+  crossings_sound = All-append (IsSound (setting_of true p all)) (deciding (strikes_by_fillings no_repeat) p) (crossings_of p) (by_fillings all) (each_crossing all)
+    where
+      all : List House
+      all = deciding (strikes_by_fillings no_repeat) p ++ crossings_of p
+
+  pub singles_lawful : IsLawful (singles_rules p)
+  singles_lawful = rules_lawful false (deciding (strikes_by_singles (solo_n p)) p) singles_sound
+
+  pub houses_lawful : IsLawful (houses_rules p)
+  houses_lawful = rules_lawful true (deciding (strikes_by_fillings no_repeat) p) fillings_sound
+
+  pub crossings_lawful : IsLawful (crossings_rules p)
+  crossings_lawful = rules_lawful true (deciding (strikes_by_fillings no_repeat) p ++ crossings_of p) crossings_sound

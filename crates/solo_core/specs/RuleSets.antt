@@ -1,44 +1,81 @@
--- The two rule sets of Solo. They have the same houses, the same start and the same solutions, and strike differently.
-use Rattle.std.specs.Prelude.{ℕ, ◌+◌, ◌*◌, Bool, true, false, ◌&&◌, ◌||◌, ◌==◌, nat_lt, slice_index}
+-- The rule sets of Solo. They have the same start and the same solutions; singles and houses strike differently in the
+-- same houses, and crossings have further ones.
+use Rattle.std.specs.Prelude.{ℕ, ◌+◌, ◌*◌, Bool, true, false, ◌&&◌, ◌||◌, ◌==◌, nat_lt, List, ◌++◌, map, slice_index, sum_by}
+use Rattle.std.specs.List.{range_with_len}
 use Rattle.grid_core.specs.Candidates.{Candidates}
 use Rattle.gameid_core.specs.Puzzles.{Solo, solo_n}
 use Rattle.engine_core.specs.Puzzle.{Puzzle}
 use Rattle.engine_core.specs.Filling.{strikes_by_fillings}
-use Rattle.engine_core.specs.House.{Decision, strikes_at}
-use Rattle.solo_core.specs.Solutions.{cells_of, is_solution}
-use Rattle.solo_core.specs.Houses.{house_count, house_places}
+use Rattle.engine_core.specs.House.{Decision}
+use Rattle.engine_core.specs.Houses.{House, Setting, by_houses, visits_of}
+use Rattle.solo_core.specs.declared.solo_house.SoloHouse.TheVariants.{Block}
+use Rattle.solo_core.specs.declared.solo_scope.SoloScope.{SoloScope}
+use Rattle.solo_core.specs.declared.solo_scope.SoloScope.TheVariants as scope
+use Rattle.solo_core.specs.Cells.{cells_of}
+use Rattle.solo_core.specs.Crossing.{crossing}
+use Rattle.solo_core.specs.Houses.{houses_of, places_of}
 use Rattle.solo_core.specs.NoRepeat.{no_repeat}
+use Rattle.solo_core.specs.Scopes.{row_scope, column_scope}
 use Rattle.solo_core.specs.Singles.{strikes_by_singles}
+use Rattle.solo_core.specs.Solutions.{is_solution}
 
 -- where a search starts: a cell with a given has it alone, every other cell has every number
 unfoldable pub start : Solo → Candidates
 start p place v =
-    nat_lt place (cells_of p) && (nat_lt v (solo_n p) && ((slice_index p.givens place == 0) || (v + 1 == slice_index p.givens place)))
+    nat_lt place (cells_of p) && (nat_lt v (solo_n p)
+    && ((slice_index p.givens place == 0) || (v + 1 == slice_index p.givens place)))
 
--- the most visits of one closing: one for each house, and for each cell and each number that it can lose one for each
--- of its three houses
-abbrev pub bound_of : Solo → ℕ
-bound_of p = 3 * solo_n p + 3 * (solo_n p * solo_n p * solo_n p)
-
--- the rules with these strikes in every house
-abbrev pub rules_of : Bool → Decision → Solo → Puzzle
-rules_of settled decides p = record {
+-- the rules of these houses; a closing has at most one visit for each house, and one more for each value of its cells
+abbrev pub setting_of : Bool → Solo → List House → Setting
+setting_of settled p houses = record {
   cells = cells_of p;
   values = solo_n p;
-  houses = house_count p;
-  bound = bound_of p;
+  bound = sum_by (visits_of (solo_n p)) houses;
   settled = settled;
   by_queue = true;
-  scope = house_places p;
   start = start p;
-  strikes = λ h. strikes_at (solo_n p) (house_places p h) decides;
   is_solution = is_solution p;
 }
 
--- a house strikes what no filling of it without repeat allows
-abbrev pub houses_rules : Solo → Puzzle
-houses_rules p = rules_of true (strikes_by_fillings no_repeat) p
+abbrev pub rules_of : Bool → Solo → List House → Puzzle
+rules_of settled p houses = by_houses (setting_of settled p houses) houses
+
+-- the puzzle's houses, each with this decision
+abbrev pub deciding : Decision → Solo → List House
+deciding decides p =
+    map (λ house. record { places = places_of p house; decides = decides }) (houses_of p)
 
 -- a house strikes by its single values and places
+abbrev pub single_houses : Solo → List House
+single_houses p = deciding (strikes_by_singles (solo_n p)) p
+
 abbrev pub singles_rules : Solo → Puzzle
-singles_rules p = rules_of false (strikes_by_singles (solo_n p)) p
+singles_rules p = rules_of false p (single_houses p)
+
+-- a house strikes what no filling of it without repeat allows
+abbrev pub filled_houses : Solo → List House
+filled_houses p = deciding (strikes_by_fillings no_repeat) p
+
+abbrev pub houses_rules : Solo → Puzzle
+houses_rules p = rules_of true p (filled_houses p)
+
+-- what is visited as a house, and by which decision
+abbrev pub house_at : Solo → SoloScope → House
+house_at p (scope.House house) =
+    record { places = places_of p house; decides = strikes_by_fillings no_repeat }
+house_at p (scope.Crossing block line) = crossing (places_of p (Block block)) (places_of p line)
+
+-- crossings strike too
+abbrev pub row_crossing : Solo → ℕ → House
+row_crossing p m = house_at p (row_scope p m)
+
+abbrev pub column_crossing : Solo → ℕ → House
+column_crossing p m = house_at p (column_scope p m)
+
+abbrev pub crossings_of : Solo → List House
+crossings_of p =
+    map (row_crossing p) (range_with_len 0 (solo_n p * p.c))
+    ++ map (column_crossing p) (range_with_len 0 (solo_n p * p.r))
+
+abbrev pub crossings_rules : Solo → Puzzle
+crossings_rules p = rules_of true p (filled_houses p ++ crossings_of p)

@@ -1,16 +1,15 @@
 -- Laws of singles: what they strike from larger sets they strike from smaller ones, and from a solution's own values
 -- they strike nothing.
-use Rattle.std.proofs.Common.{◌≡◌, ℕ, zero, suc, ◌<◌, Bool, true, false, not, ◌&&◌, ◌||◌, true≢false, eqb, List, [], ◌∷◌, map, length, get_or, slice_index, sym, ◌∙◌, ap, arith, ◌⊎◌, inl, inr}
+use Rattle.std.proofs.Common.{◌≡◌, ℕ, zero, suc, ◌<◌, Bool, true, false, not, ◌&&◌, ◌||◌, true≢false, eqb, List, [], ◌∷◌, length, get_or, refl, sym, ◌∙◌, ap, arith, ◌⊎◌, inl, inr}
 use Rattle.std.proofs.lemmas.Bool.{cases_Bool, cases_lt, cases_eq, and_parts, and_from, or_cases, or_left, or_right, eqb-true, eq-eqb, ne_eqb, not-true, false_from_ne_true}
-use Rattle.std.proofs.lemmas.List.{get_or_past, get_or-map, length-map}
+use Rattle.std.proofs.lemmas.List.{get_or_past}
 use Rattle.grid_core.specs.Augmenting.{IsApart}
-use Rattle.grid_core.specs.Candidates.{any_below, single}
+use Rattle.grid_core.specs.Candidates.{any_below}
 use Rattle.grid_core.proofs.CandidateLemmas.{any_below-here, any_below-some, any_below-none}
 use Rattle.grid_core.proofs.DifferentNumbers.{apart-le}
-use Rattle.grid_core.proofs.GridLemmas.{single-at, single-is}
 use Rattle.engine_core.specs.Filling.{Set, has_value}
-use Rattle.engine_core.specs.House.{IsMonotone, sets_at, strikes_at}
-use Rattle.engine_core.specs.HouseLaws.{length-sets_at, sets_at-value, sets_at-small, strikes_at-some}
+use Rattle.engine_core.specs.Houses.{Keeps}
+use Rattle.engine_core.specs.House.{IsMonotone}
 use Rattle.solo_core.specs.NoRepeat.{no_repeat}
 use Rattle.solo_core.specs.NoRepeatLaws.{different_from_no_repeat}
 use Rattle.solo_core.specs.Singles.{Has, has_other, is_elsewhere, taken_elsewhere, needed_for_other, has_empty_cell, has_lost_value, strikes_where, has_at, strikes_by_singles}
@@ -149,7 +148,7 @@ singles-monotone values smaller larger k v inside on =
 
 -- ---- n different values below n leave none out
 module _ (n : ℕ) (f : List ℕ) (long : length f ≡ n) (holds : no_repeat f ≡ true) (small : (k : ℕ) → k < n → get_or f k 0 < n) where
-  none_missing : (w : ℕ) → w < n → any_below (λ k. eqb (get_or f k 0) w) n ≡ true
+  pub none_missing : (w : ℕ) → w < n → any_below (λ k. eqb (get_or f k 0) w) n ≡ true
   none_missing w lt = elim (cases_Bool (any_below (λ k. eqb (get_or f k 0) w) n)) [
     | inl on ↦ on
     | inr off ↦
@@ -213,34 +212,8 @@ module _ (n : ℕ) (f : List ℕ) (long : length f ≡ n) (holds : no_repeat f �
           fails_below (λ j. at j w.0) n (not-true (any_below (λ j. at j w.0) n) w.2) u.0 u.1
           (ap (at u.0) (sym (eqb-true (get_or f u.0 0) w.0 u.2)) ∙ own u.0 u.1)
 
--- a grid without repeat in the house is not struck from its own board
-pub singles-closed : (n : ℕ) (places : List ℕ) (g : List ℕ) → length places ≡ n
-    → ((k : ℕ) → k < length places → slice_index places k < length g) → ((c : ℕ) → c < length g → slice_index g c < n)
-    → no_repeat (map (slice_index g) places) ≡ true → (c v : ℕ) → single g c v ≡ true → strikes_at n places (strikes_by_singles n) (single g) c v ≡ false
-singles-closed n places g long inside small holds c v on =
-    false_from_ne_true (strikes_at n places (strikes_by_singles n) (single g) c v) (λ struck.
-    let w = strikes_at-some n places (strikes_by_singles n) (single g) c v struck in
-    let here : v ≡ get_or f w.0 0 = sym (single-is g c v on).1 ∙ ap (slice_index g) (sym w.2) ∙ sym (at_f w.0 w.1) in
-    let none : strikes_where n n (has_at (sets_at n places (single g))) w.0 v ≡ false =
-    own_stays n f (length-map places (slice_index g) ∙ long) holds f_small (has_at (sets_at n places (single g))) own only w.0 v (omega (arith, w.1)) here in
-    true≢false (sym w.3 ∙ rw (length-sets_at n places (single g) ∙ long) none))
-  where
-    f : List ℕ
-    f = map (slice_index g) places
-
-    at_f : (k : ℕ) → k < length places → get_or f k 0 ≡ slice_index g (slice_index places k)
-    at_f k lt = get_or-map (slice_index g) places k 0 0 lt
-
-    f_small : (k : ℕ) → k < n → get_or f k 0 < n
-    f_small k lt = rw (at_f k (omega arith)) (small (slice_index places k) (inside k (omega arith)))
-
-    own : (k : ℕ) → k < n → has_at (sets_at n places (single g)) k (get_or f k 0) ≡ true
-    own k lt =
-        sets_at-value n places (single g) k (get_or f k 0) (omega arith) (f_small k lt)
-        ∙ ap (single g (slice_index places k)) (at_f k (omega arith)) ∙ single-at g (slice_index places k) (inside k (omega arith))
-
-    only : (k u : ℕ) → k < n → has_at (sets_at n places (single g)) k u ≡ true → u ≡ get_or f k 0
-    only k u lt has =
-        let lu = sets_at-small n places (single g) k u (omega arith) has in
-        let is = single-is g (slice_index places k) u (sym (sets_at-value n places (single g) k u (omega arith) lu) ∙ has) in
-        sym is.1 ∙ sym (at_f k (omega arith))
+-- cells that have n different numbers below n alone lose none
+pub singles-keeps : (n : ℕ) (f : List ℕ) → length f ≡ n → no_repeat f ≡ true → ((k : ℕ) → k < n → get_or f k 0 < n) → Keeps (strikes_by_singles n) f
+singles-keeps n f long holds small sets k own lt = rw (own.as_many ∙ long) (own_stays n f long holds small (has_at sets)
+    (λ j lj. own.own j (get_or f j 0) (omega arith) ∙ eq-eqb (get_or f j 0) (get_or f j 0) refl)
+    (λ j v lj has. sym (eqb-true (get_or f j 0) v (sym (own.own j v (omega arith)) ∙ has))) k (get_or f k 0) (omega arith) refl)

@@ -1,17 +1,13 @@
 -- What a visit works in.
-use Rattle.std.specs.Prelude.{◌≤◌, vec_len}
-use Rattle.engine_core.specs.Puzzle.{Needs}
-use Rattle.solo_core.specs.declared.cells.Cells.{Cells}
-use Rattle.solo_core.specs.declared.solo_houses.HousesScratch.{HousesScratch}
+use Rattle.std.specs.Prelude.{ℕ, List, map}
+use Rattle.engine_core.specs.Houses.{House}
+use Rattle.engine_core.specs.HouseIndex.{Table}
+use Rattle.gameid_core.specs.Puzzles.{Solo}
+use Rattle.solo_core.specs.Cells.{cells_of}
 
--- there is room for the longest scope
-pub record HasRoom (cells : Cells) (needs : Needs) : Type 0 where
-  pub places : needs.scope ≤ vec_len cells.places
-  pub sets : needs.scope ≤ vec_len cells.sets
-  pub kept : needs.scope ≤ vec_len cells.kept
+-- the table of the houses of a puzzle
+abbrev pub all_places : List House → List (List ℕ)
+all_places houses = map (λ (house : House). house.places) houses
 
--- and for pairings of so many cells and values
-pub record ServesHouses (scratch : HousesScratch) (needs : Needs) : Type 0 where
-  pub cells : HasRoom scratch.cells needs
-  pub lefts : needs.scope ≤ scratch.pairing.room
-  pub rights : needs.values ≤ scratch.pairing.room
+abbrev pub table_of : Solo → List House → Table
+table_of p houses = record { cells = cells_of p; scopes = all_places houses }

@@ -1,0 +1,49 @@
+-- Lists of count houses, as they are made.
+use Rattle.std.specs.Prelude.{◌≡◌, ℕ, List, [], ◌∷◌, ◌++◌, map, slice_index_or}
+use Rattle.fields_core.specs.CountHouse.{House}
+use Rattle.fields_core.specs.declared.count_list.Bounds.{Bounds}
+use Rattle.fields_core.specs.declared.count_list.CountList.{CountList}
+
+-- the cells of a house, and its bounds
+abbrev pub places_of : House → List ℕ
+places_of house = house.places
+
+abbrev pub bounds_of : House → Bounds
+bounds_of house = record { least = house.least; most = house.most }
+
+-- the bounds of a house by its number
+abbrev pub bound_of : List Bounds → ℕ → Bounds
+bound_of bounds h = slice_index_or bounds h (record { least = 0; most = 0 })
+
+-- the house with these cells and bounds
+abbrev pub house_with : List ℕ → Bounds → House
+house_with places b = record { places = places; least = b.least; most = b.most }
+
+-- the houses with these cells and bounds
+abbrev pub bounded : List (List ℕ) → List Bounds → List House
+bounded [] bounds = []
+bounded (places ∷ scopes) [] = []
+bounded (places ∷ scopes) (b ∷ bounds) = house_with places b ∷ bounded scopes bounds
+
+-- the list has these houses
+pub record AreListed (list : CountList) (houses : List House) : Type 0 where
+  pub cells : list.list.closed ≡ map places_of houses
+  pub bounds : list.bounds.items ≡ map bounds_of houses
+
+-- the house that is begun has these cells more
+pub record IsBegun (old new : CountList) (places : List ℕ) : Type 0 where
+  pub closed : new.list.closed ≡ old.list.closed
+  pub begun : new.list.begun ≡ old.list.begun ++ places
+  pub bounds : new.bounds.items ≡ old.bounds.items
+
+-- the house that was begun is ended
+pub record IsClosed (old new : CountList) (least most : ℕ) : Type 0 where
+  pub closed : new.list.closed ≡ old.list.closed ++ old.list.begun ∷ []
+  pub begun : new.list.begun ≡ []
+  pub bounds : new.bounds.items ≡ old.bounds.items ++ record { least = least; most = most } ∷ []
+
+-- the list has these houses more, and none is begun
+pub record IsAdded (old new : CountList) (houses : List House) : Type 0 where
+  pub closed : new.list.closed ≡ old.list.closed ++ map places_of houses
+  pub begun : new.list.begun ≡ []
+  pub bounds : new.bounds.items ≡ old.bounds.items ++ map bounds_of houses

@@ -1,0 +1,31 @@
+-- The filling of Solo X: a search of the puzzle whose top row is given, turned over by a draw.
+use Rattle.std.specs.Prelude.{ℕ, suc, ◌-◌, ◌*◌, true, Option, Some, None, List, ◌++◌, map, replicate}
+use Rattle.gameid_core.specs.Puzzles.{Solo, solo_puzzle}
+use Rattle.engine_core.specs.Verdict.{Outcome, Outcome.NoGrid, Outcome.OneGrid, Outcome.TwoGrids, Outcome.OutOfBudget, verdict_of}
+use Rattle.solo_core.specs.RuleSets.{houses_rules}
+use Rattle.maker_core.specs.Draws.{Making, draw_below, shuffled_order}
+use Rattle.maker_core.specs.Flips.{flipped_by}
+
+-- the puzzle whose top row has these numbers, and which has no other given; a number v is held as v - 1
+abbrev pub top_row_given : ℕ → ℕ → List ℕ → Solo
+top_row_given c r numbers =
+    solo_puzzle c r true (map suc numbers ++ replicate ((c * r) * (c * r) - c * r) 0)
+
+-- the first grid that a search found, if it found one
+abbrev pub first_grid : Outcome → Option (List ℕ)
+first_grid NoGrid = None
+first_grid (OneGrid first) = Some first
+first_grid (TwoGrids first second) = Some first
+first_grid (OutOfBudget first) = first
+
+-- a grid that was found is flipped by a draw below 4; where none was found, nothing is drawn
+abbrev pub flipped_by_draw : ℕ → Option (List ℕ) → Making (Option (List ℕ))
+flipped_by_draw n None s = (None, s)
+flipped_by_draw n (Some g) s = let draw = draw_below 4 s in (Some (flipped_by n draw.0 g), draw.1)
+
+-- the numbers are shuffled, and the puzzle that has them as its top row is searched with the budget
+abbrev pub x_filling : ℕ → ℕ → ℕ → Making (Option (List ℕ))
+x_filling c r budget s =
+    let numbers = shuffled_order (c * r) s in
+    let found = first_grid (verdict_of (houses_rules (top_row_given c r numbers.0)) budget) in
+    flipped_by_draw (c * r) found numbers.1

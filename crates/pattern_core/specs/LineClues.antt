@@ -1,0 +1,9 @@
+-- The clue of a line, whatever words it is spelled in.
+use Rattle.std.specs.Prelude.{ℕ, List}
+use Rattle.pattern_core.specs.declared.line_clue.LineClue.{LineClue}
+use Rattle.pattern_core.specs.declared.line_clue.LineClue.TheVariants.{Short, Long}
+
+-- the clue's numbers
+abbrev pub numbers_in : LineClue → List ℕ
+numbers_in (Short clue) = clue
+numbers_in (Long clue) = clue

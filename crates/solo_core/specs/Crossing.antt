@@ -1,0 +1,38 @@
+-- Crossings of Solo: a block with a row or a column. Where one of the two has a value only in the cells that they share,
+-- the other can't have it elsewhere.
+use Rattle.std.specs.Prelude.{ℕ, Bool, not, ◌&&◌, ◌||◌, nat_lt, nat_le, List, [], ◌++◌, length, get_or, slice_index}
+use Rattle.std.specs.List.{filter}
+use Rattle.grid_core.specs.Candidates.{any_below}
+use Rattle.engine_core.specs.Puzzle.{has_place}
+use Rattle.engine_core.specs.Filling.{Set, has_value}
+use Rattle.engine_core.specs.House.{Decision}
+use Rattle.engine_core.specs.Houses.{House}
+
+-- the value has a place in this part of the house
+abbrev pub has_in_part : (ℕ → Bool) → List Set → ℕ → Bool
+has_in_part part sets value =
+    any_below (λ j. part j && has_value (get_or sets j []) value) (length sets)
+
+-- a value is struck from the line outside the block where it has no place in the block outside the line, and from the
+-- block outside the line where it has no place in the line outside the block
+abbrev pub strikes_by_crossing : (ℕ → Bool) → (ℕ → Bool) → Decision
+strikes_by_crossing in_block in_line sets place value =
+    (in_line place && not (has_in_part in_block sets value))
+    || (in_block place && not (has_in_part in_line sets value))
+
+-- the block's places, and then the line's outside the block
+abbrev pub crossing_places : List ℕ → List ℕ → List ℕ
+crossing_places block line = block ++ filter (λ c. not (has_place block c)) line
+
+-- its cells in the block outside the line, and in the line outside the block, by their numbers in the list
+abbrev pub in_block_alone : List ℕ → List ℕ → ℕ → Bool
+in_block_alone block line k = nat_lt k (length block) && not (has_place line (slice_index block k))
+
+abbrev pub in_line_alone : List ℕ → ℕ → Bool
+in_line_alone block k = nat_le (length block) k
+
+abbrev pub crossing : List ℕ → List ℕ → House
+crossing block line = record {
+  places = crossing_places block line;
+  decides = strikes_by_crossing (in_block_alone block line) (in_line_alone block);
+}

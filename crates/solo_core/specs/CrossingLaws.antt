@@ -1,0 +1,218 @@
+-- Laws of crossings: what they strike from larger sets they strike from smaller ones, from a block and a line of n
+-- different numbers they strike nothing, and a second visit strikes nothing more.
+use Rattle.std.proofs.Common.{◌≡◌, ℕ, ◌+◌, ◌-◌, ◌<◌, ◌≤◌, Bool, true, false, not, ◌&&◌, true≢false, eqb, List, [], map, length, get_or, slice_index, refl, sym, ap, ◌∙◌, inl, inr, arith, length-append}
+use Rattle.std.specs.List.{filter}
+use Rattle.std.proofs.lemmas.Bool.{cases_Bool, cases_lt, cases_order, and_parts, and_from, or_cases, or_left, or_right, eqb-true, eq-eqb, not-true, not_from_false, false_from_ne_true, ltb-true, leb-true, lt-ltb, le-leb}
+use Rattle.std.proofs.lemmas.List.{get_or-map, length-map, get_or_append_left, get_or-append_right}
+use Rattle.grid_core.proofs.CandidateLemmas.{any_below-here, any_below-some}
+use Rattle.engine_core.specs.Puzzle.{has_place}
+use Rattle.engine_core.specs.PlaceLaws.{has_place-at, has_place-here, place-filter, place-kept, different-filter}
+use Rattle.engine_core.specs.Filling.{Set, has_value}
+use Rattle.engine_core.specs.House.{IsMonotone, AreDifferent}
+use Rattle.engine_core.specs.Houses.{IsSettled, Keeps}
+use Rattle.solo_core.specs.NoRepeat.{no_repeat}
+use Rattle.solo_core.specs.NoRepeatLaws.{different_from_no_repeat}
+use Rattle.solo_core.specs.SinglesLaws.{none_missing}
+use Rattle.solo_core.specs.Crossing.{has_in_part, strikes_by_crossing, crossing_places, in_block_alone, in_line_alone}
+
+-- ---- parts
+part-some : (part : ℕ → Bool) (sets : List Set) (v : ℕ) → has_in_part part sets v ≡ true → (j : ℕ) × (j < length sets) × (part j ≡ true) × (has_value (get_or sets j []) v ≡ true)
+part-some part sets v on =
+    let w = any_below-some (λ j. part j && has_value (get_or sets j []) v) (length sets) on in
+    let both = and_parts (part w.0) (has_value (get_or sets w.0 []) v) w.2 in
+    (w.0, w.1, both.0, both.1)
+
+part-here : (part : ℕ → Bool) (sets : List Set) (v j : ℕ) → j < length sets → part j ≡ true → has_value (get_or sets j []) v ≡ true → has_in_part part sets v ≡ true
+part-here part sets v j lt in_part has = any_below-here (λ k. part k && has_value (get_or sets k []) v) (length sets) j lt (and_from (part j) (has_value (get_or sets j []) v) in_part has)
+
+module _ (block line : ℕ → Bool) where
+  -- the two cases of a strike
+  two_cases : (P : Type 0) (sets : List Set) (k v : ℕ) → (line k ≡ true → has_in_part block sets v ≡ false → P) → (block k ≡ true → has_in_part line sets v ≡ false → P)
+      → strikes_by_crossing block line sets k v ≡ true → P
+  two_cases P sets k v a b on = elim (or_cases (line k && not (has_in_part block sets v)) (block k && not (has_in_part line sets v)) on) [
+    | inl l ↦ let w = and_parts (line k) (not (has_in_part block sets v)) l in a w.0 (not-true (has_in_part block sets v) w.1)
+    | inr r ↦ let w = and_parts (block k) (not (has_in_part line sets v)) r in b w.0 (not-true (has_in_part line sets v) w.1)
+  ]
+
+  pub crossing-monotone : IsMonotone (strikes_by_crossing block line)
+  crossing-monotone smaller larger k v inside on = two_cases (strikes_by_crossing block line smaller k v ≡ true) larger k v
+      (λ here none. or_left (line k && not (has_in_part block smaller v)) (block k && not (has_in_part line smaller v)) (and_from (line k) (not (has_in_part block smaller v)) here (gone block none)))
+      (λ here none. or_right (line k && not (has_in_part block smaller v)) (block k && not (has_in_part line smaller v)) (and_from (block k) (not (has_in_part line smaller v)) here (gone line none)))
+      on
+    where
+      gone : (part : ℕ → Bool) → has_in_part part larger v ≡ false → not (has_in_part part smaller v) ≡ true
+      gone part none = not_from_false (has_in_part part smaller v) (false_from_ne_true (has_in_part part smaller v) (λ has.
+          let w = part-some part smaller v has in
+          true≢false (sym (part-here part larger v w.0 (let e = inside.as_many in let lt = w.1 in omega arith) w.2 (inside.inside w.0 v w.1 w.3)) ∙ none)))
+
+  -- where the values of each part are those of the other, none is struck
+  pub crossing-keeps : (filling : List ℕ)
+      → ((k : ℕ) → k < length filling → line k ≡ true → (j : ℕ) × (j < length filling) × (block j ≡ true) × (get_or filling j 0 ≡ get_or filling k 0))
+      → ((k : ℕ) → k < length filling → block k ≡ true → (j : ℕ) × (j < length filling) × (line j ≡ true) × (get_or filling j 0 ≡ get_or filling k 0))
+      → Keeps (strikes_by_crossing block line) filling
+  crossing-keeps filling in_block in_line sets k own lt = false_from_ne_true (strikes_by_crossing block line sets k (get_or filling k 0))
+      (two_cases ⊥ sets k (get_or filling k 0) (λ here. there block (in_block k lt here)) (λ here. there line (in_line k lt here)))
+    where
+      there : (part : ℕ → Bool) → (j : ℕ) × (j < length filling) × (part j ≡ true) × (get_or filling j 0 ≡ get_or filling k 0) → has_in_part part sets (get_or filling k 0) ≡ false → ⊥
+      there part (j, lj, in_part, same) none = true≢false (sym (part-here part sets (get_or filling k 0) j (let e = own.as_many in omega arith) in_part
+          (own.own j (get_or filling k 0) lj ∙ eq-eqb (get_or filling j 0) (get_or filling k 0) same)) ∙ none)
+
+  -- a value that is left in a part has a place in the other, which keeps it
+  pub crossing-settles : IsSettled (strikes_by_crossing block line)
+  crossing-settles old new k v a lt on = false_from_ne_true (strikes_by_crossing block line new k v) (two_cases ⊥ new k v
+      (λ here none. let mine = part-here line old v k lt here was.0 in let other = unstruck line block here (λ e. or_left (line k && not (has_in_part block old v)) (block k && not (has_in_part line old v)) e) in gone block other other mine none)
+      (λ here none. let mine = part-here block old v k lt here was.0 in let other = unstruck block line here (λ e. or_right (line k && not (has_in_part block old v)) (block k && not (has_in_part line old v)) e) in gone line other mine other none))
+    where
+      was : (has_value (get_or old k []) v ≡ true) × (strikes_by_crossing block line old k v ≡ false)
+      was =
+          let w = and_parts (has_value (get_or old k []) v) (not (strikes_by_crossing block line old k v)) (sym (a.left k v lt) ∙ on) in
+          (w.0, not-true (strikes_by_crossing block line old k v) w.1)
+
+      unstruck : (mine other : ℕ → Bool) → mine k ≡ true → ((mine k && not (has_in_part other old v)) ≡ true → strikes_by_crossing block line old k v ≡ true) → has_in_part other old v ≡ true
+      unstruck mine other here struck = elim (cases_Bool (has_in_part other old v)) [
+        | inl has ↦ has
+        | inr none ↦ absurd (true≢false (sym (struck (and_from (mine k) (not (has_in_part other old v)) here (not_from_false (has_in_part other old v) none))) ∙ was.1))
+      ]
+
+      gone : (part : ℕ → Bool) → has_in_part part old v ≡ true → has_in_part block old v ≡ true → has_in_part line old v ≡ true → has_in_part part new v ≡ false → ⊥
+      gone part had in_block in_line none =
+          let w = part-some part old v had in
+          let kept = a.left w.0 v w.1 ∙ and_from (has_value (get_or old w.0 []) v) (not (strikes_by_crossing block line old w.0 v)) w.3
+          (not_from_false (strikes_by_crossing block line old w.0 v) (false_from_ne_true (strikes_by_crossing block line old w.0 v)
+          (two_cases ⊥ old w.0 v (λ _ no. true≢false (sym in_block ∙ no)) (λ _ no. true≢false (sym in_line ∙ no))))) in
+          true≢false (sym (part-here part new v w.0 (let e = a.as_many in let l = w.1 in omega arith) w.2 kept) ∙ none)
+
+-- ---- a house of n different cells
+module _ (n : ℕ) (g : List ℕ) (small : (c : ℕ) → c < length g → slice_index g c < n) (places : List ℕ) (long : length places ≡ n)
+    (inside : (k : ℕ) → k < length places → slice_index places k < length g) (holds : no_repeat (map (slice_index g) places) ≡ true) where
+  at_place : (k : ℕ) → k < length places → get_or (map (slice_index g) places) k 0 ≡ slice_index g (slice_index places k)
+  at_place k lt = get_or-map (slice_index g) places k 0 0 lt
+
+  -- has each number at one place alone
+  pub one_place : (c d : ℕ) → has_place places c ≡ true → has_place places d ≡ true → slice_index g c ≡ slice_index g d → c ≡ d
+  one_place c d on_c on_d same =
+      let j = has_place-at places c on_c in
+      let k = has_place-at places d on_d in
+      let len = length-map places (slice_index g) in
+      let lj = j.1 in
+      let lk = k.1 in
+      let at_j = at_place j.0 lj ∙ ap (slice_index g) j.2 in
+      let at_k = at_place k.0 lk ∙ ap (slice_index g) k.2 in
+      elim (cases_order j.0 k.0) [
+        | inl e ↦ sym j.2 ∙ ap (slice_index places) e ∙ k.2
+        | inr more ↦ elim more [
+          | inl low ↦ absurd (different_from_no_repeat (map (slice_index g) places) holds j.0 k.0 low (omega arith) (at_j ∙ same ∙ sym at_k))
+          | inr high ↦ absurd (different_from_no_repeat (map (slice_index g) places) holds k.0 j.0 high (omega arith) (at_k ∙ sym same ∙ sym at_j))
+        ]
+      ]
+
+  -- and each number below n somewhere
+  pub some_place : (v : ℕ) → v < n → (c : ℕ) × (has_place places c ≡ true) × (slice_index g c ≡ v)
+  some_place v lt =
+      let w = any_below-some (λ k. eqb (get_or (map (slice_index g) places) k 0) v) n (none_missing n (map (slice_index g) places) (length-map places (slice_index g) ∙ long) holds
+      (λ k lk. let l : k < length places = omega arith in rw (at_place k l) (small (slice_index places k) (inside k l))) v lt) in
+      let l : w.0 < length places = let a = w.1 in omega arith in
+      (slice_index places w.0, has_place-here places w.0 l, sym (at_place w.0 l) ∙ eqb-true (get_or (map (slice_index g) places) w.0 0) v w.2)
+
+-- ---- a crossing of a block and a line
+module _ (block line : List ℕ) where
+  abbrev rest : List ℕ
+  rest = filter (λ c. not (has_place block c)) line
+
+  at_block : (k : ℕ) → k < length block → slice_index (crossing_places block line) k ≡ slice_index block k
+  at_block k lt = get_or_append_left block rest 0 k lt
+
+  at_rest : (k : ℕ) → length block ≤ k → slice_index (crossing_places block line) k ≡ slice_index rest (k - length block)
+  at_rest k le = get_or-append_right block rest (length block) k 0 refl le
+
+  long : length (crossing_places block line) ≡ length block + length rest
+  long = length-append block rest
+
+  -- a place past the block's is the line's, and not the block's
+  rest_is : (k : ℕ) → length block ≤ k → k < length (crossing_places block line)
+      → (has_place line (slice_index (crossing_places block line) k) ≡ true) × (has_place block (slice_index (crossing_places block line) k) ≡ false)
+  rest_is k le lt =
+      let len = long in
+      let w = place-filter (λ c. not (has_place block c)) line (slice_index rest (k - length block)) (has_place-here rest (k - length block) (omega arith)) in
+      rw (at_rest k le) (w.0, not-true (has_place block (slice_index rest (k - length block))) w.1)
+
+  pub crossing-within : (cells : ℕ) → ((k : ℕ) → k < length block → slice_index block k < cells) → ((k : ℕ) → k < length line → slice_index line k < cells)
+      → (k : ℕ) → k < length (crossing_places block line) → slice_index (crossing_places block line) k < cells
+  crossing-within cells in_block in_line k lt = elim (cases_lt k (length block)) [
+    | inl low ↦ rw (at_block k low) (in_block k low)
+    | inr high ↦ let w = has_place-at line (slice_index (crossing_places block line) k) (rest_is k high lt).0 in rw w.2 at (in_line w.0 w.1)
+  ]
+
+  pub crossing-different : AreDifferent block → AreDifferent line → AreDifferent (crossing_places block line)
+  crossing-different in_block in_line j k lj lk e = elim (cases_lt j (length block)) [
+    | inl low_j ↦ elim (cases_lt k (length block)) [
+      | inl low_k ↦ in_block j k low_j low_k (sym (at_block j low_j) ∙ e ∙ at_block k low_k)
+      | inr high_k ↦ absurd (true≢false (sym (rw (sym (at_block j low_j) ∙ e) at (has_place-here block j low_j)) ∙ (rest_is k high_k lk).1))
+    ]
+    | inr high_j ↦ elim (cases_lt k (length block)) [
+      | inl low_k ↦ absurd (true≢false (sym (rw (sym (at_block k low_k) ∙ sym e) at (has_place-here block k low_k)) ∙ (rest_is j high_j lj).1))
+      | inr high_k ↦
+          let len = long in
+          let same = different-filter (λ c. not (has_place block c)) line in_line (j - length block) (k - length block) (omega arith) (omega arith) (sym (at_rest j high_j) ∙ e ∙ at_rest k high_k) in
+          omega arith
+    ]
+  ]
+
+  -- where both have n different cells and no number twice, each number of the one is one of the other
+  module _ (n : ℕ) (g : List ℕ) (small : (c : ℕ) → c < length g → slice_index g c < n) (block_long : length block ≡ n) (line_long : length line ≡ n)
+      (in_block : (k : ℕ) → k < length block → slice_index block k < length g) (in_line : (k : ℕ) → k < length line → slice_index line k < length g)
+      (block_holds : no_repeat (map (slice_index g) block) ≡ true) (line_holds : no_repeat (map (slice_index g) line) ≡ true) where
+    value_at : (k : ℕ) → k < length (crossing_places block line) → get_or (map (slice_index g) (crossing_places block line)) k 0 ≡ slice_index g (slice_index (crossing_places block line) k)
+    value_at k lt = get_or-map (slice_index g) (crossing_places block line) k 0 0 lt
+
+    size : length (map (slice_index g) (crossing_places block line)) ≡ length (crossing_places block line)
+    size = length-map (crossing_places block line) (slice_index g)
+
+    low_value : (k : ℕ) → k < length (crossing_places block line) → slice_index g (slice_index (crossing_places block line) k) < n
+    low_value k lt = small (slice_index (crossing_places block line) k) (crossing-within (length g) in_block in_line k lt)
+
+    pub crossing-sound : Keeps (strikes_by_crossing (in_block_alone block line) (in_line_alone block)) (map (slice_index g) (crossing_places block line))
+    crossing-sound = crossing-keeps (in_block_alone block line) (in_line_alone block) (map (slice_index g) (crossing_places block line)) from_line from_block
+      where
+        from_line : (k : ℕ) → k < length (map (slice_index g) (crossing_places block line)) → in_line_alone block k ≡ true
+            → (j : ℕ) × (j < length (map (slice_index g) (crossing_places block line))) × (in_block_alone block line j ≡ true)
+            × (get_or (map (slice_index g) (crossing_places block line)) j 0 ≡ get_or (map (slice_index g) (crossing_places block line)) k 0)
+        from_line k lt here =
+            let len = long in
+            let s = size in
+            let lk : k < length (crossing_places block line) = omega arith in
+            let w = rest_is k (leb-true (length block) k here) lk in
+            let d = some_place n g small block block_long in_block block_holds (slice_index g (slice_index (crossing_places block line) k)) (low_value k lk) in
+            let j = has_place-at block d.0 d.1 in
+            let lj = j.1 in
+            let apart : has_place line (slice_index block j.0) ≡ false = false_from_ne_true (has_place line (slice_index block j.0)) (λ on.
+            let same = one_place n g small line line_long in_line line_holds (slice_index block j.0) (slice_index (crossing_places block line) k) on w.0 (ap (slice_index g) j.2 ∙ d.2) in
+            true≢false (sym (rw same at (has_place-here block j.0 lj)) ∙ w.1)) in (
+              j.0,
+              omega arith,
+              and_from _ _ (lt-ltb j.0 (length block) lj) (not_from_false (has_place line (slice_index block j.0)) apart),
+              value_at j.0 (omega arith) ∙ ap (slice_index g) (at_block j.0 lj ∙ j.2) ∙ d.2 ∙ sym (value_at k lk),
+            )
+
+        from_block : (k : ℕ) → k < length (map (slice_index g) (crossing_places block line)) → in_block_alone block line k ≡ true
+            → (j : ℕ) × (j < length (map (slice_index g) (crossing_places block line))) × (in_line_alone block j ≡ true)
+            × (get_or (map (slice_index g) (crossing_places block line)) j 0 ≡ get_or (map (slice_index g) (crossing_places block line)) k 0)
+        from_block k lt here =
+            let len = long in
+            let s = size in
+            let lk : k < length (crossing_places block line) = omega arith in
+            let parts = and_parts _ _ here in
+            let low = ltb-true k (length block) parts.0 in
+            let d = some_place n g small line line_long in_line line_holds (slice_index g (slice_index (crossing_places block line) k)) (low_value k lk) in
+            let apart : has_place block d.0 ≡ false = false_from_ne_true (has_place block d.0) (λ on.
+            let same = one_place n g small block block_long in_block block_holds d.0 (slice_index block k) on (has_place-here block k low) (d.2 ∙ ap (slice_index g) (at_block k low)) in
+            true≢false (sym (rw same at d.1) ∙ not-true (has_place line (slice_index block k)) parts.1)) in
+            let j = has_place-at rest d.0 (place-kept (λ c. not (has_place block c)) line d.0 d.1 (not_from_false (has_place block d.0) apart)) in
+            let lj = j.1 in
+            let e : length block + j.0 - length block ≡ j.0 = omega arith in (
+              length block + j.0,
+              omega arith,
+              le-leb (length block) (length block + j.0) (omega arith),
+              value_at (length block + j.0) (omega arith)
+                  ∙ ap (slice_index g) (at_rest (length block + j.0) (omega arith) ∙ ap (slice_index rest) e ∙ j.2) ∙ d.2 ∙ sym (value_at k lk),
+            )

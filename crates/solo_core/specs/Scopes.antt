@@ -1,0 +1,24 @@
+-- What a rule set of Solo may visit: the houses, and then crossings of a block with a row or a column that it meets.
+use Rattle.std.specs.Prelude.{ℕ, ◌+◌, ◌*◌, ◌/◌, ◌%◌, List, ◌++◌, map}
+use Rattle.std.specs.List.{range_with_len}
+use Rattle.gameid_core.specs.Puzzles.{Solo, solo_n}
+use Rattle.solo_core.specs.declared.solo_house.SoloHouse.TheVariants.{Row, Column}
+use Rattle.solo_core.specs.declared.solo_scope.SoloScope.{SoloScope}
+use Rattle.solo_core.specs.declared.solo_scope.SoloScope.TheVariants.{House, Crossing}
+use Rattle.solo_core.specs.Houses.{houses_of}
+
+-- by number: the crossings of each block with each of the c rows that it meets, and with each of the r columns
+abbrev pub row_scope : Solo → ℕ → SoloScope
+row_scope p m = Crossing (m / p.c) (Row (m / p.c / p.c * p.c + m % p.c))
+
+abbrev pub column_scope : Solo → ℕ → SoloScope
+column_scope p m = Crossing (m / p.r) (Column (m / p.r % p.c * p.r + m % p.r))
+
+abbrev pub crossing_scopes : Solo → List SoloScope
+crossing_scopes p =
+    map (row_scope p) (range_with_len 0 (solo_n p * p.c))
+    ++ map (column_scope p) (range_with_len 0 (solo_n p * p.r))
+
+-- in the order of their numbers; a rule set without crossings visits the houses alone
+abbrev pub scopes_of : Solo → List SoloScope
+scopes_of p = map House (houses_of p) ++ crossing_scopes p
