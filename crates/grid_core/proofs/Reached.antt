@@ -17,7 +17,7 @@ use Rattle.std.proofs.lemmas.Map.Made.{length-from_keys, IsDistinct-from_count}
 use Rattle.std.proofs.lemmas.Map.Keys.{IsStrictlyIncreasing-from_distinct}
 use Rattle.grid_core.specs.Pairings.{IsShortSet}
 use Rattle.grid_core.proofs.DifferentNumbers.{apart-le, count_by-le, distinct_from_apart}
-use Rattle.grid_core.specs.Augmenting.{IsApart, IsOwnership, IsReach, SeesBelow, IsTrail, owner_of}
+use Rattle.grid_core.specs.Augmenting.{IsApart, IsOwnership, IsReach, SeesBelow, IsWayBack, owner_of}
 
 -- the search begins with the root alone
 pub IsReach-root : (joins : ℕ → ℕ → Bool) (rights root : ℕ) (owners : List (Option ℕ)) (seen : List Bool) (queue came parents : List ℕ)
@@ -218,9 +218,9 @@ module _ (joins : ℕ → ℕ → Bool) (lefts rights root : ℕ) (owners : List
   }
 
 -- each place reached has a way back
-pub IsTrail-from_reach : (joins : ℕ → ℕ → Bool) (rights root : ℕ) (owners : List (Option ℕ)) (seen : List Bool) (queue came parents : List ℕ) (count place : ℕ)
-    → IsReach joins rights root owners seen queue came parents count → place < count → IsTrail joins rights root owners queue came parents place
-IsTrail-from_reach joins rights root owners seen queue came parents count place reach h = record {
+pub IsWayBack-from_reach : (joins : ℕ → ℕ → Bool) (rights root : ℕ) (owners : List (Option ℕ)) (seen : List Bool) (queue came parents : List ℕ) (count place : ℕ)
+    → IsReach joins rights root owners seen queue came parents count → place < count → IsWayBack joins rights root owners queue came parents place
+IsWayBack-from_reach joins rights root owners seen queue came parents count place reach h = record {
   root_first = reach.root_first;
   apart = λ i j a b. reach.apart.differ i j a (omega arith);
   below = λ j b. reach.below j (omega arith);
@@ -238,7 +238,7 @@ reached-le joins rights root owners seen queue came parents count reach =
 
 -- after a left moved from the right by which it was reached to a free one, the way from its parent stands
 module _ (joins : ℕ → ℕ → Bool) (rights root : ℕ) (owners : List (Option ℕ)) (queue came parents : List ℕ) (place new : ℕ)
-    (trail : IsTrail joins rights root owners queue came parents place)
+    (trail : IsWayBack joins rights root owners queue came parents place)
     (pos : 0 < place) (free : owner_of owners new ≡ None) where
   kept_owner : (j : ℕ) → 0 < j → j < place
       → owner_of (set (set owners (get_or came place 0) None) new (Some (get_or queue place 0))) (get_or came j 0) ≡ Some (get_or queue j 0)
@@ -251,8 +251,8 @@ module _ (joins : ℕ → ℕ → Bool) (rights root : ℕ) (owners : List (Opti
       (λ e. let q = ap (owner_of owners) e in let s : get_or queue j 0 ≡ get_or queue place 0 = cc in trail.apart j place b (omega arith) s)
       ∙ has
 
-  pub IsTrail-parent : IsTrail joins rights root (set (set owners (get_or came place 0) None) new (Some (get_or queue place 0))) queue came parents (get_or parents place 0)
-  IsTrail-parent =
+  pub IsWayBack-parent : IsWayBack joins rights root (set (set owners (get_or came place 0) None) new (Some (get_or queue place 0))) queue came parents (get_or parents place 0)
+  IsWayBack-parent =
       let before = trail.parent_before place pos (omega arith) in
       record {
         root_first = trail.root_first;

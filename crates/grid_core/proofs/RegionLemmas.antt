@@ -1,4 +1,4 @@
-use Rattle.std.proofs.Common.{◌≡◌, ℕ, zero, suc, ◌+◌, ◌-◌, ◌*◌, ◌/◌, ◌%◌, ◌<◌, ◌≤◌, leb, ltb, List, [], ◌∷◌, ◌++◌, length, slice_index, Some, None, sym, ap, ◌∙◌, inl, inr, arith, length-append, add-one}
+use Rattle.std.proofs.Common.{◌≡◌, ℕ, zero, suc, ◌+◌, ◌-◌, ◌*◌, ◌/◌, ◌%◌, ◌<◌, ◌≤◌, eqb, leb, ltb, if◌then◌else◌, List, [], ◌∷◌, ◌++◌, length, slice_index, Some, None, sym, ap, ◌∙◌, inl, inr, arith, length-append, add-one}
 use Rattle.std.specs.List.{slice_get}
 use Rattle.std.proofs.lemmas.Bool.{cases_eq, cond-true, cond-false, lt-ltb, le-ltb, le-leb, lt-leb}
 use Rattle.std.proofs.lemmas.Option.{slice_get-get_or, slice_get_within}
@@ -7,7 +7,7 @@ use Rattle.std.proofs.lemmas.List.FromFn.{get_or-map-range_with_len}
 use Rattle.std.proofs.Math.Seq.{get_or-append_seam}
 use Rattle.std.proofs.Math.Nat.{mul-le-mul_right, div-lt_iff_lt-mul, mod-lt}
 use Rattle.grid_core.specs.Extent.{Extent}
-use Rattle.grid_core.specs.Regions.{row_places, column_places, block_places, step, steps, if_there}
+use Rattle.grid_core.specs.Regions.{row_places, column_places, block_places, diagonal_places, step, steps, if_there}
 
 -- ---- lines and blocks
 pub row-at : (size : Extent) (y k : ℕ) → k < size.w → y * size.w + k ≡ slice_index (row_places size y) k
@@ -18,6 +18,9 @@ column-at size x k lt = sym (get_or-map-range_with_len (λ y. y * size.w + x) 0 
 
 pub block-at : (c r b k : ℕ) → k < c * r → ((b / c) * c + k / r) * (c * r) + ((b % c) * r + k % r) ≡ slice_index (block_places c r b) k
 block-at c r b k lt = sym (get_or-map-range_with_len (λ k. ((b / c) * c + k / r) * (c * r) + ((b % c) * r + k % r)) 0 (c * r) k k 0 lt (omega arith))
+
+pub diagonal-at : (n d k : ℕ) → k < n → k * n + (if eqb d 0 then k else n - 1 - k) ≡ slice_index (diagonal_places n d) k
+diagonal-at n d k lt = sym (get_or-map-range_with_len (λ k. k * n + (if eqb d 0 then k else n - 1 - k)) 0 n k k 0 lt (omega arith))
 
 -- ---- one step
 pub step-up : (size : Extent) (place d : ℕ) → d ≡ 0 → 1 ≤ place / size.w → Some (place - size.w) ≡ step size place d

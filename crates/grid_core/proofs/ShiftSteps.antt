@@ -2,14 +2,14 @@
 use Rattle.std.proofs.Common.{◌≡◌, ℕ, ◌+◌, ◌<◌, ◌≤◌, Bool, List, length, get_or, set, ◌∙◌, ap, subst, arith}
 use Rattle.std.specs.Prelude.{IsTrue, Option, Some, None}
 use Rattle.std.proofs.lemmas.List.{length-set, get_or-set_same, get_or-set_other}
-use Rattle.grid_core.specs.Augmenting.{IsPartial, IsTrail, owner_of}
+use Rattle.grid_core.specs.Augmenting.{IsPartial, IsWayBack, owner_of}
 use Rattle.grid_core.proofs.PartialPairings.{IsPartial-move, IsPartial-add}
-use Rattle.grid_core.proofs.Reached.{IsTrail-parent}
+use Rattle.grid_core.proofs.Reached.{IsWayBack-parent}
 
 -- what stands while a right is free for the left at `place`
 pub record IsShifting (joins : ℕ → ℕ → Bool) (rights root : ℕ) (mates : List ℕ) (owners : List (Option ℕ)) (queue came parents : List ℕ) (place right : ℕ) : Type 0 where
   pub partial : IsPartial joins rights root mates owners
-  pub trail : IsTrail joins rights root owners queue came parents place
+  pub trail : IsWayBack joins rights root owners queue came parents place
   pub place_in : place < length queue
   pub mates_room : root < length mates
   pub owners_room : rights ≤ length owners
@@ -43,7 +43,7 @@ module _ (joins : ℕ → ℕ → Bool) (rights root : ℕ) (mates : List ℕ) (
       record {
         partial = IsPartial-move joins rights root mates owners (get_or queue place 0) (get_or came place 0) right s.partial (omega arith) (omega arith) (omega arith) c
             (s.trail.owned place pos (omega arith)) s.free s.joined;
-        trail = IsTrail-parent joins rights root owners queue came parents place right s.trail pos s.free;
+        trail = IsWayBack-parent joins rights root owners queue came parents place right s.trail pos s.free;
         place_in = omega arith;
         mates_room = omega (arith, length-set {A = ℕ});
         owners_room = omega (arith, length-set {A = Option ℕ});

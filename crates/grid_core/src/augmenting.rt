@@ -1,6 +1,6 @@
 //! The search for a free right, and the change of mates along the way to it.
 ghost use Rattle.std.specs.Prelude.{◌≡◌, ◌+◌, ◌<◌, ◌≤◌, IsTrue, IfSome, IfNone, length, get_or, slice_set, take, None};
-ghost use Rattle.grid_core.specs.Augmenting.{IsOwnership, IsPartial, IsReach, SeesBelow, Extends, IsTrail, IsDeadEnd, owner_of};
+ghost use Rattle.grid_core.specs.Augmenting.{IsOwnership, IsPartial, IsReach, SeesBelow, Extends, IsWayBack, IsDeadEnd, owner_of};
 ghost use Rattle.grid_core.specs.Pairings.{IsPairing, IsShortSet};
 ghost use Rattle.grid_core.specs.SearchOutcome.{OutcomeGives};
 
@@ -105,7 +105,7 @@ fn explore<E: Edges>(
         (λ place right. (place ≤ root) × (right < E.right_count edges.now)
         × IsTrue (E.joins edges.now (get_or queue.new place 0) right)
         × (owner_of owners.now right ≡ None)
-        × IsTrail (E.joins edges.now) (E.right_count edges.now) root owners.now
+        × IsWayBack (E.joins edges.now) (E.right_count edges.now) root owners.now
         queue.new came.new parents.new place)
         (λ count. IsDeadEnd (E.joins edges.now) (E.right_count edges.now) root owners.now
         seen.new queue.new came.new parents.new count)
@@ -141,7 +141,7 @@ fn shift<E: Edges>(
 )
     requires partial { IsPartial (E.joins edges.now) (E.right_count edges.now) root mates.old
         owners.old }
-    requires trail { IsTrail (E.joins edges.now) (E.right_count edges.now) root owners.old
+    requires trail { IsWayBack (E.joins edges.now) (E.right_count edges.now) root owners.old
         queue.now came.now parents.now place }
     requires place_in { place < length queue.now }
     requires came_room { length queue.now ≤ length came.now }
@@ -190,6 +190,7 @@ pub(crate) fn pair_all<E: Edges>(
         (E.left_count edges.now) (E.right_count edges.now) (take n queue.new)) }
 {
     owners.fill(None);
+    let seen = &mut seen[..edges.rights()];
     for root in 0..edges.lefts() {
         match explore(edges, root, owners, seen, queue, came, parents) {
             Outcome::Free { place, right } => {

@@ -11,7 +11,7 @@ mod size;
 pub use board::Board;
 pub use grid::Grid;
 pub use pairing::{Edges, Paired, Pairing};
-pub use regions::{beside, block_place, column_place, row_place, step};
+pub use regions::{beside, block_place, column_place, diagonal_place, row_place, step};
 pub use size::{MAX_SIDE, Size};
 
 #[cfg(test)]

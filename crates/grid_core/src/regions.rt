@@ -1,9 +1,9 @@
-//! The places of the cells of a grid's rows, columns and blocks, and of those beside a cell. Rows, columns, blocks and the
+//! The places of the cells of a grid's rows, columns, blocks and diagonals, and of those beside a cell. Rows, columns, blocks and the
 //! cells of each are counted from 0.
 
-ghost use Rattle.std.specs.Prelude.{◌≡◌, ◌+◌, ◌*◌, ◌<◌, slice_index, IfSome};
+ghost use Rattle.std.specs.Prelude.{◌≡◌, ◌+◌, ◌-◌, ◌*◌, ◌<◌, ◌==◌, if◌then◌else◌, slice_index, IfSome};
 ghost use Rattle.std.specs.List.{slice_get};
-ghost use Rattle.grid_core.specs.Regions.{row_places, column_places, block_places, beside as beside_places, step as step_from};
+ghost use Rattle.grid_core.specs.Regions.{row_places, column_places, block_places, diagonal_places, beside as beside_places, step as step_from};
 
 use crate::size::Size;
 
@@ -40,6 +40,26 @@ pub fn block_place(c: u8, r: u8, b: usize, k: usize) -> usize
     let y = b / tall * tall + k / wide;
     let x = b % tall * wide + k % wide;
     y * (tall * wide) + x
+}
+
+/// The place of the `k`-th cell from the top of the diagonal in a square grid of `n` columns. Diagonal 0 begins in the
+/// left column, diagonal 1 in the right one. A diagonal has `n` cells.
+pub fn diagonal_place(n: u8, d: usize, k: usize) -> usize
+    requires d_in { d < 2 }
+    requires k_in { k < n }
+    ensures place { result ≡ slice_index (diagonal_places n d) k }
+    ensures within { result < n * n }
+{
+    k * usize::from(n) + diagonal_column(n, d, k)
+}
+
+/// The column of the diagonal's cell in row `k`.
+fn diagonal_column(n: u8, d: usize, k: usize) -> usize
+    requires { k < n }
+    ensures column { result ≡ (if d == 0 then k else n - 1 - k) }
+    ensures within { result < n }
+{
+    if d == 0 { k } else { usize::from(n) - 1 - k }
 }
 
 /// The `k`-th of the cells that share a side with the place, in the order up, left, right, down of those that the

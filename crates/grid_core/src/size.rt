@@ -7,7 +7,7 @@ ghost use Rattle.grid_core.specs.Extent.{Extent, IsExtent};
 use std::marker::Model;
 
 /// The most cells that a side of a grid has.
-pub const MAX_SIDE: u8 = 64;
+pub const MAX_SIDE: u8 = 120;
 
 /// How many columns and rows a grid has, each from 1 to `MAX_SIDE`.
 #[derive(Clone, Copy, Debug, PartialEq, Eq)]

@@ -6,14 +6,14 @@ use std::test::Fail;
 
 #[test]
 fn sizes_have_bounds(rt: HostRuntime) {
-    for (w, h, cells) in [(1, 1, 1), (5, 1, 5), (64, 64, 4_096), (3, 7, 21)] {
+    for (w, h, cells) in [(1, 1, 1), (5, 1, 5), (119, 120, 14_280), (120, 120, 14_400)] {
         assert_eq!(rt;
             Size::new(w, h).map(|size| size.cells()),
             Some(cells),
             "{w} by {h}"
         );
     }
-    for (w, h) in [(0, 1), (1, 0), (65, 1), (1, 65), (255, 255)] {
+    for (w, h) in [(0, 1), (1, 0), (121, 1), (1, 121), (255, 255)] {
         assert_eq!(rt; Size::new(w, h), None, "{w} by {h}");
     }
 }
@@ -101,6 +101,14 @@ fn blocks_are_three_wide_and_two_tall(rt: HostRuntime) {
                 "cell {k} of block {b}"
             );
         }
+    }
+}
+
+#[test]
+fn diagonals_go_down_from_both_corners(rt: HostRuntime) {
+    for (k, (falling, rising)) in [(0, 3), (5, 6), (10, 9), (15, 12)].iter().enumerate() {
+        assert_eq!(rt; diagonal_place(4, 0, k), *falling, "row {k} of diagonal 0");
+        assert_eq!(rt; diagonal_place(4, 1, k), *rising, "row {k} of diagonal 1");
     }
 }
 
