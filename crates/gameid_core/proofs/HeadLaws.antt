@@ -16,8 +16,8 @@ use Rattle.gameid_core.specs.declared.game.Game.TheVariants.{Solo, Pattern, Ligh
 use Rattle.gameid_core.specs.Words.{begins, digits_front, after_digits, value}
 use Rattle.gameid_core.specs.Steps.{◌>>=◌}
 use Rattle.grid_core.specs.Extent.{max_side}
-use Rattle.gameid_core.specs.Head.{side_at, sides_at, size_of, head_at, head_of, has_hash, in_range, max_id, max_numbers}
-use Rattle.gameid_core.specs.SizeText.{size_text, IsSizeText}
+use Rattle.gameid_core.specs.Head.{SizeRead, HeadRead, Sides, has_x, two_sides, side_at, sides_at, size_of, head_at, head_of, has_hash, in_range, max_id, max_numbers}
+use Rattle.gameid_core.specs.SizeText.{size_text, IsSizeText, solo_size_text, IsSoloSizeText}
 use Rattle.gameid_core.proofs.Numbers.{front_turn}
 use Rattle.gameid_core.proofs.Results.{bind_ok, chosen, taken, ok_is, and_parts}
 use Rattle.gameid_core.proofs.Numerals.{front_numeral, own, is_lead, begins_front, decimal_leads, lead_is_digit, value_positive}
@@ -80,50 +80,91 @@ side_again n rest small some other =
 
 -- ---- both sides
 
-regroup : (a a' b b' : ℕ) (rest rest' : List ℕ) → a' ≡ a → b' ≡ b → rest' ≡ rest → decimal a' ++ (120 ∷ (decimal b' ++ rest')) ≡ size_text a b ++ rest
-regroup a a' b b' rest rest' p q r = rw (p, q, r) (sym (append_assoc (decimal a) (120 ∷ decimal b) rest))
+abbrev one_side : ℕ → List ℕ → Sides
+one_side a rest = record { w = a; h = a; x = false; rest = rest }
 
-one_side : (a a' : ℕ) (rest rest' : List ℕ) → a' ≡ a → rest' ≡ rest → decimal a' ++ rest' ≡ decimal a ++ rest
-one_side a a' rest rest' p r = rw (p, r) refl
+-- a size of the game, with the 'x' of Solo X or without
+abbrev pub IsGameSize : Game → List ℕ → ℕ → ℕ → Bool → Type 0
+IsGameSize game front a b false = IsSizeText front a b
+IsGameSize game front a b true = (game ≡ Solo) × (front ≡ solo_size_text a b true)
 
-pub sides_take : (text : List ℕ) (a b : ℕ) (rest : List ℕ) → a < 2 ^ 64 → b < 2 ^ 64 → sides_at text ≡ Ok (a, b, rest) → (front : List ℕ) × (text ≡ front ++ rest) × IsSizeText front a b
+pub solo_size : (front : List ℕ) (a b : ℕ) (x : Bool) → IsGameSize Solo front a b x → IsSoloSizeText front a b x
+solo_size front a b false s = s
+solo_size front a b true s = s.1
+
+pub size_of_solo : (front : List ℕ) (a b : ℕ) (x : Bool) → IsSoloSizeText front a b x → IsGameSize Solo front a b x
+size_of_solo front a b false s = s
+size_of_solo front a b true s = (refl, s)
+
+pub plain_size : (game : Game) (front : List ℕ) (a b : ℕ) (x : Bool) → (game ≡ Solo → ⊥) → IsGameSize game front a b x → IsSizeText front a b
+plain_size game front a b false other s = s
+plain_size game front a b true other s = absurd (other s.0)
+
+pub x_first : (text : List ℕ) → begins (λ c. eqb c 120) text ≡ true → text ≡ 120 ∷ drop 1 text
+x_first [] e = absurd (false≢true e)
+x_first (c ∷ text) e = ap (λ (k : ℕ). k ∷ text) (eqb-true c 120 e)
+
+pub x_game : (game : Game) (after : List ℕ) → has_x game after ≡ true → (game ≡ Solo) × (after ≡ 120 ∷ drop 1 after)
+x_game Solo after e = (refl, x_first after e)
+x_game Pattern after e = absurd (false≢true e)
+x_game LightUp after e = absurd (false≢true e)
+x_game Tents after e = absurd (false≢true e)
+
+no_x : (game : Game) → has_x game [] ≡ false
+no_x Solo = refl
+no_x Pattern = refl
+no_x LightUp = refl
+no_x Tents = refl
+
+-- what the text begins with is a size of those sides
+abbrev Begins : Game → List ℕ → Sides → Type 0
+Begins game text s = (front : List ℕ) × (text ≡ front ++ s.rest) × IsGameSize game front s.w s.h s.x
+
+two_begin : (game : Game) (a b : ℕ) (after : List ℕ) → Begins game (size_text a b ++ after) (two_sides game a b after)
+two_begin game a b after =
+    elim (has_x game after) as (λ v. has_x game after ≡ v → Begins game (size_text a b ++ after) (record { w = a; h = b; x = v; rest = cond v (drop 1 after) after })) [
+      | true ↦ λ e.
+          let x = x_game game after e in
+          (size_text a b ++ 120 ∷ [], ap (λ (t : List ℕ). size_text a b ++ t) x.1 ∙ sym (append_assoc (size_text a b) (120 ∷ []) (drop 1 after)), (x.0, refl))
+      | false ↦ λ e. (size_text a b, refl, inl refl)
+    ] refl
+
+pub sides_take : (game : Game) (text : List ℕ) (s : Sides) → s.w < 2 ^ 64 → s.h < 2 ^ 64 → sides_at game text ≡ Ok s → Begins game text s
 unfolding sides_at
-sides_take text a b rest small_a small_b e =
-    let first = bind_ok (side_at text) (λ f. cond (begins (λ c. eqb c 120) f.1) (side_at (drop 1 f.1) >>= (λ s. Ok (f.0, s.0, s.1))) (Ok (f.0, f.0, f.1))) (a, b, rest) e in
+sides_take game text s small_w small_h e =
+    let first = bind_ok (side_at text) (λ f. cond (begins (λ c. eqb c 120) f.1) (side_at (drop 1 f.1) >>= (λ g. taken (two_sides game f.0 g.0 g.1))) (taken (one_side f.0 f.1))) s e in
     elim (chosen (begins (λ c. eqb c 120) first.0.1) _ _ _ first.2) [
       | inl c ↦
-          let second = bind_ok (side_at (drop 1 first.0.1)) (λ s. taken (first.0.0, s.0, s.1)) (a, b, rest) c.1 in
-          let made : ℕ × ℕ × List ℕ = (first.0.0, second.0.0, second.0.1) in
-          let same = ok_is made (a, b, rest) second.2 in
-          let a-is : first.0.0 ≡ a = ap (λ (x : ℕ × ℕ × List ℕ). x.0) same in
-          let b-is : second.0.0 ≡ b = ap (λ (x : ℕ × ℕ × List ℕ). x.1) same in
-          let rest-is : second.0.1 ≡ rest = ap (λ (x : ℕ × ℕ × List ℕ). x.2) same in
-          let s = side_takes text first.0.0 first.0.1 (omega arith) first.1 in
-          let t = side_takes (drop 1 first.0.1) second.0.0 second.0.1 (omega arith) second.1 in
-          (size_text a b, s.0 ∙ ap (λ (u : List ℕ). decimal first.0.0 ++ u) (begins_byte first.0.1 c.0 ∙ ap (λ (u : List ℕ). 120 ∷ u) t.0) ∙ regroup a first.0.0 b second.0.0 rest second.0.1 a-is b-is rest-is, inl refl)
+          let second = bind_ok (side_at (drop 1 first.0.1)) (λ g. taken (two_sides game first.0.0 g.0 g.1)) s c.1 in
+          let same = ok_is (two_sides game first.0.0 second.0.0 second.0.1) s second.2 in
+          let w-is : first.0.0 ≡ s.w = ap (λ (q : Sides). q.w) same in
+          let h-is : second.0.0 ≡ s.h = ap (λ (q : Sides). q.h) same in
+          let one = side_takes text first.0.0 first.0.1 (omega arith) first.1 in
+          let two = side_takes (drop 1 first.0.1) second.0.0 second.0.1 (omega arith) second.1 in
+          let whole : text ≡ size_text first.0.0 second.0.0 ++ second.0.1 =
+          one.0 ∙ ap (λ (u : List ℕ). decimal first.0.0 ++ u) (x_first first.0.1 c.0 ∙ ap (λ (u : List ℕ). 120 ∷ u) two.0) ∙ sym (append_assoc (decimal first.0.0) (120 ∷ decimal second.0.0) second.0.1) in
+          subst (λ (q : Sides). Begins game text q) same (subst (λ (t : List ℕ). Begins game t (two_sides game first.0.0 second.0.0 second.0.1)) (sym whole) (two_begin game first.0.0 second.0.0 second.0.1))
       | inr c ↦
-          let made : ℕ × ℕ × List ℕ = (first.0.0, first.0.0, first.0.1) in
-          let same = ok_is made (a, b, rest) c.1 in
-          let a-is : first.0.0 ≡ a = ap (λ (x : ℕ × ℕ × List ℕ). x.0) same in
-          let b-is : first.0.0 ≡ b = ap (λ (x : ℕ × ℕ × List ℕ). x.1) same in
-          let rest-is : first.0.1 ≡ rest = ap (λ (x : ℕ × ℕ × List ℕ). x.2) same in
-          let s = side_takes text first.0.0 first.0.1 (omega arith) first.1 in
-          (decimal a, s.0 ∙ one_side a first.0.0 rest first.0.1 a-is rest-is, inr (sym a-is ∙ b-is, refl))
+          let same = ok_is (one_side first.0.0 first.0.1) s c.1 in
+          let w-is : first.0.0 ≡ s.w = ap (λ (q : Sides). q.w) same in
+          let one = side_takes text first.0.0 first.0.1 (omega arith) first.1 in
+          subst (λ (q : Sides). Begins game text q) same (decimal first.0.0, one.0, inr (refl, refl))
     ]
-  where
-    begins_byte : (text : List ℕ) → begins (λ c. eqb c 120) text ≡ true → text ≡ 120 ∷ drop 1 text
-    begins_byte [] e = absurd (false≢true e)
-    begins_byte (c ∷ text) e = ap (λ (k : ℕ). k ∷ text) (eqb-true c 120 e)
 
-pub sides_again : (front : List ℕ) (a b : ℕ) → a < 2 ^ 64 → b < 2 ^ 64 → 0 < a → 0 < b → IsSizeText front a b → sides_at front ≡ Ok (a, b, [])
+pub sides_again : (game : Game) (front : List ℕ) (a b : ℕ) (x : Bool) → a < 2 ^ 64 → b < 2 ^ 64 → 0 < a → 0 < b → IsGameSize game front a b x → sides_at game front ≡ Ok (record { w = a; h = b; x = x; rest = [] })
 unfolding sides_at
-sides_again front a b small_a small_b some_a some_b (inl e) =
+sides_again game front a b false small_a small_b some_a some_b (inl e) =
     let one = side_again a (120 ∷ decimal b) small_a some_a refl in
     let two : side_at (decimal b) ≡ Ok (b, []) = ap side_at (sym (append-nil (decimal b))) ∙ side_again b [] small_b some_b refl in
-    rw (e, one, two) refl
-sides_again front a b small_a small_b some_a some_b (inr e) =
+    rw (e, one, two, no_x game) refl
+sides_again game front a b false small_a small_b some_a some_b (inr e) =
     let one : side_at (decimal a) ≡ Ok (a, []) = ap side_at (sym (append-nil (decimal a))) ∙ side_again a [] small_a some_a refl in
     rw (e.1, one, e.0) refl
+sides_again game front a b true small_a small_b some_a some_b e =
+    let one = side_again a (120 ∷ (decimal b ++ 120 ∷ [])) small_a some_a refl in
+    let two = side_again b (120 ∷ []) small_b some_b refl in
+    let whole : front ≡ decimal a ++ 120 ∷ (decimal b ++ 120 ∷ []) = e.1 ∙ append_assoc (decimal a) (120 ∷ decimal b) (120 ∷ []) in
+    rw (e.0, whole, one, two) refl
 
 -- ---- the size
 
@@ -133,8 +174,8 @@ pub record Small (a b : ℕ) : Type 0 where
   pub a_small : a ≤ max_side
   pub b_small : b ≤ max_side
 
-two_sides : (low a b : ℕ) → 0 < low → (leb low a && leb low b && leb a max_side && leb b max_side) ≡ true → Small a b
-two_sides low a b some e =
+both_small : (low a b : ℕ) → 0 < low → (leb low a && leb low b && leb a max_side && leb b max_side) ≡ true → Small a b
+both_small low a b some e =
     let p = and_parts (leb low a && leb low b && leb a max_side) (leb b max_side) e in
     let q = and_parts (leb low a && leb low b) (leb a max_side) p.0 in
     let r = and_parts (leb low a) (leb low b) q.0 in
@@ -150,38 +191,41 @@ range_small Solo a b e =
     let by_a : a * 2 ≤ a * b = mul-le-mul_left a two_b in
     let by_b : b * 2 ≤ b * a = mul-le-mul_left b two_a in
     record { a_some = omega arith; b_some = omega arith; a_small = omega arith; b_small = omega (arith, mul_comm a b) }
-range_small Pattern a b e = two_sides 1 a b (omega arith) e
-range_small LightUp a b e = two_sides 2 a b (omega arith) e
-range_small Tents a b e = two_sides 2 a b (omega arith) e
+range_small Pattern a b e = both_small 1 a b (omega arith) e
+range_small LightUp a b e = both_small 2 a b (omega arith) e
+range_small Tents a b e = both_small 2 a b (omega arith) e
 
-pub size_take : (game : Game) (text : List ℕ) (a b : ℕ) → size_of game text ≡ Ok (a, b) → IsSizeText text a b × (in_range game a b ≡ true)
+abbrev pub sized : ℕ → ℕ → Bool → SizeRead
+sized a b x = record { w = a; h = b; x = x }
+
+pub size_take : (game : Game) (text : List ℕ) (size : SizeRead) → size_of game text ≡ Ok size → IsGameSize game text size.w size.h size.x × (in_range game size.w size.h ≡ true)
 unfolding size_of
-size_take game text a b e =
-    let s = bind_ok (sides_at text) (λ s. cond (ltb 0 (length s.2)) (Err Variant) (cond (in_range game s.0 s.1) (Ok (s.0, s.1)) (Err SizeRange))) (a, b) e in
-    let sides : ℕ × ℕ × List ℕ = s.0 in
-    elim (chosen (ltb 0 (length s.0.2)) _ _ _ s.2) [
-      | inl c ↦ absurd (let bad : Err Variant ≡ taken (a, b) = c.1 in cc)
-      | inr c ↦ elim (chosen (in_range game s.0.0 s.0.1) _ _ _ c.1) [
-        | inl d ↦ size_is game text a b s.0.0 s.0.1 s.0.2 s.1 (ltb-false _ _ c.0) d.0 (ok_is _ _ d.1)
-        | inr d ↦ absurd (let bad : Err SizeRange ≡ taken (a, b) = d.1 in cc)
+size_take game text size e =
+    let s = bind_ok (sides_at game text) (λ s. cond (ltb 0 (length s.rest)) (Err Variant) (cond (in_range game s.w s.h) (taken (sized s.w s.h s.x)) (Err SizeRange))) size e in
+    elim (chosen (ltb 0 (length s.0.rest)) _ _ _ s.2) [
+      | inl c ↦ absurd (let bad : Err Variant ≡ taken size = c.1 in cc)
+      | inr c ↦ elim (chosen (in_range game s.0.w s.0.h) _ _ _ c.1) [
+        | inl d ↦ size_is s.0 s.1 (ltb-false _ _ c.0) d.0 (ok_is (sized s.0.w s.0.h s.0.x) size d.1)
+        | inr d ↦ absurd (let bad : Err SizeRange ≡ taken size = d.1 in cc)
       ]
     ]
   where
-    size_is : (game : Game) (text : List ℕ) (a b m n : ℕ) (rest : List ℕ) → sides_at text ≡ Ok (m, n, rest) → length rest ≤ 0 → in_range game m n ≡ true → let x : ℕ × ℕ = (m, n) in let y : ℕ × ℕ = (a, b) in x ≡ y → IsSizeText text a b × (in_range game a b ≡ true)
-    size_is game text a b m n (r ∷ rest) e none range same = absurd (omega arith)
-    size_is game text a b m n [] e none range same =
-        let m-is : m ≡ a = ap (λ (x : ℕ × ℕ). x.0) same in
-        let n-is : n ≡ b = ap (λ (x : ℕ × ℕ). x.1) same in
-        let small = range_small game m n range in
-        let s = sides_take text m n [] (omega (arith, small.a_small)) (omega (arith, small.b_small)) e in
-        let whole : text ≡ s.0 = s.1 ∙ append-nil s.0 in
-        rw (← m-is, ← n-is) (subst (λ (t : List ℕ). IsSizeText t m n) (sym whole) s.2, range)
+    whole : (front rest : List ℕ) → length rest ≤ 0 → text ≡ front ++ rest → front ≡ text
+    whole front [] none e = sym (e ∙ append-nil front)
+    whole front (r ∷ rest) none e = absurd (omega arith)
 
-pub size_again : (game : Game) (front : List ℕ) (a b : ℕ) → IsSizeText front a b → in_range game a b ≡ true → size_of game front ≡ Ok (a, b)
+    size_is : (s : Sides) → sides_at game text ≡ Ok s → length s.rest ≤ 0 → in_range game s.w s.h ≡ true → sized s.w s.h s.x ≡ size → IsGameSize game text size.w size.h size.x × (in_range game size.w size.h ≡ true)
+    size_is s read none range same =
+        let small = range_small game s.w s.h range in
+        let t = sides_take game text s (omega (arith, small.a_small)) (omega (arith, small.b_small)) read in
+        let here : IsGameSize game text s.w s.h s.x = subst (λ (f : List ℕ). IsGameSize game f s.w s.h s.x) (whole t.0 s.rest none t.1) t.2 in
+        subst (λ (z : SizeRead). IsGameSize game text z.w z.h z.x × (in_range game z.w z.h ≡ true)) same (here, range)
+
+pub size_again : (game : Game) (front : List ℕ) (a b : ℕ) (x : Bool) → IsGameSize game front a b x → in_range game a b ≡ true → size_of game front ≡ Ok (sized a b x)
 unfolding size_of
-size_again game front a b text range =
+size_again game front a b x text range =
     let small = range_small game a b range in
-    let sides = sides_again front a b (omega (arith, small.a_small)) (omega (arith, small.b_small)) small.a_some small.b_some text in
+    let sides = sides_again game front a b x (omega (arith, small.a_small)) (omega (arith, small.b_small)) small.a_some small.b_some text in
     rw (sides, range) refl
 
 -- ---- up to the colon
@@ -198,6 +242,11 @@ size_lacks k front a b other x small_a small_b (inl e) =
     rw (e, list_any-append (λ c. eqb c k) (decimal a) (120 ∷ decimal b), digits_lack k (decimal a) other (digits_decimal own a small_a), x, digits_lack k (decimal b) other (digits_decimal own b small_b)) refl
 size_lacks k front a b other x small_a small_b (inr e) = rw e.1 (digits_lack k (decimal a) other (digits_decimal own a small_a))
 
+game_size_lacks : (k : ℕ) (game : Game) (front : List ℕ) (a b : ℕ) (x : Bool) → is_ascii_digit k ≡ false → eqb 120 k ≡ false → a < 2 ^ 64 → b < 2 ^ 64 → IsGameSize game front a b x → list_any (λ c. eqb c k) front ≡ false
+game_size_lacks k game front a b false other x small_a small_b s = size_lacks k front a b other x small_a small_b s
+game_size_lacks k game front a b true other x small_a small_b s =
+    rw (s.1, list_any-append (λ c. eqb c k) (size_text a b) (120 ∷ []), size_lacks k (size_text a b) a b other x small_a small_b (inl refl), x) refl
+
 pub place_of : (p : ℕ → Bool) (front : List ℕ) (c : ℕ) (rest : List ℕ) → list_any p front ≡ false → p c ≡ true → position_or_len p (front ++ c ∷ rest) ≡ length front
 place_of p [] c rest none here = rw here refl
 place_of p (b ∷ front) c rest none here =
@@ -213,11 +262,11 @@ position_at p front c rest none here =
     let within : ltb (length front) (length (front ++ c ∷ rest)) ≡ true = lt-ltb _ _ (omega (arith, length-append front (c ∷ rest))) in
     rw (at, within) refl
 
-pub record IsHead (game : Game) (text : List ℕ) (a b place : ℕ) : Type 0 where
+pub record IsHead (game : Game) (text : List ℕ) (head : HeadRead) : Type 0 where
   pub front : List ℕ
-  pub parts : text ≡ front ++ 58 ∷ drop place text
-  pub size : IsSizeText front a b
-  pub range : in_range game a b ≡ true
+  pub parts : text ≡ front ++ 58 ∷ drop head.description text
+  pub size : IsGameSize game front head.size.w head.size.h head.size.x
+  pub range : in_range game head.size.w head.size.h ≡ true
   pub short : length text ≤ max_id
 
 colon_splits : (text : List ℕ) (k : ℕ) → position (λ c. eqb c 58) text ≡ Some k → text ≡ take k text ++ 58 ∷ drop (k + 1) text
@@ -229,52 +278,42 @@ colon_splits text k e =
     let next : drop (suc k) text ≡ drop (k + 1) text = ap (λ (i : ℕ). drop i text) (let i : suc k ≡ k + 1 = omega arith in i) in
     sym (take-append-drop k text) ∙ ap (λ (t : List ℕ). take k text ++ t) (cell ∙ ap (λ (c : ℕ). c ∷ drop (suc k) text) colon ∙ ap (λ (t : List ℕ). 58 ∷ t) next)
 
-colon_take : (game : Game) (text : List ℕ) (a b place : ℕ) (o : Option ℕ) → length text ≤ max_id → position (λ c. eqb c 58) text ≡ o → head_at game text o ≡ Ok (a, b, place) → IsHead game text a b place
+abbrev described : SizeRead → ℕ → HeadRead
+described size place = record { size = size; description = place }
+
+colon_take : (game : Game) (text : List ℕ) (head : HeadRead) (o : Option ℕ) → length text ≤ max_id → position (λ c. eqb c 58) text ≡ o → head_at game text o ≡ Ok head → IsHead game text head
 unfolding head_at
-colon_take game text a b place None short o e =
+colon_take game text head None short o e =
     elim (chosen (has_hash text) _ _ _ e) [
-      | inl c ↦ absurd (let bad : Err SeedId ≡ taken (a, b, place) = c.1 in cc)
-      | inr c ↦ absurd (let bad : Err NoColon ≡ taken (a, b, place) = c.1 in cc)
+      | inl c ↦ absurd (let bad : Err SeedId ≡ taken head = c.1 in cc)
+      | inr c ↦ absurd (let bad : Err NoColon ≡ taken head = c.1 in cc)
     ]
-colon_take game text a b place (Some k) short o e =
+colon_take game text head (Some k) short o e =
     elim (chosen (has_hash (take k text)) _ _ _ e) [
-      | inl c ↦ absurd (let bad : Err SeedId ≡ taken (a, b, place) = c.1 in cc)
+      | inl c ↦ absurd (let bad : Err SeedId ≡ taken head = c.1 in cc)
       | inr c ↦
-          let s = bind_ok (size_of game (take k text)) (λ s. taken (s.0, s.1, k + 1)) (a, b, place) c.1 in
-          is_head game text a b place k s.0.0 s.0.1 short (colon_splits text k o) s.1 (ok_is _ _ s.2)
+          let s = bind_ok (size_of game (take k text)) (λ size. taken (described size (k + 1))) head c.1 in
+          let t = size_take game (take k text) s.0 s.1 in
+          subst (λ (h : HeadRead). IsHead game text h) (ok_is (described s.0 (k + 1)) head s.2) (record { front = take k text; parts = colon_splits text k o; size = t.0; range = t.1; short = short })
     ]
-  where
-    is_head : (game : Game) (text : List ℕ) (a b place k m n : ℕ) → length text ≤ max_id → text ≡ take k text ++ 58 ∷ drop (k + 1) text → size_of game (take k text) ≡ Ok (m, n) → (let x : ℕ × ℕ × ℕ = (m, n, k + 1) in let y : ℕ × ℕ × ℕ = (a, b, place) in x ≡ y) → IsHead game text a b place
-    is_head game text a b place k m n short split e same =
-        let m-is : m ≡ a = ap (λ (x : ℕ × ℕ × ℕ). x.0) same in
-        let n-is : n ≡ b = ap (λ (x : ℕ × ℕ × ℕ). x.1) same in
-        let place-is : k + 1 ≡ place = ap (λ (x : ℕ × ℕ × ℕ). x.2) same in
-        let s = size_take game (take k text) m n e in
-        record {
-          front = take k text;
-          parts = split ∙ ap (λ (i : ℕ). take k text ++ 58 ∷ drop i text) place-is;
-          size = rw (← m-is, ← n-is) s.0;
-          range = rw (← m-is, ← n-is) s.1;
-          short = short;
-        }
 
-pub head_take : (game : Game) (text : List ℕ) (a b place : ℕ) → head_of game text ≡ Ok (a, b, place) → IsHead game text a b place
+pub head_take : (game : Game) (text : List ℕ) (head : HeadRead) → head_of game text ≡ Ok head → IsHead game text head
 unfolding head_of
-head_take game text a b place e =
+head_take game text head e =
     elim (chosen (ltb max_id (length text)) _ _ _ e) [
-      | inl c ↦ absurd (let bad : Err TooLong ≡ taken (a, b, place) = c.1 in cc)
-      | inr c ↦ colon_take game text a b place (position (λ c. eqb c 58) text) (ltb-false _ _ c.0) refl c.1
+      | inl c ↦ absurd (let bad : Err TooLong ≡ taken head = c.1 in cc)
+      | inr c ↦ colon_take game text head (position (λ c. eqb c 58) text) (ltb-false _ _ c.0) refl c.1
     ]
 
-pub head_again : (game : Game) (front rest : List ℕ) (a b : ℕ) → IsSizeText front a b → in_range game a b ≡ true → length (front ++ 58 ∷ rest) ≤ max_id → head_of game (front ++ 58 ∷ rest) ≡ Ok (a, b, length front + 1)
+pub head_again : (game : Game) (front rest : List ℕ) (a b : ℕ) (x : Bool) → IsGameSize game front a b x → in_range game a b ≡ true → length (front ++ 58 ∷ rest) ≤ max_id → head_of game (front ++ 58 ∷ rest) ≡ Ok (record { size = sized a b x; description = length front + 1 })
 unfolding head_of head_at
-head_again game front rest a b text range short =
+head_again game front rest a b x text range short =
     let small = range_small game a b range in
-    let colon = position_at (λ c. eqb c 58) front 58 rest (size_lacks 58 front a b refl refl (omega (arith, small.a_small)) (omega (arith, small.b_small)) text) refl in
-    let hash = size_lacks 35 front a b refl refl (omega (arith, small.a_small)) (omega (arith, small.b_small)) text in
+    let colon = position_at (λ c. eqb c 58) front 58 rest (game_size_lacks 58 game front a b x refl refl (omega (arith, small.a_small)) (omega (arith, small.b_small)) text) refl in
+    let hash = game_size_lacks 35 game front a b x refl refl (omega (arith, small.a_small)) (omega (arith, small.b_small)) text in
     let fits : ltb max_id (length (front ++ 58 ∷ rest)) ≡ false = le-ltb _ _ short in
     let before = take_at front (58 ∷ rest) (length front) refl in
-    rw (fits, colon, before, hash, size_again game front a b text range) refl
+    rw (fits, colon, before, hash, size_again game front a b x text range) refl
 
 pub after_front : (front rest : List ℕ) → drop (length front + 1) (front ++ 58 ∷ rest) ≡ rest
 after_front front rest =

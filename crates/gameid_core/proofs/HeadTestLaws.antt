@@ -1,5 +1,5 @@
 -- The first of the tests before the colon that fails is the fault that is read.
-use Rattle.std.proofs.Common.{◌≡◌, ◌↔◌, ℕ, ◌+◌, ◌≤◌, true, false, cond, eqb, ltb, List, ◌∷◌, ◌++◌, length, take, drop, get_or, append_assoc, Some, None, Result, Ok, Err, refl, sym, ap, subst, ◌∙◌, ◌⊎◌, inl, inr, arith, []}
+use Rattle.std.proofs.Common.{◌≡◌, ◌↔◌, ℕ, ◌+◌, ◌≤◌, Bool, true, false, cond, eqb, ltb, List, ◌∷◌, ◌++◌, length, take, drop, get_or, append_assoc, Some, None, Result, Ok, Err, refl, sym, ap, subst, ◌∙◌, ◌⊎◌, inl, inr, arith, []}
 use Rattle.std.specs.Prelude.{position}
 use Rattle.std.specs.List.{AllByRecursion, list_any, position_or_len}
 use Rattle.std.specs.Char.{is_ascii_digit}
@@ -8,14 +8,15 @@ use Rattle.std.proofs.lemmas.List.{take_at}
 use Rattle.gameid_core.specs.declared.fault.IdFault.{IdFault}
 use Rattle.gameid_core.specs.declared.fault.IdFault.TheVariants.{TooLong, SeedId, NoColon, BadSize, Variant, SizeRange}
 use Rattle.gameid_core.specs.declared.game.Game.{Game}
+use Rattle.gameid_core.specs.declared.game.Game.TheVariants.{Solo, Pattern, LightUp, Tents}
 use Rattle.gameid_core.specs.Steps.{◌>>=◌}
 use Rattle.gameid_core.specs.Words.{begins, digits_front, after_digits, value}
-use Rattle.gameid_core.specs.Head.{side_at, sides_at, size_of, head_at, head_of, has_hash, in_range, max_id}
-use Rattle.gameid_core.specs.HeadTests.{Lacks, Comes, HasNumber, HasSize, FailsSize, FailsHead, size_tests, head_tests, IsFirstFailed}
+use Rattle.gameid_core.specs.Head.{SizeRead, HeadRead, Sides, has_x, two_sides, side_at, sides_at, size_of, head_at, head_of, has_hash, in_range, max_id}
+use Rattle.gameid_core.specs.HeadTests.{Lacks, Comes, HasNumber, GoesOn, HasSize, FailsSize, FailsHead, size_tests, head_tests, IsFirstFailed}
 use Rattle.gameid_core.proofs.Numerals.{front_numeral, is_lead, begins_front, lead_is_digit}
 use Rattle.gameid_core.proofs.Numbers.{front_turn}
 use Rattle.gameid_core.proofs.Results.{ok_is}
-use Rattle.gameid_core.proofs.HeadLaws.{front_parts, front_digits, position_at}
+use Rattle.gameid_core.proofs.HeadLaws.{front_parts, front_digits, position_at, x_first, x_game}
 
 -- ---- the first that fails
 
@@ -96,89 +97,102 @@ side_judged text =
 
 -- ---- a size
 
-abbrev sides_ok : ℕ → ℕ → List ℕ → Result (ℕ × ℕ × List ℕ) IdFault
-sides_ok a b rest = Ok (a, b, rest)
+abbrev sides_ok : Sides → Result Sides IdFault
+sides_ok size = Ok size
 
-triple : (v w a b : ℕ) (rest : List ℕ) → v ≡ a → w ≡ b → sides_ok v w rest ≡ sides_ok a b rest
-triple v w a b rest p q = rw (p, q) refl
+one_is : (size : Sides) (a : ℕ) → a ≡ size.w → a ≡ size.h → size.x ≡ false → let made : Sides = record { w = a; h = a; x = false; rest = size.rest } in sides_ok made ≡ sides_ok size
+one_is size a p q x = rw (p ∙ sym p, ← p) (rw (← q, x) refl)
 
-size_read : (text : List ℕ) (a b : ℕ) (rest : List ℕ) → HasSize text a b rest → sides_at text ≡ sides_ok a b rest
+goes_on_is : (game : Game) (after : List ℕ) (x : Bool) (rest : List ℕ) → GoesOn game after x rest → (has_x game after ≡ x) × (cond x (drop 1 after) after ≡ rest)
+goes_on_is game after true rest h = (rw (h.0, h.1) refl, ap (drop 1) h.1)
+goes_on_is Solo after false rest h = (h.0 refl, h.1)
+goes_on_is Pattern after false rest h = (refl, h.1)
+goes_on_is LightUp after false rest h = (refl, h.1)
+goes_on_is Tents after false rest h = (refl, h.1)
+
+goes_on : (game : Game) (after : List ℕ) → GoesOn game after (has_x game after) (cond (has_x game after) (drop 1 after) after)
+goes_on game after =
+    elim (has_x game after) as (λ v. has_x game after ≡ v → GoesOn game after v (cond v (drop 1 after) after)) [
+      | true ↦ λ e. x_game game after e
+      | false ↦ λ e. ((λ solo. ap (λ g. has_x g after) (sym solo) ∙ e), refl)
+    ] refl
+
+two_is : (game : Game) (size : Sides) (a b : ℕ) (after : List ℕ) → a ≡ size.w → b ≡ size.h → GoesOn game after size.x size.rest → sides_ok (two_sides game a b after) ≡ sides_ok size
+two_is game size a b after p q h =
+    let g = goes_on_is game after size.x size.rest h in
+    rw (p, q, g.0, g.1) refl
+
+size_read : (game : Game) (text : List ℕ) (size : Sides) → HasSize game text size → sides_at game text ≡ sides_ok size
 unfolding sides_at
-size_read text a b rest (inl h) =
-    rw (side_read text h.side rest h.number, h.alone) (triple (value h.side) (value h.side) a b rest h.both.0 h.both.1)
-size_read text a b rest (inr h) =
-    rw (side_read text h.left (120 ∷ h.after) h.first, side_read h.after h.right rest h.second) (triple (value h.left) (value h.right) a b rest h.both.0 h.both.1)
-
-x_first : (text : List ℕ) → begins (λ c. eqb c 120) text ≡ true → text ≡ 120 ∷ drop 1 text
-x_first [] e = absurd (false≢true e)
-x_first (c ∷ text) e = ap (λ (k : ℕ). k ∷ text) (eqb-true c 120 e)
+size_read game text size (inl h) =
+    rw (side_read text h.side size.rest h.number, h.alone) (one_is size (value h.side) h.both.0 h.both.1 h.plain)
+size_read game text size (inr h) =
+    rw (side_read text h.left (120 ∷ h.behind) h.first, side_read h.behind h.right h.after h.second) (two_is game size (value h.left) (value h.right) h.after h.both.0 h.both.1 h.goes_on)
 
 -- what is read of both sides
-abbrev AreSidesRead : List ℕ → Result (ℕ × ℕ × List ℕ) IdFault → Type 0
-AreSidesRead text (Ok x) = HasSize text x.0 x.1 x.2
-AreSidesRead text (Err f) = (f ≡ BadSize) × ((a b : ℕ) (rest : List ℕ) → HasSize text a b rest → ⊥)
+abbrev AreSidesRead : Game → List ℕ → Result Sides IdFault → Type 0
+AreSidesRead game text (Ok size) = HasSize game text size
+AreSidesRead game text (Err f) = (f ≡ BadSize) × ((size : Sides) → HasSize game text size → ⊥)
 
-sides_judged : (text : List ℕ) → AreSidesRead text (sides_at text)
+sides_judged : (game : Game) (text : List ℕ) → AreSidesRead game text (sides_at game text)
 unfolding sides_at
-sides_judged text = of_first (side_at text) (side_judged text)
+sides_judged game text = of_first (side_at text) (side_judged text)
   where
-    of_second : (number rest : List ℕ) → HasNumber text number rest → begins (λ c. eqb c 120) rest ≡ true → (r : Result (ℕ × List ℕ) IdFault) → IsSideRead (drop 1 rest) r → AreSidesRead text (r >>= (λ second. Ok (value number, second.0, second.1)))
+    of_second : (number rest : List ℕ) → HasNumber text number rest → begins (λ c. eqb c 120) rest ≡ true → (r : Result (ℕ × List ℕ) IdFault) → IsSideRead (drop 1 rest) r → AreSidesRead game text (r >>= (λ second. Ok (two_sides game (value number) second.0 second.1)))
     of_second number rest h x (Ok y) s =
         inr (record {
           left = number;
           right = s.0;
-          after = drop 1 rest;
+          behind = drop 1 rest;
+          after = y.1;
           first = subst (λ t. HasNumber text number t) (x_first rest x) h;
           second = s.1;
+          goes_on = goes_on game y.1;
           both = (refl, s.2);
         })
     of_second number rest h x (Err f) s = (
       s.0,
-      λ a b more size. elim size [
+      λ size has. elim has [
         | inl one ↦
-            let same : more ≡ rest = sym (number_is text one.side more one.number).1 ∙ (number_is text number rest h).1 in
+            let same : size.rest ≡ rest = sym (number_is text one.side size.rest one.number).1 ∙ (number_is text number rest h).1 in
             absurd (false≢true (sym one.alone ∙ ap (begins (λ c. eqb c 120)) same ∙ x))
         | inr two ↦
-            let same : 120 ∷ two.after ≡ rest = sym (number_is text two.left (120 ∷ two.after) two.first).1 ∙ (number_is text number rest h).1 in
-            absurd (s.1 two.right more (subst (λ t. HasNumber t two.right more) (ap (drop 1) same) two.second))
+            let same : 120 ∷ two.behind ≡ rest = sym (number_is text two.left (120 ∷ two.behind) two.first).1 ∙ (number_is text number rest h).1 in
+            absurd (s.1 two.right two.after (subst (λ t. HasNumber t two.right two.after) (ap (drop 1) same) two.second))
       ],
     )
 
-    of_first : (r : Result (ℕ × List ℕ) IdFault) → IsSideRead text r → AreSidesRead text (r >>= (λ first. cond (begins (λ c. eqb c 120) first.1) (side_at (drop 1 first.1) >>= (λ second. Ok (first.0, second.0, second.1))) (Ok (first.0, first.0, first.1))))
-    of_first (Err f) s = (s.0, λ a b rest size. elim size [ inl one ↦ absurd (s.1 one.side rest one.number) | inr two ↦ absurd (s.1 two.left (120 ∷ two.after) two.first) ])
+    of_first : (r : Result (ℕ × List ℕ) IdFault) → IsSideRead text r → AreSidesRead game text (r >>= (λ first. cond (begins (λ c. eqb c 120) first.1) (side_at (drop 1 first.1) >>= (λ second. Ok (two_sides game first.0 second.0 second.1))) (Ok (record { w = first.0; h = first.0; x = false; rest = first.1 }))))
+    of_first (Err f) s = (s.0, λ size has. elim has [ inl one ↦ absurd (s.1 one.side size.rest one.number) | inr two ↦ absurd (s.1 two.left (120 ∷ two.behind) two.first) ])
     of_first (Ok x) s =
-        rw (← s.2) (elim (begins (λ c. eqb c 120) x.1) as (λ v. begins (λ c. eqb c 120) x.1 ≡ v → AreSidesRead text (cond v (side_at (drop 1 x.1) >>= (λ second. Ok (value s.0, second.0, second.1))) (Ok (value s.0, value s.0, x.1)))) [
+        rw (← s.2) (elim (begins (λ c. eqb c 120) x.1) as (λ v. begins (λ c. eqb c 120) x.1 ≡ v → AreSidesRead game text (cond v (side_at (drop 1 x.1) >>= (λ second. Ok (two_sides game (value s.0) second.0 second.1))) (Ok (record { w = value s.0; h = value s.0; x = false; rest = x.1 })))) [
           | true ↦ λ e. of_second s.0 x.1 s.1 e (side_at (drop 1 x.1)) (side_judged (drop 1 x.1))
-          | false ↦ λ e. inl (record { side = s.0; number = s.1; alone = e; both = (refl, refl) })
+          | false ↦ λ e. inl (record { side = s.0; number = s.1; alone = e; both = (refl, refl); plain = refl })
         ] refl)
 
 -- a text begins with one size at most
-size_is : (text : List ℕ) (a b m n : ℕ) (rest more : List ℕ) → HasSize text a b rest → HasSize text m n more → (a ≡ m) × (b ≡ n) × (rest ≡ more)
-size_is text a b m n rest more p q =
-    let x : ℕ × ℕ × List ℕ = (a, b, rest) in
-    let y : ℕ × ℕ × List ℕ = (m, n, more) in
-    let same : x ≡ y = ok_is x y (sym (size_read text a b rest p) ∙ size_read text m n more q) in
-    (ap (λ (z : ℕ × ℕ × List ℕ). z.0) same, ap (λ (z : ℕ × ℕ × List ℕ). z.1) same, ap (λ (z : ℕ × ℕ × List ℕ). z.2) same)
+size_is : (game : Game) (text : List ℕ) (size other : Sides) → HasSize game text size → HasSize game text other → size ≡ other
+size_is game text size other p q = ok_is size other (sym (size_read game text size p) ∙ size_read game text other q)
 
-pub size_judged : (game : Game) (text : List ℕ) → IsJudged {A = ℕ × ℕ} (FailsSize game text) size_tests (size_of game text)
+pub size_judged : (game : Game) (text : List ℕ) → IsJudged {A = SizeRead} (FailsSize game text) size_tests (size_of game text)
 unfolding size_of
-size_judged game text = of_sides (sides_at text) (sides_judged text)
+size_judged game text = of_sides (sides_at game text) (sides_judged game text)
   where
-    of_range : (a b : ℕ) (rest : List ℕ) → HasSize text a b rest → length rest ≤ 0 → IsJudged {A = ℕ × ℕ} (FailsSize game text) size_tests (cond (in_range game a b) (Ok (a, b)) (Err SizeRange))
-    of_range a b rest h none =
-        let some : FailsSize game text BadSize → ⊥ = λ no. no a b rest h in
-        let whole : FailsSize game text Variant → ⊥ = λ v. (let same = size_is text v.0 v.1 a b v.2 rest v.3 h in omega (arith, v.4, ap length same.2, none)) in
-        elim (in_range game a b) as (λ v. in_range game a b ≡ v → IsJudged {A = ℕ × ℕ} (FailsSize game text) size_tests (cond v (Ok (a, b)) (Err SizeRange))) [
-          | true ↦ λ e. (some, (whole, ((λ s. (let same = size_is text s.0 s.1 a b s.2 rest s.3 h in false≢true (sym s.4 ∙ ap (λ k. in_range game k s.1) same.0 ∙ ap (λ k. in_range game a k) same.1 ∙ e))), tt)))
-          | false ↦ λ e. inr (some, inr (whole, inl (refl, (a, b, rest, h, e))))
+    of_range : (s : Sides) → HasSize game text s → length s.rest ≤ 0 → IsJudged {A = SizeRead} (FailsSize game text) size_tests (cond (in_range game s.w s.h) (Ok (record { w = s.w; h = s.h; x = s.x })) (Err SizeRange))
+    of_range s h none =
+        let some : FailsSize game text BadSize → ⊥ = λ no. no s h in
+        let whole : FailsSize game text Variant → ⊥ = λ v. (let same : v.0 ≡ s = size_is game text v.0 s v.1 h in omega (arith, v.2, ap (λ (z : Sides). length z.rest) same, none)) in
+        elim (in_range game s.w s.h) as (λ v. in_range game s.w s.h ≡ v → IsJudged {A = SizeRead} (FailsSize game text) size_tests (cond v (Ok (record { w = s.w; h = s.h; x = s.x })) (Err SizeRange))) [
+          | true ↦ λ e. (some, (whole, ((λ t. (let same : t.0 ≡ s = size_is game text t.0 s t.1 h in false≢true (sym t.2 ∙ ap (λ (z : Sides). in_range game z.w z.h) same ∙ e))), tt)))
+          | false ↦ λ e. inr (some, inr (whole, inl (refl, (s, h, e))))
         ] refl
 
-    of_sides : (r : Result (ℕ × ℕ × List ℕ) IdFault) → AreSidesRead text r → IsJudged {A = ℕ × ℕ} (FailsSize game text) size_tests (r >>= (λ sides. cond (ltb 0 (length sides.2)) (Err Variant) (cond (in_range game sides.0 sides.1) (Ok (sides.0, sides.1)) (Err SizeRange))))
+    of_sides : (r : Result Sides IdFault) → AreSidesRead game text r → IsJudged {A = SizeRead} (FailsSize game text) size_tests (r >>= (λ s. cond (ltb 0 (length s.rest)) (Err Variant) (cond (in_range game s.w s.h) (Ok (record { w = s.w; h = s.h; x = s.x })) (Err SizeRange))))
     of_sides (Err f) h = inl (sym h.0, h.1)
-    of_sides (Ok x) h =
-        elim (ltb 0 (length x.2)) as (λ v. ltb 0 (length x.2) ≡ v → IsJudged {A = ℕ × ℕ} (FailsSize game text) size_tests (cond v (Err Variant) (cond (in_range game x.0 x.1) (Ok (x.0, x.1)) (Err SizeRange)))) [
-          | true ↦ λ e. inr ((λ no. no x.0 x.1 x.2 h), inl (refl, (x.0, x.1, x.2, h, ltb-true _ _ e)))
-          | false ↦ λ e. of_range x.0 x.1 x.2 h (ltb-false _ _ e)
+    of_sides (Ok s) h =
+        elim (ltb 0 (length s.rest)) as (λ v. ltb 0 (length s.rest) ≡ v → IsJudged {A = SizeRead} (FailsSize game text) size_tests (cond v (Err Variant) (cond (in_range game s.w s.h) (Ok (record { w = s.w; h = s.h; x = s.x })) (Err SizeRange)))) [
+          | true ↦ λ e. inr ((λ no. no s h), inl (refl, (s, h, ltb-true _ _ e)))
+          | false ↦ λ e. of_range s h (ltb-false _ _ e)
         ] refl
 
 -- ---- where a byte stands
@@ -261,7 +275,7 @@ judged_moved : {A B : Type 0} (fails other : IdFault → Type 0) (tests : List I
 judged_moved fails other tests g (Ok x) same h = all_moved fails other tests same h
 judged_moved fails other tests g (Err f) same h = first_moved fails other tests f same h
 
-head_at_judged : (game : Game) (text : List ℕ) → IsJudged {A = ℕ × ℕ × ℕ} (FailsHead game text) (SeedId ∷ NoColon ∷ size_tests) (head_at game text (position (λ b. eqb b 58) text))
+head_at_judged : (game : Game) (text : List ℕ) → IsJudged {A = HeadRead} (FailsHead game text) (SeedId ∷ NoColon ∷ size_tests) (head_at game text (position (λ b. eqb b 58) text))
 unfolding head_at
 head_at_judged game text =
     elim (split 58 text) [
@@ -271,14 +285,14 @@ head_at_judged game text =
           rw (at, before) (behind s.0 s.1 s.2 s.3 (split 35 s.0))
     ]
   where
-    without : Lacks 58 text → Lacks 35 text ⊎ Split 35 text → IsJudged {A = ℕ × ℕ × ℕ} (FailsHead game text) (SeedId ∷ NoColon ∷ size_tests) (cond (has_hash text) (Err SeedId) (Err NoColon))
+    without : Lacks 58 text → Lacks 35 text ⊎ Split 35 text → IsJudged {A = HeadRead} (FailsHead game text) (SeedId ∷ NoColon ∷ size_tests) (cond (has_hash text) (Err SeedId) (Err NoColon))
     without none (inl h) =
         rw (any_lacks 35 text h) (inr ((λ c. no_byte 35 c.0 c.1 (subst (Lacks 35) c.2.parts h)), inl (refl, none)))
     without none (inr s) =
         let hash : has_hash text ≡ true = ap (list_any (λ b. eqb b 35)) s.2 ∙ any_has 35 s.0 s.1 in
         rw hash (inl (refl, (s.0, s.1, record { parts = s.2; first = lacks_front 58 s.0 (35 ∷ s.1) (subst (Lacks 58) s.2 none) })))
 
-    behind : (front rest : List ℕ) → text ≡ front ++ 58 ∷ rest → Lacks 58 front → Lacks 35 front ⊎ Split 35 front → IsJudged {A = ℕ × ℕ × ℕ} (FailsHead game text) (SeedId ∷ NoColon ∷ size_tests) (cond (has_hash front) (Err SeedId) (size_of game front >>= (λ size. Ok (size.0, size.1, length front + 1))))
+    behind : (front rest : List ℕ) → text ≡ front ++ 58 ∷ rest → Lacks 58 front → Lacks 35 front ⊎ Split 35 front → IsJudged {A = HeadRead} (FailsHead game text) (SeedId ∷ NoColon ∷ size_tests) (cond (has_hash front) (Err SeedId) (size_of game front >>= (λ size. Ok (record { size = size; description = length front + 1 }))))
     behind front rest parts lacks (inl h) =
         let seed : FailsHead game text SeedId → ⊥ = λ c. crossed 58 35 (λ e. absurd (omega (arith, e))) text front c.0 rest c.1 parts h c.2.parts c.2.first in
         let colon : FailsHead game text NoColon → ⊥ = λ none. no_byte 58 front rest (subst (Lacks 58) parts none) in
@@ -289,10 +303,10 @@ head_at_judged game text =
         let whole : text ≡ s.0 ++ 35 ∷ (s.1 ++ 58 ∷ rest) = parts ∙ ap (λ t. t ++ 58 ∷ rest) s.2 ∙ append_assoc s.0 (35 ∷ s.1) (58 ∷ rest) in
         rw hash (inl (refl, (s.0, s.1 ++ 58 ∷ rest, record { parts = whole; first = lacks_front 58 s.0 (35 ∷ s.1) (subst (Lacks 58) s.2 lacks) })))
 
-pub head_judged : (game : Game) (text : List ℕ) → IsJudged {A = ℕ × ℕ × ℕ} (FailsHead game text) head_tests (head_of game text)
+pub head_judged : (game : Game) (text : List ℕ) → IsJudged {A = HeadRead} (FailsHead game text) head_tests (head_of game text)
 unfolding head_of
 head_judged game text =
-    elim (ltb max_id (length text)) as (λ v. ltb max_id (length text) ≡ v → IsJudged {A = ℕ × ℕ × ℕ} (FailsHead game text) head_tests (cond v (Err TooLong) (head_at game text (position (λ b. eqb b 58) text)))) [
+    elim (ltb max_id (length text)) as (λ v. ltb max_id (length text) ≡ v → IsJudged {A = HeadRead} (FailsHead game text) head_tests (cond v (Err TooLong) (head_at game text (position (λ b. eqb b 58) text)))) [
       | true ↦ λ e. inl (refl, ltb-true _ _ e)
       | false ↦ λ e. passed (FailsHead game text) TooLong (SeedId ∷ NoColon ∷ size_tests) _ (λ over. absurd (omega (arith, ltb-false _ _ e))) (head_at_judged game text)
     ] refl

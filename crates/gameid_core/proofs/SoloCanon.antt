@@ -6,7 +6,7 @@ use Rattle.std.proofs.lemmas.Bool.{cases_lt, false≢true}
 use Rattle.std.proofs.lemmas.List.{append-nil, replicate-append-replicate}
 use Rattle.std.proofs.lemmas.List.Concat.{flat_map-append}
 use Rattle.gameid_core.specs.Cells.{letters}
-use Rattle.gameid_core.specs.SizeText.{size_text}
+use Rattle.gameid_core.specs.SizeText.{solo_size_text, IsSoloSizeText}
 use Rattle.gameid_core.specs.Puzzles.{Solo, IsSolo, solo_n}
 use Rattle.gameid_core.specs.SoloText.{SoloToken, blanks, gap, given, solo_token_text, solo_token_cells, IsSoloToken, AreApart, AreFull, AreNeeded, IsWrittenSolo, before_given, cells_text, solo_text}
 use Rattle.gameid_core.proofs.Letters.{letters_none, letters_more, letters_last}
@@ -186,6 +186,10 @@ cells_written n k touches (suc v ∷ cells) h =
       filled = flat_map-append solo_token_cells s.spaces rest ∙ ap (λ (t : List ℕ). t ++ flat_map solo_token_cells rest) s.filled ∙ ap (λ (t : List ℕ). replicate k 0 ++ (suc v ∷ t)) r.filled;
     }
 
+written_size : (c r : ℕ) (x : Bool) → IsSoloSizeText (solo_size_text c r x) c r x
+written_size c r false = inl refl
+written_size c r true = refl
+
 -- the written text has the form of a written text, and so it spells the puzzle
 pub solo_is_written : (p : Solo) → IsSolo p → IsWrittenSolo (solo_text p) p
 solo_is_written p h =
@@ -194,10 +198,10 @@ solo_is_written p h =
       spells = record {
         short = solo_short p h;
         puzzle = h;
-        front = size_text p.c p.r;
+        front = solo_size_text p.c p.r p.x;
         tokens = w.tokens;
-        parts = ap (λ (t : List ℕ). size_text p.c p.r ++ 58 ∷ t) w.spelled;
-        size = inl refl;
+        parts = ap (λ (t : List ℕ). solo_size_text p.c p.r p.x ++ 58 ∷ t) w.spelled;
+        size = written_size p.c p.r p.x;
         each = w.each;
         apart = w.apart;
         cells = w.filled;

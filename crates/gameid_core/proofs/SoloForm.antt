@@ -4,7 +4,7 @@ use Rattle.std.specs.Prelude.{replicate, decimal}
 use Rattle.std.specs.List.{AllByRecursion, flat_map}
 use Rattle.std.proofs.lemmas.Bool.{false≢true}
 use Rattle.gameid_core.specs.Cells.{letters}
-use Rattle.gameid_core.specs.SizeText.{size_text}
+use Rattle.gameid_core.specs.SizeText.{solo_size_text}
 use Rattle.gameid_core.specs.Puzzles.{Solo, solo_n}
 use Rattle.gameid_core.specs.SoloText.{SoloToken, blanks, gap, given, solo_token_text, solo_token_cells, IsSoloToken, AreApart, AreFull, AreNeeded, IsWrittenSolo, before_given, cells_text, solo_text}
 use Rattle.gameid_core.proofs.Letters.{letters_none, letters_at, z_moves}
@@ -98,4 +98,4 @@ pub solo_form : (text : List ℕ) (p : Solo) → IsWrittenSolo text p → text �
 solo_form text p w =
     let s = w.spells in
     let f : Form (solo_n p) 0 false s.tokens = record { each = s.each; apart = s.apart; full = w.full; needed = w.needed; leads = tt; clear = λ e. absurd (false≢true e) } in
-    s.parts ∙ ap (λ (t : List ℕ). t ++ 58 ∷ flat_map solo_token_text s.tokens) w.both ∙ ap (λ (t : List ℕ). size_text p.c p.r ++ 58 ∷ t) (sym (form_text (solo_n p) 0 false s.tokens f) ∙ ap (cells_text 0 false) s.cells)
+    s.parts ∙ ap (λ (t : List ℕ). t ++ 58 ∷ flat_map solo_token_text s.tokens) w.both ∙ ap (λ (t : List ℕ). solo_size_text p.c p.r p.x ++ 58 ∷ t) (sym (form_text (solo_n p) 0 false s.tokens f) ∙ ap (cells_text 0 false) s.cells)

@@ -1,5 +1,5 @@
 -- What reading a description of Solo gives.
-use Rattle.std.proofs.Common.{◌≡◌, ℕ, suc, zero, ◌-◌, ◌*◌, ◌≤◌, true, ◌&&◌, eqb, ltb, leb, List, get_or, Ok, Err, subst, inl, inr, arith, []}
+use Rattle.std.proofs.Common.{◌≡◌, ℕ, suc, zero, ◌-◌, ◌*◌, ◌≤◌, Bool, true, ◌&&◌, eqb, ltb, leb, List, get_or, Ok, Err, subst, inl, inr, arith, []}
 use Rattle.std.specs.Prelude.{replicate}
 use Rattle.std.specs.List.{AllByRecursion}
 use Rattle.std.proofs.lemmas.Bool.{ltb-false, leb-true}
@@ -7,7 +7,7 @@ use Rattle.gameid_core.specs.declared.fault.IdFault.TheVariants.{BadByte, Number
 use Rattle.gameid_core.specs.Words.{begins, words, value}
 use Rattle.gameid_core.specs.Head.{in_range, max_numbers}
 use Rattle.gameid_core.specs.Cells.{is_letter}
-use Rattle.gameid_core.specs.Puzzles.{IsSolo}
+use Rattle.gameid_core.specs.Puzzles.{IsSolo, solo_puzzle}
 use Rattle.gameid_core.specs.SoloText.{solo_token, solo_cells_at}
 use Rattle.gameid_core.proofs.Results.{chosen, taken, ok_is, and_parts}
 use Rattle.gameid_core.proofs.CellsReading.{fill_lawful}
@@ -34,9 +34,9 @@ solo_token_range n at word more e =
       ]
     ]
 
-pub solo_lawful : (c r at : ℕ) (description cells : List ℕ) → in_range game.Solo c r ≡ true → solo_cells_at (c * r) at description ≡ Ok cells → IsSolo (record { c = c; r = r; givens = cells })
+pub solo_lawful : (c r : ℕ) (x : Bool) (at : ℕ) (description cells : List ℕ) → in_range game.Solo c r ≡ true → solo_cells_at (c * r) at description ≡ Ok cells → IsSolo (solo_puzzle c r x cells)
 unfolding solo_cells_at
-solo_lawful c r at description cells range e =
+solo_lawful c r x at description cells range e =
     let p = and_parts (leb 2 c && leb 2 r) (leb (c * r) max_numbers) range in
     let q = and_parts (leb 2 c) (leb 2 r) p.0 in
     let l = fill_lawful (λ v. v ≤ c * r) (solo_token (c * r)) (solo_token_range (c * r)) ((c * r) * (c * r)) at [] (words description) cells tt e in

@@ -6,7 +6,7 @@ use Rattle.std.proofs.Math.Nat.{mul-le-mul_left, mul-le-mul_right}
 use Rattle.std.proofs.lemmas.Fmt.{length-decimal-le}
 use Rattle.std.proofs.lemmas.List.{drop_all}
 use Rattle.gameid_core.specs.Cells.{letters}
-use Rattle.gameid_core.specs.SizeText.{size_text}
+use Rattle.gameid_core.specs.SizeText.{size_text, solo_size_text}
 use Rattle.gameid_core.specs.Puzzles.{Solo, IsSolo, solo_n}
 use Rattle.gameid_core.specs.SoloText.{before_given, cells_text, solo_text}
 use Rattle.gameid_core.specs.Head.{max_id, max_numbers}
@@ -34,6 +34,10 @@ range_more : (n : ℕ) (cells : List ℕ) → n ≤ max_numbers → AllByRecursi
 range_more n [] le h = tt
 range_more n (v ∷ cells) le h = (omega (arith, h.0), range_more n cells le h.1)
 
+size_short : (c r : ℕ) (x : Bool) → length (solo_size_text c r x) ≤ length (size_text c r) + 1
+size_short c r false = omega arith
+size_short c r true = omega (arith, length-append (size_text c r) (120 ∷ []))
+
 pub solo_short : (p : Solo) → IsSolo p → length (solo_text p) ≤ max_id
 solo_short p h =
     let n = h.n_high in
@@ -42,7 +46,7 @@ solo_short p h =
     let a = length-decimal-le 2 p.c (omega arith) (omega arith) (omega arith) in
     let b = length-decimal-le 2 p.r (omega arith) (omega arith) (omega arith) in
     let cells = cells_short 0 false p.givens (range_more (solo_n p) p.givens n h.range) in
-    omega (arith, h.cells, solo_few (solo_n p) n, length-append (decimal p.c) (120 ∷ decimal p.r), length-append (size_text p.c p.r) (58 ∷ cells_text 0 false p.givens))
+    omega (arith, h.cells, solo_few (solo_n p) n, size_short p.c p.r p.x, length-append (decimal p.c) (120 ∷ decimal p.r), length-append (solo_size_text p.c p.r p.x) (58 ∷ cells_text 0 false p.givens))
 
 pub cells_nil : (k : ℕ) (touches : Bool) → cells_text k touches [] ≡ letters k
 unfolding cells_text

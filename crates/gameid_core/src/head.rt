@@ -1,7 +1,7 @@
 //! The part of an ID before its colon.
 
-ghost use Rattle.std.specs.Prelude.{◌≡◌, ◌==◌, position, ◌≤◌, length, true, IfOk};
-ghost use Rattle.gameid_core.specs.Head.{GivesSide, GivesSides, side_at, sides_at, size_of, head_at, head_of, has_hash, in_range};
+ghost use Rattle.std.specs.Prelude.{◌≡◌, ◌==◌, position, ◌≤◌, drop, length, true, if◌then◌else◌, Ok, Err, IfOk, IfErr};
+ghost use Rattle.gameid_core.specs.Head.{GivesSide, GivesSides, has_x, side_at, sides_at, size_of, head_at, head_of, has_hash, in_range};
 
 use crate::fault::IdFault;
 use crate::game::Game;
@@ -9,10 +9,29 @@ use crate::number::leading_number;
 use grid_core::MAX_SIDE;
 
 /// The most bytes of an ID.
-pub const MAX_ID: usize = 16_384;
+pub const MAX_ID: usize = 65_536;
 
 /// The most numbers of a game of Solo.
 pub const MAX_NUMBERS: u32 = 31;
+
+/// A size, and the text after it: both sides, each 1000 where it is larger, and whether the `x` of Solo X stands after
+/// them.
+#[derive(Clone, Copy, Debug)]
+struct SidesRead<'a> {
+    w: u32,
+    h: u32,
+    x: bool,
+    rest: &'a [u8],
+}
+
+/// What stands before the colon, and the place where the description begins.
+#[derive(Clone, Copy, Debug)]
+pub(crate) struct Head {
+    pub(crate) w: u8,
+    pub(crate) h: u8,
+    pub(crate) x: bool,
+    pub(crate) description: usize,
+}
 
 /// A side of a size, or 1000 where it is larger, and the text after it.
 #[tactic(auto, unfolding(crate::specs::Head::side_at))]
@@ -25,48 +44,74 @@ fn side(text: &[u8]) -> Result<(u32, &[u8]), IdFault>
     }
 }
 
-/// Both sides, each 1000 where it is larger, and the text after them.
-#[tactic(auto, unfolding(crate::specs::Head::sides_at))]
-fn sides(text: &[u8]) -> Result<(u32, u32, &[u8]), IdFault>
-    ensures { GivesSides result (sides_at text.now) }
+/// Whether the text after two numbers goes on with the `x` of Solo X, and the text after the size.
+fn after_two(game: Game, after: &[u8]) -> (bool, &[u8])
+    ensures x { result.0 ≡ has_x game after.now }
+    ensures rest { result.1.now ≡ (if has_x game after.now then drop 1 after.now else after.now) }
 {
-    let (first, rest) = side(text)?;
+    match (game, after) {
+        (Game::Solo, [b'x', rest @ ..]) => (true, rest),
+        _ => (false, after),
+    }
+}
+
+/// The size that the text begins with.
+#[tactic(auto, unfolding(crate::specs::Head::sides_at))]
+fn sides(game: Game, text: &[u8]) -> Result<SidesRead<'_>, IdFault>
+    ensures { GivesSides result (sides_at game text.now) }
+{
+    let (w, rest) = side(text)?;
     match rest {
         [b'x', rest @ ..] => {
-            let (second, rest) = side(rest)?;
-            Ok((first, second, rest))
+            let (h, after) = side(rest)?;
+            let (x, rest) = after_two(game, after);
+            Ok(SidesRead { w, h, x, rest })
         }
-        _ => Ok((first, first, rest)),
+        _ => Ok(SidesRead {
+            w,
+            h: w,
+            x: false,
+            rest,
+        }),
+    }
+}
+
+/// Whether the sides are within the game's limits.
+fn fits(game: Game, w: u32, h: u32) -> bool
+    requires w { w ≤ 1000 }
+    requires h { h ≤ 1000 }
+    ensures { result ≡ in_range game w h }
+{
+    let most = u32::from(MAX_SIDE);
+    match game {
+        Game::Solo => w >= 2 && h >= 2 && w * h <= MAX_NUMBERS,
+        Game::Pattern => w >= 1 && h >= 1 && w <= most && h <= most,
+        Game::LightUp | Game::Tents => w >= 2 && h >= 2 && w <= most && h <= most,
     }
 }
 
 /// The size that the whole text is, in the form of Simon Tatham's Portable Puzzle Collection: `CxR` for Solo, columns
-/// and rows of sub-blocks; `WxH` for the other games, columns and rows of cells; or one number for two equal ones.
+/// and rows of sub-blocks; `WxH` for the other games, columns and rows of cells; or one number for two equal ones. In
+/// Solo an `x` may stand after two numbers. The answer's third part is whether it does, which is Solo X: both main
+/// diagonals, too, hold every number once.
 ///
 /// # Errors
 ///
 /// The first that fails of these tests, which an ID meets in the part before its colon: `BadSize` where the text does not
 /// begin with a size, `Variant` where more follows, `SizeRange` where the size is outside the game's limits: sides from 2
-/// on with a product of at most 31 in Solo, sides from 1 to 64 in Pattern, and from 2 to 64 in Light Up and Tents.
+/// on with a product of at most 31 in Solo, sides from 1 to 120 in Pattern, and from 2 to 120 in Light Up and Tents.
 #[tactic(auto, unfolding(crate::specs::Head::size_of))]
-pub fn read_size(game: Game, text: &[u8]) -> Result<(u8, u8), IdFault>
-    ensures exact { result ≡ size_of game text.now }
-    ensures range { IfOk result (λ size. in_range game size.0 size.1 ≡ true) }
+pub fn read_size(game: Game, text: &[u8]) -> Result<(u8, u8, bool), IdFault>
+    ensures found { IfOk result (λ s. size_of game text.now ≡ Ok (record { w = s.0; h = s.1; x = s.2 })) }
+    ensures fault { IfErr result (λ f. size_of game text.now ≡ Err f) }
+    ensures range { IfOk result (λ s. in_range game s.0 s.1 ≡ true) }
 {
-    let (first, second, rest) = sides(text)?;
+    let SidesRead { w, h, x, rest } = sides(game, text)?;
     if !rest.is_empty() {
         return Err(IdFault::Variant);
     }
-    let most = u32::from(MAX_SIDE);
-    let fits = match game {
-        Game::Solo => first >= 2 && second >= 2 && first * second <= MAX_NUMBERS,
-        Game::Pattern => first >= 1 && second >= 1 && first <= most && second <= most,
-        Game::LightUp | Game::Tents => {
-            first >= 2 && second >= 2 && first <= most && second <= most
-        }
-    };
-    if fits {
-        Ok((first as u8, second as u8))
+    if fits(game, w, h) {
+        Ok((w as u8, h as u8, x))
     } else {
         Err(IdFault::SizeRange)
     }
@@ -88,10 +133,15 @@ fn colon_in(text: &[u8]) -> Option<usize>
 
 /// The first six tests of an ID, in their order: the size, and the place of the description.
 #[tactic(auto, unfolding(crate::specs::Head::head_of, crate::specs::Head::head_at))]
-pub(crate) fn read_head(game: Game, text: &[u8]) -> Result<(u8, u8, usize), IdFault>
-    ensures exact { result ≡ head_of game text.now }
-    ensures range { IfOk result (λ head. in_range game head.0 head.1 ≡ true) }
-    ensures within { IfOk result (λ head. head.2 ≤ length text.now) }
+pub(crate) fn read_head(game: Game, text: &[u8]) -> Result<Head, IdFault>
+    ensures found { IfOk result (λ head. head_of game text.now
+        ≡ Ok (record {
+          size = record { w = head.w; h = head.h; x = head.x };
+          description = head.description;
+        })) }
+    ensures fault { IfErr result (λ f. head_of game text.now ≡ Err f) }
+    ensures range { IfOk result (λ head. in_range game head.w head.h ≡ true) }
+    ensures within { IfOk result (λ head. head.description ≤ length text.now) }
     ensures short { IfOk result (λ head. length text.now ≤ MAX_ID) }
 {
     if text.len() > MAX_ID {
@@ -108,6 +158,12 @@ pub(crate) fn read_head(game: Game, text: &[u8]) -> Result<(u8, u8, usize), IdFa
     if contains_hash(before) {
         return Err(IdFault::SeedId);
     }
-    let (w, h) = read_size(game, before)?;
-    Ok((w, h, colon + 1))
+    let (w, h, x) = read_size(game, before)?;
+    let description = colon + 1;
+    Ok(Head {
+        w,
+        h,
+        x,
+        description,
+    })
 }

@@ -68,9 +68,14 @@ fn read(alloc: Global, text: &[u8]) -> Result<LightPuzzle, IdFault>
     ensures exact { Gives (λ p. p) result (light_of text.now) }
     ensures head { (f : IdFault) → head_of Game.LightUp text.now ≡ Err f → result ≡ Err f }
 {
-    let (w, h, place) = read_head(Game::LightUp, text)?;
-    let size = Size::new(w, h).unwrap();
-    let cells = cells(alloc, size.cells(), place, &text[place..])?;
+    let head = read_head(Game::LightUp, text)?;
+    let size = Size::new(head.w, head.h).unwrap();
+    let cells = cells(
+        alloc,
+        size.cells(),
+        head.description,
+        &text[head.description..],
+    )?;
     Ok(LightPuzzle::of_cells(size, cells))
 }
 

@@ -151,9 +151,9 @@ fn read(alloc: Global, text: &[u8]) -> Result<PatternPuzzle, IdFault>
     ensures exact { Gives (λ p. p) result (pattern_of text.now) }
     ensures head { (f : IdFault) → head_of Game.Pattern text.now ≡ Err f → result ≡ Err f }
 {
-    let (w, h, place) = read_head(Game::Pattern, text)?;
-    let size = Size::new(w, h).unwrap();
-    let clues = clues(alloc, size, place, &text[place..])?;
+    let head = read_head(Game::Pattern, text)?;
+    let size = Size::new(head.w, head.h).unwrap();
+    let clues = clues(alloc, size, head.description, &text[head.description..])?;
     Ok(PatternPuzzle::of_clues(size, clues))
 }
 

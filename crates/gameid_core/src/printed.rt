@@ -26,12 +26,12 @@ pub trait Printed {
     // What is printed of the grid at a place.
     ghost cell_text: { Self → List ℕ → ℕ → List ℕ };
 
-    /// How many columns its grids have, from 1 to 64.
+    /// How many columns its grids have, from 1 to 120.
     fn columns(&self) -> usize
         ensures value { result ≡ (extent self.now).w }
         ensures lawful { IsExtent (extent self.now) };
 
-    /// How many rows its grids have, from 1 to 64.
+    /// How many rows its grids have, from 1 to 120.
     fn rows(&self) -> usize
         ensures value { result ≡ (extent self.now).h }
         ensures lawful { IsExtent (extent self.now) };

@@ -2,53 +2,55 @@
 
 ghost use Rattle.std.specs.Prelude.{◌≡◌, ◌<◌, ◌≤◌, ◌*◌, length, slice_index, slice_set, replicate, IfOk};
 ghost use Rattle.gameid_core.specs.Head.{max_numbers};
-ghost use Rattle.gameid_core.specs.Puzzles.{Solo, IsSolo, solo_n};
+ghost use Rattle.gameid_core.specs.Puzzles.{Solo, IsSolo, solo_n, solo_puzzle};
 
 use std::alloc::{AllocError, Global};
 use std::marker::Model;
 
 /// `c` columns and `r` rows of sub-blocks, and the given numbers of the grid, which has `n = c * r` columns and rows,
-/// `n` at most `MAX_NUMBERS`. Each block is `r` cells wide and `c` cells tall.
+/// `n` at most `MAX_NUMBERS`. Each block is `r` cells wide and `c` cells tall. In Solo X both main diagonals, too,
+/// hold every number once.
 #[derive(Debug, Drop)]
 pub struct SoloPuzzle {
     c: u8,
     r: u8,
+    x: bool,
     givens: Vec<u8>,
 }
 
 impl Model for SoloPuzzle {
-    ghost use Rattle.gameid_core.specs.Puzzles.{Solo, IsSolo};
+    ghost use Rattle.gameid_core.specs.Puzzles.{Solo, IsSolo, solo_puzzle};
 
     ghost Value = { Solo };
 
-    ghost view = { λ p. record { c = p.c; r = p.r; givens = p.givens.items } };
+    ghost view = { λ p. solo_puzzle p.c p.r p.x p.givens.items };
 
-    ghost invariant = { λ p. IsSolo (record { c = p.c; r = p.r; givens = p.givens.items }) };
+    ghost invariant = { λ p. IsSolo (solo_puzzle p.c p.r p.x p.givens.items) };
 }
 
 impl SoloPuzzle {
     /// The puzzle of that size whose cells, by place, have these givens, 0 for a blank cell.
-    pub(crate) fn of_givens(c: u8, r: u8, givens: Vec<u8>) -> SoloPuzzle
-        requires { IsSolo (record { c = c; r = r; givens = givens.items }) }
-        ensures { result ≡ record { c = c; r = r; givens = givens.items } }
+    pub(crate) fn of_givens(c: u8, r: u8, x: bool, givens: Vec<u8>) -> SoloPuzzle
+        requires { IsSolo (solo_puzzle c r x givens.items) }
+        ensures { result ≡ solo_puzzle c r x givens.items }
     {
-        SoloPuzzle { c, r, givens }
+        SoloPuzzle { c, r, x, givens }
     }
 
-    /// The puzzle of that size without givens.
+    /// The puzzle of that size without givens, of Solo X where `x` holds.
     ///
     /// # Errors
     ///
     /// When memory was refused.
-    pub fn blank(alloc: Global, c: u8, r: u8) -> Result<SoloPuzzle, AllocError>
+    pub fn blank(alloc: Global, c: u8, r: u8, x: bool) -> Result<SoloPuzzle, AllocError>
         requires c_low { 2 ≤ c }
         requires r_low { 2 ≤ r }
         requires n_high { c * r ≤ max_numbers }
-        ensures { IfOk result (λ p. p ≡ record { c = c; r = r; givens = replicate ((c * r) * (c * r)) 0 }) }
+        ensures { IfOk result (λ p. p ≡ solo_puzzle c r x (replicate ((c * r) * (c * r)) 0)) }
     {
         let n = usize::from(c) * usize::from(r);
         let givens = vec![in alloc; 0; n * n]?;
-        Ok(SoloPuzzle { c, r, givens })
+        Ok(SoloPuzzle { c, r, x, givens })
     }
 
     /// A copy of the puzzle.
@@ -64,6 +66,7 @@ impl SoloPuzzle {
         Ok(SoloPuzzle {
             c: self.c,
             r: self.r,
+            x: self.x,
             givens,
         })
     }
@@ -82,6 +85,14 @@ impl SoloPuzzle {
         ensures lawful { IsSolo self.now }
     {
         self.r
+    }
+
+    /// Whether both main diagonals, too, hold every number once, as in Solo X.
+    pub fn x(&self) -> bool
+        ensures value { result ≡ self.now.x }
+        ensures lawful { IsSolo self.now }
+    {
+        self.x
     }
 
     /// How many numbers there are, which is also the number of cells of a row, of a column and of a block.

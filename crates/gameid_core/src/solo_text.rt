@@ -84,16 +84,17 @@ fn read(alloc: Global, text: &[u8]) -> Result<SoloPuzzle, IdFault>
     ensures exact { Gives (λ p. p) result (solo_of text.now) }
     ensures head { (f : IdFault) → head_of Game.Solo text.now ≡ Err f → result ≡ Err f }
 {
-    let (c, r, place) = read_head(Game::Solo, text)?;
-    let givens = cells(alloc, c * r, place, &text[place..])?;
-    Ok(SoloPuzzle::of_givens(c, r, givens))
+    let head = read_head(Game::Solo, text)?;
+    let (c, r) = (head.w, head.h);
+    let givens = cells(alloc, c * r, head.description, &text[head.description..])?;
+    Ok(SoloPuzzle::of_givens(c, r, head.x, givens))
 }
 
 /// The puzzle that the ID spells.
 ///
 /// The description is the one that Solo of Simon Tatham's Portable Puzzle Collection writes: the cells row by row
 /// from the top left, a number for a given one, `a` to `z` for 1 to 26 blank ones, and `_` for none, which keeps
-/// two numbers apart.
+/// two numbers apart. Before it stands the size, in Solo X with an `x` after its two numbers.
 ///
 /// # Errors
 ///

@@ -3,6 +3,7 @@
 ghost use Rattle.std.specs.Prelude.{◌≡◌, ◌≤◌, ◌++◌, length, false, string_bytes, OnOk, IfOk, List, ℕ};
 ghost use Rattle.gameid_core.specs.Head.{max_id};
 ghost use Rattle.gameid_core.specs.Puzzles.{Solo, IsSolo};
+ghost use Rattle.gameid_core.specs.SizeText.{solo_size_text};
 ghost use Rattle.gameid_core.specs.SoloText.{IsWrittenSolo, before_given, cells_text, solo_text, SpellsSolo};
 
 use crate::solo_puzzle::SoloPuzzle;
@@ -18,6 +19,14 @@ fn push_before(out: &mut String, blanks: usize, touches: bool) -> Result<(), All
     } else {
         push_letters(out, blanks)
     }
+}
+
+/// Writes the size, `CxR`, or `CxRx` in Solo X.
+fn push_solo_size(out: &mut String, c: u8, r: u8, x: bool) -> Result<(), AllocError>
+    ensures { OnOk result (string_bytes out.new ≡ string_bytes out.old ++ solo_size_text c r x) }
+{
+    push_size(out, c, r)?;
+    if x { out.push('x') } else { Ok(()) }
 }
 
 /// Writes the cells.
@@ -45,14 +54,14 @@ fn written(alloc: Global, puzzle: &SoloPuzzle) -> Result<String, AllocError>
     ensures lawful { IsSolo puzzle.now }
 {
     let mut out = String::new(alloc);
-    push_size(&mut out, puzzle.c(), puzzle.r())?;
+    push_solo_size(&mut out, puzzle.c(), puzzle.r(), puzzle.x())?;
     out.push(':')?;
     push_cells(&mut out, puzzle.givens())?;
     Ok(out)
 }
 
 /// The one written ID of the puzzle, of at most `MAX_ID` bytes, which reads back to an equal puzzle. Both numbers of
-/// the size are written. In each run of blank cells all letters but the last are `z`, and `_` stands exactly between
+/// the size are written, and the `x` of Solo X after them. In each run of blank cells all letters but the last are `z`, and `_` stands exactly between
 /// two numbers.
 ///
 /// # Errors

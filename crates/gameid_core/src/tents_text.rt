@@ -122,9 +122,9 @@ fn read(alloc: Global, text: &[u8]) -> Result<TentsPuzzle, IdFault>
     ensures exact { Gives (λ p. p) result (tents_of text.now) }
     ensures head { (f : IdFault) → head_of Game.Tents text.now ≡ Err f → result ≡ Err f }
 {
-    let (w, h, place) = read_head(Game::Tents, text)?;
-    let size = Size::new(w, h).unwrap();
-    let (mut places, counts) = parts(alloc, size, place, &text[place..])?;
+    let head = read_head(Game::Tents, text)?;
+    let size = Size::new(head.w, head.h).unwrap();
+    let (mut places, counts) = parts(alloc, size, head.description, &text[head.description..])?;
     places.truncate(size.cells());
     Ok(TentsPuzzle::of_lists(size, places, counts))
 }

@@ -1,0 +1,96 @@
+//! Sizes, and faults before the colon.
+
+use super::fault_of;
+use crate::{Game, IdFault, read_size};
+
+#[test]
+fn faults_before_the_colon(rt: HostRuntime) {
+    for (text, fault) in [
+        ("", IdFault::NoColon),
+        ("2x2", IdFault::NoColon),
+        ("3x3#12", IdFault::SeedId),
+        ("3x3#12:p", IdFault::SeedId),
+        ("02x2:p", IdFault::BadSize),
+        ("2x02:p", IdFault::BadSize),
+        ("0x2:p", IdFault::BadSize),
+        ("2x:p", IdFault::BadSize),
+        ("9x:p", IdFault::BadSize),
+        ("2xx2:p", IdFault::BadSize),
+        (":p", IdFault::BadSize),
+        ("x2:p", IdFault::BadSize),
+        ("2x2k:p", IdFault::Variant),
+        ("2x2xx:p", IdFault::Variant),
+        ("2x2xj:p", IdFault::Variant),
+        ("2x2kx:p", IdFault::Variant),
+        ("121x121d:p", IdFault::Variant),
+        ("9j:p", IdFault::Variant),
+        ("121x2:p", IdFault::SizeRange),
+        ("99999999999999999999x2:p", IdFault::SizeRange),
+    ] {
+        for game in [Game::Solo, Game::Pattern, Game::LightUp, Game::Tents] {
+            assert_eq!(rt;
+                fault_of(rt.alloc(), game, text.as_bytes()),
+                Some(fault),
+                "{game:?} {text}"
+            );
+        }
+    }
+}
+
+#[test]
+fn an_x_is_a_fault_outside_solo(rt: HostRuntime) {
+    for (game, text) in [
+        (Game::Pattern, "2x2x:///"),
+        (Game::Pattern, "121x2x:"),
+        (Game::LightUp, "2x2x:d"),
+        (Game::Tents, "2x2x:_c,0,1,1,0"),
+    ] {
+        let found = fault_of(rt.alloc(), game, text.as_bytes());
+        assert_eq!(rt; found, Some(IdFault::Variant), "{game:?} {text}");
+    }
+}
+
+#[test]
+fn sizes_are_read(rt: HostRuntime) {
+    for (game, text, size) in [
+        (Game::Solo, "2x3", Ok((2, 3, false))),
+        (Game::Solo, "3", Ok((3, 3, false))),
+        (Game::Solo, "2x3x", Ok((2, 3, true))),
+        (Game::Solo, "3x", Err(IdFault::BadSize)),
+        (Game::Solo, "2x3xx", Err(IdFault::Variant)),
+        (Game::Solo, "2x3x2", Err(IdFault::Variant)),
+        (Game::Solo, "2x3x:", Err(IdFault::Variant)),
+        (Game::LightUp, "2x3x", Err(IdFault::Variant)),
+        (Game::Tents, "2x64:", Err(IdFault::Variant)),
+        (Game::Tents, "x2", Err(IdFault::BadSize)),
+    ] {
+        assert_eq!(rt; read_size(game, text.as_bytes()), size, "{game:?} {text}");
+    }
+}
+
+#[test]
+fn sizes_at_the_limits(rt: HostRuntime) {
+    for (game, text, size) in [
+        (Game::Solo, "1x4", Err(IdFault::SizeRange)),
+        (Game::Solo, "4x1x", Err(IdFault::SizeRange)),
+        (Game::Solo, "2x15", Ok((2, 15, false))),
+        (Game::Solo, "15x2x", Ok((15, 2, true))),
+        (Game::Solo, "2x16", Err(IdFault::SizeRange)),
+        (Game::Solo, "8x4x", Err(IdFault::SizeRange)),
+        (Game::Pattern, "1", Ok((1, 1, false))),
+        (Game::Pattern, "119x120", Ok((119, 120, false))),
+        (Game::Pattern, "120", Ok((120, 120, false))),
+        (Game::Pattern, "121x1", Err(IdFault::SizeRange)),
+        (Game::Pattern, "1x121", Err(IdFault::SizeRange)),
+        (Game::LightUp, "1x2", Err(IdFault::SizeRange)),
+        (Game::LightUp, "2x119", Ok((2, 119, false))),
+        (Game::LightUp, "120x2", Ok((120, 2, false))),
+        (Game::LightUp, "121x2", Err(IdFault::SizeRange)),
+        (Game::Tents, "2x1", Err(IdFault::SizeRange)),
+        (Game::Tents, "119x2", Ok((119, 2, false))),
+        (Game::Tents, "2x120", Ok((2, 120, false))),
+        (Game::Tents, "2x121", Err(IdFault::SizeRange)),
+    ] {
+        assert_eq!(rt; read_size(game, text.as_bytes()), size, "{game:?} {text}");
+    }
+}
