@@ -20,3 +20,5 @@ pub mod NoteLemmas
 pub mod CountLemmas
 pub mod EndLemmas
 pub mod SearchingLemmas
+pub mod PieceLemmas
+pub mod IndexLemmas

@@ -57,7 +57,7 @@ rested_after p laws h K waits lth within rested = λ j c v ltj asleep on.
     elim (cases_Bool (p.settled && eqb j h)) [
       | inl same ↦
           let w = and_parts p.settled (eqb j h) same in
-          rw (eqb-true j h w.1) (laws.settles w.0 h K c v lth on)
+          rw (eqb-true j h w.1) (laws.settles w.0 h K c v lth (within c v (after_inside p h K c v on)).1 on)
       | inr other ↦
           let quiet = left_false _ (not (p.settled && eqb j h)) parts.1 (not_from_false _ other) in
           false_from_ne_true (p.strikes j (after p h K) c v) (λ struck.

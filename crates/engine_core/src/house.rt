@@ -12,20 +12,25 @@ use grid_core::Board;
 
 /// Reads the set of each of the places into `sets`: bit `v` of the `k`-th says whether the `k`-th place has the value
 /// `v`.
-pub fn gather(board: &Board, places: &[usize], sets: &mut [u32])
-    requires places_in { (k : ℕ) → k < length places.now → slice_index places.now k < cells_of board.now }
+pub fn gather(board: &Board, places: &[u32], sets: &mut [u32])
+    requires places_in { (k : ℕ) → k < length places.now
+        → slice_index places.now k < cells_of board.now }
     requires as_many { length sets.old ≡ length places.now }
-    ensures bits { (k : ℕ) → k < length places.now → IsBitsOf (has board.now (slice_index places.now k)) board.now.values (slice_index sets.new k) }
-    ensures sets { map (set_of_bits board.now.values) sets.new ≡ sets_at board.now.values places.now (has board.now) }
+    ensures bits { (k : ℕ) → k < length places.now
+        → IsBitsOf (has board.now (slice_index places.now k)) board.now.values
+        (slice_index sets.new k) }
+    ensures sets { map (set_of_bits board.now.values) sets.new
+        ≡ sets_at board.now.values places.now (has board.now) }
 {
     for k in 0..places.len() {
-        sets[k] = cell_bits(board, places[k]);
+        sets[k] = cell_bits(board, places[k] as usize);
     }
 }
 
 /// Strikes from each of the places the values whose bit isn't set in `kept`, and says whether that was anything.
-pub fn apply(board: &mut Board, places: &[usize], values: u8, kept: &[u32]) -> bool
-    requires places_in { (k : ℕ) → k < length places.now → slice_index places.now k < cells_of board.old }
+pub fn apply(board: &mut Board, places: &[u32], values: u8, kept: &[u32]) -> bool
+    requires places_in { (k : ℕ) → k < length places.now
+        → slice_index places.now k < cells_of board.old }
     requires as_many { length kept.now ≡ length places.now }
     requires values_of { values ≡ board.old.values }
     requires few { values ≤ 31 }
@@ -36,7 +41,7 @@ pub fn apply(board: &mut Board, places: &[usize], values: u8, kept: &[u32]) -> b
 {
     let mut struck = false;
     for k in 0..places.len() {
-        struck |= apply_cell(board, places[k], values, kept[k]);
+        struck |= apply_cell(board, places[k] as usize, values, kept[k]);
     }
     struck
 }
@@ -46,7 +51,8 @@ fn apply_cell(board: &mut Board, place: usize, values: u8, kept: u32) -> bool
     requires place_in { place < cells_of board.old }
     requires values_of { values ≡ board.old.values }
     requires few { values ≤ 31 }
-    ensures left { (c v : ℕ) → has board.new c v ≡ (has board.old c v && not ((place == c) && not (is_set kept v))) }
+    ensures left { (c v : ℕ) → has board.new c v
+        ≡ (has board.old c v && not ((place == c) && not (is_set kept v))) }
     ensures shape { SameShape board.old board.new }
     ensures unchanged { result ≡ false → has board.new ≡ has board.old }
     ensures changed { result ≡ true → HasStruck (has board.old) (has board.new) }

@@ -3,6 +3,8 @@
 
 mod close;
 mod house;
+mod house_index;
+mod house_list;
 mod judge;
 mod laws;
 mod mode;
@@ -14,14 +16,18 @@ mod sets;
 mod step;
 mod store;
 mod sweep;
+mod trail;
 mod trials;
 mod waits;
+mod work;
 
 pub use house::{apply, gather, has_bit};
+pub use house_index::Houses;
+pub use house_list::HouseList;
 pub use laws::{
-    closure_is_largest, picks_the_lowest_of_the_fewest, struck_where_no_filling_has_it,
-    verdict_goes_by_counts, verdict_is_true, walk_finds_each_solution_once,
-    walk_goes_on_from_the_closure,
+    closure_is_largest, picks_the_lowest_of_the_fewest, sound_houses_are_lawful,
+    struck_where_no_filling_has_it, verdict_goes_by_counts, verdict_is_true,
+    visits_of_houses_are_enough, walk_finds_each_solution_once, walk_goes_on_from_the_closure,
 };
 pub use mode::{Closing, Mode};
 pub use rules::Rules;

@@ -28,11 +28,16 @@ fn mark_place<R: Rules>(rules: &R, place: usize, waits: &mut [u64])
         → is_waiting waits.new j
         ≡ (is_waiting waits.old j || has_place ((R.puzzle rules.now).scope j) place) }
 {
-    let _houses = rules.houses();
+    let houses = rules.houses();
     let mut from = 0;
-    while let Some(found) = rules.house_at(place, from) {
-        mark(waits, found);
-        from = found + 1;
+    while from < houses {
+        match rules.house_at(place, from) {
+            None => return,
+            Some(found) => {
+                mark(waits, found);
+                from = found + 1;
+            }
+        }
     }
 }
 

@@ -1,0 +1,107 @@
+-- Laws of lists that are the pieces of one.
+use Rattle.std.proofs.Common.{◌≡◌, ℕ, zero, suc, ◌+◌, ◌-◌, ◌<◌, ◌≤◌, ◌^◌, List, [], ◌∷◌, ◌++◌, length, get_or, drop, refl, sym, ap, ◌∙◌, arith}
+use Rattle.std.specs.List.{between}
+use Rattle.std.proofs.lemmas.List.{take-append-le, drop-append-le}
+use Rattle.std.specs.Prelude.{sum_by}
+use Rattle.std.proofs.lemmas.List.Sums.{sum_by-cons}
+use Rattle.std.proofs.lemmas.List.Edits.{length-between}
+use Rattle.std.proofs.lemmas.Slice.{between_is, between_to_end}
+use Rattle.engine_core.specs.HouseList.{pieces, last_end, AreEnds, listed, begin_of, IsListed}
+
+pub last-le : (n from : ℕ) (ends : List ℕ) → AreEnds n from ends → (from ≤ last_end from ends) × (last_end from ends ≤ n)
+last-le n from [] e = (omega arith, e)
+last-le n from (end ∷ ends) (le, e) = let w = last-le n end ends e in let a = w.0 in (omega arith, w.1)
+
+pub ends-more : (n m from : ℕ) (ends : List ℕ) → n ≤ m → AreEnds n from ends → AreEnds m from ends
+ends-more n m from [] le e = omega arith
+ends-more n m from (end ∷ ends) le (low, e) = (low, ends-more n m end ends le e)
+
+pub ends-close : (n from : ℕ) (ends : List ℕ) → AreEnds n from ends → AreEnds n from (ends ++ n ∷ [])
+ends-close n from [] e = (e, omega arith)
+ends-close n from (end ∷ ends) (low, e) = (low, ends-close n end ends e)
+
+pub last-close : (from end : ℕ) (ends : List ℕ) → last_end from (ends ++ end ∷ []) ≡ end
+last-close from end [] = refl
+last-close from end (e ∷ ends) = last-close e end ends
+
+pub pieces-close : (xs : List ℕ) (from end : ℕ) (ends : List ℕ) → pieces xs from (ends ++ end ∷ []) ≡ pieces xs from ends ++ between (last_end from ends) end xs ∷ []
+pieces-close xs from end [] = refl
+pieces-close xs from end (e ∷ ends) = ap (λ ps. between from e xs ∷ ps) (pieces-close xs e end ends)
+
+pub length-pieces : (xs : List ℕ) (from : ℕ) (ends : List ℕ) → length (pieces xs from ends) ≡ length ends
+length-pieces xs from [] = refl
+length-pieces xs from (e ∷ ends) = ap suc (length-pieces xs e ends)
+
+pub pieces-push : (xs : List ℕ) (x from : ℕ) (ends : List ℕ) → AreEnds (length xs) from ends → pieces (xs ++ x ∷ []) from ends ≡ pieces xs from ends
+pieces-push xs x from [] e = refl
+pieces-push xs x from (end ∷ ends) (low, e) =
+    rw (pieces-push xs x end ends e, piece) refl
+  where
+    piece : between from end (xs ++ x ∷ []) ≡ between from end xs
+    piece =
+        let w = last-le (length xs) end ends e in
+        let a = w.0 in
+        let b = w.1 in
+        between_is (xs ++ x ∷ []) from end ∙ ap (drop from) (take-append-le end xs (x ∷ []) (omega arith)) ∙ sym (between_is xs from end)
+
+pub listed-push : (xs ends : List ℕ) (x : ℕ) → AreEnds (length xs) 0 ends
+    → listed (xs ++ x ∷ []) ends ≡ record { closed = (listed xs ends).closed; begun = (listed xs ends).begun ++ x ∷ [] }
+listed-push xs ends x e = rw (pieces-push xs x 0 ends e, drop-append-le (last_end 0 ends) xs (x ∷ []) ((last-le (length xs) 0 ends e).1)) refl
+
+pub listed-close : (xs ends : List ℕ) → listed xs (ends ++ length xs ∷ []) ≡ record { closed = (listed xs ends).closed ++ (listed xs ends).begun ∷ []; begun = [] }
+listed-close xs ends = rw (pieces-close xs 0 (length xs) ends, last-close 0 (length xs) ends, between_to_end xs (last_end 0 ends) (length xs) (omega arith), nothing xs) refl
+  where
+    nothing : (xs : List ℕ) → drop (length xs) xs ≡ []
+    nothing [] = refl
+    nothing (x ∷ xs) = nothing xs
+
+pub piece-at : (xs : List ℕ) (from : ℕ) (ends : List ℕ) (h : ℕ) → h < length ends → get_or (pieces xs from ends) h [] ≡ between (begin_of from ends h) (get_or ends h 0) xs
+piece-at xs from [] h lt = absurd (omega arith)
+piece-at xs from (end ∷ ends) zero lt = refl
+piece-at xs from (end ∷ ends) (suc h) lt = piece-at xs end ends h (omega arith)
+
+pub begin-is : (from : ℕ) (ends : List ℕ) (h : ℕ) → h < length ends → begin_of from ends (suc h) ≡ get_or ends h 0
+begin-is from [] h lt = absurd (omega arith)
+begin-is from (end ∷ ends) zero lt = refl
+begin-is from (end ∷ ends) (suc h) lt = begin-is end ends h (omega arith)
+
+pub piece-ends : (n from : ℕ) (ends : List ℕ) (h : ℕ) → AreEnds n from ends → h < length ends → (begin_of from ends h ≤ get_or ends h 0) × (get_or ends h 0 ≤ n)
+piece-ends n from [] h e lt = absurd (omega arith)
+piece-ends n from (end ∷ ends) zero (low, e) lt = let w = last-le n end ends e in let a = w.0 in let b = w.1 in (low, omega arith)
+piece-ends n from (end ∷ ends) (suc h) (low, e) lt = piece-ends n end ends h e (omega arith)
+
+pub begin-after : (from : ℕ) (ends : List ℕ) (h : ℕ) → (h ≡ 0 → ⊥) → h < length ends → get_or ends (h - 1) 0 ≡ begin_of from ends h
+begin-after from ends zero ne lt = absurd (ne refl)
+begin-after from ends (suc h) ne lt = let e : suc h - 1 ≡ h = omega arith in rw e (sym (begin-is from ends h (omega arith)))
+
+pub closed-in : (xs ends : List ℕ) (h : ℕ) → h < length (listed xs ends).closed → h < length ends
+closed-in xs ends h lt = let e = length-pieces xs 0 ends in omega arith
+
+pub last-at : (from : ℕ) (ends : List ℕ) → (length ends ≡ 0 → ⊥) → get_or ends (length ends - 1) 0 ≡ last_end from ends
+last-at from [] some = absurd (some refl)
+last-at from (end ∷ []) some = refl
+last-at from (end ∷ next ∷ ends) some =
+    let z : suc (suc (length ends)) - 1 ≡ suc (suc (length ends) - 1) = omega arith in
+    rw z (last-at end (next ∷ ends) (λ e. absurd (omega arith)))
+
+pub total-is : (xs : List ℕ) (from : ℕ) (ends : List ℕ) → AreEnds (length xs) from ends → from + sum_by length (pieces xs from ends) ≡ last_end from ends
+total-is xs from [] e = omega arith
+total-is xs from (end ∷ ends) (low, e) =
+    let rest = total-is xs end ends e in
+    let high = last-le (length xs) end ends e in
+    let a = high.0 in
+    let b = high.1 in
+    let cons = sum_by-cons (length {A = ℕ}) (between from end xs) (pieces xs end ends) in
+    let here : length (between from end xs) ≡ end - from = length-between xs from end (omega arith) in
+    omega arith
+
+pub total-closed : (xs ends : List ℕ) (n : ℕ) → AreEnds (length xs) 0 ends → n ≡ last_end 0 ends → n ≡ sum_by length (listed xs ends).closed
+total-closed xs ends n e is = let t = total-is xs 0 ends e in omega arith
+
+-- all closed lists have fewer than 2^32 places together
+pub few-listed : (xs ends : List ℕ) → IsListed xs ends → sum_by length (listed xs ends).closed < 2 ^ 32
+few-listed xs ends l =
+    let t = total-is xs 0 ends l.are_ends in
+    let w = (last-le (length xs) 0 ends l.are_ends).1 in
+    let few = l.few_places in
+    omega arith

@@ -1,0 +1,153 @@
+//! Houses as lists of places, one after another.
+
+ghost use Rattle.std.specs.Prelude.{◌≡◌, ◌+◌, ◌<◌, ◌≤◌, ◌^◌, false, ◌++◌, ◌∷◌, [], IfOk, OnOk, length, slice_index_or, sum_by};
+ghost use Rattle.std.specs.List.{between};
+ghost use Rattle.engine_core.specs.HouseList.{begin_of, last_end, pieces, AreEnds};
+
+use std::alloc::{AllocError, Global};
+use std::marker::Model;
+
+/// Lists of places: those that are closed, and the begun one. All their places stand in one list, where each of them ends
+/// in another, in four bytes each.
+#[derive(Drop)]
+pub struct HouseList {
+    places: Vec<u32>,
+    ends: Vec<u32>,
+}
+
+impl Model for HouseList {
+    ghost use Rattle.engine_core.specs.HouseList.{Listed, listed, IsListed};
+
+    ghost Value = { Listed };
+
+    ghost view = { λ l. listed l.places.items l.ends.items };
+
+    ghost invariant = { λ l. IsListed l.places.items l.ends.items };
+}
+
+impl HouseList {
+    /// No list, with room for so many lists of so many places together. More can be added: they take more memory.
+    ///
+    /// # Errors
+    ///
+    /// When memory was refused.
+    pub fn new(alloc: Global, houses: usize, places: usize) -> Result<HouseList, AllocError>
+        ensures { IfOk result (λ list. list ≡ record { closed = []; begun = [] }) }
+    {
+        Ok(HouseList {
+            places: Vec::with_capacity(alloc, places)?,
+            ends: Vec::with_capacity(alloc, houses)?,
+        })
+    }
+
+    /// Adds a place to the begun list.
+    ///
+    /// # Errors
+    ///
+    /// When memory was refused, or there are 2^32 - 1 places.
+    pub fn push(&mut self, place: usize) -> Result<(), AllocError>
+        requires { place < 2 ^ 32 }
+        ensures { OnOk result (self.new
+            ≡ record { closed = self.old.closed; begun = self.old.begun ++ place ∷ [] }) }
+    {
+        if is_long(&self.places) {
+            return Err(AllocError);
+        }
+        self.places.push(place as u32)?;
+        Ok(())
+    }
+
+    /// Closes the begun list, and begins the next.
+    ///
+    /// # Errors
+    ///
+    /// When memory was refused, or there are 2^32 - 1 lists.
+    pub fn close(&mut self) -> Result<(), AllocError>
+        ensures { OnOk result (self.new
+            ≡ record { closed = self.old.closed ++ self.old.begun ∷ []; begun = [] }) }
+    {
+        if is_long(&self.ends) {
+            return Err(AllocError);
+        }
+        let places: &[u32] = &self.places;
+        self.ends.push(places.len() as u32)?;
+        Ok(())
+    }
+
+    /// How many lists are closed: fewer than 2^32.
+    pub fn len(&self) -> usize
+        ensures len { result ≡ length self.now.closed }
+        ensures few { result < 2 ^ 32 }
+    {
+        let ends: &[u32] = &self.ends;
+        ends.len()
+    }
+
+    /// The places of all closed lists together: fewer than 2^32.
+    pub fn total(&self) -> usize
+        ensures total { result ≡ sum_by length self.now.closed }
+        ensures few { result < 2 ^ 32 }
+    {
+        last(&self.ends)
+    }
+
+    /// The places of a closed list.
+    pub fn places(&self, house: usize) -> &[u32]
+        requires { house < length self.now.closed }
+        ensures { result.now ≡ slice_index_or self.now.closed house [] }
+    {
+        piece(&self.places, &self.ends, house)
+    }
+}
+
+/// Whether the list is as long as a list may be.
+fn is_long(list: &[u32]) -> bool
+    ensures { result ≡ false → length list.now + 1 < 2 ^ 32 }
+{
+    list.len() >= u32::MAX as usize
+}
+
+/// Where a list begins: where the one before ends.
+fn begin(ends: &[u32], house: usize) -> usize
+    requires { house < length ends.now }
+    ensures { result ≡ begin_of 0 ends.now house }
+{
+    if house == 0 {
+        0
+    } else {
+        ends[house - 1] as usize
+    }
+}
+
+/// Where the last list ends.
+fn last(ends: &[u32]) -> usize
+    ensures last { result ≡ last_end 0 ends.now }
+    ensures few { result < 2 ^ 32 }
+{
+    let count = ends.len();
+    if count == 0 {
+        0
+    } else {
+        ends[count - 1] as usize
+    }
+}
+
+/// One of the lists.
+fn piece<'a>(places: &'a [u32], ends: &[u32], house: usize) -> &'a [u32]
+    requires ends { AreEnds (length places.now) 0 ends.now }
+    requires house_in { house < length ends.now }
+    ensures { result.now ≡ slice_index_or (pieces places.now 0 ends.now) house [] }
+{
+    let from = begin(ends, house);
+    let end = ends[house] as usize;
+    part(places, from, end)
+}
+
+/// The part of the list from one number to another.
+pub(crate) fn part(list: &[u32], from: usize, end: usize) -> &[u32]
+    requires ascending { from ≤ end }
+    requires within { end ≤ length list.now }
+    ensures { result.now ≡ between from end list.now }
+{
+    &list[from..end]
+}
