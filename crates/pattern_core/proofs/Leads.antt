@@ -7,7 +7,7 @@ use Rattle.grid_core.specs.Candidates.{any_below}
 use Rattle.grid_core.proofs.CandidateLemmas.{any_below-some, any_below-here}
 use Rattle.engine_core.specs.Filling.{Set, some_filling}
 use Rattle.engine_core.specs.FillingLaws.{filling_from_test, test_from_filling}
-use Rattle.pattern_core.specs.Track.{Track, IsBelow, leads, some_leads, ahead, came, moved, any_cells, cell_is}
+use Rattle.pattern_core.specs.Track.{Track, IsBelow, leads, some_leads, ahead, one_on, moved, any_cells, cell_is}
 
 pub same_tests : (x y : Bool) → (x ≡ true → y ≡ true) → (y ≡ true → x ≡ true) → x ≡ y
 same_tests true y h k = sym (h refl)
@@ -109,14 +109,14 @@ module _ (t : Track) (a b : Bool) (sets : List Set) where
       nothing false y z = refl
 
 -- ---- all places that were reached
-came-from : (reached leaves : ℕ → Bool) (q : ℕ) → came reached leaves q ≡ true → (p : ℕ) × (q ≡ suc p) × (reached p ≡ true) × (leaves p ≡ true)
-unfolding came
-came-from reached leaves zero on = absurd (false≢true on)
-came-from reached leaves (suc p) on = let w = and_parts (reached p) (leaves p) on in (p, refl, w.0, w.1)
+on-from : (leaves reached : ℕ → Bool) (q : ℕ) → one_on (λ p. leaves p && reached p) q ≡ true → (p : ℕ) × (q ≡ suc p) × (reached p ≡ true) × (leaves p ≡ true)
+unfolding one_on
+on-from leaves reached zero on = absurd (false≢true on)
+on-from leaves reached (suc p) on = let w = and_parts (leaves p) (reached p) on in (p, refl, w.1, w.0)
 
-came-to : (reached leaves : ℕ → Bool) (p : ℕ) → reached p ≡ true → leaves p ≡ true → came reached leaves (suc p) ≡ true
-unfolding came
-came-to reached leaves p r l = and_from (reached p) (leaves p) r l
+on-to : (leaves reached : ℕ → Bool) (p : ℕ) → reached p ≡ true → leaves p ≡ true → one_on (λ q. leaves q && reached q) (suc p) ≡ true
+unfolding one_on
+on-to leaves reached p r l = and_from (leaves p) (reached p) l r
 
 module _ (t : Track) (a b : Bool) (n : ℕ) (below : IsBelow n t) (reached after : ℕ → Bool) where
   moved-here : (q : ℕ) → q < n → moved t a b reached q ≡ true → after q ≡ true → any_below (λ q. moved t a b reached q && after q) n ≡ true
@@ -135,18 +135,18 @@ module _ (t : Track) (a b : Bool) (n : ℕ) (below : IsBelow n t) (reached after
       white : (p : ℕ) → p < n → reached p ≡ true → (a ≡ true) × (((t.stay p && after p) || (t.white p && after (suc p))) ≡ true) → any_below (λ q. moved t a b reached q && after q) n ≡ true
       white p lt r (on_a, x) = elim (or_cases (t.stay p && after p) (t.white p && after (suc p)) x) [
         | inl y ↦ let u = and_parts (t.stay p) (after p) y in
-            moved-here p lt (or_left (a && ((reached p && t.stay p) || came reached t.white p)) (b && came reached t.black p)
-            (and_from a ((reached p && t.stay p) || came reached t.white p) on_a (or_left (reached p && t.stay p) (came reached t.white p) (and_from (reached p) (t.stay p) r u.0)))) u.1
+            moved-here p lt (or_left (a && ((t.stay p && reached p) || one_on (λ q. t.white q && reached q) p)) (b && one_on (λ q. t.black q && reached q) p)
+            (and_from a ((t.stay p && reached p) || one_on (λ q. t.white q && reached q) p) on_a (or_left (t.stay p && reached p) (one_on (λ q. t.white q && reached q) p) (and_from (t.stay p) (reached p) u.0 r)))) u.1
         | inr y ↦ let u = and_parts (t.white p) (after (suc p)) y in
-            moved-here (suc p) (below.white p u.0) (or_left (a && ((reached (suc p) && t.stay (suc p)) || came reached t.white (suc p))) (b && came reached t.black (suc p))
-            (and_from a ((reached (suc p) && t.stay (suc p)) || came reached t.white (suc p)) on_a (or_right (reached (suc p) && t.stay (suc p)) (came reached t.white (suc p)) (came-to reached t.white p r u.0)))) u.1
+            moved-here (suc p) (below.white p u.0) (or_left (a && ((t.stay (suc p) && reached (suc p)) || one_on (λ q. t.white q && reached q) (suc p))) (b && one_on (λ q. t.black q && reached q) (suc p))
+            (and_from a ((t.stay (suc p) && reached (suc p)) || one_on (λ q. t.white q && reached q) (suc p)) on_a (or_right (t.stay (suc p) && reached (suc p)) (one_on (λ q. t.white q && reached q) (suc p)) (on-to t.white reached p r u.0)))) u.1
       ]
 
       black : (p : ℕ) → p < n → reached p ≡ true → (b ≡ true) × ((t.black p && after (suc p)) ≡ true) → any_below (λ q. moved t a b reached q && after q) n ≡ true
       black p lt r (on_b, x) =
           let u = and_parts (t.black p) (after (suc p)) x in
-          moved-here (suc p) (below.black p u.0) (or_right (a && ((reached (suc p) && t.stay (suc p)) || came reached t.white (suc p))) (b && came reached t.black (suc p))
-          (and_from b (came reached t.black (suc p)) on_b (came-to reached t.black p r u.0))) u.1
+          moved-here (suc p) (below.black p u.0) (or_right (a && ((t.stay (suc p) && reached (suc p)) || one_on (λ q. t.white q && reached q) (suc p))) (b && one_on (λ q. t.black q && reached q) (suc p))
+          (and_from b (one_on (λ q. t.black q && reached q) (suc p)) on_b (on-to t.black reached p r u.0))) u.1
 
   ahead-here : (p : ℕ) → p < n → reached p ≡ true → ahead t a b after p ≡ true → any_below (λ p. reached p && ahead t a b after p) n ≡ true
   ahead-here p lt r on = any_below-here (λ p. reached p && ahead t a b after p) n p lt (and_from (reached p) (ahead t a b after p) r on)
@@ -156,9 +156,9 @@ module _ (t : Track) (a b : Bool) (n : ℕ) (below : IsBelow n t) (reached after
   back on =
       let w = any_below-some (λ q. moved t a b reached q && after q) n on in
       let m = and_parts (moved t a b reached w.0) (after w.0) w.2 in
-      elim (or_cases (a && ((reached w.0 && t.stay w.0) || came reached t.white w.0)) (b && came reached t.black w.0) m.0) [
-        | inl x ↦ white w.0 w.1 m.1 (and_parts a ((reached w.0 && t.stay w.0) || came reached t.white w.0) x)
-        | inr x ↦ let u = and_parts b (came reached t.black w.0) x in black w.0 w.1 m.1 u.0 (came-from reached t.black w.0 u.1)
+      elim (or_cases (a && ((t.stay w.0 && reached w.0) || one_on (λ q. t.white q && reached q) w.0)) (b && one_on (λ q. t.black q && reached q) w.0) m.0) [
+        | inl x ↦ white w.0 w.1 m.1 (and_parts a ((t.stay w.0 && reached w.0) || one_on (λ q. t.white q && reached q) w.0) x)
+        | inr x ↦ let u = and_parts b (one_on (λ q. t.black q && reached q) w.0) x in black w.0 w.1 m.1 u.0 (on-from t.black reached w.0 u.1)
       ]
     where
       black : (q : ℕ) → q < n → after q ≡ true → b ≡ true → (p : ℕ) × (q ≡ suc p) × (reached p ≡ true) × (t.black p ≡ true) → any_below (λ p. reached p && ahead t a b after p) n ≡ true
@@ -166,12 +166,12 @@ module _ (t : Track) (a b : Bool) (n : ℕ) (below : IsBelow n t) (reached after
           ahead-here p (omega arith) r (or_right (a && ((t.stay p && after p) || (t.white p && after (suc p)))) (b && (t.black p && after (suc p)))
           (and_from b (t.black p && after (suc p)) on_b (and_from (t.black p) (after (suc p)) l (ap after (sym e) ∙ on))))
 
-      white : (q : ℕ) → q < n → after q ≡ true → (a ≡ true) × (((reached q && t.stay q) || came reached t.white q) ≡ true) → any_below (λ p. reached p && ahead t a b after p) n ≡ true
-      white q lt on (on_a, x) = elim (or_cases (reached q && t.stay q) (came reached t.white q) x) [
-        | inl y ↦ let u = and_parts (reached q) (t.stay q) y in
-            ahead-here q lt u.0 (or_left (a && ((t.stay q && after q) || (t.white q && after (suc q)))) (b && (t.black q && after (suc q)))
-            (and_from a ((t.stay q && after q) || (t.white q && after (suc q))) on_a (or_left (t.stay q && after q) (t.white q && after (suc q)) (and_from (t.stay q) (after q) u.1 on))))
-        | inr y ↦ by_white (came-from reached t.white q y)
+      white : (q : ℕ) → q < n → after q ≡ true → (a ≡ true) × (((t.stay q && reached q) || one_on (λ q. t.white q && reached q) q) ≡ true) → any_below (λ p. reached p && ahead t a b after p) n ≡ true
+      white q lt on (on_a, x) = elim (or_cases (t.stay q && reached q) (one_on (λ q. t.white q && reached q) q) x) [
+        | inl y ↦ let u = and_parts (t.stay q) (reached q) y in
+            ahead-here q lt u.1 (or_left (a && ((t.stay q && after q) || (t.white q && after (suc q)))) (b && (t.black q && after (suc q)))
+            (and_from a ((t.stay q && after q) || (t.white q && after (suc q))) on_a (or_left (t.stay q && after q) (t.white q && after (suc q)) (and_from (t.stay q) (after q) u.0 on))))
+        | inr y ↦ by_white (on-from t.white reached q y)
       ]
         where
           by_white : (p : ℕ) × (q ≡ suc p) × (reached p ≡ true) × (t.white p ≡ true) → any_below (λ p. reached p && ahead t a b after p) n ≡ true

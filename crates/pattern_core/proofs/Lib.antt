@@ -7,3 +7,4 @@ pub mod SpelledRuns
 pub mod Words
 pub mod Spellings
 pub mod TableSteps
+pub mod Follows

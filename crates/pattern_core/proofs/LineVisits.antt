@@ -1,20 +1,23 @@
 -- A visit of a line, from its three steps.
-use Rattle.std.proofs.Common.{◌≡◌, ◌∙◌, ℕ, zero, suc, ◌+◌, ◌*◌, ◌<◌, ◌≤◌, Bool, true, false, cond, ltb, List, [], ◌∷◌, length, slice_index, get_or, take, map, sym, ap, ap₂, subst, arith}
+use Rattle.std.proofs.Common.{◌≡◌, ◌∙◌, ℕ, zero, suc, ◌+◌, ◌*◌, ◌<◌, ◌≤◌, Bool, true, false, not, cond, ltb, ◌&&◌, ◌==◌, refl, List, [], ◌∷◌, length, slice_index, get_or, take, map, sym, ap, ap₂, subst, arith}
 use Rattle.std.specs.List.{AllByRecursion}
-use Rattle.std.proofs.lemmas.Bool.{true≢false, false_from_ne_true}
-use Rattle.std.proofs.lemmas.List.{get_or_default, take_all}
+use Rattle.std.proofs.lemmas.Bool.{true≢false, false_from_ne_true, and_parts, eqb-true}
+use Rattle.std.proofs.lemmas.List.{get_or_default, get_or-map, length-map, take_all}
 use Rattle.std.proofs.Math.Path.{fun_ext}
 use Rattle.grid_core.specs.Extent.{Extent, IsExtent, max_side}
-use Rattle.grid_core.specs.Candidates.{Candidates, IsWithin}
+use Rattle.grid_core.specs.Candidates.{Candidates, IsWithin, any_below}
+use Rattle.grid_core.proofs.CandidateLemmas.{any_below-some}
 use Rattle.gameid_core.specs.Puzzles.{Pattern, IsPattern, IsClue, AreClues, line_cells, lines_of, used}
 use Rattle.gameid_core.specs.BlackRuns.{runs}
 use Rattle.engine_core.specs.PlaceLaws.{has_place-here}
 use Rattle.engine_core.specs.Puzzle.{after}
 use Rattle.engine_core.specs.Filling.{strikes_by_fillings}
-use Rattle.engine_core.specs.Sets.{set_of_bits, IsBitsOf}
+use Rattle.engine_core.specs.Sets.{has_bit, set_of_bits, IsBitsOf}
 use Rattle.engine_core.specs.House.{sets_at, IsDecided, kept_in}
 use Rattle.engine_core.specs.HouseLaws.{visited}
 use Rattle.pattern_core.specs.Lines.{line_places, numbers_of, has_runs, clue_of, HasClue}
+use Rattle.pattern_core.specs.LineClues.{numbers_in}
+use Rattle.pattern_core.specs.declared.line_clue.LineClue.{LineClue}
 use Rattle.pattern_core.specs.Faults.{IsFirstWrongLine}
 use Rattle.pattern_core.specs.LineRules.{is_solution, after_line, line_rules}
 use Rattle.pattern_core.specs.LineLaws.{in_grid, is_solution-line}
@@ -39,6 +42,29 @@ unfolding after_line
 line_visited size line clue K K' places sets kept same within long bits read decided left = fun_ext λ c. fun_ext λ v.
     rw (← same) (visited 2 places (strikes_by_fillings (has_runs clue)) K K' sets kept (λ d u on. (within d u on).1) long bits read decided left c v)
 
+-- what keeps every bit strikes nothing
+pub nothing_struck : (size : Extent) (line : ℕ) (clue : List ℕ) (K : Candidates) (places sets : List ℕ) → places ≡ line_places size line
+    → IsWithin (size.w * size.h) 2 K
+    → length sets ≡ length places
+    → ((k : ℕ) → k < length places → IsBitsOf (K (slice_index places k)) 2 (slice_index sets k))
+    → map (set_of_bits 2) sets ≡ sets_at 2 places K
+    → IsDecided 2 (strikes_by_fillings (has_runs clue)) sets sets
+    → K ≡ after_line size line clue K
+unfolding kept_in
+nothing_struck size line clue K places sets same within long bits read decided =
+    line_visited size line clue K K places sets sets same within long bits read decided (fun_ext λ c. fun_ext λ v. stays c v (K c v) refl)
+  where
+    none : (c v : ℕ) → K c v ≡ true → any_below (λ k. (slice_index places k == c) && not (has_bit (slice_index sets k) v)) (length places) ≡ false
+    none c v on = false_from_ne_true (any_below (λ k. (slice_index places k == c) && not (has_bit (slice_index sets k) v)) (length places)) (λ some.
+        let w = any_below-some (λ k. (slice_index places k == c) && not (has_bit (slice_index sets k) v)) (length places) some in
+        let u = and_parts (slice_index places w.0 == c) (not (has_bit (slice_index sets w.0) v)) w.2 in
+        let is : has_bit (slice_index sets w.0) v ≡ K (slice_index places w.0) v = (bits w.0 w.1).same v (within c v on).1 in
+        true≢false (sym u.1 ∙ ap not (is ∙ ap (λ d. K d v) (eqb-true (slice_index places w.0) c u.0) ∙ on)))
+
+    stays : (c v : ℕ) (b : Bool) → K c v ≡ b → K c v ≡ (K c v && not (any_below (λ k. (slice_index places k == c) && not (has_bit (slice_index sets k) v)) (length places)))
+    stays c v true on = on ∙ sym (ap₂ (λ x y. x && not y) on (none c v on))
+    stays c v false off = off ∙ sym (ap (λ x. x && not (any_below (λ k. (slice_index places k == c) && not (has_bit (slice_index sets k) v)) (length places))) off)
+
 pub after_line_read : (p : Pattern) (line : ℕ) (clue : List ℕ) (K : Candidates) → clue ≡ clue_of p line → after_line p.size line clue K ≡ after (line_rules p) line K
 unfolding after_line after
 after_line_read p line clue K is = ap (λ (c : List ℕ). after_line p.size line c K) is
@@ -46,6 +72,9 @@ after_line_read p line clue K is = ap (λ (c : List ℕ). after_line p.size line
 -- a clue that was read is the line's
 pub clue_read : (clues : List (List ℕ)) (k : ℕ) (clue : List ℕ) → k < length clues → clue ≡ get_or clues k clue → clue ≡ get_or clues k []
 clue_read clues k clue lt at = at ∙ get_or_default clues k clue [] lt
+
+pub numbers_read : (clues : List LineClue) (k : ℕ) (clue : LineClue) → k < length (map numbers_in clues) → clue ≡ get_or clues k clue → numbers_in clue ≡ get_or (map numbers_in clues) k []
+numbers_read clues k clue lt at = ap numbers_in at ∙ sym (get_or-map numbers_in clues k clue [] (omega (arith, lt, length-map clues numbers_in)))
 
 -- a line whose runs are not its clue refuses the grid
 pub line_refused : (p : Pattern) (g : List ℕ) (line : ℕ) (clue : List ℕ) (told : Bool) → line < lines_of p.size → clue ≡ clue_of p line

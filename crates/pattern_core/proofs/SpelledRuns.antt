@@ -152,6 +152,7 @@ length-spelled (n ∷ clue) = omega (arith, length-append (replicate n 1) (0 ∷
 pub track_below : (spell : List ℕ) (n : ℕ) → length spell < n → IsBelow n (track_of spell)
 unfolding track_of
 track_below spell n fits = record {
+  first = omega arith;
   white = λ p on. let z = place_low spell p 0 (omega arith) on in omega arith;
   black = λ p on. let z = place_low spell p 1 (omega arith) on in omega arith;
 }

@@ -1,15 +1,12 @@
--- A clue spelled cell by cell, as words.
-use Rattle.std.proofs.Common.{◌≡◌, ◌∙◌, ℕ, zero, suc, ◌+◌, ◌*◌, ◌/◌, ◌%◌, ◌^◌, ◌<◌, ◌≤◌, Bool, true, false, ◌||◌, eqb, List, [], ◌∷◌, ◌++◌, length, get_or, take, replicate, refl, sym, ap, ap₂, arith, inl, inr, append_assoc, length-append}
-use Rattle.std.specs.Prelude.{bit_or}
+-- A clue spelled cell by cell, as sets of places, and read back from them.
+use Rattle.std.proofs.Common.{◌≡◌, ◌∙◌, ℕ, zero, suc, ◌+◌, ◌<◌, ◌≤◌, Bool, true, false, cond, ◌||◌, eqb, List, [], ◌∷◌, ◌++◌, length, get_or, take, replicate, refl, sym, ap, ap₂, subst, arith, inl, inr, append_assoc, length-append}
+use Rattle.std.specs.List.{AllByRecursion}
 use Rattle.std.proofs.Math.Path.{fun_ext}
 use Rattle.std.proofs.lemmas.Bool.{cases_eq, cases_lt, eq-eqb, ne_eqb}
-use Rattle.std.proofs.lemmas.Nat.{one_shl}
 use Rattle.std.proofs.lemmas.List.{get_or_append_left, get_or_past, take_more, replicate-append-replicate}
+use Rattle.gameid_core.specs.BlackRuns.{runs_after, runs}
 use Rattle.gameid_core.specs.Puzzles.{used}
-use Rattle.engine_core.specs.Sets.{has_bit}
-use Rattle.pattern_core.specs.Track.{spelled, Track, track_of, track_bits, may_stay, IsSpelling}
-use Rattle.engine_core.proofs.BitLemmas.{bits-either, bits-of_power, bits-of_zero}
-use Rattle.pattern_core.proofs.Words.{bits_next, low_bits, no_high}
+use Rattle.pattern_core.specs.Track.{spelled, Track, track_of, may_stay, one_on, IsSpelling, cells_from, clue_along, IsTrack}
 
 -- the cells with one more
 more_cells : (cells : List ℕ) (x p : ℕ) → (p ≡ length cells → ⊥) → get_or (cells ++ x ∷ []) p 2 ≡ get_or cells p 2
@@ -22,55 +19,74 @@ last_cell : (cells : List ℕ) (x : ℕ) → get_or (cells ++ x ∷ []) (length 
 last_cell [] x = refl
 last_cell (y ∷ cells) x = last_cell cells x
 
--- the bit of the new cell is set, and no other
-new_bit : (cells : List ℕ) (bits len v : ℕ) → len < 127 → len ≡ length cells → v < 2 → ((p : ℕ) → has_bit bits p ≡ eqb (get_or cells p 2) v)
-    → (p : ℕ) → has_bit (bit_or bits (1 * 2 ^ len % 2 ^ 128)) p ≡ eqb (get_or (cells ++ v ∷ []) p 2) v
-new_bit cells bits len v low long small is p =
-    bits-either bits (1 * 2 ^ len % 2 ^ 128) p ∙ ap₂ (λ a b. a || b) (is p) (ap (λ n. has_bit n p) (one_shl len 128 (omega arith)) ∙ bits-of_power len p) ∙ by_place
-  where
-    or_true : (b : Bool) → (b || true) ≡ true
-    or_true true = refl
-    or_true false = refl
+or_true : (b : Bool) → (b || true) ≡ true
+or_true true = refl
+or_true false = refl
 
-    or_false : (b : Bool) → (b || false) ≡ b
-    or_false true = refl
-    or_false false = refl
+or_false : (b : Bool) → (b || false) ≡ b
+or_false true = refl
+or_false false = refl
 
-    by_place : (eqb (get_or cells p 2) v || eqb p len) ≡ eqb (get_or (cells ++ v ∷ []) p 2) v
-    by_place = elim (cases_eq p len) [
-      | inl e ↦ ap (λ b. eqb (get_or cells p 2) v || b) (eq-eqb p len e) ∙ or_true (eqb (get_or cells p 2) v)
-          ∙ sym (eq-eqb (get_or (cells ++ v ∷ []) p 2) v (ap (λ q. get_or (cells ++ v ∷ []) q 2) (e ∙ long) ∙ last_cell cells v))
-      | inr ne ↦ ap (λ b. eqb (get_or cells p 2) v || b) (ne_eqb p len ne) ∙ or_false (eqb (get_or cells p 2) v)
-          ∙ ap (λ n. eqb n v) (sym (more_cells cells v p (λ q. ne (q ∙ sym long))))
-    ]
+-- a word with the place of the new cell
+new_place : (cells : List ℕ) (v : ℕ) (old next new : ℕ → Bool) → ((p : ℕ) → old p ≡ eqb (get_or cells p 2) v) → ((p : ℕ) → next p ≡ eqb p (length cells)) → v < 2
+    → ((p : ℕ) → new p ≡ (old p || next p)) → (p : ℕ) → new p ≡ eqb (get_or (cells ++ v ∷ []) p 2) v
+new_place cells v old next new is after small each p = each p ∙ ap₂ (λ a b. a || b) (is p) (after p) ∙ elim (cases_eq p (length cells)) [
+  | inl e ↦ ap (λ b. eqb (get_or cells p 2) v || b) (eq-eqb p (length cells) e) ∙ or_true (eqb (get_or cells p 2) v)
+      ∙ sym (eq-eqb (get_or (cells ++ v ∷ []) p 2) v (ap (λ q. get_or (cells ++ v ∷ []) q 2) e ∙ last_cell cells v))
+  | inr ne ↦ ap (λ b. eqb (get_or cells p 2) v || b) (ne_eqb p (length cells) ne) ∙ or_false (eqb (get_or cells p 2) v)
+      ∙ ap (λ n. eqb n v) (sym (more_cells cells v p ne))
+]
 
 -- the other word stays
-old_bit : (cells : List ℕ) (bits x v : ℕ) → x < 2 → v < 2 → (x ≡ v → ⊥) → ((p : ℕ) → has_bit bits p ≡ eqb (get_or cells p 2) v) → (p : ℕ) → has_bit bits p ≡ eqb (get_or (cells ++ x ∷ []) p 2) v
-old_bit cells bits x v few small other is p = is p ∙ elim (cases_eq p (length cells)) [
+old_place : (cells : List ℕ) (x v : ℕ) (old : ℕ → Bool) → x < 2 → v < 2 → (x ≡ v → ⊥) → ((p : ℕ) → old p ≡ eqb (get_or cells p 2) v) → (p : ℕ) → old p ≡ eqb (get_or (cells ++ x ∷ []) p 2) v
+old_place cells x v old few small other is p = is p ∙ elim (cases_eq p (length cells)) [
   | inl e ↦ ne_eqb (get_or cells p 2) v (λ q. let past = get_or_past cells p 2 (omega arith) in absurd (omega arith))
       ∙ sym (ne_eqb (get_or (cells ++ x ∷ []) p 2) v (λ q. other (sym (last_cell cells x) ∙ ap (λ n. get_or (cells ++ x ∷ []) n 2) (sym e) ∙ q)))
   | inr ne ↦ ap (λ n. eqb n v) (sym (more_cells cells x p ne))
 ]
 
-pub spelling_black : (cells : List ℕ) (white black len : ℕ) → len < 127 → IsSpelling cells white black len
-    → IsSpelling (cells ++ 1 ∷ []) white (bit_or black (1 * 2 ^ len % 2 ^ 128)) (len + 1)
-spelling_black cells white black len low s = record {
-  len_is = let e = s.len_is in omega (arith, length-append cells (1 ∷ []));
-  whites = old_bit cells white 1 0 (omega arith) (omega arith) (λ e. absurd (omega arith)) s.whites;
-  blacks = new_bit cells black len 1 low s.len_is (omega arith) s.blacks;
-}
+-- the place after it
+next_place : (cells : List ℕ) (x n : ℕ) (next new : ℕ → Bool) → suc (length cells) < n → ((p : ℕ) → next p ≡ eqb p (length cells))
+    → ((p : ℕ) → p < n → new p ≡ one_on next p) → ((p : ℕ) → n ≤ p → new p ≡ false) → (p : ℕ) → new p ≡ eqb p (length (cells ++ x ∷ []))
+unfolding one_on
+next_place cells x n next new fits after within past p = elim (cases_lt p n) [
+  | inl low ↦ within p low ∙ by p
+  | inr high ↦ past p high ∙ sym (ne_eqb p (length (cells ++ x ∷ [])) (λ e. absurd (omega (arith, length-append cells (x ∷ [])))))
+]
+  where
+    longer : length (cells ++ x ∷ []) ≡ suc (length cells)
+    longer = omega (arith, length-append cells (x ∷ []))
 
-pub spelling_white : (cells : List ℕ) (white black len : ℕ) → len < 127 → IsSpelling cells white black len
-    → IsSpelling (cells ++ 0 ∷ []) (bit_or white (1 * 2 ^ len % 2 ^ 128)) black (len + 1)
-spelling_white cells white black len low s = record {
-  len_is = let e = s.len_is in omega (arith, length-append cells (0 ∷ []));
-  whites = new_bit cells white len 0 low s.len_is (omega arith) s.whites;
-  blacks = old_bit cells black 0 1 (omega arith) (omega arith) (λ e. absurd (omega arith)) s.blacks;
-}
+    one_more_each : (k m : ℕ) → eqb k m ≡ eqb (suc k) (suc m)
+    one_more_each k m = elim (cases_eq k m) [
+      | inl e ↦ eq-eqb k m e ∙ sym (eq-eqb (suc k) (suc m) (ap suc e))
+      | inr ne ↦ ne_eqb k m ne ∙ sym (ne_eqb (suc k) (suc m) (λ e. ne (omega arith)))
+    ]
 
-pub spelling_none : IsSpelling (spelled []) 0 0 0
+    by : (q : ℕ) → one_on next q ≡ eqb q (length (cells ++ x ∷ []))
+    by zero = sym (ne_eqb 0 (length (cells ++ x ∷ [])) (λ e. absurd (omega (arith, longer))))
+    by (suc q) = after q ∙ one_more_each q (length cells) ∙ sym (ap (eqb (suc q)) longer)
+
+module _ (A : Type 0) (has : A → ℕ → Bool) (n : ℕ) (cells : List ℕ) (white black next new on : A) (s : IsSpelling has cells white black next) (fits : suc (length cells) < n)
+    (within : (p : ℕ) → p < n → has on p ≡ one_on (has next) p) (past : (p : ℕ) → n ≤ p → has on p ≡ false) where
+  pub spelling_black : ((p : ℕ) → has new p ≡ (has black p || has next p)) → IsSpelling has (cells ++ 1 ∷ []) white new on
+  spelling_black each = record {
+    whites = old_place cells 1 0 (has white) (omega arith) (omega arith) (λ e. absurd (omega arith)) s.whites;
+    blacks = new_place cells 1 (has black) (has next) (has new) s.blacks s.nexts (omega arith) each;
+    nexts = next_place cells 1 n (has next) (has on) fits s.nexts within past;
+  }
+
+  pub spelling_white : ((p : ℕ) → has new p ≡ (has white p || has next p)) → IsSpelling has (cells ++ 0 ∷ []) new black on
+  spelling_white each = record {
+    whites = new_place cells 0 (has white) (has next) (has new) s.whites s.nexts (omega arith) each;
+    blacks = old_place cells 0 1 (has black) (omega arith) (omega arith) (λ e. absurd (omega arith)) s.blacks;
+    nexts = next_place cells 0 n (has next) (has on) fits s.nexts within past;
+  }
+
+pub spelling_none : (A : Type 0) (has : A → ℕ → Bool) (white black next : A) → ((p : ℕ) → has white p ≡ false) → ((p : ℕ) → has black p ≡ false) → ((p : ℕ) → has next p ≡ eqb p 0)
+    → IsSpelling has (spelled []) white black next
 unfolding spelled
-spelling_none = record { len_is = refl; whites = λ p. bits-of_zero p; blacks = λ p. bits-of_zero p }
+spelling_none A has white black next w b f = record { whites = w; blacks = b; nexts = f }
 
 -- one more black cell of a run, and its white cell
 pub one_more : (cells : List ℕ) (k : ℕ) → (cells ++ replicate k 1) ++ 1 ∷ [] ≡ cells ++ replicate (k + 1) 1
@@ -102,40 +118,75 @@ used-front (n ∷ clue) zero = omega arith
 used-front (n ∷ clue) (suc k) = let e = used-front clue k in omega arith
 
 -- ---- the track
-pub track_spelled : (cells : List ℕ) (white black len : ℕ) → len ≤ 127 → IsSpelling cells white black len
-    → track_bits (bit_or (white * 2 % 2 ^ 128) 1) white black (bit_or (1 * 2 ^ len % 2 ^ 128) (1 * 2 ^ len % 2 ^ 128 / 2)) ≡ track_of cells
-unfolding track_bits track_of may_stay
-track_spelled cells white black len low s =
-    same_tracks _ _ _ _ _ _ _ _ (fun_ext stays) (fun_ext s.whites) (fun_ext s.blacks) (fun_ext ends)
+pub track_spelled : (A : Type 0) (has : A → ℕ → Bool) (n : ℕ) (cells : List ℕ) (white black next stay on ends first back : A) → length cells < n → IsSpelling has cells white black next
+    → ((p : ℕ) → p < n → has on p ≡ one_on (has white) p) → ((p : ℕ) → n ≤ p → has on p ≡ false) → ((p : ℕ) → has first p ≡ eqb p 0) → ((p : ℕ) → has stay p ≡ (has on p || has first p))
+    → ((p : ℕ) → has back p ≡ has next (suc p)) → ((p : ℕ) → has ends p ≡ (has next p || has back p))
+    → ◌≡◌ {A = Track} (record { stay = has stay; white = has white; black = has black; ends = has ends }) (track_of cells)
+unfolding track_of may_stay one_on
+track_spelled A has n cells white black next stay on ends first back fits s within past one stay_is back_is ends_is =
+    same_tracks _ _ _ _ _ _ _ _ (fun_ext stays) (fun_ext s.whites) (fun_ext s.blacks) (fun_ext ended)
   where
     same_tracks : (a b c d a' b' c' d' : ℕ → Bool) → a ≡ a' → b ≡ b' → c ≡ c' → d ≡ d'
         → ◌≡◌ {A = Track} (record { stay = a; white = b; black = c; ends = d }) (record { stay = a'; white = b'; black = c'; ends = d' })
     same_tracks a b c d a' b' c' d' p q r t = ap₂ (λ (f : (ℕ → Bool) × (ℕ → Bool)) (g : (ℕ → Bool) × (ℕ → Bool)). record { stay = f.0; white = f.1; black = g.0; ends = g.1 }) (ap₂ (λ m n. (m, n)) p q) (ap₂ (λ m n. (m, n)) r t)
 
-    or_true : (b : Bool) → (b || true) ≡ true
-    or_true true = refl
-    or_true false = refl
-
-    or_false : (b : Bool) → (b || false) ≡ b
-    or_false true = refl
-    or_false false = refl
-
     -- past the spelled cells nothing is white
-    far : (p : ℕ) → 127 ≤ p → eqb (get_or cells p 2) 0 ≡ false
-    far p high = ap (λ n. eqb n 0) (get_or_past cells p 2 (let e = s.len_is in omega arith))
-
-    on : (p : ℕ) → has_bit (white * 2 % 2 ^ 128) (suc p) ≡ eqb (get_or cells p 2) 0
-    on p = elim (cases_lt (suc p) 128) [
-      | inl inside ↦ low_bits (white * 2) 128 (suc p) inside ∙ sym (bits_next (white * 2) p) ∙ ap (λ n. has_bit n p) (let z : white * 2 / 2 ≡ white = omega arith in z) ∙ s.whites p
-      | inr high ↦ no_high (white * 2) (suc p) high ∙ sym (far p (omega arith))
+    on_is : (p : ℕ) → has on (suc p) ≡ eqb (get_or cells p 2) 0
+    on_is p = elim (cases_lt (suc p) n) [
+      | inl inside ↦ within (suc p) inside ∙ s.whites p
+      | inr high ↦ past (suc p) high ∙ sym (ap (λ x. eqb x 0) (get_or_past cells p 2 (omega arith)))
     ]
 
-    stays : (p : ℕ) → has_bit (bit_or (white * 2 % 2 ^ 128) 1) p ≡ may_stay cells p
-    stays zero = bits-either (white * 2 % 2 ^ 128) 1 zero ∙ ap (λ b. has_bit (white * 2 % 2 ^ 128) zero || b) (bits-of_power 0 zero) ∙ or_true (has_bit (white * 2 % 2 ^ 128) zero)
-    stays (suc p) = bits-either (white * 2 % 2 ^ 128) 1 (suc p) ∙ ap₂ (λ a b. a || b) (on p) (bits-of_power 0 (suc p) ∙ ne_eqb (suc p) 0 (λ e. absurd (omega arith))) ∙ or_false (eqb (get_or cells p 2) 0)
+    stays : (p : ℕ) → has stay p ≡ may_stay cells p
+    stays zero = stay_is zero ∙ ap (λ b. has on zero || b) (one zero) ∙ or_true (has on zero)
+    stays (suc p) = stay_is (suc p) ∙ ap₂ (λ a b. a || b) (on_is p) (one (suc p) ∙ ne_eqb (suc p) 0 (λ e. absurd (omega arith))) ∙ or_false (eqb (get_or cells p 2) 0)
 
-    end_bit : (p : ℕ) → has_bit (1 * 2 ^ len % 2 ^ 128) p ≡ eqb p (length cells)
-    end_bit p = ap (λ n. has_bit n p) (one_shl len 128 (omega arith)) ∙ bits-of_power len p ∙ ap (eqb p) s.len_is
+    ended : (p : ℕ) → has ends p ≡ (eqb p (length cells) || eqb (suc p) (length cells))
+    ended p = ends_is p ∙ ap₂ (λ a b. a || b) (s.nexts p) (back_is p ∙ s.nexts (suc p))
 
-    ends : (p : ℕ) → has_bit (bit_or (1 * 2 ^ len % 2 ^ 128) (1 * 2 ^ len % 2 ^ 128 / 2)) p ≡ (eqb p (length cells) || eqb (suc p) (length cells))
-    ends p = bits-either (1 * 2 ^ len % 2 ^ 128) (1 * 2 ^ len % 2 ^ 128 / 2) p ∙ ap₂ (λ a b. a || b) (end_bit p) (bits_next (1 * 2 ^ len % 2 ^ 128) p ∙ end_bit (suc p))
+-- ---- the clue of a track
+-- the cells after the first
+from_next : (x : ℕ) (spell : List ℕ) (n p : ℕ) → cells_from (λ q. eqb (get_or (x ∷ spell) q 2) 1) n (suc p) ≡ cells_from (λ q. eqb (get_or spell q 2) 1) n p
+unfolding cells_from
+from_next x spell zero p = refl
+from_next x spell (suc n) p = ap (λ (l : List ℕ). cond (eqb (get_or spell p 2) 1) 1 0 ∷ l) (from_next x spell n (suc p))
+
+all_white : (n p : ℕ) → runs_after 0 (cells_from (λ q. eqb (get_or [] q 2) 1) n p) ≡ []
+unfolding cells_from runs_after
+all_white zero p = refl
+all_white (suc n) p = all_white n (suc p)
+
+abbrev Reads : List ℕ → Type 0
+Reads clue = (n : ℕ) → used clue ≤ n → runs_after 0 (cells_from (λ q. eqb (get_or (spelled clue) q 2) 1) n 0) ≡ clue
+
+spelled_run : (k d : ℕ) (clue : List ℕ) (n : ℕ) → Reads clue → 0 < k + d → d + suc (used clue) ≤ n
+    → runs_after k (cells_from (λ q. eqb (get_or (replicate d 1 ++ 0 ∷ spelled clue) q 2) 1) n 0) ≡ (k + d) ∷ clue
+unfolding cells_from runs_after
+spelled_run k zero clue zero rest some fits = absurd (omega arith)
+spelled_run zero zero clue (suc n) rest some fits = absurd (omega arith)
+spelled_run (suc k) zero clue (suc n) rest some fits =
+    ap₂ (λ (x : ℕ) (l : List ℕ). x ∷ l) (let z : suc k ≡ suc k + 0 = omega arith in z)
+    (ap (runs_after 0) (from_next 0 (spelled clue) n 0) ∙ rest n (omega arith))
+spelled_run k (suc d) clue zero rest some fits = absurd (omega arith)
+spelled_run k (suc d) clue (suc n) rest some fits =
+    ap (runs_after (suc k)) (from_next 1 (replicate d 1 ++ 0 ∷ spelled clue) n 0) ∙ spelled_run (suc k) d clue n rest (omega arith) (omega arith)
+    ∙ ap (λ (x : ℕ). x ∷ clue) (let z : suc k + d ≡ k + suc d = omega arith in z)
+
+spelled_runs : (clue : List ℕ) → AllByRecursion (λ k. 0 < k) clue → Reads clue
+unfolding spelled
+spelled_runs [] positive n fits = all_white n 0
+spelled_runs (m ∷ clue) positive n fits =
+    spelled_run 0 m clue n (spelled_runs clue positive.1) (let z = positive.0 in omega arith) (omega arith) ∙ ap (λ (x : ℕ). x ∷ clue) (let z : 0 + m ≡ m = omega arith in z)
+
+-- a clue is that of its track
+pub clue_back : (clue : List ℕ) (n : ℕ) (t : Track) → AllByRecursion (λ k. 0 < k) clue → used clue < n → t ≡ track_of (spelled clue) → clue_along n t ≡ clue
+unfolding clue_along track_of
+clue_back clue n t positive fits is = ap (λ (u : Track). runs (cells_from u.black n 0)) is ∙ spelled_runs clue positive n (omega arith)
+
+pub track_of_clue : (clue : List ℕ) (n : ℕ) (t : Track) → AllByRecursion (λ k. 0 < k) clue → used clue < n → t ≡ track_of (spelled clue) → IsTrack n t
+track_of_clue clue n t positive fits is =
+    let same = clue_back clue n t positive fits is in record {
+      spells = is ∙ ap (λ (c : List ℕ). track_of (spelled c)) (sym same);
+      positive = subst (AllByRecursion (λ k. 0 < k)) (sym same) positive;
+      fits = let e = ap used same in omega arith;
+    }

@@ -1,23 +1,27 @@
 -- The steps of the table, at a place of the line.
-use Rattle.std.proofs.Common.{◌≡◌, ◌∙◌, ℕ, zero, suc, ◌+◌, ◌<◌, Bool, true, false, not, ◌&&◌, ◌||◌, eqb, List, [], ◌∷◌, length, get_or, drop, set, refl, sym, ap, ap₂, arith, inl, inr}
+use Rattle.std.proofs.Common.{◌≡◌, ◌∙◌, ℕ, zero, suc, ◌+◌, ◌%◌, ◌<◌, Bool, true, false, not, ◌&&◌, ◌||◌, eqb, List, [], ◌∷◌, length, get_or, drop, set, refl, sym, ap, ap₂, arith, inl, inr}
 use Rattle.std.specs.List.{AllByRecursion}
-use Rattle.std.proofs.lemmas.Bool.{cases_eq, and_parts, and_from, eqb-true, true≢false}
+use Rattle.std.proofs.lemmas.Bool.{cases_eq, ne_eqb, and_parts, and_from, eqb-true, true≢false, false_from_ne_true}
 use Rattle.std.proofs.lemmas.List.{length-map, get_or-map, get_or-set_same, get_or-set_other, length-set, drop_all}
 use Rattle.std.proofs.Math.Seq.{drop-cons}
 use Rattle.grid_core.specs.Candidates.{any_below}
 use Rattle.grid_core.proofs.CandidateLemmas.{any_below-some, any_below-here, any_below-same}
 use Rattle.engine_core.specs.Filling.{Set, some_filling, strikes_by_fillings}
+use Rattle.engine_core.specs.FillingLaws.{filling_from_test, test_from_filling}
 use Rattle.engine_core.specs.Sets.{has_bit, set_of_bits}
 use Rattle.engine_core.specs.House.{IsDecided}
+use Rattle.engine_core.proofs.BitLemmas.{bits-of_zero}
 use Rattle.pattern_core.specs.Lines.{has_runs}
 use Rattle.pattern_core.specs.Track.{spelled, Track, IsBelow, track_of, leads, some_leads, ahead, moved, any_cells, cell_is, sets_of, AreRows, AreKept}
 use Rattle.pattern_core.proofs.Leads.{same_tests, leads_any, leads_later, leads_white, leads_black, ways_on}
 use Rattle.pattern_core.proofs.SpelledRuns.{strikes_by_track}
+use Rattle.pattern_core.proofs.Words.{low_two, both_low}
 
--- what is shown at a cell from `at` on, by the places that are reached before the cell at `at`
-pub record AreReached (t : Track) (sets : List ℕ) (reached at : ℕ) : Type 0 where
-  pub shown : (k v : ℕ) → any_below (λ p. has_bit reached p && some_leads t (drop at (sets_of sets)) (cell_is k v) p) 128
+-- what is shown at a cell from `at` on, by the places that are reached before the cell at `at`; and whether there is a way
+pub record AreReached (n : ℕ) (t : Track) (sets : List ℕ) (reached : ℕ → Bool) (at : ℕ) : Type 0 where
+  pub shown : (k v : ℕ) → any_below (λ p. reached p && some_leads t (drop at (sets_of sets)) (cell_is k v) p) n
       ≡ some_leads t (sets_of sets) (cell_is (at + k) v) 0
+  pub any : any_below (λ p. reached p && some_leads t (drop at (sets_of sets)) any_cells p) n ≡ some_leads t (sets_of sets) any_cells 0
 
 -- the sets from a cell on
 next_set : (sets : List ℕ) (at : ℕ) → at < length sets
@@ -36,140 +40,240 @@ leads_end t p = and_true (t.ends p)
     and_true true = refl
     and_true false = refl
 
-pub last_row : (t : Track) (sets rows : List ℕ) (ends : ℕ) → ((p : ℕ) → has_bit ends p ≡ t.ends p) → length sets < length rows
-    → AreRows t sets (set rows (length sets) ends) (length sets)
-last_row t sets rows ends same room = record {
-  room = omega (arith, length-set rows (length sets) ends);
-  row = λ i p from upto.
-      let e : i ≡ length sets = omega arith in
-      ap (λ j. has_bit (get_or (set rows (length sets) ends) j 0) p) e ∙ ap (λ n. has_bit n p) (get_or-set_same rows (length sets) ends 0 room) ∙ same p
-      ∙ sym (leads_end t p) ∙ ap (λ s. some_leads t s any_cells p) (sym (drop_all i (sets_of sets) (omega (arith, length-map sets (set_of_bits 2)))));
-}
+module _ (A : Type 0) (has : A → ℕ → Bool) (t : Track) (sets : List ℕ) (rows : List A) where
+  pub last_row : (ends : A) → ((p : ℕ) → has ends p ≡ t.ends p) → length sets < length rows → AreRows has t sets (set rows (length sets) ends) (length sets)
+  last_row ends same room = record {
+    room = omega (arith, length-set rows (length sets) ends);
+    row = λ i p w from upto.
+        let e : i ≡ length sets = omega arith in
+        ap (λ j. has (get_or (set rows (length sets) ends) j w) p) e ∙ ap (λ x. has x p) (get_or-set_same rows (length sets) ends w room) ∙ same p
+        ∙ sym (leads_end t p) ∙ ap (λ s. some_leads t s any_cells p) (sym (drop_all i (sets_of sets) (omega (arith, length-map sets (set_of_bits 2)))));
+  }
 
-pub one_row : (t : Track) (sets rows : List ℕ) (at row : ℕ) → AreRows t sets rows (at + 1) → at < length sets
-    → ((p : ℕ) → has_bit row p ≡ ahead t (has_bit (get_or sets at 0) 0) (has_bit (get_or sets at 0) 1) (has_bit (get_or rows (at + 1) 0)) p)
-    → AreRows t sets (set rows at row) at
-unfolding ahead
-one_row t sets rows at row rest lt is = record {
-  room = let r = rest.room in omega (arith, length-set rows at row);
-  row = λ i p from upto. elim (cases_eq i at) [
-    | inl e ↦ ap (λ j. has_bit (get_or (set rows at row) j 0) p) e ∙ ap (λ n. has_bit n p) (get_or-set_same rows at row 0 (let r = rest.room in omega arith)) ∙ is p ∙ here p
-        ∙ ap (λ j. some_leads t (drop j (sets_of sets)) any_cells p) (sym e)
-    | inr ne ↦ ap (λ n. has_bit n p) (get_or-set_other rows at i row 0 ne) ∙ rest.row i p (omega arith) upto
-  ];
-}
-  where
-    here : (p : ℕ) → ahead t (has_bit (get_or sets at 0) 0) (has_bit (get_or sets at 0) 1) (has_bit (get_or rows (at + 1) 0)) p ≡ some_leads t (drop at (sets_of sets)) any_cells p
-    here p =
-        ap₂ (λ x y. (has_bit (get_or sets at 0) 0 && ((t.stay p && x) || (t.white p && y))) || (has_bit (get_or sets at 0) 1 && (t.black p && y)))
-        (rest.row (at + 1) p (omega arith) (omega arith)) (rest.row (at + 1) (suc p) (omega arith) (omega arith))
-        ∙ sym (leads_any t (has_bit (get_or sets at 0) 0) (has_bit (get_or sets at 0) 1) (drop (at + 1) (sets_of sets)) p)
-        ∙ ap (λ s. some_leads t s any_cells p) (sym (next_set sets at lt))
+  pub one_row : (at : ℕ) (row after : A) → AreRows has t sets rows (at + 1) → at < length sets → after ≡ get_or rows (at + 1) after
+      → ((p : ℕ) → has row p ≡ ahead t (has_bit (get_or sets at 0) 0) (has_bit (get_or sets at 0) 1) (has after) p)
+      → AreRows has t sets (set rows at row) at
+  unfolding ahead
+  one_row at row after rest lt read is = record {
+    room = let r = rest.room in omega (arith, length-set rows at row);
+    row = λ i p w from upto. elim (cases_eq i at) [
+      | inl e ↦ ap (λ j. has (get_or (set rows at row) j w) p) e ∙ ap (λ x. has x p) (get_or-set_same rows at row w (let r = rest.room in omega arith)) ∙ is p ∙ here p
+          ∙ ap (λ j. some_leads t (drop j (sets_of sets)) any_cells p) (sym e)
+      | inr ne ↦ ap (λ x. has x p) (get_or-set_other rows at i row w ne) ∙ rest.row i p w (omega arith) upto
+    ];
+  }
+    where
+      next : (p : ℕ) → has after p ≡ some_leads t (drop (at + 1) (sets_of sets)) any_cells p
+      next p = ap (λ x. has x p) read ∙ rest.row (at + 1) p after (omega arith) (omega arith)
+
+      here : (p : ℕ) → ahead t (has_bit (get_or sets at 0) 0) (has_bit (get_or sets at 0) 1) (has after) p ≡ some_leads t (drop at (sets_of sets)) any_cells p
+      here p =
+          ap₂ (λ x y. (has_bit (get_or sets at 0) 0 && ((t.stay p && x) || (t.white p && y))) || (has_bit (get_or sets at 0) 1 && (t.black p && y))) (next p) (next (suc p))
+          ∙ sym (leads_any t (has_bit (get_or sets at 0) 0) (has_bit (get_or sets at 0) 1) (drop (at + 1) (sets_of sets)) p)
+          ∙ ap (λ s. some_leads t s any_cells p) (sym (next_set sets at lt))
 
 -- ---- the places reached
-pub reached_first : (t : Track) (sets : List ℕ) (one : ℕ) → ((p : ℕ) → has_bit one p ≡ eqb p 0) → AreReached t sets one 0
-reached_first t sets one is = record {
-  shown = λ k v. same_tests (any_below (λ p. has_bit one p && some_leads t (sets_of sets) (cell_is k v) p) 128) (some_leads t (sets_of sets) (cell_is (0 + k) v) 0)
-      (λ on.
-      let w = any_below-some (λ p. has_bit one p && some_leads t (sets_of sets) (cell_is k v) p) 128 on in
-      let u = and_parts (has_bit one w.0) (some_leads t (sets_of sets) (cell_is k v) w.0) w.2 in
-      let e : w.0 ≡ 0 = eqb-true w.0 0 (sym (is w.0) ∙ u.0) in
-      ap₂ (λ j p. some_leads t (sets_of sets) (cell_is j v) p) (let z : 0 + k ≡ k = omega arith in z) (sym e) ∙ u.1)
-      (λ on. any_below-here (λ p. has_bit one p && some_leads t (sets_of sets) (cell_is k v) p) 128 0 (omega arith)
-      (and_from (has_bit one 0) (some_leads t (sets_of sets) (cell_is k v) 0) (is 0) (ap (λ j. some_leads t (sets_of sets) (cell_is j v) 0) (let z : k ≡ 0 + k = omega arith in z) ∙ on)));
+pub at_first : (n : ℕ) (first way : ℕ → Bool) → 0 < n → ((p : ℕ) → first p ≡ eqb p 0) → any_below (λ p. first p && way p) n ≡ way 0
+at_first n first way some is = same_tests (any_below (λ p. first p && way p) n) (way 0)
+    (λ on.
+    let w = any_below-some (λ p. first p && way p) n on in
+    let u = and_parts (first w.0) (way w.0) w.2 in
+    ap way (sym (eqb-true w.0 0 (sym (is w.0) ∙ u.0))) ∙ u.1)
+    (λ on. any_below-here (λ p. first p && way p) n 0 some (and_from (first 0) (way 0) (is 0) on))
+
+pub reached_first : (n : ℕ) (t : Track) (sets : List ℕ) (first : ℕ → Bool) → 0 < n → ((p : ℕ) → first p ≡ eqb p 0) → AreReached n t sets first 0
+reached_first n t sets first some is = record {
+  shown = λ k v. at_first n first (some_leads t (sets_of sets) (cell_is k v)) some is ∙ ap (λ j. some_leads t (sets_of sets) (cell_is j v) 0) (let z : k ≡ 0 + k = omega arith in z);
+  any = at_first n first (some_leads t (sets_of sets) any_cells) some is;
 }
 
-pub reached_next : (t : Track) (sets : List ℕ) (reached new at : ℕ) → IsBelow 128 t → AreReached t sets reached at → at < length sets
-    → ((p : ℕ) → p < 128 → has_bit new p ≡ moved t (has_bit (get_or sets at 0) 0) (has_bit (get_or sets at 0) 1) (has_bit reached) p)
-    → AreReached t sets new (at + 1)
-reached_next t sets reached new at below r lt is = record {
-  shown = λ k v.
-      any_below-same (λ p. has_bit new p && some_leads t (drop (at + 1) (sets_of sets)) (cell_is k v) p)
-      (λ p. moved t (has_bit (get_or sets at 0) 0) (has_bit (get_or sets at 0) 1) (has_bit reached) p && some_leads t (drop (at + 1) (sets_of sets)) (cell_is k v) p)
-      128 (λ p low. ap (λ b. b && some_leads t (drop (at + 1) (sets_of sets)) (cell_is k v) p) (is p low))
-      ∙ sym (ways_on t (has_bit (get_or sets at 0) 0) (has_bit (get_or sets at 0) 1) 128 below (has_bit reached) (some_leads t (drop (at + 1) (sets_of sets)) (cell_is k v)))
-      ∙ any_below-same (λ p. has_bit reached p && ahead t (has_bit (get_or sets at 0) 0) (has_bit (get_or sets at 0) 1) (some_leads t (drop (at + 1) (sets_of sets)) (cell_is k v)) p)
-      (λ p. has_bit reached p && some_leads t (drop at (sets_of sets)) (cell_is (suc k) v) p)
-      128 (λ p low. ap (λ b. has_bit reached p && b)
-      (sym (leads_later t (has_bit (get_or sets at 0) 0) (has_bit (get_or sets at 0) 1) (drop (at + 1) (sets_of sets)) k v p)
-      ∙ ap (λ s. some_leads t s (cell_is (suc k) v) p) (sym (next_set sets at lt))))
-      ∙ r.shown (suc k) v ∙ ap (λ j. some_leads t (sets_of sets) (cell_is j v) 0) (let z : at + suc k ≡ at + 1 + k = omega arith in z);
-}
+-- whether the first row has the first place
+pub way_from_first : (A : Type 0) (has : A → ℕ → Bool) (n : ℕ) (t : Track) (sets : List ℕ) (rows : List A) (row : A) (first both : ℕ → Bool) → 0 < n → ((p : ℕ) → first p ≡ eqb p 0)
+    → row ≡ get_or rows 0 row → ((p : ℕ) → both p ≡ (has row p && first p)) → AreRows has t sets rows 0 → any_below both n ≡ some_leads t (sets_of sets) any_cells 0
+way_from_first A has n t sets rows row first both some is read each all =
+    any_below-same both (λ p. first p && has row p) n (λ p lt. each p ∙ and_turned (has row p) (first p))
+    ∙ at_first n first (has row) some is ∙ ap (λ x. has x 0) read ∙ all.row 0 0 row (omega arith) (omega arith)
+  where
+    and_turned : (x y : Bool) → (x && y) ≡ (y && x)
+    and_turned true true = refl
+    and_turned true false = refl
+    and_turned false true = refl
+    and_turned false false = refl
+
+module _ (n : ℕ) (t : Track) (sets : List ℕ) (reached new : ℕ → Bool) (at : ℕ) (below : IsBelow n t) (lt : at < length sets)
+    (is : (p : ℕ) → p < n → new p ≡ moved t (has_bit (get_or sets at 0) 0) (has_bit (get_or sets at 0) 1) reached p) where
+  -- a way on by this cell is one from the places that it reaches
+  on_by : (test rest : List ℕ → Bool)
+      → ((p : ℕ) → some_leads t ((has_bit (get_or sets at 0) 0 ∷ has_bit (get_or sets at 0) 1 ∷ []) ∷ drop (at + 1) (sets_of sets)) test p
+      ≡ ahead t (has_bit (get_or sets at 0) 0) (has_bit (get_or sets at 0) 1) (some_leads t (drop (at + 1) (sets_of sets)) rest) p)
+      → any_below (λ p. new p && some_leads t (drop (at + 1) (sets_of sets)) rest p) n ≡ any_below (λ p. reached p && some_leads t (drop at (sets_of sets)) test p) n
+  on_by test rest step =
+      any_below-same (λ p. new p && some_leads t (drop (at + 1) (sets_of sets)) rest p)
+      (λ p. moved t (has_bit (get_or sets at 0) 0) (has_bit (get_or sets at 0) 1) reached p && some_leads t (drop (at + 1) (sets_of sets)) rest p)
+      n (λ p low. ap (λ b. b && some_leads t (drop (at + 1) (sets_of sets)) rest p) (is p low))
+      ∙ sym (ways_on t (has_bit (get_or sets at 0) 0) (has_bit (get_or sets at 0) 1) n below reached (some_leads t (drop (at + 1) (sets_of sets)) rest))
+      ∙ any_below-same (λ p. reached p && ahead t (has_bit (get_or sets at 0) 0) (has_bit (get_or sets at 0) 1) (some_leads t (drop (at + 1) (sets_of sets)) rest) p)
+      (λ p. reached p && some_leads t (drop at (sets_of sets)) test p)
+      n (λ p low. ap (λ b. reached p && b) (sym (step p) ∙ ap (λ s. some_leads t s test p) (sym (next_set sets at lt))))
+
+  pub reached_next : AreReached n t sets reached at → AreReached n t sets new (at + 1)
+  reached_next r = record {
+    shown = λ k v. on_by (cell_is (suc k) v) (cell_is k v) (λ p. leads_later t (has_bit (get_or sets at 0) 0) (has_bit (get_or sets at 0) 1) (drop (at + 1) (sets_of sets)) k v p)
+        ∙ r.shown (suc k) v ∙ ap (λ j. some_leads t (sets_of sets) (cell_is j v) 0) (let z : at + suc k ≡ at + 1 + k = omega arith in z);
+    any = on_by any_cells any_cells (λ p. leads_any t (has_bit (get_or sets at 0) 0) (has_bit (get_or sets at 0) 1) (drop (at + 1) (sets_of sets)) p) ∙ r.any;
+  }
 
 -- ---- what is kept of a cell
-module _ (t : Track) (sets rows : List ℕ) (reached at : ℕ) (r : AreReached t sets reached at) (all : AreRows t sets rows 0) (lt : at < length sets) where
+-- nothing is kept yet
+pub kept_none : (t : Track) (sets : List ℕ) → AreKept t sets sets 0
+kept_none t sets = record { as_many = refl; bits = λ k v lt small. absurd (omega arith) }
+
+module _ (A : Type 0) (has : A → ℕ → Bool) (n : ℕ) (t : Track) (sets : List ℕ) (rows : List A) (reached : ℕ → Bool) (at : ℕ) (r : AreReached n t sets reached at) (all : AreRows has t sets rows 0) (lt : at < length sets)
+    (next : A) (read : next ≡ get_or rows (at + 1) next) where
   a : Bool
   a = has_bit (get_or sets at 0) 0
 
   b : Bool
   b = has_bit (get_or sets at 0) 1
 
-  after : ℕ → Bool
-  after = has_bit (get_or rows (at + 1) 0)
-
   white_way : ℕ → Bool
-  white_way p = (t.stay p && after p) || (t.white p && after (suc p))
+  white_way p = (t.stay p && has next p) || (t.white p && has next (suc p))
 
   black_way : ℕ → Bool
-  black_way p = t.black p && after (suc p)
+  black_way p = t.black p && has next (suc p)
+
+  after : (p : ℕ) → some_leads t (drop (at + 1) (sets_of sets)) any_cells p ≡ has next p
+  after p = sym (ap (λ x. has x p) read ∙ all.row (at + 1) p next (omega arith) (omega arith))
 
   -- a test of the set stands before or behind
-  pulled : (x : Bool) (way : ℕ → Bool) → any_below (λ p. has_bit reached p && (x && way p)) 128 ≡ (x && any_below (λ p. has_bit reached p && way p) 128)
+  pulled : (x : Bool) (way : ℕ → Bool) → any_below (λ p. reached p && (x && way p)) n ≡ (x && any_below (λ p. reached p && way p) n)
   pulled true way = refl
-  pulled false way = same_tests (any_below (λ p. has_bit reached p && false) 128) false (λ on.
-      let w = any_below-some (λ p. has_bit reached p && false) 128 on in (and_parts (has_bit reached w.0) false w.2).1) (λ e. absurd (true≢false (sym e)))
+  pulled false way = same_tests (any_below (λ p. reached p && false) n) false (λ on.
+      let w = any_below-some (λ p. reached p && false) n on in (and_parts (reached w.0) false w.2).1) (λ e. absurd (true≢false (sym e)))
 
   white_at : (p : ℕ) → some_leads t (drop at (sets_of sets)) (cell_is 0 0) p ≡ (a && white_way p)
-  unfolding a white_way after
+  unfolding a white_way
   white_at p =
       ap (λ s. some_leads t s (cell_is 0 0) p) (next_set sets at lt)
       ∙ leads_white t (has_bit (get_or sets at 0) 0) (has_bit (get_or sets at 0) 1) (drop (at + 1) (sets_of sets)) p
-      ∙ ap₂ (λ x y. has_bit (get_or sets at 0) 0 && ((t.stay p && x) || (t.white p && y))) (sym (all.row (at + 1) p (omega arith) (omega arith))) (sym (all.row (at + 1) (suc p) (omega arith) (omega arith)))
+      ∙ ap₂ (λ x y. has_bit (get_or sets at 0) 0 && ((t.stay p && x) || (t.white p && y))) (after p) (after (suc p))
 
   black_at : (p : ℕ) → some_leads t (drop at (sets_of sets)) (cell_is 0 1) p ≡ (b && black_way p)
-  unfolding b black_way after
+  unfolding b black_way
   black_at p =
       ap (λ s. some_leads t s (cell_is 0 1) p) (next_set sets at lt)
       ∙ leads_black t (has_bit (get_or sets at 0) 0) (has_bit (get_or sets at 0) 1) (drop (at + 1) (sets_of sets)) p
-      ∙ ap (λ y. has_bit (get_or sets at 0) 1 && (t.black p && y)) (sym (all.row (at + 1) (suc p) (omega arith) (omega arith)))
+      ∙ ap (λ y. has_bit (get_or sets at 0) 1 && (t.black p && y)) (after (suc p))
 
-  shown_at : (v : ℕ) → some_leads t (sets_of sets) (cell_is at v) 0 ≡ any_below (λ p. has_bit reached p && some_leads t (drop at (sets_of sets)) (cell_is 0 v) p) 128
+  any_at : (p : ℕ) → some_leads t (drop at (sets_of sets)) any_cells p ≡ ((a && white_way p) || (b && black_way p))
+  unfolding a b white_way black_way ahead
+  any_at p =
+      ap (λ s. some_leads t s any_cells p) (next_set sets at lt)
+      ∙ leads_any t (has_bit (get_or sets at 0) 0) (has_bit (get_or sets at 0) 1) (drop (at + 1) (sets_of sets)) p
+      ∙ ap₂ (λ x y. (has_bit (get_or sets at 0) 0 && ((t.stay p && x) || (t.white p && y))) || (has_bit (get_or sets at 0) 1 && (t.black p && y))) (after p) (after (suc p))
+
+  shown_at : (v : ℕ) → some_leads t (sets_of sets) (cell_is at v) 0 ≡ any_below (λ p. reached p && some_leads t (drop at (sets_of sets)) (cell_is 0 v) p) n
   shown_at v = ap (λ j. some_leads t (sets_of sets) (cell_is j v) 0) (let z : at ≡ at + 0 = omega arith in z) ∙ sym (r.shown 0 v)
 
-  shown_white : some_leads t (sets_of sets) (cell_is at 0) 0 ≡ (a && any_below (λ p. has_bit reached p && white_way p) 128)
+  shown_white : some_leads t (sets_of sets) (cell_is at 0) 0 ≡ (a && any_below (λ p. reached p && white_way p) n)
   shown_white = shown_at 0
-      ∙ any_below-same (λ p. has_bit reached p && some_leads t (drop at (sets_of sets)) (cell_is 0 0) p) (λ p. has_bit reached p && (a && white_way p)) 128 (λ p low. ap (λ x. has_bit reached p && x) (white_at p))
+      ∙ any_below-same (λ p. reached p && some_leads t (drop at (sets_of sets)) (cell_is 0 0) p) (λ p. reached p && (a && white_way p)) n (λ p low. ap (λ x. reached p && x) (white_at p))
       ∙ pulled a white_way
 
-  shown_black : some_leads t (sets_of sets) (cell_is at 1) 0 ≡ (b && any_below (λ p. has_bit reached p && black_way p) 128)
+  shown_black : some_leads t (sets_of sets) (cell_is at 1) 0 ≡ (b && any_below (λ p. reached p && black_way p) n)
   shown_black = shown_at 1
-      ∙ any_below-same (λ p. has_bit reached p && some_leads t (drop at (sets_of sets)) (cell_is 0 1) p) (λ p. has_bit reached p && (b && black_way p)) 128 (λ p low. ap (λ x. has_bit reached p && x) (black_at p))
+      ∙ any_below-same (λ p. reached p && some_leads t (drop at (sets_of sets)) (cell_is 0 1) p) (λ p. reached p && (b && black_way p)) n (λ p low. ap (λ x. reached p && x) (black_at p))
       ∙ pulled b black_way
 
-  twice : (x y : Bool) → (x && y) ≡ (x && (x && y))
-  twice true y = refl
-  twice false y = refl
+  shown_any : some_leads t (sets_of sets) any_cells 0 ≡ any_below (λ p. reached p && ((a && white_way p) || (b && black_way p))) n
+  shown_any = sym r.any ∙ any_below-same (λ p. reached p && some_leads t (drop at (sets_of sets)) any_cells p) (λ p. reached p && ((a && white_way p) || (b && black_way p))) n (λ p low. ap (λ x. reached p && x) (any_at p))
 
-  pub kept_here : (bits : ℕ) (new : List ℕ) → AreKept t sets new at → length new ≡ length sets
-      → has_bit bits 0 ≡ (has_bit (get_or sets at 0) 0 && any_below (λ p. has_bit reached p && ((t.stay p && has_bit (get_or rows (at + 1) 0) p) || (t.white p && has_bit (get_or rows (at + 1) 0) (suc p)))) 128)
-      → has_bit bits 1 ≡ (has_bit (get_or sets at 0) 1 && any_below (λ p. has_bit reached p && (t.black p && has_bit (get_or rows (at + 1) 0) (suc p))) 128)
-      → AreKept t sets (set new at bits) (at + 1)
-  unfolding a b white_way black_way after
-  kept_here bits new k long white black = record {
-    as_many = length-set new at bits ∙ long;
+  -- a cell that has one value alone shows it, if there is a way
+  alone : (x y : Bool) (white black : ℕ → Bool) → (x && y) ≡ false → any_below (λ p. reached p && ((x && white p) || (y && black p))) n ≡ true
+      → (x ≡ (x && (x && any_below (λ p. reached p && white p) n))) × (y ≡ (y && (y && any_below (λ p. reached p && black p) n)))
+  alone true true white black both on = absurd (true≢false both)
+  alone true false white black both on = (sym on ∙ any_below-same (λ p. reached p && (white p || false)) (λ p. reached p && white p) n (λ p low. ap (λ x. reached p && x) (or_false (white p))), refl)
+    where
+      or_false : (x : Bool) → (x || false) ≡ x
+      or_false true = refl
+      or_false false = refl
+  alone false true white black both on = (refl, sym on)
+  alone false false white black both on = (refl, refl)
+
+  -- the bits of the cell are what is shown, and those of the cells before were
+  goes_on : (kept new : List ℕ) → AreKept t sets kept at → length new ≡ length kept → ((i : ℕ) → (i ≡ at → ⊥) → get_or new i 0 ≡ get_or kept i 0)
+      → has_bit (get_or new at 0) 0 ≡ (a && (a && any_below (λ p. reached p && white_way p) n)) → has_bit (get_or new at 0) 1 ≡ (b && (b && any_below (λ p. reached p && black_way p) n))
+      → AreKept t sets new (at + 1)
+  unfolding a b
+  goes_on kept new k long others white black = record {
+    as_many = long ∙ k.as_many;
     bits = λ i v below small. elim (cases_eq i at) [
-      | inl e ↦ ap (λ j. has_bit (get_or (set new at bits) j 0) v) e ∙ ap (λ n. has_bit n v) (get_or-set_same new at bits 0 (omega arith)) ∙ by v small
-          ∙ ap (λ j. has_bit (get_or sets j 0) v && some_leads t (sets_of sets) (cell_is j v) 0) (sym e)
-      | inr ne ↦ ap (λ n. has_bit n v) (get_or-set_other new at i bits 0 ne) ∙ k.bits i v (omega arith) small
+      | inl e ↦ ap (λ j. has_bit (get_or new j 0) v) e ∙ by v small ∙ ap (λ j. has_bit (get_or sets j 0) v && some_leads t (sets_of sets) (cell_is j v) 0) (sym e)
+      | inr ne ↦ ap (λ x. has_bit x v) (others i ne) ∙ k.bits i v (omega arith) small
     ];
   }
     where
-      by : (v : ℕ) → v < 2 → has_bit bits v ≡ (has_bit (get_or sets at 0) v && some_leads t (sets_of sets) (cell_is at v) 0)
-      by zero s = white ∙ twice (has_bit (get_or sets at 0) 0) _ ∙ ap (λ x. has_bit (get_or sets at 0) 0 && x) (sym shown_white)
-      by (suc zero) s = black ∙ twice (has_bit (get_or sets at 0) 1) _ ∙ ap (λ x. has_bit (get_or sets at 0) 1 && x) (sym shown_black)
+      by : (v : ℕ) → v < 2 → has_bit (get_or new at 0) v ≡ (has_bit (get_or sets at 0) v && some_leads t (sets_of sets) (cell_is at v) 0)
+      by zero s = white ∙ ap (λ x. has_bit (get_or sets at 0) 0 && x) (sym shown_white)
+      by (suc zero) s = black ∙ ap (λ x. has_bit (get_or sets at 0) 1 && x) (sym shown_black)
       by (suc (suc v)) s = absurd (omega arith)
 
+  twice : (x y : Bool) → x ≡ true → y ≡ (x && (x && y))
+  twice true y e = refl
+  twice false y e = absurd (true≢false (sym e))
+
+  has_both : get_or sets at 0 % 4 ≡ 3 → (a ≡ true) × (b ≡ true)
+  unfolding a b
+  has_both e = and_parts (has_bit (get_or sets at 0) 0) (has_bit (get_or sets at 0) 1) (both_low (get_or sets at 0) ∙ ap (λ s. eqb s 3) e)
+
+  -- a cell that had both values, and keeps these
+  pub kept_both : (kept new : List ℕ) (bits : ℕ) → get_or sets at 0 % 4 ≡ 3
+      → has_bit bits 0 ≡ any_below (λ p. reached p && ((t.stay p && has next p) || (t.white p && has next (suc p)))) n
+      → has_bit bits 1 ≡ any_below (λ p. reached p && (t.black p && has next (suc p))) n
+      → AreKept t sets kept at → length new ≡ length kept → ((i : ℕ) → (i ≡ at → ⊥) → get_or new i 0 ≡ get_or kept i 0)
+      → ((v : ℕ) → v < 2 → has_bit (get_or new at 0) v ≡ has_bit bits v)
+      → AreKept t sets new (at + 1)
+  unfolding white_way black_way
+  kept_both kept new bits e white black k long others same =
+      let w = has_both e in
+      goes_on kept new k long others (same 0 (omega arith) ∙ white ∙ twice a _ w.0) (same 1 (omega arith) ∙ black ∙ twice b _ w.1)
+
+  -- a cell with one value at most
+  pub kept_alone : (kept : List ℕ) → (get_or sets at 0 % 4 ≡ 3 → ⊥) → some_leads t (sets_of sets) any_cells 0 ≡ true
+      → AreKept t sets kept at → get_or kept at 0 ≡ get_or sets at 0 → AreKept t sets kept (at + 1)
+  unfolding a b
+  kept_alone kept ne some k rest =
+      let not_both : (has_bit (get_or sets at 0) 0 && has_bit (get_or sets at 0) 1) ≡ false = both_low (get_or sets at 0) ∙ ne_eqb (get_or sets at 0 % 4) 3 ne in
+      let w = alone (has_bit (get_or sets at 0) 0) (has_bit (get_or sets at 0) 1) white_way black_way not_both (sym shown_any ∙ some) in
+      goes_on kept kept k refl (λ i other. refl) (ap (λ x. has_bit x 0) rest ∙ w.0) (ap (λ x. has_bit x 1) rest ∙ w.1)
+
 -- ---- all cells
+-- 3 has both values, as a set whose lowest bits make 3
+pub both_values : (set v : ℕ) → set % 4 ≡ 3 → v < 2 → has_bit set v ≡ has_bit 3 v
+both_values set v e small = sym (low_two set v small) ∙ ap (λ s. has_bit s v) e
+
+-- where there is no way, nothing is shown
+pub nothing_kept : (t : Track) (sets kept : List ℕ) → some_leads t (sets_of sets) any_cells 0 ≡ false → length kept ≡ length sets → ((k : ℕ) → k < length sets → get_or kept k 0 ≡ 0) → AreKept t sets kept (length sets)
+unfolding some_leads any_cells
+nothing_kept t sets kept none long zeros = record {
+  as_many = long;
+  bits = λ i v below small. ap (λ x. has_bit x v) (zeros i below) ∙ bits-of_zero v ∙ sym (no_value (has_bit (get_or sets i 0) v) (not_shown i v));
+}
+  where
+    no_value : (x : Bool) → {y : Bool} → y ≡ false → (x && y) ≡ false
+    no_value true e = e
+    no_value false e = refl
+
+    and_true : (x : Bool) → x ≡ true → (x && true) ≡ true
+    and_true true e = refl
+    and_true false e = absurd (true≢false (sym e))
+
+    not_shown : (i v : ℕ) → some_filling (sets_of sets) (λ cells. leads t 0 cells && cell_is i v cells) ≡ false
+    not_shown i v = false_from_ne_true (some_filling (sets_of sets) (λ cells. leads t 0 cells && cell_is i v cells)) (λ on.
+        let w = filling_from_test (sets_of sets) (λ cells. leads t 0 cells && cell_is i v cells) on in
+        let u = and_parts (leads t 0 w.0) (cell_is i v w.0) w.2 in
+        true≢false (sym (test_from_filling (sets_of sets) (λ cells. leads t 0 cells && true) w.0 w.1 (and_true (leads t 0 w.0) u.0)) ∙ none))
+
 pub decided_by_track : (clue sets kept : List ℕ) (t : Track) → t ≡ track_of (spelled clue) → AllByRecursion (λ n. 0 < n) clue → AreKept t sets kept (length sets)
     → IsDecided 2 (strikes_by_fillings (has_runs clue)) sets kept
 decided_by_track clue sets kept t is positive k = record {

@@ -1,93 +1,133 @@
--- Words as sets of places.
-use Rattle.std.proofs.Common.{◌≡◌, ◌∙◌, ℕ, zero, suc, ◌*◌, ◌/◌, ◌%◌, ◌^◌, ◌<◌, ◌≤◌, Bool, true, false, not, ◌&&◌, ◌||◌, eqb, refl, sym, ap, ap₂, arith, inl, inr}
-use Rattle.std.specs.Prelude.{bit_and, bit_or}
+-- Words as sets of places, and the steps of a line along such sets.
+use Rattle.std.proofs.Common.{◌≡◌, ◌∙◌, ℕ, zero, suc, ◌*◌, ◌/◌, ◌%◌, ◌^◌, ◌<◌, ◌≤◌, Bool, true, false, not, ◌&&◌, ◌||◌, eqb, [], ◌∷◌, get_or, refl, sym, ap, ap₂, arith, inl, inr}
+use Rattle.std.specs.Prelude.{bit_or}
 use Rattle.std.specs.Int.{bit_at}
 use Rattle.std.proofs.lemmas.Bool.{cases_eq, eq-eqb, ne_eqb, false_from_ne_true, true≢false}
 use Rattle.std.proofs.lemmas.Nat.{div-add-mod'}
 use Rattle.std.proofs.Math.Nat.{mod-lt}
+use Rattle.std.proofs.Math.Bool.{and_assoc}
 use Rattle.std.proofs.lemmas.Nat.Bits.{bit_at-suc, bit_at-zero, bit_at-lt, bit_at_cat_low, bit_at_lowest, bit_at_above, same_from_bits_below}
 use Rattle.grid_core.specs.Candidates.{any_below}
-use Rattle.grid_core.proofs.CandidateLemmas.{any_below-none, any_below-some, any_below-same}
+use Rattle.grid_core.proofs.CandidateLemmas.{any_below-none, any_below-some}
 use Rattle.engine_core.specs.Sets.{has_bit}
-use Rattle.engine_core.proofs.BitLemmas.{bits-both, bits-either, bits-of_zero}
-use Rattle.pattern_core.specs.Track.{came, ahead, moved, track_bits}
+use Rattle.engine_core.proofs.BitLemmas.{bits-either, bits-of_zero}
+use Rattle.pattern_core.specs.Track.{Track, one_on, ahead, moved}
 
+-- ---- the bits of a word of w bits
 pub bits_next : (a p : ℕ) → has_bit (a / 2) p ≡ has_bit a (suc p)
 bits_next a p = ap (λ n. eqb n 1) (sym (bit_at-suc a p))
 
 -- a word without what does not fit
-pub low_bits : (a w p : ℕ) → p < w → has_bit (a % 2 ^ w) p ≡ has_bit a p
-low_bits a w p lt = sym (ap (λ n. has_bit n p) (sym (div-add-mod' a (2 ^ w))) ∙ ap (λ n. eqb n 1) (bit_at_cat_low (a / 2 ^ w) w (a % 2 ^ w) p lt))
+pub low_bits : (w a p : ℕ) → p < w → has_bit (a % 2 ^ w) p ≡ has_bit a p
+low_bits w a p lt = sym (ap (λ n. has_bit n p) (sym (div-add-mod' a (2 ^ w))) ∙ ap (λ n. eqb n 1) (bit_at_cat_low (a / 2 ^ w) w (a % 2 ^ w) p lt))
 
-pub no_high : (a p : ℕ) → 128 ≤ p → has_bit (a % 2 ^ 128) p ≡ false
-no_high a p high = ap (λ n. eqb n 1) (bit_at_above (a % 2 ^ 128) 128 p (mod-lt a (omega arith)) high)
+pub no_high : (w a p : ℕ) → 0 < 2 ^ w → w ≤ p → has_bit (a % 2 ^ w) p ≡ false
+no_high w a p some high = ap (λ n. eqb n 1) (bit_at_above (a % 2 ^ w) w p (mod-lt a some) high)
 
 -- one place on
-pub bits_on : (a m p : ℕ) → p < 128 → has_bit (bit_and a m * 2 % 2 ^ 128) p ≡ came (has_bit a) (has_bit m) p
-unfolding came
-bits_on a m zero lt = low_bits (bit_and a m * 2) 128 zero lt ∙ ap (λ n. eqb n 1) (bit_at_lowest (bit_and a m * 2) ∙ (let z : bit_and a m * 2 % 2 ≡ 0 = omega arith in z))
-bits_on a m (suc p) lt =
-    low_bits (bit_and a m * 2) 128 (suc p) lt ∙ sym (bits_next (bit_and a m * 2) p) ∙ ap (λ n. has_bit n p) (let z : bit_and a m * 2 / 2 ≡ bit_and a m = omega arith in z) ∙ bits-both a m p
+pub bits_on : (w a p : ℕ) → p < w → has_bit (a * 2 % 2 ^ w) p ≡ one_on (has_bit a) p
+unfolding one_on
+bits_on w a zero lt = low_bits w (a * 2) zero lt ∙ ap (λ n. eqb n 1) (bit_at_lowest (a * 2) ∙ (let z : a * 2 % 2 ≡ 0 = omega arith in z))
+bits_on w a (suc p) lt =
+    low_bits w (a * 2) (suc p) lt ∙ sym (bits_next (a * 2) p) ∙ ap (λ n. has_bit n p) (let z : a * 2 / 2 ≡ a = omega arith in z)
 
 -- a word with no bit set is 0
-pub no_bits : (a : ℕ) → a < 2 ^ 128 → any_below (has_bit a) 128 ≡ false → a ≡ 0
-no_bits a fits none = same_from_bits_below 128 a 0 fits (omega arith) (λ p lt. off (bit_at a p) (bit_at-lt a p) (any_below-none (has_bit a) 128 none p lt) ∙ sym (bit_at-zero p))
+no_bits : (w a : ℕ) → a < 2 ^ w → 0 < 2 ^ w → any_below (has_bit a) w ≡ false → a ≡ 0
+no_bits w a fits some none = same_from_bits_below w a 0 fits some (λ p lt. off (bit_at a p) (bit_at-lt a p) (any_below-none (has_bit a) w none p lt) ∙ sym (bit_at-zero p))
   where
     off : (x : ℕ) → x < 2 → eqb x 1 ≡ false → x ≡ 0
     off zero lt e = refl
     off (suc zero) lt e = absurd (true≢false e)
     off (suc (suc x)) lt e = absurd (omega arith)
 
-pub bits_of_none : any_below (has_bit 0) 128 ≡ false
-bits_of_none = false_from_ne_true (any_below (has_bit 0) 128) (λ on. let w = any_below-some (has_bit 0) 128 on in true≢false (sym w.2 ∙ bits-of_zero w.0))
+bits_of_none : (w : ℕ) → any_below (has_bit 0) w ≡ false
+bits_of_none w = false_from_ne_true (any_below (has_bit 0) w) (λ on. let z = any_below-some (has_bit 0) w on in true≢false (sym z.2 ∙ bits-of_zero z.0))
 
 -- the test of a word for a bit
-pub some_bit_is : (bits : ℕ) → bits < 2 ^ 128 → not (eqb bits 0) ≡ any_below (has_bit bits) 128
-some_bit_is bits fits = elim (cases_eq bits 0) [
-  | inl e ↦ ap not (eq-eqb bits 0 e) ∙ sym (ap (λ n. any_below (has_bit n) 128) e ∙ bits_of_none)
-  | inr ne ↦ ap not (ne_eqb bits 0 ne) ∙ sym (true_from_ne_false (any_below (has_bit bits) 128) (λ none. ne (no_bits bits fits none)))
+pub some_bit_is : (w bits : ℕ) → bits < 2 ^ w → 0 < 2 ^ w → not (eqb bits 0) ≡ any_below (has_bit bits) w
+some_bit_is w bits fits some = elim (cases_eq bits 0) [
+  | inl e ↦ ap not (eq-eqb bits 0 e) ∙ sym (ap (λ n. any_below (has_bit n) w) e ∙ bits_of_none w)
+  | inr ne ↦ ap not (ne_eqb bits 0 ne) ∙ sym (true_from_ne_false (any_below (has_bit bits) w) (λ none. ne (no_bits w bits fits some none)))
 ]
   where
     true_from_ne_false : (b : Bool) → (b ≡ false → ⊥) → b ≡ true
     true_from_ne_false true h = refl
     true_from_ne_false false h = absurd (h refl)
 
+or_false : (x : Bool) → (x || false) ≡ x
+or_false true = refl
+or_false false = refl
+
+-- ---- the lowest two bits, by which masks are looked up
+pub low_two : (set v : ℕ) → v < 2 → has_bit (set % 4) v ≡ has_bit set v
+low_two set v small = low_bits 2 set v small
+
+-- what masks say by a set
+pub masks_are : (white black set p : ℕ) → has_bit (get_or (0 ∷ white ∷ black ∷ bit_or white black ∷ []) (set % 4) 0) p ≡ ((has_bit set 0 && has_bit white p) || (has_bit set 1 && has_bit black p))
+masks_are white black set p =
+    by (set % 4) (mod-lt set (omega arith))
+    ∙ ap₂ (λ a b. (a && has_bit white p) || (b && has_bit black p)) (low_two set 0 (omega arith)) (low_two set 1 (omega arith))
+  where
+    by : (s : ℕ) → s < 4 → has_bit (get_or (0 ∷ white ∷ black ∷ bit_or white black ∷ []) s 0) p ≡ ((has_bit s 0 && has_bit white p) || (has_bit s 1 && has_bit black p))
+    by zero lt = bits-of_zero p
+    by (suc zero) lt = sym (or_false (has_bit white p))
+    by (suc (suc zero)) lt = refl
+    by (suc (suc (suc zero))) lt = bits-either white black p
+    by (suc (suc (suc (suc s)))) lt = absurd (omega arith)
+
+-- both are set exactly where they make 3
+pub both_low : (set : ℕ) → (has_bit set 0 && has_bit set 1) ≡ eqb (set % 4) 3
+both_low set =
+    ap₂ (λ a b. a && b) (sym (low_two set 0 (omega arith))) (sym (low_two set 1 (omega arith))) ∙ by (set % 4) (mod-lt set (omega arith))
+  where
+    by : (s : ℕ) → s < 4 → (has_bit s 0 && has_bit s 1) ≡ eqb s 3
+    by zero lt = refl
+    by (suc zero) lt = refl
+    by (suc (suc zero)) lt = refl
+    by (suc (suc (suc zero))) lt = refl
+    by (suc (suc (suc (suc s)))) lt = absurd (omega arith)
+
 -- ---- the words of a step
-module _ (stay white black ends set : ℕ) (x y : Bool) (is_x : x ≡ has_bit set 0) (is_y : y ≡ has_bit set 1) where
-  pub ahead_word : (after w b : ℕ) → ((p : ℕ) → has_bit w p ≡ (x && has_bit (bit_or (bit_and stay after) (bit_and white (after / 2))) p))
-      → ((p : ℕ) → has_bit b p ≡ (y && has_bit (bit_and black (after / 2)) p))
-      → (p : ℕ) → has_bit (bit_or w b) p ≡ ahead (track_bits stay white black ends) (has_bit set 0) (has_bit set 1) (has_bit after) p
-  unfolding ahead track_bits
-  ahead_word after w b is_w is_b p = bits-either w b p ∙ ap₂ (λ m n. m || n)
-      (is_w p ∙ ap₂ (λ m n. m && n) is_x (bits-either (bit_and stay after) (bit_and white (after / 2)) p
-      ∙ ap₂ (λ m n. m || n) (bits-both stay after p) (bits-both white (after / 2) p ∙ ap (λ n. has_bit white p && n) (bits_next after p))))
-      (is_b p ∙ ap₂ (λ m n. m && n) is_y (bits-both black (after / 2) p ∙ ap (λ n. has_bit black p && n) (bits_next after p)))
+-- a cell that may be black stays nowhere by it
+pub only_white : (a b x y : Bool) → y ≡ false → ((a && x) || (b && y)) ≡ (a && x)
+only_white a true x true e = absurd (true≢false e)
+only_white a true x false e = or_false (a && x)
+only_white a false x y e = or_false (a && x)
 
-  pub moved_word : (reached w b : ℕ) → ((p : ℕ) → has_bit w p ≡ (x && has_bit (bit_or (bit_and reached stay) (bit_and reached white * 2 % 2 ^ 128)) p))
-      → ((p : ℕ) → has_bit b p ≡ (y && has_bit (bit_and reached black * 2 % 2 ^ 128) p))
-      → (p : ℕ) → p < 128 → has_bit (bit_or w b) p ≡ moved (track_bits stay white black ends) (has_bit set 0) (has_bit set 1) (has_bit reached) p
-  unfolding moved track_bits
-  moved_word reached w b is_w is_b p lt = bits-either w b p ∙ ap₂ (λ m n. m || n)
-      (is_w p ∙ ap₂ (λ m n. m && n) is_x (bits-either (bit_and reached stay) (bit_and reached white * 2 % 2 ^ 128) p
-      ∙ ap₂ (λ m n. m || n) (bits-both reached stay p) (bits_on reached white p lt)))
-      (is_b p ∙ ap₂ (λ m n. m && n) is_y (bits_on reached black p lt))
+-- what stays and what goes on, of white and of black
+spread : (a b z w k y : Bool) → ((a && z) || (((a && w) || (b && k)) && y)) ≡ ((a && (z || (w && y))) || (b && (k && y)))
+spread false false z w k y = refl
+spread false true z w k y = refl
+spread true b true w k y = refl
+spread true false false true k true = refl
+spread true false false true k false = refl
+spread true false false false k y = refl
+spread true true false true true true = refl
+spread true true false true true false = refl
+spread true true false true false true = refl
+spread true true false true false false = refl
+spread true true false false k y = refl
 
-  and_turned : (m n : Bool) → (m && n) ≡ (n && m)
-  and_turned true true = refl
-  and_turned true false = refl
-  and_turned false true = refl
-  and_turned false false = refl
+module _ (t : Track) (a b : Bool) (stays moves : ℕ → Bool) (stay : (p : ℕ) → stays p ≡ (a && t.stay p)) (move : (p : ℕ) → moves p ≡ ((a && t.white p) || (b && t.black p))) where
+  pub ahead_step : (after : ℕ → Bool) (p : ℕ) → ((stays p && after p) || (moves p && after (suc p))) ≡ ahead t a b after p
+  unfolding ahead
+  ahead_step after p =
+      ap₂ (λ m n. (m && after p) || (n && after (suc p))) (stay p) (move p)
+      ∙ ap (λ m. m || (((a && t.white p) || (b && t.black p)) && after (suc p))) (and_assoc a (t.stay p) (after p))
+      ∙ spread a b (t.stay p && after p) (t.white p) (t.black p) (after (suc p))
 
-  pub white_word : (reached after : ℕ) (some : Bool) → some ≡ any_below (has_bit (bit_and reached (bit_or (bit_and stay after) (bit_and white (after / 2))))) 128
-      → (some && x) ≡ (has_bit set 0 && any_below (λ p. has_bit reached p && ((has_bit stay p && has_bit after p) || (has_bit white p && has_bit after (suc p)))) 128)
-  white_word reached after some is = and_turned some x ∙ ap₂ (λ m n. m && n) is_x (is
-      ∙ any_below-same (has_bit (bit_and reached (bit_or (bit_and stay after) (bit_and white (after / 2)))))
-      (λ p. has_bit reached p && ((has_bit stay p && has_bit after p) || (has_bit white p && has_bit after (suc p)))) 128
-      (λ p lt. bits-both reached (bit_or (bit_and stay after) (bit_and white (after / 2))) p ∙ ap (λ n. has_bit reached p && n) (bits-either (bit_and stay after) (bit_and white (after / 2)) p
-      ∙ ap₂ (λ m n. m || n) (bits-both stay after p) (bits-both white (after / 2) p ∙ ap (λ n. has_bit white p && n) (bits_next after p)))))
-
-  pub black_word : (reached after : ℕ) (some : Bool) → some ≡ any_below (has_bit (bit_and reached (bit_and black (after / 2)))) 128
-      → (some && y) ≡ (has_bit set 1 && any_below (λ p. has_bit reached p && (has_bit black p && has_bit after (suc p))) 128)
-  black_word reached after some is = and_turned some y ∙ ap₂ (λ m n. m && n) is_y (is
-      ∙ any_below-same (has_bit (bit_and reached (bit_and black (after / 2)))) (λ p. has_bit reached p && (has_bit black p && has_bit after (suc p))) 128
-      (λ p lt. bits-both reached (bit_and black (after / 2)) p ∙ ap (λ n. has_bit reached p && n) (bits-both black (after / 2) p ∙ ap (λ n. has_bit black p && n) (bits_next after p))))
+  pub moved_step : (reached : ℕ → Bool) (p : ℕ) → ((stays p && reached p) || one_on (λ q. moves q && reached q) p) ≡ moved t a b reached p
+  unfolding moved one_on
+  moved_step reached zero = or_false (stays zero && reached zero) ∙ ap (λ m. m && reached zero) (stay zero) ∙ and_assoc a (t.stay zero) (reached zero) ∙ none a b (t.stay zero && reached zero)
+    where
+      none : (x y z : Bool) → (x && z) ≡ ((x && (z || false)) || (y && false))
+      none true true true = refl
+      none true true false = refl
+      none true false true = refl
+      none true false false = refl
+      none false true z = refl
+      none false false z = refl
+  moved_step reached (suc p) =
+      ap₂ (λ m n. (m && reached (suc p)) || (n && reached p)) (stay (suc p)) (move p)
+      ∙ ap (λ m. m || (((a && t.white p) || (b && t.black p)) && reached p)) (and_assoc a (t.stay (suc p)) (reached (suc p)))
+      ∙ spread a b (t.stay (suc p) && reached (suc p)) (t.white p) (t.black p) (reached p)

@@ -3,10 +3,13 @@
 
 mod check;
 mod fault;
+mod follow;
 mod laws;
+mod line_clue;
 mod lines;
 #[cfg(test)]
 mod listing;
+mod places;
 mod table;
 mod track;
 mod walk;

@@ -3,16 +3,17 @@
 ghost use Rattle.std.specs.Prelude.{◌≡◌, ℕ, ◌+◌, ◌*◌, ◌<◌, ◌≤◌, IfOk, true, false, length, refl, slice_index};
 ghost use Rattle.grid_core.specs.Extent.{IsExtent};
 ghost use Rattle.grid_core.specs.Board.{has, cells_of, SameShape};
-ghost use Rattle.std.specs.List.{AllByRecursion};
-ghost use Rattle.gameid_core.specs.Puzzles.{lines_of, line_cells, used};
+ghost use Rattle.gameid_core.specs.Puzzles.{lines_of, line_cells};
 ghost use Rattle.engine_core.specs.Closing.{HasStruck};
 ghost use Rattle.engine_core.specs.declared.mode.Mode.TheVariants.{Queue};
 ghost use Rattle.pattern_core.specs.Lines.{line_places};
 ghost use Rattle.pattern_core.specs.LineRules.{line_rules, after_line};
 
+use crate::line_clue::LineClue;
+use crate::places::Places;
 use crate::table::keep;
 use crate::track::SpelledClue;
-use crate::walk::{has_clue, line_len};
+use crate::walk::line_len;
 use engine_core::{Mode, Rules, apply, gather};
 use gameid_core::PatternPuzzle;
 use grid_core::{Board, Grid, Size, column_place, row_place};
@@ -23,34 +24,40 @@ use std::marker::Model;
 const VALUES: u8 = 2;
 
 /// The rules of one puzzle, to be searched: each column and each row strikes what no filling with its clue's runs
-/// has. They keep a copy of what they need of the puzzle. A visit takes no memory. It goes over the cells of the line five
-/// times: to name them, to gather their sets, twice to decide, and to strike.
+/// has. They keep a copy of what they need of the puzzle. A visit takes no memory. It goes over the cells of the line four
+/// times: to name them, to gather their sets, and twice to decide; and a fifth time to strike, if there is anything.
 #[derive(Drop)]
 pub struct PatternLines {
     size: Size,
-    clues: Vec<SpelledClue>,
+    clues: Vec<LineClue>,
     ghost extent: { IsExtent size },
 }
 
 impl Model for PatternLines {
     ghost use Rattle.std.specs.Prelude.{◌≡◌};
+    ghost use Rattle.std.specs.Prelude.{map};
     ghost use Rattle.gameid_core.specs.Puzzles.{IsPattern};
+    ghost use Rattle.pattern_core.specs.LineClues.{numbers_in};
     ghost use Rattle.pattern_core.specs.LineRules.{Ruled};
 
     ghost Value = { Ruled };
 
-    ghost view = { λ r. record { pattern = record { size = r.size; clues = r.clues.items }; extent = r.extent } };
+    ghost view = { λ r. record {
+      pattern = record { size = r.size; clues = map numbers_in r.clues.items };
+      extent = r.extent;
+    } };
 
-    ghost invariant = { λ r. IsPattern (record { size = r.size; clues = r.clues.items }) };
+    ghost invariant = { λ r.
+        IsPattern (record { size = r.size; clues = map numbers_in r.clues.items }) };
 }
 
 /// What a visit of a line works in, for lines up to some length.
 #[derive(Drop)]
 pub struct LineScratch {
-    places: Vec<usize>,
+    places: Vec<u32>,
     sets: Vec<u32>,
-    kept: Vec<u32>,
-    rows: Vec<u128>,
+    rows: Vec<u64>,
+    long_rows: Vec<u128>,
 }
 
 impl Model for LineScratch {
@@ -60,14 +67,17 @@ impl Model for LineScratch {
 
     ghost view = { λ s. length s.places.items };
 
-    ghost invariant = { λ s. (length s.sets.items ≡ length s.places.items) × (length s.kept.items ≡ length s.places.items) × (length s.places.items < length s.rows.items) };
+    ghost invariant = { λ s. (length s.sets.items ≡ length s.places.items)
+        × (length s.places.items < length s.rows.items)
+        × (length s.places.items < length s.long_rows.items) };
 }
 
 /// The place of a line's k-th cell: downwards in a column and rightwards in a row.
 fn line_place(size: Size, line: usize, k: usize) -> usize
     requires line { line < lines_of size }
     requires cell { k < line_cells size line }
-    ensures { result ≡ slice_index (line_places size line) k }
+    ensures place { result ≡ slice_index (line_places size line) k }
+    ensures small { result < 65536 }
 {
     let w = usize::from(size.w());
     let _h = size.h();
@@ -79,85 +89,74 @@ fn line_place(size: Size, line: usize, k: usize) -> usize
 }
 
 /// Writes the places of a line's cells.
-fn write_places(size: Size, line: usize, places: &mut [usize])
+fn write_places(size: Size, line: usize, places: &mut [u32])
     requires line { line < lines_of size }
     requires as_many { length places.old ≡ line_cells size line }
     ensures { places.new ≡ line_places size line }
 {
     for k in 0..places.len() {
-        places[k] = line_place(size, line, k);
+        places[k] = line_place(size, line, k) as u32;
     }
 }
 
 /// A line of a puzzle: the puzzle's size, the line's number, and its clue.
 #[derive(Clone, Copy)]
-struct Line<'a> {
+struct Line<'a, P: Places> {
     size: Size,
     number: usize,
-    clue: &'a SpelledClue,
+    clue: &'a SpelledClue<P>,
 }
 
 /// Strikes from the line's cells what no filling with the clue's runs has, and says whether that was anything.
-fn visit_line(
-    line: &Line<'_>,
+fn visit_line<P: Places>(
+    line: &Line<'_, P>,
     board: &mut Board,
-    places: &mut [usize],
+    places: &mut [u32],
     sets: &mut [u32],
-    kept: &mut [u32],
-    rows: &mut [u128],
+    rows: &mut [P],
 ) -> bool
     requires line { line.now.number < lines_of line.now.size }
     requires cells { cells_of board.old ≡ line.now.size.w * line.now.size.h }
     requires values { board.old.values ≡ 2 }
     requires places { length places.old ≡ line_cells line.now.size line.now.number }
     requires sets { length sets.old ≡ line_cells line.now.size line.now.number }
-    requires kept { length kept.old ≡ line_cells line.now.size line.now.number }
     requires rows { line_cells line.now.size line.now.number < length rows.old }
-    requires positive { AllByRecursion (λ n. 0 < n) line.now.clue.now }
-    requires fits { used line.now.clue.now ≤ 127 }
-    ensures left { has board.new ≡ after_line line.now.size line.now.number line.now.clue.now (has board.old) }
+    ensures left { has board.new
+        ≡ after_line line.now.size line.now.number line.now.clue.now (has board.old) }
     ensures shape { SameShape board.old board.new }
     ensures unchanged { result ≡ false → has board.new ≡ has board.old }
     ensures changed { result ≡ true → HasStruck (has board.old) (has board.new) }
 {
     write_places(line.size, line.number, places);
     gather(board, places, sets);
-    keep(sets, line.clue, rows, kept);
-    apply(board, places, VALUES, kept)
+    if !keep(sets, line.clue, rows) {
+        return false;
+    }
+    apply(board, places, VALUES, sets)
 }
 
 /// The same in the first parts of slices that may be longer than the line.
-fn visit_within(
-    line: &Line<'_>,
+fn visit_within<P: Places>(
+    line: &Line<'_, P>,
     board: &mut Board,
-    places: &mut [usize],
+    places: &mut [u32],
     sets: &mut [u32],
-    kept: &mut [u32],
-    rows: &mut [u128],
+    rows: &mut [P],
 ) -> bool
     requires line { line.now.number < lines_of line.now.size }
     requires cells { cells_of board.old ≡ line.now.size.w * line.now.size.h }
     requires values { board.old.values ≡ 2 }
     requires places { line_cells line.now.size line.now.number ≤ length places.old }
     requires sets { line_cells line.now.size line.now.number ≤ length sets.old }
-    requires kept { line_cells line.now.size line.now.number ≤ length kept.old }
     requires rows { line_cells line.now.size line.now.number < length rows.old }
-    requires positive { AllByRecursion (λ n. 0 < n) line.now.clue.now }
-    requires fits { used line.now.clue.now ≤ 127 }
-    ensures left { has board.new ≡ after_line line.now.size line.now.number line.now.clue.now (has board.old) }
+    ensures left { has board.new
+        ≡ after_line line.now.size line.now.number line.now.clue.now (has board.old) }
     ensures shape { SameShape board.old board.new }
     ensures unchanged { result ≡ false → has board.new ≡ has board.old }
     ensures changed { result ≡ true → HasStruck (has board.old) (has board.new) }
 {
     let cells = line_len(line.size, line.number);
-    visit_line(
-        line,
-        board,
-        &mut places[..cells],
-        &mut sets[..cells],
-        &mut kept[..cells],
-        rows,
-    )
+    visit_line(line, board, &mut places[..cells], &mut sets[..cells], rows)
 }
 
 /// The length of the longer side.
@@ -181,7 +180,7 @@ impl PatternLines {
         let lines = usize::from(size.w()) + usize::from(size.h());
         let mut clues = Vec::with_capacity(alloc, lines)?;
         for line in 0..lines {
-            clues.push(SpelledClue::new(alloc, puzzle.line(line))?)?;
+            clues.push(LineClue::new(puzzle.line(line)))?;
         }
         Ok(PatternLines { size, clues })
     }
@@ -256,32 +255,31 @@ impl Rules for PatternLines {
     fn scratch(&self, alloc: Global) -> Result<LineScratch, AllocError> {
         let longest = longest_line(self.size);
         Ok(LineScratch {
-            places: vec![in alloc; 0usize; longest]?,
+            places: vec![in alloc; 0u32; longest]?,
             sets: vec![in alloc; 0u32; longest]?,
-            kept: vec![in alloc; 0u32; longest]?,
-            rows: vec![in alloc; 0u128; longest + 1]?,
+            rows: vec![in alloc; 0u64; longest + 1]?,
+            long_rows: vec![in alloc; 0u128; longest + 1]?,
         })
     }
 
     fn visit(&self, house: usize, board: &mut Board, scratch: &mut LineScratch) -> bool {
-        let line = Line {
-            size: self.size,
-            number: house,
-            clue: &self.clues[house],
-        };
-        visit_within(
-            &line,
-            board,
-            &mut scratch.places,
-            &mut scratch.sets,
-            &mut scratch.kept,
-            &mut scratch.rows,
-        )
+        let (size, number) = (self.size, house);
+        let (places, sets) = (&mut scratch.places, &mut scratch.sets);
+        match &self.clues[house] {
+            LineClue::Short(clue) => {
+                let line = Line { size, number, clue };
+                visit_within(&line, board, places, sets, &mut scratch.rows)
+            }
+            LineClue::Long(clue) => {
+                let line = Line { size, number, clue };
+                visit_within(&line, board, places, sets, &mut scratch.long_rows)
+            }
+        }
     }
 
     fn accept(&self, _scratch: &mut LineScratch, grid: &Grid) -> bool {
         for line in 0..self.houses() {
-            if !has_clue(self.size, grid, line, self.clues[line].numbers()) {
+            if !self.clues[line].is_met(self.size, grid, line) {
                 return false;
             }
         }

@@ -4,69 +4,69 @@
 //! A line goes along the cells of its spelled clue (see `track`). A row of the table has one bit for each place along the
 //! clue, and is read and written as one word: it says from which of them the line can still come to the end of the clue.
 //! The rows are filled from the last cell backwards; then one word, the places that can be reached, goes forwards, and a
-//! value of a cell stays where the two meet.
+//! value of a cell stays where the two meet. What a cell's set lets a line do is looked up by the set.
 
-ghost use Rattle.std.specs.Prelude.{◌≡◌, ℕ, suc, ◌<◌, ◌≤◌, ◌&&◌, ◌||◌, length};
-ghost use Rattle.std.specs.List.{AllByRecursion};
+ghost use Rattle.std.specs.Prelude.{◌≡◌, ℕ, suc, ◌<◌, ◌≤◌, ◌&&◌, ◌||◌, ◌%◌, true, false, length, slice_index};
 ghost use Rattle.grid_core.specs.Candidates.{any_below};
-ghost use Rattle.gameid_core.specs.Puzzles.{used};
 ghost use Rattle.engine_core.specs.Filling.{strikes_by_fillings};
 ghost use Rattle.engine_core.specs.Sets.{has_bit};
 ghost use Rattle.engine_core.specs.House.{IsDecided};
 ghost use Rattle.pattern_core.specs.Lines.{has_runs};
-ghost use Rattle.pattern_core.specs.Track.{track_bits, IsBelow, ahead, moved, AreRows, AreKept};
+ghost use Rattle.pattern_core.specs.Track.{along, IsBelow, one_on, some_leads, sets_of, any_cells, AreRows, AreKept};
 
-use crate::track::{SpelledClue, Track};
-use engine_core::has_bit as allows;
+use crate::places::Places;
+use crate::track::{SpelledClue, Steps};
 
-/// The bits where the test holds, and none where it doesn't.
-fn only_if(test: bool, bits: u128) -> u128
-    ensures { (p : ℕ) → has_bit result p ≡ (test && has_bit bits p) }
+/// The set of both values.
+const BOTH: u32 = 3;
+
+/// By what a cell may be, the places from which a line goes on.
+pub(crate) fn moves_of<P: Places>(steps: Steps<P>) -> P::Masks
+    ensures { (set p : ℕ) → P.has_by result set p
+        ≡ ((has_bit set 0 && P.has steps.white p) || (has_bit set 1 && P.has steps.black p)) }
 {
-    if test { bits } else { 0 }
+    P::masks(steps.white, steps.black)
 }
 
-/// Whether some bit is set.
-fn some_bit(bits: u128) -> bool
-    ensures { result ≡ any_below (has_bit bits) 128 }
+/// By what a cell may be, the places at which a line may stay.
+pub(crate) fn stays_of<P: Places>(steps: Steps<P>) -> P::Masks
+    ensures { (set p : ℕ) → P.has_by result set p ≡ (has_bit set 0 && P.has steps.stay p) }
 {
-    bits != 0
+    P::masks(steps.stay, P::none())
 }
 
 /// From which places there is a way to the end by a cell of this set, by those from which there is one after it.
-fn ahead_of(track: Track, set: u32, after: u128) -> u128
-    ensures { (p : ℕ) → has_bit result p
-        ≡ ahead (track_bits track.stay track.white track.black track.ends) (has_bit set 0) (has_bit set 1) (has_bit after) p }
+fn ahead_of<P: Places>(moves: &P::Masks, stays: &P::Masks, set: u32, after: P) -> P
+    ensures { (p : ℕ) → P.has result p
+        ≡ ((P.has_by stays.now set p && P.has after p)
+        || (P.has_by moves.now set p && P.has after (suc p))) }
 {
-    let next = after >> 1;
-    let white = only_if(allows(set, 0), (track.stay & after) | (track.white & next));
-    let black = only_if(allows(set, 1), track.black & next);
-    white | black
+    let next = P::mask(moves, set).both(after.back());
+    P::mask(stays, set).both(after).either(next)
 }
 
 /// Which places are reached by a cell of this set, by those that are reached before it.
-fn moved_by(track: Track, set: u32, reached: u128) -> u128
-    ensures { (p : ℕ) → p < 128 → has_bit result p
-        ≡ moved (track_bits track.stay track.white track.black track.ends) (has_bit set 0) (has_bit set 1) (has_bit reached) p }
+pub(crate) fn moved_by<P: Places>(moves: &P::Masks, stays: &P::Masks, set: u32, reached: P) -> P
+    ensures { (p : ℕ) → p < P.room → P.has result p
+        ≡ ((P.has_by stays.now set p && P.has reached p)
+        || one_on (λ q. P.has_by moves.now set q && P.has reached q) p) }
 {
-    let on_white = (reached & track.white) << 1;
-    let on_black = (reached & track.black) << 1;
-    let white = only_if(allows(set, 0), (reached & track.stay) | on_white);
-    let black = only_if(allows(set, 1), on_black);
-    white | black
+    let next = P::mask(moves, set).both(reached).on();
+    P::mask(stays, set).both(reached).either(next)
 }
 
-/// What is kept of a cell's set: white where a way by white leads from a place that is reached, and black likewise.
-fn kept_of(track: Track, set: u32, reached: u128, after: u128) -> u32
-    ensures white { has_bit result 0 ≡ (has_bit set 0
-        && any_below (λ p. has_bit reached p && ((has_bit track.stay p && has_bit after p) || (has_bit track.white p && has_bit after (suc p)))) 128) }
-    ensures black { has_bit result 1 ≡ (has_bit set 1
-        && any_below (λ p. has_bit reached p && (has_bit track.black p && has_bit after (suc p))) 128) }
+/// What is kept of a cell with both values: each by which a way leads on from a place that is reached.
+fn kept_of<P: Places>(steps: Steps<P>, reached: P, after: P) -> u32
+    ensures white { has_bit result 0 ≡ any_below (λ p. P.has reached p
+        && ((P.has steps.stay p && P.has after p)
+        || (P.has steps.white p && P.has after (suc p)))) P.room }
+    ensures black { has_bit result 1 ≡ any_below (λ p. P.has reached p
+        && (P.has steps.black p && P.has after (suc p))) P.room }
 {
-    let next = after >> 1;
-    let white = some_bit(reached & ((track.stay & after) | (track.white & next))) & allows(set, 0);
-    let black = some_bit(reached & (track.black & next)) & allows(set, 1);
-    set_of(white, black)
+    let next = after.back();
+    let white = steps.stay.both(after).either(steps.white.both(next));
+    let black = steps.black.both(next);
+    set_of(reached.both(white).is_some(), reached.both(black).is_some())
 }
 
 /// The set with these values.
@@ -83,43 +83,70 @@ fn set_of(white: bool, black: bool) -> u32
 }
 
 /// Fills the table, from the last cell backwards.
-fn fill_rows(track: Track, sets: &[u32], rows: &mut [u128])
+fn fill_rows<P: Places>(steps: Steps<P>, sets: &[u32], rows: &mut [P])
     requires room { length sets.now < length rows.old }
-    ensures { AreRows (track_bits track.stay track.white track.black track.ends) sets.now rows.new 0 }
+    ensures { AreRows P.has (along P.has steps) sets.now rows.new 0 }
 {
+    let moves = moves_of(steps);
+    let stays = stays_of(steps);
     let mut at = sets.len();
-    rows[at] = track.ends;
+    rows[at] = steps.ends;
     while at > 0 {
         at -= 1;
-        rows[at] = ahead_of(track, sets[at], rows[at + 1]);
+        rows[at] = ahead_of::<P>(&moves, &stays, sets[at], rows[at + 1]);
     }
 }
 
-/// Keeps of each cell what a way from the first place to the end shows there.
-fn keep_cells(track: Track, sets: &[u32], rows: &[u128], kept: &mut [u32])
-    requires as_many { length kept.old ≡ length sets.now }
-    requires rows { AreRows (track_bits track.stay track.white track.black track.ends) sets.now rows.now 0 }
-    requires below { IsBelow 128 (track_bits track.stay track.white track.black track.ends) }
-    ensures { AreKept (track_bits track.stay track.white track.black track.ends) sets.now kept.new (length sets.now) }
+/// Keeps of each cell with both values what a way from the first place to the end shows there, and says whether one of
+/// them lost any. Some way leads to the end, so the other cells keep what they have.
+fn keep_cells<P: Places>(steps: Steps<P>, sets: &mut [u32], rows: &[P]) -> bool
+    requires rows { AreRows P.has (along P.has steps) sets.old rows.now 0 }
+    requires below { IsBelow P.room (along P.has steps) }
+    requires some { some_leads (along P.has steps) (sets_of sets.old) any_cells 0 ≡ true }
+    ensures kept { AreKept (along P.has steps) sets.old sets.new (length sets.old) }
+    ensures unchanged { result ≡ false → sets.new ≡ sets.old }
 {
-    let mut reached = 1u128;
+    let moves = moves_of(steps);
+    let stays = stays_of(steps);
+    let mut reached = P::first();
+    let mut struck = false;
     for at in 0..sets.len() {
-        kept[at] = kept_of(track, sets[at], reached, rows[at + 1]);
-        reached = moved_by(track, sets[at], reached);
+        let set = sets[at];
+        if set % 4 == BOTH {
+            let kept = kept_of(steps, reached, rows[at + 1]);
+            if kept != BOTH {
+                sets[at] = kept;
+                struck = true;
+            }
+        }
+        reached = moved_by::<P>(&moves, &stays, set, reached);
+    }
+    struck
+}
+
+/// Keeps nothing.
+fn clear(sets: &mut [u32])
+    ensures as_many { length sets.new ≡ length sets.old }
+    ensures none { (k : ℕ) → k < length sets.new → slice_index sets.new k ≡ 0 }
+{
+    for k in 0..sets.len() {
+        sets[k] = 0;
     }
 }
 
-/// For each cell of a line, the values that some filling of the line with the clue's runs has there. It takes no
-/// memory: the table is written into `rows`, one for each cell and one more. Its steps are two for each cell of the line,
-/// of a few word operations each.
-pub(crate) fn keep(sets: &[u32], clue: &SpelledClue, rows: &mut [u128], kept: &mut [u32])
-    requires as_many { length kept.old ≡ length sets.now }
-    requires room { length sets.now < length rows.old }
-    requires positive { AllByRecursion (λ n. 0 < n) clue.now }
-    requires fits { used clue.now ≤ 127 }
-    ensures { IsDecided 2 (strikes_by_fillings (has_runs clue.now)) sets.now kept.new }
+/// Keeps of each cell of a line the values that some filling of the line with the clue's runs has there, and says whether
+/// there may be a cell that lost any. It takes no memory: the table is written into `rows`, one for each cell and one more. Its
+/// steps are two for each cell of the line, of a few word operations each.
+pub(crate) fn keep<P: Places>(sets: &mut [u32], clue: &SpelledClue<P>, rows: &mut [P]) -> bool
+    requires room { length sets.old < length rows.old }
+    ensures decided { IsDecided 2 (strikes_by_fillings (has_runs clue.now)) sets.old sets.new }
+    ensures unchanged { result ≡ false → sets.new ≡ sets.old }
 {
-    let track = clue.track();
-    fill_rows(track, sets, rows);
-    keep_cells(track, sets, rows, kept);
+    let steps = clue.steps();
+    fill_rows(steps, sets, rows);
+    if !rows[0].both(P::first()).is_some() {
+        clear(sets);
+        return true;
+    }
+    keep_cells(steps, sets, rows)
 }

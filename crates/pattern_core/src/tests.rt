@@ -1,57 +1,67 @@
-ghost use Rattle.std.specs.Prelude.{◌<◌, ◌≤◌};
+ghost use Rattle.std.specs.Prelude.{◌<◌, length};
 ghost use Rattle.std.specs.List.{AllByRecursion};
 ghost use Rattle.gameid_core.specs.Puzzles.{used};
 
 use super::*;
+use crate::places::Places;
 use crate::track::SpelledClue;
 use crate::{listing, table};
 use engine_core::Rules;
 use gameid_core::{PatternPuzzle, read_pattern};
 use grid_core::{Board, Grid};
 use std::alloc::Global;
+use std::process::Abort;
 use std::test::Fail;
 
-/// The puzzle of one row of 64 cells with this clue, whose columns have none.
-fn one_row(alloc: Global, clue: &str) -> Result<PatternPuzzle, Fail> {
-    let mut text = String::from_str(alloc, "64x1:")?;
-    for _column in 0..64 {
+/// The puzzle of one row of so many cells with this clue, whose columns have none.
+fn one_row(alloc: Global, cells: usize, clue: &str) -> Result<PatternPuzzle, Fail> {
+    let mut text = format!(in alloc; "{cells}x1:")?;
+    for _column in 0..cells {
         text.push('/')?;
     }
     text.push_str(clue)?;
     Ok(read_pattern(alloc, text.as_bytes())?)
 }
 
-#[test]
-fn a_run_of_forty_in_sixty_four(rt: HostRuntime) -> Result<(), Fail> {
-    let rules = PatternLines::new(rt.alloc(), &one_row(rt.alloc(), "40")?)?;
-    let mut scratch = rules.scratch(rt.alloc())?;
-    let mut board = Board::new(rt.alloc(), rules.cells(), rules.values())?;
+/// A visit of the puzzle's only row on the start board strikes white from the places from `from` to the one before `to`,
+/// and nothing else. A second visit strikes nothing.
+fn strikes_white(
+    rt: &impl Abort,
+    alloc: Global,
+    puzzle: &PatternPuzzle,
+    (from, to): (usize, usize),
+) -> Result<(), Fail> {
+    let rules = PatternLines::new(alloc, puzzle)?;
+    let mut scratch = rules.scratch(alloc)?;
+    let mut board = Board::new(alloc, rules.cells(), rules.values())?;
     rules.start(&mut board);
-    assert!(rt; 64 < rules.houses());
-    assert!(rt; rules.visit(64, &mut board, &mut scratch));
-    for place in 0..64 {
-        assert!(rt; place < rules.cells());
-        assert_eq!(rt;
-            board.has(place, 0),
-            place < 24 || place >= 40,
-            "white at {place}"
-        );
+    let row = usize::from(puzzle.size().w());
+    assert!(rt; row < rules.houses());
+    assert_eq!(rt; rules.visit(row, &mut board, &mut scratch), from < to);
+    for place in 0..rules.cells() {
+        let white = place < from || place >= to;
+        assert_eq!(rt; board.has(place, 0), white, "white at {place}");
         assert!(rt; board.has(place, 1), "black at {place}");
     }
-    let mut other = rules.scratch(rt.alloc())?;
-    assert!(rt; !rules.visit(64, &mut board, &mut other));
+    let mut other = rules.scratch(alloc)?;
+    assert!(rt; !rules.visit(row, &mut board, &mut other));
     Ok(())
 }
 
 #[test]
-fn sixteen_single_cells(rt: HostRuntime) -> Result<(), Fail> {
-    let clue = "1.1.1.1.1.1.1.1.1.1.1.1.1.1.1.1";
-    let rules = PatternLines::new(rt.alloc(), &one_row(rt.alloc(), clue)?)?;
-    let mut scratch = rules.scratch(rt.alloc())?;
-    let mut board = Board::new(rt.alloc(), rules.cells(), rules.values())?;
-    rules.start(&mut board);
-    assert!(rt; 64 < rules.houses());
-    assert!(rt; !rules.visit(64, &mut board, &mut scratch));
+fn long_runs_overlap_themselves(rt: HostRuntime) -> Result<(), Fail> {
+    for (cells, clue, struck) in [
+        (64, "40", (24, 40)),
+        (64, "62", (2, 62)),
+        (64, "63", (1, 63)),
+        (64, "64", (0, 64)),
+        (120, "100", (20, 100)),
+        (120, "120", (0, 120)),
+        (64, "1.1.1.1.1.1.1.1.1.1.1.1.1.1.1.1", (0, 0)),
+    ] {
+        let puzzle = one_row(rt.alloc(), cells, clue)?;
+        strikes_white(&rt, rt.alloc(), &puzzle, struck)?;
+    }
     Ok(())
 }
 
@@ -92,53 +102,60 @@ fn the_first_wrong_line(rt: HostRuntime) -> Result<(), Fail> {
     Ok(())
 }
 
-/// Whether the table and the listing keep the same on every board of every line of up to 6 cells.
-fn agree(alloc: Global, clue: &[u8]) -> Result<bool, Fail>
+/// Whether the table, in these words, and the listing keep the same on every board of every line of up to 6 cells.
+fn agree<P: Places>(clue: &[u8], rows: &mut [P]) -> bool
     requires positive { AllByRecursion (λ n. 0 < n) clue.now }
-    requires fits { used clue.now ≤ 127 }
+    requires fits { used clue.now < P.room }
+    requires room { 6 < length rows.old }
 {
-    let spelled = SpelledClue::new(alloc, clue)?;
+    let spelled = SpelledClue::<P>::new(clue);
     for cells in 1..7 {
         for board in 0..1usize << (2 * cells) {
             let mut sets = [0u32; 6];
             for k in 0..6 {
                 sets[k] = ((board >> (2 * k)) & 3) as u32;
             }
-            let mut rows = [0u128; 7];
-            let mut by_table = [0u32; 6];
             let mut by_list = [0u32; 6];
-            table::keep(&sets[..cells], &spelled, &mut rows, &mut by_table[..cells]);
             listing::keep(&sets[..cells], clue, &mut by_list[..cells]);
-            if by_table != by_list {
-                return Ok(false);
+            table::keep(&mut sets[..cells], &spelled, rows);
+            if sets != by_list {
+                return false;
             }
         }
     }
-    Ok(true)
+    true
+}
+
+/// The same in words of either kind.
+fn both_agree(clue: &[u8]) -> bool
+    requires positive { AllByRecursion (λ n. 0 < n) clue.now }
+    requires fits { used clue.now < 64 }
+{
+    agree(clue, &mut [0u64; 7]) && agree(clue, &mut [0u128; 7])
 }
 
 #[test]
 fn the_table_and_the_listing_agree(rt: HostRuntime) -> Result<(), Fail> {
-    assert!(rt; agree(rt.alloc(), &[])?);
-    assert!(rt; agree(rt.alloc(), &[1])?);
-    assert!(rt; agree(rt.alloc(), &[2])?);
-    assert!(rt; agree(rt.alloc(), &[3])?);
-    assert!(rt; agree(rt.alloc(), &[4])?);
-    assert!(rt; agree(rt.alloc(), &[5])?);
-    assert!(rt; agree(rt.alloc(), &[6])?);
-    assert!(rt; agree(rt.alloc(), &[1, 1])?);
-    assert!(rt; agree(rt.alloc(), &[1, 2])?);
-    assert!(rt; agree(rt.alloc(), &[2, 1])?);
-    assert!(rt; agree(rt.alloc(), &[1, 3])?);
-    assert!(rt; agree(rt.alloc(), &[2, 2])?);
-    assert!(rt; agree(rt.alloc(), &[3, 1])?);
-    assert!(rt; agree(rt.alloc(), &[1, 4])?);
-    assert!(rt; agree(rt.alloc(), &[2, 3])?);
-    assert!(rt; agree(rt.alloc(), &[3, 2])?);
-    assert!(rt; agree(rt.alloc(), &[4, 1])?);
-    assert!(rt; agree(rt.alloc(), &[1, 1, 1])?);
-    assert!(rt; agree(rt.alloc(), &[1, 1, 2])?);
-    assert!(rt; agree(rt.alloc(), &[1, 2, 1])?);
-    assert!(rt; agree(rt.alloc(), &[2, 1, 1])?);
+    assert!(rt; both_agree(&[]));
+    assert!(rt; both_agree(&[1]));
+    assert!(rt; both_agree(&[2]));
+    assert!(rt; both_agree(&[3]));
+    assert!(rt; both_agree(&[4]));
+    assert!(rt; both_agree(&[5]));
+    assert!(rt; both_agree(&[6]));
+    assert!(rt; both_agree(&[1, 1]));
+    assert!(rt; both_agree(&[1, 2]));
+    assert!(rt; both_agree(&[2, 1]));
+    assert!(rt; both_agree(&[1, 3]));
+    assert!(rt; both_agree(&[2, 2]));
+    assert!(rt; both_agree(&[3, 1]));
+    assert!(rt; both_agree(&[1, 4]));
+    assert!(rt; both_agree(&[2, 3]));
+    assert!(rt; both_agree(&[3, 2]));
+    assert!(rt; both_agree(&[4, 1]));
+    assert!(rt; both_agree(&[1, 1, 1]));
+    assert!(rt; both_agree(&[1, 1, 2]));
+    assert!(rt; both_agree(&[1, 2, 1]));
+    assert!(rt; both_agree(&[2, 1, 1]));
     Ok(())
 }

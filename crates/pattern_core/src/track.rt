@@ -2,64 +2,64 @@
 //! black cell or the white cell after a run takes it one place on, and before a run it may stay where it is for any
 //! number of white cells.
 
-ghost use Rattle.std.specs.Prelude.{◌≡◌, ℕ, ◌+◌, ◌<◌, ◌≤◌, ◌++◌, List, [], ◌∷◌, replicate, IfOk};
+ghost use Rattle.std.specs.Prelude.{◌≡◌, ℕ, suc, ◌+◌, ◌<◌, ◌++◌, List, [], ◌∷◌, length, replicate};
+ghost use Rattle.std.specs.List.{AllByRecursion};
 ghost use Rattle.gameid_core.specs.Puzzles.{used};
-ghost use Rattle.pattern_core.specs.Track.{spelled, track_of, track_bits, IsSpelling};
+ghost use Rattle.pattern_core.specs.Track.{spelled, track_of, along, IsSpelling};
 
-use std::alloc::{AllocError, Global};
+use crate::places::Places;
 use std::marker::Model;
 
-/// How a line goes along a spelled clue, a bit for each place.
+/// How a line goes along a spelled clue: the places at which it may have one more white cell and stay, go on by a white
+/// cell, go on by a black one, and end.
 #[derive(Clone, Copy)]
-pub(crate) struct Track {
-    pub(crate) stay: u128,
-    pub(crate) white: u128,
-    pub(crate) black: u128,
-    pub(crate) ends: u128,
+pub(crate) struct Steps<P> {
+    pub(crate) stay: P,
+    pub(crate) white: P,
+    pub(crate) black: P,
+    pub(crate) ends: P,
 }
 
-/// The first cells of a spelled clue, a bit for each, and how many there are.
+/// What is spelled so far: its white places, its black ones, and the place after it.
 #[derive(Clone, Copy)]
-struct Spelling {
-    white: u128,
-    black: u128,
-    len: u8,
+struct Spelling<P> {
+    white: P,
+    black: P,
+    next: P,
 }
 
 /// Adds a black cell.
-fn push_black(spelling: Spelling) -> Spelling
-    requires { spelling.len < 127 }
-    ensures cells { (cells : List ℕ) → IsSpelling cells spelling.white spelling.black spelling.len
-        → IsSpelling (cells ++ 1 ∷ []) result.white result.black result.len }
-    ensures len { result.len ≡ spelling.len + 1 }
+fn push_black<P: Places>(spelling: Spelling<P>) -> Spelling<P>
+    ensures { (cells : List ℕ) → suc (length cells) < P.room
+        → IsSpelling P.has cells spelling.white spelling.black spelling.next
+        → IsSpelling P.has (cells ++ 1 ∷ []) result.white result.black result.next }
 {
     Spelling {
-        black: spelling.black | (1 << spelling.len),
-        len: spelling.len + 1,
-        ..spelling
+        white: spelling.white,
+        black: spelling.black.either(spelling.next),
+        next: spelling.next.on(),
     }
 }
 
 /// Adds a white cell.
-fn push_white(spelling: Spelling) -> Spelling
-    requires { spelling.len < 127 }
-    ensures cells { (cells : List ℕ) → IsSpelling cells spelling.white spelling.black spelling.len
-        → IsSpelling (cells ++ 0 ∷ []) result.white result.black result.len }
-    ensures len { result.len ≡ spelling.len + 1 }
+fn push_white<P: Places>(spelling: Spelling<P>) -> Spelling<P>
+    ensures { (cells : List ℕ) → suc (length cells) < P.room
+        → IsSpelling P.has cells spelling.white spelling.black spelling.next
+        → IsSpelling P.has (cells ++ 0 ∷ []) result.white result.black result.next }
 {
     Spelling {
-        white: spelling.white | (1 << spelling.len),
-        len: spelling.len + 1,
-        ..spelling
+        white: spelling.white.either(spelling.next),
+        black: spelling.black,
+        next: spelling.next.on(),
     }
 }
 
 /// Adds the black cells of a run and the white cell after it.
-fn push_run(spelling: Spelling, number: u8) -> Spelling
-    requires { spelling.len + number < 127 }
-    ensures cells { (cells : List ℕ) → IsSpelling cells spelling.white spelling.black spelling.len
-        → IsSpelling (cells ++ (replicate number 1 ++ 0 ∷ [])) result.white result.black result.len }
-    ensures len { result.len ≡ spelling.len + (number + 1) }
+fn push_run<P: Places>(spelling: Spelling<P>, number: u8) -> Spelling<P>
+    ensures { (cells : List ℕ) → suc (length cells + number) < P.room
+        → IsSpelling P.has cells spelling.white spelling.black spelling.next
+        → IsSpelling P.has (cells ++ (replicate number 1 ++ 0 ∷ []))
+        result.white result.black result.next }
 {
     let mut longer = spelling;
     for _k in 0..number {
@@ -69,67 +69,61 @@ fn push_run(spelling: Spelling, number: u8) -> Spelling
 }
 
 /// Spells a clue.
-fn spell(clue: &[u8]) -> Track
-    requires { used clue.now ≤ 127 }
-    ensures { track_bits result.stay result.white result.black result.ends ≡ track_of (spelled clue.now) }
+fn spell<P: Places>(clue: &[u8]) -> Steps<P>
+    requires { used clue.now < P.room }
+    ensures { along P.has result ≡ track_of (spelled clue.now) }
 {
     let mut cells = Spelling {
-        white: 0,
-        black: 0,
-        len: 0,
+        white: P::none(),
+        black: P::none(),
+        next: P::first(),
     };
     for k in 0..clue.len() {
         cells = push_run(cells, clue[k]);
     }
-    let end = 1u128 << cells.len;
-    Track {
-        stay: (cells.white << 1) | 1,
+    Steps {
+        stay: cells.white.on().either(P::first()),
         white: cells.white,
         black: cells.black,
-        ends: end | (end >> 1),
+        ends: cells.next.either(cells.next.back()),
     }
 }
 
-/// The numbers of a line's clue, and how a line goes along them spelled out, which is told once for all visits.
+/// A line's clue, spelled once for all visits. Its numbers are the runs of the black cells that are spelled.
 #[derive(Drop)]
-pub(crate) struct SpelledClue {
-    numbers: Vec<u8>,
-    track: Track,
+pub(crate) struct SpelledClue<P: Places> {
+    steps: Steps<P>,
 }
 
-impl Model for SpelledClue {
+impl<P: Places> Model for SpelledClue<P> {
     ghost use Rattle.std.specs.Prelude.{◌≡◌, ℕ, List};
-    ghost use Rattle.pattern_core.specs.Track.{spelled, track_of, track_bits};
+    ghost use Rattle.pattern_core.specs.Track.{along, clue_along, IsTrack};
 
     ghost Value = { List ℕ };
 
-    ghost view = { λ c. c.numbers.items };
+    ghost view = { λ c. clue_along P.room (along P.has c.steps) };
 
-    ghost invariant = { λ c. track_bits c.track.stay c.track.white c.track.black c.track.ends ≡ track_of (spelled c.numbers.items) };
+    ghost invariant = { λ c. IsTrack P.room (along P.has c.steps) };
 }
 
-impl SpelledClue {
+impl<P: Places> SpelledClue<P> {
     /// The clue with these numbers.
-    pub(crate) fn new(alloc: Global, numbers: &[u8]) -> Result<SpelledClue, AllocError>
-        requires { used numbers.now ≤ 127 }
-        ensures { IfOk result (λ clue. clue ≡ numbers.now) }
+    pub(crate) fn new(numbers: &[u8]) -> SpelledClue<P>
+        requires positive { AllByRecursion (λ n. 0 < n) numbers.now }
+        requires fits { used numbers.now < P.room }
+        ensures { result ≡ numbers.now }
     {
-        let track = spell(numbers);
-        let numbers = Vec::from_slice(alloc, numbers)?;
-        Ok(SpelledClue { numbers, track })
-    }
-
-    /// The clue's numbers.
-    pub(crate) fn numbers(&self) -> &[u8]
-        ensures { result.now ≡ self.now }
-    {
-        &self.numbers
+        SpelledClue {
+            steps: spell(numbers),
+        }
     }
 
     /// How a line goes along the clue.
-    pub(crate) fn track(&self) -> Track
-        ensures { track_bits result.stay result.white result.black result.ends ≡ track_of (spelled self.now) }
+    pub(crate) fn steps(&self) -> Steps<P>
+        ensures track { along P.has result ≡ track_of (spelled self.now) }
+        ensures positive { AllByRecursion (λ n. 0 < n) self.now }
+        ensures fits { used self.now < P.room }
     {
-        self.track
+        self.steps
     }
 }

@@ -20,7 +20,7 @@ pub(crate) fn line_len(size: Size, line: usize) -> usize
 }
 
 /// The number in the k-th cell of a line.
-fn number_at(size: Size, grid: &Grid, line: usize, k: usize) -> u8
+pub(crate) fn number_at(size: Size, grid: &Grid, line: usize, k: usize) -> u8
     requires grid { IsGrid (size.w * size.h) 2 grid.now }
     requires line { line < lines_of size }
     requires cell { k < line_cells size line }

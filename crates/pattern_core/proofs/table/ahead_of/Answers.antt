@@ -1,5 +1,7 @@
-use Rattle.pattern_core.proofs.Words.{ahead_word}
+use Rattle.std.proofs.Common.{◌∙◌, ◌&&◌, ◌||◌, ap, ap₂}
 use Rattle.pattern_core.proofs.table.ahead_of.Goals as goal
 
 pub returns : goal.returns
-returns c = ahead_word _ _ _ _ c.args.set c.has_bit.result c.has_bit-2.result c.has_bit.ensures c.has_bit-2.ensures c.args.after _ _ c.only_if-white.ensures c.only_if-black.ensures
+returns g c = λ p. c.either.ensures p ∙ ap₂ (λ m n. m || n)
+    (c.both.ensures p ∙ ap (λ m. m && g.P.Places.has c.args.after p) (c.mask-2.ensures p))
+    (c.both-next.ensures p ∙ ap₂ (λ m n. m && n) (c.mask.ensures p) (c.back.ensures p))

@@ -1,22 +1,27 @@
-use Rattle.std.proofs.Common.{◌≡◌, ◌+◌, ◌-◌, ◌≤◌, ◌<◌, arith, refl, subst, length}
-use Rattle.pattern_core.specs.Track.{track_bits, AreRows}
+use Rattle.std.proofs.Common.{◌≡◌, ◌∙◌, ◌+◌, ◌-◌, ◌≤◌, ◌<◌, arith, refl, subst, length, get_or}
+use Rattle.engine_core.specs.Sets.{has_bit}
+use Rattle.pattern_core.specs.Track.{along, AreRows}
 use Rattle.pattern_core.proofs.TableSteps.{last_row, one_row}
+use Rattle.pattern_core.proofs.Words.{ahead_step}
 use Rattle.pattern_core.proofs.table.fill_rows.Goals as goal
 
 pub loop-at-init : goal.loop-at-init
-unfolding track_bits
-loop-at-init c = (
+loop-at-init g c = (
   omega arith,
-  last_row (track_bits c.args.track.stay c.args.track.white c.args.track.black c.args.track.ends) c.args.sets.now c.args.rows.now c.args.track.ends (λ p. refl) c.requires.room,
+  last_row _ g.P.Places.has (along g.P.Places.has c.args.steps) c.args.sets.now c.args.rows.now c.args.steps.ends (λ p. refl) c.requires.room,
 )
 
 pub loop-at-preserved : goal.loop-at-preserved
-loop-at-preserved c =
+loop-at-preserved g c =
     let pos : 0 < c.loop-at.at = c.loop-at-test.true in
     let low : c.loop-at.at ≤ length c.args.sets.now = c.loop-at.invariant.0 in
-    let next : c.loop-at.at ≡ c.loop-at.at - 1 + 1 = omega arith in (
+    let next : c.loop-at.at ≡ c.loop-at.at - 1 + 1 = omega arith in
+    let t = along g.P.Places.has c.args.steps in
+    let set = get_or c.args.sets.now (c.loop-at.at - 1) 0 in (
       omega arith,
-      one_row (track_bits c.args.track.stay c.args.track.white c.args.track.black c.args.track.ends) c.args.sets.now c.loop-at.rows (c.loop-at.at - 1) c.ahead_of.result
-          (subst (AreRows (track_bits c.args.track.stay c.args.track.white c.args.track.black c.args.track.ends) c.args.sets.now c.loop-at.rows) next c.loop-at.invariant.1)
-          (omega arith) c.ahead_of.ensures,
+      one_row _ g.P.Places.has t c.args.sets.now c.loop-at.rows (c.loop-at.at - 1) c.ahead_of.result c.index-rows-at.result
+          (subst (AreRows g.P.Places.has t c.args.sets.now c.loop-at.rows) next c.loop-at.invariant.1) (omega arith) c.index-rows-at.is
+          (λ p. c.ahead_of.ensures p
+          ∙ ahead_step t (has_bit set 0) (has_bit set 1) (g.P.Places.has_by c.stays_of-stays.result set) (g.P.Places.has_by c.moves_of-moves.result set) (c.stays_of-stays.ensures set) (c.moves_of-moves.ensures set)
+          (g.P.Places.has c.index-rows-at.result) p),
     )

@@ -1,9 +1,9 @@
 use Rattle.std.proofs.Common.{◌≤◌, length}
-use Rattle.pattern_core.specs.Track.{track_bits, AreRows}
+use Rattle.pattern_core.specs.Track.{along, AreRows}
 use Rattle.pattern_core.proofs.table.fill_rows.Given as goal
 
 abbrev pub invariant-loop-at : goal.invariant-loop-at
-invariant-loop-at l = (l.at ≤ length l.sets) × AreRows (track_bits l.track.stay l.track.white l.track.black l.track.ends) l.sets l.rows l.at
+invariant-loop-at g l = (l.at ≤ length l.sets) × AreRows g.P.Places.has (along g.P.Places.has l.fn.steps) l.sets l.rows l.at
 
 abbrev pub decreases-loop-at : goal.decreases-loop-at
-decreases-loop-at l = l.at
+decreases-loop-at g l = l.at

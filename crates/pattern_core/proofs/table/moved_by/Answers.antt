@@ -1,5 +1,9 @@
-use Rattle.pattern_core.proofs.Words.{moved_word}
+use Rattle.std.proofs.Common.{◌∙◌, ◌&&◌, ◌||◌, ap, ap₂}
+use Rattle.std.proofs.Math.Path.{fun_ext}
+use Rattle.pattern_core.specs.Track.{one_on}
 use Rattle.pattern_core.proofs.table.moved_by.Goals as goal
 
 pub returns : goal.returns
-returns c = moved_word _ _ _ _ c.args.set c.has_bit.result c.has_bit-2.result c.has_bit.ensures c.has_bit-2.ensures c.args.reached _ _ c.only_if-white.ensures c.only_if-black.ensures
+returns g c = λ p lt. c.either.ensures p ∙ ap₂ (λ m n. m || n)
+    (c.both-2.ensures p ∙ ap (λ m. m && g.P.Places.has c.args.reached p) (c.mask-2.ensures p))
+    (c.on-next.ensures.within p lt ∙ ap (λ s. one_on s p) (fun_ext λ q. c.both.ensures q ∙ ap (λ m. m && g.P.Places.has c.args.reached q) (c.mask.ensures q)))

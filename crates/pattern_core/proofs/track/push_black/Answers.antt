@@ -1,5 +1,5 @@
 use Rattle.pattern_core.proofs.Spellings.{spelling_black}
 use Rattle.pattern_core.proofs.track.push_black.Goals as goal
 
-pub returns-clause-cells : goal.returns-clause-cells
-returns-clause-cells c = λ cells s. spelling_black cells _ _ _ c.requires s
+pub returns : goal.returns
+returns g c = λ cells fits s. spelling_black _ g.P.Places.has g.P.Places.room cells _ _ _ _ _ s fits c.on.ensures.within c.on.ensures.past c.either.ensures

@@ -17,4 +17,5 @@ new-requires c =
     let w = ap (λ (e : Extent). e.w) c.size-size.ensures.value in
     let h = ap (λ (e : Extent). e.h) c.size-size.ensures.value in
     let low : c.loop-line.line < lines_of c.args.puzzle.now.size = omega (arith, w, h, c.loop-line-test.true, c.loop-line.auto.line-end, c.from.ensures, c.from-2.ensures, c.w.ensures.value, c.h.ensures.value) in
-    (clue_of_line c.args.puzzle.now c.loop-line.line c.line.result.now c.size-size.ensures.lawful low c.line.ensures).1
+    let z = clue_of_line c.args.puzzle.now c.loop-line.line c.line.result.now c.size-size.ensures.lawful low c.line.ensures in
+    record { positive = z.0; fits = let f = z.1 in omega arith }

@@ -1,0 +1,43 @@
+use Rattle.std.proofs.Common.{◌≡◌, ◌∙◌, not, eqb, get_or, sym, ap, ap₂, arith, subst}
+use Rattle.engine_core.specs.Sets.{has_bit}
+use Rattle.pattern_core.specs.Lines.{numbers_of}
+use Rattle.pattern_core.specs.LineLaws.{has_runs-is, has_runs-from}
+use Rattle.pattern_core.specs.Track.{spelled, IsBelow, along, leads, moved}
+use Rattle.pattern_core.proofs.Follows.{follow_next, follow_end}
+use Rattle.pattern_core.proofs.SpelledRuns.{length-spelled, track_below}
+use Rattle.pattern_core.proofs.TableSteps.{at_first}
+use Rattle.pattern_core.proofs.WalkLemmas.{cell_within, all_cells}
+use Rattle.pattern_core.proofs.Words.{moved_step}
+use Rattle.pattern_core.proofs.follow.follows.Goals as goal
+
+pub loop-k-init : goal.loop-k-init
+loop-k-init g c =
+    at_first g.P.Places.room (g.P.Places.has c.first-reached.result) (λ p. leads (along g.P.Places.has c.steps-steps.result) p (numbers_of c.args.size c.args.grid.now c.args.line))
+    (omega (arith, c.steps-steps.ensures.fits)) c.first-reached.ensures
+
+pub loop-k-preserved : goal.loop-k-preserved
+loop-k-preserved g c =
+    let has = g.P.Places.has in
+    let t = along g.P.Places.has c.steps-steps.result in
+    let cells = numbers_of c.args.size c.args.grid.now c.args.line in
+    let below : IsBelow g.P.Places.room t = subst (IsBelow g.P.Places.room) (sym c.steps-steps.ensures.track)
+    (track_below (spelled c.args.clue.now) g.P.Places.room (omega (arith, length-spelled c.args.clue.now, c.steps-steps.ensures.fits))) in
+    let set = c.alone-set.result in
+    let number : c.number_at.result ≡ get_or cells c.loop-k.k 0 = c.number_at.ensures.value in
+    follow_next g.P.Places.room t below cells c.loop-k.k (has c.loop-k.reached) (has c.moved_by-reached.result) (cell_within _ _ _ _ _ c.line_len-k-end.ensures c.loop-k-test.true)
+    (λ p lt. c.moved_by-reached.ensures p lt
+    ∙ moved_step t (has_bit set 0) (has_bit set 1) (g.P.Places.has_by c.stays_of-stays.result set) (g.P.Places.has_by c.moves_of-moves.result set) (c.stays_of-stays.ensures set) (c.moves_of-moves.ensures set) (has c.loop-k.reached) p
+    ∙ ap₂ (λ a b. moved t a b (has c.loop-k.reached) p) (c.alone-set.ensures.white ∙ ap (λ n. eqb n 0) number) (c.alone-set.ensures.black ∙ ap (λ n. not (eqb n 0)) number))
+    c.loop-k.invariant
+
+pub returns : goal.returns
+returns g c =
+    let t = along g.P.Places.has c.steps-steps.result in
+    let cells = numbers_of c.args.size c.args.grid.now c.args.line in
+    let below : IsBelow g.P.Places.room t = subst (IsBelow g.P.Places.room) (sym c.steps-steps.ensures.track)
+    (track_below (spelled c.args.clue.now) g.P.Places.room (omega (arith, length-spelled c.args.clue.now, c.steps-steps.ensures.fits))) in
+    let told = c.is_some.ensures ∙ follow_end g.P.Places.room t below cells c.loop-k.k (g.P.Places.has c.loop-k.reached) c.args.clue.now (g.P.Places.has c.both.result) c.steps-steps.ensures.track c.steps-steps.ensures.positive
+    (all_cells _ _ _ _ _ c.line_len-k-end.ensures c.loop-k-test.false c.loop-k.auto.k-end) c.both.ensures c.loop-k.invariant in (
+      λ yes. has_runs-is c.args.clue.now cells (sym told ∙ yes),
+      λ is. told ∙ has_runs-from c.args.clue.now cells is,
+    )

@@ -1,0 +1,8 @@
+use Rattle.pattern_core.proofs.Spellings.{clue_back, track_of_clue}
+use Rattle.pattern_core.proofs.track.SpelledClue.new.Goals as goal
+
+pub invariant_of-result : goal.invariant_of-result
+invariant_of-result g c = track_of_clue c.args.numbers.now g.P.Places.room _ c.requires.positive c.requires.fits c.spell.ensures
+
+pub returns : goal.returns
+returns g c = clue_back c.args.numbers.now g.P.Places.room _ c.requires.positive c.requires.fits c.spell.ensures
