@@ -1,80 +1,85 @@
--- The k-th place of a house, and the three houses of a place in ascending order.
-use Rattle.std.proofs.Common.{◌≡◌, ℕ, ◌+◌, ◌-◌, ◌*◌, ◌<◌, ◌≤◌, true, false, List, length, slice_index, Some, None, refl, ap, ◌∙◌, inl, inr, arith}
-use Rattle.std.proofs.lemmas.Bool.{lt-ltb, le-ltb, false_from_ne_true}
-use Rattle.std.proofs.lemmas.List.{same_lists, get_or_default}
-use Rattle.grid_core.specs.Extent.{Extent}
-use Rattle.grid_core.specs.Regions.{row_places, column_places, block_places}
-use Rattle.gameid_core.specs.Puzzles.{Solo, IsSolo, solo_n}
-use Rattle.engine_core.specs.Puzzle.{has_place, IsNext}
-use Rattle.solo_core.specs.Solutions.{cells_of, row_of, column_of, block_of}
-use Rattle.solo_core.specs.SolutionLaws.{row_small, column_small, block_small, lies_in_row, lies_in_column, lies_in_block}
-use Rattle.solo_core.specs.Houses.{house_count, square, house_places, lies_in}
-use Rattle.solo_core.specs.HouseLaws.{lists_house, house_has, house_holds, lies_in-cases}
+-- The houses by their numbers, and lists of their places.
+use Rattle.std.proofs.Common.{◌≡◌, ℕ, zero, suc, ◌+◌, ◌-◌, ◌*◌, ◌<◌, ◌≤◌, Bool, true, false, List, [], ◌∷◌, ◌++◌, map, length, get_or, slice_index, take, if◌then◌else◌, refl, sym, ap, ◌∙◌, arith, append-nil, append_assoc}
+use Rattle.std.specs.List.{range_with_len}
+use Rattle.std.proofs.lemmas.List.{get_or_append_left, get_or-append_right, take_more, map-append}
+use Rattle.std.proofs.Math.Seq.{take-length}
+use Rattle.std.proofs.lemmas.List.FromFn.{get_or-map-range_with_len, length-map-range_with_len}
+use Rattle.gameid_core.specs.Puzzles.{Solo, solo_n}
+use Rattle.engine_core.specs.HouseList.{Listed}
+use Rattle.solo_core.specs.declared.solo_house.SoloHouse.{SoloHouse}
+use Rattle.solo_core.specs.declared.solo_house.SoloHouse.TheVariants.{Row, Column, Block, Diagonal}
+use Rattle.solo_core.specs.Houses.{houses_of, IsHouseOf, places_of}
+use Rattle.solo_core.specs.HouseLaws.{all_houses}
+use Rattle.solo_core.specs.BoundLaws.{house_count}
 
-pub place_in_row : (p : Solo) (size : Extent) (h k z : ℕ) → size ≡ square p → h < solo_n p → z ≡ slice_index (row_places size h) k → z ≡ slice_index (house_places p h) k
-unfolding house_places
-place_in_row p size h k z e row is = rw (lt-ltb h (solo_n p) row) (is ∙ ap (λ s. slice_index (row_places s h) k) e)
+module _ (p : Solo) where
+  abbrev n : ℕ
+  n = solo_n p
 
-pub place_in_column : (p : Solo) (size : Extent) (h k z : ℕ) → size ≡ square p → solo_n p ≤ h → h < 2 * solo_n p → z ≡ slice_index (column_places size (h - solo_n p)) k → z ≡ slice_index (house_places p h) k
-unfolding house_places
-place_in_column p size h k z e below column is = rw (le-ltb h (solo_n p) below, lt-ltb h (2 * solo_n p) column) (is ∙ ap (λ s. slice_index (column_places s (h - solo_n p)) k) e)
+  abbrev part : (ℕ → SoloHouse) → List SoloHouse
+  part f = map f (range_with_len 0 (solo_n p))
 
-pub place_in_block : (p : Solo) (h k z : ℕ) → 2 * solo_n p ≤ h → z ≡ slice_index (block_places p.c p.r (h - 2 * solo_n p)) k → z ≡ slice_index (house_places p h) k
-unfolding house_places
-place_in_block p h k z block is = rw (le-ltb h (solo_n p) (omega arith), le-ltb h (2 * solo_n p) block) is
+  long : (f : ℕ → SoloHouse) → length (part f) ≡ solo_n p
+  long f = length-map-range_with_len f 0 (solo_n p)
 
-pub all_places : (p : Solo) → IsSolo p → (h : ℕ) (places : List ℕ) → h < house_count p → length places ≡ solo_n p
-    → ((k : ℕ) → k < solo_n p → slice_index places k ≡ slice_index (house_places p h) k) → places ≡ house_places p h
-all_places p ok h places lt long each =
-    let l = lists_house p ok h lt in
-    let len = l.len in
-    same_lists places (house_places p h) (omega arith) (λ k d lk.
-    get_or_default places k d 0 lk ∙ each k (omega arith) ∙ get_or_default (house_places p h) k 0 d (omega arith))
+  pub row_at : (h : ℕ) (d : SoloHouse) → h < solo_n p → Row h ≡ get_or (houses_of p) h d
+  row_at h d lt = sym (get_or_append_left (part Row) _ d h (let e = long Row in omega arith) ∙ get_or-map-range_with_len Row 0 (solo_n p) h h d lt (omega arith))
 
--- ---- the houses of a place
-module _ (p : Solo) (ok : IsSolo p) (place : ℕ) (place_in : place < cells_of p) where
-  holds : (h : ℕ) → h < house_count p → lies_in p h place ≡ true → has_place (house_places p h) place ≡ true
-  holds h lt on = house_holds (house_places p h) (solo_n p) (cells_of p) (lies_in p h) (lists_house p ok h lt) place place_in on
+  pub column_at : (h : ℕ) (d : SoloHouse) → solo_n p ≤ h → h < 2 * solo_n p → Column (h - solo_n p) ≡ get_or (houses_of p) h d
+  column_at h d low lt = sym (get_or-append_right (part Row) _ (solo_n p) h d (long Row) low
+      ∙ get_or_append_left (part Column) _ d (h - solo_n p) (let e = long Column in omega arith) ∙ get_or-map-range_with_len Column 0 (solo_n p) (h - solo_n p) (h - solo_n p) d (omega arith) (omega arith))
 
-  -- a house other than the three hasn't the place
-  other : (h : ℕ) → h < house_count p → (h ≡ row_of p place → ⊥) → (h ≡ solo_n p + column_of p place → ⊥) → (h ≡ 2 * solo_n p + block_of p place → ⊥)
-      → has_place (house_places p h) place ≡ false
-  other h lt a b d = false_from_ne_true (has_place (house_places p h) place) (λ on.
-      elim (lies_in-cases p h place (house_has (house_places p h) (solo_n p) (cells_of p) (lies_in p h) (lists_house p ok h lt) place on).1) [
-        | inl e ↦ a e
-        | inr more ↦ elim more [ inl e ↦ b e | inr e ↦ d e ]
-      ])
+  pub block_at : (h : ℕ) (d : SoloHouse) → 2 * solo_n p ≤ h → h < 3 * solo_n p → Block (h - 2 * solo_n p) ≡ get_or (houses_of p) h d
+  block_at h d low lt =
+      let e : h - solo_n p - solo_n p ≡ h - 2 * solo_n p = omega arith in
+      sym (get_or-append_right (part Row) _ (solo_n p) h d (long Row) (omega arith)
+      ∙ get_or-append_right (part Column) _ (solo_n p) (h - solo_n p) d (long Column) (omega arith)
+      ∙ get_or_append_left (part Block) _ d (h - solo_n p - solo_n p) (let l = long Block in omega arith)
+      ∙ get_or-map-range_with_len Block 0 (solo_n p) (h - solo_n p - solo_n p) (h - solo_n p - solo_n p) d (omega arith) (omega arith) ∙ ap Block e)
 
-  pub next_row : (from : ℕ) → from ≤ row_of p place → IsNext (λ h. has_place (house_places p h) place) (house_count p) from (Some (row_of p place))
-  next_row from le =
-      let r = row_small p ok place place_in in
-      let c = column_small p ok place place_in in (
-        le,
-        omega arith,
-        holds (row_of p place) (omega arith) (lies_in_row p ok place place_in (row_of p place) refl),
-        λ j l m. other j (omega arith) (λ e. absurd (omega arith)) (λ e. absurd (omega arith)) (λ e. absurd (omega arith)),
-      )
+  pub diagonal_at : (h : ℕ) (d : SoloHouse) → 3 * solo_n p ≤ h → h < length (houses_of p) → Diagonal (h - 3 * solo_n p) ≡ get_or (houses_of p) h d
+  diagonal_at h d low lt =
+      let count = house_count p in
+      let e : h - solo_n p - solo_n p - solo_n p ≡ h - 3 * solo_n p = omega arith in
+      sym (get_or-append_right (part Row) _ (solo_n p) h d (long Row) (omega arith)
+      ∙ get_or-append_right (part Column) _ (solo_n p) (h - solo_n p) d (long Column) (omega arith)
+      ∙ get_or-append_right (part Block) _ (solo_n p) (h - solo_n p - solo_n p) d (long Block) (omega arith)
+      ∙ at p.x (h - solo_n p - solo_n p - solo_n p) d (omega arith) ∙ ap Diagonal e)
+    where
+      at : (x : Bool) (k : ℕ) (d : SoloHouse) → k < (if x then 2 else 0) → get_or (if x then Diagonal 0 ∷ Diagonal 1 ∷ [] else []) k d ≡ Diagonal k
+      at true zero d lt = refl
+      at true (suc zero) d lt = refl
+      at true (suc (suc k)) d lt = absurd (omega arith)
+      at false k d lt = absurd (omega arith)
 
-  pub next_column : (from : ℕ) → row_of p place < from → from ≤ solo_n p + column_of p place
-      → IsNext (λ h. has_place (house_places p h) place) (house_count p) from (Some (solo_n p + column_of p place))
-  next_column from gt le =
-      let c = column_small p ok place place_in in (
-        le,
-        omega arith,
-        holds (solo_n p + column_of p place) (omega arith) (lies_in_column p ok place place_in (solo_n p + column_of p place) refl),
-        λ j l m. other j (omega arith) (λ e. absurd (omega arith)) (λ e. absurd (omega arith)) (λ e. absurd (omega arith)),
-      )
+  pub house_is : (h : ℕ) (house : SoloHouse) → h < length (houses_of p) → house ≡ get_or (houses_of p) h house → IsHouseOf p house
+  house_is h house lt e = rw (sym e) at (all_houses p h house lt)
 
-  pub next_block : (from : ℕ) → row_of p place < from → solo_n p + column_of p place < from → from ≤ 2 * solo_n p + block_of p place
-      → IsNext (λ h. has_place (house_places p h) place) (house_count p) from (Some (2 * solo_n p + block_of p place))
-  next_block from gt gt' le =
-      let b = block_small p ok place place_in in (
-        le,
-        omega arith,
-        holds (2 * solo_n p + block_of p place) (omega arith) (lies_in_block p ok place place_in (2 * solo_n p + block_of p place) refl),
-        λ j l m. other j (omega arith) (λ e. absurd (omega arith)) (λ e. absurd (omega arith)) (λ e. absurd (omega arith)),
-      )
+-- ---- lists of places
+pub begun-none : (old : Listed) (places : List ℕ) → old.begun ≡ [] → old ≡ record { closed = old.closed; begun = take 0 places }
+begun-none old places e = rw (← e) refl
 
-  pub next_none : (from : ℕ) → row_of p place < from → solo_n p + column_of p place < from → 2 * solo_n p + block_of p place < from
-      → IsNext (λ h. has_place (house_places p h) place) (house_count p) from None
-  next_none from gt gt' gt'' = λ j l m. other j m (λ e. absurd (omega arith)) (λ e. absurd (omega arith)) (λ e. absurd (omega arith))
+pub begun-more : (old new : Listed) (closed : List (List ℕ)) (places : List ℕ) (k place : ℕ) → k < length places → place ≡ slice_index places k
+    → old ≡ record { closed = closed; begun = take k places } → new ≡ record { closed = old.closed; begun = old.begun ++ place ∷ [] }
+    → new ≡ record { closed = closed; begun = take (k + 1) places }
+begun-more old new closed places k place lt is was e = e ∙ rw (was, is, take_more places k 0 lt) refl
+
+pub begun-all : (old new : Listed) (closed : List (List ℕ)) (places : List ℕ) (k : ℕ) → length places ≡ k
+    → old ≡ record { closed = closed; begun = take k places } → new ≡ record { closed = old.closed ++ old.begun ∷ []; begun = [] }
+    → new ≡ record { closed = closed ++ places ∷ []; begun = [] }
+begun-all old new closed places k long was e = e ∙ rw (was, ← long, take-length places) refl
+
+module _ (p : Solo) where
+  pub listed-none : (old : Listed) → old.begun ≡ [] → old ≡ record { closed = old.closed ++ map (places_of p) (take 0 (houses_of p)); begun = [] }
+  listed-none old e = rw (append-nil, ← e) refl
+
+  pub listed-more : (old new : Listed) (closed : List (List ℕ)) (k : ℕ) (house : SoloHouse) → k < length (houses_of p) → house ≡ get_or (houses_of p) k house
+      → old ≡ record { closed = closed ++ map (places_of p) (take k (houses_of p)); begun = [] }
+      → new ≡ record { closed = old.closed ++ places_of p house ∷ []; begun = [] }
+      → new ≡ record { closed = closed ++ map (places_of p) (take (k + 1) (houses_of p)); begun = [] }
+  listed-more old new closed k house lt is was e =
+      e ∙ rw (was, take_more (houses_of p) k house lt, ← is, map-append (places_of p) (take k (houses_of p)) (house ∷ []), append_assoc) refl
+
+  pub listed-all : (list : Listed) (closed : List (List ℕ)) (k : ℕ) → length (houses_of p) ≡ k → list ≡ record { closed = closed ++ map (places_of p) (take k (houses_of p)); begun = [] }
+      → list ≡ record { closed = closed ++ map (places_of p) (houses_of p); begun = [] }
+  listed-all list closed k long was = was ∙ rw (← long, take-length (houses_of p)) refl

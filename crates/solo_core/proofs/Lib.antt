@@ -6,10 +6,15 @@ pub mod FixedPairings
 pub mod Turned
 pub mod LowestBit
 pub mod KeptBits
-pub mod HouseLemmas
 pub mod RepeatLemmas
 pub mod StartLemmas
-pub mod VisitLemmas
 pub mod AnyLemmas
 pub mod SinglesLemmas
-pub mod SinglesInHouses
+mod PeelLemmas
+mod MateLemmas
+mod HouseLemmas
+mod DecidingLemmas
+mod CrossingLemmas
+mod CrossedLemmas
+mod ScopeLemmas
+mod SinglesInHouses

@@ -1,20 +1,23 @@
 -- What a house that holds a number twice says of the grid, and what a house that does not rules out.
-use Rattle.std.proofs.Common.{◌≡◌, ℕ, suc, ◌+◌, ◌-◌, ◌*◌, ◌<◌, ◌≤◌, true, false, not, ◌||◌, eqb, List, [], ◌∷◌, ◌++◌, map, take, length, get_or, slice_index, Some, sym, ap, ◌∙◌, inl, inr, arith}
+use Rattle.std.proofs.Common.{◌≡◌, ℕ, suc, ◌+◌, ◌<◌, true, false, not, eqb, List, [], ◌∷◌, ◌++◌, map, take, length, get_or, slice_index, Some, sym, ap, ◌∙◌, inl, inr, arith}
 use Rattle.std.specs.List.{list_any}
-use Rattle.std.proofs.lemmas.Bool.{cases_lt, lt-ltb, le-ltb, and_cases, eqb-true, eq-eqb, or_left, or_right, true≢false, not-false, false_from_ne_true}
+use Rattle.std.proofs.lemmas.Bool.{cases_eq, and_cases, true≢false, not-false, false_from_ne_true}
 use Rattle.std.proofs.lemmas.List.{get_or-map, length-map, get_or_default, take_more, map-append}
 use Rattle.grid_core.specs.Grids.{IsGrid}
 use Rattle.grid_core.proofs.ShortSets.{contains_from_member}
 use Rattle.gameid_core.specs.Puzzles.{Solo, IsSolo, solo_n}
-use Rattle.solo_core.specs.Solutions.{cells_of, row_of, column_of, block_of, share, IsSolution, is_solution}
-use Rattle.solo_core.specs.SolutionLaws.{lies_in_row, lies_in_column, lies_in_block, apart_in_house, rule_from_test}
-use Rattle.solo_core.specs.Houses.{house_count, house_places, lies_in}
-use Rattle.solo_core.specs.HouseLaws.{lists_house}
+use Rattle.solo_core.specs.declared.solo_house.SoloHouse.{SoloHouse}
+use Rattle.solo_core.specs.declared.solo_house.SoloHouse.TheVariants.{Row, Column, Block, Diagonal}
+use Rattle.solo_core.specs.declared.fault.SoloFault.{SoloFault}
+use Rattle.solo_core.specs.declared.fault.SoloFault.TheVariants.{Given, Row as BadRow, Column as BadColumn, Block as BadBlock, Diagonal as BadDiagonal}
+use Rattle.solo_core.specs.Cells.{cells_of}
+use Rattle.solo_core.specs.SolutionLaws.{differ_in, rule_from_test}
+use Rattle.solo_core.specs.Houses.{houses_of, IsHouseOf, lies_in, places_of}
+use Rattle.solo_core.specs.Solutions.{numbers_of, IsSolution, is_solution}
+use Rattle.solo_core.specs.HouseLaws.{lists_house, all_houses, each_house}
 use Rattle.solo_core.specs.NoRepeat.{no_repeat}
 use Rattle.solo_core.specs.NoRepeatLaws.{different_from_no_repeat}
-use Rattle.solo_core.specs.Faults.{AllStand, Repeats, NoneRepeats, IsFirstFault, fault_at}
-use Rattle.solo_core.specs.declared.fault.SoloFault.{SoloFault}
-use Rattle.solo_core.specs.declared.fault.SoloFault.TheVariants.{Given, Row, Column, Block}
+use Rattle.solo_core.specs.Faults.{AllStand, Repeats, RepeatsFirst, IsFirstFault, fault_of}
 
 -- where the numbers repeat, two entries are equal
 pub repeat_found : (xs : List ℕ) → no_repeat xs ≡ false → (i : ℕ) × (j : ℕ) × (i < j) × (j < length xs) × (get_or xs i 0 ≡ get_or xs j 0)
@@ -38,105 +41,73 @@ pub read_more : (f : ℕ → ℕ) (xs read : List ℕ) (k z : ℕ) → k < lengt
 read_more f xs read k z lt e is = rw (e, is) (sym (map_more f xs k lt))
 
 module _ (p : Solo) (ok : IsSolo p) (g : List ℕ) where
-  abbrev fine : ℕ → Type 0
-  fine h = no_repeat (map (slice_index g) (house_places p h)) ≡ true
-
-  pub repeats_in : (h : ℕ) → h < house_count p → no_repeat (map (slice_index g) (house_places p h)) ≡ false
-      → (j : ℕ) × (k : ℕ) × (j < cells_of p) × (k < cells_of p) × (j ≡ k → ⊥) × (lies_in p h j ≡ true) × (lies_in p h k ≡ true) × (slice_index g j ≡ slice_index g k)
-  repeats_in h lt e =
-      let w = repeat_found (map (slice_index g) (house_places p h)) e in
-      let l = lists_house p ok h lt in
-      let long = length-map (house_places p h) (slice_index g) in
+  -- a house that holds a number twice
+  repeats_in : (house : SoloHouse) → IsHouseOf p house → no_repeat (numbers_of p g house) ≡ false → Repeats p g house
+  repeats_in house is e =
+      let w = repeat_found (numbers_of p g house) e in
+      let l = lists_house p ok house is in
+      let long = length-map (places_of p house) (slice_index g) in
       let len = l.len in
       let a = w.2 in
       let b = w.3 in
       let li : w.0 < solo_n p = omega arith in
       let lj : w.1 < solo_n p = omega arith in (
-        slice_index (house_places p h) w.0,
-        slice_index (house_places p h) w.1,
+        slice_index (places_of p house) w.0,
+        slice_index (places_of p house) w.1,
         l.within w.0 li,
         l.within w.1 lj,
         (λ same. let u = l.index_of w.0 li in let v = l.index_of w.1 lj in let z = ap l.index same in absurd (omega arith)),
         l.lies_at w.0 li,
         l.lies_at w.1 lj,
-        sym (get_or-map (slice_index g) (house_places p h) w.0 0 0 (omega arith)) ∙ w.4 ∙ get_or-map (slice_index g) (house_places p h) w.1 0 0 (omega arith),
+        sym (get_or-map (slice_index g) (places_of p house) w.0 0 0 (omega arith)) ∙ w.4 ∙ get_or-map (slice_index g) (places_of p house) w.1 0 0 (omega arith),
       )
 
-  -- the number of a place's row, column or block, from the house
-  row_number : (h j : ℕ) → h < solo_n p → lies_in p h j ≡ true → row_of p j ≡ h
-  unfolding lies_in
-  row_number h j row on = eqb-true (row_of p j) h (rw (lt-ltb h (solo_n p) row) at on)
+  -- and one that does not
+  none_repeats : (house : SoloHouse) → IsHouseOf p house → no_repeat (numbers_of p g house) ≡ true → Repeats p g house → ⊥
+  none_repeats house is holds (j, k, lj, lk, ne, a, b, same) = differ_in (places_of p house) (solo_n p) (cells_of p) (lies_in p house) (lists_house p ok house is) g holds j k lj lk ne a b same
 
-  column_number : (h j : ℕ) → solo_n p ≤ h → h < 2 * solo_n p → lies_in p h j ≡ true → column_of p j ≡ h - solo_n p
-  unfolding lies_in
-  column_number h j below column on =
-      let e = eqb-true (solo_n p + column_of p j) h (rw (le-ltb h (solo_n p) below, lt-ltb h (2 * solo_n p) column) at on) in omega arith
+  pub first_house : (h : ℕ) (house : SoloHouse) → h < length (houses_of p) → house ≡ get_or (houses_of p) h house → no_repeat (numbers_of p g house) ≡ false
+      → ((i : ℕ) (d : SoloHouse) → i < h → no_repeat (numbers_of p g (get_or (houses_of p) i d)) ≡ true) → RepeatsFirst p g house
+  first_house h house lt is broken before = (
+    h,
+    lt,
+    is,
+    repeats_in house (rw (sym is) at (all_houses p h house lt)) broken,
+    λ i below. none_repeats (get_or (houses_of p) i house) (all_houses p i house (omega arith)) (before i house below),
+  )
 
-  block_number : (h j : ℕ) → 2 * solo_n p ≤ h → lies_in p h j ≡ true → block_of p j ≡ h - 2 * solo_n p
-  unfolding lies_in
-  block_number h j block on =
-      let e = eqb-true (2 * solo_n p + block_of p j) h (rw (le-ltb h (solo_n p) (omega arith), le-ltb h (2 * solo_n p) block) at on) in omega arith
+  pub first_fault : AllStand p g → (house : SoloHouse) → RepeatsFirst p g house → IsFirstFault p g (Some (fault_of house))
+  first_fault stand (Row y) first = (stand, first)
+  first_fault stand (Column i) first = (stand, first)
+  first_fault stand (Block b) first = (stand, first)
+  first_fault stand (Diagonal d) first = (stand, first)
 
-  -- lines and blocks without repeat
-  rows_fine : (m : ℕ) → m ≤ solo_n p → ((h : ℕ) → h < m → fine h) → NoneRepeats p (row_of p) g m
-  rows_fine m le all i lt (j, k, lj, lk, ne, a, b, same) =
-      apart_in_house p ok g i (omega arith) (all i lt) j k lj lk ne (lies_in_row p ok j lj i a) (lies_in_row p ok k lk i b) same
+  pub solved : IsGrid (cells_of p) (solo_n p) g → AllStand p g → ((h : ℕ) (d : SoloHouse) → h < length (houses_of p) → no_repeat (numbers_of p g (get_or (houses_of p) h d)) ≡ true) → IsSolution p g
+  solved grid stand fine = record {
+    grid = grid;
+    givens = stand;
+    different = λ house is j k lj lk ne a b same. none_repeats house is (each_house p (λ h. no_repeat (numbers_of p g h) ≡ true) fine house is) (j, k, lj, lk, ne, a, b, same);
+  }
 
-  columns_fine : (m : ℕ) → m ≤ solo_n p → ((h : ℕ) → h < solo_n p + m → fine h) → NoneRepeats p (column_of p) g m
-  columns_fine m le all i lt (j, k, lj, lk, ne, a, b, same) =
-      apart_in_house p ok g (solo_n p + i) (omega arith) (all (solo_n p + i) (omega arith)) j k lj lk ne
-      (lies_in_column p ok j lj (solo_n p + i) (ap (λ z. solo_n p + z) a)) (lies_in_column p ok k lk (solo_n p + i) (ap (λ z. solo_n p + z) b)) same
+  -- a grid with a fault is no solution
+  repeats_no_solution : (house : SoloHouse) → RepeatsFirst p g house → IsSolution p g → ⊥
+  repeats_no_solution house (h, lt, is, (j, k, lj, lk, ne, a, b, same), before) s = s.different house (rw (sym is) at (all_houses p h house lt)) j k lj lk ne a b same
 
-  blocks_fine : (m : ℕ) → m ≤ solo_n p → ((h : ℕ) → h < 2 * solo_n p + m → fine h) → NoneRepeats p (block_of p) g m
-  blocks_fine m le all i lt (j, k, lj, lk, ne, a, b, same) =
-      apart_in_house p ok g (2 * solo_n p + i) (omega arith) (all (2 * solo_n p + i) (omega arith)) j k lj lk ne
-      (lies_in_block p ok j lj (2 * solo_n p + i) (ap (λ z. 2 * solo_n p + z) a)) (lies_in_block p ok k lk (2 * solo_n p + i) (ap (λ z. 2 * solo_n p + z) b)) same
+  no_solution : (fault : SoloFault) → IsFirstFault p g (Some fault) → IsSolution p g → ⊥
+  no_solution (Given place) w s = w.1 (s.givens place w.0)
+  no_solution (BadRow y) w s = repeats_no_solution (Row y) w.1 s
+  no_solution (BadColumn i) w s = repeats_no_solution (Column i) w.1 s
+  no_solution (BadBlock b) w s = repeats_no_solution (Block b) w.1 s
+  no_solution (BadDiagonal d) w s = repeats_no_solution (Diagonal d) w.1 s
 
-  -- the first house that holds a number twice is the first fault
-  pub first_house : AllStand p g → (h : ℕ) → h < house_count p → no_repeat (map (slice_index g) (house_places p h)) ≡ false → ((i : ℕ) → i < h → fine i)
-      → IsFirstFault p g (Some (fault_at p h))
-  first_house stand h lt broken before =
-      let w = repeats_in h lt broken in
-      elim (cases_lt h (solo_n p)) [
-        | inl row ↦ rw (lt-ltb h (solo_n p) row)
-            (stand, (row, (w.0, w.1, w.2, w.3, w.4, row_number h w.0 row w.5, row_number h w.1 row w.6, w.7), rows_fine h (omega arith) before))
-        | inr below ↦ elim (cases_lt h (2 * solo_n p)) [
-          | inl column ↦ rw (le-ltb h (solo_n p) below, lt-ltb h (2 * solo_n p) column) (
-            stand,
-            rows_fine (solo_n p) (omega arith) (λ i l. before i (omega arith)),
-            (
-              omega arith,
-              (w.0, w.1, w.2, w.3, w.4, column_number h w.0 below column w.5, column_number h w.1 below column w.6, w.7),
-              columns_fine (h - solo_n p) (omega arith) (λ i l. before i (omega arith)),
-            ),
-          )
-          | inr block ↦ rw (le-ltb h (solo_n p) below, le-ltb h (2 * solo_n p) block) (
-            stand,
-            rows_fine (solo_n p) (omega arith) (λ i l. before i (omega arith)),
-            columns_fine (solo_n p) (omega arith) (λ i l. before i (omega arith)),
-            (
-              omega arith,
-              (w.0, w.1, w.2, w.3, w.4, block_number h w.0 block w.5, block_number h w.1 block w.6, w.7),
-              blocks_fine (h - 2 * solo_n p) (omega arith) (λ i l. before i (omega arith)),
-            ),
-          )
-        ]
-      ]
+  pub no_test : (fault : SoloFault) → IsGrid (cells_of p) (solo_n p) g → IsFirstFault p g (Some fault) → false ≡ is_solution p g
+  no_test fault grid w = sym (false_from_ne_true (is_solution p g) (λ on. no_solution fault w (rule_from_test p ok g grid on)))
 
--- a grid with a fault is no solution
-no_line : (p : Solo) (g : List ℕ) → IsSolution p g → (number_of : ℕ → ℕ) → ((j k : ℕ) → number_of j ≡ number_of k → share p j k ≡ true) → (i : ℕ) → Repeats p number_of g i → ⊥
-no_line p g s number_of together i (j, k, lj, lk, ne, a, b, same) = s.different j k lj lk ne (together j k (a ∙ sym b)) same
-
-pub no_solution : (p : Solo) (g : List ℕ) (fault : SoloFault) → IsFirstFault p g (Some fault) → IsSolution p g → ⊥
-no_solution p g (Given place) w s = w.1 (s.givens place w.0)
-no_solution p g (Row y) w s = no_line p g s (row_of p)
-    (λ j k e. or_left (eqb (row_of p j) (row_of p k)) (eqb (column_of p j) (column_of p k) || eqb (block_of p j) (block_of p k)) (eq-eqb (row_of p j) (row_of p k) e)) y w.1.1
-no_solution p g (Column x) w s = no_line p g s (column_of p)
-    (λ j k e. or_right (eqb (row_of p j) (row_of p k)) (eqb (column_of p j) (column_of p k) || eqb (block_of p j) (block_of p k))
-    (or_left (eqb (column_of p j) (column_of p k)) (eqb (block_of p j) (block_of p k)) (eq-eqb (column_of p j) (column_of p k) e))) x w.2.1
-no_solution p g (Block b) w s = no_line p g s (block_of p)
-    (λ j k e. or_right (eqb (row_of p j) (row_of p k)) (eqb (column_of p j) (column_of p k) || eqb (block_of p j) (block_of p k))
-    (or_right (eqb (column_of p j) (column_of p k)) (eqb (block_of p j) (block_of p k)) (eq-eqb (block_of p j) (block_of p k) e))) b w.3.1
-
-pub no_test : (p : Solo) (g : List ℕ) (fault : SoloFault) → IsGrid (cells_of p) (solo_n p) g → IsFirstFault p g (Some fault) → false ≡ is_solution p g
-no_test p g fault grid w = sym (false_from_ne_true (is_solution p g) (λ on. no_solution p g fault w (rule_from_test p g grid on)))
+-- one house more that repeats nothing
+pub fine_more : (p : Solo) (g : List ℕ) (k : ℕ) (house : SoloHouse) → k < length (houses_of p) → house ≡ get_or (houses_of p) k house → no_repeat (numbers_of p g house) ≡ true
+    → ((h : ℕ) (d : SoloHouse) → h < k → no_repeat (numbers_of p g (get_or (houses_of p) h d)) ≡ true)
+    → (h : ℕ) (d : SoloHouse) → h < k + 1 → no_repeat (numbers_of p g (get_or (houses_of p) h d)) ≡ true
+fine_more p g k house lt is holds below h d lh = elim (cases_eq h k) [
+  | inl e ↦ ap (λ z. no_repeat (numbers_of p g z)) (ap (λ i. get_or (houses_of p) i d) e ∙ get_or_default (houses_of p) k d house lt ∙ sym is) ∙ holds
+  | inr ne ↦ below h d (omega arith)
+]

@@ -1,15 +1,18 @@
 //! The check of a grid.
 
-ghost use Rattle.std.specs.Prelude.{◌≡◌, ℕ, ◌+◌, ◌<◌, true, false, map, length, slice_index, MatchOption};
+ghost use Rattle.std.specs.Prelude.{◌≡◌, ℕ, ◌+◌, ◌<◌, true, false, map, length, slice_index, slice_index_or, MatchOption};
 ghost use Rattle.grid_core.specs.Grids.{IsGrid};
 ghost use Rattle.gameid_core.specs.Puzzles.{IsSolo, solo_n};
-ghost use Rattle.solo_core.specs.Solutions.{cells_of, is_solution};
-ghost use Rattle.solo_core.specs.Houses.{house_count, house_places};
+ghost use Rattle.solo_core.specs.Cells.{cells_of};
+ghost use Rattle.solo_core.specs.Houses.{houses_of, IsHouseOf};
+ghost use Rattle.solo_core.specs.Solutions.{numbers_of as numbers_in, is_solution};
 ghost use Rattle.solo_core.specs.NoRepeat.{no_repeat as has_no_repeat};
-ghost use Rattle.solo_core.specs.Faults.{Stands, AllStand, IsFirstFault, fault_at};
+ghost use Rattle.solo_core.specs.Faults.{Stands, AllStand, RepeatsFirst, IsFirstFault, fault_of as fault_of_house};
+ghost use Rattle.solo_core.specs.declared.solo_house.SoloHouse.{SoloHouse};
 
 use crate::fault::SoloFault;
-use crate::houses::{cells, house_place, houses};
+use crate::places::{cells, house, houses, place};
+use crate::solo_house::SoloHouse;
 use arrayvec::ArrayVec;
 use gameid_core::{MAX_NUMBERS, SoloPuzzle};
 use grid_core::Grid;
@@ -17,21 +20,30 @@ use grid_core::Grid;
 /// The most numbers of a house.
 const MOST: usize = MAX_NUMBERS as usize;
 
-/// The first rule that the grid breaks, givens before rows, columns and blocks, each kind by its numbers; `None` where the
-/// grid is a solution. The grid has a number below `n` for each cell, which stands for the number one higher.
+/// The first rule that the grid breaks, givens before rows, columns, blocks and diagonals, each kind by its numbers; `None`
+/// where the grid is a solution. The grid has a number below `n` for each cell, which stands for the number one higher.
 ///
 /// The rule is that of the manual of Simon Tatham's Portable Puzzle Collection, "Solo": every row, column and block has
-/// every number once.
+/// every number once, and in Solo X each of both main diagonals too.
 pub fn check_solo(puzzle: &SoloPuzzle, grid: &Grid) -> Option<SoloFault>
     requires fits { IsGrid (cells_of puzzle.now) (solo_n puzzle.now) grid.now }
     ensures { IsFirstFault puzzle.now grid.now result }
+{
+    first_fault(puzzle, grid)
+}
+
+/// The same answer, and that the puzzle is lawful, on which `accepts` relies.
+fn first_fault(puzzle: &SoloPuzzle, grid: &Grid) -> Option<SoloFault>
+    requires fits { IsGrid (cells_of puzzle.now) (solo_n puzzle.now) grid.now }
+    ensures lawful { IsSolo puzzle.now }
+    ensures first { IsFirstFault puzzle.now grid.now result }
 {
     if let Some(place) = broken_given(puzzle, grid) {
         return Some(SoloFault::Given(place));
     }
     match repeating_house(puzzle, grid) {
         None => None,
-        Some(house) => Some(fault_of(puzzle, house)),
+        Some(house) => Some(fault_of(house)),
     }
 }
 
@@ -40,7 +52,7 @@ pub(crate) fn accepts(puzzle: &SoloPuzzle, grid: &Grid) -> bool
     requires fits { IsGrid (cells_of puzzle.now) (solo_n puzzle.now) grid.now }
     ensures { result ≡ is_solution puzzle.now grid.now }
 {
-    match check_solo(puzzle, grid) {
+    match first_fault(puzzle, grid) {
         None => true,
         Some(_) => false,
     }
@@ -49,7 +61,8 @@ pub(crate) fn accepts(puzzle: &SoloPuzzle, grid: &Grid) -> bool
 /// The lowest place whose given doesn't stand.
 fn broken_given(puzzle: &SoloPuzzle, grid: &Grid) -> Option<usize>
     requires fits { IsGrid (cells_of puzzle.now) (solo_n puzzle.now) grid.now }
-    ensures { MatchOption result (AllStand puzzle.now grid.now)
+    ensures lawful { IsSolo puzzle.now }
+    ensures first { MatchOption result (AllStand puzzle.now grid.now)
         (λ place. (place < cells_of puzzle.now) × (Stands puzzle.now grid.now place → ⊥)
         × ((q : ℕ) → q < place → Stands puzzle.now grid.now q)) }
 {
@@ -63,16 +76,16 @@ fn broken_given(puzzle: &SoloPuzzle, grid: &Grid) -> Option<usize>
 }
 
 /// The first house that holds a number twice.
-fn repeating_house(puzzle: &SoloPuzzle, grid: &Grid) -> Option<usize>
+fn repeating_house(puzzle: &SoloPuzzle, grid: &Grid) -> Option<SoloHouse>
     requires fits { IsGrid (cells_of puzzle.now) (solo_n puzzle.now) grid.now }
     ensures lawful { IsSolo puzzle.now }
     ensures first { MatchOption result
-        ((h : ℕ) → h < house_count puzzle.now → has_no_repeat (map (slice_index grid.now) (house_places puzzle.now h)) ≡ true)
-        (λ house. (house < house_count puzzle.now)
-        × (has_no_repeat (map (slice_index grid.now) (house_places puzzle.now house)) ≡ false)
-        × ((h : ℕ) → h < house → has_no_repeat (map (slice_index grid.now) (house_places puzzle.now h)) ≡ true)) }
+        ((h : ℕ) (d : SoloHouse) → h < length (houses_of puzzle.now)
+        → has_no_repeat (numbers_in puzzle.now grid.now (slice_index_or (houses_of puzzle.now) h d)) ≡ true)
+        (λ house. RepeatsFirst puzzle.now grid.now house) }
 {
-    for house in 0..houses(puzzle) {
+    for number in 0..houses(puzzle) {
+        let house = house(puzzle, number);
         if !no_repeat(&numbers_of(puzzle, grid, house)) {
             return Some(house);
         }
@@ -81,14 +94,14 @@ fn repeating_house(puzzle: &SoloPuzzle, grid: &Grid) -> Option<usize>
 }
 
 /// The numbers that a house holds.
-fn numbers_of(puzzle: &SoloPuzzle, grid: &Grid, house: usize) -> ArrayVec<u8, MOST>
+fn numbers_of(puzzle: &SoloPuzzle, grid: &Grid, house: SoloHouse) -> ArrayVec<u8, MOST>
     requires fits { IsGrid (cells_of puzzle.now) (solo_n puzzle.now) grid.now }
-    requires house_in { house < house_count puzzle.now }
-    ensures { result.items ≡ map (slice_index grid.now) (house_places puzzle.now house) }
+    requires house_of { IsHouseOf puzzle.now house }
+    ensures { result.items ≡ numbers_in puzzle.now grid.now house }
 {
     let mut numbers = ArrayVec::new();
     for k in 0..usize::from(puzzle.n()) {
-        numbers.push(grid.get(house_place(puzzle, house, k)));
+        numbers.push(grid.get(place(puzzle, house, k)));
     }
     numbers
 }
@@ -113,17 +126,14 @@ fn is_among(numbers: &[u8], number: u8) -> bool
     numbers.contains(&number)
 }
 
-/// The row, column or block that a house is.
-fn fault_of(puzzle: &SoloPuzzle, house: usize) -> SoloFault
-    requires { house < house_count puzzle.now }
-    ensures { result ≡ fault_at puzzle.now house }
+/// The fault of a house.
+fn fault_of(house: SoloHouse) -> SoloFault
+    ensures { result ≡ fault_of_house house }
 {
-    let n = usize::from(puzzle.n());
-    if house < n {
-        return SoloFault::Row(house);
+    match house {
+        SoloHouse::Row(y) => SoloFault::Row(y),
+        SoloHouse::Column(i) => SoloFault::Column(i),
+        SoloHouse::Block(b) => SoloFault::Block(b),
+        SoloHouse::Diagonal(d) => SoloFault::Diagonal(d),
     }
-    if house < 2 * n {
-        return SoloFault::Column(house - n);
-    }
-    SoloFault::Block(house - 2 * n)
 }

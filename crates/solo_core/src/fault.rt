@@ -1,6 +1,7 @@
 //! Why a grid is no solution of Solo.
 
-/// The first broken rule: the givens come first, then the rows, the columns and the blocks, and of one kind the lowest.
+/// The first broken rule: the givens come first, then the rows, the columns, the blocks and the diagonals, and of one
+/// kind the lowest.
 #[derive(Clone, Copy, PartialEq, Eq, Debug)]
 pub enum SoloFault {
     /// The cell at this place doesn't hold its given.
@@ -11,4 +12,6 @@ pub enum SoloFault {
     Column(usize),
     /// The block holds a number twice.
     Block(usize),
+    /// The diagonal holds a number twice.
+    Diagonal(usize),
 }

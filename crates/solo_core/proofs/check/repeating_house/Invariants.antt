@@ -1,7 +1,9 @@
-use Rattle.std.proofs.Common.{◌≡◌, ℕ, ◌<◌, true, map, slice_index}
-use Rattle.solo_core.specs.Houses.{house_places}
+use Rattle.std.proofs.Common.{◌≡◌, ℕ, ◌<◌, true, get_or}
+use Rattle.solo_core.specs.declared.solo_house.SoloHouse.{SoloHouse}
 use Rattle.solo_core.specs.NoRepeat.{no_repeat}
+use Rattle.solo_core.specs.Houses.{houses_of}
+use Rattle.solo_core.specs.Solutions.{numbers_of}
 use Rattle.solo_core.proofs.check.repeating_house.Given as goal
 
-abbrev pub invariant-loop-house : goal.invariant-loop-house
-invariant-loop-house l = (h : ℕ) → h < l.house → no_repeat (map (slice_index l.grid) (house_places l.puzzle h)) ≡ true
+abbrev pub invariant-loop-number : goal.invariant-loop-number
+invariant-loop-number l = (h : ℕ) (d : SoloHouse) → h < l.number → no_repeat (numbers_of l.puzzle l.grid (get_or (houses_of l.puzzle) h d)) ≡ true

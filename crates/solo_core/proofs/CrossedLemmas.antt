@@ -1,0 +1,105 @@
+-- Lists of crossings, as places are added.
+use Rattle.std.proofs.Common.{◌≡◌, ℕ, ◌+◌, ◌<◌, ◌≤◌, Bool, true, false, not, ◌||◌, eqb, List, [], ◌∷◌, ◌++◌, map, length, slice_index, take, refl, sym, ap, ◌∙◌, append_assoc, inl, inr, subst, ltb, leb, ◌&&◌, arith}
+use Rattle.std.specs.List.{filter, range_with_len}
+use Rattle.std.proofs.lemmas.Bool.{cases_Bool, cases_eq, cases_lt, lt-ltb, le-ltb, true≢false, false_from_ne_true, eq-eqb, ne_eqb}
+use Rattle.std.proofs.lemmas.List.{take_more, map-append, append-nil}
+use Rattle.std.proofs.Math.Seq.{take-length}
+use Rattle.std.proofs.lemmas.List.Elements.{filter-append}
+use Rattle.std.proofs.lemmas.List.FromFn.{map-range_with_len_more}
+use Rattle.engine_core.specs.Puzzle.{has_place}
+use Rattle.engine_core.specs.HouseList.{Listed}
+use Rattle.engine_core.specs.Houses.{House}
+use Rattle.engine_core.specs.Sets.{has_bit}
+use Rattle.engine_core.specs.House.{IsDecided}
+use Rattle.std.proofs.Math.Path.{fun_ext}
+use Rattle.solo_core.specs.Crossing.{strikes_by_crossing, in_block_alone, in_line_alone, crossing}
+use Rattle.solo_core.specs.HouseLaws.{Lists, listed-has}
+use Rattle.solo_core.specs.Work.{all_places}
+
+pub begun-done : (old new : Listed) (closed : List (List ℕ)) (places : List ℕ) (k : ℕ) → length places ≡ k → new ≡ record { closed = closed; begun = take k places } → new ≡ record { closed = closed; begun = places }
+begun-done old new closed places k long was = was ∙ rw (← long, take-length places) refl
+
+-- one place of a line is tested
+module _ (test : ℕ → Bool) (old : Listed) (places : List ℕ) where
+  abbrev pub IsRest : ℕ → Listed → Type 0
+  IsRest k list = list ≡ record { closed = old.closed; begun = old.begun ++ filter test (take k places) }
+
+  more : (k : ℕ) → k < length places → filter test (take (k + 1) places) ≡ filter test (take k places) ++ filter test (slice_index places k ∷ [])
+  more k lt = ap (filter test) (take_more places k 0 lt) ∙ filter-append test (take k places) (slice_index places k ∷ [])
+
+  pub rest-none : IsRest 0 old
+  rest-none = rw append-nil refl
+
+  pub rest-out : (k : ℕ) (list : Listed) → k < length places → test (slice_index places k) ≡ false → IsRest k list → IsRest (k + 1) list
+  rest-out k list lt off was = was ∙ rw (more k lt, out) refl
+    where
+      out : filter test (take k places) ++ filter test (slice_index places k ∷ []) ≡ filter test (take k places)
+      out = rw (off, append-nil) refl
+
+  pub rest-in : (k place : ℕ) (list new : Listed) → k < length places → place ≡ slice_index places k → test (slice_index places k) ≡ true → IsRest k list
+      → new ≡ record { closed = list.closed; begun = list.begun ++ place ∷ [] } → IsRest (k + 1) new
+  rest-in k place list new lt is on was e = e ∙ rw (was, more k lt, on, is, append_assoc) refl
+
+  pub rest-all : (k : ℕ) (list : Listed) → length places ≡ k → IsRest k list → list ≡ record { closed = old.closed; begun = old.begun ++ filter test places }
+  rest-all k list long was = was ∙ rw (← long, take-length places) refl
+
+-- one bit more of what is shared
+module _ (bits new is : ℕ → Bool) (k : ℕ) (on : Bool) (bit : (v : ℕ) → new v ≡ (bits v || (on && eqb v k))) (on_is : on ≡ is k)
+    (below : (j : ℕ) → j < k → bits j ≡ is j) (above : (j : ℕ) → k ≤ j → bits j ≡ false) where
+  other : (j : ℕ) → (j ≡ k → ⊥) → new j ≡ bits j
+  other j ne = bit j ∙ rw (ne_eqb j k ne) (off (bits j) on)
+    where
+      off : (a b : Bool) → (a || (b && false)) ≡ a
+      off true true = refl
+      off true false = refl
+      off false true = refl
+      off false false = refl
+
+  here : new k ≡ is k
+  here = bit k ∙ rw (above k (omega arith), eq-eqb k k refl) (same on) ∙ on_is
+    where
+      same : (b : Bool) → (false || (b && true)) ≡ b
+      same true = refl
+      same false = refl
+
+  pub shared-below : (j : ℕ) → j < k + 1 → new j ≡ is j
+  shared-below j lt = elim (cases_eq j k) [
+    | inl e ↦ ap new e ∙ here ∙ ap is (sym e)
+    | inr ne ↦ other j ne ∙ below j (omega arith)
+  ]
+
+  pub shared-above : (j : ℕ) → k + 1 ≤ j → new j ≡ false
+  shared-above j le = other j (λ e. absurd (omega arith)) ∙ above j (omega arith)
+
+-- the block outside the line, by a number and bits
+pub same_part : (n bits : ℕ) (block line : List ℕ) → length block ≡ n → ((k : ℕ) → k < n → has_bit bits k ≡ has_place line (slice_index block k))
+    → (λ k. ltb k n && not (has_bit bits k)) ≡ in_block_alone block line
+same_part n bits block line long bit = fun_ext λ k. elim (cases_lt k n) [
+  | inl low ↦ let e = lt-ltb k n low in rw (long, e, bit k low) refl
+  | inr high ↦ let e = le-ltb k n high in rw (long, e) refl
+]
+
+pub decided_at : (n bits : ℕ) (block line sets kept : List ℕ) → length block ≡ n → ((k : ℕ) → k < n → has_bit bits k ≡ has_place line (slice_index block k))
+    → IsDecided n (strikes_by_crossing (λ k. ltb k n && not (has_bit bits k)) (λ k. leb n k)) sets kept → IsDecided n (crossing block line).decides sets kept
+decided_at n bits block line sets kept long bit decided =
+    subst (λ (part : ℕ → Bool). IsDecided n (strikes_by_crossing part (in_line_alone block)) sets kept) (same_part n bits block line long bit)
+    (subst (λ m. IsDecided n (strikes_by_crossing (λ k. ltb k n && not (has_bit bits k)) (λ k. leb m k)) sets kept) (sym long) decided)
+
+-- one crossing more
+pub crossings-more : (old new : Listed) (closed : List (List ℕ)) (f : ℕ → House) (m : ℕ) (places : List ℕ) → places ≡ (f m).places
+    → old ≡ record { closed = closed ++ all_places (map f (range_with_len 0 m)); begun = [] } → new ≡ record { closed = old.closed ++ places ∷ []; begun = [] }
+    → new ≡ record { closed = closed ++ all_places (map f (range_with_len 0 (m + 1))); begun = [] }
+crossings-more old new closed f m places is was e = e ∙ rw (was, more, is, append_assoc) refl
+  where
+    more : all_places (map f (range_with_len 0 (m + 1))) ≡ all_places (map f (range_with_len 0 m)) ++ (f m).places ∷ []
+    more = ap all_places (map-range_with_len_more f 0 m m (omega arith)) ∙ map-append (λ (house : House). house.places) (map f (range_with_len 0 m)) (f m ∷ [])
+
+pub crossings-none : (old : Listed) (f : ℕ → House) → old.begun ≡ [] → old ≡ record { closed = old.closed ++ all_places (map f (range_with_len 0 0)); begun = [] }
+crossings-none old f e = rw (append-nil, ← e) refl
+
+-- a test of places is that of their list
+pub listed-same : (places : List ℕ) (n cells : ℕ) (lies : ℕ → Bool) → Lists places n cells lies → (place : ℕ) → place < cells → lies place ≡ has_place places place
+listed-same places n cells lies l place lt = elim (cases_Bool (lies place)) [
+  | inl on ↦ on ∙ sym ((listed-has places n cells lies l place lt).1 on)
+  | inr off ↦ off ∙ sym (false_from_ne_true (has_place places place) (λ has. true≢false (sym ((listed-has places n cells lies l place lt).0 has) ∙ off)))
+]

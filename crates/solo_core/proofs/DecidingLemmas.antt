@@ -1,0 +1,125 @@
+-- Houses that decide alike, and tables of scopes.
+use Rattle.std.proofs.Common.{◌≡◌, ℕ, zero, suc, ◌<◌, Bool, List, [], ◌∷◌, map, length, get_or, slice_index, ◌+◌, ◌*◌, ◌≤◌, refl, sym, ap, ◌∙◌, arith, ◌++◌, append_assoc}
+use Rattle.std.specs.Prelude.{All, sum_by, Option}
+use Rattle.std.proofs.Math.Path.{fun_ext}
+use Rattle.std.proofs.lemmas.List.Sums.{sum_by-cons}
+use Rattle.grid_core.specs.Board.{Layout, has}
+use Rattle.grid_core.proofs.BoardLemmas.{has-within}
+use Rattle.engine_core.specs.Puzzle.{IsBoardOf, after, has_place, IsNext}
+use Rattle.engine_core.specs.Sets.{set_of_bits, IsBitsOf}
+use Rattle.engine_core.specs.HouseLaws.{visited-after}
+use Rattle.std.proofs.lemmas.List.{get_or-map, length-map, map-append}
+use Rattle.gameid_core.specs.Puzzles.{Solo, IsSolo, solo_n}
+use Rattle.engine_core.specs.House.{Decision, sets_at, kept_in, IsDecided}
+use Rattle.engine_core.specs.Houses.{House, house_of, no_house, IsSound, visits_of}
+use Rattle.engine_core.specs.HouseIndex.{scope_of, AreScopes}
+use Rattle.solo_core.specs.declared.solo_house.SoloHouse.{SoloHouse}
+use Rattle.solo_core.specs.declared.solo_house.SoloHouse.TheVariants.{Row}
+use Rattle.solo_core.specs.Houses.{houses_of, places_of}
+use Rattle.solo_core.specs.HouseLaws.{lists_house, all_houses}
+use Rattle.solo_core.specs.RuleSets.{deciding, filled_houses, setting_of, rules_of, row_crossing, column_crossing, crossings_of}
+use Rattle.solo_core.specs.Cells.{cells_of}
+use Rattle.solo_core.specs.NoRepeat.{no_repeat}
+use Rattle.solo_core.specs.Work.{all_places}
+use Rattle.engine_core.specs.Filling.{strikes_by_fillings}
+use Rattle.std.specs.List.{range_with_len}
+use Rattle.engine_core.specs.HouseList.{Listed}
+
+pub scopes-deciding : (decides : Decision) (p : Solo) (houses : List SoloHouse)
+    → map (places_of p) houses ≡ map (λ (house : House). house.places) (map (λ house. record { places = places_of p house; decides = decides }) houses)
+scopes-deciding decides p [] = refl
+scopes-deciding decides p (house ∷ houses) = ap (λ rest. places_of p house ∷ rest) (scopes-deciding decides p houses)
+
+module _ (decides : Decision) (p : Solo) (h : ℕ) (lt : h < length (deciding decides p)) where
+  pub deciding-at : house_of (deciding decides p) h ≡ record { places = places_of p (get_or (houses_of p) h (Row 0)); decides = decides }
+  deciding-at = get_or-map (λ house. record { places = places_of p house; decides = decides }) (houses_of p) h (Row 0) no_house (omega (arith, lt, length-map {B = House} (houses_of p) (λ (house : SoloHouse). record { places = places_of p house; decides = decides })))
+
+  pub decides-at : decides ≡ (house_of (deciding decides p) h).decides
+  decides-at = sym (ap (λ (house : House). house.decides) deciding-at)
+
+  pub long-at : IsSolo p → length (house_of (deciding decides p) h).places ≡ solo_n p
+  long-at ok = ap (λ (house : House). length house.places) deciding-at ∙ (lists_house p ok (get_or (houses_of p) h (Row 0)) (all_houses p h (Row 0) (omega (arith, lt, length-map {B = House} (houses_of p) (λ (house : SoloHouse). record { places = places_of p house; decides = decides }))))).len
+
+-- ---- a table of the houses' places
+pub scope-at : (houses : List House) (h : ℕ) → scope_of (all_places houses) h ≡ (house_of houses h).places
+scope-at [] h = refl
+scope-at (house ∷ houses) zero = refl
+scope-at (house ∷ houses) (suc h) = scope-at houses h
+
+pub scopes-fit : (settled : Bool) (p : Solo) (houses : List House) → All (IsSound (setting_of settled p houses)) houses → AreScopes (setting_of settled p houses).cells (all_places houses)
+scopes-fit settled p houses sound h lt =
+    let lh : h < length houses = omega (arith, lt, length-map houses (λ (house : House). house.places)) in
+    let s = sound h no_house lh in
+    rw (scope-at houses h) (record { within = s.within; different = s.different })
+
+-- ---- what the table says of the rules
+pub scopes-next : (houses : List House) (place from : ℕ) (answer : Option ℕ)
+    → IsNext (λ h. has_place (scope_of (all_places houses) h) place) (length (all_places houses)) from answer
+    → IsNext (λ h. has_place (house_of houses h).places place) (length houses) from answer
+scopes-next houses place from answer next = rw (fun_ext (λ h. ap (λ xs. has_place xs place) (scope-at houses h)), length-map houses (λ (house : House). house.places)) at next
+
+bound-from-table : (values : ℕ) (houses : List House) → length (all_places houses) + sum_by length (all_places houses) * values ≡ sum_by (visits_of values) houses
+bound-from-table values [] = omega arith
+bound-from-table values (house ∷ houses) =
+    let rest = bound-from-table values houses in
+    let a = sum_by-cons (length {A = ℕ}) house.places (all_places houses) in
+    let b = sum_by-cons (visits_of values) house houses in
+    let c = ap (λ n. n * values) a in
+    omega arith
+
+pub turned-bound : (values : ℕ) (houses : List House) → sum_by length (all_places houses) * values + length (all_places houses) ≡ sum_by (visits_of values) houses
+turned-bound values houses = let e = bound-from-table values houses in omega arith
+
+pub part-of-bound : (values : ℕ) (houses : List House) → sum_by length (all_places houses) * values ≤ sum_by (visits_of values) houses
+part-of-bound values houses = let e = bound-from-table values houses in omega arith
+
+-- a visit: the sets are read, what is kept of them is decided, and the rest is struck
+pub left_by_visit : (settled : Bool) (p : Solo) (houses : List House) (h : ℕ) (old new : Layout) (places sets kept : List ℕ)
+    → IsBoardOf (rules_of settled p houses) old
+    → places ≡ (house_of houses h).places
+    → ((k : ℕ) → k < length places → IsBitsOf (has old (slice_index places k)) (solo_n p) (slice_index sets k))
+    → map (set_of_bits (solo_n p)) sets ≡ sets_at (solo_n p) places (has old)
+    → IsDecided (solo_n p) (house_of houses h).decides sets kept
+    → has new ≡ kept_in places kept (length places) (has old)
+    → length sets ≡ length places
+    → has new ≡ after (rules_of settled p houses) h (has old)
+left_by_visit settled p houses h old new places sets kept board is bits same decided left long =
+    visited-after (rules_of settled p houses) h (house_of houses h).decides (has old) (has new) sets kept
+    (λ L c v. refl)
+    (λ c v on. let w = has-within old c v on in let e = board.same_cells in let f = board.same_values in (omega arith, omega arith))
+    (long ∙ ap length is)
+    (λ k lt. rw is at (bits k (rw is lt)))
+    (rw is at same)
+    decided
+    (rw is at left)
+
+pub house-in : (settled : Bool) (p : Solo) (houses : List House) (h : ℕ) (places : List ℕ) → All (IsSound (setting_of settled p houses)) houses → h < length houses
+    → places ≡ (house_of houses h).places → (k : ℕ) → k < length places → slice_index places k < cells_of p
+house-in settled p houses h places sound lt is k lk = rw is ((sound h no_house lt).within k (rw is at lk))
+
+-- ---- crossings after the houses
+pub length-deciding : (decides : Decision) (p : Solo) → length (deciding decides p) ≡ length (houses_of p)
+length-deciding decides p = length-map {B = House} (houses_of p) (λ (house : SoloHouse). record { places = places_of p house; decides = decides })
+
+pub listed-deciding : (decides : Decision) (p : Solo) (first second : Listed) → first ≡ record { closed = []; begun = [] }
+    → second ≡ record { closed = first.closed ++ map (places_of p) (houses_of p); begun = [] } → second.closed ≡ all_places (deciding decides p)
+listed-deciding decides p first second none e =
+    ap (λ (list : Listed). list.closed) e ∙ ap (λ (list : Listed). list.closed ++ map (places_of p) (houses_of p)) none ∙ scopes-deciding decides p (houses_of p)
+
+pub listed-crossings : (p : Solo) (none first second third : Listed) → none ≡ record { closed = []; begun = [] }
+    → first ≡ record { closed = none.closed ++ map (places_of p) (houses_of p); begun = [] }
+    → second ≡ record { closed = first.closed ++ all_places (map (row_crossing p) (range_with_len 0 (solo_n p * p.c))); begun = [] }
+    → third ≡ record { closed = second.closed ++ all_places (map (column_crossing p) (range_with_len 0 (solo_n p * p.r))); begun = [] }
+    → third.closed ≡ all_places (filled_houses p ++ crossings_of p)
+listed-crossings p none first second third z a b c =
+    ap (λ (list : Listed). list.closed) c ∙ ap (λ (list : Listed). list.closed ++ all_places columns) b
+    ∙ ap (λ xs. (xs ++ all_places rows) ++ all_places columns) (listed-deciding (strikes_by_fillings no_repeat) p none first z a)
+    ∙ append_assoc (all_places (filled_houses p)) (all_places rows) (all_places columns)
+    ∙ ap (λ xs. all_places (filled_houses p) ++ xs) (sym (map-append (λ (house : House). house.places) rows columns))
+    ∙ sym (map-append (λ (house : House). house.places) (filled_houses p) (rows ++ columns))
+  where
+    rows : List House
+    rows = map (row_crossing p) (range_with_len 0 (solo_n p * p.c))
+
+    columns : List House
+    columns = map (column_crossing p) (range_with_len 0 (solo_n p * p.r))

@@ -1,0 +1,116 @@
+-- Which house, and which crossing, a number names.
+use Rattle.std.proofs.Common.{◌≡◌, ℕ, ◌+◌, ◌-◌, ◌*◌, ◌/◌, ◌%◌, ◌<◌, ◌≤◌, List, ◌++◌, map, length, get_or, sym, ap, ◌∙◌, inl, inr, length-append, arith}
+use Rattle.std.specs.List.{range_with_len}
+use Rattle.std.proofs.lemmas.Bool.{cases_lt}
+use Rattle.std.proofs.lemmas.Nat.{div_below, mod_below, mul-add-lt}
+use Rattle.std.proofs.lemmas.List.{get_or-map, length-map, get_or_append_left, get_or-append_right}
+use Rattle.std.proofs.lemmas.List.FromFn.{get_or-map-range_with_len, length-map-range_with_len}
+use Rattle.gameid_core.specs.Puzzles.{Solo, IsSolo, solo_n}
+use Rattle.engine_core.specs.Houses.{House, house_of, no_house}
+use Rattle.engine_core.specs.Filling.{strikes_by_fillings}
+use Rattle.solo_core.specs.declared.solo_house.SoloHouse.{SoloHouse}
+use Rattle.solo_core.specs.declared.solo_house.SoloHouse.TheVariants.{Row}
+use Rattle.solo_core.specs.declared.solo_scope.SoloScope.{SoloScope}
+use Rattle.solo_core.specs.declared.solo_scope.SoloScope.TheVariants as scope
+use Rattle.solo_core.specs.Houses.{houses_of}
+use Rattle.solo_core.specs.NoRepeat.{no_repeat}
+use Rattle.solo_core.specs.RuleSets.{filled_houses, row_crossing, column_crossing, crossings_of, house_at}
+use Rattle.solo_core.specs.Scopes.{row_scope, column_scope, crossing_scopes, scopes_of}
+use Rattle.solo_core.proofs.DecidingLemmas.{deciding-at, length-deciding}
+
+-- ---- a block and a line of the puzzle
+module _ (p : Solo) (ok : IsSolo p) where
+  pub row_in : (m : ℕ) → m < solo_n p * p.c → (m / p.c < solo_n p) × (m / p.c / p.c * p.c + m % p.c < solo_n p)
+  row_in m lt =
+      let low = ok.c_low in
+      let pos : 0 < p.c = omega arith in
+      let b = div_below m p.c (solo_n p) pos lt in
+      let w = mul-add-lt (m / p.c / p.c) p.c (m % p.c) p.r (div_below (m / p.c) p.c p.r pos (omega arith)) (mod_below m p.c pos) in
+      (b, omega arith)
+
+  pub column_in : (m : ℕ) → m < solo_n p * p.r → (m / p.r < solo_n p) × (m / p.r % p.c * p.r + m % p.r < solo_n p)
+  column_in m lt =
+      let low = ok.c_low in
+      let low_r = ok.r_low in
+      let pos : 0 < p.c = omega arith in
+      let pos_r : 0 < p.r = omega arith in
+      let b = div_below m p.r (solo_n p) pos_r lt in
+      let w = mul-add-lt (m / p.r % p.c) p.r (m % p.r) p.c (mod_below (m / p.r) p.c pos) (mod_below m p.r pos_r) in
+      (b, omega arith)
+
+-- ---- the crossings by their numbers
+module _ {X : Type 0} (first second : ℕ → X) (n m : ℕ) where
+  abbrev both : List X
+  both = map first (range_with_len 0 n) ++ map second (range_with_len 0 m)
+
+  long : length (map first (range_with_len 0 n)) ≡ n
+  long = length-map-range_with_len first 0 n
+
+  pub both-length : length both ≡ n + m
+  both-length = omega (arith, length-append (map first (range_with_len 0 n)) (map second (range_with_len 0 m)), long, length-map-range_with_len second 0 m)
+
+  pub first-at : (k : ℕ) (d : X) → k < n → first k ≡ get_or both k d
+  first-at k d lt = sym (get_or_append_left (map first (range_with_len 0 n)) _ d k (omega (arith, long)) ∙ get_or-map-range_with_len first 0 n k k d lt (omega arith))
+
+  pub second-at : (k : ℕ) (d : X) → n ≤ k → k - n < m → second (k - n) ≡ get_or both k d
+  second-at k d le lt = sym (get_or-append_right (map first (range_with_len 0 n)) (map second (range_with_len 0 m)) n k d long le
+      ∙ get_or-map-range_with_len second 0 m (k - n) (k - n) d lt (omega arith))
+
+module _ (p : Solo) where
+  pub crossings-length : length (crossings_of p) ≡ solo_n p * p.c + solo_n p * p.r
+  crossings-length = both-length (row_crossing p) (column_crossing p) (solo_n p * p.c) (solo_n p * p.r)
+
+  pub scopes-length : length (crossing_scopes p) ≡ solo_n p * p.c + solo_n p * p.r
+  scopes-length = both-length (row_scope p) (column_scope p) (solo_n p * p.c) (solo_n p * p.r)
+
+  -- the crossing with a number is that of the scope with the number
+  pub crossing-named : (m : ℕ) (d : SoloScope) → m < length (crossing_scopes p) → house_of (crossings_of p) m ≡ house_at p (get_or (crossing_scopes p) m d)
+  crossing-named m d lt = elim (cases_lt m (solo_n p * p.c)) [
+    | inl low ↦ sym (first-at (row_crossing p) (column_crossing p) (solo_n p * p.c) (solo_n p * p.r) m no_house low)
+        ∙ ap (house_at p) (first-at (row_scope p) (column_scope p) (solo_n p * p.c) (solo_n p * p.r) m d low)
+    | inr high ↦
+        let rest : m - solo_n p * p.c < solo_n p * p.r = omega (arith, scopes-length, lt, high) in
+        sym (second-at (row_crossing p) (column_crossing p) (solo_n p * p.c) (solo_n p * p.r) m no_house high rest)
+        ∙ ap (house_at p) (second-at (row_scope p) (column_scope p) (solo_n p * p.c) (solo_n p * p.r) m d high rest)
+  ]
+
+-- ---- houses and then others
+pub first_at : (some more : List House) (h : ℕ) → h < length some → house_of some h ≡ house_of (some ++ more) h
+first_at some more h lt = sym (get_or_append_left some more no_house h lt)
+
+pub later_at : (some more : List House) (n h : ℕ) → length some ≡ n → n ≤ h → house_of more (h - n) ≡ house_of (some ++ more) h
+later_at some more n h long le = sym (get_or-append_right some more n h no_house long le)
+
+-- ---- all scopes by their numbers
+module _ (p : Solo) where
+  pub filled-length : length (filled_houses p) ≡ length (houses_of p)
+  filled-length = length-deciding (strikes_by_fillings no_repeat) p
+
+  abbrev names : List SoloScope
+  names = map scope.House (houses_of p)
+
+  names-length : length names ≡ length (houses_of p)
+  names-length = length-map (houses_of p) scope.House
+
+  pub all-length : length (scopes_of p) ≡ length (houses_of p) + length (crossing_scopes p)
+  all-length = omega (arith, length-append names (crossing_scopes p), names-length)
+
+  pub house-named : (h : ℕ) (d : SoloScope) (house : SoloHouse) → h < length (houses_of p) → get_or (scopes_of p) h d ≡ scope.House (get_or (houses_of p) h house)
+  house-named h d house lt = get_or_append_left names (crossing_scopes p) d h (omega (arith, names-length)) ∙ get_or-map scope.House (houses_of p) h house d lt
+
+  pub crossing-after : (h : ℕ) (d : SoloScope) → length (houses_of p) ≤ h → get_or (scopes_of p) h d ≡ get_or (crossing_scopes p) (h - length (houses_of p)) d
+  crossing-after h d le = get_or-append_right names (crossing_scopes p) (length (houses_of p)) h d names-length le
+
+  pub crossings-counted : length (filled_houses p ++ crossings_of p) ≡ length (scopes_of p)
+  crossings-counted = omega (arith, length-append (filled_houses p) (crossings_of p), filled-length, crossings-length p, all-length, scopes-length p)
+
+  pub scope-named : (h : ℕ) (d : SoloScope) → h < length (scopes_of p) → house_of (filled_houses p ++ crossings_of p) h ≡ house_at p (get_or (scopes_of p) h d)
+  scope-named h d lt = elim (cases_lt h (length (houses_of p))) [
+    | inl low ↦
+        let inside : h < length (filled_houses p) = omega (arith, filled-length) in
+        sym (first_at (filled_houses p) (crossings_of p) h inside) ∙ deciding-at (strikes_by_fillings no_repeat) p h inside
+        ∙ ap (house_at p) (sym (house-named h d (Row 0) low))
+    | inr high ↦
+        sym (later_at (filled_houses p) (crossings_of p) (length (houses_of p)) h filled-length high)
+        ∙ crossing-named p (h - length (houses_of p)) d (omega (arith, all-length, lt, high)) ∙ ap (house_at p) (sym (crossing-after h d high))
+  ]

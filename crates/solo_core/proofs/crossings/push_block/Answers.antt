@@ -1,0 +1,17 @@
+use Rattle.std.proofs.Common.{arith}
+use Rattle.solo_core.specs.declared.solo_house.SoloHouse.TheVariants.{Block}
+use Rattle.solo_core.specs.Houses.{places_of}
+use Rattle.solo_core.specs.HouseLaws.{lists_house}
+use Rattle.solo_core.proofs.HouseLemmas.{begun-more}
+use Rattle.solo_core.proofs.CrossedLemmas.{begun-done}
+use Rattle.solo_core.proofs.crossings.push_block.Goals as goal
+
+pub loop-k-preserved : goal.loop-k-preserved
+loop-k-preserved c =
+    let long = (lists_house c.args.puzzle.now c.n.ensures.lawful (Block c.args.block) c.requires.block_in).len in
+    begun-more c.loop-k.list c.push.new.self _ (places_of c.args.puzzle.now (Block c.args.block)) c.loop-k.k c.place.result (omega arith) c.place.ensures.place c.loop-k.invariant c.in_ok-push.ensures
+
+pub returns : goal.returns
+returns c =
+    let long = (lists_house c.args.puzzle.now c.n.ensures.lawful (Block c.args.block) c.requires.block_in).len in
+    begun-done c.loop-k.list c.loop-k.list _ (places_of c.args.puzzle.now (Block c.args.block)) c.loop-k.k (omega arith) c.loop-k.invariant

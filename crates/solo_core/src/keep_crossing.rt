@@ -1,0 +1,74 @@
+//! What a visit of a crossing of a block and a line keeps.
+
+ghost use Rattle.std.specs.Prelude.{◌≡◌, ℕ, ◌<◌, ◌≤◌, ◌&&◌, ◌||◌, not, nat_lt, nat_le, length, slice_index};
+ghost use Rattle.grid_core.specs.Candidates.{any_below};
+ghost use Rattle.engine_core.specs.Sets.{has_bit as is_set};
+ghost use Rattle.engine_core.specs.House.{IsDecided};
+ghost use Rattle.solo_core.specs.Deciding.{has_in};
+ghost use Rattle.solo_core.specs.Crossing.{strikes_by_crossing};
+
+use engine_core::has_bit;
+
+/// Decides what is kept of the sets of a crossing. The first `block` of its cells are the block's, of which those whose
+/// bit is set in `shared` are the line's too; the others are the line's alone.
+pub(crate) fn keep_crossing(block: usize, shared: u32, sets: &[u32], kept: &mut [u32])
+    requires few { block ≤ 31 }
+    requires as_many { length kept.old ≡ length sets.now }
+    ensures { (values : ℕ) → IsDecided values
+        (strikes_by_crossing (λ k. nat_lt k block && not (is_set shared k)) (λ k. nat_le block k))
+        sets.now kept.new }
+{
+    let in_block = values_in_block(block, shared, sets);
+    let in_line = values_in_line(block, sets);
+    for k in 0..sets.len() {
+        let left = without_lost(sets[k], in_block, k >= block);
+        kept[k] = without_lost(left, in_line, is_block_alone(block, shared, k));
+    }
+}
+
+/// Whether the cell is in the block outside the line.
+fn is_block_alone(block: usize, shared: u32, k: usize) -> bool
+    requires { block ≤ 31 }
+    ensures { result ≡ (nat_lt k block && not (is_set shared k)) }
+{
+    k < block && !has_bit(shared, k as u8)
+}
+
+/// The values of the block outside the line.
+fn values_in_block(block: usize, shared: u32, sets: &[u32]) -> u32
+    requires { block ≤ 31 }
+    ensures { (v : ℕ) → is_set result v
+        ≡ any_below (λ j. (nat_lt j block && not (is_set shared j)) && has_in sets.now j v) (length sets.now) }
+{
+    let mut values = 0;
+    for k in 0..sets.len() {
+        values = with_more_if(values, sets[k], is_block_alone(block, shared, k));
+    }
+    values
+}
+
+/// The values of the line outside the block.
+fn values_in_line(block: usize, sets: &[u32]) -> u32
+    ensures { (v : ℕ) → is_set result v
+        ≡ any_below (λ j. nat_le block j && has_in sets.now j v) (length sets.now) }
+{
+    let mut values = 0;
+    for k in 0..sets.len() {
+        values = with_more_if(values, sets[k], k >= block);
+    }
+    values
+}
+
+/// The bits with those of `more` too, where `on`.
+fn with_more_if(bits: u32, more: u32, on: bool) -> u32
+    ensures { (v : ℕ) → is_set result v ≡ (is_set bits v || (on && is_set more v)) }
+{
+    if on { bits | more } else { bits }
+}
+
+/// The bits without those that `there` hasn't, where `on`.
+fn without_lost(bits: u32, there: u32, on: bool) -> u32
+    ensures { (v : ℕ) → is_set result v ≡ (is_set bits v && not (on && not (is_set there v))) }
+{
+    if on { bits & there } else { bits }
+}

@@ -1,0 +1,109 @@
+//! Which cell of a house has which value in one filling without repeat.
+
+ghost use Rattle.std.specs.Prelude.{◌≡◌, ℕ, ◌<◌, ◌≤◌, true, length, slice_index};
+ghost use Rattle.engine_core.specs.House.{AreDifferent};
+ghost use Rattle.engine_core.specs.Sets.{has_bit as is_set};
+ghost use Rattle.grid_core.specs.Pairings.{IsPairing, IsShortSet};
+ghost use Rattle.solo_core.specs.Deciding.{has_in};
+ghost use Rattle.solo_core.specs.Peeled.{AreAlone, rest_of as rest_cells};
+
+use crate::bits::next_bit;
+use crate::joined::Joined;
+use arrayvec::ArrayVec;
+use engine_core::has_bit;
+use grid_core::{Paired, Pairing};
+
+/// More cells than a house has.
+pub(crate) const MANY: usize = 32;
+
+/// The cells whose bit is not set.
+pub(crate) fn rest_of(len: usize, alone: u32) -> ArrayVec<u8, MANY>
+    requires { len ≤ 31 }
+    ensures rest { result.items ≡ rest_cells len alone }
+    ensures few { length result.items ≤ len }
+{
+    let mut rest = ArrayVec::new();
+    for cell in 0..len {
+        if has_bit(alone, cell as u8) {
+            continue;
+        }
+        rest.push(cell as u8);
+    }
+    rest
+}
+
+/// Pairs these cells with values.
+pub(crate) fn pair_rest(values: u8, sets: &[u32], rest: &[u8], pairing: &mut Pairing) -> Paired
+    requires few { values ≤ 31 }
+    requires rest_in { (i : ℕ) → i < length rest.now → slice_index rest.now i < length sets.now }
+    requires lefts { length rest.now ≤ pairing.old.room }
+    requires rights { values ≤ pairing.old.room }
+    ensures room { pairing.new.room ≡ pairing.old.room }
+    ensures all { result ≡ Paired.All → IsPairing (λ l r. has_in sets.now (slice_index rest.now l) r) (length rest.now)
+        values pairing.new.mates }
+    ensures short { result ≡ Paired.Short → IsShortSet (λ l r. has_in sets.now (slice_index rest.now l) r) (length rest.now)
+        values pairing.new.short }
+{
+    let joined = Joined { sets, rest, values };
+    pairing.run(&joined)
+}
+
+/// Writes for each cell its value: its own, where it is alone, and else the one that it is paired with.
+pub(crate) fn write_mates(
+    values: u8,
+    sets: &[u32],
+    rest: &[u8],
+    pairing: &Pairing,
+    mates: &mut [u8],
+)
+    requires few { values ≤ 31 }
+    requires as_many { length mates.old ≡ length sets.now }
+    requires alone { (cells : ℕ) × (rest.now ≡ rest_cells (length sets.now) cells) × AreAlone values sets.now cells }
+    requires paired { IsPairing (λ l r. has_in sets.now (slice_index rest.now l) r) (length rest.now) values pairing.now.mates }
+    ensures { IsPairing (has_in sets.now) (length sets.now) values mates.new }
+{
+    write_own(values, sets, mates);
+    write_rest(values, rest, pairing, mates);
+}
+
+/// Writes for each cell the least value of its set.
+fn write_own(values: u8, sets: &[u32], mates: &mut [u8])
+    requires few { values ≤ 31 }
+    requires as_many { length mates.old ≡ length sets.now }
+    ensures as_many { length mates.new ≡ length sets.now }
+    ensures own { (k v : ℕ) → k < length sets.now → v < values → has_in sets.now k v ≡ true
+        → has_in sets.now k (slice_index mates.new k) ≡ true }
+{
+    for cell in 0..sets.len() {
+        mates[cell] = lowest(values, sets[cell]);
+    }
+}
+
+/// The least value of the set, where it has one.
+fn lowest(values: u8, set: u32) -> u8
+    requires { values ≤ 31 }
+    ensures { (v : ℕ) → v < values → is_set set v ≡ true → is_set set result ≡ true }
+{
+    match next_bit(set, 0, usize::from(values)) {
+        None => 0,
+        Some(value) => value as u8,
+    }
+}
+
+/// Writes for each of these cells the value that it is paired with.
+fn write_rest(values: u8, rest: &[u8], pairing: &Pairing, mates: &mut [u8])
+    requires few { values ≤ 31 }
+    requires rest_in { (i : ℕ) → i < length rest.now → slice_index rest.now i < length mates.old }
+    requires different { AreDifferent rest.now }
+    requires as_many { length pairing.now.mates ≡ length rest.now }
+    requires small { (i : ℕ) → i < length rest.now → slice_index pairing.now.mates i < values }
+    ensures as_many { length mates.new ≡ length mates.old }
+    ensures paired { (i : ℕ) → i < length rest.now
+        → slice_index mates.new (slice_index rest.now i) ≡ slice_index pairing.now.mates i }
+    ensures others { (k : ℕ) → ((i : ℕ) → i < length rest.now → slice_index rest.now i ≡ k → ⊥)
+        → slice_index mates.new k ≡ slice_index mates.old k }
+{
+    for i in 0..rest.len() {
+        mates[usize::from(rest[i])] = pairing.mate(i) as u8;
+    }
+}

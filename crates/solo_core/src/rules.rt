@@ -1,0 +1,191 @@
+//! The rules of a puzzle of Solo, by what its houses strike.
+
+ghost use Rattle.std.specs.Prelude.{◌≡◌, ℕ, ◌<◌, ◌≤◌, IfOk, true, false, length, vec_len, refl};
+ghost use Rattle.std.proofs.Props.{props};
+ghost use Rattle.grid_core.specs.Board.{has, SameShape};
+ghost use Rattle.gameid_core.specs.Puzzles.{IsSolo, solo_n};
+ghost use Rattle.engine_core.specs.Puzzle.{IsBoardOf, Needs, after};
+ghost use Rattle.engine_core.specs.Closing.{HasStruck};
+ghost use Rattle.engine_core.specs.Houses.{house_of};
+ghost use Rattle.engine_core.specs.declared.mode.Mode.TheVariants.{Queue};
+ghost use Rattle.solo_core.specs.RuleSets.{rules_of};
+ghost use Rattle.solo_core.specs.Work.{table_of};
+
+use crate::check::accepts;
+use crate::places::cells;
+use crate::start::write_start;
+use crate::strikes::{Crossings, Fillings, Singles, Strikes};
+use engine_core::{Houses, Mode, Rules, apply, gather};
+use gameid_core::SoloPuzzle;
+use grid_core::{Board, Grid};
+use std::alloc::{AllocError, Global};
+use std::marker::PhantomData;
+
+/// The rules of a puzzle, and the table of its houses.
+#[derive(Drop)]
+pub struct SoloRules<S: Strikes> {
+    puzzle: SoloPuzzle,
+    table: Houses,
+    by: PhantomData<S>,
+    ghost is_solo: { IsSolo puzzle } by { Prim.hlevel props },
+    ghost listed: { table ≡ table_of puzzle (S.houses puzzle) },
+}
+
+/// The rules whose houses strike by single values and places.
+pub type SoloSingles = SoloRules<Singles>;
+
+/// The rules whose houses strike what no filling without repeat allows.
+pub type SoloHouses = SoloRules<Fillings>;
+
+/// The rules of houses, and of their crossings.
+pub type SoloCrossings = SoloRules<Crossings>;
+
+/// What a visit works in: the sets of a house's cells, what is kept of them, and what decides it.
+#[derive(Drop)]
+pub struct SoloWork<W: Drop> {
+    sets: Vec<u32>,
+    kept: Vec<u32>,
+    work: W,
+}
+
+impl<S: Strikes> SoloRules<S> {
+    /// The rules of the puzzle. They keep a copy of it.
+    ///
+    /// # Errors
+    ///
+    /// When memory was refused.
+    pub fn new(alloc: Global, puzzle: &SoloPuzzle) -> Result<SoloRules<S>, AllocError>
+        ensures copied { IfOk result (λ rules. rules.puzzle ≡ puzzle.now) }
+        ensures rules { IfOk result (λ rules. ⟦<SoloRules<S> as Rules>⟧.puzzle rules
+            ≡ rules_of S.SETTLED puzzle.now (S.houses puzzle.now)) }
+    {
+        let puzzle = puzzle.copy(alloc)?;
+        let list = S::list(alloc, &puzzle)?;
+        let table = Houses::of(alloc, cells(&puzzle), list)?;
+        Ok(SoloRules {
+            puzzle,
+            table,
+            by: PhantomData,
+        })
+    }
+}
+
+impl<S: Strikes> Rules for SoloRules<S> {
+    ghost use Rattle.std.specs.Prelude.{true};
+    ghost use Rattle.std.proofs.Common.{arith, sym, subst};
+    ghost use Rattle.solo_core.specs.RuleLaws.{rules_lawful};
+
+    type Scratch = SoloWork<S::Work>;
+
+    const SETTLED: bool = S::SETTLED;
+
+    const MODE: Mode = Mode::Queue;
+
+    ghost puzzle = { λ r. rules_of S.SETTLED r.puzzle (S.houses r.puzzle) };
+
+    ghost SETTLED = { S.SETTLED };
+
+    ghost MODE = { Queue };
+
+    ghost serves = { λ w needs. (needs.scope ≤ vec_len w.sets) × (needs.scope ≤ vec_len w.kept) × S.serves w.work needs.values };
+
+    ghost lawful = { λ r. rules_lawful r.puzzle r.is_solo S.SETTLED (S.houses r.puzzle) (S.sound r.puzzle r.is_solo) };
+
+    ghost settled_is = { λ _. refl };
+
+    ghost mode_is = { λ _. refl };
+
+    ghost serves_smaller = { λ w need had f s. let le = f.scope_in in let a = s.0 in let b = s.1 in (
+      Prim.omega arith,
+      Prim.omega arith,
+      subst (S.serves w.work) (sym f.same_values) s.2,
+    ) };
+
+    fn cells(&self) -> usize {
+        self.table.cells()
+    }
+
+    fn values(&self) -> u8 {
+        self.puzzle.n()
+    }
+
+    fn houses(&self) -> usize {
+        self.table.len()
+    }
+
+    fn bound(&self) -> usize {
+        self.table.total() * usize::from(self.puzzle.n()) + self.table.len()
+    }
+
+    fn scope_len(&self, house: usize) -> usize {
+        self.table.places(house).len()
+    }
+
+    fn scope(&self, house: usize, k: usize) -> usize {
+        self.table.places(house)[k] as usize
+    }
+
+    fn house_at(&self, place: usize, from: usize) -> Option<usize> {
+        self.table.next_at(place, from)
+    }
+
+    fn start(&self, board: &mut Board) {
+        write_start(&self.puzzle, board);
+    }
+
+    fn scratch(&self, alloc: Global) -> Result<SoloWork<S::Work>, AllocError> {
+        let room = self.table.longest();
+        Ok(SoloWork {
+            sets: vec![in alloc; 0; room]?,
+            kept: vec![in alloc; 0; room]?,
+            work: S::work(alloc, usize::from(self.puzzle.n()))?,
+        })
+    }
+
+    fn visit(&self, house: usize, board: &mut Board, scratch: &mut SoloWork<S::Work>) -> bool {
+        visit_cells::<S>(
+            &self.puzzle,
+            house,
+            self.table.places(house),
+            board,
+            &mut scratch.sets,
+            &mut scratch.kept,
+            &mut scratch.work,
+        )
+    }
+
+    fn accept(&self, _scratch: &mut SoloWork<S::Work>, grid: &Grid) -> bool {
+        accepts(&self.puzzle, grid)
+    }
+}
+
+/// Strikes from the house at these places what it strikes.
+fn visit_cells<S: Strikes>(
+    puzzle: &SoloPuzzle,
+    house: usize,
+    places: &[u32],
+    board: &mut Board,
+    sets: &mut [u32],
+    kept: &mut [u32],
+    work: &mut S::Work,
+) -> bool
+    requires house_in { house < length (S.houses puzzle.now) }
+    requires of_house { places.now ≡ (house_of (S.houses puzzle.now) house).places }
+    requires board_of { IsBoardOf (rules_of S.SETTLED puzzle.now (S.houses puzzle.now)) board.old }
+    requires sets_room { length places.now ≤ length sets.old }
+    requires kept_room { length places.now ≤ length kept.old }
+    requires served { S.serves work.old (solo_n puzzle.now) }
+    ensures left { has board.new
+        ≡ after (rules_of S.SETTLED puzzle.now (S.houses puzzle.now)) house (has board.old) }
+    ensures shape { SameShape board.old board.new }
+    ensures unchanged { result ≡ false → has board.new ≡ has board.old }
+    ensures changed { result ≡ true → HasStruck (has board.old) (has board.new) }
+    ensures keeps { (values : ℕ) → S.serves work.old values → S.serves work.new values }
+{
+    let n = puzzle.n();
+    let sets = &mut sets[..places.len()];
+    let kept = &mut kept[..places.len()];
+    gather(board, places, sets);
+    S::keep(puzzle, house, sets, kept, work);
+    apply(board, places, n, kept)
+}
