@@ -46,6 +46,14 @@ any-here test (x ∷ xs) d on passes = elim (or_cases (eqb x d) (has_place xs d)
   | inr more ↦ or_right (test x) (list_any test xs) (any-here test xs d more passes)
 ]
 
+pub any-some : (test : ℕ → Bool) (xs : List ℕ) → list_any test xs ≡ true → (d : ℕ) × (has_place xs d ≡ true) × (test d ≡ true)
+unfolding has_place
+any-some test [] on = absurd (true≢false (sym on))
+any-some test (x ∷ xs) on = elim (or_cases (test x) (list_any test xs) on) [
+  | inl here ↦ (x, or_left (eqb x x) (has_place xs x) (eq-eqb x x refl), here)
+  | inr more ↦ let w = any-some test xs more in (w.0, or_right (eqb x w.0) (has_place xs w.0) w.1, w.2)
+]
+
 pub any-none : (test : ℕ → Bool) (xs : List ℕ) → ((d : ℕ) → has_place xs d ≡ true → test d ≡ false) → list_any test xs ≡ false
 unfolding has_place
 any-none test [] none = refl

@@ -104,7 +104,7 @@ number-kind p c board lt = by (get_or p.cells c Black) refl
             between-from n n (map (slice_index g) (filter (white p) (steps p.size c 4))) (omega arith) (omega arith)
 
 -- ---- the houses of runs
-row-kind : (p : Light) (c : ℕ) → IsBoard p → IsMet p (record { places = row_run p c; least = 0; most = 1 })
+pub row-kind : (p : Light) (c : ℕ) → IsBoard p → IsMet p (record { places = row_run p c; least = 0; most = 1 })
 unfolding row_run meets
 row-kind p c board = record {
   is_house = record {
@@ -125,7 +125,7 @@ row-kind p c board = record {
     distinct : AreDistinct (filter (joined_in_row p c) (row_places p.size (c / p.size.w)))
     distinct = distinct-filter (joined_in_row p c) (row_places p.size (c / p.size.w)) (row-distinct p.size (c / p.size.w))
 
-column-kind : (p : Light) (c : ℕ) → IsBoard p → IsMet p (record { places = column_run p c; least = 0; most = 1 })
+pub column-kind : (p : Light) (c : ℕ) → IsBoard p → IsMet p (record { places = column_run p c; least = 0; most = 1 })
 unfolding column_run meets
 column-kind p c board = record {
   is_house = record {
@@ -147,23 +147,23 @@ column-kind p c board = record {
     distinct = distinct-filter (joined_in_column p c) (column_places p.size (c % p.size.w)) (column-distinct p.size (c % p.size.w) board.some)
 
 -- ---- the houses of white cells
-in-row-run : (p : Light) (c d : ℕ) → 0 < p.size.w → joined_in_row p c d ≡ true → has_place (row_run p c) d ≡ true
+pub in-row-run : (p : Light) (c d : ℕ) → 0 < p.size.w → joined_in_row p c d ≡ true → has_place (row_run p c) d ≡ true
 unfolding row_run
 in-row-run p c d pos on =
     let w = row-of p c d pos on in
     place-kept (joined_in_row p c) (row_places p.size (c / p.size.w)) d (rw w.2 at (has_place-here (row_places p.size (c / p.size.w)) w.0 (omega (arith, w.1, row-long p.size (c / p.size.w))))) on
 
-in-column-run : (p : Light) (c d : ℕ) → 0 < p.size.w → d < light_cells p → joined_in_column p c d ≡ true → has_place (column_run p c) d ≡ true
+pub in-column-run : (p : Light) (c d : ℕ) → 0 < p.size.w → d < light_cells p → joined_in_column p c d ≡ true → has_place (column_run p c) d ≡ true
 unfolding column_run
 in-column-run p c d pos lt on =
     let w = column-of p c d pos lt on in
     place-kept (joined_in_column p c) (column_places p.size (c % p.size.w)) d (rw w.2 at (has_place-here (column_places p.size (c % p.size.w)) w.0 (omega (arith, w.1, column-long p.size (c % p.size.w))))) on
 
-row-run-joined : (p : Light) (c d : ℕ) → has_place (row_run p c) d ≡ true → joined_in_row p c d ≡ true
+pub row-run-joined : (p : Light) (c d : ℕ) → has_place (row_run p c) d ≡ true → joined_in_row p c d ≡ true
 unfolding row_run
 row-run-joined p c d on = (place-filter (joined_in_row p c) (row_places p.size (c / p.size.w)) d on).1
 
-column-run-joined : (p : Light) (c d : ℕ) → has_place (column_run p c) d ≡ true → joined_in_column p c d ≡ true
+pub column-run-joined : (p : Light) (c d : ℕ) → has_place (column_run p c) d ≡ true → joined_in_column p c d ≡ true
 unfolding column_run
 column-run-joined p c d on = (place-filter (joined_in_column p c) (column_places p.size (c % p.size.w)) d on).1
 

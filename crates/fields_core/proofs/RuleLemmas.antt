@@ -4,9 +4,8 @@ use Rattle.std.proofs.Math.Path.{fun_ext}
 use Rattle.std.proofs.lemmas.Bool.{cases_eq, cases_lt, lt-ltb, le-ltb, ne_eqb, eq-eqb, false_from_ne_true}
 use Rattle.grid_core.specs.Candidates.{Candidates, all_of, without}
 use Rattle.grid_core.specs.Board.{Layout, SameShape}
-use Rattle.engine_core.specs.Puzzle.{has_place, longest, after}
+use Rattle.engine_core.specs.Puzzle.{has_place, after}
 use Rattle.engine_core.specs.PlaceLaws.{has_place-at, has_place-here}
-use Rattle.engine_core.proofs.StoreLemmas.{scope_le-longest}
 use Rattle.gameid_core.specs.Puzzles.{Light}
 use Rattle.fields_core.specs.CountHouse.{House, Table, house_of, start_of, after_house, count_puzzle}
 use Rattle.fields_core.specs.CountLaws.{after-house}
@@ -19,12 +18,6 @@ light-houses t p q e f = ap (λ (u : Table). u.houses) e ∙ ap light_houses f
 
 pub table-of : (t : Table) (p q : Light) (cells : ℕ) (houses : List House) → t ≡ record { cells = cells; houses = houses } → cells ≡ light_cells p → houses ≡ light_houses p → q ≡ p → t ≡ light_table q
 table-of t p q cells houses e low is same = e ∙ rw (low, is, same) refl
-
-pub room-for : (had need : List House) (h room : ℕ) → had ≡ need → h < length need → longest (λ h. (house_of need h).places) (length need) ≤ room → length (house_of had h).places ≤ room
-room-for had need h room e lt fits = let l = scope_le-longest (λ h. (house_of need h).places) (length need) h lt in rw e (omega arith)
-
-pub room-is : (had need : List House) (room most : ℕ) → had ≡ need → most ≡ longest (λ h. (house_of had h).places) (length had) → room ≡ most → longest (λ h. (house_of need h).places) (length need) ≤ room
-room-is had need room most e is same = let f : most ≡ longest (λ h. (house_of need h).places) (length need) = is ∙ ap (λ houses. longest (λ h. (house_of houses h).places) (length houses)) e in omega arith
 
 pub after-is : (cells : ℕ) (blocked : ℕ → Bool) (is_solution : List ℕ → Bool) (had need : List House) (h : ℕ) (K K' : Candidates) → had ≡ need → K' ≡ after_house (house_of had h) K → K' ≡ after (count_puzzle cells blocked need is_solution) h K
 after-is cells blocked is_solution had need h K K' e left = left ∙ ap (λ houses. after_house (house_of houses h) K) e ∙ sym (after-house cells blocked need is_solution h K)

@@ -1,71 +1,29 @@
--- The tents and the trees can be paired exactly where all cells can: a whole pairing of the cells names each of them, so it
--- leaves no tree out; and a pairing of tents and trees is a choice for each cell, which a short set rules out.
-use Rattle.std.proofs.Common.{◌≡◌, ℕ, zero, suc, ◌*◌, ◌<◌, Bool, true, false, not, ◌&&◌, ◌||◌, eqb, cond, List, [], length, slice_index, map, refl, sym, ap, ◌∙◌, ◌⊎◌, inl, inr, arith}
-use Rattle.std.specs.List.{range_with_len}
-use Rattle.std.proofs.lemmas.Bool.{cases_Bool, or_left, or_right, or_cases, and_from, and_parts, true≢false, false_from_ne_true, eqb-true, eq-eqb, not-true}
-use Rattle.std.proofs.lemmas.List.{length-map, get_or-map}
+-- Tents and trees can be paired exactly if there are as many of both and each tent can have a tree of its own: then none is
+-- left out. A pairing is a choice of a tree for each tent, which a short set rules out.
+use Rattle.std.proofs.Common.{◌≡◌, ℕ, zero, suc, ◌*◌, ◌<◌, ◌≤◌, true, false, not, ◌&&◌, ◌||◌, List, [], length, slice_index, take, map, sym, ap, subst, ◌∙◌, inl, inr, arith}
+use Rattle.std.specs.List.{filter, range_with_len}
+use Rattle.std.proofs.lemmas.Bool.{cases_Bool, cases_lt, or_left, or_right, and_from, false_from_ne_true}
+use Rattle.std.proofs.lemmas.List.{length-map, length-take, get_or-map}
 use Rattle.std.proofs.lemmas.List.FromFn.{get_or-map-range_with_len}
-use Rattle.grid_core.specs.Grids.{IsGrid}
 use Rattle.grid_core.specs.Regions.{steps}
-use Rattle.grid_core.specs.Candidates.{all_below}
+use Rattle.grid_core.specs.Candidates.{count_below}
 use Rattle.grid_core.specs.Pairings.{IsPairing, IsShortSet}
 use Rattle.grid_core.proofs.ShortSets.{no_choice}
-use Rattle.grid_core.proofs.CandidateLemmas.{all_below-at, all_below-from}
+use Rattle.grid_core.proofs.CandidateLemmas.{all_below-from}
 use Rattle.engine_core.specs.Puzzle.{has_place}
 use Rattle.engine_core.specs.PlaceLaws.{has_place-here}
 use Rattle.engine_core.specs.Filling.{has_value, Fills}
 use Rattle.engine_core.specs.FillingLaws.{test_from_filling}
 use Rattle.engine_core.specs.House.{AreDifferent}
 use Rattle.gameid_core.specs.Puzzles.{Tents}
-use Rattle.fields_core.specs.Tents.{tent_cells, tree, tent, tree_right, names_none_twice, leaves_none_out, trees_beside, can_be_paired}
-use Rattle.fields_core.specs.TentPairs.{may_pair}
+use Rattle.fields_core.specs.Tents.{tent_cells, tree, tent, names_none_twice, leaves_none_out, trees_beside, can_be_paired}
+use Rattle.fields_core.specs.TentPairs.{trees_of, tree_count, may_pair, AreIn}
 use Rattle.fields_core.specs.TentSolutions.{IsPairedBy}
 use Rattle.fields_core.proofs.PlaceLists.{place-filter, place-kept, AreDistinct, different-from, distinct-from, distinct-filter}
 use Rattle.fields_core.proofs.BelowLemmas.{index_of, index-is, place-map, none-twice-from, distinct-none-twice, different-map, range-distinct, each-named}
-use Rattle.fields_core.proofs.TentBeside.{beside-both, beside-in}
+use Rattle.fields_core.proofs.TentBeside.{beside-in}
+use Rattle.fields_core.proofs.TentNumbers.{IsPassing, passing-long, passing-at, at-passing, count-under}
 use Rattle.fields_core.proofs.TentCounting.{tents_of, IsGiven, given, tent-in, in-range}
-
--- what is used of a grid: its cells, and that no tent stands on a tree
-pub record IsPitched (p : Tents) (g : List ℕ) : Type 0 where
-  pub wide : 0 < p.size.w
-  pub long : length g ≡ tent_cells p
-  pub bare : (c : ℕ) → tent g c ≡ true → tree p c ≡ true → ⊥
-
-pub pitched : (p : Tents) (g : List ℕ) → 0 < p.size.w → IsGrid (tent_cells p) 2 g → all_below (tree_right p g) (tent_cells p) ≡ true → IsPitched p g
-unfolding tree_right
-pitched p g wide grid right = record {
-  wide = wide;
-  long = grid.each_cell;
-  bare = λ c on tree_on. elim (or_cases (not (tree p c)) (eqb (slice_index g c) 0) (all_below-at (tree_right p g) (tent_cells p) c right (tent-in g (tent_cells p) c grid.each_cell on))) [
-    | inl none ↦ true≢false (sym tree_on ∙ not-true (tree p c) none)
-    | inr zero_at ↦ let a = eqb-true (slice_index g c) 0 zero_at in let b = eqb-true (slice_index g c) 1 on in absurd (omega arith)
-  ];
-}
-
--- ---- which cells are joined
-joined-tent : (p : Tents) (g : List ℕ) (c d : ℕ) → tent g c ≡ true → may_pair p g c d ≡ true → (has_place (steps p.size c 4) d ≡ true) × (tree p d ≡ true)
-unfolding may_pair
-joined-tent p g c d on h = and_parts (has_place (steps p.size c 4) d) (tree p d) (rw on at h)
-
-joined-tree : (p : Tents) (g : List ℕ) (c d : ℕ) → tent g c ≡ false → tree p c ≡ true → may_pair p g c d ≡ true → tent g d ≡ true
-unfolding may_pair
-joined-tree p g c d off on h = (and_parts (has_place (steps p.size c 4) d) (tent g d) (rw (off, on) at h)).1
-
-joined-other : (p : Tents) (g : List ℕ) (c d : ℕ) → tent g c ≡ false → tree p c ≡ false → may_pair p g c d ≡ true → c ≡ d
-unfolding may_pair
-joined-other p g c d off none h = eqb-true c d (rw (off, none) at h)
-
-join-tent : (p : Tents) (g : List ℕ) (c d : ℕ) → tent g c ≡ true → has_place (steps p.size c 4) d ≡ true → tree p d ≡ true → may_pair p g c d ≡ true
-unfolding may_pair
-join-tent p g c d on beside tree_on = rw on (and_from _ _ beside tree_on)
-
-join-tree : (p : Tents) (g : List ℕ) (c d : ℕ) → tent g c ≡ false → tree p c ≡ true → has_place (steps p.size c 4) d ≡ true → tent g d ≡ true → may_pair p g c d ≡ true
-unfolding may_pair
-join-tree p g c d off on beside tent_on = rw (off, on) (and_from _ _ beside tent_on)
-
-join-other : (p : Tents) (g : List ℕ) (c d : ℕ) → tent g c ≡ false → tree p c ≡ false → c ≡ d → may_pair p g c d ≡ true
-unfolding may_pair
-join-other p g c d off none same = rw (off, none) (eq-eqb c d same)
 
 -- ---- the tents by place
 pub tents-distinct : (p : Tents) (g : List ℕ) → AreDistinct (tents_of p g)
@@ -125,114 +83,121 @@ pairs-from p g tree_of long is =
           | inr off ↦ or_left (not (tree p c)) (has_place chosen c) (ap not off)
         ]
 
-whole-paired : (p : Tents) (g mates : List ℕ) → IsPitched p g → IsPairing (may_pair p g) (tent_cells p) (tent_cells p) mates → IsPairedBy p g (slice_index mates)
-whole-paired p g mates pitch whole = record {
-  is_tree = λ c lt on. (joined-tent p g c (slice_index mates c) on (whole.joined c lt)).1;
-  is_beside = λ c lt on. (joined-tent p g c (slice_index mates c) on (whole.joined c lt)).0;
-  own = λ c d lc ld on_c on_d. whole.own c d lc ld;
-  none_out = λ d lt on. by d on (each-named (slice_index mates) (tent_cells p) d whole.in_range whole.own lt);
-}
-  where
-    by : (d : ℕ) → tree p d ≡ true → (l : ℕ) × (l < tent_cells p) × (slice_index mates l ≡ d) → (c : ℕ) × (c < tent_cells p) × (tent g c ≡ true) × (slice_index mates c ≡ d)
-    by d on (l, low, is) =
-        let j : may_pair p g l d ≡ true = rw is at (whole.joined l low) in
-        elim (cases_Bool (tent g l)) [
-          | inl here ↦ (l, low, here, is)
-          | inr off ↦ elim (cases_Bool (tree p l)) [
-            | inl tree_on ↦ absurd (pitch.bare d (joined-tree p g l d off tree_on j) on)
-            | inr none ↦ absurd (true≢false (sym on ∙ ap (tree p) (sym (joined-other p g l d off none j)) ∙ none))
-          ]
-        ]
+-- the number of a tree, and the tree of a number
+tree-number : (p : Tents) (c : ℕ) → c < tent_cells p → tree p c ≡ true → (count_below (tree p) c < tree_count p) × (slice_index (trees_of p) (count_below (tree p) c) ≡ c)
+tree-number p c lt on = (count-under (tree p) c (tent_cells p) lt on, at-passing (tree p) (tent_cells p) c lt on)
 
-pub whole-pairs : (p : Tents) (g mates : List ℕ) → IsPitched p g → IsPairing (may_pair p g) (tent_cells p) (tent_cells p) mates → can_be_paired p g ≡ true
-whole-pairs p g mates pitch whole = pairs-from p g (slice_index mates) pitch.long (whole-paired p g mates pitch whole)
+number-tree : (p : Tents) (r : ℕ) → r < tree_count p → IsPassing (tree p) (tent_cells p) r
+number-tree p r lt = passing-at (tree p) (tent_cells p) r (omega (arith, passing-long (tree p) (tent_cells p)))
 
--- ---- a pairing of tents and trees is a choice for each cell
-module _ (p : Tents) (g chosen : List ℕ) (pitch : IsPitched p g) (is : IsGiven p g chosen) where
-  right_of : ℕ → ℕ
-  right_of c = cond (tent g c) (slice_index chosen (index_of (tents_of p g) c)) (cond (tree p c) (slice_index (tents_of p g) (index_of chosen c)) c)
+-- ---- each tent has a tree of its own, and there are as many trees
+module _ (p : Tents) (g mates : List ℕ) (long : length g ≡ tent_cells p) (whole : IsPairing (may_pair p (tents_of p g)) (length (tents_of p g)) (tree_count p) mates) (as_many : length (tents_of p g) ≡ tree_count p) where
+  tree_of : ℕ → ℕ
+  tree_of c = slice_index (trees_of p) (slice_index mates (index_of (tents_of p g) c))
 
-  -- what is chosen for a cell: the tree of its tent, the tent of its tree, or itself
-  record IsTents (c d : ℕ) : Type 0 where
-    on : tent g c ≡ true
-    k : ℕ
-    within : k < length (tents_of p g)
-    at : slice_index (tents_of p g) k ≡ c
-    gives : slice_index chosen k ≡ d
+  -- a tent by its number
+  listed : (c : ℕ) → tent g c ≡ true → (index_of (tents_of p g) c < length (tents_of p g)) × (slice_index (tents_of p g) (index_of (tents_of p g) c) ≡ c)
+  listed c on = index-is (tents_of p g) c (tent-listed p g c long on)
 
-  record IsTrees (c d : ℕ) : Type 0 where
-    off : tent g c ≡ false
-    on : tree p c ≡ true
-    k : ℕ
-    within : k < length (tents_of p g)
-    at : slice_index chosen k ≡ c
-    gives : slice_index (tents_of p g) k ≡ d
+  number-of : (l : ℕ) → l < length (tents_of p g) → IsPassing (tree p) (tent_cells p) (slice_index mates l)
+  number-of l lt = number-tree p (slice_index mates l) (whole.in_range l lt)
 
-  record IsOther (c d : ℕ) : Type 0 where
-    off : tent g c ≡ false
-    none : tree p c ≡ false
-    gives : c ≡ d
+  near : (l : ℕ) → l < length (tents_of p g) → has_place (steps p.size (slice_index (tents_of p g) l) 4) (slice_index (trees_of p) (slice_index mates l)) ≡ true
+  unfolding may_pair
+  near l lt = whole.joined l lt
 
-  abbrev IsRight : ℕ → ℕ → Type 0
-  IsRight c d = IsTents c d ⊎ (IsTrees c d ⊎ IsOther c d)
-
-  right-is : (c : ℕ) → c < tent_cells p → IsRight c (right_of c)
-  unfolding right_of
-  right-is c lt = by (tent g c) (tree p c) refl refl
+  each-paired : IsPairedBy p g tree_of
+  unfolding tree_of
+  each-paired = record {
+    is_tree = λ c lt on. (number-of (index_of (tents_of p g) c) (listed c on).0).passes;
+    is_beside = λ c lt on. let w = listed c on in subst (λ d. has_place (steps p.size d 4) (tree_of c) ≡ true) w.1 (near (index_of (tents_of p g) c) w.0);
+    own = λ c d lc ld on_c on_d e.
+        let v = listed c on_c in
+        let w = listed d on_d in
+        let a = (number-of (index_of (tents_of p g) c) v.0).before in
+        let b = (number-of (index_of (tents_of p g) d) w.0).before in
+        let same : slice_index mates (index_of (tents_of p g) c) ≡ slice_index mates (index_of (tents_of p g) d) = sym a ∙ ap (count_below (tree p)) e ∙ b in
+        sym v.1 ∙ ap (slice_index (tents_of p g)) (whole.own (index_of (tents_of p g) c) (index_of (tents_of p g) d) v.0 w.0 same) ∙ w.1;
+    none_out = λ d lt on. by d lt on;
+  }
     where
-      by : (a b : Bool) → tent g c ≡ a → tree p c ≡ b → IsRight c (cond a (slice_index chosen (index_of (tents_of p g) c)) (cond b (slice_index (tents_of p g) (index_of chosen c)) c))
-      by true b on e = let w = index-is (tents_of p g) c (tent-listed p g c pitch.long on) in inl (record { on = on; k = index_of (tents_of p g) c; within = w.0; at = w.1; gives = refl })
-      by false true off on = let w = index-is chosen c (is.none_out c lt on) in inr (inl (record { off = off; on = on; k = index_of chosen c; within = let low = w.0 in let long = is.long in omega arith; at = w.1; gives = refl }))
-      by false false off none = inr (inr (record { off = off; none = none; gives = refl }))
+      by : (d : ℕ) → d < tent_cells p → tree p d ≡ true → (c : ℕ) × (c < tent_cells p) × (tent g c ≡ true) × (tree_of c ≡ d)
+      by d lt on =
+          let n = tree-number p d lt on in
+          let w = each-named (slice_index mates) (length (tents_of p g)) (count_below (tree p) d) (λ l low. let r = whole.in_range l low in omega arith) whole.own (omega (arith, n.0)) in
+          let is_tent = listed-tent p g (slice_index (tents_of p g) w.0) (has_place-here (tents_of p g) w.0 w.1) in
+          let v = listed (slice_index (tents_of p g) w.0) is_tent in
+          let same : index_of (tents_of p g) (slice_index (tents_of p g) w.0) ≡ w.0 = different-from (tents_of p g) (tents-distinct p g) (index_of (tents_of p g) (slice_index (tents_of p g) w.0)) w.0 v.0 w.1 v.1 in (
+            slice_index (tents_of p g) w.0,
+            tent-in g (tent_cells p) (slice_index (tents_of p g) w.0) long is_tent,
+            is_tent,
+            ap (λ k. slice_index (trees_of p) (slice_index mates k)) same ∙ ap (slice_index (trees_of p)) w.2 ∙ n.1,
+          )
 
-  tent-of : (k : ℕ) → k < length (tents_of p g) → tent g (slice_index (tents_of p g) k) ≡ true
-  tent-of k lt = listed-tent p g (slice_index (tents_of p g) k) (has_place-here (tents_of p g) k lt)
+  pub whole-pairs : can_be_paired p g ≡ true
+  whole-pairs = pairs-from p g tree_of long each-paired
 
-  tree-of : (k : ℕ) → k < length (tents_of p g) → tree p (slice_index chosen k) ≡ true
-  tree-of k lt = (is.each k lt).1
+-- ---- a pairing is a choice of a tree for each tent
+-- different numbers below m are m at most
+few-below : (f : ℕ → ℕ) (n m : ℕ) → ((l : ℕ) → l < n → f l < m) → ((l k : ℕ) → l < n → k < n → f l ≡ f k → l ≡ k) → n ≤ m
+few-below f n m below own = elim (cases_lt m n) [
+  | inl more ↦ let w = each-named f n m (λ l lt. let b = below l lt in omega arith) own more in let b = below w.0 w.1 in let e = w.2 in absurd (omega arith)
+  | inr few ↦ few
+]
 
-  right-in : (c d : ℕ) → c < tent_cells p → IsRight c d → d < tent_cells p
-  right-in c d lt (inl t) = rw t.gives at (is.each t.k t.within).0
-  right-in c d lt (inr (inl t)) = tent-in g (tent_cells p) d pitch.long (rw t.gives at (tent-of t.k t.within))
-  right-in c d lt (inr (inr o)) = rw o.gives at lt
-
-  right-joined : (c d : ℕ) → c < tent_cells p → IsRight c d → may_pair p g c d ≡ true
-  right-joined c d lt (inl t) = let e = is.each t.k t.within in join-tent p g c d t.on (rw (t.at, t.gives) at e.2) (rw t.gives at e.1)
-  right-joined c d lt (inr (inl t)) =
-      let e = is.each t.k t.within in
-      let on : tent g d ≡ true = rw t.gives at (tent-of t.k t.within) in
-      let near : has_place (steps p.size d 4) c ≡ true = rw (t.gives, t.at) at e.2 in
-      join-tree p g c d t.off t.on (beside-both p.size d c pitch.wide (tent-in g (tent_cells p) d pitch.long on) lt near) on
-  right-joined c d lt (inr (inr o)) = join-other p g c d o.off o.none o.gives
-
+module _ (p : Tents) (g chosen : List ℕ) (is : IsGiven p g chosen) where
   chosen-different : AreDifferent chosen
   chosen-different = different-from chosen (distinct-none-twice chosen is.none_twice)
 
-  tents-different : AreDifferent (tents_of p g)
-  tents-different = different-from (tents_of p g) (tents-distinct p g)
+  abbrev right_of : ℕ → ℕ
+  right_of l = count_below (tree p) (slice_index chosen l)
 
-  right-own : (b c d : ℕ) → IsRight b d → IsRight c d → b ≡ c
-  right-own b c d (inl t) (inl u) =
-      let i = t.within in let j = u.within in
+  right-in : (l : ℕ) → l < length (tents_of p g) → right_of l < tree_count p
+  right-in l lt = let e = is.each l lt in (tree-number p (slice_index chosen l) e.0 e.1).0
+
+  right-at : (l : ℕ) → l < length (tents_of p g) → slice_index (trees_of p) (right_of l) ≡ slice_index chosen l
+  right-at l lt = let e = is.each l lt in (tree-number p (slice_index chosen l) e.0 e.1).1
+
+  right-own : (l m : ℕ) → l < length (tents_of p g) → m < length (tents_of p g) → right_of l ≡ right_of m → l ≡ m
+  right-own l m ll lm e =
       let long = is.long in
-      let e = chosen-different t.k u.k (omega arith) (omega arith) (t.gives ∙ sym u.gives) in
-      sym t.at ∙ ap (slice_index (tents_of p g)) e ∙ u.at
-  right-own b c d (inl t) (inr (inl u)) = absurd (pitch.bare d (rw u.gives at (tent-of u.k u.within)) (rw t.gives at (tree-of t.k t.within)))
-  right-own b c d (inl t) (inr (inr o)) = absurd (true≢false (sym (rw t.gives at (tree-of t.k t.within)) ∙ ap (tree p) (sym o.gives) ∙ o.none))
-  right-own b c d (inr (inl t)) (inl u) = absurd (pitch.bare d (rw t.gives at (tent-of t.k t.within)) (rw u.gives at (tree-of u.k u.within)))
-  right-own b c d (inr (inl t)) (inr (inl u)) =
-      let e = tents-different t.k u.k t.within u.within (t.gives ∙ sym u.gives) in
-      sym t.at ∙ ap (slice_index chosen) e ∙ u.at
-  right-own b c d (inr (inl t)) (inr (inr o)) = absurd (true≢false (sym (rw t.gives at (tent-of t.k t.within)) ∙ ap (tent g) (sym o.gives) ∙ o.off))
-  right-own b c d (inr (inr o)) (inl u) = absurd (true≢false (sym (rw u.gives at (tree-of u.k u.within)) ∙ ap (tree p) (sym o.gives) ∙ o.none))
-  right-own b c d (inr (inr o)) (inr (inl u)) = absurd (true≢false (sym (rw u.gives at (tent-of u.k u.within)) ∙ ap (tent g) (sym o.gives) ∙ o.off))
-  right-own b c d (inr (inr o)) (inr (inr q)) = o.gives ∙ sym q.gives
+      chosen-different l m (omega arith) (omega arith) (sym (right-at l ll) ∙ ap (slice_index (trees_of p)) e ∙ right-at m lm)
 
-  chosen-whole : (short : List ℕ) → IsShortSet (may_pair p g) (tent_cells p) (tent_cells p) short → ⊥
-  chosen-whole short few = no_choice (may_pair p g) (tent_cells p) (tent_cells p) short few right_of
-      (λ l lt. right-in l (right_of l) lt (right-is l lt))
-      (λ l lt. right-joined l (right_of l) lt (right-is l lt))
-      (λ l m ll lm e. right-own l m (right_of m) (rw e at (right-is l ll)) (right-is m lm))
+  right-joined : (l : ℕ) → l < length (tents_of p g) → may_pair p (tents_of p g) l (right_of l) ≡ true
+  unfolding may_pair
+  right-joined l lt = let e = is.each l lt in subst (λ d. has_place (steps p.size (slice_index (tents_of p g) l) 4) d ≡ true) (sym (right-at l lt)) e.2
 
-pub short-unpaired : (p : Tents) (g short : List ℕ) → IsPitched p g → IsShortSet (may_pair p g) (tent_cells p) (tent_cells p) short → can_be_paired p g ≡ false
-short-unpaired p g short pitch few = false_from_ne_true (can_be_paired p g) (λ on. let w = given p g on in chosen-whole p g w.0 pitch w.1 short few)
+  chosen-whole : (short : List ℕ) → IsShortSet (may_pair p (tents_of p g)) (length (tents_of p g)) (tree_count p) short → ⊥
+  chosen-whole short few = no_choice (may_pair p (tents_of p g)) (length (tents_of p g)) (tree_count p) short few right_of right-in right-joined right-own
+
+  chosen-many : length (tents_of p g) ≡ tree_count p
+  chosen-many =
+      let long = is.long in
+      let a = few-below right_of (length (tents_of p g)) (tree_count p) right-in right-own in
+      let b = few-below (λ r. index_of chosen (slice_index (trees_of p) r)) (tree_count p) (length (tents_of p g)) (λ r lt. let w = at r lt in omega (arith, w.0)) own in
+      omega arith
+    where
+      at : (r : ℕ) → r < tree_count p → (index_of chosen (slice_index (trees_of p) r) < length chosen) × (slice_index chosen (index_of chosen (slice_index (trees_of p) r)) ≡ slice_index (trees_of p) r)
+      at r lt = let n = number-tree p r lt in index-is chosen (slice_index (trees_of p) r) (is.none_out (slice_index (trees_of p) r) n.below n.passes)
+
+      own : (r q : ℕ) → r < tree_count p → q < tree_count p → index_of chosen (slice_index (trees_of p) r) ≡ index_of chosen (slice_index (trees_of p) q) → r ≡ q
+      own r q lr lq e =
+          let same : slice_index (trees_of p) r ≡ slice_index (trees_of p) q = sym (at r lr).1 ∙ ap (slice_index chosen) e ∙ (at q lq).1 in
+          sym (number-tree p r lr).before ∙ ap (count_below (tree p)) same ∙ (number-tree p q lq).before
+
+pub short-unpaired : (p : Tents) (g short : List ℕ) → IsShortSet (may_pair p (tents_of p g)) (length (tents_of p g)) (tree_count p) short → can_be_paired p g ≡ false
+short-unpaired p g short few = false_from_ne_true (can_be_paired p g) (λ on. let w = given p g on in chosen-whole p g w.0 w.1 short few)
+
+pub others-unpaired : (p : Tents) (g : List ℕ) → (length (tents_of p g) ≡ tree_count p → ⊥) → can_be_paired p g ≡ false
+others-unpaired p g differ = false_from_ne_true (can_be_paired p g) (λ on. let w = given p g on in differ (chosen-many p g w.0 w.1))
+
+-- ---- the tents of the list
+pub listed-tents : (p : Tents) (g tents : List ℕ) → tents ≡ filter (tent g) (range_with_len 0 (tent_cells p)) → tents ≡ tents_of p g
+unfolding tents_of
+listed-tents p g tents e = e
+
+pub tents-in : (p : Tents) (g : List ℕ) → length g ≡ tent_cells p → AreIn p (tents_of p g)
+tents-in p g long l lt = tent-in g (tent_cells p) (slice_index (tents_of p g) l) long (listed-tent p g (slice_index (tents_of p g) l) (has_place-here (tents_of p g) l lt))
+
+pub count-is : (p : Tents) (g tents : List ℕ) (count : ℕ) → take count tents ≡ tents_of p g → count ≤ length tents → count ≡ length (tents_of p g)
+count-is p g tents count e few = omega (arith, length-take count tents, ap length e)

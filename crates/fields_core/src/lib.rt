@@ -1,17 +1,17 @@
 //! Light Up and Tents: what their rules are to a search, and the checks of a grid.
 #![tactic(auto)]
 
-mod count_house;
+mod count_list;
 mod count_table;
-mod keep;
+mod count_visit;
 mod laws;
 mod light_cells;
 mod light_check;
 mod light_fault;
 mod light_houses;
 mod light_rules;
+mod light_run;
 mod light_sight;
-mod place_index;
 mod tent_cells;
 mod tent_check;
 mod tent_fault;

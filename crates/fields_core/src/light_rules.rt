@@ -8,7 +8,7 @@ ghost use Rattle.fields_core.specs.Light.{light_cells, white};
 ghost use Rattle.fields_core.specs.LightHouses.{light_rules};
 ghost use Rattle.fields_core.specs.Ruled.{IsLightCounting};
 
-use crate::count_table::{CountScratch, CountTable};
+use crate::count_table::CountTable;
 use crate::light_cells::{cells, is_white};
 use crate::light_check::check_lights;
 use crate::light_houses::houses_of_lights;
@@ -50,7 +50,7 @@ impl LightRules {
         let houses = houses_of_lights(alloc, puzzle)?;
         Ok(LightRules {
             puzzle: puzzle.copy(alloc)?,
-            table: CountTable::of_houses(alloc, cells(puzzle), houses)?,
+            table: CountTable::of(alloc, cells(puzzle), houses)?,
         })
     }
 }
@@ -59,7 +59,8 @@ impl LightRules {
 fn start_lights(puzzle: &LightPuzzle, board: &mut Board)
     requires cells { length board.old.sets ≡ light_cells puzzle.now }
     requires values { board.old.values ≡ 2 }
-    ensures start { has board.new ≡ start_of (light_cells puzzle.now) (λ c. not (white puzzle.now c)) }
+    ensures start { has board.new ≡ start_of (light_cells puzzle.now)
+        (λ c. not (white puzzle.now c)) }
     ensures shape { SameShape board.old board.new }
 {
     board.fill();
@@ -72,9 +73,9 @@ fn start_lights(puzzle: &LightPuzzle, board: &mut Board)
 }
 
 impl Rules for LightRules {
-    ghost use Rattle.fields_core.specs.LightLaws.{light-lawful, serves-smaller};
+    ghost use Rattle.fields_core.specs.LightLaws.{light-lawful};
 
-    type Scratch = CountScratch;
+    type Scratch = ();
 
     const SETTLED: bool = true;
 
@@ -88,13 +89,13 @@ impl Rules for LightRules {
 
     ghost mode_is = { λ _. refl };
 
-    ghost serves = { λ room need. need.scope ≤ room };
+    ghost serves = { λ _ _. Unit {0} };
 
     ghost lawful = { light-lawful };
 
     ghost settled_is = { λ _. refl };
 
-    ghost serves_smaller = { serves-smaller };
+    ghost serves_smaller = { λ _ _ _ _ _. tt };
 
     fn cells(&self) -> usize {
         cells(&self.puzzle)
@@ -128,16 +129,15 @@ impl Rules for LightRules {
         start_lights(&self.puzzle, board);
     }
 
-    fn scratch(&self, alloc: Global) -> Result<CountScratch, AllocError> {
-        let scratch = CountScratch::new(alloc, self.table.longest())?;
-        Ok(scratch)
+    fn scratch(&self, _alloc: Global) -> Result<(), AllocError> {
+        Ok(())
     }
 
-    fn visit(&self, house: usize, board: &mut Board, scratch: &mut CountScratch) -> bool {
-        self.table.visit(house, board, scratch)
+    fn visit(&self, house: usize, board: &mut Board, _scratch: &mut ()) -> bool {
+        self.table.visit(house, board)
     }
 
-    fn accept(&self, _scratch: &mut CountScratch, grid: &Grid) -> bool {
+    fn accept(&self, _scratch: &mut (), grid: &Grid) -> bool {
         match check_lights(&self.puzzle, grid) {
             None => true,
             Some(_) => false,

@@ -1,53 +1,22 @@
 //! Which bulbs a cell sees, and how many stand beside it.
 
-ghost use Rattle.std.specs.Prelude.{◌≡◌, ◌<◌, ℕ, true, false};
+ghost use Rattle.std.specs.Prelude.{◌≡◌, ℕ, ◌<◌, ◌&&◌, ◌==◌, not, length, slice_index};
+ghost use Rattle.std.specs.List.{list_any};
 ghost use Rattle.grid_core.specs.Grids.{IsGrid};
-ghost use Rattle.fields_core.specs.Light.{light_cells, bulb, sees_bulb, bulbs_beside, joined_in_row, joined_in_column};
+ghost use Rattle.fields_core.specs.Light.{light_cells, bulb, sees_bulb, bulbs_beside};
 
-use crate::light_cells::{
-    are_joined_in_column, are_joined_in_row, column_cell, columns, row_cell, rows,
-};
+use crate::light_run::{Run, run_in_column, run_in_row};
 use gameid_core::LightPuzzle;
 use grid_core::{Grid, step};
 
-/// Whether the cell sees a bulb of its row.
-fn sees_in_row(puzzle: &LightPuzzle, grid: &Grid, place: usize) -> bool
-    requires fits { IsGrid (light_cells puzzle.now) 2 grid.now }
-    requires place_in { place < light_cells puzzle.now }
-    ensures found { result ≡ true → sees_bulb puzzle.now grid.now place ≡ true }
-    ensures none { result ≡ false → (d : ℕ) → bulb grid.now d ≡ true → (place ≡ d → ⊥) → joined_in_row puzzle.now place d ≡ false }
+/// Whether another cell of the run than the place has a bulb.
+fn has_other_bulb(grid: &Grid, run: &Run, place: usize) -> bool
+    requires { (k : ℕ) → k < length run.now → slice_index run.now k < length grid.now }
+    ensures { result ≡ list_any (λ d. not (d == place) && bulb grid.now d) run.now }
 {
-    for x in 0..columns(puzzle) {
-        let other = row_cell(puzzle, place, x);
-        if other == place {
-            continue;
-        }
-        if grid.get(other) != 1 {
-            continue;
-        }
-        if are_joined_in_row(puzzle, place, other) {
-            return true;
-        }
-    }
-    false
-}
-
-/// Whether the cell sees a bulb of its column.
-fn sees_in_column(puzzle: &LightPuzzle, grid: &Grid, place: usize) -> bool
-    requires fits { IsGrid (light_cells puzzle.now) 2 grid.now }
-    requires place_in { place < light_cells puzzle.now }
-    ensures found { result ≡ true → sees_bulb puzzle.now grid.now place ≡ true }
-    ensures none { result ≡ false → (d : ℕ) → bulb grid.now d ≡ true → (place ≡ d → ⊥) → joined_in_column puzzle.now place d ≡ false }
-{
-    for y in 0..rows(puzzle) {
-        let other = column_cell(puzzle, place, y);
-        if other == place {
-            continue;
-        }
-        if grid.get(other) != 1 {
-            continue;
-        }
-        if are_joined_in_column(puzzle, place, other) {
+    for k in 0..run.len() {
+        let other = run.place(k);
+        if other != place && grid.get(other) == 1 {
             return true;
         }
     }
@@ -61,13 +30,11 @@ pub fn sees_a_bulb(puzzle: &LightPuzzle, grid: &Grid, place: usize) -> bool
     requires place_in { place < light_cells puzzle.now }
     ensures { result ≡ sees_bulb puzzle.now grid.now place }
 {
-    if sees_in_row(puzzle, grid, place) {
+    let _size = puzzle.size();
+    if has_other_bulb(grid, &run_in_row(puzzle, place), place) {
         return true;
     }
-    if sees_in_column(puzzle, grid, place) {
-        return true;
-    }
-    false
+    has_other_bulb(grid, &run_in_column(puzzle, place), place)
 }
 
 /// How many bulbs stand beside the cell, in cells that share a side with it. The grid has 1 at a bulb and 0 elsewhere.

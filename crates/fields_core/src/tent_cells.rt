@@ -38,21 +38,21 @@ pub(crate) fn is_tree(puzzle: &TentsPuzzle, place: usize) -> bool
 }
 
 /// The number of tents that the column has.
-pub(crate) fn column_number(puzzle: &TentsPuzzle, x: usize) -> usize
+pub(crate) fn column_number(puzzle: &TentsPuzzle, x: usize) -> u8
     requires { x < puzzle.now.size.w }
     ensures { result ≡ slice_index puzzle.now.counts x }
 {
-    usize::from(puzzle.count(x))
+    puzzle.count(x)
 }
 
 /// The number of tents that the row has.
-pub(crate) fn row_number(puzzle: &TentsPuzzle, y: usize) -> usize
+pub(crate) fn row_number(puzzle: &TentsPuzzle, y: usize) -> u8
     requires { y < puzzle.now.size.h }
     ensures { result ≡ slice_index puzzle.now.counts (puzzle.now.size.w + y) }
 {
     let w = usize::from(puzzle.size().w());
     let _h = puzzle.size().h();
-    usize::from(puzzle.count(w + y))
+    puzzle.count(w + y)
 }
 
 /// The cell in row `y` of the column.

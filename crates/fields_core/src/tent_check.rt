@@ -1,9 +1,10 @@
 //! The check of a grid of Tents.
 
-ghost use Rattle.std.specs.Prelude.{◌≡◌, ◌<◌, ◌≤◌, ◌↔◌, IfOk, None};
+ghost use Rattle.std.specs.Prelude.{◌≡◌, ℕ, ◌<◌, ◌↔◌, IfOk, None};
 ghost use Rattle.grid_core.specs.Grids.{IsGrid};
 ghost use Rattle.fields_core.specs.Firsts.{IsFirstWrong};
 ghost use Rattle.fields_core.specs.TentFaults.{IsTentFault};
+ghost use Rattle.fields_core.specs.TentScratches.{HasRoom};
 ghost use Rattle.fields_core.specs.TentSolutions.{IsTentSolution};
 ghost use Rattle.fields_core.specs.Tents.{tent_cells, tents_in_column, tents_in_row, tree_right, touch_right, column_right, row_right};
 
@@ -11,10 +12,10 @@ use crate::tent_cells::{
     cells, column_cell, column_number, columns, is_tree, row_cell, row_number, rows,
 };
 use crate::tent_fault::TentFault;
-use crate::tent_pairs::are_paired;
+use crate::tent_pairs::{TentScratch, are_paired};
 use crate::tent_touch::touches_tent;
 use gameid_core::TentsPuzzle;
-use grid_core::{Grid, Pairing};
+use grid_core::Grid;
 use std::alloc::{AllocError, Global};
 
 /// Whether no tent stands on the cell if it has a tree.
@@ -79,7 +80,7 @@ fn is_column_right(puzzle: &TentsPuzzle, grid: &Grid, x: usize) -> bool
     requires x_in { x < puzzle.now.size.w }
     ensures { result ≡ column_right puzzle.now grid.now x }
 {
-    count_column(puzzle, grid, x) == column_number(puzzle, x)
+    count_column(puzzle, grid, x) == usize::from(column_number(puzzle, x))
 }
 
 /// Whether the row has its number of tents.
@@ -88,7 +89,7 @@ fn is_row_right(puzzle: &TentsPuzzle, grid: &Grid, y: usize) -> bool
     requires y_in { y < puzzle.now.size.h }
     ensures { result ≡ row_right puzzle.now grid.now y }
 {
-    count_row(puzzle, grid, y) == row_number(puzzle, y)
+    count_row(puzzle, grid, y) == usize::from(row_number(puzzle, y))
 }
 
 /// The first tree with a tent on it.
@@ -143,16 +144,16 @@ fn first_row(puzzle: &TentsPuzzle, grid: &Grid) -> Option<usize>
     None
 }
 
-/// What is wrong with a grid of Tents. The pairing has room for all cells.
+/// What is wrong with a grid of Tents.
 pub(crate) fn find_fault(
     puzzle: &TentsPuzzle,
     grid: &Grid,
-    pairing: &mut Pairing,
+    scratch: &mut TentScratch,
 ) -> Option<TentFault>
     requires fits { IsGrid (tent_cells puzzle.now) 2 grid.now }
-    requires room { tent_cells puzzle.now ≤ pairing.old.room }
+    requires room { HasRoom scratch.old (tent_cells puzzle.now) }
     ensures fault { IsTentFault puzzle.now grid.now result }
-    ensures room { pairing.new.room ≡ pairing.old.room }
+    ensures room { (n : ℕ) → HasRoom scratch.old n → HasRoom scratch.new n }
 {
     if let Some(place) = first_tree(puzzle, grid) {
         return Some(TentFault::Tree(place));
@@ -166,7 +167,7 @@ pub(crate) fn find_fault(
     if let Some(y) = first_row(puzzle, grid) {
         return Some(TentFault::Row(y));
     }
-    if are_paired(puzzle, grid, pairing) {
+    if are_paired(puzzle, grid, scratch) {
         return None;
     }
     Some(TentFault::Match)
@@ -190,7 +191,7 @@ pub fn check_tents(
     ensures fault { IfOk result (λ fault. IsTentFault puzzle.now grid.now fault) }
     ensures solution { IfOk result (λ fault. (fault ≡ None) ↔ IsTentSolution puzzle.now grid.now) }
 {
-    let mut pairing = Pairing::new(alloc, cells(puzzle))?;
-    let fault = find_fault(puzzle, grid, &mut pairing);
+    let mut scratch = TentScratch::new(alloc, cells(puzzle))?;
+    let fault = find_fault(puzzle, grid, &mut scratch);
     Ok(fault)
 }

@@ -1,82 +1,77 @@
 //! Whether the tents of a grid can be paired with the trees.
 
-ghost use Rattle.std.specs.Prelude.{◌≡◌, ◌<◌, ◌≤◌, ◌||◌, true};
+ghost use Rattle.std.specs.Prelude.{◌≡◌, ℕ, ◌<◌, ◌≤◌, IfOk, take, filter, length, slice_index};
+ghost use Rattle.std.specs.List.{range_with_len};
 ghost use Rattle.grid_core.specs.Grids.{IsGrid};
-ghost use Rattle.grid_core.specs.Candidates.{all_below};
+ghost use Rattle.grid_core.specs.Candidates.{count_below};
 ghost use Rattle.engine_core.specs.Puzzle.{IsNext};
-ghost use Rattle.fields_core.specs.Tents.{tent_cells, tent, tree, tree_right, can_be_paired};
-ghost use Rattle.fields_core.specs.TentPairs.{suits, suits_beside, may_pair};
+ghost use Rattle.fields_core.specs.Tents.{tent_cells, tent, tree, can_be_paired};
+ghost use Rattle.fields_core.specs.TentPairs.{tree_beside, tree_count, may_pair, AreNumbered, AreIn};
+ghost use Rattle.fields_core.specs.TentScratches.{HasRoom};
 
 use crate::tent_cells::{cells, is_tree};
 use gameid_core::TentsPuzzle;
 use grid_core::{Edges, Grid, Paired, Pairing, step};
+use std::alloc::{AllocError, Global};
 
-/// The cells of a grid on both sides: a tent is joined to the trees beside it, a tree to the tents beside it, and any
-/// other cell to itself. So all cells are paired exactly where the tents and the trees are, one to one.
+/// What tents are paired with trees in: room for a pairing, for the places of the tents, and for a number of each cell.
+#[derive(Drop)]
+pub struct TentScratch {
+    pub(crate) pairing: Pairing,
+    pub(crate) tents: Vec<usize>,
+    pub(crate) numbers: Vec<usize>,
+}
+
+impl TentScratch {
+    /// Room for grids of so many cells.
+    pub(crate) fn new(alloc: Global, cells: usize) -> Result<TentScratch, AllocError>
+        ensures { IfOk result (λ scratch. HasRoom scratch cells) }
+    {
+        Ok(TentScratch {
+            pairing: Pairing::new(alloc, cells)?,
+            tents: vec![in alloc; 0; cells]?,
+            numbers: vec![in alloc; 0; cells]?,
+        })
+    }
+}
+
+/// The tents of a grid, by place, and the trees of the puzzle, by place. A tent is joined to the trees beside it.
 #[derive(Drop)]
 struct TentEdges<'a> {
     puzzle: &'a TentsPuzzle,
-    grid: &'a Grid,
-    ghost fits: { IsGrid (tent_cells puzzle.now) 2 grid.now },
+    tents: &'a [usize],
+    numbers: &'a [usize],
+    trees: usize,
+    ghost within: { AreIn puzzle.now tents.now },
+    ghost numbered: { AreNumbered puzzle.now numbers.now },
+    ghost all_trees: { trees ≡ tree_count puzzle.now },
 }
 
 impl Edges for TentEdges<'_> {
-    ghost left_count = { λ e. tent_cells e.puzzle.now };
+    ghost left_count = { λ e. length e.tents.now };
 
-    ghost right_count = { λ e. tent_cells e.puzzle.now };
+    ghost right_count = { λ e. tree_count e.puzzle.now };
 
-    ghost joins = { λ e. may_pair e.puzzle.now e.grid.now };
+    ghost joins = { λ e. may_pair e.puzzle.now e.tents.now };
 
     fn lefts(&self) -> usize {
-        cells(self.puzzle)
+        self.tents.len()
     }
 
     fn rights(&self) -> usize {
-        cells(self.puzzle)
+        self.trees
     }
 
     fn next(&self, left: usize, from: usize) -> Option<usize> {
-        if has_either(self.puzzle, self.grid, left) {
-            return next_beside(self.puzzle, self.grid, left, from);
-        }
-        if left < from {
-            return None;
-        }
-        Some(left)
+        next_tree(self.puzzle, self.numbers, self.tents[left], from)
     }
 }
 
-/// Whether the cell has a tent or a tree.
-fn has_either(puzzle: &TentsPuzzle, grid: &Grid, place: usize) -> bool
-    requires fits { IsGrid (tent_cells puzzle.now) 2 grid.now }
+/// The least number at or after `from` of a tree beside the cell.
+fn next_tree(puzzle: &TentsPuzzle, numbers: &[usize], place: usize, from: usize) -> Option<usize>
     requires place_in { place < tent_cells puzzle.now }
-    ensures { result ≡ (tent grid.now place || tree puzzle.now place) }
-{
-    if grid.get(place) == 1 {
-        return true;
-    }
-    is_tree(puzzle, place)
-}
-
-/// Whether the other cell has a tree, if the cell has a tent, and else whether it has a tent.
-fn is_suited(puzzle: &TentsPuzzle, grid: &Grid, place: usize, other: usize) -> bool
-    requires fits { IsGrid (tent_cells puzzle.now) 2 grid.now }
-    requires place_in { place < tent_cells puzzle.now }
-    requires other_in { other < tent_cells puzzle.now }
-    ensures { result ≡ suits puzzle.now grid.now place other }
-{
-    if grid.get(place) == 1 {
-        return is_tree(puzzle, other);
-    }
-    grid.get(other) == 1
-}
-
-/// The least place at or after `from` of a cell beside the cell that suits it: a tree for a tent, and a tent for a
-/// tree.
-fn next_beside(puzzle: &TentsPuzzle, grid: &Grid, place: usize, from: usize) -> Option<usize>
-    requires fits { IsGrid (tent_cells puzzle.now) 2 grid.now }
-    requires place_in { place < tent_cells puzzle.now }
-    ensures { IsNext (suits_beside puzzle.now grid.now place) (tent_cells puzzle.now) from result }
+    requires numbered { AreNumbered puzzle.now numbers.now }
+    ensures { IsNext (tree_beside puzzle.now place) (tree_count puzzle.now) from result }
 {
     let size = puzzle.size();
     for direction in 0..4 {
@@ -84,29 +79,101 @@ fn next_beside(puzzle: &TentsPuzzle, grid: &Grid, place: usize, from: usize) -> 
             Some(other) => other,
             None => continue,
         };
-        if other < from {
+        if !is_tree(puzzle, other) {
             continue;
         }
-        if is_suited(puzzle, grid, place, other) {
-            return Some(other);
+        if numbers[other] >= from {
+            return Some(numbers[other]);
         }
     }
     None
 }
 
-/// Whether the tents can be paired one to one with the trees so that each tent is beside its own tree. The pairing has
-/// room for all cells.
-pub(crate) fn are_paired(puzzle: &TentsPuzzle, grid: &Grid, pairing: &mut Pairing) -> bool
+/// Writes the places of the tents, and says how many there are.
+fn list_tents(puzzle: &TentsPuzzle, grid: &Grid, tents: &mut [usize]) -> usize
+    requires fits { IsGrid (tent_cells puzzle.now) 2 grid.now }
+    requires room { tent_cells puzzle.now ≤ length tents.old }
+    ensures listed { take result tents.new
+        ≡ filter (tent grid.now) (range_with_len 0 (tent_cells puzzle.now)) }
+    ensures few { result ≤ tent_cells puzzle.now }
+    ensures as_long { length tents.new ≡ length tents.old }
+{
+    let mut count = 0;
+    for place in 0..cells(puzzle) {
+        if grid.get(place) != 1 {
+            continue;
+        }
+        tents[count] = place;
+        count += 1;
+    }
+    count
+}
+
+/// Writes for each cell how many trees stand before it, and says how many there are.
+fn number_trees(puzzle: &TentsPuzzle, numbers: &mut [usize]) -> usize
+    requires { tent_cells puzzle.now ≤ length numbers.old }
+    ensures count { result ≡ tree_count puzzle.now }
+    ensures numbered { AreNumbered puzzle.now numbers.new }
+    ensures as_long { length numbers.new ≡ length numbers.old }
+    ensures few { result ≤ tent_cells puzzle.now }
+{
+    let mut trees = 0;
+    for place in 0..cells(puzzle) {
+        numbers[place] = trees;
+        if !is_tree(puzzle, place) {
+            continue;
+        }
+        trees += 1;
+    }
+    trees
+}
+
+/// Whether the tents can be paired one to one with the trees, by this pairing, list of tents and numbers of trees.
+fn pair(
+    puzzle: &TentsPuzzle,
+    grid: &Grid,
+    pairing: &mut Pairing,
+    tents: &mut [usize],
+    numbers: &mut [usize],
+) -> bool
     requires fits { IsGrid (tent_cells puzzle.now) 2 grid.now }
     requires room { tent_cells puzzle.now ≤ pairing.old.room }
-    requires no_tent_on_a_tree { all_below (tree_right puzzle.now grid.now) (tent_cells puzzle.now) ≡ true }
+    requires tents_room { tent_cells puzzle.now ≤ length tents.old }
+    requires numbers_room { tent_cells puzzle.now ≤ length numbers.old }
     ensures paired { result ≡ can_be_paired puzzle.now grid.now }
     ensures room { pairing.new.room ≡ pairing.old.room }
+    ensures tents_room { length tents.new ≡ length tents.old }
+    ensures numbers_room { length numbers.new ≡ length numbers.old }
 {
-    let _size = puzzle.size();
-    let edges = TentEdges { puzzle, grid };
+    let count = list_tents(puzzle, grid, tents);
+    let trees = number_trees(puzzle, numbers);
+    if count != trees {
+        return false;
+    }
+    let edges = TentEdges {
+        puzzle,
+        tents: &tents[..count],
+        numbers,
+        trees,
+    };
     match pairing.run(&edges) {
         Paired::All => true,
         Paired::Short => false,
     }
+}
+
+/// Whether the tents can be paired one to one with the trees so that each tent is beside its own tree.
+pub(crate) fn are_paired(puzzle: &TentsPuzzle, grid: &Grid, scratch: &mut TentScratch) -> bool
+    requires fits { IsGrid (tent_cells puzzle.now) 2 grid.now }
+    requires room { HasRoom scratch.old (tent_cells puzzle.now) }
+    ensures paired { result ≡ can_be_paired puzzle.now grid.now }
+    ensures room { (n : ℕ) → HasRoom scratch.old n → HasRoom scratch.new n }
+{
+    pair(
+        puzzle,
+        grid,
+        &mut scratch.pairing,
+        &mut scratch.tents,
+        &mut scratch.numbers,
+    )
 }

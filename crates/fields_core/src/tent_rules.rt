@@ -11,13 +11,14 @@ ghost use Rattle.fields_core.specs.TentHouses.{is_bare, tent_rules};
 ghost use Rattle.fields_core.specs.TentScratches.{ServesTents};
 ghost use Rattle.fields_core.specs.Ruled.{IsTentCounting};
 
-use crate::count_table::{CountScratch, CountTable};
+use crate::count_table::CountTable;
 use crate::tent_cells::{cells, is_tree};
 use crate::tent_check::find_fault;
 use crate::tent_houses::houses_of_tents;
+use crate::tent_pairs::TentScratch;
 use engine_core::{Mode, Rules};
 use gameid_core::TentsPuzzle;
-use grid_core::{Board, Grid, Pairing, step};
+use grid_core::{Board, Grid, step};
 use std::alloc::{AllocError, Global};
 use std::marker::Model;
 
@@ -40,13 +41,6 @@ impl Model for TentRules {
     ghost invariant = { λ r. r.table ≡ tent_table r.puzzle };
 }
 
-/// What a visit and a test of a whole grid work in: room for the sets of a house's cells, and a pairing of all cells.
-#[derive(Drop)]
-pub struct TentScratch {
-    pub(crate) counts: CountScratch,
-    pub(crate) pairing: Pairing,
-}
-
 impl TentRules {
     /// The rules of the puzzle.
     ///
@@ -60,7 +54,7 @@ impl TentRules {
         let houses = houses_of_tents(alloc, puzzle)?;
         Ok(TentRules {
             puzzle: puzzle.copy(alloc)?,
-            table: CountTable::of_houses(alloc, cells(puzzle), houses)?,
+            table: CountTable::of(alloc, cells(puzzle), houses)?,
         })
     }
 }
@@ -169,18 +163,16 @@ impl Rules for TentRules {
     }
 
     fn scratch(&self, alloc: Global) -> Result<TentScratch, AllocError> {
-        Ok(TentScratch {
-            counts: CountScratch::new(alloc, self.table.longest())?,
-            pairing: Pairing::new(alloc, cells(&self.puzzle))?,
-        })
+        let scratch = TentScratch::new(alloc, cells(&self.puzzle))?;
+        Ok(scratch)
     }
 
-    fn visit(&self, house: usize, board: &mut Board, scratch: &mut TentScratch) -> bool {
-        self.table.visit(house, board, &mut scratch.counts)
+    fn visit(&self, house: usize, board: &mut Board, _scratch: &mut TentScratch) -> bool {
+        self.table.visit(house, board)
     }
 
     fn accept(&self, scratch: &mut TentScratch, grid: &Grid) -> bool {
-        match find_fault(&self.puzzle, grid, &mut scratch.pairing) {
+        match find_fault(&self.puzzle, grid, scratch) {
             None => true,
             Some(_) => false,
         }

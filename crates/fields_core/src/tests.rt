@@ -2,7 +2,7 @@ use super::*;
 use engine_core::{Rules, Store};
 use gameid_core::{read_lights, read_tents};
 use grid_core::Grid;
-use std::alloc::Global;
+use std::alloc::{AllocError, Global};
 use std::process::Abort;
 use std::test::Fail;
 
@@ -146,5 +146,48 @@ fn a_tree_in_a_corner_closes(rt: HostRuntime) -> Result<(), Fail> {
         assert!(rt; place < rules.cells());
         assert_eq!(rt; store.board().has(place, 1), place == 1, "cell {place}");
     }
+    Ok(())
+}
+
+/// The head of an ID, and a piece so many times after it.
+fn repeated(alloc: Global, head: &str, piece: &str, times: usize) -> Result<Vec<u8>, AllocError> {
+    let mut text = Vec::new(alloc);
+    for byte in head.as_bytes() {
+        text.push(*byte)?;
+    }
+    for _ in 0..times {
+        for byte in piece.as_bytes() {
+            text.push(*byte)?;
+        }
+    }
+    Ok(text)
+}
+
+#[test]
+fn a_wide_grid_of_black_cells(rt: HostRuntime) -> Result<(), Fail> {
+    let text = repeated(rt.alloc(), "120x2:", "B", 240)?;
+    let puzzle = read_lights(rt.alloc(), &text)?;
+    let rules = LightRules::new(rt.alloc(), &puzzle)?;
+    let mut store = Store::new(rt.alloc(), &rules)?;
+    let grid = Grid::new(rt.alloc(), rules.cells())?;
+    assert_eq!(rt; rules.cells(), 240);
+    assert_eq!(rt; rules.houses(), 0);
+    assert!(rt; store.settles(&rules));
+    assert!(rt; grid.fits(rules.cells(), rules.values()));
+    assert_eq!(rt; check_lights(&puzzle, &grid), None);
+    Ok(())
+}
+
+#[test]
+fn a_wide_grid_without_trees(rt: HostRuntime) -> Result<(), Fail> {
+    let text = repeated(rt.alloc(), "120x2:zzzzzzzzzo", ",0", 122)?;
+    let puzzle = read_tents(rt.alloc(), &text)?;
+    let rules = TentRules::new(rt.alloc(), &puzzle)?;
+    let mut store = Store::new(rt.alloc(), &rules)?;
+    let grid = Grid::new(rt.alloc(), rules.cells())?;
+    assert_eq!(rt; rules.houses(), 241);
+    assert!(rt; store.settles(&rules));
+    assert!(rt; grid.fits(rules.cells(), rules.values()));
+    assert_eq!(rt; check_tents(rt.alloc(), &puzzle, &grid)?, None);
     Ok(())
 }

@@ -1,5 +1,5 @@
-use Rattle.fields_core.proofs.PlaceIndexLemmas.{table-next}
+use Rattle.fields_core.proofs.CountListLemmas.{next-in}
 use Rattle.fields_core.proofs.count_table.CountTable.house_at.Goals as goal
 
 pub returns : goal.returns
-returns c = table-next c.args.self.now c.self.inside.cells c.self.inside.houses.items c.self.inside.at.items c.args.place c.args.from _ c.next.result c.self.view_is c.self.invariant.1 c.requires c.index-at.ensures c.next.ensures
+returns c = next-in _ _ _ _ c.args.place c.args.from _ c.self.invariant.0 c.self.view_is c.next_at.ensures

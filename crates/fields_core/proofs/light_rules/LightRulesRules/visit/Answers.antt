@@ -2,11 +2,8 @@ use Rattle.std.proofs.Common.{ap, not}
 use Rattle.fields_core.specs.Ruled.{RuledLight}
 use Rattle.fields_core.specs.Light.{light_cells, white, is_lit}
 use Rattle.fields_core.specs.LightHouses.{light_houses}
-use Rattle.fields_core.proofs.RuleLemmas.{light-houses, room-for, after-is}
+use Rattle.fields_core.proofs.RuleLemmas.{light-houses, after-is}
 use Rattle.fields_core.proofs.light_rules.LightRulesRules.visit.Goals as goal
-
-pub visit-requires-clause-room : goal.visit-requires-clause-room
-visit-requires-clause-room c = room-for _ (light_houses c.args.self.now.light) c.args.house c.args.scratch.now (light-houses c.self.inside.table c.self.inside.puzzle c.args.self.now.light c.self.invariant (ap (λ (r : RuledLight). r.light) c.self.view_is)) c.requires.house_in c.requires.served
 
 pub returns-clause-left : goal.returns-clause-left
 returns-clause-left c =

@@ -2,12 +2,9 @@ use Rattle.std.proofs.Common.{ap}
 use Rattle.fields_core.specs.Ruled.{RuledTents}
 use Rattle.fields_core.specs.Tents.{tent_cells, is_camp}
 use Rattle.fields_core.specs.TentHouses.{tent_houses, is_bare}
-use Rattle.fields_core.proofs.RuleLemmas.{room-for, after-is}
+use Rattle.fields_core.proofs.RuleLemmas.{after-is}
 use Rattle.fields_core.proofs.TentRuleLemmas.{tent-table}
 use Rattle.fields_core.proofs.tent_rules.TentRulesRules.visit.Goals as goal
-
-pub visit-requires-clause-room : goal.visit-requires-clause-room
-visit-requires-clause-room c = room-for _ (tent_houses c.args.self.now.tents) c.args.house c.args.scratch.now.counts (tent-table c.self.inside.table c.self.inside.puzzle c.args.self.now.tents c.self.invariant (ap (λ (r : RuledTents). r.tents) c.self.view_is)) c.requires.house_in c.requires.served.counts
 
 pub returns-clause-left : goal.returns-clause-left
 returns-clause-left c =

@@ -1,0 +1,179 @@
+-- The run around a cell of a line is what has only white cells between it and the cell.
+use Rattle.std.proofs.Common.{◌≡◌, ℕ, zero, suc, ◌+◌, ◌-◌, ◌*◌, ◌/◌, ◌%◌, ◌<◌, ◌≤◌, ◌^◌, min, max, Bool, true, false, cond, List, [], ◌∷◌, ◌++◌, length, slice_index, map, refl, sym, ap, ◌∙◌, subst, inl, inr, arith}
+use Rattle.std.specs.List.{filter, range_with_len}
+use Rattle.std.proofs.lemmas.Bool.{cases_lt, true≢false, false_from_ne_true, eq-eqb}
+use Rattle.std.proofs.lemmas.Nat.{div-mul-add, mod-mul-add}
+use Rattle.std.proofs.lemmas.List.FromFn.{length-map-range_with_len, get_or-map-range_with_len}
+use Rattle.std.proofs.Math.Nat.{mod-lt, mul-le-mul_right}
+use Rattle.grid_core.specs.Regions.{row_places, column_places}
+use Rattle.gameid_core.specs.Puzzles.{Light, IsLight}
+use Rattle.std.proofs.lemmas.List.{append-nil}
+use Rattle.std.proofs.lemmas.List.Elements.{filter-append}
+use Rattle.fields_core.specs.Light.{light_cells, white, clear, joined_in_row, joined_in_column}
+use Rattle.fields_core.specs.LightHouses.{row_run, column_run}
+use Rattle.fields_core.specs.Runs.{RunsBack, RunsOn}
+use Rattle.fields_core.proofs.LightHouseLaws.{clear-at, clear-from}
+
+-- ---- a filter over numbers one after another
+pub range-split : (s a b : ℕ) → range_with_len s (a + b) ≡ range_with_len s a ++ range_with_len (s + a) b
+range-split s zero b = let z : s + 0 ≡ s = omega arith in let y : 0 + b ≡ b = omega arith in rw (z, y) refl
+range-split s (suc a) b =
+    let y : suc a + b ≡ suc (a + b) = omega arith in
+    let z : s + 1 + a ≡ s + suc a = omega arith in
+    rw y (ap (λ l. s ∷ l) (range-split (s + 1) a b ∙ ap (λ n. range_with_len (s + 1) a ++ range_with_len n b) z))
+
+range-none : (test : ℕ → Bool) (s n : ℕ) → ((i : ℕ) → s ≤ i → i < s + n → test i ≡ false) → filter test (range_with_len s n) ≡ []
+range-none test s zero none = refl
+range-none test s (suc n) none = rw (none s (omega arith) (omega arith)) (range-none test (s + 1) n (λ i low high. none i (omega arith) (omega arith)))
+
+range-all : (test : ℕ → Bool) (s n : ℕ) → ((i : ℕ) → s ≤ i → i < s + n → test i ≡ true) → filter test (range_with_len s n) ≡ range_with_len s n
+range-all test s zero all = refl
+range-all test s (suc n) all = rw (all s (omega arith) (omega arith)) (ap (λ l. s ∷ l) (range-all test (s + 1) n (λ i low high. all i (omega arith) (omega arith))))
+
+filter-range : (test : ℕ → Bool) (len start end : ℕ) → start ≤ end → end ≤ len → ((i : ℕ) → i < start → test i ≡ false) → ((i : ℕ) → start ≤ i → i < end → test i ≡ true)
+    → ((i : ℕ) → end ≤ i → i < len → test i ≡ false) → filter test (range_with_len 0 len) ≡ range_with_len start (end - start)
+filter-range test len start end low high before inside after =
+    let e : start + (end - start + (len - end)) ≡ len = omega arith in
+    let z : 0 + start ≡ start = omega arith in
+    let y : start + (end - start) ≡ end = omega arith in
+    ap (λ n. filter test (range_with_len 0 n)) (sym e)
+    ∙ ap (filter test) (range-split 0 start (end - start + (len - end)))
+    ∙ filter-append test (range_with_len 0 start) (range_with_len (0 + start) (end - start + (len - end)))
+    ∙ ap (λ l. l ++ filter test (range_with_len (0 + start) (end - start + (len - end)))) (range-none test 0 start (λ i a b. before i (omega arith)))
+    ∙ ap (λ n. filter test (range_with_len n (end - start + (len - end)))) z
+    ∙ ap (filter test) (range-split start (end - start) (len - end))
+    ∙ filter-append test (range_with_len start (end - start)) (range_with_len (start + (end - start)) (len - end))
+    ∙ ap (λ l. l ++ filter test (range_with_len (start + (end - start)) (len - end))) (range-all test start (end - start) (λ i a b. inside i a (omega arith)))
+    ∙ ap (λ l. range_with_len start (end - start) ++ l) (range-none test (start + (end - start)) (len - end) (λ i a b. after i (omega arith) (omega arith)))
+    ∙ append-nil (range_with_len start (end - start))
+
+-- ---- the run around a number
+pub run-black : (test : ℕ → Bool) (len at : ℕ) → test at ≡ false → filter (clear test at) (range_with_len 0 len) ≡ []
+run-black test len at off = range-none (clear test at) 0 len (λ i low high. false_from_ne_true (clear test at i) (λ on.
+    true≢false (sym (clear-at test at i at on (omega arith) (omega arith)) ∙ off)))
+
+pub run-white : (test : ℕ → Bool) (len at start end : ℕ) → test at ≡ true → RunsBack test at start → RunsOn test len at end
+    → filter (clear test at) (range_with_len 0 len) ≡ range_with_len start (end - start)
+run-white test len at start end here back on =
+    let low = back.low in
+    let past = on.past in
+    let high = on.high in
+    filter-range (clear test at) len start end (omega arith) high
+    (λ i below. elim (cases_lt i start) [
+      | inl a ↦ false_from_ne_true (clear test at i) (λ joined. blocked i below joined start refl)
+      | inr b ↦ absurd (omega arith)
+    ])
+    (λ i above below. clear-from test at i (λ k a b. inside i k above below a b))
+    (λ i above below. false_from_ne_true (clear test at i) (λ joined.
+    true≢false (sym (clear-at test at i end joined (omega arith) (omega arith)) ∙ on.edge (omega arith))))
+  where
+    blocked : (i : ℕ) → i < start → clear test at i ≡ true → (s : ℕ) → s ≡ start → ⊥
+    blocked i below joined zero e = absurd (omega arith)
+    blocked i below joined (suc s) e = let low = back.low in true≢false (sym (clear-at test at i s joined (omega arith) (omega arith)) ∙ back.edge s e)
+
+    inside : (i k : ℕ) → start ≤ i → i < end → min at i ≤ k → k ≤ max at i → test k ≡ true
+    inside i k above below a b = elim (cases_lt k at) [
+      | inl before ↦ back.pass k (omega arith) before
+      | inr more ↦ elim (cases_lt at k) [
+        | inl after ↦ on.pass k after (omega arith)
+        | inr same ↦ let e : k ≡ at = omega arith in ap test e ∙ here
+      ]
+    ]
+
+-- ---- the same along two ways of numbering one line
+pub filter-map : (f : ℕ → ℕ) (test : ℕ → Bool) (xs : List ℕ) → filter test (map f xs) ≡ map f (filter (λ x. test (f x)) xs)
+filter-map f test [] = refl
+filter-map f test (x ∷ xs) = by (test (f x)) (filter-map f test xs)
+  where
+    by : (b : Bool) → filter test (map f xs) ≡ map f (filter (λ y. test (f y)) xs) → cond b (f x ∷ filter test (map f xs)) (filter test (map f xs)) ≡ map f (cond b (x ∷ filter (λ y. test (f y)) xs) (filter (λ y. test (f y)) xs))
+    by true e = ap (λ l. f x ∷ l) e
+    by false e = e
+
+pub filter-same : (s t : ℕ → Bool) (a n : ℕ) → ((i : ℕ) → a ≤ i → i < a + n → s i ≡ t i) → filter s (range_with_len a n) ≡ filter t (range_with_len a n)
+filter-same s t a zero same = refl
+filter-same s t a (suc n) same =
+    rw (same a (omega arith) (omega arith)) (by (t a) (filter-same s t (a + 1) n (λ i low high. same i (omega arith) (omega arith))))
+  where
+    by : (b : Bool) → filter s (range_with_len (a + 1) n) ≡ filter t (range_with_len (a + 1) n)
+        → cond b (a ∷ filter s (range_with_len (a + 1) n)) (filter s (range_with_len (a + 1) n)) ≡ cond b (a ∷ filter t (range_with_len (a + 1) n)) (filter t (range_with_len (a + 1) n))
+    by true e = ap (λ l. a ∷ l) e
+    by false e = e
+
+pub map-same : (f g : ℕ → ℕ) (xs : List ℕ) → ((i : ℕ) → f i ≡ g i) → map f xs ≡ map g xs
+map-same f g [] same = refl
+map-same f g (x ∷ xs) same = rw (same x) (ap (λ l. g x ∷ l) (map-same f g xs same))
+
+pub clear-same : (s t : ℕ → Bool) (j k : ℕ) → ((i : ℕ) → s i ≡ t i) → clear s j k ≡ clear t j k
+clear-same s t j k same = same_tests (clear s j k) (clear t j k)
+    (λ on. clear-from t j k (λ i low high. sym (same i) ∙ clear-at s j k i on low high))
+    (λ on. clear-from s j k (λ i low high. same i ∙ clear-at t j k i on low high))
+  where
+    same_tests : (a b : Bool) → (a ≡ true → b ≡ true) → (b ≡ true → a ≡ true) → a ≡ b
+    same_tests true b h k = sym (h refl)
+    same_tests false true h k = k refl
+    same_tests false false h k = refl
+
+-- the places of a run are those of a line that are joined to a cell of it
+pub line-run : (joined : ℕ → Bool) (test along_test : ℕ → Bool) (at len : ℕ) (place along : ℕ → ℕ)
+    → ((i : ℕ) → along i ≡ place i) → ((i : ℕ) → along_test i ≡ test i) → ((i : ℕ) → i < len → joined (place i) ≡ clear test at i)
+    → map along (filter (clear along_test at) (range_with_len 0 len)) ≡ filter joined (map place (range_with_len 0 len))
+line-run joined test along_test at len place along same_place same_test is =
+    map-same along place (filter (clear along_test at) (range_with_len 0 len)) same_place
+    ∙ ap (map place) (filter-same (clear along_test at) (λ i. joined (place i)) 0 len (λ i low high. clear-same along_test test at i same_test ∙ sym (is i (omega arith))))
+    ∙ sym (filter-map place joined (range_with_len 0 len))
+
+-- ---- the run of a row and of a column
+row-cell-joined : (p : Light) (c x : ℕ) → x < p.size.w → joined_in_row p c (c / p.size.w * p.size.w + x) ≡ clear (λ i. white p (c / p.size.w * p.size.w + i)) (c % p.size.w) x
+unfolding joined_in_row
+row-cell-joined p c x lt =
+    let q = div-mul-add (c / p.size.w) p.size.w x lt in
+    let r = mod-mul-add (c / p.size.w) p.size.w x lt in
+    rw (q, r, eq-eqb (c / p.size.w) (c / p.size.w) refl) refl
+
+column-cell-joined : (p : Light) (c y : ℕ) → 0 < p.size.w → joined_in_column p c (y * p.size.w + c % p.size.w) ≡ clear (λ i. white p (i * p.size.w + c % p.size.w)) (c / p.size.w) y
+unfolding joined_in_column
+column-cell-joined p c y pos =
+    let lt = mod-lt c pos in
+    let q = div-mul-add y p.size.w (c % p.size.w) lt in
+    let r = mod-mul-add y p.size.w (c % p.size.w) lt in
+    rw (q, r, eq-eqb (c % p.size.w) (c % p.size.w) refl) refl
+
+pub row-run-is : (p : Light) (c w : ℕ) → w ≡ p.size.w
+    → map (λ i. c - c % w + i * 1) (filter (clear (λ i. white p (c - c % w + i * 1)) (c % w)) (range_with_len 0 w)) ≡ row_run p c
+unfolding row_run
+row-run-is p c w e = subst (λ n. map (λ i. c - c % n + i * 1) (filter (clear (λ i. white p (c - c % n + i * 1)) (c % n)) (range_with_len 0 n))
+    ≡ filter (joined_in_row p c) (row_places p.size (c / p.size.w))) (sym e)
+    (line-run (joined_in_row p c) (λ i. white p (c / p.size.w * p.size.w + i)) (λ i. white p (c - c % p.size.w + i * 1)) (c % p.size.w) p.size.w
+    (λ x. c / p.size.w * p.size.w + x) (λ i. c - c % p.size.w + i * 1) same (λ i. ap (white p) (same i)) (λ i lt. row-cell-joined p c i lt))
+  where
+    same : (i : ℕ) → c - c % p.size.w + i * 1 ≡ c / p.size.w * p.size.w + i
+    same i = let whole : c ≡ c / p.size.w * p.size.w + c % p.size.w = omega arith in omega arith
+
+pub column-run-is : (p : Light) (c w h : ℕ) → 0 < p.size.w → w ≡ p.size.w → h ≡ p.size.h
+    → map (λ i. c % w + i * w) (filter (clear (λ i. white p (c % w + i * w)) (c / w)) (range_with_len 0 h)) ≡ column_run p c
+unfolding column_run
+column-run-is p c w h pos e f = subst (λ n. map (λ i. c % n + i * n) (filter (clear (λ i. white p (c % n + i * n)) (c / n)) (range_with_len 0 h))
+    ≡ filter (joined_in_column p c) (column_places p.size (c % p.size.w))) (sym e)
+    (subst (λ n. map (λ i. c % p.size.w + i * p.size.w) (filter (clear (λ i. white p (c % p.size.w + i * p.size.w)) (c / p.size.w)) (range_with_len 0 n))
+    ≡ filter (joined_in_column p c) (column_places p.size (c % p.size.w))) (sym f)
+    (line-run (joined_in_column p c) (λ i. white p (i * p.size.w + c % p.size.w)) (λ i. white p (c % p.size.w + i * p.size.w)) (c / p.size.w) p.size.h
+    (λ y. y * p.size.w + c % p.size.w) (λ i. c % p.size.w + i * p.size.w) same (λ i. ap (white p) (same i)) (λ i lt. column-cell-joined p c i pos)))
+  where
+    same : (i : ℕ) → c % p.size.w + i * p.size.w ≡ i * p.size.w + c % p.size.w
+    same i = omega arith
+
+-- ---- the cells of a run
+pub run-long : (f : ℕ → ℕ) (start n : ℕ) (xs : List ℕ) → map f (range_with_len start n) ≡ xs → n ≡ length xs
+run-long f start n xs e = sym (length-map-range_with_len f start n) ∙ ap length e
+
+pub run-at : (first stride start n k : ℕ) (xs : List ℕ) → map (λ i. first + i * stride) (range_with_len start n) ≡ xs → k < length xs → first + (start + k) * stride ≡ slice_index xs k
+run-at first stride start n k xs e lt =
+    let long = run-long (λ i. first + i * stride) start n xs e in
+    sym (get_or-map-range_with_len (λ i. first + i * stride) start n k (start + k) 0 (omega arith) refl) ∙ ap (λ l. slice_index l k) e
+
+pub few-cells : (p : Light) → IsLight p → light_cells p < 2 ^ 32
+few-cells p is =
+    let w = is.size.extent.w_high in
+    let h = is.size.extent.h_high in
+    let a : p.size.w * p.size.h ≤ 256 * p.size.h = mul-le-mul_right p.size.h (omega arith) in
+    omega arith

@@ -1,6 +1,0 @@
-use Rattle.std.proofs.Common.{◌≡◌, take}
-use Rattle.grid_core.specs.Regions.{row_places}
-use Rattle.fields_core.proofs.tent_houses.row.Given as goal
-
-abbrev pub invariant-loop-x : goal.invariant-loop-x
-invariant-loop-x l = l.places.items ≡ take l.x (row_places l.puzzle.size l.y)
