@@ -12,6 +12,9 @@ pub mod PlainPattern
 pub mod TentCamps
 pub mod TentMakings
 pub mod TentsSolved
+mod DrawsBelow
+mod Shuffles
+mod TentsFilled
 pub mod Tries
 pub mod SoloNumbers
 pub mod SoloOrderLemmas
@@ -19,6 +22,9 @@ pub mod SoloSolution
 pub mod SoloDraws
 pub mod FullStart
 pub mod SoloFull
+pub mod Flips
+pub mod FlippedHouses
+pub mod SoloXSearch
 pub mod ThinningLemmas
 pub mod ThinningLists
 pub mod ThinningTurns

@@ -14,7 +14,7 @@ use Rattle.pattern_core.specs.Solutions.{IsSolution}
 use Rattle.engine_core.specs.Verdict.{Solves}
 use Rattle.maker_core.specs.Made.{HasOne, TellsOne, IsOnlySolution}
 use Rattle.maker_core.specs.Draws.{AreAll}
-use Rattle.maker_core.specs.PatternMaking.{pattern_of}
+use Rattle.maker_core.specs.PatternMaking.{clued_by}
 
 -- a puzzle with those clues
 pub record HasRuns (size : Extent) (g : List ℕ) (p : Pattern) : Type 0 where
@@ -34,7 +34,7 @@ clue_at size g p has line lt = elim (cases_lt line size.w) [
       ap (λ n. slice_index_or p.clues n []) (sym back) ∙ has.rows (line - size.w) (omega arith) ∙ rw (le-ltb line size.w row) refl
 ]
 
-pub pattern_is : (size : Extent) (g : List ℕ) (p : Pattern) → length p.clues ≡ lines_of p.size → HasRuns size g p → p ≡ pattern_of size g
+pub pattern_is : (size : Extent) (g : List ℕ) (p : Pattern) → length p.clues ≡ lines_of p.size → HasRuns size g p → p ≡ clued_by size g
 pattern_is size g p lines has =
     let same = has.sized in
     let long : length p.clues ≡ lines_of size = lines ∙ ap lines_of same in

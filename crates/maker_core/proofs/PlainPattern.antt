@@ -22,7 +22,7 @@ use Rattle.pattern_core.specs.LineRules.{line_rules}
 use Rattle.pattern_core.specs.Solutions.{IsSolution}
 use Rattle.maker_core.specs.Draws.{AreAll}
 use Rattle.maker_core.specs.Made.{is_one, has_one}
-use Rattle.maker_core.specs.PatternMaking.{pattern_of}
+use Rattle.maker_core.specs.PatternMaking.{clued_by}
 use Rattle.maker_core.proofs.FoundAtOnce.{IsKnown, closed_start, found_at_once}
 use Rattle.maker_core.proofs.PatternMakings.{runs_at}
 
@@ -114,7 +114,7 @@ row_all size g y b long lty all k lt =
     get_or-map-range_with_len (λ x. slice_index g (y * size.w + x)) 0 size.w k k 0 few (omega arith) ∙ all (y * size.w + k) (omega arith)
 
 -- a filling that shows a value that a closed board still has
-shown : (size : Extent) (g : List ℕ) (E : Candidates) (c v : ℕ) → IsExtent size → IsClosed (line_rules (pattern_of size g)) E → c < size.w * size.h → E c v ≡ true
+shown : (size : Extent) (g : List ℕ) (E : Candidates) (c v : ℕ) → IsExtent size → IsClosed (line_rules (clued_by size g)) E → c < size.w * size.h → E c v ≡ true
     → (cells : List ℕ) × (runs cells ≡ runs (row_cells size g (c / size.w))) × (length cells ≡ size.w) × (slice_index cells (c % size.w) ≡ v)
 shown size g E c v extent closed lt on =
     let at = row_of size c extent.w_low lt in
@@ -126,7 +126,7 @@ shown size g E c v extent closed lt on =
     let long : length places ≡ size.w = length-line_places size line ∙ rw (le-ltb line size.w past) refl in
     let cell : slice_index places (c % size.w) ≡ c = place_in_row size line (c % size.w) past at.1 ∙ ap (λ y. y * size.w + c % size.w) back ∙ at.2 in
     let within : c % size.w < length places = let low = at.1 in omega arith in
-    let clue : List ℕ = clue_of (pattern_of size g) line in
+    let clue : List ℕ = clue_of (clued_by size g) line in
     let not_struck : strikes_at 2 places (strikes_by_fillings (has_runs clue)) E (slice_index places (c % size.w)) v ≡ false =
     ap (λ d. strikes_at 2 places (strikes_by_fillings (has_runs clue)) E d v) cell ∙ closed line c v below on in
     let decided : strikes_by_fillings (has_runs clue) (sets_at 2 places E) (c % size.w) v ≡ false =
@@ -140,7 +140,7 @@ shown size g E c v extent closed lt on =
     )
 
 pub plain_alone : (size : Extent) (g : List ℕ) (E : Candidates) (c v : ℕ) → IsExtent size → length g ≡ size.w * size.h → AreAll 0 g ⊎ AreAll 1 g
-    → IsClosed (line_rules (pattern_of size g)) E → c < size.w * size.h → v < 2 → E c v ≡ true → v ≡ slice_index g c
+    → IsClosed (line_rules (clued_by size g)) E → c < size.w * size.h → v < 2 → E c v ≡ true → v ≡ slice_index g c
 plain_alone size g E c v extent long plain closed lt few on =
     let at = row_of size c extent.w_low lt in
     let inside : c < length g = omega arith in
@@ -158,7 +158,7 @@ plain_alone size g E c v extent long plain closed lt few on =
     ]
 
 -- the verdict of such a grid's puzzle is one
-pub plain_passes : (p : Pattern) (g : List ℕ) (budget : ℕ) → IsExtent p.size → p ≡ pattern_of p.size g → IsSolution p g → AreAll 0 g ⊎ AreAll 1 g
+pub plain_passes : (p : Pattern) (g : List ℕ) (budget : ℕ) → IsExtent p.size → p ≡ clued_by p.size g → IsSolution p g → AreAll 0 g ⊎ AreAll 1 g
     → IsKnown (line_rules p) → has_one (line_rules p) budget ≡ true
 plain_passes p g budget extent made good plain known =
     ap is_one (found_at_once (line_rules p) budget g known (record { grid = good.grid; good = is_solution-from p g good })

@@ -1,12 +1,11 @@
 -- The puzzle that gives all cells of a grid: its search starts from that grid alone.
-use Rattle.std.proofs.Common.{◌≡◌, ℕ, suc, ◌+◌, ◌*◌, ◌<◌, ◌≤◌, true, eqb, ltb, List, map, length, slice_index, refl, sym, ◌∙◌, inl, inr, arith}
-use Rattle.std.proofs.lemmas.Bool.{and_parts, and_from, or_cases, eqb-true, eq-eqb, ltb-true, lt-ltb}
+use Rattle.std.proofs.Common.{◌≡◌, ℕ, suc, ◌+◌, ◌*◌, ◌<◌, ◌≤◌, Bool, eqb, ltb, List, map, length, slice_index, refl, sym, ◌∙◌, inl, inr, arith}
+use Rattle.std.proofs.lemmas.Bool.{cases_eq, and_parts, and_from, or_cases, eqb-true, eq-eqb, ltb-true, lt-ltb}
 use Rattle.std.proofs.lemmas.Grind.{same_number_lists}
 use Rattle.std.proofs.lemmas.List.{length-map, get_or-map}
-use Rattle.std.proofs.lemmas.List.Elements.{All-map, All-weaker, recursion_from_All}
+use Rattle.std.proofs.lemmas.List.Elements.{All-map, All-weaker, All-get_or, All-from_get_or, recursion_from_All}
 use Rattle.grid_core.specs.Candidates.{IsInside, single}
 use Rattle.grid_core.specs.Grids.{IsGrid}
-use Rattle.gameid_core.specs.Head.{max_numbers}
 use Rattle.gameid_core.specs.Puzzles.{Solo, IsSolo}
 use Rattle.engine_core.specs.Verdict.{Outcome.OneGrid, Solves, IsTrueOf}
 use Rattle.solo_core.specs.Solutions.{IsSolution}
@@ -15,30 +14,34 @@ use Rattle.solo_core.specs.RuleSets.{start, houses_rules}
 use Rattle.solo_core.specs.RuleLaws.{houses_lawful}
 use Rattle.maker_core.specs.Made.{TellsOne}
 use Rattle.maker_core.specs.SoloFilling.{all_given}
+use Rattle.maker_core.specs.SoloClues.{solo_game}
+use Rattle.maker_core.specs.SoloCluesLaws.{clue_is, is_clue}
+use Rattle.maker_core.specs.SoloMaking.{IsSoloSize}
+use Rattle.maker_core.specs.Thinning.{IsThinnedFrom}
 use Rattle.maker_core.proofs.FullStart.{start_found, start_only}
 
 pub given-at : (g : List ℕ) (place : ℕ) → place < length g → slice_index (map suc g) place ≡ slice_index g place + 1
 given-at g place lt = let at = get_or-map suc g place 0 0 lt in omega arith
 
-pub all_given-same : (p : Solo) (c r : ℕ) (g : List ℕ) → p.c ≡ c → p.r ≡ r → length p.givens ≡ length g
-    → ((k : ℕ) → k < length g → slice_index p.givens k ≡ slice_index g k + 1) → p ≡ all_given c r g
-all_given-same p c r g same_c same_r long same =
+pub all_given-same : (p : Solo) (c r : ℕ) (x : Bool) (g : List ℕ) → p.c ≡ c → p.r ≡ r → p.x ≡ x → length p.givens ≡ length g
+    → ((k : ℕ) → k < length g → slice_index p.givens k ≡ slice_index g k + 1) → p ≡ all_given c r x g
+all_given-same p c r x g same_c same_r same_x long same =
     let givens : p.givens ≡ map suc g =
     same_number_lists p.givens (map suc g) (long ∙ sym (length-map g suc)) (λ k lt. same k (omega arith) ∙ sym (given-at g k (omega arith))) in
-    rw (sym same_c, sym same_r, sym givens) refl
+    rw (sym same_c, sym same_r, sym same_x, sym givens) refl
 
-module _ (c r : ℕ) (g : List ℕ) (c_low : 2 ≤ c) (r_low : 2 ≤ r) (n_high : c * r ≤ max_numbers) (fits : IsGrid ((c * r) * (c * r)) (c * r) g) where
-  pub all_given-solo : IsSolo (all_given c r g)
+module _ (c r : ℕ) (x : Bool) (g : List ℕ) (size : IsSoloSize c r) (fits : IsGrid ((c * r) * (c * r)) (c * r) g) where
+  all_given-solo : IsSolo (all_given c r x g)
   all_given-solo = record {
-    c_low = c_low;
-    r_low = r_low;
-    n_high = n_high;
+    c_low = size.c_low;
+    r_low = size.r_low;
+    n_high = size.n_high;
     cells = length-map g suc ∙ fits.each_cell;
     range = recursion_from_All (λ v. v ≤ c * r) (map suc g)
         (All-map (λ v. v ≤ c * r) suc g (All-weaker (λ v. v < c * r) (λ v. suc v ≤ c * r) (λ v lt. omega arith) g fits.each_value));
   }
 
-  start_inside : IsInside (start (all_given c r g)) (single g)
+  start_inside : IsInside (start (all_given c r x g)) (single g)
   unfolding start single
   start_inside place v on =
       let w = and_parts (ltb place ((c * r) * (c * r))) _ on in
@@ -52,14 +55,42 @@ module _ (c r : ℕ) (g : List ℕ) (c_low : 2 ≤ c) (r_low : 2 ≤ r) (n_high 
         | inr same ↦ let e = eqb-true (v + 1) (slice_index (map suc g) place) same in eq-eqb (slice_index g place) v (omega arith)
       ])
 
-  all_given-solves : IsSolution (all_given c r g) g → Solves (houses_rules (all_given c r g)) g
-  all_given-solves solves = record { grid = fits; good = test_from_rule (all_given c r g) g solves }
+module _ (c r : ℕ) (x : Bool) (g : List ℕ) (size : IsSoloSize c r) (solution : IsSolution (all_given c r x g) g) where
+  solo : IsSolo (all_given c r x g)
+  solo = all_given-solo c r x g size solution.grid
+
+  solves : Solves (houses_rules (all_given c r x g)) g
+  solves = record { grid = solution.grid; good = test_from_rule (all_given c r x g) solo g solution }
+
+  inside : IsInside (start (all_given c r x g)) (single g)
+  inside = start_inside c r x g size solution.grid
 
   -- no other grid solves it, and its verdict with any budget says so
-  pub all_given-only : IsSolution (all_given c r g) g → IsTrueOf (houses_rules (all_given c r g)) (OneGrid g)
-  all_given-only solves =
-      start_only (houses_rules (all_given c r g)) (houses_lawful (all_given c r g) all_given-solo) g (all_given-solves solves) start_inside
+  pub all_given-only : IsTrueOf (houses_rules (all_given c r x g)) (OneGrid g)
+  all_given-only = start_only (houses_rules (all_given c r x g)) (houses_lawful (all_given c r x g) solo) g solves inside
 
-  pub all_given-found : IsSolution (all_given c r g) g → (budget : ℕ) → TellsOne (houses_rules (all_given c r g)) budget g
-  all_given-found solves budget =
-      start_found (houses_rules (all_given c r g)) (houses_lawful (all_given c r g) all_given-solo) g (all_given-solves solves) start_inside budget
+  pub all_given-found : (budget : ℕ) → TellsOne (houses_rules (all_given c r x g)) budget g
+  all_given-found budget = start_found (houses_rules (all_given c r x g)) (houses_lawful (all_given c r x g) solo) g solves inside budget
+
+-- what is left of the puzzle when givens were taken away is a puzzle
+pub thinned-solo : (c r : ℕ) (x : Bool) (p : Solo) (g : List ℕ) → IsSoloSize c r → IsSolution (all_given c r x g) g → IsThinnedFrom solo_game p (all_given c r x g) → IsSolo p
+thinned-solo c r x p g size solution w = record {
+  c_low = rw w.frame.c size.c_low;
+  r_low = rw w.frame.r size.r_low;
+  n_high = rw (w.frame.c, w.frame.r) size.n_high;
+  cells = rw (w.frame.c, w.frame.r) (w.frame.cells ∙ length-map g suc ∙ solution.grid.each_cell);
+  range = rw (w.frame.c, w.frame.r) (recursion_from_All (λ v. v ≤ c * r) p.givens (All-from_get_or (λ v. v ≤ c * r) p.givens 0 given_low));
+}
+  where
+    given_low : (place : ℕ) → place < length p.givens → slice_index p.givens place ≤ c * r
+    given_low place lt = elim (cases_eq (slice_index p.givens place) 0) [
+      | inl none ↦ omega arith
+      | inr some ↦
+          let long = w.frame.cells in
+          let same = length-map g suc in
+          let inside : place < length g = omega arith in
+          let is = clue_is _ _ (w.clues place (slice_index p.givens place) (is_clue _ (omega arith))) in
+          let at = given-at g place inside in
+          let low = All-get_or (λ v. v < c * r) g place 0 inside solution.grid.each_value in
+          omega arith
+    ]

@@ -1,35 +1,39 @@
--- The grid of orders is a solution of the puzzle that gives all its cells: two cells that share a row, a column or a block
--- come of two cells that shared one before the shuffles, and there the numbers differ.
-use Rattle.std.proofs.Common.{◌≡◌, ℕ, suc, ◌*◌, ◌/◌, ◌%◌, ◌<◌, true, eqb, List, length, slice_index, sym, ap, ◌∙◌, inl, inr, arith}
-use Rattle.std.proofs.lemmas.Bool.{or_cases, eqb-true}
+-- The grid of orders is a solution of the puzzle that gives all its cells: two cells of one row, column or block come of two
+-- cells of one before the shuffles, and there the numbers differ.
+use Rattle.std.proofs.Common.{◌≡◌, ℕ, suc, ◌*◌, ◌/◌, ◌%◌, ◌<◌, true, false, List, length, slice_index, sym, ap, ◌∙◌, arith}
+use Rattle.std.proofs.lemmas.Bool.{eqb-true, true≢false}
 use native.Mathlib.Nat.{mul-pos}
 use Rattle.std.proofs.lemmas.Nat.{div_below, mod_below, same_from_place}
 use Rattle.std.proofs.lemmas.List.{get_or-map}
 use Rattle.std.proofs.lemmas.List.Elements.{All-from_get_or}
 use Rattle.std.proofs.lemmas.List.FromFn.{length-map-range_with_len, get_or-map-range_with_len}
 use Rattle.grid_core.specs.Grids.{IsGrid}
-use Rattle.solo_core.specs.Solutions.{IsSolution, share, block_of}
-use Rattle.maker_core.specs.SoloFilling.{first_number, numbered, all_given}
+use Rattle.solo_core.specs.declared.solo_house.SoloHouse.{SoloHouse}
+use Rattle.solo_core.specs.declared.solo_house.SoloHouse.TheVariants.{Row, Column, Block, Diagonal}
+use Rattle.solo_core.specs.Cells.{block_of}
+use Rattle.solo_core.specs.Houses.{IsHouseOf, lies_in}
+use Rattle.solo_core.specs.Solutions.{IsSolution}
+use Rattle.maker_core.specs.SoloFilling.{first_number, rearranged, all_given}
 use Rattle.maker_core.specs.SoloOrders.{IsOrder, IsLineOrder}
 use Rattle.maker_core.proofs.SoloNumbers.{row_apart, column_apart, block_apart, same_line}
 
-pub numbered-at : (c r : ℕ) (numbers rows columns : List ℕ) (place : ℕ) → place < (c * r) * (c * r)
-    → slice_index (numbered c r numbers rows columns) place
+pub rearranged-at : (c r : ℕ) (numbers rows columns : List ℕ) (place : ℕ) → place < (c * r) * (c * r)
+    → slice_index (rearranged c r numbers rows columns) place
     ≡ slice_index numbers (first_number c r (slice_index columns (place % (c * r))) (slice_index rows (place / (c * r))))
-unfolding numbered
-numbered-at c r numbers rows columns place lt =
+unfolding rearranged
+rearranged-at c r numbers rows columns place lt =
     get_or-map-range_with_len (λ place. slice_index numbers (first_number c r (slice_index columns (place % (c * r))) (slice_index rows (place / (c * r)))))
     0 ((c * r) * (c * r)) place place 0 lt (omega arith)
 
-pub length-numbered : (c r : ℕ) (numbers rows columns : List ℕ) → length (numbered c r numbers rows columns) ≡ (c * r) * (c * r)
-unfolding numbered
-length-numbered c r numbers rows columns =
+pub length-rearranged : (c r : ℕ) (numbers rows columns : List ℕ) → length (rearranged c r numbers rows columns) ≡ (c * r) * (c * r)
+unfolding rearranged
+length-rearranged c r numbers rows columns =
     length-map-range_with_len (λ place. slice_index numbers (first_number c r (slice_index columns (place % (c * r))) (slice_index rows (place / (c * r))))) 0 ((c * r) * (c * r))
 
 module _ (c r : ℕ) (c_low : 0 < c) (r_low : 0 < r) (numbers rows columns : List ℕ)
     (is_numbers : IsOrder (c * r) numbers) (is_rows : IsLineOrder r c rows) (is_columns : IsLineOrder c r columns) where
   abbrev grid : List ℕ
-  grid = numbered c r numbers rows columns
+  grid = rearranged c r numbers rows columns
 
   -- the old column and the old row of a place
   abbrev old_x : ℕ → ℕ
@@ -66,7 +70,7 @@ module _ (c r : ℕ) (c_low : 0 < c) (r_low : 0 < r) (numbers rows columns : Lis
       → first_number c r (old_x j) (old_y j) ≡ first_number c r (old_x k) (old_y k)
   same_first j k lj lk e =
       is_numbers.apart (first_number c r (old_x j) (old_y j)) (first_number c r (old_x k) (old_y k)) (mod_below _ (c * r) side_some) (mod_below _ (c * r) side_some)
-      (sym (numbered-at c r numbers rows columns j lj) ∙ e ∙ numbered-at c r numbers rows columns k lk)
+      (sym (rearranged-at c r numbers rows columns j lj) ∙ e ∙ rearranged-at c r numbers rows columns k lk)
 
   apart_in_row : (j k : ℕ) → j < (c * r) * (c * r) → k < (c * r) * (c * r) → slice_index grid j ≡ slice_index grid k → j / (c * r) ≡ k / (c * r) → j ≡ k
   apart_in_row j k lj lk e row =
@@ -89,32 +93,30 @@ module _ (c r : ℕ) (c_low : 0 < c) (r_low : 0 < r) (numbers rows columns : Lis
       let w = block_apart c r c_low r_low (old_x j) (old_x k) (old_y j) (old_y k) stacks bands old in
       same_line (c * r) j k (same_y j k lj lk w.1) (same_x j k w.0)
 
-  same_block : (j k : ℕ) → block_of (all_given c r grid) j ≡ block_of (all_given c r grid) k → (j / (c * r) / c ≡ k / (c * r) / c) × (j % (c * r) / r ≡ k % (c * r) / r)
+  same_block : (j k : ℕ) → block_of (all_given c r false grid) j ≡ block_of (all_given c r false grid) k → (j / (c * r) / c ≡ k / (c * r) / c) × (j % (c * r) / r ≡ k % (c * r) / r)
   same_block j k e =
       same_from_place (j / (c * r) / c) (j % (c * r) / r) (k / (c * r) / c) (k % (c * r) / r) c (div_below (j % (c * r)) r c r_low (x_below j)) (div_below (k % (c * r)) r c r_low (x_below k)) e
 
-  apart_in_house : (j k : ℕ) → j < (c * r) * (c * r) → k < (c * r) * (c * r) → share (all_given c r grid) j k ≡ true → slice_index grid j ≡ slice_index grid k → j ≡ k
-  apart_in_house j k lj lk shared e = elim (or_cases (eqb (j / (c * r)) (k / (c * r))) _ shared) [
-    | inl row ↦ apart_in_row j k lj lk e (eqb-true (j / (c * r)) (k / (c * r)) row)
-    | inr more ↦ elim (or_cases (eqb (j % (c * r)) (k % (c * r))) _ more) [
-      | inl column ↦ apart_in_column j k lj lk e (eqb-true (j % (c * r)) (k % (c * r)) column)
-      | inr block ↦ let w = same_block j k (eqb-true (block_of (all_given c r grid) j) (block_of (all_given c r grid) k) block) in apart_in_block j k lj lk e w.0 w.1
-    ]
-  ]
+  apart_in_house : (house : SoloHouse) → IsHouseOf (all_given c r false grid) house → (j k : ℕ) → j < (c * r) * (c * r) → k < (c * r) * (c * r)
+      → lies_in (all_given c r false grid) house j ≡ true → lies_in (all_given c r false grid) house k ≡ true → slice_index grid j ≡ slice_index grid k → j ≡ k
+  apart_in_house (Row y) is j k lj lk a b e = apart_in_row j k lj lk e (eqb-true _ _ a ∙ sym (eqb-true _ _ b))
+  apart_in_house (Column x) is j k lj lk a b e = apart_in_column j k lj lk e (eqb-true _ _ a ∙ sym (eqb-true _ _ b))
+  apart_in_house (Block n) is j k lj lk a b e = let w = same_block j k (eqb-true _ _ a ∙ sym (eqb-true _ _ b)) in apart_in_block j k lj lk e w.0 w.1
+  apart_in_house (Diagonal d) is j k lj lk a b e = absurd (true≢false (sym is.1))
 
-  pub is_grid : IsGrid ((c * r) * (c * r)) (c * r) grid
+  is_grid : IsGrid ((c * r) * (c * r)) (c * r) grid
   is_grid = record {
-    each_cell = length-numbered c r numbers rows columns;
+    each_cell = length-rearranged c r numbers rows columns;
     each_value = All-from_get_or (λ v. v < c * r) grid 0 (λ place lt.
-        let long = length-numbered c r numbers rows columns in
-        let at = numbered-at c r numbers rows columns place (omega arith) in
+        let long = length-rearranged c r numbers rows columns in
+        let at = rearranged-at c r numbers rows columns place (omega arith) in
         let low = is_numbers.within (first_number c r (old_x place) (old_y place)) (mod_below _ (c * r) side_some) in
         omega arith);
   }
 
-  pub is_solution_of_all : IsSolution (all_given c r grid) grid
+  pub is_solution_of_all : IsSolution (all_given c r false grid) grid
   is_solution_of_all = record {
     grid = is_grid;
-    givens = λ place lt some. let long = length-numbered c r numbers rows columns in let at = get_or-map suc grid place 0 0 (omega arith) in omega arith;
-    different = λ j k lj lk ne shared e. ne (apart_in_house j k lj lk shared e);
+    givens = λ place lt some. let long = length-rearranged c r numbers rows columns in let at = get_or-map suc grid place 0 0 (omega arith) in omega arith;
+    different = λ house is j k lj lk ne a b e. ne (apart_in_house house is j k lj lk a b e);
   }

@@ -15,23 +15,23 @@ use Rattle.fields_core.proofs.LightCounting.{filter-few}
 use Rattle.fields_core.proofs.StepLaws.{steps-few}
 use Rattle.maker_core.specs.declared.camp.Camp.{Camp}
 use Rattle.maker_core.specs.Draws.{draw_below, shuffled_order}
-use Rattle.maker_core.specs.TentFilling.{no_camp, is_free, free_beside, touches_tent, may_pitch, pitch, take_cell, camp_after, tent_filling}
+use Rattle.maker_core.specs.TentFilling.{no_camp, is_free, free_cells_beside, touches_tent, may_pitch, pitch, take_cell, camp_after, tent_filling}
 use Rattle.maker_core.specs.TentSteps.{IsPitched}
 
-pub free_all : (size : Extent) (camp : Camp) (c n : ℕ) (places : List ℕ) → places ≡ filter (is_free camp) (steps size c n) → n ≡ 4 → places ≡ free_beside size camp c
-unfolding free_beside
+pub free_all : (size : Extent) (camp : Camp) (c n : ℕ) (places : List ℕ) → places ≡ filter (is_free camp) (steps size c n) → n ≡ 4 → places ≡ free_cells_beside size camp c
+unfolding free_cells_beside
 free_all size camp c n places is all = is ∙ ap (λ k. filter (is_free camp) (steps size c k)) all
 
-pub free_few : (size : Extent) (camp : Camp) (c : ℕ) → length (free_beside size camp c) ≤ 4
-unfolding free_beside
+pub free_few : (size : Extent) (camp : Camp) (c : ℕ) → length (free_cells_beside size camp c) ≤ 4
+unfolding free_cells_beside
 free_few size camp c = let a = filter-few (is_free camp) (steps size c 4) in let b = steps-few size c 4 in omega arith
 
-pub free_place : (size : Extent) (camp : Camp) (c t : ℕ) → has_place (free_beside size camp c) t ≡ true → (has_place (steps size c 4) t ≡ true) × (is_free camp t ≡ true)
-unfolding free_beside
+pub free_place : (size : Extent) (camp : Camp) (c t : ℕ) → has_place (free_cells_beside size camp c) t ≡ true → (has_place (steps size c 4) t ≡ true) × (is_free camp t ≡ true)
+unfolding free_cells_beside
 free_place size camp c t on = place-filter (is_free camp) (steps size c 4) t on
 
 -- ---- a tent more
-pub pitch_is : (size : Extent) (camp : Camp) (c k : ℕ) (trees tents free : List ℕ) (pitched : ℕ) (s t : Stream) → free ≡ free_beside size camp c
+pub pitch_is : (size : Extent) (camp : Camp) (c k : ℕ) (trees tents free : List ℕ) (pitched : ℕ) (s t : Stream) → free ≡ free_cells_beside size camp c
     → ◌≡◌ {A = ℕ × Stream} (k, t) (draw_below (length free) s) → trees ≡ slice_set camp.trees (slice_index free k) 1 → tents ≡ slice_set camp.tents c 1 → pitched ≡ camp.pitched + 1
     → ◌≡◌ {A = Camp × Stream} (record { trees = trees; tents = tents; pitched = pitched }, t) (pitch size camp c s)
 unfolding pitch
@@ -42,7 +42,7 @@ pitch_is size camp c k trees tents free pitched s t is drawn new_trees new_tents
     ∙ ap (λ (q : ℕ × Stream). (record { trees = slice_set camp.trees (slice_index free q.0) 1; tents = slice_set camp.tents c 1; pitched = suc camp.pitched }, q.1)) drawn
     ∙ ap (λ (xs : List ℕ). (record { trees = slice_set camp.trees (slice_index xs (draw_below (length xs) s).0) 1; tents = slice_set camp.tents c 1; pitched = suc camp.pitched }, (draw_below (length xs) s).1)) is
 
-pub pitched_is : (size : Extent) (camp new : Camp) (c k : ℕ) (free : List ℕ) → free ≡ free_beside size camp c → k < length free → may_pitch size camp c ≡ true
+pub pitched_is : (size : Extent) (camp new : Camp) (c k : ℕ) (free : List ℕ) → free ≡ free_cells_beside size camp c → k < length free → may_pitch size camp c ≡ true
     → new.trees ≡ slice_set camp.trees (slice_index free k) 1 → new.tents ≡ slice_set camp.tents c 1 → IsPitched size camp c new
 pitched_is size camp new c k free is below may trees tents = record {
   may = may;
@@ -76,23 +76,23 @@ pub touching : (size : Extent) (camp : Camp) (c : ℕ) → touches_tent size cam
 unfolding may_pitch
 touching size camp c near = and_right_false (nat_lt camp.pitched (size.w * size.h / 5)) _ (and_right_false (slice_index camp.trees c == 0) _ (and_false _ _ (ap not near)))
 
-pub hemmed : (size : Extent) (camp : Camp) (c : ℕ) (free : List ℕ) → free ≡ free_beside size camp c → length free ≡ 0 → may_pitch size camp c ≡ false
+pub hemmed : (size : Extent) (camp : Camp) (c : ℕ) (free : List ℕ) → free ≡ free_cells_beside size camp c → length free ≡ 0 → may_pitch size camp c ≡ false
 unfolding may_pitch
 hemmed size camp c free is none =
-    and_right_false (nat_lt camp.pitched (size.w * size.h / 5)) _ (and_right_false (slice_index camp.trees c == 0) _ (and_right_false (not (touches_tent size camp.tents c)) _ (le-ltb 0 (length (free_beside size camp c)) (let e = ap length is in omega arith))))
+    and_right_false (nat_lt camp.pitched (size.w * size.h / 5)) _ (and_right_false (slice_index camp.trees c == 0) _ (and_right_false (not (touches_tent size camp.tents c)) _ (le-ltb 0 (length (free_cells_beside size camp c)) (let e = ap length is in omega arith))))
 
 pub may : (size : Extent) (camp : Camp) (c v : ℕ) (free : List ℕ) → camp.pitched < size.w * size.h / 5 → v ≡ slice_index camp.trees c → v ≡ 0
-    → touches_tent size camp.tents c ≡ false → free ≡ free_beside size camp c → 0 < length free → may_pitch size camp c ≡ true
+    → touches_tent size camp.tents c ≡ false → free ≡ free_cells_beside size camp c → 0 < length free → may_pitch size camp c ≡ true
 unfolding may_pitch
 may size camp c v free few is no_tree apart listed some =
-    and_from _ _ (lt-ltb _ _ few) (and_from _ _ (eq-eqb _ _ (sym is ∙ no_tree)) (and_from _ _ (ap not apart) (lt-ltb 0 (length (free_beside size camp c)) (let e = ap length listed in omega arith))))
+    and_from _ _ (lt-ltb _ _ few) (and_from _ _ (eq-eqb _ _ (sym is ∙ no_tree)) (and_from _ _ (ap not apart) (lt-ltb 0 (length (free_cells_beside size camp c)) (let e = ap length listed in omega arith))))
 
 pub near_is : (size : Extent) (tents : List ℕ) (c : ℕ) (b near : Bool) → near ≡ any_below (λ d. touches size c d && tent tents d) (size.w * size.h) → near ≡ b → touches_tent size tents c ≡ b
 unfolding touches_tent
 near_is size tents c b near is e = sym is ∙ e
 
 -- a free cell beside a cell lies in the grid
-pub free_in : (size : Extent) (camp : Camp) (c k : ℕ) (free : List ℕ) → 1 ≤ size.w → c < size.w * size.h → free ≡ free_beside size camp c → k < length free → slice_index free k < size.w * size.h
+pub free_in : (size : Extent) (camp : Camp) (c k : ℕ) (free : List ℕ) → 1 ≤ size.w → c < size.w * size.h → free ≡ free_cells_beside size camp c → k < length free → slice_index free k < size.w * size.h
 free_in size camp c k free w lt is below =
     beside-in size c (slice_index free k) (omega arith) lt
     (free_place size camp c (slice_index free k) (subst (λ (xs : List ℕ). has_place xs (slice_index free k) ≡ true) is (has_place-here free k below))).0

@@ -1,5 +1,5 @@
 -- The puzzle of a camp has its trees and the numbers of its tents, and the camp is its solution.
-use Rattle.std.proofs.Common.{◌≡◌, ℕ, ◌+◌, ◌-◌, ◌*◌, ◌<◌, List, length, subst, refl, sym, ap, ◌∙◌, arith, inl, inr}
+use Rattle.std.proofs.Common.{◌≡◌, ℕ, ◌+◌, ◌-◌, ◌<◌, List, length, subst, refl, sym, ap, ◌∙◌, arith, inl, inr}
 use Rattle.std.specs.Prelude.{slice_index, IsTrue, ◌↔◌}
 use Rattle.std.proofs.lemmas.Bool.{cases_lt, lt-ltb, le-ltb}
 use Rattle.std.proofs.lemmas.Grind.{same_number_lists}
@@ -14,7 +14,7 @@ use Rattle.fields_core.specs.TentHouses.{tent_rules}
 use Rattle.fields_core.specs.TentSolutions.{IsTentSolution}
 use Rattle.maker_core.specs.declared.camp.Camp.{Camp}
 use Rattle.maker_core.specs.Made.{HasOne, TellsOne, IsOnlySolution}
-use Rattle.maker_core.specs.TentFilling.{tents_of}
+use Rattle.maker_core.specs.TentFilling.{tents_puzzle_of}
 
 -- a puzzle with those trees and numbers
 pub record HasParts (size : Extent) (camp : Camp) (p : Tents) : Type 0 where
@@ -35,8 +35,8 @@ count_at size camp p has line lt = elim (cases_lt line size.w) [
       ap (λ n. slice_index p.counts n) (sym back) ∙ has.rows (line - size.w) (omega arith) ∙ rw (le-ltb line size.w row) refl
 ]
 
-pub tents_is : (size : Extent) (camp : Camp) (p : Tents) → length p.counts ≡ lines_of p.size → HasParts size camp p → p ≡ tents_of size camp
-unfolding tents_of
+pub tents_is : (size : Extent) (camp : Camp) (p : Tents) → length p.counts ≡ lines_of p.size → HasParts size camp p → p ≡ tents_puzzle_of size camp
+unfolding tents_puzzle_of
 tents_is size camp p lines has =
     let same = has.sized in
     let long : length p.counts ≡ lines_of size = lines ∙ ap lines_of same in
@@ -47,11 +47,11 @@ tents_is size camp p lines has =
     ∙ ap (λ (xs : List ℕ). record { size = size; trees = xs; counts = p.counts }) has.trees
     ∙ ap (λ (xs : List ℕ). record { size = size; trees = camp.trees; counts = xs }) counts
 
-pub tents_size : (size : Extent) (camp : Camp) (p : Tents) → p ≡ tents_of size camp → p.size ≡ size
-unfolding tents_of
+pub tents_size : (size : Extent) (camp : Camp) (p : Tents) → p ≡ tents_puzzle_of size camp → p.size ≡ size
+unfolding tents_puzzle_of
 tents_size size camp p is = ap (λ (q : Tents). q.size) is
 
-pub tents_only : (size : Extent) (camp : Camp) (p : Tents) → p ≡ tents_of size camp → IsTentSolution (tents_of size camp) camp.tents
+pub tents_only : (size : Extent) (camp : Camp) (p : Tents) → p ≡ tents_puzzle_of size camp → IsTentSolution (tents_puzzle_of size camp) camp.tents
     → ((q : Tents) (h : List ℕ) → IsGridOf (tent_rules q) h → (IsTrue ((tent_rules q).is_solution h)) ↔ IsTentSolution q h)
     → (budget : ℕ) → HasOne (tent_rules p) budget → IsOnlySolution (IsTentSolution p) camp.tents × TellsOne (tent_rules p) budget camp.tents
 tents_only size camp p is solution accepted budget one =

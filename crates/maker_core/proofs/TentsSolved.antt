@@ -22,7 +22,7 @@ use Rattle.fields_core.proofs.TentBeside.{beside-in}
 use Rattle.fields_core.proofs.TentCounting.{tent-in}
 use Rattle.maker_core.specs.declared.camp.Camp.{Camp}
 use Rattle.maker_core.specs.SoloOrders.{IsOrder}
-use Rattle.maker_core.specs.TentFilling.{no_camp, touches_tent, may_pitch, tents_of}
+use Rattle.maker_core.specs.TentFilling.{no_camp, touches_tent, may_pitch, tents_puzzle_of}
 use Rattle.maker_core.specs.TentSteps.{IsPitched, IsTaken}
 use Rattle.maker_core.proofs.LightBulbs.{set_value}
 use Rattle.maker_core.proofs.LightSolved.{new_or_old, old_stays, no_bulb}
@@ -279,8 +279,8 @@ row_count size g y lt =
     let e : row_cells size g y ≡ line_list size g (size.w + y) = rw (le-ltb (size.w + y) size.w (let z : size.w ≤ size.w + y = omega arith in z)) (ap (row_cells size g) back) in e)
     ∙ sym (count_of size g (size.w + y) (omega arith))
 
-pub camp_solves : (size : Extent) (order : List ℕ) (k : ℕ) (camp : Camp) → IsCamp size order k camp → IsTentSolution (tents_of size camp) camp.tents
-unfolding tents_of
+pub camp_solves : (size : Extent) (order : List ℕ) (k : ℕ) (camp : Camp) → IsCamp size order k camp → IsTentSolution (tents_puzzle_of size camp) camp.tents
+unfolding tents_puzzle_of
 camp_solves size order k camp w = record {
   grid = w.tents_grid;
   none_on_trees = λ c lt on. let none = w.off_trees c on in ne_eqb (slice_index camp.trees c) 1 (λ e. absurd (omega arith));

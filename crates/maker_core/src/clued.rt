@@ -1,18 +1,21 @@
 //! Puzzles whose clues can be taken away.
 
 ghost use Rattle.std.specs.Prelude.{◌≡◌, ◌<◌, Some, IfOk, IsTrue, ℕ};
+ghost use Rattle.engine_core.specs.Puzzle.{Puzzle};
 ghost use Rattle.maker_core.specs.Thinning.{Game, IsGame, has_clue};
 
-use engine_core::Rules;
 use std::alloc::{AllocError, Global};
 
 /// A puzzle with clues in cells, which can be taken away and put back.
 pub(crate) trait Clued: Drop {
-    /// What a search goes by.
-    type Search: Rules + Drop;
+    /// What a search goes by: rules, which is asked where a search is made.
+    type Search: Drop;
 
     // What the clues are, and what the puzzle means to a search.
     ghost game: { Game Self };
+
+    // What those rules mean.
+    ghost meaning: { Self.Search → Puzzle };
 
     // The number can be a clue.
     ghost can_be_clue: { Self → ℕ → Type 0 };
@@ -45,7 +48,7 @@ pub(crate) trait Clued: Drop {
     ///
     /// When memory was refused.
     fn search(&self, alloc: Global) -> Result<Self::Search, AllocError>
-        ensures { IfOk result (λ rules. Self.Search.puzzle rules ≡ game.rules self.now) };
+        ensures { IfOk result (λ rules. meaning rules ≡ game.rules self.now) };
 
     /// Fewer clues lose no solution, and a search needs no more memory.
     ghost lawful: { IsGame game };

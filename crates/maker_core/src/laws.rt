@@ -1,9 +1,15 @@
-//! What fewer clues change. These calls do nothing: their contracts are the laws.
+//! What fewer clues change, and what fillings are. These calls do nothing: their contracts are the laws.
 
-ghost use Rattle.std.specs.Prelude.{◌≡◌, true, List, ℕ};
+ghost use Rattle.std.specs.Prelude.{◌≡◌, ◌*◌, true, List, ℕ};
+ghost use Rattle.rand_core.specs.Stream.{Stream};
+ghost use Rattle.grid_core.specs.Extent.{Extent, IsExtent};
+ghost use Rattle.grid_core.specs.Grids.{IsGrid};
 ghost use Rattle.gameid_core.specs.Puzzles.{Solo, Light};
 ghost use Rattle.solo_core.specs.Solutions.{IsSolution};
 ghost use Rattle.fields_core.specs.Light.{is_lit};
+ghost use Rattle.fields_core.specs.TentSolutions.{IsTentSolution};
+ghost use Rattle.maker_core.specs.Draws.{HasWords, filling_at};
+ghost use Rattle.maker_core.specs.TentFilling.{tent_filling, tents_puzzle_of};
 ghost use Rattle.maker_core.specs.Thinning.{IsThinnedFrom, LeavesNoIdleClue};
 ghost use Rattle.maker_core.specs.SoloClues.{solo_game};
 ghost use Rattle.maker_core.specs.LightClues.{light_game};
@@ -18,4 +24,13 @@ pub fn fewer_clues_keep_solutions()
 pub fn needed_clues_are_not_idle()
     ensures solo { LeavesNoIdleClue solo_game }
     ensures lights { LeavesNoIdleClue light_game }
+{}
+
+/// Each filling of Tents, over any stream of 32-bit words, is a grid of trees and tents that solves its own puzzle.
+pub fn fillings_of_tents_are_solutions()
+    ensures trees { (size : Extent) (s : Stream) (k : ℕ) → IsExtent size → HasWords s
+        → IsGrid (size.w * size.h) 2 (filling_at (tent_filling size) k s).trees }
+    ensures solved { (size : Extent) (s : Stream) (k : ℕ) → IsExtent size → HasWords s
+        → IsTentSolution (tents_puzzle_of size (filling_at (tent_filling size) k s))
+        (filling_at (tent_filling size) k s).tents }
 {}

@@ -7,12 +7,15 @@ use std::alloc::{AllocError, Global};
 
 impl Clued for LightPuzzle {
     ghost use Rattle.std.specs.Prelude.{◌≤◌};
+    ghost use Rattle.fields_core.specs.LightHouses.{light_rules};
     ghost use Rattle.maker_core.specs.LightClues.{light_game};
     ghost use Rattle.maker_core.specs.LightCluesLaws.{light_is_game};
 
     type Search = LightRules;
 
     ghost game = { light_game };
+
+    ghost meaning = { λ search. light_rules search.light };
 
     ghost can_be_clue = { λ p n. n ≤ 4 };
 

@@ -7,7 +7,7 @@ ghost use Rattle.pattern_core.specs.Solutions.{IsSolution};
 ghost use Rattle.maker_core.specs.declared.made.MakeFault.TheVariants.{Exhausted, SizeRange};
 ghost use Rattle.maker_core.specs.Draws.{AreAll, IsAfterFirst, NonePasses, stream_after};
 ghost use Rattle.maker_core.specs.Made.{TellsOne, IsOnlySolution};
-ghost use Rattle.maker_core.specs.PatternMaking.{IsPatternMade, pattern_filling, pattern_of, pattern_passes};
+ghost use Rattle.maker_core.specs.PatternMaking.{IsPatternMade, pattern_filling, clued_by, pattern_passes};
 
 use crate::black::draw_black;
 use crate::made::{Limits, Made, MakeFault};
@@ -22,7 +22,7 @@ use std::alloc::{AllocError, Global};
 /// The puzzle with all clues of the grid.
 pub(crate) fn puzzle_of(alloc: Global, size: Size, grid: &Grid) -> Result<PatternPuzzle, AllocError>
     requires { IsGrid (size.w * size.h) 2 grid.now }
-    ensures puzzle { IfOk result (λ p. p ≡ pattern_of size grid.now) }
+    ensures puzzle { IfOk result (λ p. p ≡ clued_by size grid.now) }
     ensures solved { IfOk result (λ p. IsSolution p grid.now) }
 {
     let puzzle = PatternPuzzle::of_grid(alloc, size, grid)?;
@@ -38,7 +38,7 @@ fn passes(
     answer: &mut Grid,
     budget: u64,
 ) -> Result<bool, AllocError>
-    requires puzzle { puzzle.now ≡ pattern_of puzzle.now.size answer.old }
+    requires puzzle { puzzle.now ≡ clued_by puzzle.now.size answer.old }
     requires solved { IsSolution puzzle.now answer.old }
     ensures verdict { IfOk result (λ unique. unique ≡ pattern_passes puzzle.now.size budget answer.old) }
     ensures only { IfOk result (λ unique. unique ≡ true → IsOnlySolution (IsSolution puzzle.now) answer.old) }

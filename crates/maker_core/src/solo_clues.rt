@@ -8,12 +8,15 @@ use std::alloc::{AllocError, Global};
 impl Clued for SoloPuzzle {
     ghost use Rattle.std.specs.Prelude.{◌≤◌};
     ghost use Rattle.gameid_core.specs.Puzzles.{solo_n};
+    ghost use Rattle.solo_core.specs.RuleSets.{houses_rules};
     ghost use Rattle.maker_core.specs.SoloClues.{solo_game};
     ghost use Rattle.maker_core.specs.SoloCluesLaws.{solo_is_game};
 
     type Search = SoloHouses;
 
     ghost game = { solo_game };
+
+    ghost meaning = { λ search. houses_rules search.puzzle };
 
     ghost can_be_clue = { λ p n. n ≤ solo_n p };
 

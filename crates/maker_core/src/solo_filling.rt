@@ -1,12 +1,13 @@
-//! The filling of Solo.
+//! The filling of plain Solo.
 
-ghost use Rattle.std.specs.Prelude.{◌≡◌, ◌+◌, ◌*◌, ◌<◌, ◌≤◌, slice_index, IfOk};
+ghost use Rattle.std.specs.Prelude.{◌≡◌, ◌+◌, ◌*◌, ◌<◌, ◌≤◌, false, slice_index, IfOk};
 ghost use Rattle.grid_core.specs.Grids.{IsGrid};
 ghost use Rattle.gameid_core.specs.Head.{max_numbers};
 ghost use Rattle.solo_core.specs.Solutions.{IsSolution};
 ghost use Rattle.maker_core.specs.Draws.{shuffled_order};
 ghost use Rattle.maker_core.specs.SoloOrders.{IsOrder, IsLineOrder};
-ghost use Rattle.maker_core.specs.SoloFilling.{group_added, line_order as lines_of_order, numbered as numbered_grid, solo_filling as filling_of, all_given};
+ghost use Rattle.maker_core.specs.SoloFilling.{group_added, line_order as lines_of_order, rearranged, plain_filling, all_given};
+ghost use Rattle.maker_core.specs.SoloMaking.{IsSoloSize};
 
 use crate::draws::order;
 use gameid_core::SoloPuzzle;
@@ -21,25 +22,23 @@ use std::alloc::{AllocError, Global};
 /// # Errors
 ///
 /// When memory was refused. The generator may have been drawn from then.
-pub(crate) fn fill_solo<G: Rng>(
+pub(crate) fn fill_plain<G: Rng>(
     alloc: Global,
     c: u8,
     r: u8,
     rng: &mut G,
 ) -> Result<Grid, AllocError>
-    requires c_low { 2 ≤ c }
-    requires r_low { 2 ≤ r }
-    requires n_high { c * r ≤ max_numbers }
-    ensures filling { IfOk result (λ grid. (grid, G.stream rng.new) ≡ filling_of c r (G.stream rng.old)) }
-    ensures fits { IfOk result (λ grid. IsGrid ((c * r) * (c * r)) (c * r) grid) }
-    ensures solution { IfOk result (λ grid. IsSolution (all_given c r grid) grid) }
+    requires { IsSoloSize c r }
+    ensures filling { IfOk result
+        (λ grid. (grid, G.stream rng.new) ≡ plain_filling c r (G.stream rng.old)) }
+    ensures solution { IfOk result (λ grid. IsSolution (all_given c r false grid) grid) }
 {
     let tall = usize::from(c);
     let wide = usize::from(r);
     let numbers = order(alloc, rng, tall * wide)?;
     let rows = line_order(alloc, wide, tall, rng)?;
     let columns = line_order(alloc, tall, wide, rng)?;
-    numbered(alloc, tall, wide, &numbers, &rows, &columns)
+    rearrange(alloc, tall, wide, &numbers, &rows, &columns)
 }
 
 /// The puzzle that gives all cells of the grid.
@@ -51,15 +50,14 @@ pub(crate) fn full_puzzle(
     alloc: Global,
     c: u8,
     r: u8,
+    x: bool,
     grid: &Grid,
 ) -> Result<SoloPuzzle, AllocError>
-    requires c_low { 2 ≤ c }
-    requires r_low { 2 ≤ r }
-    requires n_high { c * r ≤ max_numbers }
-    requires fits { IsGrid ((c * r) * (c * r)) (c * r) grid.now }
-    ensures { IfOk result (λ puzzle. puzzle ≡ all_given c r grid.now) }
+    requires size { IsSoloSize c r }
+    requires grid { IsGrid ((c * r) * (c * r)) (c * r) grid.now }
+    ensures { IfOk result (λ puzzle. puzzle ≡ all_given c r x grid.now) }
 {
-    let mut puzzle = SoloPuzzle::blank(alloc, c, r)?;
+    let mut puzzle = SoloPuzzle::blank(alloc, c, r, x)?;
     for place in 0..grid.len() {
         puzzle.set_given(place, grid.get(place) + 1);
     }
@@ -75,7 +73,8 @@ fn line_order<G: Rng>(
 ) -> Result<Vec<usize>, AllocError>
     requires some { 0 < size }
     requires few { count * size ≤ max_numbers }
-    ensures drawn { IfOk result (λ v. (v.items, G.stream rng.new) ≡ lines_of_order count size (G.stream rng.old)) }
+    ensures drawn { IfOk result
+        (λ v. (v.items, G.stream rng.new) ≡ lines_of_order count size (G.stream rng.old)) }
     ensures grouped { IfOk result (λ v. IsLineOrder count size v.items) }
 {
     let groups = order(alloc, rng, count)?;
@@ -95,7 +94,8 @@ fn push_group<G: Rng>(
     lines: &mut Vec<usize>,
 ) -> Result<(), AllocError>
     requires few { (group + 1) * size ≤ max_numbers }
-    ensures drawn { IfOk result (λ _. (lines.new.items, G.stream rng.new) ≡ group_added size group lines.old.items (shuffled_order size (G.stream rng.old))) }
+    ensures drawn { IfOk result (λ _. (lines.new.items, G.stream rng.new)
+        ≡ group_added size group lines.old.items (shuffled_order size (G.stream rng.old))) }
     ensures ordered { IfOk result (λ _. IsOrder size (shuffled_order size (G.stream rng.old)).0) }
 {
     let inside = order(alloc, rng, size)?;
@@ -106,7 +106,7 @@ fn push_group<G: Rng>(
 }
 
 /// The grid in which each number has become another, and rows and columns stand in new orders.
-fn numbered(
+fn rearrange(
     alloc: Global,
     c: usize,
     r: usize,
@@ -120,9 +120,8 @@ fn numbered(
     requires numbers { IsOrder (c * r) numbers.now }
     requires rows { IsLineOrder r c rows.now }
     requires columns { IsLineOrder c r columns.now }
-    ensures grid { IfOk result (λ grid. grid ≡ numbered_grid c r numbers.now rows.now columns.now) }
-    ensures fits { IfOk result (λ grid. IsGrid ((c * r) * (c * r)) (c * r) grid) }
-    ensures solution { IfOk result (λ grid. IsSolution (all_given c r grid) grid) }
+    ensures grid { IfOk result (λ grid. grid ≡ rearranged c r numbers.now rows.now columns.now) }
+    ensures solution { IfOk result (λ grid. IsSolution (all_given c r false grid) grid) }
 {
     let cells = c * r * (c * r);
     let mut grid = Grid::new(alloc, cells)?;
@@ -148,7 +147,7 @@ fn number_at(
     requires rows { IsLineOrder r c rows.now }
     requires columns { IsLineOrder c r columns.now }
     requires place { place < (c * r) * (c * r) }
-    ensures { result ≡ slice_index (numbered_grid c r numbers.now rows.now columns.now) place }
+    ensures { result ≡ slice_index (rearranged c r numbers.now rows.now columns.now) place }
 {
     let n = c * r;
     let x = columns[place % n];

@@ -6,7 +6,7 @@
 
 ghost use Rattle.std.specs.Prelude.{◌≡◌, ◌≢◌, ℕ, ◌*◌, ◌<◌, ◌≤◌, ◌&&◌, ◌||◌, ◌==◌, ◌-◌, true, length, slice_index, slice_set};
 ghost use Rattle.grid_core.specs.Grids.{IsGrid};
-ghost use Rattle.maker_core.specs.Switch.{HasOther, cell_of, begins, IsRunEnd};
+ghost use Rattle.maker_core.specs.Switch.{HasOther, cell_of, run_begins, IsRunEnd};
 
 use gameid_core::PatternPuzzle;
 use grid_core::{Grid, Size, row_place};
@@ -70,7 +70,7 @@ fn begins_run(size: Size, grid: &Grid, x: usize, y: usize) -> bool
     requires cells { length grid.now ≡ size.w * size.h }
     requires x_in { x < size.w }
     requires y_in { y < size.h }
-    ensures { result ≡ begins size grid.now x y }
+    ensures { result ≡ run_begins size grid.now x y }
 {
     cell(size, grid, x, y) == 1 && (x == 0 || cell(size, grid, x - 1, y) != 1)
 }

@@ -4,7 +4,7 @@ ghost use Rattle.std.specs.Prelude.{◌≡◌, ◌<◌, ◌*◌, ◌/◌, IfOk, 
 ghost use Rattle.grid_core.specs.Grids.{IsGrid};
 ghost use Rattle.fields_core.specs.TentSolutions.{IsTentSolution};
 ghost use Rattle.maker_core.specs.SoloOrders.{IsOrder};
-ghost use Rattle.maker_core.specs.TentFilling.{no_camp, camp_after, is_free, free_beside, may_pitch, pitch as pitched_in, take_cell as cell_taken, tent_filling, tents_of};
+ghost use Rattle.maker_core.specs.TentFilling.{no_camp, camp_after, is_free, free_cells_beside, may_pitch, pitch as pitched_in, take_cell as cell_taken, tent_filling, tents_puzzle_of};
 ghost use Rattle.maker_core.specs.TentSteps.{IsPitched, IsTaken};
 
 use crate::camp::Camp;
@@ -33,7 +33,7 @@ fn free_cells(
     requires trees { length camp.now.trees ≡ size.w * size.h }
     requires tents { length camp.now.tents ≡ size.w * size.h }
     requires place { place < size.w * size.h }
-    ensures { IfOk result (λ places. places.items ≡ free_beside size camp.now place) }
+    ensures { IfOk result (λ places. places.items ≡ free_cells_beside size camp.now place) }
 {
     let mut places = Vec::new(alloc);
     for direction in 0..4 {
@@ -54,7 +54,7 @@ fn pitch<G: Rng>(rng: &mut G, size: Size, camp: &mut Camp, place: usize, free: &
     requires trees { length camp.old.trees ≡ size.w * size.h }
     requires tents { length camp.old.tents ≡ size.w * size.h }
     requires place { place < size.w * size.h }
-    requires free { free.now ≡ free_beside size camp.old place }
+    requires free { free.now ≡ free_cells_beside size camp.old place }
     requires some { 0 < length free.now }
     requires may { may_pitch size camp.old place ≡ true }
     ensures drawn { (camp.new, G.stream rng.new) ≡ pitched_in size camp.old place (G.stream rng.old) }
@@ -112,7 +112,7 @@ fn take_cells<G: Rng>(
     ensures drawn { OnOk result ((camp.new, G.stream rng.new) ≡ camp_after size order.now (length order.now) (G.stream rng.old)) }
     ensures trees { OnOk result (IsGrid (size.w * size.h) 2 camp.new.trees) }
     ensures tents { OnOk result (IsGrid (size.w * size.h) 2 camp.new.tents) }
-    ensures solved { OnOk result (IsTentSolution (tents_of size camp.new) camp.new.tents) }
+    ensures solved { OnOk result (IsTentSolution (tents_puzzle_of size camp.new) camp.new.tents) }
 {
     let _cells = size.cells();
     for k in 0..order.len() {
@@ -130,7 +130,7 @@ pub(crate) fn fill_tents<G: Rng>(alloc: Global, rng: &mut G, size: Size) -> Resu
     ensures drawn { IfOk result (λ camp. (camp, G.stream rng.new) ≡ tent_filling size (G.stream rng.old)) }
     ensures trees { IfOk result (λ camp. IsGrid (size.w * size.h) 2 camp.trees) }
     ensures tents { IfOk result (λ camp. IsGrid (size.w * size.h) 2 camp.tents) }
-    ensures solved { IfOk result (λ camp. IsTentSolution (tents_of size camp) camp.tents) }
+    ensures solved { IfOk result (λ camp. IsTentSolution (tents_puzzle_of size camp) camp.tents) }
 {
     let cells = size.cells();
     let places = order(alloc, rng, cells)?;

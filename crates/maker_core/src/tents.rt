@@ -6,7 +6,7 @@ ghost use Rattle.fields_core.specs.TentHouses.{tent_rules};
 ghost use Rattle.maker_core.specs.declared.made.MakeFault.TheVariants.{Exhausted, SizeRange};
 ghost use Rattle.maker_core.specs.Draws.{IsAfterFirst, NonePasses, stream_after};
 ghost use Rattle.maker_core.specs.Made.{HasOne, has_one};
-ghost use Rattle.maker_core.specs.TentFilling.{tent_filling, tents_of, tents_pass};
+ghost use Rattle.maker_core.specs.TentFilling.{tent_filling, tents_puzzle_of, tents_pass};
 ghost use Rattle.maker_core.specs.TentMaking.{IsTentSize, IsTentsMade};
 
 use crate::camp::Camp;
@@ -31,7 +31,7 @@ fn puzzle_of(alloc: Global, size: Size, camp: &Camp) -> Result<TentsPuzzle, Allo
     requires size { IsTentSize size }
     requires trees { IsGrid (size.w * size.h) 2 camp.now.trees }
     requires tents { IsGrid (size.w * size.h) 2 camp.now.tents }
-    ensures { IfOk result (λ p. p ≡ tents_of size camp.now) }
+    ensures { IfOk result (λ p. p ≡ tents_puzzle_of size camp.now) }
 {
     let puzzle = TentsPuzzle::of_parts(alloc, size, &camp.trees, &camp.tents)?;
     let _size = puzzle.size();

@@ -10,7 +10,7 @@ ghost use Rattle.maker_core.specs.ThinningSteps.{IsLeft, IsAsked, IsThinning, re
 use crate::clued::Clued;
 use crate::draws::shuffle;
 use crate::made::{Kept, Made, Why};
-use engine_core::{Store, Verdict};
+use engine_core::{Rules, Store, Verdict};
 use grid_core::Grid;
 use rand_core::Rng;
 use std::alloc::{AllocError, Global};
@@ -28,6 +28,9 @@ pub(crate) fn thin<P: Clued, G: Rng>(
     rng: &mut G,
     budget: u64,
 ) -> Result<Made<P>, AllocError>
+where
+    P::Search: Rules,
+    requires means { (rules : P.Search) → P.Search.puzzle rules ≡ P.meaning rules }
     requires all { puzzle ≡ P.game.all_clues puzzle answer }
     requires only { IsOnly (P.game.rules puzzle) answer }
     requires found { TellsOne (P.game.rules puzzle) budget answer }
@@ -89,6 +92,9 @@ fn try_clues<P: Clued>(
     whys: &mut [Option<Why>],
     budget: u64,
 ) -> Result<(), AllocError>
+where
+    P::Search: Rules,
+    requires means { (rules : P.Search) → P.Search.puzzle rules ≡ P.meaning rules }
     requires fits { FitsIn (needs_of (P.game.rules puzzle.old)) store.old.made }
     requires start { IsThinning P.game budget puzzle.old puzzle.old whys.old order.now }
     ensures { OnOk result (IsThinning P.game budget puzzle.old puzzle.new whys.new []) }
@@ -107,6 +113,9 @@ fn try_clue<P: Clued>(
     place: usize,
     budget: u64,
 ) -> Result<Option<Why>, AllocError>
+where
+    P::Search: Rules,
+    requires means { (rules : P.Search) → P.Search.puzzle rules ≡ P.meaning rules }
     requires clue { IsTrue (has_clue P.game puzzle.old place) }
     requires one { HasOne (P.game.rules puzzle.old) budget }
     requires fits { FitsIn (needs_of (P.game.rules puzzle.old)) store.old.made }

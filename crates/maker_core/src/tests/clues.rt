@@ -1,7 +1,7 @@
 //! Clues taken away and put back, and searches of the thinner puzzles.
 
 use crate::clued::Clued;
-use engine_core::{Store, Verdict};
+use engine_core::{Rules, Store, Verdict};
 use gameid_core::{LightCell, LightPuzzle, read_solo};
 use grid_core::Size;
 use std::test::Fail;
@@ -12,7 +12,10 @@ fn goes_as_new<P: Clued>(
     puzzle: &P,
     used: &mut Store<P::Search>,
     budget: u64,
-) -> Result<bool, Fail> {
+) -> Result<bool, Fail>
+where
+    P::Search: Rules,
+{
     let rules = puzzle.search(rt.alloc())?;
     let mut fresh = Store::new(rt.alloc(), &rules)?;
     if !used.fits(&rules) {
@@ -34,7 +37,10 @@ fn goes_on_without<P: Clued>(
     puzzle: &mut P,
     place: usize,
     budget: u64,
-) -> Result<bool, Fail> {
+) -> Result<bool, Fail>
+where
+    P::Search: Rules,
+{
     let rules = puzzle.search(rt.alloc())?;
     let mut used = Store::new(rt.alloc(), &rules)?;
     used.solve(&rules, budget);

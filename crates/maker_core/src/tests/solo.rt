@@ -3,13 +3,14 @@
 ghost use Rattle.std.specs.Prelude.{IfOk};
 ghost use Rattle.grid_core.specs.Grids.{IsGrid};
 ghost use Rattle.gameid_core.specs.Puzzles.{solo_n};
-ghost use Rattle.solo_core.specs.Solutions.{cells_of};
+ghost use Rattle.solo_core.specs.Cells.{cells_of};
 
 use crate::made::{Limits, Made, MakeFault, Why};
 use crate::solo::make_solo;
-use crate::solo_filling::{fill_solo, full_puzzle};
+use crate::solo_filling::{fill_plain, full_puzzle};
 use engine_core::{Store, Verdict};
 use gameid_core::SoloPuzzle;
+use grid_core::Grid;
 use rand_chacha::ChaCha8Rng;
 use rand_core::SeedableRng;
 use solo_core::{SoloHouses, check_solo};
@@ -18,8 +19,8 @@ use std::test::Fail;
 #[test]
 fn a_filling_of_two_by_three_blocks_is_a_solution(rt: HostRuntime) -> Result<(), Fail> {
     let mut rng = ChaCha8Rng::from_seed([7; 32]);
-    let grid = fill_solo(rt.alloc(), 2, 3, &mut rng)?;
-    let puzzle = full_puzzle(rt.alloc(), 2, 3, &grid)?;
+    let grid = fill_plain(rt.alloc(), 2, 3, &mut rng)?;
+    let puzzle = full_puzzle(rt.alloc(), 2, 3, false, &grid)?;
     assert_eq!(rt; grid.len(), 36);
     assert_eq!(rt; check_solo(&puzzle, &grid), None);
     Ok(())
@@ -30,6 +31,7 @@ fn made(
     rt: &HostRuntime,
     c: u8,
     r: u8,
+    x: bool,
     budget: u64,
     tries: u32,
 ) -> Result<Made<SoloPuzzle>, MakeFault>
@@ -38,7 +40,7 @@ fn made(
     let mut key = [0; 32];
     key[0] = 1;
     let mut rng = ChaCha8Rng::from_seed(key);
-    make_solo(rt.alloc(), c, r, &mut rng, Limits { budget, tries })
+    make_solo(rt.alloc(), c, r, x, &mut rng, Limits { budget, tries })
 }
 
 /// Whether each given that was left, of some and not all cells, was left for this reason.
@@ -48,7 +50,7 @@ fn all_kept(made: &Made<SoloPuzzle>, why: Why) -> bool {
 
 #[test]
 fn no_budget_leaves_givens_for_want_of_it(rt: HostRuntime) -> Result<(), Fail> {
-    let made = made(&rt, 2, 2, 0, 1)?;
+    let made = made(&rt, 2, 2, false, 0, 1)?;
     assert!(rt; all_kept(&made, Why::Budget));
     let rules = SoloHouses::new(rt.alloc(), &made.puzzle)?;
     let mut store = Store::new(rt.alloc(), &rules)?;
@@ -59,24 +61,64 @@ fn no_budget_leaves_givens_for_want_of_it(rt: HostRuntime) -> Result<(), Fail> {
 
 #[test]
 fn enough_budget_leaves_givens_that_are_needed(rt: HostRuntime) -> Result<(), Fail> {
-    let made = made(&rt, 2, 2, 100_000, 1)?;
+    let made = made(&rt, 2, 2, false, 100_000, 1)?;
     assert!(rt; all_kept(&made, Why::Needed));
     assert_eq!(rt; check_solo(&made.puzzle, &made.answer), None);
     Ok(())
 }
 
-/// Why nothing was made.
-fn fault(made: Result<Made<SoloPuzzle>, MakeFault>) -> Option<MakeFault> {
+/// Whether a grid was found, and it is this one.
+fn is_same(found: Option<&Grid>, answer: &Grid) -> bool {
+    let Some(grid) = found else {
+        return false;
+    };
+    let mut same = grid.len() == answer.len();
+    for place in 0..grid.len() {
+        same &= place < answer.len() && grid.get(place) == answer.get(place);
+    }
+    same
+}
+
+#[test]
+fn solo_x_has_numbers_once_on_its_diagonals(rt: HostRuntime) -> Result<(), Fail> {
+    let made = made(&rt, 2, 2, true, 100_000, 1)?;
+    assert!(rt; made.puzzle.x());
+    assert!(rt; all_kept(&made, Why::Needed));
+    assert_eq!(rt; check_solo(&made.puzzle, &made.answer), None);
+    let rules = SoloHouses::new(rt.alloc(), &made.puzzle)?;
+    let mut store = Store::new(rt.alloc(), &rules)?;
+    assert_eq!(rt; store.solve(&rules, 100_000), Verdict::One);
+    assert!(rt; is_same(store.first(), &made.answer));
+    Ok(())
+}
+
+/// Why nothing was made. Want of memory is handed up.
+fn fault(made: Result<Made<SoloPuzzle>, MakeFault>) -> Result<Option<MakeFault>, MakeFault> {
     match made {
-        Ok(_made) => None,
-        Err(fault) => Some(fault),
+        Ok(_made) => Ok(None),
+        Err(MakeFault::Memory) => Err(MakeFault::Memory),
+        Err(fault) => Ok(Some(fault)),
     }
 }
 
 #[test]
 fn sizes_and_tries_are_tested_first(rt: HostRuntime) -> Result<(), Fail> {
-    assert_eq!(rt; fault(made(&rt, 1, 4, 0, 0)), Some(MakeFault::SizeRange));
-    assert_eq!(rt; fault(made(&rt, 6, 6, 0, 1)), Some(MakeFault::SizeRange));
-    assert_eq!(rt; fault(made(&rt, 2, 2, 0, 0)), Some(MakeFault::Exhausted));
+    assert_eq!(rt;
+        fault(made(&rt, 1, 4, false, 0, 0))?,
+        Some(MakeFault::SizeRange)
+    );
+    assert_eq!(rt;
+        fault(made(&rt, 6, 6, true, 0, 1))?,
+        Some(MakeFault::SizeRange)
+    );
+    assert_eq!(rt;
+        fault(made(&rt, 2, 2, false, 0, 0))?,
+        Some(MakeFault::Exhausted)
+    );
+    // a top row alone leaves two grids, so that a search needs trials
+    assert_eq!(rt;
+        fault(made(&rt, 2, 2, true, 0, 2))?,
+        Some(MakeFault::Exhausted)
+    );
     Ok(())
 }

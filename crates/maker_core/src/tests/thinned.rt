@@ -24,7 +24,7 @@ fn without_budget_a_thinned_puzzle_needs_no_trial(rt: HostRuntime) -> Result<(),
         budget: 0,
         tries: 1,
     };
-    let made = make_solo(rt.alloc(), 2, 2, &mut first_generator(), limits)?;
+    let made = make_solo(rt.alloc(), 2, 2, false, &mut first_generator(), limits)?;
     assert!(rt; made.kept.iter().all(|kept| kept.why == Why::Budget));
     let rules = SoloHouses::new(rt.alloc(), &made.puzzle)?;
     let mut store = Store::new(rt.alloc(), &rules)?;

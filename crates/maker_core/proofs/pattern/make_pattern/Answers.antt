@@ -1,7 +1,7 @@
 use Rattle.std.proofs.Common.{sym, ◌∙◌, ap}
 use Rattle.grid_core.specs.Extent.{Extent}
 use Rattle.maker_core.specs.Draws.{black_cells}
-use Rattle.maker_core.specs.PatternMaking.{pattern_of, pattern_passes}
+use Rattle.maker_core.specs.PatternMaking.{clued_by, pattern_passes}
 use Rattle.maker_core.proofs.PatternMakings.{IsFirstSure-none, IsFirstSure-more}
 use Rattle.maker_core.proofs.Tries.{IsTrying-none, IsTrying-more, first_passing, left_after}
 use Rattle.maker_core.proofs.pattern.make_pattern.Goals as goal
@@ -23,7 +23,7 @@ returns-then-branch-clause-made g c =
       k = w.0;
       first = w.1;
       filled = same ∙ w.2;
-      clues = c.in_ok-puzzle.ensures.puzzle ∙ ap (pattern_of c.args.size) (sym same);
+      clues = c.in_ok-puzzle.ensures.puzzle ∙ ap (clued_by c.args.size) (sym same);
       only = rw same only;
       verdict = rw same found;
       unthinned = c.new-kept.ensures.items;

@@ -1,23 +1,42 @@
-use Rattle.std.proofs.Common.{refl, arith}
-use Rattle.maker_core.proofs.SoloMakings.{first_at_once, full_only, full_found, full_passes, made_solo, left_once}
+use Rattle.std.proofs.Common.{refl}
+use Rattle.maker_core.proofs.SoloMakings.{IsUnfilled-none, IsUnfilled-more, filled, unfilled, keeps_rules, full_only, full_found, full_passes, made_solo, left_shuffled}
+use Rattle.maker_core.proofs.Tries.{first_passing}
 use Rattle.maker_core.proofs.solo.make_solo.Goals as goal
+
+pub loop-attempt-init : goal.loop-attempt-init
+loop-attempt-init g c = IsUnfilled-none _ _ _ _ _
 
 pub thin-requires-clause-only : goal.thin-requires-clause-only
 thin-requires-clause-only g c =
-    let size = c.if-not-is_size.ensures.0 refl in
-    full_only c.args.c c.args.r c.in_ok-puzzle.puzzle c.in_ok-answer.answer size c.in_ok-answer.ensures.fits c.in_ok-answer.ensures.solution c.in_ok-puzzle.ensures
+    let a = c.args in
+    let solution = keeps_rules a.c a.r a.x _ _ c.in-Some.is c.in_ok-filling.ensures.solution in
+    full_only a.c a.r a.x _ c.in-Some.answer (c.if-not-is_size.ensures.0 refl) solution c.in_ok-puzzle.ensures
 
 pub thin-requires-clause-found : goal.thin-requires-clause-found
 thin-requires-clause-found g c =
-    let size = c.if-not-is_size.ensures.0 refl in
-    full_found c.args.c c.args.r c.in_ok-puzzle.puzzle c.in_ok-answer.answer c.args.limits.budget size c.in_ok-answer.ensures.fits c.in_ok-answer.ensures.solution c.in_ok-puzzle.ensures
+    let a = c.args in
+    let solution = keeps_rules a.c a.r a.x _ _ c.in-Some.is c.in_ok-filling.ensures.solution in
+    full_found a.c a.r a.x _ c.in-Some.answer a.limits.budget (c.if-not-is_size.ensures.0 refl) solution c.in_ok-puzzle.ensures
 
-pub returns-clause-made : goal.returns-clause-made
-returns-clause-made g c =
+pub returns-in-Some-clause-made : goal.returns-in-Some-clause-made
+returns-in-Some-clause-made g c =
+    let a = c.args in
     let size = c.if-not-is_size.ensures.0 refl in
-    let taken = first_at_once _ _ _ _ c.args.limits.tries c.in_ok-answer.answer c.in_ok-answer.ensures.filling
-    (full_passes c.args.c c.args.r c.in_ok-answer.answer c.args.limits.budget size c.in_ok-answer.ensures.fits c.in_ok-answer.ensures.solution) (omega arith) in
-    made_solo _ _ _ _ _ _ _ _ _ _ c.in_ok-puzzle.ensures c.in_ok-thin.ensures.answer taken c.in_ok-thin.ensures.within c.in_ok-thin.ensures.only c.in_ok-thin.ensures.found c.in_ok-thin.ensures.reasons
+    let solution = keeps_rules a.c a.r a.x _ _ c.in-Some.is c.in_ok-filling.ensures.solution in
+    let first = first_passing _ _ _ a.limits.tries _ _ _ _ c.loop-attempt.invariant.trying (filled _ _ _ _ c.in-Some.is c.in_ok-filling.ensures.filling)
+    (full_passes a.c a.r a.x c.in-Some.answer a.limits.budget size solution) c.loop-attempt-test.true in
+    made_solo a.c a.r a.x a.limits.budget a.limits.tries _ _ _ c.in-Some.answer _ _ size solution c.in_ok-puzzle.ensures c.in_ok-thin.ensures.answer first
+    c.in_ok-thin.ensures.within c.in_ok-thin.ensures.only c.in_ok-thin.ensures.found c.in_ok-thin.ensures.reasons
 
-pub returns-clause-drawn : goal.returns-clause-drawn
-returns-clause-drawn g c = left_once _ _ _ _ _ _ _ _ c.in_ok-answer.ensures.filling c.in_ok-puzzle.ensures c.in_ok-thin.ensures.answer c.in_ok-thin.ensures.drawn
+pub returns-in-Some-clause-drawn : goal.returns-in-Some-clause-drawn
+returns-in-Some-clause-drawn g c =
+    let a = c.args in
+    let solution = keeps_rules a.c a.r a.x _ _ c.in-Some.is c.in_ok-filling.ensures.solution in
+    left_shuffled a.c a.r a.x a.limits.budget a.limits.tries _ _ _ _ _ _ c.in-Some.answer _ c.loop-attempt.invariant
+    (filled _ _ _ _ c.in-Some.is c.in_ok-filling.ensures.filling)
+    (full_passes a.c a.r a.x c.in-Some.answer a.limits.budget (c.if-not-is_size.ensures.0 refl) solution) c.loop-attempt-test.true
+    c.in_ok-puzzle.ensures c.in_ok-thin.ensures.answer c.in_ok-thin.ensures.drawn
+
+pub loop-attempt-preserved : goal.loop-attempt-preserved
+loop-attempt-preserved g c =
+    IsUnfilled-more _ _ _ _ _ _ _ _ c.loop-attempt.invariant (unfilled _ _ _ c.in_default.is c.in_ok-filling.ensures.filling)

@@ -7,4 +7,4 @@ returns c =
     let i = c.loop-place.invariant in
     let long = i.long in
     let end = c.len-place-end.ensures in
-    all_given-same c.loop-place.puzzle c.args.c c.args.r c.args.grid.now i.same_c i.same_r i.long (λ k lt. i.same k (omega arith))
+    all_given-same c.loop-place.puzzle c.args.c c.args.r c.args.x c.args.grid.now i.same_c i.same_r i.same_x i.long (λ k lt. i.same k (omega arith))

@@ -1,6 +1,6 @@
 use Rattle.std.proofs.Common.{sym, arith}
 use Rattle.maker_core.proofs.SoloNumbers.{begin_below}
-use Rattle.maker_core.proofs.SoloSolution.{old_x_below, old_y_below, numbered-at}
+use Rattle.maker_core.proofs.SoloSolution.{old_x_below, old_y_below, rearranged-at}
 use Rattle.maker_core.proofs.solo_filling.number_at.Goals as goal
 
 pub overflow_mul-result : goal.overflow_mul-result
@@ -32,4 +32,4 @@ overflow_add-result-2 c =
     omega arith
 
 pub returns : goal.returns
-returns c = sym (numbered-at c.args.c c.args.r c.args.numbers.now c.args.rows.now c.args.columns.now c.args.place c.requires.place)
+returns c = sym (rearranged-at c.args.c c.args.r c.args.numbers.now c.args.rows.now c.args.columns.now c.args.place c.requires.place)

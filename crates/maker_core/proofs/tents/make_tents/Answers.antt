@@ -3,7 +3,7 @@ use Rattle.gameid_core.specs.Puzzles.{Tents}
 use Rattle.fields_core.specs.TentHouses.{tent_rules}
 use Rattle.maker_core.specs.declared.camp.Camp.{Camp}
 use Rattle.maker_core.specs.Made.{has_one}
-use Rattle.maker_core.specs.TentFilling.{tents_of}
+use Rattle.maker_core.specs.TentFilling.{tents_puzzle_of}
 use Rattle.maker_core.proofs.TentMakings.{tents_size, tents_only}
 use Rattle.maker_core.proofs.Tries.{IsTrying-none, IsTrying-more, first_passing, left_after}
 use Rattle.maker_core.proofs.tents.make_tents.Goals as goal
@@ -21,7 +21,7 @@ returns-then-branch-clause-made g c =
     record {
       k = taken.0;
       first = taken.1;
-      clues = c.in_ok-puzzle.ensures ∙ ap (tents_of c.args.size) taken.2;
+      clues = c.in_ok-puzzle.ensures ∙ ap (tents_puzzle_of c.args.size) taken.2;
       filled = ap (λ (camp : Camp). camp.tents) taken.2;
       size_asked = tents_size c.args.size c.in_ok-camp.camp c.in_ok-puzzle.puzzle c.in_ok-puzzle.ensures;
       only = only.0;

@@ -1,0 +1,155 @@
+-- A flip of a grid that keeps to all rules but the givens keeps to them: what lies in one row, column, block or diagonal
+-- comes from one row, column, block or diagonal.
+use Rattle.std.proofs.Common.{◌≡◌, ℕ, zero, suc, ◌+◌, ◌-◌, ◌*◌, ◌/◌, ◌<◌, Bool, true, false, eqb, List, length, slice_index, if◌then◌else◌, refl, sym, ap, ◌∙◌, arith}
+use native.Mathlib.Nat.{mul-pos}
+use Rattle.std.proofs.lemmas.Bool.{eqb-true, eq-eqb}
+use Rattle.std.proofs.lemmas.Nat.{mul-add-lt, div_below, mod_below, same_from_place}
+use Rattle.std.proofs.lemmas.List.{get_or-map}
+use Rattle.gameid_core.specs.Puzzles.{Solo, solo_n, solo_puzzle}
+use Rattle.solo_core.specs.declared.solo_house.SoloHouse.{SoloHouse}
+use Rattle.solo_core.specs.declared.solo_house.SoloHouse.TheVariants.{Row, Column, Block, Diagonal}
+use Rattle.solo_core.specs.Cells.{cells_of, row_of, column_of, block_of}
+use Rattle.solo_core.specs.Houses.{IsHouseOf, lies_in}
+use Rattle.solo_core.specs.Solutions.{IsSolution}
+use Rattle.maker_core.specs.Flips.{line_from, flipped_from, flipped}
+use Rattle.maker_core.specs.SoloCluesLaws.{house_stays, lies_alike}
+use Rattle.maker_core.specs.SoloFilling.{all_given}
+use Rattle.maker_core.proofs.Flips.{line_from-below, line_from-together, from_row, from_column, from_below, from_apart, flipped-at, flipped-grid, length-flipped}
+
+-- two places lie in one house of the puzzle
+record AreTogether (p : Solo) (j k : ℕ) : Type 0 where
+  house : SoloHouse
+  house_of : IsHouseOf p house
+  first : lies_in p house j ≡ true
+  second : lies_in p house k ≡ true
+
+-- ---- diagonals
+-- the diagonal that comes to a diagonal: by one flip alone the other
+diagonal_from : Bool → Bool → ℕ → ℕ
+diagonal_from true true d = d
+diagonal_from true false d = 1 - d
+diagonal_from false true d = 1 - d
+diagonal_from false false d = d
+
+diagonal_from-few : (across down : Bool) (d : ℕ) → d < 2 → diagonal_from across down d < 2
+unfolding diagonal_from
+diagonal_from-few true true d few = few
+diagonal_from-few true false d few = omega arith
+diagonal_from-few false true d few = omega arith
+diagonal_from-few false false d few = few
+
+-- the cell in column x of row y is on the diagonal
+abbrev on_diagonal : ℕ → ℕ → ℕ → ℕ → Type 0
+on_diagonal n d x y = x ≡ (if eqb d 0 then y else n - 1 - y)
+
+diagonal_is : (across down : Bool) (n d x y : ℕ) → d < 2 → x < n → y < n → on_diagonal n d x y
+    → on_diagonal n (diagonal_from across down d) (line_from across n x) (line_from down n y)
+unfolding diagonal_from
+diagonal_is true true n zero x y few lx ly on = omega arith
+diagonal_is true true n (suc zero) x y few lx ly on = omega arith
+diagonal_is true false n zero x y few lx ly on = omega arith
+diagonal_is true false n (suc zero) x y few lx ly on = omega arith
+diagonal_is false true n zero x y few lx ly on = omega arith
+diagonal_is false true n (suc zero) x y few lx ly on = omega arith
+diagonal_is false false n zero x y few lx ly on = on
+diagonal_is false false n (suc zero) x y few lx ly on = on
+diagonal_is across down n (suc (suc d)) x y few lx ly on = absurd (omega arith)
+
+module _ (p : Solo) (c_low : 0 < p.c) (r_low : 0 < p.r) (across down : Bool) where
+  abbrev from : ℕ → ℕ
+  from place = flipped_from (solo_n p) across down place
+
+  turned : p.r * p.c ≡ solo_n p
+  turned = omega arith
+
+  some : 0 < solo_n p
+  some = mul-pos c_low r_low
+
+  module _ (place : ℕ) (within : place < cells_of p) where
+    row : row_of p (from place) ≡ line_from down (solo_n p) (row_of p place)
+    row = from_row (solo_n p) across down place within
+
+    column : column_of p (from place) ≡ line_from across (solo_n p) (column_of p place)
+    column = from_column (solo_n p) across down place within
+
+    row_below : row_of p place < solo_n p
+    row_below = div_below place (solo_n p) (solo_n p) some within
+
+    column_below : column_of p place < solo_n p
+    column_below = mod_below place (solo_n p) some
+
+    in_row : (y : ℕ) → lies_in p (Row y) place ≡ true → lies_in p (Row (line_from down (solo_n p) y)) (from place) ≡ true
+    in_row y on = eq-eqb _ _ (row ∙ ap (line_from down (solo_n p)) (eqb-true _ _ on))
+
+    in_column : (x : ℕ) → lies_in p (Column x) place ≡ true → lies_in p (Column (line_from across (solo_n p) x)) (from place) ≡ true
+    in_column x on = eq-eqb _ _ (column ∙ ap (line_from across (solo_n p)) (eqb-true _ _ on))
+
+    in_diagonal : (d : ℕ) → d < 2 → lies_in p (Diagonal d) place ≡ true → lies_in p (Diagonal (diagonal_from across down d)) (from place) ≡ true
+    in_diagonal d few on = eq-eqb _ _ (
+        column ∙ diagonal_is across down (solo_n p) d (column_of p place) (row_of p place) few column_below row_below (eqb-true _ _ on)
+        ∙ ap (λ y. if eqb (diagonal_from across down d) 0 then y else solo_n p - 1 - y) (sym row))
+
+  block_in : (place : ℕ) → place < cells_of p → block_of p place < solo_n p
+  block_in place within =
+      mul-add-lt (row_of p place / p.c) p.c (column_of p place / p.r) p.r
+      (div_below (row_of p place) p.c p.r c_low (let low = row_below place within in omega (arith, low, turned)))
+      (div_below (column_of p place) p.r p.c r_low (column_below place within))
+
+  same_block : (j k : ℕ) → j < cells_of p → k < cells_of p → block_of p j ≡ block_of p k → block_of p (from j) ≡ block_of p (from k)
+  same_block j k lj lk e =
+      let parts = same_from_place (row_of p j / p.c) (column_of p j / p.r) (row_of p k / p.c) (column_of p k / p.r) p.c
+      (div_below (column_of p j) p.r p.c r_low (column_below j lj)) (div_below (column_of p k) p.r p.c r_low (column_below k lk)) e in
+      let band : row_of p (from j) / p.c ≡ row_of p (from k) / p.c =
+      ap (λ y. y / p.c) (row j lj) ∙ line_from-together down (solo_n p) p.r p.c (row_of p j) (row_of p k) (sym turned) c_low (row_below j lj) (row_below k lk) parts.0
+      ∙ ap (λ y. y / p.c) (sym (row k lk)) in
+      let stack : column_of p (from j) / p.r ≡ column_of p (from k) / p.r =
+      ap (λ x. x / p.r) (column j lj) ∙ line_from-together across (solo_n p) p.c p.r (column_of p j) (column_of p k) refl r_low (column_below j lj) (column_below k lk) parts.1
+      ∙ ap (λ x. x / p.r) (sym (column k lk)) in
+      ap (λ b. b * p.c + column_of p (from j) / p.r) band ∙ ap (λ s. row_of p (from k) / p.c * p.c + s) stack
+
+  together : (house : SoloHouse) → IsHouseOf p house → (j k : ℕ) → j < cells_of p → k < cells_of p → lies_in p house j ≡ true → lies_in p house k ≡ true
+      → AreTogether p (from j) (from k)
+  together (Row y) is j k lj lk a b = record {
+    house = Row (line_from down (solo_n p) y);
+    house_of = line_from-below down (solo_n p) y is;
+    first = in_row j lj y a;
+    second = in_row k lk y b;
+  }
+  together (Column x) is j k lj lk a b = record {
+    house = Column (line_from across (solo_n p) x);
+    house_of = line_from-below across (solo_n p) x is;
+    first = in_column j lj x a;
+    second = in_column k lk x b;
+  }
+  together (Block n) is j k lj lk a b = record {
+    house = Block (block_of p (from j));
+    house_of = block_in (from j) (from_below (solo_n p) across down j lj);
+    first = eq-eqb _ _ refl;
+    second = eq-eqb _ _ (sym (same_block j k lj lk (eqb-true _ _ a ∙ sym (eqb-true _ _ b))));
+  }
+  together (Diagonal d) is j k lj lk a b = record {
+    house = Diagonal (diagonal_from across down d);
+    house_of = (diagonal_from-few across down d is.0, is.1);
+    first = in_diagonal j lj d is.0 a;
+    second = in_diagonal k lk d is.0 b;
+  }
+
+-- ---- grids
+given_itself : (c r : ℕ) (x : Bool) (g : List ℕ) (place : ℕ) → place < length g → slice_index g place + 1 ≡ slice_index (all_given c r x g).givens place
+given_itself c r x g place within = let at = get_or-map suc g place 0 0 within in omega arith
+
+-- the flipped grid solves the puzzle that gives all its cells
+pub flipped-solution : (c r : ℕ) (x : Bool) (givens g : List ℕ) → 0 < c → 0 < r → (across down : Bool) → IsSolution (solo_puzzle c r x givens) g
+    → IsSolution (all_given c r x (flipped (c * r) across down g)) (flipped (c * r) across down g)
+flipped-solution c r x givens g c_low r_low across down s = record {
+  grid = flipped-grid (c * r) across down g (c * r) s.grid;
+  givens = λ place lt low. given_itself c r x (flipped (c * r) across down g) place (let long = length-flipped (c * r) across down g in omega arith);
+  different = λ house is j k lj lk ne a b e.
+      let n = c * r in
+      let all = all_given c r x (flipped n across down g) in
+      let same = together (solo_puzzle c r x givens) c_low r_low across down house (house_stays all givens house is) j k lj lk
+      (sym (lies_alike all givens house j) ∙ a) (sym (lies_alike all givens house k) ∙ b) in
+      s.different same.house same.house_of (flipped_from n across down j) (flipped_from n across down k)
+      (from_below n across down j lj) (from_below n across down k lk) (λ f. ne (from_apart n across down j k lj lk f))
+      same.first same.second (sym (flipped-at n across down j lj g) ∙ e ∙ flipped-at n across down k lk g);
+}

@@ -1,0 +1,138 @@
+-- A shuffle over a stream of words brings a list into another order, and leaves a stream of words.
+use Rattle.std.proofs.Common.{◌≡◌, ◌∙◌, ℕ, zero, suc, ◌+◌, ◌-◌, ◌*◌, ◌^◌, ◌<◌, ◌≤◌, false, List, length, refl, sym, subst, arith}
+use Rattle.std.specs.Prelude.{◌==◌, nat_lt, IsPermutation}
+use Rattle.std.specs.List.{range_with_len}
+use Rattle.std.proofs.lemmas.Bool.{eqb-true, lt-ltb, ltb-false, true≢false}
+use Rattle.std.proofs.lemmas.List.FromFn.{length-range_with_len}
+use Rattle.std.proofs.lemmas.List.Sorted.{IsPermutation-refl, IsPermutation-swap, IsPermutation-trans, length_permutation}
+use Rattle.std.proofs.lemmas.Nat.{mod_below}
+use Rattle.rand_core.specs.Stream.{Stream, next_u32}
+use Rattle.rand.specs.Shuffle.{Chooser, chooser_at, chooser_next, chooser_refill, chunk_of, grow, narrow_swaps, rising}
+use Rattle.rand.specs.Uniform.{canon}
+use Rattle.rand.proofs.ShuffleLemmas.{last_below, rest_below, rising_more, rising_one, rising_positive}
+use Rattle.maker_core.specs.Draws.{HasWords, shuffled_order}
+use Rattle.maker_core.specs.SoloOrders.{IsOrder}
+use Rattle.maker_core.proofs.SoloOrderLemmas.{order_from_permutation}
+use Rattle.maker_core.proofs.DrawsBelow.{IsDrawn, draw_is, if_either}
+
+-- ---- the factors of a draw
+-- so many factors from m on, one at least, whose product fits 32 bits
+record IsChunk (m : ℕ) (chunk : ℕ × ℕ) : Type 0 where
+  product : chunk.0 ≡ rising m chunk.1
+  within : chunk.0 < 2 ^ 32
+  some : 0 < chunk.1
+
+grow_is : (m n p c k : ℕ) → c ≡ m + k → IsChunk m (p, k) → IsChunk m (grow n p c k)
+unfolding grow
+grow_is m zero p c k at is = is
+grow_is m (suc n) p c k at is = if_either (IsChunk m) (nat_lt (2 ^ 32 - 1) (p * c)) (p, k) (grow n (p * c) (c + 1) (k + 1)) (λ over. is)
+    (λ fits. grow_is m n (p * c) (c + 1) (k + 1) (omega arith) (record {
+      product = rw (is.product, at) (sym (rising_more m k));
+      within = let room = ltb-false (2 ^ 32 - 1) (p * c) fits in omega arith;
+      some = omega arith;
+    }))
+
+chunk_is : (m : ℕ) → m < 2 ^ 32 → IsChunk m (chunk_of m)
+chunk_is m within = grow_is m 32 m (m + 1) 1 refl (record { product = rising_one m; within = within; some = omega arith })
+
+-- ---- the next index
+-- what is left of a draw is below the product of the factors that are left
+record IsChooser (c : Chooser) : Type 0 where
+  room : 0 < c.left → c.chunk < rising (c.n + 1) c.left
+
+-- something is left of a draw
+record IsRefilled (n : ℕ) (r : ℕ × ℕ × Stream) : Type 0 where
+  some : 0 < r.1
+  room : r.0 < rising (n + 1) r.1
+  words : HasWords r.2
+
+refill_is : (c : Chooser) (s : Stream) → IsChooser c → HasWords s → c.n + 1 < 2 ^ 32 → IsRefilled c.n (chooser_refill c s)
+refill_is c s is words within =
+    let m : ℕ = c.n + 1 in
+    let chunk : IsChunk m (chunk_of m) = chunk_is m within in
+    let positive : 0 < (chunk_of m).0 = rw chunk.product (rising_positive m (chunk_of m).1 (omega arith)) in
+    let drawn : IsDrawn (chunk_of m).0 (canon (2 ^ 32) next_u32 (chunk_of m).0 s) = draw_is (chunk_of m).0 s positive (let w = chunk.within in omega arith) words in
+    if_either (IsRefilled c.n) (c.left == 0) _ _
+    (λ none. record {
+      some = chunk.some;
+      room = subst (λ p. (canon (2 ^ 32) next_u32 (chunk_of m).0 s).0 < p) chunk.product drawn.below;
+      words = drawn.words;
+    })
+    (λ left. let low : 0 < c.left = some_left c.left left in record { some = low; room = is.room low; words = words })
+  where
+    some_left : (n : ℕ) → (n == 0) ≡ false → 0 < n
+    some_left zero e = absurd (true≢false e)
+    some_left (suc n) e = omega arith
+
+-- an index of at most n, and a chooser for higher ones
+record IsNext (n : ℕ) (d : ℕ × Chooser × Stream) : Type 0 where
+  index : d.0 ≤ n
+  bound : d.1.n ≡ n + 1
+  chooser : IsChooser d.1
+  words : HasWords d.2
+
+next_is : (c : Chooser) (s : Stream) → IsChooser c → HasWords s → c.n + 1 < 2 ^ 32 → IsNext c.n (chooser_next c s)
+next_is c s is words within =
+    let r : ℕ × ℕ × Stream = chooser_refill c s in
+    let filled : IsRefilled c.n r = refill_is c s is words within in
+    if_either (IsNext c.n) (r.1 == 1) _ _
+    (λ last. record {
+      index = let low = last_below r.0 (c.n + 1) (subst (λ k. r.0 < rising (c.n + 1) k) (eqb-true r.1 1 last) filled.room) in omega arith;
+      bound = refl;
+      chooser = record { room = λ none. absurd (omega arith) };
+      words = filled.words;
+    })
+    (λ more. record {
+      index = let low = mod_below r.0 (c.n + 1) (omega arith) in omega arith;
+      bound = refl;
+      chooser = record {
+        room = λ some. rest_below r.0 (c.n + 1) (r.1 - 1) (omega arith)
+            (subst (λ k. r.0 < rising (c.n + 1) k) (let f = filled.some in let e : r.1 ≡ suc (r.1 - 1) = omega arith in e) filled.room);
+      };
+      words = filled.words;
+    })
+
+-- ---- the swaps
+record IsSwapped (items : List ℕ) (k : ℕ) (p : List ℕ × Chooser × Stream) : Type 0 where
+  permutation : IsPermutation items p.0
+  bound : p.1.n ≡ k
+  chooser : IsChooser p.1
+  words : HasWords p.2
+
+swaps_are : (items : List ℕ) (s : Stream) → HasWords s → length items < 2 ^ 32 - 1 → (k : ℕ) → k ≤ length items
+    → IsSwapped items k (narrow_swaps items (chooser_at 0) s k)
+unfolding narrow_swaps
+swaps_are items s words few zero within = record {
+  permutation = IsPermutation-refl items;
+  bound = refl;
+  chooser = record { room = λ some. rising_positive 1 1 (omega arith) };
+  words = words;
+}
+swaps_are items s words few (suc k) within =
+    let p : List ℕ × Chooser × Stream = narrow_swaps items (chooser_at 0) s k in
+    let before : IsSwapped items k p = swaps_are items s words few k (omega arith) in
+    let at = before.bound in
+    let long : length p.0 ≡ length items = length_permutation items p.0 before.permutation in
+    let next : IsNext p.1.n (chooser_next p.1 p.2) = next_is p.1 p.2 before.chooser before.words (omega arith) in
+    let index = next.index in
+    record {
+      permutation = IsPermutation-trans items p.0 _ before.permutation
+          (IsPermutation-swap p.0 _ p.1.n (chooser_next p.1 p.2).0 (omega arith) (omega arith) refl);
+      bound = let b = next.bound in omega arith;
+      chooser = next.chooser;
+      words = next.words;
+    }
+
+-- ---- the numbers below n in a shuffled order
+pub record IsShuffled (n : ℕ) (p : List ℕ × Stream) : Type 0 where
+  pub order : IsOrder n p.0
+  pub words : HasWords p.1
+
+pub order_is : (n : ℕ) (s : Stream) → n < 2 ^ 32 - 1 → HasWords s → IsShuffled n (shuffled_order n s)
+order_is n s few words =
+    let items : List ℕ = range_with_len 0 n in
+    let len : length items ≡ n = length-range_with_len 0 n in
+    let swapped = swaps_are items s words (omega arith) (length items - 0) (omega arith) in
+    if_either (IsShuffled n) (nat_lt (length items) (2 ^ 32 - 1)) _ _
+    (λ narrow. record { order = order_from_permutation n _ swapped.permutation; words = swapped.words })
+    (λ wide. absurd (true≢false (sym (lt-ltb (length items) (2 ^ 32 - 1) (omega arith)) ∙ wide)))

@@ -1,0 +1,135 @@
+-- What the search of a top row gives: the first grid of the verdict, which keeps to the rules of Solo X.
+use Rattle.std.proofs.Common.{◌≡◌, ℕ, zero, suc, ◌+◌, ◌-◌, ◌*◌, ◌<◌, ◌≤◌, true, Option, Some, None, List, map, ◌++◌, length, slice_index, replicate, sym, ap, subst, ◌∙◌, arith, inl, inr}
+use Rattle.std.specs.Prelude.{IfSome}
+use Rattle.std.proofs.lemmas.Bool.{cases_lt}
+use Rattle.std.proofs.lemmas.Grind.{same_number_lists}
+use Rattle.std.proofs.lemmas.List.{get_or-map, length-map, length-append, length-replicate, get_or_append_left, get_or-append_right, get_or-replicate}
+use Rattle.std.proofs.lemmas.List.Elements.{All-map, All-append, All-replicate, All-from_get_or, recursion_from_All}
+use Rattle.std.proofs.lemmas.Nat.{mul-le}
+use Rattle.rand_core.specs.Stream.{Stream}
+use Rattle.gameid_core.specs.Puzzles.{Solo, IsSolo, solo_puzzle}
+use Rattle.engine_core.specs.Puzzle.{Puzzle}
+use Rattle.engine_core.specs.Verdict.{Outcome, Outcome.NoGrid, Outcome.OneGrid, Outcome.TwoGrids, Outcome.OutOfBudget, verdict_of, Solves, IsTrueOf}
+use Rattle.engine_core.specs.Stored.{IsAnswer}
+use Rattle.engine_core.specs.declared.search.Verdict.{Verdict}
+use Rattle.engine_core.specs.declared.search.Verdict.TheVariants as verdict
+use Rattle.solo_core.specs.RuleSets.{houses_rules}
+use Rattle.solo_core.specs.Solutions.{IsSolution}
+use Rattle.solo_core.specs.SolutionLaws.{rule_from_test}
+use Rattle.maker_core.specs.Draws.{shuffled_order}
+use Rattle.maker_core.specs.SoloFilling.{all_given}
+use Rattle.maker_core.specs.SoloMaking.{IsSoloSize}
+use Rattle.maker_core.specs.SoloOrders.{IsOrder}
+use Rattle.maker_core.specs.SoloXFilling.{top_row_given, first_grid, flipped_by_draw, x_filling}
+use Rattle.maker_core.proofs.FlippedHouses.{flipped-solution}
+
+-- the store lends the first grid of what the search says
+pub first_is : (answer : Verdict) (first second : Option (List ℕ)) (said : Outcome) → IsAnswer answer first second said → first ≡ first_grid said
+first_is verdict.None first second said is = is.1 ∙ sym (ap first_grid is.0)
+first_is verdict.One first second said is = is.2 ∙ sym (ap first_grid is.1)
+first_is verdict.Several first second said is = is.3 ∙ sym (ap first_grid is.2)
+first_is (verdict.GaveUp found) first second said is = sym (ap first_grid is.0)
+
+-- and that grid is a solution
+first_solves : (p : Puzzle) (said : Outcome) → IsTrueOf p said → IfSome (first_grid said) (Solves p)
+first_solves p NoGrid is = tt
+first_solves p (OneGrid first) is = is.0
+first_solves p (TwoGrids first second) is = is.0
+first_solves p (OutOfBudget None) is = tt
+first_solves p (OutOfBudget (Some first)) is = is
+
+pub found_solves : (p : Puzzle) (found first second : Option (List ℕ)) (answer : Verdict) (said : Outcome) → found ≡ first → IsAnswer answer first second said → IsTrueOf p said
+    → IfSome found (Solves p)
+found_solves p found first second answer said lent is true_of =
+    subst (λ (f : Option (List ℕ)). IfSome f (Solves p)) (sym (lent ∙ first_is answer first second said is)) (first_solves p said true_of)
+
+-- ---- the top row
+module _ (c r : ℕ) (numbers : List ℕ) (size : IsSoloSize c r) (order : IsOrder (c * r) numbers) where
+  abbrev rest : ℕ
+  rest = (c * r) * (c * r) - c * r
+
+  room : c * r ≤ (c * r) * (c * r)
+  room =
+      let c_low = size.c_low in
+      let r_low = size.r_low in
+      let some = mul-le 1 1 c r (omega arith) (omega arith) in
+      let e = mul-le 1 (c * r) (c * r) (c * r) (omega arith) (omega arith) in
+      omega arith
+
+  row : length (map suc numbers) ≡ c * r
+  row = length-map numbers suc ∙ order.len
+
+  top_cells : length (map suc numbers ++ replicate rest 0) ≡ (c * r) * (c * r)
+  top_cells =
+      let a = length-append (map suc numbers) (replicate rest 0) in
+      let b : length (replicate rest zero) ≡ rest = length-replicate rest zero in
+      let low = room in
+      let first = row in
+      omega arith
+
+  pub top-solo : IsSolo (top_row_given c r numbers)
+  top-solo = record {
+    c_low = size.c_low;
+    r_low = size.r_low;
+    n_high = size.n_high;
+    cells = top_cells;
+    range = recursion_from_All (λ v. v ≤ c * r) (map suc numbers ++ replicate rest 0)
+        (All-append (λ v. v ≤ c * r) (map suc numbers) (replicate rest 0)
+        (All-map (λ v. v ≤ c * r) suc numbers (All-from_get_or (λ v. suc v ≤ c * r) numbers 0 (λ k lt. let len = order.len in let low = order.within k (omega arith) in omega arith)))
+        (All-replicate (λ v. v ≤ c * r) rest 0 (omega arith)));
+  }
+
+  -- a puzzle of that size that gives these numbers alone
+  pub top-same : (p : Solo) (column : ℕ) → p.c ≡ c → p.r ≡ r → p.x ≡ true → length p.givens ≡ (c * r) * (c * r) → length numbers ≤ column
+      → ((k : ℕ) → k < column → slice_index p.givens k ≡ slice_index numbers k + 1) → ((k : ℕ) → column ≤ k → slice_index p.givens k ≡ 0)
+      → column ≡ length numbers → p ≡ top_row_given c r numbers
+  top-same p column same_c same_r same_x long all given blank end =
+      let givens : p.givens ≡ map suc numbers ++ replicate rest 0 =
+      same_number_lists p.givens (map suc numbers ++ replicate rest 0) (long ∙ sym top_cells) (λ k lt. elim (cases_lt k column) [
+        | inl low ↦
+            let first = row in
+            let a = get_or_append_left (map suc numbers) (replicate rest 0) 0 k (omega arith) in
+            let b = get_or-map suc numbers k 0 0 (omega arith) in
+            let e = given k low in
+            omega arith
+        | inr high ↦
+            let len = order.len in
+            let first = row in
+            let low = room in
+            let a = get_or-append_right (map suc numbers) (replicate rest 0) (c * r) k 0 row (omega arith) in
+            let b : slice_index (replicate rest zero) (k - c * r) ≡ 0 = get_or-replicate rest (k - c * r) zero zero (omega arith) in
+            let e = blank k high in
+            omega arith
+      ]) in
+      ap (λ i. solo_puzzle i p.r p.x p.givens) same_c ∙ ap (λ i. solo_puzzle c i p.x p.givens) same_r ∙ ap (λ i. solo_puzzle c r i p.givens) same_x ∙ ap (solo_puzzle c r true) givens
+
+  found-solution : (g : List ℕ) → Solves (houses_rules (top_row_given c r numbers)) g → IsSolution (top_row_given c r numbers) g
+  found-solution g s = rule_from_test (top_row_given c r numbers) top-solo g s.grid s.good
+
+  -- the flipped grid keeps to the rules
+  pub flipped-found : (found : Option (List ℕ)) (t : Stream) → IfSome found (Solves (houses_rules (top_row_given c r numbers)))
+      → IfSome (flipped_by_draw (c * r) found t).0 (λ g. IsSolution (all_given c r true g) g)
+  flipped-found None t s = tt
+  flipped-found (Some g) t s =
+      let c_low = size.c_low in
+      let r_low = size.r_low in
+      flipped-solution c r true _ g (omega arith) (omega arith) _ _ (found-solution g s)
+
+-- ---- the filling
+pub x-filling-is : (c r budget n : ℕ) (s t u : Stream) (numbers : List ℕ) (p : Solo) (q : Puzzle) (found filling : Option (List ℕ)) → n ≡ c * r
+    → ◌≡◌ {A = List ℕ × Stream} (numbers, t) (shuffled_order n s) → p ≡ top_row_given c r numbers → q ≡ houses_rules p → found ≡ first_grid (verdict_of q budget)
+    → ◌≡◌ {A = Option (List ℕ) × Stream} (filling, u) (flipped_by_draw n found t) → ◌≡◌ {A = Option (List ℕ) × Stream} (filling, u) (x_filling c r budget s)
+x-filling-is c r budget n s t u numbers p q found filling is drawn top rules first flipped =
+    flipped ∙ ap (λ (f : Option (List ℕ)). flipped_by_draw n f t) (first ∙ ap (λ (z : Puzzle). first_grid (verdict_of z budget)) (rules ∙ ap houses_rules top))
+    ∙ ap (λ (d : List ℕ × Stream). flipped_by_draw n (first_grid (verdict_of (houses_rules (top_row_given c r d.0)) budget)) d.1) drawn
+    ∙ ap (λ m. let d = shuffled_order m s in flipped_by_draw m (first_grid (verdict_of (houses_rules (top_row_given c r d.0)) budget)) d.1) is
+
+-- what is there of the filling keeps to the rules
+pub x-filling-solves : (c r n : ℕ) (t u : Stream) (numbers : List ℕ) (p : Solo) (q : Puzzle) (found filling : Option (List ℕ)) → IsSoloSize c r → IsOrder (c * r) numbers → n ≡ c * r
+    → p ≡ top_row_given c r numbers → q ≡ houses_rules p → IfSome found (Solves q)
+    → ◌≡◌ {A = Option (List ℕ) × Stream} (filling, u) (flipped_by_draw n found t) → IfSome filling (λ g. IsSolution (all_given c r true g) g)
+x-filling-solves c r n t u numbers p q found filling size order is top rules solves flipped =
+    let good : IfSome found (Solves (houses_rules (top_row_given c r numbers))) = subst (λ (z : Puzzle). IfSome found (Solves z)) (rules ∙ ap houses_rules top) solves in
+    subst (λ (f : Option (List ℕ)). IfSome f (λ g. IsSolution (all_given c r true g) g))
+    (sym (ap (λ (q : Option (List ℕ) × Stream). q.0) flipped ∙ ap (λ m. (flipped_by_draw m found t).0) is))
+    (flipped-found c r numbers size order found t good)
