@@ -1,5 +1,5 @@
--- The grade of a puzzle goes with its verdict, and so what is told of the two.
-use Rattle.std.proofs.Common.{◌≡◌, ◌∙◌, ◌++◌, ℕ, Bool, true, false, List, Result, Err, if◌then◌else◌, codes, refl, sym, ap, subst, arith, inl, inr, slice_index}
+-- The grade of a puzzle goes along with its verdict, and so what is told of the two.
+use Rattle.std.proofs.Common.{◌≡◌, ◌≢◌, ◌∙◌, ◌++◌, ◌∷◌, ◌⊎◌, ℕ, Bool, true, false, List, [], Result, Err, if◌then◌else◌, codes, refl, sym, ap, subst, arith, inl, inr, slice_index, true≢false}
 use Rattle.std.specs.Prelude.{◌↔◌, ◌+◌, ◌*◌, Some, None}
 use Rattle.engine_core.specs.Puzzle.{Puzzle, IsLawful}
 use Rattle.engine_core.specs.Stored.{is_settled}
@@ -7,15 +7,15 @@ use Rattle.engine_core.specs.Verdict.{Outcome, Outcome.NoGrid, Outcome.OneGrid, 
 use Rattle.engine_core.specs.Walk.{walk}
 use Rattle.gameid_core.specs.declared.fault.IdFault.{IdFault}
 use Rattle.puzzles.specs.Answers.{Answer, Begins, Text}
-use Rattle.puzzles.specs.Grades.{TellsGrade, grade_by, grade_status, grade_text, last_grade, rule_set_text, searched_grade, settled_or}
+use Rattle.puzzles.specs.Grades.{HasOneSolution, IsRightGrade, Settling, TellsGrade, first_settled, grade_by, grade_status, grade_text, listed_grade, rule_set_text, searched_grade}
 use Rattle.puzzles.specs.IdAnswers.{AllowsId}
-use Rattle.puzzles.specs.LawsOfGrades.{NamesRules}
+use Rattle.puzzles.specs.LawsOfGrades.{GoesAlong, NamesRules, is_within_search}
 use Rattle.puzzles.specs.Refusals.{refused, fault_text}
-use Rattle.puzzles.specs.Verdicts.{verdict_answer}
+use Rattle.puzzles.specs.Verdicts.{IsRight, verdict_answer}
 use Rattle.puzzles.specs.declared.grade.Grade.{Grade}
 use Rattle.puzzles.specs.declared.grade.Grade.TheVariants.{ByRules, BySearch, NoSolution, SeveralSolutions, GaveUp}
 use Rattle.puzzles.specs.declared.grade.RuleSet.{RuleSet}
-use Rattle.puzzles.specs.declared.grade.RuleSet.TheVariants.{Singles, Houses, Lines, Local}
+use Rattle.puzzles.specs.declared.grade.RuleSet.TheVariants.{Singles, Houses, Crossings, Lines, Local}
 use Rattle.puzzles.proofs.SettledLemmas.{settled_found, one_settled}
 
 -- ---- two commands that answer to one ID
@@ -49,6 +49,7 @@ told_status printed (TwoGrids g h) = refl
 told_status printed (OutOfBudget None) = refl
 told_status printed (OutOfBudget (Some g)) = refl
 
+-- a grade by a search has the verdict's status
 by_status : (trials : ℕ) (o : Outcome) → grade_status (grade_by trials o) ≡ verdict_status o
 unfolding verdict_status
 by_status trials NoGrid = refl
@@ -67,118 +68,179 @@ status_one (OneGrid g) e = (g, refl)
 status_one (TwoGrids g h) e = absurd (omega (arith, e))
 status_one (OutOfBudget found) e = absurd (omega (arith, e))
 
--- whether a grade is by a rule set
-pub is_by_rules : Grade → Bool
-is_by_rules (ByRules set) = true
-is_by_rules (BySearch trials) = false
-is_by_rules NoSolution = false
-is_by_rules SeveralSolutions = false
-is_by_rules GaveUp = false
+-- ---- what a grade means beside a verdict
+-- a grade that names a rule set or a search is that of a puzzle with one solution
+pub graded_one : (solves : List ℕ → Type 0) (grade : Grade) → IsRightGrade solves grade → grade_status grade ≡ 0 → HasOneSolution solves
+graded_one solves (ByRules set) right e = right
+graded_one solves (BySearch trials) right e = right
+graded_one solves NoSolution right e = absurd (omega (arith, e))
+graded_one solves SeveralSolutions right e = absurd (omega (arith, e))
+graded_one solves GaveUp right e = absurd (omega (arith, e))
 
-by_no_rules : (trials : ℕ) (o : Outcome) → is_by_rules (grade_by trials o) ≡ false
-unfolding is_by_rules
-by_no_rules trials NoGrid = refl
-by_no_rules trials (OneGrid g) = refl
-by_no_rules trials (TwoGrids g h) = refl
-by_no_rules trials (OutOfBudget found) = refl
+-- a verdict that is right of a puzzle with one solution is that one, or that the search gave up
+one_or_out : (solves : List ℕ → Type 0) (o : Outcome) → IsRight solves o → HasOneSolution solves → verdict_status o ≢ 4 → 0 ≡ verdict_status o
+unfolding verdict_status
+one_or_out solves NoGrid right one left = absurd (right one.0 one.1)
+one_or_out solves (OneGrid g) right one left = refl
+one_or_out solves (TwoGrids g h) right one left = absurd (right.2 (sym (one.2 g right.0) ∙ one.2 h right.1))
+one_or_out solves (OutOfBudget found) right one left = absurd (left refl)
 
--- what is said of a grade, where each rule set that settles the puzzle leads to one verdict: with some budget, and with none
-pub record GoesWith (grade : Grade) (rules : Puzzle) (budget : ℕ) : Type 0 where
-  pub status : grade_status grade ≡ verdict_status (verdict_of rules budget)
-  pub named : is_by_rules grade ≡ is_settled rules
+-- a list of rule sets gives the name of one, or the grade by the search
+named_or_searched : (sets : List Settling) (otherwise : Grade) → ((set : RuleSet) × (first_settled sets otherwise ≡ ByRules set)) ⊎ (first_settled sets otherwise ≡ otherwise)
+named_or_searched [] otherwise = inr refl
+named_or_searched (first ∷ rest) otherwise = by (is_settled first.rules) (named_or_searched rest otherwise)
+  where
+    by : (b : Bool) → ((set : RuleSet) × (first_settled rest otherwise ≡ ByRules set)) ⊎ (first_settled rest otherwise ≡ otherwise)
+        → ((set : RuleSet) × ((if b then ByRules first.set else first_settled rest otherwise) ≡ ByRules set))
+        ⊎ ((if b then ByRules first.set else first_settled rest otherwise) ≡ otherwise)
+    by true later = inl (first.set, refl)
+    by false later = later
 
-module _ (rules : Puzzle) (laws : IsLawful rules) (budget : ℕ) where
-  searched_goes : is_settled rules ≡ false → GoesWith (searched_grade rules budget) rules budget
-  unfolding searched_grade
-  searched_goes unsettled = record {
-    status = by_status (trials_in (walk rules 0 rules.start)) (verdict_of rules budget);
-    named = by_no_rules (trials_in (walk rules 0 rules.start)) (verdict_of rules budget) ∙ sym unsettled;
-  }
+pub goes_along : (sets : List Settling) (search : Puzzle) (solves : List ℕ → Type 0) (budget : ℕ)
+    → IsRight solves (verdict_of search budget) → IsRightGrade solves (listed_grade sets search budget)
+    → GoesAlong (grade_status (listed_grade sets search budget)) (verdict_status (verdict_of search budget))
+unfolding searched_grade
+goes_along sets search solves budget verdict grade = by (named_or_searched sets (searched_grade search budget))
+  where
+    by_search : grade_status (searched_grade search budget) ≡ verdict_status (verdict_of search budget)
+    by_search = by_status (trials_in (walk search 0 search.start)) (verdict_of search budget)
 
-  settled_goes : (set : RuleSet) → is_settled rules ≡ true → GoesWith (ByRules set) rules budget
-  unfolding is_by_rules
-  settled_goes set settled = record {
-    status = one_status (verdict_of rules budget) _ (settled_found rules laws settled budget);
-    named = sym settled;
-  }
+    by : ((set : RuleSet) × (listed_grade sets search budget ≡ ByRules set)) ⊎ (listed_grade sets search budget ≡ searched_grade search budget)
+        → GoesAlong (grade_status (listed_grade sets search budget)) (verdict_status (verdict_of search budget))
+    by (inr is) = let same = ap grade_status is ∙ by_search in record { by_grade = λ _. same; by_verdict = λ _. same }
+    by (inl named) =
+        let zero_status = ap grade_status named.1 in
+        let one = graded_one solves (listed_grade sets search budget) grade zero_status in
+        record { by_grade = λ other. absurd (other zero_status); by_verdict = λ left. zero_status ∙ one_or_out solves (verdict_of search budget) verdict one left }
 
-  pub last_goes : (set : RuleSet) → GoesWith (last_grade set rules budget) rules budget
-  last_goes set = by (is_settled rules) refl
+-- ---- which rule sets need no trial
+-- whether a grade is by a rule set that strikes no more than the search's rules
+pub is_within : Grade → Bool
+is_within (ByRules set) = is_within_search set
+is_within (BySearch trials) = false
+is_within NoSolution = false
+is_within SeveralSolutions = false
+is_within GaveUp = false
+
+searched_apart : (trials : ℕ) (o : Outcome) → is_within (grade_by trials o) ≡ false
+unfolding is_within
+searched_apart trials NoGrid = refl
+searched_apart trials (OneGrid g) = refl
+searched_apart trials (TwoGrids g h) = refl
+searched_apart trials (OutOfBudget found) = refl
+
+-- rule sets that may strike more than the search's rules
+abbrev pub AreBeyond : List Settling → Type 0
+AreBeyond [] = Unit {0}
+AreBeyond (first ∷ rest) = (is_within_search first.set ≡ false) × AreBeyond rest
+
+module _ (search : Puzzle) (budget : ℕ) where
+  beyond : (sets : List Settling) → AreBeyond sets → is_within (listed_grade sets search budget) ≡ false
+  unfolding searched_grade is_within
+  beyond [] none = searched_apart (trials_in (walk search 0 search.start)) (verdict_of search budget)
+  beyond (first ∷ rest) none = by (is_settled first.rules) (beyond rest none.1)
     where
-      by : (b : Bool) → is_settled rules ≡ b → GoesWith (last_grade set rules budget) rules budget
-      by true settled = subst (λ (c : Bool). GoesWith (if c then ByRules set else searched_grade rules budget) rules budget) (sym settled) (settled_goes set settled)
-      by false unsettled = subst (λ (c : Bool). GoesWith (if c then ByRules set else searched_grade rules budget) rules budget) (sym unsettled) (searched_goes unsettled)
+      by : (b : Bool) → is_within (listed_grade rest search budget) ≡ false → is_within (if b then ByRules first.set else listed_grade rest search budget) ≡ false
+      by true later = none.0
+      by false later = later
 
-  -- one more rule set before the others, where what it settles the last one settles
-  pub more_goes : (set : RuleSet) (weak : Puzzle) (grade : Grade) → (is_settled weak ≡ true → is_settled rules ≡ true)
-      → GoesWith grade rules budget → GoesWith (settled_or set weak grade) rules budget
-  more_goes set weak grade stronger goes = by (is_settled weak) refl
+  -- the search's own rules, and after them others that may strike more
+  pub own_named : (set : RuleSet) (rest : List Settling) → is_within_search set ≡ true → AreBeyond rest
+      → is_within (listed_grade (record { set = set; rules = search } ∷ rest) search budget) ≡ is_settled search
+  unfolding is_within
+  own_named set rest own none = by (is_settled search)
     where
-      by : (b : Bool) → is_settled weak ≡ b → GoesWith (settled_or set weak grade) rules budget
-      by true settled = subst (λ (c : Bool). GoesWith (if c then ByRules set else grade) rules budget) (sym settled) (settled_goes set (stronger settled))
-      by false unsettled = subst (λ (c : Bool). GoesWith (if c then ByRules set else grade) rules budget) (sym unsettled) goes
+      by : (b : Bool) → is_within (if b then ByRules set else listed_grade rest search budget) ≡ b
+      by true = own
+      by false = beyond rest none
+
+  -- one more rule set before the others, where what it settles the search's rules settle
+  pub weaker_named : (set : RuleSet) (weak : Puzzle) (rest : List Settling) → is_within_search set ≡ true → (is_settled weak ≡ true → is_settled search ≡ true)
+      → is_within (listed_grade rest search budget) ≡ is_settled search → is_within (listed_grade (record { set = set; rules = weak } ∷ rest) search budget) ≡ is_settled search
+  unfolding is_within
+  weaker_named set weak rest within stronger named = by (is_settled weak) refl
+    where
+      by : (b : Bool) → is_settled weak ≡ b → is_within (if b then ByRules set else listed_grade rest search budget) ≡ is_settled search
+      by true settled = within ∙ sym (stronger settled)
+      by false unsettled = named
 
 -- ---- what is told
 -- the first two bytes of a text
 marks : Text → ℕ
 marks text = slice_index text 0 + 1000 * slice_index text 1
 
-named_is : (grade : Grade) (lines rest : Text) (set : RuleSet) → grade_text grade ++ codes "\n" ++ lines ≡ (rule_set_text set ++ codes "\n") ++ rest
-    → is_by_rules grade ≡ true
-unfolding is_by_rules marks
-named_is (ByRules by) lines rest set e = refl
-named_is (BySearch trials) lines rest Singles e = absurd (omega (arith, ap marks e))
-named_is (BySearch trials) lines rest Houses e = absurd (omega (arith, ap marks e))
-named_is (BySearch trials) lines rest Lines e = absurd (omega (arith, ap marks e))
-named_is (BySearch trials) lines rest Local e = absurd (omega (arith, ap marks e))
-named_is NoSolution lines rest Singles e = absurd (omega (arith, ap marks e))
-named_is NoSolution lines rest Houses e = absurd (omega (arith, ap marks e))
-named_is NoSolution lines rest Lines e = absurd (omega (arith, ap marks e))
-named_is NoSolution lines rest Local e = absurd (omega (arith, ap marks e))
-named_is SeveralSolutions lines rest Singles e = absurd (omega (arith, ap marks e))
-named_is SeveralSolutions lines rest Houses e = absurd (omega (arith, ap marks e))
-named_is SeveralSolutions lines rest Lines e = absurd (omega (arith, ap marks e))
-named_is SeveralSolutions lines rest Local e = absurd (omega (arith, ap marks e))
-named_is GaveUp lines rest Singles e = absurd (omega (arith, ap marks e))
-named_is GaveUp lines rest Houses e = absurd (omega (arith, ap marks e))
-named_is GaveUp lines rest Lines e = absurd (omega (arith, ap marks e))
-named_is GaveUp lines rest Local e = absurd (omega (arith, ap marks e))
+named_is : (grade : Grade) (lines rest : Text) (set : RuleSet) → is_within_search set ≡ true
+    → grade_text grade ++ codes "\n" ++ lines ≡ (rule_set_text set ++ codes "\n") ++ rest → is_within grade ≡ true
+unfolding is_within marks
+named_is grade lines rest Crossings within e = absurd (true≢false (sym within))
+named_is (ByRules Singles) lines rest set within e = refl
+named_is (ByRules Houses) lines rest set within e = refl
+named_is (ByRules Lines) lines rest set within e = refl
+named_is (ByRules Local) lines rest set within e = refl
+named_is (BySearch trials) lines rest Singles within e = absurd (omega (arith, ap marks e))
+named_is (BySearch trials) lines rest Houses within e = absurd (omega (arith, ap marks e))
+named_is (BySearch trials) lines rest Lines within e = absurd (omega (arith, ap marks e))
+named_is (BySearch trials) lines rest Local within e = absurd (omega (arith, ap marks e))
+named_is NoSolution lines rest Singles within e = absurd (omega (arith, ap marks e))
+named_is NoSolution lines rest Houses within e = absurd (omega (arith, ap marks e))
+named_is NoSolution lines rest Lines within e = absurd (omega (arith, ap marks e))
+named_is NoSolution lines rest Local within e = absurd (omega (arith, ap marks e))
+named_is SeveralSolutions lines rest Singles within e = absurd (omega (arith, ap marks e))
+named_is SeveralSolutions lines rest Houses within e = absurd (omega (arith, ap marks e))
+named_is SeveralSolutions lines rest Lines within e = absurd (omega (arith, ap marks e))
+named_is SeveralSolutions lines rest Local within e = absurd (omega (arith, ap marks e))
+named_is GaveUp lines rest Singles within e = absurd (omega (arith, ap marks e))
+named_is GaveUp lines rest Houses within e = absurd (omega (arith, ap marks e))
+named_is GaveUp lines rest Lines within e = absurd (omega (arith, ap marks e))
+named_is GaveUp lines rest Local within e = absurd (omega (arith, ap marks e))
+named_is (ByRules Crossings) lines rest Singles within e = absurd (omega (arith, ap marks e))
+named_is (ByRules Crossings) lines rest Houses within e = absurd (omega (arith, ap marks e))
+named_is (ByRules Crossings) lines rest Lines within e = absurd (omega (arith, ap marks e))
+named_is (ByRules Crossings) lines rest Local within e = absurd (omega (arith, ap marks e))
 
-names_it : (grade : Grade) (lines : Text) → is_by_rules grade ≡ true
-    → (set : RuleSet) × Begins (rule_set_text set ++ codes "\n") (grade_text grade ++ codes "\n" ++ lines)
-unfolding is_by_rules
-names_it (ByRules Singles) lines e = (Singles, (lines, refl))
-names_it (ByRules Houses) lines e = (Houses, (lines, refl))
-names_it (ByRules Lines) lines e = (Lines, (lines, refl))
-names_it (ByRules Local) lines e = (Local, (lines, refl))
+names_it : (grade : Grade) (lines : Text) → is_within grade ≡ true
+    → (set : RuleSet) × (is_within_search set ≡ true) × Begins (rule_set_text set ++ codes "\n") (grade_text grade ++ codes "\n" ++ lines)
+unfolding is_within
+names_it (ByRules Singles) lines e = (Singles, e, (lines, refl))
+names_it (ByRules Houses) lines e = (Houses, e, (lines, refl))
+names_it (ByRules Crossings) lines e = absurd (true≢false (sym e))
+names_it (ByRules Lines) lines e = (Lines, e, (lines, refl))
+names_it (ByRules Local) lines e = (Local, e, (lines, refl))
 names_it (BySearch trials) lines e = absurd cc
 names_it NoSolution lines e = absurd cc
 names_it SeveralSolutions lines e = absurd cc
 names_it GaveUp lines e = absurd cc
 
 -- a refusal names no rule set
-pub none_named : (cause : Text) → NamesRules (refused cause) → ⊥
+none_named : (cause : Text) → NamesRules (refused cause) → ⊥
 unfolding marks
-none_named cause (Singles, (rest, e)) = absurd (omega (arith, ap marks e))
-none_named cause (Houses, (rest, e)) = absurd (omega (arith, ap marks e))
-none_named cause (Lines, (rest, e)) = absurd (omega (arith, ap marks e))
-none_named cause (Local, (rest, e)) = absurd (omega (arith, ap marks e))
+none_named cause (Singles, within, (rest, e)) = absurd (omega (arith, ap marks e))
+none_named cause (Houses, within, (rest, e)) = absurd (omega (arith, ap marks e))
+none_named cause (Crossings, within, (rest, e)) = absurd (true≢false (sym within))
+none_named cause (Lines, within, (rest, e)) = absurd (omega (arith, ap marks e))
+none_named cause (Local, within, (rest, e)) = absurd (omega (arith, ap marks e))
 
 pub refusals_apart : (first second : Text) → NamesRules (refused second) ↔ ((refused first).status ≡ 0)
 refusals_apart first second = (λ named. absurd (none_named second named), λ e. absurd (omega (arith, e)))
 
-module _ (grade : Grade) (rules : Puzzle) (laws : IsLawful rules) (budget : ℕ) (traced : Bool) (tells : Text → Type 0)
-    (printed : List ℕ → Text) (solved graded : Answer) (goes : GoesWith grade rules budget) (told : TellsGrade grade traced tells graded) where
-  pub status_alike : solved ≡ verdict_answer printed (verdict_of rules budget) → graded.status ≡ solved.status
-  status_alike is = told.status ∙ goes.status ∙ sym (ap (λ (a : Answer). a.status) is ∙ told_status printed (verdict_of rules budget))
+pub refusals_along : (first second : Text) → GoesAlong (refused second).status (refused first).status
+refusals_along first second = record { by_grade = λ _. refl; by_verdict = λ _. refl }
 
-  pub named_alike : solved ≡ verdict_answer printed (verdict_of rules 0) → NamesRules graded ↔ (solved.status ≡ 0)
-  named_alike is = (
-    λ named. let by : is_by_rules grade ≡ true = named_is grade told.lines named.1.0 named.0 (sym told.text ∙ named.1.1) in
-        is_status ∙ sym (one_status (verdict_of rules 0) _ (settled_found rules laws (sym goes.named ∙ by) 0)),
+module _ (traced : Bool) (tells : Text → Type 0) (printed : List ℕ → Text) (solved graded : Answer) where
+  pub status_alike : (grade : Grade) (o : Outcome) → GoesAlong (grade_status grade) (verdict_status o) → TellsGrade grade traced tells graded
+      → solved ≡ verdict_answer printed o → GoesAlong graded.status solved.status
+  status_alike grade o along told is =
+      let second : verdict_status o ≡ solved.status = sym (ap (λ (a : Answer). a.status) is ∙ told_status printed o) in
+      subst (λ (n : ℕ). GoesAlong n solved.status) (sym told.status) (subst (GoesAlong (grade_status grade)) second along)
+
+  pub named_alike : (grade : Grade) (rules : Puzzle) → IsLawful rules → is_within grade ≡ is_settled rules → TellsGrade grade traced tells graded
+      → solved ≡ verdict_answer printed (verdict_of rules 0) → NamesRules graded ↔ (solved.status ≡ 0)
+  named_alike grade rules laws within told is = (
+    λ named. let by : is_within grade ≡ true = named_is grade told.lines named.2.0 named.0 named.1 (sym told.text ∙ named.2.1) in
+        is_status ∙ sym (one_status (verdict_of rules 0) _ (settled_found rules laws (sym within ∙ by) 0)),
     λ zero_status. let one = status_one (verdict_of rules 0) (sym is_status ∙ zero_status) in
-        let w = names_it grade told.lines (goes.named ∙ one_settled rules laws one.0 one.1) in
-        (w.0, subst (Begins (rule_set_text w.0 ++ codes "\n")) (sym told.text) w.1),
+        let w = names_it grade told.lines (within ∙ one_settled rules laws one.0 one.1) in
+        (w.0, w.1, subst (Begins (rule_set_text w.0 ++ codes "\n")) (sym told.text) w.2),
   )
     where
       is_status : solved.status ≡ verdict_status (verdict_of rules 0)

@@ -23,3 +23,17 @@ pub mod GradedAlike
 pub mod SolvedAsMade
 pub mod CorrectGrids
 pub mod OneAnswer
+mod PrintedOnce
+mod PrintedTexts
+mod CellsOnce
+mod FaultsOnce
+mod GridSearch
+mod Readings
+mod CheckedPuzzles
+mod CheckedOnce
+mod SearchedPuzzles
+mod SoloNames
+mod RightGrades
+mod PassingGrids
+mod SeedWords
+mod MadeOnce

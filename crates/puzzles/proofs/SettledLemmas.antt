@@ -7,8 +7,8 @@ use Rattle.grid_core.proofs.GridLemmas.{is_full-count, grid_of-at}
 use Rattle.engine_core.specs.Puzzle.{Puzzle, IsLawful, IsClosed}
 use Rattle.engine_core.specs.Closing.{closure}
 use Rattle.engine_core.specs.Stored.{is_settled}
-use Rattle.engine_core.specs.Verdict.{Outcome, Outcome.OneGrid, Outcome.NoGrid, Solves, outcome, verdict_of}
-use Rattle.engine_core.specs.Walk.{Mark, Mark.Trial, Mark.Found, walk, walk_closed, branches, branch_at, at_cell}
+use Rattle.engine_core.specs.Verdict.{Outcome.OneGrid, Outcome.NoGrid, Solves, outcome, verdict_of}
+use Rattle.engine_core.specs.Walk.{Mark, Mark.Trial, walk, walk_closed, branches, branch_at, at_cell}
 use Rattle.engine_core.proofs.ClosingLemmas.{closure_inside, closure_closed, closure_largest}
 use Rattle.engine_core.proofs.JudgeLemmas.{grid-fits}
 use Rattle.engine_core.proofs.WalkLemmas.{walk-unfold, walk_closed-dead, walk_closed-wrong}

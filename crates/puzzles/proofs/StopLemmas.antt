@@ -1,8 +1,8 @@
 -- Runs that end before their answers are whole, and those that deliver the last of an answer.
-use Rattle.std.proofs.Common.{[], refl, ◌≡◌, ◌≤◌, ℕ, Result, Ok, Err, IfErr, sym, subst, inl, inr, arith, true, false, true≢false}
+use Rattle.std.proofs.Common.{[], refl, ◌≡◌, ◌≤◌, ℕ, Bool, Result, Ok, Err, IfErr, sym, subst, inl, inr, arith, true, false, true≢false}
 use Rattle.std.specs.Result.{IsErr, IsErrAnd}
 use Rattle.puzzles.specs.Answers.{Answer, BeginsAnswer, Text}
-use Rattle.puzzles.specs.Stops.{Tells, is_broken, status_in, status_of}
+use Rattle.puzzles.specs.Stops.{IsSinkAfter, Tells, is_broken, status_in, status_of}
 use Rattle.puzzles.specs.declared.stop.Stop.{Stop}
 use Rattle.puzzles.specs.declared.stop.Stop.TheVariants.{Memory, Broken}
 
@@ -14,6 +14,11 @@ if_err (Err e) Q stop q h = subst Q (sym h.1) q
 pub status_is : (r : Result ℕ Stop) (Q : ℕ → Type 0) (stop : Stop) → Q (status_of stop) → IsErr r × IsErrAnd r (λ e. e ≡ stop) → Q (status_in r)
 status_is (Ok u) Q stop q h = absurd (true≢false (sym h.0))
 status_is (Err e) Q stop q h = subst (λ (x : Stop). Q (status_of x)) (sym h.1) q
+
+-- how the sink stands where memory was wanted and nothing was put
+pub left_alone : (r : Result ℕ Stop) (failed flushed : Bool) → failed ≡ false → IsErr r × IsErrAnd r (λ e. e ≡ Memory) → IsSinkAfter (status_in r) failed flushed
+left_alone r failed flushed fine h = status_is r (λ n. IsSinkAfter n failed flushed) Memory
+    (record { within = omega arith; sound = λ _. fine; sent = λ low. absurd (omega arith); broken = λ six. absurd (omega arith) }) h
 
 -- a stop is no whole answer
 pub late : (stop : Stop) → 5 ≤ status_of stop

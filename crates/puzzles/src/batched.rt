@@ -2,6 +2,7 @@
 //! and the formats by hand.
 use crate::fakes::{Chunks, Endless, Slow};
 use crate::seen::{Seen, observe};
+use gameid_core::MAX_ID;
 use std::alloc::{AllocError, Global};
 use std::test::Fail;
 
@@ -110,13 +111,14 @@ fn long_line(alloc: Global, count: usize, rest: &[u8]) -> Result<Vec<u8>, AllocE
 fn an_over_long_line_is_skipped(rt: HostRuntime) -> Result<(), Fail> {
     let over = "refused: too long\none\n.\n";
     for (count, rest, text) in [
-        (16_385, "\n1x1:/\n", over),
-        (16_384, "\r\r\n1x1:/\n", over),
-        (20_000, "\r\n1x1:/", over),
-        (16_384, "\r\n1x1:/\n", "refused: no colon\none\n.\n"),
-        (16_384, "\n1x1:/\n", "refused: no colon\none\n.\n"),
-        (16_384, "\r", "refused: too long\n"),
-        (16_384, "", "refused: no colon\n"),
+        (16_385, "\n1x1:/\n", "refused: no colon\none\n.\n"),
+        (MAX_ID + 1, "\n1x1:/\n", over),
+        (MAX_ID, "\r\r\n1x1:/\n", over),
+        (MAX_ID + 4_000, "\r\n1x1:/", over),
+        (MAX_ID, "\r\n1x1:/\n", "refused: no colon\none\n.\n"),
+        (MAX_ID, "\n1x1:/\n", "refused: no colon\none\n.\n"),
+        (MAX_ID, "\r", "refused: too long\n"),
+        (MAX_ID, "", "refused: no colon\n"),
     ] {
         let input = long_line(rt.alloc(), count, rest.as_bytes())?;
         for most in [1, 2, 3, 4_096] {

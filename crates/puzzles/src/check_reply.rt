@@ -46,7 +46,7 @@ pub fn wrong_reply(alloc: Global, rule: &str) -> Result<Reply, AllocError>
     Ok(Reply { text, status: 1 })
 }
 
-/// The answer to a grid that breaks a rule in a row, column or block. The kind has a space at its end.
+/// The answer to a grid that breaks a rule in a row, column, block or diagonal. The kind has a space at its end.
 ///
 /// # Errors
 ///

@@ -54,6 +54,7 @@ impl Checked for SoloPuzzle {
             Some(SoloFault::Row(y)) => wrong_line_reply(alloc, "row ", y),
             Some(SoloFault::Column(x)) => wrong_line_reply(alloc, "column ", x),
             Some(SoloFault::Block(b)) => wrong_line_reply(alloc, "block ", b),
+            Some(SoloFault::Diagonal(d)) => wrong_line_reply(alloc, "diagonal ", d),
         }
     }
 }

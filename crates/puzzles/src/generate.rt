@@ -53,7 +53,7 @@ fn generate_pattern(
     ensures allowed { IfOk result (λ r. AllowsMadePattern size.now seed limits.budget limits.tries black (answer_in r)) }
     ensures status { IfOk result (λ r. r.status < 5) }
 {
-    let (w, h) = match read_size(Game::Pattern, size) {
+    let (w, h, _) = match read_size(Game::Pattern, size) {
         Ok(size) => size,
         Err(fault) => return id_refused(alloc, fault),
     };
@@ -76,12 +76,12 @@ fn generate_solo(alloc: Global, size: &[u8], seed: u64, limits: Limits) -> Resul
     ensures allowed { IfOk result (λ r. AllowsMadeSolo size.now seed limits.budget limits.tries (answer_in r)) }
     ensures status { IfOk result (λ r. r.status < 5) }
 {
-    let (c, r) = match read_size(Game::Solo, size) {
+    let (c, r, x) = match read_size(Game::Solo, size) {
         Ok(size) => size,
         Err(fault) => return id_refused(alloc, fault),
     };
     let mut rng = generator(seed);
-    match make_solo(alloc, c, r, &mut rng, limits) {
+    match make_solo(alloc, c, r, x, &mut rng, limits) {
         Ok(made) => made_reply(write_solo(alloc, &made.puzzle)?, &made.puzzle, &made.answer),
         Err(MakeFault::Exhausted) => exhausted_reply(alloc),
         Err(MakeFault::SizeRange) => id_refused(alloc, IdFault::SizeRange),
@@ -101,7 +101,7 @@ fn generate_lights(
     ensures allowed { IfOk result (λ r. AllowsMadeLights size.now seed limits.budget limits.tries black (answer_in r)) }
     ensures status { IfOk result (λ r. r.status < 5) }
 {
-    let (w, h) = match read_size(Game::LightUp, size) {
+    let (w, h, _) = match read_size(Game::LightUp, size) {
         Ok(size) => size,
         Err(fault) => return id_refused(alloc, fault),
     };
@@ -129,7 +129,7 @@ fn generate_tents(
     ensures allowed { IfOk result (λ r. AllowsMadeTents size.now seed limits.budget limits.tries (answer_in r)) }
     ensures status { IfOk result (λ r. r.status < 5) }
 {
-    let (w, h) = match read_size(Game::Tents, size) {
+    let (w, h, _) = match read_size(Game::Tents, size) {
         Ok(size) => size,
         Err(fault) => return id_refused(alloc, fault),
     };

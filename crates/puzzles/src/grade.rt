@@ -1,10 +1,9 @@
 //! The answers of `grade`.
-ghost use Rattle.std.specs.Prelude.{◌≡◌, ◌++◌, ◌<◌, ℕ, true, false, IfOk, codes, string_bytes};
+ghost use Rattle.std.specs.Prelude.{◌≡◌, ◌++◌, ◌<◌, ◌≤◌, ◌↔◌, List, ℕ, true, false, IfOk, codes, string_bytes};
 ghost use Rattle.engine_core.specs.Verdict.{Solves};
 ghost use Rattle.engine_core.specs.Puzzle.{needs_of, FitsIn};
-ghost use Rattle.engine_core.specs.Stored.{is_settled};
 ghost use Rattle.puzzles.specs.Answers.{Text};
-ghost use Rattle.puzzles.specs.Grades.{HasOneSolution, IsGradeOf, IsRightGrade, TellsGrade, last_grade, light_grade, light_trace, tent_grade, tent_trace, pattern_grade, pattern_trace, solo_grade, solo_trace, grade_status, grade_text, rule_set_text, searched_grade};
+ghost use Rattle.puzzles.specs.Grades.{IsGradeOf, TellsGrade, last_tried, light_grade, light_trace, listed_grade, only_set, tent_grade, tent_trace, pattern_grade, pattern_trace, grade_status, grade_text, rule_set_text};
 ghost use Rattle.puzzles.specs.Grading.{AllowsGrade};
 ghost use Rattle.puzzles.specs.IdAnswers.{AllowsRead};
 ghost use Rattle.puzzles.specs.Refusals.{refused, fault_text};
@@ -12,18 +11,19 @@ ghost use Rattle.puzzles.specs.Stops.{IsSinkAfter, Tells, status_in};
 ghost use Rattle.puzzles.specs.Traces.{TellsSweeps, TellsVisits};
 
 use crate::ends::Sink;
+use crate::named::Named;
 use crate::output::deliver;
 use crate::reply::{Reply, id_refused};
+use crate::settling::last_grade;
 use crate::solvable::Solvable;
 use crate::stop::Stop;
-use crate::trace::{Housed, push_closing, put_closing};
-use engine_core::{Rules, Store, Verdict};
+use crate::trace::{push_closing, put_closing};
+use engine_core::{Rules, Store};
 use gameid_core::{
     Game, IdFault, LightPuzzle, PatternPuzzle, SoloPuzzle, TentsPuzzle, read_lights, read_pattern,
     read_solo, read_tents,
 };
 use itoa::Buffer;
-use solo_core::SoloSingles;
 use std::alloc::{AllocError, Global};
 
 /// The names of the rule sets.
@@ -33,6 +33,8 @@ pub enum RuleSet {
     Singles,
     /// Solo, by whole houses.
     Houses,
+    /// Solo, by whole houses and by the crossings of blocks with lines.
+    Crossings,
     /// Pattern.
     Lines,
     /// Light Up and Tents.
@@ -47,6 +49,7 @@ impl RuleSet {
         match self {
             RuleSet::Singles => "singles",
             RuleSet::Houses => "houses",
+            RuleSet::Crossings => "crossings",
             RuleSet::Lines => "lines",
             RuleSet::Local => "local",
         }
@@ -103,47 +106,6 @@ fn grade_line(alloc: Global, grade: Grade) -> Result<String, AllocError>
     Ok(text)
 }
 
-/// Whether the rules alone settle their puzzle: it has exactly one solution then.
-fn settles<R: Rules>(store: &mut Store<R>, rules: &R) -> bool
-    requires { FitsIn (needs_of (R.puzzle rules.now)) store.old.made }
-    ensures settled { result ≡ is_settled (R.puzzle rules.now) }
-    ensures one { result ≡ true → HasOneSolution (Solves (R.puzzle rules.now)) }
-    ensures made { store.new.made ≡ store.old.made }
-{
-    engine_core::walk_finds_each_solution_once(rules);
-    engine_core::walk_goes_on_from_the_closure(rules);
-    store.settles(rules)
-}
-
-/// The grade of a puzzle by a search.
-fn searched<R: Rules>(store: &mut Store<R>, rules: &R, budget: u64) -> Grade
-    requires { FitsIn (needs_of (R.puzzle rules.now)) store.old.made }
-    ensures grade { result ≡ searched_grade (R.puzzle rules.now) budget }
-    ensures right { IsRightGrade (Solves (R.puzzle rules.now)) result }
-    ensures made { store.new.made ≡ store.old.made }
-{
-    match store.solve(rules, budget) {
-        Verdict::None => Grade::NoSolution,
-        Verdict::One => Grade::BySearch(store.trials()),
-        Verdict::Several => Grade::SeveralSolutions,
-        Verdict::GaveUp { .. } => Grade::GaveUp,
-    }
-}
-
-/// The grade of a puzzle by its last rule set, and else by a search with it.
-fn last_grade<R: Rules>(store: &mut Store<R>, rules: &R, set: RuleSet, budget: u64) -> Grade
-    requires { FitsIn (needs_of (R.puzzle rules.now)) store.old.made }
-    ensures grade { result ≡ last_grade set (R.puzzle rules.now) budget }
-    ensures right { IsRightGrade (Solves (R.puzzle rules.now)) result }
-    ensures made { store.new.made ≡ store.old.made }
-{
-    if settles(store, rules) {
-        Grade::ByRules(set)
-    } else {
-        searched(store, rules, budget)
-    }
-}
-
 /// Refuses an ID with that first fault.
 fn refuse<O: Sink>(alloc: Global, fault: IdFault, output: &mut O) -> Result<u8, Stop>
     requires { O.has_failed output.old ≡ false }
@@ -155,7 +117,11 @@ fn refuse<O: Sink>(alloc: Global, fault: IdFault, output: &mut O) -> Result<u8, 
 }
 
 /// Tells a grade, and where a trace is asked for the visits of a closing by these rules.
-fn tell_with_visits<R: Rules, P: Housed, O: Sink>(
+///
+/// # Errors
+///
+/// When memory was refused, or the sink failed. A beginning of the text was put then, or nothing.
+pub fn tell_with_visits<R: Rules, P: Named, O: Sink>(
     alloc: Global,
     grade: Grade,
     traced: bool,
@@ -166,8 +132,9 @@ fn tell_with_visits<R: Rules, P: Housed, O: Sink>(
 ) -> Result<u8, Stop>
     requires fits { FitsIn (needs_of (R.puzzle rules.now)) store.old.made }
     requires queue { (R.puzzle rules.now).by_queue ≡ true }
+    requires named { (R.puzzle rules.now).houses ≤ P.named puzzle.now }
     requires not_failed { O.has_failed output.old ≡ false }
-    ensures told { Tells O.takes (TellsGrade grade traced (TellsVisits (P.house_with puzzle.now) (R.puzzle rules.now))) output.old output.new (status_in result) }
+    ensures told { Tells O.takes (TellsGrade grade traced (TellsVisits (P.name_of puzzle.now) (R.puzzle rules.now))) output.old output.new (status_in result) }
     ensures left { IsSinkAfter (status_in result) (O.has_failed output.new) (O.is_flushed output.new) }
 {
     let mut text = grade_line(alloc, grade)?;
@@ -197,46 +164,63 @@ fn tell_with_sweeps<R: Rules, O: Sink>(
     Ok(deliver(output, &Reply { text, status }))
 }
 
-/// Tells the grade of a puzzle by its last rule set, which is closed by visits, and else by a search with it.
-fn tell_by_visits<P: Solvable + Housed, O: Sink>(
+/// Tells the grade of a puzzle by these rules, the last in the list, and else by a search. They are closed by visits.
+///
+/// # Errors
+///
+/// When memory was refused, or the sink failed. A beginning of the text was put then, or nothing.
+pub fn tell_by_visits<P: Solvable + Named, R: Rules, O: Sink>(
     alloc: Global,
     set: RuleSet,
     puzzle: &P,
+    rules: &R,
     budget: u64,
     traced: bool,
     output: &mut O,
 ) -> Result<u8, Stop>
-    requires queue { (P.rules_of puzzle.now).by_queue ≡ true }
+where
+    P::Search: Rules,
+    requires means { (rules : P.Search) → P.Search.puzzle rules ≡ P.meaning rules }
+    requires queue { (R.puzzle rules.now).by_queue ≡ true }
+    requires named { (R.puzzle rules.now).houses ≤ P.named puzzle.now }
+    requires accepted { (g : List ℕ) → Solves (R.puzzle rules.now) g ↔ P.solves puzzle.now g }
     requires not_failed { O.has_failed output.old ≡ false }
-    ensures told { Tells O.takes (IsGradeOf (P.solves puzzle.now) (last_grade set (P.rules_of puzzle.now) budget) traced
-        (TellsVisits (P.house_with puzzle.now) (P.rules_of puzzle.now))) output.old output.new (status_in result) }
+    ensures told { Tells O.takes (IsGradeOf (P.solves puzzle.now)
+        (listed_grade (only_set set (R.puzzle rules.now)) (P.rules_of puzzle.now) budget) traced
+        (TellsVisits (P.name_of puzzle.now) (last_tried (P.rules_of puzzle.now) (only_set set (R.puzzle rules.now)))))
+        output.old output.new (status_in result) }
     ensures left { IsSinkAfter (status_in result) (O.has_failed output.new) (O.is_flushed output.new) }
 {
-    let rules = puzzle.rules(alloc)?;
-    let mut store = Store::new(alloc, &rules)?;
-    let grade = last_grade(&mut store, &rules, set, budget);
-    tell_with_visits(alloc, grade, traced, puzzle, &rules, &mut store, output)
+    let mut store = Store::new(alloc, rules)?;
+    let grade = last_grade(alloc, set, puzzle, rules, &mut store, budget)?;
+    tell_with_visits(alloc, grade, traced, puzzle, rules, &mut store, output)
 }
 
-/// The same by a rule set that is closed by sweeps.
-fn tell_by_sweeps<P: Solvable, O: Sink>(
+/// The same by rules that are closed by sweeps.
+fn tell_by_sweeps<P: Solvable, R: Rules, O: Sink>(
     alloc: Global,
     set: RuleSet,
     puzzle: &P,
+    rules: &R,
     budget: u64,
     traced: bool,
     output: &mut O,
 ) -> Result<u8, Stop>
-    requires sweeps { (P.rules_of puzzle.now).by_queue ≡ false }
+where
+    P::Search: Rules,
+    requires means { (rules : P.Search) → P.Search.puzzle rules ≡ P.meaning rules }
+    requires sweeps { (R.puzzle rules.now).by_queue ≡ false }
+    requires accepted { (g : List ℕ) → Solves (R.puzzle rules.now) g ↔ P.solves puzzle.now g }
     requires not_failed { O.has_failed output.old ≡ false }
-    ensures told { Tells O.takes (IsGradeOf (P.solves puzzle.now) (last_grade set (P.rules_of puzzle.now) budget) traced
-        (TellsSweeps (P.rules_of puzzle.now))) output.old output.new (status_in result) }
+    ensures told { Tells O.takes (IsGradeOf (P.solves puzzle.now)
+        (listed_grade (only_set set (R.puzzle rules.now)) (P.rules_of puzzle.now) budget) traced
+        (TellsSweeps (last_tried (P.rules_of puzzle.now) (only_set set (R.puzzle rules.now)))))
+        output.old output.new (status_in result) }
     ensures left { IsSinkAfter (status_in result) (O.has_failed output.new) (O.is_flushed output.new) }
 {
-    let rules = puzzle.rules(alloc)?;
-    let mut store = Store::new(alloc, &rules)?;
-    let grade = last_grade(&mut store, &rules, set, budget);
-    tell_with_sweeps(alloc, grade, traced, &rules, &mut store, output)
+    let mut store = Store::new(alloc, rules)?;
+    let grade = last_grade(alloc, set, puzzle, rules, &mut store, budget)?;
+    tell_with_sweeps(alloc, grade, traced, rules, &mut store, output)
 }
 
 /// A puzzle that can be graded.
@@ -279,31 +263,9 @@ impl Graded for PatternPuzzle {
         traced: bool,
         output: &mut O,
     ) -> Result<u8, Stop> {
-        tell_by_visits(alloc, RuleSet::Lines, self, budget, traced, output)
-    }
-}
-
-impl Graded for SoloPuzzle {
-    ghost grade_of = { solo_grade };
-
-    ghost trace_of = { solo_trace };
-
-    fn tell<O: Sink>(
-        &self,
-        alloc: Global,
-        budget: u64,
-        traced: bool,
-        output: &mut O,
-    ) -> Result<u8, Stop> {
-        solo_core::accepted_are_solutions();
-        let singles = SoloSingles::new(alloc, self)?;
-        let mut store = Store::new(alloc, &singles)?;
-        if settles(&mut store, &singles) {
-            let grade = Grade::ByRules(RuleSet::Singles);
-            tell_with_visits(alloc, grade, traced, self, &singles, &mut store, output)
-        } else {
-            tell_by_visits(alloc, RuleSet::Houses, self, budget, traced, output)
-        }
+        let lines = self.rules(alloc)?;
+        let set = RuleSet::Lines;
+        tell_by_visits(alloc, set, self, &lines, budget, traced, output)
     }
 }
 
@@ -319,7 +281,9 @@ impl Graded for LightPuzzle {
         traced: bool,
         output: &mut O,
     ) -> Result<u8, Stop> {
-        tell_by_sweeps(alloc, RuleSet::Local, self, budget, traced, output)
+        let local = self.rules(alloc)?;
+        let set = RuleSet::Local;
+        tell_by_sweeps(alloc, set, self, &local, budget, traced, output)
     }
 }
 
@@ -335,7 +299,9 @@ impl Graded for TentsPuzzle {
         traced: bool,
         output: &mut O,
     ) -> Result<u8, Stop> {
-        tell_by_sweeps(alloc, RuleSet::Local, self, budget, traced, output)
+        let local = self.rules(alloc)?;
+        let set = RuleSet::Local;
+        tell_by_sweeps(alloc, set, self, &local, budget, traced, output)
     }
 }
 

@@ -10,7 +10,7 @@ use fields_core::LightRules;
 use gameid_core::{read_lights, read_pattern, read_solo};
 use grid_core::Board;
 use pattern_core::PatternLines;
-use solo_core::{SoloHouses, SoloSingles};
+use solo_core::{SoloCrossings, SoloHouses, SoloSingles};
 use std::alloc::{AllocError, Global};
 use std::test::Fail;
 
@@ -26,10 +26,11 @@ fn traced(alloc: Global, game: &str, id: &str, budget: &str) -> Result<(Vec<u8>,
 }
 
 /// Games, IDs and budgets, and what grades tell without a trace.
-const GRADES: [(&str, &str, &str, &str, u8); 16] = [
+const GRADES: [(&str, &str, &str, &str, u8); 17] = [
     ("pattern", "5x1:1/1//1/1/2.2", "0", "lines\n", 0),
     ("solo", LATIN, "0", "singles\n", 0),
     ("solo", PAIRED, "0", "houses\n", 0),
+    ("solo", "2x2x:1_2_3_4_3k", "0", "singles\n", 0),
     ("lightup", "2x2:2c", "0", "local\n", 0),
     ("tents", "2x2:_c,0,1,1,0", "0", "local\n", 0),
     ("pattern", "2x2:1/1/1/1", "100000", "several\n", 3),
@@ -77,6 +78,44 @@ fn grades_with_traces_begin_alike(rt: HostRuntime) -> Result<(), Fail> {
         );
     }
     Ok(())
+}
+
+/// What rule sets of Solo 2x2 visit, in the order of their numbers: the houses, in Solo X the diagonals, and the crossings.
+const HOUSES: [&str; 12] = [
+    "row 0", "row 1", "row 2", "row 3", "column 0", "column 1", "column 2", "column 3", "block 0",
+    "block 1", "block 2", "block 3",
+];
+
+const DIAGONALS: [&str; 2] = ["diagonal 0", "diagonal 1"];
+
+const CROSSINGS: [&str; 16] = [
+    "block 0 row 0",
+    "block 0 row 1",
+    "block 1 row 0",
+    "block 1 row 1",
+    "block 2 row 2",
+    "block 2 row 3",
+    "block 3 row 2",
+    "block 3 row 3",
+    "block 0 column 0",
+    "block 0 column 1",
+    "block 1 column 2",
+    "block 1 column 3",
+    "block 2 column 0",
+    "block 2 column 1",
+    "block 3 column 2",
+    "block 3 column 3",
+];
+
+/// The names of what the rule sets of Solo 2x2 visit.
+fn names(alloc: Global, x: bool) -> Result<Vec<&'static str>, AllocError> {
+    let mut names = Vec::new(alloc);
+    names.extend_from_slice(&HOUSES)?;
+    if x {
+        names.extend_from_slice(&DIAGONALS)?;
+    }
+    names.extend_from_slice(&CROSSINGS)?;
+    Ok(names)
 }
 
 /// The number of the line's house, where the houses of these kinds follow one another.
@@ -131,14 +170,27 @@ fn visits_told(
     Ok(visits)
 }
 
-/// The visits that a grade of an ID of Solo tells after this line.
-fn solo_visits(alloc: Global, id: &str, n: usize, grade: &str) -> Result<Vec<usize>, Fail> {
+/// The visits that a grade of an ID of Solo 2x2 tells after this line.
+fn solo_visits(alloc: Global, id: &str, x: bool, grade: &str) -> Result<Vec<usize>, Fail> {
     let (taken, _status) = traced(alloc, "solo", id, "0")?;
     let text = str::from_utf8(taken.as_slice())?;
-    if !text.starts_with(grade) {
+    let rest = text.strip_prefix(grade).ok_or("the grade")?;
+    let names = names(alloc, x)?;
+    let mut visits = Vec::new(alloc);
+    for line in rest.lines() {
+        visits.push(names.iter().position(|name| *name == line).ok_or("a name")?)?;
+    }
+    Ok(visits)
+}
+
+/// The visits that a grade by houses tells of an ID of Solo with six numbers.
+fn houses_told(alloc: Global, id: &str) -> Result<Vec<usize>, Fail> {
+    let (taken, _status) = traced(alloc, "solo", id, "0")?;
+    let text = str::from_utf8(taken.as_slice())?;
+    if !text.starts_with("houses\n") {
         Err("the grade")?;
     }
-    visits_told(alloc, text, &["row", "column", "block"], n)
+    visits_told(alloc, text, &["row", "column", "block"], 6)
 }
 
 /// Whether the visits close the board of a puzzle by these rules, and no visits leave it open.
@@ -181,23 +233,34 @@ fn traces_of_pattern_close_their_boards(rt: HostRuntime) -> Result<(), Fail> {
 #[test]
 fn traces_by_singles_close_their_boards(rt: HostRuntime) -> Result<(), Fail> {
     let alloc = rt.alloc();
-    let visits = solo_visits(alloc, LATIN, 4, "singles\n")?;
-    let singles = SoloSingles::new(alloc, &read_solo(alloc, LATIN.as_bytes())?)?;
-    assert!(rt; is_closed_by(alloc, &singles, visits.as_slice())?);
+    for (id, x) in [(LATIN, false), ("2x2x:1_2_3_4_3k", true)] {
+        let visits = solo_visits(alloc, id, x, "singles\n")?;
+        let singles = SoloSingles::new(alloc, &read_solo(alloc, id.as_bytes())?)?;
+        assert!(rt; is_closed_by(alloc, &singles, visits.as_slice())?, "{id}");
+    }
     Ok(())
 }
 
 #[test]
 fn traces_by_houses_close_their_boards(rt: HostRuntime) -> Result<(), Fail> {
     let alloc = rt.alloc();
-    for (id, n, grade) in [
-        (PAIRED, 6, "houses\n"),
-        ("2x2:1o", 4, "gave up\n"),
-        ("2x2:1_1n", 4, "none\n"),
+    let visits = houses_told(alloc, PAIRED)?;
+    let houses = SoloHouses::new(alloc, &read_solo(alloc, PAIRED.as_bytes())?)?;
+    assert!(rt; is_closed_by_these_alone(alloc, &houses, visits.as_slice())?);
+    Ok(())
+}
+
+#[test]
+fn traces_by_crossings_close_their_boards(rt: HostRuntime) -> Result<(), Fail> {
+    let alloc = rt.alloc();
+    for (id, x, grade) in [
+        ("2x2:1o", false, "gave up\n"),
+        ("2x2:1_1n", false, "none\n"),
+        ("2x2x:1o", true, "gave up\n"),
     ] {
-        let visits = solo_visits(alloc, id, n, grade)?;
-        let houses = SoloHouses::new(alloc, &read_solo(alloc, id.as_bytes())?)?;
-        let is_closed = is_closed_by_these_alone(alloc, &houses, visits.as_slice())?;
+        let visits = solo_visits(alloc, id, x, grade)?;
+        let crossings = SoloCrossings::new(alloc, &read_solo(alloc, id.as_bytes())?)?;
+        let is_closed = is_closed_by_these_alone(alloc, &crossings, visits.as_slice())?;
         assert!(rt; is_closed, "{id}");
     }
     Ok(())

@@ -2,6 +2,7 @@
 //! formats by hand.
 use crate::fakes::{Chunks, Slow};
 use crate::seen::{observe, tells};
+use gameid_core::MAX_ID;
 use std::alloc::{AllocError, Global};
 use std::test::Fail;
 
@@ -16,6 +17,21 @@ fn told_of_cut(count: usize) -> (&'static str, u8) {
         13 | 14 => ("none\n", 1),
         15 => ("refused: bad byte at 14\n", 2),
         _ => ("one\n##.##\n", 0),
+    }
+}
+
+/// An ID of Solo X, whose first four cells are given.
+const CROSSED: &str = "2x2x:1_2_3_4l";
+
+/// What is told of its first so many bytes, and the status: a grid has 16 cells.
+fn told_of_crossed(count: usize) -> (&'static str, u8) {
+    match count {
+        0..=4 => ("refused: no colon\n", 2),
+        5..=12 => ("refused: too few\n", 2),
+        _ => (
+            "several\n1 2 3 4\n3 4 1 2\n4 3 2 1\n2 1 4 3\n\n1 2 3 4\n4 3 2 1\n2 1 4 3\n3 4 1 2\n",
+            3,
+        ),
     }
 }
 
@@ -45,6 +61,17 @@ fn cut_ids_are_told(rt: HostRuntime) -> Result<(), Fail> {
             )?,
             "{count} bytes"
         );
+    }
+    Ok(())
+}
+
+#[test]
+fn cut_ids_of_solo_x_are_told(rt: HostRuntime) -> Result<(), Fail> {
+    for count in 0..14usize {
+        let id = str::from_utf8(&CROSSED.as_bytes()[..count])?;
+        let (text, status) = told_of_crossed(count);
+        let fine = is_solved(rt.alloc(), "solo", id, text, status)?;
+        assert!(rt; fine, "{count} bytes");
     }
     Ok(())
 }
@@ -83,8 +110,16 @@ fn long_ids_are_told(rt: HostRuntime) -> Result<(), Fail> {
             2,
         ),
         ("solo", "", "9", 16_000, "x2:p", "refused: size range\n", 2),
-        ("solo", "2x2:", "_", 16_379, "p", TWO_SOLOS, 3),
-        ("solo", "2x2:", "_", 16_380, "p", "refused: too long\n", 2),
+        ("solo", "2x2:", "_", MAX_ID - 5, "p", TWO_SOLOS, 3),
+        (
+            "solo",
+            "2x2:",
+            "_",
+            MAX_ID - 4,
+            "p",
+            "refused: too long\n",
+            2,
+        ),
         ("pattern", "1x1:", "0", 16_000, "1/1", "one\n#\n", 0),
         (
             "pattern",

@@ -54,7 +54,7 @@ impl Line {
         }
     }
 
-    /// Takes one more byte of the line, which is kept where fewer than 16,384 are.
+    /// Takes one more byte of the line, which is kept where fewer than `MAX_ID` are.
     ///
     /// # Errors
     ///

@@ -17,6 +17,7 @@ pub mod ends;
 mod fakes;
 pub mod generate;
 pub mod grade;
+pub mod grade_solo;
 #[cfg(test)]
 mod graded;
 #[cfg(test)]
@@ -25,6 +26,7 @@ pub mod laws;
 pub mod lines;
 #[cfg(test)]
 mod makings;
+pub mod named;
 pub mod output;
 pub mod read_end;
 pub mod reply;
@@ -32,6 +34,7 @@ pub mod run;
 pub mod seed;
 #[cfg(test)]
 mod seen;
+pub mod settling;
 pub mod solvable;
 pub mod solve;
 pub mod stop;
@@ -39,6 +42,8 @@ pub mod stop;
 mod tests;
 #[cfg(test)]
 mod tests_check;
+#[cfg(test)]
+mod tests_x;
 pub mod text;
 #[cfg(test)]
 mod tied;

@@ -58,6 +58,21 @@ fn makings_that_are_fixed(rt: HostRuntime) -> Result<(), Fail> {
             4,
         ),
         (
+            &["generate", "solo", "2x2x", "--seed", "1", "--budget", "0"][..],
+            "exhausted\n",
+            4,
+        ),
+        (
+            &["generate", "solo", "6x6x", "--seed", "1"][..],
+            "refused: size range\n",
+            2,
+        ),
+        (
+            &["generate", "solo", "2x2x:", "--seed", "1"][..],
+            "refused: variant\n",
+            2,
+        ),
+        (
             &["generate", "tents", "3x3", "--seed", "1"][..],
             "refused: size range\n",
             2,
@@ -96,6 +111,7 @@ fn made_puzzles_are_solved(rt: HostRuntime) -> Result<(), Fail> {
     for (game, size) in [
         ("solo", "2x2"),
         ("solo", "3x2"),
+        ("solo", "2x2x"),
         ("pattern", "5x4"),
         ("lightup", "4x4"),
         ("tents", "6x6"),

@@ -6,12 +6,12 @@ ghost use Rattle.fields_core.specs.LightHouses.{light_rules};
 ghost use Rattle.fields_core.specs.LightSolutions.{IsLightSolution};
 ghost use Rattle.fields_core.specs.TentHouses.{tent_rules};
 ghost use Rattle.fields_core.specs.TentSolutions.{IsTentSolution};
+ghost use Rattle.gameid_core.specs.Puzzles.{IsSolo};
 ghost use Rattle.pattern_core.specs.LineRules.{line_rules};
 ghost use Rattle.pattern_core.specs.Solutions as pattern;
 ghost use Rattle.solo_core.specs.RuleSets.{houses_rules};
 ghost use Rattle.solo_core.specs.Solutions as solo;
 
-use engine_core::Rules;
 use fields_core::{LightRules, TentRules};
 use gameid_core::{LightPuzzle, PatternPuzzle, Printed, SoloPuzzle, TentsPuzzle};
 use pattern_core::PatternLines;
@@ -20,8 +20,11 @@ use std::alloc::{AllocError, Global};
 
 /// A puzzle that can be searched.
 pub trait Solvable: Printed {
-    /// What a search goes by.
-    type Search: Rules + Drop;
+    /// What a search goes by: rules, which is asked where a search is made.
+    type Search: Drop;
+
+    // What those rules mean.
+    ghost meaning: { Self.Search → Puzzle };
 
     // The rules of a search.
     ghost rules_of: { Self → Puzzle };
@@ -35,7 +38,7 @@ pub trait Solvable: Printed {
     ///
     /// When memory was refused.
     fn rules(&self, alloc: Global) -> Result<Self::Search, AllocError>
-        ensures made { IfOk result (λ rules. Self.Search.puzzle rules ≡ rules_of self.now) }
+        ensures made { IfOk result (λ rules. meaning rules ≡ rules_of self.now) }
         ensures cells { (rules_of self.now).cells ≡ (Self.extent self.now).w * (Self.extent self.now).h }
         ensures values { (rules_of self.now).values ≡ Self.value_count self.now }
         ensures solutions { (g : List ℕ) → Solves (rules_of self.now) g ↔ solves self.now g };
@@ -43,6 +46,8 @@ pub trait Solvable: Printed {
 
 impl Solvable for PatternPuzzle {
     type Search = PatternLines;
+
+    ghost meaning = { λ search. line_rules search.pattern };
 
     ghost rules_of = { line_rules };
 
@@ -54,14 +59,24 @@ impl Solvable for PatternPuzzle {
     }
 }
 
+/// Says of a puzzle of Solo that its sides and givens are within the game's limits.
+pub fn solo_is_lawful(puzzle: &SoloPuzzle)
+    ensures { IsSolo puzzle.now }
+{
+    let _numbers = puzzle.n();
+}
+
 impl Solvable for SoloPuzzle {
     type Search = SoloHouses;
+
+    ghost meaning = { λ search. houses_rules search.puzzle };
 
     ghost rules_of = { houses_rules };
 
     ghost solves = { solo.IsSolution };
 
     fn rules(&self, alloc: Global) -> Result<SoloHouses, AllocError> {
+        solo_is_lawful(self);
         solo_core::accepted_are_solutions();
         SoloHouses::new(alloc, self)
     }
@@ -69,6 +84,8 @@ impl Solvable for SoloPuzzle {
 
 impl Solvable for LightPuzzle {
     type Search = LightRules;
+
+    ghost meaning = { λ search. light_rules search.light };
 
     ghost rules_of = { light_rules };
 
@@ -82,6 +99,8 @@ impl Solvable for LightPuzzle {
 
 impl Solvable for TentsPuzzle {
     type Search = TentRules;
+
+    ghost meaning = { λ search. tent_rules search.tents };
 
     ghost rules_of = { tent_rules };
 

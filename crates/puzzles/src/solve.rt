@@ -98,6 +98,9 @@ fn solve_read<P: Solvable + Drop>(
     budget: u64,
     text: String,
 ) -> Result<Reply, AllocError>
+where
+    P::Search: Rules,
+    requires means { (rules : P.Search) → P.Search.puzzle rules ≡ P.meaning rules }
     ensures allowed { IfOk result (λ r. AllowsRead puzzle
         (λ p. IsSolved (P.solves p) (P.rules_of p) (P.cell_text p) (P.extent p) budget) (answer_in r)) }
     ensures status { IfOk result (λ r. r.status < 5) }

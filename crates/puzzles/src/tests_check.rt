@@ -1,6 +1,7 @@
 //! Runs of `check`. What they are to write follows from the rules and the formats by hand.
 use crate::fakes::{Chunks, Endless, Slow};
 use crate::seen::{Seen, observe, tells};
+use crate::text::TEXT_LIMIT;
 use std::alloc::{AllocError, Global};
 use std::test::Fail;
 
@@ -152,7 +153,7 @@ fn an_input_is_read_however_it_is_cut(rt: HostRuntime) -> Result<(), Fail> {
 
 #[test]
 fn long_inputs_are_no_grids(rt: HostRuntime) -> Result<(), Fail> {
-    for count in [16_384, 16_385, 100_000] {
+    for count in [TEXT_LIMIT, TEXT_LIMIT + 1, 100_000] {
         let ends = vec![in rt.alloc(); b'\n'; count]?;
         let seen = checked_in_pieces(rt.alloc(), ends.as_slice(), 4_096, 0)?;
         assert_eq!(rt; seen.writer.taken.as_slice(), b"refused: grid\n".as_slice());

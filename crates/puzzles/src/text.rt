@@ -64,7 +64,7 @@ fn take_whole<I: Source>(kept: &mut Kept, input: &mut I) -> Result<(), Stop>
     Err(Stop::Broken)
 }
 
-/// Reads the input to its end, and gives its bytes, or nothing where they are more than 16,384.
+/// Reads the input to its end, and gives its bytes, or nothing where they are more than `TEXT_LIMIT`.
 ///
 /// # Errors
 ///

@@ -1,8 +1,42 @@
 //! What ties the commands to one another, on real runs.
+use crate::fakes::{Chunks, Slow};
 use crate::makings::parts;
 use crate::seen;
 use std::alloc::{AllocError, Global};
 use std::test::Fail;
+
+/// Whether a run over a reader that gives so many bytes a call writes the same as one over all bytes at once.
+fn is_same_by(
+    alloc: Global,
+    words: &[&str],
+    input: &[u8],
+    most: usize,
+) -> Result<bool, AllocError> {
+    let (text, status) = seen::outcome(alloc, words, input)?;
+    let writer = Slow::new(alloc, 4_096, 0, true);
+    let seen = seen::observe(alloc, words, Chunks::new(input, most, 0), writer)?;
+    Ok(seen.status == status && seen.writer.taken == text)
+}
+
+#[test]
+fn one_answer(rt: HostRuntime) -> Result<(), Fail> {
+    for (words, input) in [
+        (&["solve", "pattern"][..], "1x1:/\n1x1:1/1"),
+        (&["check", "pattern", "2x1:1//1"][..], "#.\r\n"),
+        (&["grade", "solo", "2x2:p"][..], ""),
+        (&["generate", "pattern", "3x3", "--seed", "4"][..], ""),
+        (&["generate", "tents", "5x4", "--seed", "4"][..], ""),
+        (&["solve", "chess"][..], ""),
+    ] {
+        for most in [1, 2] {
+            assert!(rt;
+                is_same_by(rt.alloc(), words, input.as_bytes(), most)?,
+                "{words:?} by {most}"
+            );
+        }
+    }
+    Ok(())
+}
 
 /// Whether two runs write the same, and have the same status.
 fn alike(alloc: Global, first: &[&str], second: &[&str], input: &[u8]) -> Result<bool, AllocError> {
@@ -11,15 +45,17 @@ fn alike(alloc: Global, first: &[&str], second: &[&str], input: &[u8]) -> Result
     Ok(text == other && status == other_status)
 }
 
-/// Whether `grade` has the status of `solve` and, without budget, names rules exactly where
-/// `solve` finds the one grid.
+/// Whether `grade` goes along with `solve`: any status but 0 of the one and any but 4 of the other is that of both. With
+/// status 0 enough budget finds the one grid, and without a trial `solve` finds it just where rules are named.
 fn grade_goes_along(alloc: Global, game: &str, id: &str, budget: &str) -> Result<bool, AllocError> {
     let (_, solved) = seen::outcome(alloc, &["solve", game, id, "--budget", budget], b"")?;
+    let (_, enough) = seen::outcome(alloc, &["solve", game, id], b"")?;
     let (told, graded) = seen::outcome(alloc, &["grade", game, id, "--budget", budget], b"")?;
     let named = ["singles\n", "houses\n", "lines\n", "local\n"]
         .iter()
         .any(|set| told.as_slice() == set.as_bytes());
-    Ok(graded == solved && (budget != "0" || named == (solved == 0)))
+    let is_along = graded == solved || graded == 0 && solved == 4;
+    Ok(is_along && (graded != 0 || enough == 0) && (budget != "0" || named == (solved == 0)))
 }
 
 /// Whether `solve` answers the grid alone, and `check` finds it correct.
@@ -34,6 +70,7 @@ fn rewritten_ids_are_the_same(rt: HostRuntime) -> Result<(), Fail> {
     for (game, id, written, grid) in [
         ("pattern", "2:02/1/2/01", "2x2:2/1/2/1", "##\n#.\n"),
         ("solo", "2:aa1m", "2x2:b1m", "2 3 1 4\n"),
+        ("solo", "2x2x:aa1m", "2x2x:b1m", "2 3 1 4\n"),
         ("lightup", "2:Bab", "2x2:Bc", "#.\n.O\n"),
         ("tents", "2:_c,0,01,1,00", "2x2:_c,0,1,1,0", "T^\n..\n"),
     ] {
@@ -60,6 +97,7 @@ fn grades_agree(rt: HostRuntime) -> Result<(), Fail> {
         ("pattern", "3x1:1/1/1/2.1"),
         ("solo", "2x2:p"),
         ("solo", "2x2:e4a2b1d4"),
+        ("solo", "2x2x:1_2_3_4_3k"),
         ("lightup", "2x2:Bc"),
         ("lightup", "2x2:2c"),
         ("tents", "2x2:_c,0,1,1,0"),
@@ -121,6 +159,7 @@ fn solved_grids_pass(rt: HostRuntime) -> Result<(), Fail> {
 fn made_puzzles_pass(rt: HostRuntime) -> Result<(), Fail> {
     for (game, size) in [
         ("solo", "2x2"),
+        ("solo", "2x2x"),
         ("pattern", "5x4"),
         ("lightup", "4x4"),
         ("tents", "6x6"),

@@ -1,94 +1,32 @@
-//! The lines of a trace: which houses a closing visited, or how many sweeps it made.
-ghost use Rattle.std.specs.Prelude.{◌≡◌, ◌++◌, ◌+◌, ◌<◌, ◌≤◌, ℕ, true, false, OnOk, IfErr, string_bytes, string_len};
-ghost use Rattle.gameid_core.specs.Puzzles.{Pattern, Solo};
+//! The lines of a trace: what a closing visited, or how many sweeps it made.
+ghost use Rattle.std.specs.Prelude.{◌≡◌, ◌++◌, ◌+◌, ◌<◌, ◌≤◌, ℕ, true, false, length, slice_index, OnOk, IfErr, string_bytes, string_len};
 ghost use Rattle.puzzles.specs.Answers.{PutUpTo, PutBegun};
 ghost use Rattle.puzzles.specs.Stops.{is_broken};
 ghost use Rattle.engine_core.specs.Puzzle.{needs_of, FitsIn};
 ghost use Rattle.puzzles.specs.TracePieces.{AddsTrace, BeginsTrace, KeptOrPut, PutInPieces, PutsPieces, PutsTrace};
-ghost use Rattle.puzzles.specs.Traces.{TellsSweeps, TellsVisits, house_text, line_of, solo_house, pattern_house, sweeps_text, visits_text};
+ghost use Rattle.puzzles.specs.Traces.{TellsSweeps, TellsVisits, line_of, sweeps_text, visits_text};
 
 use crate::decimal::push_number;
 use crate::ends::Sink;
+use crate::named::Named;
 use crate::output::put_all;
 use crate::stop::Stop;
 use engine_core::{Rules, Store};
-use gameid_core::{PatternPuzzle, SoloPuzzle};
 use std::alloc::AllocError;
 
 /// How many bytes of a trace are gathered before they are put.
 const PIECE: usize = 4_096;
 
-/// Most bytes of the line of a visit: the longest kind, a space, a number and a line end.
-const LINE: usize = 28;
-
-/// A house with a name, by its number among its kind.
-#[derive(Clone, Copy)]
-pub enum House {
-    Row(usize),
-    Column(usize),
-    Block(usize),
-}
-
-/// A puzzle whose houses have names.
-pub trait Housed {
-    ghost use Rattle.puzzles.specs.declared.trace.House.{House};
-
-    // The house with this number, in the order of the puzzle's rule sets.
-    ghost house_with: { Self → ℕ → House };
-
-    /// The house with this number, in the order of the puzzle's rule sets.
-    fn house(&self, number: usize) -> House
-        ensures { result ≡ house_with self.now number };
-}
-
-impl Housed for SoloPuzzle {
-    ghost house_with = { solo_house };
-
-    fn house(&self, number: usize) -> House {
-        let n = usize::from(self.n());
-        if number < n {
-            House::Row(number)
-        } else if number < 2 * n {
-            House::Column(number - n)
-        } else {
-            House::Block(number - 2 * n)
-        }
-    }
-}
-
-impl Housed for PatternPuzzle {
-    ghost house_with = { pattern_house };
-
-    fn house(&self, number: usize) -> House {
-        let w = usize::from(self.size().w());
-        if number < w {
-            House::Column(number)
-        } else {
-            House::Row(number - w)
-        }
-    }
-}
+/// Most bytes of the line of a visit: a name and a line end.
+const LINE: usize = 60;
 
 /// Adds the line of a visit to a text.
-fn push_visit(text: &mut String, house: House) -> Result<(), AllocError>
-    ensures line { OnOk result (string_bytes text.new ≡ string_bytes text.old ++ line_of house) }
+fn push_visit<P: Named>(puzzle: &P, number: usize, text: &mut String) -> Result<(), AllocError>
+    requires { number < P.named puzzle.now }
+    ensures line { OnOk result (string_bytes text.new ≡ string_bytes text.old ++ line_of (P.name_of puzzle.now number)) }
     ensures short { OnOk result (string_len text.new ≤ string_len text.old + LINE) }
 {
-    let number = match house {
-        House::Row(y) => {
-            text.push_str("row ")?;
-            y
-        }
-        House::Column(x) => {
-            text.push_str("column ")?;
-            x
-        }
-        House::Block(b) => {
-            text.push_str("block ")?;
-            b
-        }
-    };
-    push_number(text, number)?;
+    puzzle.push_name(number, text)?;
     text.push_str("\n")
 }
 
@@ -128,23 +66,24 @@ fn put_piece<O: Sink>(text: &mut String, output: &mut O) -> Result<(), Stop>
 /// # Errors
 ///
 /// When memory was refused, or the sink failed. A beginning of the text and the lines was put then.
-pub fn put_visits<P: Housed, O: Sink>(
+pub fn put_visits<P: Named, O: Sink>(
     puzzle: &P,
     visits: &[usize],
     text: &mut String,
     output: &mut O,
 ) -> Result<(), Stop>
-    requires { O.has_failed output.old ≡ false }
-    ensures ok { OnOk result (PutUpTo O.takes output.old (string_bytes text.old ++ visits_text (P.house_with puzzle.now) visits.now)
+    requires named { (k : ℕ) → k < length visits.now → slice_index visits.now k < P.named puzzle.now }
+    requires not_failed { O.has_failed output.old ≡ false }
+    ensures ok { OnOk result (PutUpTo O.takes output.old (string_bytes text.old ++ visits_text (P.name_of puzzle.now) visits.now)
         (string_bytes text.new) output.new × (O.has_failed output.new ≡ false)) }
-    ensures err { IfErr result (λ stop. PutBegun O.takes output.old (string_bytes text.old ++ visits_text (P.house_with puzzle.now) visits.now)
+    ensures err { IfErr result (λ stop. PutBegun O.takes output.old (string_bytes text.old ++ visits_text (P.name_of puzzle.now) visits.now)
         output.new × (O.has_failed output.new ≡ is_broken stop)) }
     ensures pieces { string_len text.old < PIECE → OnOk result (PutInPieces O.takes (PIECE + LINE) output.old
-        (string_bytes text.old ++ visits_text (P.house_with puzzle.now) visits.now) (string_bytes text.new) output.new) }
+        (string_bytes text.old ++ visits_text (P.name_of puzzle.now) visits.now) (string_bytes text.new) output.new) }
     ensures small { string_len text.old < PIECE → OnOk result (string_len text.new < PIECE) }
 {
     for number in visits {
-        push_visit(text, puzzle.house(*number))?;
+        push_visit(puzzle, *number, text)?;
         put_piece(text, output)?;
     }
     Ok(())
@@ -156,7 +95,7 @@ pub fn put_visits<P: Housed, O: Sink>(
 /// # Errors
 ///
 /// When memory was refused, or the sink failed. A beginning of the text and the lines was put then.
-pub fn put_closing<R: Rules, P: Housed, O: Sink>(
+pub fn put_closing<R: Rules, P: Named, O: Sink>(
     puzzle: &P,
     rules: &R,
     store: &mut Store<R>,
@@ -166,13 +105,14 @@ pub fn put_closing<R: Rules, P: Housed, O: Sink>(
 ) -> Result<(), Stop>
     requires fits { FitsIn (needs_of (R.puzzle rules.now)) store.old.made }
     requires queue { (R.puzzle rules.now).by_queue ≡ true }
+    requires named { (R.puzzle rules.now).houses ≤ P.named puzzle.now }
     requires not_failed { O.has_failed output.old ≡ false }
-    ensures ok { OnOk result (PutsTrace O.takes traced (TellsVisits (P.house_with puzzle.now) (R.puzzle rules.now)) output.old (string_bytes text.old)
+    ensures ok { OnOk result (PutsTrace O.takes traced (TellsVisits (P.name_of puzzle.now) (R.puzzle rules.now)) output.old (string_bytes text.old)
         (string_bytes text.new) output.new × (O.has_failed output.new ≡ false)) }
-    ensures err { IfErr result (λ stop. BeginsTrace O.takes traced (TellsVisits (P.house_with puzzle.now) (R.puzzle rules.now)) output.old (string_bytes text.old)
+    ensures err { IfErr result (λ stop. BeginsTrace O.takes traced (TellsVisits (P.name_of puzzle.now) (R.puzzle rules.now)) output.old (string_bytes text.old)
         output.new × (O.has_failed output.new ≡ is_broken stop)) }
     ensures pieces { string_len text.old < PIECE → OnOk result (PutsPieces O.takes (PIECE + LINE) traced
-        (TellsVisits (P.house_with puzzle.now) (R.puzzle rules.now)) output.old (string_bytes text.old) (string_bytes text.new) output.new) }
+        (TellsVisits (P.name_of puzzle.now) (R.puzzle rules.now)) output.old (string_bytes text.old) (string_bytes text.new) output.new) }
     ensures small { string_len text.old < PIECE → OnOk result (string_len text.new < PIECE) }
 {
     if traced {

@@ -25,7 +25,7 @@ returns c = by
     by : (game : Game) (budget : ℕ) → HasAnswers (AllowsSolve game budget)
     by Solo budget text = answer_of solo.IsSolution houses_rules solo_cell solo_extent budget (solo_of text) (SpellsSolo text) (c.one_reading_of_solo.ensures.either text)
         (λ p s. right_of (houses_rules p) (solo.IsSolution p) _
-        (λ g. let same = c.accepted_are_solutions.ensures.houses p g in
+        (λ g. let same = c.accepted_are_solutions.ensures.houses p s.puzzle g in
         (λ t. (same t.grid).0 t.good, λ t. record { grid = t.grid; good = (same t.grid).1 t }))
         (c.verdict_is_true.ensures (houses_rules p) (c.rules_are_lawful.ensures.houses p s.puzzle) budget))
     by Pattern budget text = answer_of pattern.IsSolution line_rules pattern_cell (λ p. p.size) budget (pattern_of text) (SpellsPattern text) (c.one_reading_of_pattern.ensures.either text)

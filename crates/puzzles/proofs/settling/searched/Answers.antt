@@ -3,7 +3,7 @@ use Rattle.engine_core.specs.Verdict.{trials_in}
 use Rattle.engine_core.specs.Walk.{walk}
 use Rattle.puzzles.proofs.GradeLemmas.{grade_is, spent_whole}
 use Rattle.puzzles.specs.declared.grade.Grade.TheVariants.{BySearch}
-use Rattle.puzzles.proofs.grade.searched.Goals as goal
+use Rattle.puzzles.proofs.settling.searched.Goals as goal
 
 pub returns-in-None-clause-grade : goal.returns-in-None-clause-grade
 returns-in-None-clause-grade g c = grade_is _ _ _ c.in-None.ensures.verdict.0

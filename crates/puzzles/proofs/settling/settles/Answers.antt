@@ -1,6 +1,6 @@
 use Rattle.std.proofs.Common.{◌∙◌, sym}
 use Rattle.puzzles.proofs.GradeLemmas.{settled_has_one}
-use Rattle.puzzles.proofs.grade.settles.Goals as goal
+use Rattle.puzzles.proofs.settling.settles.Goals as goal
 
 pub returns-clause-one : goal.returns-clause-one
 returns-clause-one g c = λ settled.

@@ -1,0 +1,106 @@
+-- What the searches rest on, for a puzzle of each game, and what follows for their verdicts.
+use Rattle.std.proofs.Common.{◌≡◌, ◌∙◌, ◌≤◌, ◌∷◌, ℕ, zero, suc, List, [], Option, Some, None, refl, sym, ap, arith}
+use Rattle.std.specs.Prelude.{◌↔◌}
+use Rattle.engine_core.specs.Puzzle.{IsLawful, Puzzle}
+use Rattle.engine_core.specs.Verdict.{Outcome, Outcome.NoGrid, Outcome.OneGrid, Outcome.TwoGrids, Outcome.OutOfBudget, Solves, outcome, trials_in, verdict_of}
+use Rattle.engine_core.specs.Walk.{Mark, Mark.Found, Mark.Trial, walk}
+use Rattle.engine_core.proofs.VerdictLemmas.{outcome-true}
+use Rattle.fields_core.specs.LightHouses.{light_rules}
+use Rattle.fields_core.specs.LightLaws.{light-lawful}
+use Rattle.fields_core.specs.LightSolutions.{IsLightSolution}
+use Rattle.fields_core.specs.TentHouses.{tent_rules}
+use Rattle.fields_core.specs.TentLaws.{tent-lawful}
+use Rattle.fields_core.specs.TentSolutions.{IsTentSolution}
+use Rattle.fields_core.proofs.LightCounting.{light-counting}
+use Rattle.fields_core.proofs.LightRuleLemmas as light
+use Rattle.fields_core.proofs.TentCounting.{tent-counting}
+use Rattle.fields_core.proofs.TentRuleLemmas as tents
+use Rattle.gameid_core.specs.GridTexts.{grid_text}
+use Rattle.gameid_core.specs.Puzzles.{IsLight, IsPattern, IsSolo, IsTents, Light, Pattern, Solo, Tents}
+use Rattle.grid_core.specs.Extent.{Extent}
+use Rattle.pattern_core.specs.LineLaws.{is_solution-from, is_solution-is, line_rules-lawful}
+use Rattle.pattern_core.specs.LineRules.{line_rules}
+use Rattle.pattern_core.specs.Solutions as pattern
+use Rattle.solo_core.specs.RuleLaws.{crossings_lawful, houses_lawful, singles_lawful}
+use Rattle.solo_core.specs.RuleSets.{crossings_rules, houses_rules, singles_rules}
+use Rattle.solo_core.specs.SolutionLaws.{rule_from_test, test_from_rule}
+use Rattle.solo_core.specs.Solutions as solo
+use Rattle.puzzles.specs.Answers.{Text}
+use Rattle.puzzles.specs.Grades.{HasOneSolution}
+use Rattle.puzzles.specs.LawsOfAnswers.{HasOneAnswer}
+use Rattle.puzzles.specs.Solving.{IsSolved}
+use Rattle.puzzles.specs.Verdicts.{IsRight, verdict_answer}
+use Rattle.puzzles.proofs.AnswerLemmas.{right_of}
+
+-- the rules are lawful, and accept the solutions
+pub record SearchedPuzzle (rules : Puzzle) (solves : List ℕ → Type 0) : Type 0 where
+  pub lawful : IsLawful rules
+  pub accepted : (g : List ℕ) → Solves rules g ↔ solves g
+
+pub pattern_searched : (p : Pattern) → IsPattern p → SearchedPuzzle (line_rules p) (pattern.IsSolution p)
+pattern_searched p ok = record {
+  lawful = line_rules-lawful p ok.size;
+  accepted = λ g. (λ s. is_solution-is p g s.grid s.good, λ s. record { grid = s.grid; good = is_solution-from p g s });
+}
+
+pub solo_searched : (p : Solo) → IsSolo p → SearchedPuzzle (houses_rules p) (solo.IsSolution p)
+solo_searched p ok = record {
+  lawful = houses_lawful p ok;
+  accepted = λ g. (λ s. rule_from_test p ok g s.grid s.good, λ s. record { grid = s.grid; good = test_from_rule p ok g s });
+}
+
+pub singles_searched : (p : Solo) → IsSolo p → SearchedPuzzle (singles_rules p) (solo.IsSolution p)
+singles_searched p ok = record {
+  lawful = singles_lawful p ok;
+  accepted = λ g. (λ s. rule_from_test p ok g s.grid s.good, λ s. record { grid = s.grid; good = test_from_rule p ok g s });
+}
+
+pub crossings_searched : (p : Solo) → IsSolo p → SearchedPuzzle (crossings_rules p) (solo.IsSolution p)
+crossings_searched p ok = record {
+  lawful = crossings_lawful p ok;
+  accepted = λ g. (λ s. rule_from_test p ok g s.grid s.good, λ s. record { grid = s.grid; good = test_from_rule p ok g s });
+}
+
+pub light_searched : (p : Light) → IsLight p → SearchedPuzzle (light_rules p) (IsLightSolution p)
+light_searched p ok = record {
+  lawful = light-lawful (record { light = p; counting = light-counting p ok });
+  accepted = λ g. (λ s. light.rule-from-test p g s.grid s.good, λ s. record { grid = s.grid; good = light.test-from-rule p g s.grid s });
+}
+
+pub tents_searched : (p : Tents) → IsTents p → SearchedPuzzle (tent_rules p) (IsTentSolution p)
+tents_searched p ok = record {
+  lawful = tent-lawful (record { tents = p; counting = tent-counting p ok });
+  accepted = λ g. (λ s. tents.rule-from-test p g s.grid s.good, λ s. record { grid = s.grid; good = tents.test-from-rule p g s.grid s });
+}
+
+-- a search with a trial for each of the walk doesn't give up
+never_out : (marks : List Mark) (budget : ℕ) (found sofar : Option (List ℕ)) → trials_in marks ≤ budget → outcome budget sofar marks ≡ OutOfBudget found → ⊥
+unfolding outcome trials_in
+never_out [] budget found None room e = cc
+never_out [] budget found (Some g) room e = cc
+never_out (Found h ∷ marks) budget found None room e = never_out marks budget found (Some h) room e
+never_out (Found h ∷ marks) budget found (Some first) room e = cc
+never_out (Trial depth board ∷ marks) zero found sofar room e = absurd (omega arith)
+never_out (Trial depth board ∷ marks) (suc budget) found sofar room e = never_out marks budget found sofar (omega arith) e
+
+module _ (rules : Puzzle) (solves : List ℕ → Type 0) (searched : SearchedPuzzle rules solves) where
+  pub verdict_right : (budget : ℕ) → IsRight solves (verdict_of rules budget)
+  verdict_right budget = right_of rules solves (verdict_of rules budget) searched.accepted (outcome-true rules searched.lawful budget)
+
+  -- so where one grid is the solution, it is what a search with enough trials tells
+  pub found_with_enough : (one : HasOneSolution solves) (budget : ℕ) → trials_in (walk rules 0 rules.start) ≤ budget → verdict_of rules budget ≡ OneGrid one.0
+  found_with_enough one budget room = by (verdict_of rules budget) refl (verdict_right budget)
+    where
+      by : (o : Outcome) → verdict_of rules budget ≡ o → IsRight solves o → verdict_of rules budget ≡ OneGrid one.0
+      by NoGrid is right = absurd (right one.0 one.1)
+      by (OneGrid g) is right = is ∙ ap OneGrid (right.1 one.0 one.1)
+      by (TwoGrids g h) is right = absurd (right.2 (sym (one.2 g right.0) ∙ one.2 h right.1))
+      by (OutOfBudget found) is right = absurd (never_out (walk rules 0 rules.start) budget found None room is)
+
+  -- a search has one answer
+  pub solved_once : (cell : List ℕ → ℕ → Text) (size : Extent) (budget : ℕ) → HasOneAnswer (IsSolved solves rules cell size budget)
+  solved_once cell size budget = record {
+    answer = verdict_answer (λ g. grid_text (cell g) size) (verdict_of rules budget);
+    allowed = record { right = verdict_right budget; told = refl };
+    only = λ other is. sym is.told;
+  }
