@@ -4,9 +4,10 @@
 usage: compare.py NEW OLD [GROUP..]     NEW and OLD as `rt run` leaves a program; GROUP begins a group's name, as solo-3x3
 
 A group is some puzzles of a game and a size that the collection's own programs make (Debian's package sgt-puzzles; where
-they are not installed, `NEW generate` makes them), fed to `solve` in one run. Both programs run in turn on one core, a few
-rounds each. The least user time counts, less that of a run without input; small groups are fed several times over. Where
-valgrind is there, instructions are counted by callgrind on the group's first puzzles. The last groups time `generate`.
+they are not installed, `NEW generate` makes them; where that takes minutes, they are of Solo by holes in a filling), fed to
+`solve` in one run. Both programs run in turn on one core, a few rounds each. The least user time counts, less that of a run
+without input; small groups are fed several times over. Where valgrind is there, instructions are counted by callgrind on the
+group's first puzzles. The last groups time `generate`.
 Times are held against no limit: the exit status is 1 only where the answers differ.
 """
 import os

@@ -1,8 +1,11 @@
 """Real puzzles for the other scripts: IDs that the collection's own programs make (Debian's package sgt-puzzles)."""
 import os
+import random
 import shutil
 import subprocess
 import time
+
+SLOW_SIZES = ("4x5", "5x5", "5x6")  # of Solo: minutes for a puzzle
 
 
 def collected(game, size, more, count, seconds):
@@ -35,7 +38,42 @@ def generated(program, game, size, count, seconds):
     return ids
 
 
+def solo_text(numbers):
+    """The description of Solo with these givens, 0 for a blank."""
+    text, blanks = "", 0
+    for number in [*numbers, None]:
+        if number == 0:
+            blanks += 1
+            continue
+        if blanks:
+            full, rest = divmod(blanks - 1, 26)
+            text += "z" * full + chr(ord("a") + rest)
+        elif text and number:
+            text += "_"
+        text, blanks = text + (str(number) if number else ""), 0
+    return text
+
+
+def holed(size, count, share=0.55):
+    """Puzzles of Solo by holes in a shuffled filling: about this share of its cells is given."""
+    tall, wide = [int(side) for side in size.split("x")]  # a block's rows and columns
+    count_of = tall * wide
+    draws, ids = random.Random(size), []
+    for _ in range(count):
+        names = draws.sample(range(1, count_of + 1), count_of)
+        rows = [band * tall + row for band in range(wide) for row in draws.sample(range(tall), tall)]
+        columns = [stack * wide + column for stack in range(tall) for column in draws.sample(range(wide), wide)]
+        filling = [names[(wide * (y % tall) + y // tall + x) % count_of] for y in rows for x in columns]
+        ids.append(f"{size}:" + solo_text([number if draws.random() < share else 0 for number in filling]))
+    return ids
+
+
 def some(program, game, size, more, count, seconds):
-    """IDs of the collection's programs, or of `generate` where they are not installed, and the maker's name."""
+    """IDs of the collection's programs, and the maker's name. Where these are not installed, or too slow, `generate` makes
+    the puzzles, or holes those of Solo that it takes too long for."""
     ids = collected(game, size, more, count, seconds)
-    return (ids, "collection") if ids else (generated(program, game, size, count, seconds), "generate")
+    if ids:
+        return ids, "collection"
+    if game == "solo" and size in SLOW_SIZES:
+        return holed(size, count), "holes"
+    return generated(program, game, size, count, seconds), "generate"

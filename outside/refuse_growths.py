@@ -67,6 +67,7 @@ WRITE = """
 
 SOLO = "1 2 3 4\n3 4 1 2\n2 1 4 3\n4 3 2 1\n"
 TWO_SOLOS = "several\n" + SOLO + "\n1 2 3 4\n3 4 1 2\n2 3 4 1\n4 1 2 3\n"
+TWO_CROSSED = "several\n1 2 3 4\n3 4 1 2\n4 3 2 1\n2 1 4 3\n\n1 2 3 4\n4 3 2 1\n2 1 4 3\n3 4 1 2\n"
 TWO_PATTERNS = "several\n.#\n#.\n\n#.\n.#\n"
 GIVEN = "2x2:1_2_3_4_3_4_1_2_2_1_4_3_4_3_2_1"
 CAMP = "5x3:aiaa,1,0,2,0,0,2,0,1"
@@ -84,6 +85,7 @@ RUNS = [
     ("solve solo 2:p", "", TWO_SOLOS, 3),
     ("solve solo 2x2:p --budget 8", "", TWO_SOLOS, 3),
     ("solve solo 2x2:p --budget 7", "", "gave up\n" + SOLO, 4),
+    ("solve solo 2x2x:p", "", TWO_CROSSED, 3),
     ("solve lightup 2x2:2c", "", "one\n2O\nO.\n", 0),
     ("solve lightup 2x2:Bc", "", "several\n#.\n.O\n\n#O\nO.\n", 3),
     ("solve lightup 2x2:1c --budget 2", "", "none\n", 1),
@@ -92,12 +94,14 @@ RUNS = [
     (f"solve tents {CAMP} --budget 0", "", "none\n", 1),
     ("solve pattern", "1x1:/\n\n2x1:1/1/1", "one\n.\nrefused: no colon\nnone\n", 2),
     ("solve pattern", "1x1:/\r\n\r\n2x1:1/1/1\r\n", "one\n.\nrefused: no colon\nnone\n", 2),
-    ("solve pattern", "_" * 16_385 + "\n1x1:/\n", "refused: too long\none\n.\n", 2),
+    ("solve pattern", "_" * 16_385 + "\n1x1:/\n", "refused: no colon\none\n.\n", 2),
+    ("solve pattern", "_" * 65_537 + "\n1x1:/\n", "refused: too long\none\n.\n", 2),
     ("solve pattern", "", "", 0),
     ("check pattern 2x1:1//1", "#.\n", "correct\n", 0),
     ("check pattern 2x1:1//1", "#.\n#.\n", "refused: grid\n", 2),
     ("check lightup 2x2:2c", "2O\nOO\n", "wrong: seen 1,0\n", 1),
     (f"check solo {GIVEN}", SOLO, "correct\n", 0),
+    ("check solo 2x2x:p", SOLO, "wrong: diagonal 0\n", 1),
     (f"check tents {CAMP}", "^T^..\n.....\n.T^T.\n", "wrong: match\n", 1),
     ("grade pattern 5x1:1/1//1/1/2.2", "", "lines\n", 0),
     ("grade pattern 5x1:1/1//1/1/2.2 --trace", "", None, 0),
@@ -105,6 +109,8 @@ RUNS = [
     ("grade pattern 2x2:1/1/1/1 --budget 1", "", "gave up\n", 4),
     (f"grade solo {GIVEN}", "", "singles\n", 0),
     (f"grade solo {GIVEN} --trace", "", None, 0),
+    ("grade solo 2x2:p", "", "several\n", 3),
+    ("grade solo 2x2x:p --trace", "", None, 3),
     ("grade lightup 2x2:2c", "", "local\n", 0),
     ("grade lightup 2x2:2c --trace", "", None, 0),
     (f"grade tents {CAMP}", "", "none\n", 1),
@@ -114,6 +120,9 @@ RUNS = [
     ("generate lightup 2x2 --seed 1 --black 0 --tries 2", "", "exhausted\n", 4),
     ("generate solo 2x2 --seed 1 --tries 0", "", "exhausted\n", 4),
     ("generate solo 2x2 --seed 1", "", None, 0),
+    ("generate solo 2x2x --seed 1", "", None, 0),
+    ("generate solo 2x2x --seed 1 --budget 0", "", "exhausted\n", 4),
+    ("generate tents 4x4 --seed 1", "", None, 0),
     ("generate tents 3x3 --seed 1", "", "refused: size range\n", 2),
 ]
 

@@ -1,0 +1,99 @@
+#!/usr/bin/env python3
+"""Prints what the largest puzzles of each game cost: seconds of processor time, and the peak of memory.
+
+usage: largest.py PROGRAM     PROGRAM as `rt run` leaves it: crates/puzzles/out/puzzles
+
+One run of `solve` is made for each puzzle, so the time to start the program is in the number. A puzzle whose search would be
+long is solved with `--budget 0`, so that only the first closing counts. A peak below this script's own is what was last seen of
+the process while it ran (Linux). Nothing is asserted.
+"""
+import os
+import resource
+import subprocess
+import sys
+import tempfile
+import time
+
+SIDE = 120
+CELLS = SIDE * SIDE
+POLL_SECONDS = 0.0005
+
+
+def run_of_letters(count):
+    """Blank cells of Solo and white cells of Light Up: 26 a `z`, and one letter for the rest."""
+    full, rest = divmod(count - 1, 26)
+    return "z" * full + chr(ord("a") + rest)
+
+
+def trees(places):
+    """The trees of Tents at these places: the blanks before each tree, and before the one after the last cell."""
+    text, before = "", -1
+    for place in [*places, CELLS]:
+        full, rest = divmod(place - before - 1, 25)
+        if rest == 0 and full > 0:
+            full, rest = full - 1, 25
+        text += "z" * full + (chr(ord("a") + rest - 1) if rest else "_")
+        before = place
+    return text
+
+
+def tents(places, columns, rows):
+    return f"{SIDE}x{SIDE}:{trees(places)}" + "".join(f",{count}" for count in [*columns, *rows])
+
+
+def puzzles():
+    """Of each puzzle its name, its game, its ID, and further words."""
+    every_other = [SIDE // 2 if k % 2 == 0 else 0 for k in range(SIDE)]
+    below_tents = [y * SIDE + x for y in range(1, SIDE, 2) for x in range(0, SIDE, 2)]
+    none = [0] * SIDE
+    return [
+        ("all black", "pattern", f"{SIDE}x{SIDE}:" + "/".join([str(SIDE)] * 2 * SIDE), []),
+        ("all white", "pattern", f"{SIDE}x{SIDE}:" + "/" * (2 * SIDE - 1), []),
+        ("all white", "lightup", f"{SIDE}x{SIDE}:" + run_of_letters(CELLS), ["--budget", "0"]),
+        ("all black", "lightup", f"{SIDE}x{SIDE}:" + "B" * CELLS, []),
+        ("no trees", "tents", tents([], none, none), []),
+        (f"{len(below_tents)} trees", "tents", tents(below_tents, every_other, every_other), []),
+        ("blank", "solo", "5x6:" + run_of_letters(900), ["--budget", "0"]),
+    ]
+
+
+def high_water(process):
+    """Kilobytes at the peak so far of a process that runs; 0 where it has ended."""
+    try:
+        with open(f"/proc/{process}/status") as file:
+            sizes = [line.split()[1] for line in file if line.startswith("VmHWM")]
+    except OSError:
+        return 0
+    return int(sizes[0]) if sizes else 0
+
+
+def measured(words):
+    """The first line of the answer, its status, seconds of processor time, and kilobytes at the peak."""
+    own = resource.getrusage(resource.RUSAGE_SELF).ru_maxrss
+    with tempfile.TemporaryFile() as output:
+        started, ended, seen = subprocess.Popen(words, stdin=subprocess.DEVNULL, stdout=output), 0, 0
+        while not ended:
+            time.sleep(POLL_SECONDS)
+            seen = max(seen, high_water(started.pid))
+            ended, status, used = os.wait4(started.pid, os.WNOHANG)
+        started.returncode = os.waitstatus_to_exitcode(status)
+        output.seek(0)
+        first = output.readline().decode().strip()
+    # A child counts as large as the process that started it, so the exact number is known only above that.
+    peak = used.ru_maxrss if used.ru_maxrss > own else seen
+    return first, started.returncode, used.ru_utime + used.ru_stime, peak
+
+
+def main():
+    if len(sys.argv) < 2:
+        sys.exit(__doc__)
+    print("| Game | Puzzle | Bytes of the ID | Answer | Status | Seconds | Peak, MB |")
+    print("|---|---|---|---|---|---|---|", flush=True)
+    for name, game, text, more in puzzles():
+        answer, status, seconds, peak = measured([sys.argv[1], "solve", game, text, *more])
+        size, words = text.split(":", 1)[0], " ".join([name, *more])
+        print(f"| {game} {size} | {words} | {len(text):,} | {answer} | {status} | {seconds:.3f} | {peak / 1024:.1f} |",
+              flush=True)
+
+
+main()
