@@ -1,15 +1,15 @@
 -- Reading a description that fills cells: Solo and Light Up.
-use Rattle.std.proofs.Common.{◌≡◌, ℕ, ◌+◌, ◌<◌, ◌≤◌, true, false, eqb, eq-eqb, List, ◌∷◌, ◌++◌, length, Result, Ok, Err, refl, sym, ap, subst, ◌∙◌, cond, ltb, inl, inr, []}
+use Rattle.std.proofs.Common.{◌≡◌, ℕ, ◌+◌, ◌<◌, ◌≤◌, true, false, eqb, eq-eqb, List, [], ◌∷◌, ◌++◌, map, length, Result, Ok, Err, refl, sym, ap, ◌∙◌, cond, ltb, arith, append_assoc, length-append}
+use Rattle.std.specs.List.{AllByRecursion, flat_map}
 use Rattle.std.proofs.lemmas.Bool.{ne_eqb, le-ltb, lt-ltb, eqb-true}
+use Rattle.std.proofs.lemmas.List.{append-nil}
 use Rattle.gameid_core.specs.declared.fault.IdFault.{IdFault}
 use Rattle.gameid_core.specs.declared.fault.IdFault.TheVariants.{TooMany, TooFew}
 use Rattle.gameid_core.specs.Words.{words, Cuts}
 use Rattle.gameid_core.specs.Steps.{reading}
 use Rattle.gameid_core.specs.Cells.{fill_step, fill_end}
-use Rattle.std.specs.List.{AllByRecursion}
-use Rattle.gameid_core.proofs.Reading.{reading_turn, reading_fault, reading_end, place, place_moves}
-use Rattle.gameid_core.proofs.Results.{bind_ok, chosen, taken, ok_is}
-use Rattle.gameid_core.proofs.Lists.{AllByRecursion-append}
+use Rattle.gameid_core.proofs.Reading.{turn_of, fault_of, end_of, place}
+use Rattle.gameid_core.proofs.Results.{bind_ok, not_refused, only_taken, taken, ok_is}
 
 -- ---- filling
 
@@ -30,57 +30,86 @@ fills token all at cells text = reading (fill_step token all) (fill_end all) at 
 
 pub turn_fill : {A : Type 0} (token : ℕ → List ℕ → Result (List A) IdFault) (all base d : ℕ) (cells more : List A) (rest word after : List ℕ) (total : Result (List A) IdFault) → Cuts rest word after → length rest ≤ d → token (place base d rest) word ≡ Ok more → length cells + length more ≤ all → fills token all (place base d rest) cells rest ≡ total → fills token all (place base d after) (cells ++ more) after ≡ total
 turn_fill token all base d cells more rest word after total cuts le e room so =
-    let turn = reading_turn (fill_step token all) (fill_end all) (place base d rest) cells (cells ++ more) rest word after cuts (fill_taken token all (place base d rest) cells more word e room) in
-    ap (λ (at : ℕ). fills token all at (cells ++ more) after) (sym (place_moves base d rest word after le cuts.lengths)) ∙ sym turn ∙ so
+    turn_of (fill_step token all) (fill_end all) base d cells (cells ++ more) rest word after total cuts le (fill_taken token all (place base d rest) cells more word e room) so
 
 pub over_fill : {A : Type 0} (token : ℕ → List ℕ → Result (List A) IdFault) (all at : ℕ) (cells more : List A) (rest word after : List ℕ) (total : Result (List A) IdFault) → Cuts rest word after → token at word ≡ Ok more → all < length cells + length more → fills token all at cells rest ≡ total → total ≡ Err TooMany
 over_fill token all at cells more rest word after total cuts e over so =
-    sym so ∙ reading_fault (fill_step token all) (fill_end all) at cells TooMany rest word after cuts (fill_over token all at cells more word e over)
+    fault_of (fill_step token all) (fill_end all) at cells TooMany rest word after total cuts (fill_over token all at cells more word e over) so
 
 pub fault_fill : {A : Type 0} (token : ℕ → List ℕ → Result (List A) IdFault) (all at : ℕ) (f : IdFault) (cells : List A) (rest word after : List ℕ) (total : Result (List A) IdFault) → Cuts rest word after → token at word ≡ Err f → fills token all at cells rest ≡ total → total ≡ Err f
 fault_fill token all at f cells rest word after total cuts e so =
-    sym so ∙ reading_fault (fill_step token all) (fill_end all) at cells f rest word after cuts (fill_fault token all at f cells word e)
+    fault_of (fill_step token all) (fill_end all) at cells f rest word after total cuts (fill_fault token all at f cells word e) so
+
+pub fill_full : {A : Type 0} (all : ℕ) (cells : List A) → length cells ≡ all → fill_end all cells ≡ Ok cells
+unfolding fill_end
+fill_full all cells e = let full : eqb (length cells) all ≡ true = eq-eqb _ _ e in rw full refl
+
+pub fill_few : {A : Type 0} (all : ℕ) (cells : List A) → (length cells ≡ all → ⊥) → fill_end all cells ≡ Err TooFew
+unfolding fill_end
+fill_few all cells ne = let less : eqb (length cells) all ≡ false = ne_eqb _ _ ne in rw less refl
 
 pub few_fill : {A : Type 0} (token : ℕ → List ℕ → Result (List A) IdFault) (all at : ℕ) (cells : List A) (rest : List ℕ) (total : Result (List A) IdFault) → rest ≡ [] → (length cells ≡ all → ⊥) → fills token all at cells rest ≡ total → total ≡ Err TooFew
-unfolding fill_end
-few_fill token all at cells rest total e ne so =
-    let less : eqb (length cells) all ≡ false = ne_eqb _ _ ne in
-    sym so ∙ reading_end (fill_step token all) (fill_end all) at cells rest e ∙ rw less refl
+few_fill token all at cells rest total e ne so = end_of (fill_step token all) (fill_end all) at cells rest (Err TooFew) total e (fill_few all cells ne) so
 
 pub done_fill : {A : Type 0} (token : ℕ → List ℕ → Result (List A) IdFault) (all at : ℕ) (cells : List A) (rest : List ℕ) (total : Result (List A) IdFault) → rest ≡ [] → length cells ≡ all → fills token all at cells rest ≡ total → total ≡ Ok cells
-unfolding fill_end
-done_fill token all at cells rest total e is so =
-    let full : eqb (length cells) all ≡ true = eq-eqb _ _ is in
-    sym so ∙ reading_end (fill_step token all) (fill_end all) at cells rest e ∙ rw full refl
+done_fill token all at cells rest total e is so = end_of (fill_step token all) (fill_end all) at cells rest (Ok cells) total e (fill_full all cells is) so
 
 -- a token of a filling that was taken
-pub fill_cases : {A : Type 0} (token : ℕ → List ℕ → Result (List A) IdFault) (all at : ℕ) (cells : List A) (word : List ℕ) (t : List A) → fill_step token all at cells word ≡ Ok t → (more : List A) × (token at word ≡ Ok more) × (cells ++ more ≡ t)
+fill_cases : {A : Type 0} (token : ℕ → List ℕ → Result (List A) IdFault) (all at : ℕ) (cells : List A) (word : List ℕ) (t : List A) → fill_step token all at cells word ≡ Ok t → (more : List A) × (token at word ≡ Ok more) × (cells ++ more ≡ t)
 unfolding fill_step
 fill_cases token all at cells word t e =
     let b = bind_ok (token at word) (λ more. cond (ltb all (length cells + length more)) (Err TooMany) (Ok (cells ++ more))) t e in
-    elim (chosen (ltb all (length cells + length b.0)) _ _ _ b.2) [
-      | inl c ↦ absurd (let bad : Err TooMany ≡ taken t = c.1 in cc)
-      | inr c ↦ (b.0, b.1, ok_is _ _ c.1)
-    ]
+    (b.0, b.1, ok_is _ _ (not_refused (ltb all (length cells + length b.0)) _ _ _ b.2).1)
 
-pub fill_end_cases : {A : Type 0} (all : ℕ) (cells t : List A) → fill_end all cells ≡ Ok t → (length cells ≡ all) × (cells ≡ t)
+fill_end_cases : {A : Type 0} (all : ℕ) (cells t : List A) → fill_end all cells ≡ Ok t → (length cells ≡ all) × (cells ≡ t)
 unfolding fill_end
-fill_end_cases all cells t e =
-    elim (chosen (eqb (length cells) all) _ _ _ e) [
-      | inl c ↦ (eqb-true _ _ c.0, ok_is _ _ c.1)
-      | inr c ↦ absurd (let bad : Err TooFew ≡ taken t = c.1 in cc)
-    ]
+fill_end_cases all cells t e = let c = only_taken (eqb (length cells) all) _ _ _ e in (eqb-true _ _ c.0, ok_is _ _ c.1)
 
-pub fill_lawful : {A : Type 0} (P : A → Type 0) (token : ℕ → List ℕ → Result (List A) IdFault) (each : (at : ℕ) (word : List ℕ) (more : List A) → token at word ≡ Ok more → AllByRecursion P more) (all at : ℕ) (cells : List A) (ws : List (List ℕ)) (t : List A) → AllByRecursion P cells → reading (fill_step token all) (fill_end all) at cells ws ≡ Ok t → AllByRecursion P t × (length t ≡ all)
+-- ---- what is read is spelled, and what is spelled is read
+
+-- a word that is a token, which stands for those cells
+pub record Token {T A : Type 0} (text : T → List ℕ) (cells : T → List A) (Fits : T → Type 0) (word : List ℕ) (more : List A) : Type 0 where
+  pub token : T
+  pub texts : word ≡ text token
+  pub each : Fits token
+  pub stands : cells token ≡ more
+
+-- words that are tokens, which stand for all the cells after those before them
+pub record Spelled {T A : Type 0} (text : T → List ℕ) (cells : T → List A) (Fits : T → Type 0) (ws : List (List ℕ)) (before all : List A) : Type 0 where
+  pub tokens : List T
+  pub texts : map text tokens ≡ ws
+  pub each : AllByRecursion Fits tokens
+  pub filled : before ++ flat_map cells tokens ≡ all
+
+pub cells_spelled : {T A : Type 0} (text : T → List ℕ) (cells : T → List A) (Fits : T → Type 0) (token : ℕ → List ℕ → Result (List A) IdFault) (Is : List ℕ → Type 0) → ((at : ℕ) (word : List ℕ) (more : List A) → Is word → token at word ≡ Ok more → Token text cells Fits word more) → (most at : ℕ) (before : List A) (ws : List (List ℕ)) (all : List A) → AllByRecursion Is ws → reading (fill_step token most) (fill_end most) at before ws ≡ Ok all → Spelled text cells Fits ws before all × (length all ≡ most)
 unfolding reading
-fill_lawful P token each all at cells [] t h e =
-    let d = fill_end_cases all cells t e in
-    (subst (λ cs. AllByRecursion P cs) d.1 h, sym (ap length d.1) ∙ d.0)
-fill_lawful P token each all at cells (word ∷ ws) t h e =
-    let b = bind_ok (fill_step token all at cells word) (λ s. reading (fill_step token all) (fill_end all) (at + length word) s ws) t e in
-    let f = fill_cases token all at cells word b.0 b.1 in
-    fill_lawful P token each all (at + length word) b.0 ws t (subst (λ cs. AllByRecursion P cs) f.2 (AllByRecursion-append P cells f.0 h (each at word f.0 f.1))) b.2
+cells_spelled text cells Fits token Is take most at before [] all w e =
+    let d = fill_end_cases most before all e in
+    (record { tokens = []; texts = refl; each = tt; filled = append-nil before ∙ d.1 }, sym (ap length d.1) ∙ d.0)
+cells_spelled {A = A} text cells Fits token Is take most at before (word ∷ ws) all w e =
+    let b = bind_ok (fill_step token most at before word) (λ s. reading (fill_step token most) (fill_end most) (at + length word) s ws) all e in
+    let f = fill_cases token most at before word b.0 b.1 in
+    let t = take at word f.0 w.0 f.1 in
+    let r = cells_spelled text cells Fits token Is take most (at + length word) b.0 ws all w.1 b.2 in
+    let later : List A = flat_map cells r.0.tokens in (
+      record {
+        tokens = t.token ∷ r.0.tokens;
+        texts = ap (λ (v : List ℕ). v ∷ map text r.0.tokens) (sym t.texts) ∙ ap (λ (vs : List (List ℕ)). word ∷ vs) r.0.texts;
+        each = (t.each, r.0.each);
+        filled = sym (append_assoc before (cells t.token) later) ∙ ap (λ (m : List A). (before ++ m) ++ later) t.stands ∙ ap (λ (cs : List A). cs ++ later) f.2 ∙ r.0.filled;
+      },
+      r.1,
+    )
 
-pub fill_full : {A : Type 0} (most : ℕ) (cells : List A) → length cells ≡ most → fill_end most cells ≡ Ok cells
-unfolding fill_end
-fill_full most cells e = let full : eqb (length cells) most ≡ true = eq-eqb _ _ e in rw full refl
+-- tokens that fill the grid are read
+pub cells_again : {T A : Type 0} (text : T → List ℕ) (cells : T → List A) (Fits : T → Type 0) (token : ℕ → List ℕ → Result (List A) IdFault) → ((at : ℕ) (t : T) → Fits t → token at (text t) ≡ Ok (cells t)) → (most at : ℕ) (before : List A) (tokens : List T) → AllByRecursion Fits tokens → length before + length (flat_map cells tokens) ≡ most → reading (fill_step token most) (fill_end most) at before (map text tokens) ≡ Ok (before ++ flat_map cells tokens)
+unfolding reading
+cells_again {A = A} text cells Fits token again most at before [] each full =
+    fill_full most before (omega arith) ∙ ap (λ (cs : List A). taken cs) (sym (append-nil before))
+cells_again {A = A} text cells Fits token again most at before (t ∷ tokens) each full =
+    let more : List A = cells t in
+    let later : List A = flat_map cells tokens in
+    let both = length-append more later in
+    let so_far = length-append before more in
+    let step = fill_taken token most at before more (text t) (again at t each.0) (omega arith) in
+    rw step (cells_again text cells Fits token again most (at + length (text t)) (before ++ more) tokens each.1 (omega arith) ∙ ap (λ (cs : List A). taken cs) (append_assoc before more later))

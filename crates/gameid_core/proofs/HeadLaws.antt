@@ -1,5 +1,5 @@
 -- The part of an ID before its colon: what is read is spelled, and what is spelled is read.
-use Rattle.std.proofs.Common.{◌≡◌, ℕ, suc, ◌+◌, ◌*◌, ◌^◌, ◌<◌, ◌≤◌, Bool, true, false, cond, ◌&&◌, ◌||◌, eqb, ltb, leb, List, ◌∷◌, ◌++◌, length, get_or, take, drop, Option, Some, None, Ok, Err, refl, sym, ap, subst, ◌∙◌, inl, inr, arith, length-append, append_assoc, drop-cons, []}
+use Rattle.std.proofs.Common.{◌≡◌, ℕ, suc, ◌+◌, ◌*◌, ◌^◌, ◌<◌, ◌≤◌, Bool, true, false, cond, ◌&&◌, ◌||◌, eqb, ltb, leb, List, ◌∷◌, ◌++◌, length, get_or, take, drop, Option, Some, None, Result, Ok, Err, refl, sym, ap, subst, ◌∙◌, inl, inr, arith, length-append, append_assoc, drop-cons, [], lt-ltb}
 use Rattle.std.specs.Prelude.{decimal, position}
 use Rattle.std.specs.List.{list_any, position_or_len}
 use Rattle.std.specs.Str.{all_ascii_digits}
@@ -10,7 +10,8 @@ use Rattle.std.proofs.lemmas.List.Folds.{list_any-append}
 use Rattle.std.proofs.lemmas.List.Quantifiers.{position-Some}
 use Rattle.std.proofs.Math.Nat.{mul-le-mul_left, mul_comm}
 use Rattle.std.proofs.lemmas.Fmt.{decimal-digits_value, digits_decimal, digits_value-decimal}
-use Rattle.gameid_core.specs.declared.fault.IdFault.TheVariants.{TooLong, SeedId, NoColon, BadSize, Variant, SizeRange}
+use Rattle.gameid_core.specs.declared.fault.IdFault.{IdFault}
+use Rattle.gameid_core.specs.declared.fault.IdFault.TheVariants.{TooLong, NoColon, Variant, SizeRange}
 use Rattle.gameid_core.specs.declared.game.Game.{Game}
 use Rattle.gameid_core.specs.declared.game.Game.TheVariants.{Solo, Pattern, LightUp, Tents}
 use Rattle.gameid_core.specs.Words.{begins, digits_front, after_digits, value}
@@ -18,8 +19,8 @@ use Rattle.gameid_core.specs.Steps.{◌>>=◌}
 use Rattle.grid_core.specs.Extent.{max_side}
 use Rattle.gameid_core.specs.Head.{SizeRead, HeadRead, Sides, has_x, two_sides, side_at, sides_at, size_of, head_at, head_of, has_hash, in_range, max_id, max_numbers}
 use Rattle.gameid_core.specs.SizeText.{size_text, IsSizeText, solo_size_text, IsSoloSizeText}
-use Rattle.gameid_core.proofs.Numbers.{front_turn}
-use Rattle.gameid_core.proofs.Results.{bind_ok, chosen, taken, ok_is, and_parts}
+use Rattle.gameid_core.proofs.Tokens.{front_turn}
+use Rattle.gameid_core.proofs.Results.{bind_ok, chosen, not_refused, only_taken, taken, ok_is, and_parts}
 use Rattle.gameid_core.proofs.Numerals.{front_numeral, own, is_lead, begins_front, decimal_leads, lead_is_digit, value_positive}
 use Rattle.gameid_core.proofs.Reading.{place}
 
@@ -60,16 +61,13 @@ front_decimal (b ∷ after) e small =
 pub side_takes : (text : List ℕ) (n : ℕ) (rest : List ℕ) → n < 2 ^ 64 → side_at text ≡ Ok (n, rest) → (text ≡ decimal n ++ rest) × (0 < n)
 unfolding side_at
 side_takes text n rest small e =
-    elim (chosen (begins is_lead text) _ _ _ e) [
-      | inl c ↦
-          let made : ℕ × List ℕ = (value (digits_front text), after_digits text) in
-          let same = ok_is made (n, rest) c.1 in
-          let n-is : value (digits_front text) ≡ n = ap (λ (x : ℕ × List ℕ). x.0) same in
-          let rest-is : after_digits text ≡ rest = ap (λ (x : ℕ × List ℕ). x.1) same in
-          let d = front_decimal text c.0 (omega arith) in
-          (sym (front_parts text) ∙ ap (λ (t : List ℕ). t ++ after_digits text) (sym d.0) ∙ ap (λ (k : ℕ). decimal k ++ after_digits text) n-is ∙ ap (λ (t : List ℕ). decimal n ++ t) rest-is, omega (arith, d.1))
-      | inr c ↦ absurd (let bad : Err BadSize ≡ taken (n, rest) = c.1 in cc)
-    ]
+    let c = only_taken (begins is_lead text) _ _ _ e in
+    let made : ℕ × List ℕ = (value (digits_front text), after_digits text) in
+    let same = ok_is made (n, rest) c.1 in
+    let n-is : value (digits_front text) ≡ n = ap (λ (x : ℕ × List ℕ). x.0) same in
+    let rest-is : after_digits text ≡ rest = ap (λ (x : ℕ × List ℕ). x.1) same in
+    let d = front_decimal text c.0 (omega arith) in
+    (sym (front_parts text) ∙ ap (λ (t : List ℕ). t ++ after_digits text) (sym d.0) ∙ ap (λ (k : ℕ). decimal k ++ after_digits text) n-is ∙ ap (λ (t : List ℕ). decimal n ++ t) rest-is, omega (arith, d.1))
 
 pub side_again : (n : ℕ) (rest : List ℕ) → n < 2 ^ 64 → 0 < n → begins is_ascii_digit rest ≡ false → side_at (decimal n ++ rest) ≡ Ok (n, rest)
 unfolding side_at
@@ -202,13 +200,9 @@ pub size_take : (game : Game) (text : List ℕ) (size : SizeRead) → size_of ga
 unfolding size_of
 size_take game text size e =
     let s = bind_ok (sides_at game text) (λ s. cond (ltb 0 (length s.rest)) (Err Variant) (cond (in_range game s.w s.h) (taken (sized s.w s.h s.x)) (Err SizeRange))) size e in
-    elim (chosen (ltb 0 (length s.0.rest)) _ _ _ s.2) [
-      | inl c ↦ absurd (let bad : Err Variant ≡ taken size = c.1 in cc)
-      | inr c ↦ elim (chosen (in_range game s.0.w s.0.h) _ _ _ c.1) [
-        | inl d ↦ size_is s.0 s.1 (ltb-false _ _ c.0) d.0 (ok_is (sized s.0.w s.0.h s.0.x) size d.1)
-        | inr d ↦ absurd (let bad : Err SizeRange ≡ taken size = d.1 in cc)
-      ]
-    ]
+    let c = not_refused (ltb 0 (length s.0.rest)) _ _ _ s.2 in
+    let d = only_taken (in_range game s.0.w s.0.h) _ _ _ c.1 in
+    size_is s.0 s.1 (ltb-false _ _ c.0) d.0 (ok_is (sized s.0.w s.0.h s.0.x) size d.1)
   where
     whole : (front rest : List ℕ) → length rest ≤ 0 → text ≡ front ++ rest → front ≡ text
     whole front [] none e = sym (e ∙ append-nil front)
@@ -283,27 +277,32 @@ described size place = record { size = size; description = place }
 
 colon_take : (game : Game) (text : List ℕ) (head : HeadRead) (o : Option ℕ) → length text ≤ max_id → position (λ c. eqb c 58) text ≡ o → head_at game text o ≡ Ok head → IsHead game text head
 unfolding head_at
-colon_take game text head None short o e =
-    elim (chosen (has_hash text) _ _ _ e) [
-      | inl c ↦ absurd (let bad : Err SeedId ≡ taken head = c.1 in cc)
-      | inr c ↦ absurd (let bad : Err NoColon ≡ taken head = c.1 in cc)
-    ]
+colon_take game text head None short o e = let c = not_refused (has_hash text) _ _ _ e in absurd (let bad : Err NoColon ≡ taken head = c.1 in cc)
 colon_take game text head (Some k) short o e =
-    elim (chosen (has_hash (take k text)) _ _ _ e) [
-      | inl c ↦ absurd (let bad : Err SeedId ≡ taken head = c.1 in cc)
-      | inr c ↦
-          let s = bind_ok (size_of game (take k text)) (λ size. taken (described size (k + 1))) head c.1 in
-          let t = size_take game (take k text) s.0 s.1 in
-          subst (λ (h : HeadRead). IsHead game text h) (ok_is (described s.0 (k + 1)) head s.2) (record { front = take k text; parts = colon_splits text k o; size = t.0; range = t.1; short = short })
-    ]
+    let c = not_refused (has_hash (take k text)) _ _ _ e in
+    let s = bind_ok (size_of game (take k text)) (λ size. taken (described size (k + 1))) head c.1 in
+    let t = size_take game (take k text) s.0 s.1 in
+    subst (λ (h : HeadRead). IsHead game text h) (ok_is (described s.0 (k + 1)) head s.2) (record { front = take k text; parts = colon_splits text k o; size = t.0; range = t.1; short = short })
 
 pub head_take : (game : Game) (text : List ℕ) (head : HeadRead) → head_of game text ≡ Ok head → IsHead game text head
 unfolding head_of
 head_take game text head e =
-    elim (chosen (ltb max_id (length text)) _ _ _ e) [
-      | inl c ↦ absurd (let bad : Err TooLong ≡ taken head = c.1 in cc)
-      | inr c ↦ colon_take game text head (position (λ c. eqb c 58) text) (ltb-false _ _ c.0) refl c.1
-    ]
+    let c = not_refused (ltb max_id (length text)) _ _ _ e in
+    colon_take game text head (position (λ c. eqb c 58) text) (ltb-false _ _ c.0) refl c.1
+
+-- a puzzle that was read: its head, and what its description gave
+pub record Parts {B P : Type 0} (game : Game) (text : List ℕ) (body : HeadRead → Result B IdFault) (make : HeadRead → B → P) (p : P) : Type 0 where
+  pub head : HeadRead
+  pub given : B
+  pub is_head : IsHead game text head
+  pub read : body head ≡ Ok given
+  pub made : make head given ≡ p
+
+pub parts_of : {B P : Type 0} (game : Game) (text : List ℕ) (body : HeadRead → Result B IdFault) (make : HeadRead → B → P) (p : P) → (head_of game text >>= (λ head. body head >>= (λ b. taken (make head b)))) ≡ Ok p → Parts game text body make p
+parts_of game text body make p e =
+    let a = bind_ok (head_of game text) (λ head. body head >>= (λ b. taken (make head b))) p e in
+    let b = bind_ok (body a.0) (λ b. taken (make a.0 b)) p a.2 in
+    record { head = a.0; given = b.0; is_head = head_take game text a.0 a.1; read = b.1; made = ok_is (make a.0 b.0) p b.2 }
 
 pub head_again : (game : Game) (front rest : List ℕ) (a b : ℕ) (x : Bool) → IsGameSize game front a b x → in_range game a b ≡ true → length (front ++ 58 ∷ rest) ≤ max_id → head_of game (front ++ 58 ∷ rest) ≡ Ok (record { size = sized a b x; description = length front + 1 })
 unfolding head_of head_at
@@ -319,3 +318,7 @@ pub after_front : (front rest : List ℕ) → drop (length front + 1) (front ++ 
 after_front front rest =
     let moved : front ++ 58 ∷ rest ≡ (front ++ 58 ∷ []) ++ rest = sym (append_assoc front (58 ∷ []) rest) in
     ap (drop (length front + 1)) moved ∙ drop_at (front ++ 58 ∷ []) rest (length front + 1) (length-append front (58 ∷ []))
+
+pub head_too_long : (game : Game) (text : List ℕ) → max_id < length text → head_of game text ≡ Err TooLong
+unfolding head_of
+head_too_long game text over = rw (lt-ltb max_id (length text) over) refl

@@ -14,7 +14,7 @@ use Rattle.gameid_core.specs.Words.{begins, digits_front, after_digits, value}
 use Rattle.gameid_core.specs.Head.{SizeRead, HeadRead, Sides, has_x, two_sides, side_at, sides_at, size_of, head_at, head_of, has_hash, in_range, max_id}
 use Rattle.gameid_core.specs.HeadTests.{Lacks, Comes, HasNumber, GoesOn, HasSize, FailsSize, FailsHead, size_tests, head_tests, IsFirstFailed}
 use Rattle.gameid_core.proofs.Numerals.{front_numeral, is_lead, begins_front, lead_is_digit}
-use Rattle.gameid_core.proofs.Numbers.{front_turn}
+use Rattle.gameid_core.proofs.Tokens.{front_turn}
 use Rattle.gameid_core.proofs.Results.{ok_is}
 use Rattle.gameid_core.proofs.HeadLaws.{front_parts, front_digits, position_at, x_first, x_game}
 

@@ -1,39 +1,190 @@
--- A text is read exactly where it spells a puzzle of Light Up.
-use Rattle.std.proofs.Common.{◌≡◌, ℕ, ◌+◌, ◌*◌, ◌≤◌, true, false, leb, List, ◌∷◌, ◌++◌, map, length, drop, Ok, refl, ap, subst, ◌∙◌}
-use Rattle.std.specs.List.{flat_map}
-use Rattle.std.proofs.lemmas.Bool.{le-leb}
-use Rattle.grid_core.specs.Extent.{Extent, max_side}
-use Rattle.gameid_core.specs.declared.game.Game.TheVariants as game
+-- Light Up: reading byte by byte, and that a text is read exactly where it spells a puzzle.
+use Rattle.std.proofs.Common.{◌≡◌, ℕ, ◌+◌, ◌<◌, ◌≤◌, List, [], ◌∷◌, ◌++◌, map, length, drop, get_or, Result, Ok, Err, refl, sym, ap, ◌∙◌, eqb, arith, ◌-◌, ◌*◌, true, ◌&&◌, leb, subst, inl, inr, false}
+use Rattle.std.proofs.lemmas.Bool.{ne_eqb, leb-true, eqb-true, le-leb}
+use Rattle.std.proofs.lemmas.List.{drop_all}
+use Rattle.gameid_core.specs.declared.fault.IdFault.{IdFault}
+use Rattle.gameid_core.specs.declared.fault.IdFault.TheVariants.{TooMany, TooFew}
 use Rattle.gameid_core.specs.declared.light_cell.LightCell.{LightCell}
-use Rattle.gameid_core.specs.Steps.{◌>>=◌}
-use Rattle.gameid_core.specs.Head.{HeadRead, extent_of, head_of, in_range, max_id}
-use Rattle.gameid_core.specs.Puzzles.{Light, IsWide}
-use Rattle.gameid_core.specs.LightText.{light_token_byte, light_token_cells, SpellsLight, light_cells_at, light_of}
-use Rattle.gameid_core.proofs.Results.{bind_ok, taken, ok_is}
-use Rattle.gameid_core.proofs.HeadLaws.{IsHead, plain_size, head_take, head_again, after_front}
-use Rattle.gameid_core.proofs.LightLaws.{light_lawful}
-use Rattle.gameid_core.proofs.LightSpelling.{light_take, light_again}
+use Rattle.gameid_core.specs.Steps.{reading}
+use Rattle.gameid_core.specs.Cells.{fill_step, fill_end, is_letter}
+use Rattle.gameid_core.specs.LightText.{light_token, light_cells_at, LightToken, whites, black, numbered, light_token_byte, light_token_cells, IsLightToken, SpellsLight, light_of}
+use Rattle.gameid_core.proofs.CellsReading.{Token, cells_spelled, cells_again, fill_taken, fill_over, fill_fault, fill_few, fill_full}
+use Rattle.gameid_core.proofs.Lists.{next_cell, AllByRecursion-replicate, AllByRecursion-flat_map}
+use Rattle.std.specs.Prelude.{map}
+use Rattle.std.specs.List.{AllByRecursion, flat_map, concat}
+use Rattle.std.proofs.Math.Nat.{mul-le-mul_left, mul-le-mul_right}
+use Rattle.grid_core.specs.Extent.{Extent, IsExtent, max_side}
+use Rattle.gameid_core.specs.declared.light_cell.LightCell.TheVariants.{White}
+use Rattle.gameid_core.specs.Head.{SizeRead, extent_of, in_range, max_id}
+use Rattle.gameid_core.specs.Puzzles.{IsLight, IsLightCell, IsWide, Light}
+use Rattle.gameid_core.proofs.Results.{chosen, only_taken, ok_is, and_parts}
+use Rattle.gameid_core.specs.declared.game.Game.TheVariants as game
+use Rattle.gameid_core.proofs.Tokens.{concat_bytes, between, not_between}
+use Rattle.gameid_core.proofs.HeadLaws.{parts_of, plain_size, head_again, after_front}
+
+abbrev pub lights : ℕ → ℕ → List LightCell → List ℕ → Result (List LightCell) IdFault
+lights all at cells text = reading (fill_step light_token all) (fill_end all) at cells (map (λ b. b ∷ []) text)
+
+one_taken : (all at b : ℕ) (cells more : List LightCell) (rest : List ℕ) → light_token at (b ∷ []) ≡ Ok more → length cells + length more ≤ all → lights all at cells (b ∷ rest) ≡ lights all (at + 1) (cells ++ more) rest
+unfolding reading
+one_taken all at b cells more rest e room = rw (fill_taken light_token all at cells more (b ∷ []) e room) refl
+
+one_refused : (all at b : ℕ) (f : IdFault) (cells : List LightCell) (rest : List ℕ) → fill_step light_token all at cells (b ∷ []) ≡ Err f → lights all at cells (b ∷ rest) ≡ Err f
+unfolding reading
+one_refused all at b f cells rest e = rw e refl
+
+pub turn_light : (all base k : ℕ) (cells more : List LightCell) (text : List ℕ) (total : Result (List LightCell) IdFault) → k < length text → light_token (base + k) (get_or text k 0 ∷ []) ≡ Ok more → length cells + length more ≤ all → lights all (base + k) cells (drop k text) ≡ total → lights all (base + (k + 1)) (cells ++ more) (drop (k + 1) text) ≡ total
+turn_light all base k cells more text total lt e room so =
+    ap (λ (at : ℕ). lights all at (cells ++ more) (drop (k + 1) text)) (let p : base + (k + 1) ≡ base + k + 1 = omega arith in p)
+    ∙ sym (one_taken all (base + k) (get_or text k 0) cells more (drop (k + 1) text) e room) ∙ ap (lights all (base + k) cells) (sym (next_cell text k lt)) ∙ so
+
+pub over_light : (all base k : ℕ) (cells more : List LightCell) (text : List ℕ) (total : Result (List LightCell) IdFault) → k < length text → light_token (base + k) (get_or text k 0 ∷ []) ≡ Ok more → all < length cells + length more → lights all (base + k) cells (drop k text) ≡ total → total ≡ Err TooMany
+over_light all base k cells more text total lt e over so =
+    sym so ∙ ap (lights all (base + k) cells) (next_cell text k lt) ∙ one_refused all (base + k) (get_or text k 0) TooMany cells (drop (k + 1) text) (fill_over light_token all (base + k) cells more (get_or text k 0 ∷ []) e over)
+
+pub fault_light : (all base k : ℕ) (f : IdFault) (cells : List LightCell) (text : List ℕ) (total : Result (List LightCell) IdFault) → k < length text → light_token (base + k) (get_or text k 0 ∷ []) ≡ Err f → lights all (base + k) cells (drop k text) ≡ total → total ≡ Err f
+fault_light all base k f cells text total lt e so =
+    sym so ∙ ap (lights all (base + k) cells) (next_cell text k lt) ∙ one_refused all (base + k) (get_or text k 0) f cells (drop (k + 1) text) (fill_fault light_token all (base + k) f cells (get_or text k 0 ∷ []) e)
+
+light_end : (all at : ℕ) (cells : List LightCell) (text : List ℕ) → text ≡ [] → lights all at cells text ≡ fill_end all cells
+unfolding reading
+light_end all at cells text e = rw e refl
+
+pub few_light : (all base k : ℕ) (cells : List LightCell) (text : List ℕ) (total : Result (List LightCell) IdFault) → length text ≤ k → (length cells ≡ all → ⊥) → lights all (base + k) cells (drop k text) ≡ total → total ≡ Err TooFew
+few_light all base k cells text total past ne so = sym so ∙ light_end all (base + k) cells (drop k text) (drop_all k text past) ∙ fill_few all cells ne
+
+pub done_light : (all base k : ℕ) (cells : List LightCell) (text : List ℕ) (total : Result (List LightCell) IdFault) → length text ≤ k → length cells ≡ all → lights all (base + k) cells (drop k text) ≡ total → total ≡ Ok cells
+done_light all base k cells text total past is so = sym so ∙ light_end all (base + k) cells (drop k text) (drop_all k text past) ∙ fill_full all cells is
+
+pub wide_of : (w h : ℕ) → in_range game.LightUp w h ≡ true → IsWide (record { w = w; h = h })
+wide_of w h e =
+    let p = and_parts (leb 2 w && leb 2 h && leb w max_side) (leb h max_side) e in
+    let q = and_parts (leb 2 w && leb 2 h) (leb w max_side) p.0 in
+    let r = and_parts (leb 2 w) (leb 2 h) q.0 in
+    let w_two : 2 ≤ w = leb-true _ _ r.0 in
+    let h_two : 2 ≤ h = leb-true _ _ r.1 in
+    let w_high : w ≤ max_side = leb-true _ _ q.1 in
+    let h_high : h ≤ max_side = leb-true _ _ p.1 in
+    record { extent = record { w_low = omega arith; w_high = w_high; h_low = omega arith; h_high = h_high }; w_two = w_two; h_two = h_two }
+
+pub cells_few : (size : Extent) → IsExtent size → size.w * size.h ≤ max_side * max_side
+cells_few size h = omega (arith, h.w_high, h.h_high, mul-le-mul_left size.w h.h_high, mul-le-mul_right max_side h.w_high)
+
+abbrev pub sized : ℕ → ℕ → Extent
+sized w h = record { w = w; h = h }
+
+-- ---- a byte that was taken is a token
+
+abbrev light_token_text : LightToken → List ℕ
+light_token_text token = light_token_byte token ∷ []
+
+abbrev IsByte : List ℕ → Type 0
+IsByte word = length word ≡ 1
+
+token_byte : (at : ℕ) (word : List ℕ) (more : List LightCell) → IsByte word → light_token at word ≡ Ok more → Token light_token_text light_token_cells IsLightToken word more
+unfolding light_token
+token_byte at [] more one e = absurd (omega (arith, one))
+token_byte at (b ∷ c ∷ word) more one e = absurd (omega (arith, one))
+token_byte at (b ∷ []) more one e =
+    elim (chosen (is_letter b) _ _ _ e) [
+      | inl c ↦
+          let p = and_parts (leb 97 b) (leb b 122) c.0 in
+          let low : 97 ≤ b = leb-true _ _ p.0 in
+          let high : b ≤ 122 = leb-true _ _ p.1 in
+          let byte : b ≡ 96 + (b - 96) = omega arith in
+          record { token = whites (b - 96); texts = ap (λ (k : ℕ). k ∷ []) byte; each = (omega arith, omega arith); stands = ok_is _ _ c.1 }
+      | inr c ↦ elim (chosen (eqb b 66) _ _ _ c.1) [
+        | inl d ↦ record { token = black; texts = ap (λ (k : ℕ). k ∷ []) (eqb-true b 66 d.0); each = tt; stands = ok_is _ _ d.1 }
+        | inr d ↦
+            let f = only_taken (leb 48 b && leb b 52) _ _ _ d.1 in
+            let p = and_parts (leb 48 b) (leb b 52) f.0 in
+            let low : 48 ≤ b = leb-true _ _ p.0 in
+            let high : b ≤ 52 = leb-true _ _ p.1 in
+            let byte : b ≡ 48 + (b - 48) = omega arith in
+            record { token = numbered (b - 48); texts = ap (λ (k : ℕ). k ∷ []) byte; each = omega arith; stands = ok_is _ _ f.1 }
+      ]
+    ]
+
+-- ---- what is read is spelled
+
+are_bytes : (text : List ℕ) → AllByRecursion IsByte (map (λ b. b ∷ []) text)
+are_bytes [] = tt
+are_bytes (b ∷ text) = (omega arith, are_bytes text)
+
+texts_are : (tokens : List LightToken) → map (λ b. b ∷ []) (map light_token_byte tokens) ≡ map light_token_text tokens
+texts_are [] = refl
+texts_are (token ∷ tokens) = ap (λ (ws : List (List ℕ)). light_token_text token ∷ ws) (texts_are tokens)
+
+record LightDescribed (all : ℕ) (description : List ℕ) (cells : List LightCell) : Type 0 where
+  tokens : List LightToken
+  parts : description ≡ map light_token_byte tokens
+  each : AllByRecursion IsLightToken tokens
+  filled : flat_map light_token_cells tokens ≡ cells
+  count : length cells ≡ all
+
+light_take : (all at : ℕ) (description : List ℕ) (cells : List LightCell) → light_cells_at all at description ≡ Ok cells → LightDescribed all description cells
+unfolding light_cells_at
+light_take all at description cells e =
+    let s = cells_spelled light_token_text light_token_cells IsLightToken light_token IsByte token_byte all at [] (map (λ b. b ∷ []) description) cells (are_bytes description) e in
+    let r = s.0 in
+    let parts : description ≡ map light_token_byte r.tokens = sym (concat_bytes description) ∙ ap concat (sym r.texts ∙ sym (texts_are r.tokens)) ∙ concat_bytes (map light_token_byte r.tokens) in
+    record { tokens = r.tokens; parts = parts; each = r.each; filled = r.filled; count = s.1 }
+
+-- ---- what is read fits
+
+token_fits : (token : LightToken) → IsLightToken token → AllByRecursion IsLightCell (light_token_cells token)
+token_fits (whites k) h = AllByRecursion-replicate IsLightCell White k tt
+token_fits black h = (tt, tt)
+token_fits (numbered n) h = (h, tt)
+
+pub light_lawful : (w h at : ℕ) (description : List ℕ) (cells : List LightCell) → in_range game.LightUp w h ≡ true → light_cells_at (w * h) at description ≡ Ok cells → IsLight (record { size = record { w = w; h = h }; cells = cells })
+light_lawful w h at description cells range e =
+    let d = light_take (w * h) at description cells e in
+    let fits = AllByRecursion-flat_map IsLightToken IsLightCell light_token_cells token_fits d.tokens d.each in
+    record { size = wide_of w h range; count = d.count; each = subst (λ (cs : List LightCell). AllByRecursion IsLightCell cs) d.filled fits }
+
+pub light_fits : (size : Extent) (w h all at : ℕ) (description : List ℕ) (cells : List LightCell) → size ≡ sized w h → all ≡ size.w * size.h → in_range game.LightUp w h ≡ true → light_cells_at all at description ≡ Ok cells → IsLight (record { size = size; cells = cells })
+light_fits size w h all at description cells is count range e =
+    let same : all ≡ w * h = count ∙ ap (λ (s : Extent). s.w * s.h) is in
+    subst (λ (s : Extent). IsLight (record { size = s; cells = cells })) (sym is) (light_lawful w h at description cells range (ap (λ (a : ℕ). light_cells_at a at description) (sym same) ∙ e))
+
+-- ---- what is spelled is read
+
+token_read : (at : ℕ) (token : LightToken) → IsLightToken token → light_token at (light_token_byte token ∷ []) ≡ Ok (light_token_cells token)
+unfolding light_token
+token_read at (whites k) h =
+    let count : 96 + k - 96 ≡ k = omega arith in
+    rw (between 97 122 (96 + k) (omega (arith, h.0)) (omega (arith, h.1)), count) refl
+token_read at black h = refl
+token_read at (numbered n) h =
+    let no_letter : is_letter (48 + n) ≡ false = not_between 97 122 (48 + n) (λ l u. omega (arith, h)) in
+    let no_black : eqb (48 + n) 66 ≡ false = ne_eqb (48 + n) 66 (λ q. omega (arith, h)) in
+    let count : 48 + n - 48 ≡ n = omega arith in
+    rw (no_letter, no_black, between 48 52 (48 + n) (omega arith) (omega (arith, h)), count) refl
+
+-- what tokens that fill the grid spell is read
+light_again : (all at : ℕ) (tokens : List LightToken) → AllByRecursion IsLightToken tokens → length (flat_map light_token_cells tokens) ≡ all → light_cells_at all at (map light_token_byte tokens) ≡ Ok (flat_map light_token_cells tokens)
+unfolding light_cells_at
+light_again all at tokens each full =
+    ap (reading (fill_step light_token all) (fill_end all) at []) (texts_are tokens) ∙ cells_again light_token_text light_token_cells IsLightToken light_token token_read all at [] tokens each (omega arith)
 
 pub light_takes : (text : List ℕ) (p : Light) → light_of text ≡ Ok p → SpellsLight text p
 unfolding light_of
 light_takes text p e =
-    let a = bind_ok (head_of game.LightUp text) (λ head. light_cells_at (head.size.w * head.size.h) head.description (drop head.description text) >>= (λ cells. taken (record { size = extent_of head.size; cells = cells }))) p e in
-    let b = bind_ok (light_cells_at (a.0.size.w * a.0.size.h) a.0.description (drop a.0.description text)) (λ cells. taken (record { size = extent_of a.0.size; cells = cells })) p a.2 in
-    spelled a.0 b.0 (head_take game.LightUp text a.0 a.1) b.1 (ok_is _ _ b.2)
-  where
-    spelled : (head : HeadRead) (cells : List LightCell) → IsHead game.LightUp text head → light_cells_at (head.size.w * head.size.h) head.description (drop head.description text) ≡ Ok cells → (let made : Light = record { size = extent_of head.size; cells = cells } in made ≡ p) → SpellsLight text p
-    spelled head cells h e same =
-        let d = light_take (head.size.w * head.size.h) head.description (drop head.description text) cells e in
-        subst (λ (q : Light). SpellsLight text q) same (record {
-          short = h.short;
-          puzzle = light_lawful head.size.w head.size.h head.description (drop head.description text) cells h.range e;
-          front = h.front;
-          tokens = d.tokens;
-          parts = h.parts ∙ ap (λ (x : List ℕ). h.front ++ 58 ∷ x) d.parts;
-          size = plain_size game.LightUp h.front head.size.w head.size.h head.size.x (λ e. absurd cc) h.size;
-          each = d.each;
-          cells = d.filled;
-        })
+    let r = parts_of game.LightUp text (λ head. light_cells_at (head.size.w * head.size.h) head.description (drop head.description text)) (λ head cells. record { size = extent_of head.size; cells = cells }) p e in
+    let h = r.is_head in
+    let size : SizeRead = r.head.size in
+    let d = light_take (size.w * size.h) r.head.description (drop r.head.description text) r.given r.read in
+    subst (λ (q : Light). SpellsLight text q) r.made (record {
+      short = h.short;
+      puzzle = light_lawful size.w size.h r.head.description (drop r.head.description text) r.given h.range r.read;
+      front = h.front;
+      tokens = d.tokens;
+      parts = h.parts ∙ ap (λ (x : List ℕ). h.front ++ 58 ∷ x) d.parts;
+      size = plain_size game.LightUp h.front size.w size.h size.x (λ e. absurd cc) h.size;
+      each = d.each;
+      cells = d.filled;
+    })
 
 -- a wide size is in the limits of Light Up, which are those of Tents
 pub wide_range : (size : Extent) → IsWide size → in_range game.LightUp size.w size.h ≡ true

@@ -1,10 +1,21 @@
--- Lists: facts of each member, and the next member.
-use Rattle.std.proofs.Common.{◌≡◌, ℕ, ◌+◌, ◌<◌, List, ◌∷◌, ◌++◌, length, ap, ◌∙◌, arith, zero, suc, get_or, drop, drop-cons, []}
-use Rattle.std.specs.List.{AllByRecursion}
+-- Lists.
+use Rattle.std.proofs.Common.{◌≡◌, ℕ, ◌+◌, ◌<◌, List, ◌∷◌, ◌++◌, length, ap, ◌∙◌, arith, zero, suc, get_or, drop, drop-cons, [], append_assoc, append-nil, add-one, sym, ◌≤◌, map, take, refl}
+use Rattle.std.specs.Prelude.{replicate}
+use Rattle.std.specs.List.{AllByRecursion, flat_map, join_with_byte}
+use Rattle.gameid_core.specs.GridTexts.{each_below}
+use Rattle.std.proofs.lemmas.List.{map-append, take_more, length-take}
 
 pub AllByRecursion-append : {A : Type 0} (P : A → Type 0) (xs ys : List A) → AllByRecursion P xs → AllByRecursion P ys → AllByRecursion P (xs ++ ys)
 AllByRecursion-append P [] ys h k = k
 AllByRecursion-append P (x ∷ xs) ys h k = (h.0, AllByRecursion-append P xs ys h.1 k)
+
+pub AllByRecursion-replicate : {A : Type 0} (P : A → Type 0) (x : A) (k : ℕ) → P x → AllByRecursion P (replicate k x)
+AllByRecursion-replicate P x zero h = tt
+AllByRecursion-replicate P x (suc k) h = (h, AllByRecursion-replicate P x k h)
+
+pub AllByRecursion-flat_map : {T A : Type 0} (Fits : T → Type 0) (P : A → Type 0) (f : T → List A) → ((t : T) → Fits t → AllByRecursion P (f t)) → (ts : List T) → AllByRecursion Fits ts → AllByRecursion P (flat_map f ts)
+AllByRecursion-flat_map Fits P f h [] all = tt
+AllByRecursion-flat_map Fits P f h (t ∷ ts) all = AllByRecursion-append P (f t) (flat_map f ts) (h t all.0) (AllByRecursion-flat_map Fits P f h ts all.1)
 
 pub next_of : {A : Type 0} (d : A) (cells : List A) (i : ℕ) → i < length cells → drop i cells ≡ get_or cells i d ∷ drop (i + 1) cells
 next_of d cells i lt = drop-cons cells i d lt ∙ ap (λ (k : ℕ). get_or cells i d ∷ drop k cells) (let k : suc i ≡ i + 1 = omega arith in k)
@@ -16,3 +27,36 @@ pub all_at : {A : Type 0} (P : A → Type 0) (d : A) (xs : List A) (i : ℕ) →
 all_at P d [] i h lt = absurd (omega arith)
 all_at P d (x ∷ xs) zero h lt = h.0
 all_at P d (x ∷ xs) (suc i) h lt = all_at P d xs i h.1 (omega arith)
+
+pub none_pushed : (text : List ℕ) (f : ℕ → List ℕ) → text ≡ text ++ each_below f 0
+unfolding each_below
+none_pushed text f = sym (append-nil text)
+
+pub one_pushed : (old text new : List ℕ) (f : ℕ → List ℕ) (n : ℕ) (piece : List ℕ) → text ≡ old ++ each_below f n
+    → new ≡ text ++ piece → piece ≡ f n → new ≡ old ++ each_below f (n + 1)
+unfolding each_below
+one_pushed old text new f n piece so_far more is = more ∙ ap (λ t. t ++ piece) so_far ∙ append_assoc old (each_below f n) piece
+    ∙ ap (λ t. old ++ (each_below f n ++ t)) is ∙ ap (λ m. old ++ each_below f m) (sym (add-one n))
+
+join_push : (c : ℕ) (y : List ℕ) (xs : List (List ℕ)) (x : List ℕ) → join_with_byte c ((y ∷ xs) ++ x ∷ []) ≡ join_with_byte c (y ∷ xs) ++ c ∷ x
+join_push c y [] x = refl
+join_push c y (z ∷ xs) x = ap (λ (t : List ℕ). y ++ (c ∷ t)) (join_push c z xs x) ∙ sym (append_assoc y (c ∷ join_with_byte c (z ∷ xs)) (c ∷ x))
+
+map_more : {A : Type 0} (f : A → List ℕ) (xs : List A) (k : ℕ) (d x : A) → k < length xs → x ≡ get_or xs k d → map f (take (k + 1) xs) ≡ map f (take k xs) ++ f x ∷ []
+map_more f xs k d x lt is = ap (map f) (take_more xs k d lt) ∙ map-append f (take k xs) (get_or xs k d ∷ []) ∙ ap (λ y. map f (take k xs) ++ f y ∷ []) (sym is)
+
+join_some : {A : Type 0} (c : ℕ) (f : A → List ℕ) (ys : List A) (x : List ℕ) → 0 < length ys → join_with_byte c (map f ys ++ x ∷ []) ≡ join_with_byte c (map f ys) ++ c ∷ x
+join_some c f [] x some = absurd (omega arith)
+join_some c f (y ∷ ys) x some = join_push c (f y) (map f ys) x
+
+pub joined_first : {A : Type 0} (c : ℕ) (f : A → List ℕ) (xs : List A) (k : ℕ) (d x : A) (old out new : List ℕ) → k ≤ 0 → k < length xs → x ≡ get_or xs k d → out ≡ old ++ join_with_byte c (map f (take k xs)) → new ≡ out ++ f x → new ≡ old ++ join_with_byte c (map f (take (k + 1) xs))
+joined_first c f xs k d x old out new none lt is so e =
+    let zero : k ≡ 0 = omega arith in
+    let before : take k xs ≡ [] = ap (λ (i : ℕ). take i xs) zero in
+    rw (map_more f xs k d x lt is, before) (e ∙ ap (λ (t : List ℕ). t ++ f x) (so ∙ ap (λ ys. old ++ join_with_byte c (map f ys)) before) ∙ append_assoc old [] (f x))
+
+pub joined_more : {A : Type 0} (c : ℕ) (f : A → List ℕ) (xs : List A) (k : ℕ) (d x : A) (old out mid new : List ℕ) → 0 < k → k < length xs → x ≡ get_or xs k d → out ≡ old ++ join_with_byte c (map f (take k xs)) → mid ≡ out ++ c ∷ [] → new ≡ mid ++ f x → new ≡ old ++ join_with_byte c (map f (take (k + 1) xs))
+joined_more c f xs k d x old out mid new some lt is so m e =
+    let long : 0 < length (take k xs) = omega (arith, length-take k xs) in
+    rw (map_more f xs k d x lt is, join_some c f (take k xs) (f x) long)
+    (e ∙ ap (λ (t : List ℕ). t ++ f x) (m ∙ ap (λ (t : List ℕ). t ++ c ∷ []) so) ∙ append_assoc (old ++ join_with_byte c (map f (take k xs))) (c ∷ []) (f x) ∙ append_assoc old (join_with_byte c (map f (take k xs))) (c ∷ f x))

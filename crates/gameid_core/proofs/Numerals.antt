@@ -7,9 +7,8 @@ use Rattle.std.proofs.lemmas.Bool.{false≢true, leb-true, le-leb}
 use Rattle.std.proofs.lemmas.Str.Parse.{IsNumeralModel, numerals_by_fold}
 use Rattle.std.proofs.lemmas.Fmt.{decimal-digits_value, length-decimal-le, decimal_by_steps, digits_decimal}
 use Rattle.gameid_core.specs.Words.{IsPlain, joins, begins, digits_front, after_digits, value, value_after, Cuts, IsNumeral}
-use Rattle.gameid_core.proofs.Numbers.{value_after_ge, front_turn, front_stop, front_end}
+use Rattle.gameid_core.proofs.Tokens.{value_after_ge, front_turn, front_stop, front_end, cuts_joined, cuts_number}
 use Rattle.gameid_core.proofs.Results.{and_parts}
-use Rattle.gameid_core.proofs.Tokens.{cuts_joined, cuts_number}
 
 pub own : IsNumeralModel (λ ds. all_ascii_digits ds ≡ true) value
 unfolding value_after

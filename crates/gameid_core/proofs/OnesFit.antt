@@ -12,9 +12,6 @@ use Rattle.gameid_core.specs.Lines.{line_list, ones, lines_ones}
 use Rattle.gameid_core.proofs.Lists.{next_cell}
 use Rattle.gameid_core.proofs.LineLaws.{length_line}
 
-ones_none : ones [] ≡ 0
-ones_none = refl
-
 ones_one : (b : ℕ) (cells : List ℕ) → b ≡ 1 → ones (b ∷ cells) ≡ ones cells + 1
 ones_one b cells is = let one : eqb b 1 ≡ true = eq-eqb b 1 is in rw one (omega arith)
 

@@ -1,20 +1,222 @@
--- A text is read exactly where it spells a puzzle of Pattern.
-use Rattle.std.proofs.Common.{◌≡◌, ℕ, ◌+◌, ◌≤◌, true, false, List, ◌∷◌, ◌++◌, map, length, drop, Ok, refl, sym, ap, subst, ◌∙◌, ◌&&◌, leb, []}
-use Rattle.std.specs.List.{AllByRecursion}
-use Rattle.std.proofs.lemmas.Bool.{leb-true, le-leb}
+-- Pattern: a text is read exactly where it spells a puzzle.
+use Rattle.std.proofs.Common.{◌≡◌, ℕ, ◌+◌, true, ◌&&◌, eqb, ltb, List, ◌∷◌, ◌++◌, map, length, drop, Ok, refl, sym, ap, ◌∙◌, inl, inr, arith, append_assoc, [], ◌<◌, ◌≤◌, false, subst, zero-add, length-append, leb}
+use Rattle.std.specs.List.{AllByRecursion, flat_map, concat, join_with_byte}
+use Rattle.std.specs.Char.{is_ascii_digit}
+use Rattle.std.proofs.lemmas.Bool.{false≢true, eqb-true, ne_eqb, le-ltb, leb-true, le-leb}
+use Rattle.std.proofs.lemmas.List.{append-nil}
 use Rattle.grid_core.specs.Extent.{Extent, IsExtent, max_side}
-use Rattle.gameid_core.specs.Words.{words, value, IsNumeral}
-use Rattle.gameid_core.specs.Steps.{◌>>=◌}
-use Rattle.gameid_core.specs.Head.{HeadRead, extent_of, head_of, in_range, max_id}
-use Rattle.gameid_core.specs.Puzzles.{Pattern, IsPattern}
-use Rattle.gameid_core.specs.PatternText.{clues_text, clues_at, pattern_of, SpellsPattern}
-use Rattle.gameid_core.proofs.Results.{bind_ok, taken, ok_is, and_parts}
-use Rattle.gameid_core.proofs.PatternLaws.{clues_lawful}
-use Rattle.gameid_core.proofs.WordLaws.{words_are, concat_words}
-use Rattle.gameid_core.proofs.PatternSpelling.{read_spelled}
-use Rattle.gameid_core.proofs.PatternAgain.{clues_text_is, clues_again}
-use Rattle.gameid_core.proofs.HeadLaws.{IsHead, plain_size, head_take, head_again, after_front}
+use Rattle.gameid_core.specs.Words.{begins, joins, value, IsNumeral, words}
+use Rattle.gameid_core.specs.Steps.{reading}
+use Rattle.gameid_core.specs.Puzzles.{line_cells, used, IsPattern, IsClue, AreClues, lines_of, Pattern}
+use Rattle.gameid_core.specs.PatternText.{clue_number, clue_token, pattern_step, pattern_end, clues_text, clues_at, pattern_of, SpellsPattern}
+use Rattle.gameid_core.proofs.Results.{bind_ok, taken, and_parts}
+use Rattle.gameid_core.proofs.PatternReading.{first_cases, further_cases, end_full, so_far, step_cases, end_cases, step_slash, step_number, clues_lawful}
+use Rattle.gameid_core.proofs.Tokens.{IsWord, numeral_word, words_are, concat_words, cuts_single}
+use Rattle.std.specs.Str.{all_ascii_digits}
+use Rattle.gameid_core.proofs.Reading.{reading_turn, reading_end}
+use Rattle.gameid_core.proofs.Numerals.{digit_begins, numeral_cuts, joined_cuts}
+use Rattle.gameid_core.specs.Head.{SizeRead, extent_of, in_range, max_id}
+use Rattle.gameid_core.proofs.HeadLaws.{parts_of, plain_size, head_again, after_front}
 use Rattle.gameid_core.specs.declared.game.Game.TheVariants as game
+
+-- ---- texts of numerals
+
+pub join_cons : (c : ℕ) (x : List ℕ) (xs : List (List ℕ)) → join_with_byte c (x ∷ xs) ≡ x ++ flat_map (λ y. c ∷ y) xs
+join_cons c x [] = sym (append-nil x)
+join_cons c x (y ∷ xs) = ap (λ (t : List ℕ). x ++ (c ∷ t)) (join_cons c y xs)
+
+-- the numerals of a clue, of which some were read before
+abbrev pub tail_text : List ℕ → List (List ℕ) → List ℕ
+tail_text [] ns = join_with_byte 46 ns
+tail_text (m ∷ clue) ns = flat_map (λ n. 46 ∷ n) ns
+
+abbrev pub later_text : List (List (List ℕ)) → List ℕ
+later_text later = flat_map (λ ns. 47 ∷ join_with_byte 46 ns) later
+
+pub tail_none : (clue : List ℕ) → tail_text clue [] ≡ []
+tail_none [] = refl
+tail_none (m ∷ clue) = refl
+
+-- ---- what is read is spelled
+
+pub record Spelled (clues : List (List ℕ)) (clue text : List ℕ) (all : List (List ℕ)) : Type 0 where
+  pub ns : List (List ℕ)
+  pub later : List (List (List ℕ))
+  pub parts : text ≡ tail_text clue ns ++ later_text later
+  pub ns_digits : AllByRecursion IsNumeral ns
+  pub later_digits : AllByRecursion (AllByRecursion IsNumeral) later
+  pub values : clues ++ (clue ++ map value ns) ∷ map (map value) later ≡ all
+
+-- a '.' and a numeral
+dotted_word : (word : List ℕ) → IsWord word → begins (λ b. eqb b 46) word ≡ true → begins is_ascii_digit (drop 1 word) ≡ true → (word ≡ 46 ∷ drop 1 word) × IsNumeral (drop 1 word)
+dotted_word [] w dot d = absurd w
+dotted_word (b ∷ []) w dot d = absurd (false≢true d)
+dotted_word (b ∷ c ∷ more) w dot d = (ap (λ (k : ℕ). k ∷ c ∷ more) (eqb-true b 46 dot), record { some = omega arith; digits = w.0 })
+
+slash_word : (word : List ℕ) → IsWord word → begins (λ b. eqb b 47) word ≡ true → word ≡ 47 ∷ []
+slash_word [] w s = absurd w
+slash_word (b ∷ more) w s =
+    let is : b ≡ 47 = eqb-true b 47 s in
+    elim w.1 [
+      | inl j ↦ absurd (false≢true (ap joins (sym is) ∙ j))
+      | inr e ↦ ap (λ (k : ℕ). k ∷ more) is ∙ ap (λ (t : List ℕ). 47 ∷ t) e
+    ]
+
+pub read_spelled : (size : Extent) (at : ℕ) (clues : List (List ℕ)) (clue : List ℕ) (ws : List (List ℕ)) (all : List (List ℕ)) → AllByRecursion IsWord ws → reading (pattern_step size) (pattern_end size) at (so_far clues clue) ws ≡ Ok all → Spelled clues clue (concat ws) all
+unfolding reading
+read_spelled size at clues clue [] all w e =
+    let d = end_cases size clues clue all e in
+    record {
+      ns = [];
+      later = [];
+      parts = rw (tail_none clue) refl;
+      ns_digits = tt;
+      later_digits = tt;
+      values = ap (λ (c : List ℕ). clues ++ c ∷ []) (append-nil clue) ∙ d.1;
+    }
+read_spelled size at clues clue (word ∷ ws) all w e =
+    let b = bind_ok (pattern_step size at (so_far clues clue) word) (λ t. reading (pattern_step size) (pattern_end size) (at + length word) t ws) all e in
+    elim (step_cases size at clues clue word b.0 b.1) [
+      | inl s ↦
+          let r = read_spelled size (at + length word) (clues ++ clue ∷ []) [] ws all w.1 (ap (λ t. reading (pattern_step size) (pattern_end size) (at + length word) t ws) s.leads ∙ b.2) in
+          record {
+            ns = [];
+            later = r.ns ∷ r.later;
+            parts = ap (λ (t : List ℕ). t ++ concat ws) (slash_word word w.0 s.slash) ∙ ap (λ (t : List ℕ). 47 ∷ t) r.parts ∙ rw (tail_none clue) refl;
+            ns_digits = tt;
+            later_digits = (r.ns_digits, r.later_digits);
+            values = ap (λ (c : List ℕ). clues ++ c ∷ map value r.ns ∷ map (map value) r.later) (append-nil clue) ∙ sym (append_assoc clues (clue ∷ []) (map value r.ns ∷ map (map value) r.later)) ∙ r.values;
+          }
+      | inr n ↦
+          let r = read_spelled size (at + length word) clues (clue ++ n.number ∷ []) ws all w.1 (ap (λ t. reading (pattern_step size) (pattern_end size) (at + length word) t ws) n.leads ∙ b.2) in
+          number_spelled size at clues clue word ws all n.number w.0 n.token r
+    ]
+  where
+    number_spelled : (size : Extent) (at : ℕ) (clues : List (List ℕ)) (clue word : List ℕ) (ws : List (List ℕ)) (all : List (List ℕ)) (n : ℕ) → IsWord word → clue_token (line_cells size (length clues)) (length clues) clue at word ≡ Ok n → Spelled clues (clue ++ n ∷ []) (concat ws) all → Spelled clues clue (word ++ concat ws) all
+    number_spelled size at clues [] word ws all n w t r =
+        let f = first_cases _ _ at n word t in
+        record {
+          ns = word ∷ r.ns;
+          later = r.later;
+          parts = ap (λ (u : List ℕ). word ++ u) r.parts ∙ sym (append_assoc word (flat_map (λ m. 46 ∷ m) r.ns) (later_text r.later)) ∙ ap (λ (u : List ℕ). u ++ later_text r.later) (sym (join_cons 46 word r.ns));
+          ns_digits = (numeral_word word w f.0, r.ns_digits);
+          later_digits = r.later_digits;
+          values = ap (λ (k : ℕ). clues ++ (k ∷ map value r.ns) ∷ map (map value) r.later) f.1 ∙ r.values;
+        }
+    number_spelled size at clues (m ∷ clue) word ws all n w t r =
+        let f = further_cases _ _ at n m clue word t in
+        let d = dotted_word word w f.0 f.1 in
+        record {
+          ns = drop 1 word ∷ r.ns;
+          later = r.later;
+          parts = ap (λ (u : List ℕ). u ++ concat ws) d.0 ∙ ap (λ (u : List ℕ). (46 ∷ drop 1 word) ++ u) r.parts ∙ sym (append_assoc (46 ∷ drop 1 word) (flat_map (λ k. 46 ∷ k) r.ns) (later_text r.later));
+          ns_digits = (d.1, r.ns_digits);
+          later_digits = r.later_digits;
+          values = ap (λ (k : ℕ). clues ++ (m ∷ (clue ++ k ∷ map value r.ns)) ∷ map (map value) r.later) f.2 ∙ ap (λ (c : List ℕ). clues ++ (m ∷ c) ∷ map (map value) r.later) (sym (append_assoc clue (n ∷ []) (map value r.ns))) ∙ r.values;
+        }
+
+-- ---- what fits
+
+used_fits : (cells n : ℕ) (clue rest : List ℕ) → IsClue cells (clue ++ n ∷ rest) → (0 < n) × (used clue + n ≤ cells)
+used_fits cells n [] rest h = (h.positive.0, (let fits : used (n ∷ rest) ≤ cells + 1 = h.fits in omega arith))
+used_fits cells n (m ∷ clue) rest h =
+    let fits : (m + 1) + used (clue ++ n ∷ rest) ≤ cells + 1 = h.fits in
+    let more : (0 < n) × (used clue + n ≤ used (clue ++ n ∷ rest)) = used_part n clue rest h.positive.1 in
+    (more.0, used_room cells m n clue rest fits)
+  where
+    used_part : (n : ℕ) (clue rest : List ℕ) → AllByRecursion (λ n. 0 < n) (clue ++ n ∷ rest) → (0 < n) × (used clue + n ≤ used (clue ++ n ∷ rest))
+    used_part n [] rest h = (h.0, omega arith)
+    used_part n (m ∷ clue) rest h = let p = used_part n clue rest h.1 in (p.0, omega arith)
+
+    used_more : (n : ℕ) (clue rest : List ℕ) → used clue + (n + 1) ≤ used (clue ++ n ∷ rest)
+    used_more n [] rest = omega arith
+    used_more n (m ∷ clue) rest = omega (arith, used_more n clue rest)
+
+    used_room : (cells m n : ℕ) (clue rest : List ℕ) → (m + 1) + used (clue ++ n ∷ rest) ≤ cells + 1 → ((m + 1) + used clue) + n ≤ cells
+    used_room cells m n clue rest h = omega (arith, used_more n clue rest)
+
+number_read : (cells line before at : ℕ) (digits : List ℕ) → 0 < value digits → before + value digits ≤ cells → clue_number cells line before at digits ≡ Ok (value digits)
+unfolding clue_number
+number_read cells line before at digits some room =
+    let some' : eqb (value digits) 0 ≡ false = ne_eqb _ _ (λ e. omega arith) in
+    let room' : ltb cells (before + value digits) ≡ false = le-ltb _ _ room in
+    rw (some', room') refl
+
+first_read : (cells line at : ℕ) (num : List ℕ) → IsNumeral num → 0 < value num → value num ≤ cells → clue_token cells line [] at num ≡ Ok (value num)
+unfolding clue_token
+first_read cells line at num h some room = rw (digit_begins num h) (number_read cells line 0 at num some (omega arith))
+
+further_read : (cells line at m : ℕ) (clue num : List ℕ) → IsNumeral num → 0 < value num → used (m ∷ clue) + value num ≤ cells → clue_token cells line (m ∷ clue) at (46 ∷ num) ≡ Ok (value num)
+unfolding clue_token
+further_read cells line at m clue num h some room = rw (digit_begins num h) (number_read cells line (used (m ∷ clue)) (at + 1) num some room)
+
+numeral_other : (num : List ℕ) → IsNumeral num → begins (λ b. eqb b 47) num ≡ false
+numeral_other [] h = refl
+numeral_other (c ∷ digits) h =
+    ne_eqb c 47 (λ e. absurd (false≢true (ap is_ascii_digit (sym e) ∙ (and_parts (is_ascii_digit c) (all_ascii_digits digits) h.digits).0)))
+
+-- no clue's rest and no later clue begins with a digit
+rest_begins : (m : ℕ) (clue : List ℕ) (ns : List (List ℕ)) (later : List (List (List ℕ))) → begins is_ascii_digit (tail_text (m ∷ clue) ns ++ later_text later) ≡ false
+rest_begins m clue [] [] = refl
+rest_begins m clue [] (l ∷ later) = refl
+rest_begins m clue (n ∷ ns) later = refl
+
+abbrev Reads : Extent → List (List ℕ) → List (List ℕ) → List ℕ → List ℕ → Type 0
+Reads size all clues clue text = (at : ℕ) → reading (pattern_step size) (pattern_end size) at (so_far clues clue) (words text) ≡ Ok all
+
+-- the rest of a clue is read, and then what follows it
+clue_again : (size : Extent) (all clues : List (List ℕ)) (clue : List ℕ) (ns : List (List ℕ)) (later : List (List (List ℕ))) → AllByRecursion IsNumeral ns → IsClue (line_cells size (length clues)) (clue ++ map value ns) → Reads size all clues (clue ++ map value ns) (later_text later) → Reads size all clues clue (tail_text clue ns ++ later_text later)
+clue_again size all clues clue [] later d fits next at =
+    rw (tail_none clue) (subst (λ (c : List ℕ). Reads size all clues c (later_text later)) (append-nil clue) next at)
+clue_again size all clues [] (num ∷ ns) later d fits next at =
+    let room = used_fits (line_cells size (length clues)) (value num) [] (map value ns) fits in
+    let text : tail_text [] (num ∷ ns) ++ later_text later ≡ num ++ (tail_text (value num ∷ []) ns ++ later_text later) = ap (λ (t : List ℕ). t ++ later_text later) (join_cons 46 num ns) ∙ append_assoc num (tail_text (value num ∷ []) ns) (later_text later) in
+    let cuts = numeral_cuts num (tail_text (value num ∷ []) ns ++ later_text later) d.0 (rest_begins (value num) [] ns later) in
+    let step = step_number size at (value num) clues [] num (numeral_other num d.0) (first_read _ _ at num d.0 room.0 (omega arith)) in
+    rw text (reading_turn (pattern_step size) (pattern_end size) at (so_far clues []) (so_far clues (value num ∷ [])) _ num _ cuts step ∙ clue_again size all clues (value num ∷ []) ns later d.1 fits next (at + length num))
+clue_again size all clues (m ∷ clue) (num ∷ ns) later d fits next at =
+    let room = used_fits (line_cells size (length clues)) (value num) (m ∷ clue) (map value ns) fits in
+    let text : tail_text (m ∷ clue) (num ∷ ns) ++ later_text later ≡ 46 ∷ (num ++ (tail_text (m ∷ clue) ns ++ later_text later)) = append_assoc (46 ∷ num) (tail_text (m ∷ clue) ns) (later_text later) in
+    let cuts = joined_cuts 46 refl num (tail_text (m ∷ clue) ns ++ later_text later) d.0 (rest_begins m clue ns later) in
+    let step = step_number size at (value num) clues (m ∷ clue) (46 ∷ num) refl (further_read _ _ at m clue num d.0 room.0 room.1) in
+    let moved : (m ∷ clue) ++ value num ∷ map value ns ≡ ((m ∷ clue) ++ value num ∷ []) ++ map value ns = sym (append_assoc (m ∷ clue) (value num ∷ []) (map value ns)) in
+    rw text (reading_turn (pattern_step size) (pattern_end size) at (so_far clues (m ∷ clue)) (so_far clues ((m ∷ clue) ++ value num ∷ [])) _ (46 ∷ num) _ cuts step ∙ clue_again size all clues ((m ∷ clue) ++ value num ∷ []) ns later d.1 (subst (λ (c : List ℕ). IsClue (line_cells size (length clues)) c) moved fits) (subst (λ (c : List ℕ). Reads size all clues c (later_text later)) moved next) (at + length (46 ∷ num)))
+
+-- ---- the clues after a clue
+
+are_at : (size : Extent) (line : ℕ) (xs : List (List ℕ)) (c : List ℕ) (ys : List (List ℕ)) → AreClues size line (xs ++ c ∷ ys) → IsClue (line_cells size (line + length xs)) c
+are_at size line [] c ys h = subst (λ (k : ℕ). IsClue (line_cells size k) c) (let e : line ≡ line + 0 = omega arith in e) h.0
+are_at size line (x ∷ xs) c ys h =
+    let e : (line + 1) + length xs ≡ line + length (x ∷ xs) = omega arith in
+    subst (λ (k : ℕ). IsClue (line_cells size k) c) e (are_at size (line + 1) xs c ys h.1)
+
+later_again : (size : Extent) (all clues : List (List ℕ)) (clue : List ℕ) (later : List (List (List ℕ))) → AllByRecursion (AllByRecursion IsNumeral) later → clues ++ clue ∷ map (map value) later ≡ all → length all ≡ lines_of size → AreClues size 0 all → Reads size all clues clue (later_text later)
+later_again size all clues clue [] d is len are at =
+    reading_end (pattern_step size) (pattern_end size) at (so_far clues clue) [] refl ∙ end_full size clues clue (omega (arith, ap length is, length-append clues (clue ∷ []))) ∙ ap (λ (cs : List (List ℕ)). taken cs) is
+later_again size all clues clue (l ∷ later) d is len are at =
+    let grouped : (clues ++ clue ∷ []) ++ map value l ∷ map (map value) later ≡ all = append_assoc clues (clue ∷ []) (map value l ∷ map (map value) later) ∙ is in
+    let fits : IsClue (line_cells size (length (clues ++ clue ∷ []))) (map value l) =
+    subst (λ (k : ℕ). IsClue (line_cells size k) (map value l)) (zero-add (length (clues ++ clue ∷ []))) (are_at size 0 (clues ++ clue ∷ []) (map value l) (map (map value) later) (subst (λ (cs : List (List ℕ)). AreClues size 0 cs) (sym grouped) are)) in
+    let more = ap length is in
+    let split = length-append clues (clue ∷ map value l ∷ map (map value) later) in
+    let room : eqb (length clues + 1) (lines_of size) ≡ false = ne_eqb _ _ (λ e. omega arith) in
+    let next = clue_again size all (clues ++ clue ∷ []) [] l later d.0 fits (later_again size all (clues ++ clue ∷ []) (map value l) later d.1 grouped len are) in
+    reading_turn (pattern_step size) (pattern_end size) at (so_far clues clue) (so_far (clues ++ clue ∷ []) []) (47 ∷ (join_with_byte 46 l ++ later_text later)) (47 ∷ []) (join_with_byte 46 l ++ later_text later) (cuts_single 47 (join_with_byte 46 l ++ later_text later) refl) (step_slash size at clues clue room) ∙ next (at + 1)
+
+flat_map-map : (later : List (List (List ℕ))) → flat_map (λ y. 47 ∷ y) (map (join_with_byte 46) later) ≡ later_text later
+flat_map-map [] = refl
+flat_map-map (l ∷ later) = ap (λ (t : List ℕ). (47 ∷ join_with_byte 46 l) ++ t) (flat_map-map later)
+
+pub clues_text_is : (ns : List (List ℕ)) (later : List (List (List ℕ))) → clues_text (ns ∷ later) ≡ tail_text [] ns ++ later_text later
+clues_text_is ns later = join_cons 47 (join_with_byte 46 ns) (map (join_with_byte 46) later) ∙ ap (λ (t : List ℕ). join_with_byte 46 ns ++ t) (flat_map-map later)
+
+-- what clues that fit spell is read
+pub clues_again : (size : Extent) (at : ℕ) (numerals : List (List (List ℕ))) → AllByRecursion (AllByRecursion IsNumeral) numerals → IsPattern (record { size = size; clues = map (map value) numerals }) → clues_at size at (clues_text numerals) ≡ Ok (map (map value) numerals)
+unfolding clues_at
+clues_again size at [] d h = absurd (let none : 0 ≡ lines_of size = h.lines in let w : 1 ≤ size.w = h.size.w_low in omega arith)
+clues_again size at (ns ∷ later) d h =
+    let all : List (List ℕ) = map (map value) (ns ∷ later) in
+    rw (clues_text_is ns later) (clue_again size all [] [] ns later d.0 h.clues.0 (later_again size all [] (map value ns) later d.1 refl h.lines h.clues) at)
 
 pub record CluesSpelled (description : List ℕ) (all : List (List ℕ)) : Type 0 where
   pub numerals : List (List (List ℕ))
@@ -51,23 +253,20 @@ range_of size h =
 pub pattern_takes : (text : List ℕ) (p : Pattern) → pattern_of text ≡ Ok p → SpellsPattern text p
 unfolding pattern_of
 pattern_takes text p e =
-    let a = bind_ok (head_of game.Pattern text) (λ head. clues_at (extent_of head.size) head.description (drop head.description text) >>= (λ clues. taken (record { size = extent_of head.size; clues = clues }))) p e in
-    let b = bind_ok (clues_at (extent_of a.0.size) a.0.description (drop a.0.description text)) (λ clues. taken (record { size = extent_of a.0.size; clues = clues })) p a.2 in
-    spelled a.0 b.0 (head_take game.Pattern text a.0 a.1) b.1 (ok_is _ _ b.2)
-  where
-    spelled : (head : HeadRead) (clues : List (List ℕ)) → IsHead game.Pattern text head → clues_at (extent_of head.size) head.description (drop head.description text) ≡ Ok clues → (let made : Pattern = record { size = extent_of head.size; clues = clues } in made ≡ p) → SpellsPattern text p
-    spelled head clues h e same =
-        let c = clues_take (extent_of head.size) head.description (drop head.description text) clues e in
-        subst (λ (q : Pattern). SpellsPattern text q) same (record {
-          short = h.short;
-          puzzle = clues_lawful (extent_of head.size) head.description (drop head.description text) clues (is_extent head.size.w head.size.h h.range) e;
-          front = h.front;
-          numerals = c.numerals;
-          parts = h.parts ∙ ap (λ (d : List ℕ). h.front ++ 58 ∷ d) c.parts;
-          size = plain_size game.Pattern h.front head.size.w head.size.h head.size.x (λ e. absurd cc) h.size;
-          digits = c.digits;
-          clues = c.values;
-        })
+    let r = parts_of game.Pattern text (λ head. clues_at (extent_of head.size) head.description (drop head.description text)) (λ head clues. record { size = extent_of head.size; clues = clues }) p e in
+    let h = r.is_head in
+    let size : SizeRead = r.head.size in
+    let c = clues_take (extent_of size) r.head.description (drop r.head.description text) r.given r.read in
+    subst (λ (q : Pattern). SpellsPattern text q) r.made (record {
+      short = h.short;
+      puzzle = clues_lawful (extent_of size) r.head.description (drop r.head.description text) r.given (is_extent size.w size.h h.range) r.read;
+      front = h.front;
+      numerals = c.numerals;
+      parts = h.parts ∙ ap (λ (d : List ℕ). h.front ++ 58 ∷ d) c.parts;
+      size = plain_size game.Pattern h.front size.w size.h size.x (λ e. absurd cc) h.size;
+      digits = c.digits;
+      clues = c.values;
+    })
 
 pub pattern_again : (text : List ℕ) (p : Pattern) → SpellsPattern text p → pattern_of text ≡ Ok p
 unfolding pattern_of

@@ -1,11 +1,14 @@
--- Reading a description token by token, for any game.
-use Rattle.std.proofs.Common.{◌≡◌, ℕ, ◌+◌, ◌-◌, ◌<◌, ◌≤◌, true, List, ◌∷◌, length, Result, Ok, Err, refl, ap, ◌∙◌, arith, []}
+-- Reading a description token by token, for any game, and its first fault.
+use Rattle.std.proofs.Common.{◌≡◌, ℕ, ◌+◌, ◌-◌, ◌<◌, ◌≤◌, true, List, ◌∷◌, length, Result, Ok, Err, refl, ap, ◌∙◌, arith, [], ◌↔◌, ◌⊎◌, ◌++◌, sym, inl, inr, length-append}
 use Rattle.std.proofs.lemmas.Bool.{false≢true}
 use Rattle.gameid_core.specs.declared.fault.IdFault.{IdFault}
 use Rattle.gameid_core.specs.declared.fault.IdFault.TheVariants.{BadByte, NumberRange, LineTooFull, TooMany, TooFew}
 use Rattle.gameid_core.specs.Words.{begins, words, Cuts}
-use Rattle.gameid_core.specs.Steps.{reading, Fails}
+use Rattle.gameid_core.specs.Steps.{reading, Fails, ◌>>=◌}
 use Rattle.gameid_core.specs.declared.fault.IdFault.TheVariants as faults
+use Rattle.std.specs.List.{concat}
+use Rattle.gameid_core.specs.FirstFault.{stop, FirstFault}
+use Rattle.gameid_core.proofs.Results.{taken, ok_is}
 
 pub reading_turn : {S P : Type 0} (step : ℕ → S → List ℕ → Result S IdFault) (end : S → Result P IdFault) (at : ℕ) (s t : S) (text word after : List ℕ) → Cuts text word after → step at s word ≡ Ok t → reading step end at s (words text) ≡ reading step end (at + length word) t (words after)
 unfolding reading
@@ -26,6 +29,17 @@ place base d rest = base + (d - length rest)
 pub place_moves : (base d : ℕ) (rest word after : List ℕ) → length rest ≤ d → length rest ≡ length word + length after → place base d rest + length word ≡ place base d after
 place_moves base d rest word after le e = omega arith
 
+-- a turn of a reader's loop: a token that was taken, one with a fault, and the end
+pub turn_of : {S P : Type 0} (step : ℕ → S → List ℕ → Result S IdFault) (end : S → Result P IdFault) (base d : ℕ) (s t : S) (rest word after : List ℕ) (total : Result P IdFault) → Cuts rest word after → length rest ≤ d → step (place base d rest) s word ≡ Ok t → reading step end (place base d rest) s (words rest) ≡ total → reading step end (place base d after) t (words after) ≡ total
+turn_of step end base d s t rest word after total cuts le e so =
+    ap (λ (at : ℕ). reading step end at t (words after)) (sym (place_moves base d rest word after le cuts.lengths)) ∙ sym (reading_turn step end (place base d rest) s t rest word after cuts e) ∙ so
+
+pub fault_of : {S P : Type 0} (step : ℕ → S → List ℕ → Result S IdFault) (end : S → Result P IdFault) (at : ℕ) (s : S) (f : IdFault) (rest word after : List ℕ) (total : Result P IdFault) → Cuts rest word after → step at s word ≡ Err f → reading step end at s (words rest) ≡ total → total ≡ Err f
+fault_of step end at s f rest word after total cuts e so = sym so ∙ reading_fault step end at s f rest word after cuts e
+
+pub end_of : {S P : Type 0} (step : ℕ → S → List ℕ → Result S IdFault) (end : S → Result P IdFault) (at : ℕ) (s : S) (rest : List ℕ) (read total : Result P IdFault) → rest ≡ [] → end s ≡ read → reading step end at s (words rest) ≡ total → total ≡ read
+end_of step end at s rest read total e is so = sym so ∙ reading_end step end at s rest e ∙ is
+
 pub cuts_shorter : (text word after : List ℕ) (first : ℕ) (tail : List ℕ) → text ≡ first ∷ tail → Cuts text word after → length after < length text
 cuts_shorter text [] after first tail e cuts = absurd (false≢true (cuts.first (λ _. true) ∙ ap (begins (λ _. true)) e))
 cuts_shorter text (b ∷ word) after first tail e cuts = omega (arith, cuts.lengths)
@@ -43,3 +57,73 @@ fails_is (faults.LineTooFull p) read h = h
 fails_is faults.TooFew read h = h
 fails_is faults.TooMany read h = h
 fails_is faults.Memory read h = tt
+
+reading_cons : {S P : Type 0} (step : ℕ → S → List ℕ → Result S IdFault) (end : S → Result P IdFault) (at : ℕ) (s : S) (word : List ℕ) (words : List (List ℕ)) → reading step end at s (word ∷ words) ≡ (step at s word >>= (λ t. reading step end (at + length word) t words))
+unfolding reading
+reading_cons step end at s word words = refl
+
+reading_nil : {S P : Type 0} (step : ℕ → S → List ℕ → Result S IdFault) (end : S → Result P IdFault) (at : ℕ) (s : S) → reading step end at s [] ≡ end s
+unfolding reading
+reading_nil step end at s = refl
+
+abbrev failed : {A : Type 0} → IdFault → Result A IdFault
+failed e = Err e
+
+err_is : {A : Type 0} (g f : IdFault) → failed {A = A} g ≡ failed f → g ≡ f
+err_is g f e = cc
+
+pub first_fault : {S P : Type 0} (step : ℕ → S → List ℕ → Result S IdFault) (end : S → Result P IdFault) (at : ℕ) (s : S) (words : List (List ℕ)) (f : IdFault) → reading step end at s words ≡ Err f → FirstFault step end at s words f
+first_fault step end at s [] f e =
+    record { front = []; rest = []; parts = refl; state = s; leads = reading_nil step stop at s; fault = inl (refl, sym (reading_nil step end at s) ∙ e) }
+first_fault {S = S} {P = P} step end at s (word ∷ words) f e = cases (step at s word) refl (λ t. first_fault step end (at + length word) t words f)
+  where
+    cases : (r : Result S IdFault) → step at s word ≡ r → ((t : S) → reading step end (at + length word) t words ≡ Err f → FirstFault step end (at + length word) t words f) → FirstFault step end at s (word ∷ words) f
+    cases (Err g) q next =
+        let same : failed {A = P} g ≡ failed f = ap (λ r. r >>= (λ t. reading step end (at + length word) t words)) (sym q) ∙ sym (reading_cons step end at s word words) ∙ e in
+        record { front = []; rest = word ∷ words; parts = refl; state = s; leads = reading_nil step stop at s; fault = inr (word, words, refl, ap (λ k. step k s word) (let z : at + 0 ≡ at = omega arith in z) ∙ q ∙ ap (λ k. Err k) (err_is {A = P} g f same)) }
+    cases (Ok t) q next =
+        let later : reading step end (at + length word) t words ≡ Err f = ap (λ r. r >>= (λ t. reading step end (at + length word) t words)) (sym q) ∙ sym (reading_cons step end at s word words) ∙ e in
+        let r = next t later in
+        record {
+          front = word ∷ r.front;
+          rest = r.rest;
+          parts = ap (λ ws. word ∷ ws) r.parts;
+          state = r.state;
+          leads = reading_cons step stop at s word r.front ∙ ap (λ x. x >>= (λ t. reading step stop (at + length word) t r.front)) q ∙ r.leads;
+          fault = elim r.fault [
+            | inl a ↦ inl a
+            | inr b ↦ inr (b.0, b.1, b.2, ap (λ k. step k r.state b.0) (let p : at + length (word ++ concat r.front) ≡ (at + length word) + length (concat r.front) = omega (arith, length-append word (concat r.front)) in p) ∙ b.3)
+          ];
+        }
+
+-- the same with the tokens before the fault, and the state that they lead to
+abbrev FailsAfter : {S P : Type 0} → (ℕ → S → List ℕ → Result S IdFault) → (S → Result P IdFault) → ℕ → List (List ℕ) → List (List ℕ) → S → IdFault → Type 0
+FailsAfter step end at front rest state f = ((rest ≡ []) × (end state ≡ Err f)) ⊎ ((word : List ℕ) × (more : List (List ℕ)) × (rest ≡ word ∷ more) × (step (at + length (concat front)) state word ≡ Err f))
+
+one_later : {S P : Type 0} (step : ℕ → S → List ℕ → Result S IdFault) (end : S → Result P IdFault) (at : ℕ) (word : List ℕ) (front rest : List (List ℕ)) (state : S) (f : IdFault) → FailsAfter step end at (word ∷ front) rest state f → FailsAfter step end (at + length word) front rest state f
+one_later step end at word front rest state f (inl a) = inl a
+one_later step end at word front rest state f (inr b) =
+    inr (b.0, b.1, b.2, ap (λ k. step k state b.0) (let p : (at + length word) + length (concat front) ≡ at + length (word ++ concat front) = omega (arith, length-append word (concat front)) in p) ∙ b.3)
+
+fails_after : {S P : Type 0} (step : ℕ → S → List ℕ → Result S IdFault) (end : S → Result P IdFault) (at : ℕ) (s : S) (front rest : List (List ℕ)) (state : S) (f : IdFault) → reading step stop at s front ≡ Ok state → FailsAfter step end at front rest state f → reading step end at s (front ++ rest) ≡ Err f
+fails_after step end at s [] rest state f leads fault =
+    let same : s ≡ state = ok_is s state (sym (reading_nil step stop at s) ∙ leads) in
+    elim fault [
+      | inl a ↦ ap (reading step end at s) a.0 ∙ reading_nil step end at s ∙ ap end same ∙ a.1
+      | inr b ↦ ap (reading step end at s) b.2 ∙ reading_cons step end at s b.0 b.1 ∙ ap (λ r. r >>= (λ t. reading step end (at + length b.0) t b.1)) (ap (λ t. step at t b.0) same ∙ ap (λ k. step k state b.0) (let z : at ≡ at + 0 = omega arith in z) ∙ b.3)
+    ]
+fails_after {S = S} {P = P} step end at s (word ∷ front) rest state f leads fault =
+    cases (step at s word) refl (λ t led. fails_after step end (at + length word) t front rest state f led (one_later step end at word front rest state f fault))
+  where
+    cases : (r : Result S IdFault) → step at s word ≡ r → ((t : S) → reading step stop (at + length word) t front ≡ Ok state → reading step end (at + length word) t (front ++ rest) ≡ Err f) → reading step end at s (word ∷ (front ++ rest)) ≡ Err f
+    cases (Err g) q next = absurd (let bad : failed {A = S} g ≡ taken state = ap (λ r. r >>= (λ t. reading step stop (at + length word) t front)) (sym q) ∙ sym (reading_cons step stop at s word front) ∙ leads in cc)
+    cases (Ok t) q next =
+        let led : reading step stop (at + length word) t front ≡ Ok state = ap (λ r. r >>= (λ t. reading step stop (at + length word) t front)) (sym q) ∙ sym (reading_cons step stop at s word front) ∙ leads in
+        reading_cons step end at s word (front ++ rest) ∙ ap (λ r. r >>= (λ t. reading step end (at + length word) t (front ++ rest))) q ∙ next t led
+
+-- and one with a first fault fails with it
+pub first_fault_is : {S P : Type 0} (step : ℕ → S → List ℕ → Result S IdFault) (end : S → Result P IdFault) (at : ℕ) (s : S) (words : List (List ℕ)) (f : IdFault) → FirstFault step end at s words f → reading step end at s words ≡ Err f
+first_fault_is step end at s words f h = ap (reading step end at s) h.parts ∙ fails_after step end at s h.front h.rest h.state f h.leads h.fault
+
+pub exactly : {S P : Type 0} (step : ℕ → S → List ℕ → Result S IdFault) (end : S → Result P IdFault) (at : ℕ) (s : S) (words : List (List ℕ)) (f : IdFault) → (reading step end at s words ≡ Err f) ↔ FirstFault step end at s words f
+exactly step end at s words f = (first_fault step end at s words f, first_fault_is step end at s words f)

@@ -20,6 +20,15 @@ taken x = Ok x
 pub ok_is : {A : Type 0} (x y : A) → taken x ≡ taken y → x ≡ y
 ok_is x y e = cc
 
+-- a test that refuses let through what was taken, and one that takes took it
+pub not_refused : {A : Type 0} (b : Bool) (f : IdFault) (r : Result A IdFault) (x : A) → cond b (Err f) r ≡ Ok x → (b ≡ false) × (r ≡ Ok x)
+not_refused true f r x e = absurd cc
+not_refused false f r x e = (refl, e)
+
+pub only_taken : {A : Type 0} (b : Bool) (f : IdFault) (r : Result A IdFault) (x : A) → cond b r (Err f) ≡ Ok x → (b ≡ true) × (r ≡ Ok x)
+only_taken true f r x e = (refl, e)
+only_taken false f r x e = absurd cc
+
 pub and_parts : (p q : Bool) → (p && q) ≡ true → (p ≡ true) × (q ≡ true)
 and_parts true q e = (refl, e)
 and_parts false q e = absurd (false≢true e)

@@ -1,42 +1,315 @@
--- A text is read exactly where it spells a puzzle of Solo.
-use Rattle.std.proofs.Common.{◌≡◌, ℕ, ◌+◌, ◌*◌, ◌≤◌, true, leb, List, ◌∷◌, ◌++◌, length, drop, Ok, refl, ap, subst, ◌∙◌, arith}
-use Rattle.std.specs.List.{flat_map}
-use Rattle.std.proofs.lemmas.Bool.{le-leb}
-use Rattle.gameid_core.specs.Steps.{◌>>=◌}
-use Rattle.gameid_core.specs.Head.{SizeRead, HeadRead, head_of, in_range, max_id, max_numbers}
-use Rattle.gameid_core.specs.Puzzles.{Solo, IsSolo, solo_puzzle}
-use Rattle.gameid_core.specs.SoloText.{solo_token_text, solo_token_cells, SpellsSolo, solo_cells_at, solo_of}
-use Rattle.gameid_core.proofs.Results.{bind_ok, taken, ok_is}
-use Rattle.gameid_core.proofs.HeadLaws.{IsHead, solo_size, size_of_solo, head_take, head_again, after_front}
-use Rattle.gameid_core.proofs.SoloLaws.{solo_lawful, solo_n_small}
-use Rattle.gameid_core.proofs.SoloSpelling.{solo_take, solo_again}
+-- Solo: the tokens of a text, and that a text is read exactly where it spells a puzzle.
+use Rattle.std.proofs.Common.{◌≡◌, ℕ, ◌-◌, ◌<◌, ◌≤◌, true, false, ◌&&◌, eqb, leb, List, ◌∷◌, Ok, Err, refl, sym, subst, ◌∙◌, arith, [], ◌*◌, Bool, ltb, get_or, inl, inr, ◌+◌, ◌^◌, cond, ◌++◌, map, length, Result, ap, drop}
+use Rattle.std.specs.Prelude.{replicate, decimal}
+use Rattle.std.proofs.lemmas.Bool.{ne_eqb, false≢true, le-ltb, lt-ltb, leb-true, ltb-false, eqb-true, le-leb}
+use Rattle.gameid_core.specs.declared.fault.IdFault.TheVariants.{BadByte, NumberRange}
+use Rattle.gameid_core.specs.Words.{begins, digits_front, after_digits, value, Cuts, words, joins, put_in_front}
+use Rattle.gameid_core.specs.Cells.{is_letter, fill_step, fill_end}
+use Rattle.gameid_core.specs.SoloText.{solo_token, solo_cells_at, SoloToken, blanks, gap, given, solo_token_text, solo_token_cells, IsSoloToken, AreApart, SpellsSolo, solo_of}
+use Rattle.gameid_core.proofs.Tokens.{cuts_some, cuts_single, cuts_number, kind_of, between, not_between, words_nil, no_join, IsWord, words_are, concat_words, alone}
+use Rattle.gameid_core.proofs.Numerals.{is_lead, lead_is_digit, numeral_cuts, numeral, own, decimal_leads, value_positive}
+use Rattle.gameid_core.proofs.Results.{and_parts, chosen, not_refused, only_taken, taken, ok_is}
+use Rattle.std.specs.List.{AllByRecursion, flat_map, concat}
+use Rattle.gameid_core.specs.Head.{in_range, max_numbers, SizeRead, max_id}
+use Rattle.gameid_core.specs.Puzzles.{IsSolo, solo_puzzle, Solo}
+use Rattle.gameid_core.proofs.CellsReading.{Token, cells_spelled, cells_again}
+use Rattle.gameid_core.proofs.Lists.{AllByRecursion-replicate, AllByRecursion-flat_map}
 use Rattle.gameid_core.specs.declared.game.Game.TheVariants as game
+use Rattle.std.specs.Str.{all_ascii_digits}
+use Rattle.std.specs.Char.{is_ascii_digit}
+use Rattle.std.proofs.lemmas.Fmt.{decimal-digits_value, digits_value-decimal}
+use Rattle.gameid_core.specs.declared.fault.IdFault.{IdFault}
+use Rattle.gameid_core.specs.Steps.{reading}
+use Rattle.gameid_core.proofs.HeadLaws.{parts_of, solo_size, size_of_solo, head_again, after_front}
 
-abbrev puzzle_of : SizeRead → List ℕ → Solo
-puzzle_of size givens = solo_puzzle size.w size.h size.x givens
+pub solo_letter : (n at first : ℕ) (after : List ℕ) → 97 ≤ first → first ≤ 122 → Cuts (first ∷ after) (first ∷ []) after × (solo_token n at (first ∷ []) ≡ Ok (replicate (first - 96) 0))
+unfolding solo_token
+solo_letter n at first after low high =
+    let digit : (leb 48 first && leb first 57) ≡ false = not_between 48 57 first (λ l h. omega arith) in
+    let dot : eqb first 46 ≡ false = ne_eqb _ _ (λ e. omega arith) in
+    let comma : eqb first 44 ≡ false = ne_eqb _ _ (λ e. omega arith) in
+    (cuts_single first after (rw (digit, dot, comma) refl), rw (between 97 122 first low high) refl)
+
+pub solo_gap : (n at : ℕ) (after : List ℕ) → Cuts (95 ∷ after) (95 ∷ []) after × (solo_token n at (95 ∷ []) ≡ Ok [])
+unfolding solo_token
+solo_gap n at after = (cuts_single 95 after refl, refl)
+
+pub solo_given : (n at : ℕ) (word : List ℕ) → begins is_letter word ≡ false → begins (λ b. eqb b 95) word ≡ false → begins is_lead word ≡ true → value word ≤ n → solo_token n at word ≡ Ok (value word ∷ [])
+unfolding solo_token
+solo_given n at word letter no_gap lead le = rw (letter, no_gap, lead, le-ltb _ _ le) refl
+
+pub solo_over : (n at : ℕ) (word : List ℕ) → begins is_letter word ≡ false → begins (λ b. eqb b 95) word ≡ false → begins is_lead word ≡ true → n < value word → solo_token n at word ≡ Err (NumberRange at)
+unfolding solo_token
+solo_over n at word letter no_gap lead lt = rw (letter, no_gap, lead, lt-ltb _ _ lt) refl
+
+pub solo_other : (n at : ℕ) (word : List ℕ) → begins is_letter word ≡ false → begins (λ b. eqb b 95) word ≡ false → begins is_lead word ≡ false → solo_token n at word ≡ Err (BadByte at)
+unfolding solo_token
+solo_other n at word letter no_gap lead = rw (letter, no_gap, lead) refl
+
+pub record NumberWord (rest : List ℕ) : Type 0 where
+  pub cuts : Cuts rest (digits_front rest) (after_digits rest)
+  pub letter : begins is_letter (digits_front rest) ≡ false
+  pub gap : begins (λ b. eqb b 95) (digits_front rest) ≡ false
+  pub lead : begins is_lead (digits_front rest) ≡ true
+
+pub number_word : (rest : List ℕ) → begins is_lead rest ≡ true → NumberWord rest
+number_word [] e = absurd (false≢true e)
+number_word (b ∷ after) e =
+    let p = and_parts (leb 49 b) (leb b 57) e in
+    let low : 49 ≤ b = leb-true _ _ p.0 in
+    let high : b ≤ 57 = leb-true _ _ p.1 in
+    let cuts = cuts_number (b ∷ after) (lead_is_digit b e) in
+    record {
+      cuts = cuts;
+      letter = kind_of is_letter _ _ _ b after refl cuts ∙ not_between 97 122 b (λ l h. omega arith);
+      gap = kind_of (λ b. eqb b 95) _ _ _ b after refl cuts ∙ ne_eqb b 95 (λ q. omega arith);
+      lead = kind_of is_lead _ _ _ b after refl cuts ∙ e;
+    }
+
+pub bad_byte : (n at first : ℕ) (rest after : List ℕ) → rest ≡ first ∷ after → (97 ≤ first → first ≤ 122 → ⊥) → (first ≡ 95 → ⊥) → (49 ≤ first → first ≤ 57 → ⊥) → (word tail : List ℕ) × Cuts rest word tail × (solo_token n at word ≡ Err (BadByte at))
+bad_byte n at first rest after e letter no_gap lead =
+    let c = cuts_some first after in
+    let cuts = c.2 in (
+      first ∷ c.0,
+      c.1,
+      subst (λ (r : List ℕ). Cuts r (first ∷ c.0) c.1) (sym e) cuts,
+      solo_other n at (first ∷ c.0) (not_between 97 122 first letter) (ne_eqb first 95 no_gap) (not_between 49 57 first lead),
+    )
+
+-- ---- numbers among the tokens stand apart
+
+abbrev digit_first : List ℕ → Bool
+digit_first word = begins is_ascii_digit word
+
+abbrev NotBefore : List ℕ → List (List ℕ) → Type 0
+NotBefore word [] = Unit {0}
+NotBefore word (v ∷ ws) = digit_first v ≡ true → digit_first word ≡ false
+
+abbrev pub Apart : List (List ℕ) → Type 0
+Apart [] = Unit {0}
+Apart (w ∷ ws) = NotBefore w ws × Apart ws
+
+apart_front : (b : ℕ) (w : List ℕ) (ws : List (List ℕ)) → (is_ascii_digit b ≡ true → digit_first w ≡ true) → NotBefore w ws → NotBefore (b ∷ w) ws
+apart_front b w [] f h = tt
+apart_front b w (v ∷ ws) f h = λ d.
+    elim (is_ascii_digit b) as (λ x. is_ascii_digit b ≡ x → x ≡ false) [
+      | true ↦ λ e. absurd (false≢true (sym (h d) ∙ f e))
+      | false ↦ λ e. refl
+    ] refl
+
+pub words_apart : (text : List ℕ) → Apart (words text)
+unfolding words
+words_apart [] = tt
+words_apart (b ∷ []) =
+    elim (joins b) as (λ v. Apart (cond (v && false) (put_in_front b []) ((b ∷ []) ∷ []))) [ true ↦ (tt, tt) | false ↦ (tt, tt) ]
+words_apart (b ∷ d ∷ after) =
+    let c = cuts_some d after in
+    let rest : Apart ((d ∷ c.0) ∷ words c.1) = subst (λ (ws : List (List ℕ)). Apart ws) c.2.tokens (words_apart (d ∷ after)) in
+    elim (joins b && is_ascii_digit d) as (λ v. (joins b && is_ascii_digit d) ≡ v → Apart (cond v (put_in_front b (words (d ∷ after))) ((b ∷ []) ∷ words (d ∷ after)))) [
+      | true ↦ λ e.
+          let p = and_parts (joins b) (is_ascii_digit d) e in
+          subst (λ (ws : List (List ℕ)). Apart (put_in_front b ws)) (sym c.2.tokens) (apart_front b (d ∷ c.0) (words c.1) (λ x. p.1) rest.0, rest.1)
+      | false ↦ λ e.
+          subst (λ (ws : List (List ℕ)). Apart ((b ∷ []) ∷ ws)) (sym c.2.tokens) (cut_apart b d e, rest)
+    ] refl
+  where
+    cut_apart : (b d : ℕ) → (joins b && is_ascii_digit d) ≡ false → is_ascii_digit d ≡ true → is_ascii_digit b ≡ false
+    cut_apart b d e digit =
+        elim (is_ascii_digit b) as (λ x. is_ascii_digit b ≡ x → x ≡ false) [
+          | true ↦ λ f. absurd (false≢true (sym e ∙ rw (f, digit) refl))
+          | false ↦ λ f. refl
+        ] refl
+
+-- ---- a word that was taken is a token
+
+abbrev SoloWord : ℕ → List ℕ → List ℕ → Type 0
+SoloWord n word more = Token solo_token_text solo_token_cells (IsSoloToken n) word more
+
+letter_word : (n : ℕ) (word : List ℕ) → IsWord word → begins is_letter word ≡ true → SoloWord n word (replicate (get_or word 0 0 - 96) 0)
+letter_word n [] w e = absurd w
+letter_word n (b ∷ more) w e =
+    let p = and_parts (leb 97 b) (leb b 122) e in
+    let low : 97 ≤ b = leb-true _ _ p.0 in
+    let high : b ≤ 122 = leb-true _ _ p.1 in
+    let rest = alone b more w (no_join b (λ l h. omega arith) (λ q. omega arith) (λ q. omega arith)) in
+    let byte : b ≡ 96 + (b - 96) = omega arith in
+    record { token = blanks (b - 96); texts = ap (λ (m : List ℕ). b ∷ m) rest ∙ ap (λ (k : ℕ). k ∷ []) byte; each = (omega arith, omega arith); stands = refl }
+
+gap_word : (n : ℕ) (word : List ℕ) → IsWord word → begins (λ b. eqb b 95) word ≡ true → SoloWord n word []
+gap_word n [] w e = absurd w
+gap_word n (b ∷ more) w e =
+    let is : b ≡ 95 = eqb-true b 95 e in
+    let rest = alone b more w (ap joins is) in
+    record { token = gap; texts = ap (λ (m : List ℕ). b ∷ m) rest ∙ ap (λ (k : ℕ). k ∷ []) is; each = tt; stands = refl }
+
+given_word : (n : ℕ) (word : List ℕ) → n < 2 ^ 64 → IsWord word → begins is_lead word ≡ true → value word ≤ n → SoloWord n word (value word ∷ [])
+given_word n [] small w e le = absurd w
+given_word n (b ∷ more) small w e le =
+    let low : 49 ≤ b = leb-true _ _ (and_parts (leb 49 b) (leb b 57) e).0 in
+    let digits : all_ascii_digits (b ∷ more) ≡ true = rw (lead_is_digit b e) w.0 in
+    let some : 0 < length (b ∷ more) = omega arith in
+    let small' : value (b ∷ more) < 2 ^ 64 = omega arith in
+    record {
+      token = given (value (b ∷ more));
+      texts = sym (decimal-digits_value own (b ∷ more) digits some (λ z. absurd (let zero_first : b ≡ 48 = z in omega arith)) small');
+      each = (omega (arith, value_positive b more low), le);
+      stands = refl;
+    }
+
+token_word : (n : ℕ) → n < 2 ^ 64 → (at : ℕ) (word more : List ℕ) → IsWord word → solo_token n at word ≡ Ok more → SoloWord n word more
+unfolding solo_token
+token_word n small at word more w e =
+    elim (chosen (begins is_letter word) _ _ _ e) [
+      | inl c ↦ subst (λ (m : List ℕ). SoloWord n word m) (ok_is _ _ c.1) (letter_word n word w c.0)
+      | inr c ↦ elim (chosen (begins (λ b. eqb b 95) word) _ _ _ c.1) [
+        | inl d ↦ subst (λ (m : List ℕ). SoloWord n word m) (ok_is _ _ d.1) (gap_word n word w d.0)
+        | inr d ↦
+            let f = only_taken (begins is_lead word) _ _ _ d.1 in
+            let g = not_refused (ltb n (value word)) _ _ _ f.1 in
+            subst (λ (m : List ℕ). SoloWord n word m) (ok_is _ _ g.1) (given_word n word small w f.0 (ltb-false _ _ g.0))
+      ]
+    ]
+
+-- ---- what is read is spelled
+
+decimal_digit_first : (v : ℕ) → v < 2 ^ 64 → 0 < v → digit_first (decimal v) ≡ true
+decimal_digit_first v small some = lead_first (decimal v) (decimal_leads v small some)
+  where
+    lead_first : (word : List ℕ) → begins is_lead word ≡ true → digit_first word ≡ true
+    lead_first [] e = absurd (false≢true e)
+    lead_first (b ∷ more) e = lead_is_digit b e
+
+apart_tokens : (n : ℕ) (tokens : List SoloToken) → n < 2 ^ 64 → AllByRecursion (IsSoloToken n) tokens → Apart (map solo_token_text tokens) → AreApart tokens
+apart_tokens n [] small each h = tt
+apart_tokens n (blanks k ∷ tokens) small each h = apart_tokens n tokens small each.1 h.1
+apart_tokens n (gap ∷ tokens) small each h = apart_tokens n tokens small each.1 h.1
+apart_tokens n (given u ∷ []) small each h = tt
+apart_tokens n (given u ∷ blanks k ∷ tokens) small each h = apart_tokens n (blanks k ∷ tokens) small each.1 h.1
+apart_tokens n (given u ∷ gap ∷ tokens) small each h = apart_tokens n (gap ∷ tokens) small each.1 h.1
+apart_tokens n (given u ∷ given v ∷ tokens) small each h =
+    let first = decimal_digit_first u (omega (arith, each.0.1)) each.0.0 in
+    let second = decimal_digit_first v (omega (arith, each.1.0.1)) each.1.0.0 in
+    false≢true (sym (h.0 second) ∙ first)
+
+concat_texts : (tokens : List SoloToken) → concat (map solo_token_text tokens) ≡ flat_map solo_token_text tokens
+concat_texts [] = refl
+concat_texts (t ∷ tokens) = ap (λ (x : List ℕ). solo_token_text t ++ x) (concat_texts tokens)
+
+record SoloDescribed (n : ℕ) (description cells : List ℕ) : Type 0 where
+  tokens : List SoloToken
+  parts : description ≡ flat_map solo_token_text tokens
+  each : AllByRecursion (IsSoloToken n) tokens
+  apart : AreApart tokens
+  filled : flat_map solo_token_cells tokens ≡ cells
+  count : length cells ≡ n * n
+
+solo_take : (n at : ℕ) (description cells : List ℕ) → n < 2 ^ 64 → solo_cells_at n at description ≡ Ok cells → SoloDescribed n description cells
+unfolding solo_cells_at
+solo_take n at description cells small e =
+    let s = cells_spelled solo_token_text solo_token_cells (IsSoloToken n) (solo_token n) IsWord (token_word n small) (n * n) at [] (words description) cells (words_are description) e in
+    let r = s.0 in
+    record {
+      tokens = r.tokens;
+      parts = sym (concat_words description) ∙ ap concat (sym r.texts) ∙ concat_texts r.tokens;
+      each = r.each;
+      apart = apart_tokens n r.tokens small r.each (subst (λ (ws : List (List ℕ)). Apart ws) (sym r.texts) (words_apart description));
+      filled = r.filled;
+      count = s.1;
+    }
+
+-- ---- what is read fits
+
+token_range : (n : ℕ) (token : SoloToken) → IsSoloToken n token → AllByRecursion (λ v. v ≤ n) (solo_token_cells token)
+token_range n (blanks k) h = AllByRecursion-replicate (λ v. v ≤ n) 0 k (omega arith)
+token_range n gap h = tt
+token_range n (given v) h = (h.1, tt)
+
+pub solo_n_small : (c r : ℕ) → in_range game.Solo c r ≡ true → c * r ≤ max_numbers
+solo_n_small c r range = leb-true _ _ (and_parts (leb 2 c && leb 2 r) (leb (c * r) max_numbers) range).1
+
+pub solo_lawful : (c r : ℕ) (x : Bool) (at : ℕ) (description cells : List ℕ) → in_range game.Solo c r ≡ true → solo_cells_at (c * r) at description ≡ Ok cells → IsSolo (solo_puzzle c r x cells)
+solo_lawful c r x at description cells range e =
+    let p = and_parts (leb 2 c && leb 2 r) (leb (c * r) max_numbers) range in
+    let q = and_parts (leb 2 c) (leb 2 r) p.0 in
+    let small = solo_n_small c r range in
+    let d = solo_take (c * r) at description cells (omega arith) e in
+    let fits = AllByRecursion-flat_map (IsSoloToken (c * r)) (λ v. v ≤ c * r) solo_token_cells (token_range (c * r)) d.tokens d.each in
+    record { c_low = leb-true _ _ q.0; r_low = leb-true _ _ q.1; n_high = small; cells = d.count; range = subst (λ (cs : List ℕ). AllByRecursion (λ v. v ≤ c * r) cs) d.filled fits }
+
+-- ---- what is spelled is read
+
+no_digit_first : (n v : ℕ) (tokens : List SoloToken) → AllByRecursion (IsSoloToken n) tokens → AreApart (given v ∷ tokens) → begins is_ascii_digit (flat_map solo_token_text tokens) ≡ false
+no_digit_first n v [] each h = refl
+no_digit_first n v (blanks k ∷ tokens) each h = not_between 48 57 (96 + k) (λ low high. omega arith)
+no_digit_first n v (gap ∷ tokens) each h = refl
+no_digit_first n v (given u ∷ tokens) each h = absurd h
+
+apart_rest : (token : SoloToken) (tokens : List SoloToken) → AreApart (token ∷ tokens) → AreApart tokens
+apart_rest (blanks k) tokens h = h
+apart_rest gap tokens h = h
+apart_rest (given u) [] h = tt
+apart_rest (given u) (blanks k ∷ tokens) h = h
+apart_rest (given u) (gap ∷ tokens) h = h
+apart_rest (given u) (given v ∷ tokens) h = absurd h
+
+given_read : (n at v : ℕ) → v < 2 ^ 64 → 0 < v → v ≤ n → solo_token n at (decimal v) ≡ Ok (v ∷ [])
+given_read n at v small some le =
+    let is : value (decimal v) ≡ v = digits_value-decimal own v small in
+    solo_given n at (decimal v) (other is_letter (λ b d. not_between 97 122 b (λ low high. absurd (omega (arith, digit_high b d)))) (decimal v) (decimal_digit_first v small some)) (other (λ b. eqb b 95) (λ b d. ne_eqb b 95 (λ q. absurd (omega (arith, digit_high b d)))) (decimal v) (decimal_digit_first v small some)) (decimal_leads v small some) (omega arith) ∙ ap one is
+  where
+    one : ℕ → Result (List ℕ) IdFault
+    one k = Ok (k ∷ [])
+
+    digit_high : (b : ℕ) → is_ascii_digit b ≡ true → b ≤ 57
+    digit_high b d = leb-true _ _ (and_parts (leb 48 b) (leb b 57) d).1
+
+    other : (kind : ℕ → Bool) → ((b : ℕ) → is_ascii_digit b ≡ true → kind b ≡ false) → (word : List ℕ) → digit_first word ≡ true → begins kind word ≡ false
+    other kind f [] d = refl
+    other kind f (b ∷ more) d = f b d
+
+token_cuts : (n : ℕ) (token : SoloToken) (tokens : List SoloToken) → n < 2 ^ 64 → AllByRecursion (IsSoloToken n) (token ∷ tokens) → AreApart (token ∷ tokens) → Cuts (solo_token_text token ++ flat_map solo_token_text tokens) (solo_token_text token) (flat_map solo_token_text tokens)
+token_cuts n (blanks k) tokens small each h = (solo_letter n 0 (96 + k) (flat_map solo_token_text tokens) (omega (arith, each.0.0)) (omega (arith, each.0.1))).0
+token_cuts n gap tokens small each h = (solo_gap n 0 (flat_map solo_token_text tokens)).0
+token_cuts n (given v) tokens small each h = numeral_cuts (decimal v) (flat_map solo_token_text tokens) (numeral v (omega (arith, each.0.1))) (no_digit_first n v tokens each.1 h)
+
+-- the texts of tokens are the tokens of their text
+words_again : (n : ℕ) (tokens : List SoloToken) → n < 2 ^ 64 → AllByRecursion (IsSoloToken n) tokens → AreApart tokens → words (flat_map solo_token_text tokens) ≡ map solo_token_text tokens
+words_again n [] small each h = words_nil
+words_again n (token ∷ tokens) small each h =
+    (token_cuts n token tokens small each h).tokens ∙ ap (λ (ws : List (List ℕ)). solo_token_text token ∷ ws) (words_again n tokens small each.1 (apart_rest token tokens h))
+
+token_again : (n : ℕ) → n < 2 ^ 64 → (at : ℕ) (token : SoloToken) → IsSoloToken n token → solo_token n at (solo_token_text token) ≡ Ok (solo_token_cells token)
+token_again n small at (blanks k) h =
+    let count : 96 + k - 96 ≡ k = omega arith in
+    (solo_letter n at (96 + k) [] (omega (arith, h.0)) (omega (arith, h.1))).1 ∙ ap (λ (j : ℕ). taken (replicate j 0)) count
+token_again n small at gap h = (solo_gap n at []).1
+token_again n small at (given v) h = given_read n at v (omega (arith, h.1)) h.0 h.1
+
+-- what tokens that fill the grid spell is read
+solo_again : (n at : ℕ) (tokens : List SoloToken) → n < 2 ^ 64 → AllByRecursion (IsSoloToken n) tokens → AreApart tokens → length (flat_map solo_token_cells tokens) ≡ n * n → solo_cells_at n at (flat_map solo_token_text tokens) ≡ Ok (flat_map solo_token_cells tokens)
+unfolding solo_cells_at
+solo_again n at tokens small each h full =
+    ap (reading (fill_step (solo_token n) (n * n)) (fill_end (n * n)) at []) (words_again n tokens small each h) ∙ cells_again solo_token_text solo_token_cells (IsSoloToken n) (solo_token n) (token_again n small) (n * n) at [] tokens each (omega arith)
 
 pub solo_takes : (text : List ℕ) (p : Solo) → solo_of text ≡ Ok p → SpellsSolo text p
 unfolding solo_of
 solo_takes text p e =
-    let a = bind_ok (head_of game.Solo text) (λ head. solo_cells_at (head.size.w * head.size.h) head.description (drop head.description text) >>= (λ givens. taken (puzzle_of head.size givens))) p e in
-    let b = bind_ok (solo_cells_at (a.0.size.w * a.0.size.h) a.0.description (drop a.0.description text)) (λ givens. taken (puzzle_of a.0.size givens)) p a.2 in
-    spelled a.0 b.0 (head_take game.Solo text a.0 a.1) b.1 (ok_is (puzzle_of a.0.size b.0) p b.2)
-  where
-    spelled : (head : HeadRead) (givens : List ℕ) → IsHead game.Solo text head → solo_cells_at (head.size.w * head.size.h) head.description (drop head.description text) ≡ Ok givens → puzzle_of head.size givens ≡ p → SpellsSolo text p
-    spelled head givens h e same =
-        let small = solo_n_small head.size.w head.size.h h.range in
-        let d = solo_take (head.size.w * head.size.h) head.description (drop head.description text) givens (omega arith) e in
-        subst (λ (q : Solo). SpellsSolo text q) same (record {
-          short = h.short;
-          puzzle = solo_lawful head.size.w head.size.h head.size.x head.description (drop head.description text) givens h.range e;
-          front = h.front;
-          tokens = d.tokens;
-          parts = h.parts ∙ ap (λ (x : List ℕ). h.front ++ 58 ∷ x) d.parts;
-          size = solo_size h.front head.size.w head.size.h head.size.x h.size;
-          each = d.each;
-          apart = d.apart;
-          cells = d.filled;
-        })
+    let r = parts_of game.Solo text (λ head. solo_cells_at (head.size.w * head.size.h) head.description (drop head.description text)) (λ head givens. solo_puzzle head.size.w head.size.h head.size.x givens) p e in
+    let h = r.is_head in
+    let size : SizeRead = r.head.size in
+    let small = solo_n_small size.w size.h h.range in
+    let d = solo_take (size.w * size.h) r.head.description (drop r.head.description text) r.given (omega arith) r.read in
+    subst (λ (q : Solo). SpellsSolo text q) r.made (record {
+      short = h.short;
+      puzzle = solo_lawful size.w size.h size.x r.head.description (drop r.head.description text) r.given h.range r.read;
+      front = h.front;
+      tokens = d.tokens;
+      parts = h.parts ∙ ap (λ (x : List ℕ). h.front ++ 58 ∷ x) d.parts;
+      size = solo_size h.front size.w size.h size.x h.size;
+      each = d.each;
+      apart = d.apart;
+      cells = d.filled;
+    })
 
 range_of : (p : Solo) → IsSolo p → in_range game.Solo p.c p.r ≡ true
 range_of p h =

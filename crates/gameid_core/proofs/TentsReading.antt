@@ -1,20 +1,24 @@
--- Reading a description of Tents, turn by turn.
-use Rattle.std.proofs.Common.{◌≡◌, ℕ, ◌+◌, ◌<◌, ◌≤◌, Bool, true, false, cond, ◌&&◌, eqb, ltb, leb, eq-eqb, List, [], ◌∷◌, ◌++◌, length, drop, Result, Ok, Err, refl, sym, ap, subst, ◌∙◌, inl, inr, arith, length-append}
+-- Tents: reading a description turn by turn, and that what is read fits.
+use Rattle.std.proofs.Common.{◌≡◌, ℕ, ◌-◌, ◌+◌, ◌<◌, ◌≤◌, Bool, true, false, cond, ◌&&◌, eqb, ltb, leb, eq-eqb, List, [], ◌∷◌, ◌++◌, length, drop, Result, Ok, Err, refl, sym, ap, subst, ◌∙◌, inl, inr, arith, length-append, zero, suc, ◌*◌, take, get_or, ◌⊎◌, append_assoc}
 use Rattle.std.specs.Prelude.{replicate}
 use Rattle.std.specs.Char.{is_ascii_digit}
-use Rattle.std.proofs.lemmas.Bool.{ne_eqb, false≢true, eqb-true, le-ltb, lt-ltb, leb-true}
-use Rattle.std.proofs.lemmas.List.{length-replicate}
+use Rattle.std.proofs.lemmas.Bool.{ne_eqb, false≢true, eqb-true, le-ltb, lt-ltb, leb-true, eqb-false, ltb-false}
+use Rattle.std.proofs.lemmas.List.{length-replicate, take_at}
 use Rattle.grid_core.specs.Extent.{Extent}
 use Rattle.gameid_core.specs.declared.fault.IdFault.{IdFault}
 use Rattle.gameid_core.specs.declared.fault.IdFault.TheVariants.{BadByte, NumberRange, TooMany, TooFew}
 use Rattle.gameid_core.specs.Words.{begins, joins, words, digits_front, value, Cuts}
 use Rattle.gameid_core.specs.Steps.{reading}
-use Rattle.gameid_core.specs.Puzzles.{line_cells, lines_of}
-use Rattle.gameid_core.specs.TentsText.{TentsSoFar, cells_in, tents_run, run_cells, tents_tree, tents_count, tents_step, tents_end}
-use Rattle.gameid_core.proofs.Numbers.{front_turn}
-use Rattle.gameid_core.proofs.Tokens.{cuts_some, cuts_single, no_join}
-use Rattle.gameid_core.proofs.Reading.{reading_turn, reading_fault, reading_end, place, place_moves}
-use Rattle.gameid_core.proofs.Results.{chosen, taken, and_parts}
+use Rattle.gameid_core.specs.Puzzles.{line_cells, lines_of, IsWide, IsTents, AreCounts}
+use Rattle.gameid_core.specs.TentsText.{TentsToken, blanks_and_tree, only_blanks, tents_token_byte, tents_token_cells, IsTentsToken, TentsSoFar, cells_in, tents_run, run_cells, tents_tree, tents_count, tents_step, tents_end, tents_at}
+use Rattle.gameid_core.proofs.Tokens.{front_turn, cuts_some, cuts_single, no_join}
+use Rattle.gameid_core.proofs.Reading.{turn_of, reading_fault, place}
+use Rattle.gameid_core.proofs.Results.{bind_ok, chosen, not_refused, only_taken, taken, ok_is, and_parts}
+use Rattle.std.specs.List.{AllByRecursion}
+use Rattle.gameid_core.specs.Head.{in_range}
+use Rattle.gameid_core.specs.declared.game.Game.TheVariants as game
+use Rattle.gameid_core.proofs.LightTexts.{sized, wide_of}
+use Rattle.gameid_core.proofs.Lists.{AllByRecursion-append, AllByRecursion-replicate}
 
 abbrev pub at_tents : List ℕ → List ℕ → TentsSoFar
 at_tents places counts = record { places = places; counts = counts }
@@ -48,19 +52,41 @@ front_some (b ∷ after) d e = let t = front_turn (b ∷ after) b after refl d i
 
 -- ---- the trees
 
-pub run_single : (at b : ℕ) (run : ℕ × Bool) → tents_run at b ≡ Ok run → joins b ≡ false
+-- a byte of the trees is a token
+pub record RunToken (b : ℕ) (run : ℕ × Bool) : Type 0 where
+  pub token : TentsToken
+  pub byte : b ≡ tents_token_byte token
+  pub each : IsTentsToken token
+  pub cells : tents_token_cells token ≡ run_cells run.0 run.1
+
+pub run_token : (at b : ℕ) (run : ℕ × Bool) → tents_run at b ≡ Ok run → RunToken b run
 unfolding tents_run
-run_single at b run e =
+run_token at b run e =
     elim (chosen (eqb b 95) _ _ _ e) [
-      | inl c ↦ ap joins (eqb-true b 95 c.0)
+      | inl c ↦ subst (RunToken b) (ok_is _ _ c.1) (record { token = blanks_and_tree 0; byte = eqb-true b 95 c.0; each = omega arith; cells = refl })
       | inr c ↦ elim (chosen (leb 97 b && leb b 121) _ _ _ c.1) [
-        | inl d ↦ let p = and_parts (leb 97 b) (leb b 121) d.0 in let low : 97 ≤ b = leb-true _ _ p.0 in no_join b (λ l h. omega arith) (λ q. omega arith) (λ q. omega arith)
-        | inr d ↦ elim (chosen (eqb b 122) _ _ _ d.1) [
-          | inl f ↦ ap joins (eqb-true b 122 f.0)
-          | inr f ↦ absurd (let bad : Err (BadByte at) ≡ taken run = f.1 in cc)
-        ]
+        | inl d ↦
+            let p = and_parts (leb 97 b) (leb b 121) d.0 in
+            let low : 97 ≤ b = leb-true _ _ p.0 in
+            let high : b ≤ 121 = leb-true _ _ p.1 in
+            let some : eqb (b - 96) 0 ≡ false = ne_eqb _ _ (λ q. omega arith) in
+            subst (RunToken b) (ok_is _ _ d.1) (record { token = blanks_and_tree (b - 96); byte = rw some (omega arith); each = omega arith; cells = refl })
+        | inr d ↦
+            let f = only_taken (eqb b 122) _ _ _ d.1 in
+            subst (RunToken b) (ok_is _ _ f.1) (record { token = only_blanks; byte = eqb-true b 122 f.0; each = tt; cells = refl })
       ]
     ]
+
+pub letter_byte : (k : ℕ) → tents_token_byte (blanks_and_tree (suc k)) ≡ 97 + k
+letter_byte k = let some : eqb (suc k) 0 ≡ false = ne_eqb _ _ (λ e. absurd (omega (arith, e))) in rw some (omega arith)
+
+byte_single : (token : TentsToken) → joins (tents_token_byte token) ≡ false
+byte_single (blanks_and_tree zero) = refl
+byte_single (blanks_and_tree (suc k)) = rw (letter_byte k) (no_join (97 + k) (λ l h. omega arith) (λ q. omega (arith, q)) (λ q. omega (arith, q)))
+byte_single only_blanks = refl
+
+pub run_single : (at b : ℕ) (run : ℕ × Bool) → tents_run at b ≡ Ok run → joins b ≡ false
+run_single at b run e = let t = run_token at b run e in ap joins t.byte ∙ byte_single t.token
 
 pub run_length : (blanks : ℕ) (tree : Bool) → length (run_cells blanks tree) ≡ blanks + cond tree 1 0
 run_length blanks true = omega (arith, length-append {A = ℕ} (replicate blanks 0) (1 ∷ []), length-replicate {A = ℕ} blanks 0)
@@ -104,8 +130,7 @@ pub turn_count : (size : Extent) (base d first n : ℕ) (places counts rest tail
 turn_count size base d first n places counts rest tail word after total e is le cuts' token so =
     let text : rest ≡ 44 ∷ tail = e ∙ ap (λ (b : ℕ). b ∷ tail) is in
     let cuts : Cuts rest word after = subst (λ (r : List ℕ). Cuts r word after) (sym text) cuts' in
-    let turn = reading_turn (tents_step size) (tents_end size) (place base d rest) (at_tents places counts) (at_tents places (counts ++ n ∷ [])) rest word after cuts (count_step size (place base d rest) n places counts word (begins_comma rest word after tail first e is cuts) token) in
-    ap (λ (at : ℕ). reads size at places (counts ++ n ∷ []) after) (sym (place_moves base d rest word after le cuts.lengths)) ∙ sym turn ∙ so
+    turn_of (tents_step size) (tents_end size) base d (at_tents places counts) (at_tents places (counts ++ n ∷ [])) rest word after total cuts le (count_step size (place base d rest) n places counts word (begins_comma rest word after tail first e is cuts) token) so
 
 pub fault_count : (size : Extent) (base d first : ℕ) (f : IdFault) (places counts rest tail word after : List ℕ) (total : Result TentsSoFar IdFault) → rest ≡ first ∷ tail → first ≡ 44 → Cuts (44 ∷ tail) word after → tents_count size (place base d rest) (at_tents places counts) word ≡ Err f → reads size (place base d rest) places counts rest ≡ total → total ≡ Err f
 fault_count size base d first f places counts rest tail word after total e is cuts' token so =
@@ -118,8 +143,7 @@ turn_run size base d first blanks tree places counts rest after total e ne none 
     let single = run_single (place base d rest) first (blanks, tree) run in
     let cuts : Cuts rest (first ∷ []) after = subst (λ (r : List ℕ). Cuts r (first ∷ []) after) (sym e) (cuts_single first after (rw single refl)) in
     let so' : reads size (place base d rest) places [] rest ≡ total = ap (λ (c : List ℕ). reads size (place base d rest) places c rest) (sym none) ∙ so in
-    let turn = reading_turn (tents_step size) (tents_end size) (place base d rest) (at_tents places []) (at_tents (places ++ run_cells blanks tree) []) rest (first ∷ []) after cuts (tree_step size (place base d rest) first blanks tree places [] (ne_eqb first 44 ne) run room) in
-    ap (λ (c : List ℕ). reads size (place base d after) (places ++ run_cells blanks tree) c after) none ∙ ap (λ (at : ℕ). reads size at (places ++ run_cells blanks tree) [] after) (sym (place_moves base d rest (first ∷ []) after le cuts.lengths)) ∙ sym turn ∙ so'
+    ap (λ (c : List ℕ). reads size (place base d after) (places ++ run_cells blanks tree) c after) none ∙ turn_of (tents_step size) (tents_end size) base d (at_tents places []) (at_tents (places ++ run_cells blanks tree) []) rest (first ∷ []) after total cuts le (tree_step size (place base d rest) first blanks tree places [] (ne_eqb first 44 ne) run room) so'
 
 pub over_run : (size : Extent) (base d first blanks : ℕ) (tree : Bool) (places counts rest after : List ℕ) (total : Result TentsSoFar IdFault) → rest ≡ first ∷ after → (first ≡ 44 → ⊥) → counts ≡ [] → tents_run (place base d rest) first ≡ Ok (blanks, tree) → cells_in size + cond tree 1 0 < length places + (blanks + cond tree 1 0) → reads size (place base d rest) places counts rest ≡ total → total ≡ Err TooMany
 over_run size base d first blanks tree places counts rest after total e ne none run over so =
@@ -140,14 +164,164 @@ late_run size base d first places (n ∷ counts) rest after total e ne some so =
     let cuts : Cuts rest (first ∷ c.0) c.1 = subst (λ (r : List ℕ). Cuts r (first ∷ c.0) c.1) (sym e) c.2 in
     sym so ∙ reading_fault (tents_step size) (tents_end size) (place base d rest) (at_tents places (n ∷ counts)) (BadByte (place base d rest)) rest (first ∷ c.0) c.1 cuts (tree_late size (place base d rest) first n places counts c.0 (ne_eqb first 44 ne))
 
-pub few_end : (size : Extent) (at : ℕ) (places counts rest : List ℕ) (total : Result TentsSoFar IdFault) → rest ≡ [] → (length counts ≡ lines_of size → ⊥) → reads size at places counts rest ≡ total → total ≡ Err TooFew
+pub end_few : (size : Extent) (places counts : List ℕ) → (length counts ≡ lines_of size → ⊥) → tents_end size (at_tents places counts) ≡ Err TooFew
 unfolding tents_end
-few_end size at places counts rest total e ne so =
-    let less : eqb (length counts) (lines_of size) ≡ false = ne_eqb _ _ ne in
-    sym so ∙ reading_end (tents_step size) (tents_end size) at (at_tents places counts) rest e ∙ rw less refl
+end_few size places counts ne = let less : eqb (length counts) (lines_of size) ≡ false = ne_eqb _ _ ne in rw less refl
 
-pub good_end : (size : Extent) (at : ℕ) (places counts rest : List ℕ) (total : Result TentsSoFar IdFault) → rest ≡ [] → length counts ≡ lines_of size → reads size at places counts rest ≡ total → total ≡ Ok (at_tents places counts)
+pub end_full : (size : Extent) (places counts : List ℕ) → length counts ≡ lines_of size → tents_end size (at_tents places counts) ≡ Ok (at_tents places counts)
 unfolding tents_end
-good_end size at places counts rest total e is so =
-    let full : eqb (length counts) (lines_of size) ≡ true = eq-eqb _ _ is in
-    sym so ∙ reading_end (tents_step size) (tents_end size) at (at_tents places counts) rest e ∙ rw full refl
+end_full size places counts e = let full : eqb (length counts) (lines_of size) ≡ true = eq-eqb _ _ e in rw full refl
+
+-- ---- a step that was taken: a number behind ',', or cells of the trees
+
+pub record Counted (size : Extent) (places counts word : List ℕ) (t : TentsSoFar) : Type 0 where
+  pub comma : begins (λ b. eqb b 44) word ≡ true
+  pub full : cells_in size + 1 ≤ length places
+  pub some : length word ≡ 1 → ⊥
+  pub fits : value (drop 1 word) ≤ line_cells size (length counts)
+  pub leads : at_tents places (counts ++ value (drop 1 word) ∷ []) ≡ t
+
+pub record Planted (size : Extent) (at : ℕ) (places counts word : List ℕ) (t : TentsSoFar) : Type 0 where
+  pub other : begins (λ b. eqb b 44) word ≡ false
+  pub early : length counts ≤ 0
+  pub run : ℕ × Bool
+  pub read : tents_run at (get_or word 0 0) ≡ Ok run
+  pub room : length places + length (run_cells run.0 run.1) ≤ cells_in size + cond run.1 1 0
+  pub leads : at_tents (places ++ run_cells run.0 run.1) counts ≡ t
+
+count_cases : (size : Extent) (at n : ℕ) (places counts word : List ℕ) → tents_count size at (at_tents places counts) word ≡ Ok n → (cells_in size + 1 ≤ length places) × (length word ≡ 1 → ⊥) × (value (drop 1 word) ≤ line_cells size (length counts)) × (value (drop 1 word) ≡ n)
+unfolding tents_count
+count_cases size at n places counts word e =
+    let c = not_refused (ltb (length places) (cells_in size + 1)) _ _ _ e in
+    let d = not_refused (eqb (length counts) (lines_of size)) _ _ _ c.1 in
+    let f = not_refused (eqb (length word) 1) _ _ _ d.1 in
+    let g = not_refused (ltb (line_cells size (length counts)) (value (drop 1 word))) _ _ _ f.1 in
+    (ltb-false _ _ c.0, eqb-false _ _ f.0, ltb-false _ _ g.0, ok_is _ _ g.1)
+
+tree_cases : (size : Extent) (at b : ℕ) (places counts : List ℕ) (t : TentsSoFar) → tents_tree size at (at_tents places counts) b ≡ Ok t → (run : ℕ × Bool) × (tents_run at b ≡ Ok run) × (length places + length (run_cells run.0 run.1) ≤ cells_in size + cond run.1 1 0) × (at_tents (places ++ run_cells run.0 run.1) counts ≡ t)
+unfolding tents_tree
+tree_cases size at b places counts t e =
+    let r = bind_ok (tents_run at b) (λ run. cond (ltb (cells_in size + cond run.1 1 0) (length places + length (run_cells run.0 run.1))) (Err TooMany) (Ok (at_tents (places ++ run_cells run.0 run.1) counts))) t e in
+    let c = not_refused (ltb (cells_in size + cond r.0.1 1 0) (length places + length (run_cells r.0.0 r.0.1))) _ _ _ r.2 in
+    (r.0, r.1, ltb-false _ _ c.0, ok_is _ _ c.1)
+
+pub step_cases : (size : Extent) (at : ℕ) (places counts word : List ℕ) (t : TentsSoFar) → tents_step size at (at_tents places counts) word ≡ Ok t → Counted size places counts word t ⊎ Planted size at places counts word t
+unfolding tents_step
+step_cases size at places counts word t e =
+    elim (chosen (begins (λ b. eqb b 44) word) _ _ _ e) [
+      | inl c ↦
+          let n = bind_ok (tents_count size at (at_tents places counts) word) (λ n. taken (at_tents places (counts ++ n ∷ []))) t c.1 in
+          let d = count_cases size at n.0 places counts word n.1 in
+          inl (record { comma = c.0; full = d.0; some = d.1; fits = d.2; leads = ap (λ (k : ℕ). at_tents places (counts ++ k ∷ [])) d.3 ∙ ok_is _ _ n.2 })
+      | inr c ↦
+          let d = not_refused (ltb 0 (length counts)) _ _ _ c.1 in
+          let r = tree_cases size at (get_or word 0 0) places counts t d.1 in
+          inr (record { other = c.0; early = ltb-false _ _ d.0; run = r.0; read = r.1; room = r.2; leads = r.3 })
+    ]
+
+pub end_cases : (size : Extent) (places counts : List ℕ) (t : TentsSoFar) → tents_end size (at_tents places counts) ≡ Ok t → (length counts ≡ lines_of size) × (at_tents places counts ≡ t)
+unfolding tents_end
+end_cases size places counts t e =
+    let c = only_taken (eqb (length counts) (lines_of size)) _ _ _ e in
+    (eqb-true _ _ c.0, ok_is _ _ c.1)
+
+-- ---- what is read fits
+
+run_bits : (blanks : ℕ) (tree : Bool) → AllByRecursion (λ b. b < 2) (run_cells blanks tree)
+run_bits blanks true = AllByRecursion-append (λ b. b < 2) (replicate blanks 0) (1 ∷ []) (AllByRecursion-replicate (λ b. b < 2) 0 blanks (omega arith)) (omega arith, tt)
+run_bits blanks false = AllByRecursion-append (λ b. b < 2) (replicate blanks 0) [] (AllByRecursion-replicate (λ b. b < 2) 0 blanks (omega arith)) tt
+
+AreCounts-push : (size : Extent) (line : ℕ) (counts : List ℕ) (n : ℕ) → AreCounts size line counts → n ≤ line_cells size (line + length counts) → AreCounts size line (counts ++ n ∷ [])
+AreCounts-push size line [] n h p = (subst (λ (k : ℕ). n ≤ line_cells size k) (let e : line + 0 ≡ line = omega arith in e) p, tt)
+AreCounts-push size line (m ∷ counts) n h p =
+    let e : line + length (m ∷ counts) ≡ (line + 1) + length counts = omega arith in
+    (h.0, AreCounts-push size (line + 1) counts n h.1 (subst (λ (k : ℕ). n ≤ line_cells size k) e p))
+
+-- the places read so far, whose last is a tree where they are all that there are; and the numbers so far
+record Sound (size : Extent) (places counts : List ℕ) : Type 0 where
+  bits : AllByRecursion (λ b. b < 2) places
+  full : 0 < length counts → length places ≡ cells_in size + 1
+  few : length places ≤ cells_in size + 1
+  tree : length places ≡ cells_in size + 1 → (front : List ℕ) × (places ≡ front ++ 1 ∷ [])
+  fit : AreCounts size 0 counts
+
+sound_counted : (size : Extent) (places counts : List ℕ) (n : ℕ) → Sound size places counts → cells_in size + 1 ≤ length places → n ≤ line_cells size (length counts) → Sound size places (counts ++ n ∷ [])
+sound_counted size places counts n s full fits = record {
+  bits = s.bits;
+  full = λ some. omega (arith, s.few);
+  few = s.few;
+  tree = s.tree;
+  fit = AreCounts-push size 0 counts n s.fit (subst (λ (k : ℕ). n ≤ line_cells size k) (let e : length counts ≡ 0 + length counts = omega arith in e) fits);
+}
+
+sound_planted : (size : Extent) (places counts : List ℕ) (blanks : ℕ) (tree : Bool) → Sound size places counts → length counts ≤ 0 → length places + length (run_cells blanks tree) ≤ cells_in size + cond tree 1 0 → Sound size (places ++ run_cells blanks tree) counts
+sound_planted size places counts blanks true s early room = record {
+  bits = AllByRecursion-append (λ b. b < 2) places (run_cells blanks true) s.bits (run_bits blanks true);
+  full = λ some. absurd (omega arith);
+  few = omega (arith, length-append places (run_cells blanks true));
+  tree = λ e. (places ++ replicate blanks 0, sym (append_assoc places (replicate blanks 0) (1 ∷ [])));
+  fit = s.fit;
+}
+sound_planted size places counts blanks false s early room = record {
+  bits = AllByRecursion-append (λ b. b < 2) places (run_cells blanks false) s.bits (run_bits blanks false);
+  full = λ some. absurd (omega arith);
+  few = omega (arith, length-append places (run_cells blanks false));
+  tree = λ e. absurd (omega (arith, length-append places (run_cells blanks false)));
+  fit = s.fit;
+}
+
+sound_read : (size : Extent) (at : ℕ) (places counts : List ℕ) (ws : List (List ℕ)) (all : TentsSoFar) → Sound size places counts → reading (tents_step size) (tents_end size) at (at_tents places counts) ws ≡ Ok all → Sound size all.places all.counts × (length all.counts ≡ lines_of size)
+unfolding reading
+sound_read size at places counts [] all s e =
+    let d = end_cases size places counts all e in
+    (subst (λ (t : TentsSoFar). Sound size t.places t.counts) d.1 s, sym (ap (λ (t : TentsSoFar). length t.counts) d.1) ∙ d.0)
+sound_read size at places counts (word ∷ ws) all s e =
+    let b = bind_ok (tents_step size at (at_tents places counts) word) (λ t. reading (tents_step size) (tents_end size) (at + length word) t ws) all e in
+    elim (step_cases size at places counts word b.0 b.1) [
+      | inl c ↦ sound_read size (at + length word) places (counts ++ value (drop 1 word) ∷ []) ws all (sound_counted size places counts _ s c.full c.fits) (ap (λ t. reading (tents_step size) (tents_end size) (at + length word) t ws) c.leads ∙ b.2)
+      | inr p ↦ sound_read size (at + length word) (places ++ run_cells p.run.0 p.run.1) counts ws all (sound_planted size places counts p.run.0 p.run.1 s p.early p.room) (ap (λ t. reading (tents_step size) (tents_end size) (at + length word) t ws) p.leads ∙ b.2)
+    ]
+
+AllByRecursion-front : {A : Type 0} (P : A → Type 0) (xs ys : List A) → AllByRecursion P (xs ++ ys) → AllByRecursion P xs
+AllByRecursion-front P [] ys h = tt
+AllByRecursion-front P (x ∷ xs) ys h = (h.0, AllByRecursion-front P xs ys h.1)
+
+-- the cells without the tree after them
+pub record CellsAndTree (size : Extent) (places : List ℕ) : Type 0 where
+  pub whole : places ≡ take (cells_in size) places ++ 1 ∷ []
+  pub count : length (take (cells_in size) places) ≡ cells_in size
+  pub bits : AllByRecursion (λ b. b < 2) (take (cells_in size) places)
+
+cells_and_tree : (size : Extent) (places front : List ℕ) → AllByRecursion (λ b. b < 2) places → length places ≡ cells_in size + 1 → places ≡ front ++ 1 ∷ [] → CellsAndTree size places
+cells_and_tree size places front bits long e =
+    let count : length front ≡ cells_in size = omega (arith, ap length e, length-append front (1 ∷ [])) in
+    let is : take (cells_in size) places ≡ front = ap (take (cells_in size)) e ∙ take_at front (1 ∷ []) (cells_in size) count in
+    record {
+      whole = e ∙ ap (λ (f : List ℕ). f ++ 1 ∷ []) (sym is);
+      count = ap length is ∙ count;
+      bits = subst (λ (f : List ℕ). AllByRecursion (λ b. b < 2) f) (sym is) (AllByRecursion-front (λ b. b < 2) front (1 ∷ []) (subst (λ (p : List ℕ). AllByRecursion (λ b. b < 2) p) e bits));
+    }
+
+pub record TentsRead (size : Extent) (s : TentsSoFar) : Type 0 where
+  pub cells : CellsAndTree size s.places
+  pub lines : length s.counts ≡ lines_of size
+  pub range : AreCounts size 0 s.counts
+
+pub tents_read : (size : Extent) (at : ℕ) (description : List ℕ) (s : TentsSoFar) → IsWide size → tents_at size at description ≡ Ok s → TentsRead size s
+unfolding tents_at
+tents_read size at description s wide e =
+    let r = sound_read size at [] [] (words description) s (record { bits = tt; full = λ some. absurd (omega arith); few = omega arith; tree = λ q. absurd (omega arith); fit = tt }) e in
+    let long = r.0.full (omega (arith, r.1, wide.w_two)) in
+    let t = r.0.tree long in
+    record { cells = cells_and_tree size s.places t.0 r.0.bits long t.1; lines = r.1; range = r.0.fit }
+
+pub tents_lawful : (size : Extent) (at : ℕ) (description : List ℕ) (s : TentsSoFar) → IsWide size → tents_at size at description ≡ Ok s → IsTents (record { size = size; trees = take (cells_in size) s.places; counts = s.counts })
+tents_lawful size at description s wide e =
+    let r = tents_read size at description s wide e in
+    record { size = wide; cells = r.cells.count; bits = r.cells.bits; lines = r.lines; range = r.range }
+
+pub tents_fits : (size : Extent) (w h n at : ℕ) (description places counts trees : List ℕ) → size ≡ sized w h → n ≡ size.w * size.h → trees ≡ take n places → in_range game.Tents w h ≡ true → tents_at size at description ≡ Ok (at_tents places counts) → IsTents (record { size = size; trees = trees; counts = counts })
+tents_fits size w h n at description places counts trees is count kept range e =
+    let wide : IsWide size = subst (λ (s : Extent). IsWide s) (sym is) (wide_of w h range) in
+    let same : trees ≡ take (cells_in size) places = kept ∙ ap (λ (k : ℕ). take k places) count in
+    subst (λ (t : List ℕ). IsTents (record { size = size; trees = t; counts = counts })) (sym same) (tents_lawful size at description (at_tents places counts) wide e)

@@ -1,48 +1,251 @@
--- A text is read exactly where it spells a puzzle of Tents.
-use Rattle.std.proofs.Common.{◌≡◌, ℕ, ◌+◌, ◌*◌, ◌≤◌, false, List, [], ◌∷◌, ◌++◌, map, length, take, drop, Ok, refl, ap, subst, ◌∙◌}
-use Rattle.std.proofs.lemmas.List.{take_at}
+-- Tents: a text is read exactly where it spells a puzzle.
+use Rattle.std.proofs.Common.{◌≡◌, ℕ, ◌+◌, ◌-◌, ◌<◌, ◌≤◌, Bool, true, false, cond, eqb, suc, zero, List, [], ◌∷◌, ◌++◌, map, length, drop, get_or, Result, Ok, refl, sym, ap, subst, ◌∙◌, inl, inr, arith, append_assoc, length-append, zero-add, ◌*◌, take}
+use Rattle.std.specs.Prelude.{replicate}
+use Rattle.std.specs.List.{AllByRecursion, flat_map, concat}
+use Rattle.std.specs.Char.{is_ascii_digit}
+use Rattle.std.proofs.lemmas.Bool.{eqb-true, ne_eqb}
+use Rattle.std.proofs.lemmas.List.{append-nil, length-replicate, take_at}
 use Rattle.grid_core.specs.Extent.{Extent}
+use Rattle.gameid_core.specs.declared.fault.IdFault.{IdFault}
+use Rattle.gameid_core.specs.Words.{IsNumeral, begins, words, value}
+use Rattle.gameid_core.specs.Steps.{reading}
+use Rattle.gameid_core.specs.Puzzles.{AreCounts, line_cells, lines_of, Tents}
+use Rattle.gameid_core.specs.TentsText.{TentsSoFar, TentsToken, blanks_and_tree, only_blanks, tents_token_byte, tents_token_cells, IsTentsToken, cells_in, tents_run, run_cells, tents_step, tents_end, tents_at, SpellsTents, tents_of}
+use Rattle.gameid_core.proofs.Tokens.{cuts_single, between, IsWord, words_are, concat_words, alone}
+use Rattle.gameid_core.proofs.Numerals.{joined_cuts}
+use Rattle.gameid_core.proofs.Results.{bind_ok, taken}
+use Rattle.gameid_core.proofs.Reading.{reading_turn, reading_end}
+use Rattle.gameid_core.proofs.TentsReading.{run_token, letter_byte, end_full, at_tents, run_single, tree_step, count_step, count_read, step_cases, end_cases, tents_read, tents_lawful}
 use Rattle.gameid_core.specs.declared.game.Game.TheVariants as game
-use Rattle.gameid_core.specs.Steps.{◌>>=◌}
-use Rattle.gameid_core.specs.Head.{SizeRead, HeadRead, extent_of, head_of, max_id}
-use Rattle.gameid_core.specs.Puzzles.{Tents}
-use Rattle.gameid_core.specs.TentsText.{TentsSoFar, tents_token_byte, SpellsTents, tents_at, tents_of}
-use Rattle.gameid_core.proofs.Results.{bind_ok, taken, ok_is}
-use Rattle.gameid_core.proofs.HeadLaws.{IsHead, plain_size, head_take, head_again, after_front}
-use Rattle.gameid_core.proofs.LightLaws.{wide_of}
-use Rattle.gameid_core.proofs.LightTexts.{wide_range}
-use Rattle.gameid_core.proofs.TentsLaws.{tents_read, tents_lawful}
-use Rattle.gameid_core.proofs.TentsSpelling.{numbers_text, tents_take, tents_again}
+use Rattle.gameid_core.specs.Head.{HeadRead, extent_of, max_id}
+use Rattle.gameid_core.proofs.HeadLaws.{parts_of, plain_size, head_again, after_front}
+use Rattle.gameid_core.proofs.LightTexts.{wide_of, wide_range}
 
-abbrev puzzle_of : SizeRead → TentsSoFar → Tents
-puzzle_of size s = record { size = extent_of size; trees = take (size.w * size.h) s.places; counts = s.counts }
+-- ---- what is read is spelled
+
+abbrev pub numbers_text : List (List ℕ) → List ℕ
+numbers_text numerals = flat_map (λ numeral. 44 ∷ numeral) numerals
+
+-- what follows the places and numbers that were read
+record Spelled (places counts text : List ℕ) (all : TentsSoFar) : Type 0 where
+  tokens : List TentsToken
+  numerals : List (List ℕ)
+  parts : text ≡ map tents_token_byte tokens ++ numbers_text numerals
+  each : AllByRecursion IsTentsToken tokens
+  digits : AllByRecursion IsNumeral numerals
+  filled : places ++ flat_map tents_token_cells tokens ≡ all.places
+  counted : counts ++ map value numerals ≡ all.counts
+  late : 0 < length counts → tokens ≡ []
+
+comma_word : (word : List ℕ) → IsWord word → begins (λ b. eqb b 44) word ≡ true → (length word ≡ 1 → ⊥) → (word ≡ 44 ∷ drop 1 word) × IsNumeral (drop 1 word)
+comma_word [] w c some = absurd w
+comma_word (b ∷ []) w c some = absurd (some refl)
+comma_word (b ∷ d ∷ more) w c some = (ap (λ (k : ℕ). k ∷ d ∷ more) (eqb-true b 44 c), record { some = omega arith; digits = w.0 })
+
+spelled_counted : (places counts word rest : List ℕ) (all : TentsSoFar) → (word ≡ 44 ∷ drop 1 word) × IsNumeral (drop 1 word) → Spelled places (counts ++ value (drop 1 word) ∷ []) rest all → Spelled places counts (word ++ rest) all
+spelled_counted places counts word rest all w r =
+    let none : r.tokens ≡ [] = r.late (omega (arith, length-append counts (value (drop 1 word) ∷ []))) in
+    let text : rest ≡ numbers_text r.numerals = r.parts ∙ ap (λ (ts : List TentsToken). map tents_token_byte ts ++ numbers_text r.numerals) none in
+    record {
+      tokens = [];
+      numerals = drop 1 word ∷ r.numerals;
+      parts = ap (λ (t : List ℕ). t ++ rest) w.0 ∙ ap (λ (t : List ℕ). (44 ∷ drop 1 word) ++ t) text;
+      each = tt;
+      digits = (w.1, r.digits);
+      filled = ap (λ (ts : List TentsToken). places ++ flat_map tents_token_cells ts) (sym none) ∙ r.filled;
+      counted = sym (append_assoc counts (value (drop 1 word) ∷ []) (map value r.numerals)) ∙ r.counted;
+      late = λ some. refl;
+    }
+
+spelled_planted : (at : ℕ) (places counts word rest : List ℕ) (run : ℕ × Bool) (all : TentsSoFar) → IsWord word → length counts ≤ 0 → tents_run at (get_or word 0 0) ≡ Ok run → Spelled (places ++ run_cells run.0 run.1) counts rest all → Spelled places counts (word ++ rest) all
+spelled_planted at places counts [] rest run all w early e r = absurd w
+spelled_planted at places counts (b ∷ more) rest run all w early e r =
+    let t = run_token at b run e in
+    let single : more ≡ [] = alone b more w (run_single at b run e) in
+    record {
+      tokens = t.token ∷ r.tokens;
+      numerals = r.numerals;
+      parts = ap (λ (m : List ℕ). (b ∷ m) ++ rest) single ∙ ap (λ (k : ℕ). k ∷ rest) t.byte ∙ ap (λ (u : List ℕ). tents_token_byte t.token ∷ u) r.parts;
+      each = (t.each, r.each);
+      digits = r.digits;
+      filled = sym (append_assoc places (tents_token_cells t.token) (flat_map tents_token_cells r.tokens)) ∙ ap (λ (m : List ℕ). (places ++ m) ++ flat_map tents_token_cells r.tokens) t.cells ∙ r.filled;
+      counted = r.counted;
+      late = λ some. absurd (omega arith);
+    }
+
+read_spelled : (size : Extent) (at : ℕ) (places counts : List ℕ) (ws : List (List ℕ)) (all : TentsSoFar) → AllByRecursion IsWord ws → reading (tents_step size) (tents_end size) at (at_tents places counts) ws ≡ Ok all → Spelled places counts (concat ws) all
+unfolding reading
+read_spelled size at places counts [] all w e =
+    let d = end_cases size places counts all e in
+    record {
+      tokens = [];
+      numerals = [];
+      parts = refl;
+      each = tt;
+      digits = tt;
+      filled = append-nil places ∙ ap (λ (t : TentsSoFar). t.places) d.1;
+      counted = append-nil counts ∙ ap (λ (t : TentsSoFar). t.counts) d.1;
+      late = λ some. refl;
+    }
+read_spelled size at places counts (word ∷ ws) all w e =
+    let b = bind_ok (tents_step size at (at_tents places counts) word) (λ t. reading (tents_step size) (tents_end size) (at + length word) t ws) all e in
+    elim (step_cases size at places counts word b.0 b.1) [
+      | inl c ↦ spelled_counted places counts word (concat ws) all (comma_word word w.0 c.comma c.some) (read_spelled size (at + length word) places (counts ++ value (drop 1 word) ∷ []) ws all w.1 (ap (λ t. reading (tents_step size) (tents_end size) (at + length word) t ws) c.leads ∙ b.2))
+      | inr p ↦ spelled_planted at places counts word (concat ws) p.run all w.0 p.early p.read (read_spelled size (at + length word) (places ++ run_cells p.run.0 p.run.1) counts ws all w.1 (ap (λ t. reading (tents_step size) (tents_end size) (at + length word) t ws) p.leads ∙ b.2))
+    ]
+
+pub record TentsDescribed (description : List ℕ) (all : TentsSoFar) : Type 0 where
+  pub tokens : List TentsToken
+  pub numerals : List (List ℕ)
+  pub parts : description ≡ map tents_token_byte tokens ++ numbers_text numerals
+  pub each : AllByRecursion IsTentsToken tokens
+  pub digits : AllByRecursion IsNumeral numerals
+  pub filled : flat_map tents_token_cells tokens ≡ all.places
+  pub counted : map value numerals ≡ all.counts
+
+pub tents_take : (size : Extent) (at : ℕ) (description : List ℕ) (all : TentsSoFar) → tents_at size at description ≡ Ok all → TentsDescribed description all
+unfolding tents_at
+tents_take size at description all e =
+    let r = read_spelled size at [] [] (words description) all (words_are description) e in
+    record { tokens = r.tokens; numerals = r.numerals; parts = sym (concat_words description) ∙ r.parts; each = r.each; digits = r.digits; filled = r.filled; counted = r.counted }
+
+-- ---- what is spelled is read
+
+abbrev Reads : Extent → TentsSoFar → List ℕ → List ℕ → List ℕ → Type 0
+Reads size all places counts text = (at : ℕ) → reading (tents_step size) (tents_end size) at (at_tents places counts) (words text) ≡ Ok all
+
+counts_at : (size : Extent) (line : ℕ) (xs : List ℕ) (n : ℕ) (ys : List ℕ) → AreCounts size line (xs ++ n ∷ ys) → n ≤ line_cells size (line + length xs)
+counts_at size line [] n ys h = subst (λ (k : ℕ). n ≤ line_cells size k) (let e : line ≡ line + 0 = omega arith in e) h.0
+counts_at size line (x ∷ xs) n ys h =
+    let e : (line + 1) + length xs ≡ line + length (x ∷ xs) = omega arith in
+    subst (λ (k : ℕ). n ≤ line_cells size k) e (counts_at size (line + 1) xs n ys h.1)
+
+-- no number begins with a digit, as it begins with ','
+numbers_begin : (numerals : List (List ℕ)) → begins is_ascii_digit (numbers_text numerals) ≡ false
+numbers_begin [] = refl
+numbers_begin (num ∷ numerals) = refl
+
+not_one : (num : List ℕ) → 0 < length num → length (44 ∷ num) ≡ 1 → ⊥
+not_one num some e = absurd (omega (arith, e))
+
+numbers_again : (size : Extent) (places counts total : List ℕ) (numerals : List (List ℕ)) → AllByRecursion IsNumeral numerals → cells_in size + 1 ≤ length places → counts ++ map value numerals ≡ total → length total ≡ lines_of size → AreCounts size 0 total → Reads size (at_tents places total) places counts (numbers_text numerals)
+numbers_again size places counts total [] d full is len are at =
+    let same : counts ≡ total = sym (append-nil counts) ∙ is in
+    reading_end (tents_step size) (tents_end size) at (at_tents places counts) [] refl ∙ end_full size places counts (ap length same ∙ len) ∙ ap (λ (c : List ℕ). taken (at_tents places c)) same
+numbers_again size places counts total (num ∷ numerals) d full is len are at =
+    let n : ℕ = value num in
+    let more : List ℕ = map value numerals in
+    let room : length counts ≡ lines_of size → ⊥ = λ e. absurd (omega (arith, e, ap length is, len, length-append counts (n ∷ more))) in
+    let fits : n ≤ line_cells size (length counts) = subst (λ (k : ℕ). n ≤ line_cells size k) (zero-add (length counts)) (counts_at size 0 counts n more (subst (λ (c : List ℕ). AreCounts size 0 c) (sym is) are)) in
+    let cuts = joined_cuts 44 refl num (numbers_text numerals) d.0 (numbers_begin numerals) in
+    let step = count_step size at n places counts (44 ∷ num) refl (count_read size at places counts (44 ∷ num) full room (not_one num (let some : 0 < length num = d.0.some in some)) fits) in
+    reading_turn (tents_step size) (tents_end size) at (at_tents places counts) (at_tents places (counts ++ n ∷ [])) (44 ∷ (num ++ numbers_text numerals)) (44 ∷ num) (numbers_text numerals) cuts step
+    ∙ numbers_again size places (counts ++ n ∷ []) total numerals d.1 full (append_assoc counts (n ∷ []) more ∙ is) len are (at + length (44 ∷ num))
+
+-- the blanks of a token, and whether it has a tree
+abbrev token_blanks : TentsToken → ℕ
+token_blanks (blanks_and_tree k) = k
+token_blanks only_blanks = 25
+
+abbrev token_tree : TentsToken → Bool
+token_tree (blanks_and_tree k) = true
+token_tree only_blanks = false
+
+cells_of_token : (token : TentsToken) → run_cells (token_blanks token) (token_tree token) ≡ tents_token_cells token
+cells_of_token (blanks_and_tree k) = refl
+cells_of_token only_blanks = refl
+
+abbrev run_of : ℕ → Bool → Result (ℕ × Bool) IdFault
+run_of k tree = Ok (k, tree)
+
+letter_run : (at k : ℕ) → suc k ≤ 25 → tents_run at (97 + k) ≡ Ok (suc k, true)
+unfolding tents_run
+letter_run at k h =
+    let no_gap : eqb (97 + k) 95 ≡ false = ne_eqb _ _ (λ q. omega arith) in
+    let count : 97 + k - 96 ≡ suc k = omega arith in
+    rw (no_gap, between 97 121 (97 + k) (omega arith) (omega (arith, h))) (ap (λ (j : ℕ). run_of j true) count)
+
+token_run : (at : ℕ) (token : TentsToken) → IsTentsToken token → tents_run at (tents_token_byte token) ≡ Ok (token_blanks token, token_tree token)
+unfolding tents_run
+token_run at (blanks_and_tree zero) h = refl
+token_run at (blanks_and_tree (suc k)) h = ap (tents_run at) (letter_byte k) ∙ letter_run at k h
+token_run at only_blanks h = refl
+
+token_other : (token : TentsToken) → IsTentsToken token → eqb (tents_token_byte token) 44 ≡ false
+token_other (blanks_and_tree zero) h = refl
+token_other (blanks_and_tree (suc k)) h = ne_eqb _ _ (λ q. absurd (omega (arith, q, letter_byte k)))
+token_other only_blanks h = refl
+
+-- blanks don't reach the tree after the cells
+unfoldable pub last_of : List ℕ → ℕ
+last_of [] = 0
+last_of (x ∷ []) = x
+last_of (x ∷ y ∷ ys) = last_of (y ∷ ys)
+
+pub last_push : (xs : List ℕ) (x : ℕ) → last_of (xs ++ x ∷ []) ≡ x
+unfolding last_of
+last_push [] x = refl
+last_push (y ∷ []) x = refl
+last_push (y ∷ z ∷ xs) x = last_push (z ∷ xs) x
+
+blank_last : (places trees : List ℕ) → places ++ replicate 25 0 ≡ trees ++ 1 ∷ [] → ⊥
+blank_last places trees e =
+    let front : places ++ replicate 25 0 ≡ (places ++ replicate 24 0) ++ 0 ∷ [] = sym (append_assoc places (replicate 24 0) (0 ∷ [])) in
+    let bad : 0 ≡ 1 = sym (last_push (places ++ replicate 24 0) 0) ∙ ap last_of (sym front ∙ e) ∙ last_push trees 1 in
+    absurd (omega (arith, bad))
+
+tree_room : (size : Extent) (places trees : List ℕ) (token : TentsToken) (rest : List ℕ) → length trees ≡ cells_in size → places ++ (tents_token_cells token ++ rest) ≡ trees ++ 1 ∷ [] → length places + (token_blanks token + cond (token_tree token) 1 0) ≤ cells_in size + cond (token_tree token) 1 0
+tree_room size places trees (blanks_and_tree k) rest count is =
+    omega (arith, ap length is, length-append places ((replicate k 0 ++ 1 ∷ []) ++ rest), length-append (replicate k 0 ++ 1 ∷ []) rest, length-append {A = ℕ} (replicate k 0) (1 ∷ []), length-replicate {A = ℕ} k 0, length-append trees (1 ∷ []))
+tree_room size places trees only_blanks [] count is = absurd (blank_last places trees is)
+tree_room size places trees only_blanks (r ∷ rest) count is =
+    omega (arith, ap length is, length-append places (replicate 25 0 ++ r ∷ rest), length-append {A = ℕ} (replicate 25 0) (r ∷ rest), length-append trees (1 ∷ []))
+
+trees_again : (size : Extent) (all : TentsSoFar) (places trees : List ℕ) (tokens : List TentsToken) (rest : List ℕ) → AllByRecursion IsTentsToken tokens → length trees ≡ cells_in size → places ++ flat_map tents_token_cells tokens ≡ trees ++ 1 ∷ [] → Reads size all (trees ++ 1 ∷ []) [] rest → Reads size all places [] (map tents_token_byte tokens ++ rest)
+trees_again size all places trees [] rest each count is next at =
+    let same : places ≡ trees ++ 1 ∷ [] = sym (append-nil places) ∙ is in
+    subst (λ (p : List ℕ). Reads size all p [] rest) (sym same) next at
+trees_again size all places trees (token ∷ tokens) rest each count is next at =
+    let cells : List ℕ = tents_token_cells token in
+    let later : List ℕ = flat_map tents_token_cells tokens in
+    let b : ℕ = tents_token_byte token in
+    let after : List ℕ = map tents_token_byte tokens ++ rest in
+    let run = token_run at token each.0 in
+    let cuts = cuts_single b after (rw (run_single at b (token_blanks token, token_tree token) run) refl) in
+    let step = tree_step size at b (token_blanks token) (token_tree token) places [] (token_other token each.0) run (tree_room size places trees token later count is) in
+    let planted : tents_step size at (at_tents places []) (b ∷ []) ≡ Ok (at_tents (places ++ cells) []) = step ∙ ap (λ (c : List ℕ). taken (at_tents (places ++ c) [])) (cells_of_token token) in
+    reading_turn (tents_step size) (tents_end size) at (at_tents places []) (at_tents (places ++ cells) []) (b ∷ after) (b ∷ []) after cuts planted
+    ∙ trees_again size all (places ++ cells) trees tokens rest each.1 count (append_assoc places cells later ∙ is) next (at + 1)
+
+-- what tokens and numerals that fit spell is read
+pub tents_again : (size : Extent) (at : ℕ) (trees counts : List ℕ) (tokens : List TentsToken) (numerals : List (List ℕ)) → AllByRecursion IsTentsToken tokens → AllByRecursion IsNumeral numerals → length trees ≡ cells_in size → flat_map tents_token_cells tokens ≡ trees ++ 1 ∷ [] → map value numerals ≡ counts → length counts ≡ lines_of size → AreCounts size 0 counts → tents_at size at (map tents_token_byte tokens ++ numbers_text numerals) ≡ Ok (at_tents (trees ++ 1 ∷ []) counts)
+unfolding tents_at
+tents_again size at trees counts tokens numerals each digits count cells is len are =
+    trees_again size (at_tents (trees ++ 1 ∷ []) counts) [] trees tokens (numbers_text numerals) each count cells (numbers_again size (trees ++ 1 ∷ []) [] counts numerals digits (omega (arith, length-append trees (1 ∷ []))) is len are) at
 
 pub tents_takes : (text : List ℕ) (p : Tents) → tents_of text ≡ Ok p → SpellsTents text p
 unfolding tents_of
 tents_takes text p e =
-    let a = bind_ok (head_of game.Tents text) (λ head. tents_at (extent_of head.size) head.description (drop head.description text) >>= (λ s. taken (puzzle_of head.size s))) p e in
-    let b = bind_ok (tents_at (extent_of a.0.size) a.0.description (drop a.0.description text)) (λ s. taken (puzzle_of a.0.size s)) p a.2 in
-    spelled a.0 b.0 (head_take game.Tents text a.0 a.1) b.1 (ok_is (puzzle_of a.0.size b.0) p b.2)
-  where
-    spelled : (head : HeadRead) (s : TentsSoFar) → IsHead game.Tents text head → tents_at (extent_of head.size) head.description (drop head.description text) ≡ Ok s → puzzle_of head.size s ≡ p → SpellsTents text p
-    spelled head s h e same =
-        let size : Extent = extent_of head.size in
-        let wide = wide_of head.size.w head.size.h h.range in
-        let d = tents_take size head.description (drop head.description text) s e in
-        let r = tents_read size head.description (drop head.description text) s wide e in
-        subst (λ (q : Tents). SpellsTents text q) same (record {
-          short = h.short;
-          puzzle = tents_lawful size head.description (drop head.description text) s wide e;
-          front = h.front;
-          tokens = d.tokens;
-          numerals = d.numerals;
-          parts = h.parts ∙ ap (λ (x : List ℕ). h.front ++ 58 ∷ x) d.parts;
-          size = plain_size game.Tents h.front head.size.w head.size.h head.size.x (λ e. absurd cc) h.size;
-          each = d.each;
-          digits = d.digits;
-          cells = d.filled ∙ r.cells.whole;
-          counts = d.counted;
-        })
+    let r = parts_of game.Tents text (λ head. tents_at (extent_of head.size) head.description (drop head.description text)) (λ head s. record { size = extent_of head.size; trees = take (head.size.w * head.size.h) s.places; counts = s.counts }) p e in
+    let h = r.is_head in
+    let head : HeadRead = r.head in
+    let size : Extent = extent_of head.size in
+    let wide = wide_of head.size.w head.size.h h.range in
+    let d = tents_take size head.description (drop head.description text) r.given r.read in
+    let fits = tents_read size head.description (drop head.description text) r.given wide r.read in
+    subst (λ (q : Tents). SpellsTents text q) r.made (record {
+      short = h.short;
+      puzzle = tents_lawful size head.description (drop head.description text) r.given wide r.read;
+      front = h.front;
+      tokens = d.tokens;
+      numerals = d.numerals;
+      parts = h.parts ∙ ap (λ (x : List ℕ). h.front ++ 58 ∷ x) d.parts;
+      size = plain_size game.Tents h.front head.size.w head.size.h head.size.x (λ e. absurd cc) h.size;
+      each = d.each;
+      digits = d.digits;
+      cells = d.filled ∙ fits.cells.whole;
+      counts = d.counted;
+    })
 
 pub tents_text_again : (text : List ℕ) (p : Tents) → SpellsTents text p → tents_of text ≡ Ok p
 unfolding tents_of

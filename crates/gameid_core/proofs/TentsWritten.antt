@@ -1,8 +1,8 @@
--- The written text of a puzzle of Tents: the writer's turns, its length, and that it spells the puzzle.
-use Rattle.std.proofs.Common.{◌≡◌, ℕ, zero, suc, ◌+◌, ◌*◌, ◌^◌, ◌<◌, ◌≤◌, true, false, cond, eqb, eq-eqb, List, [], ◌∷◌, ◌++◌, map, length, drop, get_or, refl, sym, ap, subst, ◌∙◌, inl, inr, arith, append_assoc, length-append}
+-- The written text of a puzzle of Tents: the writer's turns, its length, that it spells the puzzle, and that no other does.
+use Rattle.std.proofs.Common.{◌≡◌, ℕ, zero, suc, ◌+◌, ◌*◌, ◌^◌, ◌<◌, ◌≤◌, true, false, cond, eqb, eq-eqb, List, [], ◌∷◌, ◌++◌, map, length, drop, get_or, refl, sym, ap, subst, ◌∙◌, inl, arith, append_assoc, length-append}
 use Rattle.std.specs.Prelude.{replicate, decimal}
 use Rattle.std.specs.List.{AllByRecursion, flat_map}
-use Rattle.std.proofs.lemmas.Bool.{ne_eqb, cases_lt}
+use Rattle.std.proofs.lemmas.Bool.{ne_eqb, eqb-true, eqb-false}
 use Rattle.std.proofs.lemmas.Fmt.{digits_value-decimal, length-decimal-le}
 use Rattle.std.proofs.lemmas.List.{append-nil, drop_all, length-map, replicate-append-replicate}
 use Rattle.grid_core.specs.Extent.{Extent, IsExtent, max_side}
@@ -12,10 +12,10 @@ use Rattle.gameid_core.specs.SizeText.{size_text}
 use Rattle.gameid_core.specs.Puzzles.{Tents, IsTents, AreCounts}
 use Rattle.gameid_core.specs.TentsText.{TentsToken, blanks_and_tree, only_blanks, tents_token_byte, tents_token_cells, IsTentsToken, AreTight, IsWrittenTents, tents_tokens, trees_text, tents_text}
 use Rattle.gameid_core.proofs.Lists.{next_cell}
-use Rattle.gameid_core.proofs.Numerals.{own, decimal_plain, numeral, length_decimal}
-use Rattle.gameid_core.proofs.LightLaws.{cells_few}
+use Rattle.gameid_core.proofs.Numerals.{own, decimal_plain, numeral, length_decimal, plain_decimal}
+use Rattle.gameid_core.proofs.LightTexts.{cells_few}
 use Rattle.gameid_core.proofs.PatternWritten.{line_small}
-use Rattle.gameid_core.proofs.TentsSpelling.{numbers_text}
+use Rattle.gameid_core.proofs.TentsTexts.{numbers_text, last_of, last_push}
 
 -- ---- one cell of the writer's loop
 
@@ -108,17 +108,10 @@ tents_short p h =
 
 -- ---- what it spells
 
-record Written (k : ℕ) (cells : List ℕ) : Type 0 where
-  each : AllByRecursion IsTentsToken (tents_tokens k cells)
-  tight : AreTight (tents_tokens k cells)
-  filled : flat_map tents_token_cells (tents_tokens k cells) ≡ replicate k 0 ++ (cells ++ 1 ∷ [])
-
-written_by : (k : ℕ) (cells : List ℕ) (tokens : List TentsToken) → tents_tokens k cells ≡ tokens → AllByRecursion IsTentsToken tokens → AreTight tokens → flat_map tents_token_cells tokens ≡ replicate k 0 ++ (cells ++ 1 ∷ []) → Written k cells
-written_by k cells tokens e each tight filled = record {
-  tight = subst (λ (ts : List TentsToken). AreTight ts) (sym e) tight;
-  each = subst (λ (ts : List TentsToken). AllByRecursion IsTentsToken ts) (sym e) each;
-  filled = ap (flat_map tents_token_cells) e ∙ filled;
-}
+record Written (k : ℕ) (cells : List ℕ) (tokens : List TentsToken) : Type 0 where
+  each : AllByRecursion IsTentsToken tokens
+  tight : AreTight tokens
+  filled : flat_map tents_token_cells tokens ≡ replicate k 0 ++ (cells ++ 1 ∷ [])
 
 -- '_' doesn't come first
 abbrev NoTreeFirst : List TentsToken → Type 0
@@ -131,16 +124,11 @@ some_first zero tokens some = absurd (omega arith)
 some_first (suc k) tokens some = tt
 
 no_tree_first : (k : ℕ) (cells : List ℕ) → 0 < k → NoTreeFirst (tents_tokens k cells)
-no_tree_first k [] some = subst (λ (ts : List TentsToken). NoTreeFirst ts) (sym (tokens_end k)) (some_first k [] some)
+unfolding tents_tokens
+no_tree_first k [] some = some_first k [] some
 no_tree_first k (zero ∷ cells) some =
-    elim (cases_lt k 25) [
-      | inl less ↦ subst (λ (ts : List TentsToken). NoTreeFirst ts) (sym (tokens_blank k cells (λ e. absurd (omega (arith, e))))) (no_tree_first (k + 1) cells (omega arith))
-      | inr most ↦ elim (cases_lt 25 k) [
-        | inl over ↦ subst (λ (ts : List TentsToken). NoTreeFirst ts) (sym (tokens_blank k cells (λ e. absurd (omega (arith, e))))) (no_tree_first (k + 1) cells (omega arith))
-        | inr least ↦ subst (λ (ts : List TentsToken). NoTreeFirst ts) (sym (tokens_full k cells (omega arith))) tt
-      ]
-    ]
-no_tree_first k (suc b ∷ cells) some = subst (λ (ts : List TentsToken). NoTreeFirst ts) (sym (tokens_tree k (suc b) cells (λ e. absurd (omega (arith, e))))) (some_first k (tents_tokens 0 cells) some)
+    elim (eqb k 25) as (λ v. NoTreeFirst (cond v (only_blanks ∷ tents_tokens 1 cells) (tents_tokens (k + 1) cells))) [ true ↦ tt | false ↦ no_tree_first (k + 1) cells (omega arith) ]
+no_tree_first k (suc b ∷ cells) some = some_first k (tents_tokens 0 cells) some
 
 tight_join : (tokens : List TentsToken) → NoTreeFirst tokens → AreTight tokens → AreTight (only_blanks ∷ tokens)
 tight_join [] f h = tt
@@ -148,23 +136,36 @@ tight_join (blanks_and_tree zero ∷ tokens) f h = absurd f
 tight_join (blanks_and_tree (suc k) ∷ tokens) f h = h
 tight_join (only_blanks ∷ tokens) f h = h
 
-cells_written : (k : ℕ) (cells : List ℕ) → k ≤ 25 → AllByRecursion (λ b. b < 2) cells → Written k cells
-cells_written k [] few h =
-    written_by k [] (blanks_and_tree k ∷ []) (tokens_end k) (few, tt) tt (append-nil (replicate k 0 ++ 1 ∷ []))
+cells_written : (k : ℕ) (cells : List ℕ) → k ≤ 25 → AllByRecursion (λ b. b < 2) cells → Written k cells (tents_tokens k cells)
+unfolding tents_tokens
+cells_written k [] few h = record { each = (few, tt); tight = tt; filled = append-nil (replicate k 0 ++ 1 ∷ []) }
 cells_written k (zero ∷ cells) few h =
-    elim (cases_lt k 25) [
-      | inl less ↦
-          let r = cells_written (k + 1) cells (omega arith) h.1 in
-          written_by k (0 ∷ cells) (tents_tokens (k + 1) cells) (tokens_blank k cells (λ e. absurd (omega (arith, e)))) r.each r.tight (r.filled ∙ ap (λ (t : List ℕ). t ++ (cells ++ 1 ∷ [])) (sym (replicate-append-replicate {A = ℕ} k 1 0)) ∙ append_assoc (replicate k 0) (0 ∷ []) (cells ++ 1 ∷ []))
-      | inr most ↦
-          let full : k ≡ 25 = omega arith in
+    elim (eqb k 25) as (λ v. eqb k 25 ≡ v → Written k (0 ∷ cells) (cond v (only_blanks ∷ tents_tokens 1 cells) (tents_tokens (k + 1) cells))) [
+      | true ↦ λ e.
           let r = cells_written 1 cells (omega arith) h.1 in
-          written_by k (0 ∷ cells) (only_blanks ∷ tents_tokens 1 cells) (tokens_full k cells full) (tt, r.each) (tight_join (tents_tokens 1 cells) (no_tree_first 1 cells (omega arith)) r.tight) (ap (λ (t : List ℕ). replicate 25 0 ++ t) r.filled ∙ ap (λ (j : ℕ). replicate j 0 ++ 0 ∷ (cells ++ 1 ∷ [])) (sym full))
-    ]
+          let full : k ≡ 25 = eqb-true k 25 e in
+          record {
+            each = (tt, r.each);
+            tight = tight_join (tents_tokens 1 cells) (no_tree_first 1 cells (omega arith)) r.tight;
+            filled = ap (λ (t : List ℕ). replicate 25 0 ++ t) r.filled ∙ ap (λ (j : ℕ). replicate j 0 ++ 0 ∷ (cells ++ 1 ∷ [])) (sym full);
+          }
+      | false ↦ λ e.
+          let ne = eqb-false k 25 e in
+          let r = cells_written (k + 1) cells (omega (arith, ne)) h.1 in
+          record {
+            each = r.each;
+            tight = r.tight;
+            filled = r.filled ∙ ap (λ (t : List ℕ). t ++ (cells ++ 1 ∷ [])) (sym (replicate-append-replicate {A = ℕ} k 1 0)) ∙ append_assoc (replicate k 0) (0 ∷ []) (cells ++ 1 ∷ []);
+          }
+    ] refl
 cells_written k (suc b ∷ cells) few h =
     let one : suc b ≡ 1 = omega (arith, h.0) in
     let r = cells_written 0 cells (omega arith) h.1 in
-    written_by k (suc b ∷ cells) (blanks_and_tree k ∷ tents_tokens 0 cells) (tokens_tree k (suc b) cells (λ e. absurd (omega (arith, e)))) (few, r.each) r.tight (ap (λ (t : List ℕ). (replicate k 0 ++ 1 ∷ []) ++ t) r.filled ∙ append_assoc (replicate k 0) (1 ∷ []) (cells ++ 1 ∷ []) ∙ ap (λ (c : ℕ). replicate k 0 ++ c ∷ (cells ++ 1 ∷ [])) (sym one))
+    record {
+      each = (few, r.each);
+      tight = r.tight;
+      filled = ap (λ (t : List ℕ). (replicate k 0 ++ 1 ∷ []) ++ t) r.filled ∙ append_assoc (replicate k 0) (1 ∷ []) (cells ++ 1 ∷ []) ∙ ap (λ (c : ℕ). replicate k 0 ++ c ∷ (cells ++ 1 ∷ [])) (sym one);
+    }
 
 pub numbers_are : (counts : List ℕ) → counts_text counts ≡ numbers_text (map decimal counts)
 numbers_are [] = refl
@@ -207,3 +208,99 @@ tents_is_written p h =
       tight = w.tight;
       plain = counts_are_plain p.size 0 p.counts h.size.extent h.range;
     }
+
+-- the tokens of places that end with a tree, with k blanks before them
+unfoldable pub tokens_of : ℕ → List ℕ → List TentsToken
+tokens_of k [] = []
+tokens_of k (zero ∷ places) = cond (eqb k 25) (only_blanks ∷ tokens_of 1 places) (tokens_of (k + 1) places)
+tokens_of k (suc b ∷ places) = blanks_and_tree k ∷ tokens_of 0 places
+
+of_blank : (k : ℕ) (places : List ℕ) → (k ≡ 25 → ⊥) → tokens_of k (0 ∷ places) ≡ tokens_of (k + 1) places
+unfolding tokens_of
+of_blank k places ne = let less : eqb k 25 ≡ false = ne_eqb k 25 ne in rw less refl
+
+of_full : (places : List ℕ) → tokens_of 25 (0 ∷ places) ≡ only_blanks ∷ tokens_of 0 (0 ∷ places)
+unfolding tokens_of
+of_full places = refl
+
+of_tree : (k : ℕ) (places : List ℕ) → tokens_of k (1 ∷ places) ≡ blanks_and_tree k ∷ tokens_of 0 places
+unfolding tokens_of
+of_tree k places = refl
+
+of_nil : (k : ℕ) → tokens_of k [] ≡ []
+unfolding tokens_of
+of_nil k = refl
+
+blank_cell : (k : ℕ) (cells : List ℕ) → tokens_of 1 (cells ++ 1 ∷ []) ≡ tents_tokens 1 cells → tokens_of (k + 1) (cells ++ 1 ∷ []) ≡ tents_tokens (k + 1) cells → tokens_of k (0 ∷ (cells ++ 1 ∷ [])) ≡ tents_tokens k (0 ∷ cells)
+unfolding tokens_of
+blank_cell k cells one next =
+    elim (eqb k 25) as (λ v. eqb k 25 ≡ v → cond v (only_blanks ∷ tokens_of 1 (cells ++ 1 ∷ [])) (tokens_of (k + 1) (cells ++ 1 ∷ [])) ≡ tents_tokens k (0 ∷ cells)) [
+      | true ↦ λ e. ap (λ (ts : List TentsToken). only_blanks ∷ ts) one ∙ sym (tokens_full k cells (eqb-true k 25 e))
+      | false ↦ λ e. next ∙ sym (tokens_blank k cells (eqb-false k 25 e))
+    ] refl
+
+-- the tree after the cells ends them
+of_cells : (k : ℕ) (cells : List ℕ) → tokens_of k (cells ++ 1 ∷ []) ≡ tents_tokens k cells
+unfolding tokens_of
+of_cells k [] = sym (tokens_end k)
+of_cells k (suc b ∷ cells) = ap (λ (ts : List TentsToken). blanks_and_tree k ∷ ts) (of_cells 0 cells) ∙ sym (tokens_tree k (suc b) cells (λ e. absurd (omega (arith, e))))
+of_cells k (zero ∷ cells) = blank_cell k cells (of_cells 1 cells) (of_cells (k + 1) cells)
+
+of_run : (k j : ℕ) (places : List ℕ) → k + j ≤ 25 → tokens_of k (replicate j 0 ++ places) ≡ tokens_of (k + j) places
+of_run k zero places le = ap (λ (i : ℕ). tokens_of i places) (let e : k ≡ k + 0 = omega arith in e)
+of_run k (suc j) places le =
+    of_blank k (replicate j 0 ++ places) (λ e. absurd (omega (arith, e))) ∙ of_run (k + 1) j places (omega arith) ∙ ap (λ (i : ℕ). tokens_of i places) (let e : k + 1 + j ≡ k + suc j = omega arith in e)
+
+last_behind : (xs : List ℕ) (y : ℕ) (ys : List ℕ) → last_of (xs ++ y ∷ ys) ≡ last_of (y ∷ ys)
+unfolding last_of
+last_behind [] y ys = refl
+last_behind (x ∷ []) y ys = refl
+last_behind (x ∷ z ∷ xs) y ys = last_behind (z ∷ xs) y ys
+
+-- the cells of tokens that go on
+abbrev cells_of_all : List TentsToken → List ℕ
+cells_of_all tokens = flat_map tents_token_cells tokens
+
+-- tokens of the form are those of their cells
+form_tokens : (tokens : List TentsToken) → AllByRecursion IsTentsToken tokens → AreTight tokens → (0 < length tokens → last_of (cells_of_all tokens) ≡ 1) → tokens_of 0 (cells_of_all tokens) ≡ tokens
+form_tokens [] each tight last = of_nil 0
+form_tokens (blanks_and_tree k ∷ []) each tight last =
+    ap (tokens_of 0) (append-nil (replicate k 0 ++ 1 ∷ [])) ∙ of_run 0 k (1 ∷ []) (omega (arith, each.0)) ∙ ap (λ (i : ℕ). tokens_of i (1 ∷ [])) (let e : 0 + k ≡ k = omega arith in e) ∙ of_tree k [] ∙ ap (λ (ts : List TentsToken). blanks_and_tree k ∷ ts) (of_nil 0)
+form_tokens (blanks_and_tree k ∷ token ∷ tokens) each tight last =
+    let later : List ℕ = cells_of_all (token ∷ tokens) in
+    ap (tokens_of 0) (append_assoc (replicate k 0) (1 ∷ []) later) ∙ of_run 0 k (1 ∷ later) (omega (arith, each.0)) ∙ ap (λ (i : ℕ). tokens_of i (1 ∷ later)) (let e : 0 + k ≡ k = omega arith in e) ∙ of_tree k later
+    ∙ ap (λ (ts : List TentsToken). blanks_and_tree k ∷ ts) (form_tokens (token ∷ tokens) each.1 tight (λ some. later_last (replicate k 0 ++ 1 ∷ []) token tokens (last (omega arith))))
+  where
+    later_last : (front : List ℕ) (token : TentsToken) (tokens : List TentsToken) → last_of (front ++ cells_of_all (token ∷ tokens)) ≡ 1 → last_of (cells_of_all (token ∷ tokens)) ≡ 1
+    later_last front (blanks_and_tree zero) tokens e = sym (last_behind front 1 (cells_of_all tokens)) ∙ e
+    later_last front (blanks_and_tree (suc k)) tokens e = sym (last_behind front 0 ((replicate k 0 ++ 1 ∷ []) ++ cells_of_all tokens)) ∙ e
+    later_last front only_blanks tokens e = sym (last_behind front 0 (replicate 24 0 ++ cells_of_all tokens)) ∙ e
+form_tokens (only_blanks ∷ []) each tight last = absurd (let bad : 0 ≡ 1 = sym (last_push (replicate 24 0) 0) ∙ last (omega arith) in omega (arith, bad))
+form_tokens (only_blanks ∷ blanks_and_tree zero ∷ tokens) each tight last = absurd tight
+form_tokens (only_blanks ∷ blanks_and_tree (suc k) ∷ tokens) each tight last =
+    let later : List ℕ = (replicate k 0 ++ 1 ∷ []) ++ cells_of_all tokens in
+    of_run 0 25 (0 ∷ later) (omega arith) ∙ of_full later
+    ∙ ap (λ (ts : List TentsToken). only_blanks ∷ ts) (form_tokens (blanks_and_tree (suc k) ∷ tokens) each.1 tight (λ some. sym (last_behind (replicate 25 0) 0 later) ∙ last (omega arith)))
+form_tokens (only_blanks ∷ only_blanks ∷ tokens) each tight last =
+    let later : List ℕ = replicate 24 0 ++ cells_of_all tokens in
+    of_run 0 25 (0 ∷ later) (omega arith) ∙ of_full later
+    ∙ ap (λ (ts : List TentsToken). only_blanks ∷ ts) (form_tokens (only_blanks ∷ tokens) each.1 tight (λ some. sym (last_behind (replicate 25 0) 0 later) ∙ last (omega arith)))
+
+numbers_plain : (size : Extent) (line : ℕ) (numerals : List (List ℕ)) → IsExtent size → AreCounts size line (map value numerals) → AllByRecursion IsNumeral numerals → AllByRecursion IsPlain numerals → map decimal (map value numerals) ≡ numerals
+numbers_plain size line [] e h d plain = refl
+numbers_plain size line (num ∷ numerals) e h d plain =
+    let small = line_small size line e in
+    rw (plain_decimal num d.0 plain.0 (omega (arith, small, h.0)), numbers_plain size (line + 1) numerals e h.1 d.1 plain.1) refl
+
+pub tents_form : (text : List ℕ) (p : Tents) → IsWrittenTents text p → text ≡ tents_text p
+tents_form text p w =
+    let s = w.spells in
+    let front : List ℕ = size_text p.size.w p.size.h in
+    let ends : last_of (cells_of_all s.tokens) ≡ 1 = ap last_of s.cells ∙ last_push p.trees 1 in
+    let same : tents_tokens 0 p.trees ≡ s.tokens = sym (of_cells 0 p.trees) ∙ ap (tokens_of 0) (sym s.cells) ∙ form_tokens s.tokens s.each w.tight (λ some. ends) in
+    let are : AreCounts p.size 0 (map value s.numerals) = subst (λ (c : List ℕ). AreCounts p.size 0 c) (sym s.counts) s.puzzle.range in
+    let numbers : map decimal p.counts ≡ s.numerals = ap (map decimal) (sym s.counts) ∙ numbers_plain p.size 0 s.numerals s.puzzle.size.extent are s.digits w.plain in
+    s.parts ∙ ap (λ (t : List ℕ). t ++ 58 ∷ (map tents_token_byte s.tokens ++ numbers_text s.numerals)) w.both
+    ∙ ap (λ (ts : List TentsToken). front ++ 58 ∷ (map tents_token_byte ts ++ numbers_text s.numerals)) (sym same)
+    ∙ ap (λ (ns : List (List ℕ)). front ++ 58 ∷ (trees_text 0 p.trees ++ numbers_text ns)) (sym numbers)
+    ∙ ap (λ (t : List ℕ). front ++ 58 ∷ (trees_text 0 p.trees ++ t)) (sym (numbers_are p.counts))

@@ -11,7 +11,8 @@ pub record IsAsShown (hides : ℕ → Type 0) (values : ℕ) (size : Extent) (g 
   pub grid : IsGrid (size.w * size.h) values g
   pub hidden : (place : ℕ) → hides place → slice_index g place ≡ 0
 
--- what is printed of Light Up's black cells, and of trees, shows nothing of the number; in Pattern and Solo all is shown
+-- what is printed of Light Up's black cells, and of trees, shows nothing of the number; in Pattern
+-- and Solo all is shown
 abbrev pub hides_nothing : ℕ → Type 0
 hides_nothing place = ⊥
 
@@ -25,7 +26,8 @@ tent_hides p place = slice_index p.trees place ≡ 1
 abbrev pub IsReadOf : (ℕ → Type 0) → ℕ → Extent → (List ℕ → Type 0) → Option (List ℕ) → Type 0
 IsReadOf hides values size is None = (g : List ℕ) → IsAsShown hides values size g → is g → ⊥
 IsReadOf hides values size is (Some g) =
-    IsAsShown hides values size g × is g × ((h : List ℕ) → IsAsShown hides values size h → is h → g ≡ h)
+    IsAsShown hides values size g × is g
+    × ((h : List ℕ) → IsAsShown hides values size h → is h → g ≡ h)
 
 -- what may stand after what is printed of a cell: a line end, or the next cell of the row
 abbrev pub Follows : (ℕ → List ℕ) → Extent → ℕ → List ℕ → Type 0
@@ -38,7 +40,9 @@ IsPrinted text printed = (text ≡ printed) ⊎ (text ++ codes "\n" ≡ printed)
 
 -- the first n numbers of the grid are below `values`, and 0 where they aren't shown
 abbrev pub FitUpTo : (ℕ → Type 0) → ℕ → List ℕ → ℕ → Type 0
-FitUpTo hides values g n = (place : ℕ) → place < n → (slice_index g place < values) × (hides place → slice_index g place ≡ 0)
+FitUpTo hides values g n =
+    (place : ℕ) → place < n
+    → (slice_index g place < values) × (hides place → slice_index g place ≡ 0)
 
 -- the first n numbers of the grids are the same
 abbrev pub AgreeUpTo : List ℕ → List ℕ → ℕ → Type 0

@@ -24,9 +24,11 @@ pattern_cell p g place = if slice_index g place == 1 then codes "#" else codes "
 
 -- Solo: the number, which is one more than the value, and a space before it but at the left
 abbrev pub solo_cell : Solo → List ℕ → ℕ → List ℕ
-solo_cell p g place = (if place % solo_n p == 0 then [] else codes " ") ++ decimal (slice_index g place + 1)
+solo_cell p g place =
+    (if place % solo_n p == 0 then [] else codes " ") ++ decimal (slice_index g place + 1)
 
--- Light Up: 'O' a bulb, '.' a white cell without one, '#' a black cell without a number, its number else
+-- Light Up: 'O' a bulb, '.' a white cell without one, '#' a black cell without a number, its number
+-- else
 abbrev pub light_mark : Option LightCell → ℕ → List ℕ
 light_mark None value = []
 light_mark (Some White) value = if value == 1 then codes "O" else codes "."
@@ -38,7 +40,9 @@ light_cell p g place = light_mark (slice_get p.cells place) (slice_index g place
 
 -- Tents: 'T' a tree, '^' a tent, '.' any other cell
 abbrev pub tents_cell : Tents → List ℕ → ℕ → List ℕ
-tents_cell p g place = if slice_index p.trees place == 1 then codes "T" else (if slice_index g place == 1 then codes "^" else codes ".")
+tents_cell p g place =
+    if slice_index p.trees place == 1 then codes "T"
+    else (if slice_index g place == 1 then codes "^" else codes ".")
 
 -- the columns and rows of a grid of Solo
 abbrev pub solo_extent : Solo → Extent

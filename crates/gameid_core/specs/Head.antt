@@ -14,7 +14,9 @@ use Rattle.gameid_core.specs.Words.{begins, digits_front, after_digits, value}
 -- a number without a leading zero, and the text after it
 unfoldable pub side_at : List ℕ → Result (ℕ × List ℕ) IdFault
 side_at text =
-    if begins (λ b. nat_le 49 b && nat_le b 57) text then Ok (value (digits_front text), after_digits text) else Err BadSize
+    if begins (λ b. nat_le 49 b && nat_le b 57) text
+    then Ok (value (digits_front text), after_digits text)
+    else Err BadSize
 
 -- a size: its sides, and whether an 'x' stands after them, which is Solo X
 pub record SizeRead : Type 0 where
@@ -40,7 +42,12 @@ has_x Solo after = begins (λ b. b == 120) after
 has_x game after = false
 
 abbrev pub two_sides : Game → ℕ → ℕ → List ℕ → Sides
-two_sides game w h after = record { w = w; h = h; x = has_x game after; rest = if has_x game after then drop 1 after else after }
+two_sides game w h after = record {
+  w = w;
+  h = h;
+  x = has_x game after;
+  rest = if has_x game after then drop 1 after else after;
+}
 
 -- a size is a number, or two with an 'x' between them, in Solo also with an 'x' after them
 unfoldable pub sides_at : Game → List ℕ → Result Sides IdFault
@@ -48,7 +55,8 @@ sides_at game text = do
   first ← side_at text
   if begins (λ b. b == 120) first.1 then (do
     second ← side_at (drop 1 first.1)
-    Ok (two_sides game first.0 second.0 second.1)) else Ok (record { w = first.0; h = first.0; x = false; rest = first.1 })
+    Ok (two_sides game first.0 second.0 second.1))
+      else Ok (record { w = first.0; h = first.0; x = false; rest = first.1 })
 
 -- the most bytes of an ID
 abbrev pub max_id : ℕ
@@ -70,7 +78,8 @@ unfoldable pub size_of : Game → List ℕ → Result SizeRead IdFault
 size_of game text = do
   s ← sides_at game text
   if nat_lt 0 (length s.rest) then Err Variant
-      else (if in_range game s.w s.h then Ok (record { w = s.w; h = s.h; x = s.x }) else Err SizeRange)
+      else (if in_range game s.w s.h then Ok (record { w = s.w; h = s.h; x = s.x })
+      else Err SizeRange)
 
 -- the columns and rows of cells
 abbrev pub extent_of : SizeRead → Extent
@@ -84,12 +93,15 @@ has_hash text = list_any (λ b. b == 35) text
 unfoldable pub head_at : Game → List ℕ → Option ℕ → Result HeadRead IdFault
 head_at game text None = if has_hash text then Err SeedId else Err NoColon
 head_at game text (Some colon) =
-    if has_hash (take colon text) then Err SeedId else (size_of game (take colon text) >>= (λ size. Ok (record { size = size; description = colon + 1 })))
+    if has_hash (take colon text) then Err SeedId
+    else (size_of game (take colon text)
+    >>= (λ size. Ok (record { size = size; description = colon + 1 })))
 
 -- the first six tests in their order: the size, and the place of the description
 unfoldable pub head_of : Game → List ℕ → Result HeadRead IdFault
 head_of game text =
-    if nat_lt max_id (length text) then Err TooLong else head_at game text (position (λ b. b == 58) text)
+    if nat_lt max_id (length text) then Err TooLong
+    else head_at game text (position (λ b. b == 58) text)
 
 -- What the code's functions give: a number over 1000 as 1000.
 abbrev pub GivesSide : Result (ℕ × Bor (List ℕ)) IdFault → Result (ℕ × List ℕ) IdFault → Type 0
@@ -97,5 +109,7 @@ GivesSide (Ok x) read = (n : ℕ) × (read ≡ Ok (n, x.1.now)) × (x.0 ≡ min 
 GivesSide (Err e) read = read ≡ Err e
 
 abbrev pub GivesSides : Result SidesRead IdFault → Result Sides IdFault → Type 0
-GivesSides (Ok s) read = (m n : ℕ) × (read ≡ Ok (record { w = m; h = n; x = s.x; rest = s.rest.now })) × (s.w ≡ min 1000 m) × (s.h ≡ min 1000 n)
+GivesSides (Ok s) read =
+    (m n : ℕ) × (read ≡ Ok (record { w = m; h = n; x = s.x; rest = s.rest.now }))
+    × (s.w ≡ min 1000 m) × (s.h ≡ min 1000 n)
 GivesSides (Err e) read = read ≡ Err e

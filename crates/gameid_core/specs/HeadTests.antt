@@ -1,4 +1,5 @@
--- The tests of the part before the colon, each in its own words, and which of them is the first that fails.
+-- The tests of the part before the colon, each in its own words, and which of them is the first
+-- that fails.
 use Rattle.std.specs.Prelude.{◌≡◌, ◌≢◌, ◌⊎◌, ℕ, ◌<◌, Bool, true, false, ◌&&◌, List, [], ◌∷◌, ◌++◌, length, nat_le, ◌==◌}
 use Rattle.std.specs.List.{AllByRecursion}
 use Rattle.std.specs.Char.{is_ascii_digit}
@@ -10,7 +11,7 @@ use Rattle.gameid_core.specs.declared.game.Game.TheVariants.{Solo}
 use Rattle.gameid_core.specs.Words.{begins, value}
 use Rattle.gameid_core.specs.Head.{Sides, in_range, max_id}
 
--- Of a text ----------------------------------------------------------------------------------------------------
+-- Of a text ---------------------------------------------------------------------------------------
 
 -- the byte stands nowhere in the text
 abbrev pub Lacks : ℕ → List ℕ → Type 0
@@ -56,23 +57,27 @@ pub record HasTwoSides (game : Game) (text : List ℕ) (size : Sides) : Type 0 w
 abbrev pub HasSize : Game → List ℕ → Sides → Type 0
 HasSize game text size = HasOneSide text size ⊎ HasTwoSides game text size
 
--- The tests ----------------------------------------------------------------------------------------------------
+-- The tests ---------------------------------------------------------------------------------------
 
--- what fails a text that is to be a size alone: it begins with none, goes on behind it, or is outside the limits
+-- what fails a text that is to be a size alone: it begins with none, goes on behind it, or is
+-- outside the limits
 abbrev pub FailsSize : Game → List ℕ → IdFault → Type 0
 FailsSize game text BadSize = (size : Sides) → HasSize game text size → ⊥
 FailsSize game text Variant = (size : Sides) × HasSize game text size × (0 < length size.rest)
-FailsSize game text SizeRange = (size : Sides) × HasSize game text size × (in_range game size.w size.h ≡ false)
+FailsSize game text SizeRange =
+    (size : Sides) × HasSize game text size × (in_range game size.w size.h ≡ false)
 FailsSize game text fault = ⊥
 
--- what fails an ID: too many bytes, a '#' with no ':' before it, no ':', or what stands before the first ':'
+-- what fails an ID: too many bytes, a '#' with no ':' before it, no ':', or what stands before the
+-- first ':'
 abbrev pub FailsHead : Game → List ℕ → IdFault → Type 0
 FailsHead game text TooLong = max_id < length text
 FailsHead game text SeedId = (front rest : List ℕ) × Comes 35 text front rest
 FailsHead game text NoColon = Lacks 58 text
-FailsHead game text fault = (front rest : List ℕ) × Comes 58 text front rest × FailsSize game front fault
+FailsHead game text fault =
+    (front rest : List ℕ) × Comes 58 text front rest × FailsSize game front fault
 
--- Their order --------------------------------------------------------------------------------------------------
+-- Their order -------------------------------------------------------------------------------------
 
 abbrev pub size_tests : List IdFault
 size_tests = BadSize ∷ Variant ∷ SizeRange ∷ []

@@ -13,7 +13,7 @@ use Rattle.gameid_core.specs.SizeText.{size_text, IsSizeText}
 use Rattle.gameid_core.specs.Cells.{is_letter, fill_step, fill_end, letters}
 use Rattle.gameid_core.specs.Puzzles.{Light, IsLight}
 
--- What a text spells -------------------------------------------------------------------------------------------
+-- What a text spells ------------------------------------------------------------------------------
 
 pub data LightToken : Type 0 where
   whites : ℕ → LightToken
@@ -46,7 +46,7 @@ pub record SpellsLight (text : List ℕ) (p : Light) : Type 0 where
   pub each : AllByRecursion IsLightToken tokens
   pub cells : flat_map light_token_cells tokens ≡ p.cells
 
--- Which text is written ----------------------------------------------------------------------------------------
+-- Which text is written ---------------------------------------------------------------------------
 
 -- a letter directly before a letter is 'z'
 abbrev pub AreFullLights : List LightToken → Type 0
@@ -60,18 +60,20 @@ pub record IsWrittenLight (text : List ℕ) (p : Light) : Type 0 where
   pub both : spells.front ≡ size_text p.size.w p.size.h
   pub full : AreFullLights spells.tokens
 
--- The first fault ----------------------------------------------------------------------------------------------
+-- The first fault ---------------------------------------------------------------------------------
 
 -- the cells of a token, which is one byte, or its fault
 unfoldable pub light_token : ℕ → List ℕ → Result (List LightCell) IdFault
 light_token at word =
     if begins is_letter word then Ok (replicate (slice_index word 0 - 96) White)
     else (if begins (λ b. b == 66) word then Ok (Black ∷ [])
-    else (if begins (λ b. nat_le 48 b && nat_le b 52) word then Ok (Numbered (slice_index word 0 - 48) ∷ [])
+    else (if begins (λ b. nat_le 48 b && nat_le b 52) word
+    then Ok (Numbered (slice_index word 0 - 48) ∷ [])
     else Err (BadByte at)))
 
 unfoldable pub light_cells_at : ℕ → ℕ → List ℕ → Result (List LightCell) IdFault
-light_cells_at all at description = reading (fill_step light_token all) (fill_end all) at [] (map (λ b. b ∷ []) description)
+light_cells_at all at description =
+    reading (fill_step light_token all) (fill_end all) at [] (map (λ b. b ∷ []) description)
 
 -- the puzzle that the text spells, or its first fault
 unfoldable pub light_of : List ℕ → Result Light IdFault
@@ -80,7 +82,7 @@ light_of text = do
   cells ← light_cells_at (head.size.w * head.size.h) head.description (drop head.description text)
   Ok (record { size = extent_of head.size; cells = cells })
 
--- The written text ---------------------------------------------------------------------------------------------
+-- The written text --------------------------------------------------------------------------------
 
 -- the text of the cells, with k white cells before them
 unfoldable pub light_cells_text : ℕ → List LightCell → List ℕ
@@ -92,7 +94,7 @@ light_cells_text k (Numbered n ∷ cells) = letters k ++ (48 + n) ∷ light_cell
 abbrev pub light_text : Light → List ℕ
 light_text p = size_text p.size.w p.size.h ++ 58 ∷ light_cells_text 0 p.cells
 
--- Words of the writer's functions ------------------------------------------------------------------------------
+-- Words of the writer's functions -----------------------------------------------------------------
 
 -- the byte that a black cell is written with
 abbrev pub IsBlackByte : ℕ → LightCell → Type 0

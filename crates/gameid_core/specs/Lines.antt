@@ -8,11 +8,13 @@ use Rattle.gameid_core.specs.Puzzles.{lines_of}
 
 -- the place of the k-th cell of a line
 abbrev pub line_place : Extent → ℕ → ℕ → ℕ
-line_place size line k = if nat_lt line size.w then k * size.w + line else (line - size.w) * size.w + k
+line_place size line k =
+    if nat_lt line size.w then k * size.w + line else (line - size.w) * size.w + k
 
 -- the numbers of a line, downwards or rightwards
 abbrev pub line_list : Extent → List ℕ → ℕ → List ℕ
-line_list size g line = if nat_lt line size.w then column_cells size g line else row_cells size g (line - size.w)
+line_list size g line =
+    if nat_lt line size.w then column_cells size g line else row_cells size g (line - size.w)
 
 -- how many of the cells are 1
 abbrev pub ones : List ℕ → ℕ

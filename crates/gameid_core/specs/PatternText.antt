@@ -13,7 +13,7 @@ use Rattle.gameid_core.specs.Head.{extent_of, head_of, max_id}
 use Rattle.gameid_core.specs.SizeText.{size_text, IsSizeText}
 use Rattle.gameid_core.specs.Puzzles.{Pattern, IsPattern, line_cells, lines_of, used}
 
--- What a text spells -------------------------------------------------------------------------------------------
+-- What a text spells ------------------------------------------------------------------------------
 
 -- clues joined by '/', each empty or numbers joined by '.'
 abbrev pub clues_text : List (List (List ℕ)) → List ℕ
@@ -29,7 +29,7 @@ pub record SpellsPattern (text : List ℕ) (p : Pattern) : Type 0 where
   pub digits : AllByRecursion (AllByRecursion IsNumeral) numerals
   pub clues : map (map value) numerals ≡ p.clues
 
--- Which text is written ----------------------------------------------------------------------------------------
+-- Which text is written ---------------------------------------------------------------------------
 
 -- the text spells the puzzle, with both numbers of the size and no leading zero
 pub record IsWrittenPattern (text : List ℕ) (p : Pattern) : Type 0 where
@@ -37,7 +37,7 @@ pub record IsWrittenPattern (text : List ℕ) (p : Pattern) : Type 0 where
   pub both : spells.front ≡ size_text p.size.w p.size.h
   pub plain : AllByRecursion (AllByRecursion IsPlain) spells.numerals
 
--- The first fault ----------------------------------------------------------------------------------------------
+-- The first fault ---------------------------------------------------------------------------------
 
 -- what was read so far: the clues before this one, and the numbers of this one
 pub record SoFar : Type 0 where
@@ -47,30 +47,40 @@ pub record SoFar : Type 0 where
 -- a number is read, in a line of so many cells, of which the clue's numbers before it use some
 unfoldable pub clue_number : ℕ → ℕ → ℕ → ℕ → List ℕ → Result ℕ IdFault
 clue_number cells line before at digits =
-    if value digits == 0 then Err (NumberRange at) else (if nat_lt cells (before + value digits) then Err (LineTooFull line) else Ok (value digits))
+    if value digits == 0 then Err (NumberRange at)
+    else (if nat_lt cells (before + value digits) then Err (LineTooFull line)
+    else Ok (value digits))
 
 -- a token other than '/': at a clue's beginning a number, and after a number '.' and a number
 unfoldable pub clue_token : ℕ → ℕ → List ℕ → ℕ → List ℕ → Result ℕ IdFault
-clue_token cells line [] at word = if begins is_ascii_digit word then clue_number cells line 0 at word else Err (BadByte at)
+clue_token cells line [] at word =
+    if begins is_ascii_digit word then clue_number cells line 0 at word else Err (BadByte at)
 clue_token cells line (n ∷ clue) at word =
-    if begins (λ b. b == 46) word && begins is_ascii_digit (drop 1 word) then clue_number cells line (used (n ∷ clue)) (at + 1) (drop 1 word) else Err (BadByte at)
+    if begins (λ b. b == 46) word && begins is_ascii_digit (drop 1 word)
+    then clue_number cells line (used (n ∷ clue)) (at + 1) (drop 1 word)
+    else Err (BadByte at)
 
 -- '/' ends a clue, and is refused after the last one
 unfoldable pub pattern_step : Extent → ℕ → SoFar → List ℕ → Result SoFar IdFault
 pattern_step size at s word =
-    if begins (λ b. b == 47) word then (if length s.clues + 1 == lines_of size then Err TooMany else Ok (record { clues = s.clues ++ s.clue ∷ []; clue = [] }))
-    else (clue_token (line_cells size (length s.clues)) (length s.clues) s.clue at word >>= (λ n. Ok (record { clues = s.clues; clue = s.clue ++ n ∷ [] })))
+    if begins (λ b. b == 47) word
+    then (if length s.clues + 1 == lines_of size then Err TooMany
+    else Ok (record { clues = s.clues ++ s.clue ∷ []; clue = [] }))
+    else (clue_token (line_cells size (length s.clues)) (length s.clues) s.clue at word
+    >>= (λ n. Ok (record { clues = s.clues; clue = s.clue ++ n ∷ [] })))
 
 -- the end ends the last clue
 unfoldable pub pattern_end : Extent → SoFar → Result (List (List ℕ)) IdFault
-pattern_end size s = if length s.clues + 1 == lines_of size then Ok (s.clues ++ s.clue ∷ []) else Err TooFew
+pattern_end size s =
+    if length s.clues + 1 == lines_of size then Ok (s.clues ++ s.clue ∷ []) else Err TooFew
 
 abbrev pub nothing_yet : SoFar
 nothing_yet = record { clues = []; clue = [] }
 
 -- the clues of a description that begins at that place
 unfoldable pub clues_at : Extent → ℕ → List ℕ → Result (List (List ℕ)) IdFault
-clues_at size at description = reading (pattern_step size) (pattern_end size) at nothing_yet (words description)
+clues_at size at description =
+    reading (pattern_step size) (pattern_end size) at nothing_yet (words description)
 
 -- the puzzle that the text spells, or its first fault
 unfoldable pub pattern_of : List ℕ → Result Pattern IdFault
@@ -79,7 +89,7 @@ pattern_of text = do
   clues ← clues_at (extent_of head.size) head.description (drop head.description text)
   Ok (record { size = extent_of head.size; clues = clues })
 
--- The written text ---------------------------------------------------------------------------------------------
+-- The written text --------------------------------------------------------------------------------
 
 abbrev pub clue_text : List ℕ → List ℕ
 clue_text clue = join_with_byte 46 (map decimal clue)
@@ -87,7 +97,7 @@ clue_text clue = join_with_byte 46 (map decimal clue)
 abbrev pub pattern_text : Pattern → List ℕ
 pattern_text p = size_text p.size.w p.size.h ++ 58 ∷ join_with_byte 47 (map clue_text p.clues)
 
--- Words of the reader's functions ------------------------------------------------------------------------------
+-- Words of the reader's functions -----------------------------------------------------------------
 
 -- the number, and the text after it; or the fault
 abbrev pub GivesNumber : Result ℕ IdFault → List ℕ → Result (ℕ × Bor (List ℕ)) IdFault → Type 0

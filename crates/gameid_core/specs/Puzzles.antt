@@ -30,15 +30,16 @@ pub record IsClue (cells : ℕ) (clue : List ℕ) : Type 0 where
 -- the clues from a line on fit their lines
 abbrev pub AreClues : Extent → ℕ → List (List ℕ) → Type 0
 AreClues size line [] = Unit {0}
-AreClues size line (clue ∷ clues) = IsClue (line_cells size line) clue × AreClues size (line + 1) clues
+AreClues size line (clue ∷ clues) =
+    IsClue (line_cells size line) clue × AreClues size (line + 1) clues
 
 pub record IsPattern (p : Pattern) : Type 0 where
   pub size : IsExtent p.size
   pub lines : length p.clues ≡ lines_of p.size
   pub clues : AreClues p.size 0 p.clues
 
--- columns and rows of sub-blocks, whether both diagonals, too, hold every number once, and the givens by place, 0 for a
--- blank cell
+-- columns and rows of sub-blocks, whether both diagonals, too, hold every number once, and the
+-- givens by place, 0 for a blank cell
 pub record Solo : Type 0 where
   pub c : ℕ
   pub r : ℕ

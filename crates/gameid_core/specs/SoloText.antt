@@ -11,7 +11,7 @@ use Rattle.gameid_core.specs.SizeText.{solo_size_text, IsSoloSizeText}
 use Rattle.gameid_core.specs.Cells.{is_letter, fill_step, fill_end, letters}
 use Rattle.gameid_core.specs.Puzzles.{Solo, IsSolo, solo_n, solo_puzzle}
 
--- What a text spells -------------------------------------------------------------------------------------------
+-- What a text spells ------------------------------------------------------------------------------
 
 pub data SoloToken : Type 0 where
   blanks : ℕ → SoloToken
@@ -51,7 +51,7 @@ pub record SpellsSolo (text : List ℕ) (p : Solo) : Type 0 where
   pub apart : AreApart tokens
   pub cells : flat_map solo_token_cells tokens ≡ p.givens
 
--- Which text is written ----------------------------------------------------------------------------------------
+-- Which text is written ---------------------------------------------------------------------------
 
 -- a letter directly before a letter is 'z'
 abbrev pub AreFull : List SoloToken → Type 0
@@ -63,32 +63,36 @@ abbrev pub BeginsWithGiven : List SoloToken → Type 0
 BeginsWithGiven (given v ∷ tokens) = Unit {0}
 BeginsWithGiven tokens = ⊥
 
--- '_' stands only directly behind a number and directly before one; `behind` is whether a number stands before
+-- '_' stands only directly behind a number and directly before one; `behind` is whether a number
+-- stands before
 abbrev pub AreNeeded : Bool → List SoloToken → Type 0
 AreNeeded behind [] = Unit {0}
 AreNeeded behind (blanks k ∷ tokens) = AreNeeded false tokens
 AreNeeded behind (given v ∷ tokens) = AreNeeded true tokens
 AreNeeded behind (gap ∷ tokens) = (behind ≡ true) × BeginsWithGiven tokens × AreNeeded false tokens
 
--- the text spells the puzzle, with both numbers of the size and with no letter and no '_' more than is needed
+-- the text spells the puzzle, with both numbers of the size and with no letter and no '_' more than
+-- is needed
 pub record IsWrittenSolo (text : List ℕ) (p : Solo) : Type 0 where
   pub spells : SpellsSolo text p
   pub both : spells.front ≡ solo_size_text p.c p.r p.x
   pub full : AreFull spells.tokens
   pub needed : AreNeeded false spells.tokens
 
--- The first fault ----------------------------------------------------------------------------------------------
+-- The first fault ---------------------------------------------------------------------------------
 
 -- the cells of a token, or its fault
 unfoldable pub solo_token : ℕ → ℕ → List ℕ → Result (List ℕ) IdFault
 solo_token n at word =
     if begins is_letter word then Ok (replicate (slice_index word 0 - 96) 0)
     else (if begins (λ b. b == 95) word then Ok []
-    else (if begins (λ b. nat_le 49 b && nat_le b 57) word then (if nat_lt n (value word) then Err (NumberRange at) else Ok (value word ∷ []))
+    else (if begins (λ b. nat_le 49 b && nat_le b 57) word
+    then (if nat_lt n (value word) then Err (NumberRange at) else Ok (value word ∷ []))
     else Err (BadByte at)))
 
 unfoldable pub solo_cells_at : ℕ → ℕ → List ℕ → Result (List ℕ) IdFault
-solo_cells_at n at description = reading (fill_step (solo_token n) (n * n)) (fill_end (n * n)) at [] (words description)
+solo_cells_at n at description =
+    reading (fill_step (solo_token n) (n * n)) (fill_end (n * n)) at [] (words description)
 
 -- the puzzle that the text spells, or its first fault
 unfoldable pub solo_of : List ℕ → Result Solo IdFault
@@ -97,9 +101,10 @@ solo_of text = do
   givens ← solo_cells_at (head.size.w * head.size.h) head.description (drop head.description text)
   Ok (solo_puzzle head.size.w head.size.h head.size.x givens)
 
--- The written text ---------------------------------------------------------------------------------------------
+-- The written text --------------------------------------------------------------------------------
 
--- what stands before a number that has k blanks before it: their letters, or '_' where a number stands there
+-- what stands before a number that has k blanks before it: their letters, or '_' where a number
+-- stands there
 abbrev pub before_given : ℕ → Bool → List ℕ
 before_given zero true = 95 ∷ []
 before_given k touches = letters k
@@ -108,7 +113,8 @@ before_given k touches = letters k
 unfoldable pub cells_text : ℕ → Bool → List ℕ → List ℕ
 cells_text k touches [] = letters k
 cells_text k touches (zero ∷ cells) = cells_text (k + 1) touches cells
-cells_text k touches (suc v ∷ cells) = before_given k touches ++ (decimal (suc v) ++ cells_text 0 true cells)
+cells_text k touches (suc v ∷ cells) =
+    before_given k touches ++ (decimal (suc v) ++ cells_text 0 true cells)
 
 abbrev pub solo_text : Solo → List ℕ
 solo_text p = solo_size_text p.c p.r p.x ++ 58 ∷ cells_text 0 false p.givens

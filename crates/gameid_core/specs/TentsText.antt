@@ -11,7 +11,7 @@ use Rattle.gameid_core.specs.Head.{extent_of, head_of, max_id}
 use Rattle.gameid_core.specs.SizeText.{size_text, IsSizeText}
 use Rattle.gameid_core.specs.Puzzles.{Tents, IsTents, line_cells, lines_of}
 
--- What a text spells -------------------------------------------------------------------------------------------
+-- What a text spells ------------------------------------------------------------------------------
 
 pub data TentsToken : Type 0 where
   blanks_and_tree : ℕ → TentsToken
@@ -30,21 +30,23 @@ abbrev pub IsTentsToken : TentsToken → Type 0
 IsTentsToken (blanks_and_tree k) = k ≤ 25
 IsTentsToken only_blanks = Unit {0}
 
--- the tokens stand for the cells and one tree after them; then each line's number comes behind a ','
+-- the tokens stand for the cells and one tree after them; then each line's number comes behind a
+-- ','
 pub record SpellsTents (text : List ℕ) (p : Tents) : Type 0 where
   pub short : length text ≤ max_id
   pub puzzle : IsTents p
   pub front : List ℕ
   pub tokens : List TentsToken
   pub numerals : List (List ℕ)
-  pub parts : text ≡ front ++ 58 ∷ (map tents_token_byte tokens ++ flat_map (λ numeral. 44 ∷ numeral) numerals)
+  pub parts : text
+      ≡ front ++ 58 ∷ (map tents_token_byte tokens ++ flat_map (λ numeral. 44 ∷ numeral) numerals)
   pub size : IsSizeText front p.size.w p.size.h
   pub each : AllByRecursion IsTentsToken tokens
   pub digits : AllByRecursion IsNumeral numerals
   pub cells : flat_map tents_token_cells tokens ≡ p.trees ++ 1 ∷ []
   pub counts : map value numerals ≡ p.counts
 
--- Which text is written ----------------------------------------------------------------------------------------
+-- Which text is written ---------------------------------------------------------------------------
 
 -- no 'z' stands directly before '_'
 abbrev pub AreTight : List TentsToken → Type 0
@@ -59,7 +61,7 @@ pub record IsWrittenTents (text : List ℕ) (p : Tents) : Type 0 where
   pub tight : AreTight spells.tokens
   pub plain : AllByRecursion IsPlain spells.numerals
 
--- The first fault ----------------------------------------------------------------------------------------------
+-- The first fault ---------------------------------------------------------------------------------
 
 -- what was read so far: the cells, with the tree after them where that is read, and the numbers
 pub record TentsSoFar : Type 0 where
@@ -83,7 +85,8 @@ run_cells blanks tree = replicate blanks 0 ++ (if tree then 1 ∷ [] else [])
 -- a token of the trees: the places may pass the cells by the one tree after them
 unfoldable pub tents_tree : Extent → ℕ → TentsSoFar → ℕ → Result TentsSoFar IdFault
 tents_tree size at s b = tents_run at b >>= (λ run.
-    if nat_lt (cells_in size + (if run.1 then 1 else 0)) (length s.places + length (run_cells run.0 run.1)) then Err TooMany
+    if nat_lt (cells_in size + (if run.1 then 1 else 0))
+    (length s.places + length (run_cells run.0 run.1)) then Err TooMany
     else Ok (record { places = s.places ++ run_cells run.0 run.1; counts = s.counts }))
 
 -- a ',' and a line's number
@@ -92,14 +95,18 @@ tents_count size at s word =
     if nat_lt (length s.places) (cells_in size + 1) then Err TooFew
     else (if length s.counts == lines_of size then Err TooMany
     else (if length word == 1 then Err (BadByte at)
-    else (if nat_lt (line_cells size (length s.counts)) (value (drop 1 word)) then Err (NumberRange (at + 1))
+    else (if nat_lt (line_cells size (length s.counts)) (value (drop 1 word))
+    then Err (NumberRange (at + 1))
     else Ok (value (drop 1 word)))))
 
 -- ',' begins a number; any other token belongs to the trees, and is refused once a number stands
 unfoldable pub tents_step : Extent → ℕ → TentsSoFar → List ℕ → Result TentsSoFar IdFault
 tents_step size at s word =
-    if begins (λ b. b == 44) word then (tents_count size at s word >>= (λ n. Ok (record { places = s.places; counts = s.counts ++ n ∷ [] })))
-    else (if nat_lt 0 (length s.counts) then Err (BadByte at) else tents_tree size at s (slice_index word 0))
+    if begins (λ b. b == 44) word
+    then (tents_count size at s word
+    >>= (λ n. Ok (record { places = s.places; counts = s.counts ++ n ∷ [] })))
+    else (if nat_lt 0 (length s.counts) then Err (BadByte at)
+    else tents_tree size at s (slice_index word 0))
 
 unfoldable pub tents_end : Extent → TentsSoFar → Result TentsSoFar IdFault
 tents_end size s = if length s.counts == lines_of size then Ok s else Err TooFew
@@ -109,21 +116,29 @@ no_places = record { places = []; counts = [] }
 
 -- the places and numbers of a description that begins at that place
 unfoldable pub tents_at : Extent → ℕ → List ℕ → Result TentsSoFar IdFault
-tents_at size at description = reading (tents_step size) (tents_end size) at no_places (words description)
+tents_at size at description =
+    reading (tents_step size) (tents_end size) at no_places (words description)
 
 -- the puzzle that the text spells, or its first fault
 unfoldable pub tents_of : List ℕ → Result Tents IdFault
 tents_of text = do
   head ← head_of game.Tents text
   s ← tents_at (extent_of head.size) head.description (drop head.description text)
-  Ok (record { size = extent_of head.size; trees = take (head.size.w * head.size.h) s.places; counts = s.counts })
+  Ok
+      (record {
+        size = extent_of head.size;
+        trees = take
+            (head.size.w * head.size.h) s.places;
+        counts = s.counts;
+      })
 
--- The written text ---------------------------------------------------------------------------------------------
+-- The written text --------------------------------------------------------------------------------
 
 -- the tokens of the cells, with k blanks before them, and of the tree after them
 unfoldable pub tents_tokens : ℕ → List ℕ → List TentsToken
 tents_tokens k [] = blanks_and_tree k ∷ []
-tents_tokens k (zero ∷ cells) = if k == 25 then only_blanks ∷ tents_tokens 1 cells else tents_tokens (k + 1) cells
+tents_tokens k (zero ∷ cells) =
+    if k == 25 then only_blanks ∷ tents_tokens 1 cells else tents_tokens (k + 1) cells
 tents_tokens k (suc b ∷ cells) = blanks_and_tree k ∷ tents_tokens 0 cells
 
 -- the text of the cells, with k blanks before them, and of the tree after them
@@ -131,4 +146,6 @@ abbrev pub trees_text : ℕ → List ℕ → List ℕ
 trees_text k cells = map tents_token_byte (tents_tokens k cells)
 
 abbrev pub tents_text : Tents → List ℕ
-tents_text p = size_text p.size.w p.size.h ++ 58 ∷ (trees_text 0 p.trees ++ flat_map (λ n. 44 ∷ decimal n) p.counts)
+tents_text p =
+    size_text p.size.w p.size.h
+    ++ 58 ∷ (trees_text 0 p.trees ++ flat_map (λ n. 44 ∷ decimal n) p.counts)

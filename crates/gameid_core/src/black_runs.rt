@@ -9,8 +9,9 @@ use crate::lines::{line_of, lines};
 use grid_core::{Grid, Size};
 use std::alloc::{AllocError, Global};
 
-/// What the runs of a line are, by the cells that come first: none, a white cell, black cells up to the end, or
-/// black cells and a white one. There is no other line of white and black cells, so this fixes the runs of each.
+/// What the runs of a line are, by the cells that come first: none, a white cell, black cells up to
+/// the end, or black cells and a white one. There is no other line of white and black cells, so
+/// this fixes the runs of each.
 pub fn runs_by_first_cells()
     ensures none { runs [] ≡ [] }
     ensures white { (cells : List ℕ) → runs (0 ∷ cells) ≡ runs cells }
@@ -29,7 +30,8 @@ fn push_run_of(found: &mut Vec<u8>, count: u8) -> Result<(), AllocError>
     Ok(())
 }
 
-/// The lengths of the maximal black runs of a line, whose cells are 0 for white and anything else for black.
+/// The lengths of the maximal black runs of a line, whose cells are 0 for white and anything else
+/// for black.
 fn runs_of(alloc: Global, cells: &[u8]) -> Result<Vec<u8>, AllocError>
     requires { length cells.now ≤ 255 }
     ensures { IfOk result (λ v. v.items ≡ runs cells.now) }

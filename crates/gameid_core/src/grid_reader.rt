@@ -8,7 +8,8 @@ use crate::readable::Readable;
 use grid_core::Grid;
 use std::alloc::{AllocError, Global};
 
-/// Reads a row into the grid: what stands after its line end, or nothing where no row of the puzzle stands there.
+/// Reads a row into the grid: what stands after its line end, or nothing where no row of the puzzle
+/// stands there.
 fn read_row<'a, P: Readable>(
     puzzle: &P,
     grid: &mut Grid,
@@ -18,12 +19,17 @@ fn read_row<'a, P: Readable>(
     requires cells { length grid.old ≡ (P.extent puzzle.now).w * (P.extent puzzle.now).h }
     requires row { y < (P.extent puzzle.now).h }
     ensures cells { length grid.new ≡ length grid.old }
-    ensures fit { IfSome result (λ rest. FitUpTo (P.hides puzzle.now) (P.value_count puzzle.now) grid.old (y * (P.extent puzzle.now).w)
-        → FitUpTo (P.hides puzzle.now) (P.value_count puzzle.now) grid.new ((y + 1) * (P.extent puzzle.now).w)) }
-    ensures read { (g : List ℕ) (more : List ℕ) → IsAsShown (P.hides puzzle.now) (P.value_count puzzle.now) (P.extent puzzle.now) g
+    ensures fit { IfSome result
+        (λ rest. FitUpTo (P.hides puzzle.now) (P.value_count puzzle.now) grid.old
+        (y * (P.extent puzzle.now).w)
+        → FitUpTo (P.hides puzzle.now) (P.value_count puzzle.now) grid.new
+        ((y + 1) * (P.extent puzzle.now).w)) }
+    ensures read { (g : List ℕ) (more : List ℕ)
+        → IsAsShown (P.hides puzzle.now) (P.value_count puzzle.now) (P.extent puzzle.now) g
         → text.now ≡ row_text (P.cell_text puzzle.now g) (P.extent puzzle.now) y ++ more
         → AgreeUpTo grid.old g (y * (P.extent puzzle.now).w)
-        → MatchOption result ⊥ (λ rest. rest.now ≡ more) × AgreeUpTo grid.new g ((y + 1) * (P.extent puzzle.now).w) }
+        → MatchOption result ⊥ (λ rest. rest.now ≡ more)
+        × AgreeUpTo grid.new g ((y + 1) * (P.extent puzzle.now).w) }
 {
     let w = puzzle.columns();
     let mut rest = text;
@@ -67,8 +73,9 @@ fn is_either(first: &[u8], second: &[u8], printed: &[u8]) -> bool
     first == printed || second == printed
 }
 
-/// The one grid of the puzzle whose printed form the text is, with or without the last line end; nothing where the text is
-/// no grid's. The grid has a number for each cell, by place, and 0 where nothing is shown of the number.
+/// The one grid of the puzzle whose printed form the text is, with or without the last line end;
+/// nothing where the text is no grid's. The grid has a number for each cell, by place, and 0 where
+/// nothing is shown of the number.
 ///
 /// # Errors
 ///
@@ -78,8 +85,10 @@ pub fn read_grid<P: Readable>(
     puzzle: &P,
     mut text: Vec<u8>,
 ) -> Result<Option<Grid>, AllocError>
-    ensures { IfOk result (λ found. IsReadOf (P.hides puzzle.now) (P.value_count puzzle.now) (P.extent puzzle.now)
-        (λ g. IsPrinted text.items (grid_text (P.cell_text puzzle.now g) (P.extent puzzle.now))) found) }
+    ensures { IfOk result
+        (λ found. IsReadOf (P.hides puzzle.now) (P.value_count puzzle.now) (P.extent puzzle.now)
+        (λ g. IsPrinted text.items
+        (grid_text (P.cell_text puzzle.now g) (P.extent puzzle.now))) found) }
 {
     let length = text.len();
     text.push(b'\n')?;

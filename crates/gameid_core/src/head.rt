@@ -14,8 +14,8 @@ pub const MAX_ID: usize = 65_536;
 /// The most numbers of a game of Solo.
 pub const MAX_NUMBERS: u32 = 31;
 
-/// A size, and the text after it: both sides, each 1000 where it is larger, and whether the `x` of Solo X stands after
-/// them.
+/// A size, and the text after it: both sides, each 1000 where it is larger, and whether the `x` of
+/// Solo X stands after them.
 #[derive(Clone, Copy, Debug)]
 struct SidesRead<'a> {
     w: u32,
@@ -90,19 +90,21 @@ fn fits(game: Game, w: u32, h: u32) -> bool
     }
 }
 
-/// The size that the whole text is, in the form of Simon Tatham's Portable Puzzle Collection: `CxR` for Solo, columns
-/// and rows of sub-blocks; `WxH` for the other games, columns and rows of cells; or one number for two equal ones. In
-/// Solo an `x` may stand after two numbers. The answer's third part is whether it does, which is Solo X: both main
-/// diagonals, too, hold every number once.
+/// The size that the whole text is, in the form of Simon Tatham's Portable Puzzle Collection: `CxR`
+/// for Solo, columns and rows of sub-blocks; `WxH` for the other games, columns and rows of cells;
+/// or one number for two equal ones. In Solo an `x` may stand after two numbers. The answer's third
+/// part is whether it does, which is Solo X: both main diagonals, too, hold every number once.
 ///
 /// # Errors
 ///
-/// The first that fails of these tests, which an ID meets in the part before its colon: `BadSize` where the text does not
-/// begin with a size, `Variant` where more follows, `SizeRange` where the size is outside the game's limits: sides from 2
-/// on with a product of at most 31 in Solo, sides from 1 to 120 in Pattern, and from 2 to 120 in Light Up and Tents.
+/// The first that fails of these tests, which an ID meets in the part before its colon: `BadSize`
+/// where the text does not begin with a size, `Variant` where more follows, `SizeRange` where the
+/// size is outside the game's limits: sides from 2 on with a product of at most 31 in Solo, sides
+/// from 1 to 120 in Pattern, and from 2 to 120 in Light Up and Tents.
 #[tactic(auto, unfolding(crate::specs::Head::size_of))]
 pub fn read_size(game: Game, text: &[u8]) -> Result<(u8, u8, bool), IdFault>
-    ensures found { IfOk result (λ s. size_of game text.now ≡ Ok (record { w = s.0; h = s.1; x = s.2 })) }
+    ensures found { IfOk result (λ s. size_of game text.now
+        ≡ Ok (record { w = s.0; h = s.1; x = s.2 })) }
     ensures fault { IfErr result (λ f. size_of game text.now ≡ Err f) }
     ensures range { IfOk result (λ s. in_range game s.0 s.1 ≡ true) }
 {

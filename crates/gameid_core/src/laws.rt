@@ -21,7 +21,8 @@ pub fn over_long_is_too_long()
     ensures tents { (text : List ℕ) → max_id < length text → tents_of text ≡ Err TooLong }
 {}
 
-/// A fault of a size alone, and of the part of an ID before its colon, is the first of the tests that fails, in their order.
+/// A fault of a size alone, and of the part of an ID before its colon, is the first of the tests
+/// that fails, in their order.
 pub fn first_failed_test()
     ensures size { (game : Game) (text : List ℕ) (f : IdFault) → (size_of game text ≡ Err f)
         ↔ IsFirstFailed (FailsSize game text) size_tests f }

@@ -1,8 +1,9 @@
-//! Game IDs of four games of Simon Tatham's Portable Puzzle Collection: the puzzles, their readers and their writers; and
-//! printed grids.
+//! Game IDs of four games of Simon Tatham's Portable Puzzle Collection: the puzzles, their readers
+//! and their writers; and printed grids.
 //!
-//! An ID is a size, `:` and a description. The general form is that of the collection's manual; the descriptions are
-//! those that the source code of each game writes. The form of printed grids is this project's own.
+//! An ID is a size, `:` and a description. The general form is that of the collection's manual; the
+//! descriptions are those that the source code of each game writes. The form of printed grids is
+//! this project's own.
 #![tactic(auto)]
 
 mod black_runs;

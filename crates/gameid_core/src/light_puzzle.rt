@@ -9,7 +9,8 @@ use grid_core::Size;
 use std::alloc::{AllocError, Global};
 use std::marker::Model;
 
-/// The cells of a grid of at least 2 columns and 2 rows, each white, black or black with a number from 0 to 4.
+/// The cells of a grid of at least 2 columns and 2 rows, each white, black or black with a number
+/// from 0 to 4.
 #[derive(Debug, Drop)]
 pub struct LightPuzzle {
     size: Size,
@@ -43,7 +44,8 @@ impl LightPuzzle {
     pub fn blank(alloc: Global, size: Size) -> Result<LightPuzzle, AllocError>
         requires w_two { 2 ≤ size.w }
         requires h_two { 2 ≤ size.h }
-        ensures { IfOk result (λ p. p ≡ record { size = size; cells = replicate (size.w * size.h) White }) }
+        ensures { IfOk result (λ p. p
+            ≡ record { size = size; cells = replicate (size.w * size.h) White }) }
     {
         let cells = vec![in alloc; LightCell::White; size.cells()]?;
         Ok(LightPuzzle { size, cells })

@@ -63,7 +63,7 @@ fn cells(
 }
 
 /// The puzzle that the text spells, or its first fault, as reading gives it.
-#[tactic(auto, using(crate::proofs::LightLaws::cells_few), unfolding(crate::specs::LightText::light_of))]
+#[tactic(auto, using(crate::proofs::LightTexts::cells_few), unfolding(crate::specs::LightText::light_of))]
 fn read(alloc: Global, text: &[u8]) -> Result<LightPuzzle, IdFault>
     ensures exact { Gives (λ p. p) result (light_of text.now) }
     ensures head { (f : IdFault) → head_of Game.LightUp text.now ≡ Err f → result ≡ Err f }
@@ -81,15 +81,17 @@ fn read(alloc: Global, text: &[u8]) -> Result<LightPuzzle, IdFault>
 
 /// The puzzle that the ID spells.
 ///
-/// The description is the one that Light Up of Simon Tatham's Portable Puzzle Collection writes: the cells row by
-/// row from the top left, `a` to `z` for 1 to 26 white ones, `B` for a black one without a number, and `0` to `4`
-/// for a numbered one.
+/// The description is the one that Light Up of Simon Tatham's Portable Puzzle Collection writes:
+/// the cells row by row from the top left, `a` to `z` for 1 to 26 white ones, `B` for a black one
+/// without a number, and `0` to `4` for a numbered one.
 ///
 /// # Errors
 ///
-/// The ID's first fault: the tests of the part before the colon come first, in their order and on the whole ID, and then
-/// the first fault that is met in the description from left to right. A fault's place is the number of bytes of the ID
-/// before it. `IdFault::Memory` comes only where memory was wanted for what was read so far.
+/// The ID's first fault: the tests of the part before the colon come first, in their order and on
+/// the whole ID, and then the first fault that is met in the description from left to right. A
+/// fault's place is the number of bytes of the ID before it. `IdFault::Memory` comes only where
+/// memory was wanted for what was read so far.
+#[tactic(auto, using(crate::proofs::LightTexts::light_takes))]
 pub fn read_lights(alloc: Global, text: &[u8]) -> Result<LightPuzzle, IdFault>
     // What is read is spelled so.
     ensures found { IfOk result (λ p. SpellsLight text.now p) }
@@ -106,12 +108,17 @@ pub fn read_lights(alloc: Global, text: &[u8]) -> Result<LightPuzzle, IdFault>
 /// Each text spells exactly one puzzle of Light Up or has exactly one fault, and never both.
 pub fn one_reading_of_lights()
     ensures one { (text : List ℕ) (p q : Light) → SpellsLight text p → SpellsLight text q → p ≡ q }
-    ensures apart { (text : List ℕ) (p : Light) (f : IdFault) → SpellsLight text p → light_of text ≡ Err f → ⊥ }
-    ensures either { (text : List ℕ) → ((p : Light) × SpellsLight text p) ⊎ ((f : IdFault) × (light_of text ≡ Err f)) }
+    ensures apart { (text : List ℕ) (p : Light) (f : IdFault) → SpellsLight text p
+        → light_of text ≡ Err f → ⊥ }
+    ensures either { (text : List ℕ) → ((p : Light) × SpellsLight text p)
+        ⊎ ((f : IdFault) × (light_of text ≡ Err f)) }
 {}
 
-/// A description's fault is that of its first token with one, or of its end, after tokens without fault.
+/// A description's fault is that of its first token with one, or of its end, after tokens without
+/// fault.
 pub fn first_fault_of_lights()
-    ensures { (all at : ℕ) (description : List ℕ) (f : IdFault) → (light_cells_at all at description ≡ Err f)
-        ↔ FirstFault (fill_step light_token all) (fill_end all) at [] (map (λ b. b ∷ []) description) f }
+    ensures { (all at : ℕ) (description : List ℕ) (f : IdFault)
+        → (light_cells_at all at description ≡ Err f)
+        ↔ FirstFault (fill_step light_token all) (fill_end all) at []
+        (map (λ b. b ∷ []) description) f }
 {}

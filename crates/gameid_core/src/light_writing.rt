@@ -27,7 +27,8 @@ fn black_byte(cell: LightCell) -> Option<u8>
 /// Writes the cells.
 fn push_cells(out: &mut String, cells: &[LightCell]) -> Result<(), AllocError>
     requires { AllByRecursion IsLightCell cells.now }
-    ensures { OnOk result (string_bytes out.new ≡ string_bytes out.old ++ light_cells_text 0 cells.now) }
+    ensures { OnOk result (string_bytes out.new
+        ≡ string_bytes out.old ++ light_cells_text 0 cells.now) }
 {
     let mut whites = 0;
     for cell in cells {
@@ -56,13 +57,14 @@ fn written(alloc: Global, puzzle: &LightPuzzle) -> Result<String, AllocError>
     Ok(out)
 }
 
-/// The one written ID of the puzzle, of at most `MAX_ID` bytes, which reads back to an equal puzzle. Both numbers of
-/// the size are written. In each run of white cells all letters but the last are `z`, and the last run is written
-/// too.
+/// The one written ID of the puzzle, of at most `MAX_ID` bytes, which reads back to an equal
+/// puzzle. Both numbers of the size are written. In each run of white cells all letters but the
+/// last are `z`, and the last run is written too.
 ///
 /// # Errors
 ///
 /// When memory was refused.
+#[tactic(auto, using(crate::proofs::LightWritten::light_is_written, crate::proofs::LightWritten::light_spelled, crate::proofs::LightWritten::light_short))]
 pub fn write_lights(alloc: Global, puzzle: &LightPuzzle) -> Result<String, AllocError>
     ensures text { IfOk result (λ text. string_bytes text ≡ light_text puzzle.now) }
     ensures form { IfOk result (λ text. IsWrittenLight (string_bytes text) puzzle.now) }
@@ -72,9 +74,10 @@ pub fn write_lights(alloc: Global, puzzle: &LightPuzzle) -> Result<String, Alloc
     written(alloc, puzzle)
 }
 
-/// Each puzzle of Light Up has exactly one written text: the one that spells it with both numbers of the size, where
-/// each letter directly before a letter is `z`.
+/// Each puzzle of Light Up has exactly one written text: the one that spells it with both numbers
+/// of the size, where each letter directly before a letter is `z`.
 pub fn one_written_text_of_lights()
     ensures some { (p : Light) → IsLight p → IsWrittenLight (light_text p) p }
-    ensures one { (text other : List ℕ) (p : Light) → IsWrittenLight text p → IsWrittenLight other p → text ≡ other }
+    ensures one { (text other : List ℕ) (p : Light) → IsWrittenLight text p → IsWrittenLight other p
+        → text ≡ other }
 {}

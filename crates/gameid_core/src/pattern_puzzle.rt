@@ -29,16 +29,19 @@ impl Model for PatternPuzzle {
 }
 
 impl PatternPuzzle {
-    /// The puzzle of that size whose columns from the left, and then rows from the top, have these clues.
+    /// The puzzle of that size whose columns from the left, and then rows from the top, have these
+    /// clues.
     pub(crate) fn of_clues(size: Size, clues: Vec<Vec<u8>>) -> PatternPuzzle
-        requires { IsPattern (record { size = size; clues = map (λ clue. clue.items) clues.items }) }
+        requires { IsPattern
+            (record { size = size; clues = map (λ clue. clue.items) clues.items }) }
         ensures { result ≡ record { size = size; clues = map (λ clue. clue.items) clues.items } }
     {
         PatternPuzzle { size, clues }
     }
 
-    /// The puzzle of that size whose clues are the runs of the grid's lines: the clue of each column is its runs
-    /// downwards, and the clue of each row its runs rightwards. The grid has 0 for white and 1 for black.
+    /// The puzzle of that size whose clues are the runs of the grid's lines: the clue of each
+    /// column is its runs downwards, and the clue of each row its runs rightwards. The grid has 0
+    /// for white and 1 for black.
     ///
     /// # Errors
     ///
@@ -63,7 +66,8 @@ impl PatternPuzzle {
         self.size
     }
 
-    /// How many numbers a line's clue has. Lines are the columns from the left, and then the rows from the top.
+    /// How many numbers a line's clue has. Lines are the columns from the left, and then the rows
+    /// from the top.
     pub fn clue_len(&self, line: usize) -> usize
         requires { line < lines_of self.now.size }
         ensures value { result ≡ length (slice_index_or self.now.clues line []) }
@@ -72,7 +76,8 @@ impl PatternPuzzle {
         self.clues[line].len()
     }
 
-    /// The k-th number of a line's clue, from 0: the length of the k-th black run, downwards or rightwards.
+    /// The k-th number of a line's clue, from 0: the length of the k-th black run, downwards or
+    /// rightwards.
     pub fn clue(&self, line: usize, k: usize) -> u8
         requires line { line < lines_of self.now.size }
         requires number { k < length (slice_index_or self.now.clues line []) }
@@ -89,8 +94,8 @@ impl PatternPuzzle {
         self.clues.len()
     }
 
-    /// A line's clue: the lengths of its black runs, downwards or rightwards. Lines are the columns from the left, and then
-    /// the rows from the top.
+    /// A line's clue: the lengths of its black runs, downwards or rightwards. Lines are the columns
+    /// from the left, and then the rows from the top.
     pub fn line(&self, line: usize) -> &[u8]
         requires { line < length self.now.clues }
         ensures { result.now ≡ slice_index_or self.now.clues line [] }

@@ -31,7 +31,8 @@ fn number(
     digits: &[u8],
 ) -> Result<(u8, &[u8]), IdFault>
     requires { before ≤ 1000 }
-    ensures { GivesNumber (clue_number cells line before at (digits_front digits.now)) (after_digits digits.now) result }
+    ensures { GivesNumber (clue_number cells line before at (digits_front digits.now))
+        (after_digits digits.now) result }
 {
     let (number, rest) = leading_number(digits);
     if number == 0 {
@@ -55,21 +56,28 @@ fn first_number(cells: u8, line: usize, at: usize, rest: &[u8]) -> Result<(u8, &
     }
 }
 
-/// A further number of a clue, and the text after it.
-fn further_number<'a>(
+/// A line's clue as far as it is read, and the cells that its numbers use, with a gap behind each.
+#[derive(Drop)]
+struct ClueSoFar<'a> {
     cells: u8,
     line: usize,
-    clue: &[u8],
+    numbers: &'a [u8],
     before: u32,
+}
+
+/// A further number of a clue, and the text after it.
+fn further_number<'a>(
+    clue: &ClueSoFar<'_>,
     at: usize,
     first: u8,
     after: &'a [u8],
 ) -> Result<(u8, &'a [u8]), IdFault>
-    requires some { 0 < length clue.now }
-    requires used { before ≡ used_cells clue.now }
-    requires small { before ≤ 1000 }
+    requires some { 0 < length clue.now.numbers.now }
+    requires used { clue.now.before ≡ used_cells clue.now.numbers.now }
+    requires small { clue.now.before ≤ 1000 }
     requires place { at < 2 ^ 32 }
-    ensures { TakesNumber (clue_token cells line clue.now at) (first ∷ after.now) result }
+    ensures { TakesNumber (clue_token clue.now.cells clue.now.line clue.now.numbers.now at)
+        (first ∷ after.now) result }
 {
     if first != b'.' {
         return Err(IdFault::BadByte(at));
@@ -77,30 +85,28 @@ fn further_number<'a>(
     if !starts_with_digit(after) {
         return Err(IdFault::BadByte(at));
     }
-    number(cells, line, before, at + 1, after)
+    number(clue.cells, clue.line, clue.before, at + 1, after)
 }
 
 /// The number that comes next in a clue, and the text after it.
 fn next_number<'a>(
-    cells: u8,
-    line: usize,
-    clue: &[u8],
-    before: u32,
+    clue: &ClueSoFar<'_>,
     at: usize,
     first: u8,
     after: &'a [u8],
     rest: &'a [u8],
 ) -> Result<(u8, &'a [u8]), IdFault>
     requires text { rest.now ≡ first ∷ after.now }
-    requires used { before ≡ used_cells clue.now }
-    requires small { before ≤ 1000 }
+    requires used { clue.now.before ≡ used_cells clue.now.numbers.now }
+    requires small { clue.now.before ≤ 1000 }
     requires place { at < 2 ^ 32 }
-    ensures { TakesNumber (clue_token cells line clue.now at) rest.now result }
+    ensures { TakesNumber (clue_token clue.now.cells clue.now.line clue.now.numbers.now at)
+        rest.now result }
 {
-    if clue.is_empty() {
-        first_number(cells, line, at, rest)
+    if clue.numbers.is_empty() {
+        first_number(clue.cells, clue.line, at, rest)
     } else {
-        further_number(cells, line, clue, before, at, first, after)
+        further_number(clue, at, first, after)
     }
 }
 
@@ -112,7 +118,8 @@ fn clues(
     description: &[u8],
 ) -> Result<Vec<Vec<u8>>, IdFault>
     requires { base + length description.now < 2 ^ 32 }
-    ensures { Gives (λ v. map (λ clue. clue.items) v.items) result (clues_at size base description.now) }
+    ensures { Gives (λ v. map (λ clue. clue.items) v.items) result
+        (clues_at size base description.now) }
 {
     let lines = lines(size);
     let mut clues = Vec::new(alloc);
@@ -132,7 +139,13 @@ fn clues(
         } else {
             let at = base + (description.len() - rest.len());
             let cells = cells_of(size, line);
-            let (number, after) = next_number(cells, line, &clue, before, at, first, after, rest)?;
+            let so_far = ClueSoFar {
+                cells,
+                line,
+                numbers: &clue,
+                before,
+            };
+            let (number, after) = next_number(&so_far, at, first, after, rest)?;
             clue.push(number)?;
             before += u32::from(number) + 1;
             rest = after;
@@ -159,15 +172,17 @@ fn read(alloc: Global, text: &[u8]) -> Result<PatternPuzzle, IdFault>
 
 /// The puzzle that the ID spells.
 ///
-/// The description is the one that Pattern of Simon Tatham's Portable Puzzle Collection writes: a clue for each column
-/// from the left and then for each row from the top, with `/` between two clues; a clue is empty, or the lengths of the
-/// line's black runs with `.` between two of them.
+/// The description is the one that Pattern of Simon Tatham's Portable Puzzle Collection writes: a
+/// clue for each column from the left and then for each row from the top, with `/` between two
+/// clues; a clue is empty, or the lengths of the line's black runs with `.` between two of them.
 ///
 /// # Errors
 ///
-/// The ID's first fault: the tests of the part before the colon come first, in their order and on the whole ID, and then
-/// the first fault that is met in the description from left to right. A fault's place is the number of bytes of the ID
-/// before it. `IdFault::Memory` comes only where memory was wanted for what was read so far.
+/// The ID's first fault: the tests of the part before the colon come first, in their order and on
+/// the whole ID, and then the first fault that is met in the description from left to right. A
+/// fault's place is the number of bytes of the ID before it. `IdFault::Memory` comes only where
+/// memory was wanted for what was read so far.
+#[tactic(auto, using(crate::proofs::PatternTexts::pattern_takes))]
 pub fn read_pattern(alloc: Global, text: &[u8]) -> Result<PatternPuzzle, IdFault>
     // What is read is spelled so.
     ensures found { IfOk result (λ p. SpellsPattern text.now p) }
@@ -183,13 +198,18 @@ pub fn read_pattern(alloc: Global, text: &[u8]) -> Result<PatternPuzzle, IdFault
 
 /// Each text spells exactly one puzzle of Pattern or has exactly one fault, and never both.
 pub fn one_reading_of_pattern()
-    ensures one { (text : List ℕ) (p q : Pattern) → SpellsPattern text p → SpellsPattern text q → p ≡ q }
-    ensures apart { (text : List ℕ) (p : Pattern) (f : IdFault) → SpellsPattern text p → pattern_of text ≡ Err f → ⊥ }
-    ensures either { (text : List ℕ) → ((p : Pattern) × SpellsPattern text p) ⊎ ((f : IdFault) × (pattern_of text ≡ Err f)) }
+    ensures one { (text : List ℕ) (p q : Pattern) → SpellsPattern text p → SpellsPattern text q
+        → p ≡ q }
+    ensures apart { (text : List ℕ) (p : Pattern) (f : IdFault) → SpellsPattern text p
+        → pattern_of text ≡ Err f → ⊥ }
+    ensures either { (text : List ℕ) → ((p : Pattern) × SpellsPattern text p)
+        ⊎ ((f : IdFault) × (pattern_of text ≡ Err f)) }
 {}
 
-/// The fault of a description of Pattern is that of its first token with one, or of its end, after tokens without fault.
+/// The fault of a description of Pattern is that of its first token with one, or of its end, after
+/// tokens without fault.
 pub fn first_fault_of_pattern()
-    ensures { (size : Extent) (at : ℕ) (description : List ℕ) (f : IdFault) → (clues_at size at description ≡ Err f)
+    ensures { (size : Extent) (at : ℕ) (description : List ℕ) (f : IdFault)
+        → (clues_at size at description ≡ Err f)
         ↔ FirstFault (pattern_step size) (pattern_end size) at nothing_yet (words description) f }
 {}

@@ -25,7 +25,8 @@ fn push_clue(out: &mut String, clue: &[u8]) -> Result<(), AllocError>
 
 /// Writes the clues with '/' between them.
 fn push_clues(out: &mut String, puzzle: &PatternPuzzle) -> Result<(), AllocError>
-    ensures { OnOk result (string_bytes out.new ≡ string_bytes out.old ++ join_with_byte 47 (map clue_text puzzle.now.clues)) }
+    ensures { OnOk result (string_bytes out.new
+        ≡ string_bytes out.old ++ join_with_byte 47 (map clue_text puzzle.now.clues)) }
 {
     for line in 0..puzzle.lines() {
         if line > 0 {
@@ -49,12 +50,13 @@ fn written(alloc: Global, puzzle: &PatternPuzzle) -> Result<String, AllocError>
     Ok(out)
 }
 
-/// The one written ID of the puzzle, of at most `MAX_ID` bytes, which reads back to an equal puzzle. Both numbers of
-/// the size are written, and no number has a leading zero.
+/// The one written ID of the puzzle, of at most `MAX_ID` bytes, which reads back to an equal
+/// puzzle. Both numbers of the size are written, and no number has a leading zero.
 ///
 /// # Errors
 ///
 /// When memory was refused.
+#[tactic(auto, using(crate::proofs::PatternWritten::pattern_is_written, crate::proofs::PatternWritten::pattern_spelled, crate::proofs::PatternWritten::pattern_short))]
 pub fn write_pattern(alloc: Global, puzzle: &PatternPuzzle) -> Result<String, AllocError>
     ensures text { IfOk result (λ text. string_bytes text ≡ pattern_text puzzle.now) }
     ensures form { IfOk result (λ text. IsWrittenPattern (string_bytes text) puzzle.now) }
@@ -64,9 +66,10 @@ pub fn write_pattern(alloc: Global, puzzle: &PatternPuzzle) -> Result<String, Al
     written(alloc, puzzle)
 }
 
-/// Each puzzle of Pattern has exactly one written text: the one that spells it with both numbers of the size and no
-/// leading zeros.
+/// Each puzzle of Pattern has exactly one written text: the one that spells it with both numbers of
+/// the size and no leading zeros.
 pub fn one_written_text_of_pattern()
     ensures some { (p : Pattern) → IsPattern p → IsWrittenPattern (pattern_text p) p }
-    ensures one { (text other : List ℕ) (p : Pattern) → IsWrittenPattern text p → IsWrittenPattern other p → text ≡ other }
+    ensures one { (text other : List ℕ) (p : Pattern) → IsWrittenPattern text p
+        → IsWrittenPattern other p → text ≡ other }
 {}

@@ -14,8 +14,9 @@ use crate::writing::push_number;
 use grid_core::Grid;
 use std::alloc::AllocError;
 
-/// A puzzle whose grids can be printed. A grid has a number for each cell, by place: 0 white and 1 black in Pattern, one
-/// less than the number in Solo, 1 for a bulb in Light Up and for a tent in Tents.
+/// A puzzle whose grids can be printed. A grid has a number for each cell, by place: 0 white and 1
+/// black in Pattern, one less than the number in Solo, 1 for a bulb in Light Up and for a tent in
+/// Tents.
 pub trait Printed {
     // The columns and rows of its grids.
     ghost extent: { Self → Extent };
@@ -42,9 +43,11 @@ pub trait Printed {
     ///
     /// When memory was refused.
     fn push_cell(&self, text: &mut String, grid: &Grid, place: usize) -> Result<(), AllocError>
-        requires grid { IsGrid ((extent self.now).w * (extent self.now).h) (value_count self.now) grid.now }
+        requires grid { IsGrid ((extent self.now).w * (extent self.now).h)
+            (value_count self.now) grid.now }
         requires place { place < length grid.now }
-        ensures { OnOk result (string_bytes text.new ≡ string_bytes text.old ++ cell_text self.now grid.now place) };
+        ensures { OnOk result (string_bytes text.new
+            ≡ string_bytes text.old ++ cell_text self.now grid.now place) };
 }
 
 impl Printed for PatternPuzzle {

@@ -15,8 +15,9 @@ pub trait Readable: Printed {
     // What is printed at the place shows nothing of the number there.
     ghost hides: { Self → ℕ → Type 0 };
 
-    /// The number at a place and how many bytes are printed of it, where the text begins with that. What is printed of
-    /// a grid is always read back; the numbers of another text are any that a grid may hold there.
+    /// The number at a place and how many bytes are printed of it, where the text begins with that.
+    /// What is printed of a grid is always read back; the numbers of another text are any that a
+    /// grid may hold there.
     fn read_cell(&self, text: &[u8], place: usize) -> Option<(u8, usize)>
         requires place { place < (Self.extent self.now).w * (Self.extent self.now).h }
         ensures range { IfSome result (λ r. r.0 < Self.value_count self.now) }

@@ -7,9 +7,9 @@ ghost use Rattle.gameid_core.specs.Puzzles.{Solo, IsSolo, solo_n, solo_puzzle};
 use std::alloc::{AllocError, Global};
 use std::marker::Model;
 
-/// `c` columns and `r` rows of sub-blocks, and the given numbers of the grid, which has `n = c * r` columns and rows,
-/// `n` at most `MAX_NUMBERS`. Each block is `r` cells wide and `c` cells tall. In Solo X both main diagonals, too,
-/// hold every number once.
+/// `c` columns and `r` rows of sub-blocks, and the given numbers of the grid, which has `n = c * r`
+/// columns and rows, `n` at most `MAX_NUMBERS`. Each block is `r` cells wide and `c` cells tall. In
+/// Solo X both main diagonals, too, hold every number once.
 #[derive(Debug, Drop)]
 pub struct SoloPuzzle {
     c: u8,
@@ -95,7 +95,8 @@ impl SoloPuzzle {
         self.x
     }
 
-    /// How many numbers there are, which is also the number of cells of a row, of a column and of a block.
+    /// How many numbers there are, which is also the number of cells of a row, of a column and of a
+    /// block.
     pub fn n(&self) -> u8
         ensures value { result ≡ solo_n self.now }
         ensures lawful { IsSolo self.now }
@@ -103,7 +104,8 @@ impl SoloPuzzle {
         self.c * self.r
     }
 
-    /// The given number at a place, from 1 to `n`, or 0 for a blank cell. Places go row by row from the top left.
+    /// The given number at a place, from 1 to `n`, or 0 for a blank cell. Places go row by row from
+    /// the top left.
     pub fn given(&self, place: usize) -> u8
         requires { place < length self.now.givens }
         ensures value { result ≡ slice_index self.now.givens place }

@@ -79,7 +79,7 @@ fn cells(alloc: Global, n: u8, base: usize, description: &[u8]) -> Result<Vec<u8
 }
 
 /// The puzzle that the text spells, or its first fault, as reading gives it.
-#[tactic(auto, using(crate::proofs::SoloLaws::solo_n_small), unfolding(crate::specs::SoloText::solo_of))]
+#[tactic(auto, using(crate::proofs::SoloTexts::solo_n_small), unfolding(crate::specs::SoloText::solo_of))]
 fn read(alloc: Global, text: &[u8]) -> Result<SoloPuzzle, IdFault>
     ensures exact { Gives (λ p. p) result (solo_of text.now) }
     ensures head { (f : IdFault) → head_of Game.Solo text.now ≡ Err f → result ≡ Err f }
@@ -92,15 +92,18 @@ fn read(alloc: Global, text: &[u8]) -> Result<SoloPuzzle, IdFault>
 
 /// The puzzle that the ID spells.
 ///
-/// The description is the one that Solo of Simon Tatham's Portable Puzzle Collection writes: the cells row by row
-/// from the top left, a number for a given one, `a` to `z` for 1 to 26 blank ones, and `_` for none, which keeps
-/// two numbers apart. Before it stands the size, in Solo X with an `x` after its two numbers.
+/// The description is the one that Solo of Simon Tatham's Portable Puzzle Collection writes: the
+/// cells row by row from the top left, a number for a given one, `a` to `z` for 1 to 26 blank ones,
+/// and `_` for none, which keeps two numbers apart. Before it stands the size, in Solo X with an
+/// `x` after its two numbers.
 ///
 /// # Errors
 ///
-/// The ID's first fault: the tests of the part before the colon come first, in their order and on the whole ID, and then
-/// the first fault that is met in the description from left to right. A fault's place is the number of bytes of the ID
-/// before it. `IdFault::Memory` comes only where memory was wanted for what was read so far.
+/// The ID's first fault: the tests of the part before the colon come first, in their order and on
+/// the whole ID, and then the first fault that is met in the description from left to right. A
+/// fault's place is the number of bytes of the ID before it. `IdFault::Memory` comes only where
+/// memory was wanted for what was read so far.
+#[tactic(auto, using(crate::proofs::SoloTexts::solo_takes))]
 pub fn read_solo(alloc: Global, text: &[u8]) -> Result<SoloPuzzle, IdFault>
     // What is read is spelled so.
     ensures found { IfOk result (λ p. SpellsSolo text.now p) }
@@ -117,12 +120,17 @@ pub fn read_solo(alloc: Global, text: &[u8]) -> Result<SoloPuzzle, IdFault>
 /// Each text spells exactly one puzzle of Solo or has exactly one fault, and never both.
 pub fn one_reading_of_solo()
     ensures one { (text : List ℕ) (p q : Solo) → SpellsSolo text p → SpellsSolo text q → p ≡ q }
-    ensures apart { (text : List ℕ) (p : Solo) (f : IdFault) → SpellsSolo text p → solo_of text ≡ Err f → ⊥ }
-    ensures either { (text : List ℕ) → ((p : Solo) × SpellsSolo text p) ⊎ ((f : IdFault) × (solo_of text ≡ Err f)) }
+    ensures apart { (text : List ℕ) (p : Solo) (f : IdFault) → SpellsSolo text p
+        → solo_of text ≡ Err f → ⊥ }
+    ensures either { (text : List ℕ) → ((p : Solo) × SpellsSolo text p)
+        ⊎ ((f : IdFault) × (solo_of text ≡ Err f)) }
 {}
 
-/// A description's fault is that of its first token with one, or of its end, after tokens without fault.
+/// A description's fault is that of its first token with one, or of its end, after tokens without
+/// fault.
 pub fn first_fault_of_solo()
-    ensures { (n at : ℕ) (description : List ℕ) (f : IdFault) → (solo_cells_at n at description ≡ Err f)
-        ↔ FirstFault (fill_step (solo_token n) (n * n)) (fill_end (n * n)) at [] (words description) f }
+    ensures { (n at : ℕ) (description : List ℕ) (f : IdFault)
+        → (solo_cells_at n at description ≡ Err f)
+        ↔ FirstFault (fill_step (solo_token n) (n * n)) (fill_end (n * n)) at []
+        (words description) f }
 {}

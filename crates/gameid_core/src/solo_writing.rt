@@ -12,7 +12,8 @@ use std::alloc::{AllocError, Global};
 
 /// Writes what stands before a number that has so many blanks before it.
 fn push_before(out: &mut String, blanks: usize, touches: bool) -> Result<(), AllocError>
-    ensures { OnOk result (string_bytes out.new ≡ string_bytes out.old ++ before_given blanks touches) }
+    ensures { OnOk result (string_bytes out.new
+        ≡ string_bytes out.old ++ before_given blanks touches) }
 {
     if blanks == 0 && touches {
         out.push('_')
@@ -31,7 +32,8 @@ fn push_solo_size(out: &mut String, c: u8, r: u8, x: bool) -> Result<(), AllocEr
 
 /// Writes the cells.
 fn push_cells(out: &mut String, givens: &[u8]) -> Result<(), AllocError>
-    ensures { OnOk result (string_bytes out.new ≡ string_bytes out.old ++ cells_text 0 false givens.now) }
+    ensures { OnOk result (string_bytes out.new
+        ≡ string_bytes out.old ++ cells_text 0 false givens.now) }
 {
     let mut blanks = 0;
     let mut touches = false;
@@ -60,13 +62,14 @@ fn written(alloc: Global, puzzle: &SoloPuzzle) -> Result<String, AllocError>
     Ok(out)
 }
 
-/// The one written ID of the puzzle, of at most `MAX_ID` bytes, which reads back to an equal puzzle. Both numbers of
-/// the size are written, and the `x` of Solo X after them. In each run of blank cells all letters but the last are `z`, and `_` stands exactly between
-/// two numbers.
+/// The one written ID of the puzzle, of at most `MAX_ID` bytes, which reads back to an equal
+/// puzzle. Both numbers of the size are written, and the `x` of Solo X after them. In each run of
+/// blank cells all letters but the last are `z`, and `_` stands exactly between two numbers.
 ///
 /// # Errors
 ///
 /// When memory was refused.
+#[tactic(auto, using(crate::proofs::SoloCanon::solo_is_written, crate::proofs::SoloCanon::solo_spelled, crate::proofs::SoloCanon::solo_short))]
 pub fn write_solo(alloc: Global, puzzle: &SoloPuzzle) -> Result<String, AllocError>
     ensures text { IfOk result (λ text. string_bytes text ≡ solo_text puzzle.now) }
     ensures form { IfOk result (λ text. IsWrittenSolo (string_bytes text) puzzle.now) }
@@ -76,9 +79,11 @@ pub fn write_solo(alloc: Global, puzzle: &SoloPuzzle) -> Result<String, AllocErr
     written(alloc, puzzle)
 }
 
-/// Each puzzle of Solo has exactly one written text: the one that spells it with both numbers of the size, where each
-/// letter directly before a letter is `z` and `_` stands only between two numbers.
+/// Each puzzle of Solo has exactly one written text: the one that spells it with both numbers of
+/// the size, where each letter directly before a letter is `z` and `_` stands only between two
+/// numbers.
 pub fn one_written_text_of_solo()
     ensures some { (p : Solo) → IsSolo p → IsWrittenSolo (solo_text p) p }
-    ensures one { (text other : List ℕ) (p : Solo) → IsWrittenSolo text p → IsWrittenSolo other p → text ≡ other }
+    ensures one { (text other : List ℕ) (p : Solo) → IsWrittenSolo text p → IsWrittenSolo other p
+        → text ≡ other }
 {}

@@ -10,8 +10,8 @@ use grid_core::{Grid, Size};
 use std::alloc::{AllocError, Global};
 use std::marker::Model;
 
-/// The trees of a grid of at least 2 columns and 2 rows, and the number of tents of each column and row, which is at
-/// most the line's cells.
+/// The trees of a grid of at least 2 columns and 2 rows, and the number of tents of each column and
+/// row, which is at most the line's cells.
 #[derive(Debug, Drop)]
 pub struct TentsPuzzle {
     size: Size,
@@ -30,8 +30,8 @@ impl Model for TentsPuzzle {
 }
 
 impl TentsPuzzle {
-    /// The puzzle of that size with these trees by place, 1 for a tree and 0 for any other cell, and these numbers of
-    /// tents of the columns from the left and then of the rows from the top.
+    /// The puzzle of that size with these trees by place, 1 for a tree and 0 for any other cell,
+    /// and these numbers of tents of the columns from the left and then of the rows from the top.
     pub(crate) fn of_lists(size: Size, trees: Vec<u8>, counts: Vec<u8>) -> TentsPuzzle
         requires { IsTents (record { size = size; trees = trees.items; counts = counts.items }) }
         ensures { result ≡ record { size = size; trees = trees.items; counts = counts.items } }
@@ -43,8 +43,8 @@ impl TentsPuzzle {
         }
     }
 
-    /// The puzzle of that size with these trees, whose numbers are those of the tents of each column and row. In both
-    /// grids 1 is a tree or a tent, and 0 is none.
+    /// The puzzle of that size with these trees, whose numbers are those of the tents of each
+    /// column and row. In both grids 1 is a tree or a tent, and 0 is none.
     ///
     /// # Errors
     ///
@@ -109,7 +109,8 @@ impl TentsPuzzle {
         self.trees[place] == 1
     }
 
-    /// The number of tents of a line. Lines are the columns from the left, and then the rows from the top.
+    /// The number of tents of a line. Lines are the columns from the left, and then the rows from
+    /// the top.
     pub fn count(&self, line: usize) -> u8
         requires { line < lines_of self.now.size }
         ensures value { result ≡ slice_index self.now.counts line }

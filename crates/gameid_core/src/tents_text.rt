@@ -59,7 +59,9 @@ fn count_at<'a>(
     after: &'a [u8],
 ) -> Result<(u8, &'a [u8]), IdFault>
     requires { at < 2 ^ 32 }
-    ensures { TakesNumber (tents_count size at (record { places = places.now; counts = counts.now })) (44 ∷ after.now) result }
+    ensures { TakesNumber
+        (tents_count size at (record { places = places.now; counts = counts.now }))
+        (44 ∷ after.now) result }
 {
     if places.len() <= size.cells() {
         return Err(IdFault::TooFew);
@@ -85,7 +87,8 @@ fn parts(
     description: &[u8],
 ) -> Result<(Vec<u8>, Vec<u8>), IdFault>
     requires { base + length description.now < 2 ^ 32 }
-    ensures { Gives (λ x. record { places = x.0.items; counts = x.1.items }) result (tents_at size base description.now) }
+    ensures { Gives (λ x. record { places = x.0.items; counts = x.1.items }) result
+        (tents_at size base description.now) }
 {
     let mut places = Vec::new(alloc);
     let mut counts = Vec::new(alloc);
@@ -131,16 +134,18 @@ fn read(alloc: Global, text: &[u8]) -> Result<TentsPuzzle, IdFault>
 
 /// The puzzle that the ID spells.
 ///
-/// The description is the one that Tents of Simon Tatham's Portable Puzzle Collection writes: the cells row by row
-/// from the top left and one tree after them, `_` for a tree, `a` to `y` for 1 to 25 blank cells and a tree, and `z`
-/// for 25 blank cells and no tree; and then, for each column from the left and each row from the top, a `,` and the
-/// number of its tents.
+/// The description is the one that Tents of Simon Tatham's Portable Puzzle Collection writes: the
+/// cells row by row from the top left and one tree after them, `_` for a tree, `a` to `y` for 1 to
+/// 25 blank cells and a tree, and `z` for 25 blank cells and no tree; and then, for each column
+/// from the left and each row from the top, a `,` and the number of its tents.
 ///
 /// # Errors
 ///
-/// The ID's first fault: the tests of the part before the colon come first, in their order and on the whole ID, and then
-/// the first fault that is met in the description from left to right. A fault's place is the number of bytes of the ID
-/// before it. `IdFault::Memory` comes only where memory was wanted for what was read so far.
+/// The ID's first fault: the tests of the part before the colon come first, in their order and on
+/// the whole ID, and then the first fault that is met in the description from left to right. A
+/// fault's place is the number of bytes of the ID before it. `IdFault::Memory` comes only where
+/// memory was wanted for what was read so far.
+#[tactic(auto, using(crate::proofs::TentsTexts::tents_takes))]
 pub fn read_tents(alloc: Global, text: &[u8]) -> Result<TentsPuzzle, IdFault>
     // What is read is spelled so.
     ensures found { IfOk result (λ p. SpellsTents text.now p) }
@@ -157,12 +162,16 @@ pub fn read_tents(alloc: Global, text: &[u8]) -> Result<TentsPuzzle, IdFault>
 /// Each text spells exactly one puzzle of Tents or has exactly one fault, and never both.
 pub fn one_reading_of_tents()
     ensures one { (text : List ℕ) (p q : Tents) → SpellsTents text p → SpellsTents text q → p ≡ q }
-    ensures apart { (text : List ℕ) (p : Tents) (f : IdFault) → SpellsTents text p → tents_of text ≡ Err f → ⊥ }
-    ensures either { (text : List ℕ) → ((p : Tents) × SpellsTents text p) ⊎ ((f : IdFault) × (tents_of text ≡ Err f)) }
+    ensures apart { (text : List ℕ) (p : Tents) (f : IdFault) → SpellsTents text p
+        → tents_of text ≡ Err f → ⊥ }
+    ensures either { (text : List ℕ) → ((p : Tents) × SpellsTents text p)
+        ⊎ ((f : IdFault) × (tents_of text ≡ Err f)) }
 {}
 
-/// A description's fault is that of its first token with one, or of its end, after tokens without fault.
+/// A description's fault is that of its first token with one, or of its end, after tokens without
+/// fault.
 pub fn first_fault_of_tents()
-    ensures { (size : Extent) (at : ℕ) (description : List ℕ) (f : IdFault) → (tents_at size at description ≡ Err f)
+    ensures { (size : Extent) (at : ℕ) (description : List ℕ) (f : IdFault)
+        → (tents_at size at description ≡ Err f)
         ↔ FirstFault (tents_step size) (tents_end size) at no_places (words description) f }
 {}

@@ -24,7 +24,8 @@ fn push_blank(out: &mut String, blanks: u8) -> Result<u8, AllocError>
     requires { blanks ≤ 25 }
     ensures few { IfOk result (λ k. k ≤ 25) }
     ensures text { IfOk result (λ k. (cells : List ℕ)
-        → string_bytes out.new ++ trees_text k cells ≡ string_bytes out.old ++ trees_text blanks (0 ∷ cells)) }
+        → string_bytes out.new ++ trees_text k cells
+        ≡ string_bytes out.old ++ trees_text blanks (0 ∷ cells)) }
 {
     if blanks == 25 {
         out.push('z')?;
@@ -53,7 +54,8 @@ fn push_trees(out: &mut String, trees: &[u8]) -> Result<(), AllocError>
 
 /// Writes each line's number of tents, with ',' before it.
 fn push_counts(out: &mut String, counts: &[u8]) -> Result<(), AllocError>
-    ensures { OnOk result (string_bytes out.new ≡ string_bytes out.old ++ flat_map (λ n. 44 ∷ decimal n) counts.now) }
+    ensures { OnOk result (string_bytes out.new
+        ≡ string_bytes out.old ++ flat_map (λ n. 44 ∷ decimal n) counts.now) }
 {
     for count in counts {
         out.push(',')?;
@@ -76,12 +78,14 @@ fn written(alloc: Global, puzzle: &TentsPuzzle) -> Result<String, AllocError>
     Ok(out)
 }
 
-/// The one written ID of the puzzle, of at most `MAX_ID` bytes, which reads back to an equal puzzle. Both numbers of
-/// the size are written, no `z` stands before `_`, and no number has a leading zero.
+/// The one written ID of the puzzle, of at most `MAX_ID` bytes, which reads back to an equal
+/// puzzle. Both numbers of the size are written, no `z` stands before `_`, and no number has a
+/// leading zero.
 ///
 /// # Errors
 ///
 /// When memory was refused.
+#[tactic(auto, using(crate::proofs::TentsWritten::tents_is_written, crate::proofs::TentsWritten::tents_short))]
 pub fn write_tents(alloc: Global, puzzle: &TentsPuzzle) -> Result<String, AllocError>
     ensures text { IfOk result (λ text. string_bytes text ≡ tents_text puzzle.now) }
     ensures form { IfOk result (λ text. IsWrittenTents (string_bytes text) puzzle.now) }
@@ -91,9 +95,10 @@ pub fn write_tents(alloc: Global, puzzle: &TentsPuzzle) -> Result<String, AllocE
     written(alloc, puzzle)
 }
 
-/// Each puzzle of Tents has exactly one written text: the one that spells it with both numbers of the size, no `z`
-/// directly before `_`, and no leading zeros.
+/// Each puzzle of Tents has exactly one written text: the one that spells it with both numbers of
+/// the size, no `z` directly before `_`, and no leading zeros.
 pub fn one_written_text_of_tents()
     ensures some { (p : Tents) → IsTents p → IsWrittenTents (tents_text p) p }
-    ensures one { (text other : List ℕ) (p : Tents) → IsWrittenTents text p → IsWrittenTents other p → text ≡ other }
+    ensures one { (text other : List ℕ) (p : Tents) → IsWrittenTents text p → IsWrittenTents other p
+        → text ≡ other }
 {}

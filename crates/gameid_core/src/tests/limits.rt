@@ -5,9 +5,14 @@ use crate::{Game, IdFault};
 use std::test::Fail;
 
 #[test]
-fn the_longest_ids(rt: HostRuntime) -> Result<(), Fail> {
-    let (few, long) = (Some(IdFault::TooFew), Some(IdFault::TooLong));
-    let size = Some(IdFault::SizeRange);
+fn the_longest_ids_of_solo(rt: HostRuntime) -> Result<(), Fail> {
+    let (few, many, long) = (
+        Some(IdFault::TooFew),
+        Some(IdFault::TooMany),
+        Some(IdFault::TooLong),
+    );
+    let (range, size) = (Some(IdFault::NumberRange(4)), Some(IdFault::SizeRange));
+    let colon = Some(IdFault::NoColon);
     for (game, front, piece, count, end, fault) in [
         (Game::Solo, "2x2:", "_", 65_530, "p", None),
         (Game::Solo, "2x2:", "_", 65_531, "p", None),
@@ -15,52 +20,38 @@ fn the_longest_ids(rt: HostRuntime) -> Result<(), Fail> {
         (Game::Solo, "2x2x:", "_", 65_530, "p", None),
         (Game::Solo, "2x2x:", "_", 65_531, "p", long),
         (Game::Solo, "2x2:", "_", 65_532, "", few),
-        (Game::Solo, "2x2:", "z", 65_532, "", Some(IdFault::TooMany)),
+        (Game::Solo, "2x2:", "z", 65_532, "", many),
         (Game::Solo, "2x2:", "z", 65_533, "", long),
-        (
-            Game::Solo,
-            "2x2:",
-            "9",
-            65_532,
-            "",
-            Some(IdFault::NumberRange(4)),
-        ),
+        (Game::Solo, "2x2:", "9", 65_532, "", range),
         (Game::Solo, "2x2:", "9", 65_533, "", long),
         (Game::Solo, "", "9", 65_532, "x2:p", size),
         (Game::Solo, "", "9", 65_531, "x2x:p", size),
-        (Game::Solo, "", "9", 65_536, "", Some(IdFault::NoColon)),
+        (Game::Solo, "", "9", 65_536, "", colon),
         (Game::Solo, "", "9", 65_537, "", long),
-        (Game::LightUp, "", "z", 65_536, "", Some(IdFault::NoColon)),
+    ] {
+        let text = long_text(rt.alloc(), front, piece, count, end)?;
+        let found = fault_or_want(rt.alloc(), game, text.as_slice())?;
+        assert_eq!(rt; found, fault, "{game:?} {front} {count} {end}");
+    }
+    Ok(())
+}
+
+#[test]
+fn the_longest_ids_of_other_games(rt: HostRuntime) -> Result<(), Fail> {
+    let (many, long) = (Some(IdFault::TooMany), Some(IdFault::TooLong));
+    let (full, range) = (Some(IdFault::LineTooFull(0)), Some(IdFault::NumberRange(7)));
+    let colon = Some(IdFault::NoColon);
+    for (game, front, piece, count, end, fault) in [
+        (Game::LightUp, "", "z", 65_536, "", colon),
         (Game::LightUp, "", "z", 65_537, "", long),
-        (
-            Game::LightUp,
-            "2x2:",
-            "z",
-            65_532,
-            "",
-            Some(IdFault::TooMany),
-        ),
+        (Game::LightUp, "2x2:", "z", 65_532, "", many),
         (Game::Pattern, "1x1:", "0", 65_528, "1/1", None),
         (Game::Pattern, "1x1:", "0", 65_529, "1/1", None),
         (Game::Pattern, "1x1:", "0", 65_530, "1/1", long),
-        (
-            Game::Pattern,
-            "1x1:",
-            "9",
-            65_530,
-            "/1",
-            Some(IdFault::LineTooFull(0)),
-        ),
+        (Game::Pattern, "1x1:", "9", 65_530, "/1", full),
         (Game::Tents, "2x2:_c,", "0", 65_523, ",1,1,0", None),
         (Game::Tents, "2x2:_c,", "0", 65_524, ",1,1,0", long),
-        (
-            Game::Tents,
-            "2x2:_c,",
-            "0",
-            65_522,
-            "3,1,1,0",
-            Some(IdFault::NumberRange(7)),
-        ),
+        (Game::Tents, "2x2:_c,", "0", 65_522, "3,1,1,0", range),
     ] {
         let text = long_text(rt.alloc(), front, piece, count, end)?;
         let found = fault_or_want(rt.alloc(), game, text.as_slice())?;

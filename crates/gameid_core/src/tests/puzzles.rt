@@ -38,16 +38,11 @@ fn puzzles_of_grids(rt: HostRuntime) -> Result<(), Fail> {
 
 #[test]
 fn puzzles_of_parts(rt: HostRuntime) -> Result<(), Fail> {
+    let (corner, beside) = ([1, 0, 0, 0], [0, 1, 0, 0]);
+    let (two, ends) = ([0, 1, 0, 0, 0, 1], [1, 0, 1, 0, 0, 0]);
     let none = [0; 26];
     for (w, h, trees, tents, first, want) in [
-        (
-            2,
-            2,
-            &[1, 0, 0, 0][..],
-            &[0, 1, 0, 0][..],
-            0,
-            "2x2:_c,0,1,1,0",
-        ),
+        (2, 2, &corner[..], &beside[..], 0, "2x2:_c,0,1,1,0"),
         (
             13,
             2,
@@ -56,14 +51,7 @@ fn puzzles_of_parts(rt: HostRuntime) -> Result<(), Fail> {
             0,
             "13x2:za,0,0,0,0,0,0,0,0,0,0,0,0,0,0,0",
         ),
-        (
-            3,
-            2,
-            &[0, 1, 0, 0, 0, 1][..],
-            &[1, 0, 1, 0, 0, 0][..],
-            1,
-            "3x2:ac_,1,0,1,2,0",
-        ),
+        (3, 2, &two[..], &ends[..], 1, "3x2:ac_,1,0,1,2,0"),
     ] {
         let size = Size::new(w, h);
         assert!(rt; size.is_some());

@@ -1,4 +1,4 @@
-use Rattle.gameid_core.proofs.RunLaws.{runs-nil, runs-white, runs-black, runs-black_white}
+use Rattle.gameid_core.proofs.RunsFit.{runs-nil, runs-white, runs-black, runs-black_white}
 use Rattle.gameid_core.proofs.black_runs.runs_by_first_cells.Goals as goal
 
 pub returns-clause-none : goal.returns-clause-none

@@ -1,5 +1,5 @@
 use Rattle.std.proofs.Common.{◌+◌, ◌*◌, refl}
-use Rattle.gameid_core.proofs.EachBelow.{none_pushed, one_pushed}
+use Rattle.gameid_core.proofs.Lists.{none_pushed, one_pushed}
 use Rattle.gameid_core.proofs.grid_text.push_row.Goals as goal
 
 pub loop-x-init : goal.loop-x-init

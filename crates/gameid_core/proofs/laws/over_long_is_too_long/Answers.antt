@@ -4,7 +4,7 @@ use Rattle.gameid_core.specs.PatternText.{pattern_of}
 use Rattle.gameid_core.specs.SoloText.{solo_of}
 use Rattle.gameid_core.specs.TentsText.{tents_of}
 use Rattle.gameid_core.specs.declared.game.Game.TheVariants as game
-use Rattle.gameid_core.proofs.OverLong.{head_too_long}
+use Rattle.gameid_core.proofs.HeadLaws.{head_too_long}
 use Rattle.gameid_core.proofs.laws.over_long_is_too_long.Goals as goal
 
 pub returns-clause-pattern : goal.returns-clause-pattern

@@ -1,4 +1,4 @@
-use Rattle.gameid_core.proofs.WordLaws.{concat_words, concat_bytes}
+use Rattle.gameid_core.proofs.Tokens.{concat_words, concat_bytes}
 use Rattle.gameid_core.proofs.laws.tokens_lose_nothing.Goals as goal
 
 pub returns-clause-words : goal.returns-clause-words

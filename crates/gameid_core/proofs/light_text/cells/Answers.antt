@@ -4,7 +4,7 @@ use Rattle.std.proofs.lemmas.List.{length-replicate}
 use Rattle.std.proofs.lemmas.Result.{err_from_is_err_and}
 use Rattle.gameid_core.specs.LightText.{light_cells_at}
 use Rattle.gameid_core.proofs.Reading.{fails_is}
-use Rattle.gameid_core.proofs.LightReading.{turn_light, over_light, fault_light, few_light, done_light}
+use Rattle.gameid_core.proofs.LightTexts.{turn_light, over_light, fault_light, few_light, done_light}
 use Rattle.gameid_core.proofs.light_text.cells.Goals as goal
 
 pub loop-k-init : goal.loop-k-init

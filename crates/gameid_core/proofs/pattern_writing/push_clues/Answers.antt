@@ -1,7 +1,7 @@
 use Rattle.std.proofs.Common.{◌++◌, ℕ, List, ap, ◌∙◌, arith, []}
 use Rattle.std.specs.Prelude.{string_bytes}
 use Rattle.gameid_core.specs.PatternText.{clue_text}
-use Rattle.gameid_core.proofs.Joined.{joined_first, joined_more}
+use Rattle.gameid_core.proofs.Lists.{joined_first, joined_more}
 use Rattle.gameid_core.proofs.pattern_writing.push_clues.Goals as goal
 use Rattle.gameid_core.proofs.pattern_writing.push_clues.Goals.{then-line-gt0+in_ok-push, else-line-gt0}
 

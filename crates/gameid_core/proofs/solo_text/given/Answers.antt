@@ -1,7 +1,7 @@
 use Rattle.std.proofs.Common.{◌≡◌, ℕ, ◌<◌, ◌≤◌, List, ◌∷◌, Result, Ok, sym, ap, subst, ◌∙◌, arith, []}
 use Rattle.gameid_core.specs.declared.fault.IdFault.{IdFault}
 use Rattle.gameid_core.specs.Words.{Cuts, digits_front, after_digits, value}
-use Rattle.gameid_core.proofs.SoloReading.{number_word, solo_given, solo_over}
+use Rattle.gameid_core.proofs.SoloTexts.{number_word, solo_given, solo_over}
 use Rattle.gameid_core.proofs.solo_text.given.Goals as goal
 
 abbrev one : ℕ → Result (List ℕ) IdFault

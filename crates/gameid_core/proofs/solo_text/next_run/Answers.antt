@@ -2,7 +2,7 @@ use Rattle.std.proofs.Common.{◌≡◌, ℕ, ◌-◌, List, ◌∷◌, Result, 
 use Rattle.std.specs.Prelude.{replicate}
 use Rattle.gameid_core.specs.declared.fault.IdFault.{IdFault}
 use Rattle.gameid_core.specs.Words.{Cuts}
-use Rattle.gameid_core.proofs.SoloReading.{solo_letter, solo_gap, bad_byte}
+use Rattle.gameid_core.proofs.SoloTexts.{solo_letter, solo_gap, bad_byte}
 use Rattle.gameid_core.proofs.solo_text.next_run.Goals as goal
 use Rattle.gameid_core.proofs.solo_text.next_run.Goals.{else-first-ge97-via-then-first-ge97+else-first-le122, else-first-ge97-via-else-first-ge97, else-first-ge49-via-then-first-ge49+else-first-le57, else-first-ge49-via-else-first-ge49}
 

@@ -2,7 +2,7 @@ use Rattle.std.proofs.Common.{◌≡◌, ℕ, ◌++◌, Bool, List, ap, arith}
 use Rattle.std.specs.Prelude.{string_bytes}
 use Rattle.std.proofs.lemmas.Result.{on_ok_weaker}
 use Rattle.gameid_core.specs.SoloText.{cells_text}
-use Rattle.gameid_core.proofs.SoloWritten.{cells_end, cells_step_blank, cells_step_given}
+use Rattle.gameid_core.proofs.SoloCanon.{cells_end, cells_step_blank, cells_step_given}
 use Rattle.gameid_core.proofs.solo_writing.push_cells.Goals as goal
 use Rattle.gameid_core.proofs.solo_writing.push_cells.Goals.{then-given-eq0, else-given-eq0+in_ok-push_before+in_ok-push_number}
 

@@ -5,9 +5,9 @@ use Rattle.std.proofs.lemmas.List.{nil_from_length}
 use Rattle.grid_core.specs.Extent.{Extent}
 use Rattle.gameid_core.specs.declared.fault.IdFault.{IdFault}
 use Rattle.gameid_core.specs.Words.{Cuts}
-use Rattle.gameid_core.specs.TentsText.{tents_at, tents_count, run_cells}
-use Rattle.gameid_core.proofs.Reading.{cuts_shorter, fails_is}
-use Rattle.gameid_core.proofs.TentsReading.{at_tents, run_length, turn_count, fault_count, turn_run, over_run, bad_run, late_run, few_end, good_end}
+use Rattle.gameid_core.specs.TentsText.{tents_at, tents_step, tents_end, tents_count, run_cells}
+use Rattle.gameid_core.proofs.Reading.{cuts_shorter, fails_is, end_of}
+use Rattle.gameid_core.proofs.TentsReading.{at_tents, run_length, turn_count, fault_count, turn_run, over_run, bad_run, late_run, end_few, end_full}
 use Rattle.gameid_core.proofs.tents_text.parts.Goals as goal
 
 pub loop-first-init : goal.loop-first-init
@@ -20,11 +20,11 @@ loop-first-init c =
 
 pub returns-then-len-lines : goal.returns-then-len-lines
 returns-then-len-lines c =
-    few_end c.args.size _ c.loop-first.places.items c.loop-first.counts.items _ _ c.in_default.ensures (λ e. c.if-len-lines.true (omega (arith, c.lines.ensures.value, c.loop-first.counts.ok.0))) c.loop-first.invariant.so_far
+    end_of (tents_step c.args.size) (tents_end c.args.size) _ (at_tents c.loop-first.places.items c.loop-first.counts.items) _ _ _ c.in_default.ensures (end_few _ _ _ (λ e. c.if-len-lines.true (omega (arith, c.lines.ensures.value, c.loop-first.counts.ok.0)))) c.loop-first.invariant.so_far
 
 pub returns : goal.returns
 returns c =
-    good_end c.args.size _ c.loop-first.places.items c.loop-first.counts.items _ _ c.in_default.ensures (omega (arith, c.lines.ensures.value, c.loop-first.counts.ok.0)) c.loop-first.invariant.so_far
+    end_of (tents_step c.args.size) (tents_end c.args.size) _ (at_tents c.loop-first.places.items c.loop-first.counts.items) _ _ _ c.in_default.ensures (end_full _ _ _ (omega (arith, c.lines.ensures.value, c.loop-first.counts.ok.0))) c.loop-first.invariant.so_far
 
 -- the lists that the call saw are those of the vectors
 seen : (size : Extent) (at : ℕ) (places places' counts counts' word : List ℕ) (r : Result ℕ IdFault) → places' ≡ places → counts' ≡ counts → tents_count size at (at_tents places' counts') word ≡ r → tents_count size at (at_tents places counts) word ≡ r

@@ -1,6 +1,6 @@
 use Rattle.std.proofs.Common.{◌≡◌, rules}
-use Rattle.gameid_core.proofs.LightLaws.{sized}
-use Rattle.gameid_core.proofs.TentsLaws.{tents_fits}
+use Rattle.gameid_core.proofs.LightTexts.{sized}
+use Rattle.gameid_core.proofs.TentsReading.{tents_fits}
 use Rattle.gameid_core.proofs.tents_text.read.Goals as goal
 
 pub of_lists-requires : goal.of_lists-requires
