@@ -373,3 +373,11 @@ next-at scopes c from houses (Some h) at (k, lt, is, late, before) =
           let at_j = at.each j (omega arith) on_j in
           absurd (omega arith)),
     )
+
+-- a house of the list has the place, and its number among these is its place in the list
+pub nth-at : (scopes : List (List ℕ)) (c k : ℕ) (houses : List ℕ) → AreHousesAt scopes c houses → k < length houses
+    → (slice_index houses k < length scopes) × (has_place (scope_of scopes (slice_index houses k)) c ≡ true) × (number_at scopes (slice_index houses k) c ≡ k)
+nth-at scopes c k houses at lt =
+    let w = numbered (λ j. has_place (scope_of scopes j) c) (length scopes) k (let e = at.as_many in omega arith) in
+    let same : slice_index houses k ≡ w.0 = ap (slice_index houses) (sym w.3) ∙ at.each w.0 w.1 w.2 in
+    rw same (w.1, w.2, w.3)

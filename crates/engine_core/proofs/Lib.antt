@@ -2,6 +2,8 @@ pub mod BitLemmas
 pub mod SetLemmas
 pub mod ClosingLemmas
 pub mod WaitLemmas
+pub mod CallLemmas
+pub mod ChangeLemmas
 pub mod QueueLemmas
 pub mod ListLemmas
 pub mod SweepLemmas
@@ -22,3 +24,4 @@ pub mod EndLemmas
 pub mod SearchingLemmas
 pub mod PieceLemmas
 pub mod IndexLemmas
+pub mod KthLemmas

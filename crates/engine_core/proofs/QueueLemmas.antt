@@ -3,13 +3,13 @@ use Rattle.std.proofs.lemmas.Bool.{and_left, and_right, cases_Bool, cases_eq, tr
 use Rattle.std.proofs.Math.Nat.{mul-le-mul_right}
 use Rattle.std.proofs.Math.Seq.{take-suc-set}
 use Rattle.grid_core.specs.Candidates.{Candidates, IsWithin, any_below, count_below, sum_below, is_dead, only}
-use Rattle.grid_core.proofs.CandidateLemmas.{any_below-here, any_below-some, any_below-none, count_below-le, count_below-lt, count_below-any, count_below-kept, count_below-pos, count_below-none, count_below-bound, count_below-same, sum_below-le, sum_below-add, is_dead-not, is_dead-here, is_dead-each, is_dead-inside}
+use Rattle.grid_core.proofs.CandidateLemmas.{any_below-here, any_below-some, any_below-none, count_below-le, count_below-lt, count_below-any, count_below-kept, count_below-pos, count_below-none, count_below-bound, sum_below-le, sum_below-add, is_dead-not, is_dead-here, is_dead-each, is_dead-inside}
 use Rattle.grid_core.specs.Board.{Layout, SameShape, has, cells_of}
 use Rattle.grid_core.proofs.BoardLemmas.{has-within}
 use Rattle.grid_core.proofs.GridLemmas.{only-inside, only-other, only-here}
 use Rattle.engine_core.specs.Puzzle.{Puzzle, IsLawful, IsClosed, IsInsideAt, IsBoardOf, after, has_place, share}
 use Rattle.engine_core.specs.PlaceLaws.{has_place-at, has_place-here}
-use Rattle.engine_core.specs.Queue.{calls, counts_of, woken, but, visits_left, IsRested, empties, IsClosedBut, waits_from}
+use Rattle.engine_core.specs.Queue.{calls, counts_of, woken, but, visits_left, IsRested, IsWoken, AreCalled, empties, IsClosedBut, waits_from}
 use Rattle.engine_core.proofs.ClosingLemmas.{after_inside}
 
 -- ---- what a visit leaves in the cells of other houses
@@ -68,11 +68,14 @@ rested_after p laws h K waits lth within rested = λ j c v ltj asleep on.
           ])
     ]
 
--- where every house waits, nothing is asked, and where those of the place do, no more than that the others are closed
-pub rested_from : (p : Puzzle) (K : Candidates) (from : Option ℕ) (waits : ℕ → Bool) → IsClosedBut p K from → ((j : ℕ) → j < p.houses → waits j ≡ waits_from p from j) → IsRested p K waits
+-- where the houses that a closing begins with were called for, each other one strikes nothing
+pub rested_from : (p : Puzzle) (K : Candidates) (from : Option ℕ) (waits : ℕ → Bool) → IsClosedBut p K from → AreCalled p K (waits_from p from) (λ j. false) waits → IsRested p K waits
 unfolding waits_from
-rested_from p K None waits around all = λ h c v lt asleep on. absurd (true≢false (sym (all h lt) ∙ asleep))
-rested_from p K (Some place) waits around same = λ h c v lt asleep on. around.closed h c v lt (sym (same h lt) ∙ asleep) on
+rested_from p K None waits around called = λ h c v lt asleep on. called.idle h lt asleep refl c v on
+rested_from p K (Some place) waits around called = λ h c v lt asleep on. elim (cases_Bool (has_place (p.scope h) place)) [
+  | inl here ↦ called.idle h lt asleep here c v on
+  | inr off ↦ around.closed h c v lt off on
+]
 
 -- a closed board whose cell lost all values but one is closed around it
 pub closed-but_only : (p : Puzzle) (laws : IsLawful p) (K : Candidates) (cell v : ℕ) → cell < p.cells → v < p.values → K cell v ≡ true → IsClosed p K → is_dead p.cells p.values K ≡ false → IsClosedBut p (only K cell v) (Some cell)
@@ -215,51 +218,6 @@ or_false false = refl
 pub unwoken : (x : Bool) → x ≡ (x || false)
 unwoken x = sym (or_false x)
 
-or_assoc : (x y z : Bool) → ((x || y) || z) ≡ (x || (y || z))
-or_assoc true y z = refl
-or_assoc false y z = refl
-
-step_then : (w0 w w' a h x : Bool) → w' ≡ (w || h) → w ≡ (w0 || a) → x ≡ true → w' ≡ (w0 || (a || (x && h)))
-step_then w0 w w' a h x e f g = rw (e, f, g) (or_assoc w0 a h)
-
-step_else : (w0 w w' a h x : Bool) → w' ≡ w → w ≡ (w0 || a) → x ≡ false → w' ≡ (w0 || (a || (x && h)))
-step_else w0 w w' a h x e f g = rw (e, f, g) (ap (λ b. w0 || b) (unwoken a))
-
--- the marks after a visit: of the house, then those that it called for, then its own where it is settled
-pub woken-from : (p : Puzzle) (h : ℕ) (before : ℕ → ℕ) (K : Candidates) (waits : ℕ → Bool) (j : ℕ) (cleared called left : Bool)
-    → cleared ≡ but waits h j → called ≡ (cleared || any_below (calls p h before K j) (length (p.scope h))) → left ≡ (called && not (p.settled && eqb j h))
-    → left ≡ woken p h before K (but waits h) j
-unfolding woken but
-woken-from p h before K waits j cleared called left e f g = rw (g, f, e) (settled_out (waits j) (eqb j h) (any_below (calls p h before K j) (length (p.scope h))) p.settled)
-  where
-    settled_out : (w e a s : Bool) → (((w && not e) || a) && not (s && e)) ≡ ((w && not e) || (a && not (s && e)))
-    settled_out true true a s = refl
-    settled_out true false true true = refl
-    settled_out true false true false = refl
-    settled_out true false false true = refl
-    settled_out true false false false = refl
-    settled_out false e a s = refl
-
-pub wake_then : (p : Puzzle) (h : ℕ) (before : ℕ → ℕ) (K : Candidates) (j k place : ℕ) (w0 w w' : Bool) → place ≡ slice_index (p.scope h) k
-    → w' ≡ (w || has_place (p.scope j) place)
-    → w ≡ (w0 || any_below (calls p h before K j) k)
-    → (before k ≡ count_below (K (slice_index (p.scope h) k)) p.values → ⊥)
-    → w' ≡ (w0 || any_below (calls p h before K j) (k + 1))
-unfolding counts_of
-wake_then p h before K j k place w0 w w' at e f ne =
-    rw any_below-more (step_then w0 w w' (any_below (calls p h before K j) k) (has_place (p.scope j) (slice_index (p.scope h) k)) (not (eqb (before k) (counts_of p h K k)))
-    (rw at at e) f (not_from_false (eqb (before k) (counts_of p h K k)) (ne_eqb (before k) (counts_of p h K k) ne)))
-
-pub wake_else : (p : Puzzle) (h : ℕ) (before : ℕ → ℕ) (K : Candidates) (j k : ℕ) (w0 w w' : Bool)
-    → w' ≡ w
-    → w ≡ (w0 || any_below (calls p h before K j) k)
-    → before k ≡ count_below (K (slice_index (p.scope h) k)) p.values
-    → w' ≡ (w0 || any_below (calls p h before K j) (k + 1))
-unfolding counts_of
-wake_else p h before K j k w0 w w' e f same =
-    rw any_below-more (step_else w0 w w' (any_below (calls p h before K j) k) (has_place (p.scope j) (slice_index (p.scope h) k)) (not (eqb (before k) (counts_of p h K k)))
-    e f (not_from_true (eqb (before k) (counts_of p h K k)) (eq-eqb (before k) (counts_of p h K k) same)))
-
 -- a cell that lost values is empty where it has none, and one that lost none counts for nothing
 pub empties_then : (p : Puzzle) (h : ℕ) (before : ℕ → ℕ) (K : Candidates) (k : ℕ) (d d' now : Bool) → d' ≡ (d || now) → d ≡ any_below (empties p h before K) k
     → (before k ≡ count_below (K (slice_index (p.scope h) k)) p.values → ⊥) → now ≡ eqb (count_below (K (slice_index (p.scope h) k)) p.values) 0
@@ -275,29 +233,29 @@ empties_else p h before K k d d' e f same =
     rw any_below-more (rw (e, f) (unwoken _ ∙ ap (λ b. any_below (empties p h before K) k || b) (sym (and_left _ (eqb (count_below (K (slice_index (p.scope h) k)) p.values) 0) (not_from_true _ (eq-eqb (before k) (count_below (K (slice_index (p.scope h) k)) p.values) same))))))
 
 -- ---- one turn of the queue
-visits_left-same : (p : Puzzle) (K : Candidates) (waits waits' : ℕ → Bool) → ((j : ℕ) → j < p.houses → waits j ≡ waits' j) → visits_left p K waits ≡ visits_left p K waits'
+visits_left-fewer : (p : Puzzle) (K : Candidates) (waits waits' : ℕ → Bool) → ((j : ℕ) → j < p.houses → waits j ≡ true → waits' j ≡ true) → visits_left p K waits ≤ visits_left p K waits'
 unfolding visits_left
-visits_left-same p K waits waits' same = ap (λ (n : ℕ). n + sum_below (λ c. (count_below (K c) p.values - 1) * share p c) p.cells) (count_below-same waits waits' p.houses same)
+visits_left-fewer p K waits waits' fewer = let le = count_below-le waits waits' p.houses fewer in omega arith
 
 pub visits_left-pos : (p : Puzzle) (K : Candidates) (waits : ℕ → Bool) (h : ℕ) → h < p.houses → waits h ≡ true → 0 < visits_left p K waits
 unfolding visits_left
 visits_left-pos p K waits h lt on = let some = count_below-pos waits p.houses h lt on in omega arith
 
 pub turn_enough : (p : Puzzle) (laws : IsLawful p) (h : ℕ) (K K' : Candidates) (waits waits' : ℕ → Bool) (visits : ℕ) → h < p.houses → waits h ≡ true → K' ≡ after p h K
-    → ((j : ℕ) → j < p.houses → waits' j ≡ woken p h (counts_of p h K) K' (but waits h) j)
-    → visits_left p K waits + visits ≤ p.bound
+    → IsWoken p h K K' waits waits' → visits_left p K waits + visits ≤ p.bound
     → is_dead p.cells p.values K' ≡ false → visits_left p K' waits' + (visits + 1) ≤ p.bound
-turn_enough p laws h K K' waits waits' visits lth waiting e same enough alive =
+turn_enough p laws h K K' waits waits' visits lth waiting e woke enough alive =
     let pays = visit_pays p laws h K waits lth waiting (rw e at alive) in
-    let eq = visits_left-same p K' waits' (woken p h (counts_of p h K) K' (but waits h)) same in
+    let less = visits_left-fewer p K' waits' (woken p h (counts_of p h K) K' (but waits h)) woke.fewer in
     let eq' : visits_left p K' (woken p h (counts_of p h K) K' (but waits h)) ≡ visits_left p (after p h K) (woken p h (counts_of p h K) (after p h K) (but waits h)) = ap (λ (L : Candidates). visits_left p L (woken p h (counts_of p h K) L (but waits h))) e in
     omega arith
 
 pub turn_rested : (p : Puzzle) (laws : IsLawful p) (h : ℕ) (K K' : Candidates) (waits waits' : ℕ → Bool) → h < p.houses → IsWithin p.cells p.values K → K' ≡ after p h K
-    → ((j : ℕ) → j < p.houses → waits' j ≡ woken p h (counts_of p h K) K' (but waits h) j)
-    → IsRested p K waits → IsRested p K' waits'
-turn_rested p laws h K K' waits waits' lth within e same rested = λ j c v lt asleep on.
-    rw e (rested_after p laws h K waits lth within rested j c v lt (ap (λ (L : Candidates). woken p h (counts_of p h K) L (but waits h) j) (sym e) ∙ (sym (same j lt) ∙ asleep)) (ap (λ (L : Candidates). L c v) (sym e) ∙ on))
+    → IsWoken p h K K' waits waits' → IsRested p K waits → IsRested p K' waits'
+turn_rested p laws h K K' waits waits' lth within e woke rested = λ j c v lt asleep on. elim (cases_Bool (woken p h (counts_of p h K) K' (but waits h) j)) [
+  | inl woken_up ↦ woke.idle j lt asleep woken_up c v on
+  | inr quiet ↦ rw e (rested_after p laws h K waits lth within rested j c v lt (ap (λ (L : Candidates). woken p h (counts_of p h K) L (but waits h) j) (sym e) ∙ quiet) (ap (λ (L : Candidates). L c v) (sym e) ∙ on))
+]
 
 pub pushed : (t : List ℕ) (n h : ℕ) → n < length t → take (n + 1) (set t n h) ≡ take n t ++ h ∷ []
 pushed t n h lt = rw add-one (take-suc-set t n h lt)

@@ -5,7 +5,7 @@ use Rattle.std.proofs.Math.Nat.{div-div-eq-div-mul, div-le_self}
 use Rattle.std.proofs.lemmas.Bool.{cases_eq, cases_lt, and_right, or_right, eq-eqb, ne_eqb, not_from_true}
 use Rattle.std.proofs.lemmas.List.{get_or-set_same, get_or-set_other, get_or-replicate}
 use Rattle.std.proofs.lemmas.Nat.{pow-add}
-use Rattle.std.proofs.lemmas.Nat.Bits.{bit_at_set_same, bit_at_set_other, bit_at_clear_same, bit_at_clear_other, bit_at_ones, bit_at-zero, bit_at-trailing_zeros, bit_at_above}
+use Rattle.std.proofs.lemmas.Nat.Bits.{bit_at_set_same, bit_at_set_other, bit_at_clear_same, bit_at_clear_other, bit_at-zero, bit_at-trailing_zeros, bit_at_above}
 use Rattle.engine_core.specs.Sets.{has_bit}
 use Rattle.engine_core.specs.Puzzle.{IsNext}
 use Rattle.engine_core.specs.Queue.{is_waiting, but}
@@ -74,13 +74,6 @@ waiting-unmark waits h j lt =
           let ne : j ≢ h = λ e. apart (ap (λ (k : ℕ). k / 64) e) in
           word-other waits (h / 64) new j apart ∙ and_true (is_waiting waits j) ∙ ap (λ b. is_waiting waits j && not b) (sym (ne_eqb j h ne))
     ]
-
--- ---- all marks at once
-pub waiting-all : (words j : ℕ) → j / 64 < words → is_waiting (replicate words 18446744073709551615) j ≡ true
-unfolding is_waiting
-waiting-all words j lt =
-    let small : j % 64 < 64 = omega arith in
-    ap (λ (x : ℕ). has_bit x (j % 64)) (get_or-replicate words (j / 64) 18446744073709551615 0 lt) ∙ ap (λ (b : ℕ). eqb b 1) (bit_at_ones 64 (j % 64) small)
 
 pub waiting-none : (words j : ℕ) → j / 64 < words → is_waiting (replicate words 0) j ≡ false
 unfolding is_waiting

@@ -35,6 +35,10 @@ after p h K c v = K c v && not (p.strikes h K c v)
 abbrev pub IsClosed : Puzzle → Candidates → Type 0
 IsClosed p K = (h c v : ℕ) → h < p.houses → K c v ≡ true → p.strikes h K c v ≡ false
 
+-- the house strikes no value that its cells still have
+abbrev pub IsIdle : Puzzle → ℕ → Candidates → Type 0
+IsIdle p h K = (c v : ℕ) → K c v ≡ true → p.strikes h K c v ≡ false
+
 -- at the cells of the list, each value that the first board has, the second has
 abbrev pub IsInsideAt : List ℕ → Candidates → Candidates → Type 0
 IsInsideAt scope K L = (c v : ℕ) → has_place scope c ≡ true → K c v ≡ true → L c v ≡ true
@@ -101,3 +105,8 @@ pub record IsBoardOf (p : Puzzle) (b : Layout) : Type 0 where
 abbrev pub IsNext : (ℕ → Bool) → ℕ → ℕ → Option ℕ → Type 0
 IsNext p n from None = (j : ℕ) → from ≤ j → j < n → p j ≡ false
 IsNext p n from (Some k) = (from ≤ k) × (k < n) × (p k ≡ true) × ((j : ℕ) → from ≤ j → j < k → p j ≡ false)
+
+-- the answer is the number below n that passes and has k before it that pass
+abbrev pub IsKth : (ℕ → Bool) → ℕ → ℕ → Option ℕ → Type 0
+IsKth p n k None = count_below p n ≤ k
+IsKth p n k (Some h) = (h < n) × (p h ≡ true) × (count_below p h ≡ k)

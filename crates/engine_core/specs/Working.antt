@@ -7,10 +7,11 @@ use Rattle.engine_core.specs.declared.work.Made.{Made}
 abbrev pub needs_made : Made → Needs
 needs_made m = record { cells = m.cells; values = m.values; houses = m.houses; bound = m.bound; scope = m.scope }
 
--- what the memory was taken for, and the room for the houses that a closing visits
-pub record Working : Type 0 where
+-- what the memory was taken for, the room for the houses that a closing visits, and the scratch of the rules
+pub record Working (S : Type 0) : Type 0 where
   pub made : Needs
   pub trace : List ℕ
+  pub scratch : S
 
 pub record IsWorkOf (by_queue : Bool) (made : Needs) (trace waits sets : List ℕ) : Type 0 where
   pub trace_long : length trace ≡ (if by_queue then made.bound else 0)

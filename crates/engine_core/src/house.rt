@@ -28,12 +28,10 @@ pub fn gather(board: &Board, places: &[u32], sets: &mut [u32])
 }
 
 /// Strikes from each of the places the values whose bit isn't set in `kept`, and says whether that was anything.
-pub fn apply(board: &mut Board, places: &[u32], values: u8, kept: &[u32]) -> bool
+pub fn apply(board: &mut Board, places: &[u32], kept: &[u32]) -> bool
     requires places_in { (k : ℕ) → k < length places.now
         → slice_index places.now k < cells_of board.old }
     requires as_many { length kept.now ≡ length places.now }
-    requires values_of { values ≡ board.old.values }
-    requires few { values ≤ 31 }
     ensures left { has board.new ≡ kept_in places.now kept.now (length places.now) (has board.old) }
     ensures shape { SameShape board.old board.new }
     ensures unchanged { result ≡ false → has board.new ≡ has board.old }
@@ -41,39 +39,9 @@ pub fn apply(board: &mut Board, places: &[u32], values: u8, kept: &[u32]) -> boo
 {
     let mut struck = false;
     for k in 0..places.len() {
-        struck |= apply_cell(board, places[k] as usize, values, kept[k]);
+        struck |= board.retain(places[k] as usize, kept[k]);
     }
     struck
-}
-
-/// Strikes from the cell the values whose bit isn't set, and says whether that was anything.
-fn apply_cell(board: &mut Board, place: usize, values: u8, kept: u32) -> bool
-    requires place_in { place < cells_of board.old }
-    requires values_of { values ≡ board.old.values }
-    requires few { values ≤ 31 }
-    ensures left { (c v : ℕ) → has board.new c v
-        ≡ (has board.old c v && not ((place == c) && not (is_set kept v))) }
-    ensures shape { SameShape board.old board.new }
-    ensures unchanged { result ≡ false → has board.new ≡ has board.old }
-    ensures changed { result ≡ true → HasStruck (has board.old) (has board.new) }
-{
-    if keeps_all(cell_bits(board, place), kept) {
-        return false;
-    }
-    let mut struck = false;
-    for value in 0..values {
-        if !has_bit(kept, value) {
-            struck |= board.strike(place, value);
-        }
-    }
-    struck
-}
-
-/// Whether each bit of the set is kept.
-fn keeps_all(set: u32, kept: u32) -> bool
-    ensures { (result ≡ true) ↔ ((v : ℕ) → is_set set v ≡ (is_set set v && is_set kept v)) }
-{
-    set & kept == set
 }
 
 /// Whether a set of values has the value: bit `value` of it.

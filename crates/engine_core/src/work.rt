@@ -1,17 +1,19 @@
 //! What closings work in.
 
-ghost use Rattle.std.specs.Prelude.{◌≡◌, ◌+◌, ◌≤◌, IfOk, length, take, if◌then◌else◌};
+ghost use Rattle.std.specs.Prelude.{◌≡◌, ◌+◌, ◌<◌, ◌≤◌, true, IfOk, length, take, drop, if◌then◌else◌};
 ghost use Rattle.grid_core.specs.Board.{has, SameShape};
-ghost use Rattle.grid_core.specs.Candidates.{total};
+ghost use Rattle.grid_core.specs.Candidates.{Candidates, total, only};
 ghost use Rattle.engine_core.specs.Frames.{IsTrail, IsNoted};
 ghost use Rattle.engine_core.specs.Mode.{is_queue};
 ghost use Rattle.engine_core.specs.Puzzle.{needs_of, FitsIn, IsBoardOf, IsGridOf};
 ghost use Rattle.engine_core.specs.Queue.{IsClosedBut, IsEnded};
+ghost use Rattle.engine_core.specs.Search.{restored};
 ghost use Rattle.engine_core.specs.Working.{needs_made};
 
 use crate::close::close_board;
 use crate::mode::Closed;
 use crate::rules::{Rules, by_queue};
+use crate::trail::{keep_noting, undo};
 use crate::waits::words_for;
 use grid_core::{Board, Grid};
 use std::alloc::{AllocError, Global};
@@ -42,9 +44,13 @@ impl<R: Rules> Model for Work<R> {
     ghost use Rattle.engine_core.specs.Mode.{is_queue};
     ghost use Rattle.engine_core.specs.Working.{Working, needs_made, IsWorkOf};
 
-    ghost Value = { Working };
+    ghost Value = { Working R.Scratch };
 
-    ghost view = { λ w. record { made = needs_made w.made; trace = w.trace.items } };
+    ghost view = { λ w. record {
+      made = needs_made w.made;
+      trace = w.trace.items;
+      scratch = w.scratch;
+    } };
 
     ghost invariant = { λ w. IsWorkOf (is_queue R.MODE) (needs_made w.made) w.trace.items
         w.waits.items w.sets.items × R.serves w.scratch (needs_made w.made) };
@@ -98,6 +104,7 @@ impl<R: Rules> Work<R> {
     ) -> Closed
         requires room { FitsIn (needs_of (R.puzzle rules.now)) self.old.made }
         requires board_of { IsBoardOf (R.puzzle rules.now) board.old }
+        requires follows { R.follows rules.now self.old.scratch (has board.old) }
         requires closed_but { IsClosedBut (R.puzzle rules.now) (has board.old) from }
         requires within { len ≤ length trail.old }
         requires entries { IsTrail (R.puzzle rules.now).cells (R.puzzle rules.now).values
@@ -110,6 +117,7 @@ impl<R: Rules> Work<R> {
         ensures noted { IsNoted (R.puzzle rules.now).cells (R.puzzle rules.now).values
             (has board.old) (has board.new) trail.old trail.new len result.len }
         ensures shape { SameShape board.old board.new }
+        ensures follows { R.follows rules.now self.new.scratch (has board.new) }
         ensures made { self.new.made ≡ self.old.made }
     {
         close_board(
@@ -131,9 +139,76 @@ impl<R: Rules> Work<R> {
         requires room { FitsIn (needs_of (R.puzzle rules.now)) self.old.made }
         requires fits { IsGridOf (R.puzzle rules.now) grid.now }
         ensures solution { result ≡ (R.puzzle rules.now).is_solution grid.now }
-        ensures same { self.new ≡ self.old }
+        ensures follows { (K : Candidates) → R.follows rules.now self.old.scratch K
+            → R.follows rules.now self.new.scratch K }
+        ensures made { self.new.made ≡ self.old.made }
+        ensures trace { self.new.trace ≡ self.old.trace }
     {
         rules.accept(&mut self.scratch, grid)
+    }
+
+    /// Begins to go along with the board.
+    pub(crate) fn follow(&mut self, rules: &R, board: &Board)
+        requires room { FitsIn (needs_of (R.puzzle rules.now)) self.old.made }
+        requires board_of { IsBoardOf (R.puzzle rules.now) board.now }
+        ensures follows { R.follows rules.now self.new.scratch (has board.now) }
+        ensures made { self.new.made ≡ self.old.made }
+        ensures trace { self.new.trace ≡ self.old.trace }
+    {
+        rules.follow(board, &mut self.scratch);
+    }
+
+    /// Takes the trail back to the mark: puts back what was struck since.
+    pub(crate) fn undo(
+        &mut self,
+        rules: &R,
+        board: &mut Board,
+        trail: &[(usize, u8)],
+        len: usize,
+        mark: usize,
+    )
+        requires board_of { IsBoardOf (R.puzzle rules.now) board.old }
+        requires follows { R.follows rules.now self.old.scratch (has board.old) }
+        requires marked { mark ≤ len }
+        requires within { len ≤ length trail.now }
+        requires entries { IsTrail (R.puzzle rules.now).cells (R.puzzle rules.now).values
+            trail.now len }
+        ensures left { has board.new ≡ restored (has board.old) (drop mark (take len trail.now)) }
+        ensures shape { SameShape board.old board.new }
+        ensures follows { R.follows rules.now self.new.scratch (has board.new) }
+        ensures made { self.new.made ≡ self.old.made }
+    {
+        undo(rules, board, &mut self.scratch, trail, len, mark);
+    }
+
+    /// Leaves that value alone in the cell, and notes what it strikes.
+    pub(crate) fn keep(
+        &mut self,
+        rules: &R,
+        board: &mut Board,
+        place: usize,
+        value: u8,
+        trail: &mut [(usize, u8)],
+        len: usize,
+    ) -> usize
+        requires board_of { IsBoardOf (R.puzzle rules.now) board.old }
+        requires follows { R.follows rules.now self.old.scratch (has board.old) }
+        requires place_in { place < (R.puzzle rules.now).cells }
+        requires value_in { value < (R.puzzle rules.now).values }
+        requires there { has board.old place value ≡ true }
+        requires within { len ≤ length trail.old }
+        requires entries { IsTrail (R.puzzle rules.now).cells (R.puzzle rules.now).values
+            trail.old len }
+        requires room { total (R.puzzle rules.now).cells (R.puzzle rules.now).values
+            (has board.old) + len ≤ length trail.old }
+        ensures left { has board.new ≡ only (has board.old) place value }
+        ensures noted { IsNoted (R.puzzle rules.now).cells (R.puzzle rules.now).values
+            (has board.old) (has board.new) trail.old trail.new len result }
+        ensures shape { SameShape board.old board.new }
+        ensures follows { R.follows rules.now self.new.scratch (has board.new) }
+        ensures made { self.new.made ≡ self.old.made }
+    {
+        keep_noting(rules, board, &mut self.scratch, place, value, trail, len)
     }
 }
 

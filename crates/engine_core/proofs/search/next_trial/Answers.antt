@@ -1,7 +1,6 @@
 use Rattle.std.proofs.Common.{◌+◌, ◌-◌, ◌<◌, length, arith}
 use Rattle.grid_core.specs.Board.{has}
-use Rattle.engine_core.proofs.QueueLemmas.{IsBoardOf-same}
-use Rattle.engine_core.proofs.FrameLemmas.{open-cell, ready-back, room-of, noted-of, turn-ready, turn-single, turn-closed, turn-marks, turn-done}
+use Rattle.engine_core.proofs.FrameLemmas.{open-cell, ready-back, turn-ready, turn-single, turn-closed, turn-marks, turn-done}
 use Rattle.engine_core.proofs.search.next_trial.Goals as goal
 
 pub slice_copy_out-top : goal.slice_copy_out-top
@@ -33,12 +32,9 @@ returns-in-Some-clause-deep g c =
     let o = open-cell (g.R.Rules.puzzle c.args.rules.now) (has c.args.board.now) c.args.trail.now c.args.frames.now c.args.depth c.args.len.now c.requires.ready c.requires.deep in
     omega (arith, o.1)
 
-pub keep_noting-requires-clause-room : goal.keep_noting-requires-clause-room
-keep_noting-requires-clause-room g c =
-    let p = g.R.Rules.puzzle c.args.rules.now in
-    let ready = ready-back p (has c.args.board.now) (has c.undo.new.board) c.args.trail.now c.args.frames.now c.args.depth c.args.len.now c.requires.ready c.requires.deep c.undo.ensures.left in
-    let of = IsBoardOf-same p c.args.board.now c.undo.new.board c.requires.board_of c.undo.ensures.shape in
-    room-of p c.undo.new.board _ c.args.trail.now of ready.room
+pub keep-requires-clause-room : goal.keep-requires-clause-room
+keep-requires-clause-room g c =
+    (ready-back (g.R.Rules.puzzle c.args.rules.now) (has c.args.board.now) (has c.undo.new.board) c.args.trail.now c.args.frames.now c.args.depth c.args.len.now c.requires.ready c.requires.deep c.undo.ensures.left).room
 
 pub returns-in-None-clause-turn : goal.returns-in-None-clause-turn
 returns-in-None-clause-turn g c =
@@ -54,17 +50,15 @@ returns-in-Some-clause-turn g c =
     let p = g.R.Rules.puzzle c.args.rules.now in
     let K = has c.args.board.now in
     let K1 = has c.undo.new.board in
-    let K2 = has c.keep_noting.new.board in
+    let K2 = has c.keep.new.board in
     let n = c.args.depth in
     let o = open-cell p K c.args.trail.now c.args.frames.now n c.args.len.now c.requires.ready c.requires.deep in
     let room : n - 1 < length c.args.frames.now = (let fr = c.requires.frames_room in omega (arith, o.1)) in
-    let of = IsBoardOf-same p c.args.board.now c.undo.new.board c.requires.board_of c.undo.ensures.shape in
-    let noted = noted-of p c.undo.new.board K1 K2 c.args.trail.now c.keep_noting.new.trail _ c.keep_noting.result of c.keep_noting.ensures.noted in
     let next = rw c.values-values.ensures at c.in-Some.ensures in
     record {
-      marks_are = turn-marks p K K1 K2 c.args.trail.now c.keep_noting.new.trail c.args.frames.now n c.args.len.now c.keep_noting.result c.in-Some.value c.requires.ready c.requires.deep room c.undo.ensures.left next c.keep_noting.ensures.left noted;
-      closed_but = turn-closed p (g.met.R.Rules.lawful c.args.rules.now) K K1 K2 c.args.trail.now c.args.frames.now n c.args.len.now c.in-Some.value c.requires.ready c.requires.deep c.undo.ensures.left next.1 next.2 c.keep_noting.ensures.left;
-      single = turn-single p K K1 K2 c.args.trail.now c.args.frames.now n c.args.len.now c.in-Some.value c.requires.ready c.requires.deep c.undo.ensures.left next.1 next.2 c.keep_noting.ensures.left;
+      marks_are = turn-marks p K K1 K2 c.args.trail.now c.keep.new.trail c.args.frames.now n c.args.len.now c.keep.result c.in-Some.value c.requires.ready c.requires.deep room c.undo.ensures.left next c.keep.ensures.left c.keep.ensures.noted;
+      closed_but = turn-closed p (g.met.R.Rules.lawful c.args.rules.now) K K1 K2 c.args.trail.now c.args.frames.now n c.args.len.now c.in-Some.value c.requires.ready c.requires.deep c.undo.ensures.left next.1 next.2 c.keep.ensures.left;
+      single = turn-single p K K1 K2 c.args.trail.now c.args.frames.now n c.args.len.now c.in-Some.value c.requires.ready c.requires.deep c.undo.ensures.left next.1 next.2 c.keep.ensures.left;
     }
 
 pub returns-in-Some-clause-ready : goal.returns-in-Some-clause-ready
@@ -74,6 +68,4 @@ returns-in-Some-clause-ready g c =
     let n = c.args.depth in
     let o = open-cell p K c.args.trail.now c.args.frames.now n c.args.len.now c.requires.ready c.requires.deep in
     let room : n - 1 < length c.args.frames.now = (let fr = c.requires.frames_room in omega (arith, o.1)) in
-    let of = IsBoardOf-same p c.args.board.now c.undo.new.board c.requires.board_of c.undo.ensures.shape in
-    let noted = noted-of p c.undo.new.board (has c.undo.new.board) (has c.keep_noting.new.board) c.args.trail.now c.keep_noting.new.trail _ c.keep_noting.result of c.keep_noting.ensures.noted in
-    turn-ready p K (has c.undo.new.board) (has c.keep_noting.new.board) c.args.trail.now c.keep_noting.new.trail c.args.frames.now n c.args.len.now c.keep_noting.result (c.in-Some.value + 1) c.requires.ready c.requires.deep room c.undo.ensures.left noted
+    turn-ready p K (has c.undo.new.board) (has c.keep.new.board) c.args.trail.now c.keep.new.trail c.args.frames.now n c.args.len.now c.keep.result (c.in-Some.value + 1) c.requires.ready c.requires.deep room c.undo.ensures.left c.keep.ensures.noted

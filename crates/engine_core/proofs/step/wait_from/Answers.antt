@@ -1,19 +1,26 @@
-use Rattle.std.proofs.Common.{◌≡◌, ◌/◌, ◌<◌, ◌∙◌, false, length, replicate, refl, arith, rules}
+use Rattle.std.proofs.Common.{◌≡◌, true, length, replicate, refl, arith, rules}
+use Rattle.engine_core.specs.Puzzle.{has_place}
 use Rattle.engine_core.specs.Queue.{is_waiting, waits_from}
-use Rattle.engine_core.proofs.WaitLemmas.{waiting-all, waiting-none}
+use Rattle.engine_core.proofs.WaitLemmas.{waiting-none}
+use Rattle.engine_core.proofs.CallLemmas.{called-from}
 use Rattle.engine_core.proofs.step.wait_from.Goals as goal
 
 pub returns-in-None : goal.returns-in-None
 unfolding waits_from
-returns-in-None g c = λ j lt.
-    let made : c.fill.new.self ≡ replicate (length c.args.waits.now) 18446744073709551615 = search rules in
-    let room : j / 64 < length c.args.waits.now = (let long = c.requires.waits_of in omega arith) in
-    rw (made, c.in-None.is) (waiting-all (length c.args.waits.now) j room)
+returns-in-None g c = record {
+  called = λ K follows.
+      let p = g.R.Rules.puzzle c.args.rules.now in
+      let made : c.fill.new.self ≡ replicate (length c.args.waits.now) 0 = search rules in
+      rw c.in-None.is (called-from p K (λ j. true) (λ j. true) (is_waiting c.fill.new.self) (is_waiting c.mark_all.new.waits)
+      (λ j lt. rw made (waiting-none (length c.args.waits.now) j (let long = c.requires.waits_of in omega arith))) (λ j lt. refl) (c.mark_all.ensures.called K follows));
+}
 
 pub returns-in-Some : goal.returns-in-Some
 unfolding waits_from
-returns-in-Some g c = λ j lt.
-    let made : c.fill-in-Some.new.self ≡ replicate (length c.args.waits.now) 0 = search rules in
-    let room : j / 64 < length c.args.waits.now = (let long = c.requires.waits_of in omega arith) in
-    let none : is_waiting c.fill-in-Some.new.self j ≡ false = rw made (waiting-none (length c.args.waits.now) j room) in
-    c.mark_place.ensures j lt ∙ rw (none, c.in-Some.is) refl
+returns-in-Some g c = record {
+  called = λ K follows.
+      let p = g.R.Rules.puzzle c.args.rules.now in
+      let made : c.fill.new.self ≡ replicate (length c.args.waits.now) 0 = search rules in
+      rw c.in-Some.is (called-from p K (λ j. has_place (p.scope j) c.in-Some.place) (λ j. has_place (p.scope j) c.in-Some.place) (is_waiting c.fill.new.self) (is_waiting c.mark_place.new.waits)
+      (λ j lt. rw made (waiting-none (length c.args.waits.now) j (let long = c.requires.waits_of in omega arith))) (λ j lt. refl) (c.mark_place.ensures.called K follows));
+}

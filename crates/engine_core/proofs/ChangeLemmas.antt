@@ -1,0 +1,94 @@
+-- Boards that differ in one cell alone.
+use Rattle.std.proofs.Common.{◌≡◌, ℕ, ◌+◌, ◌<◌, length, slice_index, Bool, true, false, not, ◌&&◌, ◌||◌, eqb, refl, sym, ap, ◌∙◌, subst, inl, inr, arith}
+use Rattle.std.proofs.lemmas.Bool.{cases_eq, ne_eqb, eq-eqb}
+use Rattle.std.proofs.Math.Path.{fun_ext}
+use Rattle.grid_core.specs.Board.{Layout, has, SameShape}
+use Rattle.grid_core.specs.Candidates.{Candidates, IsInside, IsWithin, only, with_value}
+use Rattle.grid_core.proofs.BoardLemmas.{has-within}
+use Rattle.engine_core.specs.Puzzle.{Puzzle, IsLawful, IsBoardOf}
+use Rattle.engine_core.specs.PlaceLaws.{has_place-here}
+use Rattle.engine_core.specs.Sets.{IsBitsOf, IsChange}
+use Rattle.engine_core.specs.Frames.{cell_noted}
+use Rattle.engine_core.proofs.NoteLemmas.{scope_upto, scope-before, scope-more, cell-noted-same}
+
+-- by the bits that boards give for a cell
+pub change-of : (p : Puzzle) (b b' : Layout) (place before after : ℕ) → IsBoardOf p b → SameShape b b' → place < p.cells → IsBitsOf (has b place) b.values before → IsBitsOf (has b' place) b'.values after
+    → ((c v : ℕ) → (c ≡ place → ⊥) → has b' c v ≡ has b c v) → IsChange p.cells p.values (has b) (has b') place before after
+change-of p b b' place before after of shape lt was is others = record {
+  place_in = lt;
+  before_is = subst (λ n. IsBitsOf (has b place) n before) of.same_values was;
+  after_is = subst (λ n. IsBitsOf (has b' place) n after) (shape.same_values ∙ of.same_values) is;
+  within = λ v on. let w = has-within b' place v on in let a = shape.same_values in let c = of.same_values in omega (arith, w.1);
+  others = others;
+}
+
+pub restored-others : (K K' : Candidates) (place value c v : ℕ) → K' ≡ with_value K place value → (c ≡ place → ⊥) → K' c v ≡ K c v
+unfolding with_value
+restored-others K K' place value c v e ne = ap (λ (L : Candidates). L c v) e ∙ rw (ne_eqb c place ne) (by (K c v))
+  where
+    by : (x : Bool) → (x || false) ≡ x
+    by true = refl
+    by false = refl
+
+pub kept-others : (K K' : Candidates) (place value c v : ℕ) → K' ≡ only K place value → (c ≡ place → ⊥) → K' c v ≡ K c v
+unfolding only
+kept-others K K' place value c v e ne = ap (λ (L : Candidates). L c v) e ∙ rw (ne_eqb c place ne) (by (K c v))
+  where
+    by : (x : Bool) → (x && true) ≡ x
+    by true = refl
+    by false = refl
+
+-- a cell of which one value alone is left
+pub only-noted : (K K' : Candidates) (place value : ℕ) → K' ≡ only K place value → cell_noted K place K' ≡ K'
+unfolding cell_noted only
+only-noted K K' place value e = fun_ext λ c. fun_ext λ v. rw e (elim (cases_eq c place) [
+  | inl s ↦ by (K c v) (eqb c place) (eqb v value)
+  | inr ne ↦ by (K c v) (eqb c place) (eqb v value)
+])
+  where
+    by : (a c v : Bool) → (a && (not c || (a && (not c || v)))) ≡ (a && (not c || v))
+    by true true true = refl
+    by true true false = refl
+    by true false v = refl
+    by false c v = refl
+
+-- a cell that has the values of another board in place of its own
+pub noted-change : (p : Puzzle) (V K' : Candidates) (place before after : ℕ) → place < p.cells → IsBitsOf (V place) p.values before → IsBitsOf (K' place) p.values after
+    → ((v : ℕ) → K' place v ≡ true → V place v ≡ true) → ((v : ℕ) → K' place v ≡ true → v < p.values) → IsChange p.cells p.values V (cell_noted V place K') place before after
+unfolding cell_noted
+noted-change p V K' place before after lt was is inside within = record {
+  place_in = lt;
+  before_is = was;
+  after_is = record { small = is.small; same = λ v ltv. is.same v ltv ∙ here (V place v) (K' place v) (inside v) };
+  within = λ v on. within v (here (V place v) (K' place v) (inside v) ∙ on);
+  others = λ c v ne. rw (ne_eqb c place ne) (whole (V c v));
+}
+  where
+    here : (a b : Bool) → (b ≡ true → a ≡ true) → b ≡ (a && (not (eqb place place) || b))
+    here a true f = rw (f refl, eq-eqb place place refl) refl
+    here true false f = rw (eq-eqb place place refl) refl
+    here false false f = refl
+
+    whole : (x : Bool) → (x && true) ≡ x
+    whole true = refl
+    whole false = refl
+
+-- the same for the cell at the number k of a house, after a visit
+pub scope-change : (p : Puzzle) (laws : IsLawful p) (h k : ℕ) (K K' : Candidates) (before after : ℕ) → h < p.houses → k < length (p.scope h) → IsWithin p.cells p.values K
+    → IsBitsOf (K (slice_index (p.scope h) k)) p.values before → IsBitsOf (K' (slice_index (p.scope h) k)) p.values after → IsInside K' K
+    → IsChange p.cells p.values (scope_upto p h K K' k) (scope_upto p h K K' (k + 1)) (slice_index (p.scope h) k) before after
+scope-change p laws h k K K' before after lth lt within was is inside =
+    subst (λ (L : Candidates). IsChange p.cells p.values (scope_upto p h K K' k) L (slice_index (p.scope h) k) before after) (scope-more p laws h k K K' lth lt)
+    (noted-change p (scope_upto p h K K' k) K' (slice_index (p.scope h) k) before after (laws.scope_within h _ lth (has_place-here (p.scope h) k lt))
+    (record { small = was.small; same = λ v ltv. was.same v ltv ∙ sym (scope-before p laws h k K K' v lth lt) }) is
+    (λ v on. scope-before p laws h k K K' v lth lt ∙ inside _ v on) (λ v on. (within _ v (inside _ v on)).1))
+
+-- a cell that lost nothing
+pub scope-unchanged : (p : Puzzle) (laws : IsLawful p) (h k : ℕ) (K K' : Candidates) (bits : ℕ) → h < p.houses → k < length (p.scope h) → IsWithin p.cells p.values K
+    → IsBitsOf (K (slice_index (p.scope h) k)) p.values bits → IsBitsOf (K' (slice_index (p.scope h) k)) p.values bits → scope_upto p h K K' k ≡ scope_upto p h K K' (k + 1)
+scope-unchanged p laws h k K K' bits lth lt within was is =
+    cell-noted-same (scope_upto p h K K' k) (slice_index (p.scope h) k) K' (λ v on.
+    let old = sym (scope-before p laws h k K K' v lth lt) ∙ on in
+    let ltv = (within _ v old).1 in
+    sym (is.same v ltv) ∙ (was.same v ltv ∙ old))
+    ∙ scope-more p laws h k K K' lth lt
