@@ -15,11 +15,11 @@ use Rattle.engine_core.specs.Filling.{strikes_by_fillings}
 use Rattle.engine_core.specs.Sets.{has_bit, set_of_bits, IsBitsOf}
 use Rattle.engine_core.specs.House.{sets_at, IsDecided, kept_in}
 use Rattle.engine_core.specs.HouseLaws.{visited}
-use Rattle.pattern_core.specs.Lines.{line_places, numbers_of, has_runs, clue_of, HasClue}
+use Rattle.pattern_core.specs.Lines.{line_places, line_numbers, has_runs, clue_of, HasClue}
 use Rattle.pattern_core.specs.LineClues.{numbers_in}
 use Rattle.pattern_core.specs.declared.line_clue.LineClue.{LineClue}
 use Rattle.pattern_core.specs.Faults.{IsFirstWrongLine}
-use Rattle.pattern_core.specs.LineRules.{is_solution, after_line, line_rules}
+use Rattle.pattern_core.specs.LineRules.{is_pattern_solution, after_line, line_rules}
 use Rattle.pattern_core.specs.LineLaws.{in_grid, is_solution-line}
 
 pub places_inside : (size : Extent) (line cells : ℕ) (places : List ℕ) → line < lines_of size → cells ≡ size.w * size.h → places ≡ line_places size line
@@ -78,8 +78,8 @@ numbers_read clues k clue lt at = ap numbers_in at ∙ sym (get_or-map numbers_i
 
 -- a line whose runs are not its clue refuses the grid
 pub line_refused : (p : Pattern) (g : List ℕ) (line : ℕ) (clue : List ℕ) (told : Bool) → line < lines_of p.size → clue ≡ clue_of p line
-    → (runs (numbers_of p.size g line) ≡ clue → told ≡ true) → told ≡ false → is_solution p g ≡ false
-line_refused p g line clue told lt same tells off = false_from_ne_true (is_solution p g) (λ on.
+    → (runs (line_numbers p.size g line) ≡ clue → told ≡ true) → told ≡ false → is_pattern_solution p g ≡ false
+line_refused p g line clue told lt same tells off = false_from_ne_true (is_pattern_solution p g) (λ on.
     true≢false (sym (tells (is_solution-line p g line on lt ∙ sym same)) ∙ off))
 
 -- a copy of all clues
@@ -89,9 +89,9 @@ copied_pattern p size clues n same front all = ap₂ (λ (s : Extent) (c : List 
 
 -- the first wrong line
 pub wrong_line : (p : Pattern) (g : List ℕ) (size : Extent) (line : ℕ) (clue : List ℕ) (told : Bool) → size ≡ p.size → clue ≡ clue_of p line
-    → (runs (numbers_of size g line) ≡ clue → told ≡ true) → told ≡ false → ((k : ℕ) → k < line → HasClue p g k) → IsFirstWrongLine p g line
+    → (runs (line_numbers size g line) ≡ clue → told ≡ true) → told ≡ false → ((k : ℕ) → k < line → HasClue p g k) → IsFirstWrongLine p g line
 wrong_line p g size line clue told same is tells off before = record {
-  wrong = λ has. true≢false (sym (tells (ap (λ (s : Extent). runs (numbers_of s g line)) same ∙ has ∙ sym is)) ∙ off);
+  wrong = λ has. true≢false (sym (tells (ap (λ (s : Extent). runs (line_numbers s g line)) same ∙ has ∙ sym is)) ∙ off);
   before = before;
 }
 

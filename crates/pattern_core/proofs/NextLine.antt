@@ -1,11 +1,13 @@
 -- The lines that have a place are its column and its row.
-use Rattle.std.proofs.Common.{◌≡◌, ℕ, zero, suc, length, ◌+◌, ◌*◌, ◌/◌, ◌%◌, ◌<◌, ◌≤◌, true, false, Some, None, sym, ap, ◌∙◌, arith, inl, inr, ◌⊎◌}
+use Rattle.std.proofs.Common.{◌≡◌, ℕ, zero, suc, length, ◌+◌, ◌*◌, ◌/◌, ◌%◌, ◌<◌, ◌≤◌, Bool, true, false, Some, None, refl, sym, ap, ◌∙◌, arith, inl, inr, ◌⊎◌}
 use Rattle.std.proofs.lemmas.Bool.{cases_lt, false_from_ne_true}
 use Rattle.std.proofs.lemmas.Nat.{div-add-mod'}
 use Rattle.std.proofs.Math.Nat.{mul-le-mul_right, mod-lt}
 use Rattle.grid_core.specs.Extent.{Extent}
 use Rattle.gameid_core.specs.Puzzles.{lines_of, line_cells}
-use Rattle.engine_core.specs.Puzzle.{has_place, IsNext, longest}
+use Rattle.engine_core.specs.Puzzle.{has_place, IsNext, IsKth, longest}
+use Rattle.engine_core.proofs.KthLemmas.{next-kth, next-number, kth-none}
+use Rattle.grid_core.specs.Candidates.{count_below}
 use Rattle.pattern_core.specs.Lines.{line_places}
 use Rattle.pattern_core.specs.LineLaws.{length-line_places, column_has, row_has, only_column, only_row}
 
@@ -55,6 +57,32 @@ module _ (size : Extent) (w place from : ℕ) (same : w ≡ size.w) (some : 1 �
 
   pub next_none : place % w < from → w + place / w < from → IsNext (λ h. has_place (line_places size h) place) (lines_of size) from None
   next_none past later = λ j ge lt. not_between j (λ e. absurd (omega arith)) (λ e. absurd (omega arith))
+
+-- ---- the same by their number
+module _ (size : Extent) (w place : ℕ) (same : w ≡ size.w) (some : 1 ≤ size.w) (within : place < size.w * size.h) where
+  abbrev test : ℕ → Bool
+  test h = has_place (line_places size h) place
+
+  column_first : IsNext test (lines_of size) 0 (Some (place % w))
+  column_first = next_column size w place 0 same some within (omega arith)
+
+  row_after : IsNext test (lines_of size) (place % w + 1) (Some (w + place / w))
+  row_after = next_row size w place (place % w + 1) same some within (omega arith) (let m : place % w < w = mod-lt place (omega arith) in omega arith)
+
+  one_before : count_below test (place % w + 1) ≡ 1
+  unfolding count_below
+  one_before = next-number test (lines_of size) 0 0 (place % w) refl column_first
+
+  pub first_line : IsKth test (lines_of size) 0 (Some (place % w))
+  unfolding count_below
+  first_line = next-kth test (lines_of size) 0 0 (Some (place % w)) (omega arith) refl column_first
+
+  pub second_line : IsKth test (lines_of size) 1 (Some (w + place / w))
+  second_line = next-kth test (lines_of size) (place % w + 1) 1 (Some (w + place / w)) (let l = column_first.1 in omega arith) one_before row_after
+
+  pub no_line : (k : ℕ) → 2 ≤ k → IsKth test (lines_of size) k None
+  no_line k two = kth-none test (lines_of size) (w + place / w + 1) 2 k (let l = row_after.1 in omega arith) (next-number test (lines_of size) (place % w + 1) 1 (w + place / w) one_before row_after) two
+      (next_none size w place (w + place / w + 1) same some within (let m : place % w < w = mod-lt place (omega arith) in omega arith) (omega arith))
 
 -- no line is longer than what each line is at most
 pub longest_at_most : (size : Extent) (n most : ℕ) → ((line : ℕ) → line_cells size line ≤ most) → longest (line_places size) n ≤ most

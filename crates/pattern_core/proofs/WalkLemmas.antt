@@ -8,30 +8,30 @@ use Rattle.grid_core.specs.Extent.{Extent}
 use Rattle.grid_core.specs.Grids.{row_cells, column_cells}
 use Rattle.gameid_core.specs.BlackRuns.{run_of, runs_after, runs}
 use Rattle.gameid_core.specs.Puzzles.{line_cells}
-use Rattle.pattern_core.specs.Lines.{numbers_of}
-use Rattle.pattern_core.specs.LineLaws.{numbers_of-column, numbers_of-row}
+use Rattle.pattern_core.specs.Lines.{line_numbers}
+use Rattle.pattern_core.specs.LineLaws.{line_numbers-column, line_numbers-row}
 
 pub number_in_column : (size : Extent) (g : List ℕ) (line k w : ℕ) → w ≡ size.w → line < w → k < line_cells size line
-    → slice_index g (k * w + line) ≡ slice_index (numbers_of size g line) k
+    → slice_index g (k * w + line) ≡ slice_index (line_numbers size g line) k
 number_in_column size g line k w same lt within =
     let below : line < size.w = omega arith in
     let short : k < size.h = rw (lt-ltb line size.w below) at within in
     ap (λ (v : ℕ). slice_index g (k * v + line)) same
-    ∙ sym (ap (λ (cells : List ℕ). slice_index cells k) (numbers_of-column size g line below)
+    ∙ sym (ap (λ (cells : List ℕ). slice_index cells k) (line_numbers-column size g line below)
     ∙ get_or-map-range_with_len (λ y. slice_index g (y * size.w + line)) 0 size.h k k 0 short (omega arith))
 
 pub number_in_row : (size : Extent) (g : List ℕ) (line k w : ℕ) → w ≡ size.w → w ≤ line → k < line_cells size line
-    → slice_index g ((line - w) * w + k) ≡ slice_index (numbers_of size g line) k
+    → slice_index g ((line - w) * w + k) ≡ slice_index (line_numbers size g line) k
 number_in_row size g line k w same le within =
     let from : size.w ≤ line = omega arith in
     let short : k < size.w = rw (le-ltb line size.w from) at within in
     ap (λ (v : ℕ). slice_index g ((line - v) * v + k)) same
-    ∙ sym (ap (λ (cells : List ℕ). slice_index cells k) (numbers_of-row size g line from)
+    ∙ sym (ap (λ (cells : List ℕ). slice_index cells k) (line_numbers-row size g line from)
     ∙ get_or-map-range_with_len (λ x. slice_index g ((line - size.w) * size.w + x)) 0 size.w k k 0 short (omega arith))
 
-pub length-numbers_of : (size : Extent) (g : List ℕ) (line : ℕ) → length (numbers_of size g line) ≡ line_cells size line
-unfolding numbers_of
-length-numbers_of size g line = by_test (ltb line size.w)
+pub length-line_numbers : (size : Extent) (g : List ℕ) (line : ℕ) → length (line_numbers size g line) ≡ line_cells size line
+unfolding line_numbers
+length-line_numbers size g line = by_test (ltb line size.w)
   where
     by_test : (b : Bool) → length (cond b (column_cells size g line) (row_cells size g (line - size.w))) ≡ cond b size.h size.w
     by_test true = length-map-range_with_len (λ y. slice_index g (y * size.w + line)) 0 size.h
@@ -119,8 +119,8 @@ walk_fails clue cells ended run k walked all lacks is =
 
 -- ---- what the loop over a line's cells knows, at the size that the puzzle gave
 
-pub cell_within : (size : Extent) (g : List ℕ) (line k n : ℕ) → n ≡ line_cells size line → k < n → k < length (numbers_of size g line)
-cell_within size g line k n all lt = omega (arith, length-numbers_of size g line)
+pub cell_within : (size : Extent) (g : List ℕ) (line k n : ℕ) → n ≡ line_cells size line → k < n → k < length (line_numbers size g line)
+cell_within size g line k n all lt = omega (arith, length-line_numbers size g line)
 
-pub all_cells : (size : Extent) (g : List ℕ) (line k n : ℕ) → n ≡ line_cells size line → n ≤ k → k ≤ n → k ≡ length (numbers_of size g line)
-all_cells size g line k n all low high = omega (arith, length-numbers_of size g line)
+pub all_cells : (size : Extent) (g : List ℕ) (line k n : ℕ) → n ≡ line_cells size line → n ≤ k → k ≤ n → k ≡ length (line_numbers size g line)
+all_cells size g line k n all low high = omega (arith, length-line_numbers size g line)

@@ -2,7 +2,7 @@
 use Rattle.std.specs.Prelude.{ℕ, ◌+◌, ◌<◌, List, Option, Some, None}
 use Rattle.gameid_core.specs.Puzzles.{Pattern}
 use Rattle.pattern_core.specs.Lines.{HasClue}
-use Rattle.pattern_core.specs.Solutions.{IsSolution}
+use Rattle.pattern_core.specs.Solutions.{IsPatternSolution}
 use Rattle.pattern_core.specs.declared.fault.PatternFault.{PatternFault}
 use Rattle.pattern_core.specs.declared.fault.PatternFault.TheVariants.{Column, Row}
 
@@ -13,6 +13,6 @@ pub record IsFirstWrongLine (p : Pattern) (g : List ℕ) (line : ℕ) : Type 0 w
 
 -- the answer of a check: nothing for a solution, and else the first rule that is broken
 abbrev pub IsCheck : Pattern → List ℕ → Option PatternFault → Type 0
-IsCheck p g None = IsSolution p g
+IsCheck p g None = IsPatternSolution p g
 IsCheck p g (Some (Column x)) = (x < p.size.w) × IsFirstWrongLine p g x
 IsCheck p g (Some (Row y)) = (y < p.size.h) × IsFirstWrongLine p g (p.size.w + y)

@@ -19,9 +19,9 @@ use Rattle.engine_core.specs.PlaceLaws.{has_place-at, has_place-here}
 use Rattle.engine_core.specs.Filling.{strikes_by_fillings}
 use Rattle.engine_core.specs.House.{strikes_at, AreDifferent}
 use Rattle.engine_core.specs.HouseLaws.{strikes_at-inside, strikes_at-in_scope, by_fillings-monotone, by_fillings-settled, by_fillings-closed}
-use Rattle.pattern_core.specs.Lines.{line_places, numbers_of, clue_of, HasClue, same_numbers, has_runs}
-use Rattle.pattern_core.specs.LineRules.{is_solution, line_rules}
-use Rattle.pattern_core.specs.Solutions.{IsSolution}
+use Rattle.pattern_core.specs.Lines.{line_places, line_numbers, clue_of, HasClue, same_numbers, has_runs}
+use Rattle.pattern_core.specs.LineRules.{is_pattern_solution, line_rules}
+use Rattle.pattern_core.specs.Solutions.{IsPatternSolution}
 
 -- ---- the places of a line
 pub column-places : (size : Extent) (line : ℕ) → line < size.w → line_places size line ≡ column_places size line
@@ -175,55 +175,55 @@ pub has_runs-from : (clue cells : List ℕ) → runs cells ≡ clue → has_runs
 unfolding has_runs
 has_runs-from clue cells is = test_from_same (runs cells) clue is
 
-pub numbers_of-column : (size : Extent) (g : List ℕ) (line : ℕ) → line < size.w → numbers_of size g line ≡ column_cells size g line
-unfolding numbers_of
-numbers_of-column size g line lt = rw (lt-ltb line size.w lt) refl
+pub line_numbers-column : (size : Extent) (g : List ℕ) (line : ℕ) → line < size.w → line_numbers size g line ≡ column_cells size g line
+unfolding line_numbers
+line_numbers-column size g line lt = rw (lt-ltb line size.w lt) refl
 
-pub numbers_of-row : (size : Extent) (g : List ℕ) (line : ℕ) → size.w ≤ line → numbers_of size g line ≡ row_cells size g (line - size.w)
-unfolding numbers_of
-numbers_of-row size g line le = rw (le-ltb line size.w le) refl
+pub line_numbers-row : (size : Extent) (g : List ℕ) (line : ℕ) → size.w ≤ line → line_numbers size g line ≡ row_cells size g (line - size.w)
+unfolding line_numbers
+line_numbers-row size g line le = rw (le-ltb line size.w le) refl
 
 -- the numbers of a line are those at its places
-pub numbers_of-places : (size : Extent) (g : List ℕ) (line : ℕ) → map (slice_index g) (line_places size line) ≡ numbers_of size g line
-numbers_of-places size g line = elim (cases_lt line size.w) [
-  | inl column ↦ ap (map (slice_index g)) (column-places size line column) ∙ map-map (slice_index g) (λ y. y * size.w + line) (range_with_len 0 size.h) ∙ sym (numbers_of-column size g line column)
-  | inr row ↦ ap (map (slice_index g)) (row-places size line row) ∙ map-map (slice_index g) (λ x. (line - size.w) * size.w + x) (range_with_len 0 size.w) ∙ sym (numbers_of-row size g line row)
+pub line_numbers-places : (size : Extent) (g : List ℕ) (line : ℕ) → map (slice_index g) (line_places size line) ≡ line_numbers size g line
+line_numbers-places size g line = elim (cases_lt line size.w) [
+  | inl column ↦ ap (map (slice_index g)) (column-places size line column) ∙ map-map (slice_index g) (λ y. y * size.w + line) (range_with_len 0 size.h) ∙ sym (line_numbers-column size g line column)
+  | inr row ↦ ap (map (slice_index g)) (row-places size line row) ∙ map-map (slice_index g) (λ x. (line - size.w) * size.w + x) (range_with_len 0 size.w) ∙ sym (line_numbers-row size g line row)
 ]
 
-pub solution_from_lines : (p : Pattern) (g : List ℕ) → IsGrid (p.size.w * p.size.h) 2 g → ((line : ℕ) → line < lines_of p.size → HasClue p g line) → IsSolution p g
+pub solution_from_lines : (p : Pattern) (g : List ℕ) → IsGrid (p.size.w * p.size.h) 2 g → ((line : ℕ) → line < lines_of p.size → HasClue p g line) → IsPatternSolution p g
 solution_from_lines p g grid each = record {
   grid = grid;
-  columns = λ x lt. ap runs (sym (numbers_of-column p.size g x lt)) ∙ each x (omega arith);
+  columns = λ x lt. ap runs (sym (line_numbers-column p.size g x lt)) ∙ each x (omega arith);
   rows = λ y lt.
       let back : (p.size.w + y) - p.size.w ≡ y = omega arith in
       ap (λ (k : ℕ). runs (row_cells p.size g k)) (sym back)
-      ∙ ap runs (sym (numbers_of-row p.size g (p.size.w + y) (omega arith))) ∙ each (p.size.w + y) (omega arith);
+      ∙ ap runs (sym (line_numbers-row p.size g (p.size.w + y) (omega arith))) ∙ each (p.size.w + y) (omega arith);
 }
 
-pub line_of_solution : (p : Pattern) (g : List ℕ) (line : ℕ) → line < lines_of p.size → IsSolution p g → HasClue p g line
+pub line_of_solution : (p : Pattern) (g : List ℕ) (line : ℕ) → line < lines_of p.size → IsPatternSolution p g → HasClue p g line
 line_of_solution p g line lt s = elim (cases_lt line p.size.w) [
-  | inl column ↦ ap runs (numbers_of-column p.size g line column) ∙ s.columns line column
+  | inl column ↦ ap runs (line_numbers-column p.size g line column) ∙ s.columns line column
   | inr row ↦
       let on : p.size.w + (line - p.size.w) ≡ line = omega arith in
-      ap runs (numbers_of-row p.size g line row) ∙ s.rows (line - p.size.w) (omega arith)
+      ap runs (line_numbers-row p.size g line row) ∙ s.rows (line - p.size.w) (omega arith)
       ∙ ap (λ (k : ℕ). clue_of p k) on
 ]
 
 -- the test of a grid is met by the solutions alone
-pub is_solution-line : (p : Pattern) (g : List ℕ) (line : ℕ) → is_solution p g ≡ true → line < lines_of p.size → HasClue p g line
-unfolding is_solution
+pub is_solution-line : (p : Pattern) (g : List ℕ) (line : ℕ) → is_pattern_solution p g ≡ true → line < lines_of p.size → HasClue p g line
+unfolding is_pattern_solution
 is_solution-line p g line on lt =
-    has_runs-is (clue_of p line) (numbers_of p.size g line) (all_below-at (λ h. has_runs (clue_of p h) (numbers_of p.size g h)) (lines_of p.size) line on lt)
+    has_runs-is (clue_of p line) (line_numbers p.size g line) (all_below-at (λ h. has_runs (clue_of p h) (line_numbers p.size g h)) (lines_of p.size) line on lt)
 
-pub is_solution-each : (p : Pattern) (g : List ℕ) → ((line : ℕ) → line < lines_of p.size → HasClue p g line) → is_solution p g ≡ true
-unfolding is_solution
+pub is_solution-each : (p : Pattern) (g : List ℕ) → ((line : ℕ) → line < lines_of p.size → HasClue p g line) → is_pattern_solution p g ≡ true
+unfolding is_pattern_solution
 is_solution-each p g each =
-    all_below-from (λ h. has_runs (clue_of p h) (numbers_of p.size g h)) (lines_of p.size) (λ h lt. has_runs-from (clue_of p h) (numbers_of p.size g h) (each h lt))
+    all_below-from (λ h. has_runs (clue_of p h) (line_numbers p.size g h)) (lines_of p.size) (λ h lt. has_runs-from (clue_of p h) (line_numbers p.size g h) (each h lt))
 
-pub is_solution-is : (p : Pattern) (g : List ℕ) → IsGrid (p.size.w * p.size.h) 2 g → is_solution p g ≡ true → IsSolution p g
+pub is_solution-is : (p : Pattern) (g : List ℕ) → IsGrid (p.size.w * p.size.h) 2 g → is_pattern_solution p g ≡ true → IsPatternSolution p g
 is_solution-is p g grid on = solution_from_lines p g grid (λ line lt. is_solution-line p g line on lt)
 
-pub is_solution-from : (p : Pattern) (g : List ℕ) → IsSolution p g → is_solution p g ≡ true
+pub is_solution-from : (p : Pattern) (g : List ℕ) → IsPatternSolution p g → is_pattern_solution p g ≡ true
 is_solution-from p g s = is_solution-each p g (λ line lt. line_of_solution p g line lt s)
 
 -- ---- the laws
@@ -254,7 +254,7 @@ line_rules-lawful p extent = record {
       by_fillings-closed 2 (line_places p.size h) (has_runs (clue_of p h)) g
       (λ k less. let e = grid.each_cell in let z = in_grid p.size h (slice_index (line_places p.size h) k) lt (has_place-here (line_places p.size h) k less) in omega arith)
       (λ d less. grid.each_value d 0 less)
-      (ap (has_runs (clue_of p h)) (numbers_of-places p.size g h) ∙ has_runs-from (clue_of p h) (numbers_of p.size g h) (is_solution-line p g h good lt)) c v on;
+      (ap (has_runs (clue_of p h)) (line_numbers-places p.size g h) ∙ has_runs-from (clue_of p h) (line_numbers p.size g h) (is_solution-line p g h good lt)) c v on;
   settles = λ settled h K c v lt _ on.
       by_fillings-settled 2 (line_places p.size h) (has_runs (clue_of p h)) K (λ d u. K d u && not (strikes_at 2 (line_places p.size h) (strikes_by_fillings (has_runs (clue_of p h))) K d u)) (different_places p.size h) (λ d u. refl) c v on;
   bound_of_queue = λ e. let z = few_shares p (p.size.w * p.size.h) in omega arith;

@@ -6,11 +6,11 @@ use Rattle.gameid_core.specs.Puzzles.{Pattern, lines_of}
 use Rattle.engine_core.specs.Puzzle.{Puzzle}
 use Rattle.engine_core.specs.Filling.{strikes_by_fillings}
 use Rattle.engine_core.specs.House.{strikes_at}
-use Rattle.pattern_core.specs.Lines.{line_places, numbers_of, clue_of, has_runs}
+use Rattle.pattern_core.specs.Lines.{line_places, line_numbers, clue_of, has_runs}
 
 -- whether each line's runs are its clue
-unfoldable pub is_solution : Pattern → List ℕ → Bool
-is_solution p g = all_below (λ line. has_runs (clue_of p line) (numbers_of p.size g line)) (lines_of p.size)
+unfoldable pub is_pattern_solution : Pattern → List ℕ → Bool
+is_pattern_solution p g = all_below (λ line. has_runs (clue_of p line) (line_numbers p.size g line)) (lines_of p.size)
 
 -- the cells' values are 0 for white and 1 for black; a search starts from full sets; a line strikes what no filling
 -- with its clue's runs has
@@ -25,7 +25,7 @@ line_rules p = record {
   scope = line_places p.size;
   start = all_of (p.size.w * p.size.h) 2;
   strikes = λ h. strikes_at 2 (line_places p.size h) (strikes_by_fillings (has_runs (clue_of p h)));
-  is_solution = is_solution p;
+  is_solution = is_pattern_solution p;
 }
 
 -- the board without what the line strikes in it

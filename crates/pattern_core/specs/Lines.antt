@@ -11,8 +11,8 @@ unfoldable pub line_places : Extent → ℕ → List ℕ
 line_places size line = if nat_lt line size.w then column_places size line else row_places size (line - size.w)
 
 -- the numbers of a line's cells
-unfoldable pub numbers_of : Extent → List ℕ → ℕ → List ℕ
-numbers_of size g line = if nat_lt line size.w then column_cells size g line else row_cells size g (line - size.w)
+unfoldable pub line_numbers : Extent → List ℕ → ℕ → List ℕ
+line_numbers size g line = if nat_lt line size.w then column_cells size g line else row_cells size g (line - size.w)
 
 -- the clue of a line
 abbrev pub clue_of : Pattern → ℕ → List ℕ
@@ -20,7 +20,7 @@ clue_of p line = slice_index_or p.clues line []
 
 -- the line's runs are its clue
 abbrev pub HasClue : Pattern → List ℕ → ℕ → Type 0
-HasClue p g line = runs (numbers_of p.size g line) ≡ clue_of p line
+HasClue p g line = runs (line_numbers p.size g line) ≡ clue_of p line
 
 -- whether two lists of numbers are the same
 unfoldable pub same_numbers : List ℕ → List ℕ → Bool

@@ -5,7 +5,7 @@ ghost use Rattle.grid_core.specs.Grids.{IsGrid};
 ghost use Rattle.engine_core.specs.Sets.{has_bit};
 ghost use Rattle.gameid_core.specs.BlackRuns.{runs};
 ghost use Rattle.gameid_core.specs.Puzzles.{lines_of};
-ghost use Rattle.pattern_core.specs.Lines.{numbers_of};
+ghost use Rattle.pattern_core.specs.Lines.{line_numbers};
 
 use crate::places::Places;
 use crate::table::{moved_by, moves_of, stays_of};
@@ -30,7 +30,7 @@ pub(crate) fn follows<P: Places>(
 ) -> bool
     requires grid { IsGrid (size.w * size.h) 2 grid.now }
     requires line { line < lines_of size }
-    ensures { IsTrue result ↔ (runs (numbers_of size grid.now line) ≡ clue.now) }
+    ensures { IsTrue result ↔ (runs (line_numbers size grid.now line) ≡ clue.now) }
 {
     let steps = clue.steps();
     let moves = moves_of(steps);

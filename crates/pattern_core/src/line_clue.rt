@@ -5,7 +5,7 @@ ghost use Rattle.std.specs.List.{AllByRecursion};
 ghost use Rattle.grid_core.specs.Grids.{IsGrid};
 ghost use Rattle.gameid_core.specs.BlackRuns.{runs};
 ghost use Rattle.gameid_core.specs.Puzzles.{lines_of, used};
-ghost use Rattle.pattern_core.specs.Lines.{numbers_of};
+ghost use Rattle.pattern_core.specs.Lines.{line_numbers};
 ghost use Rattle.pattern_core.specs.LineClues.{numbers_in};
 
 use crate::follow::follows;
@@ -51,7 +51,7 @@ impl LineClue {
     pub(crate) fn is_met(&self, size: Size, grid: &Grid, line: usize) -> bool
         requires grid { IsGrid (size.w * size.h) 2 grid.now }
         requires line { line < lines_of size }
-        ensures { IsTrue result ↔ (runs (numbers_of size grid.now line) ≡ numbers_in self.now) }
+        ensures { IsTrue result ↔ (runs (line_numbers size grid.now line) ≡ numbers_in self.now) }
     {
         match self {
             LineClue::Short(clue) => follows(size, grid, line, clue),

@@ -132,7 +132,7 @@ fn visit_line<P: Places>(
     if !keep(sets, line.clue, rows) {
         return false;
     }
-    apply(board, places, VALUES, sets)
+    apply(board, places, sets)
 }
 
 /// The same in the first parts of slices that may be longer than the line.
@@ -205,6 +205,8 @@ impl Rules for PatternLines {
 
     ghost serves = { λ room needs. needs.scope ≤ room };
 
+    ghost follows = { λ _ _ _. Unit {0} };
+
     ghost lawful = { λ r. line_rules-lawful r.pattern r.extent };
 
     ghost settled_is = { λ _. refl };
@@ -248,6 +250,15 @@ impl Rules for PatternLines {
         None
     }
 
+    fn house_of(&self, place: usize, k: usize) -> Option<usize> {
+        let w = usize::from(self.size.w());
+        match k {
+            0 => Some(place % w),
+            1 => Some(w + place / w),
+            _ => None,
+        }
+    }
+
     fn start(&self, board: &mut Board) {
         board.fill();
     }
@@ -275,6 +286,14 @@ impl Rules for PatternLines {
                 visit_within(&line, board, places, sets, &mut scratch.long_rows)
             }
         }
+    }
+
+    fn follow(&self, _board: &Board, _scratch: &mut LineScratch) {}
+
+    fn change(&self, _place: usize, _before: u32, _after: u32, _scratch: &mut LineScratch) {}
+
+    fn calls(&self, _house: usize, _scratch: &LineScratch) -> bool {
+        true
     }
 
     fn accept(&self, _scratch: &mut LineScratch, grid: &Grid) -> bool {

@@ -4,7 +4,7 @@ ghost use Rattle.std.specs.Prelude.{◌≡◌, ◌<◌, ◌≤◌, ◌*◌, ◌�
 ghost use Rattle.grid_core.specs.Grids.{IsGrid};
 ghost use Rattle.gameid_core.specs.BlackRuns.{runs};
 ghost use Rattle.gameid_core.specs.Puzzles.{lines_of, line_cells};
-ghost use Rattle.pattern_core.specs.Lines.{numbers_of, EndsAfter};
+ghost use Rattle.pattern_core.specs.Lines.{line_numbers, EndsAfter};
 
 use grid_core::{Grid, Size};
 
@@ -24,7 +24,7 @@ pub(crate) fn number_at(size: Size, grid: &Grid, line: usize, k: usize) -> u8
     requires grid { IsGrid (size.w * size.h) 2 grid.now }
     requires line { line < lines_of size }
     requires cell { k < line_cells size line }
-    ensures value { result ≡ slice_index (numbers_of size grid.now line) k }
+    ensures value { result ≡ slice_index (line_numbers size grid.now line) k }
 {
     let w = usize::from(size.w());
     let _h = size.h();
@@ -55,7 +55,7 @@ fn ended_after(clue: &[u8], ended: usize, run: u8) -> Option<usize>
 pub(crate) fn has_clue(size: Size, grid: &Grid, line: usize, clue: &[u8]) -> bool
     requires grid { IsGrid (size.w * size.h) 2 grid.now }
     requires line { line < lines_of size }
-    ensures { IsTrue result ↔ (runs (numbers_of size grid.now line) ≡ clue.now) }
+    ensures { IsTrue result ↔ (runs (line_numbers size grid.now line) ≡ clue.now) }
 {
     let mut ended = 0;
     let mut run = 0;

@@ -5,7 +5,7 @@ use Rattle.std.proofs.Math.Path.{fun_ext}
 use Rattle.std.proofs.lemmas.List.Sums.{sum_by-cons}
 use Rattle.grid_core.specs.Board.{Layout, has}
 use Rattle.grid_core.proofs.BoardLemmas.{has-within}
-use Rattle.engine_core.specs.Puzzle.{IsBoardOf, after, has_place, IsNext}
+use Rattle.engine_core.specs.Puzzle.{IsBoardOf, after, has_place, IsNext, IsKth}
 use Rattle.engine_core.specs.Sets.{set_of_bits, IsBitsOf}
 use Rattle.engine_core.specs.HouseLaws.{visited-after}
 use Rattle.std.proofs.lemmas.List.{get_or-map, length-map, map-append}
@@ -18,7 +18,7 @@ use Rattle.solo_core.specs.declared.solo_house.SoloHouse.TheVariants.{Row}
 use Rattle.solo_core.specs.Houses.{houses_of, places_of}
 use Rattle.solo_core.specs.HouseLaws.{lists_house, all_houses}
 use Rattle.solo_core.specs.RuleSets.{deciding, filled_houses, setting_of, rules_of, row_crossing, column_crossing, crossings_of}
-use Rattle.solo_core.specs.Cells.{cells_of}
+use Rattle.solo_core.specs.Cells.{solo_cells}
 use Rattle.solo_core.specs.NoRepeat.{no_repeat}
 use Rattle.solo_core.specs.Work.{all_places}
 use Rattle.engine_core.specs.Filling.{strikes_by_fillings}
@@ -58,6 +58,11 @@ pub scopes-next : (houses : List House) (place from : ℕ) (answer : Option ℕ)
     → IsNext (λ h. has_place (house_of houses h).places place) (length houses) from answer
 scopes-next houses place from answer next = rw (fun_ext (λ h. ap (λ xs. has_place xs place) (scope-at houses h)), length-map houses (λ (house : House). house.places)) at next
 
+pub scopes-kth : (houses : List House) (place k : ℕ) (answer : Option ℕ)
+    → IsKth (λ h. has_place (scope_of (all_places houses) h) place) (length (all_places houses)) k answer
+    → IsKth (λ h. has_place (house_of houses h).places place) (length houses) k answer
+scopes-kth houses place k answer next = rw (fun_ext (λ h. ap (λ xs. has_place xs place) (scope-at houses h)), length-map houses (λ (house : House). house.places)) at next
+
 bound-from-table : (values : ℕ) (houses : List House) → length (all_places houses) + sum_by length (all_places houses) * values ≡ sum_by (visits_of values) houses
 bound-from-table values [] = omega arith
 bound-from-table values (house ∷ houses) =
@@ -94,7 +99,7 @@ left_by_visit settled p houses h old new places sets kept board is bits same dec
     (rw is at left)
 
 pub house-in : (settled : Bool) (p : Solo) (houses : List House) (h : ℕ) (places : List ℕ) → All (IsSound (setting_of settled p houses)) houses → h < length houses
-    → places ≡ (house_of houses h).places → (k : ℕ) → k < length places → slice_index places k < cells_of p
+    → places ≡ (house_of houses h).places → (k : ℕ) → k < length places → slice_index places k < solo_cells p
 house-in settled p houses h places sound lt is k lk = rw is ((sound h no_house lt).within k (rw is at lk))
 
 -- ---- crossings after the houses

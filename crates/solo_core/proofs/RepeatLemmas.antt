@@ -10,10 +10,10 @@ use Rattle.solo_core.specs.declared.solo_house.SoloHouse.{SoloHouse}
 use Rattle.solo_core.specs.declared.solo_house.SoloHouse.TheVariants.{Row, Column, Block, Diagonal}
 use Rattle.solo_core.specs.declared.fault.SoloFault.{SoloFault}
 use Rattle.solo_core.specs.declared.fault.SoloFault.TheVariants.{Given, Row as BadRow, Column as BadColumn, Block as BadBlock, Diagonal as BadDiagonal}
-use Rattle.solo_core.specs.Cells.{cells_of}
+use Rattle.solo_core.specs.Cells.{solo_cells}
 use Rattle.solo_core.specs.SolutionLaws.{differ_in, rule_from_test}
 use Rattle.solo_core.specs.Houses.{houses_of, IsHouseOf, lies_in, places_of}
-use Rattle.solo_core.specs.Solutions.{numbers_of, IsSolution, is_solution}
+use Rattle.solo_core.specs.Solutions.{numbers_of, IsSoloSolution, is_solo_solution}
 use Rattle.solo_core.specs.HouseLaws.{lists_house, all_houses, each_house}
 use Rattle.solo_core.specs.NoRepeat.{no_repeat}
 use Rattle.solo_core.specs.NoRepeatLaws.{different_from_no_repeat}
@@ -64,7 +64,7 @@ module _ (p : Solo) (ok : IsSolo p) (g : List ℕ) where
 
   -- and one that does not
   none_repeats : (house : SoloHouse) → IsHouseOf p house → no_repeat (numbers_of p g house) ≡ true → Repeats p g house → ⊥
-  none_repeats house is holds (j, k, lj, lk, ne, a, b, same) = differ_in (places_of p house) (solo_n p) (cells_of p) (lies_in p house) (lists_house p ok house is) g holds j k lj lk ne a b same
+  none_repeats house is holds (j, k, lj, lk, ne, a, b, same) = differ_in (places_of p house) (solo_n p) (solo_cells p) (lies_in p house) (lists_house p ok house is) g holds j k lj lk ne a b same
 
   pub first_house : (h : ℕ) (house : SoloHouse) → h < length (houses_of p) → house ≡ get_or (houses_of p) h house → no_repeat (numbers_of p g house) ≡ false
       → ((i : ℕ) (d : SoloHouse) → i < h → no_repeat (numbers_of p g (get_or (houses_of p) i d)) ≡ true) → RepeatsFirst p g house
@@ -82,7 +82,7 @@ module _ (p : Solo) (ok : IsSolo p) (g : List ℕ) where
   first_fault stand (Block b) first = (stand, first)
   first_fault stand (Diagonal d) first = (stand, first)
 
-  pub solved : IsGrid (cells_of p) (solo_n p) g → AllStand p g → ((h : ℕ) (d : SoloHouse) → h < length (houses_of p) → no_repeat (numbers_of p g (get_or (houses_of p) h d)) ≡ true) → IsSolution p g
+  pub solved : IsGrid (solo_cells p) (solo_n p) g → AllStand p g → ((h : ℕ) (d : SoloHouse) → h < length (houses_of p) → no_repeat (numbers_of p g (get_or (houses_of p) h d)) ≡ true) → IsSoloSolution p g
   solved grid stand fine = record {
     grid = grid;
     givens = stand;
@@ -90,18 +90,18 @@ module _ (p : Solo) (ok : IsSolo p) (g : List ℕ) where
   }
 
   -- a grid with a fault is no solution
-  repeats_no_solution : (house : SoloHouse) → RepeatsFirst p g house → IsSolution p g → ⊥
+  repeats_no_solution : (house : SoloHouse) → RepeatsFirst p g house → IsSoloSolution p g → ⊥
   repeats_no_solution house (h, lt, is, (j, k, lj, lk, ne, a, b, same), before) s = s.different house (rw (sym is) at (all_houses p h house lt)) j k lj lk ne a b same
 
-  no_solution : (fault : SoloFault) → IsFirstFault p g (Some fault) → IsSolution p g → ⊥
+  no_solution : (fault : SoloFault) → IsFirstFault p g (Some fault) → IsSoloSolution p g → ⊥
   no_solution (Given place) w s = w.1 (s.givens place w.0)
   no_solution (BadRow y) w s = repeats_no_solution (Row y) w.1 s
   no_solution (BadColumn i) w s = repeats_no_solution (Column i) w.1 s
   no_solution (BadBlock b) w s = repeats_no_solution (Block b) w.1 s
   no_solution (BadDiagonal d) w s = repeats_no_solution (Diagonal d) w.1 s
 
-  pub no_test : (fault : SoloFault) → IsGrid (cells_of p) (solo_n p) g → IsFirstFault p g (Some fault) → false ≡ is_solution p g
-  no_test fault grid w = sym (false_from_ne_true (is_solution p g) (λ on. no_solution fault w (rule_from_test p ok g grid on)))
+  pub no_test : (fault : SoloFault) → IsGrid (solo_cells p) (solo_n p) g → IsFirstFault p g (Some fault) → false ≡ is_solo_solution p g
+  no_test fault grid w = sym (false_from_ne_true (is_solo_solution p g) (λ on. no_solution fault w (rule_from_test p ok g grid on)))
 
 -- one house more that repeats nothing
 pub fine_more : (p : Solo) (g : List ℕ) (k : ℕ) (house : SoloHouse) → k < length (houses_of p) → house ≡ get_or (houses_of p) k house → no_repeat (numbers_of p g house) ≡ true

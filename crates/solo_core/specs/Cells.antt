@@ -4,8 +4,8 @@ use Rattle.std.specs.Prelude.{ℕ, ◌+◌, ◌*◌, ◌/◌, ◌%◌}
 use Rattle.grid_core.specs.Extent.{Extent}
 use Rattle.gameid_core.specs.Puzzles.{Solo, solo_n}
 
-abbrev pub cells_of : Solo → ℕ
-cells_of p = solo_n p * solo_n p
+abbrev pub solo_cells : Solo → ℕ
+solo_cells p = solo_n p * solo_n p
 
 -- the grid has as many rows as columns
 abbrev pub square : Solo → Extent

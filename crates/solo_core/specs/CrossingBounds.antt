@@ -14,7 +14,7 @@ use Rattle.engine_core.specs.Puzzle.{has_place}
 use Rattle.engine_core.specs.PlaceLaws.{has_place-at, has_place-here}
 use Rattle.engine_core.specs.Houses.{visits_of}
 use Rattle.solo_core.specs.declared.solo_house.SoloHouse.TheVariants.{Row, Column, Block}
-use Rattle.solo_core.specs.Cells.{cells_of, block_of}
+use Rattle.solo_core.specs.Cells.{solo_cells, block_of}
 use Rattle.solo_core.specs.Houses.{houses_of, places_of}
 use Rattle.solo_core.specs.HouseLaws.{lists_house, each_value}
 use Rattle.solo_core.specs.RuleSets.{crossings_rules, deciding, row_crossing, column_crossing, crossings_of}
@@ -94,7 +94,7 @@ module _ (p : Solo) (ok : IsSolo p) (b : ℕ) (b_in : b < solo_n p) where
   r_pos : 0 < p.r
   r_pos = let low = ok.r_low in omega arith
 
-  pub in_block : (place : ℕ) → place < cells_of p → has_place (places_of p (Block b)) place ≡ eqb (block_of p place) b
+  pub in_block : (place : ℕ) → place < solo_cells p → has_place (places_of p (Block b)) place ≡ eqb (block_of p place) b
   in_block place lt = elim (cases_Bool (eqb (block_of p place) b)) [
     | inl on ↦ rw ((lists_house p ok (Block b) b_in).covers place lt on) at (has_place-here (places_of p (Block b)) ((lists_house p ok (Block b) b_in).index place)
         (let l = (lists_house p ok (Block b) b_in).len in let i = (lists_house p ok (Block b) b_in).index_in place lt in omega arith)) ∙ sym on

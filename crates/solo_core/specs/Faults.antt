@@ -1,9 +1,9 @@
 -- The first rule of Solo that a grid breaks.
 use Rattle.std.specs.Prelude.{◌≡◌, ℕ, ◌+◌, ◌<◌, ◌≤◌, true, List, length, slice_index, slice_index_or, Option, Some, None}
 use Rattle.gameid_core.specs.Puzzles.{Solo}
-use Rattle.solo_core.specs.Cells.{cells_of}
+use Rattle.solo_core.specs.Cells.{solo_cells}
 use Rattle.solo_core.specs.Houses.{houses_of, lies_in}
-use Rattle.solo_core.specs.Solutions.{IsSolution}
+use Rattle.solo_core.specs.Solutions.{IsSoloSolution}
 use Rattle.solo_core.specs.declared.solo_house.SoloHouse.{SoloHouse}
 use Rattle.solo_core.specs.declared.solo_house.SoloHouse.TheVariants.{Row, Column, Block, Diagonal}
 use Rattle.solo_core.specs.declared.fault.SoloFault.{SoloFault}
@@ -15,12 +15,12 @@ Stands p g place =
     1 ≤ slice_index p.givens place → slice_index g place + 1 ≡ slice_index p.givens place
 
 abbrev pub AllStand : Solo → List ℕ → Type 0
-AllStand p g = (place : ℕ) → place < cells_of p → Stands p g place
+AllStand p g = (place : ℕ) → place < solo_cells p → Stands p g place
 
 -- two different places of the house hold the same
 abbrev pub Repeats : Solo → List ℕ → SoloHouse → Type 0
 Repeats p g house =
-    (j : ℕ) × (k : ℕ) × (j < cells_of p) × (k < cells_of p) × (j ≡ k → ⊥)
+    (j : ℕ) × (k : ℕ) × (j < solo_cells p) × (k < solo_cells p) × (j ≡ k → ⊥)
     × (lies_in p house j ≡ true) × (lies_in p house k ≡ true) × (slice_index g j ≡ slice_index g k)
 
 -- it is the first house that holds a number twice
@@ -31,9 +31,9 @@ RepeatsFirst p g house =
 
 -- no rule is broken; or this one is, and none before it: the givens come first, by place, and then the houses
 abbrev pub IsFirstFault : Solo → List ℕ → Option SoloFault → Type 0
-IsFirstFault p g None = IsSolution p g
+IsFirstFault p g None = IsSoloSolution p g
 IsFirstFault p g (Some (Given place)) =
-    (place < cells_of p) × (Stands p g place → ⊥) × ((q : ℕ) → q < place → Stands p g q)
+    (place < solo_cells p) × (Stands p g place → ⊥) × ((q : ℕ) → q < place → Stands p g q)
 IsFirstFault p g (Some (BadRow y)) = AllStand p g × RepeatsFirst p g (Row y)
 IsFirstFault p g (Some (BadColumn i)) = AllStand p g × RepeatsFirst p g (Column i)
 IsFirstFault p g (Some (BadBlock b)) = AllStand p g × RepeatsFirst p g (Block b)

@@ -14,7 +14,7 @@ use Rattle.engine_core.specs.House.{AreDifferent}
 use Rattle.engine_core.specs.Every.{of_first, of_rest, of_value}
 use Rattle.solo_core.specs.declared.solo_house.SoloHouse.{SoloHouse}
 use Rattle.solo_core.specs.declared.solo_house.SoloHouse.TheVariants.{Row, Column, Block, Diagonal}
-use Rattle.solo_core.specs.Cells.{cells_of}
+use Rattle.solo_core.specs.Cells.{solo_cells}
 use Rattle.solo_core.specs.Houses.{houses_of, IsHouseOf, lies_in, places_of}
 
 -- the list has n different places below `cells`, which are those that pass the test
@@ -142,7 +142,7 @@ module _ (c r b : ℕ) (c_pos : 0 < c) (r_pos : 0 < r) (b_in : b < c * r) where
 pub some_numbers : (p : Solo) → IsSolo p → 0 < solo_n p
 some_numbers p ok = let c_low = ok.c_low in let r_low = ok.r_low in omega (arith, mul-le 1 1 p.c p.r (omega arith) (omega arith))
 
-pub lists_house : (p : Solo) → IsSolo p → (house : SoloHouse) → IsHouseOf p house → Lists (places_of p house) (solo_n p) (cells_of p) (lies_in p house)
+pub lists_house : (p : Solo) → IsSolo p → (house : SoloHouse) → IsHouseOf p house → Lists (places_of p house) (solo_n p) (solo_cells p) (lies_in p house)
 unfolding block_at
 lists_house p ok (Row y) lt = row_lists (solo_n p) y lt
 lists_house p ok (Column i) lt = falling_lists (solo_n p) (λ y. i) (some_numbers p ok) (λ y l. lt)

@@ -18,10 +18,10 @@ use Rattle.engine_core.specs.Houses.{House, IsSettled, Keeps, IsSound, IsSetting
 use Rattle.engine_core.specs.HousesLaws.{by_houses-lawful, bound_enough, by_fillings-settles, by_fillings-keeps}
 use Rattle.solo_core.specs.declared.solo_house.SoloHouse.{SoloHouse}
 use Rattle.solo_core.specs.declared.solo_house.SoloHouse.TheVariants.{Row, Column, Block}
-use Rattle.solo_core.specs.Cells.{cells_of}
+use Rattle.solo_core.specs.Cells.{solo_cells}
 use Rattle.solo_core.specs.RuleSets.{start, deciding, row_crossing, column_crossing, crossings_of, setting_of, rules_of, singles_rules, houses_rules, crossings_rules}
 use Rattle.solo_core.specs.Houses.{houses_of, IsHouseOf, lies_in, places_of}
-use Rattle.solo_core.specs.Solutions.{numbers_of, is_solution}
+use Rattle.solo_core.specs.Solutions.{numbers_of, is_solo_solution}
 use Rattle.solo_core.specs.HouseLaws.{Lists, lists_house, listed-within, listed-different, some_numbers, each_value, all_houses}
 use Rattle.solo_core.specs.SolutionLaws.{rule_from_test, house_of_solution}
 use Rattle.solo_core.specs.NoRepeat.{no_repeat}
@@ -33,25 +33,25 @@ use Rattle.solo_core.specs.CrossingLaws.{crossing-monotone, crossing-settles, cr
 module _ (p : Solo) (ok : IsSolo p) where
   -- ---- the start
   -- a solution lies inside the start
-  inside_start : (g : List ℕ) → IsGrid (cells_of p) (solo_n p) g → is_solution p g ≡ true → IsInside (single g) (start p)
+  inside_start : (g : List ℕ) → IsGrid (solo_cells p) (solo_n p) g → is_solo_solution p g ≡ true → IsInside (single g) (start p)
   unfolding start
   inside_start g grid on c v here =
       let w = single-is g c v here in
-      let lt : c < cells_of p = let e = grid.each_cell in omega arith in
+      let lt : c < solo_cells p = let e = grid.each_cell in omega arith in
       let small : slice_index g c < solo_n p = grid.each_value c 0 w.0 in
-      and_from (ltb c (cells_of p)) _ (lt-ltb c (cells_of p) lt)
+      and_from (ltb c (solo_cells p)) _ (lt-ltb c (solo_cells p) lt)
       (and_from (ltb v (solo_n p)) _ (lt-ltb v (solo_n p) (let e = w.1 in omega arith)) (elim (cases_eq (slice_index p.givens c) 0) [
         | inl blank ↦ or_left (eqb (slice_index p.givens c) 0) (eqb (v + 1) (slice_index p.givens c)) (eq-eqb (slice_index p.givens c) 0 blank)
         | inr given ↦ or_right (eqb (slice_index p.givens c) 0) (eqb (v + 1) (slice_index p.givens c))
             (eq-eqb (v + 1) (slice_index p.givens c) (ap (λ u. u + 1) (sym w.1) ∙ (rule_from_test p ok g grid on).givens c lt (omega arith)))
       ]))
 
-  within_start : IsWithin (cells_of p) (solo_n p) (start p)
+  within_start : IsWithin (solo_cells p) (solo_n p) (start p)
   unfolding start
   within_start c v on =
-      let w = and_parts (ltb c (cells_of p)) _ on in
+      let w = and_parts (ltb c (solo_cells p)) _ on in
       let u = and_parts (ltb v (solo_n p)) _ w.1 in
-      (ltb-true c (cells_of p) w.0, ltb-true v (solo_n p) u.0)
+      (ltb-true c (solo_cells p) w.0, ltb-true v (solo_n p) u.0)
 
   fine : (settled : Bool) (houses : List House) → IsSetting (setting_of settled p houses)
   fine settled houses = record {
@@ -67,20 +67,20 @@ module _ (p : Solo) (ok : IsSolo p) where
       (λ _. bound_enough (setting_of settled p houses) houses (omega arith)) (λ e. absurd (true≢false e))
 
   -- ---- houses that decide alike
-  listed : (house : SoloHouse) → IsHouseOf p house → Lists (places_of p house) (solo_n p) (cells_of p) (lies_in p house)
+  listed : (house : SoloHouse) → IsHouseOf p house → Lists (places_of p house) (solo_n p) (solo_cells p) (lies_in p house)
   listed house is = lists_house p ok house is
 
-  inside : (house : SoloHouse) → IsHouseOf p house → (k : ℕ) → k < length (places_of p house) → slice_index (places_of p house) k < cells_of p
-  inside house is = listed-within (places_of p house) (solo_n p) (cells_of p) (lies_in p house) (listed house is)
+  inside : (house : SoloHouse) → IsHouseOf p house → (k : ℕ) → k < length (places_of p house) → slice_index (places_of p house) k < solo_cells p
+  inside house is = listed-within (places_of p house) (solo_n p) (solo_cells p) (lies_in p house) (listed house is)
 
   different : (house : SoloHouse) → IsHouseOf p house → (j k : ℕ) → j < length (places_of p house) → k < length (places_of p house) → slice_index (places_of p house) j ≡ slice_index (places_of p house) k → j ≡ k
-  different house is = listed-different (places_of p house) (solo_n p) (cells_of p) (lies_in p house) (listed house is)
+  different house is = listed-different (places_of p house) (solo_n p) (solo_cells p) (lies_in p house) (listed house is)
 
   -- the numbers of a house of a grid: n of them, below n
-  numbers_small : (g : List ℕ) → IsGrid (cells_of p) (solo_n p) g → (c : ℕ) → c < length g → slice_index g c < solo_n p
+  numbers_small : (g : List ℕ) → IsGrid (solo_cells p) (solo_n p) g → (c : ℕ) → c < length g → slice_index g c < solo_n p
   numbers_small g grid c lt = grid.each_value c 0 lt
 
-  inside_grid : (g : List ℕ) → IsGrid (cells_of p) (solo_n p) g → (house : SoloHouse) → IsHouseOf p house → (k : ℕ) → k < length (places_of p house) → slice_index (places_of p house) k < length g
+  inside_grid : (g : List ℕ) → IsGrid (solo_cells p) (solo_n p) g → (house : SoloHouse) → IsHouseOf p house → (k : ℕ) → k < length (places_of p house) → slice_index (places_of p house) k < length g
   inside_grid g grid house is k lt = let e = grid.each_cell in let w = inside house is k lt in omega arith
 
   pub alike_sound : (settled : Bool) (all : List House) (decides : Decision) → IsMonotone decides
@@ -106,7 +106,7 @@ module _ (p : Solo) (ok : IsSolo p) where
   -- ---- crossings of a block and a line
   crossing_is_sound : (all : List House) (b : ℕ) (line : SoloHouse) → b < solo_n p → IsHouseOf p line → IsSound (setting_of true p all) (crossing (places_of p (Block b)) (places_of p line))
   crossing_is_sound all b line b_in is = record {
-    within = crossing-within (places_of p (Block b)) (places_of p line) (cells_of p) (inside (Block b) b_in) (inside line is);
+    within = crossing-within (places_of p (Block b)) (places_of p line) (solo_cells p) (inside (Block b) b_in) (inside line is);
     different = crossing-different (places_of p (Block b)) (places_of p line) (different (Block b) b_in) (different line is);
     monotone = crossing-monotone (in_block_alone (places_of p (Block b)) (places_of p line)) (in_line_alone (places_of p (Block b)));
     keeps = λ g grid on.

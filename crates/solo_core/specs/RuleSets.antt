@@ -11,30 +11,30 @@ use Rattle.engine_core.specs.Houses.{House, Setting, by_houses, visits_of}
 use Rattle.solo_core.specs.declared.solo_house.SoloHouse.TheVariants.{Block}
 use Rattle.solo_core.specs.declared.solo_scope.SoloScope.{SoloScope}
 use Rattle.solo_core.specs.declared.solo_scope.SoloScope.TheVariants as scope
-use Rattle.solo_core.specs.Cells.{cells_of}
+use Rattle.solo_core.specs.Cells.{solo_cells}
 use Rattle.solo_core.specs.Crossing.{crossing}
 use Rattle.solo_core.specs.Houses.{houses_of, places_of}
 use Rattle.solo_core.specs.NoRepeat.{no_repeat}
 use Rattle.solo_core.specs.Scopes.{row_scope, column_scope}
 use Rattle.solo_core.specs.Singles.{strikes_by_singles}
-use Rattle.solo_core.specs.Solutions.{is_solution}
+use Rattle.solo_core.specs.Solutions.{is_solo_solution}
 
 -- where a search starts: a cell with a given has it alone, every other cell has every number
 unfoldable pub start : Solo → Candidates
 start p place v =
-    nat_lt place (cells_of p) && (nat_lt v (solo_n p)
+    nat_lt place (solo_cells p) && (nat_lt v (solo_n p)
     && ((slice_index p.givens place == 0) || (v + 1 == slice_index p.givens place)))
 
 -- the rules of these houses; a closing has at most one visit for each house, and one more for each value of its cells
 abbrev pub setting_of : Bool → Solo → List House → Setting
 setting_of settled p houses = record {
-  cells = cells_of p;
+  cells = solo_cells p;
   values = solo_n p;
   bound = sum_by (visits_of (solo_n p)) houses;
   settled = settled;
   by_queue = true;
   start = start p;
-  is_solution = is_solution p;
+  is_solution = is_solo_solution p;
 }
 
 abbrev pub rules_of : Bool → Solo → List House → Puzzle

@@ -9,12 +9,12 @@ use Rattle.grid_core.proofs.CandidateLemmas.{all_below-at, all_below-from}
 use Rattle.gameid_core.specs.Puzzles.{Solo, IsSolo, solo_n}
 use Rattle.engine_core.specs.Every.{test_each, each_test}
 use Rattle.solo_core.specs.declared.solo_house.SoloHouse.{SoloHouse}
-use Rattle.solo_core.specs.Cells.{cells_of}
+use Rattle.solo_core.specs.Cells.{solo_cells}
 use Rattle.solo_core.specs.Houses.{houses_of, IsHouseOf, lies_in, places_of}
 use Rattle.solo_core.specs.HouseLaws.{Lists, lists_house, all_houses, each_house}
 use Rattle.solo_core.specs.NoRepeat.{no_repeat}
 use Rattle.solo_core.specs.NoRepeatLaws.{different_from_no_repeat, no_repeat_from_different}
-use Rattle.solo_core.specs.Solutions.{IsSolution, given_stands, numbers_of, is_solution}
+use Rattle.solo_core.specs.Solutions.{IsSoloSolution, given_stands, numbers_of, is_solo_solution}
 
 -- ---- a given stands
 pub given_from_test : (p : Solo) (g : List ℕ) (place : ℕ) → given_stands p g place ≡ true → 1 ≤ slice_index p.givens place → slice_index g place + 1 ≡ slice_index p.givens place
@@ -66,22 +66,22 @@ module _ (places : List ℕ) (n cells : ℕ) (lies : ℕ → Bool) (l : Lists pl
       (l.lies_at i (omega arith)) (l.lies_at j (omega arith)) (sym a ∙ same ∙ b))
 
 -- ---- the test is the rule
-pub rule_from_test : (p : Solo) → IsSolo p → (g : List ℕ) → IsGrid (cells_of p) (solo_n p) g → is_solution p g ≡ true → IsSolution p g
-unfolding is_solution
+pub rule_from_test : (p : Solo) → IsSolo p → (g : List ℕ) → IsGrid (solo_cells p) (solo_n p) g → is_solo_solution p g ≡ true → IsSoloSolution p g
+unfolding is_solo_solution
 rule_from_test p ok g grid on =
-    let parts = and_parts (all_below (given_stands p g) (cells_of p)) (list_all (λ house. no_repeat (numbers_of p g house)) (houses_of p)) on in
+    let parts = and_parts (all_below (given_stands p g) (solo_cells p)) (list_all (λ house. no_repeat (numbers_of p g house)) (houses_of p)) on in
     record {
       grid = grid;
-      givens = λ place lt. given_from_test p g place (all_below-at (given_stands p g) (cells_of p) place parts.0 lt);
-      different = λ house is. differ_in (places_of p house) (solo_n p) (cells_of p) (lies_in p house) (lists_house p ok house is) g
+      givens = λ place lt. given_from_test p g place (all_below-at (given_stands p g) (solo_cells p) place parts.0 lt);
+      different = λ house is. differ_in (places_of p house) (solo_n p) (solo_cells p) (lies_in p house) (lists_house p ok house is) g
           (each_house p (λ h. no_repeat (numbers_of p g h) ≡ true) (test_each (λ h. no_repeat (numbers_of p g h)) (houses_of p) parts.1) house is);
     }
 
 -- no house of a solution repeats a number
-pub house_of_solution : (p : Solo) → IsSolo p → (g : List ℕ) → IsSolution p g → (house : SoloHouse) → IsHouseOf p house → no_repeat (numbers_of p g house) ≡ true
-house_of_solution p ok g s house is = no_repeat_in (places_of p house) (solo_n p) (cells_of p) (lies_in p house) (lists_house p ok house is) g (s.different house is)
+pub house_of_solution : (p : Solo) → IsSolo p → (g : List ℕ) → IsSoloSolution p g → (house : SoloHouse) → IsHouseOf p house → no_repeat (numbers_of p g house) ≡ true
+house_of_solution p ok g s house is = no_repeat_in (places_of p house) (solo_n p) (solo_cells p) (lies_in p house) (lists_house p ok house is) g (s.different house is)
 
-pub test_from_rule : (p : Solo) → IsSolo p → (g : List ℕ) → IsSolution p g → is_solution p g ≡ true
-unfolding is_solution
-test_from_rule p ok g s = and_from _ _ (all_below-from (given_stands p g) (cells_of p) (λ place lt. test_from_given p g place (s.givens place lt)))
+pub test_from_rule : (p : Solo) → IsSolo p → (g : List ℕ) → IsSoloSolution p g → is_solo_solution p g ≡ true
+unfolding is_solo_solution
+test_from_rule p ok g s = and_from _ _ (all_below-from (given_stands p g) (solo_cells p) (λ place lt. test_from_given p g place (s.givens place lt)))
     (each_test (λ house. no_repeat (numbers_of p g house)) (houses_of p) (λ k d lt. house_of_solution p ok g s (get_or (houses_of p) k d) (all_houses p k d lt)))

@@ -6,18 +6,18 @@ use Rattle.grid_core.specs.Candidates.{all_below}
 use Rattle.grid_core.specs.Grids.{IsGrid}
 use Rattle.gameid_core.specs.Puzzles.{Solo, solo_n}
 use Rattle.solo_core.specs.declared.solo_house.SoloHouse.{SoloHouse}
-use Rattle.solo_core.specs.Cells.{cells_of}
+use Rattle.solo_core.specs.Cells.{solo_cells}
 use Rattle.solo_core.specs.Houses.{houses_of, IsHouseOf, lies_in, places_of}
 use Rattle.solo_core.specs.NoRepeat.{no_repeat}
 
-pub record IsSolution (p : Solo) (g : List ℕ) : Type 0 where
-  pub grid : IsGrid (cells_of p) (solo_n p) g
+pub record IsSoloSolution (p : Solo) (g : List ℕ) : Type 0 where
+  pub grid : IsGrid (solo_cells p) (solo_n p) g
   -- a given stands
-  pub givens : (place : ℕ) → place < cells_of p → 1 ≤ slice_index p.givens place
+  pub givens : (place : ℕ) → place < solo_cells p → 1 ≤ slice_index p.givens place
       → slice_index g place + 1 ≡ slice_index p.givens place
   -- different places of one house hold different numbers
   pub different : (house : SoloHouse) → IsHouseOf p house
-      → (j k : ℕ) → j < cells_of p → k < cells_of p → (j ≡ k → ⊥)
+      → (j k : ℕ) → j < solo_cells p → k < solo_cells p → (j ≡ k → ⊥)
       → lies_in p house j ≡ true → lies_in p house k ≡ true → slice_index g j ≡ slice_index g k → ⊥
 
 -- what stands and differs, as a test of a grid of the puzzle, house by house
@@ -28,7 +28,7 @@ given_stands p g place =
 abbrev pub numbers_of : Solo → List ℕ → SoloHouse → List ℕ
 numbers_of p g house = map (slice_index g) (places_of p house)
 
-unfoldable pub is_solution : Solo → List ℕ → Bool
-is_solution p g =
-    all_below (given_stands p g) (cells_of p)
+unfoldable pub is_solo_solution : Solo → List ℕ → Bool
+is_solo_solution p g =
+    all_below (given_stands p g) (solo_cells p)
     && list_all (λ house. no_repeat (numbers_of p g house)) (houses_of p)

@@ -3,9 +3,9 @@
 ghost use Rattle.std.specs.Prelude.{◌≡◌, ℕ, ◌+◌, ◌<◌, true, false, map, length, slice_index, slice_index_or, MatchOption};
 ghost use Rattle.grid_core.specs.Grids.{IsGrid};
 ghost use Rattle.gameid_core.specs.Puzzles.{IsSolo, solo_n};
-ghost use Rattle.solo_core.specs.Cells.{cells_of};
+ghost use Rattle.solo_core.specs.Cells.{solo_cells};
 ghost use Rattle.solo_core.specs.Houses.{houses_of, IsHouseOf};
-ghost use Rattle.solo_core.specs.Solutions.{numbers_of as numbers_in, is_solution};
+ghost use Rattle.solo_core.specs.Solutions.{numbers_of as numbers_in, is_solo_solution};
 ghost use Rattle.solo_core.specs.NoRepeat.{no_repeat as has_no_repeat};
 ghost use Rattle.solo_core.specs.Faults.{Stands, AllStand, RepeatsFirst, IsFirstFault, fault_of as fault_of_house};
 ghost use Rattle.solo_core.specs.declared.solo_house.SoloHouse.{SoloHouse};
@@ -26,7 +26,7 @@ const MOST: usize = MAX_NUMBERS as usize;
 /// The rule is that of the manual of Simon Tatham's Portable Puzzle Collection, "Solo": every row, column and block has
 /// every number once, and in Solo X each of both main diagonals too.
 pub fn check_solo(puzzle: &SoloPuzzle, grid: &Grid) -> Option<SoloFault>
-    requires fits { IsGrid (cells_of puzzle.now) (solo_n puzzle.now) grid.now }
+    requires fits { IsGrid (solo_cells puzzle.now) (solo_n puzzle.now) grid.now }
     ensures { IsFirstFault puzzle.now grid.now result }
 {
     first_fault(puzzle, grid)
@@ -34,7 +34,7 @@ pub fn check_solo(puzzle: &SoloPuzzle, grid: &Grid) -> Option<SoloFault>
 
 /// The same answer, and that the puzzle is lawful, on which `accepts` relies.
 fn first_fault(puzzle: &SoloPuzzle, grid: &Grid) -> Option<SoloFault>
-    requires fits { IsGrid (cells_of puzzle.now) (solo_n puzzle.now) grid.now }
+    requires fits { IsGrid (solo_cells puzzle.now) (solo_n puzzle.now) grid.now }
     ensures lawful { IsSolo puzzle.now }
     ensures first { IsFirstFault puzzle.now grid.now result }
 {
@@ -49,8 +49,8 @@ fn first_fault(puzzle: &SoloPuzzle, grid: &Grid) -> Option<SoloFault>
 
 /// Whether the grid solves the puzzle.
 pub(crate) fn accepts(puzzle: &SoloPuzzle, grid: &Grid) -> bool
-    requires fits { IsGrid (cells_of puzzle.now) (solo_n puzzle.now) grid.now }
-    ensures { result ≡ is_solution puzzle.now grid.now }
+    requires fits { IsGrid (solo_cells puzzle.now) (solo_n puzzle.now) grid.now }
+    ensures { result ≡ is_solo_solution puzzle.now grid.now }
 {
     match first_fault(puzzle, grid) {
         None => true,
@@ -60,10 +60,10 @@ pub(crate) fn accepts(puzzle: &SoloPuzzle, grid: &Grid) -> bool
 
 /// The lowest place whose given doesn't stand.
 fn broken_given(puzzle: &SoloPuzzle, grid: &Grid) -> Option<usize>
-    requires fits { IsGrid (cells_of puzzle.now) (solo_n puzzle.now) grid.now }
+    requires fits { IsGrid (solo_cells puzzle.now) (solo_n puzzle.now) grid.now }
     ensures lawful { IsSolo puzzle.now }
     ensures first { MatchOption result (AllStand puzzle.now grid.now)
-        (λ place. (place < cells_of puzzle.now) × (Stands puzzle.now grid.now place → ⊥)
+        (λ place. (place < solo_cells puzzle.now) × (Stands puzzle.now grid.now place → ⊥)
         × ((q : ℕ) → q < place → Stands puzzle.now grid.now q)) }
 {
     for place in 0..cells(puzzle) {
@@ -77,7 +77,7 @@ fn broken_given(puzzle: &SoloPuzzle, grid: &Grid) -> Option<usize>
 
 /// The first house that holds a number twice.
 fn repeating_house(puzzle: &SoloPuzzle, grid: &Grid) -> Option<SoloHouse>
-    requires fits { IsGrid (cells_of puzzle.now) (solo_n puzzle.now) grid.now }
+    requires fits { IsGrid (solo_cells puzzle.now) (solo_n puzzle.now) grid.now }
     ensures lawful { IsSolo puzzle.now }
     ensures first { MatchOption result
         ((h : ℕ) (d : SoloHouse) → h < length (houses_of puzzle.now)
@@ -95,7 +95,7 @@ fn repeating_house(puzzle: &SoloPuzzle, grid: &Grid) -> Option<SoloHouse>
 
 /// The numbers that a house holds.
 fn numbers_of(puzzle: &SoloPuzzle, grid: &Grid, house: SoloHouse) -> ArrayVec<u8, MOST>
-    requires fits { IsGrid (cells_of puzzle.now) (solo_n puzzle.now) grid.now }
+    requires fits { IsGrid (solo_cells puzzle.now) (solo_n puzzle.now) grid.now }
     requires house_of { IsHouseOf puzzle.now house }
     ensures { result.items ≡ numbers_in puzzle.now grid.now house }
 {

@@ -9,20 +9,20 @@ ghost use Rattle.engine_core.specs.Houses.{house_of};
 ghost use Rattle.solo_core.specs.declared.solo_house.SoloHouse.{SoloHouse};
 ghost use Rattle.solo_core.specs.declared.solo_scope.SoloScope.{SoloScope};
 ghost use Rattle.solo_core.specs.declared.solo_scope.SoloScope.TheVariants.{House};
-ghost use Rattle.solo_core.specs.Cells.{cells_of};
+ghost use Rattle.solo_core.specs.Cells.{solo_cells};
 ghost use Rattle.solo_core.specs.Houses.{houses_of, IsHouseOf, places_of, lies_in};
 ghost use Rattle.solo_core.specs.RuleSets.{houses_rules, singles_rules, crossings_rules, filled_houses, crossings_of, house_at};
 ghost use Rattle.solo_core.specs.Scopes.{scopes_of};
-ghost use Rattle.solo_core.specs.Solutions.{IsSolution};
+ghost use Rattle.solo_core.specs.Solutions.{IsSoloSolution};
 
 /// The grids that the rules of each rule set accept are the solutions of the puzzle.
 pub fn accepted_are_solutions()
-    ensures houses { (p : Solo) → IsSolo p → (g : List ℕ) → IsGrid (cells_of p) (solo_n p) g
-        → (IsTrue ((houses_rules p).is_solution g)) ↔ IsSolution p g }
-    ensures singles { (p : Solo) → IsSolo p → (g : List ℕ) → IsGrid (cells_of p) (solo_n p) g
-        → (IsTrue ((singles_rules p).is_solution g)) ↔ IsSolution p g }
-    ensures crossings { (p : Solo) → IsSolo p → (g : List ℕ) → IsGrid (cells_of p) (solo_n p) g
-        → (IsTrue ((crossings_rules p).is_solution g)) ↔ IsSolution p g }
+    ensures houses { (p : Solo) → IsSolo p → (g : List ℕ) → IsGrid (solo_cells p) (solo_n p) g
+        → (IsTrue ((houses_rules p).is_solution g)) ↔ IsSoloSolution p g }
+    ensures singles { (p : Solo) → IsSolo p → (g : List ℕ) → IsGrid (solo_cells p) (solo_n p) g
+        → (IsTrue ((singles_rules p).is_solution g)) ↔ IsSoloSolution p g }
+    ensures crossings { (p : Solo) → IsSolo p → (g : List ℕ) → IsGrid (solo_cells p) (solo_n p) g
+        → (IsTrue ((crossings_rules p).is_solution g)) ↔ IsSoloSolution p g }
 {}
 
 /// The rules of each rule set keep to what every search relies on, for each puzzle.
@@ -49,7 +49,7 @@ pub fn bounds_are()
 /// the rules speak.
 pub fn houses_are_lines_and_blocks()
     ensures { (p : Solo) → IsSolo p → (house : SoloHouse) → IsHouseOf p house
-        → (place : ℕ) → place < cells_of p
+        → (place : ℕ) → place < solo_cells p
         → (IsTrue (has_place (places_of p house) place)) ↔ (IsTrue (lies_in p house place)) }
 {}
 

@@ -3,7 +3,7 @@
 ghost use Rattle.std.specs.Prelude.{◌≡◌, ◌<◌, ◌≤◌, ◌++◌, ◌∷◌, [], OnOk, length, map, slice_index, slice_index_or};
 ghost use Rattle.gameid_core.specs.Puzzles.{IsSolo, solo_n};
 ghost use Rattle.solo_core.specs.declared.solo_house.SoloHouse.{SoloHouse};
-ghost use Rattle.solo_core.specs.Cells.{cells_of};
+ghost use Rattle.solo_core.specs.Cells.{solo_cells};
 ghost use Rattle.solo_core.specs.Houses.{houses_of, IsHouseOf, lies_in, places_of};
 
 use crate::solo_house::SoloHouse;
@@ -14,7 +14,7 @@ use std::alloc::AllocError;
 
 /// How many cells the grid has.
 pub(crate) fn cells(puzzle: &SoloPuzzle) -> usize
-    ensures value { result ≡ cells_of puzzle.now }
+    ensures value { result ≡ solo_cells puzzle.now }
     ensures lawful { IsSolo puzzle.now }
 {
     let n = usize::from(puzzle.n());
@@ -54,7 +54,7 @@ pub(crate) fn place(puzzle: &SoloPuzzle, house: SoloHouse, k: usize) -> usize
     requires house_of { IsHouseOf puzzle.now house }
     requires k_in { k < solo_n puzzle.now }
     ensures place { result ≡ slice_index (places_of puzzle.now house) k }
-    ensures within { result < cells_of puzzle.now }
+    ensures within { result < solo_cells puzzle.now }
 {
     let n = puzzle.n();
     let size = Size::new(n, n).unwrap();
@@ -68,7 +68,7 @@ pub(crate) fn place(puzzle: &SoloPuzzle, house: SoloHouse, k: usize) -> usize
 
 /// Whether the place lies in the house.
 pub(crate) fn lies(puzzle: &SoloPuzzle, house: SoloHouse, place: usize) -> bool
-    requires { place < cells_of puzzle.now }
+    requires { place < solo_cells puzzle.now }
     ensures { result ≡ lies_in puzzle.now house place }
 {
     let n = usize::from(puzzle.n());

@@ -89,6 +89,8 @@ impl<S: Strikes> Rules for SoloRules<S> {
 
     ghost serves = { λ w needs. (needs.scope ≤ vec_len w.sets) × (needs.scope ≤ vec_len w.kept) × S.serves w.work needs.values };
 
+    ghost follows = { λ _ _ _. Unit {0} };
+
     ghost lawful = { λ r. rules_lawful r.puzzle r.is_solo S.SETTLED (S.houses r.puzzle) (S.sound r.puzzle r.is_solo) };
 
     ghost settled_is = { λ _. refl };
@@ -129,6 +131,10 @@ impl<S: Strikes> Rules for SoloRules<S> {
         self.table.next_at(place, from)
     }
 
+    fn house_of(&self, place: usize, k: usize) -> Option<usize> {
+        self.table.nth_at(place, k)
+    }
+
     fn start(&self, board: &mut Board) {
         write_start(&self.puzzle, board);
     }
@@ -154,6 +160,14 @@ impl<S: Strikes> Rules for SoloRules<S> {
         )
     }
 
+    fn follow(&self, _board: &Board, _scratch: &mut SoloWork<S::Work>) {}
+
+    fn change(&self, _place: usize, _before: u32, _after: u32, _scratch: &mut SoloWork<S::Work>) {}
+
+    fn calls(&self, _house: usize, _scratch: &SoloWork<S::Work>) -> bool {
+        true
+    }
+
     fn accept(&self, _scratch: &mut SoloWork<S::Work>, grid: &Grid) -> bool {
         accepts(&self.puzzle, grid)
     }
@@ -169,6 +183,7 @@ fn visit_cells<S: Strikes>(
     kept: &mut [u32],
     work: &mut S::Work,
 ) -> bool
+    requires lawful { IsSolo puzzle.now }
     requires house_in { house < length (S.houses puzzle.now) }
     requires of_house { places.now ≡ (house_of (S.houses puzzle.now) house).places }
     requires board_of { IsBoardOf (rules_of S.SETTLED puzzle.now (S.houses puzzle.now)) board.old }
@@ -182,10 +197,9 @@ fn visit_cells<S: Strikes>(
     ensures changed { result ≡ true → HasStruck (has board.old) (has board.new) }
     ensures keeps { (values : ℕ) → S.serves work.old values → S.serves work.new values }
 {
-    let n = puzzle.n();
     let sets = &mut sets[..places.len()];
     let kept = &mut kept[..places.len()];
     gather(board, places, sets);
     S::keep(puzzle, house, sets, kept, work);
-    apply(board, places, n, kept)
+    apply(board, places, kept)
 }

@@ -1,6 +1,6 @@
 use Rattle.std.proofs.Common.{◌≡◌, ◌∙◌, not, eqb, get_or, sym, ap, ap₂, arith, subst}
 use Rattle.engine_core.specs.Sets.{has_bit}
-use Rattle.pattern_core.specs.Lines.{numbers_of}
+use Rattle.pattern_core.specs.Lines.{line_numbers}
 use Rattle.pattern_core.specs.LineLaws.{has_runs-is, has_runs-from}
 use Rattle.pattern_core.specs.Track.{spelled, IsBelow, along, leads, moved}
 use Rattle.pattern_core.proofs.Follows.{follow_next, follow_end}
@@ -12,14 +12,14 @@ use Rattle.pattern_core.proofs.follow.follows.Goals as goal
 
 pub loop-k-init : goal.loop-k-init
 loop-k-init g c =
-    at_first g.P.Places.room (g.P.Places.has c.first-reached.result) (λ p. leads (along g.P.Places.has c.steps-steps.result) p (numbers_of c.args.size c.args.grid.now c.args.line))
+    at_first g.P.Places.room (g.P.Places.has c.first-reached.result) (λ p. leads (along g.P.Places.has c.steps-steps.result) p (line_numbers c.args.size c.args.grid.now c.args.line))
     (omega (arith, c.steps-steps.ensures.fits)) c.first-reached.ensures
 
 pub loop-k-preserved : goal.loop-k-preserved
 loop-k-preserved g c =
     let has = g.P.Places.has in
     let t = along g.P.Places.has c.steps-steps.result in
-    let cells = numbers_of c.args.size c.args.grid.now c.args.line in
+    let cells = line_numbers c.args.size c.args.grid.now c.args.line in
     let below : IsBelow g.P.Places.room t = subst (IsBelow g.P.Places.room) (sym c.steps-steps.ensures.track)
     (track_below (spelled c.args.clue.now) g.P.Places.room (omega (arith, length-spelled c.args.clue.now, c.steps-steps.ensures.fits))) in
     let set = c.alone-set.result in
@@ -33,7 +33,7 @@ loop-k-preserved g c =
 pub returns : goal.returns
 returns g c =
     let t = along g.P.Places.has c.steps-steps.result in
-    let cells = numbers_of c.args.size c.args.grid.now c.args.line in
+    let cells = line_numbers c.args.size c.args.grid.now c.args.line in
     let below : IsBelow g.P.Places.room t = subst (IsBelow g.P.Places.room) (sym c.steps-steps.ensures.track)
     (track_below (spelled c.args.clue.now) g.P.Places.room (omega (arith, length-spelled c.args.clue.now, c.steps-steps.ensures.fits))) in
     let told = c.is_some.ensures ∙ follow_end g.P.Places.room t below cells c.loop-k.k (g.P.Places.has c.loop-k.reached) c.args.clue.now (g.P.Places.has c.both.result) c.steps-steps.ensures.track c.steps-steps.ensures.positive

@@ -5,13 +5,13 @@ use Rattle.solo_core.proofs.rules.visit_cells.Goals as goal
 
 pub gather-requires-clause-places_in : goal.gather-requires-clause-places_in
 gather-requires-clause-places_in g c = λ k lt.
-    let w = house-in g.S.Strikes.SETTLED c.args.puzzle.now (g.S.Strikes.houses c.args.puzzle.now) c.args.house c.args.places.now (g.met.S.Strikes.sound c.args.puzzle.now c.n-n.ensures.lawful) c.requires.house_in c.requires.of_house k lt in
+    let w = house-in g.S.Strikes.SETTLED c.args.puzzle.now (g.S.Strikes.houses c.args.puzzle.now) c.args.house c.args.places.now (g.met.S.Strikes.sound c.args.puzzle.now c.requires.lawful) c.requires.house_in c.requires.of_house k lt in
     let e = c.requires.board_of.same_cells in
     omega arith
 
 pub apply-requires-clause-places_in : goal.apply-requires-clause-places_in
 apply-requires-clause-places_in g c = λ k lt.
-    let w = house-in g.S.Strikes.SETTLED c.args.puzzle.now (g.S.Strikes.houses c.args.puzzle.now) c.args.house c.args.places.now (g.met.S.Strikes.sound c.args.puzzle.now c.n-n.ensures.lawful) c.requires.house_in c.requires.of_house k lt in
+    let w = house-in g.S.Strikes.SETTLED c.args.puzzle.now (g.S.Strikes.houses c.args.puzzle.now) c.args.house c.args.places.now (g.met.S.Strikes.sound c.args.puzzle.now c.requires.lawful) c.requires.house_in c.requires.of_house k lt in
     let e = c.requires.board_of.same_cells in
     omega arith
 
