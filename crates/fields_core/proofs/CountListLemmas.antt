@@ -2,11 +2,12 @@
 use Rattle.std.proofs.Common.{◌≡◌, ℕ, zero, suc, ◌+◌, ◌<◌, ◌≤◌, List, [], ◌∷◌, ◌++◌, length, map, slice_index, Bool, Option, take, refl, sym, ap, ap₂, subst, ◌∙◌, arith, add-one}
 use Rattle.std.proofs.lemmas.List.{append-nil, append_assoc, length-map, map-append, take_more, take_all}
 use Rattle.std.proofs.Math.Path.{fun_ext}
-use Rattle.engine_core.specs.Puzzle.{has_place, IsNext}
+use Rattle.engine_core.specs.Puzzle.{has_place, IsNext, IsKth}
 use Rattle.engine_core.specs.HouseIndex.{scope_of, AreScopes}
 use Rattle.engine_core.specs.PlaceLaws.{has_place-here}
-use Rattle.fields_core.specs.CountHouse.{House, Table, IsHouse, AreHouses, house_of, houses_below}
-use Rattle.fields_core.specs.CountLists.{places_of, bounds_of, bound_of, house_with, bounded, AreListed, IsBegun, IsClosed, IsAdded}
+use Rattle.fields_core.specs.CountHouse.{CountHouse, CountedHouses, IsHouse, AreHouses, count_house_of, houses_below}
+use Rattle.fields_core.specs.CountLists.{house_places, bounds_of, bound_of, house_with, bounded, AreListed, IsBegun, IsHouseClosed, IsAdded}
+use Rattle.fields_core.proofs.CountTallies.{AreCounted}
 use Rattle.fields_core.specs.declared.count_list.Bounds.{Bounds}
 use Rattle.fields_core.specs.declared.count_list.CountList.{CountList}
 
@@ -32,14 +33,14 @@ pub begun-all : (a b : CountList) (xs : List ℕ) (n : ℕ) → IsBegun a b (tak
 begun-all a b xs n p ge = begun-same a b (take n xs) xs p (take_all n xs ge)
 
 -- ---- more houses
-pub added-none : (list : CountList) (houses : List House) → list.list.begun ≡ [] → houses ≡ [] → IsAdded list list houses
+pub added-none : (list : CountList) (houses : List CountHouse) → list.list.begun ≡ [] → houses ≡ [] → IsAdded list list houses
 added-none list houses none e = record {
   closed = rw e (sym (append-nil list.list.closed));
   begun = none;
   bounds = rw e (sym (append-nil list.bounds.items));
 }
 
-pub added-one : (a b c : CountList) (places : List ℕ) (least most : ℕ) (houses : List House) → a.list.begun ≡ [] → IsBegun a b places → IsClosed b c least most
+pub added-one : (a b c : CountList) (places : List ℕ) (least most : ℕ) (houses : List CountHouse) → a.list.begun ≡ [] → IsBegun a b places → IsHouseClosed b c least most
     → houses ≡ record { places = places; least = least; most = most } ∷ [] → IsAdded a c houses
 added-one a b c places least most houses none p q e =
     let at : b.list.begun ≡ places = p.begun ∙ ap (λ l. l ++ places) none in
@@ -50,50 +51,50 @@ added-one a b c places least most houses none p q e =
     }
 
 -- the house has as many ones as cells at most
-pub added-some : (a b c : CountList) (places : List ℕ) (houses : List House) → a.list.begun ≡ [] → IsBegun a b places → IsClosed b c 1 (length b.list.begun)
+pub added-some : (a b c : CountList) (places : List ℕ) (houses : List CountHouse) → a.list.begun ≡ [] → IsBegun a b places → IsHouseClosed b c 1 (length b.list.begun)
     → houses ≡ record { places = places; least = 1; most = length places } ∷ [] → IsAdded a c houses
 added-some a b c places houses none p q e =
     let at : b.list.begun ≡ places = p.begun ∙ ap (λ l. l ++ places) none in
-    added-one a b c places 1 (length places) houses none p (subst (λ n. IsClosed b c 1 n) (ap length at) q) e
+    added-one a b c places 1 (length places) houses none p (subst (λ n. IsHouseClosed b c 1 n) (ap length at) q) e
 
-pub added-more : (a b c : CountList) (xs ys : List House) → IsAdded a b xs → IsAdded b c ys → IsAdded a c (xs ++ ys)
+pub added-more : (a b c : CountList) (xs ys : List CountHouse) → IsAdded a b xs → IsAdded b c ys → IsAdded a c (xs ++ ys)
 added-more a b c xs ys p q = record {
-  closed = q.closed ∙ ap (λ l. l ++ map places_of ys) p.closed ∙ append_assoc a.list.closed (map places_of xs) (map places_of ys) ∙ ap (λ l. a.list.closed ++ l) (sym (map-append places_of xs ys));
+  closed = q.closed ∙ ap (λ l. l ++ map house_places ys) p.closed ∙ append_assoc a.list.closed (map house_places xs) (map house_places ys) ∙ ap (λ l. a.list.closed ++ l) (sym (map-append house_places xs ys));
   begun = q.begun;
   bounds = q.bounds ∙ ap (λ l. l ++ map bounds_of ys) p.bounds ∙ append_assoc a.bounds.items (map bounds_of xs) (map bounds_of ys) ∙ ap (λ l. a.bounds.items ++ l) (sym (map-append bounds_of xs ys));
 }
 
-pub below-none : (f : ℕ → List House) (list : CountList) → list.list.begun ≡ [] → IsAdded list list (houses_below f 0)
+pub below-none : (f : ℕ → List CountHouse) (list : CountList) → list.list.begun ≡ [] → IsAdded list list (houses_below f 0)
 unfolding houses_below
 below-none f list none = added-none list [] none refl
 
-pub below-more : (f : ℕ → List House) (a b c : CountList) (n : ℕ) → IsAdded a b (houses_below f n) → IsAdded b c (f n) → IsAdded a c (houses_below f (n + 1))
+pub below-more : (f : ℕ → List CountHouse) (a b c : CountList) (n : ℕ) → IsAdded a b (houses_below f n) → IsAdded b c (f n) → IsAdded a c (houses_below f (n + 1))
 unfolding houses_below
 below-more f a b c n p q = rw add-one (added-more a b c (houses_below f n) (f n) p q)
 
-pub four-added : (a b c d e : CountList) (ws xs ys zs : List House) → a.list ≡ record { closed = []; begun = [] } → a.bounds.items ≡ []
+pub four-added : (a b c d e : CountList) (ws xs ys zs : List CountHouse) → a.list ≡ record { closed = []; begun = [] } → a.bounds.items ≡ []
     → IsAdded a b ws → IsAdded b c xs → IsAdded c d ys → IsAdded d e zs → AreListed e (ws ++ (xs ++ (ys ++ zs)))
 four-added a b c d e ws xs ys zs none no_bounds p q r s =
     let all = added-more a b e ws (xs ++ (ys ++ zs)) p (added-more b c e xs (ys ++ zs) q (added-more c d e ys zs r s)) in
     record { cells = rw none at all.closed; bounds = rw no_bounds at all.bounds }
 
 -- ---- the houses with these cells and bounds
-pub bounded-map : (houses : List House) → bounded (map places_of houses) (map bounds_of houses) ≡ houses
+pub bounded-map : (houses : List CountHouse) → bounded (map house_places houses) (map bounds_of houses) ≡ houses
 bounded-map [] = refl
 bounded-map (h ∷ houses) = ap (λ l. h ∷ l) (bounded-map houses)
 
-pub bounded-listed : (list : CountList) (houses : List House) → AreListed list houses → bounded list.list.closed list.bounds.items ≡ houses
+pub bounded-listed : (list : CountList) (houses : List CountHouse) → AreListed list houses → bounded list.list.closed list.bounds.items ≡ houses
 bounded-listed list houses are = rw (are.cells, are.bounds) (bounded-map houses)
 
-pub as-many : (list : CountList) (houses : List House) → AreListed list houses → length list.bounds.items ≡ length list.list.closed
-as-many list houses are = ap length are.bounds ∙ length-map houses bounds_of ∙ sym (length-map houses places_of) ∙ ap length (sym are.cells)
+pub as-many : (list : CountList) (houses : List CountHouse) → AreListed list houses → length list.bounds.items ≡ length list.list.closed
+as-many list houses are = ap length are.bounds ∙ length-map houses bounds_of ∙ sym (length-map houses house_places) ∙ ap length (sym are.cells)
 
 pub bounded-long : (scopes : List (List ℕ)) (bounds : List Bounds) → length bounds ≡ length scopes → length (bounded scopes bounds) ≡ length scopes
 bounded-long [] bounds e = refl
 bounded-long (places ∷ scopes) [] e = absurd (omega arith)
 bounded-long (places ∷ scopes) (b ∷ bounds) e = ap suc (bounded-long scopes bounds (omega arith))
 
-pub bounded-at : (scopes : List (List ℕ)) (bounds : List Bounds) (h : ℕ) → length bounds ≡ length scopes → house_of (bounded scopes bounds) h ≡ house_with (scope_of scopes h) (bound_of bounds h)
+pub bounded-at : (scopes : List (List ℕ)) (bounds : List Bounds) (h : ℕ) → length bounds ≡ length scopes → count_house_of (bounded scopes bounds) h ≡ house_with (scope_of scopes h) (bound_of bounds h)
 bounded-at [] [] h e = refl
 bounded-at [] (b ∷ bounds) h e = absurd (omega arith)
 bounded-at (places ∷ scopes) [] h e = absurd (omega arith)
@@ -106,24 +107,41 @@ scopes-of cells scopes bounds e are h lt =
     record { within = λ k less. is.within (slice_index (scope_of scopes h) k) (has_place-here (scope_of scopes h) k less); different = is.different }
 
 -- the next house that has a place
-pub next-in : (cells : ℕ) (scopes : List (List ℕ)) (bounds : List Bounds) (t : Table) (place from : ℕ) (o : Option ℕ) → length bounds ≡ length scopes → record { cells = cells; houses = bounded scopes bounds } ≡ t
-    → IsNext (λ h. has_place (scope_of scopes h) place) (length scopes) from o → IsNext (λ h. has_place (house_of t.houses h).places place) (length t.houses) from o
+pub next-in : (cells : ℕ) (scopes : List (List ℕ)) (bounds : List Bounds) (t : CountedHouses) (place from : ℕ) (o : Option ℕ) → length bounds ≡ length scopes → record { cells = cells; houses = bounded scopes bounds } ≡ t
+    → IsNext (λ h. has_place (scope_of scopes h) place) (length scopes) from o → IsNext (λ h. has_place (count_house_of t.houses h).places place) (length t.houses) from o
 next-in cells scopes bounds t place from o long e next =
-    let same : (λ h. has_place (scope_of scopes h) place) ≡ (λ h. has_place (house_of (bounded scopes bounds) h).places place) = fun_ext λ h. ap (λ (x : House). has_place x.places place) (sym (bounded-at scopes bounds h long)) in
-    subst (λ (u : Table). IsNext (λ h. has_place (house_of u.houses h).places place) (length u.houses) from o) e
-    (subst (λ n. IsNext (λ h. has_place (house_of (bounded scopes bounds) h).places place) n from o) (sym (bounded-long scopes bounds long))
+    let same : (λ h. has_place (scope_of scopes h) place) ≡ (λ h. has_place (count_house_of (bounded scopes bounds) h).places place) = fun_ext λ h. ap (λ (x : CountHouse). has_place x.places place) (sym (bounded-at scopes bounds h long)) in
+    subst (λ (u : CountedHouses). IsNext (λ h. has_place (count_house_of u.houses h).places place) (length u.houses) from o) e
+    (subst (λ n. IsNext (λ h. has_place (count_house_of (bounded scopes bounds) h).places place) n from o) (sym (bounded-long scopes bounds long))
     (subst (λ (p : ℕ → Bool). IsNext p (length scopes) from o) same next))
 
-pub houses-long : (cells : ℕ) (scopes : List (List ℕ)) (bounds : List Bounds) (t : Table) → length bounds ≡ length scopes → record { cells = cells; houses = bounded scopes bounds } ≡ t → length scopes ≡ length t.houses
-houses-long cells scopes bounds t long e = sym (bounded-long scopes bounds long) ∙ ap (λ (u : Table). length u.houses) e
+-- and the one with so many before it
+pub kth-in : (cells : ℕ) (scopes : List (List ℕ)) (bounds : List Bounds) (t : CountedHouses) (place k : ℕ) (o : Option ℕ) → length bounds ≡ length scopes → record { cells = cells; houses = bounded scopes bounds } ≡ t
+    → IsKth (λ h. has_place (scope_of scopes h) place) (length scopes) k o → IsKth (λ h. has_place (count_house_of t.houses h).places place) (length t.houses) k o
+kth-in cells scopes bounds t place k o long e kth =
+    let same : (λ h. has_place (scope_of scopes h) place) ≡ (λ h. has_place (count_house_of (bounded scopes bounds) h).places place) = fun_ext λ h. ap (λ (x : CountHouse). has_place x.places place) (sym (bounded-at scopes bounds h long)) in
+    subst (λ (u : CountedHouses). IsKth (λ h. has_place (count_house_of u.houses h).places place) (length u.houses) k o) e
+    (subst (λ n. IsKth (λ h. has_place (count_house_of (bounded scopes bounds) h).places place) n k o) (sym (bounded-long scopes bounds long))
+    (subst (λ (p : ℕ → Bool). IsKth p (length scopes) k o) same kth))
 
-pub house-in : (cells : ℕ) (scopes : List (List ℕ)) (bounds : List Bounds) (t : Table) (h : ℕ) → length bounds ≡ length scopes → record { cells = cells; houses = bounded scopes bounds } ≡ t
-    → house_with (scope_of scopes h) (bound_of bounds h) ≡ house_of t.houses h
-house-in cells scopes bounds t h long e = sym (bounded-at scopes bounds h long) ∙ ap (λ (u : Table). house_of u.houses h) e
+pub houses-long : (cells : ℕ) (scopes : List (List ℕ)) (bounds : List Bounds) (t : CountedHouses) → length bounds ≡ length scopes → record { cells = cells; houses = bounded scopes bounds } ≡ t → length scopes ≡ length t.houses
+houses-long cells scopes bounds t long e = sym (bounded-long scopes bounds long) ∙ ap (λ (u : CountedHouses). length u.houses) e
 
-pub house-met : (cells b : ℕ) (scopes : List (List ℕ)) (bounds : List Bounds) (t : Table) (h : ℕ) (places : List ℕ) (bound : Bounds) → length bounds ≡ length scopes → AreHouses cells (bounded scopes bounds)
+pub house-in : (cells : ℕ) (scopes : List (List ℕ)) (bounds : List Bounds) (t : CountedHouses) (h : ℕ) → length bounds ≡ length scopes → record { cells = cells; houses = bounded scopes bounds } ≡ t
+    → house_with (scope_of scopes h) (bound_of bounds h) ≡ count_house_of t.houses h
+house-in cells scopes bounds t h long e = sym (bounded-at scopes bounds h long) ∙ ap (λ (u : CountedHouses). count_house_of u.houses h) e
+
+pub house-met : (cells b : ℕ) (scopes : List (List ℕ)) (bounds : List Bounds) (t : CountedHouses) (h : ℕ) (places : List ℕ) (bound : Bounds) → length bounds ≡ length scopes → AreHouses cells (bounded scopes bounds)
     → record { cells = cells; houses = bounded scopes bounds } ≡ t → h < length t.houses → b ≡ t.cells → places ≡ scope_of scopes h → bound ≡ bound_of bounds h → IsHouse b (house_with places bound)
 house-met cells b scopes bounds t h places bound long are e lt eb ep eq =
     let is = subst (IsHouse cells) (bounded-at scopes bounds h long) (are h (omega (arith, bounded-long scopes bounds long, houses-long cells scopes bounds t long e))) in
-    subst (λ n. IsHouse n (house_with places bound)) (ap (λ (u : Table). u.cells) e ∙ sym eb)
-    (subst (λ (x : House). IsHouse cells x) (ap₂ house_with (sym ep) (sym eq)) is)
+    subst (λ n. IsHouse n (house_with places bound)) (ap (λ (u : CountedHouses). u.cells) e ∙ sym eb)
+    (subst (λ (x : CountHouse). IsHouse cells x) (ap₂ house_with (sym ep) (sym eq)) is)
+
+-- what a table of scopes with bounds has
+pub counted-table : (cells : ℕ) (scopes : List (List ℕ)) (bounds : List Bounds) (t : CountedHouses) → length bounds ≡ length scopes → AreHouses cells (bounded scopes bounds) → record { cells = cells; houses = bounded scopes bounds } ≡ t → AreCounted t.cells scopes t.houses
+counted-table cells scopes bounds t long are e = record {
+  as_many = houses-long cells scopes bounds t long e;
+  places = λ h. ap house_places (house-in cells scopes bounds t h long e);
+  each = subst (λ (u : CountedHouses). AreHouses u.cells u.houses) e are;
+}

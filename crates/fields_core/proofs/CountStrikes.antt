@@ -13,8 +13,8 @@ use Rattle.engine_core.specs.House.{strikes_at, sets_at}
 use Rattle.engine_core.specs.HouseLaws.{strikes_at-place, strikes_at-in_scope}
 use Rattle.engine_core.specs.Closing.{HasStruck}
 use Rattle.engine_core.proofs.HouseLemmas.{IsStriking, striking-first, striking-more, without-none, without-gone, without-inside}
-use Rattle.fields_core.specs.Count.{counts_between, is_open, is_empty, struck_at, strikes_open}
-use Rattle.fields_core.specs.CountHouse.{House, IsHouse, after_house, strikes_of}
+use Rattle.fields_core.specs.Count.{counts_between, is_open, is_empty, struck_among, strikes_open}
+use Rattle.fields_core.specs.CountHouse.{CountHouse, IsHouse, after_house, strikes_of}
 use Rattle.fields_core.proofs.CountKept.{set_of, stays, empty-struck, counts-kept, none-open, must-under}
 
 same_place : (places : List ℕ) (c : ℕ) → has_place places c ≡ list_any (λ d. eqb d c) places
@@ -23,7 +23,7 @@ same_place [] c = refl
 same_place (x ∷ xs) c = ap (λ b. eqb x c || b) (same_place xs c)
 
 -- ---- what a visit leaves of a cell
-after-off : (house : House) (K : Candidates) (c v : ℕ) → has_place house.places c ≡ false → after_house house K c v ≡ K c v
+after-off : (house : CountHouse) (K : Candidates) (c v : ℕ) → has_place house.places c ≡ false → after_house house K c v ≡ K c v
 unfolding after_house strikes_of
 after-off house K c v off = rw (false_from_ne_true (strikes_at 2 house.places (strikes_by_fillings (counts_between house.least house.most)) K c v) (λ on.
     true≢false (sym (strikes_at-in_scope 2 house.places (strikes_by_fillings (counts_between house.least house.most)) K c v on) ∙ off))) (and-true (K c v))
@@ -32,17 +32,17 @@ after-off house K c v off = rw (false_from_ne_true (strikes_at 2 house.places (s
     and-true true = refl
     and-true false = refl
 
-after-at : (cells : ℕ) (house : House) (K : Candidates) (k v : ℕ) → IsHouse cells house → k < length house.places
+after-at : (cells : ℕ) (house : CountHouse) (K : Candidates) (k v : ℕ) → IsHouse cells house → k < length house.places
     → after_house house K (slice_index house.places k) v ≡ (K (slice_index house.places k) v && not (strikes_by_fillings (counts_between house.least house.most) (map (set_of K) house.places) k v))
 unfolding after_house strikes_of sets_at
 after-at cells house K k v is lt = ap (λ b. K (slice_index house.places k) v && not b) (strikes_at-place 2 house.places (strikes_by_fillings (counts_between house.least house.most)) K k v is.different lt)
 
 -- it suffices to look at the cells of the house, and at 0 and 1
-after-by : (cells : ℕ) (house : House) (K : Candidates) (struck : ℕ → ℕ → Bool) → IsHouse cells house → ((c v : ℕ) → K c v ≡ true → v < 2)
+after-by : (cells : ℕ) (house : CountHouse) (K : Candidates) (struck : ℕ → ℕ → Bool) → IsHouse cells house → ((c v : ℕ) → K c v ≡ true → v < 2)
     → ((k v : ℕ) → k < length house.places → v < 2
     → (K (slice_index house.places k) v && not (strikes_by_fillings (counts_between house.least house.most) (map (set_of K) house.places) k v))
     ≡ (K (slice_index house.places k) v && not (struck (slice_index house.places k) v)))
-    → after_house house K ≡ struck_at house.places struck K
+    → after_house house K ≡ struck_among house.places struck K
 unfolding after_house
 after-by cells house K struck is two same = fun_ext λ c. fun_ext λ v. elim (cases_Bool (has_place house.places c)) [
   | inr off ↦ after-off house K c v off ∙ rw (sym (same_place house.places c) ∙ off) (sym (and-true (K c v)))
@@ -134,7 +134,7 @@ stays-none least most must may v true z o (inr (inr d)) low at_zero at_one = rw 
     long (suc (suc u)) e lt = absurd (omega arith)
 
 -- ---- the visit
-module _ (cells : ℕ) (house : House) (K : Candidates) (must may : ℕ) (dead : Bool) (is : IsHouse cells house) (two : (c v : ℕ) → K c v ≡ true → v < 2) (t : IsTallied K house.places must may dead) where
+module _ (cells : ℕ) (house : CountHouse) (K : Candidates) (must may : ℕ) (dead : Bool) (is : IsHouse cells house) (two : (c v : ℕ) → K c v ≡ true → v < 2) (t : IsTallied K house.places must may dead) where
   abbrev at : ℕ → ℕ
   at k = slice_index house.places k
 
@@ -148,7 +148,7 @@ module _ (cells : ℕ) (house : House) (K : Candidates) (must may : ℕ) (dead :
   same-at c v u e = ap (K c) e
 
   -- a cell without values, or too few or too many ones: all is struck
-  pub none-stays : (dead ≡ true) ⊎ ((dead ≡ false) × ((house.most < house.least) ⊎ ((may < house.least) ⊎ (house.most < must)))) → struck_at house.places (λ c v. true) K ≡ after_house house K
+  pub none-stays : (dead ≡ true) ⊎ ((dead ≡ false) × ((house.most < house.least) ⊎ ((may < house.least) ⊎ (house.most < must)))) → struck_among house.places (λ c v. true) K ≡ after_house house K
   none-stays (inl on) = sym (after-by cells house K (λ c v. true) is two (λ k v lt low.
       ap (λ b. K (at k) v && not b) (empty-struck K house.places (counts_between house.least house.most) k v (sym t.dead_is ∙ on))))
   none-stays (inr (alive, why)) = sym (after-by cells house K (λ c v. true) is two (λ k v lt low.
@@ -162,7 +162,7 @@ module _ (cells : ℕ) (house : House) (K : Candidates) (must may : ℕ) (dead :
       and-true true = refl
       and-true false = refl
 
-      nothing : struck_at house.places (λ c v. false) K ≡ K
+      nothing : struck_among house.places (λ c v. false) K ≡ K
       nothing = fun_ext λ c. fun_ext λ v. by (K c v) (list_any (λ d. eqb d c) house.places)
         where
           by : (p q : Bool) → (p && not (q && false)) ≡ p
@@ -185,7 +185,7 @@ module _ (cells : ℕ) (house : House) (K : Candidates) (must may : ℕ) (dead :
   some-open alive differ = let u = must-under K house.places (sym t.dead_is ∙ alive) in let a = t.must_is in let b = t.may_is in omega arith
 
   -- as many cells must hold a one as may at most: the others that have both lose the 1
-  pub ones-go : dead ≡ false → house.least ≤ house.most → must ≡ house.most → (must ≡ may → ⊥) → struck_at house.places (strikes_open 1 K) K ≡ after_house house K
+  pub ones-go : dead ≡ false → house.least ≤ house.most → must ≡ house.most → (must ≡ may → ⊥) → struck_among house.places (strikes_open 1 K) K ≡ after_house house K
   ones-go alive a full differ = sym (after-by cells house K (strikes_open 1 K) is two (λ k v lt low. kept k v alive lt low ∙ each k v lt low))
     where
       more : house.least < may
@@ -207,7 +207,7 @@ module _ (cells : ℕ) (house : House) (K : Candidates) (must may : ℕ) (dead :
       each k (suc (suc v)) lt low = absurd (omega arith)
 
   -- as many cells may hold a one as must at least: those that have both lose the 0
-  pub zeros-go : dead ≡ false → house.least ≤ house.most → may ≡ house.least → (must ≡ may → ⊥) → struck_at house.places (strikes_open 0 K) K ≡ after_house house K
+  pub zeros-go : dead ≡ false → house.least ≤ house.most → may ≡ house.least → (must ≡ may → ⊥) → struck_among house.places (strikes_open 0 K) K ≡ after_house house K
   zeros-go alive a few differ = sym (after-by cells house K (strikes_open 0 K) is two (λ k v lt low. kept k v alive lt low ∙ each k v lt low))
     where
       less : must < house.most
@@ -238,7 +238,7 @@ struck-first K places struck = record { left = λ c v. by (K c v) }
     by true = refl
     by false = refl
 
-pub struck-whole : (K K' : Candidates) (places : List ℕ) (struck : ℕ → ℕ → Bool) (n : ℕ) → IsStruckBelow K K' places struck n → length places ≤ n → K' ≡ struck_at places struck K
+pub struck-whole : (K K' : Candidates) (places : List ℕ) (struck : ℕ → ℕ → Bool) (n : ℕ) → IsStruckBelow K K' places struck n → length places ≤ n → K' ≡ struck_among places struck K
 struck-whole K K' places struck n s ge = fun_ext λ c. fun_ext λ v. s.left c v ∙ ap (λ l. K c v && not (list_any (λ d. eqb d c) l && struck c v)) (take_all n places ge)
 
 more : (places : List ℕ) (n c : ℕ) → n < length places → list_any (λ d. eqb d c) (take (n + 1) places) ≡ (list_any (λ d. eqb d c) (take n places) || eqb (slice_index places n) c)

@@ -1,50 +1,365 @@
--- The counts over the first cells of a house.
-use Rattle.std.proofs.Common.{◌≡◌, ℕ, ◌+◌, ◌<◌, ◌≤◌, Bool, true, false, not, ◌&&◌, ◌||◌, cond, List, length, slice_index, take, refl, sym, ◌∙◌, ap, ap₂, inl, inr, arith}
+-- What is counted of the cells of count houses.
+use Rattle.std.proofs.Common.{◌≡◌, ℕ, zero, suc, ◌+◌, ◌<◌, ◌≤◌, ◌^◌, Bool, true, false, not, ◌&&◌, ◌||◌, eqb, ltb, cond, List, [], ◌∷◌, length, slice_index, set, take, refl, sym, ◌∙◌, ap, ap₂, subst, inl, inr, ◌⊎◌, arith}
 use Rattle.std.specs.List.{count_by, list_any}
-use Rattle.std.proofs.lemmas.Bool.{cases_Bool}
-use Rattle.std.proofs.lemmas.List.{take_all}
-use Rattle.std.proofs.lemmas.List.Folds.{list_any_more}
-use Rattle.std.proofs.lemmas.List.Sums.{count_by_more_yes, count_by_more_no}
-use Rattle.grid_core.specs.Candidates.{Candidates}
+use Rattle.std.proofs.lemmas.Bool.{cases_Bool, cases_eq, eqb-true, eqb-false, lt-ltb, eq-eqb, or_cases, true≢false, false≢true}
+use Rattle.std.proofs.lemmas.List.{take_all, length-set, get_or-set_same, get_or-set_other}
+use Rattle.std.proofs.lemmas.List.Sums.{sum_by_more, sum_by-cons, count_by-le-length}
+use Rattle.grid_core.specs.Candidates.{Candidates, IsWithin}
+use Rattle.engine_core.specs.Puzzle.{has_place}
+use Rattle.engine_core.specs.PlaceLaws.{AreDistinct, distinct-from, has_place-here}
+use Rattle.engine_core.specs.HouseIndex.{scope_of, number_at, AreHousesAt}
+use Rattle.engine_core.proofs.IndexLemmas.{counted, numbered}
+use Rattle.engine_core.specs.Sets.{has_bit, IsChange}
 use Rattle.fields_core.specs.Count.{is_empty}
-use Rattle.fields_core.proofs.CountStrikes.{IsTallied}
+use Rattle.fields_core.specs.CountHouse.{CountHouse, IsHouse, count_house_of, strikes_of, after_house}
+use Rattle.fields_core.specs.Tallies.{IsTally, moved_tally, tally_at, AreTallied}
+use Rattle.fields_core.specs.CountLists.{bounds_of}
+use Rattle.fields_core.specs.declared.count_list.Bounds.{Bounds}
+use Rattle.fields_core.specs.declared.tally.Tally.{Tally}
+use Rattle.fields_core.proofs.CountStrikes.{IsTallied, all-stay, some-filling}
 
-pub record IsTalliedBelow (K : Candidates) (places : List ℕ) (n must may : ℕ) (dead : Bool) : Type 0 where
+-- ---- counted one cell after the other
+pub record IsTalliedBelow (K : Candidates) (places : List ℕ) (n must may empty : ℕ) : Type 0 where
   pub must_is : must ≡ count_by (λ c. not (K c 0)) (take n places)
   pub may_is : may ≡ count_by (λ c. K c 1) (take n places)
-  pub dead_is : dead ≡ list_any (is_empty K) (take n places)
+  pub empty_is : empty ≡ count_by (is_empty K) (take n places)
   pub few_must : must ≤ n
   pub few_may : may ≤ n
+  pub few_empty : empty ≤ n
 
-pub tallied-first : (K : Candidates) (places : List ℕ) → IsTalliedBelow K places 0 0 0 false
-tallied-first K places = record { must_is = refl; may_is = refl; dead_is = refl; few_must = omega arith; few_may = omega arith }
+pub tallied-first : (K : Candidates) (places : List ℕ) → IsTalliedBelow K places 0 0 0 0
+tallied-first K places = record { must_is = refl; may_is = refl; empty_is = refl; few_must = omega arith; few_may = omega arith; few_empty = omega arith }
 
 count-next : (test : ℕ → Bool) (xs : List ℕ) (n : ℕ) → n < length xs → count_by test (take (n + 1) xs) ≡ count_by test (take n xs) + cond (test (slice_index xs n)) 1 0
-count-next test xs n lt = elim (cases_Bool (test (slice_index xs n))) [
-  | inl on ↦ count_by_more_yes test xs n 0 lt on ∙ ap (λ b. count_by test (take n xs) + cond b 1 0) (sym on)
-  | inr off ↦ count_by_more_no test xs n 0 lt off ∙ (let e : count_by test (take n xs) ≡ count_by test (take n xs) + 0 = omega arith in e) ∙ ap (λ b. count_by test (take n xs) + cond b 1 0) (sym off)
-]
+count-next test xs n lt = sum_by_more (λ c. cond (test c) 1 0) xs n 0 lt
 
-at-most-one : (b : Bool) → ◌≤◌ (cond b 1 0) 1
+at-most-one : (b : Bool) → cond b 1 0 ≤ 1
 at-most-one true = omega arith
 at-most-one false = omega arith
 
-pub tallied-more : (K : Candidates) (places : List ℕ) (n must may : ℕ) (dead : Bool) (zero_on one_on : Bool) (a b : ℕ) → IsTalliedBelow K places n must may dead → n < length places
-    → zero_on ≡ K (slice_index places n) 0 → one_on ≡ K (slice_index places n) 1 → a ≡ cond (not zero_on) 1 0 → b ≡ cond one_on 1 0
-    → IsTalliedBelow K places (n + 1) (must + a) (may + b) (dead || (not zero_on && not one_on))
-tallied-more K places n must may dead zero_on one_on a b t lt z o ea eb = record {
+pub tallied-more : (K : Candidates) (places : List ℕ) (n must may empty : ℕ) (zero_on one_on : Bool) (a b e : ℕ) → IsTalliedBelow K places n must may empty → n < length places
+    → zero_on ≡ K (slice_index places n) 0 → one_on ≡ K (slice_index places n) 1 → a ≡ cond (not zero_on) 1 0 → b ≡ cond one_on 1 0 → e ≡ cond (not zero_on && not one_on) 1 0
+    → IsTalliedBelow K places (n + 1) (must + a) (may + b) (empty + e)
+tallied-more K places n must may empty zero_on one_on a b e t lt z o ea eb ee = record {
   must_is = ap₂ (λ x y. x + y) t.must_is (ea ∙ ap (λ p. cond (not p) 1 0) z) ∙ sym (count-next (λ c. not (K c 0)) places n lt);
   may_is = ap₂ (λ x y. x + y) t.may_is (eb ∙ ap (λ p. cond p 1 0) o) ∙ sym (count-next (λ c. K c 1) places n lt);
-  dead_is = ap₂ (λ x y. x || y) t.dead_is (ap₂ (λ p q. not p && not q) z o) ∙ sym (list_any_more (is_empty K) places n 0 lt);
+  empty_is = ap₂ (λ x y. x + y) t.empty_is (ee ∙ ap₂ (λ p q. cond (not p && not q) 1 0) z o) ∙ sym (count-next (is_empty K) places n lt);
   few_must = let f = t.few_must in let m = at-most-one (not zero_on) in omega arith;
   few_may = let f = t.few_may in let m = at-most-one one_on in omega arith;
+  few_empty = let f = t.few_empty in let m = at-most-one (not zero_on && not one_on) in omega arith;
 }
 
-pub tallied-whole : (K : Candidates) (places : List ℕ) (n must may : ℕ) (dead : Bool) → IsTalliedBelow K places n must may dead → length places ≤ n → IsTallied K places must may dead
-tallied-whole K places n must may dead t ge =
+pub tallied-whole : (K : Candidates) (places : List ℕ) (n must may empty : ℕ) → IsTalliedBelow K places n must may empty → length places ≤ n
+    → IsTally K places (record { must = must; may = may; empty = empty })
+tallied-whole K places n must may empty t ge =
     let e = take_all n places ge in
     record {
       must_is = t.must_is ∙ ap (count_by (λ c. not (K c 0))) e;
       may_is = t.may_is ∙ ap (count_by (λ c. K c 1)) e;
-      dead_is = t.dead_is ∙ ap (list_any (is_empty K)) e;
+      empty_is = t.empty_is ∙ ap (count_by (is_empty K)) e;
     }
+
+-- 1 if it holds, and else 0
+abbrev num : Bool → ℕ
+num b = cond b 1 0
+
+count-head : (test : ℕ → Bool) (x : ℕ) (xs : List ℕ) → count_by test (x ∷ xs) ≡ num (test x) + count_by test xs
+count-head test x xs = sum_by-cons (λ c. cond (test c) 1 0) x xs
+
+-- ---- a cell is empty where the number of empty ones is not 0
+some-counted : (test : ℕ → Bool) (xs : List ℕ) → ltb 0 (count_by test xs) ≡ list_any test xs
+some-counted test [] = refl
+some-counted test (x ∷ xs) = ap (ltb 0) (count-head test x xs) ∙ by (count_by test xs) (some-counted test xs) (test x)
+  where
+    by : (n : ℕ) → ltb 0 n ≡ list_any test xs → (b : Bool) → ltb 0 (num b + n) ≡ (b || list_any test xs)
+    by n rest true = lt-ltb 0 (1 + n) (omega arith)
+    by n rest false = (let e : 0 + n ≡ n = omega arith in ap (ltb 0) e) ∙ rest
+
+pub tallied-as : (K : Candidates) (places : List ℕ) (t : Tally) → IsTally K places t → IsTallied K places t.must t.may (ltb 0 t.empty)
+tallied-as K places t is = record { must_is = is.must_is; may_is = is.may_is; dead_is = ap (ltb 0) is.empty_is ∙ some-counted (is_empty K) places }
+
+-- ---- where one cell changed
+module _ (p q : ℕ → Bool) (place : ℕ) (others : (c : ℕ) → (c ≡ place → ⊥) → q c ≡ p c) where
+  pub count-off : (xs : List ℕ) → has_place xs place ≡ false → count_by q xs ≡ count_by p xs
+  unfolding has_place
+  count-off [] off = refl
+  count-off (x ∷ xs) off = count-head q x xs ∙ by (count-off xs) (eqb x place) refl off ∙ sym (count-head p x xs)
+    where
+      by : (has_place xs place ≡ false → count_by q xs ≡ count_by p xs) → (b : Bool) → eqb x place ≡ b → (b || has_place xs place) ≡ false → num (q x) + count_by q xs ≡ num (p x) + count_by p xs
+      by rest true e o = absurd (true≢false o)
+      by rest false e o = ap₂ (λ b n. num b + n) (others x (λ same. true≢false (sym (eq-eqb x place same) ∙ e))) (rest o)
+
+  pub count-at : (xs : List ℕ) → AreDistinct xs → has_place xs place ≡ true → count_by q xs + num (p place) ≡ count_by p xs + num (q place)
+  unfolding has_place
+  count-at [] d on = absurd (false≢true on)
+  count-at (x ∷ xs) d on = ap (λ n. n + num (p place)) (count-head q x xs) ∙ by (count-at xs d.1) (eqb x place) refl on ∙ ap (λ n. n + num (q place)) (sym (count-head p x xs))
+    where
+      by : (has_place xs place ≡ true → count_by q xs + num (p place) ≡ count_by p xs + num (q place)) → (b : Bool) → eqb x place ≡ b → (b || has_place xs place) ≡ true
+          → (num (q x) + count_by q xs) + num (p place) ≡ (num (p x) + count_by p xs) + num (q place)
+      by more true e o =
+          let same : x ≡ place = eqb-true x place e in
+          let rest = count-off xs (ap (has_place xs) (sym same) ∙ d.0) in
+          let s = ap (λ c. num (q c)) same in
+          let t = ap (λ c. num (p c)) same in
+          omega arith
+      by more false e o =
+          let rest = more o in
+          let same = ap num (others x (λ s. true≢false (sym (eq-eqb x place s) ∙ e))) in
+          omega arith
+
+  -- the cell is one of those counted
+  pub count-there : (xs : List ℕ) → has_place xs place ≡ true → num (p place) ≤ count_by p xs
+  unfolding has_place
+  count-there [] on = absurd (false≢true on)
+  count-there (x ∷ xs) on = by (count-there xs) (count-head p x xs) (or_cases (eqb x place) (has_place xs place) on)
+    where
+      by : (has_place xs place ≡ true → num (p place) ≤ count_by p xs) → count_by p (x ∷ xs) ≡ num (p x) + count_by p xs → (eqb x place ≡ true) ⊎ (has_place xs place ≡ true) → num (p place) ≤ count_by p (x ∷ xs)
+      by rest head (inl here) = let s = ap (λ c. num (p c)) (eqb-true x place here) in omega arith
+      by rest head (inr more) = let r = rest more in omega arith
+
+-- no bit of two is set
+none-set : (bits : ℕ) → bits < 4 → eqb bits 0 ≡ (not (has_bit bits 0) && not (has_bit bits 1))
+none-set zero lt = refl
+none-set (suc zero) lt = refl
+none-set (suc (suc zero)) lt = refl
+none-set (suc (suc (suc zero))) lt = refl
+none-set (suc (suc (suc (suc bits)))) lt = absurd (omega arith)
+
+module _ (cells : ℕ) (K L : Candidates) (place before after : ℕ) (change : IsChange cells 2 K L place before after) (places : List ℕ) (t : Tally) (is : IsTally K places t) where
+  must_before : num (not (has_bit before 0)) ≡ num (not (K place 0))
+  must_before = ap (λ b. num (not b)) (change.before_is.same 0 (omega arith))
+
+  must_after : num (not (has_bit after 0)) ≡ num (not (L place 0))
+  must_after = ap (λ b. num (not b)) (change.after_is.same 0 (omega arith))
+
+  may_before : num (has_bit before 1) ≡ num (K place 1)
+  may_before = ap num (change.before_is.same 1 (omega arith))
+
+  may_after : num (has_bit after 1) ≡ num (L place 1)
+  may_after = ap num (change.after_is.same 1 (omega arith))
+
+  empty_before : num (eqb before 0) ≡ num (is_empty K place)
+  empty_before = ap num (none-set before (let s = change.before_is.small in omega arith) ∙ ap₂ (λ a b. not a && not b) (change.before_is.same 0 (omega arith)) (change.before_is.same 1 (omega arith)))
+
+  empty_after : num (eqb after 0) ≡ num (is_empty L place)
+  empty_after = ap num (none-set after (let s = change.after_is.small in omega arith) ∙ ap₂ (λ a b. not a && not b) (change.after_is.same 0 (omega arith)) (change.after_is.same 1 (omega arith)))
+
+  other : (c : ℕ) → (c ≡ place → ⊥) → (v : ℕ) → L c v ≡ K c v
+  other c ne v = change.others c v ne
+
+  pub tally-kept : has_place places place ≡ false → IsTally L places t
+  tally-kept off = record {
+    must_is = is.must_is ∙ sym (count-off (λ c. not (K c 0)) (λ c. not (L c 0)) place (λ c ne. ap not (other c ne 0)) places off);
+    may_is = is.may_is ∙ sym (count-off (λ c. K c 1) (λ c. L c 1) place (λ c ne. other c ne 1) places off);
+    empty_is = is.empty_is ∙ sym (count-off (is_empty K) (is_empty L) place (λ c ne. ap₂ (λ a b. not a && not b) (other c ne 0) (other c ne 1)) places off);
+  }
+
+  module _ (on : has_place places place ≡ true) where
+    pub must-there : cond (not (has_bit before 0)) 1 0 ≤ t.must
+    must-there = let w = count-there (λ c. not (K c 0)) (λ c. not (L c 0)) place (λ c ne. ap not (other c ne 0)) places on in let a = must_before in let b = is.must_is in omega arith
+
+    pub may-there : cond (has_bit before 1) 1 0 ≤ t.may
+    may-there = let w = count-there (λ c. K c 1) (λ c. L c 1) place (λ c ne. other c ne 1) places on in let a = may_before in let b = is.may_is in omega arith
+
+    pub empty-there : cond (eqb before 0) 1 0 ≤ t.empty
+    empty-there = let w = count-there (is_empty K) (is_empty L) place (λ c ne. ap₂ (λ a b. not a && not b) (other c ne 0) (other c ne 1)) places on in let a = empty_before in let b = is.empty_is in omega arith
+
+    pub tally-moved : AreDistinct places → IsTally L places (moved_tally t before after)
+    tally-moved different = record {
+      must_is =
+          let w = count-at (λ c. not (K c 0)) (λ c. not (L c 0)) place (λ c ne. ap not (other c ne 0)) places different on in
+          let a = must_before in let b = must_after in let c = is.must_is in let d = must-there in
+          omega arith;
+      may_is =
+          let w = count-at (λ c. K c 1) (λ c. L c 1) place (λ c ne. other c ne 1) places different on in
+          let a = may_before in let b = may_after in let c = is.may_is in let d = may-there in
+          omega arith;
+      empty_is =
+          let w = count-at (is_empty K) (is_empty L) place (λ c ne. ap₂ (λ x y. not x && not y) (other c ne 0) (other c ne 1)) places different on in
+          let a = empty_before in let b = empty_after in let c = is.empty_is in let d = empty-there in
+          omega arith;
+    }
+
+    -- no count passes the number of cells
+    pub moved-few : AreDistinct places → ((moved_tally t before after).must ≤ length places) × ((moved_tally t before after).may ≤ length places) × ((moved_tally t before after).empty ≤ length places)
+    moved-few different =
+        let m = tally-moved different in
+        let a = m.must_is in let b = m.may_is in let c = m.empty_is in
+        let x = count_by-le-length (λ c. not (L c 0)) places in
+        let y = count_by-le-length (λ c. L c 1) places in
+        let z = count_by-le-length (is_empty L) places in
+        (omega arith, omega arith, omega arith)
+
+-- ---- a table of houses, and the tallies of all of them
+-- as a table of scopes has it
+pub record AreCounted (cells : ℕ) (scopes : List (List ℕ)) (houses : List CountHouse) : Type 0 where
+  pub as_many : length scopes ≡ length houses
+  pub places : (h : ℕ) → scope_of scopes h ≡ (count_house_of houses h).places
+  pub each : (h : ℕ) → h < length houses → IsHouse cells (count_house_of houses h)
+
+pub record AreTalliedBelow (houses : List CountHouse) (old new : List Tally) (K : Candidates) (n : ℕ) : Type 0 where
+  pub as_many : length new ≡ length old
+  pub each : (h : ℕ) → h < n → IsTally K (count_house_of houses h).places (tally_at new h)
+
+pub tallied-none : (houses : List CountHouse) (old : List Tally) (K : Candidates) → AreTalliedBelow houses old old K 0
+tallied-none houses old K = record { as_many = refl; each = λ h lt. absurd (omega arith) }
+
+pub tallied-next : (houses : List CountHouse) (old new : List Tally) (K : Candidates) (n : ℕ) (places : List ℕ) (t : Tally) → AreTalliedBelow houses old new K n → n < length old
+    → places ≡ (count_house_of houses n).places → IsTally K places t → AreTalliedBelow houses old (set new n t) K (n + 1)
+tallied-next houses old new K n places t before lt same is = record {
+  as_many = length-set new n t ∙ before.as_many;
+  each = λ h low. elim (cases_eq h n) [
+    | inl e ↦ rw (e, get_or-set_same new n t (record { must = 0; may = 0; empty = 0 }) (let s = before.as_many in omega arith)) (rw same at is)
+    | inr ne ↦ rw (get_or-set_other new n h t (record { must = 0; may = 0; empty = 0 }) ne) (before.each h (omega arith))
+  ];
+}
+
+pub tallied-all : (cells : ℕ) (houses : List CountHouse) (old new : List Tally) (K : Candidates) (n : ℕ) → AreTalliedBelow houses old new K n → length houses ≤ n → length houses ≤ length old → IsWithin cells 2 K → AreTallied cells houses new K
+tallied-all cells houses old new K n below ge long within = record { long = let s = below.as_many in omega arith; within = within; each = λ h lt. below.each h (omega arith) }
+
+-- ---- the houses of a place, one after the other
+module _ (scopes : List (List ℕ)) (place : ℕ) (listed : List ℕ) (at : AreHousesAt scopes place listed) where
+  -- a house of the list is one that has the place, and its number among these is its place in the list
+  pub in-list : (k : ℕ) → k < length listed
+      → (slice_index listed k < length scopes) × (has_place (scope_of scopes (slice_index listed k)) place ≡ true) × (number_at scopes (slice_index listed k) place ≡ k)
+  in-list k lt =
+      let w = numbered (λ j. has_place (scope_of scopes j) place) (length scopes) k (let e = at.as_many in omega arith) in
+      let same : slice_index listed k ≡ w.0 = ap (slice_index listed) (sym w.3) ∙ at.each w.0 w.1 w.2 in
+      rw same (w.1, w.2, w.3)
+
+  pub not-twice : (j k : ℕ) → j < length listed → k < length listed → slice_index listed j ≡ slice_index listed k → j ≡ k
+  not-twice j k lj lk e = sym (in-list j lj).2 ∙ ap (λ h. number_at scopes h place) e ∙ (in-list k lk).2
+
+  pub listed-at : (h : ℕ) → h < length scopes → has_place (scope_of scopes h) place ≡ true → number_at scopes h place < length listed
+  listed-at h lt on = let c = counted (λ j. has_place (scope_of scopes j) place) h (length scopes) lt on in let e = at.as_many in omega arith
+
+pub record AreMovedBelow (old new : List Tally) (listed : List ℕ) (before after n : ℕ) : Type 0 where
+  pub as_many : length new ≡ length old
+  pub moved : (k : ℕ) → k < n → tally_at new (slice_index listed k) ≡ moved_tally (tally_at old (slice_index listed k)) before after
+  pub kept : (h : ℕ) → ((k : ℕ) → k < n → slice_index listed k ≡ h → ⊥) → tally_at new h ≡ tally_at old h
+
+pub moved-none : (old : List Tally) (listed : List ℕ) (before after : ℕ) → AreMovedBelow old old listed before after 0
+moved-none old listed before after = record { as_many = refl; moved = λ k lt. absurd (omega arith); kept = λ h none. refl }
+
+pub moved-next : (old new : List Tally) (listed : List ℕ) (before after n : ℕ) (t : Tally) → AreMovedBelow old new listed before after n → n < length listed
+    → ((j k : ℕ) → j < length listed → k < length listed → slice_index listed j ≡ slice_index listed k → j ≡ k)
+    → slice_index listed n < length old → t ≡ moved_tally (tally_at old (slice_index listed n)) before after → AreMovedBelow old (set new (slice_index listed n) t) listed before after (n + 1)
+moved-next old new listed before after n t m lt twice within is = record {
+  as_many = length-set new (slice_index listed n) t ∙ m.as_many;
+  moved = λ k low. elim (cases_eq k n) [
+    | inl e ↦ rw e (get_or-set_same new (slice_index listed n) t none (let s = m.as_many in omega arith) ∙ is)
+    | inr ne ↦ get_or-set_other new (slice_index listed n) (slice_index listed k) t none (λ same. ne (twice k n (omega arith) lt same)) ∙ m.moved k (omega arith)
+  ];
+  kept = λ h off. get_or-set_other new (slice_index listed n) h t none (λ same. off n (omega arith) (sym same)) ∙ m.kept h (λ k low. off k (omega arith));
+}
+  where
+    none : Tally
+    none = record { must = 0; may = 0; empty = 0 }
+
+module _ (cells : ℕ) (scopes : List (List ℕ)) (houses : List CountHouse) (table : AreCounted cells scopes houses) (K L : Candidates) (place before after : ℕ) (change : IsChange cells 2 K L place before after)
+    (old : List Tally) (tallied : AreTallied cells houses old K) (listed : List ℕ) (at : AreHousesAt scopes place listed) where
+  there : (h : ℕ) → has_place (scope_of scopes h) place ≡ true → has_place (count_house_of houses h).places place ≡ true
+  there h on = ap (λ l. has_place l place) (sym (table.places h)) ∙ on
+
+  distinct : (h : ℕ) → h < length houses → AreDistinct (count_house_of houses h).places
+  distinct h lt = distinct-from (count_house_of houses h).places (table.each h lt).different
+
+  -- what a step of the loop may rely on
+  pub record IsMovable (tallies : List Tally) (k : ℕ) : Type 0 where
+    pub low : slice_index listed k < length tallies
+    pub same : tally_at tallies (slice_index listed k) ≡ tally_at old (slice_index listed k)
+    pub must : num (not (has_bit before 0)) ≤ (tally_at tallies (slice_index listed k)).must
+    pub may : num (has_bit before 1) ≤ (tally_at tallies (slice_index listed k)).may
+    pub empty : num (eqb before 0) ≤ (tally_at tallies (slice_index listed k)).empty
+    pub few_must : (moved_tally (tally_at tallies (slice_index listed k)) before after).must < 2 ^ 32
+    pub few_may : (moved_tally (tally_at tallies (slice_index listed k)) before after).may < 2 ^ 32
+    pub few_empty : (moved_tally (tally_at tallies (slice_index listed k)) before after).empty < 2 ^ 32
+
+  pub movable : (new : List Tally) (k : ℕ) → AreMovedBelow old new listed before after k → k < length listed → IsMovable new k
+  movable new k m lt =
+      let h = slice_index listed k in
+      let w = in-list scopes place listed at k lt in
+      let low : h < length houses = let e = table.as_many in omega (arith, w.0) in
+      let is = tallied.each h low in
+      let on = there h w.1 in
+      let few = moved-few cells K L place before after change (count_house_of houses h).places (tally_at old h) is on (distinct h low) in
+      let most = (table.each h low).few_places in
+      let same = m.kept h (λ j less e. let twice = not-twice scopes place listed at j k (omega arith) lt e in absurd (omega arith)) in
+      record {
+        low = let l = tallied.long in let a = m.as_many in omega arith;
+        same = same;
+        must = rw same (must-there cells K L place before after change (count_house_of houses h).places (tally_at old h) is on);
+        may = rw same (may-there cells K L place before after change (count_house_of houses h).places (tally_at old h) is on);
+        empty = rw same (empty-there cells K L place before after change (count_house_of houses h).places (tally_at old h) is on);
+        few_must = rw same (omega (arith, few.0));
+        few_may = rw same (omega (arith, few.1));
+        few_empty = rw same (omega (arith, few.2));
+      }
+
+  pub tallied-moved : (new : List Tally) → AreMovedBelow old new listed before after (length listed) → AreTallied cells houses new L
+  tallied-moved new m = record {
+    long = let a = m.as_many in let b = tallied.long in omega arith;
+    within = λ c v on. elim (cases_eq c place) [
+      | inl e ↦ (rw e change.place_in, change.within v (rw e at on))
+      | inr ne ↦ tallied.within c v (sym (change.others c v ne) ∙ on)
+    ];
+    each = λ h lt. elim (cases_Bool (has_place (scope_of scopes h) place)) [
+      | inl on ↦
+          let low : h < length scopes = let e = table.as_many in omega arith in
+          let here = at.each h low on in
+          let same : tally_at new h ≡ moved_tally (tally_at old h) before after = rw here at (m.moved (number_at scopes h place) (listed-at scopes place listed at h low on)) in
+          rw same (tally-moved cells K L place before after change (count_house_of houses h).places (tally_at old h) (tallied.each h lt) (there h on) (distinct h lt))
+      | inr off ↦
+          let same = m.kept h (λ k low e. true≢false (sym (rw e at (in-list scopes place listed at k low).1) ∙ off)) in
+          rw same (tally-kept cells K L place before after change (count_house_of houses h).places (tally_at old h) (tallied.each h lt) (ap (λ l. has_place l place) (sym (table.places h)) ∙ off))
+    ];
+  }
+
+-- ---- a house that does not call strikes nothing
+or-none : (a b : Bool) → (a || b) ≡ false → (a ≡ false) × (b ≡ false)
+or-none false false e = (refl, refl)
+or-none false true e = absurd (true≢false e)
+or-none true b e = absurd (true≢false e)
+
+pub idle-house : (cells : ℕ) (house : CountHouse) (K : Candidates) (t : Tally) → IsHouse cells house → IsWithin cells 2 K → IsTally K house.places t
+    → ((ltb 0 t.empty || (ltb house.most house.least || (ltb t.may house.least || ltb house.most t.must))) || (not (eqb t.must t.may) && (eqb t.must house.most || eqb t.may house.least))) ≡ false
+    → (c v : ℕ) → K c v ≡ true → strikes_of house K c v ≡ false
+unfolding after_house
+idle-house cells house K t is within tally off c v on =
+    let o = or-none _ _ off in
+    let s = some-filling house.least house.most t.must t.may (ltb 0 t.empty) o.0 in
+    let stays = all-stay cells house K t.must t.may (ltb 0 t.empty) is (λ d u lives. (within d u lives).1) (tallied-as K house.places t tally) s.0 s.1 s.2 s.3 (at-bounds o.1 s.2 s.3) in
+    by (K c v) (strikes_of house K c v) on (ap (λ (L : Candidates). L c v) stays)
+  where
+    by : (a b : Bool) → a ≡ true → a ≡ (a && not b) → b ≡ false
+    by true false e f = refl
+    by true true e f = absurd (true≢false f)
+    by false b e f = absurd (false≢true e)
+
+    at-bounds : (not (eqb t.must t.may) && (eqb t.must house.most || eqb t.may house.least)) ≡ false → house.least ≤ t.may → t.must ≤ house.most → (t.must ≡ t.may) ⊎ ((house.least < t.may) × (t.must < house.most))
+    at-bounds e low high = elim (cases_Bool (eqb t.must t.may)) [
+      | inl same ↦ inl (eqb-true t.must t.may same)
+      | inr other ↦
+          let f : (eqb t.must house.most || eqb t.may house.least) ≡ false = rw other at e in
+          let g = or-none _ _ f in
+          inr ((let ne = eqb-false t.may house.least g.1 in omega (arith, ne)), (let ne = eqb-false t.must house.most g.0 in omega (arith, ne)))
+    ]
+
+-- ---- the places of a house of the table
+pub record ArePlaces (cells : ℕ) (places : List ℕ) : Type 0 where
+  pub few : length places < 2 ^ 32
+  pub within : (k : ℕ) → k < length places → slice_index places k < cells
+
+pub counted-places : (cells : ℕ) (scopes : List (List ℕ)) (houses : List CountHouse) (h : ℕ) (places : List ℕ) → AreCounted cells scopes houses → h < length houses → places ≡ scope_of scopes h → ArePlaces cells places
+counted-places cells scopes houses h places table lt e =
+    let is = table.each h lt in
+    rw (e ∙ table.places h) (record { few = is.few_places; within = λ k low. is.within (slice_index (count_house_of houses h).places k) (has_place-here (count_house_of houses h).places k low) })
+
+pub moved-end : (old new : List Tally) (listed : List ℕ) (before after n : ℕ) → AreMovedBelow old new listed before after n → n ≤ length listed → length listed ≤ n → AreMovedBelow old new listed before after (length listed)
+moved-end old new listed before after n m le ge = let e : n ≡ length listed = omega arith in subst (AreMovedBelow old new listed before after) e m
+
+-- the same by the bounds that a table has for the house
+pub idle-by : (cells : ℕ) (house : CountHouse) (t : Tally) (b : Bounds) (calls : Bool) → IsHouse cells house → b ≡ bounds_of house
+    → calls ≡ ((ltb 0 t.empty || (ltb b.most b.least || (ltb t.may b.least || ltb b.most t.must))) || (not (eqb t.must t.may) && (eqb t.must b.most || eqb t.may b.least))) → calls ≡ false
+    → (K : Candidates) → IsWithin cells 2 K → IsTally K house.places t → (c v : ℕ) → K c v ≡ true → strikes_of house K c v ≡ false
+idle-by cells house t b calls is e told off K within tally = idle-house cells house K t is within tally (rw e at (sym told ∙ off))

@@ -14,7 +14,7 @@ use Rattle.gameid_core.specs.Puzzles.{Light, IsLight, IsLightCell}
 use Rattle.gameid_core.specs.declared.light_cell.LightCell.{LightCell}
 use Rattle.gameid_core.specs.declared.light_cell.LightCell.TheVariants.{White, Black, Numbered}
 use Rattle.fields_core.specs.Count.{nonzeros, counts_between}
-use Rattle.fields_core.specs.CountHouse.{House, meets, IsHouse, IsCounting}
+use Rattle.fields_core.specs.CountHouse.{CountHouse, meets, IsHouse, IsCounting}
 use Rattle.fields_core.specs.Light.{light_cells, white, bulb, joined_in_row, joined_in_column, sees, sees_bulb, bulbs_beside, black_right, number_right, bulb_right, lit_right, is_lit}
 use Rattle.fields_core.specs.LightHouses.{row_run, column_run, seen_from, begins_row_run, begins_column_run, numbered, number_house, row_house, column_house, lit_house, light_houses}
 use Rattle.fields_core.proofs.LightFaultLemmas.{lit-parts}
@@ -25,7 +25,7 @@ use Rattle.fields_core.proofs.StepLaws.{steps-distinct, steps-few}
 use Rattle.fields_core.proofs.LightHouseLaws.{EachOf, each-none, each-one, each-append, each-below, each-if, row-both, column-both, row-white-end, column-white-end, row-self, white-in, row-distinct, column-distinct, row-parts, column-parts}
 
 -- a house of the board that each solution meets
-pub record IsMet (p : Light) (house : House) : Type 0 where
+pub record IsMet (p : Light) (house : CountHouse) : Type 0 where
   pub is_house : IsHouse (light_cells p) house
   pub met : (g : List ℕ) → IsGrid (light_cells p) 2 g → is_lit p g ≡ true → meets house g ≡ true
 

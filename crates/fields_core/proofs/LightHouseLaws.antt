@@ -9,33 +9,33 @@ use Rattle.grid_core.proofs.RegionLemmas.{row-at, column-at}
 use Rattle.grid_core.proofs.CandidateLemmas.{all_below-at, all_below-from}
 use Rattle.gameid_core.specs.Puzzles.{Light}
 use Rattle.gameid_core.specs.declared.light_cell.LightCell.TheVariants.{Black}
-use Rattle.fields_core.specs.CountHouse.{House, house_of, houses_below}
+use Rattle.fields_core.specs.CountHouse.{CountHouse, count_house_of, houses_below}
 use Rattle.fields_core.specs.Light.{light_cells, is_white, white, clear, joined_in_row, joined_in_column}
 use Rattle.fields_core.proofs.HouseLists.{row-long, column-long}
 use Rattle.fields_core.proofs.PlaceLists.{AreDistinct, distinct-from}
 
 -- ---- what holds of each house of a list
-abbrev pub EachOf : (House → Type 0) → List House → Type 0
-EachOf P houses = (h : ℕ) → h < length houses → P (house_of houses h)
+abbrev pub EachOf : (CountHouse → Type 0) → List CountHouse → Type 0
+EachOf P houses = (h : ℕ) → h < length houses → P (count_house_of houses h)
 
-pub each-none : (P : House → Type 0) → EachOf P []
+pub each-none : (P : CountHouse → Type 0) → EachOf P []
 each-none P h lt = absurd (omega arith)
 
-pub each-one : (P : House → Type 0) (house : House) → P house → EachOf P (house ∷ [])
+pub each-one : (P : CountHouse → Type 0) (house : CountHouse) → P house → EachOf P (house ∷ [])
 each-one P house is zero lt = is
 each-one P house is (suc h) lt = absurd (omega arith)
 
-pub each-append : (P : House → Type 0) (xs ys : List House) → EachOf P xs → EachOf P ys → EachOf P (xs ++ ys)
+pub each-append : (P : CountHouse → Type 0) (xs ys : List CountHouse) → EachOf P xs → EachOf P ys → EachOf P (xs ++ ys)
 each-append P [] ys ex ey h lt = ey h lt
 each-append P (x ∷ xs) ys ex ey zero lt = ex 0 (omega arith)
 each-append P (x ∷ xs) ys ex ey (suc h) lt = each-append P xs ys (λ k l. ex (suc k) (omega arith)) ey h (omega arith)
 
-pub each-below : (P : House → Type 0) (f : ℕ → List House) (n : ℕ) → ((c : ℕ) → c < n → EachOf P (f c)) → EachOf P (houses_below f n)
+pub each-below : (P : CountHouse → Type 0) (f : ℕ → List CountHouse) (n : ℕ) → ((c : ℕ) → c < n → EachOf P (f c)) → EachOf P (houses_below f n)
 unfolding houses_below
 each-below P f zero each = each-none P
 each-below P f (suc n) each = each-append P (houses_below f n) (f n) (each-below P f n (λ c lt. each c (omega arith))) (each n (omega arith))
 
-pub each-if : (P : House → Type 0) (b : Bool) (house : House) → (b ≡ true → P house) → EachOf P (cond b (house ∷ []) [])
+pub each-if : (P : CountHouse → Type 0) (b : Bool) (house : CountHouse) → (b ≡ true → P house) → EachOf P (cond b (house ∷ []) [])
 each-if P true house is = each-one P house (is refl)
 each-if P false house is = each-none P
 

@@ -1,26 +1,30 @@
 -- From a table of count houses to the rules that it serves.
-use Rattle.std.proofs.Common.{◌≡◌, ℕ, ◌+◌, ◌<◌, ◌≤◌, Bool, true, false, not, ◌&&◌, ◌||◌, eqb, ltb, List, length, slice_index, refl, sym, ap, ◌∙◌, inl, inr, arith}
+use Rattle.std.proofs.Common.{◌≡◌, ℕ, ◌+◌, ◌<◌, ◌≤◌, Bool, true, false, not, ◌&&◌, ◌||◌, eqb, ltb, List, ◌++◌, length, slice_index, take, drop, subst, refl, sym, ap, ◌∙◌, inl, inr, arith}
 use Rattle.std.proofs.Math.Path.{fun_ext}
 use Rattle.std.proofs.lemmas.Bool.{cases_eq, cases_lt, lt-ltb, le-ltb, ne_eqb, eq-eqb, false_from_ne_true}
 use Rattle.grid_core.specs.Candidates.{Candidates, all_of, without}
 use Rattle.grid_core.specs.Board.{Layout, SameShape}
+use Rattle.std.proofs.lemmas.List.{append-nil, take_all, drop_all}
 use Rattle.engine_core.specs.Puzzle.{has_place, after}
+use Rattle.engine_core.specs.Sets.{IsChange}
+use Rattle.fields_core.specs.Tallies.{AreTallied}
+use Rattle.fields_core.specs.declared.tally.Tally.{Tally}
 use Rattle.engine_core.specs.PlaceLaws.{has_place-at, has_place-here}
 use Rattle.gameid_core.specs.Puzzles.{Light}
-use Rattle.fields_core.specs.CountHouse.{House, Table, house_of, start_of, after_house, count_puzzle}
+use Rattle.fields_core.specs.CountHouse.{CountHouse, CountedHouses, count_house_of, start_of, after_house, count_puzzle}
 use Rattle.fields_core.specs.CountLaws.{after-house}
 use Rattle.fields_core.specs.Light.{light_cells}
 use Rattle.fields_core.specs.LightHouses.{light_houses}
 use Rattle.fields_core.specs.Ruled.{light_table}
 
-pub light-houses : (t : Table) (p q : Light) → t ≡ light_table p → p ≡ q → t.houses ≡ light_houses q
-light-houses t p q e f = ap (λ (u : Table). u.houses) e ∙ ap light_houses f
+pub light-houses : (t : CountedHouses) (p q : Light) → t ≡ light_table p → p ≡ q → t.houses ≡ light_houses q
+light-houses t p q e f = ap (λ (u : CountedHouses). u.houses) e ∙ ap light_houses f
 
-pub table-of : (t : Table) (p q : Light) (cells : ℕ) (houses : List House) → t ≡ record { cells = cells; houses = houses } → cells ≡ light_cells p → houses ≡ light_houses p → q ≡ p → t ≡ light_table q
+pub table-of : (t : CountedHouses) (p q : Light) (cells : ℕ) (houses : List CountHouse) → t ≡ record { cells = cells; houses = houses } → cells ≡ light_cells p → houses ≡ light_houses p → q ≡ p → t ≡ light_table q
 table-of t p q cells houses e low is same = e ∙ rw (low, is, same) refl
 
-pub after-is : (cells : ℕ) (blocked : ℕ → Bool) (is_solution : List ℕ → Bool) (had need : List House) (h : ℕ) (K K' : Candidates) → had ≡ need → K' ≡ after_house (house_of had h) K → K' ≡ after (count_puzzle cells blocked need is_solution) h K
-after-is cells blocked is_solution had need h K K' e left = left ∙ ap (λ houses. after_house (house_of houses h) K) e ∙ sym (after-house cells blocked need is_solution h K)
+pub after-is : (cells : ℕ) (blocked : ℕ → Bool) (is_solution : List ℕ → Bool) (had need : List CountHouse) (h : ℕ) (K K' : Candidates) → had ≡ need → K' ≡ after_house (count_house_of had h) K → K' ≡ after (count_puzzle cells blocked need is_solution) h K
+after-is cells blocked is_solution had need h K K' e left = left ∙ ap (λ houses. after_house (count_house_of houses h) K) e ∙ sym (after-house cells blocked need is_solution h K)
 
 -- ---- a place in a list
 pub place-found : (xs : List ℕ) (k place : ℕ) → k < length xs → slice_index xs k ≡ place → true ≡ has_place xs place
@@ -102,3 +106,12 @@ start-all cells blocked n K before ge = fun_ext λ c. fun_ext λ v. before.sets 
 
 pub same-shape : (a b c : Layout) → SameShape a b → SameShape b c → SameShape a c
 same-shape a b c p q = record { same_values = q.same_values ∙ p.same_values; same_cells = q.same_cells ∙ p.same_cells }
+
+-- ---- the tallies after a change, as they are written back
+pub moved-in : (t u : CountedHouses) (had old new : List Tally) (n : ℕ) (K L : Candidates) (place from to : ℕ) → t ≡ u → had ≡ old → length new ≡ length old → n ≡ length old
+    → (AreTallied t.cells t.houses had K → IsChange t.cells 2 K L place from to → AreTallied t.cells t.houses new L)
+    → AreTallied u.cells u.houses old K → IsChange u.cells 2 K L place from to → AreTallied u.cells u.houses (take n (new ++ drop (length new) old)) L
+moved-in t u had old new n K L place from to same lent len long moves tallied change =
+    let back : take n (new ++ drop (length new) old) ≡ new =
+    ap (λ d. take n (new ++ d)) (drop_all (length new) old (omega arith)) ∙ ap (take n) (append-nil new) ∙ take_all n new (omega arith) in
+    rw back (subst (λ (x : CountedHouses). AreTallied x.cells x.houses had K → IsChange x.cells 2 K L place from to → AreTallied x.cells x.houses new L) same moves (rw lent tallied) change)

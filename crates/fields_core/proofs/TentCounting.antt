@@ -17,7 +17,7 @@ use Rattle.engine_core.specs.PlaceLaws.{has_place-at, has_place-here}
 use Rattle.engine_core.specs.Filling.{Set, has_value}
 use Rattle.engine_core.specs.FillingLaws.{filling_from_test, has_value_below}
 use Rattle.gameid_core.specs.Puzzles.{Tents, IsTents, AreCounts, line_cells}
-use Rattle.fields_core.specs.CountHouse.{House, meets, IsHouse, IsCounting}
+use Rattle.fields_core.specs.CountHouse.{CountHouse, meets, IsHouse, IsCounting}
 use Rattle.fields_core.specs.Tents.{tent_cells, tree, tent, are_near, touches, tents_in_column, tents_in_row, tree_right, touch_right, column_right, row_right, names_none_twice, leaves_none_out, trees_beside, can_be_paired, is_camp}
 use Rattle.fields_core.specs.TentHouses.{column_of_tents, row_of_tents, free_beside, tree_house, square_house, tent_houses, is_bare}
 use Rattle.fields_core.proofs.HouseLists.{row-long, column-long}
@@ -54,7 +54,7 @@ pub record IsField (p : Tents) : Type 0 where
   pub number : (k : ℕ) → slice_index p.counts k ≤ 256
 
 -- a house of the board that each solution meets
-pub record IsMet (p : Tents) (house : House) : Type 0 where
+pub record IsMet (p : Tents) (house : CountHouse) : Type 0 where
   pub is_house : IsHouse (tent_cells p) house
   pub met : (g : List ℕ) → IsGrid (tent_cells p) 2 g → is_camp p g ≡ true → meets house g ≡ true
 

@@ -21,8 +21,8 @@ abbrev pub is_empty : Candidates → ℕ → Bool
 is_empty K c = not (K c 0) && not (K c 1)
 
 -- the board without what is struck from the cells of a list
-abbrev pub struck_at : List ℕ → (ℕ → ℕ → Bool) → Candidates → Candidates
-struck_at places struck K c v = K c v && not (list_any (λ d. d == c) places && struck c v)
+abbrev pub struck_among : List ℕ → (ℕ → ℕ → Bool) → Candidates → Candidates
+struck_among places struck K c v = K c v && not (list_any (λ d. d == c) places && struck c v)
 
 -- the value alone is struck, and from cells with both values alone
 abbrev pub strikes_open : ℕ → Candidates → ℕ → ℕ → Bool

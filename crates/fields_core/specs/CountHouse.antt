@@ -8,56 +8,56 @@ use Rattle.engine_core.specs.House.{strikes_at, AreDifferent}
 use Rattle.fields_core.specs.Count.{counts_between}
 
 -- cells, and the fewest and most ones that they may hold together
-pub record House : Type 0 where
+pub record CountHouse : Type 0 where
   pub places : List ℕ
   pub least : ℕ
   pub most : ℕ
 
-abbrev pub no_house : House
-no_house = record { places = []; least = 0; most = 0 }
+abbrev pub no_count_house : CountHouse
+no_count_house = record { places = []; least = 0; most = 0 }
 
-abbrev pub house_of : List House → ℕ → House
-house_of houses h = slice_index_or houses h no_house
+abbrev pub count_house_of : List CountHouse → ℕ → CountHouse
+count_house_of houses h = slice_index_or houses h no_count_house
 
 -- the houses of the numbers below n, by number
-unfoldable pub houses_below : (ℕ → List House) → ℕ → List House
+unfoldable pub houses_below : (ℕ → List CountHouse) → ℕ → List CountHouse
 houses_below f zero = []
 houses_below f (suc n) = houses_below f n ++ f n
 
 -- the grid's ones in the house's cells are neither too few nor too many
-unfoldable pub meets : House → List ℕ → Bool
+unfoldable pub meets : CountHouse → List ℕ → Bool
 meets house g = counts_between house.least house.most (map (slice_index g) house.places)
 
 -- what a visit of the house strikes
-unfoldable pub strikes_of : House → Candidates → ℕ → ℕ → Bool
+unfoldable pub strikes_of : CountHouse → Candidates → ℕ → ℕ → Bool
 strikes_of house = strikes_at 2 house.places (strikes_by_fillings (counts_between house.least house.most))
 
 -- the board after a visit of the house
-unfoldable pub after_house : House → Candidates → Candidates
+unfoldable pub after_house : CountHouse → Candidates → Candidates
 after_house house K c v = K c v && not (strikes_of house K c v)
 
 -- different cells of a board, and small numbers
-pub record IsHouse (cells : ℕ) (house : House) : Type 0 where
+pub record IsHouse (cells : ℕ) (house : CountHouse) : Type 0 where
   pub within : (c : ℕ) → has_place house.places c ≡ true → c < cells
   pub different : AreDifferent house.places
   pub few_places : length house.places < 2 ^ 32
   pub least_small : house.least < 2 ^ 32
   pub most_small : house.most < 2 ^ 32
 
-abbrev pub AreHouses : ℕ → List House → Type 0
-AreHouses cells houses = (h : ℕ) → h < length houses → IsHouse cells (house_of houses h)
+abbrev pub AreHouses : ℕ → List CountHouse → Type 0
+AreHouses cells houses = (h : ℕ) → h < length houses → IsHouse cells (count_house_of houses h)
 
 -- what callers see of a table of houses
-pub record Table : Type 0 where
+pub record CountedHouses : Type 0 where
   pub cells : ℕ
-  pub houses : List House
+  pub houses : List CountHouse
 
 -- a blocked cell has only 0; all other sets are full
 unfoldable pub start_of : ℕ → (ℕ → Bool) → Candidates
 start_of cells blocked c v = all_of cells 2 c v && not (blocked c && (v == 1))
 
 -- the rule set of count houses over such a start, closed by sweeps
-abbrev pub count_puzzle : ℕ → (ℕ → Bool) → List House → (List ℕ → Bool) → Puzzle
+abbrev pub count_puzzle : ℕ → (ℕ → Bool) → List CountHouse → (List ℕ → Bool) → Puzzle
 count_puzzle cells blocked houses is_solution = record {
   cells = cells;
   values = 2;
@@ -65,15 +65,15 @@ count_puzzle cells blocked houses is_solution = record {
   bound = cells + 1;
   settled = true;
   by_queue = false;
-  scope = λ h. (house_of houses h).places;
+  scope = λ h. (count_house_of houses h).places;
   start = start_of cells blocked;
-  strikes = λ h. strikes_of (house_of houses h);
+  strikes = λ h. strikes_of (count_house_of houses h);
   is_solution = is_solution;
 }
 
 -- the game's solutions leave blocked cells at 0 and meet each house
-pub record IsCounting (cells : ℕ) (blocked : ℕ → Bool) (houses : List House) (is_solution : List ℕ → Bool) : Type 0 where
+pub record IsCounting (cells : ℕ) (blocked : ℕ → Bool) (houses : List CountHouse) (is_solution : List ℕ → Bool) : Type 0 where
   pub few_cells : cells ≤ 65536
   pub are_houses : AreHouses cells houses
   pub blocked_zero : (g : List ℕ) → IsGrid cells 2 g → is_solution g ≡ true → (c : ℕ) → c < cells → blocked c ≡ true → slice_index g c ≡ 0
-  pub meets_each : (g : List ℕ) → IsGrid cells 2 g → is_solution g ≡ true → (h : ℕ) → h < length houses → meets (house_of houses h) g ≡ true
+  pub meets_each : (g : List ℕ) → IsGrid cells 2 g → is_solution g ≡ true → (h : ℕ) → h < length houses → meets (count_house_of houses h) g ≡ true

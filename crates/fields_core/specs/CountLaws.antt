@@ -10,9 +10,9 @@ use Rattle.engine_core.specs.Filling.{strikes_by_fillings}
 use Rattle.engine_core.specs.House.{strikes_at, Decision}
 use Rattle.engine_core.specs.HouseLaws.{strikes_at-inside, strikes_at-in_scope, by_fillings-monotone, by_fillings-settled, by_fillings-closed}
 use Rattle.fields_core.specs.Count.{counts_between}
-use Rattle.fields_core.specs.CountHouse.{House, house_of, meets, strikes_of, after_house, start_of, count_puzzle, IsCounting}
+use Rattle.fields_core.specs.CountHouse.{CountHouse, count_house_of, meets, strikes_of, after_house, start_of, count_puzzle, IsCounting}
 
-pub after-house : (cells : ℕ) (blocked : ℕ → Bool) (houses : List House) (is_solution : List ℕ → Bool) (h : ℕ) (K : Candidates) → after (count_puzzle cells blocked houses is_solution) h K ≡ after_house (house_of houses h) K
+pub after-house : (cells : ℕ) (blocked : ℕ → Bool) (houses : List CountHouse) (is_solution : List ℕ → Bool) (h : ℕ) (K : Candidates) → after (count_puzzle cells blocked houses is_solution) h K ≡ after_house (count_house_of houses h) K
 unfolding after after_house
 after-house cells blocked houses is_solution h K = refl
 
@@ -32,7 +32,7 @@ start-single cells blocked g grid zero_at c v on =
       | inr free ↦ rw free refl
     ])
 
-pub count-lawful : (cells : ℕ) (blocked : ℕ → Bool) (houses : List House) (is_solution : List ℕ → Bool) → IsCounting cells blocked houses is_solution → IsLawful (count_puzzle cells blocked houses is_solution)
+pub count-lawful : (cells : ℕ) (blocked : ℕ → Bool) (houses : List CountHouse) (is_solution : List ℕ → Bool) → IsCounting cells blocked houses is_solution → IsLawful (count_puzzle cells blocked houses is_solution)
 unfolding after strikes_of meets
 count-lawful cells blocked houses is_solution counting = record {
   strikes_inside = λ h K L lt inside c v struck. strikes_at-inside 2 (places h) (decides h) (by_fillings-monotone (holds h)) K L inside c v struck;
@@ -53,10 +53,10 @@ count-lawful cells blocked houses is_solution counting = record {
 }
   where
     places : ℕ → List ℕ
-    places h = (house_of houses h).places
+    places h = (count_house_of houses h).places
 
     holds : ℕ → List ℕ → Bool
-    holds h = counts_between (house_of houses h).least (house_of houses h).most
+    holds h = counts_between (count_house_of houses h).least (count_house_of houses h).most
 
     decides : ℕ → Decision
     decides h = strikes_by_fillings (holds h)

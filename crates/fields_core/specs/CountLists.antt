@@ -1,14 +1,14 @@
 -- Lists of count houses, as they are made.
 use Rattle.std.specs.Prelude.{◌≡◌, ℕ, List, [], ◌∷◌, ◌++◌, map, slice_index_or}
-use Rattle.fields_core.specs.CountHouse.{House}
+use Rattle.fields_core.specs.CountHouse.{CountHouse}
 use Rattle.fields_core.specs.declared.count_list.Bounds.{Bounds}
 use Rattle.fields_core.specs.declared.count_list.CountList.{CountList}
 
 -- the cells of a house, and its bounds
-abbrev pub places_of : House → List ℕ
-places_of house = house.places
+abbrev pub house_places : CountHouse → List ℕ
+house_places house = house.places
 
-abbrev pub bounds_of : House → Bounds
+abbrev pub bounds_of : CountHouse → Bounds
 bounds_of house = record { least = house.least; most = house.most }
 
 -- the bounds of a house by its number
@@ -16,18 +16,18 @@ abbrev pub bound_of : List Bounds → ℕ → Bounds
 bound_of bounds h = slice_index_or bounds h (record { least = 0; most = 0 })
 
 -- the house with these cells and bounds
-abbrev pub house_with : List ℕ → Bounds → House
+abbrev pub house_with : List ℕ → Bounds → CountHouse
 house_with places b = record { places = places; least = b.least; most = b.most }
 
 -- the houses with these cells and bounds
-abbrev pub bounded : List (List ℕ) → List Bounds → List House
+abbrev pub bounded : List (List ℕ) → List Bounds → List CountHouse
 bounded [] bounds = []
 bounded (places ∷ scopes) [] = []
 bounded (places ∷ scopes) (b ∷ bounds) = house_with places b ∷ bounded scopes bounds
 
 -- the list has these houses
-pub record AreListed (list : CountList) (houses : List House) : Type 0 where
-  pub cells : list.list.closed ≡ map places_of houses
+pub record AreListed (list : CountList) (houses : List CountHouse) : Type 0 where
+  pub cells : list.list.closed ≡ map house_places houses
   pub bounds : list.bounds.items ≡ map bounds_of houses
 
 -- the house that is begun has these cells more
@@ -37,13 +37,13 @@ pub record IsBegun (old new : CountList) (places : List ℕ) : Type 0 where
   pub bounds : new.bounds.items ≡ old.bounds.items
 
 -- the house that was begun is ended
-pub record IsClosed (old new : CountList) (least most : ℕ) : Type 0 where
+pub record IsHouseClosed (old new : CountList) (least most : ℕ) : Type 0 where
   pub closed : new.list.closed ≡ old.list.closed ++ old.list.begun ∷ []
   pub begun : new.list.begun ≡ []
   pub bounds : new.bounds.items ≡ old.bounds.items ++ record { least = least; most = most } ∷ []
 
 -- the list has these houses more, and none is begun
-pub record IsAdded (old new : CountList) (houses : List House) : Type 0 where
-  pub closed : new.list.closed ≡ old.list.closed ++ map places_of houses
+pub record IsAdded (old new : CountList) (houses : List CountHouse) : Type 0 where
+  pub closed : new.list.closed ≡ old.list.closed ++ map house_places houses
   pub begun : new.list.begun ≡ []
   pub bounds : new.bounds.items ≡ old.bounds.items ++ map bounds_of houses

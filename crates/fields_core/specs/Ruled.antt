@@ -1,7 +1,7 @@
 -- A puzzle with what its rules are known to keep to.
 use Rattle.std.specs.Prelude.{not}
 use Rattle.gameid_core.specs.Puzzles.{Light, Tents}
-use Rattle.fields_core.specs.CountHouse.{Table, IsCounting}
+use Rattle.fields_core.specs.CountHouse.{CountedHouses, IsCounting}
 use Rattle.fields_core.specs.Light.{light_cells, white, is_lit}
 use Rattle.fields_core.specs.LightHouses.{light_houses}
 use Rattle.fields_core.specs.Tents.{is_camp, tent_cells}
@@ -25,8 +25,8 @@ pub record RuledTents : Type 0 where
   pub counting : IsTentCounting tents
 
 -- their count houses
-abbrev pub light_table : Light → Table
+abbrev pub light_table : Light → CountedHouses
 light_table p = record { cells = light_cells p; houses = light_houses p }
 
-abbrev pub tent_table : Tents → Table
+abbrev pub tent_table : Tents → CountedHouses
 tent_table p = record { cells = tent_cells p; houses = tent_houses p }

@@ -6,16 +6,18 @@ use Rattle.fields_core.specs.Tents.{tent_cells, is_camp}
 use Rattle.fields_core.specs.TentHouses.{tent_houses, is_bare, tent_rules}
 use Rattle.fields_core.specs.Ruled.{RuledTents}
 use Rattle.fields_core.specs.TentScratches.{ServesTents}
-use Rattle.fields_core.specs.declared.tent_pairs.TentScratch.{TentScratch}
+use Rattle.fields_core.specs.declared.tent_rules.TentWork.{TentWork}
 
 pub tent-lawful : (r : RuledTents) → IsLawful (tent_rules r.tents)
 tent-lawful r = count-lawful (tent_cells r.tents) (is_bare r.tents) (tent_houses r.tents) (is_camp r.tents) r.counting
 
 -- room for a pairing of the cells serves rules with as many cells
-pub serves-smaller-tents : (scratch : TentScratch) (need had : Needs) → FitsIn need had → ServesTents scratch had → ServesTents scratch need
-serves-smaller-tents scratch need had fits served =
+pub serves-smaller-tents : (work : TentWork) (need had : Needs) → FitsIn need had → ServesTents work had → ServesTents work need
+serves-smaller-tents work need had fits served =
     let cells = fits.same_cells in
-    let pairing = served.pairing in
-    let tents = served.tents in
-    let numbers = served.numbers in
-    record { pairing = omega arith; tents = omega arith; numbers = omega arith }
+    let houses = fits.houses_in in
+    let pairing = served.pairs.pairing in
+    let tents = served.pairs.tents in
+    let numbers = served.pairs.numbers in
+    let tallies = served.tallies in
+    record { pairs = record { pairing = omega arith; tents = omega arith; numbers = omega arith }; tallies = omega arith }

@@ -2,6 +2,7 @@
 use Rattle.std.specs.Prelude.{ℕ, ◌≤◌, length}
 use Rattle.engine_core.specs.Puzzle.{Needs}
 use Rattle.fields_core.specs.declared.tent_pairs.TentScratch.{TentScratch}
+use Rattle.fields_core.specs.declared.tent_rules.TentWork.{TentWork}
 
 -- there is room for so many tents, trees and cells
 pub record HasRoom (scratch : TentScratch) (n : ℕ) : Type 0 where
@@ -9,5 +10,7 @@ pub record HasRoom (scratch : TentScratch) (n : ℕ) : Type 0 where
   pub tents : n ≤ length scratch.tents.items
   pub numbers : n ≤ length scratch.numbers.items
 
-abbrev pub ServesTents : TentScratch → Needs → Type 0
-ServesTents scratch needs = HasRoom scratch needs.cells
+-- and for the tallies of so many houses
+pub record ServesTents (work : TentWork) (needs : Needs) : Type 0 where
+  pub pairs : HasRoom work.pairs needs.cells
+  pub tallies : needs.houses ≤ length work.tallies.items

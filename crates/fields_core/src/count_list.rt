@@ -1,7 +1,7 @@
 //! Count houses one after another, before they are a table.
 
 ghost use Rattle.std.specs.Prelude.{◌≡◌, ◌<◌, ◌^◌, ◌∷◌, [], IfOk, OnOk, length};
-ghost use Rattle.fields_core.specs.CountLists.{IsBegun, IsClosed};
+ghost use Rattle.fields_core.specs.CountLists.{IsBegun, IsHouseClosed};
 
 use crate::light_run::Run;
 use engine_core::HouseList;
@@ -54,7 +54,7 @@ impl CountList {
 
     /// Ends the house that is begun: it holds so many ones.
     pub(crate) fn close(&mut self, least: u32, most: u32) -> Result<(), AllocError>
-        ensures { OnOk result (IsClosed self.old self.new least most) }
+        ensures { OnOk result (IsHouseClosed self.old self.new least most) }
     {
         self.list.close()?;
         self.bounds.push(Bounds { least, most })?;
@@ -63,7 +63,7 @@ impl CountList {
 
     /// Ends the house that is begun: it holds a one, and each of its cells may.
     pub(crate) fn close_some(&mut self) -> Result<(), AllocError>
-        ensures { OnOk result (IsClosed self.old self.new 1 (length self.old.list.begun)) }
+        ensures { OnOk result (IsHouseClosed self.old self.new 1 (length self.old.list.begun)) }
     {
         let before = self.list.total();
         self.list.close()?;

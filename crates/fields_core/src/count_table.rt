@@ -1,14 +1,18 @@
 //! The count houses of a puzzle: what a visit of one strikes, and where their cells are.
 
-ghost use Rattle.std.specs.Prelude.{◌≡◌, ◌<◌, ◌≤◌, ◌^◌, IfOk, length, slice_index, true, false};
+ghost use Rattle.std.specs.Prelude.{◌≡◌, ℕ, ◌<◌, ◌≤◌, ◌^◌, IfOk, length, slice_index, true, false};
 ghost use Rattle.grid_core.specs.Board.{has, cells_of, SameShape};
-ghost use Rattle.engine_core.specs.Puzzle.{IsNext, has_place};
+ghost use Rattle.grid_core.specs.Candidates.{Candidates};
+ghost use Rattle.engine_core.specs.Puzzle.{IsNext, IsKth, has_place};
 ghost use Rattle.engine_core.specs.Closing.{HasStruck};
-ghost use Rattle.fields_core.specs.CountHouse.{Table, AreHouses, house_of, after_house};
+ghost use Rattle.engine_core.specs.Sets.{IsChange};
+ghost use Rattle.fields_core.specs.CountHouse.{CountedHouses, AreHouses, count_house_of, strikes_of, after_house};
+ghost use Rattle.fields_core.specs.Tallies.{AreTallied};
 ghost use Rattle.fields_core.specs.CountLists.{bounded, bound_of};
 
 use crate::count_list::{Bounds, CountList};
 use crate::count_visit::visit_house;
+use crate::tally::{Tally, count_cells};
 use engine_core::Houses;
 use grid_core::Board;
 use std::alloc::{AllocError, Global};
@@ -23,10 +27,10 @@ pub struct CountTable {
 
 impl Model for CountTable {
     ghost use Rattle.std.specs.Prelude.{◌≡◌, length};
-    ghost use Rattle.fields_core.specs.CountHouse.{Table, AreHouses};
+    ghost use Rattle.fields_core.specs.CountHouse.{CountedHouses, AreHouses};
     ghost use Rattle.fields_core.specs.CountLists.{bounded};
 
-    ghost Value = { Table };
+    ghost Value = { CountedHouses };
 
     ghost view = { λ t. record { cells = t.houses.cells; houses = bounded t.houses.scopes t.bounds.items } };
 
@@ -59,7 +63,7 @@ impl CountTable {
     /// The places of a house.
     fn places(&self, house: usize) -> &[u32]
         requires { house < length self.now.houses }
-        ensures { result.now ≡ (house_of self.now.houses house).places }
+        ensures { result.now ≡ (count_house_of self.now.houses house).places }
     {
         self.houses.places(house)
     }
@@ -67,7 +71,7 @@ impl CountTable {
     /// How many cells the house has.
     pub(crate) fn scope_len(&self, house: usize) -> usize
         requires { house < length self.now.houses }
-        ensures { result ≡ length (house_of self.now.houses house).places }
+        ensures { result ≡ length (count_house_of self.now.houses house).places }
     {
         self.places(house).len()
     }
@@ -75,8 +79,8 @@ impl CountTable {
     /// The house's `k`-th cell.
     pub(crate) fn scope(&self, house: usize, k: usize) -> usize
         requires house_in { house < length self.now.houses }
-        requires k_in { k < length (house_of self.now.houses house).places }
-        ensures { result ≡ slice_index (house_of self.now.houses house).places k }
+        requires k_in { k < length (count_house_of self.now.houses house).places }
+        ensures { result ≡ slice_index (count_house_of self.now.houses house).places k }
     {
         let places = self.places(house);
         places[k] as usize
@@ -85,9 +89,18 @@ impl CountTable {
     /// The least house at or after `from` that has the place.
     pub(crate) fn house_at(&self, place: usize, from: usize) -> Option<usize>
         requires { place < self.now.cells }
-        ensures { IsNext (λ h. has_place (house_of self.now.houses h).places place) (length self.now.houses) from result }
+        ensures { IsNext (λ h. has_place (count_house_of self.now.houses h).places place) (length self.now.houses) from result }
     {
         self.houses.next_at(place, from)
+    }
+
+    /// The house that has the place and has `k` such houses before it.
+    pub(crate) fn house_of(&self, place: usize, k: usize) -> Option<usize>
+        requires { place < self.now.cells }
+        ensures { IsKth (λ h. has_place (count_house_of self.now.houses h).places place)
+            (length self.now.houses) k result }
+    {
+        self.houses.nth_at(place, k)
     }
 
     /// Strikes what the house strikes, and says whether that was anything.
@@ -95,7 +108,7 @@ impl CountTable {
         requires house_in { house < length self.now.houses }
         requires cells { cells_of board.old ≡ self.now.cells }
         requires values { board.old.values ≡ 2 }
-        ensures left { has board.new ≡ after_house (house_of self.now.houses house)
+        ensures left { has board.new ≡ after_house (count_house_of self.now.houses house)
             (has board.old) }
         ensures shape { SameShape board.old board.new }
         ensures unchanged { result ≡ false → has board.new ≡ has board.old }
@@ -103,6 +116,56 @@ impl CountTable {
     {
         let bounds = bounds_at(&self.bounds, house);
         visit_house(board, self.houses.places(house), bounds)
+    }
+
+    /// Room for the tallies of the houses.
+    pub(crate) fn tallies(&self, alloc: Global) -> Result<Vec<Tally>, AllocError>
+        ensures { IfOk result (λ tallies. length tallies.items ≡ length self.now.houses) }
+    {
+        vec![in alloc; Tally::none(); self.len()]
+    }
+
+    /// Counts the cells of each house.
+    pub(crate) fn follow(&self, board: &Board, tallies: &mut [Tally])
+        requires cells { cells_of board.now ≡ self.now.cells }
+        requires values { board.now.values ≡ 2 }
+        requires long { length self.now.houses ≤ length tallies.old }
+        ensures tallied { AreTallied self.now.cells self.now.houses tallies.new (has board.now) }
+        ensures as_many { length tallies.new ≡ length tallies.old }
+    {
+        for house in 0..self.houses.len() {
+            tallies[house] = count_cells(board, self.houses.places(house));
+        }
+    }
+
+    /// Counts anew where a cell changed, whose sets have these bits.
+    pub(crate) fn change(&self, place: usize, before: u32, after: u32, tallies: &mut [Tally])
+        requires { (K : Candidates) × (L : Candidates)
+            × AreTallied self.now.cells self.now.houses tallies.old K
+            × IsChange self.now.cells 2 K L place before after }
+        ensures tallied { (K L : Candidates) → AreTallied self.now.cells self.now.houses tallies.old K
+            → IsChange self.now.cells 2 K L place before after
+            → AreTallied self.now.cells self.now.houses tallies.new L }
+        ensures as_many { length tallies.new ≡ length tallies.old }
+    {
+        let houses = self.houses.houses_at(place);
+        for k in 0..houses.len() {
+            let house = houses[k] as usize;
+            let tally = tallies[house];
+            tallies[house] = tally.moved(before, after);
+        }
+    }
+
+    /// Whether the house may strike anything, by what was counted.
+    pub(crate) fn calls(&self, house: usize, tallies: &[Tally]) -> bool
+        requires house_in { house < length self.now.houses }
+        requires tallied { (K : Candidates) × AreTallied self.now.cells self.now.houses tallies.now K }
+        ensures { result ≡ false → (K : Candidates)
+            → AreTallied self.now.cells self.now.houses tallies.now K
+            → (c v : ℕ) → K c v ≡ true → strikes_of (count_house_of self.now.houses house) K c v ≡ false }
+    {
+        let tally = tallies[house];
+        tally.calls(bounds_at(&self.bounds, house))
     }
 }
 

@@ -1,59 +1,22 @@
 //! A visit of a count house: one pass over its cells says what can be struck, and nothing is written where nothing is.
 
-ghost use Rattle.std.specs.Prelude.{◌≡◌, ◌==◌, ℕ, ◌<◌, nat_lt, ◌&&◌, ◌||◌, not, true, false, cond, length, slice_index, count_by};
-ghost use Rattle.std.specs.List.{list_any};
+ghost use Rattle.std.specs.Prelude.{◌≡◌, ◌==◌, ℕ, ◌<◌, ◌&&◌, not, true, false, length, slice_index};
 ghost use Rattle.grid_core.specs.Board.{has, cells_of, SameShape};
 ghost use Rattle.engine_core.specs.Closing.{HasStruck};
 ghost use Rattle.fields_core.specs.CountHouse.{IsHouse, after_house};
 ghost use Rattle.fields_core.specs.CountLists.{house_with};
-ghost use Rattle.fields_core.specs.Count.{is_open, is_empty, struck_at, strikes_open};
+ghost use Rattle.fields_core.specs.Count.{is_open, struck_among, strikes_open};
 
 use crate::count_list::Bounds;
+use crate::tally::count_cells;
 use grid_core::Board;
-
-/// How many of a house's cells have no 0, how many have a 1, and whether one has neither.
-#[derive(Clone, Copy)]
-struct Tally {
-    must: usize,
-    may: usize,
-    dead: bool,
-}
-
-/// Counts over the cells of a house.
-fn count_cells(board: &Board, places: &[u32]) -> Tally
-    requires places_in { (k : ℕ) → k < length places.now
-        → slice_index places.now k < cells_of board.now }
-    requires values { board.now.values ≡ 2 }
-    ensures must { result.must ≡ count_by (λ c. not (has board.now c 0)) places.now }
-    ensures may { result.may ≡ count_by (λ c. has board.now c 1) places.now }
-    ensures dead { result.dead ≡ list_any (is_empty (has board.now)) places.now }
-{
-    let mut must = 0;
-    let mut may = 0;
-    let mut dead = false;
-    for k in 0..places.len() {
-        let zero = board.has(places[k] as usize, 0);
-        let one = board.has(places[k] as usize, 1);
-        must += number(!zero);
-        may += number(one);
-        dead |= !zero & !one;
-    }
-    Tally { must, may, dead }
-}
-
-/// 1 if it holds, and else 0.
-fn number(holds: bool) -> usize
-    ensures { result ≡ cond holds 1 0 }
-{
-    if holds { 1 } else { 0 }
-}
 
 /// Strikes all values from the cells, and says whether that was anything.
 fn strike_all(board: &mut Board, places: &[u32]) -> bool
     requires places_in { (k : ℕ) → k < length places.now
         → slice_index places.now k < cells_of board.old }
     requires values { board.old.values ≡ 2 }
-    ensures left { has board.new ≡ struck_at places.now (λ c v. true) (has board.old) }
+    ensures left { has board.new ≡ struck_among places.now (λ c v. true) (has board.old) }
     ensures shape { SameShape board.old board.new }
     ensures unchanged { result ≡ false → has board.new ≡ has board.old }
     ensures changed { result ≡ true → HasStruck (has board.old) (has board.new) }
@@ -85,7 +48,7 @@ fn strike_open(board: &mut Board, places: &[u32], value: u8) -> bool
         → slice_index places.now k < cells_of board.old }
     requires values { board.old.values ≡ 2 }
     requires value_in { value < 2 }
-    ensures left { has board.new ≡ struck_at places.now (strikes_open value (has board.old))
+    ensures left { has board.new ≡ struck_among places.now (strikes_open value (has board.old))
         (has board.old) }
     ensures shape { SameShape board.old board.new }
     ensures unchanged { result ≡ false → has board.new ≡ has board.old }
@@ -111,13 +74,6 @@ fn has_both(board: &Board, place: usize) -> bool
     board.has(place, 0) && board.has(place, 1)
 }
 
-/// Whether the cells have no filling with `least` to `most` ones.
-fn has_no_filling(tally: Tally, least: usize, most: usize) -> bool
-    ensures { result ≡ (tally.dead || (nat_lt most least || (nat_lt tally.may least || nat_lt most tally.must))) }
-{
-    tally.dead || most < least || tally.may < least || most < tally.must
-}
-
 /// Strikes what the house with these places and bounds strikes, and says whether that was anything.
 pub(crate) fn visit_house(board: &mut Board, places: &[u32], bounds: Bounds) -> bool
     requires house { IsHouse (cells_of board.old) (house_with places.now bounds) }
@@ -127,19 +83,17 @@ pub(crate) fn visit_house(board: &mut Board, places: &[u32], bounds: Bounds) -> 
     ensures unchanged { result ≡ false → has board.new ≡ has board.old }
     ensures changed { result ≡ true → HasStruck (has board.old) (has board.new) }
 {
-    let least = bounds.least as usize;
-    let most = bounds.most as usize;
     let tally = count_cells(board, places);
-    if has_no_filling(tally, least, most) {
+    if tally.has_no_filling(bounds) {
         return strike_all(board, places);
     }
     if tally.must == tally.may {
         return false;
     }
-    if tally.must == most {
+    if tally.must == bounds.most {
         return strike_open(board, places, 1);
     }
-    if tally.may == least {
+    if tally.may == bounds.least {
         return strike_open(board, places, 0);
     }
     false

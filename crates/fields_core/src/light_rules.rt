@@ -12,6 +12,7 @@ use crate::count_table::CountTable;
 use crate::light_cells::{cells, is_white};
 use crate::light_check::check_lights;
 use crate::light_houses::houses_of_lights;
+use crate::tally::Tally;
 use engine_core::{Mode, Rules};
 use gameid_core::LightPuzzle;
 use grid_core::{Board, Grid};
@@ -73,9 +74,13 @@ fn start_lights(puzzle: &LightPuzzle, board: &mut Board)
 }
 
 impl Rules for LightRules {
+    ghost use Rattle.std.specs.Prelude.{vec_len};
+    ghost use Rattle.std.proofs.Common.{arith};
+    ghost use Rattle.fields_core.specs.LightHouses.{light_houses};
+    ghost use Rattle.fields_core.specs.Tallies.{AreTallied};
     ghost use Rattle.fields_core.specs.LightLaws.{light-lawful};
 
-    type Scratch = ();
+    type Scratch = Vec<Tally>;
 
     const SETTLED: bool = true;
 
@@ -89,13 +94,15 @@ impl Rules for LightRules {
 
     ghost mode_is = { λ _. refl };
 
-    ghost serves = { λ _ _. Unit {0} };
+    ghost serves = { λ tallies needs. needs.houses ≤ vec_len tallies };
+
+    ghost follows = { λ r tallies K. AreTallied (light_cells r.light) (light_houses r.light) tallies.items K };
 
     ghost lawful = { light-lawful };
 
     ghost settled_is = { λ _. refl };
 
-    ghost serves_smaller = { λ _ _ _ _ _. tt };
+    ghost serves_smaller = { λ tallies need had f s. let le = f.houses_in in Prim.omega arith };
 
     fn cells(&self) -> usize {
         cells(&self.puzzle)
@@ -125,19 +132,35 @@ impl Rules for LightRules {
         self.table.house_at(place, from)
     }
 
+    fn house_of(&self, place: usize, k: usize) -> Option<usize> {
+        self.table.house_of(place, k)
+    }
+
     fn start(&self, board: &mut Board) {
         start_lights(&self.puzzle, board);
     }
 
-    fn scratch(&self, _alloc: Global) -> Result<(), AllocError> {
-        Ok(())
+    fn scratch(&self, alloc: Global) -> Result<Vec<Tally>, AllocError> {
+        self.table.tallies(alloc)
     }
 
-    fn visit(&self, house: usize, board: &mut Board, _scratch: &mut ()) -> bool {
+    fn visit(&self, house: usize, board: &mut Board, _tallies: &mut Vec<Tally>) -> bool {
         self.table.visit(house, board)
     }
 
-    fn accept(&self, _scratch: &mut (), grid: &Grid) -> bool {
+    fn follow(&self, board: &Board, tallies: &mut Vec<Tally>) {
+        self.table.follow(board, tallies);
+    }
+
+    fn change(&self, place: usize, before: u32, after: u32, tallies: &mut Vec<Tally>) {
+        self.table.change(place, before, after, tallies);
+    }
+
+    fn calls(&self, house: usize, tallies: &Vec<Tally>) -> bool {
+        self.table.calls(house, tallies)
+    }
+
+    fn accept(&self, _tallies: &mut Vec<Tally>, grid: &Grid) -> bool {
         match check_lights(&self.puzzle, grid) {
             None => true,
             Some(_) => false,

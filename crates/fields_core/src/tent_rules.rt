@@ -12,6 +12,7 @@ ghost use Rattle.fields_core.specs.TentScratches.{ServesTents};
 ghost use Rattle.fields_core.specs.Ruled.{IsTentCounting};
 
 use crate::count_table::CountTable;
+use crate::tally::Tally;
 use crate::tent_cells::{cells, is_tree};
 use crate::tent_check::find_fault;
 use crate::tent_houses::houses_of_tents;
@@ -28,6 +29,13 @@ pub struct TentRules {
     puzzle: TentsPuzzle,
     table: CountTable,
     ghost counting: { IsTentCounting puzzle },
+}
+
+/// What searches of Tents work in: what a grid is tested in, and the tallies of the houses.
+#[derive(Drop)]
+pub struct TentWork {
+    pub(crate) pairs: TentScratch,
+    pub(crate) tallies: Vec<Tally>,
 }
 
 impl Model for TentRules {
@@ -106,9 +114,11 @@ fn start_tents(puzzle: &TentsPuzzle, board: &mut Board)
 }
 
 impl Rules for TentRules {
+    ghost use Rattle.fields_core.specs.TentHouses.{tent_houses};
+    ghost use Rattle.fields_core.specs.Tallies.{AreTallied};
     ghost use Rattle.fields_core.specs.TentLaws.{tent-lawful, serves-smaller-tents};
 
-    type Scratch = TentScratch;
+    type Scratch = TentWork;
 
     const SETTLED: bool = true;
 
@@ -123,6 +133,8 @@ impl Rules for TentRules {
     ghost mode_is = { λ _. refl };
 
     ghost serves = { ServesTents };
+
+    ghost follows = { λ r work K. AreTallied (tent_cells r.tents) (tent_houses r.tents) work.tallies.items K };
 
     ghost lawful = { tent-lawful };
 
@@ -158,21 +170,39 @@ impl Rules for TentRules {
         self.table.house_at(place, from)
     }
 
+    fn house_of(&self, place: usize, k: usize) -> Option<usize> {
+        self.table.house_of(place, k)
+    }
+
     fn start(&self, board: &mut Board) {
         start_tents(&self.puzzle, board);
     }
 
-    fn scratch(&self, alloc: Global) -> Result<TentScratch, AllocError> {
-        let scratch = TentScratch::new(alloc, cells(&self.puzzle))?;
-        Ok(scratch)
+    fn scratch(&self, alloc: Global) -> Result<TentWork, AllocError> {
+        Ok(TentWork {
+            pairs: TentScratch::new(alloc, cells(&self.puzzle))?,
+            tallies: self.table.tallies(alloc)?,
+        })
     }
 
-    fn visit(&self, house: usize, board: &mut Board, _scratch: &mut TentScratch) -> bool {
+    fn visit(&self, house: usize, board: &mut Board, _work: &mut TentWork) -> bool {
         self.table.visit(house, board)
     }
 
-    fn accept(&self, scratch: &mut TentScratch, grid: &Grid) -> bool {
-        match find_fault(&self.puzzle, grid, scratch) {
+    fn follow(&self, board: &Board, work: &mut TentWork) {
+        self.table.follow(board, &mut work.tallies);
+    }
+
+    fn change(&self, place: usize, before: u32, after: u32, work: &mut TentWork) {
+        self.table.change(place, before, after, &mut work.tallies);
+    }
+
+    fn calls(&self, house: usize, work: &TentWork) -> bool {
+        self.table.calls(house, &work.tallies)
+    }
+
+    fn accept(&self, work: &mut TentWork, grid: &Grid) -> bool {
+        match find_fault(&self.puzzle, grid, &mut work.pairs) {
             None => true,
             Some(_) => false,
         }

@@ -1,0 +1,98 @@
+//! How many cells of a count house have no 0, have a 1, or have neither.
+
+ghost use Rattle.std.specs.Prelude.{◌≡◌, ℕ, ◌+◌, ◌-◌, ◌<◌, ◌≤◌, ◌^◌, nat_lt, ◌&&◌, ◌||◌, ◌==◌, not, cond, length, slice_index};
+ghost use Rattle.grid_core.specs.Board.{has, cells_of};
+ghost use Rattle.engine_core.specs.Sets.{has_bit as is_set};
+ghost use Rattle.fields_core.specs.Tallies.{IsTally, moved_tally};
+
+use crate::count_list::Bounds;
+use engine_core::has_bit;
+use grid_core::Board;
+
+/// How many of a house's cells have no 0, how many have a 1, and how many have neither.
+#[derive(Clone, Copy)]
+pub struct Tally {
+    pub(crate) must: u32,
+    pub(crate) may: u32,
+    pub(crate) empty: u32,
+}
+
+/// 1 if it holds, and else 0.
+fn number(holds: bool) -> u32
+    ensures { result ≡ cond holds 1 0 }
+{
+    if holds { 1 } else { 0 }
+}
+
+impl Tally {
+    /// Of no cell.
+    pub(crate) fn none() -> Tally
+        ensures { result ≡ record { must = 0; may = 0; empty = 0 } }
+    {
+        Tally {
+            must: 0,
+            may: 0,
+            empty: 0,
+        }
+    }
+
+    /// The tally after a cell of the house changed, whose sets have these bits.
+    pub(crate) fn moved(self, before: u32, after: u32) -> Tally
+        requires must_before { cond (not (is_set before 0)) 1 0 ≤ self.must }
+        requires may_before { cond (is_set before 1) 1 0 ≤ self.may }
+        requires empty_before { cond (before == 0) 1 0 ≤ self.empty }
+        requires few { (moved_tally self before after).must < 2 ^ 32 }
+        requires few_may { (moved_tally self before after).may < 2 ^ 32 }
+        requires few_empty { (moved_tally self before after).empty < 2 ^ 32 }
+        ensures { result ≡ moved_tally self before after }
+    {
+        Tally {
+            must: self.must - number(!has_bit(before, 0)) + number(!has_bit(after, 0)),
+            may: self.may - number(has_bit(before, 1)) + number(has_bit(after, 1)),
+            empty: self.empty - number(before == 0) + number(after == 0),
+        }
+    }
+
+    /// Whether the cells have no filling within the bounds. No test is left out: which of them holds can't be foreseen.
+    pub(crate) fn has_no_filling(self, bounds: Bounds) -> bool
+        ensures { result ≡ (nat_lt 0 self.empty || (nat_lt bounds.most bounds.least
+            || (nat_lt self.may bounds.least || nat_lt bounds.most self.must))) }
+    {
+        (self.empty > 0)
+            | (bounds.most < bounds.least)
+            | (self.may < bounds.least)
+            | (bounds.most < self.must)
+    }
+
+    /// Whether a visit of a house with these bounds may strike anything.
+    pub(crate) fn calls(self, bounds: Bounds) -> bool
+        ensures { result ≡ ((nat_lt 0 self.empty || (nat_lt bounds.most bounds.least
+            || (nat_lt self.may bounds.least || nat_lt bounds.most self.must)))
+            || (not (self.must == self.may)
+            && ((self.must == bounds.most) || (self.may == bounds.least)))) }
+    {
+        let is_bound = (self.must == bounds.most) | (self.may == bounds.least);
+        self.has_no_filling(bounds) | ((self.must != self.may) & is_bound)
+    }
+}
+
+/// Counts over the cells of a house.
+pub(crate) fn count_cells(board: &Board, places: &[u32]) -> Tally
+    requires few { length places.now < 2 ^ 32 }
+    requires places_in { (k : ℕ) → k < length places.now
+        → slice_index places.now k < cells_of board.now }
+    requires values { board.now.values ≡ 2 }
+    ensures { IsTally (has board.now) places.now result }
+{
+    let mut must = 0u32;
+    let mut may = 0u32;
+    let mut empty = 0u32;
+    for k in 0..places.len() {
+        let zero = board.has(places[k] as usize, 0);
+        let one = board.has(places[k] as usize, 1);
+        must += number(!zero);
+        may += number(one);
+        empty += number(!zero & !one);
+    }
+    Tally { must, may, empty }
+}
