@@ -8,9 +8,9 @@ use Rattle.std.proofs.lemmas.List.{get_or-map}
 use Rattle.gameid_core.specs.Puzzles.{Solo, solo_n, solo_puzzle}
 use Rattle.solo_core.specs.declared.solo_house.SoloHouse.{SoloHouse}
 use Rattle.solo_core.specs.declared.solo_house.SoloHouse.TheVariants.{Row, Column, Block, Diagonal}
-use Rattle.solo_core.specs.Cells.{cells_of, row_of, column_of, block_of}
+use Rattle.solo_core.specs.Cells.{solo_cells, row_of, column_of, block_of}
 use Rattle.solo_core.specs.Houses.{IsHouseOf, lies_in}
-use Rattle.solo_core.specs.Solutions.{IsSolution}
+use Rattle.solo_core.specs.Solutions.{IsSoloSolution}
 use Rattle.maker_core.specs.Flips.{line_from, flipped_from, flipped}
 use Rattle.maker_core.specs.SoloCluesLaws.{house_stays, lies_alike}
 use Rattle.maker_core.specs.SoloFilling.{all_given}
@@ -65,7 +65,7 @@ module _ (p : Solo) (c_low : 0 < p.c) (r_low : 0 < p.r) (across down : Bool) whe
   some : 0 < solo_n p
   some = mul-pos c_low r_low
 
-  module _ (place : ℕ) (within : place < cells_of p) where
+  module _ (place : ℕ) (within : place < solo_cells p) where
     row : row_of p (from place) ≡ line_from down (solo_n p) (row_of p place)
     row = from_row (solo_n p) across down place within
 
@@ -89,13 +89,13 @@ module _ (p : Solo) (c_low : 0 < p.c) (r_low : 0 < p.r) (across down : Bool) whe
         column ∙ diagonal_is across down (solo_n p) d (column_of p place) (row_of p place) few column_below row_below (eqb-true _ _ on)
         ∙ ap (λ y. if eqb (diagonal_from across down d) 0 then y else solo_n p - 1 - y) (sym row))
 
-  block_in : (place : ℕ) → place < cells_of p → block_of p place < solo_n p
+  block_in : (place : ℕ) → place < solo_cells p → block_of p place < solo_n p
   block_in place within =
       mul-add-lt (row_of p place / p.c) p.c (column_of p place / p.r) p.r
       (div_below (row_of p place) p.c p.r c_low (let low = row_below place within in omega (arith, low, turned)))
       (div_below (column_of p place) p.r p.c r_low (column_below place within))
 
-  same_block : (j k : ℕ) → j < cells_of p → k < cells_of p → block_of p j ≡ block_of p k → block_of p (from j) ≡ block_of p (from k)
+  same_block : (j k : ℕ) → j < solo_cells p → k < solo_cells p → block_of p j ≡ block_of p k → block_of p (from j) ≡ block_of p (from k)
   same_block j k lj lk e =
       let parts = same_from_place (row_of p j / p.c) (column_of p j / p.r) (row_of p k / p.c) (column_of p k / p.r) p.c
       (div_below (column_of p j) p.r p.c r_low (column_below j lj)) (div_below (column_of p k) p.r p.c r_low (column_below k lk)) e in
@@ -107,7 +107,7 @@ module _ (p : Solo) (c_low : 0 < p.c) (r_low : 0 < p.r) (across down : Bool) whe
       ∙ ap (λ x. x / p.r) (sym (column k lk)) in
       ap (λ b. b * p.c + column_of p (from j) / p.r) band ∙ ap (λ s. row_of p (from k) / p.c * p.c + s) stack
 
-  together : (house : SoloHouse) → IsHouseOf p house → (j k : ℕ) → j < cells_of p → k < cells_of p → lies_in p house j ≡ true → lies_in p house k ≡ true
+  together : (house : SoloHouse) → IsHouseOf p house → (j k : ℕ) → j < solo_cells p → k < solo_cells p → lies_in p house j ≡ true → lies_in p house k ≡ true
       → AreTogether p (from j) (from k)
   together (Row y) is j k lj lk a b = record {
     house = Row (line_from down (solo_n p) y);
@@ -139,8 +139,8 @@ given_itself : (c r : ℕ) (x : Bool) (g : List ℕ) (place : ℕ) → place < l
 given_itself c r x g place within = let at = get_or-map suc g place 0 0 within in omega arith
 
 -- the flipped grid solves the puzzle that gives all its cells
-pub flipped-solution : (c r : ℕ) (x : Bool) (givens g : List ℕ) → 0 < c → 0 < r → (across down : Bool) → IsSolution (solo_puzzle c r x givens) g
-    → IsSolution (all_given c r x (flipped (c * r) across down g)) (flipped (c * r) across down g)
+pub flipped-solution : (c r : ℕ) (x : Bool) (givens g : List ℕ) → 0 < c → 0 < r → (across down : Bool) → IsSoloSolution (solo_puzzle c r x givens) g
+    → IsSoloSolution (all_given c r x (flipped (c * r) across down g)) (flipped (c * r) across down g)
 flipped-solution c r x givens g c_low r_low across down s = record {
   grid = flipped-grid (c * r) across down g (c * r) s.grid;
   givens = λ place lt low. given_itself c r x (flipped (c * r) across down g) place (let long = length-flipped (c * r) across down g in omega arith);

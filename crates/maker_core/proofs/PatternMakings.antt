@@ -10,7 +10,7 @@ use Rattle.gameid_core.specs.BlackRuns.{runs}
 use Rattle.gameid_core.specs.Lines.{line_list, lines_runs}
 use Rattle.gameid_core.specs.Puzzles.{Pattern, lines_of}
 use Rattle.pattern_core.specs.LineRules.{line_rules}
-use Rattle.pattern_core.specs.Solutions.{IsSolution}
+use Rattle.pattern_core.specs.Solutions.{IsPatternSolution}
 use Rattle.engine_core.specs.Verdict.{Solves}
 use Rattle.maker_core.specs.Made.{HasOne, TellsOne, IsOnlySolution}
 use Rattle.maker_core.specs.Draws.{AreAll}
@@ -49,7 +49,7 @@ pattern_is size g p lines has =
         ∙ get_or_default (lines_runs size g) k [] d (let l = length-map-range_with_len (λ line. runs (line_list size g line)) 0 (lines_of size) in omega arith)
 
 -- that grid is a solution of it
-pub pattern_solved : (size : Extent) (g : List ℕ) (p : Pattern) → HasRuns size g p → IsGrid (size.w * size.h) 2 g → IsSolution p g
+pub pattern_solved : (size : Extent) (g : List ℕ) (p : Pattern) → HasRuns size g p → IsGrid (size.w * size.h) 2 g → IsPatternSolution p g
 pattern_solved size g p has grid =
     let same = sym has.sized in
     record {
@@ -63,11 +63,11 @@ pattern_solved size g p has grid =
 
 -- and the one that the verdict names, where it is one
 pub pattern_only : (p : Pattern) (g : List ℕ)
-    → ((q : Pattern) (h : List ℕ) → IsGrid (q.size.w * q.size.h) 2 h → (IsTrue ((line_rules q).is_solution h)) ↔ IsSolution q h)
+    → ((q : Pattern) (h : List ℕ) → IsGrid (q.size.w * q.size.h) 2 h → (IsTrue ((line_rules q).is_solution h)) ↔ IsPatternSolution q h)
     → (budget : ℕ) → HasOne (line_rules p) budget
-    → IsSolution p g → IsOnlySolution (IsSolution p) g × TellsOne (line_rules p) budget g
+    → IsPatternSolution p g → IsOnlySolution (IsPatternSolution p) g × TellsOne (line_rules p) budget g
 pattern_only p g accepted budget one good =
-    let solves : (h : List ℕ) → IsSolution p h → Solves (line_rules p) h = λ h s. record { grid = s.grid; good = (accepted p h s.grid).1 s } in
+    let solves : (h : List ℕ) → IsPatternSolution p h → Solves (line_rules p) h = λ h s. record { grid = s.grid; good = (accepted p h s.grid).1 s } in
     let same = one.only.1 g (solves g good) in
     ((good, λ h s. sym (one.only.1 h (solves h s)) ∙ same), subst (TellsOne (line_rules p) budget) same one.found)
 

@@ -19,7 +19,7 @@ use Rattle.engine_core.specs.Puzzle.{IsClosed}
 use Rattle.pattern_core.specs.Lines.{line_places, clue_of, has_runs}
 use Rattle.pattern_core.specs.LineLaws.{length-line_places, place_in_row, cell_in_grid, different_places, has_runs-is, is_solution-from}
 use Rattle.pattern_core.specs.LineRules.{line_rules}
-use Rattle.pattern_core.specs.Solutions.{IsSolution}
+use Rattle.pattern_core.specs.Solutions.{IsPatternSolution}
 use Rattle.maker_core.specs.Draws.{AreAll}
 use Rattle.maker_core.specs.Made.{is_one, has_one}
 use Rattle.maker_core.specs.PatternMaking.{clued_by}
@@ -158,7 +158,7 @@ plain_alone size g E c v extent long plain closed lt few on =
     ]
 
 -- the verdict of such a grid's puzzle is one
-pub plain_passes : (p : Pattern) (g : List ℕ) (budget : ℕ) → IsExtent p.size → p ≡ clued_by p.size g → IsSolution p g → AreAll 0 g ⊎ AreAll 1 g
+pub plain_passes : (p : Pattern) (g : List ℕ) (budget : ℕ) → IsExtent p.size → p ≡ clued_by p.size g → IsPatternSolution p g → AreAll 0 g ⊎ AreAll 1 g
     → IsKnown (line_rules p) → has_one (line_rules p) budget ≡ true
 plain_passes p g budget extent made good plain known =
     ap is_one (found_at_once (line_rules p) budget g known (record { grid = good.grid; good = is_solution-from p g good })

@@ -8,7 +8,7 @@ use Rattle.grid_core.specs.Candidates.{IsInside, single}
 use Rattle.grid_core.specs.Grids.{IsGrid}
 use Rattle.gameid_core.specs.Puzzles.{Solo, IsSolo}
 use Rattle.engine_core.specs.Verdict.{Outcome.OneGrid, Solves, IsTrueOf}
-use Rattle.solo_core.specs.Solutions.{IsSolution}
+use Rattle.solo_core.specs.Solutions.{IsSoloSolution}
 use Rattle.solo_core.specs.SolutionLaws.{test_from_rule}
 use Rattle.solo_core.specs.RuleSets.{start, houses_rules}
 use Rattle.solo_core.specs.RuleLaws.{houses_lawful}
@@ -55,7 +55,7 @@ module _ (c r : ℕ) (x : Bool) (g : List ℕ) (size : IsSoloSize c r) (fits : I
         | inr same ↦ let e = eqb-true (v + 1) (slice_index (map suc g) place) same in eq-eqb (slice_index g place) v (omega arith)
       ])
 
-module _ (c r : ℕ) (x : Bool) (g : List ℕ) (size : IsSoloSize c r) (solution : IsSolution (all_given c r x g) g) where
+module _ (c r : ℕ) (x : Bool) (g : List ℕ) (size : IsSoloSize c r) (solution : IsSoloSolution (all_given c r x g) g) where
   solo : IsSolo (all_given c r x g)
   solo = all_given-solo c r x g size solution.grid
 
@@ -73,7 +73,7 @@ module _ (c r : ℕ) (x : Bool) (g : List ℕ) (size : IsSoloSize c r) (solution
   all_given-found budget = start_found (houses_rules (all_given c r x g)) (houses_lawful (all_given c r x g) solo) g solves inside budget
 
 -- what is left of the puzzle when givens were taken away is a puzzle
-pub thinned-solo : (c r : ℕ) (x : Bool) (p : Solo) (g : List ℕ) → IsSoloSize c r → IsSolution (all_given c r x g) g → IsThinnedFrom solo_game p (all_given c r x g) → IsSolo p
+pub thinned-solo : (c r : ℕ) (x : Bool) (p : Solo) (g : List ℕ) → IsSoloSize c r → IsSoloSolution (all_given c r x g) g → IsThinnedFrom solo_game p (all_given c r x g) → IsSolo p
 thinned-solo c r x p g size solution w = record {
   c_low = rw w.frame.c size.c_low;
   r_low = rw w.frame.r size.r_low;

@@ -6,7 +6,7 @@ use Rattle.rand_core.specs.Stream.{Stream}
 use Rattle.gameid_core.specs.Puzzles.{Solo, IsSolo}
 use Rattle.engine_core.specs.Verdict.{Outcome.OneGrid, IsTrueOf}
 use Rattle.solo_core.specs.RuleSets.{houses_rules}
-use Rattle.solo_core.specs.Solutions.{IsSolution}
+use Rattle.solo_core.specs.Solutions.{IsSoloSolution}
 use Rattle.solo_core.specs.SolutionLaws.{rule_from_test, test_from_rule}
 use Rattle.maker_core.specs.Draws.{stream_after, filling_at, IsFirstPassing}
 use Rattle.maker_core.specs.Made.{is_one, TellsOne, IsOnlySolution}
@@ -18,14 +18,14 @@ use Rattle.maker_core.specs.declared.made.Kept.{Kept}
 use Rattle.maker_core.proofs.SoloFull.{all_given-only, all_given-found, thinned-solo}
 use Rattle.maker_core.proofs.Tries.{IsTrying, IsTrying-none, IsTrying-more, left_after}
 
-pub full_only : (c r : ℕ) (x : Bool) (p : Solo) (g : List ℕ) → IsSoloSize c r → IsSolution (all_given c r x g) g → p ≡ all_given c r x g → IsTrueOf (houses_rules p) (OneGrid g)
+pub full_only : (c r : ℕ) (x : Bool) (p : Solo) (g : List ℕ) → IsSoloSize c r → IsSoloSolution (all_given c r x g) g → p ≡ all_given c r x g → IsTrueOf (houses_rules p) (OneGrid g)
 full_only c r x p g size solution full = subst (λ q. IsTrueOf (houses_rules q) (OneGrid g)) (sym full) (all_given-only c r x g size solution)
 
-pub full_found : (c r : ℕ) (x : Bool) (p : Solo) (g : List ℕ) (budget : ℕ) → IsSoloSize c r → IsSolution (all_given c r x g) g → p ≡ all_given c r x g → TellsOne (houses_rules p) budget g
+pub full_found : (c r : ℕ) (x : Bool) (p : Solo) (g : List ℕ) (budget : ℕ) → IsSoloSize c r → IsSoloSolution (all_given c r x g) g → p ≡ all_given c r x g → TellsOne (houses_rules p) budget g
 full_found c r x p g budget size solution full = subst (λ q. TellsOne (houses_rules q) budget g) (sym full) (all_given-found c r x g size solution budget)
 
 -- a filling that is there passes
-pub full_passes : (c r : ℕ) (x : Bool) (g : List ℕ) (budget : ℕ) → IsSoloSize c r → IsSolution (all_given c r x g) g → solo_passes c r x budget (Some g) ≡ true
+pub full_passes : (c r : ℕ) (x : Bool) (g : List ℕ) (budget : ℕ) → IsSoloSize c r → IsSoloSolution (all_given c r x g) g → solo_passes c r x budget (Some g) ≡ true
 full_passes c r x g budget size solution = ap is_one (all_given-found c r x g size solution budget)
 
 -- ---- tries
@@ -57,8 +57,8 @@ pub unfilled : (f : Option (List ℕ)) (t : Stream) (made : Option (List ℕ) ×
     → ◌≡◌ {A = Option (List ℕ) × Stream} (None, t) made
 unfilled f t made is e = ap (λ (h : Option (List ℕ)). (h, t)) (sym is) ∙ e
 
-pub keeps_rules : (c r : ℕ) (x : Bool) (f : Option (List ℕ)) (g : List ℕ) → f ≡ Some g → IfSome f (λ h. IsSolution (all_given c r x h) h) → IsSolution (all_given c r x g) g
-keeps_rules c r x f g is s = subst (λ (h : Option (List ℕ)). IfSome h (λ i. IsSolution (all_given c r x i) i)) is s
+pub keeps_rules : (c r : ℕ) (x : Bool) (f : Option (List ℕ)) (g : List ℕ) → f ≡ Some g → IfSome f (λ h. IsSoloSolution (all_given c r x h) h) → IsSoloSolution (all_given c r x g) g
+keeps_rules c r x f g is s = subst (λ (h : Option (List ℕ)). IfSome h (λ i. IsSoloSolution (all_given c r x i) i)) is s
 
 some_there : (g : List ℕ) → Some g ≡ None → ⊥
 some_there g e = true≢false (ap is_some e)
@@ -82,14 +82,14 @@ left_shuffled c r x budget tries done s now t left p g given w made passing with
     ∙ ap (stream_after_clues solo_game (all_given c r x given)) (left_after (solo_filling c r x budget) (solo_passes c r x budget) s tries done now t (Some g) w.trying made passing within k first)
 
 -- ---- what was made
-only_by_rules : (p : Solo) (g made : List ℕ) → IsSolo p → IsTrueOf (houses_rules p) (OneGrid g) → made ≡ g → IsOnlySolution (IsSolution p) made
-only_by_rules p g made ok w same = subst (IsOnlySolution (IsSolution p)) (sym same) (
+only_by_rules : (p : Solo) (g made : List ℕ) → IsSolo p → IsTrueOf (houses_rules p) (OneGrid g) → made ≡ g → IsOnlySolution (IsSoloSolution p) made
+only_by_rules p g made ok w same = subst (IsOnlySolution (IsSoloSolution p)) (sym same) (
   rule_from_test p ok g w.0.grid w.0.good,
   λ h other. sym (w.1 h (record { grid = other.grid; good = test_from_rule p ok h other })),
 )
 
 -- what is left of the full puzzle is what a maker gives
-pub made_solo : (c r : ℕ) (x : Bool) (budget tries : ℕ) (s : Stream) (full p : Solo) (g made : List ℕ) (kept : List Kept) → IsSoloSize c r → IsSolution (all_given c r x g) g
+pub made_solo : (c r : ℕ) (x : Bool) (budget tries : ℕ) (s : Stream) (full p : Solo) (g made : List ℕ) (kept : List Kept) → IsSoloSize c r → IsSoloSolution (all_given c r x g) g
     → full ≡ all_given c r x g → made ≡ g
     → (k : ℕ) × IsFirstPassing (solo_filling c r x budget) (solo_passes c r x budget) s tries k × (Some g ≡ filling_at (solo_filling c r x budget) k s)
     → IsThinnedFrom solo_game p full → IsTrueOf (houses_rules p) (OneGrid g) → TellsOne (houses_rules p) budget g

@@ -12,7 +12,7 @@ use Rattle.solo_core.specs.declared.solo_house.SoloHouse.{SoloHouse}
 use Rattle.solo_core.specs.declared.solo_house.SoloHouse.TheVariants.{Row, Column, Block, Diagonal}
 use Rattle.solo_core.specs.Cells.{block_of}
 use Rattle.solo_core.specs.Houses.{IsHouseOf, lies_in}
-use Rattle.solo_core.specs.Solutions.{IsSolution}
+use Rattle.solo_core.specs.Solutions.{IsSoloSolution}
 use Rattle.maker_core.specs.SoloFilling.{first_number, rearranged, all_given}
 use Rattle.maker_core.specs.SoloOrders.{IsOrder, IsLineOrder}
 use Rattle.maker_core.proofs.SoloNumbers.{row_apart, column_apart, block_apart, same_line}
@@ -114,7 +114,7 @@ module _ (c r : ℕ) (c_low : 0 < c) (r_low : 0 < r) (numbers rows columns : Lis
         omega arith);
   }
 
-  pub is_solution_of_all : IsSolution (all_given c r false grid) grid
+  pub is_solution_of_all : IsSoloSolution (all_given c r false grid) grid
   is_solution_of_all = record {
     grid = is_grid;
     givens = λ place lt some. let long = length-rearranged c r numbers rows columns in let at = get_or-map suc grid place 0 0 (omega arith) in omega arith;

@@ -14,7 +14,7 @@ use Rattle.engine_core.specs.Stored.{IsAnswer}
 use Rattle.engine_core.specs.declared.search.Verdict.{Verdict}
 use Rattle.engine_core.specs.declared.search.Verdict.TheVariants as verdict
 use Rattle.solo_core.specs.RuleSets.{houses_rules}
-use Rattle.solo_core.specs.Solutions.{IsSolution}
+use Rattle.solo_core.specs.Solutions.{IsSoloSolution}
 use Rattle.solo_core.specs.SolutionLaws.{rule_from_test}
 use Rattle.maker_core.specs.Draws.{shuffled_order}
 use Rattle.maker_core.specs.SoloFilling.{all_given}
@@ -103,12 +103,12 @@ module _ (c r : ℕ) (numbers : List ℕ) (size : IsSoloSize c r) (order : IsOrd
       ]) in
       ap (λ i. solo_puzzle i p.r p.x p.givens) same_c ∙ ap (λ i. solo_puzzle c i p.x p.givens) same_r ∙ ap (λ i. solo_puzzle c r i p.givens) same_x ∙ ap (solo_puzzle c r true) givens
 
-  found-solution : (g : List ℕ) → Solves (houses_rules (top_row_given c r numbers)) g → IsSolution (top_row_given c r numbers) g
+  found-solution : (g : List ℕ) → Solves (houses_rules (top_row_given c r numbers)) g → IsSoloSolution (top_row_given c r numbers) g
   found-solution g s = rule_from_test (top_row_given c r numbers) top-solo g s.grid s.good
 
   -- the flipped grid keeps to the rules
   pub flipped-found : (found : Option (List ℕ)) (t : Stream) → IfSome found (Solves (houses_rules (top_row_given c r numbers)))
-      → IfSome (flipped_by_draw (c * r) found t).0 (λ g. IsSolution (all_given c r true g) g)
+      → IfSome (flipped_by_draw (c * r) found t).0 (λ g. IsSoloSolution (all_given c r true g) g)
   flipped-found None t s = tt
   flipped-found (Some g) t s =
       let c_low = size.c_low in
@@ -127,9 +127,9 @@ x-filling-is c r budget n s t u numbers p q found filling is drawn top rules fir
 -- what is there of the filling keeps to the rules
 pub x-filling-solves : (c r n : ℕ) (t u : Stream) (numbers : List ℕ) (p : Solo) (q : Puzzle) (found filling : Option (List ℕ)) → IsSoloSize c r → IsOrder (c * r) numbers → n ≡ c * r
     → p ≡ top_row_given c r numbers → q ≡ houses_rules p → IfSome found (Solves q)
-    → ◌≡◌ {A = Option (List ℕ) × Stream} (filling, u) (flipped_by_draw n found t) → IfSome filling (λ g. IsSolution (all_given c r true g) g)
+    → ◌≡◌ {A = Option (List ℕ) × Stream} (filling, u) (flipped_by_draw n found t) → IfSome filling (λ g. IsSoloSolution (all_given c r true g) g)
 x-filling-solves c r n t u numbers p q found filling size order is top rules solves flipped =
     let good : IfSome found (Solves (houses_rules (top_row_given c r numbers))) = subst (λ (z : Puzzle). IfSome found (Solves z)) (rules ∙ ap houses_rules top) solves in
-    subst (λ (f : Option (List ℕ)). IfSome f (λ g. IsSolution (all_given c r true g) g))
+    subst (λ (f : Option (List ℕ)). IfSome f (λ g. IsSoloSolution (all_given c r true g) g))
     (sym (ap (λ (q : Option (List ℕ) × Stream). q.0) flipped ∙ ap (λ m. (flipped_by_draw m found t).0) is))
     (flipped-found c r numbers size order found t good)

@@ -11,7 +11,7 @@ use Rattle.engine_core.specs.Verdict.{Outcome, Outcome.NoGrid, Outcome.OneGrid, 
 use Rattle.pattern_core.specs.Faults.{IsCheck}
 use Rattle.pattern_core.specs.declared.fault.PatternFault.{PatternFault}
 use Rattle.pattern_core.specs.LineRules.{line_rules}
-use Rattle.pattern_core.specs.Solutions.{IsSolution}
+use Rattle.pattern_core.specs.Solutions.{IsPatternSolution}
 use Rattle.maker_core.specs.Made.{is_one, has_one}
 use Rattle.maker_core.specs.Switch.{HasOther}
 use Rattle.maker_core.proofs.PutBack.{set_back}
@@ -27,7 +27,7 @@ pub undone : (g h back k : List ℕ) (i u was : ℕ) → h ≡ slice_set g i u �
 undone g h back k i u was e is same f = f ∙ (ap (λ xs. slice_set xs i was) (same ∙ e) ∙ set_back g i u was 0 (sym is))
 
 -- no fault was told
-pub solved_by : (p : Pattern) (g : List ℕ) (fault : Option PatternFault) (told : Bool) → IsCheck p g fault → is_some fault ≡ not told → told ≡ true → IsSolution p g
+pub solved_by : (p : Pattern) (g : List ℕ) (fault : Option PatternFault) (told : Bool) → IsCheck p g fault → is_some fault ≡ not told → told ≡ true → IsPatternSolution p g
 solved_by p g None told good e on = good
 solved_by p g (Some fault) told wrong e on = absurd (true≢false (e ∙ ap not on))
 
@@ -46,8 +46,8 @@ two_fail rules g h (TwoGrids first second) true_of sg sh ne = refl
 two_fail rules g h (OutOfBudget first) true_of sg sh ne = refl
 
 pub other_fails : (p : Pattern) (g : List ℕ) (budget : ℕ)
-    → ((q : Pattern) (h : List ℕ) → IsGrid (q.size.w * q.size.h) 2 h → (IsTrue ((line_rules q).is_solution h)) ↔ IsSolution q h)
-    → IsTrueOf (line_rules p) (verdict_of (line_rules p) budget) → IsSolution p g → HasOther p g → has_one (line_rules p) budget ≡ false
+    → ((q : Pattern) (h : List ℕ) → IsGrid (q.size.w * q.size.h) 2 h → (IsTrue ((line_rules q).is_solution h)) ↔ IsPatternSolution q h)
+    → IsTrueOf (line_rules p) (verdict_of (line_rules p) budget) → IsPatternSolution p g → HasOther p g → has_one (line_rules p) budget ≡ false
 other_fails p g budget accepted true_of good other =
-    let solves : (h : List ℕ) → IsSolution p h → Solves (line_rules p) h = λ h s. record { grid = s.grid; good = (accepted p h s.grid).1 s } in
+    let solves : (h : List ℕ) → IsPatternSolution p h → Solves (line_rules p) h = λ h s. record { grid = s.grid; good = (accepted p h s.grid).1 s } in
     two_fail (line_rules p) g other.0 (verdict_of (line_rules p) budget) true_of (solves g good) (solves other.0 other.1) other.2

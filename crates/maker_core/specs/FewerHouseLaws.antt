@@ -4,41 +4,41 @@ use Rattle.std.proofs.Math.Nat.{le_refl, max-le}
 use Rattle.std.proofs.lemmas.List.{length-append, get_or_append_left, get_or-append-add}
 use Rattle.engine_core.specs.Puzzle.{longest}
 use Rattle.engine_core.proofs.StoreLemmas.{scope_le-longest}
-use Rattle.fields_core.specs.CountHouse.{House, no_house, house_of, houses_below}
+use Rattle.fields_core.specs.CountHouse.{CountHouse, no_count_house, count_house_of, houses_below}
 use Rattle.fields_core.proofs.LightHouseLaws.{EachOf, each-append}
 
 -- the house has at most m cells
-abbrev pub IsShort : ℕ → House → Type 0
+abbrev pub IsShort : ℕ → CountHouse → Type 0
 IsShort m house = length house.places ≤ m
 
-pub record IsFewer (xs ys : List House) : Type 0 where
+pub record IsFewer (xs ys : List CountHouse) : Type 0 where
   pub fewer : length xs ≤ length ys
   pub short : (m : ℕ) → EachOf (IsShort m) ys → EachOf (IsShort m) xs
 
-pub fewer_itself : (xs : List House) → IsFewer xs xs
+pub fewer_itself : (xs : List CountHouse) → IsFewer xs xs
 fewer_itself xs = record { fewer = le_refl _; short = λ m each. each }
 
-fewer_none : (xs : List House) → IsFewer [] xs
+fewer_none : (xs : List CountHouse) → IsFewer [] xs
 fewer_none xs = record { fewer = omega arith; short = λ m each h lt. absurd (omega arith) }
 
-front : (P : House → Type 0) (xs ys : List House) → EachOf P (xs ++ ys) → EachOf P xs
-front P xs ys each h lt = subst P (get_or_append_left xs ys no_house h lt) (each h (omega (arith, lt, length-append xs ys)))
+front : (P : CountHouse → Type 0) (xs ys : List CountHouse) → EachOf P (xs ++ ys) → EachOf P xs
+front P xs ys each h lt = subst P (get_or_append_left xs ys no_count_house h lt) (each h (omega (arith, lt, length-append xs ys)))
 
-back : (P : House → Type 0) (xs ys : List House) → EachOf P (xs ++ ys) → EachOf P ys
-back P xs ys each h lt = subst P (get_or-append-add xs ys h no_house) (each (length xs + h) (omega (arith, lt, length-append xs ys)))
+back : (P : CountHouse → Type 0) (xs ys : List CountHouse) → EachOf P (xs ++ ys) → EachOf P ys
+back P xs ys each h lt = subst P (get_or-append-add xs ys h no_count_house) (each (length xs + h) (omega (arith, lt, length-append xs ys)))
 
-pub fewer_append : (xs ys us vs : List House) → IsFewer xs ys → IsFewer us vs → IsFewer (xs ++ us) (ys ++ vs)
+pub fewer_append : (xs ys us vs : List CountHouse) → IsFewer xs ys → IsFewer us vs → IsFewer (xs ++ us) (ys ++ vs)
 fewer_append xs ys us vs first second = record {
   fewer = omega (arith, first.fewer, second.fewer, length-append xs us, length-append ys vs);
   short = λ m each. each-append (IsShort m) xs us (first.short m (front (IsShort m) ys vs each)) (second.short m (back (IsShort m) ys vs each));
 }
 
-fewer_at : (xs ys : List House) → (xs ≡ ys) ⊎ (xs ≡ []) → IsFewer xs ys
+fewer_at : (xs ys : List CountHouse) → (xs ≡ ys) ⊎ (xs ≡ []) → IsFewer xs ys
 fewer_at xs ys (inl same) = subst (λ zs. IsFewer xs zs) same (fewer_itself xs)
 fewer_at xs ys (inr none) = subst (λ zs. IsFewer zs ys) (sym none) (fewer_none ys)
 
 -- at each number the same houses or none
-pub fewer_below : (f f' : ℕ → List House) (n : ℕ) → ((c : ℕ) → (f c ≡ f' c) ⊎ (f c ≡ [])) → IsFewer (houses_below f n) (houses_below f' n)
+pub fewer_below : (f f' : ℕ → List CountHouse) (n : ℕ) → ((c : ℕ) → (f c ≡ f' c) ⊎ (f c ≡ [])) → IsFewer (houses_below f n) (houses_below f' n)
 unfolding houses_below
 fewer_below f f' zero each = fewer_itself []
 fewer_below f f' (suc n) each = fewer_append (houses_below f n) (houses_below f' n) (f n) (f' n) (fewer_below f f' n each) (fewer_at (f n) (f' n) (each n))
@@ -48,6 +48,6 @@ unfolding longest
 longest_at_most scope zero m each = omega arith
 longest_at_most scope (suc n) m each = max-le (longest_at_most scope n m (λ h lt. each h (omega arith))) (each n (omega arith))
 
-pub longest_of_fewer : (xs ys : List House) → IsFewer xs ys → longest (λ h. (house_of xs h).places) (length xs) ≤ longest (λ h. (house_of ys h).places) (length ys)
+pub longest_of_fewer : (xs ys : List CountHouse) → IsFewer xs ys → longest (λ h. (count_house_of xs h).places) (length xs) ≤ longest (λ h. (count_house_of ys h).places) (length ys)
 longest_of_fewer xs ys less =
-    longest_at_most (λ h. (house_of xs h).places) (length xs) _ (less.short _ (λ h lt. scope_le-longest (λ k. (house_of ys k).places) (length ys) h lt))
+    longest_at_most (λ h. (count_house_of xs h).places) (length xs) _ (less.short _ (λ h lt. scope_le-longest (λ k. (count_house_of ys k).places) (length ys) h lt))

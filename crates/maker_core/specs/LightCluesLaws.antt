@@ -16,7 +16,7 @@ use Rattle.gameid_core.specs.Puzzles.{Light}
 use Rattle.gameid_core.specs.declared.light_cell.LightCell.{LightCell}
 use Rattle.gameid_core.specs.declared.light_cell.LightCell.TheVariants.{White, Black, Numbered}
 use Rattle.engine_core.specs.Verdict.{Solves}
-use Rattle.fields_core.specs.CountHouse.{House, houses_below}
+use Rattle.fields_core.specs.CountHouse.{CountHouse, houses_below}
 use Rattle.fields_core.specs.Light.{light_cells, is_white, white, bulb, clear, joined_in_row, joined_in_column, sees, sees_bulb, bulbs_beside, number_is, black_right, number_right, bulb_right, lit_right, is_lit}
 use Rattle.fields_core.specs.LightHouses.{row_run, column_run, seen_from, begins_row_run, begins_column_run, numbered, number_house, light_houses, light_rules}
 use Rattle.maker_core.specs.Thinning.{IsThinnedFrom, IsGame}
@@ -109,21 +109,21 @@ solutions_stay p q g w s = record {
 }
 
 -- ---- houses and needs
-row_run_house : Extent → (ℕ → Bool) → ℕ → List House
+row_run_house : Extent → (ℕ → Bool) → ℕ → List CountHouse
 row_run_house size wh c =
     cond (wh c && (eqb (c % size.w) 0 || not (wh (c - 1)))) (record { places = filter (row_joined size wh c) (row_places size (c / size.w)); least = 0; most = 1 } ∷ []) []
 
-column_run_house : Extent → (ℕ → Bool) → ℕ → List House
+column_run_house : Extent → (ℕ → Bool) → ℕ → List CountHouse
 column_run_house size wh c =
     cond (wh c && (eqb (c / size.w) 0 || not (wh (c - size.w)))) (record { places = filter (column_joined size wh c) (column_places size (c % size.w)); least = 0; most = 1 } ∷ []) []
 
 seen_places : Extent → (ℕ → Bool) → ℕ → List ℕ
 seen_places size wh c = filter (row_joined size wh c) (row_places size (c / size.w)) ++ filter (λ d. not (eqb d c)) (filter (column_joined size wh c) (column_places size (c % size.w)))
 
-seen_house : Extent → (ℕ → Bool) → ℕ → List House
+seen_house : Extent → (ℕ → Bool) → ℕ → List CountHouse
 seen_house size wh c = cond (wh c) (record { places = seen_places size wh c; least = 1; most = length (seen_places size wh c) } ∷ []) []
 
-houses_but_numbers : Extent → (ℕ → Bool) → List House
+houses_but_numbers : Extent → (ℕ → Bool) → List CountHouse
 houses_but_numbers size wh =
     houses_below (row_run_house size wh) (size.w * size.h)
     ++ (houses_below (column_run_house size wh) (size.w * size.h)

@@ -5,7 +5,7 @@ use Rattle.grid_core.specs.Extent.{Extent}
 use Rattle.gameid_core.specs.Lines.{lines_runs}
 use Rattle.gameid_core.specs.Puzzles.{Pattern}
 use Rattle.pattern_core.specs.LineRules.{line_rules}
-use Rattle.pattern_core.specs.Solutions.{IsSolution}
+use Rattle.pattern_core.specs.Solutions.{IsPatternSolution}
 use Rattle.maker_core.specs.Draws.{Making, black_cells, IsFirstPassing, filling_at}
 use Rattle.maker_core.specs.Made.{has_one, TellsOne, IsOnlySolution}
 use Rattle.maker_core.specs.declared.made.Kept.{Kept}
@@ -29,6 +29,6 @@ pub record IsPatternMade (size : Extent) (black budget tries : ℕ) (s : Stream)
   pub first : IsFirstPassing (pattern_filling size black) (pattern_passes size budget) s tries k
   pub filled : g ≡ filling_at (pattern_filling size black) k s
   pub clues : p ≡ clued_by size g
-  pub only : IsOnlySolution (IsSolution p) g
+  pub only : IsOnlySolution (IsPatternSolution p) g
   pub verdict : TellsOne (line_rules p) budget g
   pub unthinned : kept ≡ []

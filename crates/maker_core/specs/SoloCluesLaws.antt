@@ -12,10 +12,10 @@ use Rattle.engine_core.specs.Verdict.{Solves}
 use Rattle.solo_core.specs.RuleSets.{houses_rules}
 use Rattle.solo_core.specs.declared.solo_house.SoloHouse.{SoloHouse}
 use Rattle.solo_core.specs.declared.solo_house.SoloHouse.TheVariants.{Row, Column, Block, Diagonal}
-use Rattle.solo_core.specs.Cells.{cells_of}
+use Rattle.solo_core.specs.Cells.{solo_cells}
 use Rattle.solo_core.specs.Houses.{houses_of, IsHouseOf, lies_in, places_of}
 use Rattle.solo_core.specs.NoRepeat.{no_repeat}
-use Rattle.solo_core.specs.Solutions.{IsSolution, given_stands, numbers_of, is_solution}
+use Rattle.solo_core.specs.Solutions.{IsSoloSolution, given_stands, numbers_of, is_solo_solution}
 use Rattle.solo_core.specs.SolutionLaws.{given_from_test, test_from_given}
 use Rattle.maker_core.specs.SoloFilling.{all_given}
 use Rattle.maker_core.specs.Thinning.{IsThinnedFrom, IsGame}
@@ -78,7 +78,7 @@ given_stays p givens g place clues stands low =
     stands (omega (arith, low, same)) ∙ same
 
 -- what differs in a puzzle of the same size differs in the puzzle
-pub solution_stays : (p : Solo) (givens g : List ℕ) → HasClues p givens → IsSolution (solo_puzzle p.c p.r p.x givens) g → IsSolution p g
+pub solution_stays : (p : Solo) (givens g : List ℕ) → HasClues p givens → IsSoloSolution (solo_puzzle p.c p.r p.x givens) g → IsSoloSolution p g
 solution_stays p givens g clues s = record {
   grid = s.grid;
   givens = λ place below. given_stays p givens g place clues (s.givens place below);
@@ -87,17 +87,17 @@ solution_stays p givens g clues s = record {
 }
 
 -- each solution of a puzzle with more givens is one of the puzzle
-pub solved_by_fewer : (p q : Solo) (g : List ℕ) → IsThinnedFrom solo_game p q → IsSolution q g → IsSolution p g
-solved_by_fewer p q g w s = solution_stays p q.givens g w.clues (subst (λ x. IsSolution x g) (resized p q w.frame) s)
+pub solved_by_fewer : (p q : Solo) (g : List ℕ) → IsThinnedFrom solo_game p q → IsSoloSolution q g → IsSoloSolution p g
+solved_by_fewer p q g w s = solution_stays p q.givens g w.clues (subst (λ x. IsSoloSolution x g) (resized p q w.frame) s)
 
-test_stays : (p : Solo) (givens g : List ℕ) → HasClues p givens → is_solution (solo_puzzle p.c p.r p.x givens) g ≡ true → is_solution p g ≡ true
-unfolding is_solution
+test_stays : (p : Solo) (givens g : List ℕ) → HasClues p givens → is_solo_solution (solo_puzzle p.c p.r p.x givens) g ≡ true → is_solo_solution p g ≡ true
+unfolding is_solo_solution
 test_stays p givens g clues on =
     let q = solo_puzzle p.c p.r p.x givens in
-    let parts = and_parts (all_below (given_stands q g) (cells_of q)) _ on in
+    let parts = and_parts (all_below (given_stands q g) (solo_cells q)) _ on in
     and_from _ _
-    (all_below-from (given_stands p g) (cells_of p) (λ place below.
-    test_from_given p g place (given_stays p givens g place clues (given_from_test q g place (all_below-at (given_stands q g) (cells_of q) place parts.0 below)))))
+    (all_below-from (given_stands p g) (solo_cells p) (λ place below.
+    test_from_given p g place (given_stays p givens g place clues (given_from_test q g place (all_below-at (given_stands q g) (solo_cells q) place parts.0 below)))))
     (same_tests ∙ parts.1)
   where
     same_tests : list_all (λ house. no_repeat (numbers_of p g house)) (houses_of p) ≡ list_all (λ house. no_repeat (numbers_of (solo_puzzle p.c p.r p.x givens) g house)) (houses_of p)

@@ -4,7 +4,7 @@ use Rattle.rand_core.specs.Stream.{Stream}
 use Rattle.gameid_core.specs.Head.{max_numbers}
 use Rattle.gameid_core.specs.Puzzles.{Solo}
 use Rattle.solo_core.specs.RuleSets.{houses_rules}
-use Rattle.solo_core.specs.Solutions.{IsSolution}
+use Rattle.solo_core.specs.Solutions.{IsSoloSolution}
 use Rattle.maker_core.specs.Draws.{Making, IsFirstPassing, filling_at}
 use Rattle.maker_core.specs.Made.{has_one, TellsOne, IsOnlySolution}
 use Rattle.maker_core.specs.SoloClues.{solo_game}
@@ -45,6 +45,6 @@ pub record IsSoloMade (c r : ℕ) (x : Bool) (budget tries : ℕ) (s : Stream) (
   pub rows : p.r ≡ r
   pub diagonals : p.x ≡ x
   pub givens : IsThinnedFrom solo_game p (all_given c r x g)
-  pub only : IsOnlySolution (IsSolution p) g
+  pub only : IsOnlySolution (IsSoloSolution p) g
   pub verdict : TellsOne (houses_rules p) budget g
   pub reasons : AreReasons solo_game budget (all_given c r x g) p kept

@@ -3,11 +3,11 @@ use Rattle.std.specs.Prelude.{◌≡◌, ◌≢◌, ℕ, ◌-◌, ◌<◌, ◌�
 use Rattle.grid_core.specs.Extent.{Extent}
 use Rattle.grid_core.specs.Regions.{row_places}
 use Rattle.gameid_core.specs.Puzzles.{Pattern}
-use Rattle.pattern_core.specs.Solutions.{IsSolution}
+use Rattle.pattern_core.specs.Solutions.{IsPatternSolution}
 
 -- another grid is a solution
 abbrev pub HasOther : Pattern → List ℕ → Type 0
-HasOther p g = (h : List ℕ) × IsSolution p h × (h ≢ g)
+HasOther p g = (h : List ℕ) × IsPatternSolution p h × (h ≢ g)
 
 -- the number in a column and a row
 abbrev pub cell_of : Extent → List ℕ → ℕ → ℕ → ℕ

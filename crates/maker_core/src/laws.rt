@@ -5,7 +5,7 @@ ghost use Rattle.rand_core.specs.Stream.{Stream};
 ghost use Rattle.grid_core.specs.Extent.{Extent, IsExtent};
 ghost use Rattle.grid_core.specs.Grids.{IsGrid};
 ghost use Rattle.gameid_core.specs.Puzzles.{Solo, Light};
-ghost use Rattle.solo_core.specs.Solutions.{IsSolution};
+ghost use Rattle.solo_core.specs.Solutions.{IsSoloSolution};
 ghost use Rattle.fields_core.specs.Light.{is_lit};
 ghost use Rattle.fields_core.specs.TentSolutions.{IsTentSolution};
 ghost use Rattle.maker_core.specs.Draws.{HasWords, filling_at};
@@ -16,7 +16,7 @@ ghost use Rattle.maker_core.specs.LightClues.{light_game};
 
 /// Where each clue of a puzzle is a clue of another one, each solution of the other one is one of the puzzle.
 pub fn fewer_clues_keep_solutions()
-    ensures solo { (p q : Solo) (g : List ℕ) → IsThinnedFrom solo_game p q → IsSolution q g → IsSolution p g }
+    ensures solo { (p q : Solo) (g : List ℕ) → IsThinnedFrom solo_game p q → IsSoloSolution q g → IsSoloSolution p g }
     ensures lights { (p q : Light) (g : List ℕ) → IsThinnedFrom light_game p q → is_lit q g ≡ true → is_lit p g ≡ true }
 {}
 

@@ -3,7 +3,7 @@
 ghost use Rattle.std.specs.Prelude.{◌≡◌, ◌≢◌, ◌≤◌, ◌*◌, ◌⊎◌, true, Err, IfOk};
 ghost use Rattle.grid_core.specs.Grids.{IsGrid};
 ghost use Rattle.pattern_core.specs.LineRules.{line_rules};
-ghost use Rattle.pattern_core.specs.Solutions.{IsSolution};
+ghost use Rattle.pattern_core.specs.Solutions.{IsPatternSolution};
 ghost use Rattle.maker_core.specs.declared.made.MakeFault.TheVariants.{Exhausted, SizeRange};
 ghost use Rattle.maker_core.specs.Draws.{AreAll, IsAfterFirst, NonePasses, stream_after};
 ghost use Rattle.maker_core.specs.Made.{TellsOne, IsOnlySolution};
@@ -23,7 +23,7 @@ use std::alloc::{AllocError, Global};
 pub(crate) fn puzzle_of(alloc: Global, size: Size, grid: &Grid) -> Result<PatternPuzzle, AllocError>
     requires { IsGrid (size.w * size.h) 2 grid.now }
     ensures puzzle { IfOk result (λ p. p ≡ clued_by size grid.now) }
-    ensures solved { IfOk result (λ p. IsSolution p grid.now) }
+    ensures solved { IfOk result (λ p. IsPatternSolution p grid.now) }
 {
     let puzzle = PatternPuzzle::of_grid(alloc, size, grid)?;
     let _size = puzzle.size();
@@ -39,9 +39,9 @@ fn passes(
     budget: u64,
 ) -> Result<bool, AllocError>
     requires puzzle { puzzle.now ≡ clued_by puzzle.now.size answer.old }
-    requires solved { IsSolution puzzle.now answer.old }
+    requires solved { IsPatternSolution puzzle.now answer.old }
     ensures verdict { IfOk result (λ unique. unique ≡ pattern_passes puzzle.now.size budget answer.old) }
-    ensures only { IfOk result (λ unique. unique ≡ true → IsOnlySolution (IsSolution puzzle.now) answer.old) }
+    ensures only { IfOk result (λ unique. unique ≡ true → IsOnlySolution (IsPatternSolution puzzle.now) answer.old) }
     ensures found { IfOk result (λ unique. unique ≡ true → TellsOne (line_rules puzzle.now) budget answer.old) }
     ensures plain { AreAll 0 answer.old ⊎ AreAll 1 answer.old → IfOk result (λ unique. unique ≡ true) }
     ensures same { answer.new ≡ answer.old }

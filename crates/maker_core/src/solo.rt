@@ -1,7 +1,7 @@
 //! The maker of Solo.
 
 ghost use Rattle.std.specs.Prelude.{◌≡◌, ◌↔◌, ℕ, suc, false, IsTrue, Err, IfOk, IfSome};
-ghost use Rattle.solo_core.specs.Solutions.{IsSolution};
+ghost use Rattle.solo_core.specs.Solutions.{IsSoloSolution};
 ghost use Rattle.maker_core.specs.declared.made.MakeFault.TheVariants.{Exhausted, SizeRange};
 ghost use Rattle.maker_core.specs.Draws.{IsFirstPassing, NonePasses, stream_after};
 ghost use Rattle.maker_core.specs.SoloClues.{solo_game};
@@ -90,7 +90,7 @@ fn fill_solo<G: Rng>(
     ensures filling { IfOk result (λ filling. (filling, G.stream rng.new)
         ≡ solo_filling c r x budget (G.stream rng.old)) }
     ensures solution { IfOk result (λ filling.
-        IfSome filling (λ grid. IsSolution (all_given c r x grid) grid)) }
+        IfSome filling (λ grid. IsSoloSolution (all_given c r x grid) grid)) }
 {
     if x {
         fill_x(alloc, c, r, rng, budget)

@@ -3,7 +3,7 @@
 ghost use Rattle.std.specs.Prelude.{◌≡◌, ◌+◌, ◌*◌, ◌<◌, ◌≤◌, false, slice_index, IfOk};
 ghost use Rattle.grid_core.specs.Grids.{IsGrid};
 ghost use Rattle.gameid_core.specs.Head.{max_numbers};
-ghost use Rattle.solo_core.specs.Solutions.{IsSolution};
+ghost use Rattle.solo_core.specs.Solutions.{IsSoloSolution};
 ghost use Rattle.maker_core.specs.Draws.{shuffled_order};
 ghost use Rattle.maker_core.specs.SoloOrders.{IsOrder, IsLineOrder};
 ghost use Rattle.maker_core.specs.SoloFilling.{group_added, line_order as lines_of_order, rearranged, plain_filling, all_given};
@@ -31,7 +31,7 @@ pub(crate) fn fill_plain<G: Rng>(
     requires { IsSoloSize c r }
     ensures filling { IfOk result
         (λ grid. (grid, G.stream rng.new) ≡ plain_filling c r (G.stream rng.old)) }
-    ensures solution { IfOk result (λ grid. IsSolution (all_given c r false grid) grid) }
+    ensures solution { IfOk result (λ grid. IsSoloSolution (all_given c r false grid) grid) }
 {
     let tall = usize::from(c);
     let wide = usize::from(r);
@@ -121,7 +121,7 @@ fn rearrange(
     requires rows { IsLineOrder r c rows.now }
     requires columns { IsLineOrder c r columns.now }
     ensures grid { IfOk result (λ grid. grid ≡ rearranged c r numbers.now rows.now columns.now) }
-    ensures solution { IfOk result (λ grid. IsSolution (all_given c r false grid) grid) }
+    ensures solution { IfOk result (λ grid. IsSoloSolution (all_given c r false grid) grid) }
 {
     let cells = c * r * (c * r);
     let mut grid = Grid::new(alloc, cells)?;

@@ -2,7 +2,7 @@
 
 ghost use Rattle.std.specs.Prelude.{◌≡◌, ◌*◌, ◌≤◌, true, option_map, Some, length, List, ℕ, IfOk, IfSome};
 ghost use Rattle.gameid_core.specs.Head.{max_numbers};
-ghost use Rattle.solo_core.specs.Solutions.{IsSolution};
+ghost use Rattle.solo_core.specs.Solutions.{IsSoloSolution};
 ghost use Rattle.maker_core.specs.SoloOrders.{IsOrder};
 ghost use Rattle.maker_core.specs.SoloFilling.{all_given};
 ghost use Rattle.maker_core.specs.SoloMaking.{IsSoloSize};
@@ -36,7 +36,7 @@ pub(crate) fn fill_x<G: Rng>(
     ensures filling { IfOk result (λ filling. (filling, G.stream rng.new)
         ≡ x_filling c r budget (G.stream rng.old)) }
     ensures solution { IfOk result (λ filling.
-        IfSome filling (λ grid. IsSolution (all_given c r true grid) grid)) }
+        IfSome filling (λ grid. IsSoloSolution (all_given c r true grid) grid)) }
 {
     let n = usize::from(c) * usize::from(r);
     let numbers = order(alloc, rng, n)?;

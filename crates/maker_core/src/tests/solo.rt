@@ -3,7 +3,7 @@
 ghost use Rattle.std.specs.Prelude.{IfOk};
 ghost use Rattle.grid_core.specs.Grids.{IsGrid};
 ghost use Rattle.gameid_core.specs.Puzzles.{solo_n};
-ghost use Rattle.solo_core.specs.Cells.{cells_of};
+ghost use Rattle.solo_core.specs.Cells.{solo_cells};
 
 use crate::made::{Limits, Made, MakeFault, Why};
 use crate::solo::make_solo;
@@ -35,7 +35,7 @@ fn made(
     budget: u64,
     tries: u32,
 ) -> Result<Made<SoloPuzzle>, MakeFault>
-    ensures { IfOk result (λ made. IsGrid (cells_of made.puzzle) (solo_n made.puzzle) made.answer) }
+    ensures { IfOk result (λ made. IsGrid (solo_cells made.puzzle) (solo_n made.puzzle) made.answer) }
 {
     let mut key = [0; 32];
     key[0] = 1;

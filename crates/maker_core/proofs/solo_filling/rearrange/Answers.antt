@@ -1,6 +1,6 @@
 use Rattle.std.proofs.Common.{◌≡◌, ◌*◌, sym, ◌∙◌, subst, length, slice_index, ℕ, ◌<◌, ◌≤◌, List, false, arith}
 use Rattle.std.proofs.lemmas.Grind.{same_number_lists}
-use Rattle.solo_core.specs.Solutions.{IsSolution}
+use Rattle.solo_core.specs.Solutions.{IsSoloSolution}
 use Rattle.maker_core.specs.SoloFilling.{rearranged, all_given}
 use Rattle.maker_core.proofs.SoloSolution.{length-rearranged, is_solution_of_all}
 use Rattle.maker_core.proofs.solo_filling.rearrange.Goals as goal
@@ -18,6 +18,6 @@ pub returns-clause-solution : goal.returns-clause-solution
 returns-clause-solution c =
     let a = c.args in
     let r = c.requires in
-    subst (λ g. IsSolution (all_given a.c a.r false g) g)
+    subst (λ g. IsSoloSolution (all_given a.c a.r false g) g)
     (sym (whole a.c a.r a.numbers.now a.rows.now a.columns.now c.loop-place.grid c.loop-place.place c.loop-place.invariant.long (omega arith) c.loop-place.invariant.same))
     (is_solution_of_all a.c a.r r.c_some r.r_some a.numbers.now a.rows.now a.columns.now r.numbers r.rows r.columns)
