@@ -1,17 +1,15 @@
 -- Each text has an answer: by cases on its reading, and then on the verdict, which is right.
-use Rattle.std.proofs.Common.{◌≡◌, ◌⊎◌, ℕ, List, Result, Ok, Err, Some, None, inl, inr, refl}
-use Rattle.std.specs.Prelude.{◌↔◌, IfOk}
+use Rattle.std.proofs.Common.{◌≡◌, ◌⊎◌, ℕ, List, Result, Err, Some, None, inl, inr, refl}
+use Rattle.std.specs.Prelude.{◌↔◌}
 use Rattle.engine_core.specs.Puzzle.{Puzzle}
 use Rattle.engine_core.specs.Verdict.{Outcome, Outcome.NoGrid, Outcome.OneGrid, Outcome.TwoGrids, Outcome.OutOfBudget, verdict_of, IsTrueOf, Solves}
 use Rattle.gameid_core.specs.declared.fault.IdFault.{IdFault}
 use Rattle.grid_core.specs.Extent.{Extent}
 use Rattle.puzzles.specs.Answers.{Answer, Text}
 use Rattle.gameid_core.specs.GridTexts.{grid_text}
-use Rattle.puzzles.specs.IdAnswers.{AllowsId, AllowsRead}
+use Rattle.puzzles.specs.IdAnswers.{AllowsId}
 use Rattle.puzzles.specs.Solving.{IsSolved}
-use Rattle.puzzles.specs.Replies.{answer_in}
 use Rattle.puzzles.specs.Verdicts.{IsRight, verdict_answer}
-use Rattle.puzzles.specs.declared.reply.Reply.{Reply}
 
 -- what is true of the grids that the rules accept is right of the solutions, where these are the same
 pub right_of : (p : Puzzle) (solves : List ℕ → Type 0) (o : Outcome) → ((g : List ℕ) → Solves p g ↔ solves g) → IsTrueOf p o → IsRight solves o
@@ -29,14 +27,11 @@ module _ {P : Type 0} (solves : P → List ℕ → Type 0) (rules : P → Puzzle
   answer_of reading spells (inl s) right = (_, inr (record { puzzle = s.0; spelled = s.1; allowed = record { right = right s.0 s.1; told = refl } }))
   answer_of reading spells (inr f) right = (_, inl (record { fault = f.0; first = f.1; told = refl }))
 
-  -- a search by the rules of a puzzle that was read tells what is allowed
-  pub solved_of : {E : Type 0} (read : Result P IdFault) (p : P) (q : Puzzle) (result : Result Reply E) → read ≡ Ok p → q ≡ rules p
-      → ((g : List ℕ) → Solves (rules p) g ↔ solves p g)
-      → IfOk result (λ r. answer_in r ≡ verdict_answer (λ g. grid_text (cell p g) (size p)) (verdict_of q budget))
-      → IfOk result (λ r. IsTrueOf q (verdict_of q budget))
-      → IfOk result (λ r. AllowsRead read (λ p. IsSolved (solves p) (rules p) (cell p) (size p) budget) (answer_in r))
-  solved_of read p q (Err e) is same accepted told right = tt
-  solved_of read p q (Ok r) is same accepted told right = rw is (record {
+  -- a search by the rules of a puzzle tells what is allowed
+  pub solved_of : (p : P) (q : Puzzle) (a : Answer) → q ≡ rules p → ((g : List ℕ) → Solves (rules p) g ↔ solves p g)
+      → a ≡ verdict_answer (λ g. grid_text (cell p g) (size p)) (verdict_of q budget) → IsTrueOf q (verdict_of q budget)
+      → IsSolved (solves p) (rules p) (cell p) (size p) budget a
+  solved_of p q a same accepted told right = record {
     right = right_of (rules p) (solves p) _ accepted (rw same at right);
     told = rw same at told;
-  })
+  }

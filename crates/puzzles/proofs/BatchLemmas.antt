@@ -9,6 +9,7 @@ use Rattle.puzzles.specs.Answers.{Answer, Begins, BeginsAnswer, Text}
 use Rattle.puzzles.specs.Each.{AllowsEach, Answered, Begun, HasAnswers, Stopped, both, silence}
 use Rattle.puzzles.specs.Batches.{Batched}
 use Rattle.puzzles.specs.LineStates.{Holds}
+use Rattle.puzzles.specs.Statuses.{code_of}
 use Rattle.puzzles.specs.declared.batch.Batch.{Batch}
 
 parts_at : (p : Text) (parts : List Text) → 0 < length parts → lines_of_parts (p ∷ parts) ≡ strip_carriage_return p ∷ lines_of_parts parts
@@ -38,17 +39,17 @@ module _ (allows : Text → Answer → Type 0) where
     -- with the answer to a line that ends here, which the lines after it follow
     after_line : (start now : S) (batch : Batch) (seen : Text) (x : Answer) (b : Batched takes allows start batch seen now)
         → allows (strip_carriage_return b.piece) x → (rest : Text) (z : Answer) → AllowsEach allows (lines rest) z
-        → AllowsEach allows (lines ((seen ++ 10 ∷ []) ++ rest)) (both (record { text = b.written; status = batch.status }) (both x z))
+        → AllowsEach allows (lines ((seen ++ 10 ∷ []) ++ rest)) (both (record { text = b.written; status = code_of batch.status }) (both x z))
     after_line start now batch seen x b allowed rest z h =
         let here : AllowsEach allows (strip_carriage_return b.piece ∷ lines rest) (both x z) = (x, z, allowed, h, refl) in
         let whole : AllowsEach allows (lines (b.piece ++ 10 ∷ rest)) (both x z) =
         subst (λ (ls : List Text). AllowsEach allows ls (both x z)) (sym (lines_at b.piece rest b.in_line)) here in
-        subst (λ (t : Text). AllowsEach allows (lines t) (both (record { text = b.written; status = batch.status }) (both x z)))
+        subst (λ (t : Text). AllowsEach allows (lines t) (both (record { text = b.written; status = code_of batch.status }) (both x z)))
         (sym (append_assoc seen (10 ∷ []) rest)) (b.goes_on (10 ∷ rest) (both x z) whole)
 
     pub step_answered : (start now new : S) (batch next : Batch) (seen : Text) (x : Answer) → Batched takes allows start batch seen now
         → ((piece : Text) → Holds batch.line piece → allows (strip_carriage_return piece) x) → takes now x.text new
-        → Holds next.line [] → next.status ≡ max batch.status x.status → Batched takes allows start next (seen ++ 10 ∷ []) new
+        → Holds next.line [] → code_of next.status ≡ max (code_of batch.status) x.status → Batched takes allows start next (seen ++ 10 ∷ []) new
     step_answered start now new batch next seen x b allowed took holds status = record {
       piece = [];
       written = b.written ++ x.text;
@@ -56,7 +57,7 @@ module _ (allows : Text → Answer → Type 0) where
       in_line = All-nil (λ b. (b == 10) ≡ false);
       took = both_times start now new b.written x.text b.took took;
       goes_on = λ rest z h.
-          let regrouped : ◌≡◌ {A = Answer} (both (record { text = b.written; status = batch.status }) (both x z)) (both (record { text = b.written ++ x.text; status = next.status }) z) =
+          let regrouped : ◌≡◌ {A = Answer} (both (record { text = b.written; status = code_of batch.status }) (both x z)) (both (record { text = b.written ++ x.text; status = code_of next.status }) z) =
           ap₂ (λ (t : Text) (s : ℕ). record { text = t; status = s }) (sym (append_assoc b.written x.text z.text)) (omega arith) in
           subst (λ (a : Answer). AllowsEach allows (lines ((seen ++ 10 ∷ []) ++ rest)) a) regrouped (after_line start now batch seen x b (allowed b.piece b.holds) rest z h);
     }
@@ -82,13 +83,13 @@ module _ (allows : Text → Answer → Type 0) where
       took = b.took;
       begun = λ rest.
           let z = each_has answers (lines (b.piece ++ (more ++ rest))) in
-          let allowed = subst (λ (t : Text). AllowsEach allows (lines t) (both (record { text = b.written; status = batch.status }) z.0))
+          let allowed = subst (λ (t : Text). AllowsEach allows (lines t) (both (record { text = b.written; status = code_of batch.status }) z.0))
           (sym (append_assoc seen more rest)) (b.goes_on (more ++ rest) z.0 z.1) in
           inr (_, allowed, (z.0.text, refl));
     }
 
     pub step_in_line : (start now : S) (batch next : Batch) (seen : Text) (byte : ℕ) → (byte == 10) ≡ false → Batched takes allows start batch seen now
-        → ((piece : Text) → Holds batch.line piece → Holds next.line (piece ++ byte ∷ [])) → next.status ≡ batch.status
+        → ((piece : Text) → Holds batch.line piece → Holds next.line (piece ++ byte ∷ [])) → code_of next.status ≡ code_of batch.status
         → Batched takes allows start next (seen ++ byte ∷ []) now
     step_in_line start now batch next seen byte other b holds status = record {
       piece = b.piece ++ byte ∷ [];
@@ -98,13 +99,13 @@ module _ (allows : Text → Answer → Type 0) where
       took = b.took;
       goes_on = λ rest z h.
           let at : AllowsEach allows (lines (b.piece ++ byte ∷ rest)) z = subst (λ (t : Text). AllowsEach allows (lines t) z) (append_assoc b.piece (byte ∷ []) rest) h in
-          let moved = subst (λ (t : Text). AllowsEach allows (lines t) (both (record { text = b.written; status = batch.status }) z)) (sym (append_assoc seen (byte ∷ []) rest)) (b.goes_on (byte ∷ rest) z at) in
+          let moved = subst (λ (t : Text). AllowsEach allows (lines t) (both (record { text = b.written; status = code_of batch.status }) z)) (sym (append_assoc seen (byte ∷ []) rest)) (b.goes_on (byte ∷ rest) z at) in
           subst (λ (s : ℕ). AllowsEach allows (lines ((seen ++ byte ∷ []) ++ rest)) (both (record { text = b.written; status = s }) z)) (sym status) moved;
     }
 
     -- the end of the input, after a newline
     pub last_none : (start now : S) (batch : Batch) (seen : Text) → Batched takes allows start batch seen now
-        → ((piece : Text) → Holds batch.line piece → true ≡ (length piece == 0)) → Answered takes allows start batch.status seen now
+        → ((piece : Text) → Holds batch.line piece → true ≡ (length piece == 0)) → Answered takes allows start (code_of batch.status) seen now
     last_none start now batch seen b empty = record {
       written = b.written;
       took = b.took;
@@ -112,28 +113,28 @@ module _ (allows : Text → Answer → Type 0) where
           let lines_are : lines (b.piece ++ []) ≡ [] = ap lines (append-nil b.piece) ∙ lines_last b.piece b.in_line ∙ ap (λ t. if t then [] else b.piece ∷ []) (sym (empty b.piece b.holds)) in
           let here : AllowsEach allows (lines (b.piece ++ [])) silence = subst (λ (ls : List Text). AllowsEach allows ls silence) (sym lines_are) refl in
           let all = b.goes_on [] silence here in
-          let same : ◌≡◌ {A = Answer} (both (record { text = b.written; status = batch.status }) silence) (record { text = b.written; status = batch.status }) =
+          let same : ◌≡◌ {A = Answer} (both (record { text = b.written; status = code_of batch.status }) silence) (record { text = b.written; status = code_of batch.status }) =
           ap₂ (λ (t : Text) (s : ℕ). record { text = t; status = s }) (append-nil b.written) (omega arith) in
-          subst (λ (t : Text). AllowsEach allows (lines t) (record { text = b.written; status = batch.status })) (append-nil seen)
+          subst (λ (t : Text). AllowsEach allows (lines t) (record { text = b.written; status = code_of batch.status })) (append-nil seen)
           (subst (λ (a : Answer). AllowsEach allows (lines (seen ++ [])) a) same all);
     }
 
     -- with the answer to a last line that the end of the input ends
     after_last : (start now : S) (batch : Batch) (seen : Text) (x : Answer) (b : Batched takes allows start batch seen now)
         → false ≡ (length b.piece == 0) → allows b.piece x
-        → AllowsEach allows (lines seen) (record { text = b.written ++ x.text; status = max batch.status x.status })
+        → AllowsEach allows (lines seen) (record { text = b.written ++ x.text; status = max (code_of batch.status) x.status })
     after_last start now batch seen x b some allowed =
         let lines_are : lines (b.piece ++ []) ≡ b.piece ∷ [] = ap lines (append-nil b.piece) ∙ lines_last b.piece b.in_line ∙ ap (λ t. if t then [] else b.piece ∷ []) (sym some) in
         let one : AllowsEach allows (b.piece ∷ []) (both x silence) = (x, silence, allowed, refl, refl) in
         let here : AllowsEach allows (lines (b.piece ++ [])) (both x silence) = subst (λ (ls : List Text). AllowsEach allows ls (both x silence)) (sym lines_are) one in
-        let same : ◌≡◌ {A = Answer} (both (record { text = b.written; status = batch.status }) (both x silence)) (record { text = b.written ++ x.text; status = max batch.status x.status }) =
+        let same : ◌≡◌ {A = Answer} (both (record { text = b.written; status = code_of batch.status }) (both x silence)) (record { text = b.written ++ x.text; status = max (code_of batch.status) x.status }) =
         ap₂ (λ (t : Text) (s : ℕ). record { text = t; status = s }) (ap (λ t. b.written ++ t) (append-nil x.text)) (omega arith) in
-        subst (λ (t : Text). AllowsEach allows (lines t) (record { text = b.written ++ x.text; status = max batch.status x.status })) (append-nil seen)
+        subst (λ (t : Text). AllowsEach allows (lines t) (record { text = b.written ++ x.text; status = max (code_of batch.status) x.status })) (append-nil seen)
         (subst (λ (a : Answer). AllowsEach allows (lines (seen ++ [])) a) same (b.goes_on [] (both x silence) here))
 
     pub last_answered : (start now new : S) (batch : Batch) (seen : Text) (x : Answer) (status : ℕ) → Batched takes allows start batch seen now
         → ((piece : Text) → Holds batch.line piece → false ≡ (length piece == 0)) → ((piece : Text) → Holds batch.line piece → allows piece x)
-        → takes now x.text new → status ≡ max batch.status x.status → Answered takes allows start status seen new
+        → takes now x.text new → status ≡ max (code_of batch.status) x.status → Answered takes allows start status seen new
     last_answered start now new batch seen x status b some allowed took is = record {
       written = b.written ++ x.text;
       took = both_times start now new b.written x.text b.took took;

@@ -1,16 +1,7 @@
 -- Runs of `check` that leave their input unread, or that leave what is allowed.
-use Rattle.std.proofs.Common.{◌≡◌, inl, inr, ℕ, Bool, false, Result, Ok, Err, refl, true≢false}
-use Rattle.std.specs.Prelude.{IfOk, IfErr, is_ok}
-use Rattle.gameid_core.specs.declared.fault.IdFault.{IdFault}
+use Rattle.std.proofs.Common.{inl, inr, ℕ, Bool}
 use Rattle.puzzles.specs.Answers.{Answer, Text}
 use Rattle.puzzles.specs.Runs.{Ran}
-
--- what reads an ID that has a fault is refused, and leaves the input unread
-pub unread_fault : {P : Type 0} (spells : P → Type 0) (reading r : Result P IdFault) (calls : ℕ)
-    → IfOk r spells → ((p : P) (f : IdFault) → spells p → reading ≡ Err f → ⊥) → IfErr r (λ f. calls ≡ 0) → is_ok reading ≡ false → calls ≡ 0
-unread_fault spells (Ok q) (Ok p) calls spelled apart unread no_puzzle = absurd (true≢false no_puzzle)
-unread_fault spells (Err f) (Ok p) calls spelled apart unread no_puzzle = absurd (apart p f spelled refl)
-unread_fault spells reading (Err f) calls spelled apart unread no_puzzle = unread
 
 module _ {I O : Type 0} (gives : I → Text → I → Type 0) (has_ended : I → Bool) (takes : O → Text → O → Type 0)
     (some all : Text → Answer → Type 0) where

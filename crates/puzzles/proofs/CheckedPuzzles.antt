@@ -19,9 +19,9 @@ use Rattle.fields_core.specs.TentSolutions.{IsTentSolution}
 use Rattle.fields_core.proofs.LightRuleLemmas as light
 use Rattle.fields_core.proofs.TentRuleLemmas as tents
 use Rattle.pattern_core.specs.Faults.{IsCheck}
-use Rattle.pattern_core.specs.Solutions as pattern
+use Rattle.pattern_core.specs.Solutions.{IsPatternSolution}
 use Rattle.solo_core.specs.Faults.{IsFirstFault}
-use Rattle.solo_core.specs.Solutions as solo
+use Rattle.solo_core.specs.Solutions.{IsSoloSolution}
 use Rattle.puzzles.specs.Answers.{Text}
 use Rattle.puzzles.proofs.CellsOnce.{light_once, pattern_once, solo_once, tents_once}
 use Rattle.puzzles.proofs.FaultsOnce.{light_alone, light_some, pattern_alone, pattern_some, solo_alone, solo_some, tent_alone, tent_some}
@@ -57,7 +57,7 @@ hidden_zero cells g place grid never = elim (cases_lt place (length g)) [
   | inr past ↦ get_or_past g place 0 past
 ]
 
-pub pattern_checked : (p : Pattern) → IsPattern p → CheckedPuzzle hides_nothing 2 p.size (pattern_cell p) (IsCheck p) (pattern.IsSolution p)
+pub pattern_checked : (p : Pattern) → IsPattern p → CheckedPuzzle hides_nothing 2 p.size (pattern_cell p) (IsCheck p) (IsPatternSolution p)
 pattern_checked p ok = record {
   once = pattern_once p;
   text = λ g shown. grid_is_text (pattern_cell p g) p.size 1 (λ place lt. pattern_cell_text p g place) max_side ok.size.w_high ok.size.h_high (omega arith);
@@ -69,7 +69,7 @@ pattern_checked p ok = record {
   shown = λ g s. shows_all 2 p.size g s.grid;
 }
 
-pub solo_checked : (p : Solo) → IsSolo p → CheckedPuzzle hides_nothing (solo_n p) (solo_extent p) (solo_cell p) (IsFirstFault p) (solo.IsSolution p)
+pub solo_checked : (p : Solo) → IsSolo p → CheckedPuzzle hides_nothing (solo_n p) (solo_extent p) (solo_cell p) (IsFirstFault p) (IsSoloSolution p)
 solo_checked p ok = record {
   once = solo_once p ok;
   text = λ g shown. grid_is_text (solo_cell p g) (solo_extent p) 3 (λ place lt. solo_cell_text p ok hides_nothing g shown place lt) max_numbers ok.n_high ok.n_high (omega arith);

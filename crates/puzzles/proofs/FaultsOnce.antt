@@ -20,10 +20,10 @@ use Rattle.fields_core.proofs.TentCounting.{camp-parts}
 use Rattle.fields_core.proofs.TentRuleLemmas.{camp-from}
 use Rattle.pattern_core.specs.Faults.{IsCheck, IsFirstWrongLine}
 use Rattle.pattern_core.specs.LineLaws.{has_runs-from, has_runs-is, line_of_solution, solution_from_lines}
-use Rattle.pattern_core.specs.Lines.{clue_of, has_runs, numbers_of}
+use Rattle.pattern_core.specs.Lines.{clue_of, has_runs, line_numbers}
 use Rattle.pattern_core.specs.declared.fault.PatternFault.{PatternFault}
 use Rattle.pattern_core.specs.declared.fault.PatternFault.TheVariants as pattern
-use Rattle.solo_core.specs.Cells.{cells_of}
+use Rattle.solo_core.specs.Cells.{solo_cells}
 use Rattle.solo_core.specs.Faults.{AllStand, IsFirstFault, Repeats, RepeatsFirst, fault_of}
 use Rattle.solo_core.specs.Houses.{houses_of}
 use Rattle.solo_core.specs.NoRepeat.{no_repeat}
@@ -176,7 +176,7 @@ module _ (p : Tents) (g : List ℕ) where
 -- ---- Pattern: by the first line whose runs are not its clue
 module _ (p : Pattern) (g : List ℕ) where
   right_line : ℕ → Bool
-  right_line line = has_runs (clue_of p line) (numbers_of p.size g line)
+  right_line line = has_runs (clue_of p line) (line_numbers p.size g line)
 
   pub pattern_some : IsGrid (p.size.w * p.size.h) 2 g → (fault : Option PatternFault) × IsCheck p g fault
   unfolding right_line
@@ -184,14 +184,14 @@ module _ (p : Pattern) (g : List ℕ) where
     where
       first_wrong : (line : ℕ) → IsFirst right_line (lines_of p.size) line → IsFirstWrongLine p g line
       first_wrong line first = record {
-        wrong = λ has. true≢false (sym (has_runs-from (clue_of p line) (numbers_of p.size g line) has) ∙ first.wrong);
-        before = λ earlier lt. has_runs-is (clue_of p earlier) (numbers_of p.size g earlier) (first.before earlier lt);
+        wrong = λ has. true≢false (sym (has_runs-from (clue_of p line) (line_numbers p.size g line) has) ∙ first.wrong);
+        before = λ earlier lt. has_runs-is (clue_of p earlier) (line_numbers p.size g earlier) (first.before earlier lt);
       }
 
       by : (o : Option ℕ) × IsFirstWrong right_line (lines_of p.size) o → (fault : Option PatternFault) × IsCheck p g fault
       by (None, all) = (
         None,
-        solution_from_lines p g grid (λ line lt. has_runs-is (clue_of p line) (numbers_of p.size g line) (all_below-at right_line (lines_of p.size) line all lt)),
+        solution_from_lines p g grid (λ line lt. has_runs-is (clue_of p line) (line_numbers p.size g line) (all_below-at right_line (lines_of p.size) line all lt)),
       )
       by (Some line, first) = elim (cases_lt line p.size.w) [
         | inl column ↦ (Some (pattern.Column line), (column, first_wrong line first))
@@ -234,14 +234,14 @@ module _ (p : Solo) (ok : IsSolo p) (g : List ℕ) where
   unfolding fine house_at
   fine_at h d lt is = ap (λ house. no_repeat (numbers_in p g house)) (get_or_default (houses_of p) h d (Row 0) lt) ∙ is
 
-  all_stand : all_below (given_stands p g) (cells_of p) ≡ true → AllStand p g
-  all_stand all = λ place lt. given_from_test p g place (all_below-at (given_stands p g) (cells_of p) place all lt)
+  all_stand : all_below (given_stands p g) (solo_cells p) ≡ true → AllStand p g
+  all_stand all = λ place lt. given_from_test p g place (all_below-at (given_stands p g) (solo_cells p) place all lt)
 
-  pub solo_some : IsGrid (cells_of p) (solo_n p) g → (fault : Option SoloFault) × IsFirstFault p g fault
+  pub solo_some : IsGrid (solo_cells p) (solo_n p) g → (fault : Option SoloFault) × IsFirstFault p g fault
   unfolding fine house_at
-  solo_some grid = by (first_of (given_stands p g) (cells_of p)) (first_of fine (length (houses_of p)))
+  solo_some grid = by (first_of (given_stands p g) (solo_cells p)) (first_of fine (length (houses_of p)))
     where
-      by : (o : Option ℕ) × IsFirstWrong (given_stands p g) (cells_of p) o → (o : Option ℕ) × IsFirstWrong fine (length (houses_of p)) o
+      by : (o : Option ℕ) × IsFirstWrong (given_stands p g) (solo_cells p) o → (o : Option ℕ) × IsFirstWrong fine (length (houses_of p)) o
           → (fault : Option SoloFault) × IsFirstFault p g fault
       by (Some c, first) house = (
         Some (solo.Given c),

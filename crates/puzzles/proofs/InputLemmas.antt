@@ -5,9 +5,6 @@ use Rattle.puzzles.specs.Runs.{Ran}
 use Rattle.puzzles.specs.Answers.{Answer, Begins, BeginsAnswer, IsInput, Text}
 use Rattle.puzzles.specs.Each.{AllowsEach, Answered, Begun, HasAnswers, Stopped}
 use Rattle.puzzles.specs.Batches.{Batched, StoppedUpTo, TakenUpTo}
-use Rattle.puzzles.specs.Stops.{status_of}
-use Rattle.puzzles.specs.declared.stop.Stop.{Stop}
-use Rattle.puzzles.specs.declared.stop.Stop.TheVariants as stop
 use Rattle.puzzles.specs.declared.batch.Batch.{Batch}
 use Rattle.puzzles.proofs.BatchLemmas.{step_stopped}
 
@@ -97,8 +94,3 @@ module _ {I S : Type 0} (gives : I → Text → I → Type 0) (has_ended : I →
       ];
     };
   }
-
--- a run that stopped has a status of 5 or 6
-pub stop_high : (s : Stop) (status : ℕ) → status ≡ status_of s → 5 ≤ status
-stop_high stop.Memory status e = omega arith
-stop_high stop.Broken status e = omega arith

@@ -14,9 +14,7 @@ pub mod GradeLemmas
 pub mod StopLemmas
 pub mod ToldLemmas
 pub mod GameLemmas
-pub mod MadeSolo
 pub mod CheckLemmas
-pub mod MadeTents
 pub mod RewrittenIds
 pub mod SettledLemmas
 pub mod GradedAlike

@@ -13,12 +13,11 @@ use Rattle.gameid_core.specs.BlackRuns.{runs}
 use Rattle.gameid_core.specs.GridTexts.{grid_text, pattern_cell, tents_cell}
 use Rattle.gameid_core.specs.Head.{SizeRead, extent_of, in_range, size_of}
 use Rattle.gameid_core.specs.Lines.{lines_ones, lines_runs}
-use Rattle.gameid_core.specs.PatternText.{SpellsPattern, pattern_text}
+use Rattle.gameid_core.specs.PatternText.{pattern_text}
 use Rattle.gameid_core.specs.Puzzles.{IsPattern, IsTents, Pattern, Tents}
-use Rattle.gameid_core.specs.TentsText.{SpellsTents, tents_text}
+use Rattle.gameid_core.specs.TentsText.{tents_text}
 use Rattle.gameid_core.specs.declared.fault.IdFault.{IdFault}
 use Rattle.gameid_core.specs.declared.fault.IdFault.TheVariants.{SizeRange}
-use Rattle.gameid_core.specs.declared.game.Game.{Game}
 use Rattle.gameid_core.specs.declared.game.Game.TheVariants as game
 use Rattle.gameid_core.proofs.HeadLaws.{size_take}
 use Rattle.gameid_core.proofs.LineLaws.{at_column, at_row}
@@ -40,9 +39,10 @@ use Rattle.maker_core.proofs.PatternMakings.{pattern_only, pattern_solved}
 use Rattle.maker_core.proofs.TentMakings.{tents_only, tents_size}
 use Rattle.pattern_core.specs.LineLaws.{is_solution-from, is_solution-is, line_rules-lawful}
 use Rattle.pattern_core.specs.LineRules.{line_rules}
-use Rattle.pattern_core.specs.Solutions.{IsSolution}
+use Rattle.pattern_core.specs.Solutions.{IsPatternSolution}
 use Rattle.puzzles.specs.Answers.{Answer, Text}
-use Rattle.puzzles.specs.Makings.{AllowsMadePattern, AllowsMadeTents, AllowsMaking, IsExhausted, IsHandedOut, exhausted_answer, made_answer, size_to_make}
+use Rattle.puzzles.specs.Making.{AllowsMade, AllowsOfSize, wanted}
+use Rattle.puzzles.specs.Makings.{AllowsMaking, exhausted_answer, made_answer, size_to_make}
 use Rattle.puzzles.specs.Refusals.{fault_text, refused}
 use Rattle.puzzles.specs.Seeds.{seed_stream}
 use Rattle.puzzles.proofs.FaultsOnce.{first_of}
@@ -76,39 +76,28 @@ module _ {A : Type 0} (make : Making A) (passes : A → Bool) (s : Stream) (trie
   first_not_none k a none = true≢false (sym a.passing ∙ none.failing k a.within)
 
 -- ---- the size of a making is one alone
-pub making_same : (game : Game) (text : Text) (allows : SizeRead → Answer → Type 0) → ((size : SizeRead) → AreSame (allows size)) → AreSame (AllowsMaking game text allows)
-making_same game text allows same a b (inl x) (inl y) = x.told ∙ ap (λ (f : IdFault). refused (fault_text f)) (faults x.fault y.fault (sym x.first ∙ y.first)) ∙ sym y.told
+pub making_same : (reading : Result SizeRead IdFault) (allows : SizeRead → Answer → Type 0) → ((size : SizeRead) → AreSame (allows size)) → AreSame (AllowsMaking reading allows)
+making_same reading allows same a b (inl x) (inl y) = x.told ∙ ap (λ (f : IdFault). refused (fault_text f)) (faults x.fault y.fault (sym x.first ∙ y.first)) ∙ sym y.told
   where
     faults : (f h : IdFault) → ◌≡◌ {A = Result SizeRead IdFault} (Err f) (Err h) → f ≡ h
     faults f h e = cc
-making_same game text allows same a b (inl x) (inr y) = absurd (apart (sym x.first ∙ y.read))
+making_same reading allows same a b (inl x) (inr y) = absurd (apart (sym x.first ∙ y.read))
   where
     apart : ◌≡◌ {A = Result SizeRead IdFault} (Err x.fault) (Ok y.size) → ⊥
     apart e = cc
-making_same game text allows same a b (inr x) (inl y) = absurd (apart (sym y.first ∙ x.read))
+making_same reading allows same a b (inr x) (inl y) = absurd (apart (sym y.first ∙ x.read))
   where
     apart : ◌≡◌ {A = Result SizeRead IdFault} (Err y.fault) (Ok x.size) → ⊥
     apart e = cc
-making_same game text allows same a b (inr x) (inr y) = same x.size a b x.allowed (subst (λ (s : SizeRead). allows s b) (sizes y.size x.size (sym y.read ∙ x.read)) y.allowed)
+making_same reading allows same a b (inr x) (inr y) = same x.size a b x.allowed (subst (λ (s : SizeRead). allows s b) (sizes y.size x.size (sym y.read ∙ x.read)) y.allowed)
   where
     sizes : (s t : SizeRead) → ◌≡◌ {A = Result SizeRead IdFault} (Ok s) (Ok t) → s ≡ t
     sizes s t e = cc
 
--- what is made of a size that was read
-abbrev MadePattern : ℕ → ℕ → ℕ → ℕ → SizeRead → Answer → Type 0
-MadePattern seed budget tries black size answer =
-    IsHandedOut (IsPatternMade (extent_of size) black budget tries (seed_stream seed)) SpellsPattern pattern_text (λ p g. grid_text (pattern_cell p g) p.size) answer
-    ⊎ IsExhausted (pattern_filling (extent_of size) black) (pattern_passes (extent_of size) budget) (seed_stream seed) tries answer
-
-abbrev MadeTents : ℕ → ℕ → ℕ → SizeRead → Answer → Type 0
-MadeTents seed budget tries size answer =
-    IsHandedOut (IsTentsMade (extent_of size) budget tries (seed_stream seed)) SpellsTents tents_text (λ p g. grid_text (tents_cell p g) p.size) answer
-    ⊎ IsExhausted (tent_filling (extent_of size)) (tents_pass (extent_of size) budget) (seed_stream seed) tries answer
-
-pub made_pattern_same : (text : Text) (seed budget tries black : ℕ) → AreSame (AllowsMadePattern text seed budget tries black)
-made_pattern_same text seed budget tries black = making_same game.Pattern text (MadePattern seed budget tries black) same
+pub made_pattern_same : (text : Text) (seed budget tries black : ℕ) → AreSame (AllowsMade game.Pattern text seed budget tries black)
+made_pattern_same text seed budget tries black = making_same (size_to_make game.Pattern text) (AllowsOfSize game.Pattern (wanted seed budget tries black)) same
   where
-    same : (read : SizeRead) → AreSame (MadePattern seed budget tries black read)
+    same : (read : SizeRead) → AreSame (AllowsOfSize game.Pattern (wanted seed budget tries black) read)
     same read a b (inl x) (inl y) =
         let size : Extent = extent_of read in
         let make : Making (List ℕ) = pattern_filling size black in
@@ -120,10 +109,10 @@ made_pattern_same text seed budget tries black = making_same game.Pattern text (
     same read a b (inr x) (inl y) = absurd (first_not_none (pattern_filling (extent_of read) black) (pattern_passes (extent_of read) budget) (seed_stream seed) tries y.made.k y.made.first x.none)
     same read a b (inr x) (inr y) = x.told ∙ sym y.told
 
-pub made_tents_same : (text : Text) (seed budget tries : ℕ) → AreSame (AllowsMadeTents text seed budget tries)
-made_tents_same text seed budget tries = making_same game.Tents text (MadeTents seed budget tries) same
+pub made_tents_same : (text : Text) (seed budget tries black : ℕ) → AreSame (AllowsMade game.Tents text seed budget tries black)
+made_tents_same text seed budget tries black = making_same (size_to_make game.Tents text) (AllowsOfSize game.Tents (wanted seed budget tries black)) same
   where
-    same : (read : SizeRead) → AreSame (MadeTents seed budget tries read)
+    same : (read : SizeRead) → AreSame (AllowsOfSize game.Tents (wanted seed budget tries black) read)
     same read a b (inl x) (inl y) =
         let size : Extent = extent_of read in
         let k = first_once (tent_filling size) (tents_pass size budget) (seed_stream seed) tries x.made.k y.made.k x.made.first y.made.first in
@@ -164,7 +153,7 @@ module _ (size : Extent) (extent : IsExtent size) (black budget tries : ℕ) (s 
     unthinned = refl;
   }
     where
-      solved : IsSolution (clued_by size (grid_of k)) (grid_of k)
+      solved : IsPatternSolution (clued_by size (grid_of k)) (grid_of k)
       solved = pattern_solved size (grid_of k) (clued_by size (grid_of k))
           (record { sized = refl; columns = λ x lt. at_column runs [] size (grid_of k) x lt; rows = λ y lt. at_row runs [] size (grid_of k) y lt })
           (black_cells-grid black (size.w * size.h) (stream_after (pattern_filling size black) k s))
@@ -179,16 +168,16 @@ module _ (size : Extent) (extent : IsExtent size) (black budget tries : ℕ) (s 
                 (outcome-true (line_rules (clued_by size (grid_of k))) (line_rules-lawful (clued_by size (grid_of k)) extent) budget);
           }
 
-      only : IsOnlySolution (IsSolution (clued_by size (grid_of k))) (grid_of k) × TellsOne (line_rules (clued_by size (grid_of k))) budget (grid_of k)
+      only : IsOnlySolution (IsPatternSolution (clued_by size (grid_of k))) (grid_of k) × TellsOne (line_rules (clued_by size (grid_of k))) budget (grid_of k)
       only = pattern_only (clued_by size (grid_of k)) (grid_of k) (λ q h grid. (is_solution-is q h grid, is_solution-from q h)) budget has solved
 
-pub made_pattern_some : (text : Text) (seed budget tries black : ℕ) → (a : Answer) × AllowsMadePattern text seed budget tries black a
+pub made_pattern_some : (text : Text) (seed budget tries black : ℕ) → (a : Answer) × AllowsMade game.Pattern text seed budget tries black a
 made_pattern_some text seed budget tries black = by (size_to_make game.Pattern text) refl
   where
     of_size : (read : SizeRead) → size_to_make game.Pattern text ≡ Ok read → IsExtent (extent_of read)
         → ((k : ℕ) × IsFirstPassing (pattern_filling (extent_of read) black) (pattern_passes (extent_of read) budget) (seed_stream seed) tries k)
         ⊎ NonePasses (pattern_filling (extent_of read) black) (pattern_passes (extent_of read) budget) (seed_stream seed) tries
-        → (a : Answer) × AllowsMadePattern text seed budget tries black a
+        → (a : Answer) × AllowsMade game.Pattern text seed budget tries black a
     of_size read is extent (inr none) = (exhausted_answer, inr (record { size = read; read = is; allowed = inr (record { none = none; told = refl }) }))
     of_size read is extent (inl first) =
         let size : Extent = extent_of read in
@@ -210,7 +199,7 @@ made_pattern_some text seed budget tries black = by (size_to_make game.Pattern t
           }),
         )
 
-    by : (r : Result SizeRead IdFault) → size_to_make game.Pattern text ≡ r → (a : Answer) × AllowsMadePattern text seed budget tries black a
+    by : (r : Result SizeRead IdFault) → size_to_make game.Pattern text ≡ r → (a : Answer) × AllowsMade game.Pattern text seed budget tries black a
     by (Err f) is = (refused (fault_text f), inl (record { fault = f; first = is; told = refl }))
     by (Ok read) is = of_size read is (is_extent read.w read.h (size_take game.Pattern text read is).1)
         (first_or_none (pattern_filling (extent_of read) black) (pattern_passes (extent_of read) budget) (seed_stream seed) tries)
@@ -302,13 +291,13 @@ module _ (filled : AreFilled) (size : Extent) (large : IsTentsExtent size) (budg
       only = tents_only size (camp_of k) (camp_puzzle k) refl (filled.solved size s k large.extent words)
           (λ q h grid. (tents.rule-from-test q h grid, tents.test-from-rule q h grid)) budget has
 
-pub made_tents_some : AreFilled → (text : Text) (seed budget tries : ℕ) → (a : Answer) × AllowsMadeTents text seed budget tries a
-made_tents_some filled text seed budget tries = by (size_to_make game.Tents text) refl
+pub made_tents_some : AreFilled → (text : Text) (seed budget tries black : ℕ) → (a : Answer) × AllowsMade game.Tents text seed budget tries black a
+made_tents_some filled text seed budget tries black = by (size_to_make game.Tents text) refl
   where
     of_size : (read : SizeRead) → size_to_make game.Tents text ≡ Ok read → IsTentsExtent (extent_of read)
         → ((k : ℕ) × IsFirstPassing (tent_filling (extent_of read)) (tents_pass (extent_of read) budget) (seed_stream seed) tries k)
         ⊎ NonePasses (tent_filling (extent_of read)) (tents_pass (extent_of read) budget) (seed_stream seed) tries
-        → (a : Answer) × AllowsMadeTents text seed budget tries a
+        → (a : Answer) × AllowsMade game.Tents text seed budget tries black a
     of_size read is large (inr none) = (exhausted_answer, inr (record { size = read; read = is; allowed = inr (record { none = none; told = refl }) }))
     of_size read is large (inl first) =
         let size : Extent = extent_of read in
@@ -329,7 +318,7 @@ made_tents_some filled text seed budget tries = by (size_to_make game.Tents text
           }),
         )
 
-    by : (r : Result SizeRead IdFault) → size_to_make game.Tents text ≡ r → (a : Answer) × AllowsMadeTents text seed budget tries a
+    by : (r : Result SizeRead IdFault) → size_to_make game.Tents text ≡ r → (a : Answer) × AllowsMade game.Tents text seed budget tries black a
     by (Err f) is = (refused (fault_text f), inl (record { fault = f; first = is; told = refl }))
     by (Ok read) is = of_size read is (tents_extent text read is)
         (first_or_none (tent_filling (extent_of read)) (tents_pass (extent_of read) budget) (seed_stream seed) tries)

@@ -20,11 +20,11 @@ use Rattle.gameid_core.specs.Puzzles.{IsLight, IsPattern, IsSolo, IsTents, Light
 use Rattle.grid_core.specs.Extent.{Extent}
 use Rattle.pattern_core.specs.LineLaws.{is_solution-from, is_solution-is, line_rules-lawful}
 use Rattle.pattern_core.specs.LineRules.{line_rules}
-use Rattle.pattern_core.specs.Solutions as pattern
+use Rattle.pattern_core.specs.Solutions.{IsPatternSolution}
 use Rattle.solo_core.specs.RuleLaws.{crossings_lawful, houses_lawful, singles_lawful}
 use Rattle.solo_core.specs.RuleSets.{crossings_rules, houses_rules, singles_rules}
 use Rattle.solo_core.specs.SolutionLaws.{rule_from_test, test_from_rule}
-use Rattle.solo_core.specs.Solutions as solo
+use Rattle.solo_core.specs.Solutions.{IsSoloSolution}
 use Rattle.puzzles.specs.Answers.{Text}
 use Rattle.puzzles.specs.Grades.{HasOneSolution}
 use Rattle.puzzles.specs.LawsOfAnswers.{HasOneAnswer}
@@ -37,25 +37,25 @@ pub record SearchedPuzzle (rules : Puzzle) (solves : List ℕ → Type 0) : Type
   pub lawful : IsLawful rules
   pub accepted : (g : List ℕ) → Solves rules g ↔ solves g
 
-pub pattern_searched : (p : Pattern) → IsPattern p → SearchedPuzzle (line_rules p) (pattern.IsSolution p)
+pub pattern_searched : (p : Pattern) → IsPattern p → SearchedPuzzle (line_rules p) (IsPatternSolution p)
 pattern_searched p ok = record {
   lawful = line_rules-lawful p ok.size;
   accepted = λ g. (λ s. is_solution-is p g s.grid s.good, λ s. record { grid = s.grid; good = is_solution-from p g s });
 }
 
-pub solo_searched : (p : Solo) → IsSolo p → SearchedPuzzle (houses_rules p) (solo.IsSolution p)
+pub solo_searched : (p : Solo) → IsSolo p → SearchedPuzzle (houses_rules p) (IsSoloSolution p)
 solo_searched p ok = record {
   lawful = houses_lawful p ok;
   accepted = λ g. (λ s. rule_from_test p ok g s.grid s.good, λ s. record { grid = s.grid; good = test_from_rule p ok g s });
 }
 
-pub singles_searched : (p : Solo) → IsSolo p → SearchedPuzzle (singles_rules p) (solo.IsSolution p)
+pub singles_searched : (p : Solo) → IsSolo p → SearchedPuzzle (singles_rules p) (IsSoloSolution p)
 singles_searched p ok = record {
   lawful = singles_lawful p ok;
   accepted = λ g. (λ s. rule_from_test p ok g s.grid s.good, λ s. record { grid = s.grid; good = test_from_rule p ok g s });
 }
 
-pub crossings_searched : (p : Solo) → IsSolo p → SearchedPuzzle (crossings_rules p) (solo.IsSolution p)
+pub crossings_searched : (p : Solo) → IsSolo p → SearchedPuzzle (crossings_rules p) (IsSoloSolution p)
 crossings_searched p ok = record {
   lawful = crossings_lawful p ok;
   accepted = λ g. (λ s. rule_from_test p ok g s.grid s.good, λ s. record { grid = s.grid; good = test_from_rule p ok g s });

@@ -4,7 +4,6 @@ use Rattle.std.specs.Prelude.{◌↔◌}
 use Rattle.engine_core.specs.Puzzle.{Puzzle}
 use Rattle.engine_core.specs.Verdict.{Outcome.OneGrid, verdict_of, Solves}
 use Rattle.gameid_core.specs.declared.fault.IdFault.{IdFault}
-use Rattle.gameid_core.specs.declared.game.Game.{Game}
 use Rattle.gameid_core.specs.GridTexts.{grid_text}
 use Rattle.gameid_core.specs.Head.{SizeRead}
 use Rattle.grid_core.specs.Extent.{Extent}
@@ -19,10 +18,10 @@ use Rattle.puzzles.specs.Verdicts.{IsRight, verdict_answer}
 use Rattle.puzzles.proofs.GradedAlike.{status_one, told_status}
 
 -- what is allowed where an answer of status 0 is given
-pub of_size : (game : Game) (text : Text) (allows : SizeRead → Answer → Type 0) (answer : Answer) → AllowsMaking game text allows answer → answer.status ≡ 0
+pub of_size : (reading : Result SizeRead IdFault) (allows : SizeRead → Answer → Type 0) (answer : Answer) → AllowsMaking reading allows answer → answer.status ≡ 0
     → (wanted : Type 0) → ((size : SizeRead) → allows size answer → wanted) → wanted
-of_size game text allows answer (inl refusal) fine wanted made = absurd (omega (arith, fine, ap (λ (a : Answer). a.status) refusal.told))
-of_size game text allows answer (inr sized) fine wanted made = made sized.size sized.allowed
+of_size reading allows answer (inl refusal) fine wanted made = absurd (omega (arith, fine, ap (λ (a : Answer). a.status) refusal.told))
+of_size reading allows answer (inr sized) fine wanted made = made sized.size sized.allowed
 
 pub none_made : (answer : Answer) (wanted : Type 0) → answer ≡ exhausted_answer → answer.status ≡ 0 → wanted
 none_made answer wanted told fine = absurd (omega (arith, fine, ap (λ (a : Answer). a.status) told))

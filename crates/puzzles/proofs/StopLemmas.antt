@@ -1,22 +1,23 @@
 -- Runs that end before their answers are whole, and those that deliver the last of an answer.
-use Rattle.std.proofs.Common.{[], refl, ◌≡◌, ◌≤◌, ℕ, Bool, Result, Ok, Err, IfErr, sym, subst, inl, inr, arith, true, false, true≢false}
+use Rattle.std.proofs.Common.{[], refl, ◌≡◌, ◌≤◌, ℕ, Bool, Result, Ok, Err, IfErr, sym, subst, inl, inr, arith, false, true≢false}
 use Rattle.std.specs.Result.{IsErr, IsErrAnd}
 use Rattle.puzzles.specs.Answers.{Answer, BeginsAnswer, Text}
-use Rattle.puzzles.specs.Stops.{IsSinkAfter, Tells, is_broken, status_in, status_of}
-use Rattle.puzzles.specs.declared.stop.Stop.{Stop}
-use Rattle.puzzles.specs.declared.stop.Stop.TheVariants.{Memory, Broken}
+use Rattle.puzzles.specs.Stops.{IsSinkAfter, Tells, status_in, status_of}
+use Rattle.puzzles.specs.declared.answers.status.Status.{Status}
+use Rattle.puzzles.specs.declared.answers.status.Stop.{Stop}
+use Rattle.puzzles.specs.declared.answers.status.Stop.TheVariants.{Memory, Broken}
 
 -- an exit with that stop
 pub if_err : {A : Type 0} (r : Result A Stop) (Q : Stop → Type 0) (stop : Stop) → Q stop → IsErr r × IsErrAnd r (λ e. e ≡ stop) → IfErr r Q
 if_err (Ok u) Q stop q h = tt
 if_err (Err e) Q stop q h = subst Q (sym h.1) q
 
-pub status_is : (r : Result ℕ Stop) (Q : ℕ → Type 0) (stop : Stop) → Q (status_of stop) → IsErr r × IsErrAnd r (λ e. e ≡ stop) → Q (status_in r)
+pub status_is : (r : Result Status Stop) (Q : ℕ → Type 0) (stop : Stop) → Q (status_of stop) → IsErr r × IsErrAnd r (λ e. e ≡ stop) → Q (status_in r)
 status_is (Ok u) Q stop q h = absurd (true≢false (sym h.0))
 status_is (Err e) Q stop q h = subst (λ (x : Stop). Q (status_of x)) (sym h.1) q
 
 -- how the sink stands where memory was wanted and nothing was put
-pub left_alone : (r : Result ℕ Stop) (failed flushed : Bool) → failed ≡ false → IsErr r × IsErrAnd r (λ e. e ≡ Memory) → IsSinkAfter (status_in r) failed flushed
+pub left_alone : (r : Result Status Stop) (failed flushed : Bool) → failed ≡ false → IsErr r × IsErrAnd r (λ e. e ≡ Memory) → IsSinkAfter (status_in r) failed flushed
 left_alone r failed flushed fine h = status_is r (λ n. IsSinkAfter n failed flushed) Memory
     (record { within = omega arith; sound = λ _. fine; sent = λ low. absurd (omega arith); broken = λ six. absurd (omega arith) }) h
 
@@ -24,6 +25,9 @@ left_alone r failed flushed fine h = status_is r (λ n. IsSinkAfter n failed flu
 pub late : (stop : Stop) → 5 ≤ status_of stop
 late Memory = omega arith
 late Broken = omega arith
+
+pub is_late : (r : Result Status Stop) (stop : Stop) → IsErr r × IsErrAnd r (λ e. e ≡ stop) → 5 ≤ status_in r
+is_late r stop h = status_is r (λ n. 5 ≤ n) stop (late stop) h
 
 -- what is told as one thing is told as another that follows from it
 pub tells_as : {S : Type 0} (takes : S → Text → S → Type 0) (A B : Answer → Type 0) (s t : S) (status : ℕ) → ((a : Answer) → A a → B a)
@@ -42,12 +46,3 @@ tells_as takes A B s t status follows told = record {
 -- nothing was written
 pub tells_nothing : {S : Type 0} (takes : S → Text → S → Type 0) (allows : Answer → Type 0) (s : S) (status : ℕ) → takes s [] s → 5 ≤ status → Tells takes allows s s status
 tells_nothing takes allows s status nothing high = record { written = []; took = nothing; begun = inl refl; whole = λ small. absurd (omega arith) }
-
--- a status of at most 5 is that of no failing end, and 6 is that of one
-pub of_memory : (stop : Stop) (n : ℕ) → n ≡ status_of stop → n ≤ 5 → is_broken stop ≡ false
-of_memory Memory n is low = refl
-of_memory Broken n is low = absurd (omega arith)
-
-pub of_failure : (stop : Stop) (n : ℕ) → n ≡ status_of stop → n ≡ 6 → is_broken stop ≡ true
-of_failure Memory n is six = absurd (omega arith)
-of_failure Broken n is six = refl

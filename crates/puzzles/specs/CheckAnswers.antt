@@ -56,7 +56,8 @@ tent_fault p (tent.Row y) = codes "row " ++ decimal y
 tent_fault p tent.Match = codes "match"
 
 -- the first broken rule of the grid is told, or that there is none
-pub record IsFaultTold {F : Type 0} (is : Option F → Type 0) (fault_text : F → Text) (answer : Answer) : Type 0 where
+pub record IsFaultTold {F : Type 0} (is : Option F → Type 0) (fault_text : F → Text)
+    (answer : Answer) : Type 0 where
   pub fault : Option F
   pub first : is fault
   pub told : answer ≡ checked (option_map fault_text fault)
@@ -73,15 +74,17 @@ light_told p g answer = IsFaultTold (IsLightFault p g) (light_fault p) answer
 abbrev pub tent_told : Tents → List ℕ → Answer → Type 0
 tent_told p g answer = IsFaultTold (IsTentFault p g) (tent_fault p) answer
 
--- The input isn't too long, and without its returns it is the printed form of that grid, with or without the last line
--- end. The grid is 0 wherever what is printed shows nothing of the number.
-pub record IsInputOf (hides : ℕ → Type 0) (values : ℕ) (size : Extent) (cell : List ℕ → ℕ → Text) (input : Text) (g : List ℕ) : Type 0 where
+-- The input isn't too long, and without its returns it is the printed form of that grid, with or
+-- without the last line end. The grid is 0 wherever what is printed shows nothing of the number.
+pub record IsInputOf (hides : ℕ → Type 0) (values : ℕ) (size : Extent) (cell : List ℕ → ℕ → Text)
+    (input : Text) (g : List ℕ) : Type 0 where
   pub small : length input ≤ text_limit
   pub shown : IsAsShown hides values size g
   pub printed : IsPrinted (without_returns input) (grid_text (cell g) size)
 
 -- The one grid of the input is checked.
-pub record IsChecked (is_of : List ℕ → Type 0) (tells : List ℕ → Answer → Type 0) (answer : Answer) : Type 0 where
+pub record IsChecked (is_of : List ℕ → Type 0) (tells : List ℕ → Answer → Type 0)
+    (answer : Answer) : Type 0 where
   pub grid : List ℕ
   pub given : is_of grid
   pub only : (other : List ℕ) → is_of other → grid ≡ other
@@ -92,6 +95,8 @@ pub record IsNoGrid (is_of : List ℕ → Type 0) (answer : Answer) : Type 0 whe
   pub none : (g : List ℕ) → is_of g → ⊥
   pub told : answer ≡ refused (codes "grid")
 
-abbrev pub AllowsGrid : (ℕ → Type 0) → ℕ → Extent → (List ℕ → ℕ → Text) → (List ℕ → Answer → Type 0) → Text → Answer → Type 0
+abbrev pub AllowsGrid : (ℕ → Type 0) → ℕ → Extent → (List ℕ → ℕ → Text) → (List ℕ → Answer → Type 0)
+    → Text → Answer → Type 0
 AllowsGrid hides values size cell tells input answer =
-    IsChecked (IsInputOf hides values size cell input) tells answer ⊎ IsNoGrid (IsInputOf hides values size cell input) answer
+    IsChecked (IsInputOf hides values size cell input) tells answer
+    ⊎ IsNoGrid (IsInputOf hides values size cell input) answer

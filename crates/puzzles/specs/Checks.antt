@@ -11,4 +11,5 @@ begins_with_line_end (byte ∷ rest) = byte == 10
 unfoldable pub without_returns : Text → Text
 without_returns [] = []
 without_returns (byte ∷ rest) =
-    if (byte == 13) && begins_with_line_end rest then without_returns rest else byte ∷ without_returns rest
+    if (byte == 13) && begins_with_line_end rest then without_returns rest
+    else byte ∷ without_returns rest

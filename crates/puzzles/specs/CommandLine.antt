@@ -46,7 +46,8 @@ grade_app = with_rule (with_rule (with_rule (with_rule (new_app (codes "grade"))
     (text_option (codes "budget")))
     (flag (codes "trace"))
 
--- `generate GAME SIZE --seed S [--budget B] [--tries T] [--black P]`: what must be there, and the whole
+-- `generate GAME SIZE --seed S [--budget B] [--tries T] [--black P]`: what must be there, and the
+-- whole
 abbrev pub generate_needs_app : App
 generate_needs_app = with_rule (with_rule (with_rule (new_app (codes "generate"))
     (required_word (codes "game")))
@@ -78,6 +79,7 @@ abbrev pub unless_fault : {X : Type 0} → Kinds → Option X → Option X
 unless_fault [] found = found
 unless_fault (k ∷ ks) found = None
 
--- the command that the words name, and what they give for its arguments; None where they are refused
+-- the command that the words name, and what they give for its arguments; None where they are
+-- refused
 unfoldable pub parsed : List Text → Option (Text × List Row)
 parsed words = unless_fault (fault_of puzzles_app words) (subcommand_of puzzles_app words)

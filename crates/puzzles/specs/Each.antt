@@ -22,19 +22,22 @@ abbrev pub HasAnswers : (Text → Answer → Type 0) → Type 0
 HasAnswers allows = (text : Text) → (a : Answer) × allows text a
 
 -- What was written begins an answer to the lines, however the input goes on.
-pub record Stopped {S : Type 0} (takes : S → Text → S → Type 0) (allows : Text → Answer → Type 0) (start : S) (seen : Text) (now : S) : Type 0 where
+pub record Stopped {S : Type 0} (takes : S → Text → S → Type 0) (allows : Text → Answer → Type 0)
+    (start : S) (seen : Text) (now : S) : Type 0 where
   pub written : Text
   pub took : takes start written now
   pub begun : (rest : Text) → BeginsAnswer (AllowsEach allows (lines (seen ++ rest))) written
 
 -- What was written begins an answer to the lines of these bytes alone.
-pub record Begun {S : Type 0} (takes : S → Text → S → Type 0) (allows : Text → Answer → Type 0) (start : S) (seen : Text) (now : S) : Type 0 where
+pub record Begun {S : Type 0} (takes : S → Text → S → Type 0) (allows : Text → Answer → Type 0)
+    (start : S) (seen : Text) (now : S) : Type 0 where
   pub written : Text
   pub took : takes start written now
   pub begun : BeginsAnswer (AllowsEach allows (lines seen)) written
 
 -- What was written is an answer to the lines of these bytes.
-pub record Answered {S : Type 0} (takes : S → Text → S → Type 0) (allows : Text → Answer → Type 0) (start : S) (status : ℕ) (seen : Text) (now : S) : Type 0 where
+pub record Answered {S : Type 0} (takes : S → Text → S → Type 0) (allows : Text → Answer → Type 0)
+    (start : S) (status : ℕ) (seen : Text) (now : S) : Type 0 where
   pub written : Text
   pub took : takes start written now
   pub whole : AllowsEach allows (lines seen) (record { text = written; status = status })

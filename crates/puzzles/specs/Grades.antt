@@ -1,4 +1,5 @@
--- What `grade` says of a puzzle: the first rule set of a list that settles it, or else the verdict of a search.
+-- What `grade` says of a puzzle: the first rule set of a list that settles it, or else the verdict
+-- of a search.
 use Rattle.std.specs.Prelude.{◌≡◌, ◌≢◌, ◌++◌, ℕ, Bool, List, [], ◌∷◌, if◌then◌else◌, codes, decimal, ⊤}
 use Rattle.engine_core.specs.Puzzle.{Puzzle}
 use Rattle.engine_core.specs.Stored.{is_settled}
@@ -25,7 +26,8 @@ grade_by trials (OutOfBudget found) = GaveUp
 
 -- by the walk of the rules' start board, with that budget
 unfoldable pub searched_grade : Puzzle → ℕ → Grade
-searched_grade rules budget = grade_by (trials_in (walk rules 0 rules.start)) (verdict_of rules budget)
+searched_grade rules budget =
+    grade_by (trials_in (walk rules 0 rules.start)) (verdict_of rules budget)
 
 -- a rule set that may settle a puzzle, by its name
 pub record Settling : Type 0 where
@@ -39,12 +41,15 @@ settled_or set rules otherwise = if is_settled rules then ByRules set else other
 -- by the first of the rule sets that settles the puzzle
 abbrev pub first_settled : List Settling → Grade → Grade
 first_settled [] otherwise = otherwise
-first_settled (first ∷ rest) otherwise = settled_or first.set first.rules (first_settled rest otherwise)
+first_settled (first ∷ rest) otherwise =
+    settled_or first.set first.rules (first_settled rest otherwise)
 
--- the rules that were tried last: those of the first set that settles the puzzle, and else those of the last in the list
+-- the rules that were tried last: those of the first set that settles the puzzle, and else those of
+-- the last in the list
 abbrev pub last_tried : Puzzle → List Settling → Puzzle
 last_tried before [] = before
-last_tried before (first ∷ rest) = if is_settled first.rules then first.rules else last_tried first.rules rest
+last_tried before (first ∷ rest) =
+    if is_settled first.rules then first.rules else last_tried first.rules rest
 
 -- by the rule sets in turn, and else by a search with rules of its own
 abbrev pub listed_grade : List Settling → Puzzle → ℕ → Grade
@@ -56,7 +61,8 @@ only_set set rules = record { set = set; rules = rules } ∷ []
 
 -- the rule sets that are tried in each game, in order
 abbrev pub after_singles : Solo → List Settling
-after_singles p = record { set = Houses; rules = houses_rules p } ∷ only_set Crossings (crossings_rules p)
+after_singles p =
+    record { set = Houses; rules = houses_rules p } ∷ only_set Crossings (crossings_rules p)
 
 abbrev pub solo_sets : Solo → List Settling
 solo_sets p = record { set = Singles; rules = singles_rules p } ∷ after_singles p
@@ -129,13 +135,15 @@ abbrev pub tent_trace : Tents → Text → Type 0
 tent_trace p = TellsSweeps (last_tried (tent_rules p) (tent_sets p))
 
 -- the grade's line, and the lines of a trace
-pub record TellsGrade (grade : Grade) (traced : Bool) (tells : Text → Type 0) (answer : Answer) : Type 0 where
+pub record TellsGrade (grade : Grade) (traced : Bool) (tells : Text → Type 0)
+    (answer : Answer) : Type 0 where
   pub lines : Text
   pub trace : IsTrace traced tells lines
   pub text : answer.text ≡ grade_text grade ++ codes "\n" ++ lines
   pub status : answer.status ≡ grade_status grade
 
 -- the grade is right of the puzzle's solutions, and it is told
-pub record IsGradeOf (solves : List ℕ → Type 0) (grade : Grade) (traced : Bool) (tells : Text → Type 0) (answer : Answer) : Type 0 where
+pub record IsGradeOf (solves : List ℕ → Type 0) (grade : Grade) (traced : Bool)
+    (tells : Text → Type 0) (answer : Answer) : Type 0 where
   pub right : IsRightGrade solves grade
   pub told : TellsGrade grade traced tells answer

@@ -1,21 +1,17 @@
 -- The answers to an ID: its first fault, or what is allowed for the puzzle that it spells.
-use Rattle.std.specs.Prelude.{◌≡◌, ◌≢◌, ◌⊎◌, Result, Ok, Err}
+use Rattle.std.specs.Prelude.{◌⊎◌, Result}
 use Rattle.gameid_core.specs.declared.fault.IdFault.{IdFault}
-use Rattle.gameid_core.specs.declared.fault.IdFault.TheVariants.{Memory}
 use Rattle.puzzles.specs.Answers.{Answer}
-use Rattle.puzzles.specs.Refusals.{IsRefused, refused, fault_text}
+use Rattle.puzzles.specs.Refusals.{IsRefused}
 
 -- the ID spells that puzzle, and the answer is allowed for it
-pub record IsAnswered {P : Type 0} (spells : P → Type 0) (allows : P → Answer → Type 0) (answer : Answer) : Type 0 where
+pub record IsAnswered {P : Type 0} (spells : P → Type 0) (allows : P → Answer → Type 0)
+    (answer : Answer) : Type 0 where
   pub puzzle : P
   pub spelled : spells puzzle
   pub allowed : allows puzzle answer
 
 -- the answers to an ID with that reading, which spells such puzzles
-abbrev pub AllowsId : {P : Type 0} → Result P IdFault → (P → Type 0) → (P → Answer → Type 0) → Answer → Type 0
+abbrev pub AllowsId : {P : Type 0} → Result P IdFault → (P → Type 0) → (P → Answer → Type 0)
+    → Answer → Type 0
 AllowsId reading spells allows answer = IsRefused reading answer ⊎ IsAnswered spells allows answer
-
--- the answers where the puzzle was read, and to the ID's fault where it has one
-abbrev pub AllowsRead : {P : Type 0} → Result P IdFault → (P → Answer → Type 0) → Answer → Type 0
-AllowsRead (Ok p) allows answer = allows p answer
-AllowsRead (Err fault) allows answer = (fault ≢ Memory) × (answer ≡ refused (fault_text fault))

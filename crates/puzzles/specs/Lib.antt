@@ -9,6 +9,7 @@ pub mod WriteEndLaws
 pub mod Answers
 pub mod Texts
 pub mod Runs
+pub mod Statuses
 pub mod Replies
 pub mod Verdicts
 pub mod Stops
@@ -20,14 +21,17 @@ pub mod Refusals
 pub mod IdAnswers
 pub mod Each
 pub mod CheckAnswers
+pub mod Seeds
+pub mod Makings
+pub mod Games
 pub mod Solving
+pub mod Making
+pub mod Unmade
 pub mod Grading
 pub mod Checking
 pub mod Outputs
 pub mod LineStates
 pub mod Batches
-pub mod Seeds
-pub mod Makings
 pub mod LawsOfIds
 pub mod LawsOfGrades
 pub mod LawsOfMakings

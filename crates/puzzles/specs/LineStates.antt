@@ -1,9 +1,9 @@
 -- What is kept of a line that is being read. No contract of a run uses these words.
 use Rattle.std.specs.Prelude.{◌≡◌, ◌==◌, ℕ, List, [], ◌∷◌, take, drop, if◌then◌else◌}
 use Rattle.gameid_core.specs.Head.{max_id}
-use Rattle.puzzles.specs.declared.lines.Tail.{Tail}
-use Rattle.puzzles.specs.declared.lines.Tail.TheVariants.{Nothing, Return, More}
-use Rattle.puzzles.specs.declared.lines.Line.{Line}
+use Rattle.puzzles.specs.declared.batch.lines.Tail.{Tail}
+use Rattle.puzzles.specs.declared.batch.lines.Tail.TheVariants.{Nothing, Return, More}
+use Rattle.puzzles.specs.declared.batch.lines.Line.{Line}
 
 -- what the bytes after those that are kept come to
 abbrev pub tail_of : List ℕ → Tail
@@ -16,7 +16,8 @@ abbrev pub next_tail : Tail → ℕ → Tail
 next_tail Nothing byte = if byte == 13 then Return else More
 next_tail _ byte = More
 
--- the state stands for these bytes, all that came since the last line, of which no more than so many are kept
+-- the state stands for these bytes, all that came since the last line, of which no more than so
+-- many are kept
 pub record HoldsUpTo (most : ℕ) (line : Line) (piece : List ℕ) : Type 0 where
   pub kept : line.kept.items ≡ take most piece
   pub tail : line.tail ≡ tail_of (drop most piece)

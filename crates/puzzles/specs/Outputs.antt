@@ -5,16 +5,17 @@ use Rattle.puzzles.specs.Answers.{Answer, Text}
 use Rattle.puzzles.specs.Checking.{AllowsCheck, is_read}
 use Rattle.puzzles.specs.Each.{AllowsEach}
 use Rattle.puzzles.specs.Grading.{AllowsGrade}
-use Rattle.puzzles.specs.Makings.{AllowsMade}
+use Rattle.puzzles.specs.Making.{AllowsMade}
 use Rattle.puzzles.specs.Refusals.{refused_words}
 use Rattle.puzzles.specs.Requests.{Asked, solve, check, grade, generate}
 use Rattle.puzzles.specs.Solving.{AllowsSolve}
 
--- The answers that a request allows on an input: without an ID each line of the input is one, and has its answer. Words
--- that ask for nothing are refused.
+-- The answers that a request allows on an input: without an ID each line of the input is one, and
+-- has its answer. Words that ask for nothing are refused.
 abbrev pub Allows : Option Asked → Text → Answer → Type 0
 Allows (Some (solve game (Some id) budget)) input answer = AllowsSolve game budget id answer
-Allows (Some (solve game None budget)) input answer = AllowsEach (AllowsSolve game budget) (lines input) answer
+Allows (Some (solve game None budget)) input answer = AllowsEach (AllowsSolve game budget)
+    (lines input) answer
 Allows (Some (check game id)) input answer = AllowsCheck game id input answer
 Allows (Some (grade game id budget traced)) input answer = AllowsGrade game id budget traced answer
 Allows (Some (generate game size seed budget tries black)) input answer =

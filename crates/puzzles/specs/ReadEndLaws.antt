@@ -1,6 +1,6 @@
 -- What an end over a reader gave at one time and at the next: nothing, and both together.
 use Rattle.std.proofs.Common.{◌≡◌, ℕ, Bool, true, false, List, [], ◌∷◌, ◌++◌, Option, Some, None, refl, ap, sym, ◌∙◌, append_assoc, true≢false}
-use Rattle.puzzles.specs.declared.read_end.ReadEnd.{ReadEnd}
+use Rattle.puzzles.specs.declared.ends.read_end.ReadEnd.{ReadEnd}
 use Rattle.puzzles.specs.ReadEnds.{GaveBetween, Gave}
 
 between_nothing : (known : Option (List ℕ)) (ended : Bool) → GaveBetween known ended [] known ended

@@ -1,5 +1,5 @@
 -- What the words ask for.
-use Rattle.std.specs.Prelude.{◌≤◌, ⊤, false, ℕ, Bool, List, Option, Some, None, codes, if◌then◌else◌, option_and_then, option_map}
+use Rattle.std.specs.Prelude.{false, ℕ, Bool, List, Option, Some, None, codes, if◌then◌else◌, option_and_then, option_map}
 use Rattle.std.specs.Str.{bytes_eq}
 use Rattle.std.specs.Option.{option_map_or}
 use Rattle.clap.specs.Walk.{Row, Text, first_of}
@@ -24,14 +24,9 @@ pub data Asked : Type 0 where
 abbrev pub asked_in : Request → Asked
 asked_in (request.Solve game id budget) = solve game (option_map (λ s. s.now) id) budget
 asked_in (request.Check game id) = check game id.now
-asked_in (request.Grade game id budget trace) = grade game id.now budget trace
-asked_in (request.Generate game size seed budget tries black) =
-    generate game size.now seed budget tries black
-
--- the percentage of a request that has one is at most 100
-abbrev pub IsInRange : Request → Type 0
-IsInRange (request.Generate game size seed budget tries black) = black ≤ 100
-IsInRange _ = ⊤
+asked_in (request.Grade game id telling) = grade game id.now telling.budget telling.traced
+asked_in (request.Generate game size recipe) =
+    generate game size.now recipe.seed recipe.limits.budget recipe.limits.tries recipe.black.value
 
 abbrev pub game_of : Text → Option Game
 game_of text = if bytes_eq text (codes "solo") then Some Solo
@@ -56,14 +51,16 @@ check_in rows = option_and_then (λ game. option_map (λ id.
 
 -- the flag has the value `true` where it was used
 abbrev pub trace_in : List Row → Bool
-trace_in rows = option_map_or (λ text. bytes_eq text (codes "true")) (first_of (codes "trace") rows) false
+trace_in rows = option_map_or (λ text. bytes_eq text (codes "true"))
+    (first_of (codes "trace") rows) false
 
 abbrev pub grade_in : List Row → Option Asked
 grade_in rows = option_and_then (λ game. option_and_then (λ id. option_map (λ budget.
     grade game id budget (trace_in rows)) (budget_in rows)) (first_of (codes "id") rows))
     (game_in rows)
 
--- the percentage of black cells, 0 to 100, which only two games have: 50 and 20 where nothing is said
+-- the percentage of black cells, 0 to 100, which only two games have: 50 and 20 where nothing is
+-- said
 abbrev pub black_for : Game → Option Text → Option ℕ
 black_for Pattern text = number_or 50 100 text
 black_for LightUp text = number_or 20 100 text

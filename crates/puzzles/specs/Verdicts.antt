@@ -4,7 +4,8 @@ use Rattle.engine_core.specs.Verdict.{Outcome, Outcome.NoGrid, Outcome.OneGrid, 
 use Rattle.puzzles.specs.Answers.{Answer, Text}
 use Rattle.puzzles.specs.Replies.{none_answer, one_answer, several_answer, gave_up_answer}
 
--- no grid is a solution; this one is and no other; both are, and they differ; nothing, or that this one is
+-- no grid is a solution; this one is and no other; both are, and they differ; nothing, or that this
+-- one is
 abbrev pub IsRight : (List ℕ → Type 0) → Outcome → Type 0
 IsRight solves NoGrid = (g : List ℕ) → solves g → ⊥
 IsRight solves (OneGrid g) = solves g × ((h : List ℕ) → solves h → g ≡ h)

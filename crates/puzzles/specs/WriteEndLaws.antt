@@ -1,7 +1,7 @@
 -- What an end over a writer took at one time and at the next: nothing, and both together.
 use Rattle.std.proofs.Common.{ℕ, List, [], ◌++◌, Option, Some, None, ap, sym, ◌∙◌, append_assoc, append-nil}
 use Rattle.std.specs.Io.KnownBytes.{Appends}
-use Rattle.puzzles.specs.declared.write_end.WriteEnd.{WriteEnd}
+use Rattle.puzzles.specs.declared.ends.write_end.WriteEnd.{WriteEnd}
 use Rattle.puzzles.specs.WriteEnds.{Took}
 
 appends_nothing : (known : Option (List ℕ)) → Appends known known []

@@ -1,7 +1,7 @@
 -- What an end over a writer took, as far as the writer tells its bytes.
 use Rattle.std.specs.Prelude.{ℕ, Bool, List, Option}
 use Rattle.std.specs.Io.KnownBytes.{Appends}
-use Rattle.puzzles.specs.declared.write_end.WriteEnd.{WriteEnd}
+use Rattle.puzzles.specs.declared.ends.write_end.WriteEnd.{WriteEnd}
 
 abbrev pub writer_of : {W : Type 0} → WriteEnd W → W
 writer_of end = end.writer

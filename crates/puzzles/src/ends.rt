@@ -1,6 +1,11 @@
 //! Where the input comes from and where the text goes, one system call at a time.
 ghost use Rattle.std.specs.Prelude.{◌≡◌, ◌+◌, ◌<◌, ◌≤◌, ◌++◌, ℕ, Bool, false, not, List, [], length, is_none, IfSome};
-ghost use Rattle.puzzles.specs.Ends.{moved, is_end};
+ghost use Rattle.puzzles.specs.Ends.{handed, is_end};
+
+pub mod output;
+pub mod read_end;
+pub mod text;
+pub mod write_end;
 
 /// Most calls of `fetch` in one run.
 pub const CALL_LIMIT: u32 = 1_048_576;
@@ -39,7 +44,7 @@ pub trait Source {
         requires not_empty { 1 ≤ length buffer.old }
         requires not_large { length buffer.old ≤ CHUNK }
         ensures within { IfSome result (λ n. n ≤ length buffer.new) }
-        ensures bytes { gives self.old (moved result buffer.new) self.new }
+        ensures bytes { gives self.old (handed result buffer.new) self.new }
         ensures counted { call_count self.new ≡ call_count self.old + 1 }
         ensures failed { has_failed self.new ≡ is_none result }
         ensures ended { has_ended self.new ≡ is_end result };
@@ -71,7 +76,7 @@ pub trait Sink {
         requires not_empty { 1 ≤ length bytes.now }
         ensures some { IfSome result (λ n. 1 ≤ n) }
         ensures within { IfSome result (λ n. n ≤ length bytes.now) }
-        ensures bytes { takes self.old (moved result bytes.now) self.new }
+        ensures bytes { takes self.old (handed result bytes.now) self.new }
         ensures failed { has_failed self.new ≡ is_none result }
         ensures flushed { is_flushed self.new ≡ false };
 

@@ -5,24 +5,27 @@ ghost use Rattle.engine_core.specs.Puzzle.{needs_of, FitsIn};
 ghost use Rattle.puzzles.specs.Answers.{Text};
 ghost use Rattle.puzzles.specs.Grades.{IsGradeOf, TellsGrade, last_tried, light_grade, light_trace, listed_grade, only_set, tent_grade, tent_trace, pattern_grade, pattern_trace, grade_status, grade_text, rule_set_text};
 ghost use Rattle.puzzles.specs.Grading.{AllowsGrade};
-ghost use Rattle.puzzles.specs.IdAnswers.{AllowsRead};
+ghost use Rattle.puzzles.specs.IdAnswers.{AllowsId};
+ghost use Rattle.puzzles.specs.Statuses.{code_of};
 ghost use Rattle.puzzles.specs.Refusals.{refused, fault_text};
 ghost use Rattle.puzzles.specs.Stops.{IsSinkAfter, Tells, status_in};
 ghost use Rattle.puzzles.specs.Traces.{TellsSweeps, TellsVisits};
 
+pub mod grade_solo;
+pub mod named;
+pub mod settling;
+pub mod trace;
+
+use crate::answers::reply::{Reply, id_refused};
+use crate::answers::status::{Status, Stop};
 use crate::ends::Sink;
-use crate::named::Named;
-use crate::output::deliver;
-use crate::reply::{Reply, id_refused};
-use crate::settling::last_grade;
-use crate::solvable::Solvable;
-use crate::stop::Stop;
-use crate::trace::{push_closing, put_closing};
+use crate::ends::output::deliver;
+use crate::grade::named::Named;
+use crate::grade::settling::last_grade;
+use crate::grade::trace::{push_closing, put_closing};
+use crate::solve::solvable::Solvable;
 use engine_core::{Rules, Store};
-use gameid_core::{
-    Game, IdFault, LightPuzzle, PatternPuzzle, SoloPuzzle, TentsPuzzle, read_lights, read_pattern,
-    read_solo, read_tents,
-};
+use gameid_core::{Game, IdFault, LightPuzzle, PatternPuzzle, SoloPuzzle, TentsPuzzle};
 use itoa::Buffer;
 use std::alloc::{AllocError, Global};
 
@@ -56,6 +59,13 @@ impl RuleSet {
     }
 }
 
+/// What is wanted of a grade: how many trials a search may have, and whether a trace follows.
+#[derive(Clone, Copy)]
+pub struct Telling {
+    pub budget: u64,
+    pub traced: bool,
+}
+
 /// What a puzzle is graded as.
 #[derive(Clone, Copy)]
 pub enum Grade {
@@ -73,15 +83,14 @@ pub enum Grade {
 
 impl Grade {
     /// The status of a run that tells the grade.
-    pub fn status(self) -> u8
-        ensures value { result ≡ grade_status self }
-        ensures within { result < 5 }
+    pub fn status(self) -> Status
+        ensures { code_of result ≡ grade_status self }
     {
         match self {
-            Grade::ByRules(_) | Grade::BySearch(_) => 0,
-            Grade::NoSolution => 1,
-            Grade::SeveralSolutions => 3,
-            Grade::GaveUp => 4,
+            Grade::ByRules(_) | Grade::BySearch(_) => Status::Fine,
+            Grade::NoSolution => Status::Wrong,
+            Grade::SeveralSolutions => Status::Several,
+            Grade::GaveUp => Status::GaveUp,
         }
     }
 }
@@ -107,13 +116,15 @@ fn grade_line(alloc: Global, grade: Grade) -> Result<String, AllocError>
 }
 
 /// Refuses an ID with that first fault.
-fn refuse<O: Sink>(alloc: Global, fault: IdFault, output: &mut O) -> Result<u8, Stop>
+fn refuse<O: Sink>(alloc: Global, fault: IdFault, output: &mut O) -> Result<Status, Stop>
     requires { O.has_failed output.old ≡ false }
-    ensures told { Tells O.takes (λ a. a ≡ refused (fault_text fault)) output.old output.new (status_in result) }
-    ensures left { IsSinkAfter (status_in result) (O.has_failed output.new) (O.is_flushed output.new) }
+    ensures told { Tells O.takes (λ a. a ≡ refused (fault_text fault)) output.old output.new
+        (status_in result) }
+    ensures left { IsSinkAfter (status_in result) (O.has_failed output.new)
+        (O.is_flushed output.new) }
 {
     let reply = id_refused(alloc, fault)?;
-    Ok(deliver(output, &reply))
+    deliver(output, &reply)
 }
 
 /// Tells a grade, and where a trace is asked for the visits of a closing by these rules.
@@ -129,18 +140,21 @@ pub fn tell_with_visits<R: Rules, P: Named, O: Sink>(
     rules: &R,
     store: &mut Store<R>,
     output: &mut O,
-) -> Result<u8, Stop>
+) -> Result<Status, Stop>
     requires fits { FitsIn (needs_of (R.puzzle rules.now)) store.old.made }
     requires queue { (R.puzzle rules.now).by_queue ≡ true }
     requires named { (R.puzzle rules.now).houses ≤ P.named puzzle.now }
     requires not_failed { O.has_failed output.old ≡ false }
-    ensures told { Tells O.takes (TellsGrade grade traced (TellsVisits (P.name_of puzzle.now) (R.puzzle rules.now))) output.old output.new (status_in result) }
-    ensures left { IsSinkAfter (status_in result) (O.has_failed output.new) (O.is_flushed output.new) }
+    ensures told { Tells O.takes
+        (TellsGrade grade traced (TellsVisits (P.name_of puzzle.now) (R.puzzle rules.now)))
+        output.old output.new (status_in result) }
+    ensures left { IsSinkAfter (status_in result) (O.has_failed output.new)
+        (O.is_flushed output.new) }
 {
     let mut text = grade_line(alloc, grade)?;
     put_closing(puzzle, rules, store, traced, &mut text, output)?;
     let status = grade.status();
-    Ok(deliver(output, &Reply { text, status }))
+    deliver(output, &Reply { text, status })
 }
 
 /// Tells a grade, and where a trace is asked for the sweeps of a closing by these rules.
@@ -151,20 +165,23 @@ fn tell_with_sweeps<R: Rules, O: Sink>(
     rules: &R,
     store: &mut Store<R>,
     output: &mut O,
-) -> Result<u8, Stop>
+) -> Result<Status, Stop>
     requires fits { FitsIn (needs_of (R.puzzle rules.now)) store.old.made }
     requires sweeps { (R.puzzle rules.now).by_queue ≡ false }
     requires not_failed { O.has_failed output.old ≡ false }
-    ensures told { Tells O.takes (TellsGrade grade traced (TellsSweeps (R.puzzle rules.now))) output.old output.new (status_in result) }
-    ensures left { IsSinkAfter (status_in result) (O.has_failed output.new) (O.is_flushed output.new) }
+    ensures told { Tells O.takes (TellsGrade grade traced (TellsSweeps (R.puzzle rules.now)))
+        output.old output.new (status_in result) }
+    ensures left { IsSinkAfter (status_in result) (O.has_failed output.new)
+        (O.is_flushed output.new) }
 {
     let mut text = grade_line(alloc, grade)?;
     push_closing(rules, store, traced, &mut text)?;
     let status = grade.status();
-    Ok(deliver(output, &Reply { text, status }))
+    deliver(output, &Reply { text, status })
 }
 
-/// Tells the grade of a puzzle by these rules, the last in the list, and else by a search. They are closed by visits.
+/// Tells the grade of a puzzle by these rules, the last in the list, and else by a search. They are
+/// closed by visits.
 ///
 /// # Errors
 ///
@@ -174,10 +191,9 @@ pub fn tell_by_visits<P: Solvable + Named, R: Rules, O: Sink>(
     set: RuleSet,
     puzzle: &P,
     rules: &R,
-    budget: u64,
-    traced: bool,
+    telling: Telling,
     output: &mut O,
-) -> Result<u8, Stop>
+) -> Result<Status, Stop>
 where
     P::Search: Rules,
     requires means { (rules : P.Search) → P.Search.puzzle rules ≡ P.meaning rules }
@@ -186,14 +202,25 @@ where
     requires accepted { (g : List ℕ) → Solves (R.puzzle rules.now) g ↔ P.solves puzzle.now g }
     requires not_failed { O.has_failed output.old ≡ false }
     ensures told { Tells O.takes (IsGradeOf (P.solves puzzle.now)
-        (listed_grade (only_set set (R.puzzle rules.now)) (P.rules_of puzzle.now) budget) traced
-        (TellsVisits (P.name_of puzzle.now) (last_tried (P.rules_of puzzle.now) (only_set set (R.puzzle rules.now)))))
+        (listed_grade (only_set set (R.puzzle rules.now)) (P.rules_of puzzle.now) telling.budget)
+        telling.traced
+        (TellsVisits (P.name_of puzzle.now)
+        (last_tried (P.rules_of puzzle.now) (only_set set (R.puzzle rules.now)))))
         output.old output.new (status_in result) }
-    ensures left { IsSinkAfter (status_in result) (O.has_failed output.new) (O.is_flushed output.new) }
+    ensures left { IsSinkAfter (status_in result) (O.has_failed output.new)
+        (O.is_flushed output.new) }
 {
     let mut store = Store::new(alloc, rules)?;
-    let grade = last_grade(alloc, set, puzzle, rules, &mut store, budget)?;
-    tell_with_visits(alloc, grade, traced, puzzle, rules, &mut store, output)
+    let grade = last_grade(alloc, set, puzzle, rules, &mut store, telling.budget)?;
+    tell_with_visits(
+        alloc,
+        grade,
+        telling.traced,
+        puzzle,
+        rules,
+        &mut store,
+        output,
+    )
 }
 
 /// The same by rules that are closed by sweeps.
@@ -202,10 +229,9 @@ fn tell_by_sweeps<P: Solvable, R: Rules, O: Sink>(
     set: RuleSet,
     puzzle: &P,
     rules: &R,
-    budget: u64,
-    traced: bool,
+    telling: Telling,
     output: &mut O,
-) -> Result<u8, Stop>
+) -> Result<Status, Stop>
 where
     P::Search: Rules,
     requires means { (rules : P.Search) → P.Search.puzzle rules ≡ P.meaning rules }
@@ -213,14 +239,16 @@ where
     requires accepted { (g : List ℕ) → Solves (R.puzzle rules.now) g ↔ P.solves puzzle.now g }
     requires not_failed { O.has_failed output.old ≡ false }
     ensures told { Tells O.takes (IsGradeOf (P.solves puzzle.now)
-        (listed_grade (only_set set (R.puzzle rules.now)) (P.rules_of puzzle.now) budget) traced
+        (listed_grade (only_set set (R.puzzle rules.now)) (P.rules_of puzzle.now) telling.budget)
+        telling.traced
         (TellsSweeps (last_tried (P.rules_of puzzle.now) (only_set set (R.puzzle rules.now)))))
         output.old output.new (status_in result) }
-    ensures left { IsSinkAfter (status_in result) (O.has_failed output.new) (O.is_flushed output.new) }
+    ensures left { IsSinkAfter (status_in result) (O.has_failed output.new)
+        (O.is_flushed output.new) }
 {
     let mut store = Store::new(alloc, rules)?;
-    let grade = last_grade(alloc, set, puzzle, rules, &mut store, budget)?;
-    tell_with_sweeps(alloc, grade, traced, rules, &mut store, output)
+    let grade = last_grade(alloc, set, puzzle, rules, &mut store, telling.budget)?;
+    tell_with_sweeps(alloc, grade, telling.traced, rules, &mut store, output)
 }
 
 /// A puzzle that can be graded.
@@ -237,18 +265,16 @@ pub trait Graded: Solvable {
     ///
     /// # Errors
     ///
-    /// When memory was refused, or the sink failed. A beginning of the text was put then, or nothing.
-    fn tell<O: Sink>(
-        &self,
-        alloc: Global,
-        budget: u64,
-        traced: bool,
-        output: &mut O,
-    ) -> Result<u8, Stop>
+    /// When memory was refused, or the sink failed. A beginning of the text was put then, or
+    /// nothing.
+    fn tell<O: Sink>(&self, alloc: Global, telling: Telling, output: &mut O) -> Result<Status, Stop>
         requires { O.has_failed output.old ≡ false }
-        ensures told { Tells O.takes (IsGradeOf (Self.solves self.now) (grade_of budget self.now) traced (trace_of self.now))
+        ensures told { Tells O.takes
+            (IsGradeOf (Self.solves self.now) (grade_of telling.budget self.now) telling.traced
+            (trace_of self.now))
             output.old output.new (status_in result) }
-        ensures left { IsSinkAfter (status_in result) (O.has_failed output.new) (O.is_flushed output.new) };
+        ensures left { IsSinkAfter (status_in result) (O.has_failed output.new)
+            (O.is_flushed output.new) };
 }
 
 impl Graded for PatternPuzzle {
@@ -259,13 +285,12 @@ impl Graded for PatternPuzzle {
     fn tell<O: Sink>(
         &self,
         alloc: Global,
-        budget: u64,
-        traced: bool,
+        telling: Telling,
         output: &mut O,
-    ) -> Result<u8, Stop> {
+    ) -> Result<Status, Stop> {
         let lines = self.rules(alloc)?;
         let set = RuleSet::Lines;
-        tell_by_visits(alloc, set, self, &lines, budget, traced, output)
+        tell_by_visits(alloc, set, self, &lines, telling, output)
     }
 }
 
@@ -277,13 +302,12 @@ impl Graded for LightPuzzle {
     fn tell<O: Sink>(
         &self,
         alloc: Global,
-        budget: u64,
-        traced: bool,
+        telling: Telling,
         output: &mut O,
-    ) -> Result<u8, Stop> {
+    ) -> Result<Status, Stop> {
         let local = self.rules(alloc)?;
         let set = RuleSet::Local;
-        tell_by_sweeps(alloc, set, self, &local, budget, traced, output)
+        tell_by_sweeps(alloc, set, self, &local, telling, output)
     }
 }
 
@@ -295,74 +319,61 @@ impl Graded for TentsPuzzle {
     fn tell<O: Sink>(
         &self,
         alloc: Global,
-        budget: u64,
-        traced: bool,
+        telling: Telling,
         output: &mut O,
-    ) -> Result<u8, Stop> {
+    ) -> Result<Status, Stop> {
         let local = self.rules(alloc)?;
         let set = RuleSet::Local;
-        tell_by_sweeps(alloc, set, self, &local, budget, traced, output)
+        tell_by_sweeps(alloc, set, self, &local, telling, output)
     }
 }
 
-/// Tells the grade of a puzzle that was read, or the fault of its ID.
-fn grade_read<P: Graded + Drop, O: Sink>(
+/// Tells the grade of an ID, or its fault.
+fn grade_one<P: Graded + Drop, O: Sink>(
     alloc: Global,
-    puzzle: Result<P, IdFault>,
-    budget: u64,
-    traced: bool,
+    id: &[u8],
+    telling: Telling,
     output: &mut O,
-) -> Result<u8, Stop>
+) -> Result<Status, Stop>
     requires { O.has_failed output.old ≡ false }
-    ensures told { Tells O.takes (AllowsRead puzzle (λ p. IsGradeOf (P.solves p) (P.grade_of budget p) traced (P.trace_of p)))
+    ensures told { Tells O.takes (AllowsId (P.reading id.now) (P.spells id.now)
+        (λ p. IsGradeOf (P.solves p) (P.grade_of telling.budget p) telling.traced (P.trace_of p)))
         output.old output.new (status_in result) }
-    ensures left { IsSinkAfter (status_in result) (O.has_failed output.new) (O.is_flushed output.new) }
+    ensures left { IsSinkAfter (status_in result) (O.has_failed output.new)
+        (O.is_flushed output.new) }
 {
-    match puzzle {
-        Ok(puzzle) => puzzle.tell(alloc, budget, traced, output),
+    match P::read_id(alloc, id) {
+        Ok(puzzle) => puzzle.tell(alloc, telling, output),
         Err(IdFault::Memory) => Err(Stop::Memory),
         Err(fault) => refuse(alloc, fault, output),
     }
 }
 
-/// Tells the grade of an ID of the game.
-fn tell_id<O: Sink>(
-    alloc: Global,
-    game: Game,
-    id: &[u8],
-    budget: u64,
-    traced: bool,
-    output: &mut O,
-) -> Result<u8, Stop>
-    requires { O.has_failed output.old ≡ false }
-    ensures told { Tells O.takes (AllowsGrade game id.now budget traced) output.old output.new (status_in result) }
-    ensures left { IsSinkAfter (status_in result) (O.has_failed output.new) (O.is_flushed output.new) }
-{
-    match game {
-        Game::Solo => grade_read(alloc, read_solo(alloc, id), budget, traced, output),
-        Game::Pattern => grade_read(alloc, read_pattern(alloc, id), budget, traced, output),
-        Game::LightUp => grade_read(alloc, read_lights(alloc, id), budget, traced, output),
-        Game::Tents => grade_read(alloc, read_tents(alloc, id), budget, traced, output),
-    }
-}
-
-/// Tells the grade of an ID of the game: the name of the first rule set whose closing of the start board gives the
-/// solution, and else what a search with the budget says. Where a trace is asked for, the closing by the last rule set that
-/// was tried follows, in pieces, so that it is never held whole. It gives the status of the run.
+/// Tells the grade of an ID of the game: the name of the first rule set whose closing of the start
+/// board gives the solution, and else what a search with the budget says. Where a trace is asked
+/// for, the closing by the last rule set that was tried follows, in pieces, so that it is never
+/// held whole. It gives the status.
+///
+/// # Errors
+///
+/// When memory was refused, or the sink failed. A beginning of the text was put then, or nothing.
 pub fn grade_id<O: Sink>(
     alloc: Global,
     game: Game,
     id: &[u8],
-    budget: u64,
-    traced: bool,
+    telling: Telling,
     output: &mut O,
-) -> u8
+) -> Result<Status, Stop>
     requires { O.has_failed output.old ≡ false }
-    ensures told { Tells O.takes (AllowsGrade game id.now budget traced) output.old output.new result }
-    ensures left { IsSinkAfter result (O.has_failed output.new) (O.is_flushed output.new) }
+    ensures told { Tells O.takes (AllowsGrade game id.now telling.budget telling.traced) output.old
+        output.new (status_in result) }
+    ensures left { IsSinkAfter (status_in result) (O.has_failed output.new)
+        (O.is_flushed output.new) }
 {
-    match tell_id(alloc, game, id, budget, traced, output) {
-        Ok(status) => status,
-        Err(stop) => stop.status(),
+    match game {
+        Game::Solo => grade_one::<SoloPuzzle, O>(alloc, id, telling, output),
+        Game::Pattern => grade_one::<PatternPuzzle, O>(alloc, id, telling, output),
+        Game::LightUp => grade_one::<LightPuzzle, O>(alloc, id, telling, output),
+        Game::Tents => grade_one::<TentsPuzzle, O>(alloc, id, telling, output),
     }
 }

@@ -1,35 +1,31 @@
 //! One run of the program.
-ghost use Rattle.std.specs.Prelude.{◌≡◌, ◌<◌, ◌≤◌, true, false, map, option_map, string_bytes, IfOk, IfSome};
+ghost use Rattle.std.specs.Prelude.{◌≡◌, ◌<◌, ◌≤◌, true, false, map, option_map, string_bytes, IfOk};
 ghost use Rattle.puzzles.specs.Answers.{BeginsAnswer, Text};
 ghost use Rattle.puzzles.specs.Outputs.{Allows, is_put_whole, reads_input};
 ghost use Rattle.puzzles.specs.Replies.{answer_in};
-ghost use Rattle.puzzles.specs.Requests.{asked_in, asked_of, IsInRange};
-ghost use Rattle.puzzles.specs.Runs.{Ran, IsBroken};
+ghost use Rattle.puzzles.specs.Requests.{asked_in, asked_of};
+ghost use Rattle.puzzles.specs.Runs.{AreNew, LeavesEnds, Ran, IsBroken};
+ghost use Rattle.puzzles.specs.Stops.{status_in};
 
+use crate::answers::reply::{Reply, words_refused};
+use crate::answers::status::{NO_MEMORY, Status, Stop};
 use crate::batch::solve_lines;
 use crate::check::check_id;
+use crate::ends::output::deliver;
+use crate::ends::read_end::ReadEnd;
+use crate::ends::write_end::WriteEnd;
 use crate::ends::{Sink, Source};
 use crate::generate::generated;
 use crate::grade::grade_id;
-use crate::output::deliver;
-use crate::read_end::ReadEnd;
-use crate::reply::{Reply, words_refused};
-use crate::solve::{Stores, solve_id};
+use crate::solve::{Stores, Task};
 use crate::words::{Request, read_words};
-use crate::write_end::WriteEnd;
-use maker_core::Limits;
 use std::alloc::{AllocError, Global};
-
-/// The status of a run that wanted memory.
-pub const NO_MEMORY: u8 = 5;
 
 /// The answer to a request that is made whole before it is put, and leaves the input unread.
 fn reply_to(alloc: Global, request: Option<Request<'_>>) -> Result<Reply, AllocError>
-    requires within { IfSome request IsInRange }
-    requires whole { is_put_whole (option_map asked_in request) ≡ true }
-    ensures allowed { IfOk result (λ r. (input : Text)
+    requires { is_put_whole (option_map asked_in request) ≡ true }
+    ensures { IfOk result (λ r. (input : Text)
         → Allows (option_map asked_in request.entry) input (answer_in r)) }
-    ensures status { IfOk result (λ r. r.status < NO_MEMORY) }
 {
     match request {
         Some(
@@ -38,39 +34,60 @@ fn reply_to(alloc: Global, request: Option<Request<'_>>) -> Result<Reply, AllocE
                 id: Some(id),
                 budget,
             },
-        ) => solve_id(
-            alloc,
-            &mut Stores::none(),
-            game,
-            id.as_bytes(),
-            budget,
-            String::new(alloc),
-        ),
-        Some(
-            Request::Generate {
-                game,
-                size,
-                seed,
-                budget,
-                tries,
-                black,
-            },
-        ) => generated(
+        ) => {
+            let task = Task { game, budget };
+            Stores::none().solve_id(alloc, task, id.as_bytes(), String::new(alloc))
+        }
+        Some(Request::Generate { game, size, recipe }) => generated(
             alloc,
             game,
             size.as_bytes(),
-            seed,
-            Limits { budget, tries },
-            black,
+            recipe,
         ),
         _ => words_refused(alloc),
     }
 }
 
-/// Does what the words after the program's name ask for, and gives the status:
-/// 0 to 4 where the whole answer was written, 5 where memory was wanted, and 6 where an end failed, and always where one
-/// did. After 5 and 6 what was written is the beginning of an answer, or nothing.
-/// An input that is read at all is read to its end, unless memory was wanted or an end failed.
+/// Does what the words after the program's name ask for, as `run` says.
+fn answer<I: Source, O: Sink>(
+    alloc: Global,
+    words: &[String],
+    input: &mut I,
+    output: &mut O,
+) -> Result<Status, Stop>
+    requires { AreNew (I.call_count input.old) (I.has_failed input.old) (I.has_ended input.old)
+        (O.has_failed output.old) }
+    ensures ran { Ran I.gives I.has_ended O.takes (Allows (asked_of (map string_bytes words.now)))
+        input.old input.new output.old output.new (status_in result) }
+    ensures left { LeavesEnds (reads_input (asked_of (map string_bytes words.now)))
+        (I.call_count input.new) (I.has_failed input.new) (I.has_ended input.new)
+        (O.has_failed output.new) (O.is_flushed output.new) (status_in result) }
+{
+    let request = read_words(alloc, words)?;
+    if let Some(
+        Request::Solve {
+            game,
+            id: None,
+            budget,
+        },
+    ) = request
+    {
+        return solve_lines(alloc, Task { game, budget }, input, output);
+    }
+    if let Some(Request::Grade { game, id, telling }) = request {
+        return grade_id(alloc, game, id.as_bytes(), telling, output);
+    }
+    if let Some(Request::Check { game, id }) = request {
+        return check_id(alloc, game, id.as_bytes(), input, output);
+    }
+    let reply = reply_to(alloc, request)?;
+    deliver(output, &reply)
+}
+
+/// Does what the words after the program's name ask for, and gives the status: 0 to 4 where the
+/// whole answer was written, 5 where memory was wanted, and 6 where an end failed, and always where
+/// one did. After 5 and 6 what was written is the beginning of an answer, or nothing. An input that
+/// is read at all is read to its end, unless memory was wanted or an end failed.
 pub fn run<I: Source, O: Sink>(alloc: Global, words: &[String], input: &mut I, output: &mut O) -> u8
     requires no_calls { I.call_count input.old ≡ 0 }
     requires input_fine { I.has_failed input.old ≡ false }
@@ -89,37 +106,9 @@ pub fn run<I: Source, O: Sink>(alloc: Global, words: &[String], input: &mut I, o
     ensures ended { reads_input (asked_of (map string_bytes words.now)) ≡ true
         → result < NO_MEMORY → I.has_ended input.new ≡ true }
 {
-    let request = match read_words(alloc, words) {
-        Ok(request) => request,
-        Err(_) => return NO_MEMORY,
-    };
-    if let Some(
-        Request::Solve {
-            game,
-            id: None,
-            budget,
-        },
-    ) = request
-    {
-        return solve_lines(alloc, game, budget, input, output);
-    }
-    if let Some(
-        Request::Grade {
-            game,
-            id,
-            budget,
-            trace,
-        },
-    ) = request
-    {
-        return grade_id(alloc, game, id.as_bytes(), budget, trace, output);
-    }
-    if let Some(Request::Check { game, id }) = request {
-        return check_id(alloc, game, id.as_bytes(), input, output);
-    }
-    match reply_to(alloc, request) {
-        Ok(reply) => deliver(output, &reply),
-        Err(_) => NO_MEMORY,
+    match answer(alloc, words, input, output) {
+        Ok(status) => status.code(),
+        Err(stop) => stop.code(),
     }
 }
 

@@ -4,18 +4,20 @@ ghost use Rattle.engine_core.specs.Puzzle.{FitsIn, needs_of};
 ghost use Rattle.engine_core.specs.Verdict.{IsTrueOf, verdict_of};
 ghost use Rattle.puzzles.specs.Each.{HasAnswers};
 ghost use Rattle.gameid_core.specs.GridTexts.{grid_text};
-ghost use Rattle.puzzles.specs.IdAnswers.{AllowsRead};
+ghost use Rattle.puzzles.specs.IdAnswers.{AllowsId};
 ghost use Rattle.puzzles.specs.Solving.{IsSolved, AllowsSolve};
 ghost use Rattle.puzzles.specs.Replies.{answer_in};
 ghost use Rattle.puzzles.specs.Verdicts.{verdict_answer};
 
-use crate::reply::{
+pub mod solvable;
+
+use crate::answers::reply::{
     Reply, gave_up_reply, gave_up_with_reply, id_refused_in, none_reply, one_reply, several_reply,
 };
-use crate::solvable::Solvable;
+use crate::solve::solvable::Solvable;
 use engine_core::{Rules, Store, Verdict};
 use fields_core::{LightRules, TentRules};
-use gameid_core::{Game, IdFault, Printed, read_lights, read_pattern, read_solo, read_tents};
+use gameid_core::{Game, IdFault, LightPuzzle, PatternPuzzle, Printed, SoloPuzzle, TentsPuzzle};
 use pattern_core::PatternLines;
 use solo_core::SoloHouses;
 use std::alloc::{AllocError, Global};
@@ -32,7 +34,8 @@ pub struct Stores {
 impl Stores {
     /// No memory yet.
     pub fn none() -> Stores
-        ensures { ((result.solo ≡ None) × (result.pattern ≡ None)) × ((result.lights ≡ None) × (result.tents ≡ None)) }
+        ensures { ((result.solo ≡ None) × (result.pattern ≡ None))
+            × ((result.lights ≡ None) × (result.tents ≡ None)) }
     {
         Stores {
             solo: None,
@@ -59,22 +62,23 @@ fn store_for<R: Rules>(
 
 /// The answer of a search by the rules of the puzzle, in the memory of a text.
 fn searched<P: Printed, R: Rules>(
-    alloc: Global,
-    kept: &mut Option<Store<R>>,
+    store: &mut Store<R>,
     puzzle: &P,
     rules: &R,
     budget: u64,
     text: String,
 ) -> Result<Reply, AllocError>
-    requires cells { (R.puzzle rules.now).cells ≡ (P.extent puzzle.now).w * (P.extent puzzle.now).h }
+    requires fits { FitsIn (needs_of (R.puzzle rules.now)) store.old.made }
+    requires cells { (R.puzzle rules.now).cells ≡ (P.extent puzzle.now).w
+        * (P.extent puzzle.now).h }
     requires values { (R.puzzle rules.now).values ≡ P.value_count puzzle.now }
-    ensures told { IfOk result (λ r. answer_in r
-        ≡ verdict_answer (λ g. grid_text (P.cell_text puzzle.now g) (P.extent puzzle.now)) (verdict_of (R.puzzle rules.now) budget)) }
-    ensures right { IfOk result (λ r. IsTrueOf (R.puzzle rules.now) (verdict_of (R.puzzle rules.now) budget)) }
-    ensures status { IfOk result (λ r. r.status < 5) }
+    ensures told { IfOk result (λ r. answer_in r ≡ verdict_answer
+        (λ g. grid_text (P.cell_text puzzle.now g) (P.extent puzzle.now))
+        (verdict_of (R.puzzle rules.now) budget)) }
+    ensures right { IfOk result
+        (λ r. IsTrueOf (R.puzzle rules.now) (verdict_of (R.puzzle rules.now) budget)) }
 {
-    let mut store = store_for(alloc, kept, rules)?;
-    let reply = match store.solve(rules, budget) {
+    match store.solve(rules, budget) {
         Verdict::None => none_reply(text),
         Verdict::One => one_reply(text, puzzle, store.first().unwrap()),
         Verdict::Several => {
@@ -85,76 +89,74 @@ fn searched<P: Printed, R: Rules>(
             gave_up_with_reply(text, puzzle, store.first().unwrap())
         }
         Verdict::GaveUp { found: false } => gave_up_reply(text),
-    }?;
-    *kept = Some(store);
-    Ok(reply)
+    }
 }
 
-/// The answer to a puzzle that was read and is to be solved, or to the fault of its ID.
-fn solve_read<P: Solvable + Drop>(
+/// The answer to an ID that is to be solved, as `solve_id` says.
+fn solve_one<P: Solvable + Drop>(
     alloc: Global,
     kept: &mut Option<Store<P::Search>>,
-    puzzle: Result<P, IdFault>,
+    id: &[u8],
     budget: u64,
     text: String,
 ) -> Result<Reply, AllocError>
 where
     P::Search: Rules,
     requires means { (rules : P.Search) → P.Search.puzzle rules ≡ P.meaning rules }
-    ensures allowed { IfOk result (λ r. AllowsRead puzzle
-        (λ p. IsSolved (P.solves p) (P.rules_of p) (P.cell_text p) (P.extent p) budget) (answer_in r)) }
-    ensures status { IfOk result (λ r. r.status < 5) }
+    ensures { IfOk result (λ r. AllowsId (P.reading id.now) (P.spells id.now)
+        (λ p. IsSolved (P.solves p) (P.rules_of p) (P.cell_text p) (P.extent p) budget)
+        (answer_in r)) }
 {
-    match puzzle {
+    match P::read_id(alloc, id) {
         Ok(puzzle) => {
             let rules = puzzle.rules(alloc)?;
-            searched(alloc, kept, &puzzle, &rules, budget, text)
+            let mut store = store_for(alloc, kept, &rules)?;
+            let reply = searched(&mut store, &puzzle, &rules, budget, text)?;
+            *kept = Some(store);
+            Ok(reply)
         }
         Err(IdFault::Memory) => Err(AllocError),
         Err(fault) => id_refused_in(text, fault),
     }
 }
 
-/// The answer to an ID of the game that is to be solved with so many trials at most: its first fault, or the verdict with
-/// its grids, in the memory of `text`, of which nothing else stays. The search works in the memory of `stores` where that
-/// is enough, and in new memory where not, which is left there for the next.
-///
-/// # Errors
-///
-/// When memory was refused.
-pub fn solve_id(
-    alloc: Global,
-    stores: &mut Stores,
-    game: Game,
-    id: &[u8],
-    budget: u64,
-    text: String,
-) -> Result<Reply, AllocError>
-    ensures allowed { IfOk result (λ r. AllowsSolve game budget id.now (answer_in r)) }
-    ensures status { IfOk result (λ r. r.status < 5) }
-{
-    match game {
-        Game::Solo => {
-            let puzzle = read_solo(alloc, id);
-            solve_read(alloc, &mut stores.solo, puzzle, budget, text)
-        }
-        Game::Pattern => {
-            let puzzle = read_pattern(alloc, id);
-            solve_read(alloc, &mut stores.pattern, puzzle, budget, text)
-        }
-        Game::LightUp => {
-            let puzzle = read_lights(alloc, id);
-            solve_read(alloc, &mut stores.lights, puzzle, budget, text)
-        }
-        Game::Tents => {
-            let puzzle = read_tents(alloc, id);
-            solve_read(alloc, &mut stores.tents, puzzle, budget, text)
+/// What is asked of an ID that is to be solved: its game, and how many trials there may be.
+#[derive(Clone, Copy)]
+pub struct Task {
+    pub game: Game,
+    pub budget: u64,
+}
+
+impl Stores {
+    /// The answer to an ID that is to be solved: its first fault, or the verdict with its grids, in
+    /// the memory of `text`, of which nothing else stays. The search works in the memory of the
+    /// stores where that is enough, and in new memory where not, which is left there for the next.
+    ///
+    /// # Errors
+    ///
+    /// When memory was refused.
+    pub fn solve_id(
+        &mut self,
+        alloc: Global,
+        task: Task,
+        id: &[u8],
+        text: String,
+    ) -> Result<Reply, AllocError>
+        ensures { IfOk result (λ r. AllowsSolve task.game task.budget id.now (answer_in r)) }
+    {
+        let budget = task.budget;
+        match task.game {
+            Game::Solo => solve_one::<SoloPuzzle>(alloc, &mut self.solo, id, budget, text),
+            Game::Pattern => solve_one::<PatternPuzzle>(alloc, &mut self.pattern, id, budget, text),
+            Game::LightUp => solve_one::<LightPuzzle>(alloc, &mut self.lights, id, budget, text),
+            Game::Tents => solve_one::<TentsPuzzle>(alloc, &mut self.tents, id, budget, text),
         }
     }
 }
 
-/// Each text has an answer, for each game and budget: it spells a puzzle or has a fault, and the verdict of a puzzle's
-/// walk is right of its solutions. This call does nothing: its contract is the law.
+/// Each text has an answer, for each game and budget: it spells a puzzle or has a fault, and the
+/// verdict of a puzzle's walk is right of its solutions. This call does nothing: its contract is
+/// the law.
 pub fn each_text_has_an_answer()
     ensures { (game : Game) (budget : ℕ) → HasAnswers (AllowsSolve game budget) }
 {

@@ -6,11 +6,15 @@ ghost use Rattle.clap.specs.Simple.{app_of, subcommand_rows_of};
 ghost use Rattle.clap.specs.Matches.{found_of};
 ghost use Rattle.clap.specs.declared.builder.command.Command.TheViews.{out-Command as fields_of};
 ghost use Rattle.puzzles.specs.CommandLine.{required_word, optional_word, text_option, flag, solve_app, check_app, grade_app, generate_needs_app, generate_app, bare_app, puzzles_app, parsed};
-ghost use Rattle.puzzles.specs.Requests.{asked_in, game_of, game_in, budget_in, solve_in, check_in, trace_in, grade_in, seed_in, tries_in, black_in, generate_in, asked_by, asked_of, IsInRange};
+ghost use Rattle.puzzles.specs.Requests.{asked_in, game_of, game_in, budget_in, solve_in, check_in, trace_in, grade_in, seed_in, tries_in, black_in, generate_in, asked_by, asked_of};
 
+use crate::generate::Recipe;
+use crate::generate::percent::Percent;
+use crate::grade::Telling;
 use clap::error::ErrorKind;
 use clap::{Arg, ArgAction, ArgMatches, Command};
 use gameid_core::Game;
+use maker_core::Limits;
 use std::alloc::{AllocError, Global};
 
 /// The budget where the words name none.
@@ -20,10 +24,10 @@ pub const BUDGET: u64 = 100_000;
 pub const TRIES: u32 = 1_000;
 
 /// The percentage of black cells in Pattern where the words name none.
-pub const PATTERN_BLACK: u64 = 50;
+pub const PATTERN_BLACK: Percent = Percent { value: 50 };
 
 /// The percentage of black cells in Light Up where the words name none.
-pub const LIGHT_UP_BLACK: u64 = 20;
+pub const LIGHT_UP_BLACK: Percent = Percent { value: 20 };
 
 /// The highest percentage of black cells.
 pub const MOST_BLACK: u64 = 100;
@@ -45,17 +49,12 @@ pub enum Request<'a> {
     Grade {
         game: Game,
         id: &'a str,
-        budget: u64,
-        trace: bool,
+        telling: Telling,
     },
-    /// `black` is a percentage of cells, and 0 for the games that have none.
     Generate {
         game: Game,
         size: &'a str,
-        seed: u64,
-        budget: u64,
-        tries: u32,
-        black: u8,
+        recipe: Recipe,
     },
 }
 
@@ -233,8 +232,7 @@ fn budget_from<'a>(matches: &ArgMatches<'a>) -> Option<u64>
 }
 
 fn solve_request<'a>(matches: &ArgMatches<'a>) -> Option<Request<'a>>
-    ensures value { option_map asked_in result ≡ solve_in (rows_of (found_of matches.now)) }
-    ensures within { IfSome result IsInRange }
+    ensures { option_map asked_in result ≡ solve_in (rows_of (found_of matches.now)) }
 {
     let game = game_from(matches)?;
     let budget = budget_from(matches)?;
@@ -243,8 +241,7 @@ fn solve_request<'a>(matches: &ArgMatches<'a>) -> Option<Request<'a>>
 }
 
 fn check_request<'a>(matches: &ArgMatches<'a>) -> Option<Request<'a>>
-    ensures value { option_map asked_in result ≡ check_in (rows_of (found_of matches.now)) }
-    ensures within { IfSome result IsInRange }
+    ensures { option_map asked_in result ≡ check_in (rows_of (found_of matches.now)) }
 {
     let game = game_from(matches)?;
     let id = text_of(matches, "id")?;
@@ -261,19 +258,14 @@ fn trace_from<'a>(matches: &ArgMatches<'a>) -> bool
 }
 
 fn grade_request<'a>(matches: &ArgMatches<'a>) -> Option<Request<'a>>
-    ensures value { option_map asked_in result ≡ grade_in (rows_of (found_of matches.now)) }
-    ensures within { IfSome result IsInRange }
+    ensures { option_map asked_in result ≡ grade_in (rows_of (found_of matches.now)) }
 {
     let game = game_from(matches)?;
     let id = text_of(matches, "id")?;
     let budget = budget_from(matches)?;
-    let trace = trace_from(matches);
-    Some(Request::Grade {
-        game,
-        id,
-        budget,
-        trace,
-    })
+    let traced = trace_from(matches);
+    let telling = Telling { budget, traced };
+    Some(Request::Grade { game, id, telling })
 }
 
 fn seed_from<'a>(matches: &ArgMatches<'a>) -> Option<u64>
@@ -289,25 +281,32 @@ fn tries_from<'a>(matches: &ArgMatches<'a>) -> Option<u32>
     Some(tries as u32)
 }
 
+/// A percentage, or another where the words name none.
+fn percent_or(text: Option<&str>, otherwise: Percent) -> Option<Percent>
+    ensures { option_map (λ p. p.value) result
+        ≡ number_or otherwise.value 100 (option_map (λ s. s.now) text.entry) }
+{
+    let value = number_or(text, MOST_BLACK, u64::from(otherwise.value))? as u8;
+    Some(Percent { value })
+}
+
 /// The percentage of black cells, which only Pattern and Light Up have.
-fn black_from<'a>(game: Game, matches: &ArgMatches<'a>) -> Option<u8>
-    ensures value { result ≡ black_in game (rows_of (found_of matches.now)) }
-    ensures within { IfSome result (λ n. n ≤ 100) }
+fn black_from<'a>(game: Game, matches: &ArgMatches<'a>) -> Option<Percent>
+    ensures { option_map (λ p. p.value) result ≡ black_in game (rows_of (found_of matches.now)) }
 {
     let text = text_of(matches, "black");
     match game {
-        Game::Pattern => Some(number_or(text, MOST_BLACK, PATTERN_BLACK)? as u8),
-        Game::LightUp => Some(number_or(text, MOST_BLACK, LIGHT_UP_BLACK)? as u8),
+        Game::Pattern => percent_or(text, PATTERN_BLACK),
+        Game::LightUp => percent_or(text, LIGHT_UP_BLACK),
         _ => match text {
             Some(_) => None,
-            None => Some(0),
+            None => Some(Percent { value: 0 }),
         },
     }
 }
 
 fn generate_request<'a>(matches: &ArgMatches<'a>) -> Option<Request<'a>>
-    ensures value { option_map asked_in result ≡ generate_in (rows_of (found_of matches.now)) }
-    ensures within { IfSome result IsInRange }
+    ensures { option_map asked_in result ≡ generate_in (rows_of (found_of matches.now)) }
 {
     let game = game_from(matches)?;
     let size = text_of(matches, "size")?;
@@ -315,19 +314,17 @@ fn generate_request<'a>(matches: &ArgMatches<'a>) -> Option<Request<'a>>
     let budget = budget_from(matches)?;
     let tries = tries_from(matches)?;
     let black = black_from(game, matches)?;
-    Some(Request::Generate {
-        game,
-        size,
+    let limits = Limits { budget, tries };
+    let recipe = Recipe {
         seed,
-        budget,
-        tries,
+        limits,
         black,
-    })
+    };
+    Some(Request::Generate { game, size, recipe })
 }
 
 fn request_by<'a>(name: &str, matches: &ArgMatches<'a>) -> Option<Request<'a>>
-    ensures value { option_map asked_in result ≡ asked_by name.now (rows_of (found_of matches.now)) }
-    ensures within { IfSome result IsInRange }
+    ensures { option_map asked_in result ≡ asked_by name.now (rows_of (found_of matches.now)) }
 {
     match name {
         "solve" => solve_request(matches),
@@ -339,22 +336,22 @@ fn request_by<'a>(name: &str, matches: &ArgMatches<'a>) -> Option<Request<'a>>
 }
 
 fn request_in<'a>(matches: &ArgMatches<'a>) -> Option<Request<'a>>
-    ensures value { option_map asked_in result
+    ensures { option_map asked_in result
         ≡ option_and_then (λ p. asked_by p.0 p.1) (subcommand_rows_of matches.now) }
-    ensures within { IfSome result IsInRange }
 {
     let (name, found) = matches.subcommand()?;
     request_by(name, found)
 }
 
-/// What the words ask for, or nothing where they are refused. The words are those after the program's name.
+/// What the words ask for, or nothing where they are refused. The words are those after the
+/// program's name.
 ///
 /// # Errors
 ///
 /// When memory was refused.
 pub fn read_words<'a>(alloc: Global, words: &'a [String]) -> Result<Option<Request<'a>>, AllocError>
-    ensures value { IfOk result (λ r. option_map asked_in r ≡ asked_of (map string_bytes words.entry.now)) }
-    ensures within { IfOk result (λ r. IfSome r IsInRange) }
+    ensures { IfOk result
+        (λ r. option_map asked_in r ≡ asked_of (map string_bytes words.entry.now)) }
 {
     match matches_of(alloc, words)? {
         Some(matches) => Ok(request_in(&matches)),

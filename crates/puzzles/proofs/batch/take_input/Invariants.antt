@@ -1,15 +1,14 @@
-use Rattle.std.proofs.Common.{◌≡◌, ◌<◌, length, false}
+use Rattle.std.proofs.Common.{◌≡◌, length, false}
 use Rattle.puzzles.specs.Batches.{TakenUpTo}
 use Rattle.puzzles.specs.Solving.{AllowsSolve}
 use Rattle.puzzles.proofs.batch.take_input.Given as goal
 
 abbrev pub invariant-loop-turn : goal.invariant-loop-turn
 invariant-loop-turn g l = record {
-  taken : TakenUpTo g.I.Source.gives g.O.Sink.takes (AllowsSolve l.game l.budget) l.fn.input l.fn.output l.batch l.input l.output;
+  taken : TakenUpTo g.I.Source.gives g.O.Sink.takes (AllowsSolve l.task.game l.task.budget) l.fn.input l.fn.output l.batch l.input l.output;
   calls : g.I.Source.call_count l.input ≡ l._turn;
   input_fine : g.I.Source.has_failed l.input ≡ false;
   input_open : g.I.Source.has_ended l.input ≡ false;
   output_fine : g.O.Sink.has_failed l.output ≡ false;
-  small : l.batch.status < 5;
   room : length l.buffer ≡ 4096;
 }

@@ -1,10 +1,11 @@
-use Rattle.std.proofs.Common.{arith}
-use Rattle.puzzles.proofs.InputLemmas.{stop_high}
 use Rattle.puzzles.proofs.RunLemmas.{ran_unwritten}
+use Rattle.puzzles.proofs.StopLemmas.{is_late}
 use Rattle.puzzles.proofs.check.check_input.Goals as goal
 
-pub returns-in-Err-clause-ran : goal.returns-in-Err-clause-ran
-returns-in-Err-clause-ran g c = ran_unwritten g.I.Source.gives g.I.Source.has_ended g.O.Sink.takes _ _ _ _ _ _ (stop_high c.in-Err.stop _ c.status.ensures) c.in-Err.ensures.read.1 (g.met.O.Sink.takes_nothing c.args.output.now)
+pub returns-in_err-text-clause-ran : goal.returns-in_err-text-clause-ran
+returns-in_err-text-clause-ran g c = ran_unwritten g.I.Source.gives g.I.Source.has_ended g.O.Sink.takes _ _ _ _ _ _
+    (is_late _ _ c.from_residual.ensures) c.in_err-text.ensures.read.1 (g.met.O.Sink.takes_nothing c.args.output.now)
 
-pub returns-in-Err-input_reply-clause-ran : goal.returns-in-Err-input_reply-clause-ran
-returns-in-Err-input_reply-clause-ran g c = ran_unwritten g.I.Source.gives g.I.Source.has_ended g.O.Sink.takes _ _ _ _ _ _ (omega arith) c.in-Ok.ensures.read.1 (g.met.O.Sink.takes_nothing c.args.output.now)
+pub returns-in_err-reply-clause-ran : goal.returns-in_err-reply-clause-ran
+returns-in_err-reply-clause-ran g c = ran_unwritten g.I.Source.gives g.I.Source.has_ended g.O.Sink.takes _ _ _ _ _ _
+    (is_late _ _ c.from_residual-in_err-reply.ensures) c.in_ok-text.ensures.read.1 (g.met.O.Sink.takes_nothing c.args.output.now)

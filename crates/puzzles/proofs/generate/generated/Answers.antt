@@ -1,13 +1,13 @@
 use Rattle.puzzles.proofs.generate.generated.Goals as goal
 
-pub returns-in-Pattern-clause-allowed : goal.returns-in-Pattern-clause-allowed
-returns-in-Pattern-clause-allowed c = rw c.in-Pattern.is c.generate_pattern.ensures.allowed
+pub returns-in-Pattern : goal.returns-in-Pattern
+returns-in-Pattern c = rw c.in-Pattern.is c.generate_one.ensures
 
-pub returns-in-Solo-clause-allowed : goal.returns-in-Solo-clause-allowed
-returns-in-Solo-clause-allowed c = rw c.in-Solo.is c.generate_solo.ensures.allowed
+pub returns-in-Solo : goal.returns-in-Solo
+returns-in-Solo c = rw c.in-Solo.is c.generate_one-in-Solo.ensures
 
-pub returns-in-LightUp-clause-allowed : goal.returns-in-LightUp-clause-allowed
-returns-in-LightUp-clause-allowed c = rw c.in-LightUp.is c.generate_lights.ensures.allowed
+pub returns-in-LightUp : goal.returns-in-LightUp
+returns-in-LightUp c = rw c.in-LightUp.is c.generate_one-in-LightUp.ensures
 
-pub returns-in-Tents-clause-allowed : goal.returns-in-Tents-clause-allowed
-returns-in-Tents-clause-allowed c = rw c.in-Tents.is c.generate_tents.ensures.allowed
+pub returns-in-Tents : goal.returns-in-Tents
+returns-in-Tents c = rw c.in-Tents.is c.generate_one-in-Tents.ensures

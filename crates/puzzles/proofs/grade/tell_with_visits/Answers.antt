@@ -11,4 +11,4 @@ returns-in_err-put_closing-clause-told g c =
 pub returns-clause-told : goal.returns-clause-told
 returns-clause-told g c =
     told_whole g.O.Sink.takes g.met.O.Sink.takes_nothing g.met.O.Sink.takes_both _ _ _ _ _ _ _ _ _ _ c.in_ok-text.ensures
-    c.in_ok-put_closing.ensures.ok.0 c.deliver.ensures.delivers refl c.status-status.ensures.value
+    c.in_ok-put_closing.ensures.ok.0 c.deliver.ensures.delivers refl c.status-status.ensures

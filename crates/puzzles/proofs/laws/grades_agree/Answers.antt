@@ -15,8 +15,8 @@ use Rattle.engine_core.specs.Stored.{is_settled}
 use Rattle.engine_core.specs.Verdict.{verdict_of}
 use Rattle.fields_core.specs.LightSolutions.{IsLightSolution}
 use Rattle.fields_core.specs.TentSolutions.{IsTentSolution}
-use Rattle.pattern_core.specs.Solutions as pattern
-use Rattle.solo_core.specs.Solutions as solo
+use Rattle.pattern_core.specs.Solutions.{IsPatternSolution}
+use Rattle.solo_core.specs.Solutions.{IsSoloSolution}
 use Rattle.fields_core.specs.LightHouses.{light_rules}
 use Rattle.fields_core.specs.TentHouses.{tent_rules}
 use Rattle.pattern_core.specs.LineRules.{line_rules}
@@ -54,11 +54,11 @@ statuses : (game : Game) (id : Text) (budget : ℕ) (traced : Bool) (solved grad
 statuses Pattern id budget traced solved graded = both_answers pattern_of SpellsPattern pattern_reading.one pattern_reading.apart _ _
     (λ x y. GoesAlong y.status x.status) id solved graded refusals_along
     (λ p s a b. status_alike traced (pattern_trace p) (λ g. grid_text (pattern_cell p g) p.size) solved graded (pattern_grade budget p) (verdict_of (line_rules p) budget)
-    (goes_along (pattern_sets p) (line_rules p) (pattern.IsSolution p) budget a.right b.right) b.told a.told)
+    (goes_along (pattern_sets p) (line_rules p) (IsPatternSolution p) budget a.right b.right) b.told a.told)
 statuses Solo id budget traced solved graded = both_answers solo_of SpellsSolo solo_reading.one solo_reading.apart _ _
     (λ x y. GoesAlong y.status x.status) id solved graded refusals_along
     (λ p s a b. status_alike traced (solo_trace p) (λ g. grid_text (solo_cell p g) (solo_extent p)) solved graded (solo_grade budget p) (verdict_of (houses_rules p) budget)
-    (goes_along (solo_sets p) (houses_rules p) (solo.IsSolution p) budget a.right b.right) b.told a.told)
+    (goes_along (solo_sets p) (houses_rules p) (IsSoloSolution p) budget a.right b.right) b.told a.told)
 statuses LightUp id budget traced solved graded = both_answers light_of SpellsLight light_reading.one light_reading.apart _ _
     (λ x y. GoesAlong y.status x.status) id solved graded refusals_along
     (λ p s a b. status_alike traced (light_trace p) (λ g. grid_text (light_cell p g) p.size) solved graded (light_grade budget p) (verdict_of (light_rules p) budget)
@@ -70,10 +70,10 @@ statuses Tents id budget traced solved graded = both_answers tents_of SpellsTent
 
 enough : (game : Game) (id : Text) (budget : ℕ) (traced : Bool) (graded : Answer) → AllowsGrade game id budget traced graded → graded.status ≡ 0 → IsOneWithEnough game id
 enough Pattern id budget traced graded allowed fine =
-    let one = with_enough pattern_of SpellsPattern pattern_reading pattern.IsSolution line_rules pattern_cell (λ p. p.size) (λ id p s. pattern_searched p s.puzzle) (pattern_grade budget) pattern_trace traced id graded allowed fine in
+    let one = with_enough pattern_of SpellsPattern pattern_reading IsPatternSolution line_rules pattern_cell (λ p. p.size) (λ id p s. pattern_searched p s.puzzle) (pattern_grade budget) pattern_trace traced id graded allowed fine in
     record { enough = one.0; grid = one.1; told = one.2 }
 enough Solo id budget traced graded allowed fine =
-    let one = with_enough solo_of SpellsSolo solo_reading solo.IsSolution houses_rules solo_cell solo_extent (λ id p s. solo_searched p s.puzzle) (solo_grade budget) solo_trace traced id graded allowed fine in
+    let one = with_enough solo_of SpellsSolo solo_reading IsSoloSolution houses_rules solo_cell solo_extent (λ id p s. solo_searched p s.puzzle) (solo_grade budget) solo_trace traced id graded allowed fine in
     record { enough = one.0; grid = one.1; told = one.2 }
 enough LightUp id budget traced graded allowed fine =
     let one = with_enough light_of SpellsLight light_reading IsLightSolution light_rules light_cell (λ p. p.size) (λ id p s. light_searched p s.puzzle) (light_grade budget) light_trace traced id graded allowed fine in

@@ -15,8 +15,8 @@ use Rattle.pattern_core.specs.Faults.{IsCheck}
 use Rattle.solo_core.specs.Faults.{IsFirstFault}
 use Rattle.fields_core.specs.LightSolutions.{IsLightSolution}
 use Rattle.fields_core.specs.TentSolutions.{IsTentSolution}
-use Rattle.pattern_core.specs.Solutions as pattern
-use Rattle.solo_core.specs.Solutions as solo
+use Rattle.pattern_core.specs.Solutions.{IsPatternSolution}
+use Rattle.solo_core.specs.Solutions.{IsSoloSolution}
 use Rattle.fields_core.specs.LightHouses.{light_rules}
 use Rattle.fields_core.specs.TentHouses.{tent_rules}
 use Rattle.pattern_core.specs.LineRules.{line_rules}
@@ -41,18 +41,18 @@ use Rattle.puzzles.proofs.SearchedPuzzles.{crossings_searched, light_searched, p
 use Rattle.puzzles.proofs.laws.one_answer.Goals as goal
 
 solving : (game : Game) (budget : ℕ) (id : Text) → HasOneAnswer (AllowsSolve game budget id)
-solving Pattern budget id = id_once pattern_of SpellsPattern pattern_reading id _ (λ p s. solved_once (line_rules p) (pattern.IsSolution p) (pattern_searched p s.puzzle) (pattern_cell p) p.size budget)
-solving Solo budget id = id_once solo_of SpellsSolo solo_reading id _ (λ p s. solved_once (houses_rules p) (solo.IsSolution p) (solo_searched p s.puzzle) (solo_cell p) (solo_extent p) budget)
+solving Pattern budget id = id_once pattern_of SpellsPattern pattern_reading id _ (λ p s. solved_once (line_rules p) (IsPatternSolution p) (pattern_searched p s.puzzle) (pattern_cell p) p.size budget)
+solving Solo budget id = id_once solo_of SpellsSolo solo_reading id _ (λ p s. solved_once (houses_rules p) (IsSoloSolution p) (solo_searched p s.puzzle) (solo_cell p) (solo_extent p) budget)
 solving LightUp budget id = id_once light_of SpellsLight light_reading id _ (λ p s. solved_once (light_rules p) (IsLightSolution p) (light_searched p s.puzzle) (light_cell p) p.size budget)
 solving Tents budget id = id_once tents_of SpellsTents tents_reading id _ (λ p s. solved_once (tent_rules p) (IsTentSolution p) (tents_searched p s.puzzle) (tents_cell p) p.size budget)
 
 checking : (game : Game) (id input : Text) → HasOneAnswer (AllowsCheck game id input)
 checking Pattern id input = id_once pattern_of SpellsPattern pattern_reading id _
-    (λ p s. one_of_same _ (check_some hides_nothing 2 p.size (pattern_cell p) (IsCheck p) pattern_fault (pattern.IsSolution p) (pattern_checked p s.puzzle) input)
-    (check_same hides_nothing 2 p.size (pattern_cell p) (IsCheck p) pattern_fault (pattern.IsSolution p) (pattern_checked p s.puzzle) input))
+    (λ p s. one_of_same _ (check_some hides_nothing 2 p.size (pattern_cell p) (IsCheck p) pattern_fault (IsPatternSolution p) (pattern_checked p s.puzzle) input)
+    (check_same hides_nothing 2 p.size (pattern_cell p) (IsCheck p) pattern_fault (IsPatternSolution p) (pattern_checked p s.puzzle) input))
 checking Solo id input = id_once solo_of SpellsSolo solo_reading id _
-    (λ p s. one_of_same _ (check_some hides_nothing (solo_n p) (solo_extent p) (solo_cell p) (IsFirstFault p) (solo_fault p) (solo.IsSolution p) (solo_checked p s.puzzle) input)
-    (check_same hides_nothing (solo_n p) (solo_extent p) (solo_cell p) (IsFirstFault p) (solo_fault p) (solo.IsSolution p) (solo_checked p s.puzzle) input))
+    (λ p s. one_of_same _ (check_some hides_nothing (solo_n p) (solo_extent p) (solo_cell p) (IsFirstFault p) (solo_fault p) (IsSoloSolution p) (solo_checked p s.puzzle) input)
+    (check_same hides_nothing (solo_n p) (solo_extent p) (solo_cell p) (IsFirstFault p) (solo_fault p) (IsSoloSolution p) (solo_checked p s.puzzle) input))
 checking LightUp id input = id_once light_of SpellsLight light_reading id _
     (λ p s. one_of_same _ (check_some (light_hides p) 2 p.size (light_cell p) (IsLightFault p) (light_fault p) (IsLightSolution p) (light_checked p s.puzzle) input)
     (check_same (light_hides p) 2 p.size (light_cell p) (IsLightFault p) (light_fault p) (IsLightSolution p) (light_checked p s.puzzle) input))
@@ -61,10 +61,10 @@ checking Tents id input = id_once tents_of SpellsTents tents_reading id _
     (check_same (tent_hides p) 2 p.size (tents_cell p) (IsTentFault p) (tent_fault p) (IsTentSolution p) (tents_checked p s.puzzle) input))
 
 grading : (game : Game) (id : Text) (budget : ℕ) → HasOneAnswer (AllowsGrade game id budget false)
-grading Pattern id budget = id_once pattern_of SpellsPattern pattern_reading id _ (λ p s. grade_once (pattern.IsSolution p) (pattern_grade budget p) (pattern_trace p)
-    (listed_right (pattern.IsSolution p) (pattern_sets p) (line_rules p) budget (pattern_searched p s.puzzle, tt) (pattern_searched p s.puzzle)))
-grading Solo id budget = id_once solo_of SpellsSolo solo_reading id _ (λ p s. grade_once (solo.IsSolution p) (solo_grade budget p) (solo_trace p)
-    (listed_right (solo.IsSolution p) (solo_sets p) (houses_rules p) budget (singles_searched p s.puzzle, (solo_searched p s.puzzle, (crossings_searched p s.puzzle, tt))) (solo_searched p s.puzzle)))
+grading Pattern id budget = id_once pattern_of SpellsPattern pattern_reading id _ (λ p s. grade_once (IsPatternSolution p) (pattern_grade budget p) (pattern_trace p)
+    (listed_right (IsPatternSolution p) (pattern_sets p) (line_rules p) budget (pattern_searched p s.puzzle, tt) (pattern_searched p s.puzzle)))
+grading Solo id budget = id_once solo_of SpellsSolo solo_reading id _ (λ p s. grade_once (IsSoloSolution p) (solo_grade budget p) (solo_trace p)
+    (listed_right (IsSoloSolution p) (solo_sets p) (houses_rules p) budget (singles_searched p s.puzzle, (solo_searched p s.puzzle, (crossings_searched p s.puzzle, tt))) (solo_searched p s.puzzle)))
 grading LightUp id budget = id_once light_of SpellsLight light_reading id _ (λ p s. grade_once (IsLightSolution p) (light_grade budget p) (light_trace p)
     (listed_right (IsLightSolution p) (light_sets p) (light_rules p) budget (light_searched p s.puzzle, tt) (light_searched p s.puzzle)))
 grading Tents id budget = id_once tents_of SpellsTents tents_reading id _ (λ p s. grade_once (IsTentSolution p) (tent_grade budget p) (tent_trace p)
@@ -86,4 +86,4 @@ returns c = record { fixed = by }
     by (Some (generate Pattern size seed budget tries black)) input fixed = one_of_same _ (made_pattern_some size seed budget tries black) (made_pattern_same size seed budget tries black)
     by (Some (generate Solo size seed budget tries black)) input fixed = absurd (true≢false (sym fixed))
     by (Some (generate LightUp size seed budget tries black)) input fixed = absurd (true≢false (sym fixed))
-    by (Some (generate Tents size seed budget tries black)) input fixed = one_of_same _ (made_tents_some filled size seed budget tries) (made_tents_same size seed budget tries)
+    by (Some (generate Tents size seed budget tries black)) input fixed = one_of_same _ (made_tents_some filled size seed budget tries black) (made_tents_same size seed budget tries black)

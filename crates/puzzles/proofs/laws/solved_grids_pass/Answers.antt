@@ -14,8 +14,8 @@ use Rattle.pattern_core.specs.Faults.{IsCheck}
 use Rattle.solo_core.specs.Faults.{IsFirstFault}
 use Rattle.fields_core.specs.LightSolutions.{IsLightSolution}
 use Rattle.fields_core.specs.TentSolutions.{IsTentSolution}
-use Rattle.pattern_core.specs.Solutions as pattern
-use Rattle.solo_core.specs.Solutions as solo
+use Rattle.pattern_core.specs.Solutions.{IsPatternSolution}
+use Rattle.solo_core.specs.Solutions.{IsSoloSolution}
 use Rattle.fields_core.specs.LightHouses.{light_rules}
 use Rattle.fields_core.specs.TentHouses.{tent_rules}
 use Rattle.pattern_core.specs.LineRules.{line_rules}
@@ -33,9 +33,9 @@ use Rattle.puzzles.proofs.Readings.{light_reading, pattern_reading, solo_reading
 use Rattle.puzzles.proofs.laws.solved_grids_pass.Goals as goal
 
 passing : (game : Game) (id : Text) (budget : ℕ) (solved : Answer) → AllowsSolve game budget id solved → ArePassed (AllowsCheck game id) solved
-passing Pattern id budget solved = passed pattern_of SpellsPattern pattern_reading (λ p. hides_nothing) (λ p. 2) (λ p. p.size) pattern_cell (λ p. IsCheck p) (λ p. pattern_fault) pattern.IsSolution
+passing Pattern id budget solved = passed pattern_of SpellsPattern pattern_reading (λ p. hides_nothing) (λ p. 2) (λ p. p.size) pattern_cell (λ p. IsCheck p) (λ p. pattern_fault) IsPatternSolution
     (λ id p s. pattern_checked p s.puzzle) line_rules id budget solved
-passing Solo id budget solved = passed solo_of SpellsSolo solo_reading (λ p. hides_nothing) (λ p. (solo_n p)) solo_extent solo_cell (λ p. IsFirstFault p) (λ p. (solo_fault p)) solo.IsSolution
+passing Solo id budget solved = passed solo_of SpellsSolo solo_reading (λ p. hides_nothing) (λ p. (solo_n p)) solo_extent solo_cell (λ p. IsFirstFault p) (λ p. (solo_fault p)) IsSoloSolution
     (λ id p s. solo_checked p s.puzzle) houses_rules id budget solved
 passing LightUp id budget solved = passed light_of SpellsLight light_reading (λ p. (light_hides p)) (λ p. 2) (λ p. p.size) light_cell (λ p. IsLightFault p) (λ p. (light_fault p)) IsLightSolution
     (λ id p s. light_checked p s.puzzle) light_rules id budget solved
@@ -46,11 +46,11 @@ goes : (game : Game) (id input : Text) (budget : ℕ) (given solved : Answer)
     → AllowsCheck game id input given → AllowsSolve game budget id solved → GoesWith input given solved
 goes Pattern id input budget given solved = both_answers pattern_of SpellsPattern pattern_reading.one pattern_reading.apart _ _
     (GoesWith input) id given solved (refusals_go input)
-    (λ p s a b. goes_with hides_nothing 2 p.size (pattern_cell p) (IsCheck p) pattern_fault (pattern.IsSolution p) (line_rules p) budget input given solved
+    (λ p s a b. goes_with hides_nothing 2 p.size (pattern_cell p) (IsCheck p) pattern_fault (IsPatternSolution p) (line_rules p) budget input given solved
     (pattern_checked p s.puzzle).sound a b)
 goes Solo id input budget given solved = both_answers solo_of SpellsSolo solo_reading.one solo_reading.apart _ _
     (GoesWith input) id given solved (refusals_go input)
-    (λ p s a b. goes_with hides_nothing (solo_n p) (solo_extent p) (solo_cell p) (IsFirstFault p) (solo_fault p) (solo.IsSolution p) (houses_rules p) budget input given solved
+    (λ p s a b. goes_with hides_nothing (solo_n p) (solo_extent p) (solo_cell p) (IsFirstFault p) (solo_fault p) (IsSoloSolution p) (houses_rules p) budget input given solved
     (solo_checked p s.puzzle).sound a b)
 goes LightUp id input budget given solved = both_answers light_of SpellsLight light_reading.one light_reading.apart _ _
     (GoesWith input) id given solved (refusals_go input)

@@ -8,9 +8,9 @@ use Rattle.gameid_core.specs.TentsText.{SpellsTents, tents_of}
 use Rattle.fields_core.specs.LightHouses.{light_rules}
 use Rattle.fields_core.specs.TentHouses.{tent_rules}
 use Rattle.pattern_core.specs.LineRules.{line_rules}
-use Rattle.pattern_core.specs.Solutions as pattern
+use Rattle.pattern_core.specs.Solutions.{IsPatternSolution}
 use Rattle.solo_core.specs.RuleSets.{houses_rules}
-use Rattle.solo_core.specs.Solutions as solo
+use Rattle.solo_core.specs.Solutions.{IsSoloSolution}
 use Rattle.fields_core.specs.LightSolutions.{IsLightSolution}
 use Rattle.fields_core.specs.TentSolutions.{IsTentSolution}
 use Rattle.puzzles.specs.Each.{HasAnswers}
@@ -23,13 +23,13 @@ pub returns : goal.returns
 returns c = by
   where
     by : (game : Game) (budget : ℕ) → HasAnswers (AllowsSolve game budget)
-    by Solo budget text = answer_of solo.IsSolution houses_rules solo_cell solo_extent budget (solo_of text) (SpellsSolo text) (c.one_reading_of_solo.ensures.either text)
-        (λ p s. right_of (houses_rules p) (solo.IsSolution p) _
+    by Solo budget text = answer_of IsSoloSolution houses_rules solo_cell solo_extent budget (solo_of text) (SpellsSolo text) (c.one_reading_of_solo.ensures.either text)
+        (λ p s. right_of (houses_rules p) (IsSoloSolution p) _
         (λ g. let same = c.accepted_are_solutions.ensures.houses p s.puzzle g in
         (λ t. (same t.grid).0 t.good, λ t. record { grid = t.grid; good = (same t.grid).1 t }))
         (c.verdict_is_true.ensures (houses_rules p) (c.rules_are_lawful.ensures.houses p s.puzzle) budget))
-    by Pattern budget text = answer_of pattern.IsSolution line_rules pattern_cell (λ p. p.size) budget (pattern_of text) (SpellsPattern text) (c.one_reading_of_pattern.ensures.either text)
-        (λ p s. right_of (line_rules p) (pattern.IsSolution p) _
+    by Pattern budget text = answer_of IsPatternSolution line_rules pattern_cell (λ p. p.size) budget (pattern_of text) (SpellsPattern text) (c.one_reading_of_pattern.ensures.either text)
+        (λ p s. right_of (line_rules p) (IsPatternSolution p) _
         (λ g. let same = c.accepted_are_solutions-2.ensures p g in
         (λ t. (same t.grid).0 t.good, λ t. record { grid = t.grid; good = (same t.grid).1 t }))
         (c.verdict_is_true.ensures (line_rules p) (c.rules_are_lawful-2.ensures p s.puzzle) budget))

@@ -1,4 +1,4 @@
-use Rattle.std.proofs.Common.{◌≡◌, ◌<◌, ◌++◌, List, ℕ, take, false}
+use Rattle.std.proofs.Common.{◌≡◌, ◌++◌, List, ℕ, take, false}
 use Rattle.puzzles.specs.Batches.{Batched}
 use Rattle.puzzles.specs.Solving.{AllowsSolve}
 use Rattle.puzzles.proofs.batch.Batch.take_chunk.Given as goal
@@ -6,8 +6,7 @@ use Rattle.puzzles.proofs.batch.Batch.take_chunk.Given as goal
 abbrev pub invariant-loop-byte : goal.invariant-loop-byte
 invariant-loop-byte g l = record {
   goes_on : (start : g.row.O.Denot) (seen : List ℕ)
-      → Batched g.O.Sink.takes (AllowsSolve l.game l.budget) start l.fn.self seen l.fn.output
-      → Batched g.O.Sink.takes (AllowsSolve l.game l.budget) start l.self (seen ++ take l.byte-index l.chunk) l.output;
+      → Batched g.O.Sink.takes (AllowsSolve l.task.game l.task.budget) start l.fn.self seen l.fn.output
+      → Batched g.O.Sink.takes (AllowsSolve l.task.game l.task.budget) start l.self (seen ++ take l.byte-index l.chunk) l.output;
   fine : g.O.Sink.has_failed l.output ≡ false;
-  small : l.self.status < 5;
 }

@@ -5,5 +5,5 @@ use Rattle.puzzles.proofs.GameLemmas.{told_by}
 use Rattle.puzzles.proofs.grade.LightPuzzleGraded.tell.Goals as goal
 
 pub returns-clause-told : goal.returns-clause-told
-returns-clause-told g c = told_by g.O.Sink.takes c.args.traced _ _ _ _ (TellsSweeps) (light_rules c.args.self.now) c.args.budget
+returns-clause-told g c = told_by g.O.Sink.takes c.args.telling.traced _ _ _ _ (TellsSweeps) (light_rules c.args.self.now) c.args.telling.budget
     _ (light_rules c.args.self.now) (light_rules c.args.self.now) Local c.in_ok-local.ensures.made c.tell_by_sweeps.ensures.told

@@ -8,7 +8,7 @@ use Rattle.puzzles.proofs.StopLemmas.{tells_nothing}
 use Rattle.puzzles.proofs.grade.TentsPuzzleGraded.tell.Goals as goal
 
 pub returns-clause-told : goal.returns-clause-told
-returns-clause-told g c = told_by g.O.Sink.takes c.args.traced _ _ _ _ (TellsSweeps) (tent_rules c.args.self.now) c.args.budget
+returns-clause-told g c = told_by g.O.Sink.takes c.args.telling.traced _ _ _ _ (TellsSweeps) (tent_rules c.args.self.now) c.args.telling.budget
     _ (tent_rules c.args.self.now) (tent_rules c.args.self.now) Local c.in_ok-local.ensures.made c.tell_by_sweeps.ensures.told
 
 pub returns-in_err-local-clause-told : goal.returns-in_err-local-clause-told

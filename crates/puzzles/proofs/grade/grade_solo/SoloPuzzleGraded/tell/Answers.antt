@@ -1,0 +1,32 @@
+use Rattle.std.proofs.Common.{arith, refl, rules, sym}
+use Rattle.solo_core.specs.RuleSets.{houses_rules, singles_rules}
+use Rattle.solo_core.specs.Solutions.{IsSoloSolution}
+use Rattle.puzzles.specs.Grades.{after_singles}
+use Rattle.puzzles.specs.Traces.{TellsVisits, solo_name}
+use Rattle.puzzles.specs.declared.grade.RuleSet.TheVariants.{Singles}
+use Rattle.puzzles.proofs.GameLemmas.{told_first, told_later}
+use Rattle.puzzles.proofs.SearchedPuzzles.{singles_searched}
+use Rattle.puzzles.proofs.SoloNames.{houses_named, named}
+use Rattle.puzzles.proofs.StopLemmas.{tells_nothing}
+use Rattle.puzzles.proofs.grade.grade_solo.SoloPuzzleGraded.tell.Goals as goal
+
+pub returns-in_err-store-clause-told : goal.returns-in_err-store-clause-told
+returns-in_err-store-clause-told g c = tells_nothing g.O.Sink.takes _ _ _ (g.met.O.Sink.takes_nothing _) (search rules)
+
+pub tell_with_visits-requires-clause-named : goal.tell_with_visits-requires-clause-named
+tell_with_visits-requires-clause-named g c = named c.args.self.now _ _ c.in_ok-singles.ensures.rules
+    (omega (arith, c.scopes_are_houses_and_crossings.ensures.singles c.args.self.now, houses_named c.args.self.now))
+
+pub returns-then-settles-clause-told : goal.returns-then-settles-clause-told
+returns-then-settles-clause-told g c =
+    let p = c.args.self.now in
+    told_first g.O.Sink.takes c.args.telling.traced _ _ _ (IsSoloSolution p) (TellsVisits (solo_name p)) (houses_rules p) c.args.telling.budget
+    _ (houses_rules p) Singles (singles_rules p) (after_singles p) c.in_ok-singles.ensures.rules (sym c.if-settles.ensures.settled)
+    (singles_searched p c.solo_is_lawful.ensures).accepted (c.if-settles.ensures.one refl) c.tell_with_visits.ensures.told
+
+pub returns-clause-told : goal.returns-clause-told
+returns-clause-told g c =
+    let p = c.args.self.now in
+    told_later g.O.Sink.takes c.args.telling.traced _ _ _ (IsSoloSolution p) (TellsVisits (solo_name p)) (houses_rules p) c.args.telling.budget
+    _ (houses_rules p) Singles (singles_rules p) (after_singles p) c.in_ok-singles.ensures.rules (sym c.if-settles.ensures.settled)
+    c.tell_by_houses.ensures.told

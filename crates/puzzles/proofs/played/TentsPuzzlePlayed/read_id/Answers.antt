@@ -1,0 +1,4 @@
+use Rattle.puzzles.proofs.played.TentsPuzzlePlayed.read_id.Goals as goal
+
+pub returns-clause-apart : goal.returns-clause-apart
+returns-clause-apart c = c.one_reading_of_tents.ensures.apart c.args.id.now

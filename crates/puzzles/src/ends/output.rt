@@ -1,0 +1,59 @@
+//! Texts on their way to a sink.
+ghost use Rattle.std.specs.Prelude.{◌≡◌, ◌++◌, List, ℕ, true, false, OnOk, OnErr};
+ghost use Rattle.puzzles.specs.Answers.{Begins, Delivers};
+ghost use Rattle.puzzles.specs.Replies.{answer_in};
+ghost use Rattle.puzzles.specs.Stops.{IsSinkAfter, status_in};
+
+use crate::answers::reply::Reply;
+use crate::answers::status::{Status, Stop};
+use crate::ends::Sink;
+
+/// An end failed.
+#[derive(Drop)]
+pub struct Broken;
+
+/// Puts all of the bytes, in as many calls as the sink needs.
+///
+/// # Errors
+///
+/// Where the sink failed. It took a beginning of the bytes then.
+pub fn put_all<O: Sink>(output: &mut O, bytes: &[u8]) -> Result<(), Broken>
+    requires { O.has_failed output.old ≡ false }
+    ensures ok { OnOk result ((O.takes output.old bytes.now output.new)
+        × (O.has_failed output.new ≡ false)) }
+    ensures err { OnErr result (((written : List ℕ) × O.takes output.old written output.new
+        × Begins written bytes.now) × (O.has_failed output.new ≡ true)) }
+{
+    let mut rest = bytes;
+    while !rest.is_empty() {
+        match output.put(rest) {
+            Some(count) => rest = &rest[count..],
+            None => return Err(Broken),
+        }
+    }
+    Ok(())
+}
+
+/// Puts the text of a reply and finishes, and gives its status.
+///
+/// # Errors
+///
+/// Where the sink failed. It took a beginning of the text then.
+pub fn deliver<O: Sink>(output: &mut O, reply: &Reply) -> Result<Status, Stop>
+    requires { O.has_failed output.old ≡ false }
+    ensures delivers { Delivers O.takes output.old (answer_in reply.now) output.new
+        (status_in result) }
+    ensures left { IsSinkAfter (status_in result) (O.has_failed output.new)
+        (O.is_flushed output.new) }
+{
+    match put_all(output, reply.text.as_bytes()) {
+        Ok(()) => {
+            if output.finish() {
+                Ok(reply.status)
+            } else {
+                Err(Stop::Broken)
+            }
+        }
+        Err(_) => Err(Stop::Broken),
+    }
+}

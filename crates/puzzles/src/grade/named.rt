@@ -1,0 +1,104 @@
+//! The names of what a closing visits.
+ghost use Rattle.std.specs.Prelude.{◌≡◌, ◌++◌, ◌+◌, ◌<◌, ◌≤◌, ℕ, OnOk, length, string_bytes, string_len};
+ghost use Rattle.gameid_core.specs.Puzzles.{Pattern, Solo};
+ghost use Rattle.solo_core.specs.Scopes.{scopes_of};
+ghost use Rattle.puzzles.specs.Answers.{Text};
+ghost use Rattle.puzzles.specs.Traces.{house_text, scope_text, pattern_name, solo_name};
+
+use crate::answers::decimal::push_number;
+use crate::played::Played;
+use gameid_core::{PatternPuzzle, SoloPuzzle};
+use solo_core::{SoloHouse, SoloScope, scope_of};
+use std::alloc::AllocError;
+
+/// Most bytes of the name of a house: the longest kind, a space and a number.
+const HOUSE: usize = 29;
+
+/// Most bytes of a name: two houses, with a space between them.
+pub const NAME: usize = 59;
+
+/// A puzzle whose rule sets visit what has a name.
+pub trait Named: Played {
+    // How many numbers have a name.
+    ghost named: { Self → ℕ };
+
+    // The name under the number, in the order of the puzzle's rule sets.
+    ghost name_of: { Self → ℕ → Text };
+
+    /// Adds the name under the number, in the order of the puzzle's rule sets.
+    ///
+    /// # Errors
+    ///
+    /// When memory was refused.
+    fn push_name(&self, number: usize, text: &mut String) -> Result<(), AllocError>
+        requires { number < named self.now }
+        ensures name { OnOk result
+            (string_bytes text.new ≡ string_bytes text.old ++ name_of self.now number) }
+        ensures short { OnOk result (string_len text.new ≤ string_len text.old + NAME) };
+}
+
+impl Named for SoloPuzzle {
+    ghost named = { λ p. length (scopes_of p) };
+
+    ghost name_of = { solo_name };
+
+    fn push_name(&self, number: usize, text: &mut String) -> Result<(), AllocError> {
+        push_scope(text, scope_of(self, number))
+    }
+}
+
+impl Named for PatternPuzzle {
+    ghost named = { λ p. p.size.w + p.size.h };
+
+    ghost name_of = { pattern_name };
+
+    fn push_name(&self, number: usize, text: &mut String) -> Result<(), AllocError> {
+        let w = usize::from(self.size().w());
+        if number < w {
+            push_house(text, SoloHouse::Column(number))
+        } else {
+            push_house(text, SoloHouse::Row(number - w))
+        }
+    }
+}
+
+/// Adds the name of a house: its kind, and its number among those.
+fn push_house(text: &mut String, house: SoloHouse) -> Result<(), AllocError>
+    ensures name { OnOk result (string_bytes text.new ≡ string_bytes text.old ++ house_text house) }
+    ensures short { OnOk result (string_len text.new ≤ string_len text.old + HOUSE) }
+{
+    let number = match house {
+        SoloHouse::Row(y) => {
+            text.push_str("row ")?;
+            y
+        }
+        SoloHouse::Column(x) => {
+            text.push_str("column ")?;
+            x
+        }
+        SoloHouse::Block(b) => {
+            text.push_str("block ")?;
+            b
+        }
+        SoloHouse::Diagonal(d) => {
+            text.push_str("diagonal ")?;
+            d
+        }
+    };
+    push_number(text, number)
+}
+
+/// Adds the name of a house, or those of a block and of a line that it meets.
+fn push_scope(text: &mut String, scope: SoloScope) -> Result<(), AllocError>
+    ensures name { OnOk result (string_bytes text.new ≡ string_bytes text.old ++ scope_text scope) }
+    ensures short { OnOk result (string_len text.new ≤ string_len text.old + NAME) }
+{
+    match scope {
+        SoloScope::House(house) => push_house(text, house),
+        SoloScope::Crossing { block, line } => {
+            push_house(text, SoloHouse::Block(block))?;
+            text.push_str(" ")?;
+            push_house(text, line)
+        }
+    }
+}

@@ -1,0 +1,77 @@
+//! Grades: by rules that settle a puzzle, and by a search.
+ghost use Rattle.std.specs.Prelude.{◌≡◌, ◌↔◌, List, ℕ, true, IfOk};
+ghost use Rattle.engine_core.specs.Puzzle.{needs_of, FitsIn};
+ghost use Rattle.engine_core.specs.Stored.{is_settled};
+ghost use Rattle.engine_core.specs.Verdict.{Solves};
+ghost use Rattle.puzzles.specs.Grades.{HasOneSolution, IsRightGrade, searched_grade, settled_or};
+
+use crate::grade::{Grade, RuleSet};
+use crate::solve::solvable::Solvable;
+use engine_core::{Rules, Store, Verdict};
+use std::alloc::{AllocError, Global};
+
+/// Whether the rules alone settle their puzzle: it has exactly one solution then.
+pub fn settles<R: Rules>(store: &mut Store<R>, rules: &R) -> bool
+    requires { FitsIn (needs_of (R.puzzle rules.now)) store.old.made }
+    ensures settled { result ≡ is_settled (R.puzzle rules.now) }
+    ensures one { result ≡ true → HasOneSolution (Solves (R.puzzle rules.now)) }
+    ensures made { store.new.made ≡ store.old.made }
+{
+    engine_core::walk_finds_each_solution_once(rules);
+    engine_core::walk_goes_on_from_the_closure(rules);
+    store.settles(rules)
+}
+
+/// The grade of a puzzle by a search.
+fn searched<R: Rules>(store: &mut Store<R>, rules: &R, budget: u64) -> Grade
+    requires { FitsIn (needs_of (R.puzzle rules.now)) store.old.made }
+    ensures grade { result ≡ searched_grade (R.puzzle rules.now) budget }
+    ensures right { IsRightGrade (Solves (R.puzzle rules.now)) result }
+    ensures made { store.new.made ≡ store.old.made }
+{
+    match store.solve(rules, budget) {
+        Verdict::None => Grade::NoSolution,
+        Verdict::One => Grade::BySearch(store.trials()),
+        Verdict::Several => Grade::SeveralSolutions,
+        Verdict::GaveUp { .. } => Grade::GaveUp,
+    }
+}
+
+/// The grade of a puzzle by a search with the rules of its game's searches.
+fn search_grade<P: Solvable>(alloc: Global, puzzle: &P, budget: u64) -> Result<Grade, AllocError>
+where
+    P::Search: Rules,
+    requires means { (rules : P.Search) → P.Search.puzzle rules ≡ P.meaning rules }
+    ensures grade { IfOk result (λ grade. grade ≡ searched_grade (P.rules_of puzzle.now) budget) }
+    ensures right { IfOk result (λ grade. IsRightGrade (P.solves puzzle.now) grade) }
+{
+    let rules = puzzle.rules(alloc)?;
+    let mut store = Store::new(alloc, &rules)?;
+    Ok(searched(&mut store, &rules, budget))
+}
+
+/// The grade of a puzzle by these rules, the last in the list, and else by a search.
+pub fn last_grade<P: Solvable, R: Rules>(
+    alloc: Global,
+    set: RuleSet,
+    puzzle: &P,
+    rules: &R,
+    store: &mut Store<R>,
+    budget: u64,
+) -> Result<Grade, AllocError>
+where
+    P::Search: Rules,
+    requires means { (rules : P.Search) → P.Search.puzzle rules ≡ P.meaning rules }
+    requires fits { FitsIn (needs_of (R.puzzle rules.now)) store.old.made }
+    requires accepted { (g : List ℕ) → Solves (R.puzzle rules.now) g ↔ P.solves puzzle.now g }
+    ensures grade { IfOk result (λ grade. grade
+        ≡ settled_or set (R.puzzle rules.now) (searched_grade (P.rules_of puzzle.now) budget)) }
+    ensures right { IfOk result (λ grade. IsRightGrade (P.solves puzzle.now) grade) }
+    ensures made { store.new.made ≡ store.old.made }
+{
+    if settles(store, rules) {
+        Ok(Grade::ByRules(set))
+    } else {
+        search_grade(alloc, puzzle, budget)
+    }
+}

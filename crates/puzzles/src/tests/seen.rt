@@ -1,0 +1,60 @@
+//! Runs of the program over readers and writers of the tests' own.
+use crate::ends::read_end::ReadEnd;
+use crate::ends::write_end::WriteEnd;
+use crate::ends::{Sink, Source};
+use crate::run::{run, run_on_bytes};
+use crate::tests::fakes::{Slow, texts};
+use std::alloc::{AllocError, Global};
+use std::io::Read;
+
+/// What a run over bytes writes, and its status.
+pub fn outcome(alloc: Global, words: &[&str], input: &[u8]) -> Result<(Vec<u8>, u8), AllocError> {
+    let words = texts(alloc, words)?;
+    Ok(run_on_bytes(alloc, words.as_slice(), input))
+}
+
+/// Whether a run over bytes writes this text, and has this status.
+pub fn tells(
+    alloc: Global,
+    words: &[&str],
+    input: &[u8],
+    text: &str,
+    status: u8,
+) -> Result<bool, AllocError> {
+    let (taken, found) = outcome(alloc, words, input)?;
+    Ok(taken.as_slice() == text.as_bytes() && found == status)
+}
+
+/// What a run did, and the ends as it left them.
+#[derive(Drop)]
+pub struct Seen<R> {
+    pub status: u8,
+    pub reader: R,
+    pub writer: Slow,
+    pub fetches: u32,
+    pub source_failed: bool,
+    pub source_ended: bool,
+    pub sink_failed: bool,
+}
+
+/// A run over this reader and this writer.
+pub fn observe<R: Read + Drop>(
+    alloc: Global,
+    words: &[&str],
+    reader: R,
+    writer: Slow,
+) -> Result<Seen<R>, AllocError> {
+    let words = texts(alloc, words)?;
+    let mut source = ReadEnd::new(reader);
+    let mut sink = WriteEnd::new(writer);
+    let status = run(alloc, words.as_slice(), &mut source, &mut sink);
+    Ok(Seen {
+        status,
+        fetches: source.calls(),
+        source_failed: source.failed(),
+        source_ended: source.ended(),
+        sink_failed: sink.failed(),
+        reader: source.into_inner(),
+        writer: sink.into_inner(),
+    })
+}
