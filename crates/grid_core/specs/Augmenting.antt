@@ -1,61 +1,85 @@
--- The states of a search for augmenting paths, over lists of numbers. No public contract uses these words.
-use Rattle.std.specs.Prelude.{◌≡◌, ℕ, ◌<◌, ◌≤◌, Bool, true, false, IsTrue, List, length, get_or, Option, Some, None}
+-- The states of a search for augmenting paths, over lists of numbers.
+-- No public contract uses these words.
+use Rattle.std.specs.Prelude.{◌≡◌, ℕ, ◌<◌, ◌≤◌, Bool, true, false, IsTrue, List, length, get_or, slice_index, Option, Some, None, Contains}
 
 -- the first `count` entries of a list differ from one another
 pub record IsApart (xs : List ℕ) (count : ℕ) : Type 0 where
   pub differ : (i j : ℕ) → i < j → j < count → get_or xs i 0 ≡ get_or xs j 0 → ⊥
 
--- who owns a right
-abbrev pub owner_of : List (Option ℕ) → ℕ → Option ℕ
-owner_of owners r = get_or owners r None
+-- what contracts see of `Mates`: how many lefts and rights it has room for,
+-- and the mates of the first lefts
+pub record MatesView : Type 0 where
+  pub room : ℕ
+  pub mates : List ℕ
 
--- the lefts below `paired` own a joined right each, and nobody else owns one
-pub record IsPartial (joins : ℕ → ℕ → Bool) (rights paired : ℕ) (mates : List ℕ) (owners : List (Option ℕ)) : Type 0 where
-  pub in_range : (l : ℕ) → l < paired → get_or mates l 0 < rights
-  pub joined : (l : ℕ) → l < paired → IsTrue (joins l (get_or mates l 0))
-  pub owned : (l : ℕ) → l < paired → owner_of owners (get_or mates l 0) ≡ Some l
-  pub own : (r l : ℕ) → owner_of owners r ≡ Some l → (l < paired) × (get_or mates l 0 ≡ r)
+-- each right's owner is the left that has it for its mate
+pub record AreOwners (owners : List (Option ℕ)) (mates : List ℕ) : Type 0 where
+  pub owned : (l : ℕ) → l < length mates → get_or owners (slice_index mates l) None ≡ Some l
+  pub own : (r l : ℕ) → get_or owners r None ≡ Some l
+      → (l < length mates) × (slice_index mates l ≡ r)
 
--- each right's owner is a left below `paired`, and no left owns two
-pub record IsOwnership (paired : ℕ) (owners : List (Option ℕ)) : Type 0 where
-  pub below : (r l : ℕ) → owner_of owners r ≡ Some l → l < paired
-  pub once : (r s l : ℕ) → owner_of owners r ≡ Some l → owner_of owners s ≡ Some l → r ≡ s
+-- no left has the right for its mate
+abbrev pub IsFree : List ℕ → ℕ → Type 0
+IsFree mates r = (l : ℕ) → l < length mates → slice_index mates l ≡ r → ⊥
 
--- the lefts in the queue, the right by which each was reached, and the place in the queue of who is joined to it
-pub record IsReach (joins : ℕ → ℕ → Bool) (rights root : ℕ) (owners : List (Option ℕ)) (seen : List Bool) (queue came parents : List ℕ) (count : ℕ) : Type 0 where
-  pub some : 0 < count
-  pub fits : count ≤ length queue
-  pub root_first : get_or queue 0 0 ≡ root
-  pub below : (j : ℕ) → j < count → get_or queue j 0 ≤ root
-  pub apart : IsApart queue count
-  pub right_in : (j : ℕ) → 0 < j → j < count → get_or came j 0 < rights
-  pub owned : (j : ℕ) → 0 < j → j < count → owner_of owners (get_or came j 0) ≡ Some (get_or queue j 0)
-  pub parent_before : (j : ℕ) → 0 < j → j < count → get_or parents j 0 < j
-  pub parent_joined : (j : ℕ) → 0 < j → j < count → IsTrue (joins (get_or queue (get_or parents j 0) 0) (get_or came j 0))
-  pub seen_came : (j : ℕ) → 0 < j → j < count → get_or seen (get_or came j 0) false ≡ true
-  pub seen_only : (r : ℕ) → get_or seen r false ≡ true → (j : ℕ) × (0 < j) × (j < count) × (get_or came j 0 ≡ r)
+-- each left that has a mate is joined to it
+pub record AreJoined (joins : ℕ → ℕ → Bool) (rights : ℕ) (mates : List ℕ) : Type 0 where
+  pub in_range : (l : ℕ) → l < length mates → slice_index mates l < rights
+  pub joined : (l : ℕ) → l < length mates → IsTrue (joins l (slice_index mates l))
 
--- each right below `upto` that is joined to the left is seen
-pub record SeesBelow (joins : ℕ → ℕ → Bool) (seen : List Bool) (left upto : ℕ) : Type 0 where
-  pub seen_at : (r : ℕ) → r < upto → IsTrue (joins left r) → get_or seen r false ≡ true
+-- what contracts see of `Reached`: how many lefts it has room for, the lefts in the order in which
+-- they were reached, and for each the place of its parent
+pub record ReachedView : Type 0 where
+  pub room : ℕ
+  pub lefts : List ℕ
+  pub parents : List ℕ
 
--- a search went on: what was reached and seen stays so
-pub record Extends (seen : List Bool) (queue : List ℕ) (count : ℕ) (seen' : List Bool) (queue' : List ℕ) (count' : ℕ) : Type 0 where
-  pub grown : count ≤ count'
-  pub kept : (j : ℕ) → j < count → get_or queue' j 0 ≡ get_or queue j 0
-  pub seen_kept : (r : ℕ) → get_or seen r false ≡ true → get_or seen' r false ≡ true
+-- different lefts, which are those seen
+pub record AreReached (seen : List Bool) (lefts : List ℕ) : Type 0 where
+  pub apart : IsApart lefts (length lefts)
+  pub seen_each : (j : ℕ) → j < length lefts → get_or seen (slice_index lefts j) false ≡ true
+  pub seen_only : (l : ℕ) → get_or seen l false ≡ true → Contains lefts l
 
--- the way from a place of the queue back to the root
-pub record IsWayBack (joins : ℕ → ℕ → Bool) (rights root : ℕ) (owners : List (Option ℕ)) (queue came parents : List ℕ) (place : ℕ) : Type 0 where
-  pub root_first : get_or queue 0 0 ≡ root
-  pub apart : (i j : ℕ) → i < j → j ≤ place → get_or queue i 0 ≡ get_or queue j 0 → ⊥
-  pub below : (j : ℕ) → j ≤ place → get_or queue j 0 ≤ root
-  pub right_in : (j : ℕ) → 0 < j → j ≤ place → get_or came j 0 < rights
-  pub owned : (j : ℕ) → 0 < j → j ≤ place → owner_of owners (get_or came j 0) ≡ Some (get_or queue j 0)
-  pub parent_before : (j : ℕ) → 0 < j → j ≤ place → get_or parents j 0 < j
-  pub parent_joined : (j : ℕ) → 0 < j → j ≤ place → IsTrue (joins (get_or queue (get_or parents j 0) 0) (get_or came j 0))
+-- the root, the first left without a mate, and lefts whose mates are joined to their parents
+pub record IsReach (joins : ℕ → ℕ → Bool) (mates : List ℕ) (reached : ReachedView) : Type 0 where
+  pub some : 0 < length reached.lefts
+  pub root : slice_index reached.lefts 0 ≡ length mates
+  pub paired : (j : ℕ) → 0 < j → j < length reached.lefts
+      → slice_index reached.lefts j < length mates
+  pub as_many : length reached.parents ≡ length reached.lefts
+  pub before : (j : ℕ) → 0 < j → j < length reached.lefts
+      → slice_index reached.parents j < j
+  pub joined : (j : ℕ) → 0 < j → j < length reached.lefts
+      → IsTrue (joins (slice_index reached.lefts (slice_index reached.parents j))
+      (slice_index mates (slice_index reached.lefts j)))
 
--- each right of each left that was reached is seen
-pub record IsDeadEnd (joins : ℕ → ℕ → Bool) (rights root : ℕ) (owners : List (Option ℕ)) (seen : List Bool) (queue came parents : List ℕ) (count : ℕ) : Type 0 where
-  pub reach : IsReach joins rights root owners seen queue came parents count
-  pub sees : (j : ℕ) → j < count → SeesBelow joins seen (get_or queue j 0) rights
+-- the left is joined to the right, which is free
+pub record IsFreeFor (joins : ℕ → ℕ → Bool) (rights : ℕ) (mates : List ℕ)
+    (left right : ℕ) : Type 0 where
+  pub right_in : right < rights
+  pub joined : IsTrue (joins left right)
+  pub free : IsFree mates right
+
+-- no right is free for the left
+abbrev pub IsBlocked : (ℕ → ℕ → Bool) → ℕ → List ℕ → ℕ → Type 0
+IsBlocked joins rights mates left = (r : ℕ) → IsFreeFor joins rights mates left r → ⊥
+
+-- a left after the first has the right for its mate
+abbrev pub IsMateOfLater : List ℕ → List ℕ → ℕ → Type 0
+IsMateOfLater mates lefts r =
+    (j : ℕ) × (0 < j) × (j < length lefts) × (slice_index mates (slice_index lefts j) ≡ r)
+
+-- each right below `upto` that is joined to the left is free, or the mate of a left that was reached
+abbrev pub ReachesOwners : (ℕ → ℕ → Bool) → List ℕ → List ℕ → ℕ → ℕ → Type 0
+ReachesOwners joins mates lefts left upto = (r : ℕ) → r < upto → IsTrue (joins left r)
+    → (IsFree mates r → ⊥) → IsMateOfLater mates lefts r
+
+-- a list begins with another
+pub record Extends (xs ys : List ℕ) : Type 0 where
+  pub grown : length xs ≤ length ys
+  pub kept : (j : ℕ) → j < length xs → slice_index ys j ≡ slice_index xs j
+
+-- each right that is joined to one of the first `count` lefts is the mate of a left after the first
+abbrev pub IsClosed : (ℕ → ℕ → Bool) → ℕ → List ℕ → List ℕ → ℕ → Type 0
+IsClosed joins rights mates lefts count = (j r : ℕ) → j < count → r < rights
+    → IsTrue (joins (slice_index lefts j) r) → IsMateOfLater mates lefts r

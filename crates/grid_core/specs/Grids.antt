@@ -1,5 +1,5 @@
--- Grids as lists of numbers, one for each cell, and their lines. The place of the cell in column x and row y is
--- y * w + x.
+-- Grids as lists of numbers, one for each cell, and their lines.
+-- The place of the cell in column x and row y is y * w + x.
 use Rattle.std.specs.Prelude.{◌≡◌, ℕ, ◌+◌, ◌*◌, ◌<◌, List, All, length, map, slice_index}
 use Rattle.std.specs.List.{range_with_len}
 use Rattle.grid_core.specs.Extent.{Extent}

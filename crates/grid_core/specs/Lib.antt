@@ -5,4 +5,3 @@ pub mod Board
 pub mod Regions
 pub mod Pairings
 pub mod Augmenting
-pub mod SearchOutcome

@@ -21,8 +21,9 @@ pub record IsShortSet (joins : ℕ → ℕ → Bool) (lefts rights : ℕ) (xs : 
   pub in_range : All (λ l. l < lefts) xs
   pub fewer : joined_count joins rights xs < length xs
 
--- what contracts see of a `Pairing`: how many lefts and rights it has room for, the mates that the last run gave the
--- lefts (none where it did not pair all), and the lefts that it showed to be short of rights (none where it did not)
+-- what contracts see of a `Pairing`: how many lefts and rights it has room for,
+-- the mates that the last run gave the lefts (none where it did not pair all),
+-- and the lefts that it showed to be short of rights (none where it did not)
 pub record PairingView : Type 0 where
   pub room : ℕ
   pub mates : List ℕ

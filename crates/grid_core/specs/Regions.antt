@@ -1,5 +1,5 @@
--- The lines, blocks, diagonals and neighbours of a grid, as lists of places. The place of the cell in column x and row y is
--- y * w + x.
+-- The lines, blocks, diagonals and neighbours of a grid, as lists of places.
+-- The place of the cell in column x and row y is y * w + x.
 use Rattle.std.specs.Prelude.{ℕ, zero, suc, ◌+◌, ◌-◌, ◌*◌, ◌/◌, ◌%◌, ◌==◌, nat_le, nat_lt, if◌then◌else◌, List, [], ◌∷◌, ◌++◌, map, Option, Some, None}
 use Rattle.std.specs.List.{range_with_len}
 use Rattle.grid_core.specs.Extent.{Extent}
@@ -11,12 +11,14 @@ row_places size y = map (λ x. y * size.w + x) (range_with_len 0 size.w)
 abbrev pub column_places : Extent → ℕ → List ℕ
 column_places size x = map (λ y. y * size.w + x) (range_with_len 0 size.h)
 
--- the cells of a block, row by row, in a square grid with c blocks beside each other, each r columns wide and
--- c rows tall
+-- the cells of a block, row by row, in a square grid with c blocks beside each other,
+-- each r columns wide and c rows tall
 abbrev pub block_places : ℕ → ℕ → ℕ → List ℕ
-block_places c r b = map (λ k. ((b / c) * c + k / r) * (c * r) + ((b % c) * r + k % r)) (range_with_len 0 (c * r))
+block_places c r b =
+    map (λ k. ((b / c) * c + k / r) * (c * r) + ((b % c) * r + k % r)) (range_with_len 0 (c * r))
 
--- the cells of a diagonal of a square grid of n columns, from the top: diagonal 0 begins at the left, 1 at the right
+-- the cells of a diagonal of a square grid of n columns, from the top:
+-- diagonal 0 begins at the left, 1 at the right
 abbrev pub diagonal_places : ℕ → ℕ → List ℕ
 diagonal_places n d = map (λ k. k * n + (if d == 0 then k else n - 1 - k)) (range_with_len 0 n)
 

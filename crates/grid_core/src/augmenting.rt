@@ -1,208 +1,110 @@
 //! The search for a free right, and the change of mates along the way to it.
-ghost use Rattle.std.specs.Prelude.{◌≡◌, ◌+◌, ◌<◌, ◌≤◌, IsTrue, IfSome, IfNone, length, get_or, slice_set, take, None};
-ghost use Rattle.grid_core.specs.Augmenting.{IsOwnership, IsPartial, IsReach, SeesBelow, Extends, IsWayBack, IsDeadEnd, owner_of};
-ghost use Rattle.grid_core.specs.Pairings.{IsPairing, IsShortSet};
-ghost use Rattle.grid_core.specs.SearchOutcome.{OutcomeGives};
 
+ghost use Rattle.std.specs.Prelude.{◌≡◌, ℕ, ◌+◌, ◌<◌, ◌≤◌, MatchOption, length, slice_index};
+ghost use Rattle.grid_core.specs.Augmenting.{AreJoined, IsFreeFor, IsBlocked, IsReach, IsClosed};
+ghost use Rattle.grid_core.specs.Augmenting.{ReachesOwners, Extends};
+
+use crate::mates::Mates;
 use crate::pairing::Edges;
+use crate::reached::Reached;
 
-/// Writes the next entry of the queue.
-fn push(
-    left: usize,
-    right: usize,
-    parent: usize,
-    place: usize,
-    queue: &mut [usize],
-    came: &mut [usize],
-    parents: &mut [usize],
-)
-    requires queue_room { place < length queue.old }
-    requires came_room { place < length came.old }
-    requires parents_room { place < length parents.old }
-    ensures queue { queue.new ≡ slice_set queue.old place left }
-    ensures came { came.new ≡ slice_set came.old place right }
-    ensures parents { parents.new ≡ slice_set parents.old place parent }
+/// The least right that is free for the left.
+fn free_right<E: Edges>(edges: &E, mates: &Mates, left: usize) -> Option<usize>
+    requires left_in { left < E.left_count edges.now }
+    requires rights_fit { E.right_count edges.now ≤ mates.now.room }
+    ensures { MatchOption result
+        (IsBlocked (E.joins edges.now) (E.right_count edges.now) mates.now.mates left)
+        (IsFreeFor (E.joins edges.now) (E.right_count edges.now) mates.now.mates left) }
 {
-    queue[place] = left;
-    came[place] = right;
-    parents[place] = parent;
-}
-
-/// Reaches the owners of the rights that are joined to the left at `head`, or finds a free one.
-fn scan<E: Edges>(
-    edges: &E,
-    root: usize,
-    head: usize,
-    count: &mut usize,
-    owners: &[Option<usize>],
-    seen: &mut [bool],
-    queue: &mut [usize],
-    came: &mut [usize],
-    parents: &mut [usize],
-) -> Option<usize>
-    requires root_in { root < E.left_count edges.now }
-    requires queue_room { root < length queue.old }
-    requires came_room { root < length came.old }
-    requires parents_room { root < length parents.old }
-    requires seen_room { E.right_count edges.now ≤ length seen.old }
-    requires owners_room { E.right_count edges.now ≤ length owners.now }
-    requires ownership { IsOwnership root owners.now }
-    requires reach { IsReach (E.joins edges.now) (E.right_count edges.now) root owners.now
-        seen.old queue.old came.old parents.old count.old }
-    requires head_in { head < count.old }
-    ensures reach { IsReach (E.joins edges.now) (E.right_count edges.now) root owners.now
-        seen.new queue.new came.new parents.new count.new }
-    ensures extends { Extends seen.old queue.old count.old seen.new queue.new count.new }
-    ensures seen { IfNone result
-        (SeesBelow (E.joins edges.now) seen.new (get_or queue.new head 0) (E.right_count edges.now)) }
-    ensures free { IfSome result (λ r. (r < E.right_count edges.now)
-        × IsTrue (E.joins edges.now (get_or queue.new head 0) r) × (owner_of owners.now r ≡ None)) }
-{
-    let left = queue[head];
     let mut from = 0;
     while let Some(right) = edges.next(left, from) {
-        if !seen[right] {
-            match owners[right] {
-                None => return Some(right),
-                Some(owner) => {
-                    seen[right] = true;
-                    push(owner, right, head, *count, queue, came, parents);
-                    *count += 1;
-                }
-            }
+        if mates.owner(right).is_none() {
+            return Some(right);
         }
         from = right + 1;
     }
     None
 }
 
-/// Where a search from a left without a mate ended.
-enum Outcome {
-    /// The left at this place of the queue is joined to this free right.
-    Free { place: usize, right: usize },
-    /// No free right can be reached; so many lefts were.
-    Closed(usize),
-}
-
-/// Searches for a free right, breadth first from the root.
-fn explore<E: Edges>(
-    edges: &E,
-    root: usize,
-    owners: &[Option<usize>],
-    seen: &mut [bool],
-    queue: &mut [usize],
-    came: &mut [usize],
-    parents: &mut [usize],
-) -> Outcome
-    requires root_in { root < E.left_count edges.now }
-    requires queue_room { root < length queue.old }
-    requires came_room { root < length came.old }
-    requires parents_room { root < length parents.old }
-    requires seen_room { E.right_count edges.now ≤ length seen.old }
-    requires owners_room { E.right_count edges.now ≤ length owners.now }
-    requires ownership { IsOwnership root owners.now }
-    ensures { OutcomeGives
-        (λ place right. (place ≤ root) × (right < E.right_count edges.now)
-        × IsTrue (E.joins edges.now (get_or queue.new place 0) right)
-        × (owner_of owners.now right ≡ None)
-        × IsWayBack (E.joins edges.now) (E.right_count edges.now) root owners.now
-        queue.new came.new parents.new place)
-        (λ count. IsDeadEnd (E.joins edges.now) (E.right_count edges.now) root owners.now
-        seen.new queue.new came.new parents.new count)
-        result }
+/// Reaches the owners of the rights that are joined to the left at `head`.
+fn reach_owners<E: Edges>(edges: &E, mates: &Mates, head: usize, reached: &mut Reached)
+    requires rights_fit { E.right_count edges.now ≤ mates.now.room }
+    requires root_in { length mates.now.mates < E.left_count edges.now }
+    requires lefts_fit { E.left_count edges.now ≤ reached.old.room }
+    requires head_in { head < length reached.old.lefts }
+    requires reach { IsReach (E.joins edges.now) mates.now.mates reached.old }
+    ensures room { reached.new.room ≡ reached.old.room }
+    ensures reach { IsReach (E.joins edges.now) mates.now.mates reached.new }
+    ensures grown { Extends reached.old.lefts reached.new.lefts }
+    ensures owners { ReachesOwners (E.joins edges.now) mates.now.mates reached.new.lefts
+        (slice_index reached.new.lefts head) (E.right_count edges.now) }
 {
-    seen.fill(false);
-    queue[0] = root;
-    let mut count = 1;
-    for head in 0..=root {
-        if head == count {
-            return Outcome::Closed(count);
-        }
-        if let Some(right) = scan(
-            edges, root, head, &mut count, owners, seen, queue, came, parents,
-        ) {
-            return Outcome::Free { place: head, right };
-        }
-    }
-    Outcome::Closed(count)
-}
-
-/// Gives the free right to the left at `place`, and the right that this left had to its parent, back to the root.
-fn shift<E: Edges>(
-    edges: &E,
-    root: usize,
-    mut place: usize,
-    mut right: usize,
-    queue: &[usize],
-    came: &[usize],
-    parents: &[usize],
-    mates: &mut [usize],
-    owners: &mut [Option<usize>],
-)
-    requires partial { IsPartial (E.joins edges.now) (E.right_count edges.now) root mates.old
-        owners.old }
-    requires trail { IsWayBack (E.joins edges.now) (E.right_count edges.now) root owners.old
-        queue.now came.now parents.now place }
-    requires place_in { place < length queue.now }
-    requires came_room { length queue.now ≤ length came.now }
-    requires parents_room { length queue.now ≤ length parents.now }
-    requires root_in { root < length mates.old }
-    requires owners_room { E.right_count edges.now ≤ length owners.old }
-    requires right_in { right < E.right_count edges.now }
-    requires joined { IsTrue (E.joins edges.now (get_or queue.now place 0) right) }
-    requires free { owner_of owners.old right ≡ None }
-    ensures { IsPartial (E.joins edges.now) (E.right_count edges.now) (root + 1) mates.new
-        owners.new }
-{
-    while place > 0 {
-        let left = queue[place];
-        let old = came[place];
-        owners[old] = None;
-        owners[right] = Some(left);
-        mates[left] = right;
-        right = old;
-        place = parents[place];
-    }
-    owners[right] = Some(root);
-    mates[root] = right;
-}
-
-/// Pairs one left after the other; None where each has a mate, else how many lefts at the front of the
-/// queue, ascending, have too few rights.
-pub(crate) fn pair_all<E: Edges>(
-    edges: &E,
-    mates: &mut [usize],
-    owners: &mut [Option<usize>],
-    seen: &mut [bool],
-    queue: &mut [usize],
-    came: &mut [usize],
-    parents: &mut [usize],
-) -> Option<usize>
-    requires mates_room { E.left_count edges.now ≤ length mates.old }
-    requires queue_room { E.left_count edges.now ≤ length queue.old }
-    requires came_room { length queue.old ≤ length came.old }
-    requires parents_room { length queue.old ≤ length parents.old }
-    requires seen_room { E.right_count edges.now ≤ length seen.old }
-    requires owners_room { E.right_count edges.now ≤ length owners.old }
-    ensures all { IfNone result (IsPairing (E.joins edges.now) (E.left_count edges.now)
-        (E.right_count edges.now) (take (E.left_count edges.now) mates.new)) }
-    ensures short { IfSome result (λ n. (n ≤ length queue.new) × IsShortSet (E.joins edges.now)
-        (E.left_count edges.now) (E.right_count edges.now) (take n queue.new)) }
-{
-    owners.fill(None);
-    let seen = &mut seen[..edges.rights()];
-    for root in 0..edges.lefts() {
-        match explore(edges, root, owners, seen, queue, came, parents) {
-            Outcome::Free { place, right } => {
-                shift(
-                    edges, root, place, right, queue, came, parents, mates, owners,
-                );
-            }
-            Outcome::Closed(count) => {
-                queue[..count].sort_unstable();
-                return Some(count);
+    let left = reached.left(head);
+    let mut from = 0;
+    while let Some(right) = edges.next(left, from) {
+        if let Some(owner) = mates.owner(right) {
+            if !reached.has(owner) {
+                reached.push(owner, head);
             }
         }
+        from = right + 1;
+    }
+}
+
+/// A right that is free for the left at a place of those reached.
+#[derive(Drop)]
+pub(crate) struct Way {
+    pub(crate) place: usize,
+    pub(crate) right: usize,
+}
+
+/// Searches for a free right, breadth first from the first left that has no mate.
+pub(crate) fn explore<E: Edges>(edges: &E, mates: &Mates, reached: &mut Reached) -> Option<Way>
+    requires root_in { length mates.now.mates < E.left_count edges.now }
+    requires lefts_fit { E.left_count edges.now ≤ reached.old.room }
+    requires rights_fit { E.right_count edges.now ≤ mates.now.room }
+    ensures room { reached.new.room ≡ reached.old.room }
+    ensures reach { IsReach (E.joins edges.now) mates.now.mates reached.new }
+    ensures found { MatchOption result
+        (IsClosed (E.joins edges.now) (E.right_count edges.now) mates.now.mates reached.new.lefts
+        (length reached.new.lefts))
+        (λ way. (way.place < length reached.new.lefts)
+        × IsFreeFor (E.joins edges.now) (E.right_count edges.now) mates.now.mates
+        (slice_index reached.new.lefts way.place) way.right) }
+{
+    reached.clear();
+    reached.push(mates.count(), 0);
+    let mut head = 0;
+    while head < reached.count() {
+        if let Some(right) = free_right(edges, mates, reached.left(head)) {
+            return Some(Way { place: head, right });
+        }
+        reach_owners(edges, mates, head, reached);
+        head += 1;
     }
     None
+}
+
+/// Gives the free right to the left at its place, that left's mate to its parent, on to the root.
+pub(crate) fn shift<E: Edges>(edges: &E, reached: &Reached, way: Way, mates: &mut Mates)
+    requires joined { AreJoined (E.joins edges.now) (E.right_count edges.now) mates.old.mates }
+    requires rights_fit { E.right_count edges.now ≤ mates.old.room }
+    requires root_fits { length mates.old.mates < mates.old.room }
+    requires reach { IsReach (E.joins edges.now) mates.old.mates reached.now }
+    requires place_in { way.place < length reached.now.lefts }
+    requires free { IsFreeFor (E.joins edges.now) (E.right_count edges.now) mates.old.mates
+        (slice_index reached.now.lefts way.place) way.right }
+    ensures room { mates.new.room ≡ mates.old.room }
+    ensures more { length mates.new.mates ≡ length mates.old.mates + 1 }
+    ensures joined { AreJoined (E.joins edges.now) (E.right_count edges.now) mates.new.mates }
+{
+    let Way {
+        mut place,
+        mut right,
+    } = way;
+    while place > 0 {
+        right = mates.replace(reached.left(place), right);
+        place = reached.parent(place);
+    }
+    mates.push(right);
 }

@@ -4,7 +4,9 @@
 mod augmenting;
 mod board;
 mod grid;
+mod mates;
 mod pairing;
+mod reached;
 mod regions;
 mod size;
 

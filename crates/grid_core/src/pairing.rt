@@ -3,7 +3,9 @@
 ghost use Rattle.std.specs.Prelude.{◌≡◌, ℕ, ◌<◌, ◌≤◌, Bool, IsTrue, MatchOption, IfOk, [], length, slice_index};
 ghost use Rattle.grid_core.specs.Pairings.{IsPairing, IsShortSet};
 
-use crate::augmenting::pair_all;
+use crate::augmenting::{explore, shift};
+use crate::mates::Mates;
+use crate::reached::Reached;
 use std::alloc::{AllocError, Global};
 use std::marker::Model;
 
@@ -44,32 +46,23 @@ pub enum Paired {
 /// Room for pairings of up to so many lefts and rights, and the last pairing.
 #[derive(Drop)]
 pub struct Pairing {
-    mates: Vec<usize>,
-    owners: Vec<Option<usize>>,
-    seen: Vec<bool>,
-    queue: Vec<usize>,
-    came: Vec<usize>,
-    parents: Vec<usize>,
-    paired: usize,
-    short: usize,
+    mates: Mates,
+    reached: Reached,
 }
 
 impl Model for Pairing {
-    ghost use Rattle.std.specs.Prelude.{◌≡◌, ℕ, ◌≤◌, vec_len, take};
+    ghost use Rattle.std.specs.Prelude.{◌≡◌};
     ghost use Rattle.grid_core.specs.Pairings.{PairingView};
 
     ghost Value = { PairingView };
 
     ghost view = { λ p. record {
-      room = vec_len p.mates;
-      mates = take p.paired p.mates.items;
-      short = take p.short p.queue.items;
+      room = p.mates.room;
+      mates = p.mates.mates;
+      short = p.reached.lefts;
     } };
 
-    ghost invariant = { λ p. (vec_len p.owners ≡ vec_len p.mates) × (vec_len p.seen ≡ vec_len p.mates)
-        × (vec_len p.queue ≡ vec_len p.mates) × (vec_len p.came ≡ vec_len p.mates)
-        × (vec_len p.parents ≡ vec_len p.mates)
-        × (p.paired ≤ vec_len p.mates) × (p.short ≤ vec_len p.mates) };
+    ghost invariant = { λ p. p.reached.room ≡ p.mates.room };
 }
 
 impl Pairing {
@@ -82,14 +75,8 @@ impl Pairing {
         ensures { IfOk result (λ p. (p.room ≡ n) × (p.mates ≡ []) × (p.short ≡ [])) }
     {
         Ok(Pairing {
-            mates: vec![in alloc; 0; n]?,
-            owners: vec![in alloc; None; n]?,
-            seen: vec![in alloc; false; n]?,
-            queue: vec![in alloc; 0; n]?,
-            came: vec![in alloc; 0; n]?,
-            parents: vec![in alloc; 0; n]?,
-            paired: 0,
-            short: 0,
+            mates: Mates::new(alloc, n)?,
+            reached: Reached::new(alloc, n)?,
         })
     }
 
@@ -98,34 +85,26 @@ impl Pairing {
         requires lefts_fit { E.left_count edges.now ≤ self.old.room }
         requires rights_fit { E.right_count edges.now ≤ self.old.room }
         ensures room { self.new.room ≡ self.old.room }
-        ensures all { result ≡ Paired.All → IsPairing (E.joins edges.now) (E.left_count edges.now)
-            (E.right_count edges.now) self.new.mates }
+        ensures all { result ≡ Paired.All → IsPairing (E.joins edges.now)
+            (E.left_count edges.now) (E.right_count edges.now) self.new.mates }
         ensures none_short { result ≡ Paired.All → self.new.short ≡ [] }
         ensures no_mates { result ≡ Paired.Short → self.new.mates ≡ [] }
-        ensures short { result ≡ Paired.Short → IsShortSet (E.joins edges.now) (E.left_count edges.now)
-            (E.right_count edges.now) self.new.short }
+        ensures short { result ≡ Paired.Short → IsShortSet (E.joins edges.now)
+            (E.left_count edges.now) (E.right_count edges.now) self.new.short }
     {
-        self.paired = 0;
-        self.short = 0;
-        let found = pair_all(
-            edges,
-            &mut self.mates,
-            &mut self.owners,
-            &mut self.seen,
-            &mut self.queue,
-            &mut self.came,
-            &mut self.parents,
-        );
-        match found {
-            None => {
-                self.paired = edges.lefts();
-                Paired::All
-            }
-            Some(count) => {
-                self.short = count;
-                Paired::Short
+        self.mates.clear();
+        while self.mates.count() < edges.lefts() {
+            match explore(edges, &self.mates, &mut self.reached) {
+                Some(way) => shift(edges, &self.reached, way, &mut self.mates),
+                None => {
+                    self.mates.clear();
+                    self.reached.sort();
+                    return Paired::Short;
+                }
             }
         }
+        self.reached.clear();
+        Paired::All
     }
 
     /// The right of a left, after a run that paired all.
@@ -133,13 +112,13 @@ impl Pairing {
         requires { left < length self.now.mates }
         ensures { result ≡ slice_index self.now.mates left }
     {
-        self.mates[left]
+        self.mates.mate(left)
     }
 
     /// The lefts that the last run found to be joined to too few rights, ascending; else none.
     pub fn short(&self) -> &[usize]
         ensures { result.now ≡ self.now.short }
     {
-        &self.queue[..self.short]
+        self.reached.lefts()
     }
 }

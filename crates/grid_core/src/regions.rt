@@ -1,5 +1,5 @@
-//! The places of the cells of a grid's rows, columns, blocks and diagonals, and of those beside a cell. Rows, columns, blocks and the
-//! cells of each are counted from 0.
+//! The places of the cells of a grid's rows, columns, blocks and diagonals, and of those beside a cell.
+//! Rows, columns, blocks and the cells of each are counted from 0.
 
 ghost use Rattle.std.specs.Prelude.{◌≡◌, ◌+◌, ◌-◌, ◌*◌, ◌<◌, ◌==◌, if◌then◌else◌, slice_index, IfSome};
 ghost use Rattle.std.specs.List.{slice_get};
@@ -27,8 +27,9 @@ pub fn column_place(size: Size, x: usize, k: usize) -> usize
     k * usize::from(size.w()) + x
 }
 
-/// The place of the `k`-th cell of the block, row by row, in a square grid of `c * r` columns whose blocks are `r`
-/// columns wide and `c` rows tall, `c` of them beside each other. A block has `c * r` cells.
+/// The place of the `k`-th cell of the block, row by row, in a square grid of `c * r` columns.
+/// Its blocks are `r` columns wide and `c` rows tall, `c` of them beside each other.
+/// A block has `c * r` cells.
 pub fn block_place(c: u8, r: u8, b: usize, k: usize) -> usize
     requires b_in { b < c * r }
     requires k_in { k < c * r }
@@ -42,8 +43,8 @@ pub fn block_place(c: u8, r: u8, b: usize, k: usize) -> usize
     y * (tall * wide) + x
 }
 
-/// The place of the `k`-th cell from the top of the diagonal in a square grid of `n` columns. Diagonal 0 begins in the
-/// left column, diagonal 1 in the right one. A diagonal has `n` cells.
+/// The place of the `k`-th cell from the top of the diagonal in a square grid of `n` columns.
+/// Diagonal 0 begins in the left column, diagonal 1 in the right one. A diagonal has `n` cells.
 pub fn diagonal_place(n: u8, d: usize, k: usize) -> usize
     requires d_in { d < 2 }
     requires k_in { k < n }
@@ -62,8 +63,8 @@ fn diagonal_column(n: u8, d: usize, k: usize) -> usize
     if d == 0 { k } else { usize::from(n) - 1 - k }
 }
 
-/// The `k`-th of the cells that share a side with the place, in the order up, left, right, down of those that the
-/// grid has; `None` past the last of them.
+/// The `k`-th of the cells that share a side with the place; `None` past the last of them.
+/// They go in the order up, left, right, down of those that the grid has.
 pub fn beside(size: Size, place: usize, k: usize) -> Option<usize>
     requires place_in { place < size.w * size.h }
     ensures cell { result ≡ slice_get (beside_places size place) k }
@@ -81,7 +82,8 @@ pub fn beside(size: Size, place: usize, k: usize) -> Option<usize>
     None
 }
 
-/// The cell one step away in the direction: 0 up, 1 left, 2 right, 3 down. `None` where the grid ends.
+/// The cell one step away in the direction: 0 up, 1 left, 2 right, 3 down.
+/// `None` where the grid ends.
 pub fn step(size: Size, place: usize, direction: usize) -> Option<usize>
     requires place_in { place < size.w * size.h }
     requires direction_in { direction < 4 }

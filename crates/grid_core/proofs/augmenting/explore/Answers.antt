@@ -1,11 +1,16 @@
-use Rattle.std.proofs.Common.{arith}
-use Rattle.grid_core.proofs.ExploreSteps.{IsExplored-step, IsDeadEnd-from_explored, explored_count}
+use Rattle.std.proofs.Common.{arith, ◌∙◌}
+use Rattle.grid_core.proofs.SearchSteps.{IsClosed-step}
 use Rattle.grid_core.proofs.augmenting.explore.Goals as goal
 
-pub returns-in_default : goal.returns-in_default
-returns-in_default g c =
-    let s = c.loop-head.invariant in
-    let at = s.head_in in
-    let next = IsExplored-step _ _ _ _ _ _ _ _ _ _ _ _ _ _ _ s (omega arith) c.scan.ensures.reach c.scan.ensures.extends c.in_default.ensures.seen in
-    let few = explored_count _ _ _ _ _ _ _ _ _ _ next in
-    IsDeadEnd-from_explored _ _ _ _ _ _ _ _ _ _ next (omega arith)
+pub loop-head-preserved : goal.loop-head-preserved
+loop-head-preserved g c =
+    let i = c.loop-head.invariant in
+    let e = c.reach_owners.ensures in
+    let longer = e.grown.grown in
+    let more = c.loop-head-test.true in (
+      e.room ∙ i.0,
+      omega arith,
+      e.reach,
+      IsClosed-step _ _ _ c.loop-head.reached.lefts c.reach_owners.new.reached.lefts c.loop-head.head (omega arith) i.3 e.grown
+          (rw c.left.ensures.left at c.in_default.ensures) e.owners,
+    )

@@ -1,5 +1,12 @@
-use Rattle.grid_core.proofs.ExploreSteps.{IsExplored}
+use Rattle.std.proofs.Common.{◌≡◌, ◌≤◌, ◌-◌, length}
+use Rattle.grid_core.specs.Augmenting.{IsReach, IsClosed}
 use Rattle.grid_core.proofs.augmenting.explore.Given as goal
 
 abbrev pub invariant-loop-head : goal.invariant-loop-head
-invariant-loop-head g l = IsExplored (g.E.Edges.joins l.edges) (g.E.Edges.right_count l.edges) l.root l.owners l.seen l.queue l.came l.parents l.count l.head
+invariant-loop-head g l =
+    (l.reached.room ≡ l.fn.reached.room) × (l.head ≤ length l.reached.lefts)
+    × IsReach (g.E.Edges.joins l.edges) l.mates.mates l.reached
+    × IsClosed (g.E.Edges.joins l.edges) (g.E.Edges.right_count l.edges) l.mates.mates l.reached.lefts l.head
+
+abbrev pub decreases-loop-head : goal.decreases-loop-head
+decreases-loop-head g l = l.reached.room - l.head

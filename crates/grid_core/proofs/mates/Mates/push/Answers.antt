@@ -1,0 +1,23 @@
+use Rattle.std.proofs.Common.{◌≡◌, ◌<◌, arith, length-take, length, take, ap}
+use Rattle.std.specs.Prelude.{ℕ}
+use Rattle.std.proofs.lemmas.List.{take_more_set}
+use Rattle.grid_core.specs.Augmenting.{MatesView}
+use Rattle.grid_core.proofs.MateLemmas.{AreOwners-push}
+use Rattle.grid_core.proofs.mates.Mates.push.Goals as goal
+
+pub invariant_of-self : goal.invariant_of-self
+invariant_of-self c =
+    let i = c.self.inside in
+    let old = c.self.invariant in
+    let mates = ap (λ (v : MatesView). v.mates) c.self.view_is in
+    let room = ap (λ (v : MatesView). v.room) c.self.view_is in
+    let fewer = c.requires.room in
+    let long = ap (length {A = ℕ}) mates in
+    let len : length (take i.count i.mates.items) ≡ i.count = omega (arith, length-take i.count i.mates.items) in
+    let inside : i.count < length i.mates.items = omega arith in
+    let right_in = c.requires.right_in in (
+      omega arith,
+      old.1,
+      rw (take_more_set i.mates.items i.count c.args.right inside)
+          (AreOwners-push (take i.count i.mates.items) i.count c.args.right len i.owners.items old.2 (omega arith) (rw mates c.requires.free)),
+    )
