@@ -5,7 +5,7 @@ use crate::{Game, IdFault};
 use std::test::Fail;
 
 #[test]
-fn faults_of_solo(rt: HostRuntime) -> Result<(), Fail> {
+fn faults_of_ids(rt: HostRuntime) -> Result<(), Fail> {
     for (game, text, fault) in [
         (Game::Solo, "2x2:5o", IdFault::NumberRange(4)),
         (Game::Solo, "2x2:o", IdFault::TooFew),
@@ -21,16 +21,6 @@ fn faults_of_solo(rt: HostRuntime) -> Result<(), Fail> {
         (Game::Solo, "2x2x:xp", IdFault::TooMany),
         (Game::Solo, "1x4:p", IdFault::SizeRange),
         (Game::Solo, "6x6:p", IdFault::SizeRange),
-    ] {
-        let found = fault_or_want(rt.alloc(), game, text.as_bytes())?;
-        assert_eq!(rt; found, Some(fault), "{game:?} {text}");
-    }
-    Ok(())
-}
-
-#[test]
-fn faults_of_pattern_and_light_up(rt: HostRuntime) -> Result<(), Fail> {
-    for (game, text, fault) in [
         (Game::Pattern, "3x1:1/1/1/2.1", IdFault::LineTooFull(3)),
         (Game::Pattern, "2x1:1/1/1.1/", IdFault::LineTooFull(2)),
         (Game::Pattern, "2x2:1/1/1", IdFault::TooFew),
@@ -44,16 +34,6 @@ fn faults_of_pattern_and_light_up(rt: HostRuntime) -> Result<(), Fail> {
         (Game::LightUp, "2x2:2c_", IdFault::BadByte(6)),
         (Game::LightUp, "2x2:BBBBB", IdFault::TooMany),
         (Game::LightUp, "2x2:BBB", IdFault::TooFew),
-    ] {
-        let found = fault_or_want(rt.alloc(), game, text.as_bytes())?;
-        assert_eq!(rt; found, Some(fault), "{game:?} {text}");
-    }
-    Ok(())
-}
-
-#[test]
-fn faults_of_tents(rt: HostRuntime) -> Result<(), Fail> {
-    for (game, text, fault) in [
         (Game::Tents, "4x6:z,0,0,0,0,0,0,0,0,0,0", IdFault::TooMany),
         (Game::Tents, "2x2:_b,0,1,1,0", IdFault::TooFew),
         (Game::Tents, "2x2:_c,0,1,1", IdFault::TooFew),
@@ -63,6 +43,10 @@ fn faults_of_tents(rt: HostRuntime) -> Result<(), Fail> {
         (Game::Tents, "2x2:_c,0,1,1,0_", IdFault::BadByte(14)),
         (Game::Tents, "2x2:_c_,0,1,1,0", IdFault::TooMany),
         (Game::Tents, "2x2:_B,0,1,1,0", IdFault::BadByte(5)),
+        (Game::Pattern, "2x2x:///", IdFault::Variant),
+        (Game::Pattern, "121x2x:", IdFault::Variant),
+        (Game::LightUp, "2x2x:d", IdFault::Variant),
+        (Game::Tents, "2x2x:_c,0,1,1,0", IdFault::Variant),
     ] {
         let found = fault_or_want(rt.alloc(), game, text.as_bytes())?;
         assert_eq!(rt; found, Some(fault), "{game:?} {text}");
@@ -95,21 +79,6 @@ fn cut_ids(rt: HostRuntime) -> Result<(), Fail> {
         (Game::LightUp, "2x2:2c", "ccccff."),
         (Game::LightUp, "2x2:Bc", "ccccff."),
         (Game::LightUp, "2x2:1c", "ccccff."),
-    ] {
-        let text = text.as_bytes();
-        assert_eq!(rt; answers.len(), text.len() + 1);
-        for (len, answer) in answers.as_bytes().iter().enumerate() {
-            assert!(rt; len <= text.len());
-            let found = fault_or_want(rt.alloc(), game, &text[..len])?;
-            assert_eq!(rt; found, answer_of(*answer, len), "{game:?} {len}");
-        }
-    }
-    Ok(())
-}
-
-#[test]
-fn cut_ids_of_tents(rt: HostRuntime) -> Result<(), Fail> {
-    for (game, text, answers) in [
         (
             Game::Tents,
             "5x5:y,0,0,0,0,0,0,0,0,0,0",
@@ -161,16 +130,6 @@ fn read_and_written(rt: HostRuntime) -> Result<(), Fail> {
         (Game::LightUp, "2:aaBa", "2x2:bBa"),
         (Game::LightUp, "4x7:azB", "4x7:zaB"),
         (Game::LightUp, "3x3:aBBa1aBb", "3x3:aBBa1aBb"),
-    ] {
-        let written = written_again(rt.alloc(), game, text.as_bytes())?;
-        assert_eq!(rt; written.as_str(), want, "{game:?} {text}");
-    }
-    Ok(())
-}
-
-#[test]
-fn tents_read_and_written(rt: HostRuntime) -> Result<(), Fail> {
-    for (game, text, want) in [
         (Game::Tents, "2x2:_c,0,1,1,0", "2x2:_c,0,1,1,0"),
         (
             Game::Tents,

@@ -5,14 +5,15 @@ use crate::{Game, IdFault};
 use std::test::Fail;
 
 #[test]
-fn the_longest_ids_of_solo(rt: HostRuntime) -> Result<(), Fail> {
+fn long_ids(rt: HostRuntime) -> Result<(), Fail> {
     let (few, many, long) = (
         Some(IdFault::TooFew),
         Some(IdFault::TooMany),
         Some(IdFault::TooLong),
     );
-    let (range, size) = (Some(IdFault::NumberRange(4)), Some(IdFault::SizeRange));
-    let colon = Some(IdFault::NoColon);
+    let (colon, size) = (Some(IdFault::NoColon), Some(IdFault::SizeRange));
+    let (solo, tents) = (Some(IdFault::NumberRange(4)), Some(IdFault::NumberRange(7)));
+    let full = Some(IdFault::LineTooFull(0));
     for (game, front, piece, count, end, fault) in [
         (Game::Solo, "2x2:", "_", 65_530, "p", None),
         (Game::Solo, "2x2:", "_", 65_531, "p", None),
@@ -22,26 +23,12 @@ fn the_longest_ids_of_solo(rt: HostRuntime) -> Result<(), Fail> {
         (Game::Solo, "2x2:", "_", 65_532, "", few),
         (Game::Solo, "2x2:", "z", 65_532, "", many),
         (Game::Solo, "2x2:", "z", 65_533, "", long),
-        (Game::Solo, "2x2:", "9", 65_532, "", range),
+        (Game::Solo, "2x2:", "9", 65_532, "", solo),
         (Game::Solo, "2x2:", "9", 65_533, "", long),
         (Game::Solo, "", "9", 65_532, "x2:p", size),
         (Game::Solo, "", "9", 65_531, "x2x:p", size),
         (Game::Solo, "", "9", 65_536, "", colon),
         (Game::Solo, "", "9", 65_537, "", long),
-    ] {
-        let text = long_text(rt.alloc(), front, piece, count, end)?;
-        let found = fault_or_want(rt.alloc(), game, text.as_slice())?;
-        assert_eq!(rt; found, fault, "{game:?} {front} {count} {end}");
-    }
-    Ok(())
-}
-
-#[test]
-fn the_longest_ids_of_other_games(rt: HostRuntime) -> Result<(), Fail> {
-    let (many, long) = (Some(IdFault::TooMany), Some(IdFault::TooLong));
-    let (full, range) = (Some(IdFault::LineTooFull(0)), Some(IdFault::NumberRange(7)));
-    let colon = Some(IdFault::NoColon);
-    for (game, front, piece, count, end, fault) in [
         (Game::LightUp, "", "z", 65_536, "", colon),
         (Game::LightUp, "", "z", 65_537, "", long),
         (Game::LightUp, "2x2:", "z", 65_532, "", many),
@@ -51,38 +38,25 @@ fn the_longest_ids_of_other_games(rt: HostRuntime) -> Result<(), Fail> {
         (Game::Pattern, "1x1:", "9", 65_530, "/1", full),
         (Game::Tents, "2x2:_c,", "0", 65_523, ",1,1,0", None),
         (Game::Tents, "2x2:_c,", "0", 65_524, ",1,1,0", long),
-        (Game::Tents, "2x2:_c,", "0", 65_522, "3,1,1,0", range),
+        (Game::Tents, "2x2:_c,", "0", 65_522, "3,1,1,0", tents),
+        (Game::Pattern, "120x1:", "/", 119, "", few),
+        (Game::Pattern, "120x1:", "/", 120, "", None),
+        (Game::Pattern, "120x1:", "/", 121, "", many),
+        (Game::Pattern, "121x1:", "/", 121, "", size),
+        (Game::Pattern, "120x120:", "/", 239, "", None),
+        (Game::Pattern, "120x120:", "/", 240, "", many),
+        (Game::LightUp, "120x120:", "B", 14_399, "", few),
+        (Game::LightUp, "120x120:", "B", 14_400, "", None),
+        (Game::LightUp, "120x120:", "B", 14_401, "", many),
+        (Game::LightUp, "2x121:", "B", 242, "", size),
+        (Game::Tents, "120x2:zzzzzzzzzo", ",0", 121, "", few),
+        (Game::Tents, "120x2:zzzzzzzzzo", ",0", 122, "", None),
+        (Game::Tents, "120x2:zzzzzzzzzo", ",0", 123, "", many),
+        (Game::Tents, "121x2:zzzzzzzzzq", ",0", 123, "", size),
     ] {
         let text = long_text(rt.alloc(), front, piece, count, end)?;
         let found = fault_or_want(rt.alloc(), game, text.as_slice())?;
         assert_eq!(rt; found, fault, "{game:?} {front} {count} {end}");
-    }
-    Ok(())
-}
-
-#[test]
-fn the_largest_grids(rt: HostRuntime) -> Result<(), Fail> {
-    let (few, many) = (Some(IdFault::TooFew), Some(IdFault::TooMany));
-    let size = Some(IdFault::SizeRange);
-    for (game, front, piece, count, fault) in [
-        (Game::Pattern, "120x1:", "/", 119, few),
-        (Game::Pattern, "120x1:", "/", 120, None),
-        (Game::Pattern, "120x1:", "/", 121, many),
-        (Game::Pattern, "121x1:", "/", 121, size),
-        (Game::Pattern, "120x120:", "/", 239, None),
-        (Game::Pattern, "120x120:", "/", 240, many),
-        (Game::LightUp, "120x120:", "B", 14_399, few),
-        (Game::LightUp, "120x120:", "B", 14_400, None),
-        (Game::LightUp, "120x120:", "B", 14_401, many),
-        (Game::LightUp, "2x121:", "B", 242, size),
-        (Game::Tents, "120x2:zzzzzzzzzo", ",0", 121, few),
-        (Game::Tents, "120x2:zzzzzzzzzo", ",0", 122, None),
-        (Game::Tents, "120x2:zzzzzzzzzo", ",0", 123, many),
-        (Game::Tents, "121x2:zzzzzzzzzq", ",0", 123, size),
-    ] {
-        let text = long_text(rt.alloc(), front, piece, count, "")?;
-        let found = fault_or_want(rt.alloc(), game, text.as_slice())?;
-        assert_eq!(rt; found, fault, "{game:?} {front} {count}");
     }
     Ok(())
 }

@@ -38,19 +38,6 @@ fn faults_before_the_colon(rt: HostRuntime) {
 }
 
 #[test]
-fn an_x_is_a_fault_outside_solo(rt: HostRuntime) {
-    for (game, text) in [
-        (Game::Pattern, "2x2x:///"),
-        (Game::Pattern, "121x2x:"),
-        (Game::LightUp, "2x2x:d"),
-        (Game::Tents, "2x2x:_c,0,1,1,0"),
-    ] {
-        let found = fault_of(rt.alloc(), game, text.as_bytes());
-        assert_eq!(rt; found, Some(IdFault::Variant), "{game:?} {text}");
-    }
-}
-
-#[test]
 fn sizes_are_read(rt: HostRuntime) {
     for (game, text, size) in [
         (Game::Solo, "2x3", Ok((2, 3, false))),
@@ -63,14 +50,6 @@ fn sizes_are_read(rt: HostRuntime) {
         (Game::LightUp, "2x3x", Err(IdFault::Variant)),
         (Game::Tents, "2x64:", Err(IdFault::Variant)),
         (Game::Tents, "x2", Err(IdFault::BadSize)),
-    ] {
-        assert_eq!(rt; read_size(game, text.as_bytes()), size, "{game:?} {text}");
-    }
-}
-
-#[test]
-fn sizes_at_the_limits(rt: HostRuntime) {
-    for (game, text, size) in [
         (Game::Solo, "1x4", Err(IdFault::SizeRange)),
         (Game::Solo, "4x1x", Err(IdFault::SizeRange)),
         (Game::Solo, "2x15", Ok((2, 15, false))),
