@@ -1,15 +1,13 @@
 -- Boards that differ in one cell alone.
-use Rattle.std.proofs.Common.{◌≡◌, ℕ, ◌+◌, ◌<◌, length, slice_index, Bool, true, false, not, ◌&&◌, ◌||◌, eqb, refl, sym, ap, ◌∙◌, subst, inl, inr, arith}
-use Rattle.std.proofs.lemmas.Bool.{cases_eq, ne_eqb, eq-eqb}
-use Rattle.std.proofs.Math.Path.{fun_ext}
+use Rattle.std.proofs.Common.{◌≡◌, ℕ, ◌+◌, ◌<◌, length, slice_index, Bool, true, false, not, ◌&&◌, ◌||◌, eqb, refl, sym, ap, ◌∙◌, subst, arith}
+use Rattle.std.proofs.lemmas.Bool.{ne_eqb, eq-eqb}
 use Rattle.grid_core.specs.Board.{Layout, has, SameShape}
-use Rattle.grid_core.specs.Candidates.{Candidates, IsInside, IsWithin, only, with_value}
+use Rattle.grid_core.specs.Candidates.{Candidates, IsInside, IsWithin, only}
 use Rattle.grid_core.proofs.BoardLemmas.{has-within}
 use Rattle.engine_core.specs.Puzzle.{Puzzle, IsLawful, IsBoardOf}
 use Rattle.engine_core.specs.PlaceLaws.{has_place-here}
 use Rattle.engine_core.specs.Sets.{IsBitsOf, IsChange}
-use Rattle.engine_core.specs.Frames.{cell_noted}
-use Rattle.engine_core.proofs.NoteLemmas.{scope_upto, scope-before, scope-more, cell-noted-same}
+use Rattle.engine_core.proofs.ScopeLemmas.{cell_noted, scope_upto, scope-before, scope-more, cell-noted-same}
 
 -- by the bits that boards give for a cell
 pub change-of : (p : Puzzle) (b b' : Layout) (place before after : ℕ) → IsBoardOf p b → SameShape b b' → place < p.cells → IsBitsOf (has b place) b.values before → IsBitsOf (has b' place) b'.values after
@@ -22,14 +20,6 @@ change-of p b b' place before after of shape lt was is others = record {
   others = others;
 }
 
-pub restored-others : (K K' : Candidates) (place value c v : ℕ) → K' ≡ with_value K place value → (c ≡ place → ⊥) → K' c v ≡ K c v
-unfolding with_value
-restored-others K K' place value c v e ne = ap (λ (L : Candidates). L c v) e ∙ rw (ne_eqb c place ne) (by (K c v))
-  where
-    by : (x : Bool) → (x || false) ≡ x
-    by true = refl
-    by false = refl
-
 pub kept-others : (K K' : Candidates) (place value c v : ℕ) → K' ≡ only K place value → (c ≡ place → ⊥) → K' c v ≡ K c v
 unfolding only
 kept-others K K' place value c v e ne = ap (λ (L : Candidates). L c v) e ∙ rw (ne_eqb c place ne) (by (K c v))
@@ -37,20 +27,6 @@ kept-others K K' place value c v e ne = ap (λ (L : Candidates). L c v) e ∙ rw
     by : (x : Bool) → (x && true) ≡ x
     by true = refl
     by false = refl
-
--- a cell of which one value alone is left
-pub only-noted : (K K' : Candidates) (place value : ℕ) → K' ≡ only K place value → cell_noted K place K' ≡ K'
-unfolding cell_noted only
-only-noted K K' place value e = fun_ext λ c. fun_ext λ v. rw e (elim (cases_eq c place) [
-  | inl s ↦ by (K c v) (eqb c place) (eqb v value)
-  | inr ne ↦ by (K c v) (eqb c place) (eqb v value)
-])
-  where
-    by : (a c v : Bool) → (a && (not c || (a && (not c || v)))) ≡ (a && (not c || v))
-    by true true true = refl
-    by true true false = refl
-    by true false v = refl
-    by false c v = refl
 
 -- a cell that has the values of another board in place of its own
 pub noted-change : (p : Puzzle) (V K' : Candidates) (place before after : ℕ) → place < p.cells → IsBitsOf (V place) p.values before → IsBitsOf (K' place) p.values after

@@ -3,7 +3,10 @@ use Rattle.std.proofs.Common.{◌≡◌, ℕ, zero, suc, ◌+◌, ◌<◌, ◌�
 use Rattle.std.proofs.lemmas.Bool.{cases_eq}
 use Rattle.grid_core.specs.Candidates.{count_below}
 use Rattle.engine_core.specs.Puzzle.{IsNext, IsKth}
-use Rattle.engine_core.proofs.NoteLemmas.{count-on}
+
+count-on : (p : ℕ → Bool) (n : ℕ) → p n ≡ true → count_below p (n + 1) ≡ count_below p n + 1
+unfolding count_below
+count-on p n on = rw (add-one, on) refl
 
 -- where none passes after m
 pub count-rest : (p : ℕ → Bool) (m n : ℕ) → m ≤ n → ((j : ℕ) → m ≤ j → j < n → p j ≡ false) → count_below p n ≡ count_below p m

@@ -3,6 +3,7 @@ pub mod SetLemmas
 pub mod ClosingLemmas
 pub mod WaitLemmas
 pub mod CallLemmas
+pub mod ScopeLemmas
 pub mod ChangeLemmas
 pub mod QueueLemmas
 pub mod ListLemmas
@@ -17,8 +18,10 @@ pub mod VerdictLemmas
 pub mod SearchLemmas
 pub mod TrailLemmas
 pub mod TrialLemmas
+pub mod WorkLemmas
+pub mod RoomLemmas
+pub mod LevelLemmas
 pub mod FrameLemmas
-pub mod NoteLemmas
 pub mod CountLemmas
 pub mod EndLemmas
 pub mod SearchingLemmas

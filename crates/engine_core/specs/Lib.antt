@@ -19,6 +19,7 @@ pub mod Verdict
 pub mod Trials
 pub mod Counts
 pub mod Search
+pub mod Trail
 pub mod Frames
 pub mod Stored
 pub mod Working

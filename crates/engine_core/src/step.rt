@@ -1,29 +1,24 @@
 //! A visit of a house, and which houses wait after it.
 
-ghost use Rattle.std.specs.Prelude.{◌≡◌, ℕ, ◌+◌, ◌<◌, ◌≤◌, ◌||◌, ◌&&◌, ◌==◌, not, true, false, length, IfSome};
-ghost use Rattle.grid_core.specs.Board.{has, SameShape};
-ghost use Rattle.grid_core.specs.Candidates.{Candidates, is_dead, total};
-ghost use Rattle.engine_core.specs.Frames.{IsTrail, IsNoted};
-ghost use Rattle.engine_core.specs.Puzzle.{Needs, needs_of, IsBoardOf, has_place, after};
+ghost use Rattle.std.specs.Prelude.{◌≡◌, ℕ, ◌<◌, ◌≤◌, ◌||◌, ◌&&◌, ◌==◌, not, true, false, length, IfSome};
+ghost use Rattle.grid_core.specs.Board.{has};
+ghost use Rattle.grid_core.specs.Candidates.{Candidates, is_dead};
+ghost use Rattle.engine_core.specs.Puzzle.{has_place, after};
 ghost use Rattle.engine_core.specs.Queue.{words_of, is_waiting, waits_from, AreCalled, AreRemembered, IsWoken, called_for, are_emptied};
+ghost use Rattle.engine_core.specs.Trail.{IsFurther};
+ghost use Rattle.engine_core.specs.Working.{IsAlong};
 
-use crate::note::{note_cell, remember};
 use crate::rules::Rules;
 use crate::sets::cell_bits;
+use crate::trailed::Trailed;
 use crate::waits::{mark, unmark};
+use crate::work::Work;
 use grid_core::Board;
 
-/// Whether a cell was left without a value, and how long the trail is then.
-#[derive(Clone, Copy)]
-pub(crate) struct Stepped {
-    pub dead: bool,
-    pub len: usize,
-}
-
 /// Marks the houses that have the place, but for those that strike nothing.
-fn mark_place<R: Rules>(rules: &R, place: usize, scratch: &R::Scratch, waits: &mut [u64])
+pub(crate) fn mark_place<R: Rules>(rules: &R, place: usize, scratch: &R::Scratch, waits: &mut [u64])
     requires place_in { place < (R.puzzle rules.now).cells }
-    requires waits_of { length waits.old ≡ words_of (R.puzzle rules.now).houses }
+    requires waits_room { words_of (R.puzzle rules.now).houses ≤ length waits.old }
     requires follows { (K : Candidates) × R.follows rules.now scratch.now K }
     ensures called { (K : Candidates) → R.follows rules.now scratch.now K
         → AreCalled (R.puzzle rules.now) K (λ j. has_place ((R.puzzle rules.now).scope j) place)
@@ -41,7 +36,7 @@ fn mark_place<R: Rules>(rules: &R, place: usize, scratch: &R::Scratch, waits: &m
 
 /// Marks all houses, but for those that strike nothing.
 fn mark_all<R: Rules>(rules: &R, scratch: &R::Scratch, waits: &mut [u64])
-    requires waits_of { length waits.old ≡ words_of (R.puzzle rules.now).houses }
+    requires waits_room { words_of (R.puzzle rules.now).houses ≤ length waits.old }
     requires follows { (K : Candidates) × R.follows rules.now scratch.now K }
     ensures called { (K : Candidates) → R.follows rules.now scratch.now K
         → AreCalled (R.puzzle rules.now) K (λ j. true) (is_waiting waits.old) (is_waiting waits.new) }
@@ -62,7 +57,7 @@ pub(crate) fn wait_from<R: Rules>(
     waits: &mut [u64],
 )
     requires place_in { IfSome from (λ place. place < (R.puzzle rules.now).cells) }
-    requires waits_of { length waits.old ≡ words_of (R.puzzle rules.now).houses }
+    requires waits_room { words_of (R.puzzle rules.now).houses ≤ length waits.old }
     requires follows { (K : Candidates) × R.follows rules.now scratch.now K }
     ensures called { (K : Candidates) → R.follows rules.now scratch.now K
         → AreCalled (R.puzzle rules.now) K (waits_from (R.puzzle rules.now) from) (λ j. false)
@@ -76,9 +71,9 @@ pub(crate) fn wait_from<R: Rules>(
 }
 
 /// Takes away the mark of a house just visited, where it is settled.
-fn settle<R: Rules>(rules: &R, house: usize, waits: &mut [u64])
+pub(crate) fn settle<R: Rules>(rules: &R, house: usize, waits: &mut [u64])
     requires house_in { house < (R.puzzle rules.now).houses }
-    requires waits_of { length waits.old ≡ words_of (R.puzzle rules.now).houses }
+    requires waits_room { words_of (R.puzzle rules.now).houses ≤ length waits.old }
     ensures { (j : ℕ) → is_waiting waits.new j
         ≡ (is_waiting waits.old j && not ((R.puzzle rules.now).settled && (j == house))) }
 {
@@ -87,93 +82,63 @@ fn settle<R: Rules>(rules: &R, house: usize, waits: &mut [u64])
     }
 }
 
-/// Marks the houses of each cell of the house that lost a value, but for those that strike nothing, and says whether one of
-/// these cells has no value left. The sets are those that the cells had before.
-fn wake<R: Rules>(
-    rules: &R,
-    house: usize,
-    board: &Board,
-    scratch: &R::Scratch,
-    sets: &[u32],
-    waits: &mut [u64],
-) -> bool
-    requires house_in { house < (R.puzzle rules.now).houses }
-    requires board_of { IsBoardOf (R.puzzle rules.now) board.now }
-    requires follows { R.follows rules.now scratch.now (has board.now) }
-    requires room { length ((R.puzzle rules.now).scope house) ≤ length sets.now }
-    requires waits_of { length waits.old ≡ words_of (R.puzzle rules.now).houses }
-    ensures called { (K : Candidates)
-        → AreRemembered (R.puzzle rules.now) house K (has board.now) sets.now
-        → AreCalled (R.puzzle rules.now) (has board.now)
-        (called_for (R.puzzle rules.now) house K (has board.now)) (is_waiting waits.old)
-        (is_waiting waits.new) }
-    ensures dead { (K : Candidates)
-        → AreRemembered (R.puzzle rules.now) house K (has board.now) sets.now
-        → result ≡ are_emptied (R.puzzle rules.now) house K (has board.now) }
-{
-    let mut dead = false;
-    for k in 0..rules.scope_len(house) {
-        let place = rules.scope(house, k);
-        let now = cell_bits(board, place);
-        if now != sets[k] {
-            mark_place(rules, place, scratch, waits);
-            dead |= now == 0;
+impl<R: Rules> Work<R> {
+    /// Marks the houses of each cell of the house that lost a value, but for those that strike nothing, and says whether
+    /// one of these cells has no value left.
+    fn wake(&mut self, rules: &R, house: usize, board: &Board) -> bool
+        requires along { IsAlong (R.puzzle rules.now) (R.follows rules.now) self.old board.now }
+        requires house_in { house < (R.puzzle rules.now).houses }
+        requires sets_room { length ((R.puzzle rules.now).scope house) ≤ length self.old.sets }
+        ensures called { (K : Candidates)
+            → AreRemembered (R.puzzle rules.now) house K (has board.now) self.old.sets
+            → AreCalled (R.puzzle rules.now) (has board.now)
+            (called_for (R.puzzle rules.now) house K (has board.now)) (is_waiting self.old.waits)
+            (is_waiting self.new.waits) }
+        ensures dead { (K : Candidates)
+            → AreRemembered (R.puzzle rules.now) house K (has board.now) self.old.sets
+            → result ≡ are_emptied (R.puzzle rules.now) house K (has board.now) }
+        ensures along { IsAlong (R.puzzle rules.now) (R.follows rules.now) self.new board.now }
+        ensures made { self.new.made ≡ self.old.made }
+        ensures trace { self.new.trace ≡ self.old.trace }
+    {
+        let mut dead = false;
+        for k in 0..rules.scope_len(house) {
+            let place = rules.scope(house, k);
+            let now = cell_bits(board, place);
+            if now != self.set_before(k) {
+                self.wait_at(rules, place);
+                dead |= now == 0;
+            }
         }
+        dead
     }
-    dead
-}
 
-/// Visits the house, notes what that strikes, marks the houses of each cell that lost a value in place of the house, but
-/// for those that strike nothing, and says whether one of these cells has no value left.
-pub(crate) fn step<R: Rules>(
-    rules: &R,
-    house: usize,
-    board: &mut Board,
-    scratch: &mut R::Scratch,
-    sets: &mut [u32],
-    waits: &mut [u64],
-    trail: &mut [(usize, u8)],
-    len: usize,
-) -> Stepped
-    requires house_in { house < (R.puzzle rules.now).houses }
-    requires board_of { IsBoardOf (R.puzzle rules.now) board.old }
-    requires served { R.serves scratch.old (needs_of (R.puzzle rules.now)) }
-    requires follows { R.follows rules.now scratch.old (has board.old) }
-    requires room { length ((R.puzzle rules.now).scope house) ≤ length sets.old }
-    requires waits_of { length waits.old ≡ words_of (R.puzzle rules.now).houses }
-    requires within { len ≤ length trail.old }
-    requires entries { IsTrail (R.puzzle rules.now).cells (R.puzzle rules.now).values trail.old
-        len }
-    requires trail_room { total (R.puzzle rules.now).cells (R.puzzle rules.now).values
-        (has board.old) + len ≤ length trail.old }
-    ensures left { has board.new ≡ after (R.puzzle rules.now) house (has board.old) }
-    ensures shape { SameShape board.old board.new }
-    ensures waiting { IsWoken (R.puzzle rules.now) house (has board.old) (has board.new)
-        (is_waiting waits.old) (is_waiting waits.new) }
-    ensures noted { IsNoted (R.puzzle rules.now).cells (R.puzzle rules.now).values (has board.old)
-        (has board.new) trail.old trail.new len result.len }
-    ensures dead { is_dead (R.puzzle rules.now).cells (R.puzzle rules.now).values (has board.new)
-        ≡ (is_dead (R.puzzle rules.now).cells (R.puzzle rules.now).values (has board.old)
-        || result.dead) }
-    ensures follows { R.follows rules.now scratch.new (has board.new) }
-    ensures keeps { (needs : Needs) → R.serves scratch.old needs → R.serves scratch.new needs }
-{
-    unmark(waits, house);
-    remember(rules, house, board, sets);
-    if !rules.visit(house, board, scratch) {
-        return Stepped { dead: false, len };
-    }
-    let values = rules.values();
-    let mut end = len;
-    for k in 0..rules.scope_len(house) {
-        let place = rules.scope(house, k);
-        let now = cell_bits(board, place);
-        if now != sets[k] {
-            end = note_cell(board, place, sets[k], values, trail, end);
-            rules.change(place, sets[k], now, scratch);
+    /// Visits the house, marks the houses of each cell that lost a value in place of the house, but for those that strike
+    /// nothing, and says whether one of these cells has no value left.
+    pub(crate) fn step(&mut self, rules: &R, house: usize, trailed: &mut Trailed) -> bool
+        requires along { IsAlong (R.puzzle rules.now) (R.follows rules.now) self.old
+            trailed.old.board }
+        requires house_in { house < (R.puzzle rules.now).houses }
+        ensures left { has trailed.new.board
+            ≡ after (R.puzzle rules.now) house (has trailed.old.board) }
+        ensures waiting { IsWoken (R.puzzle rules.now) house (has trailed.old.board)
+            (has trailed.new.board) (is_waiting self.old.waits) (is_waiting self.new.waits) }
+        ensures dead { is_dead (R.puzzle rules.now).cells (R.puzzle rules.now).values
+            (has trailed.new.board)
+            ≡ (is_dead (R.puzzle rules.now).cells (R.puzzle rules.now).values
+            (has trailed.old.board) || result) }
+        ensures further { IsFurther trailed.old trailed.new }
+        ensures along { IsAlong (R.puzzle rules.now) (R.follows rules.now) self.new
+            trailed.new.board }
+        ensures made { self.new.made ≡ self.old.made }
+        ensures trace { self.new.trace ≡ self.old.trace }
+    {
+        self.unmark(rules, house);
+        if !self.visit(rules, house, trailed) {
+            return false;
         }
+        let dead = self.wake(rules, house, trailed.board());
+        self.settle(rules, house);
+        dead
     }
-    let dead = wake(rules, house, board, scratch, sets, waits);
-    settle(rules, house, waits);
-    Stepped { dead, len: end }
 }

@@ -1,6 +1,6 @@
 //! Which houses wait: a bit for each, in words of 64.
 
-ghost use Rattle.std.specs.Prelude.{◌≡◌, ℕ, ◌/◌, ◌<◌, ◌||◌, ◌==◌, length};
+ghost use Rattle.std.specs.Prelude.{◌≡◌, ℕ, ◌/◌, ◌<◌, ◌≤◌, ◌||◌, ◌==◌, length};
 ghost use Rattle.engine_core.specs.Puzzle.{IsNext};
 ghost use Rattle.engine_core.specs.Queue.{words_of, is_waiting, but, IsAnyOf};
 ghost use Rattle.engine_core.specs.Sets.{has_bit as is_set};
@@ -44,11 +44,11 @@ fn next_bit(word: u64, from: usize) -> Option<usize>
 
 /// The least house at or after `from` that waits.
 pub(crate) fn next_waiting(waits: &[u64], from: usize, houses: usize) -> Option<usize>
-    requires { length waits.now ≡ words_of houses }
+    requires { words_of houses ≤ length waits.now }
     ensures { IsNext (is_waiting waits.now) houses from result }
 {
     let mut bit = from % 64;
-    for word in from / 64..waits.len() {
+    for word in from / 64..words_for(houses) {
         if let Some(next) = next_bit(waits[word], bit) {
             let house = word * 64 + next;
             if house < houses {
@@ -63,7 +63,7 @@ pub(crate) fn next_waiting(waits: &[u64], from: usize, houses: usize) -> Option<
 
 /// A house that waits: the least at or after `from`, or else the least of all.
 pub(crate) fn next_around(waits: &[u64], from: usize, houses: usize) -> Option<usize>
-    requires { length waits.now ≡ words_of houses }
+    requires { words_of houses ≤ length waits.now }
     ensures { IsAnyOf (is_waiting waits.now) houses result }
 {
     match next_waiting(waits, from, houses) {

@@ -1,20 +1,18 @@
 //! What closings work in.
 
-ghost use Rattle.std.specs.Prelude.{◌≡◌, ◌+◌, ◌<◌, ◌≤◌, true, IfOk, length, take, drop, if◌then◌else◌};
-ghost use Rattle.grid_core.specs.Board.{has, SameShape};
-ghost use Rattle.grid_core.specs.Candidates.{Candidates, total, only};
-ghost use Rattle.engine_core.specs.Frames.{IsTrail, IsNoted};
+ghost use Rattle.std.specs.Prelude.{◌≡◌, ℕ, ◌+◌, ◌<◌, ◌≤◌, ◌^◌, ◌&&◌, ◌==◌, not, true, false, IfOk, IfSome, length, slice_index, slice_set, if◌then◌else◌};
+ghost use Rattle.grid_core.specs.Board.{has};
+ghost use Rattle.grid_core.specs.Candidates.{Candidates, count_below, only};
 ghost use Rattle.engine_core.specs.Mode.{is_queue};
-ghost use Rattle.engine_core.specs.Puzzle.{needs_of, FitsIn, IsBoardOf, IsGridOf};
-ghost use Rattle.engine_core.specs.Queue.{IsClosedBut, IsEnded};
-ghost use Rattle.engine_core.specs.Search.{restored};
-ghost use Rattle.engine_core.specs.Working.{needs_made};
+ghost use Rattle.engine_core.specs.Puzzle.{needs_of, FitsIn, IsBoardOf, IsGridOf, IsNext, has_place, after};
+ghost use Rattle.engine_core.specs.Queue.{is_waiting, waits_from, but, AreCalled, AreRemembered, IsAnyOf};
+ghost use Rattle.engine_core.specs.Trail.{IsBack, IsFurther};
+ghost use Rattle.engine_core.specs.Working.{needs_made, IsAlong, IsSameButWaits};
 
-use crate::close::close_board;
-use crate::mode::Closed;
 use crate::rules::{Rules, by_queue};
-use crate::trail::{keep_noting, undo};
-use crate::waits::words_for;
+use crate::step::{mark_place, settle, wait_from};
+use crate::trailed::Trailed;
+use crate::waits::{next_around, next_waiting, unmark, words_for};
 use grid_core::{Board, Grid};
 use std::alloc::{AllocError, Global};
 use std::marker::Model;
@@ -49,6 +47,8 @@ impl<R: Rules> Model for Work<R> {
     ghost view = { λ w. record {
       made = needs_made w.made;
       trace = w.trace.items;
+      waits = w.waits.items;
+      sets = w.sets.items;
       scratch = w.scratch;
     } };
 
@@ -91,47 +91,119 @@ impl<R: Rules> Work<R> {
         &self.trace
     }
 
-    /// Closes the board, and notes what that strikes. Where `from` names a place, the board was closed before that place's
-    /// cell lost all values but one. Where the closing need not be whole, it may stop at the first cell without a value.
-    pub(crate) fn close(
-        &mut self,
-        rules: &R,
-        from: Option<usize>,
-        board: &mut Board,
-        trail: &mut [(usize, u8)],
-        len: usize,
-        whole: bool,
-    ) -> Closed
-        requires room { FitsIn (needs_of (R.puzzle rules.now)) self.old.made }
-        requires board_of { IsBoardOf (R.puzzle rules.now) board.old }
-        requires follows { R.follows rules.now self.old.scratch (has board.old) }
-        requires closed_but { IsClosedBut (R.puzzle rules.now) (has board.old) from }
-        requires within { len ≤ length trail.old }
-        requires entries { IsTrail (R.puzzle rules.now).cells (R.puzzle rules.now).values
-            trail.old len }
-        requires trail_room { total (R.puzzle rules.now).cells (R.puzzle rules.now).values
-            (has board.old) + len ≤ length trail.old }
-        ensures ended { IsEnded (R.puzzle rules.now) (has board.old) (has board.new) whole
-            result.closing (take result.visits self.new.trace) result.sweeps }
-        ensures visits { result.visits ≤ length self.new.trace }
-        ensures noted { IsNoted (R.puzzle rules.now).cells (R.puzzle rules.now).values
-            (has board.old) (has board.new) trail.old trail.new len result.len }
-        ensures shape { SameShape board.old board.new }
-        ensures follows { R.follows rules.now self.new.scratch (has board.new) }
-        ensures made { self.new.made ≡ self.old.made }
+    /// Marks the houses that a closing begins with.
+    pub(crate) fn wait(&mut self, rules: &R, from: Option<usize>)
+        requires fits { FitsIn (needs_of (R.puzzle rules.now)) self.old.made }
+        requires place_in { IfSome from (λ place. place < (R.puzzle rules.now).cells) }
+        requires follows { (K : Candidates) × R.follows rules.now self.old.scratch K }
+        ensures called { (K : Candidates) → R.follows rules.now self.old.scratch K
+            → AreCalled (R.puzzle rules.now) K (waits_from (R.puzzle rules.now) from) (λ j. false)
+            (is_waiting self.new.waits) }
+        ensures trace_room { (R.puzzle rules.now).by_queue ≡ true
+            → (R.puzzle rules.now).bound ≤ length self.new.trace }
+        ensures others { IsSameButWaits self.old self.new }
     {
-        close_board(
-            rules,
-            from,
-            board,
-            &mut self.scratch,
-            &mut self.sets,
-            &mut self.waits,
-            &mut self.trace,
-            trail,
-            len,
-            whole,
-        )
+        wait_from(rules, from, &self.scratch, &mut self.waits);
+    }
+
+    /// Marks the houses that have the place, but for those that strike nothing.
+    pub(crate) fn wait_at(&mut self, rules: &R, place: usize)
+        requires fits { FitsIn (needs_of (R.puzzle rules.now)) self.old.made }
+        requires place_in { place < (R.puzzle rules.now).cells }
+        requires follows { (K : Candidates) × R.follows rules.now self.old.scratch K }
+        ensures called { (K : Candidates) → R.follows rules.now self.old.scratch K
+            → AreCalled (R.puzzle rules.now) K
+            (λ j. has_place ((R.puzzle rules.now).scope j) place) (is_waiting self.old.waits)
+            (is_waiting self.new.waits) }
+        ensures others { IsSameButWaits self.old self.new }
+    {
+        mark_place(rules, place, &self.scratch, &mut self.waits);
+    }
+
+    /// Takes the house's mark away.
+    pub(crate) fn unmark(&mut self, rules: &R, house: usize)
+        requires fits { FitsIn (needs_of (R.puzzle rules.now)) self.old.made }
+        requires house_in { house < (R.puzzle rules.now).houses }
+        ensures waits { (j : ℕ) → is_waiting self.new.waits j
+            ≡ but (is_waiting self.old.waits) house j }
+        ensures others { IsSameButWaits self.old self.new }
+    {
+        unmark(&mut self.waits, house);
+    }
+
+    /// Takes away the mark of a house just visited, where it is settled.
+    pub(crate) fn settle(&mut self, rules: &R, house: usize)
+        requires fits { FitsIn (needs_of (R.puzzle rules.now)) self.old.made }
+        requires house_in { house < (R.puzzle rules.now).houses }
+        ensures waits { (j : ℕ) → is_waiting self.new.waits j
+            ≡ (is_waiting self.old.waits j
+            && not ((R.puzzle rules.now).settled && (j == house))) }
+        ensures others { IsSameButWaits self.old self.new }
+    {
+        settle(rules, house, &mut self.waits);
+    }
+
+    /// Visits the house, and says whether one of its cells lost a value.
+    pub(crate) fn visit(&mut self, rules: &R, house: usize, trailed: &mut Trailed) -> bool
+        requires along { IsAlong (R.puzzle rules.now) (R.follows rules.now) self.old
+            trailed.old.board }
+        requires house_in { house < (R.puzzle rules.now).houses }
+        ensures left { has trailed.new.board
+            ≡ after (R.puzzle rules.now) house (has trailed.old.board) }
+        ensures unchanged { result ≡ false → has trailed.new.board ≡ has trailed.old.board }
+        ensures further { IsFurther trailed.old trailed.new }
+        ensures sets { AreRemembered (R.puzzle rules.now) house (has trailed.old.board)
+            (has trailed.new.board) self.new.sets }
+        ensures sets_room { length ((R.puzzle rules.now).scope house) ≤ length self.new.sets }
+        ensures along { IsAlong (R.puzzle rules.now) (R.follows rules.now) self.new
+            trailed.new.board }
+        ensures waits { self.new.waits ≡ self.old.waits }
+        ensures made { self.new.made ≡ self.old.made }
+        ensures trace { self.new.trace ≡ self.old.trace }
+    {
+        trailed.visit(rules, house, &mut self.scratch, &mut self.sets)
+    }
+
+    /// The set that the cell at this number of the house had before the visit.
+    pub(crate) fn set_before(&self, k: usize) -> u32
+        requires { k < length self.now.sets }
+        ensures { result ≡ slice_index self.now.sets k }
+    {
+        self.sets[k]
+    }
+
+    /// The least house at or after `from` that waits.
+    pub(crate) fn next_from(&self, rules: &R, from: usize) -> Option<usize>
+        requires { FitsIn (needs_of (R.puzzle rules.now)) self.now.made }
+        ensures next { IsNext (is_waiting self.now.waits) (R.puzzle rules.now).houses from result }
+        ensures few { (R.puzzle rules.now).houses < 2 ^ 64 }
+    {
+        next_waiting(&self.waits, from, rules.houses())
+    }
+
+    /// A house that waits: the least at or after `from`, or else the least of all.
+    pub(crate) fn next_around(&self, rules: &R, from: usize) -> Option<usize>
+        requires { FitsIn (needs_of (R.puzzle rules.now)) self.now.made }
+        ensures any { IsAnyOf (is_waiting self.now.waits) (R.puzzle rules.now).houses result }
+        ensures few { (R.puzzle rules.now).houses < 2 ^ 64 }
+    {
+        next_around(&self.waits, from, rules.houses())
+    }
+
+    /// Writes down the house as that visit.
+    pub(crate) fn write(&mut self, visit: usize, house: usize)
+        requires { visit < length self.old.trace }
+        ensures few { visit + 1 < 2 ^ 64 }
+        ensures written { self.new
+            ≡ record {
+              made = self.old.made;
+              trace = slice_set self.old.trace visit house;
+              waits = self.old.waits;
+              sets = self.old.sets;
+              scratch = self.old.scratch;
+            } }
+    {
+        self.trace[visit] = house;
     }
 
     /// Whether the grid is a solution.
@@ -151,64 +223,42 @@ impl<R: Rules> Work<R> {
     pub(crate) fn follow(&mut self, rules: &R, board: &Board)
         requires room { FitsIn (needs_of (R.puzzle rules.now)) self.old.made }
         requires board_of { IsBoardOf (R.puzzle rules.now) board.now }
-        ensures follows { R.follows rules.now self.new.scratch (has board.now) }
+        ensures along { IsAlong (R.puzzle rules.now) (R.follows rules.now) self.new board.now }
         ensures made { self.new.made ≡ self.old.made }
         ensures trace { self.new.trace ≡ self.old.trace }
     {
         rules.follow(board, &mut self.scratch);
     }
 
-    /// Takes the trail back to the mark: puts back what was struck since.
-    pub(crate) fn undo(
-        &mut self,
-        rules: &R,
-        board: &mut Board,
-        trail: &[(usize, u8)],
-        len: usize,
-        mark: usize,
-    )
-        requires board_of { IsBoardOf (R.puzzle rules.now) board.old }
-        requires follows { R.follows rules.now self.old.scratch (has board.old) }
-        requires marked { mark ≤ len }
-        requires within { len ≤ length trail.now }
-        requires entries { IsTrail (R.puzzle rules.now).cells (R.puzzle rules.now).values
-            trail.now len }
-        ensures left { has board.new ≡ restored (has board.old) (drop mark (take len trail.now)) }
-        ensures shape { SameShape board.old board.new }
-        ensures follows { R.follows rules.now self.new.scratch (has board.new) }
+    /// Takes the board back to the mark.
+    pub(crate) fn undo(&mut self, rules: &R, trailed: &mut Trailed, mark: usize)
+        requires along { IsAlong (R.puzzle rules.now) (R.follows rules.now) self.old
+            trailed.old.board }
+        requires marked { mark ≤ trailed.old.len }
+        ensures back { IsBack trailed.old trailed.new mark }
+        ensures along { IsAlong (R.puzzle rules.now) (R.follows rules.now) self.new
+            trailed.new.board }
         ensures made { self.new.made ≡ self.old.made }
     {
-        undo(rules, board, &mut self.scratch, trail, len, mark);
+        trailed.undo(rules, mark, &mut self.scratch);
     }
 
-    /// Leaves that value alone in the cell, and notes what it strikes.
-    pub(crate) fn keep(
-        &mut self,
-        rules: &R,
-        board: &mut Board,
-        place: usize,
-        value: u8,
-        trail: &mut [(usize, u8)],
-        len: usize,
-    ) -> usize
-        requires board_of { IsBoardOf (R.puzzle rules.now) board.old }
-        requires follows { R.follows rules.now self.old.scratch (has board.old) }
+    /// Leaves that value alone in the cell, which has several.
+    pub(crate) fn keep(&mut self, rules: &R, trailed: &mut Trailed, place: usize, value: u8)
+        requires along { IsAlong (R.puzzle rules.now) (R.follows rules.now) self.old
+            trailed.old.board }
         requires place_in { place < (R.puzzle rules.now).cells }
         requires value_in { value < (R.puzzle rules.now).values }
-        requires there { has board.old place value ≡ true }
-        requires within { len ≤ length trail.old }
-        requires entries { IsTrail (R.puzzle rules.now).cells (R.puzzle rules.now).values
-            trail.old len }
-        requires room { total (R.puzzle rules.now).cells (R.puzzle rules.now).values
-            (has board.old) + len ≤ length trail.old }
-        ensures left { has board.new ≡ only (has board.old) place value }
-        ensures noted { IsNoted (R.puzzle rules.now).cells (R.puzzle rules.now).values
-            (has board.old) (has board.new) trail.old trail.new len result }
-        ensures shape { SameShape board.old board.new }
-        ensures follows { R.follows rules.now self.new.scratch (has board.new) }
+        requires there { has trailed.old.board place value ≡ true }
+        requires several { 2
+            ≤ count_below (has trailed.old.board place) (R.puzzle rules.now).values }
+        ensures left { has trailed.new.board ≡ only (has trailed.old.board) place value }
+        ensures further { IsFurther trailed.old trailed.new }
+        ensures along { IsAlong (R.puzzle rules.now) (R.follows rules.now) self.new
+            trailed.new.board }
         ensures made { self.new.made ≡ self.old.made }
     {
-        keep_noting(rules, board, &mut self.scratch, place, value, trail, len)
+        trailed.keep(rules, place, value, &mut self.scratch);
     }
 }
 

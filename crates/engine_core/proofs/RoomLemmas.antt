@@ -1,0 +1,53 @@
+-- Room for the frames: each open level has one more cell with a single value.
+use Rattle.std.proofs.Common.{◌≡◌, ℕ, ◌<◌, ◌≤◌, true, false, eqb, refl, sym, ◌∙◌, inl, inr, arith, Some, subst}
+use Rattle.std.proofs.lemmas.Bool.{cases_eq, eqb-true, ne_eqb, eq-eqb}
+use Rattle.grid_core.specs.Candidates.{Candidates, IsInside, IsWithin, is_dead, pick, only, count_below}
+use Rattle.grid_core.proofs.CandidateLemmas.{count_below-lt, count_below-le, count_below-few, count_below-pos, count_below-bound, is_dead-not}
+use Rattle.grid_core.proofs.GridLemmas.{only-at, only-other, only-here, pick-two}
+use Rattle.engine_core.specs.Puzzle.{Puzzle, IsClosed}
+use Rattle.engine_core.specs.Closing.{closure}
+use Rattle.engine_core.specs.Search.{Level}
+use Rattle.engine_core.specs.Frames.{singles, IsOpen}
+use Rattle.engine_core.proofs.ClosingLemmas.{closure_closed}
+
+pub singles-only : (p : Puzzle) (K : Candidates) (cell v : ℕ) → cell < p.cells → v < p.values → K cell v ≡ true → 2 ≤ count_below (K cell) p.values → singles p K < singles p (only K cell v)
+unfolding singles
+singles-only p K cell v ltc ltv on two =
+    count_below-lt (λ c. eqb (count_below (K c) p.values) 1) (λ c. eqb (count_below (only K cell v c) p.values) 1) p.cells cell
+    (λ c _ one. elim (cases_eq c cell) [
+      | inl e ↦ absurd (let s : count_below (K c) p.values ≡ 1 = eqb-true _ _ one in let t : 2 ≤ count_below (K c) p.values = rw e two in omega arith)
+      | inr ne ↦ rw (only-other K cell v c ne) one
+    ])
+    ltc
+    (ne_eqb (count_below (K cell) p.values) 1 (λ one. omega arith))
+    (eq-eqb (count_below (only K cell v cell) p.values) 1 (
+    let few : count_below (only K cell v cell) p.values ≤ 1 = count_below-few (only K cell v cell) p.values (λ k j _ _ onk onj. only-at K cell v k onk ∙ sym (only-at K cell v j onj)) in
+    let some : 0 < count_below (only K cell v cell) p.values = count_below-pos (only K cell v cell) p.values v ltv (only-here K cell v on) in
+    omega arith))
+
+pub singles-inside : (p : Puzzle) (J K : Candidates) → IsInside J K → is_dead p.cells p.values J ≡ false → singles p K ≤ singles p J
+unfolding singles
+singles-inside p J K inside alive =
+    count_below-le (λ c. eqb (count_below (K c) p.values) 1) (λ c. eqb (count_below (J c) p.values) 1) p.cells (λ c lt one.
+    let s : count_below (K c) p.values ≡ 1 = eqb-true _ _ one in
+    let le : count_below (J c) p.values ≤ count_below (K c) p.values = count_below-le (J c) (K c) p.values (λ v _. inside c v) in
+    let some = is_dead-not p.cells p.values J c alive lt in
+    eq-eqb (count_below (J c) p.values) 1 (omega arith))
+
+pub singles-room : (p : Puzzle) (K : Candidates) (cell : ℕ) → cell < p.cells → 2 ≤ count_below (K cell) p.values → singles p K < p.cells
+unfolding singles
+singles-room p K cell lt two =
+    let less : count_below (λ c. eqb (count_below (K c) p.values) 1) p.cells < count_below (λ c. true) p.cells =
+    count_below-lt (λ c. eqb (count_below (K c) p.values) 1) (λ c. true) p.cells cell (λ c _ _. refl) lt (ne_eqb (count_below (K cell) p.values) 1 (λ one. omega arith)) refl in
+    let all = count_below-bound (λ c. true) p.cells in
+    omega arith
+
+pub split-room : (p : Puzzle) (K K' : Candidates) (n cell : ℕ) → IsInside K' K → n ≤ singles p K → is_dead p.cells p.values K' ≡ false → pick p.cells p.values K' ≡ Some cell
+    → IsWithin p.cells p.values K → (is_dead p.cells p.values K' ≡ false → K' ≡ closure p K) → IsOpen p (record { board = K'; cell = cell; next = 0 }) n
+split-room p K K' n cell inside single alive picked within reached =
+    let two = pick-two p.cells p.values K' cell picked in
+    let more = singles-inside p K' K inside alive in
+    record { single = omega arith; cell_in = two.0; two = two.1; closed = subst (IsClosed p) (sym (reached alive)) (closure_closed p K within); alive = alive }
+
+pub open-room : (p : Puzzle) (level : Level) (n : ℕ) → IsOpen p level n → n < p.cells
+open-room p level n o = let less = singles-room p level.board level.cell o.cell_in o.two in let s = o.single in omega arith

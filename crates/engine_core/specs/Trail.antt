@@ -1,0 +1,51 @@
+-- A board with the trail of its changes, so that it can be put back. No public contract uses these words.
+use Rattle.std.specs.Prelude.{◌≡◌, ℕ, zero, suc, ◌+◌, ◌*◌, ◌^◌, ◌<◌, ◌≤◌, ◌&&◌, ◌||◌, ◌==◌, nat_le, List, length, slice_index_or, if◌then◌else◌}
+use Rattle.grid_core.specs.Board.{Layout, has, SameShape}
+use Rattle.grid_core.specs.Candidates.{Candidates, IsInside, total}
+use Rattle.engine_core.specs.Sets.{has_bit}
+
+-- a change: the cell, and the set that it had before, as bits
+abbrev pub change_at : List (ℕ × ℕ) → ℕ → ℕ × ℕ
+change_at changes k = slice_index_or changes k (0, 0)
+
+-- the board with the values that the cell had before the change
+unfoldable pub given_back : Candidates → ℕ × ℕ → Candidates
+given_back K change c v = K c v || ((c == change.0) && has_bit change.1 v)
+
+-- the board before the changes from the number `mark` up to n
+unfoldable pub put_back : Candidates → List (ℕ × ℕ) → ℕ → ℕ → Candidates
+put_back K changes mark zero = K
+put_back K changes mark (suc n) =
+    if nat_le mark n then put_back (given_back K (change_at changes n)) changes mark n else K
+
+-- a board, and its changes: the first `len` of the list
+pub record Trail : Type 0 where
+  pub board : Layout
+  pub changes : List (ℕ × ℕ)
+  pub len : ℕ
+
+-- the board that a mark gives back
+abbrev pub back_at : Trail → ℕ → Candidates
+back_at t mark = put_back (has t.board) t.changes mark t.len
+
+-- the changes are of cells and values of the board, and there is room for as many as can come
+pub record IsTrail (cells values : ℕ) (K : Candidates) (changes : List (ℕ × ℕ)) (len : ℕ) : Type 0 where
+  pub long : length changes ≡ cells * values
+  pub changes_in : (k : ℕ) → k < len
+      → ((change_at changes k).0 < cells) × ((change_at changes k).1 < 2 ^ values)
+  pub room : (mark : ℕ) → mark ≤ len
+      → total cells values (put_back K changes mark len) + mark ≤ length changes
+
+-- values were struck, and are noted: each earlier mark gives back the same
+pub record IsFurther (from to : Trail) : Type 0 where
+  pub shape : SameShape from.board to.board
+  pub inside : IsInside (has to.board) (has from.board)
+  pub grows : from.len ≤ to.len
+  pub back : (mark : ℕ) → mark ≤ from.len → back_at to mark ≡ back_at from mark
+
+-- the trail was taken back to the mark: each earlier mark gives back the same
+pub record IsBack (from to : Trail) (mark : ℕ) : Type 0 where
+  pub shape : SameShape from.board to.board
+  pub here : has to.board ≡ back_at from mark
+  pub len : to.len ≡ mark
+  pub back : (earlier : ℕ) → earlier ≤ mark → back_at to earlier ≡ back_at from earlier
