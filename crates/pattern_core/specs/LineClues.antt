@@ -1,5 +1,7 @@
 -- The clue of a line, whatever words it is spelled in.
-use Rattle.std.specs.Prelude.{ℕ, List}
+use Rattle.std.specs.Prelude.{ℕ, List, map}
+use Rattle.grid_core.specs.Extent.{Extent}
+use Rattle.gameid_core.specs.Puzzles.{Pattern}
 use Rattle.pattern_core.specs.declared.line_clue.LineClue.{LineClue}
 use Rattle.pattern_core.specs.declared.line_clue.LineClue.TheVariants.{Short, Long}
 
@@ -7,3 +9,7 @@ use Rattle.pattern_core.specs.declared.line_clue.LineClue.TheVariants.{Short, Lo
 abbrev pub numbers_in : LineClue → List ℕ
 numbers_in (Short clue) = clue
 numbers_in (Long clue) = clue
+
+-- the puzzle of a size with these clues
+abbrev pub pattern_of : Extent → List LineClue → Pattern
+pattern_of size clues = record { size = size; clues = map numbers_in clues }

@@ -1,5 +1,5 @@
 -- Lines of either kind: the columns from the left, and then the rows from the top.
-use Rattle.std.specs.Prelude.{◌≡◌, ℕ, ◌-◌, ◌≤◌, ◌++◌, ◌==◌, ◌&&◌, Bool, true, false, List, [], ◌∷◌, Option, MatchOption, length, nat_lt, if◌then◌else◌, slice_index_or, take}
+use Rattle.std.specs.Prelude.{◌≡◌, ℕ, ◌-◌, ◌<◌, ◌≤◌, ◌++◌, ◌==◌, ◌&&◌, Bool, true, false, List, [], ◌∷◌, Option, MatchOption, length, nat_lt, if◌then◌else◌, slice_index_or, take}
 use Rattle.grid_core.specs.Extent.{Extent}
 use Rattle.grid_core.specs.Grids.{row_cells, column_cells}
 use Rattle.grid_core.specs.Regions.{row_places, column_places}
@@ -32,6 +32,11 @@ same_numbers (x ∷ xs) (y ∷ ys) = (x == y) && same_numbers xs ys
 -- whether the runs of the cells are the clue
 unfoldable pub has_runs : List ℕ → List ℕ → Bool
 has_runs clue cells = same_numbers (runs cells) clue
+
+-- there are so many sets, and more rows of either width
+abbrev pub HasRoom : ℕ → List ℕ → List ℕ → List ℕ → Type 0
+HasRoom n sets rows long_rows =
+    (length sets ≡ n) × (n < length rows) × (n < length long_rows)
 
 -- After `ended` of the clue's runs comes a run of k cells, or none where k is 0: so many of the clue's runs have
 -- then ended, or there is no such clue.

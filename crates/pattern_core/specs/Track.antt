@@ -1,11 +1,13 @@
 -- A clue spelled out as cells, and how a line goes along it. The places along the clue are numbered from 0, before its
 -- first cell. A line that is at a place has passed what is spelled before it. No public contract uses these words.
-use Rattle.std.specs.Prelude.{◌≡◌, ℕ, zero, suc, ◌<◌, ◌≤◌, Bool, true, false, ◌&&◌, ◌||◌, ◌==◌, List, [], ◌∷◌, ◌++◌, length, get_or, replicate, drop, map, if◌then◌else◌}
+use Rattle.std.specs.Prelude.{◌≡◌, ℕ, zero, suc, ◌+◌, ◌<◌, ◌≤◌, Bool, true, false, ◌&&◌, ◌||◌, ◌==◌, List, [], ◌∷◌, ◌++◌, length, get_or, replicate, drop, map, if◌then◌else◌}
 use Rattle.std.specs.List.{AllByRecursion}
 use Rattle.gameid_core.specs.BlackRuns.{runs}
 use Rattle.gameid_core.specs.Puzzles.{used}
+use Rattle.grid_core.specs.Candidates.{any_below}
 use Rattle.engine_core.specs.Filling.{Set, some_filling}
 use Rattle.engine_core.specs.Sets.{has_bit, set_of_bits}
+use Rattle.pattern_core.specs.declared.track.Spelling.{Spelling}
 use Rattle.pattern_core.specs.declared.track.Steps.{Steps}
 
 -- 1 for each black cell of a run, and 0 for a white cell after it
@@ -54,6 +56,21 @@ leads t p (suc _ ∷ cells) = t.black p && leads t (suc p) cells
 unfoldable pub some_leads : Track → List Set → (List ℕ → Bool) → ℕ → Bool
 some_leads t sets test p = some_filling sets (λ cells. leads t p cells && test cells)
 
+-- the places for a cell with this set, by those for a white cell and for a black one
+abbrev pub by_set : (ℕ → Bool) → (ℕ → Bool) → ℕ → ℕ → Bool
+by_set white black set p = (has_bit set 0 && white p) || (has_bit set 1 && black p)
+
+-- from which places a step leads to where there is a way on, by those at which a line may stay and from which it moves
+abbrev pub leads_on : (ℕ → Bool) → (ℕ → Bool) → (ℕ → Bool) → ℕ → Bool
+leads_on stays moves after p = (stays p && after p) || (moves p && after (suc p))
+
+-- whether a white cell, or a black one, leads on from a place that is reached
+abbrev pub shows_white : ℕ → Track → (ℕ → Bool) → (ℕ → Bool) → Bool
+shows_white room t reached after = any_below (λ p. reached p && leads_on t.stay t.white after p) room
+
+abbrev pub shows_black : ℕ → Track → (ℕ → Bool) → (ℕ → Bool) → Bool
+shows_black room t reached after = any_below (λ p. reached p && (t.black p && after (suc p))) room
+
 -- whether there is a way from the place to an end by a cell of this set, where `after` tells it of what follows
 unfoldable pub ahead : Track → Bool → Bool → (ℕ → Bool) → ℕ → Bool
 ahead t white black after p = (white && ((t.stay p && after p) || (t.white p && after (suc p)))) || (black && (t.black p && after (suc p)))
@@ -62,6 +79,10 @@ ahead t white black after p = (white && ((t.stay p && after p) || (t.white p && 
 unfoldable pub one_on : (ℕ → Bool) → ℕ → Bool
 one_on places zero = false
 one_on places (suc p) = places p
+
+-- the places to which a step leads from where a line may be
+abbrev pub led_to : (ℕ → Bool) → (ℕ → Bool) → (ℕ → Bool) → ℕ → Bool
+led_to stays moves reached p = (stays p && reached p) || one_on (λ q. moves q && reached q) p
 
 -- the places reached by a cell of this set
 unfoldable pub moved : Track → Bool → Bool → (ℕ → Bool) → ℕ → Bool
@@ -95,6 +116,14 @@ pub record IsSpelling {A : Type 0} (has : A → ℕ → Bool) (cells : List ℕ)
   pub whites : (p : ℕ) → has white p ≡ (get_or cells p 2 == 0)
   pub blacks : (p : ℕ) → has black p ≡ (get_or cells p 2 == 1)
   pub nexts : (p : ℕ) → has next p ≡ (p == length cells)
+
+abbrev pub Spells : {A : Type 0} → (A → ℕ → Bool) → List ℕ → Spelling A → Type 0
+Spells has cells s = IsSpelling has cells s.white s.black s.next
+
+-- what is spelled gets these cells more, where it has room for so many and one
+abbrev pub AddsCells : {A : Type 0} → (A → ℕ → Bool) → ℕ → ℕ → List ℕ → Spelling A → Spelling A → Type 0
+AddsCells has room n more old new = (cells : List ℕ) → suc (length cells + n) < room
+    → Spells has cells old → Spells has (cells ++ more) new
 
 -- so many cells from a place on, 1 for a black one
 unfoldable pub cells_from : (ℕ → Bool) → ℕ → ℕ → List ℕ

@@ -34,21 +34,15 @@ pub struct PatternLines {
 }
 
 impl Model for PatternLines {
-    ghost use Rattle.std.specs.Prelude.{◌≡◌};
-    ghost use Rattle.std.specs.Prelude.{map};
     ghost use Rattle.gameid_core.specs.Puzzles.{IsPattern};
-    ghost use Rattle.pattern_core.specs.LineClues.{numbers_in};
+    ghost use Rattle.pattern_core.specs.LineClues.{pattern_of};
     ghost use Rattle.pattern_core.specs.LineRules.{Ruled};
 
     ghost Value = { Ruled };
 
-    ghost view = { λ r. record {
-      pattern = record { size = r.size; clues = map numbers_in r.clues.items };
-      extent = r.extent;
-    } };
+    ghost view = { λ r. record { pattern = pattern_of r.size r.clues.items; extent = r.extent } };
 
-    ghost invariant = { λ r.
-        IsPattern (record { size = r.size; clues = map numbers_in r.clues.items }) };
+    ghost invariant = { λ r. IsPattern (pattern_of r.size r.clues.items) };
 }
 
 /// What a visit of a line works in, for lines up to some length.
@@ -61,15 +55,15 @@ pub struct LineScratch {
 }
 
 impl Model for LineScratch {
-    ghost use Rattle.std.specs.Prelude.{◌≡◌, ℕ, ◌<◌, length};
+    ghost use Rattle.std.specs.Prelude.{ℕ, length};
+    ghost use Rattle.pattern_core.specs.Lines.{HasRoom};
 
     ghost Value = { ℕ };
 
     ghost view = { λ s. length s.places.items };
 
-    ghost invariant = { λ s. (length s.sets.items ≡ length s.places.items)
-        × (length s.places.items < length s.rows.items)
-        × (length s.places.items < length s.long_rows.items) };
+    ghost invariant = { λ s.
+        HasRoom (length s.places.items) s.sets.items s.rows.items s.long_rows.items };
 }
 
 /// The place of a line's k-th cell: downwards in a column and rightwards in a row.

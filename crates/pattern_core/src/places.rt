@@ -3,7 +3,7 @@
 ghost use Rattle.std.specs.Prelude.{◌≡◌, ℕ, suc, ◌%◌, ◌<◌, ◌≤◌, Bool, false, ◌&&◌, ◌||◌, ◌==◌, slice_index};
 ghost use Rattle.grid_core.specs.Candidates.{any_below};
 ghost use Rattle.engine_core.specs.Sets.{has_bit};
-ghost use Rattle.pattern_core.specs.Track.{one_on};
+ghost use Rattle.pattern_core.specs.Track.{by_set, one_on};
 
 /// A set of places.
 pub(crate) trait Places: Copy + Drop {
@@ -50,8 +50,7 @@ pub(crate) trait Places: Copy + Drop {
 
     /// The places for a cell that may be white, those for one that may be black, and all of them for one that may be both.
     fn masks(white: Self, black: Self) -> Self::Masks
-        ensures { (set p : ℕ) → has_by result set p
-            ≡ ((has_bit set 0 && has white p) || (has_bit set 1 && has black p)) };
+        ensures { (set p : ℕ) → has_by result set p ≡ by_set (has white) (has black) set p };
 
     /// The places for a cell with this set.
     fn mask(masks: &Self::Masks, set: u32) -> Self

@@ -6,13 +6,12 @@
 //! The rows are filled from the last cell backwards; then one word, the places that can be reached, goes forwards, and a
 //! value of a cell stays where the two meet. What a cell's set lets a line do is looked up by the set.
 
-ghost use Rattle.std.specs.Prelude.{◌≡◌, ℕ, suc, ◌<◌, ◌≤◌, ◌&&◌, ◌||◌, ◌%◌, true, false, length, slice_index};
-ghost use Rattle.grid_core.specs.Candidates.{any_below};
+ghost use Rattle.std.specs.Prelude.{◌≡◌, ℕ, ◌<◌, ◌≤◌, ◌&&◌, ◌%◌, true, false, length, slice_index};
 ghost use Rattle.engine_core.specs.Filling.{strikes_by_fillings};
 ghost use Rattle.engine_core.specs.Sets.{has_bit};
 ghost use Rattle.engine_core.specs.House.{IsDecided};
 ghost use Rattle.pattern_core.specs.Lines.{has_runs};
-ghost use Rattle.pattern_core.specs.Track.{along, IsBelow, one_on, some_leads, sets_of, any_cells, AreRows, AreKept};
+ghost use Rattle.pattern_core.specs.Track.{along, by_set, leads_on, led_to, shows_white, shows_black, IsBelow, some_leads, sets_of, any_cells, AreRows, AreKept};
 
 use crate::places::Places;
 use crate::track::{SpelledClue, Steps};
@@ -23,7 +22,7 @@ const BOTH: u32 = 3;
 /// By what a cell may be, the places from which a line goes on.
 pub(crate) fn moves_of<P: Places>(steps: Steps<P>) -> P::Masks
     ensures { (set p : ℕ) → P.has_by result set p
-        ≡ ((has_bit set 0 && P.has steps.white p) || (has_bit set 1 && P.has steps.black p)) }
+        ≡ by_set (P.has steps.white) (P.has steps.black) set p }
 {
     P::masks(steps.white, steps.black)
 }
@@ -38,8 +37,7 @@ pub(crate) fn stays_of<P: Places>(steps: Steps<P>) -> P::Masks
 /// From which places there is a way to the end by a cell of this set, by those from which there is one after it.
 fn ahead_of<P: Places>(moves: &P::Masks, stays: &P::Masks, set: u32, after: P) -> P
     ensures { (p : ℕ) → P.has result p
-        ≡ ((P.has_by stays.now set p && P.has after p)
-        || (P.has_by moves.now set p && P.has after (suc p))) }
+        ≡ leads_on (P.has_by stays.now set) (P.has_by moves.now set) (P.has after) p }
 {
     let next = P::mask(moves, set).both(after.back());
     P::mask(stays, set).both(after).either(next)
@@ -48,8 +46,7 @@ fn ahead_of<P: Places>(moves: &P::Masks, stays: &P::Masks, set: u32, after: P) -
 /// Which places are reached by a cell of this set, by those that are reached before it.
 pub(crate) fn moved_by<P: Places>(moves: &P::Masks, stays: &P::Masks, set: u32, reached: P) -> P
     ensures { (p : ℕ) → p < P.room → P.has result p
-        ≡ ((P.has_by stays.now set p && P.has reached p)
-        || one_on (λ q. P.has_by moves.now set q && P.has reached q) p) }
+        ≡ led_to (P.has_by stays.now set) (P.has_by moves.now set) (P.has reached) p }
 {
     let next = P::mask(moves, set).both(reached).on();
     P::mask(stays, set).both(reached).either(next)
@@ -57,11 +54,10 @@ pub(crate) fn moved_by<P: Places>(moves: &P::Masks, stays: &P::Masks, set: u32, 
 
 /// What is kept of a cell with both values: each by which a way leads on from a place that is reached.
 fn kept_of<P: Places>(steps: Steps<P>, reached: P, after: P) -> u32
-    ensures white { has_bit result 0 ≡ any_below (λ p. P.has reached p
-        && ((P.has steps.stay p && P.has after p)
-        || (P.has steps.white p && P.has after (suc p)))) P.room }
-    ensures black { has_bit result 1 ≡ any_below (λ p. P.has reached p
-        && (P.has steps.black p && P.has after (suc p))) P.room }
+    ensures white { has_bit result 0
+        ≡ shows_white P.room (along P.has steps) (P.has reached) (P.has after) }
+    ensures black { has_bit result 1
+        ≡ shows_black P.room (along P.has steps) (P.has reached) (P.has after) }
 {
     let next = after.back();
     let white = steps.stay.both(after).either(steps.white.both(next));

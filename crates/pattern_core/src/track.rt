@@ -2,10 +2,10 @@
 //! black cell or the white cell after a run takes it one place on, and before a run it may stay where it is for any
 //! number of white cells.
 
-ghost use Rattle.std.specs.Prelude.{◌≡◌, ℕ, suc, ◌+◌, ◌<◌, ◌++◌, List, [], ◌∷◌, length, replicate};
+ghost use Rattle.std.specs.Prelude.{◌≡◌, ◌<◌, ◌++◌, [], ◌∷◌, replicate};
 ghost use Rattle.std.specs.List.{AllByRecursion};
 ghost use Rattle.gameid_core.specs.Puzzles.{used};
-ghost use Rattle.pattern_core.specs.Track.{spelled, track_of, along, IsSpelling};
+ghost use Rattle.pattern_core.specs.Track.{spelled, track_of, along, AddsCells};
 
 use crate::places::Places;
 use std::marker::Model;
@@ -30,9 +30,7 @@ struct Spelling<P> {
 
 /// Adds a black cell.
 fn push_black<P: Places>(spelling: Spelling<P>) -> Spelling<P>
-    ensures { (cells : List ℕ) → suc (length cells) < P.room
-        → IsSpelling P.has cells spelling.white spelling.black spelling.next
-        → IsSpelling P.has (cells ++ 1 ∷ []) result.white result.black result.next }
+    ensures { AddsCells P.has P.room 0 (1 ∷ []) spelling result }
 {
     Spelling {
         white: spelling.white,
@@ -43,9 +41,7 @@ fn push_black<P: Places>(spelling: Spelling<P>) -> Spelling<P>
 
 /// Adds a white cell.
 fn push_white<P: Places>(spelling: Spelling<P>) -> Spelling<P>
-    ensures { (cells : List ℕ) → suc (length cells) < P.room
-        → IsSpelling P.has cells spelling.white spelling.black spelling.next
-        → IsSpelling P.has (cells ++ 0 ∷ []) result.white result.black result.next }
+    ensures { AddsCells P.has P.room 0 (0 ∷ []) spelling result }
 {
     Spelling {
         white: spelling.white.either(spelling.next),
@@ -56,10 +52,7 @@ fn push_white<P: Places>(spelling: Spelling<P>) -> Spelling<P>
 
 /// Adds the black cells of a run and the white cell after it.
 fn push_run<P: Places>(spelling: Spelling<P>, number: u8) -> Spelling<P>
-    ensures { (cells : List ℕ) → suc (length cells + number) < P.room
-        → IsSpelling P.has cells spelling.white spelling.black spelling.next
-        → IsSpelling P.has (cells ++ (replicate number 1 ++ 0 ∷ []))
-        result.white result.black result.next }
+    ensures { AddsCells P.has P.room number (replicate number 1 ++ 0 ∷ []) spelling result }
 {
     let mut longer = spelling;
     for _k in 0..number {

@@ -12,7 +12,7 @@ use Rattle.std.proofs.lemmas.List.{get_or-map, length-map, map-append}
 use Rattle.gameid_core.specs.Puzzles.{Solo, IsSolo, solo_n}
 use Rattle.engine_core.specs.House.{Decision, sets_at, kept_in, IsDecided}
 use Rattle.engine_core.specs.Houses.{House, house_of, no_house, IsSound, visits_of}
-use Rattle.engine_core.specs.HouseIndex.{scope_of, AreScopes}
+use Rattle.engine_core.specs.HouseIndex.{Table, scope_of, AreScopes}
 use Rattle.solo_core.specs.declared.solo_house.SoloHouse.{SoloHouse}
 use Rattle.solo_core.specs.declared.solo_house.SoloHouse.TheVariants.{Row}
 use Rattle.solo_core.specs.Houses.{houses_of, places_of}
@@ -20,7 +20,7 @@ use Rattle.solo_core.specs.HouseLaws.{lists_house, all_houses}
 use Rattle.solo_core.specs.RuleSets.{deciding, filled_houses, setting_of, rules_of, row_crossing, column_crossing, crossings_of}
 use Rattle.solo_core.specs.Cells.{solo_cells}
 use Rattle.solo_core.specs.NoRepeat.{no_repeat}
-use Rattle.solo_core.specs.Work.{all_places}
+use Rattle.solo_core.specs.Work.{all_places, table_of}
 use Rattle.engine_core.specs.Filling.{strikes_by_fillings}
 use Rattle.std.specs.List.{range_with_len}
 use Rattle.engine_core.specs.HouseList.{Listed}
@@ -41,10 +41,13 @@ module _ (decides : Decision) (p : Solo) (h : ℕ) (lt : h < length (deciding de
   long-at ok = ap (λ (house : House). length house.places) deciding-at ∙ (lists_house p ok (get_or (houses_of p) h (Row 0)) (all_houses p h (Row 0) (omega (arith, lt, length-map {B = House} (houses_of p) (λ (house : SoloHouse). record { places = places_of p house; decides = decides }))))).len
 
 -- ---- a table of the houses' places
-pub scope-at : (houses : List House) (h : ℕ) → scope_of (all_places houses) h ≡ (house_of houses h).places
+scope-at : (houses : List House) (h : ℕ) → scope_of (all_places houses) h ≡ (house_of houses h).places
 scope-at [] h = refl
 scope-at (house ∷ houses) zero = refl
 scope-at (house ∷ houses) (suc h) = scope-at houses h
+
+pub table-places : (p : Solo) (houses : List House) (table : Table) (h : ℕ) → table ≡ table_of p houses → scope_of table.scopes h ≡ (house_of houses h).places
+table-places p houses table h listed = ap (λ (t : Table). scope_of t.scopes h) listed ∙ scope-at houses h
 
 pub scopes-fit : (settled : Bool) (p : Solo) (houses : List House) → All (IsSound (setting_of settled p houses)) houses → AreScopes (setting_of settled p houses).cells (all_places houses)
 scopes-fit settled p houses sound h lt =

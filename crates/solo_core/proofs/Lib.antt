@@ -2,7 +2,6 @@ pub mod PairedFillings
 pub mod Marks
 pub mod WayLemmas
 pub mod Reaching
-pub mod FixedPairings
 pub mod Turned
 pub mod LowestBit
 pub mod KeptBits

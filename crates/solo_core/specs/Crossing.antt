@@ -7,11 +7,17 @@ use Rattle.engine_core.specs.Puzzle.{has_place}
 use Rattle.engine_core.specs.Filling.{Set, has_value}
 use Rattle.engine_core.specs.House.{Decision}
 use Rattle.engine_core.specs.Houses.{House}
+use Rattle.engine_core.specs.Sets.{has_bit}
+use Rattle.solo_core.specs.Deciding.{has_in}
 
 -- the value has a place in this part of the house
 abbrev pub has_in_part : (ℕ → Bool) → List Set → ℕ → Bool
 has_in_part part sets value =
     any_below (λ j. part j && has_value (get_or sets j []) value) (length sets)
+
+-- the same by the bits of the sets
+abbrev pub part_has : (ℕ → Bool) → List ℕ → ℕ → Bool
+part_has part sets value = any_below (λ j. part j && has_in sets j value) (length sets)
 
 -- a value is struck from the line outside the block where it has no place in the block outside the line, and from the
 -- block outside the line where it has no place in the line outside the block
@@ -20,9 +26,13 @@ strikes_by_crossing in_block in_line sets place value =
     (in_line place && not (has_in_part in_block sets value))
     || (in_block place && not (has_in_part in_line sets value))
 
--- the block's places, and then the line's outside the block
+-- the line's places outside the block
+abbrev pub outside : List ℕ → List ℕ → List ℕ
+outside block line = filter (λ c. not (has_place block c)) line
+
+-- the block's places, and then those
 abbrev pub crossing_places : List ℕ → List ℕ → List ℕ
-crossing_places block line = block ++ filter (λ c. not (has_place block c)) line
+crossing_places block line = block ++ outside block line
 
 -- its cells in the block outside the line, and in the line outside the block, by their numbers in the list
 abbrev pub in_block_alone : List ℕ → List ℕ → ℕ → Bool
@@ -30,6 +40,16 @@ in_block_alone block line k = nat_lt k (length block) && not (has_place line (sl
 
 abbrev pub in_line_alone : List ℕ → ℕ → Bool
 in_line_alone block k = nat_le (length block) k
+
+-- the same where the block has so many cells, of which those with these bits are the line's too
+abbrev pub in_block_bits : ℕ → ℕ → ℕ → Bool
+in_block_bits cells shared k = nat_lt k cells && not (has_bit shared k)
+
+abbrev pub in_line_bits : ℕ → ℕ → Bool
+in_line_bits cells k = nat_le cells k
+
+abbrev pub strikes_by_bits : ℕ → ℕ → Decision
+strikes_by_bits cells shared = strikes_by_crossing (in_block_bits cells shared) (in_line_bits cells)
 
 abbrev pub crossing : List ℕ → List ℕ → House
 crossing block line = record {

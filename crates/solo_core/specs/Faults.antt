@@ -3,7 +3,8 @@ use Rattle.std.specs.Prelude.{◌≡◌, ℕ, ◌+◌, ◌<◌, ◌≤◌, true,
 use Rattle.gameid_core.specs.Puzzles.{Solo}
 use Rattle.solo_core.specs.Cells.{solo_cells}
 use Rattle.solo_core.specs.Houses.{houses_of, lies_in}
-use Rattle.solo_core.specs.Solutions.{IsSoloSolution}
+use Rattle.solo_core.specs.NoRepeat.{no_repeat}
+use Rattle.solo_core.specs.Solutions.{IsSoloSolution, numbers_of}
 use Rattle.solo_core.specs.declared.solo_house.SoloHouse.{SoloHouse}
 use Rattle.solo_core.specs.declared.solo_house.SoloHouse.TheVariants.{Row, Column, Block, Diagonal}
 use Rattle.solo_core.specs.declared.fault.SoloFault.{SoloFault}
@@ -16,6 +17,16 @@ Stands p g place =
 
 abbrev pub AllStand : Solo → List ℕ → Type 0
 AllStand p g = (place : ℕ) → place < solo_cells p → Stands p g place
+
+-- it is the first place whose given doesn't stand
+abbrev pub FallsFirst : Solo → List ℕ → ℕ → Type 0
+FallsFirst p g place =
+    (place < solo_cells p) × (Stands p g place → ⊥) × ((q : ℕ) → q < place → Stands p g q)
+
+-- no house holds a number twice
+abbrev pub NoneRepeats : Solo → List ℕ → Type 0
+NoneRepeats p g = (h : ℕ) (d : SoloHouse) → h < length (houses_of p)
+    → no_repeat (numbers_of p g (slice_index_or (houses_of p) h d)) ≡ true
 
 -- two different places of the house hold the same
 abbrev pub Repeats : Solo → List ℕ → SoloHouse → Type 0
@@ -32,8 +43,7 @@ RepeatsFirst p g house =
 -- no rule is broken; or this one is, and none before it: the givens come first, by place, and then the houses
 abbrev pub IsFirstFault : Solo → List ℕ → Option SoloFault → Type 0
 IsFirstFault p g None = IsSoloSolution p g
-IsFirstFault p g (Some (Given place)) =
-    (place < solo_cells p) × (Stands p g place → ⊥) × ((q : ℕ) → q < place → Stands p g q)
+IsFirstFault p g (Some (Given place)) = FallsFirst p g place
 IsFirstFault p g (Some (BadRow y)) = AllStand p g × RepeatsFirst p g (Row y)
 IsFirstFault p g (Some (BadColumn i)) = AllStand p g × RepeatsFirst p g (Column i)
 IsFirstFault p g (Some (BadBlock b)) = AllStand p g × RepeatsFirst p g (Block b)

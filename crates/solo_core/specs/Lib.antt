@@ -12,9 +12,11 @@ pub mod CrossingLaws
 pub mod Scopes
 pub mod RuleSets
 pub mod RuleLaws
+pub mod Meanings
 pub mod BoundLaws
 pub mod CrossingBounds
 pub mod Faults
+pub mod Bits
 pub mod Deciding
 pub mod Ways
 pub mod Peeled

@@ -1,8 +1,8 @@
 -- What may be struck from a house before its cells are paired with values: the value of a cell that has one alone, from
 -- the other cells.
-use Rattle.std.specs.Prelude.{◌≡◌, ℕ, ◌<◌, true, false, not, List, length, slice_index}
+use Rattle.std.specs.Prelude.{◌≡◌, ℕ, ◌<◌, ◌&&◌, ◌||◌, ◌==◌, Bool, true, false, not, List, length, slice_index}
 use Rattle.std.specs.List.{range_with_len, filter}
-use Rattle.grid_core.specs.Pairings.{IsPairing}
+use Rattle.grid_core.specs.Pairings.{IsPairing, IsShortSet}
 use Rattle.engine_core.specs.Sets.{has_bit}
 use Rattle.solo_core.specs.Deciding.{has_in}
 
@@ -28,3 +28,46 @@ AreAlone n sets cells = (k : ℕ) → k < length sets → has_bit cells k ≡ tr
 -- the cells whose bit is not set
 abbrev pub rest_of : ℕ → ℕ → List ℕ
 rest_of n cells = filter (λ k. not (has_bit cells k)) (range_with_len 0 n)
+
+-- the rest: the cells of a house but some that are alone
+abbrev pub IsRest : ℕ → List ℕ → List ℕ → Type 0
+IsRest n sets rest = (cells : ℕ) × (rest ≡ rest_of (length sets) cells) × AreAlone n sets cells
+
+-- whether a cell of the rest has a value; each has a value of its own; and some have fewer values than they are
+abbrev pub has_in_rest : List ℕ → List ℕ → ℕ → ℕ → Bool
+has_in_rest sets rest l value = has_in sets (slice_index rest l) value
+
+abbrev pub IsPaired : ℕ → List ℕ → List ℕ → List ℕ → Type 0
+IsPaired n sets rest mates = IsPairing (has_in_rest sets rest) (length rest) n mates
+
+abbrev pub IsShort : ℕ → List ℕ → List ℕ → List ℕ → Type 0
+IsShort n sets rest short = IsShortSet (has_in_rest sets rest) (length rest) n short
+
+-- each cell that has a value has its mate
+abbrev pub HasMate : ℕ → List ℕ → List ℕ → Type 0
+HasMate n sets mates = (k v : ℕ) → k < length sets → v < n → has_in sets k v ≡ true
+    → has_in sets k (slice_index mates k) ≡ true
+
+-- the cells of the rest got these mates, and other cells keep theirs
+abbrev pub GotMates : List ℕ → List ℕ → List ℕ → Type 0
+GotMates rest mates new = (i : ℕ) → i < length rest
+    → slice_index new (slice_index rest i) ≡ slice_index mates i
+
+abbrev pub KeepMates : List ℕ → List ℕ → List ℕ → Type 0
+KeepMates rest old new = (k : ℕ) → ((i : ℕ) → i < length rest → slice_index rest i ≡ k → ⊥)
+    → slice_index new k ≡ slice_index old k
+
+-- each value has the set of the cell whose mate it is
+abbrev pub HasSetOfCell : List ℕ → List ℕ → List ℕ → Type 0
+HasSetOfCell sets mates reach = (k : ℕ) → k < length sets
+    → slice_index reach (slice_index mates k) ≡ slice_index sets k
+
+-- each cell keeps the values that reach its mate
+abbrev pub KeepsReaching : ℕ → List ℕ → List ℕ → List ℕ → List ℕ → Type 0
+KeepsReaching n mates reach old new = (k v : ℕ) → k < length old → v < n
+    → has_in new k v ≡ (has_in old k v && has_in reach v (slice_index mates k))
+
+-- the values of the set are struck from every cell but this one
+abbrev pub StrikesOthers : ℕ → ℕ → List ℕ → List ℕ → Type 0
+StrikesOthers cell set old new = (k v : ℕ) → k < length old
+    → has_in new k v ≡ (has_in old k v && ((k == cell) || not (has_bit set v)))

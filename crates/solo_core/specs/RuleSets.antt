@@ -4,15 +4,16 @@ use Rattle.std.specs.Prelude.{ℕ, ◌+◌, ◌*◌, Bool, true, false, ◌&&◌
 use Rattle.std.specs.List.{range_with_len}
 use Rattle.grid_core.specs.Candidates.{Candidates}
 use Rattle.gameid_core.specs.Puzzles.{Solo, solo_n}
-use Rattle.engine_core.specs.Puzzle.{Puzzle}
+use Rattle.engine_core.specs.Puzzle.{Puzzle, has_place}
 use Rattle.engine_core.specs.Filling.{strikes_by_fillings}
 use Rattle.engine_core.specs.House.{Decision}
 use Rattle.engine_core.specs.Houses.{House, Setting, by_houses, visits_of}
+use Rattle.solo_core.specs.declared.solo_house.SoloHouse.{SoloHouse}
 use Rattle.solo_core.specs.declared.solo_house.SoloHouse.TheVariants.{Block}
 use Rattle.solo_core.specs.declared.solo_scope.SoloScope.{SoloScope}
 use Rattle.solo_core.specs.declared.solo_scope.SoloScope.TheVariants as scope
 use Rattle.solo_core.specs.Cells.{solo_cells}
-use Rattle.solo_core.specs.Crossing.{crossing}
+use Rattle.solo_core.specs.Crossing.{crossing, outside}
 use Rattle.solo_core.specs.Houses.{houses_of, places_of}
 use Rattle.solo_core.specs.NoRepeat.{no_repeat}
 use Rattle.solo_core.specs.Scopes.{row_scope, column_scope}
@@ -59,11 +60,22 @@ filled_houses p = deciding (strikes_by_fillings no_repeat) p
 abbrev pub houses_rules : Solo → Puzzle
 houses_rules p = rules_of true p (filled_houses p)
 
+-- a block and a line that it meets: what they strike, the line's places outside the block, and whether the block's k-th
+-- place is the line's too
+abbrev pub crossing_of : Solo → ℕ → SoloHouse → House
+crossing_of p block line = crossing (places_of p (Block block)) (places_of p line)
+
+abbrev pub rest_of_line : Solo → ℕ → SoloHouse → List ℕ
+rest_of_line p block line = outside (places_of p (Block block)) (places_of p line)
+
+abbrev pub is_shared : Solo → ℕ → SoloHouse → ℕ → Bool
+is_shared p block line k = has_place (places_of p line) (slice_index (places_of p (Block block)) k)
+
 -- what is visited as a house, and by which decision
 abbrev pub house_at : Solo → SoloScope → House
 house_at p (scope.House house) =
     record { places = places_of p house; decides = strikes_by_fillings no_repeat }
-house_at p (scope.Crossing block line) = crossing (places_of p (Block block)) (places_of p line)
+house_at p (scope.Crossing block line) = crossing_of p block line
 
 -- crossings strike too
 abbrev pub row_crossing : Solo → ℕ → House
@@ -72,10 +84,14 @@ row_crossing p m = house_at p (row_scope p m)
 abbrev pub column_crossing : Solo → ℕ → House
 column_crossing p m = house_at p (column_scope p m)
 
+abbrev pub row_crossings : Solo → List House
+row_crossings p = map (row_crossing p) (range_with_len 0 (solo_n p * p.c))
+
+abbrev pub column_crossings : Solo → List House
+column_crossings p = map (column_crossing p) (range_with_len 0 (solo_n p * p.r))
+
 abbrev pub crossings_of : Solo → List House
-crossings_of p =
-    map (row_crossing p) (range_with_len 0 (solo_n p * p.c))
-    ++ map (column_crossing p) (range_with_len 0 (solo_n p * p.r))
+crossings_of p = row_crossings p ++ column_crossings p
 
 abbrev pub crossings_rules : Solo → Puzzle
 crossings_rules p = rules_of true p (filled_houses p ++ crossings_of p)

@@ -1,7 +1,8 @@
 -- What a rule set of Solo may visit: the houses, and then crossings of a block with a row or a column that it meets.
-use Rattle.std.specs.Prelude.{ℕ, ◌+◌, ◌*◌, ◌/◌, ◌%◌, List, ◌++◌, map}
+use Rattle.std.specs.Prelude.{◌≡◌, ℕ, ◌+◌, ◌*◌, ◌/◌, ◌%◌, List, ◌++◌, map, slice_index_or}
 use Rattle.std.specs.List.{range_with_len}
 use Rattle.gameid_core.specs.Puzzles.{Solo, solo_n}
+use Rattle.solo_core.specs.declared.solo_house.SoloHouse.{SoloHouse}
 use Rattle.solo_core.specs.declared.solo_house.SoloHouse.TheVariants.{Row, Column}
 use Rattle.solo_core.specs.declared.solo_scope.SoloScope.{SoloScope}
 use Rattle.solo_core.specs.declared.solo_scope.SoloScope.TheVariants.{House, Crossing}
@@ -18,6 +19,11 @@ abbrev pub crossing_scopes : Solo → List SoloScope
 crossing_scopes p =
     map (row_scope p) (range_with_len 0 (solo_n p * p.c))
     ++ map (column_scope p) (range_with_len 0 (solo_n p * p.r))
+
+-- a crossing with its number
+abbrev pub IsCrossingAt : Solo → ℕ → ℕ → SoloHouse → Type 0
+IsCrossingAt p m block line =
+    (other : SoloScope) → Crossing block line ≡ slice_index_or (crossing_scopes p) m other
 
 -- in the order of their numbers; a rule set without crossings visits the houses alone
 abbrev pub scopes_of : Solo → List SoloScope

@@ -1,8 +1,10 @@
 -- What a visit works in.
-use Rattle.std.specs.Prelude.{ℕ, List, map}
+use Rattle.std.specs.Prelude.{◌≡◌, ℕ, List, [], ◌++◌, map}
+use Rattle.engine_core.specs.House.{IsDecided}
+use Rattle.engine_core.specs.HouseList.{Listed}
 use Rattle.engine_core.specs.Houses.{House}
 use Rattle.engine_core.specs.HouseIndex.{Table}
-use Rattle.gameid_core.specs.Puzzles.{Solo}
+use Rattle.gameid_core.specs.Puzzles.{Solo, solo_n}
 use Rattle.solo_core.specs.Cells.{solo_cells}
 
 -- the table of the houses of a puzzle
@@ -11,3 +13,15 @@ all_places houses = map (λ (house : House). house.places) houses
 
 abbrev pub table_of : Solo → List House → Table
 table_of p houses = record { cells = solo_cells p; scopes = all_places houses }
+
+-- the list with more closed lists of places, and none begun
+abbrev pub HasAdded : List (List ℕ) → Listed → Listed → Type 0
+HasAdded more old new = new ≡ record { closed = old.closed ++ more; begun = [] }
+
+-- the list with more places of the begun one
+abbrev pub HasBegun : List ℕ → Listed → Listed → Type 0
+HasBegun more old new = new ≡ record { closed = old.closed; begun = old.begun ++ more }
+
+-- what is kept of the sets is what the house doesn't strike
+abbrev pub IsKeptBy : Solo → House → List ℕ → List ℕ → Type 0
+IsKeptBy p house sets kept = IsDecided (solo_n p) house.decides sets kept

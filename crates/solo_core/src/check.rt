@@ -4,11 +4,10 @@ ghost use Rattle.std.specs.Prelude.{◌≡◌, ℕ, ◌+◌, ◌<◌, true, fals
 ghost use Rattle.grid_core.specs.Grids.{IsGrid};
 ghost use Rattle.gameid_core.specs.Puzzles.{IsSolo, solo_n};
 ghost use Rattle.solo_core.specs.Cells.{solo_cells};
-ghost use Rattle.solo_core.specs.Houses.{houses_of, IsHouseOf};
+ghost use Rattle.solo_core.specs.Houses.{IsHouseOf};
 ghost use Rattle.solo_core.specs.Solutions.{numbers_of as numbers_in, is_solo_solution};
 ghost use Rattle.solo_core.specs.NoRepeat.{no_repeat as has_no_repeat};
-ghost use Rattle.solo_core.specs.Faults.{Stands, AllStand, RepeatsFirst, IsFirstFault, fault_of as fault_of_house};
-ghost use Rattle.solo_core.specs.declared.solo_house.SoloHouse.{SoloHouse};
+ghost use Rattle.solo_core.specs.Faults.{AllStand, FallsFirst, NoneRepeats, RepeatsFirst, IsFirstFault, fault_of as fault_of_house};
 
 use crate::fault::SoloFault;
 use crate::places::{cells, house, houses, place};
@@ -62,9 +61,8 @@ pub(crate) fn accepts(puzzle: &SoloPuzzle, grid: &Grid) -> bool
 fn broken_given(puzzle: &SoloPuzzle, grid: &Grid) -> Option<usize>
     requires fits { IsGrid (solo_cells puzzle.now) (solo_n puzzle.now) grid.now }
     ensures lawful { IsSolo puzzle.now }
-    ensures first { MatchOption result (AllStand puzzle.now grid.now)
-        (λ place. (place < solo_cells puzzle.now) × (Stands puzzle.now grid.now place → ⊥)
-        × ((q : ℕ) → q < place → Stands puzzle.now grid.now q)) }
+    ensures first { MatchOption result
+        (AllStand puzzle.now grid.now) (FallsFirst puzzle.now grid.now) }
 {
     for place in 0..cells(puzzle) {
         let given = puzzle.given(place);
@@ -80,9 +78,7 @@ fn repeating_house(puzzle: &SoloPuzzle, grid: &Grid) -> Option<SoloHouse>
     requires fits { IsGrid (solo_cells puzzle.now) (solo_n puzzle.now) grid.now }
     ensures lawful { IsSolo puzzle.now }
     ensures first { MatchOption result
-        ((h : ℕ) (d : SoloHouse) → h < length (houses_of puzzle.now)
-        → has_no_repeat (numbers_in puzzle.now grid.now (slice_index_or (houses_of puzzle.now) h d)) ≡ true)
-        (λ house. RepeatsFirst puzzle.now grid.now house) }
+        (NoneRepeats puzzle.now grid.now) (RepeatsFirst puzzle.now grid.now) }
 {
     for number in 0..houses(puzzle) {
         let house = house(puzzle, number);
@@ -120,8 +116,10 @@ fn no_repeat(numbers: &[u8]) -> bool
 
 /// Whether the number is one of the numbers.
 fn is_among(numbers: &[u8], number: u8) -> bool
-    ensures found { result ≡ true → (i : ℕ) × (i < length numbers.now) × (slice_index numbers.now i ≡ number) }
-    ensures not_found { result ≡ false → (i : ℕ) → i < length numbers.now → slice_index numbers.now i ≡ number → ⊥ }
+    ensures found { result ≡ true
+        → (i : ℕ) × (i < length numbers.now) × (slice_index numbers.now i ≡ number) }
+    ensures not_found { result ≡ false
+        → (i : ℕ) → i < length numbers.now → slice_index numbers.now i ≡ number → ⊥ }
 {
     numbers.contains(&number)
 }

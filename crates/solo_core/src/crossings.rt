@@ -1,17 +1,13 @@
 //! The crossings of a puzzle: each block with each row and each column that it meets.
 
-ghost use Rattle.std.specs.Prelude.{◌≡◌, ℕ, ◌*◌, ◌<◌, ◌++◌, ◌∷◌, ◌&&◌, ◌||◌, ◌==◌, [], OnOk, map, not, filter, length, slice_index};
-ghost use Rattle.std.specs.List.{range_with_len};
+ghost use Rattle.std.specs.Prelude.{◌≡◌, ℕ, ◌*◌, ◌<◌, ◌∷◌, ◌&&◌, ◌||◌, ◌==◌, [], OnOk, length};
 ghost use Rattle.gameid_core.specs.Puzzles.{solo_n};
-ghost use Rattle.engine_core.specs.Puzzle.{has_place};
 ghost use Rattle.engine_core.specs.Sets.{has_bit as is_set};
-ghost use Rattle.engine_core.specs.House.{IsDecided};
 ghost use Rattle.engine_core.specs.Houses.{house_of};
 ghost use Rattle.solo_core.specs.declared.solo_house.SoloHouse.TheVariants.{Block};
-ghost use Rattle.solo_core.specs.Crossing.{crossing, crossing_places};
 ghost use Rattle.solo_core.specs.Houses.{IsHouseOf, places_of};
-ghost use Rattle.solo_core.specs.RuleSets.{row_crossing as row_house, column_crossing as column_house, crossings_of};
-ghost use Rattle.solo_core.specs.Work.{all_places};
+ghost use Rattle.solo_core.specs.RuleSets.{crossing_of, row_crossings, column_crossings, crossings_of, rest_of_line, is_shared};
+ghost use Rattle.solo_core.specs.Work.{all_places, HasAdded, HasBegun, IsKeptBy};
 
 use crate::bits::with_bit;
 use crate::keep_crossing::keep_crossing;
@@ -44,11 +40,7 @@ fn push_rest(
 ) -> Result<(), AllocError>
     requires block_in { block < solo_n puzzle.now }
     requires line_of { IsHouseOf puzzle.now line }
-    ensures { OnOk result (list.new ≡ record {
-      closed = list.old.closed;
-      begun = list.old.begun
-          ++ filter (λ c. not (has_place (places_of puzzle.now (Block block)) c)) (places_of puzzle.now line);
-    }) }
+    ensures { OnOk result (HasBegun (rest_of_line puzzle.now block line) list.old list.new) }
 {
     for k in 0..usize::from(puzzle.n()) {
         let other = place(puzzle, line, k);
@@ -70,11 +62,7 @@ fn push_crossing(
     requires block_in { block < solo_n puzzle.now }
     requires line_of { IsHouseOf puzzle.now line }
     requires closed { list.old.begun ≡ [] }
-    ensures { OnOk result (list.new ≡ record {
-      closed = list.old.closed
-          ++ crossing_places (places_of puzzle.now (Block block)) (places_of puzzle.now line) ∷ [];
-      begun = [];
-    }) }
+    ensures { OnOk result (HasAdded ((crossing_of puzzle.now block line).places ∷ []) list.old list.new) }
 {
     push_block(list, puzzle, block)?;
     push_rest(list, puzzle, block, line)?;
@@ -85,11 +73,7 @@ fn push_crossing(
 /// Adds each block with each row that it meets.
 pub(crate) fn push_rows(list: &mut HouseList, puzzle: &SoloPuzzle) -> Result<(), AllocError>
     requires closed { list.old.begun ≡ [] }
-    ensures { OnOk result (list.new ≡ record {
-      closed = list.old.closed
-          ++ all_places (map (row_house puzzle.now) (range_with_len 0 (solo_n puzzle.now * puzzle.now.c)));
-      begun = [];
-    }) }
+    ensures { OnOk result (HasAdded (all_places (row_crossings puzzle.now)) list.old list.new) }
 {
     for m in 0..usize::from(puzzle.n()) * usize::from(puzzle.c()) {
         let (block, line) = row_crossing(puzzle, m);
@@ -101,11 +85,7 @@ pub(crate) fn push_rows(list: &mut HouseList, puzzle: &SoloPuzzle) -> Result<(),
 /// Adds each block with each column that it meets.
 pub(crate) fn push_columns(list: &mut HouseList, puzzle: &SoloPuzzle) -> Result<(), AllocError>
     requires closed { list.old.begun ≡ [] }
-    ensures { OnOk result (list.new ≡ record {
-      closed = list.old.closed
-          ++ all_places (map (column_house puzzle.now) (range_with_len 0 (solo_n puzzle.now * puzzle.now.r)));
-      begun = [];
-    }) }
+    ensures { OnOk result (HasAdded (all_places (column_crossings puzzle.now)) list.old list.new) }
 {
     for m in 0..usize::from(puzzle.n()) * usize::from(puzzle.r()) {
         let (block, line) = column_crossing(puzzle, m);
@@ -118,9 +98,7 @@ pub(crate) fn push_columns(list: &mut HouseList, puzzle: &SoloPuzzle) -> Result<
 fn shared(puzzle: &SoloPuzzle, block: usize, line: SoloHouse) -> u32
     requires block_in { block < solo_n puzzle.now }
     requires line_of { IsHouseOf puzzle.now line }
-    ensures { (k : ℕ) → k < solo_n puzzle.now
-        → is_set result k
-        ≡ has_place (places_of puzzle.now line) (slice_index (places_of puzzle.now (Block block)) k) }
+    ensures { (k : ℕ) → k < solo_n puzzle.now → is_set result k ≡ is_shared puzzle.now block line k }
 {
     let mut bits = 0;
     for k in 0..usize::from(puzzle.n()) {
@@ -143,8 +121,7 @@ fn keep_at(puzzle: &SoloPuzzle, block: usize, line: SoloHouse, sets: &[u32], kep
     requires block_in { block < solo_n puzzle.now }
     requires line_of { IsHouseOf puzzle.now line }
     requires as_many { length kept.old ≡ length sets.now }
-    ensures { IsDecided (solo_n puzzle.now)
-        (crossing (places_of puzzle.now (Block block)) (places_of puzzle.now line)).decides sets.now kept.new }
+    ensures { IsKeptBy puzzle.now (crossing_of puzzle.now block line) sets.now kept.new }
 {
     keep_crossing(
         usize::from(puzzle.n()),
@@ -158,8 +135,7 @@ fn keep_at(puzzle: &SoloPuzzle, block: usize, line: SoloHouse, sets: &[u32], kep
 pub(crate) fn keep_crossed(puzzle: &SoloPuzzle, number: usize, sets: &[u32], kept: &mut [u32])
     requires number_in { number < length (crossings_of puzzle.now) }
     requires as_many { length kept.old ≡ length sets.now }
-    ensures { IsDecided (solo_n puzzle.now)
-        (house_of (crossings_of puzzle.now) number).decides sets.now kept.new }
+    ensures { IsKeptBy puzzle.now (house_of (crossings_of puzzle.now) number) sets.now kept.new }
 {
     let (block, line) = crossing_at(puzzle, number);
     keep_at(puzzle, block, line, sets, kept);

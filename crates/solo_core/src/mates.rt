@@ -3,9 +3,9 @@
 ghost use Rattle.std.specs.Prelude.{◌≡◌, ℕ, ◌<◌, ◌≤◌, true, length, slice_index};
 ghost use Rattle.engine_core.specs.House.{AreDifferent};
 ghost use Rattle.engine_core.specs.Sets.{has_bit as is_set};
-ghost use Rattle.grid_core.specs.Pairings.{IsPairing, IsShortSet};
+ghost use Rattle.grid_core.specs.Pairings.{IsPairing};
 ghost use Rattle.solo_core.specs.Deciding.{has_in};
-ghost use Rattle.solo_core.specs.Peeled.{AreAlone, rest_of as rest_cells};
+ghost use Rattle.solo_core.specs.Peeled.{IsRest, IsPaired, IsShort, HasMate, GotMates, KeepMates, rest_of as rest_cells};
 
 use crate::bits::next_bit;
 use crate::joined::Joined;
@@ -39,10 +39,8 @@ pub(crate) fn pair_rest(values: u8, sets: &[u32], rest: &[u8], pairing: &mut Pai
     requires lefts { length rest.now ≤ pairing.old.room }
     requires rights { values ≤ pairing.old.room }
     ensures room { pairing.new.room ≡ pairing.old.room }
-    ensures all { result ≡ Paired.All → IsPairing (λ l r. has_in sets.now (slice_index rest.now l) r) (length rest.now)
-        values pairing.new.mates }
-    ensures short { result ≡ Paired.Short → IsShortSet (λ l r. has_in sets.now (slice_index rest.now l) r) (length rest.now)
-        values pairing.new.short }
+    ensures all { result ≡ Paired.All → IsPaired values sets.now rest.now pairing.new.mates }
+    ensures short { result ≡ Paired.Short → IsShort values sets.now rest.now pairing.new.short }
 {
     let joined = Joined { sets, rest, values };
     pairing.run(&joined)
@@ -58,8 +56,8 @@ pub(crate) fn write_mates(
 )
     requires few { values ≤ 31 }
     requires as_many { length mates.old ≡ length sets.now }
-    requires alone { (cells : ℕ) × (rest.now ≡ rest_cells (length sets.now) cells) × AreAlone values sets.now cells }
-    requires paired { IsPairing (λ l r. has_in sets.now (slice_index rest.now l) r) (length rest.now) values pairing.now.mates }
+    requires alone { IsRest values sets.now rest.now }
+    requires paired { IsPaired values sets.now rest.now pairing.now.mates }
     ensures { IsPairing (has_in sets.now) (length sets.now) values mates.new }
 {
     write_own(values, sets, mates);
@@ -71,8 +69,7 @@ fn write_own(values: u8, sets: &[u32], mates: &mut [u8])
     requires few { values ≤ 31 }
     requires as_many { length mates.old ≡ length sets.now }
     ensures as_many { length mates.new ≡ length sets.now }
-    ensures own { (k v : ℕ) → k < length sets.now → v < values → has_in sets.now k v ≡ true
-        → has_in sets.now k (slice_index mates.new k) ≡ true }
+    ensures own { HasMate values sets.now mates.new }
 {
     for cell in 0..sets.len() {
         mates[cell] = lowest(values, sets[cell]);
@@ -98,10 +95,8 @@ fn write_rest(values: u8, rest: &[u8], pairing: &Pairing, mates: &mut [u8])
     requires as_many { length pairing.now.mates ≡ length rest.now }
     requires small { (i : ℕ) → i < length rest.now → slice_index pairing.now.mates i < values }
     ensures as_many { length mates.new ≡ length mates.old }
-    ensures paired { (i : ℕ) → i < length rest.now
-        → slice_index mates.new (slice_index rest.now i) ≡ slice_index pairing.now.mates i }
-    ensures others { (k : ℕ) → ((i : ℕ) → i < length rest.now → slice_index rest.now i ≡ k → ⊥)
-        → slice_index mates.new k ≡ slice_index mates.old k }
+    ensures paired { GotMates rest.now pairing.now.mates mates.new }
+    ensures others { KeepMates rest.now mates.old mates.new }
 {
     for i in 0..rest.len() {
         mates[usize::from(rest[i])] = pairing.mate(i) as u8;

@@ -2,8 +2,7 @@
 
 ghost use Rattle.std.specs.Prelude.{◌≡◌, ℕ, ◌<◌, ◌≤◌, ◌&&◌, ◌||◌, ◌==◌, true, not, length, slice_index};
 ghost use Rattle.engine_core.specs.Sets.{has_bit as is_set};
-ghost use Rattle.solo_core.specs.Deciding.{has_in};
-ghost use Rattle.solo_core.specs.Peeled.{IsPeeled, AreAlone};
+ghost use Rattle.solo_core.specs.Peeled.{IsPeeled, AreAlone, StrikesOthers};
 
 use crate::bits::{is_alone, next_bit, with_bit};
 use engine_core::has_bit;
@@ -76,8 +75,7 @@ fn is_single(values: u8, set: u32) -> bool
 /// Strikes the values of the set from every cell but this one.
 fn strike_others(sets: &mut [u32], cell: usize, set: u32)
     ensures as_many { length sets.new ≡ length sets.old }
-    ensures bits { (k v : ℕ) → k < length sets.old
-        → has_in sets.new k v ≡ (has_in sets.old k v && ((k == cell) || not (is_set set v))) }
+    ensures bits { StrikesOthers cell set sets.old sets.new }
 {
     for other in 0..sets.len() {
         sets[other] = without_unless(sets[other], set, other == cell);

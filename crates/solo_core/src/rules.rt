@@ -68,6 +68,39 @@ impl<S: Strikes> SoloRules<S> {
             by: PhantomData,
         })
     }
+
+    /// Strikes from the house what it strikes.
+    fn strike(
+        &self,
+        house: usize,
+        board: &mut Board,
+        sets: &mut [u32],
+        kept: &mut [u32],
+        work: &mut S::Work,
+    ) -> bool
+        requires house_in { house < length (S.houses self.now.puzzle) }
+        requires board_of { IsBoardOf
+            (rules_of S.SETTLED self.now.puzzle (S.houses self.now.puzzle)) board.old }
+        requires sets_room { length (house_of (S.houses self.now.puzzle) house).places
+            ≤ length sets.old }
+        requires kept_room { length (house_of (S.houses self.now.puzzle) house).places
+            ≤ length kept.old }
+        requires served { S.serves work.old (solo_n self.now.puzzle) }
+        ensures left { has board.new
+            ≡ after (rules_of S.SETTLED self.now.puzzle (S.houses self.now.puzzle))
+            house (has board.old) }
+        ensures shape { SameShape board.old board.new }
+        ensures unchanged { result ≡ false → has board.new ≡ has board.old }
+        ensures changed { result ≡ true → HasStruck (has board.old) (has board.new) }
+        ensures keeps { (values : ℕ) → S.serves work.old values → S.serves work.new values }
+    {
+        let places = self.table.places(house);
+        let sets = &mut sets[..places.len()];
+        let kept = &mut kept[..places.len()];
+        gather(board, places, sets);
+        S::keep(&self.puzzle, house, sets, kept, work);
+        apply(board, places, kept)
+    }
 }
 
 impl<S: Strikes> Rules for SoloRules<S> {
@@ -149,15 +182,8 @@ impl<S: Strikes> Rules for SoloRules<S> {
     }
 
     fn visit(&self, house: usize, board: &mut Board, scratch: &mut SoloWork<S::Work>) -> bool {
-        visit_cells::<S>(
-            &self.puzzle,
-            house,
-            self.table.places(house),
-            board,
-            &mut scratch.sets,
-            &mut scratch.kept,
-            &mut scratch.work,
-        )
+        let (sets, kept) = (&mut scratch.sets, &mut scratch.kept);
+        self.strike(house, board, sets, kept, &mut scratch.work)
     }
 
     fn follow(&self, _board: &Board, _scratch: &mut SoloWork<S::Work>) {}
@@ -171,35 +197,4 @@ impl<S: Strikes> Rules for SoloRules<S> {
     fn accept(&self, _scratch: &mut SoloWork<S::Work>, grid: &Grid) -> bool {
         accepts(&self.puzzle, grid)
     }
-}
-
-/// Strikes from the house at these places what it strikes.
-fn visit_cells<S: Strikes>(
-    puzzle: &SoloPuzzle,
-    house: usize,
-    places: &[u32],
-    board: &mut Board,
-    sets: &mut [u32],
-    kept: &mut [u32],
-    work: &mut S::Work,
-) -> bool
-    requires lawful { IsSolo puzzle.now }
-    requires house_in { house < length (S.houses puzzle.now) }
-    requires of_house { places.now ≡ (house_of (S.houses puzzle.now) house).places }
-    requires board_of { IsBoardOf (rules_of S.SETTLED puzzle.now (S.houses puzzle.now)) board.old }
-    requires sets_room { length places.now ≤ length sets.old }
-    requires kept_room { length places.now ≤ length kept.old }
-    requires served { S.serves work.old (solo_n puzzle.now) }
-    ensures left { has board.new
-        ≡ after (rules_of S.SETTLED puzzle.now (S.houses puzzle.now)) house (has board.old) }
-    ensures shape { SameShape board.old board.new }
-    ensures unchanged { result ≡ false → has board.new ≡ has board.old }
-    ensures changed { result ≡ true → HasStruck (has board.old) (has board.new) }
-    ensures keeps { (values : ℕ) → S.serves work.old values → S.serves work.new values }
-{
-    let sets = &mut sets[..places.len()];
-    let kept = &mut kept[..places.len()];
-    gather(board, places, sets);
-    S::keep(puzzle, house, sets, kept, work);
-    apply(board, places, kept)
 }

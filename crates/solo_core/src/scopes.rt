@@ -5,7 +5,7 @@ ghost use Rattle.gameid_core.specs.Puzzles.{solo_n};
 ghost use Rattle.solo_core.specs.declared.solo_scope.SoloScope.{SoloScope};
 ghost use Rattle.solo_core.specs.declared.solo_scope.SoloScope.TheVariants.{Crossing};
 ghost use Rattle.solo_core.specs.Houses.{IsHouseOf};
-ghost use Rattle.solo_core.specs.Scopes.{scopes_of, crossing_scopes, row_scope, column_scope};
+ghost use Rattle.solo_core.specs.Scopes.{scopes_of, crossing_scopes, row_scope, column_scope, IsCrossingAt};
 
 use crate::places::{house, houses};
 use crate::solo_house::SoloHouse;
@@ -30,8 +30,7 @@ pub fn scope_of(puzzle: &SoloPuzzle, number: usize) -> SoloScope
 /// The block and the line of the crossing with the number.
 pub(crate) fn crossing_at(puzzle: &SoloPuzzle, number: usize) -> (usize, SoloHouse)
     requires { number < length (crossing_scopes puzzle.now) }
-    ensures scope { (other : SoloScope) → Crossing result.0 result.1
-        ≡ slice_index_or (crossing_scopes puzzle.now) number other }
+    ensures scope { IsCrossingAt puzzle.now number result.0 result.1 }
     ensures block_in { result.0 < solo_n puzzle.now }
     ensures line_of { IsHouseOf puzzle.now result.1 }
 {

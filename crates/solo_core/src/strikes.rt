@@ -2,10 +2,9 @@
 
 ghost use Rattle.std.specs.Prelude.{◌≡◌, ℕ, ◌<◌, ◌≤◌, ◌^◌, sum_by, Bool, true, false, All, IfOk, List, length};
 ghost use Rattle.gameid_core.specs.Puzzles.{Solo, IsSolo, solo_n};
-ghost use Rattle.engine_core.specs.House.{IsDecided};
 ghost use Rattle.engine_core.specs.Houses.{House, IsSound, house_of, visits_of};
 ghost use Rattle.solo_core.specs.RuleSets.{setting_of};
-ghost use Rattle.solo_core.specs.Work.{all_places};
+ghost use Rattle.solo_core.specs.Work.{all_places, IsKeptBy};
 
 use crate::crossings::{keep_crossed, push_columns, push_rows};
 use crate::keep_houses::keep_houses;
@@ -53,8 +52,7 @@ pub trait Strikes {
         requires of_house { length sets.now ≡ length (house_of (houses puzzle.now) house).places }
         requires as_many { length kept.old ≡ length sets.now }
         requires served { serves work.old (solo_n puzzle.now) }
-        ensures decided { IsDecided (solo_n puzzle.now)
-            ((house_of (houses puzzle.now) house).decides) sets.now kept.new }
+        ensures decided { IsKeptBy puzzle.now (house_of (houses puzzle.now) house) sets.now kept.new }
         ensures keeps { (values : ℕ) → serves work.old values → serves work.new values };
 
     /// The houses are those of a lawful rule set.

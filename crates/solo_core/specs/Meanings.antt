@@ -1,0 +1,50 @@
+-- What the laws say of the rules of a puzzle of Solo.
+use Rattle.std.specs.Prelude.{◌≡◌, ℕ, ◌+◌, ◌-◌, ◌*◌, ◌<◌, ◌↔◌, IsTrue, true, List, ◌++◌, length, slice_index_or}
+use Rattle.grid_core.specs.Candidates.{Candidates}
+use Rattle.grid_core.specs.Grids.{IsGrid}
+use Rattle.gameid_core.specs.Puzzles.{Solo, solo_n}
+use Rattle.engine_core.specs.Puzzle.{Puzzle, has_place}
+use Rattle.engine_core.specs.Houses.{house_of}
+use Rattle.solo_core.specs.declared.solo_house.SoloHouse.{SoloHouse}
+use Rattle.solo_core.specs.declared.solo_scope.SoloScope.{SoloScope}
+use Rattle.solo_core.specs.declared.solo_scope.SoloScope.TheVariants.{House}
+use Rattle.solo_core.specs.Cells.{solo_cells}
+use Rattle.solo_core.specs.Houses.{houses_of, lies_in, places_of}
+use Rattle.solo_core.specs.RuleSets.{filled_houses, crossings_of, house_at}
+use Rattle.solo_core.specs.Scopes.{scopes_of}
+use Rattle.solo_core.specs.Solutions.{IsSoloSolution}
+
+-- the grids that the rules accept are the solutions of the puzzle
+abbrev pub AcceptsSolutions : Solo → Puzzle → Type 0
+AcceptsSolutions p rules = (g : List ℕ) → IsGrid (solo_cells p) (solo_n p) g
+    → (IsTrue (rules.is_solution g)) ↔ IsSoloSolution p g
+
+-- what a house of the first rules strikes, the house of the second with its number strikes too
+abbrev pub StrikesAsMuch : Puzzle → Puzzle → Type 0
+StrikesAsMuch less more = (h : ℕ) (board : Candidates) (place value : ℕ) → h < less.houses
+    → less.strikes h board place value ≡ true
+    → (h < more.houses) × (more.strikes h board place value ≡ true)
+
+-- the house's list has exactly the places that lie in the house
+abbrev pub ListsItsPlaces : Solo → SoloHouse → Type 0
+ListsItsPlaces p house = (place : ℕ) → place < solo_cells p
+    → (IsTrue (has_place (places_of p house) place)) ↔ (IsTrue (lies_in p house place))
+
+-- the first scopes are the houses, and each scope is visited as its number says
+abbrev pub HousesComeFirst : Solo → Type 0
+HousesComeFirst p = (h : ℕ) (scope : SoloScope) (house : SoloHouse) → h < length (houses_of p)
+    → slice_index_or (scopes_of p) h scope ≡ House (slice_index_or (houses_of p) h house)
+
+abbrev pub AreNamedByScopes : Solo → Type 0
+AreNamedByScopes p = (h : ℕ) (scope : SoloScope) → h < length (scopes_of p)
+    → house_of (filled_houses p ++ crossings_of p) h
+    ≡ house_at p (slice_index_or (scopes_of p) h scope)
+
+-- the most visits of a closing: one of each house, and one more for each number of each of its cells; and so for crossings,
+-- of which those with rows have 2n - r cells, and those with columns 2n - c
+abbrev pub house_visits : Solo → ℕ
+house_visits p = length (houses_of p) + length (houses_of p) * (solo_n p * solo_n p)
+
+abbrev pub crossing_visits : Solo → ℕ
+crossing_visits p = solo_n p * p.c * (1 + (2 * solo_n p - p.r) * solo_n p)
+    + solo_n p * p.r * (1 + (2 * solo_n p - p.c) * solo_n p)
