@@ -9,10 +9,9 @@ use Rattle.std.proofs.lemmas.Map.Steps.{length-le_from_distinct_below}
 use Rattle.grid_core.specs.Candidates.{any_below}
 use Rattle.grid_core.proofs.CandidateLemmas.{any_below-some, any_below-none}
 use Rattle.engine_core.specs.Puzzle.{has_place}
-use Rattle.engine_core.specs.PlaceLaws.{has_place-here}
+use Rattle.engine_core.specs.PlaceLaws.{has_place-here, AreDistinct, distinct-from}
 use Rattle.engine_core.specs.House.{AreDifferent}
 use Rattle.fields_core.specs.Tents.{names_none_twice}
-use Rattle.fields_core.proofs.PlaceLists.{AreDistinct, distinct-from}
 
 -- where a number stands in a list
 unfoldable pub index_of : List ℕ → ℕ → ℕ

@@ -1,6 +1,6 @@
 -- Which numbers of ones the fillings of two-valued sets have.
-use Rattle.std.proofs.Common.{◌≡◌, ℕ, zero, suc, ◌+◌, ◌-◌, ◌<◌, ◌≤◌, max, Bool, true, false, true≢false, ◌&&◌, cond, leb, List, [], ◌∷◌, ◌++◌, length, get_or, take, drop, refl, sym, ◌∙◌, ap, subst, arith, ◌⊎◌, inl, inr, le-leb, leb-true, if◌then◌else◌}
-use Rattle.std.proofs.lemmas.Bool.{cases_lt}
+use Rattle.std.proofs.Common.{◌≡◌, ℕ, zero, suc, ◌+◌, ◌-◌, ◌<◌, ◌≤◌, max, Bool, true, false, true≢false, cond, leb, List, [], ◌∷◌, ◌++◌, length, get_or, take, drop, refl, sym, ◌∙◌, ap, subst, arith, ◌⊎◌, inl, inr, le-leb, leb-true, if◌then◌else◌}
+use Rattle.std.proofs.lemmas.Bool.{cases_lt, and_parts}
 use Rattle.std.proofs.lemmas.List.{length-append, length-take, take-append-drop}
 use Rattle.std.proofs.Math.Seq.{get_or-append_seam, drop-cons}
 use Rattle.engine_core.specs.Filling.{Set, has_value, Fills, IsShown}
@@ -203,10 +203,6 @@ module _ (front back : List Set) (set : Set) (value : ℕ) (c : IsCounted (front
           let d = with_value (drop (suc (length front)) f) in
           let e = ones-append (take (length front) f) (drop (suc (length front)) f) in
           omega arith
-
-      and_parts : (a b : Bool) → (a && b) ≡ true → (a ≡ true) × (b ≡ true)
-      and_parts true b h = (refl, h)
-      and_parts false b h = absurd (true≢false (sym h))
 
       limits : (least ≤ nonzeros f) × (nonzeros f ≤ most)
       limits =

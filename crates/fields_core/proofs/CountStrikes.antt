@@ -1,8 +1,9 @@
 -- A visit of a house leaves the board without what the house strikes.
-use Rattle.std.proofs.Common.{◌≡◌, ℕ, zero, suc, ◌+◌, ◌<◌, ◌≤◌, Bool, true, false, not, true≢false, ◌&&◌, ◌||◌, cond, leb, ltb, eqb, List, [], ◌∷◌, map, length, slice_index, take, refl, sym, ◌∙◌, ap, ap₂, arith, ◌⊎◌, inl, inr, le-leb, leb-true}
+use Rattle.std.proofs.Common.{◌≡◌, ℕ, zero, suc, ◌+◌, ◌<◌, ◌≤◌, Bool, true, false, not, true≢false, ◌&&◌, ◌||◌, cond, leb, ltb, eqb, List, [], ◌∷◌, map, length, slice_index, take, refl, sym, ◌∙◌, ap, ap₂, arith, ◌⊎◌, inl, inr, le-leb}
 use Rattle.std.specs.List.{count_by, list_any}
 use Rattle.std.proofs.Math.Path.{fun_ext}
-use Rattle.std.proofs.lemmas.Bool.{cases_Bool, cases_lt, cases_eq, false_from_ne_true, and_parts, or_cases, eq-eqb, ne_eqb, lt-ltb, ltb-true}
+use Rattle.std.proofs.lemmas.Bool.{cases_Bool, cases_lt, cases_eq, false_from_ne_true, and_from, and_parts, or_cases, or_parts, eq-eqb, ne_eqb, lt-leb, ltb-true, ltb-false}
+use Rattle.std.proofs.Math.Bool.{and-true, and-false, or-false}
 use Rattle.std.proofs.lemmas.List.{take_all}
 use Rattle.std.proofs.lemmas.List.Folds.{list_any_more}
 use Rattle.grid_core.specs.Candidates.{Candidates, without}
@@ -27,10 +28,6 @@ after-off : (house : CountHouse) (K : Candidates) (c v : ℕ) → has_place hous
 unfolding after_house strikes_of
 after-off house K c v off = rw (false_from_ne_true (strikes_at 2 house.places (strikes_by_fillings (counts_between house.least house.most)) K c v) (λ on.
     true≢false (sym (strikes_at-in_scope 2 house.places (strikes_by_fillings (counts_between house.least house.most)) K c v on) ∙ off))) (and-true (K c v))
-  where
-    and-true : (b : Bool) → (b && true) ≡ b
-    and-true true = refl
-    and-true false = refl
 
 after-at : (cells : ℕ) (house : CountHouse) (K : Candidates) (k v : ℕ) → IsHouse cells house → k < length house.places
     → after_house house K (slice_index house.places k) v ≡ (K (slice_index house.places k) v && not (strikes_by_fillings (counts_between house.least house.most) (map (set_of K) house.places) k v))
@@ -54,10 +51,6 @@ after-by cells house K struck is two same = fun_ext λ c. fun_ext λ v. elim (ca
     | inr high ↦ let none = false_from_ne_true (K c v) (λ has. let t = two c v has in absurd (omega arith)) in rw none refl
   ]
 ]
-  where
-    and-true : (b : Bool) → (b && true) ≡ b
-    and-true true = refl
-    and-true false = refl
 
 -- ---- the counts of a house
 pub record IsTallied (K : Candidates) (places : List ℕ) (must may : ℕ) (dead : Bool) : Type 0 where
@@ -65,25 +58,13 @@ pub record IsTallied (K : Candidates) (places : List ℕ) (must may : ℕ) (dead
   pub may_is : may ≡ count_by (λ c. K c 1) places
   pub dead_is : dead ≡ list_any (is_empty K) places
 
-le-false : (a b : ℕ) → b < a → leb a b ≡ false
-le-false a b lt = false_from_ne_true (leb a b) (λ on. let l = leb-true a b on in absurd (omega arith))
-
-and-false : (a : Bool) → (a && false) ≡ false
-and-false true = refl
-and-false false = refl
-
 -- a value of a cell stays, unless the cell has both and there is no room for it
-both-on : (p q : Bool) → p ≡ true → q ≡ true → (p && q) ≡ true
-both-on true true x y = refl
-both-on true false x y = y
-both-on false q x y = x
-
 zero-enough : (least may : ℕ) (z o : Bool) → least ≤ may → z ≡ true → ((z && o) ≡ true → least < may) → least + cond o 1 0 ≤ 0 + may
-zero-enough least may z true le on fits = let f = fits (both-on z true on refl) in omega arith
+zero-enough least may z true le on fits = let f = fits (and_from z true on refl) in omega arith
 zero-enough least may z false le on fits = omega arith
 
 one-few : (must most : ℕ) (z o : Bool) → must ≤ most → o ≡ true → ((z && o) ≡ true → must < most) → 1 + must ≤ most + cond z 0 1
-one-few must most true o le on fits = let f = fits (both-on true o refl on) in omega arith
+one-few must most true o le on fits = let f = fits (and_from true o refl on) in omega arith
 one-few must most false o le on fits = omega arith
 
 -- a 0, and a 1, stays, unless the cell has both and there is no room for it
@@ -99,10 +80,10 @@ one-stays least most must may z true a b c fits =
 
 -- there is no room for it
 zero-goes : (least most must may : ℕ) → may ≤ least → stays least most must may true true true 0 ≡ false
-zero-goes least most must may le = rw (le-false (least + 1) (0 + may) (omega arith)) (and-false (leb least most))
+zero-goes least most must may le = rw (lt-leb (least + 1) (0 + may) (omega arith)) (and-false (leb least most))
 
 one-goes : (least most must may : ℕ) → most ≤ must → stays least most must may true true true 1 ≡ false
-one-goes least most must may le = rw (le-false (1 + must) (most + 0) (omega arith)) (by (leb least most) (leb (least + 1) (1 + may)))
+one-goes least most must may le = rw (lt-leb (1 + must) (most + 0) (omega arith)) (by (leb least most) (leb (least + 1) (1 + may)))
   where
     by : (a b : Bool) → (a && (b && false)) ≡ false
     by true b = and-false b
@@ -111,14 +92,14 @@ one-goes least most must may le = rw (le-false (1 + must) (most + 0) (omega arit
 -- no value stays in a house without a filling
 stays-none : (least most must may v : ℕ) (h z o : Bool) → (most < least) ⊎ ((may < least) ⊎ (most < must)) → v < 2 → (v ≡ 0 → h ≡ z) → (v ≡ 1 → h ≡ o) → stays least most must may h z o v ≡ false
 stays-none least most must may v false z o dead low at_zero at_one = refl
-stays-none least most must may v true z o (inl a) low at_zero at_one = rw (le-false least most a) refl
-stays-none least most must may v true z o (inr (inl b)) low at_zero at_one = rw (le-false (least + cond o 1 0) (v + may) (short v refl low)) (and-false (leb least most))
+stays-none least most must may v true z o (inl a) low at_zero at_one = rw (lt-leb least most a) refl
+stays-none least most must may v true z o (inr (inl b)) low at_zero at_one = rw (lt-leb (least + cond o 1 0) (v + may) (short v refl low)) (and-false (leb least most))
   where
     short : (u : ℕ) → u ≡ v → u < 2 → u + may < least + cond o 1 0
     short zero e lt = omega arith
     short (suc zero) e lt = rw (sym (at_one (sym e))) (let f : 1 + may < least + 1 = omega arith in f)
     short (suc (suc u)) e lt = absurd (omega arith)
-stays-none least most must may v true z o (inr (inr d)) low at_zero at_one = rw (le-false (v + must) (most + cond z 0 1) (long v refl low)) (by (leb least most) (leb (least + cond o 1 0) (v + may)))
+stays-none least most must may v true z o (inr (inr d)) low at_zero at_one = rw (lt-leb (v + must) (most + cond z 0 1) (long v refl low)) (by (leb least most) (leb (least + cond o 1 0) (v + may)))
   where
     by : (a b : Bool) → (a && (b && false)) ≡ false
     by true b = and-false b
@@ -158,10 +139,6 @@ module _ (cells : ℕ) (house : CountHouse) (K : Candidates) (must may : ℕ) (d
   pub all-stay : dead ≡ false → house.least ≤ house.most → house.least ≤ may → must ≤ house.most → (must ≡ may) ⊎ ((house.least < may) × (must < house.most)) → K ≡ after_house house K
   all-stay alive a b d why = sym (after-by cells house K (λ c v. false) is two (λ k v lt low. kept k v alive lt low ∙ each k v lt low ∙ sym (and-true (K (at k) v))) ∙ nothing)
     where
-      and-true : (b : Bool) → (b && true) ≡ b
-      and-true true = refl
-      and-true false = refl
-
       nothing : struck_among house.places (λ c v. false) K ≡ K
       nothing = fun_ext λ c. fun_ext λ v. by (K c v) (list_any (λ d. eqb d c) house.places)
         where
@@ -191,10 +168,6 @@ module _ (cells : ℕ) (house : CountHouse) (K : Candidates) (must may : ℕ) (d
       more : house.least < may
       more = let o = some-open alive differ in omega arith
 
-      and-true : (b : Bool) → (b && true) ≡ b
-      and-true true = refl
-      and-true false = refl
-
       go : (z o : Bool) → stays house.least house.most must may o z o 1 ≡ (o && not (z && o))
       go true true = one-goes house.least house.most must may (omega arith)
       go true false = refl
@@ -213,10 +186,6 @@ module _ (cells : ℕ) (house : CountHouse) (K : Candidates) (must may : ℕ) (d
       less : must < house.most
       less = let o = some-open alive differ in omega arith
 
-      and-true : (b : Bool) → (b && true) ≡ b
-      and-true true = refl
-      and-true false = refl
-
       go : (z o : Bool) → stays house.least house.most must may z z o 0 ≡ (z && not (z && o))
       go true true = zero-goes house.least house.most must may (omega arith)
       go true false = let m = less in zero-stays house.least house.most must may true false a (omega arith) (omega arith) (λ on_both. absurd (true≢false (sym on_both)))
@@ -232,11 +201,7 @@ pub record IsStruckBelow (K K' : Candidates) (places : List ℕ) (struck : ℕ �
   pub left : (c v : ℕ) → K' c v ≡ (K c v && not (list_any (λ d. eqb d c) (take n places) && struck c v))
 
 pub struck-first : (K : Candidates) (places : List ℕ) (struck : ℕ → ℕ → Bool) → IsStruckBelow K K places struck 0
-struck-first K places struck = record { left = λ c v. by (K c v) }
-  where
-    by : (b : Bool) → b ≡ (b && true)
-    by true = refl
-    by false = refl
+struck-first K places struck = record { left = λ c v. sym (and-true (K c v)) }
 
 pub struck-whole : (K K' : Candidates) (places : List ℕ) (struck : ℕ → ℕ → Bool) (n : ℕ) → IsStruckBelow K K' places struck n → length places ≤ n → K' ≡ struck_among places struck K
 struck-whole K K' places struck n s ge = fun_ext λ c. fun_ext λ v. s.left c v ∙ ap (λ l. K c v && not (list_any (λ d. eqb d c) l && struck c v)) (take_all n places ge)
@@ -274,20 +239,12 @@ struck-pass K K' places value n low s lt off = record {
   ]);
 }
   where
-    or-false : (a : Bool) → (a || false) ≡ a
-    or-false true = refl
-    or-false false = refl
-
     -- the cell had both values and is not listed before: then it has both still
     still : (c : ℕ) → slice_index places n ≡ c → list_any (λ d. eqb d c) (take n places) ≡ false → is_open K c ≡ false
     still c same none = sym (ap₂ (λ a b. a && b) (keeps 0) (keeps 1)) ∙ ap (is_open K') (sym same) ∙ off
       where
         keeps : (v : ℕ) → K' c v ≡ K c v
         keeps v = s.left c v ∙ rw none (and-true (K c v))
-          where
-            and-true : (b : Bool) → (b && true) ≡ b
-            and-true true = refl
-            and-true false = refl
 
     here : (c v : ℕ) → slice_index places n ≡ c
         → (K c v && not ((list_any (λ d. eqb d c) (take n places) || eqb (slice_index places n) c) && strikes_open value K c v)) ≡ (K c v && not (list_any (λ d. eqb d c) (take n places) && strikes_open value K c v))
@@ -329,7 +286,7 @@ struck-open K K' K'' places value n low s lt on left = record {
     kept c v has = (and_parts (K c v) (not (list_any (λ d. eqb d c) (take n places) && strikes_open value K c v)) (sym (s.left c v) ∙ has)).0
 
     both : (c : ℕ) → slice_index places n ≡ c → is_open K c ≡ true
-    both c same = let w = and_parts (K' c 0) (K' c 1) (ap (is_open K') (sym same) ∙ on) in both-on (K c 0) (K c 1) (kept c 0 w.0) (kept c 1 w.1)
+    both c same = let w = and_parts (K' c 0) (K' c 1) (ap (is_open K') (sym same) ∙ on) in and_from (K c 0) (K c 1) (kept c 0 w.0) (kept c 1 w.1)
 
 -- ---- whether there is a filling, by the counts
 pub no-filling : (least most must may : ℕ) (dead : Bool) → (dead || (ltb most least || (ltb may least || ltb most must))) ≡ true
@@ -349,23 +306,13 @@ no-filling least most must may false on = inr (
 pub some-filling : (least most must may : ℕ) (dead : Bool) → (dead || (ltb most least || (ltb may least || ltb most must))) ≡ false
     → (dead ≡ false) × (least ≤ most) × (least ≤ may) × (must ≤ most)
 some-filling least most must may true off = absurd (true≢false off)
-some-filling least most must may false off = (refl, at-least most least (parts.0), at-least may least (rest.0), at-least most must (rest.1))
+some-filling least most must may false off = (refl, ltb-false most least (parts.0), ltb-false may least (rest.0), ltb-false most must (rest.1))
   where
-    or_false : (a b : Bool) → (a || b) ≡ false → (a ≡ false) × (b ≡ false)
-    or_false true b e = absurd (true≢false e)
-    or_false false b e = (refl, e)
-
     parts : (ltb most least ≡ false) × ((ltb may least || ltb most must) ≡ false)
-    parts = or_false (ltb most least) _ off
+    parts = or_parts (ltb most least) _ off
 
     rest : (ltb may least ≡ false) × (ltb most must ≡ false)
-    rest = or_false (ltb may least) (ltb most must) parts.1
-
-    at-least : (a b : ℕ) → ltb a b ≡ false → b ≤ a
-    at-least a b e = elim (cases_lt a b) [
-      | inl lt ↦ absurd (true≢false (sym (lt-ltb a b lt) ∙ e))
-      | inr ge ↦ ge
-    ]
+    rest = or_parts (ltb may least) (ltb most must) parts.1
 
 -- ---- both values of a cell are struck
 pub emptied : (K K' K'' : Candidates) (place : ℕ) → ((c v : ℕ) → K c v ≡ true → v < 2) → K' ≡ without K place 0 → K'' ≡ without K' place 1 → (c v : ℕ) → K'' c v ≡ (K c v && not (eqb c place))

@@ -1,22 +1,23 @@
 -- What is counted of the cells of count houses.
 use Rattle.std.proofs.Common.{◌≡◌, ℕ, zero, suc, ◌+◌, ◌<◌, ◌≤◌, ◌^◌, Bool, true, false, not, ◌&&◌, ◌||◌, eqb, ltb, cond, List, [], ◌∷◌, length, slice_index, set, take, refl, sym, ◌∙◌, ap, ap₂, subst, inl, inr, ◌⊎◌, arith}
 use Rattle.std.specs.List.{count_by, list_any}
-use Rattle.std.proofs.lemmas.Bool.{cases_Bool, cases_eq, eqb-true, eqb-false, lt-ltb, eq-eqb, or_cases, true≢false, false≢true}
+use Rattle.std.proofs.lemmas.Bool.{cases_Bool, cases_eq, eqb-true, lt-ltb, ltb-false, eq-eqb, or_cases, or_parts, true≢false, false≢true}
 use Rattle.std.proofs.lemmas.List.{take_all, length-set, get_or-set_same, get_or-set_other}
-use Rattle.std.proofs.lemmas.List.Sums.{sum_by_more, sum_by-cons, count_by-le-length}
+use Rattle.std.proofs.lemmas.List.Sums.{sum_by_more, count_by-le-length}
 use Rattle.grid_core.specs.Candidates.{Candidates, IsWithin}
 use Rattle.engine_core.specs.Puzzle.{has_place}
-use Rattle.engine_core.specs.PlaceLaws.{AreDistinct, distinct-from, has_place-here}
+use Rattle.engine_core.specs.PlaceLaws.{AreDistinct, distinct-from}
 use Rattle.engine_core.specs.HouseIndex.{scope_of, number_at, AreHousesAt}
 use Rattle.engine_core.proofs.IndexLemmas.{counted, numbered}
 use Rattle.engine_core.specs.Sets.{has_bit, IsChange}
 use Rattle.fields_core.specs.Count.{is_empty}
 use Rattle.fields_core.specs.CountHouse.{CountHouse, IsHouse, count_house_of, strikes_of, after_house}
-use Rattle.fields_core.specs.Tallies.{IsTally, moved_tally, tally_at, AreTallied}
+use Rattle.fields_core.specs.Tallies.{IsTally, has_strikes, moved_tally, tally_at, AreTallied}
 use Rattle.fields_core.specs.CountLists.{bounds_of}
 use Rattle.fields_core.specs.declared.count_list.Bounds.{Bounds}
 use Rattle.fields_core.specs.declared.tally.Tally.{Tally}
-use Rattle.fields_core.proofs.CountStrikes.{IsTallied, all-stay, some-filling}
+use Rattle.fields_core.proofs.PlaceLists.{count-cons}
+use Rattle.fields_core.proofs.CountStrikes.{IsTallied, all-stay}
 
 -- ---- counted one cell after the other
 pub record IsTalliedBelow (K : Candidates) (places : List ℕ) (n must may empty : ℕ) : Type 0 where
@@ -63,13 +64,10 @@ tallied-whole K places n must may empty t ge =
 abbrev num : Bool → ℕ
 num b = cond b 1 0
 
-count-head : (test : ℕ → Bool) (x : ℕ) (xs : List ℕ) → count_by test (x ∷ xs) ≡ num (test x) + count_by test xs
-count-head test x xs = sum_by-cons (λ c. cond (test c) 1 0) x xs
-
 -- ---- a cell is empty where the number of empty ones is not 0
 some-counted : (test : ℕ → Bool) (xs : List ℕ) → ltb 0 (count_by test xs) ≡ list_any test xs
 some-counted test [] = refl
-some-counted test (x ∷ xs) = ap (ltb 0) (count-head test x xs) ∙ by (count_by test xs) (some-counted test xs) (test x)
+some-counted test (x ∷ xs) = ap (ltb 0) (count-cons test x xs) ∙ by (count_by test xs) (some-counted test xs) (test x)
   where
     by : (n : ℕ) → ltb 0 n ≡ list_any test xs → (b : Bool) → ltb 0 (num b + n) ≡ (b || list_any test xs)
     by n rest true = lt-ltb 0 (1 + n) (omega arith)
@@ -83,7 +81,7 @@ module _ (p q : ℕ → Bool) (place : ℕ) (others : (c : ℕ) → (c ≡ place
   pub count-off : (xs : List ℕ) → has_place xs place ≡ false → count_by q xs ≡ count_by p xs
   unfolding has_place
   count-off [] off = refl
-  count-off (x ∷ xs) off = count-head q x xs ∙ by (count-off xs) (eqb x place) refl off ∙ sym (count-head p x xs)
+  count-off (x ∷ xs) off = count-cons q x xs ∙ by (count-off xs) (eqb x place) refl off ∙ sym (count-cons p x xs)
     where
       by : (has_place xs place ≡ false → count_by q xs ≡ count_by p xs) → (b : Bool) → eqb x place ≡ b → (b || has_place xs place) ≡ false → num (q x) + count_by q xs ≡ num (p x) + count_by p xs
       by rest true e o = absurd (true≢false o)
@@ -92,7 +90,7 @@ module _ (p q : ℕ → Bool) (place : ℕ) (others : (c : ℕ) → (c ≡ place
   pub count-at : (xs : List ℕ) → AreDistinct xs → has_place xs place ≡ true → count_by q xs + num (p place) ≡ count_by p xs + num (q place)
   unfolding has_place
   count-at [] d on = absurd (false≢true on)
-  count-at (x ∷ xs) d on = ap (λ n. n + num (p place)) (count-head q x xs) ∙ by (count-at xs d.1) (eqb x place) refl on ∙ ap (λ n. n + num (q place)) (sym (count-head p x xs))
+  count-at (x ∷ xs) d on = ap (λ n. n + num (p place)) (count-cons q x xs) ∙ by (count-at xs d.1) (eqb x place) refl on ∙ ap (λ n. n + num (q place)) (sym (count-cons p x xs))
     where
       by : (has_place xs place ≡ true → count_by q xs + num (p place) ≡ count_by p xs + num (q place)) → (b : Bool) → eqb x place ≡ b → (b || has_place xs place) ≡ true
           → (num (q x) + count_by q xs) + num (p place) ≡ (num (p x) + count_by p xs) + num (q place)
@@ -111,7 +109,7 @@ module _ (p q : ℕ → Bool) (place : ℕ) (others : (c : ℕ) → (c ≡ place
   pub count-there : (xs : List ℕ) → has_place xs place ≡ true → num (p place) ≤ count_by p xs
   unfolding has_place
   count-there [] on = absurd (false≢true on)
-  count-there (x ∷ xs) on = by (count-there xs) (count-head p x xs) (or_cases (eqb x place) (has_place xs place) on)
+  count-there (x ∷ xs) on = by (count-there xs) (count-cons p x xs) (or_cases (eqb x place) (has_place xs place) on)
     where
       by : (has_place xs place ≡ true → num (p place) ≤ count_by p xs) → count_by p (x ∷ xs) ≡ num (p x) + count_by p xs → (eqb x place ≡ true) ⊎ (has_place xs place ≡ true) → num (p place) ≤ count_by p (x ∷ xs)
       by rest head (inl here) = let s = ap (λ c. num (p c)) (eqb-true x place here) in omega arith
@@ -196,26 +194,6 @@ pub record AreCounted (cells : ℕ) (scopes : List (List ℕ)) (houses : List Co
   pub as_many : length scopes ≡ length houses
   pub places : (h : ℕ) → scope_of scopes h ≡ (count_house_of houses h).places
   pub each : (h : ℕ) → h < length houses → IsHouse cells (count_house_of houses h)
-
-pub record AreTalliedBelow (houses : List CountHouse) (old new : List Tally) (K : Candidates) (n : ℕ) : Type 0 where
-  pub as_many : length new ≡ length old
-  pub each : (h : ℕ) → h < n → IsTally K (count_house_of houses h).places (tally_at new h)
-
-pub tallied-none : (houses : List CountHouse) (old : List Tally) (K : Candidates) → AreTalliedBelow houses old old K 0
-tallied-none houses old K = record { as_many = refl; each = λ h lt. absurd (omega arith) }
-
-pub tallied-next : (houses : List CountHouse) (old new : List Tally) (K : Candidates) (n : ℕ) (places : List ℕ) (t : Tally) → AreTalliedBelow houses old new K n → n < length old
-    → places ≡ (count_house_of houses n).places → IsTally K places t → AreTalliedBelow houses old (set new n t) K (n + 1)
-tallied-next houses old new K n places t before lt same is = record {
-  as_many = length-set new n t ∙ before.as_many;
-  each = λ h low. elim (cases_eq h n) [
-    | inl e ↦ rw (e, get_or-set_same new n t (record { must = 0; may = 0; empty = 0 }) (let s = before.as_many in omega arith)) (rw same at is)
-    | inr ne ↦ rw (get_or-set_other new n h t (record { must = 0; may = 0; empty = 0 }) ne) (before.each h (omega arith))
-  ];
-}
-
-pub tallied-all : (cells : ℕ) (houses : List CountHouse) (old new : List Tally) (K : Candidates) (n : ℕ) → AreTalliedBelow houses old new K n → length houses ≤ n → length houses ≤ length old → IsWithin cells 2 K → AreTallied cells houses new K
-tallied-all cells houses old new K n below ge long within = record { long = let s = below.as_many in omega arith; within = within; each = λ h lt. below.each h (omega arith) }
 
 -- ---- the houses of a place, one after the other
 module _ (scopes : List (List ℕ)) (place : ℕ) (listed : List ℕ) (at : AreHousesAt scopes place listed) where
@@ -316,19 +294,17 @@ module _ (cells : ℕ) (scopes : List (List ℕ)) (houses : List CountHouse) (ta
   }
 
 -- ---- a house that does not call strikes nothing
-or-none : (a b : Bool) → (a || b) ≡ false → (a ≡ false) × (b ≡ false)
-or-none false false e = (refl, refl)
-or-none false true e = absurd (true≢false e)
-or-none true b e = absurd (true≢false e)
-
 pub idle-house : (cells : ℕ) (house : CountHouse) (K : Candidates) (t : Tally) → IsHouse cells house → IsWithin cells 2 K → IsTally K house.places t
-    → ((ltb 0 t.empty || (ltb house.most house.least || (ltb t.may house.least || ltb house.most t.must))) || (not (eqb t.must t.may) && (eqb t.must house.most || eqb t.may house.least))) ≡ false
-    → (c v : ℕ) → K c v ≡ true → strikes_of house K c v ≡ false
+    → has_strikes t (bounds_of house) ≡ false → (c v : ℕ) → K c v ≡ true → strikes_of house K c v ≡ false
 unfolding after_house
 idle-house cells house K t is within tally off c v on =
-    let o = or-none _ _ off in
-    let s = some-filling house.least house.most t.must t.may (ltb 0 t.empty) o.0 in
-    let stays = all-stay cells house K t.must t.may (ltb 0 t.empty) is (λ d u lives. (within d u lives).1) (tallied-as K house.places t tally) s.0 s.1 s.2 s.3 (at-bounds o.1 s.2 s.3) in
+    let full = or_parts _ _ off in
+    let order = or_parts _ _ full.1 in
+    let bounds = or_parts _ _ order.1 in
+    let few = ltb-false _ _ bounds.0 in
+    let many = ltb-false _ _ bounds.1 in
+    let stays = all-stay cells house K t.must t.may (ltb 0 t.empty) is (λ d u lives. (within d u lives).1) (tallied-as K house.places t tally)
+    full.0 (ltb-false _ _ order.0) (omega arith) (omega arith) (room (eqb t.must t.may) refl few many) in
     by (K c v) (strikes_of house K c v) on (ap (λ (L : Candidates). L c v) stays)
   where
     by : (a b : Bool) → a ≡ true → a ≡ (a && not b) → b ≡ false
@@ -336,30 +312,16 @@ idle-house cells house K t is within tally off c v on =
     by true true e f = absurd (true≢false f)
     by false b e f = absurd (false≢true e)
 
-    at-bounds : (not (eqb t.must t.may) && (eqb t.must house.most || eqb t.may house.least)) ≡ false → house.least ≤ t.may → t.must ≤ house.most → (t.must ≡ t.may) ⊎ ((house.least < t.may) × (t.must < house.most))
-    at-bounds e low high = elim (cases_Bool (eqb t.must t.may)) [
-      | inl same ↦ inl (eqb-true t.must t.may same)
-      | inr other ↦
-          let f : (eqb t.must house.most || eqb t.may house.least) ≡ false = rw other at e in
-          let g = or-none _ _ f in
-          inr ((let ne = eqb-false t.may house.least g.1 in omega (arith, ne)), (let ne = eqb-false t.must house.most g.0 in omega (arith, ne)))
-    ]
-
--- ---- the places of a house of the table
-pub record ArePlaces (cells : ℕ) (places : List ℕ) : Type 0 where
-  pub few : length places < 2 ^ 32
-  pub within : (k : ℕ) → k < length places → slice_index places k < cells
-
-pub counted-places : (cells : ℕ) (scopes : List (List ℕ)) (houses : List CountHouse) (h : ℕ) (places : List ℕ) → AreCounted cells scopes houses → h < length houses → places ≡ scope_of scopes h → ArePlaces cells places
-counted-places cells scopes houses h places table lt e =
-    let is = table.each h lt in
-    rw (e ∙ table.places h) (record { few = is.few_places; within = λ k low. is.within (slice_index (count_house_of houses h).places k) (has_place-here (count_house_of houses h).places k low) })
+    room : (b : Bool) → eqb t.must t.may ≡ b → house.least + num (not b) ≤ t.may → t.must + num (not b) ≤ house.most
+        → (t.must ≡ t.may) ⊎ ((house.least < t.may) × (t.must < house.most))
+    room true same few many = inl (eqb-true t.must t.may same)
+    room false other few many = inr (omega arith, omega arith)
 
 pub moved-end : (old new : List Tally) (listed : List ℕ) (before after n : ℕ) → AreMovedBelow old new listed before after n → n ≤ length listed → length listed ≤ n → AreMovedBelow old new listed before after (length listed)
 moved-end old new listed before after n m le ge = let e : n ≡ length listed = omega arith in subst (AreMovedBelow old new listed before after) e m
 
 -- the same by the bounds that a table has for the house
 pub idle-by : (cells : ℕ) (house : CountHouse) (t : Tally) (b : Bounds) (calls : Bool) → IsHouse cells house → b ≡ bounds_of house
-    → calls ≡ ((ltb 0 t.empty || (ltb b.most b.least || (ltb t.may b.least || ltb b.most t.must))) || (not (eqb t.must t.may) && (eqb t.must b.most || eqb t.may b.least))) → calls ≡ false
+    → calls ≡ has_strikes t b → calls ≡ false
     → (K : Candidates) → IsWithin cells 2 K → IsTally K house.places t → (c v : ℕ) → K c v ≡ true → strikes_of house K c v ≡ false
 idle-by cells house t b calls is e told off K within tally = idle-house cells house K t is within tally (rw e at (sym told ∙ off))

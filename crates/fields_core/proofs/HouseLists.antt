@@ -1,8 +1,9 @@
 -- Lists of houses and of places that a loop makes.
-use Rattle.std.proofs.Common.{◌≡◌, ℕ, ◌+◌, ◌-◌, ◌/◌, ◌%◌, Bool, true, false, not, [], ◌∷◌, ◌++◌, length, Some, None, refl, sym, ap, ◌∙◌, add-one}
+use Rattle.std.proofs.Common.{◌≡◌, ℕ, ◌+◌, ◌-◌, ◌*◌, ◌/◌, ◌%◌, ◌<◌, Bool, true, false, not, [], ◌∷◌, ◌++◌, length, Some, None, refl, sym, ap, ◌∙◌, add-one, arith}
 use Rattle.std.specs.List.{filter, slice_get}
 use Rattle.std.proofs.lemmas.Bool.{cond-true, cond-false, ne_eqb}
 use Rattle.std.proofs.lemmas.List.{append-nil}
+use Rattle.std.proofs.Math.Nat.{div-eq_of_lt, lt-div-mul-add}
 use Rattle.std.proofs.lemmas.List.Elements.{filter-append}
 use Rattle.std.proofs.lemmas.List.FromFn.{length-map-range_with_len}
 use Rattle.grid_core.specs.Extent.{Extent}
@@ -51,13 +52,19 @@ pub column-black : (p : Light) (c : ℕ) → false ≡ white p c → false ≡ b
 unfolding begins_column_run
 column-black p c off = rw (sym off) refl
 
-pub column-edge : (p : Light) (c w : ℕ) → w ≡ p.size.w → true ≡ white p c → c / w ≡ 0 → true ≡ begins_column_run p c
+pub column-edge : (p : Light) (c w : ℕ) → w ≡ p.size.w → true ≡ white p c → c < w → true ≡ begins_column_run p c
 unfolding begins_column_run
-column-edge p c w e on edge = rw (sym on, rw e at edge) refl
+column-edge p c w e on edge = let top : c / w ≡ 0 = div-eq_of_lt {n = c} {m = w} edge in rw (sym on, rw e at top) refl
 
-pub column-after : (p : Light) (c w : ℕ) (b : Bool) → w ≡ p.size.w → true ≡ white p c → (c / w ≡ 0 → ⊥) → b ≡ white p (c - w) → not b ≡ begins_column_run p c
+pub column-after : (p : Light) (c w : ℕ) (b : Bool) → 0 < w → w ≡ p.size.w → true ≡ white p c → (c < w → ⊥) → b ≡ white p (c - w) → not b ≡ begins_column_run p c
 unfolding begins_column_run
-column-after p c w b e on inner is = rw (sym on, ne_eqb (c / p.size.w) 0 (rw e at inner), rw e at is) refl
+column-after p c w b some e on inner is = rw (sym on, ne_eqb (c / p.size.w) 0 (rw e at far), rw e at is) refl
+  where
+    far : c / w ≡ 0 → ⊥
+    far top =
+        let low : c < c / w * w + w = lt-div-mul-add {a = c} {b = w} some in
+        let less : c < 0 * w + w = rw top at low in
+        inner (omega arith)
 
 -- ---- the house of a cell's number
 pub number-white : (p : Light) (c : ℕ) → slice_get p.cells c ≡ Some White → number_house p c ≡ []

@@ -3,6 +3,7 @@ pub mod StaysLaws
 pub mod CountKept
 pub mod CountStrikes
 pub mod CountTallies
+pub mod CountFollow
 pub mod CountListLemmas
 pub mod LightLines
 pub mod HouseLists

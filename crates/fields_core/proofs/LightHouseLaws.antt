@@ -1,7 +1,9 @@
 -- The houses of Light Up are houses, and each solution meets them.
-use Rattle.std.proofs.Common.{◌≡◌, ℕ, zero, suc, ◌+◌, ◌*◌, ◌/◌, ◌%◌, ◌<◌, ◌≤◌, min, max, Bool, true, false, ◌||◌, eqb, ltb, cond, List, [], ◌∷◌, ◌++◌, length, refl, sym, ap, ◌∙◌, inl, inr, arith}
-use Rattle.std.proofs.lemmas.Bool.{cases_lt, or_left, or_right, or_cases, and_from, and_parts, true≢false, eqb-true, eq-eqb, lt-ltb, ltb-true}
+use Rattle.std.proofs.Common.{◌≡◌, ℕ, zero, suc, ◌+◌, ◌-◌, ◌*◌, ◌/◌, ◌%◌, ◌<◌, ◌≤◌, min, max, Bool, true, false, not, ◌||◌, eqb, ltb, cond, List, [], ◌∷◌, ◌++◌, length, refl, sym, ap, ◌∙◌, inl, inr, arith}
+use Rattle.std.proofs.lemmas.Bool.{cases_Bool, cases_lt, cases_eq, or_left, or_right, or_cases, or_parts, and_from, and_parts, true≢false, false_from_ne_true, eqb-true, eq-eqb, lt-ltb, ltb-true}
+use Rattle.std.specs.List.{filter}
 use Rattle.std.proofs.lemmas.List.{get_or_past}
+use Rattle.std.proofs.lemmas.List.Elements.{filter_agree}
 use Rattle.std.proofs.Math.Nat.{mul-le-mul_right}
 use Rattle.grid_core.specs.Extent.{Extent}
 use Rattle.grid_core.specs.Regions.{row_places, column_places}
@@ -9,10 +11,12 @@ use Rattle.grid_core.proofs.RegionLemmas.{row-at, column-at}
 use Rattle.grid_core.proofs.CandidateLemmas.{all_below-at, all_below-from}
 use Rattle.gameid_core.specs.Puzzles.{Light}
 use Rattle.gameid_core.specs.declared.light_cell.LightCell.TheVariants.{Black}
+use Rattle.engine_core.specs.PlaceLaws.{AreDistinct, distinct-from}
 use Rattle.fields_core.specs.CountHouse.{CountHouse, count_house_of, houses_below}
 use Rattle.fields_core.specs.Light.{light_cells, is_white, white, clear, joined_in_row, joined_in_column}
+use Rattle.fields_core.specs.LightHouses.{row_run, begins_row_run}
 use Rattle.fields_core.proofs.HouseLists.{row-long, column-long}
-use Rattle.fields_core.proofs.PlaceLists.{AreDistinct, distinct-from}
+use Rattle.fields_core.proofs.TentBeside.{cell-parts}
 
 -- ---- what holds of each house of a list
 abbrev pub EachOf : (CountHouse → Type 0) → List CountHouse → Type 0
@@ -111,6 +115,53 @@ pub row-self : (p : Light) (c : ℕ) → white p c ≡ true → joined_in_row p 
 unfolding joined_in_row
 row-self p c on = and_from _ _ (eq-eqb (c / p.size.w) (c / p.size.w) refl) (clear-from _ (c % p.size.w) (c % p.size.w) (λ i low high.
     let e : c / p.size.w * p.size.w + i ≡ c = omega arith in rw e on))
+
+-- the run of a row goes on at a white cell, unless one begins there
+module _ (p : Light) (c d : ℕ) (some : 0 < p.size.w) (next : c + 1 ≡ d) (before : white p c ≡ true) (on : white p d ≡ true) (inner : d % p.size.w ≡ 0 → ⊥) where
+  parts : (c / p.size.w ≡ d / p.size.w) × (c % p.size.w ≡ d % p.size.w - 1)
+  parts = cell-parts p.size.w (d / p.size.w) (d % p.size.w - 1) c (omega (arith, some)) (omega (arith, inner))
+
+  row-next : joined_in_row p c d ≡ true
+  unfolding joined_in_row
+  row-next = and_from _ _ (eq-eqb (c / p.size.w) (d / p.size.w) parts.0) (clear-from _ (c % p.size.w) (d % p.size.w) (λ i low high. elim (cases_eq i (c % p.size.w)) [
+    | inl here ↦ let e : c / p.size.w * p.size.w + i ≡ c = omega arith in rw e before
+    | inr there ↦
+        let w = parts in
+        let last : i ≡ d % p.size.w = omega (arith, there, inner) in
+        let e : c / p.size.w * p.size.w + i ≡ d = rw (w.0, last) (omega arith) in
+        rw e on
+  ]))
+
+  row-run-next : row_run p c ≡ row_run p d
+  unfolding row_run
+  row-run-next = filter_agree (joined_in_row p c) (joined_in_row p d) same (row_places p.size (c / p.size.w)) ∙ ap (λ y. filter (joined_in_row p d) (row_places p.size y)) parts.0
+    where
+      back : joined_in_row p d c ≡ true
+      back = row-both p c d c row-next (row-self p c before)
+
+      same : (e : ℕ) → joined_in_row p c e ≡ joined_in_row p d e
+      same e = elim (cases_Bool (joined_in_row p c e)) [
+        | inl a ↦ a ∙ sym (row-both p c d e row-next a)
+        | inr off ↦ off ∙ sym (false_from_ne_true (joined_in_row p d e) (λ a. true≢false (sym (row-both p d c e back a) ∙ off)))
+      ]
+
+pub row-run-on : (p : Light) (d : ℕ) (row : List ℕ) → 0 < p.size.w → false ≡ begins_row_run p d → ((c : ℕ) → c + 1 ≡ d → white p c ≡ true → row ≡ row_run p c) → white p d ≡ true → row ≡ row_run p d
+unfolding begins_row_run
+row-run-on p d row some off run on =
+    let w : ((eqb (d % p.size.w) 0) || not (white p (d - 1))) ≡ false = sym (rw on at off) in
+    let parts = or_parts _ _ w in
+    let inner : d % p.size.w ≡ 0 → ⊥ = λ z. true≢false (sym (eq-eqb (d % p.size.w) 0 z) ∙ parts.0) in
+    let before : white p (d - 1) ≡ true = by (white p (d - 1)) parts.1 in
+    let next : d - 1 + 1 ≡ d = by-place d inner in
+    run (d - 1) next before ∙ row-run-next p (d - 1) d some next before on inner
+  where
+    by : (b : Bool) → not b ≡ false → b ≡ true
+    by true e = refl
+    by false e = absurd (true≢false e)
+
+    by-place : (n : ℕ) → (n % p.size.w ≡ 0 → ⊥) → n - 1 + 1 ≡ n
+    by-place zero inner = absurd (inner (omega arith))
+    by-place (suc n) inner = omega arith
 
 -- a white cell lies in the grid
 pub white-in : (p : Light) (c : ℕ) → length p.cells ≡ light_cells p → white p c ≡ true → c < light_cells p

@@ -3,8 +3,7 @@ use Rattle.std.proofs.Common.{◌≡◌, ℕ, zero, suc, ◌+◌, ◌<◌, ◌�
 use Rattle.std.specs.List.{filter, count_by}
 use Rattle.std.proofs.lemmas.Bool.{cases_Bool, or_left, or_right, or_cases, true≢false, false_from_ne_true, eqb-true, eq-eqb}
 use Rattle.engine_core.specs.Puzzle.{has_place}
-use Rattle.engine_core.specs.PlaceLaws.{has_place-at, has_place-here}
-use Rattle.engine_core.specs.House.{AreDifferent}
+use Rattle.engine_core.specs.PlaceLaws.{AreDistinct}
 use Rattle.fields_core.specs.Count.{nonzeros}
 use Rattle.fields_core.specs.Light.{bulb}
 use Rattle.fields_core.proofs.LightSight.{count-append}
@@ -52,25 +51,6 @@ pub place-back : (xs ys : List ℕ) (d : ℕ) → has_place ys d ≡ true → ha
 unfolding has_place
 place-back [] ys d on = on
 place-back (x ∷ xs) ys d on = or_right (eqb x d) (has_place (xs ++ ys) d) (place-back xs ys d on)
-
--- no place stands twice
-abbrev pub AreDistinct : List ℕ → Type 0
-AreDistinct [] = Unit {0}
-AreDistinct (x ∷ xs) = (has_place xs x ≡ false) × AreDistinct xs
-
-pub different-from : (xs : List ℕ) → AreDistinct xs → AreDifferent xs
-different-from [] d j k lj lk e = absurd (omega arith)
-different-from (x ∷ xs) d zero zero lj lk e = refl
-different-from (x ∷ xs) d zero (suc k) lj lk e = absurd (true≢false (sym (rw (sym e) at (has_place-here xs k (omega arith))) ∙ d.0))
-different-from (x ∷ xs) d (suc j) zero lj lk e = absurd (true≢false (sym (rw e at (has_place-here xs j (omega arith))) ∙ d.0))
-different-from (x ∷ xs) d (suc j) (suc k) lj lk e = ap suc (different-from xs d.1 j k (omega arith) (omega arith) e)
-
-pub distinct-from : (xs : List ℕ) → AreDifferent xs → AreDistinct xs
-distinct-from [] d = tt
-distinct-from (x ∷ xs) d = (
-  false_from_ne_true (has_place xs x) (λ on. let w = has_place-at xs x on in let e : 0 ≡ suc w.0 = d 0 (suc w.0) (omega arith) (omega (arith, w.1)) (sym w.2) in absurd (omega arith)),
-  distinct-from xs (λ j k lj lk e. let s : suc j ≡ suc k = d (suc j) (suc k) (omega arith) (omega arith) e in omega arith),
-)
 
 pub distinct-filter : (test : ℕ → Bool) (xs : List ℕ) → AreDistinct xs → AreDistinct (filter test xs)
 distinct-filter test [] d = tt

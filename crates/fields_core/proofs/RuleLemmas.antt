@@ -1,6 +1,7 @@
 -- From a table of count houses to the rules that it serves.
 use Rattle.std.proofs.Common.{◌≡◌, ℕ, ◌+◌, ◌<◌, ◌≤◌, Bool, true, false, not, ◌&&◌, ◌||◌, eqb, ltb, List, ◌++◌, length, slice_index, take, drop, subst, refl, sym, ap, ◌∙◌, inl, inr, arith}
 use Rattle.std.proofs.Math.Path.{fun_ext}
+use Rattle.std.proofs.Math.Bool.{and-true, or-true, or-false}
 use Rattle.std.proofs.lemmas.Bool.{cases_eq, cases_lt, lt-ltb, le-ltb, ne_eqb, eq-eqb, false_from_ne_true}
 use Rattle.grid_core.specs.Candidates.{Candidates, all_of, without}
 use Rattle.grid_core.specs.Board.{Layout, SameShape}
@@ -39,10 +40,6 @@ pub record IsStarted (cells : ℕ) (blocked : ℕ → Bool) (n : ℕ) (K : Candi
 
 pub started : (cells : ℕ) (blocked : ℕ → Bool) (K : Candidates) → K ≡ all_of cells 2 → IsStarted cells blocked 0 K
 started cells blocked K e = record { sets = λ c v. ap (λ (L : Candidates). L c v) e ∙ sym (rw (le-ltb c 0 (omega arith)) (and-true (all_of cells 2 c v))) }
-  where
-    and-true : (b : Bool) → (b && true) ≡ b
-    and-true true = refl
-    and-true false = refl
 
 pub start-free : (cells : ℕ) (blocked : ℕ → Bool) (n : ℕ) (K : Candidates) → IsStarted cells blocked n K → blocked n ≡ false → IsStarted cells blocked (n + 1) K
 start-free cells blocked n K before free = record { sets = λ c v. before.sets c v ∙ ap (λ b. all_of cells 2 c v && not (b && eqb v 1)) (same c) }
@@ -85,14 +82,6 @@ start-blocked cells blocked n K K' before is left = record { sets = λ c v. ap (
         | inr high ↦ le-ltb c n high ∙ sym (le-ltb c (n + 1) (omega arith))
       ]))
     ]
-      where
-        or-true : (a : Bool) → (a || true) ≡ true
-        or-true true = refl
-        or-true false = refl
-
-        or-false : (a : Bool) → (a || false) ≡ a
-        or-false true = refl
-        or-false false = refl
 
     by : (c v : ℕ) → ((all_of cells 2 c v && not ((ltb c n && blocked c) && eqb v 1)) && not (eqb c n && eqb v 1)) ≡ (all_of cells 2 c v && not ((ltb c (n + 1) && blocked c) && eqb v 1))
     by c v = merge (all_of cells 2 c v) (ltb c n && blocked c) (eqb c n) (eqb v 1) ∙ ap (λ b. all_of cells 2 c v && not (b && eqb v 1)) (same c)

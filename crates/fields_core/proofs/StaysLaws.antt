@@ -1,4 +1,5 @@
 -- The test by counts is what fillings show.
+use Rattle.std.proofs.lemmas.Bool.{and_parts}
 use Rattle.std.proofs.Common.{◌≡◌, ℕ, ◌+◌, ◌<◌, Bool, true, false, not, true≢false, ◌&&◌, cond, leb, List, [], ◌∷◌, ◌++◌, length, refl, sym, ap, arith, le-leb, leb-true}
 use Rattle.engine_core.specs.Filling.{Set, has_value, strikes_by_fillings}
 use Rattle.engine_core.specs.FillingLaws.{shown_from_test, test_from_shown}
@@ -13,10 +14,6 @@ must_middle (s ∷ front) back set = let e = must_middle front back set in omega
 may_middle : (front back : List Set) (set : Set) → may_of (front ++ set ∷ back) ≡ cond (has_value set 1) 1 0 + may_of (front ++ back)
 may_middle [] back set = refl
 may_middle (s ∷ front) back set = let e = may_middle front back set in omega arith
-
-and_parts : (a b : Bool) → (a && b) ≡ true → (a ≡ true) × (b ≡ true)
-and_parts true b h = (refl, h)
-and_parts false b h = absurd (true≢false (sym h))
 
 -- whether a value of the set in the middle stays, by the bounds of the whole
 abbrev pub stays_by_bounds : ℕ → ℕ → ℕ → ℕ → Set → ℕ → Bool

@@ -6,7 +6,8 @@ use Rattle.std.proofs.Math.Nat.{mod-lt, mul-le-mul_right}
 use Rattle.grid_core.specs.Extent.{Extent}
 use Rattle.grid_core.specs.Regions.{steps, step, if_there}
 use Rattle.engine_core.specs.Puzzle.{has_place}
-use Rattle.fields_core.proofs.PlaceLists.{place-append, AreDistinct, distinct-append}
+use Rattle.engine_core.specs.PlaceLaws.{AreDistinct}
+use Rattle.fields_core.proofs.PlaceLists.{place-append, distinct-append}
 
 pub some-inj : {x y : ℕ} → Some x ≡ Some y → x ≡ y
 some-inj {x} {y} e = ap (λ (o : Option ℕ). unwrap x o) e

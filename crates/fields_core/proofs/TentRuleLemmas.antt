@@ -4,7 +4,7 @@ use Rattle.std.proofs.lemmas.Bool.{cases_Bool, or_left, or_right, or_cases, and_
 use Rattle.grid_core.specs.Grids.{IsGrid}
 use Rattle.grid_core.specs.Candidates.{any_below, all_below}
 use Rattle.grid_core.proofs.CandidateLemmas.{all_below-at, all_below-from, any_below-some, any_below-none}
-use Rattle.engine_core.specs.PlaceLaws.{has_place-here}
+use Rattle.engine_core.specs.PlaceLaws.{has_place-here, different-from}
 use Rattle.gameid_core.specs.Puzzles.{Tents}
 use Rattle.fields_core.specs.CountHouse.{CountedHouses}
 use Rattle.fields_core.specs.Tents.{tent_cells, tree, tent, touches, tents_in_column, tents_in_row, tree_right, touch_right, column_right, row_right, can_be_paired, is_camp}
@@ -15,7 +15,6 @@ use Rattle.fields_core.specs.Ruled.{tent_table}
 use Rattle.fields_core.specs.declared.tent_fault.TentFault.{TentFault}
 use Rattle.fields_core.specs.declared.tent_fault.TentFault.TheVariants.{Tree, Touch, Column, Row, Match}
 use Rattle.fields_core.proofs.LightFaultLemmas.{first-breaks}
-use Rattle.fields_core.proofs.PlaceLists.{different-from}
 use Rattle.fields_core.proofs.BelowLemmas.{index_of, index-is, distinct-none-twice}
 use Rattle.fields_core.proofs.TentCounting.{CampParts, camp-parts, tents_of, IsGiven, given, tent-in}
 use Rattle.fields_core.proofs.TentPairLemmas.{tents-distinct, tent-listed, listed-tent, pairs-from}

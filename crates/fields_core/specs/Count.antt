@@ -11,7 +11,8 @@ nonzeros (suc _ ∷ filling) = suc (nonzeros filling)
 
 -- the condition of a count house
 abbrev pub counts_between : ℕ → ℕ → List ℕ → Bool
-counts_between least most filling = nat_le least (nonzeros filling) && nat_le (nonzeros filling) most
+counts_between least most filling =
+    nat_le least (nonzeros filling) && nat_le (nonzeros filling) most
 
 -- a cell with both of the values 0 and 1, and one with neither
 abbrev pub is_open : Candidates → ℕ → Bool

@@ -16,6 +16,16 @@ pub record CountHouse : Type 0 where
 abbrev pub no_count_house : CountHouse
 no_count_house = record { places = []; least = 0; most = 0 }
 
+-- cells that hold so many ones, one at most, and one at least
+abbrev pub exactly : ℕ → List ℕ → CountHouse
+exactly ones places = record { places = places; least = ones; most = ones }
+
+abbrev pub one_at_most : List ℕ → CountHouse
+one_at_most places = record { places = places; least = 0; most = 1 }
+
+abbrev pub one_at_least : List ℕ → CountHouse
+one_at_least places = record { places = places; least = 1; most = length places }
+
 abbrev pub count_house_of : List CountHouse → ℕ → CountHouse
 count_house_of houses h = slice_index_or houses h no_count_house
 
@@ -30,7 +40,8 @@ meets house g = counts_between house.least house.most (map (slice_index g) house
 
 -- what a visit of the house strikes
 unfoldable pub strikes_of : CountHouse → Candidates → ℕ → ℕ → Bool
-strikes_of house = strikes_at 2 house.places (strikes_by_fillings (counts_between house.least house.most))
+strikes_of house =
+    strikes_at 2 house.places (strikes_by_fillings (counts_between house.least house.most))
 
 -- the board after a visit of the house
 unfoldable pub after_house : CountHouse → Candidates → Candidates
@@ -72,8 +83,12 @@ count_puzzle cells blocked houses is_solution = record {
 }
 
 -- the game's solutions leave blocked cells at 0 and meet each house
-pub record IsCounting (cells : ℕ) (blocked : ℕ → Bool) (houses : List CountHouse) (is_solution : List ℕ → Bool) : Type 0 where
+pub record IsCounting (cells : ℕ) (blocked : ℕ → Bool) (houses : List CountHouse)
+    (is_solution : List ℕ → Bool)
+    : Type 0 where
   pub few_cells : cells ≤ 65536
   pub are_houses : AreHouses cells houses
-  pub blocked_zero : (g : List ℕ) → IsGrid cells 2 g → is_solution g ≡ true → (c : ℕ) → c < cells → blocked c ≡ true → slice_index g c ≡ 0
-  pub meets_each : (g : List ℕ) → IsGrid cells 2 g → is_solution g ≡ true → (h : ℕ) → h < length houses → meets (count_house_of houses h) g ≡ true
+  pub blocked_zero : (g : List ℕ) → IsGrid cells 2 g → is_solution g ≡ true
+      → (c : ℕ) → c < cells → blocked c ≡ true → slice_index g c ≡ 0
+  pub meets_each : (g : List ℕ) → IsGrid cells 2 g → is_solution g ≡ true
+      → (h : ℕ) → h < length houses → meets (count_house_of houses h) g ≡ true

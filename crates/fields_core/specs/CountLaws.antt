@@ -12,36 +12,50 @@ use Rattle.engine_core.specs.HouseLaws.{strikes_at-inside, strikes_at-in_scope, 
 use Rattle.fields_core.specs.Count.{counts_between}
 use Rattle.fields_core.specs.CountHouse.{CountHouse, count_house_of, meets, strikes_of, after_house, start_of, count_puzzle, IsCounting}
 
-pub after-house : (cells : ℕ) (blocked : ℕ → Bool) (houses : List CountHouse) (is_solution : List ℕ → Bool) (h : ℕ) (K : Candidates) → after (count_puzzle cells blocked houses is_solution) h K ≡ after_house (count_house_of houses h) K
+pub after-house : (cells : ℕ) (blocked : ℕ → Bool) (houses : List CountHouse)
+    (is_solution : List ℕ → Bool) (h : ℕ) (K : Candidates)
+    → after (count_puzzle cells blocked houses is_solution) h K ≡ after_house (count_house_of houses h) K
 unfolding after after_house
 after-house cells blocked houses is_solution h K = refl
 
 start-within : (cells : ℕ) (blocked : ℕ → Bool) → IsWithin cells 2 (start_of cells blocked)
 unfolding start_of all_of
-start-within cells blocked c v on = let w = and_parts _ _ on in let u = and_parts _ _ w.0 in (ltb-true c cells u.0, ltb-true v 2 u.1)
+start-within cells blocked c v on =
+    let w = and_parts _ _ on in
+    let u = and_parts _ _ w.0 in
+    (ltb-true c cells u.0, ltb-true v 2 u.1)
 
 -- a grid that leaves blocked cells at 0 lies inside the start
-start-single : (cells : ℕ) (blocked : ℕ → Bool) (g : List ℕ) → IsGrid cells 2 g → ((c : ℕ) → c < cells → blocked c ≡ true → slice_index g c ≡ 0) → IsInside (single g) (start_of cells blocked)
+start-single : (cells : ℕ) (blocked : ℕ → Bool) (g : List ℕ) → IsGrid cells 2 g
+    → ((c : ℕ) → c < cells → blocked c ≡ true → slice_index g c ≡ 0)
+    → IsInside (single g) (start_of cells blocked)
 unfolding start_of all_of
 start-single cells blocked g grid zero_at c v on =
     let w = single-is g c v on in
     let small = grid.each_value c 0 w.0 in
     let lt : c < cells = omega (arith, w.0, grid.each_cell) in
-    and_from _ _ (and_from _ _ (lt-ltb c cells lt) (lt-ltb v 2 (omega (arith, small, w.1)))) (elim (cases_Bool (blocked c)) [
+    let within = and_from _ _ (lt-ltb c cells lt) (lt-ltb v 2 (omega (arith, small, w.1))) in
+    and_from _ _ within (elim (cases_Bool (blocked c)) [
       | inl is ↦ let z : v ≡ 0 = sym w.1 ∙ zero_at c lt is in rw (is, z) refl
       | inr free ↦ rw free refl
     ])
 
-pub count-lawful : (cells : ℕ) (blocked : ℕ → Bool) (houses : List CountHouse) (is_solution : List ℕ → Bool) → IsCounting cells blocked houses is_solution → IsLawful (count_puzzle cells blocked houses is_solution)
+pub count-lawful : (cells : ℕ) (blocked : ℕ → Bool) (houses : List CountHouse)
+    (is_solution : List ℕ → Bool) → IsCounting cells blocked houses is_solution
+    → IsLawful (count_puzzle cells blocked houses is_solution)
 unfolding after strikes_of meets
 count-lawful cells blocked houses is_solution counting = record {
-  strikes_inside = λ h K L lt inside c v struck. strikes_at-inside 2 (places h) (decides h) (by_fillings-monotone (holds h)) K L inside c v struck;
+  strikes_inside = λ h K L lt inside c v struck.
+      strikes_at-inside 2 (places h) (decides h) (by_fillings-monotone (holds h)) K L inside c v struck;
   strikes_in_scope = λ h K c v lt struck. strikes_at-in_scope 2 (places h) (decides h) K c v struck;
-  solutions_start = λ g grid good. start-single cells blocked g grid (counting.blocked_zero g grid good);
+  solutions_start = λ g grid good.
+      start-single cells blocked g grid (counting.blocked_zero g grid good);
   solutions_closed = λ g grid good h c v lt on. by_fillings-closed 2 (places h) (holds h) g
-      (λ k less. let e = grid.each_cell in let i = (counting.are_houses h lt).within (slice_index (places h) k) (has_place-here (places h) k less) in omega arith)
+      (λ k less. omega (arith, grid.each_cell, (counting.are_houses h lt).within (slice_index (places h) k) (has_place-here (places h) k less)))
       (λ d less. grid.each_value d 0 less) (counting.meets_each g grid good h lt) c v on;
-  settles = λ settled h K c v lt _ on. by_fillings-settled 2 (places h) (holds h) K (λ d u. K d u && not (strikes_at 2 (places h) (decides h) K d u)) (counting.are_houses h lt).different (λ d u. refl) c v on;
+  settles = λ settled h K c v lt _ on. by_fillings-settled 2 (places h) (holds h) K
+      (λ d u. K d u && not (strikes_at 2 (places h) (decides h) K d u))
+      (counting.are_houses h lt).different (λ d u. refl) c v on;
   bound_of_queue = λ e. absurd (true≢false (sym e));
   bound_of_sweeps = λ e. omega arith;
   some_values = omega arith;

@@ -29,10 +29,14 @@ clear test j k = all_below (λ i. nat_lt i (min j k) || test i) (suc (max j k))
 
 -- two cells of one row that are white, and each cell between them too; and of one column
 unfoldable pub joined_in_row : Light → ℕ → ℕ → Bool
-joined_in_row p a b = (a / p.size.w == b / p.size.w) && clear (λ x. white p (a / p.size.w * p.size.w + x)) (a % p.size.w) (b % p.size.w)
+joined_in_row p a b =
+    (a / p.size.w == b / p.size.w)
+    && clear (λ x. white p (a / p.size.w * p.size.w + x)) (a % p.size.w) (b % p.size.w)
 
 unfoldable pub joined_in_column : Light → ℕ → ℕ → Bool
-joined_in_column p a b = (a % p.size.w == b % p.size.w) && clear (λ y. white p (y * p.size.w + a % p.size.w)) (a / p.size.w) (b / p.size.w)
+joined_in_column p a b =
+    (a % p.size.w == b % p.size.w)
+    && clear (λ y. white p (y * p.size.w + a % p.size.w)) (a / p.size.w) (b / p.size.w)
 
 -- different white cells of one row or one column with only white cells between them
 unfoldable pub sees : Light → ℕ → ℕ → Bool

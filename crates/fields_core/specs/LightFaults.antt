@@ -11,7 +11,9 @@ use Rattle.fields_core.specs.declared.light_fault.LightFault.TheVariants.{Black,
 abbrev pub IsLightFault : Light → List ℕ → Option LightFault → Type 0
 IsLightFault p g None = is_lit p g ≡ true
 IsLightFault p g (Some (Black c)) = IsFirst (black_right p g) (light_cells p) c
-IsLightFault p g (Some (Number c)) = (all_below (black_right p g) (light_cells p) ≡ true) × IsFirst (number_right p g) (light_cells p) c
+IsLightFault p g (Some (Number c)) =
+    (all_below (black_right p g) (light_cells p) ≡ true)
+    × IsFirst (number_right p g) (light_cells p) c
 IsLightFault p g (Some (Seen c)) =
     (all_below (black_right p g) (light_cells p) ≡ true)
     × (all_below (number_right p g) (light_cells p) ≡ true)

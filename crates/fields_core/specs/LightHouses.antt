@@ -1,11 +1,11 @@
 -- The count houses of Light Up.
-use Rattle.std.specs.Prelude.{ℕ, ◌-◌, ◌/◌, ◌%◌, Bool, not, ◌&&◌, ◌||◌, ◌==◌, if◌then◌else◌, List, [], ◌∷◌, ◌++◌, filter, length, slice_index_or}
+use Rattle.std.specs.Prelude.{ℕ, ◌-◌, ◌/◌, ◌%◌, Bool, not, ◌&&◌, ◌||◌, ◌==◌, if◌then◌else◌, List, [], ◌∷◌, ◌++◌, filter, slice_index_or}
 use Rattle.grid_core.specs.Regions.{beside, row_places, column_places}
 use Rattle.engine_core.specs.Puzzle.{Puzzle}
 use Rattle.gameid_core.specs.Puzzles.{Light}
 use Rattle.gameid_core.specs.declared.light_cell.LightCell.{LightCell}
 use Rattle.gameid_core.specs.declared.light_cell.LightCell.TheVariants.{White, Black, Numbered}
-use Rattle.fields_core.specs.CountHouse.{CountHouse, houses_below, count_puzzle}
+use Rattle.fields_core.specs.CountHouse.{CountHouse, exactly, one_at_most, one_at_least, houses_below, count_puzzle}
 use Rattle.fields_core.specs.Light.{light_cells, white, joined_in_row, joined_in_column, is_lit}
 
 -- the run of white cells of the row that the cell is in, from the left; and of the column, from the top
@@ -30,21 +30,21 @@ begins_column_run p c = white p c && ((c / p.size.w == 0) || not (white p (c - p
 abbrev pub numbered : LightCell → List ℕ → List CountHouse
 numbered White places = []
 numbered Black places = []
-numbered (Numbered n) places = record { places = places; least = n; most = n } ∷ []
+numbered (Numbered n) places = exactly n places ∷ []
 
 abbrev pub number_house : Light → ℕ → List CountHouse
 number_house p c = numbered (slice_index_or p.cells c Black) (filter (white p) (beside p.size c))
 
 -- a run of white cells of a row or a column holds one bulb at most; it is told by its first cell
 abbrev pub row_house : Light → ℕ → List CountHouse
-row_house p c = if begins_row_run p c then record { places = row_run p c; least = 0; most = 1 } ∷ [] else []
+row_house p c = if begins_row_run p c then one_at_most (row_run p c) ∷ [] else []
 
 abbrev pub column_house : Light → ℕ → List CountHouse
-column_house p c = if begins_column_run p c then record { places = column_run p c; least = 0; most = 1 } ∷ [] else []
+column_house p c = if begins_column_run p c then one_at_most (column_run p c) ∷ [] else []
 
 -- a white cell and the cells that it sees hold a bulb
 abbrev pub lit_house : Light → ℕ → List CountHouse
-lit_house p c = if white p c then record { places = seen_from p c; least = 1; most = length (seen_from p c) } ∷ [] else []
+lit_house p c = if white p c then one_at_least (seen_from p c) ∷ [] else []
 
 -- the houses of numbers, of runs in rows, of runs in columns and of white cells, each by place
 unfoldable pub light_houses : Light → List CountHouse

@@ -7,4 +7,6 @@ use Rattle.fields_core.specs.LightHouses.{light_houses, light_rules}
 use Rattle.fields_core.specs.Ruled.{RuledLight}
 
 pub light-lawful : (r : RuledLight) → IsLawful (light_rules r.light)
-light-lawful r = count-lawful (light_cells r.light) (λ c. not (white r.light c)) (light_houses r.light) (is_lit r.light) r.counting
+light-lawful r =
+    let p = r.light in
+    count-lawful (light_cells p) (λ c. not (white p c)) (light_houses p) (is_lit p) r.counting

@@ -37,6 +37,8 @@ pub record SeesBulb (p : Light) (g : List ℕ) (c : ℕ) : Type 0 where
 pub record IsLightSolution (p : Light) (g : List ℕ) : Type 0 where
   pub grid : IsGrid (light_cells p) 2 g
   pub none_on_black : (c : ℕ) → c < light_cells p → bulb g c ≡ true → white p c ≡ true
-  pub numbers : (c n : ℕ) → c < light_cells p → slice_index_or p.cells c Black ≡ Numbered n → bulbs_beside p g c ≡ n
-  pub none_seen : (c d : ℕ) → c < light_cells p → d < light_cells p → bulb g c ≡ true → bulb g d ≡ true → Sees p c d → ⊥
+  pub numbers : (c n : ℕ) → c < light_cells p → slice_index_or p.cells c Black ≡ Numbered n
+      → bulbs_beside p g c ≡ n
+  pub none_seen : (c d : ℕ) → c < light_cells p → d < light_cells p
+      → bulb g c ≡ true → bulb g d ≡ true → Sees p c d → ⊥
   pub all_lit : (c : ℕ) → c < light_cells p → white p c ≡ true → (bulb g c ≡ true) ⊎ SeesBulb p g c

@@ -1,10 +1,11 @@
 -- What is counted of the cells of count houses.
-use Rattle.std.specs.Prelude.{◌≡◌, ℕ, ◌+◌, ◌-◌, ◌<◌, ◌≤◌, not, ◌==◌, cond, List, length, slice_index_or}
+use Rattle.std.specs.Prelude.{◌≡◌, ℕ, ◌+◌, ◌-◌, ◌<◌, ◌≤◌, Bool, not, ◌||◌, ◌==◌, nat_lt, cond, List, length, slice_index_or}
 use Rattle.std.specs.List.{count_by}
 use Rattle.grid_core.specs.Candidates.{Candidates, IsWithin}
 use Rattle.engine_core.specs.Sets.{has_bit}
 use Rattle.fields_core.specs.Count.{is_empty}
-use Rattle.fields_core.specs.CountHouse.{CountHouse, count_house_of}
+use Rattle.fields_core.specs.CountHouse.{CountHouse, CountedHouses, count_house_of}
+use Rattle.fields_core.specs.declared.count_list.Bounds.{Bounds}
 use Rattle.fields_core.specs.declared.tally.Tally.{Tally}
 
 -- how many of the cells have no 0, how many have a 1, and how many have neither
@@ -13,15 +14,39 @@ pub record IsTally (K : Candidates) (places : List ℕ) (tally : Tally) : Type 0
   pub may_is : tally.may ≡ count_by (λ c. K c 1) places
   pub empty_is : tally.empty ≡ count_by (is_empty K) places
 
+-- the cells have no filling within the bounds: one is empty, or there are too few or too many ones
+abbrev pub lacks_filling : Tally → Bounds → Bool
+lacks_filling t b =
+    nat_lt 0 t.empty
+    || (nat_lt b.most b.least || (nat_lt t.may b.least || nat_lt b.most t.must))
+
+-- 1 if some cell has both values, and else 0
+abbrev pub open_in : Tally → ℕ
+open_in t = cond (not (t.must == t.may)) 1 0
+
+-- something may be struck: there is no filling, or a bound is reached while some cell has both values
+abbrev pub has_strikes : Tally → Bounds → Bool
+has_strikes t b =
+    nat_lt 0 t.empty
+    || (nat_lt b.most b.least
+    || (nat_lt t.may (b.least + open_in t) || nat_lt b.most (t.must + open_in t)))
+
 -- the tally of a house by its number
 abbrev pub tally_at : List Tally → ℕ → Tally
 tally_at tallies h = slice_index_or tallies h (record { must = 0; may = 0; empty = 0 })
 
 -- each house of a board of so many cells, of two values, is counted
-pub record AreTallied (cells : ℕ) (houses : List CountHouse) (tallies : List Tally) (K : Candidates) : Type 0 where
+pub record AreTallied (cells : ℕ) (houses : List CountHouse) (tallies : List Tally)
+    (K : Candidates)
+    : Type 0 where
   pub long : length houses ≤ length tallies
   pub within : IsWithin cells 2 K
-  pub each : (h : ℕ) → h < length houses → IsTally K (count_house_of houses h).places (tally_at tallies h)
+  pub each : (h : ℕ) → h < length houses
+      → IsTally K (count_house_of houses h).places (tally_at tallies h)
+
+-- each house of the table is counted
+abbrev pub AreTalliesOf : CountedHouses → List Tally → Candidates → Type 0
+AreTalliesOf table tallies K = AreTallied table.cells table.houses tallies K
 
 -- the tally after one cell of the house changed, whose sets have these bits
 abbrev pub moved_tally : Tally → ℕ → ℕ → Tally

@@ -11,7 +11,9 @@ use Rattle.fields_core.specs.declared.tent_fault.TentFault.TheVariants.{Tree, To
 abbrev pub IsTentFault : Tents → List ℕ → Option TentFault → Type 0
 IsTentFault p g None = is_camp p g ≡ true
 IsTentFault p g (Some (Tree c)) = IsFirst (tree_right p g) (tent_cells p) c
-IsTentFault p g (Some (Touch c)) = (all_below (tree_right p g) (tent_cells p) ≡ true) × IsFirst (touch_right p g) (tent_cells p) c
+IsTentFault p g (Some (Touch c)) =
+    (all_below (tree_right p g) (tent_cells p) ≡ true)
+    × IsFirst (touch_right p g) (tent_cells p) c
 IsTentFault p g (Some (Column x)) =
     (all_below (tree_right p g) (tent_cells p) ≡ true)
     × (all_below (touch_right p g) (tent_cells p) ≡ true)

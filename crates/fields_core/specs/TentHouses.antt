@@ -1,18 +1,18 @@
 -- The count houses of Tents.
-use Rattle.std.specs.Prelude.{ℕ, ◌+◌, ◌/◌, ◌%◌, Bool, not, ◌&&◌, ◌||◌, nat_lt, if◌then◌else◌, List, [], ◌∷◌, ◌++◌, filter, length, slice_index}
+use Rattle.std.specs.Prelude.{ℕ, ◌+◌, ◌/◌, ◌%◌, Bool, not, ◌&&◌, ◌||◌, nat_lt, if◌then◌else◌, List, [], ◌∷◌, ◌++◌, filter, slice_index}
 use Rattle.std.specs.List.{list_any}
 use Rattle.grid_core.specs.Regions.{beside, row_places, column_places}
 use Rattle.engine_core.specs.Puzzle.{Puzzle}
 use Rattle.gameid_core.specs.Puzzles.{Tents}
-use Rattle.fields_core.specs.CountHouse.{CountHouse, houses_below, count_puzzle}
+use Rattle.fields_core.specs.CountHouse.{CountHouse, exactly, one_at_most, one_at_least, houses_below, count_puzzle}
 use Rattle.fields_core.specs.Tents.{tent_cells, tree, is_camp}
 
 -- a column, and a row, has its number of tents
 abbrev pub column_of_tents : Tents → ℕ → List CountHouse
-column_of_tents p x = record { places = column_places p.size x; least = slice_index p.counts x; most = slice_index p.counts x } ∷ []
+column_of_tents p x = exactly (slice_index p.counts x) (column_places p.size x) ∷ []
 
 abbrev pub row_of_tents : Tents → ℕ → List CountHouse
-row_of_tents p y = record { places = row_places p.size y; least = slice_index p.counts (p.size.w + y); most = slice_index p.counts (p.size.w + y) } ∷ []
+row_of_tents p y = exactly (slice_index p.counts (p.size.w + y)) (row_places p.size y) ∷ []
 
 -- the cells beside a cell that have no tree
 abbrev pub free_beside : Tents → ℕ → List ℕ
@@ -20,13 +20,13 @@ free_beside p c = filter (λ d. not (tree p d)) (beside p.size c)
 
 -- a tree has a tent beside it
 abbrev pub tree_house : Tents → ℕ → List CountHouse
-tree_house p c = if tree p c then record { places = free_beside p c; least = 1; most = length (free_beside p c) } ∷ [] else []
+tree_house p c = if tree p c then one_at_least (free_beside p c) ∷ [] else []
 
 -- a square of 2 by 2 cells, told by its top left cell, has one tent at most
 abbrev pub square_house : Tents → ℕ → List CountHouse
 square_house p c =
     if nat_lt (c % p.size.w + 1) p.size.w && nat_lt (c / p.size.w + 1) p.size.h
-    then record { places = c ∷ (c + 1) ∷ (c + p.size.w) ∷ (c + p.size.w + 1) ∷ []; least = 0; most = 1 } ∷ []
+    then one_at_most (c ∷ (c + 1) ∷ (c + p.size.w) ∷ (c + p.size.w + 1) ∷ []) ∷ []
     else []
 
 -- the houses of the columns, of the rows, of the trees by place, and of the squares by place

@@ -9,10 +9,13 @@ use Rattle.fields_core.specs.TentScratches.{ServesTents}
 use Rattle.fields_core.specs.declared.tent_rules.TentWork.{TentWork}
 
 pub tent-lawful : (r : RuledTents) → IsLawful (tent_rules r.tents)
-tent-lawful r = count-lawful (tent_cells r.tents) (is_bare r.tents) (tent_houses r.tents) (is_camp r.tents) r.counting
+tent-lawful r =
+    let p = r.tents in
+    count-lawful (tent_cells p) (is_bare p) (tent_houses p) (is_camp p) r.counting
 
 -- room for a pairing of the cells serves rules with as many cells
-pub serves-smaller-tents : (work : TentWork) (need had : Needs) → FitsIn need had → ServesTents work had → ServesTents work need
+pub serves-smaller-tents : (work : TentWork) (need had : Needs)
+    → FitsIn need had → ServesTents work had → ServesTents work need
 serves-smaller-tents work need had fits served =
     let cells = fits.same_cells in
     let houses = fits.houses_in in
@@ -20,4 +23,7 @@ serves-smaller-tents work need had fits served =
     let tents = served.pairs.tents in
     let numbers = served.pairs.numbers in
     let tallies = served.tallies in
-    record { pairs = record { pairing = omega arith; tents = omega arith; numbers = omega arith }; tallies = omega arith }
+    record {
+      pairs = record { pairing = omega arith; tents = omega arith; numbers = omega arith };
+      tallies = omega arith;
+    }

@@ -11,14 +11,18 @@ use Rattle.fields_core.specs.Tents.{tent_cells, tree, tent, touches, tents_in_co
 -- each tent has a tree beside it, no two have the same, and each tree is some tent's
 pub record IsPairedBy (p : Tents) (g : List ℕ) (tree_of : ℕ → ℕ) : Type 0 where
   pub is_tree : (c : ℕ) → c < tent_cells p → tent g c ≡ true → tree p (tree_of c) ≡ true
-  pub is_beside : (c : ℕ) → c < tent_cells p → tent g c ≡ true → has_place (beside p.size c) (tree_of c) ≡ true
-  pub own : (c d : ℕ) → c < tent_cells p → d < tent_cells p → tent g c ≡ true → tent g d ≡ true → tree_of c ≡ tree_of d → c ≡ d
-  pub none_out : (d : ℕ) → d < tent_cells p → tree p d ≡ true → (c : ℕ) × (c < tent_cells p) × (tent g c ≡ true) × (tree_of c ≡ d)
+  pub is_beside : (c : ℕ) → c < tent_cells p → tent g c ≡ true
+      → has_place (beside p.size c) (tree_of c) ≡ true
+  pub own : (c d : ℕ) → c < tent_cells p → d < tent_cells p
+      → tent g c ≡ true → tent g d ≡ true → tree_of c ≡ tree_of d → c ≡ d
+  pub none_out : (d : ℕ) → d < tent_cells p → tree p d ≡ true
+      → (c : ℕ) × (c < tent_cells p) × (tent g c ≡ true) × (tree_of c ≡ d)
 
 pub record IsTentSolution (p : Tents) (g : List ℕ) : Type 0 where
   pub grid : IsGrid (tent_cells p) 2 g
   pub none_on_trees : (c : ℕ) → c < tent_cells p → tent g c ≡ true → tree p c ≡ false
-  pub none_touch : (c d : ℕ) → c < tent_cells p → d < tent_cells p → tent g c ≡ true → tent g d ≡ true → touches p.size c d ≡ false
+  pub none_touch : (c d : ℕ) → c < tent_cells p → d < tent_cells p
+      → tent g c ≡ true → tent g d ≡ true → touches p.size c d ≡ false
   pub columns : (x : ℕ) → x < p.size.w → tents_in_column p.size g x ≡ slice_index p.counts x
   pub rows : (y : ℕ) → y < p.size.h → tents_in_row p.size g y ≡ slice_index p.counts (p.size.w + y)
   pub tree_of : ℕ → ℕ

@@ -26,7 +26,8 @@ are_near a b = nat_le a (b + 1) && nat_le b (a + 1)
 
 -- two cells share a side or a corner
 unfoldable pub touches : Extent → ℕ → ℕ → Bool
-touches size a b = not (a == b) && (are_near (a / size.w) (b / size.w) && are_near (a % size.w) (b % size.w))
+touches size a b =
+    not (a == b) && (are_near (a / size.w) (b / size.w) && are_near (a % size.w) (b % size.w))
 
 -- how many tents stand in a column and in a row
 abbrev pub tents_in_column : Extent → List ℕ → ℕ → ℕ
@@ -59,7 +60,8 @@ leaves_none_out p chosen = all_below (λ c. not (tree p c) || has_place chosen c
 
 -- the trees beside a cell, as whether each cell is one
 abbrev pub trees_beside : Tents → ℕ → Set
-trees_beside p c = map (λ d. tree p d && has_place (beside p.size c) d) (range_with_len 0 (tent_cells p))
+trees_beside p c =
+    map (λ d. tree p d && has_place (beside p.size c) d) (range_with_len 0 (tent_cells p))
 
 -- some list gives each tent a tree beside it, names no tree twice and leaves none out
 unfoldable pub can_be_paired : Tents → List ℕ → Bool

@@ -7,12 +7,12 @@ ghost use Rattle.engine_core.specs.Puzzle.{IsNext, IsKth, has_place};
 ghost use Rattle.engine_core.specs.Closing.{HasStruck};
 ghost use Rattle.engine_core.specs.Sets.{IsChange};
 ghost use Rattle.fields_core.specs.CountHouse.{CountedHouses, AreHouses, count_house_of, strikes_of, after_house};
-ghost use Rattle.fields_core.specs.Tallies.{AreTallied};
+ghost use Rattle.fields_core.specs.Tallies.{AreTalliesOf};
 ghost use Rattle.fields_core.specs.CountLists.{bounded, bound_of};
 
 use crate::count_list::{Bounds, CountList};
 use crate::count_visit::visit_house;
-use crate::tally::{Tally, count_cells};
+use crate::tally::Tally;
 use engine_core::Houses;
 use grid_core::Board;
 use std::alloc::{AllocError, Global};
@@ -32,7 +32,10 @@ impl Model for CountTable {
 
     ghost Value = { CountedHouses };
 
-    ghost view = { λ t. record { cells = t.houses.cells; houses = bounded t.houses.scopes t.bounds.items } };
+    ghost view = { λ t. record {
+      cells = t.houses.cells;
+      houses = bounded t.houses.scopes t.bounds.items;
+    } };
 
     ghost invariant = { λ t. (length t.bounds.items ≡ length t.houses.scopes)
         × AreHouses t.houses.cells (bounded t.houses.scopes t.bounds.items) };
@@ -89,7 +92,8 @@ impl CountTable {
     /// The least house at or after `from` that has the place.
     pub(crate) fn house_at(&self, place: usize, from: usize) -> Option<usize>
         requires { place < self.now.cells }
-        ensures { IsNext (λ h. has_place (count_house_of self.now.houses h).places place) (length self.now.houses) from result }
+        ensures { IsNext (λ h. has_place (count_house_of self.now.houses h).places place)
+            (length self.now.houses) from result }
     {
         self.houses.next_at(place, from)
     }
@@ -125,27 +129,29 @@ impl CountTable {
         vec![in alloc; Tally::none(); self.len()]
     }
 
-    /// Counts the cells of each house.
+    /// Counts the cells of each house: none where each cell has 0 alone, and then one cell after the
+    /// other has its own set.
     pub(crate) fn follow(&self, board: &Board, tallies: &mut [Tally])
         requires cells { cells_of board.now ≡ self.now.cells }
         requires values { board.now.values ≡ 2 }
         requires long { length self.now.houses ≤ length tallies.old }
-        ensures tallied { AreTallied self.now.cells self.now.houses tallies.new (has board.now) }
+        ensures tallied { AreTalliesOf self.now tallies.new (has board.now) }
         ensures as_many { length tallies.new ≡ length tallies.old }
     {
-        for house in 0..self.houses.len() {
-            tallies[house] = count_cells(board, self.houses.places(house));
+        tallies.fill(Tally::none());
+        for place in 0..self.houses.cells() {
+            self.change(place, 1, board.bits(place), tallies);
         }
     }
 
     /// Counts anew where a cell changed, whose sets have these bits.
     pub(crate) fn change(&self, place: usize, before: u32, after: u32, tallies: &mut [Tally])
         requires { (K : Candidates) × (L : Candidates)
-            × AreTallied self.now.cells self.now.houses tallies.old K
+            × AreTalliesOf self.now tallies.old K
             × IsChange self.now.cells 2 K L place before after }
-        ensures tallied { (K L : Candidates) → AreTallied self.now.cells self.now.houses tallies.old K
+        ensures tallied { (K L : Candidates) → AreTalliesOf self.now tallies.old K
             → IsChange self.now.cells 2 K L place before after
-            → AreTallied self.now.cells self.now.houses tallies.new L }
+            → AreTalliesOf self.now tallies.new L }
         ensures as_many { length tallies.new ≡ length tallies.old }
     {
         let houses = self.houses.houses_at(place);
@@ -159,10 +165,10 @@ impl CountTable {
     /// Whether the house may strike anything, by what was counted.
     pub(crate) fn calls(&self, house: usize, tallies: &[Tally]) -> bool
         requires house_in { house < length self.now.houses }
-        requires tallied { (K : Candidates) × AreTallied self.now.cells self.now.houses tallies.now K }
-        ensures { result ≡ false → (K : Candidates)
-            → AreTallied self.now.cells self.now.houses tallies.now K
-            → (c v : ℕ) → K c v ≡ true → strikes_of (count_house_of self.now.houses house) K c v ≡ false }
+        requires tallied { (K : Candidates) × AreTalliesOf self.now tallies.now K }
+        ensures { result ≡ false → (K : Candidates) → AreTalliesOf self.now tallies.now K
+            → (c v : ℕ) → K c v ≡ true
+            → strikes_of (count_house_of self.now.houses house) K c v ≡ false }
     {
         let tally = tallies[house];
         tally.calls(bounds_at(&self.bounds, house))

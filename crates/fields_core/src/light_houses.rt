@@ -1,17 +1,17 @@
 //! The count houses of Light Up.
 
-ghost use Rattle.std.specs.Prelude.{◌≡◌, ◌<◌, [], IfOk, OnOk, filter};
+ghost use Rattle.std.specs.Prelude.{◌≡◌, ℕ, ◌+◌, ◌<◌, true, [], IfOk, OnOk, filter};
 ghost use Rattle.grid_core.specs.Regions.{beside as beside_places};
 ghost use Rattle.fields_core.specs.CountHouse.{houses_below};
 ghost use Rattle.fields_core.specs.CountLists.{IsBegun, IsAdded, AreListed};
 ghost use Rattle.fields_core.specs.Light.{light_cells, white};
-ghost use Rattle.fields_core.specs.LightHouses.{seen_from, begins_row_run, begins_column_run, number_house, row_house, column_house, lit_house, light_houses};
+ghost use Rattle.fields_core.specs.LightHouses.{row_run, seen_from, begins_row_run, begins_column_run, number_house, row_house, column_house, lit_house, light_houses};
 
 use crate::count_list::CountList;
-use crate::light_cells::{cells, columns, is_white};
+use crate::light_cells::{cells, columns, is_white, rows};
 use crate::light_run::{Run, run_in_column, run_in_row};
 use gameid_core::{LightCell, LightPuzzle};
-use grid_core::step;
+use grid_core::{column_place, row_place, step};
 use std::alloc::{AllocError, Global};
 
 /// Adds the white cells beside the cell to the house that is begun.
@@ -34,13 +34,19 @@ fn push_beside(houses: &mut CountList, puzzle: &LightPuzzle, place: usize) -> Re
     Ok(())
 }
 
-/// Adds the cell and the cells that it sees to the house that is begun: those of its row, and then the others of its
-/// column.
-fn push_seen(houses: &mut CountList, puzzle: &LightPuzzle, place: usize) -> Result<(), AllocError>
-    requires { place < light_cells puzzle.now }
+/// Adds the cell and the cells that it sees to the house that is begun: those of the run of its row,
+/// and then the others of its column.
+fn push_seen(
+    houses: &mut CountList,
+    puzzle: &LightPuzzle,
+    row: &Run,
+    place: usize,
+) -> Result<(), AllocError>
+    requires place_in { place < light_cells puzzle.now }
+    requires row { row.now ≡ row_run puzzle.now place }
     ensures { OnOk result (IsBegun houses.old houses.new (seen_from puzzle.now place)) }
 {
-    houses.push_run(&run_in_row(puzzle, place))?;
+    houses.push_run(row)?;
     let column = run_in_column(puzzle, place);
     for k in 0..column.len() {
         let other = column.place(k);
@@ -76,7 +82,7 @@ fn begins_in_column(puzzle: &LightPuzzle, place: usize) -> bool
     if !is_white(puzzle, place) {
         return false;
     }
-    if place / w == 0 {
+    if place < w {
         return true;
     }
     !is_white(puzzle, place - w)
@@ -128,16 +134,35 @@ fn push_column(houses: &mut CountList, puzzle: &LightPuzzle, place: usize) -> Re
     Ok(())
 }
 
-/// Adds the house of the cell and the cells that it sees, if it is white.
-fn push_lit(houses: &mut CountList, puzzle: &LightPuzzle, place: usize) -> Result<(), AllocError>
+/// The run of the cell's row, where the other run is that of the cell before.
+fn row_after(puzzle: &LightPuzzle, before: Run, place: usize) -> Run
     requires place_in { place < light_cells puzzle.now }
+    requires before { (c : ℕ) → c + 1 ≡ place → white puzzle.now c ≡ true
+        → before ≡ row_run puzzle.now c }
+    ensures { white puzzle.now place ≡ true → result ≡ row_run puzzle.now place }
+{
+    if begins_in_row(puzzle, place) {
+        return run_in_row(puzzle, place);
+    }
+    before
+}
+
+/// Adds the house of the cell and the cells that it sees, if it is white.
+fn push_lit(
+    houses: &mut CountList,
+    puzzle: &LightPuzzle,
+    row: &Run,
+    place: usize,
+) -> Result<(), AllocError>
+    requires place_in { place < light_cells puzzle.now }
+    requires row { white puzzle.now place ≡ true → row.now ≡ row_run puzzle.now place }
     requires none_begun { houses.old.list.begun ≡ [] }
     ensures { OnOk result (IsAdded houses.old houses.new (lit_house puzzle.now place)) }
 {
     if !is_white(puzzle, place) {
         return Ok(());
     }
-    push_seen(houses, puzzle, place)?;
+    push_seen(houses, puzzle, row, place)?;
     houses.close_some()?;
     Ok(())
 }
@@ -184,44 +209,67 @@ fn push_lits(houses: &mut CountList, puzzle: &LightPuzzle) -> Result<(), AllocEr
     ensures { OnOk result (IsAdded houses.old houses.new
         (houses_below (lit_house puzzle.now) (light_cells puzzle.now))) }
 {
+    let mut row = Run::none();
     for place in 0..cells(puzzle) {
-        push_lit(houses, puzzle, place)?;
+        row = row_after(puzzle, row, place);
+        push_lit(houses, puzzle, &row, place)?;
     }
     Ok(())
 }
 
-/// The cells that a run has in the houses, or somewhat more: in its own, and in the house of each of its cells.
-fn cells_of_run(run: &Run) -> usize {
-    let len = run.len();
-    len.saturating_mul(len.saturating_add(1))
+/// How many houses there are, and how many cells they have together, or somewhat more.
+#[derive(Clone, Copy)]
+struct Sizes {
+    houses: usize,
+    cells: usize,
 }
 
-/// How many houses there are, and how many cells they have together, or somewhat more.
-fn sizes(puzzle: &LightPuzzle) -> (usize, usize) {
-    let mut houses = cells(puzzle);
-    let mut all = 0usize;
-    for place in 0..cells(puzzle) {
-        if begins_in_row(puzzle, place) {
-            houses = houses.saturating_add(1);
-            all = all.saturating_add(cells_of_run(&run_in_row(puzzle, place)));
+impl Sizes {
+    /// Counts a cell of a line after so many white cells, and says how many then stand in a row. A
+    /// longer run is the house of one cell more, and each of its cells sees one more. A black cell
+    /// has up to two cells beside it in a line.
+    fn count(&mut self, run: usize, white: bool) -> usize {
+        if !white {
+            self.cells = self.cells.saturating_add(2);
+            return 0;
         }
-        if begins_in_column(puzzle, place) {
-            houses = houses.saturating_add(1);
-            all = all.saturating_add(cells_of_run(&run_in_column(puzzle, place)));
+        if run == 0 {
+            self.houses = self.houses.saturating_add(1);
         }
-        if !is_white(puzzle, place) {
-            all = all.saturating_add(4);
-        }
+        let longer = run.saturating_add(1);
+        self.cells = self.cells.saturating_add(longer).saturating_add(longer);
+        longer
     }
-    (houses, all)
+
+    /// Of all houses: those of the runs, and one for each other cell.
+    fn of(puzzle: &LightPuzzle) -> Sizes {
+        let size = puzzle.size();
+        let mut sizes = Sizes {
+            houses: cells(puzzle),
+            cells: 0,
+        };
+        for y in 0..rows(puzzle) {
+            let mut run = 0;
+            for x in 0..columns(puzzle) {
+                run = sizes.count(run, is_white(puzzle, row_place(size, y, x)));
+            }
+        }
+        for x in 0..columns(puzzle) {
+            let mut run = 0;
+            for y in 0..rows(puzzle) {
+                run = sizes.count(run, is_white(puzzle, column_place(size, x, y)));
+            }
+        }
+        sizes
+    }
 }
 
 /// The houses of numbers, of runs in rows, of runs in columns and of white cells, each by place.
 pub(crate) fn houses_of_lights(alloc: Global, puzzle: &LightPuzzle) -> Result<CountList, AllocError>
     ensures { IfOk result (λ list. AreListed list (light_houses puzzle.now)) }
 {
-    let (count, cells) = sizes(puzzle);
-    let mut houses = CountList::new(alloc, count, cells)?;
+    let sizes = Sizes::of(puzzle);
+    let mut houses = CountList::new(alloc, sizes.houses, sizes.cells)?;
     push_numbers(&mut houses, puzzle)?;
     push_rows(&mut houses, puzzle)?;
     push_columns(&mut houses, puzzle)?;

@@ -76,8 +76,8 @@ fn start_lights(puzzle: &LightPuzzle, board: &mut Board)
 impl Rules for LightRules {
     ghost use Rattle.std.specs.Prelude.{vec_len};
     ghost use Rattle.std.proofs.Common.{arith};
-    ghost use Rattle.fields_core.specs.LightHouses.{light_houses};
-    ghost use Rattle.fields_core.specs.Tallies.{AreTallied};
+    ghost use Rattle.fields_core.specs.Ruled.{light_table};
+    ghost use Rattle.fields_core.specs.Tallies.{AreTalliesOf};
     ghost use Rattle.fields_core.specs.LightLaws.{light-lawful};
 
     type Scratch = Vec<Tally>;
@@ -96,7 +96,7 @@ impl Rules for LightRules {
 
     ghost serves = { λ tallies needs. needs.houses ≤ vec_len tallies };
 
-    ghost follows = { λ r tallies K. AreTallied (light_cells r.light) (light_houses r.light) tallies.items K };
+    ghost follows = { λ r tallies K. AreTalliesOf (light_table r.light) tallies.items K };
 
     ghost lawful = { light-lawful };
 

@@ -26,13 +26,24 @@ impl Model for Run {
 
     ghost Value = { List ℕ };
 
-    ghost view = { λ r. map (λ i. r.first + i * r.stride) (range_with_len r.start (r.end - r.start)) };
+    ghost view = { λ r.
+        map (λ i. r.first + i * r.stride) (range_with_len r.start (r.end - r.start)) };
 
     ghost invariant = { λ r. (r.start ≤ r.end)
         × ((i : ℕ) → r.start ≤ i → i < r.end → r.first + i * r.stride < 2 ^ 32) };
 }
 
 impl Run {
+    /// The run of no cell.
+    pub(crate) fn none() -> Run {
+        Run {
+            first: 0,
+            stride: 0,
+            start: 0,
+            end: 0,
+        }
+    }
+
     /// How many cells it has.
     pub(crate) fn len(&self) -> usize
         ensures { result ≡ length self.now }

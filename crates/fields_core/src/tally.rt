@@ -1,9 +1,9 @@
 //! How many cells of a count house have no 0, have a 1, or have neither.
 
-ghost use Rattle.std.specs.Prelude.{◌≡◌, ℕ, ◌+◌, ◌-◌, ◌<◌, ◌≤◌, ◌^◌, nat_lt, ◌&&◌, ◌||◌, ◌==◌, not, cond, length, slice_index};
+ghost use Rattle.std.specs.Prelude.{◌≡◌, ℕ, ◌<◌, ◌≤◌, ◌^◌, ◌==◌, not, cond, length, slice_index};
 ghost use Rattle.grid_core.specs.Board.{has, cells_of};
 ghost use Rattle.engine_core.specs.Sets.{has_bit as is_set};
-ghost use Rattle.fields_core.specs.Tallies.{IsTally, moved_tally};
+ghost use Rattle.fields_core.specs.Tallies.{IsTally, lacks_filling, has_strikes, moved_tally};
 
 use crate::count_list::Bounds;
 use engine_core::has_bit;
@@ -53,10 +53,10 @@ impl Tally {
         }
     }
 
-    /// Whether the cells have no filling within the bounds. No test is left out: which of them holds can't be foreseen.
+    /// Whether the cells have no filling within the bounds. No test is left out: which of them holds
+    /// can't be foreseen.
     pub(crate) fn has_no_filling(self, bounds: Bounds) -> bool
-        ensures { result ≡ (nat_lt 0 self.empty || (nat_lt bounds.most bounds.least
-            || (nat_lt self.may bounds.least || nat_lt bounds.most self.must))) }
+        ensures { result ≡ lacks_filling self bounds }
     {
         (self.empty > 0)
             | (bounds.most < bounds.least)
@@ -64,15 +64,17 @@ impl Tally {
             | (bounds.most < self.must)
     }
 
-    /// Whether a visit of a house with these bounds may strike anything.
+    /// Whether a visit of a house with these bounds may strike anything. A house with a cell that has
+    /// both values is asked for room for one more.
     pub(crate) fn calls(self, bounds: Bounds) -> bool
-        ensures { result ≡ ((nat_lt 0 self.empty || (nat_lt bounds.most bounds.least
-            || (nat_lt self.may bounds.least || nat_lt bounds.most self.must)))
-            || (not (self.must == self.may)
-            && ((self.must == bounds.most) || (self.may == bounds.least)))) }
+        ensures { result ≡ has_strikes self bounds }
     {
-        let is_bound = (self.must == bounds.most) | (self.may == bounds.least);
-        self.has_no_filling(bounds) | ((self.must != self.may) & is_bound)
+        let open = u64::from(number(self.must != self.may));
+        let has_empty = self.empty > 0;
+        has_empty
+            | (bounds.most < bounds.least)
+            | (u64::from(self.may) < u64::from(bounds.least) + open)
+            | (u64::from(bounds.most) < u64::from(self.must) + open)
     }
 }
 

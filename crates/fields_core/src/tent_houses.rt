@@ -71,7 +71,8 @@ fn push_square_cells(
 ) -> Result<(), AllocError>
     requires { place < tent_cells puzzle.now }
     ensures { OnOk result (IsBegun houses.old houses.new
-        (place ∷ (place + 1) ∷ (place + puzzle.now.size.w) ∷ (place + puzzle.now.size.w + 1) ∷ [])) }
+        (place ∷ (place + 1)
+        ∷ (place + puzzle.now.size.w) ∷ (place + puzzle.now.size.w + 1) ∷ [])) }
 {
     let w = usize::from(puzzle.size().w());
     let _cells = puzzle.size().cells();

@@ -114,8 +114,8 @@ fn start_tents(puzzle: &TentsPuzzle, board: &mut Board)
 }
 
 impl Rules for TentRules {
-    ghost use Rattle.fields_core.specs.TentHouses.{tent_houses};
-    ghost use Rattle.fields_core.specs.Tallies.{AreTallied};
+    ghost use Rattle.fields_core.specs.Ruled.{tent_table};
+    ghost use Rattle.fields_core.specs.Tallies.{AreTalliesOf};
     ghost use Rattle.fields_core.specs.TentLaws.{tent-lawful, serves-smaller-tents};
 
     type Scratch = TentWork;
@@ -134,7 +134,7 @@ impl Rules for TentRules {
 
     ghost serves = { ServesTents };
 
-    ghost follows = { λ r work K. AreTallied (tent_cells r.tents) (tent_houses r.tents) work.tallies.items K };
+    ghost follows = { λ r work K. AreTalliesOf (tent_table r.tents) work.tallies.items K };
 
     ghost lawful = { tent-lawful };
 

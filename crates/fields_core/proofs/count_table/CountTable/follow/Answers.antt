@@ -1,30 +1,44 @@
-use Rattle.std.proofs.Common.{◌<◌, arith, slice_index, subst, sym, ◌∙◌}
+use Rattle.std.proofs.Common.{◌≡◌, length, replicate, subst, ap, ◌∙◌, arith, rules}
+use Rattle.std.proofs.lemmas.List.{get_or-replicate}
 use Rattle.grid_core.specs.Board.{has}
-use Rattle.grid_core.proofs.BoardLemmas.{has-within}
-use Rattle.fields_core.proofs.CountListLemmas.{counted-table, houses-long}
-use Rattle.fields_core.proofs.CountTallies.{counted-places, tallied-next, tallied-all}
+use Rattle.fields_core.specs.CountHouse.{CountedHouses}
+use Rattle.fields_core.specs.Tallies.{tally_at, AreTallied}
+use Rattle.fields_core.proofs.CountListLemmas.{counted-table}
+use Rattle.fields_core.proofs.CountFollow.{board-within, bits-are, unread-tallied, read-change, read-whole}
 use Rattle.fields_core.proofs.count_table.CountTable.follow.Goals as goal
 
-pub count_cells-requires-clause-few : goal.count_cells-requires-clause-few
-count_cells-requires-clause-few c =
-    (counted-places _ _ _ c.loop-house.house _ (counted-table _ _ _ c.args.self.now c.self.invariant.0 c.self.invariant.1 c.self.view_is) (omega (arith, c.len-house-end.ensures.len, c.loop-house-test.true, houses-long _ _ _ c.args.self.now c.self.invariant.0 c.self.view_is)) c.places.ensures).few
+pub loop-place-init : goal.loop-place-init
+loop-place-init c =
+    let made : c.fill.new.self ≡ replicate (length c.args.tallies.now) c.none.result = search rules in
+    let long : length c.fill.new.self ≡ length c.args.tallies.now = c.fill.ensures.len in (
+      unread-tallied c.args.self.now.cells (has c.args.board.now) _ c.args.self.now.houses c.fill.new.self
+          (counted-table _ _ _ c.args.self.now c.self.invariant.0 c.self.invariant.1 c.self.view_is) (omega (arith, long, c.requires.long))
+          (λ h lt. ap (λ l. tally_at l h) made ∙ get_or-replicate (length c.args.tallies.now) h c.none.result (record { must = 0; may = 0; empty = 0 }) (omega (arith, long)) ∙ c.none.ensures),
+      long,
+    )
 
-pub count_cells-requires-clause-places_in : goal.count_cells-requires-clause-places_in
-count_cells-requires-clause-places_in c = λ k lt. subst (λ n. slice_index c.places.result.now k < n) (sym c.requires.cells)
-    ((counted-places _ _ _ c.loop-house.house _ (counted-table _ _ _ c.args.self.now c.self.invariant.0 c.self.invariant.1 c.self.view_is) (omega (arith, c.len-house-end.ensures.len, c.loop-house-test.true, houses-long _ _ _ c.args.self.now c.self.invariant.0 c.self.view_is)) c.places.ensures).within k lt)
+pub change-requires : goal.change-requires
+change-requires c = (
+  _,
+  _,
+  c.loop-place.invariant.0,
+  read-change c.args.self.now.cells (has c.args.board.now) c.loop-place.place c.bits.result
+      (omega (arith, c.loop-place-test.true, c.cells-place-end.ensures, ap (λ (t : CountedHouses). t.cells) c.self.view_is))
+      (board-within c.args.board.now c.args.self.now.cells c.requires.cells c.requires.values)
+      (bits-are c.args.board.now c.loop-place.place c.bits.result c.requires.values c.bits.ensures.small c.bits.ensures.same),
+)
 
-pub bounds-tallies-house : goal.bounds-tallies-house
-bounds-tallies-house c =
-    let t = counted-table _ _ _ c.args.self.now c.self.invariant.0 c.self.invariant.1 c.self.view_is in
-    omega (arith, c.len-house-end.ensures.len, t.as_many, c.loop-house.invariant.as_many, c.requires.long)
-
-pub loop-house-preserved : goal.loop-house-preserved
-loop-house-preserved c =
-    let t = counted-table _ _ _ c.args.self.now c.self.invariant.0 c.self.invariant.1 c.self.view_is in
-    tallied-next c.args.self.now.houses c.args.tallies.now c.loop-house.tallies (has c.args.board.now) c.loop-house.house c.places.result.now c.count_cells.result c.loop-house.invariant (omega (arith, c.len-house-end.ensures.len, t.as_many, c.requires.long)) (c.places.ensures ∙ t.places c.loop-house.house) c.count_cells.ensures
+pub loop-place-preserved : goal.loop-place-preserved
+loop-place-preserved c = (
+  c.change.ensures.tallied _ _ c.loop-place.invariant.0 (read-change c.args.self.now.cells (has c.args.board.now) c.loop-place.place c.bits.result
+      (omega (arith, c.loop-place-test.true, c.cells-place-end.ensures, ap (λ (t : CountedHouses). t.cells) c.self.view_is))
+      (board-within c.args.board.now c.args.self.now.cells c.requires.cells c.requires.values)
+      (bits-are c.args.board.now c.loop-place.place c.bits.result c.requires.values c.bits.ensures.small c.bits.ensures.same)),
+  c.change.ensures.as_many ∙ c.loop-place.invariant.1,
+)
 
 pub returns-clause-tallied : goal.returns-clause-tallied
-returns-clause-tallied c =
-    let t = counted-table _ _ _ c.args.self.now c.self.invariant.0 c.self.invariant.1 c.self.view_is in
-    tallied-all c.args.self.now.cells c.args.self.now.houses c.args.tallies.now c.loop-house.tallies (has c.args.board.now) c.loop-house.house c.loop-house.invariant (omega (arith, c.len-house-end.ensures.len, t.as_many)) c.requires.long
-    (λ d u on. let w = has-within c.args.board.now d u on in let v = c.requires.values in let e = c.requires.cells in (omega (arith, w.0), omega (arith, w.1)))
+returns-clause-tallied c = subst (AreTallied c.args.self.now.cells c.args.self.now.houses c.loop-place.tallies)
+    (read-whole c.args.self.now.cells (has c.args.board.now) c.loop-place.place
+    (omega (arith, c.loop-place-test.false, c.cells-place-end.ensures, ap (λ (t : CountedHouses). t.cells) c.self.view_is))
+    (board-within c.args.board.now c.args.self.now.cells c.requires.cells c.requires.values)) c.loop-place.invariant.0
