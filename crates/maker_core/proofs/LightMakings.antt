@@ -23,7 +23,7 @@ use Rattle.maker_core.specs.LightMaking.{IsLightMade}
 use Rattle.maker_core.specs.Made.{is_one, has_one, TellsOne, IsOnlySolution}
 use Rattle.maker_core.specs.Thinning.{IsOnly, IsThinnedFrom, AreReasons, stream_after_clues}
 use Rattle.maker_core.proofs.FoundAtOnce.{IsKnown, found_at_once}
-use Rattle.maker_core.proofs.Tries.{IsTrying, IsTrying-more, first_passing, taken_is, left_after}
+use Rattle.maker_core.proofs.Tries.{IsTrying, IsTrying-more, first_passing, left_by}
 
 -- ---- black cells alone
 start_black : (p : Light) (c v : ℕ) → white p c ≡ false → v < 2 → start_of (light_cells p) (λ d. not (white p d)) c v ≡ true → v ≡ 0
@@ -95,11 +95,8 @@ pub left_passed : (size : Extent) (black budget done tries : ℕ) (s now t left 
     → (k : ℕ) → IsFirstPassing (light_filling size black) (light_passes size budget) s tries k
     → left ≡ stream_after_clues light_game (light_puzzle_of size (filling_at (light_filling size black) k s)) (stream_after (light_filling size black) (suc k) s)
 left_passed size black budget done tries s now t left p answer passed w is trying within shuffled k first =
-    let passes = verdict_is size black budget now t p answer passed true w is in
-    let taken = taken_is (light_filling size black) (light_passes size budget) s tries done now t w.filling trying w.drawn passes within k first in
-    let stands = left_after (light_filling size black) (light_passes size budget) s tries done now t w.filling trying w.drawn passes within k first in
-    shuffled ∙ ap (λ q. stream_after_clues light_game q t) (w.puzzle ∙ ap (light_puzzle_of size) taken)
-    ∙ ap (stream_after_clues light_game (light_puzzle_of size (filling_at (light_filling size black) k s))) stands
+    left_by (light_filling size black) (light_passes size budget) s (λ f. stream_after_clues light_game (light_puzzle_of size f)) tries done now t left w.filling trying w.drawn
+    (verdict_is size black budget now t p answer passed true w is) within (shuffled ∙ ap (λ q. stream_after_clues light_game q t) w.puzzle) k first
 
 pub size_is : (size : Extent) (f : Lighting) (p q : Light) → p ≡ light_puzzle_of size f → q.size ≡ p.size → q.size ≡ size
 unfolding light_puzzle_of with_numbers lights_of

@@ -1,6 +1,6 @@
 -- Each filling that is there passes, and what the search says of the puzzle that is left is said by the rules of Solo.
 use Rattle.std.proofs.Common.{◌≡◌, ℕ, suc, ◌+◌, ◌<◌, Bool, true, false, Option, Some, None, List, sym, ap, ◌∙◌, subst, refl, arith, inl, inr}
-use Rattle.std.specs.Prelude.{is_some, IfSome}
+use Rattle.std.specs.Prelude.{is_some, unwrap_or, [], IfSome}
 use Rattle.std.proofs.lemmas.Bool.{cases_eq, true≢false}
 use Rattle.rand_core.specs.Stream.{Stream}
 use Rattle.gameid_core.specs.Puzzles.{Solo, IsSolo}
@@ -16,7 +16,7 @@ use Rattle.maker_core.specs.SoloMaking.{IsSoloMade, IsSoloSize, NoneFound, solo_
 use Rattle.maker_core.specs.Thinning.{AreReasons, IsThinnedFrom, stream_after_clues}
 use Rattle.maker_core.specs.declared.made.Kept.{Kept}
 use Rattle.maker_core.proofs.SoloFull.{all_given-only, all_given-found, thinned-solo}
-use Rattle.maker_core.proofs.Tries.{IsTrying, IsTrying-none, IsTrying-more, left_after}
+use Rattle.maker_core.proofs.Tries.{IsTrying, IsTrying-none, IsTrying-more, left_by}
 
 pub full_only : (c r : ℕ) (x : Bool) (p : Solo) (g : List ℕ) → IsSoloSize c r → IsSoloSolution (all_given c r x g) g → p ≡ all_given c r x g → IsTrueOf (houses_rules p) (OneGrid g)
 full_only c r x p g size solution full = subst (λ q. IsTrueOf (houses_rules q) (OneGrid g)) (sym full) (all_given-only c r x g size solution)
@@ -72,14 +72,17 @@ plain_filled c r false budget tries s plain none = elim (cases_eq tries 0) [
 ]
 
 -- the stream that is left when the first filling was made and its givens were shuffled
-pub left_shuffled : (c r : ℕ) (x : Bool) (budget tries done : ℕ) (s now t left : Stream) (p : Solo) (g given : List ℕ) → IsUnfilled c r x budget s done now
+abbrev ends : ℕ → ℕ → Bool → Option (List ℕ) → Stream → Stream
+ends c r x filling = stream_after_clues solo_game (all_given c r x (unwrap_or filling []))
+
+pub left_shuffled : (c r : ℕ) (x : Bool) (budget tries done : ℕ) (s now t left : Stream) (p : Solo) (g : List ℕ) → IsUnfilled c r x budget s done now
     → ◌≡◌ {A = Option (List ℕ) × Stream} (Some g, t) (solo_filling c r x budget now) → solo_passes c r x budget (Some g) ≡ true → done < tries
-    → p ≡ all_given c r x g → given ≡ g → left ≡ stream_after_clues solo_game p t
+    → p ≡ all_given c r x g → left ≡ stream_after_clues solo_game p t
     → (k : ℕ) → IsFirstPassing (solo_filling c r x budget) (solo_passes c r x budget) s tries k
-    → left ≡ stream_after_clues solo_game (all_given c r x given) (stream_after (solo_filling c r x budget) (suc k) s)
-left_shuffled c r x budget tries done s now t left p g given w made passing within full same is k first =
-    is ∙ ap (λ q. stream_after_clues solo_game q t) (full ∙ ap (all_given c r x) (sym same))
-    ∙ ap (stream_after_clues solo_game (all_given c r x given)) (left_after (solo_filling c r x budget) (solo_passes c r x budget) s tries done now t (Some g) w.trying made passing within k first)
+    → left ≡ ends c r x (filling_at (solo_filling c r x budget) k s) (stream_after (solo_filling c r x budget) (suc k) s)
+left_shuffled c r x budget tries done s now t left p g w made passing within full is =
+    left_by (solo_filling c r x budget) (solo_passes c r x budget) s (ends c r x) tries done now t left (Some g) w.trying made passing within
+    (is ∙ ap (λ q. stream_after_clues solo_game q t) full)
 
 -- ---- what was made
 only_by_rules : (p : Solo) (g made : List ℕ) → IsSolo p → IsTrueOf (houses_rules p) (OneGrid g) → made ≡ g → IsOnlySolution (IsSoloSolution p) made

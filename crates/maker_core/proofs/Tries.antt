@@ -46,7 +46,7 @@ module _ {A : Type 0} (make : Making A) (passes : A → Bool) (s : Stream) where
     ]
   ]
 
-  pub taken_is : (tries done : ℕ) (now t : Stream) (x : A) → IsTrying make passes s done now → ◌≡◌ {A = A × Stream} (x, t) (make now)
+  taken_is : (tries done : ℕ) (now t : Stream) (x : A) → IsTrying make passes s done now → ◌≡◌ {A = A × Stream} (x, t) (make now)
       → passes x ≡ true → done < tries → (k : ℕ) → IsFirstPassing make passes s tries k → x ≡ filling_at make k s
   taken_is tries done now t x p made passing within k first =
       filling_is done now t x p made ∙ ap (λ n. filling_at make n s) (first_once tries done k (first_is tries done now t x p made passing within) first)
@@ -57,6 +57,14 @@ module _ {A : Type 0} (make : Making A) (passes : A → Bool) (s : Stream) where
   left_after tries done now t x p made passing within k first =
       let same = first_once tries done k (first_is tries done now t x p made passing within) first in
       ap (λ q. q.1) made ∙ ap (λ u. (make u).1) p.stands ∙ ap (λ n. (make (stream_after make n s)).1) same
+
+  -- the stream that is left where the first that passes was made to a puzzle
+  pub left_by : (ends : A → Stream → Stream) (tries done : ℕ) (now t left : Stream) (x : A) → IsTrying make passes s done now → ◌≡◌ {A = A × Stream} (x, t) (make now)
+      → passes x ≡ true → done < tries → left ≡ ends x t
+      → (k : ℕ) → IsFirstPassing make passes s tries k → left ≡ ends (filling_at make k s) (stream_after make (suc k) s)
+  left_by ends tries done now t left x p made passing within is k first =
+      is ∙ ap (λ y. ends y t) (taken_is tries done now t x p made passing within k first)
+      ∙ ap (ends (filling_at make k s)) (left_after tries done now t x p made passing within k first)
 
   pub none_passes : (tries done : ℕ) (now : Stream) → IsTrying make passes s done now → tries ≤ done → NonePasses make passes s tries
   none_passes tries done now p all = record { failing = λ j h. p.failing j (omega arith) }

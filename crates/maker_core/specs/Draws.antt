@@ -52,10 +52,25 @@ pub record IsFirstPassing {A : Type 0} (make : Making A) (passes : A → Bool) (
   pub passing : passes (filling_at make k s) ≡ true
   pub failing : (j : ℕ) → j < k → passes (filling_at make j s) ≡ false
 
--- the stream that is left is that after the first filling that passes
-abbrev pub IsAfterFirst : {A : Type 0} → Making A → (A → Bool) → Stream → ℕ → Stream → Type 0
-IsAfterFirst make passes s tries left = (k : ℕ) → IsFirstPassing make passes s tries k → left ≡ stream_after make (suc k) s
-
 -- none of the first so many fillings passes
 pub record NonePasses {A : Type 0} (make : Making A) (passes : A → Bool) (s : Stream) (tries : ℕ) : Type 0 where
   pub failing : (j : ℕ) → j < tries → passes (filling_at make j s) ≡ false
+
+-- What a maker tries: how a filling is made of a stream, which fillings pass, how many may be made, and which stream is
+-- left when a filling that passes was made to a puzzle.
+pub record Tries (A : Type 0) : Type 0 where
+  pub make : Making A
+  pub passes : A → Bool
+  pub count : ℕ
+  pub ends : A → Stream → Stream
+
+-- none of the tries passes; the stream that is left is that after all of them, or that after the first that passes
+abbrev pub AllFail : {A : Type 0} → Tries A → Stream → Type 0
+AllFail t s = NonePasses t.make t.passes s t.count
+
+abbrev pub IsAfterAll : {A : Type 0} → Tries A → Stream → Stream → Type 0
+IsAfterAll t s left = left ≡ stream_after t.make t.count s
+
+abbrev pub IsAfterFirst : {A : Type 0} → Tries A → Stream → Stream → Type 0
+IsAfterFirst t s left = (k : ℕ) → IsFirstPassing t.make t.passes s t.count k
+    → left ≡ t.ends (filling_at t.make k s) (stream_after t.make (suc k) s)

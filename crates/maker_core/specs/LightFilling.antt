@@ -1,6 +1,7 @@
 -- What a maker of Light Up tries. A grid has 1 at a bulb and 0 elsewhere.
-use Rattle.std.specs.Prelude.{ℕ, zero, suc, ◌*◌, Bool, ◌||◌, ◌==◌, List, length, map, filter, replicate, slice_index, slice_set, if◌then◌else◌}
+use Rattle.std.specs.Prelude.{◌≡◌, ℕ, zero, suc, ◌*◌, Bool, ◌||◌, ◌==◌, List, length, map, filter, replicate, slice_index, slice_set, if◌then◌else◌}
 use Rattle.std.specs.List.{range_with_len}
+use Rattle.rand_core.specs.Stream.{Stream}
 use Rattle.grid_core.specs.Extent.{Extent}
 use Rattle.gameid_core.specs.Puzzles.{Light}
 use Rattle.gameid_core.specs.declared.light_cell.LightCell.{LightCell}
@@ -57,3 +58,9 @@ light_puzzle_of size filling = with_numbers (lights_of size filling.black) filli
 -- a filling passes where the verdict of its puzzle is one
 abbrev pub light_passes : Extent → ℕ → Lighting → Bool
 light_passes size budget filling = has_one (light_rules (light_puzzle_of size filling)) budget
+
+-- the puzzle and the bulbs of the filling that is made of a stream, and the stream that is left
+abbrev pub IsLighting : Extent → ℕ → Stream → Light → List ℕ → Stream → Type 0
+IsLighting size black s p bulbs left = (filling : Lighting)
+    × ((filling, left) ≡ light_filling size black s)
+    × (p ≡ light_puzzle_of size filling) × (bulbs ≡ filling.bulbs)

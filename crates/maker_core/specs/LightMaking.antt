@@ -5,12 +5,14 @@ use Rattle.grid_core.specs.Extent.{Extent}
 use Rattle.gameid_core.specs.Puzzles.{Light}
 use Rattle.fields_core.specs.LightHouses.{light_rules}
 use Rattle.fields_core.specs.LightSolutions.{IsLightSolution}
-use Rattle.maker_core.specs.Draws.{IsFirstPassing, filling_at}
+use Rattle.maker_core.specs.Draws.{Tries, IsFirstPassing, filling_at}
 use Rattle.maker_core.specs.LightClues.{light_game}
-use Rattle.maker_core.specs.LightFilling.{light_filling, light_passes, light_puzzle_of, with_numbers}
+use Rattle.maker_core.specs.LightFilling.{Lighting, light_filling, light_passes, light_puzzle_of, with_numbers}
 use Rattle.maker_core.specs.Made.{TellsOne, IsOnlySolution}
-use Rattle.maker_core.specs.Thinning.{AreReasons, IsThinnedFrom}
+use Rattle.maker_core.specs.Thinning.{AreReasons, IsThinnedFrom, stream_after_clues}
 use Rattle.maker_core.specs.declared.made.Kept.{Kept}
+use Rattle.maker_core.specs.declared.made.Limits.{Limits}
+use Rattle.maker_core.specs.declared.made.Made.{Made}
 
 -- The first of the fillings that passes gives the solution and the black cells; the puzzle has some of its numbers and no
 -- other solution, and its own verdict says so. Each number that is left was kept for a reason.
@@ -23,3 +25,16 @@ pub record IsLightMade (size : Extent) (black budget tries : ℕ) (s : Stream) (
   pub only : IsOnlySolution (IsLightSolution p) g
   pub verdict : TellsOne (light_rules p) budget g
   pub reasons : AreReasons light_game budget (with_numbers p g) p kept
+
+-- what a maker tries and gives within its limits: the numbers of the first filling that passes are shuffled
+abbrev pub light_tries : Extent → ℕ → Limits → Tries Lighting
+light_tries size black limits = record {
+  make = light_filling size black;
+  passes = light_passes size limits.budget;
+  count = limits.tries;
+  ends = λ filling. stream_after_clues light_game (light_puzzle_of size filling);
+}
+
+abbrev pub MakesLights : Extent → ℕ → Limits → Stream → Made Light → Type 0
+MakesLights size black limits s made =
+    IsLightMade size black limits.budget limits.tries s made.puzzle made.answer made.kept.items

@@ -6,9 +6,11 @@ use Rattle.gameid_core.specs.Lines.{lines_runs}
 use Rattle.gameid_core.specs.Puzzles.{Pattern}
 use Rattle.pattern_core.specs.LineRules.{line_rules}
 use Rattle.pattern_core.specs.Solutions.{IsPatternSolution}
-use Rattle.maker_core.specs.Draws.{Making, black_cells, IsFirstPassing, filling_at}
+use Rattle.maker_core.specs.Draws.{Making, Tries, black_cells, IsFirstPassing, filling_at}
 use Rattle.maker_core.specs.Made.{has_one, TellsOne, IsOnlySolution}
 use Rattle.maker_core.specs.declared.made.Kept.{Kept}
+use Rattle.maker_core.specs.declared.made.Limits.{Limits}
+use Rattle.maker_core.specs.declared.made.Made.{Made}
 
 -- a filling is a grid whose cells are drawn one by one
 abbrev pub pattern_filling : Extent → ℕ → Making (List ℕ)
@@ -32,3 +34,16 @@ pub record IsPatternMade (size : Extent) (black budget tries : ℕ) (s : Stream)
   pub only : IsOnlySolution (IsPatternSolution p) g
   pub verdict : TellsOne (line_rules p) budget g
   pub unthinned : kept ≡ []
+
+-- what a maker tries and gives within its limits
+abbrev pub pattern_tries : Extent → ℕ → Limits → Tries (List ℕ)
+pattern_tries size black limits = record {
+  make = pattern_filling size black;
+  passes = pattern_passes size limits.budget;
+  count = limits.tries;
+  ends = λ grid s. s;
+}
+
+abbrev pub MakesPattern : Extent → ℕ → Limits → Stream → Made Pattern → Type 0
+MakesPattern size black limits s made =
+    IsPatternMade size black limits.budget limits.tries s made.puzzle made.answer made.kept.items

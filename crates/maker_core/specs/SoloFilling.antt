@@ -11,16 +11,19 @@ use Rattle.maker_core.specs.Draws.{Making, shuffled_order}
 abbrev pub first_number : ℕ → ℕ → ℕ → ℕ → ℕ
 first_number c r x y = ((y % c) * r + y / c + x) % (c * r)
 
--- with the lines of a group after the lines before, in that order
+-- with the lines of a group after the lines before, in that order; and in a shuffled order
 abbrev pub group_added : ℕ → ℕ → List ℕ → List ℕ × Stream → List ℕ × Stream
 group_added size group lines inside = (lines ++ map (λ line. group * size + line) inside.0, inside.1)
+
+abbrev pub group_drawn : ℕ → ℕ → List ℕ → Making (List ℕ)
+group_drawn size group lines s = group_added size group lines (shuffled_order size s)
 
 -- the lines of the first k groups of a new order of groups, each group's own lines shuffled, the first group first
 unfoldable pub lines_of_groups : ℕ → List ℕ → ℕ → Stream → List ℕ × Stream
 lines_of_groups size groups zero s = ([], s)
 lines_of_groups size groups (suc k) s =
     let before = lines_of_groups size groups k s in
-    group_added size (slice_index groups k) before.0 (shuffled_order size before.1)
+    group_drawn size (slice_index groups k) before.0 before.1
 
 -- so many groups of so many lines: the groups are shuffled, and then the lines in each, the first group first. Entry y of
 -- the list is the old line that now stands at y

@@ -1,17 +1,19 @@
 -- What a maker of Solo tries, and what it gives.
-use Rattle.std.specs.Prelude.{◌≡◌, ℕ, ◌*◌, ◌<◌, ◌≤◌, Bool, true, false, Option, Some, None, List}
+use Rattle.std.specs.Prelude.{◌≡◌, ℕ, ◌*◌, ◌<◌, ◌≤◌, Bool, true, false, Option, Some, None, unwrap_or, List, []}
 use Rattle.rand_core.specs.Stream.{Stream}
 use Rattle.gameid_core.specs.Head.{max_numbers}
 use Rattle.gameid_core.specs.Puzzles.{Solo}
 use Rattle.solo_core.specs.RuleSets.{houses_rules}
 use Rattle.solo_core.specs.Solutions.{IsSoloSolution}
-use Rattle.maker_core.specs.Draws.{Making, IsFirstPassing, filling_at}
+use Rattle.maker_core.specs.Draws.{Making, Tries, IsFirstPassing, filling_at}
 use Rattle.maker_core.specs.Made.{has_one, TellsOne, IsOnlySolution}
 use Rattle.maker_core.specs.SoloClues.{solo_game}
 use Rattle.maker_core.specs.SoloFilling.{plain_filling, all_given}
 use Rattle.maker_core.specs.SoloXFilling.{x_filling}
-use Rattle.maker_core.specs.Thinning.{AreReasons, IsThinnedFrom}
+use Rattle.maker_core.specs.Thinning.{AreReasons, IsThinnedFrom, stream_after_clues}
 use Rattle.maker_core.specs.declared.made.Kept.{Kept}
+use Rattle.maker_core.specs.declared.made.Limits.{Limits}
+use Rattle.maker_core.specs.declared.made.Made.{Made}
 
 -- sizes within the game's limits
 pub record IsSoloSize (c r : ℕ) : Type 0 where
@@ -48,3 +50,16 @@ pub record IsSoloMade (c r : ℕ) (x : Bool) (budget tries : ℕ) (s : Stream) (
   pub only : IsOnlySolution (IsSoloSolution p) g
   pub verdict : TellsOne (houses_rules p) budget g
   pub reasons : AreReasons solo_game budget (all_given c r x g) p kept
+
+-- what a maker tries and gives within its limits: the givens of the first filling that is there are shuffled
+abbrev pub solo_tries : ℕ → ℕ → Bool → Limits → Tries (Option (List ℕ))
+solo_tries c r x limits = record {
+  make = solo_filling c r x limits.budget;
+  passes = solo_passes c r x limits.budget;
+  count = limits.tries;
+  ends = λ filling. stream_after_clues solo_game (all_given c r x (unwrap_or filling []));
+}
+
+abbrev pub MakesSolo : ℕ → ℕ → Bool → Limits → Stream → Made Solo → Type 0
+MakesSolo c r x limits s made =
+    IsSoloMade c r x limits.budget limits.tries s made.puzzle made.answer made.kept.items

@@ -1,5 +1,6 @@
 -- What a maker of Tents tries. Grids have 1 at a tree or a tent and 0 elsewhere.
 use Rattle.std.specs.Prelude.{ℕ, zero, suc, ◌*◌, ◌/◌, Bool, not, ◌&&◌, ◌==◌, List, length, filter, nat_lt, replicate, slice_index, slice_set, if◌then◌else◌}
+use Rattle.rand_core.specs.Stream.{Stream}
 use Rattle.grid_core.specs.Candidates.{any_below}
 use Rattle.grid_core.specs.Extent.{Extent}
 use Rattle.grid_core.specs.Regions.{beside}
@@ -7,8 +8,9 @@ use Rattle.gameid_core.specs.Lines.{lines_ones}
 use Rattle.gameid_core.specs.Puzzles.{Tents}
 use Rattle.fields_core.specs.Tents.{tent, touches}
 use Rattle.fields_core.specs.TentHouses.{tent_rules}
+use Rattle.fields_core.specs.TentSolutions.{IsTentSolution}
 use Rattle.maker_core.specs.declared.camp.Camp.{Camp}
-use Rattle.maker_core.specs.Draws.{Making, draw_below, shuffled_order}
+use Rattle.maker_core.specs.Draws.{Making, draw_below, filling_at, shuffled_order}
 use Rattle.maker_core.specs.Made.{has_one}
 
 -- no trees and no tents
@@ -47,15 +49,27 @@ unfoldable pub camp_after : Extent → List ℕ → ℕ → Making Camp
 camp_after size order zero s = (no_camp size, s)
 camp_after size order (suc k) s = let before = camp_after size order k s in take_cell size before.0 (slice_index order k) before.1
 
+-- the camp when all of them were
+abbrev pub camp_of_order : Extent → List ℕ → Making Camp
+camp_of_order size order = camp_after size order (length order)
+
 -- the cells, listed by place and shuffled, are taken in turn
 unfoldable pub tent_filling : Extent → Making Camp
 tent_filling size s =
     let order = shuffled_order (size.w * size.h) s in
-    camp_after size order.0 (length order.0) order.1
+    camp_of_order size order.0 order.1
+
+-- the k-th filling of a stream, from 0
+abbrev pub camp_at : Extent → ℕ → Stream → Camp
+camp_at size = filling_at (tent_filling size)
 
 -- its puzzle: the trees, and how many tents each line has
 unfoldable pub tents_puzzle_of : Extent → Camp → Tents
 tents_puzzle_of size camp = record { size = size; trees = camp.trees; counts = lines_ones size camp.tents }
+
+-- the tents solve it
+abbrev pub IsSolvedCamp : Extent → Camp → Type 0
+IsSolvedCamp size camp = IsTentSolution (tents_puzzle_of size camp) camp.tents
 
 -- a filling passes where the verdict of its puzzle is one
 abbrev pub tents_pass : Extent → ℕ → Camp → Bool

@@ -5,10 +5,13 @@ use Rattle.grid_core.specs.Extent.{Extent}
 use Rattle.gameid_core.specs.Puzzles.{Tents}
 use Rattle.fields_core.specs.TentHouses.{tent_rules}
 use Rattle.fields_core.specs.TentSolutions.{IsTentSolution}
-use Rattle.maker_core.specs.Draws.{IsFirstPassing, filling_at}
+use Rattle.maker_core.specs.Draws.{Tries, IsFirstPassing, filling_at}
 use Rattle.maker_core.specs.Made.{TellsOne, IsOnlySolution}
 use Rattle.maker_core.specs.TentFilling.{tent_filling, tents_puzzle_of, tents_pass}
+use Rattle.maker_core.specs.declared.camp.Camp.{Camp}
 use Rattle.maker_core.specs.declared.made.Kept.{Kept}
+use Rattle.maker_core.specs.declared.made.Limits.{Limits}
+use Rattle.maker_core.specs.declared.made.Made.{Made}
 
 -- both sides are at least 4
 pub record IsTentSize (size : Extent) : Type 0 where
@@ -26,3 +29,16 @@ pub record IsTentsMade (size : Extent) (budget tries : ℕ) (s : Stream) (p : Te
   pub only : IsOnlySolution (IsTentSolution p) g
   pub verdict : TellsOne (tent_rules p) budget g
   pub unthinned : kept ≡ []
+
+-- what a maker tries and gives within its limits
+abbrev pub tents_tries : Extent → Limits → Tries Camp
+tents_tries size limits = record {
+  make = tent_filling size;
+  passes = tents_pass size limits.budget;
+  count = limits.tries;
+  ends = λ camp s. s;
+}
+
+abbrev pub MakesTents : Extent → Limits → Stream → Made Tents → Type 0
+MakesTents size limits s made =
+    IsTentsMade size limits.budget limits.tries s made.puzzle made.answer made.kept.items

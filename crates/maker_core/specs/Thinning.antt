@@ -4,10 +4,11 @@ use Rattle.std.specs.List.{range_with_len}
 use Rattle.engine_core.specs.Puzzle.{Puzzle, FitsIn, needs_of}
 use Rattle.engine_core.specs.Verdict.{Outcome.OneGrid, Outcome.OutOfBudget, verdict_of, Solves, IsTrueOf}
 use Rattle.rand_core.specs.Stream.{Stream}
-use Rattle.maker_core.specs.Draws.{shuffled_list}
+use Rattle.maker_core.specs.Draws.{Making, shuffled_list}
 use Rattle.maker_core.specs.declared.made.Why.{Why}
 use Rattle.maker_core.specs.declared.made.Why.TheVariants.{Needed, Budget}
 use Rattle.maker_core.specs.declared.made.Kept.{Kept}
+use Rattle.maker_core.specs.declared.made.Made.{Made}
 
 -- a game whose puzzles have clues in cells
 pub record Game (A : Type 0) : Type 1 where
@@ -31,9 +32,12 @@ has_clue game p place = is_some (game.clue p place)
 abbrev pub clue_places : {A : Type 0} → Game A → A → List ℕ
 clue_places game p = filter (has_clue game p) (range_with_len 0 (game.cells p))
 
--- the stream that is left when the clues of p were shuffled
+-- they are shuffled; and the stream that is left then
+abbrev pub shuffled_clues : {A : Type 0} → Game A → A → Making (List ℕ)
+shuffled_clues game p = shuffled_list (clue_places game p)
+
 abbrev pub stream_after_clues : {A : Type 0} → Game A → A → Stream → Stream
-stream_after_clues game p s = (shuffled_list (clue_places game p) s).1
+stream_after_clues game p s = (shuffled_clues game p s).1
 
 -- each clue of p is a clue of q
 pub record IsThinnedFrom {A : Type 0} (game : Game A) (p q : A) : Type 0 where
@@ -75,6 +79,11 @@ IsReason game budget all p place Budget = IsHard game budget all p place
 pub record AreReasons {A : Type 0} (game : Game A) (budget : ℕ) (all p : A) (kept : List Kept) : Type 0 where
   pub places : map (λ k. k.place) kept ≡ clue_places game p
   pub reasons : All (λ k. IsReason game budget all p k.place k.why) kept
+
+-- so it is of a puzzle that was made, among those of its clues that the answer tells
+abbrev pub HasReasons : {A : Type 0} → Game A → ℕ → List ℕ → Made A → Type 0
+HasReasons game budget answer made =
+    AreReasons game budget (game.all_clues made.puzzle answer) made.puzzle made.kept.items
 
 -- where each clue that was left is needed, every puzzle without one of them has two solutions
 abbrev pub LeavesNoIdleClue : {A : Type 0} → Game A → Type 0

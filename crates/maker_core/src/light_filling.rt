@@ -3,7 +3,7 @@
 ghost use Rattle.std.specs.Prelude.{◌≡◌, ◌≤◌, ◌<◌, ◌*◌, ℕ, true, false, All, IfOk, length, replicate};
 ghost use Rattle.grid_core.specs.Grids.{IsGrid};
 ghost use Rattle.fields_core.specs.Light.{light_cells, white, is_lit};
-ghost use Rattle.maker_core.specs.LightFilling.{lights_of, white_places, bulbs_after, with_numbers, lit_up, Lighting, light_filling, light_puzzle_of};
+ghost use Rattle.maker_core.specs.LightFilling.{lights_of, white_places, bulbs_after, with_numbers, lit_up, IsLighting};
 
 use crate::black::draw_black;
 use crate::draws::shuffle;
@@ -79,7 +79,8 @@ fn number_cells(puzzle: &mut LightPuzzle, grid: &Grid)
 /// Takes the white cells of a puzzle without numbers, listed by place and shuffled, in turn, and puts a bulb into each
 /// that neither holds nor sees one. The grid solves the puzzle with the numbers that it gives.
 fn light_up<G: Rng>(alloc: Global, rng: &mut G, puzzle: &LightPuzzle) -> Result<Grid, AllocError>
-    ensures drawn { IfOk result (λ grid. (grid, G.stream rng.new) ≡ lit_up puzzle.now (G.stream rng.old)) }
+    ensures drawn { IfOk result
+        (λ grid. (grid, G.stream rng.new) ≡ lit_up puzzle.now (G.stream rng.old)) }
     ensures grid { IfOk result (λ grid. IsGrid (light_cells puzzle.now) 2 grid) }
     ensures solved { IfOk result (λ grid. is_lit (with_numbers puzzle.now grid) grid ≡ true) }
 {
@@ -105,9 +106,8 @@ pub(crate) fn fill_lights<G: Rng>(
 ) -> Result<(LightPuzzle, Grid), AllocError>
     requires w_two { 2 ≤ size.w }
     requires h_two { 2 ≤ size.h }
-    ensures drawn { IfOk result (λ made. (filling : Lighting)
-        × ((filling, G.stream rng.new) ≡ light_filling size black (G.stream rng.old))
-        × (made.0 ≡ light_puzzle_of size filling) × (made.1 ≡ filling.bulbs)) }
+    ensures drawn { IfOk result (λ made.
+        IsLighting size black (G.stream rng.old) made.0 made.1 (G.stream rng.new)) }
     ensures grid { IfOk result (λ made. IsGrid (light_cells made.0) 2 made.1) }
     ensures solved { IfOk result (λ made. is_lit made.0 made.1 ≡ true) }
     ensures numbers { IfOk result (λ made. made.0 ≡ with_numbers made.0 made.1) }

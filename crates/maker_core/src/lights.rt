@@ -1,17 +1,15 @@
 //! The maker of Light Up.
 
-ghost use Rattle.std.specs.Prelude.{◌≡◌, ◌≢◌, ◌≤◌, ◌↔◌, ℕ, suc, true, false, IsTrue, Err, IfOk};
+ghost use Rattle.std.specs.Prelude.{◌≡◌, ◌≢◌, ◌≤◌, ◌↔◌, ℕ, true, false, IsTrue, Err, IfOk, OnOk};
 ghost use Rattle.grid_core.specs.Grids.{IsGrid};
 ghost use Rattle.gameid_core.specs.Puzzles.{IsWide};
 ghost use Rattle.fields_core.specs.Light.{light_cells, white, is_lit};
 ghost use Rattle.fields_core.specs.LightHouses.{light_rules};
 ghost use Rattle.maker_core.specs.declared.made.MakeFault.TheVariants.{Exhausted, SizeRange};
-ghost use Rattle.maker_core.specs.Draws.{IsFirstPassing, NonePasses, filling_at, stream_after};
-ghost use Rattle.maker_core.specs.LightClues.{light_game};
-ghost use Rattle.maker_core.specs.LightFilling.{light_filling, light_passes, light_puzzle_of};
-ghost use Rattle.maker_core.specs.LightMaking.{IsLightMade};
+ghost use Rattle.maker_core.specs.Draws.{AllFail, IsAfterAll, IsAfterFirst};
+ghost use Rattle.maker_core.specs.LightMaking.{MakesLights, light_tries};
 ghost use Rattle.maker_core.specs.Made.{TellsOne, has_one};
-ghost use Rattle.maker_core.specs.Thinning.{IsOnly, stream_after_clues};
+ghost use Rattle.maker_core.specs.Thinning.{IsOnly};
 
 use crate::light_filling::fill_lights;
 use crate::made::{Limits, Made, MakeFault};
@@ -40,9 +38,12 @@ fn passes(
     requires grid { IsGrid (light_cells puzzle.now) 2 answer.now }
     requires solved { is_lit puzzle.now answer.now ≡ true }
     ensures verdict { IfOk result (λ unique. unique ≡ has_one (light_rules puzzle.now) budget) }
-    ensures only { IfOk result (λ unique. unique ≡ true → IsOnly (light_rules puzzle.now) answer.now) }
-    ensures found { IfOk result (λ unique. unique ≡ true → TellsOne (light_rules puzzle.now) budget answer.now) }
-    ensures black { ((c : ℕ) → white puzzle.now c ≡ false) → IfOk result (λ unique. unique ≡ true) }
+    ensures only { IfOk result
+        (λ unique. unique ≡ true → IsOnly (light_rules puzzle.now) answer.now) }
+    ensures found { IfOk result
+        (λ unique. unique ≡ true → TellsOne (light_rules puzzle.now) budget answer.now) }
+    ensures black { ((c : ℕ) → white puzzle.now c ≡ false)
+        → IfOk result (λ unique. unique ≡ true) }
 {
     let rules = LightRules::new(alloc, puzzle)?;
     engine_core::closure_is_largest(&rules);
@@ -74,16 +75,15 @@ pub fn make_lights<G: Rng>(
     limits: Limits,
 ) -> Result<Made<LightPuzzle>, MakeFault>
     requires { black ≤ 100 }
-    ensures made { IfOk result (λ made.
-        IsLightMade size black limits.budget limits.tries (G.stream rng.old) made.puzzle made.answer made.kept.items) }
-    ensures drawn { IfOk result (λ _. (k : ℕ)
-        → IsFirstPassing (light_filling size black) (light_passes size limits.budget) (G.stream rng.old) limits.tries k
-        → G.stream rng.new ≡ stream_after_clues light_game (light_puzzle_of size (filling_at (light_filling size black) k (G.stream rng.old)))
-        (stream_after (light_filling size black) (suc k) (G.stream rng.old))) }
+    ensures made { IfOk result (MakesLights size black limits (G.stream rng.old)) }
+    ensures drawn { OnOk result
+        (IsAfterFirst (light_tries size black limits) (G.stream rng.old) (G.stream rng.new)) }
     ensures size_range { (result ≡ Err SizeRange) ↔ (IsWide size → ⊥) }
     ensures no_tries { IsWide size → limits.tries ≡ 0 → result ≡ Err Exhausted }
-    ensures exhausted { result ≡ Err Exhausted → NonePasses (light_filling size black) (light_passes size limits.budget) (G.stream rng.old) limits.tries }
-    ensures all_drawn { result ≡ Err Exhausted → G.stream rng.new ≡ stream_after (light_filling size black) limits.tries (G.stream rng.old) }
+    ensures exhausted { result ≡ Err Exhausted
+        → AllFail (light_tries size black limits) (G.stream rng.old) }
+    ensures all_drawn { result ≡ Err Exhausted
+        → IsAfterAll (light_tries size black limits) (G.stream rng.old) (G.stream rng.new) }
     ensures undrawn { result ≡ Err SizeRange → G.stream rng.new ≡ G.stream rng.old }
     ensures full { 1 ≤ limits.tries → black ≡ 100 → result ≢ Err Exhausted }
 {

@@ -1,13 +1,13 @@
 //! The maker of Pattern.
 
-ghost use Rattle.std.specs.Prelude.{◌≡◌, ◌≢◌, ◌≤◌, ◌*◌, ◌⊎◌, true, Err, IfOk};
+ghost use Rattle.std.specs.Prelude.{◌≡◌, ◌≢◌, ◌≤◌, ◌*◌, ◌⊎◌, true, Err, IfOk, OnOk};
 ghost use Rattle.grid_core.specs.Grids.{IsGrid};
 ghost use Rattle.pattern_core.specs.LineRules.{line_rules};
 ghost use Rattle.pattern_core.specs.Solutions.{IsPatternSolution};
 ghost use Rattle.maker_core.specs.declared.made.MakeFault.TheVariants.{Exhausted, SizeRange};
-ghost use Rattle.maker_core.specs.Draws.{AreAll, IsAfterFirst, NonePasses, stream_after};
+ghost use Rattle.maker_core.specs.Draws.{AreAll, AllFail, IsAfterAll, IsAfterFirst};
 ghost use Rattle.maker_core.specs.Made.{TellsOne, IsOnlySolution};
-ghost use Rattle.maker_core.specs.PatternMaking.{IsPatternMade, pattern_filling, clued_by, pattern_passes};
+ghost use Rattle.maker_core.specs.PatternMaking.{MakesPattern, clued_by, pattern_passes, pattern_tries};
 
 use crate::black::draw_black;
 use crate::made::{Limits, Made, MakeFault};
@@ -40,10 +40,14 @@ fn passes(
 ) -> Result<bool, AllocError>
     requires puzzle { puzzle.now ≡ clued_by puzzle.now.size answer.old }
     requires solved { IsPatternSolution puzzle.now answer.old }
-    ensures verdict { IfOk result (λ unique. unique ≡ pattern_passes puzzle.now.size budget answer.old) }
-    ensures only { IfOk result (λ unique. unique ≡ true → IsOnlySolution (IsPatternSolution puzzle.now) answer.old) }
-    ensures found { IfOk result (λ unique. unique ≡ true → TellsOne (line_rules puzzle.now) budget answer.old) }
-    ensures plain { AreAll 0 answer.old ⊎ AreAll 1 answer.old → IfOk result (λ unique. unique ≡ true) }
+    ensures verdict { IfOk result
+        (λ unique. unique ≡ pattern_passes puzzle.now.size budget answer.old) }
+    ensures only { IfOk result
+        (λ unique. unique ≡ true → IsOnlySolution (IsPatternSolution puzzle.now) answer.old) }
+    ensures found { IfOk result
+        (λ unique. unique ≡ true → TellsOne (line_rules puzzle.now) budget answer.old) }
+    ensures plain { AreAll 0 answer.old ⊎ AreAll 1 answer.old
+        → IfOk result (λ unique. unique ≡ true) }
     ensures same { answer.new ≡ answer.old }
 {
     pattern_core::accepted_are_solutions();
@@ -79,13 +83,15 @@ pub fn make_pattern<G: Rng>(
     limits: Limits,
 ) -> Result<Made<PatternPuzzle>, MakeFault>
     requires { black ≤ 100 }
-    ensures made { IfOk result (λ made.
-        IsPatternMade size black limits.budget limits.tries (G.stream rng.old) made.puzzle made.answer made.kept.items) }
-    ensures drawn { IfOk result (λ _. IsAfterFirst (pattern_filling size black) (pattern_passes size limits.budget) (G.stream rng.old) limits.tries (G.stream rng.new)) }
+    ensures made { IfOk result (MakesPattern size black limits (G.stream rng.old)) }
+    ensures drawn { OnOk result
+        (IsAfterFirst (pattern_tries size black limits) (G.stream rng.old) (G.stream rng.new)) }
     ensures in_range { result ≢ Err SizeRange }
     ensures no_tries { limits.tries ≡ 0 → result ≡ Err Exhausted }
-    ensures exhausted { result ≡ Err Exhausted → NonePasses (pattern_filling size black) (pattern_passes size limits.budget) (G.stream rng.old) limits.tries }
-    ensures all_drawn { result ≡ Err Exhausted → G.stream rng.new ≡ stream_after (pattern_filling size black) limits.tries (G.stream rng.old) }
+    ensures exhausted { result ≡ Err Exhausted
+        → AllFail (pattern_tries size black limits) (G.stream rng.old) }
+    ensures all_drawn { result ≡ Err Exhausted
+        → IsAfterAll (pattern_tries size black limits) (G.stream rng.old) (G.stream rng.new) }
     ensures plain { 1 ≤ limits.tries → (black ≡ 0) ⊎ (black ≡ 100) → result ≢ Err Exhausted }
 {
     for _attempt in 0..limits.tries {

@@ -1,13 +1,11 @@
 //! The maker of Solo.
 
-ghost use Rattle.std.specs.Prelude.{◌≡◌, ◌↔◌, ℕ, suc, false, IsTrue, Err, IfOk, IfSome};
+ghost use Rattle.std.specs.Prelude.{◌≡◌, ◌↔◌, false, IsTrue, Err, IfOk, IfSome, OnOk};
 ghost use Rattle.solo_core.specs.Solutions.{IsSoloSolution};
 ghost use Rattle.maker_core.specs.declared.made.MakeFault.TheVariants.{Exhausted, SizeRange};
-ghost use Rattle.maker_core.specs.Draws.{IsFirstPassing, NonePasses, stream_after};
-ghost use Rattle.maker_core.specs.SoloClues.{solo_game};
+ghost use Rattle.maker_core.specs.Draws.{AllFail, IsAfterAll, IsAfterFirst};
 ghost use Rattle.maker_core.specs.SoloFilling.{all_given};
-ghost use Rattle.maker_core.specs.SoloMaking.{IsSoloMade, IsSoloSize, NoneFound, solo_filling, solo_passes};
-ghost use Rattle.maker_core.specs.Thinning.{stream_after_clues};
+ghost use Rattle.maker_core.specs.SoloMaking.{IsSoloSize, MakesSolo, NoneFound, solo_filling, solo_tries};
 
 use crate::made::{Limits, Made, MakeFault};
 use crate::solo_filling::{fill_plain, full_puzzle};
@@ -44,24 +42,18 @@ pub fn make_solo<G: Rng>(
     rng: &mut G,
     limits: Limits,
 ) -> Result<Made<SoloPuzzle>, MakeFault>
-    ensures made { IfOk result (λ made.
-        IsSoloMade c r x limits.budget limits.tries (G.stream rng.old)
-        made.puzzle made.answer made.kept.items) }
-    ensures drawn { IfOk result (λ made. (k : ℕ)
-        → IsFirstPassing (solo_filling c r x limits.budget) (solo_passes c r x limits.budget)
-        (G.stream rng.old) limits.tries k
-        → G.stream rng.new ≡ stream_after_clues solo_game (all_given c r x made.answer)
-        (stream_after (solo_filling c r x limits.budget) (suc k) (G.stream rng.old))) }
+    ensures made { IfOk result (MakesSolo c r x limits (G.stream rng.old)) }
+    ensures drawn { OnOk result
+        (IsAfterFirst (solo_tries c r x limits) (G.stream rng.old) (G.stream rng.new)) }
     ensures size_range { (result ≡ Err SizeRange) ↔ (IsSoloSize c r → ⊥) }
     ensures no_tries { IsSoloSize c r → limits.tries ≡ 0 → result ≡ Err Exhausted }
     ensures exhausted { result ≡ Err Exhausted
-        → NonePasses (solo_filling c r x limits.budget) (solo_passes c r x limits.budget)
-        (G.stream rng.old) limits.tries }
+        → AllFail (solo_tries c r x limits) (G.stream rng.old) }
     ensures none_found { result ≡ Err Exhausted
         → NoneFound c r x limits.budget (G.stream rng.old) limits.tries }
     ensures plain { x ≡ false → result ≡ Err Exhausted → limits.tries ≡ 0 }
-    ensures all_drawn { result ≡ Err Exhausted → G.stream rng.new
-        ≡ stream_after (solo_filling c r x limits.budget) limits.tries (G.stream rng.old) }
+    ensures all_drawn { result ≡ Err Exhausted
+        → IsAfterAll (solo_tries c r x limits) (G.stream rng.old) (G.stream rng.new) }
     ensures undrawn { result ≡ Err SizeRange → G.stream rng.new ≡ G.stream rng.old }
 {
     if !is_size(c, r) {

@@ -1,12 +1,12 @@
 //! The filling of plain Solo.
 
-ghost use Rattle.std.specs.Prelude.{◌≡◌, ◌+◌, ◌*◌, ◌<◌, ◌≤◌, false, slice_index, IfOk};
+ghost use Rattle.std.specs.Prelude.{◌≡◌, ◌+◌, ◌*◌, ◌<◌, ◌≤◌, false, slice_index, IfOk, OnOk};
 ghost use Rattle.grid_core.specs.Grids.{IsGrid};
 ghost use Rattle.gameid_core.specs.Head.{max_numbers};
 ghost use Rattle.solo_core.specs.Solutions.{IsSoloSolution};
 ghost use Rattle.maker_core.specs.Draws.{shuffled_order};
 ghost use Rattle.maker_core.specs.SoloOrders.{IsOrder, IsLineOrder};
-ghost use Rattle.maker_core.specs.SoloFilling.{group_added, line_order as lines_of_order, rearranged, plain_filling, all_given};
+ghost use Rattle.maker_core.specs.SoloFilling.{group_drawn, line_order as lines_of_order, rearranged, plain_filling, all_given};
 ghost use Rattle.maker_core.specs.SoloMaking.{IsSoloSize};
 
 use crate::draws::order;
@@ -94,9 +94,9 @@ fn push_group<G: Rng>(
     lines: &mut Vec<usize>,
 ) -> Result<(), AllocError>
     requires few { (group + 1) * size ≤ max_numbers }
-    ensures drawn { IfOk result (λ _. (lines.new.items, G.stream rng.new)
-        ≡ group_added size group lines.old.items (shuffled_order size (G.stream rng.old))) }
-    ensures ordered { IfOk result (λ _. IsOrder size (shuffled_order size (G.stream rng.old)).0) }
+    ensures drawn { OnOk result ((lines.new.items, G.stream rng.new)
+        ≡ group_drawn size group lines.old.items (G.stream rng.old)) }
+    ensures ordered { OnOk result (IsOrder size (shuffled_order size (G.stream rng.old)).0) }
 {
     let inside = order(alloc, rng, size)?;
     for k in 0..size {

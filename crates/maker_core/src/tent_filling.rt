@@ -2,9 +2,8 @@
 
 ghost use Rattle.std.specs.Prelude.{◌≡◌, ◌<◌, ◌*◌, ◌/◌, IfOk, OnOk, true, length};
 ghost use Rattle.grid_core.specs.Grids.{IsGrid};
-ghost use Rattle.fields_core.specs.TentSolutions.{IsTentSolution};
 ghost use Rattle.maker_core.specs.SoloOrders.{IsOrder};
-ghost use Rattle.maker_core.specs.TentFilling.{no_camp, camp_after, is_free, free_cells_beside, may_pitch, pitch as pitched_in, take_cell as cell_taken, tent_filling, tents_puzzle_of};
+ghost use Rattle.maker_core.specs.TentFilling.{IsSolvedCamp, no_camp, camp_of_order, is_free, free_cells_beside, may_pitch, pitch as pitched_in, take_cell as cell_taken, tent_filling};
 ghost use Rattle.maker_core.specs.TentSteps.{IsPitched, IsTaken};
 
 use crate::camp::Camp;
@@ -79,7 +78,8 @@ fn take_cell<G: Rng>(
     requires trees { IsGrid (size.w * size.h) 2 camp.old.trees }
     requires tents { IsGrid (size.w * size.h) 2 camp.old.tents }
     requires place { place < size.w * size.h }
-    ensures drawn { OnOk result ((camp.new, G.stream rng.new) ≡ cell_taken size camp.old place (G.stream rng.old)) }
+    ensures drawn { OnOk result
+        ((camp.new, G.stream rng.new) ≡ cell_taken size camp.old place (G.stream rng.old)) }
     ensures taken { OnOk result (IsTaken size camp.old place camp.new) }
 {
     if camp.pitched >= size.cells() / 5 {
@@ -109,10 +109,11 @@ fn take_cells<G: Rng>(
 ) -> Result<(), AllocError>
     requires order { IsOrder (size.w * size.h) order.now }
     requires none { camp.old ≡ no_camp size }
-    ensures drawn { OnOk result ((camp.new, G.stream rng.new) ≡ camp_after size order.now (length order.now) (G.stream rng.old)) }
+    ensures drawn { OnOk result
+        ((camp.new, G.stream rng.new) ≡ camp_of_order size order.now (G.stream rng.old)) }
     ensures trees { OnOk result (IsGrid (size.w * size.h) 2 camp.new.trees) }
     ensures tents { OnOk result (IsGrid (size.w * size.h) 2 camp.new.tents) }
-    ensures solved { OnOk result (IsTentSolution (tents_puzzle_of size camp.new) camp.new.tents) }
+    ensures solved { OnOk result (IsSolvedCamp size camp.new) }
 {
     let _cells = size.cells();
     for k in 0..order.len() {
@@ -127,10 +128,11 @@ fn take_cells<G: Rng>(
 ///
 /// When memory was refused.
 pub(crate) fn fill_tents<G: Rng>(alloc: Global, rng: &mut G, size: Size) -> Result<Camp, AllocError>
-    ensures drawn { IfOk result (λ camp. (camp, G.stream rng.new) ≡ tent_filling size (G.stream rng.old)) }
+    ensures drawn { IfOk result
+        (λ camp. (camp, G.stream rng.new) ≡ tent_filling size (G.stream rng.old)) }
     ensures trees { IfOk result (λ camp. IsGrid (size.w * size.h) 2 camp.trees) }
     ensures tents { IfOk result (λ camp. IsGrid (size.w * size.h) 2 camp.tents) }
-    ensures solved { IfOk result (λ camp. IsTentSolution (tents_puzzle_of size camp) camp.tents) }
+    ensures solved { IfOk result (IsSolvedCamp size) }
 {
     let cells = size.cells();
     let places = order(alloc, rng, cells)?;

@@ -1,13 +1,13 @@
 //! The maker of Tents.
 
-ghost use Rattle.std.specs.Prelude.{◌≡◌, ◌↔◌, ◌*◌, true, IsTrue, Err, IfOk};
+ghost use Rattle.std.specs.Prelude.{◌≡◌, ◌↔◌, ◌*◌, true, IsTrue, Err, IfOk, OnOk};
 ghost use Rattle.grid_core.specs.Grids.{IsGrid};
 ghost use Rattle.fields_core.specs.TentHouses.{tent_rules};
 ghost use Rattle.maker_core.specs.declared.made.MakeFault.TheVariants.{Exhausted, SizeRange};
-ghost use Rattle.maker_core.specs.Draws.{IsAfterFirst, NonePasses, stream_after};
+ghost use Rattle.maker_core.specs.Draws.{AllFail, IsAfterAll, IsAfterFirst};
 ghost use Rattle.maker_core.specs.Made.{HasOne, has_one};
-ghost use Rattle.maker_core.specs.TentFilling.{tent_filling, tents_puzzle_of, tents_pass};
-ghost use Rattle.maker_core.specs.TentMaking.{IsTentSize, IsTentsMade};
+ghost use Rattle.maker_core.specs.TentFilling.{tents_puzzle_of};
+ghost use Rattle.maker_core.specs.TentMaking.{IsTentSize, MakesTents, tents_tries};
 
 use crate::camp::Camp;
 use crate::made::{Limits, Made, MakeFault};
@@ -67,13 +67,15 @@ pub fn make_tents<G: Rng>(
     rng: &mut G,
     limits: Limits,
 ) -> Result<Made<TentsPuzzle>, MakeFault>
-    ensures made { IfOk result (λ made.
-        IsTentsMade size limits.budget limits.tries (G.stream rng.old) made.puzzle made.answer made.kept.items) }
-    ensures drawn { IfOk result (λ _. IsAfterFirst (tent_filling size) (tents_pass size limits.budget) (G.stream rng.old) limits.tries (G.stream rng.new)) }
+    ensures made { IfOk result (MakesTents size limits (G.stream rng.old)) }
+    ensures drawn { OnOk result
+        (IsAfterFirst (tents_tries size limits) (G.stream rng.old) (G.stream rng.new)) }
     ensures size_range { (result ≡ Err SizeRange) ↔ (IsTentSize size → ⊥) }
     ensures no_tries { IsTentSize size → limits.tries ≡ 0 → result ≡ Err Exhausted }
-    ensures exhausted { result ≡ Err Exhausted → NonePasses (tent_filling size) (tents_pass size limits.budget) (G.stream rng.old) limits.tries }
-    ensures all_drawn { result ≡ Err Exhausted → G.stream rng.new ≡ stream_after (tent_filling size) limits.tries (G.stream rng.old) }
+    ensures exhausted { result ≡ Err Exhausted
+        → AllFail (tents_tries size limits) (G.stream rng.old) }
+    ensures all_drawn { result ≡ Err Exhausted
+        → IsAfterAll (tents_tries size limits) (G.stream rng.old) (G.stream rng.new) }
     ensures undrawn { result ≡ Err SizeRange → G.stream rng.new ≡ G.stream rng.old }
 {
     fields_core::accepted_tents_are_solutions();

@@ -2,8 +2,7 @@
 
 ghost use Rattle.std.specs.Prelude.{◌≡◌, ◌<◌, [], IfOk, OnOk, IsTrue, IsPermutation};
 ghost use Rattle.engine_core.specs.Puzzle.{FitsIn, needs_of};
-ghost use Rattle.maker_core.specs.Draws.{shuffled_list};
-ghost use Rattle.maker_core.specs.Thinning.{has_clue, clue_places, stream_after_clues, IsThinnedFrom, IsOnly, AreReasons};
+ghost use Rattle.maker_core.specs.Thinning.{has_clue, clue_places, shuffled_clues, stream_after_clues, IsThinnedFrom, IsOnly, HasReasons};
 ghost use Rattle.maker_core.specs.Made.{HasOne, TellsOne};
 ghost use Rattle.maker_core.specs.ThinningSteps.{IsLeft, IsAsked, IsThinning, reasons_from};
 
@@ -34,12 +33,13 @@ where
     requires all { puzzle ≡ P.game.all_clues puzzle answer }
     requires only { IsOnly (P.game.rules puzzle) answer }
     requires found { TellsOne (P.game.rules puzzle) budget answer }
-    ensures drawn { IfOk result (λ _. G.stream rng.new ≡ stream_after_clues P.game puzzle (G.stream rng.old)) }
+    ensures drawn { OnOk result
+        (G.stream rng.new ≡ stream_after_clues P.game puzzle (G.stream rng.old)) }
     ensures answer { IfOk result (λ made. made.answer ≡ answer) }
     ensures within { IfOk result (λ made. IsThinnedFrom P.game made.puzzle puzzle) }
     ensures only { IfOk result (λ made. IsOnly (P.game.rules made.puzzle) answer) }
     ensures found { IfOk result (λ made. TellsOne (P.game.rules made.puzzle) budget answer) }
-    ensures reasons { IfOk result (λ made. AreReasons P.game budget (P.game.all_clues made.puzzle answer) made.puzzle made.kept.items) }
+    ensures reasons { IfOk result (HasReasons P.game budget answer) }
 {
     let mut puzzle = puzzle;
     let rules = puzzle.search(alloc)?;
@@ -74,9 +74,10 @@ fn shuffled_clues<P: Clued, G: Rng>(
     puzzle: &P,
     rng: &mut G,
 ) -> Result<Vec<usize>, AllocError>
-    ensures drawn { IfOk result
-        (λ order. (order.items, G.stream rng.new) ≡ shuffled_list (clue_places P.game puzzle.now) (G.stream rng.old)) }
-    ensures permutation { IfOk result (λ order. IsPermutation (clue_places P.game puzzle.now) order.items) }
+    ensures drawn { IfOk result (λ order. (order.items, G.stream rng.new)
+        ≡ shuffled_clues P.game puzzle.now (G.stream rng.old)) }
+    ensures permutation { IfOk result
+        (λ order. IsPermutation (clue_places P.game puzzle.now) order.items) }
 {
     let mut order = clue_list(alloc, puzzle)?;
     shuffle(rng, &mut order);

@@ -32,10 +32,10 @@ pub returns-in-Some-clause-drawn : goal.returns-in-Some-clause-drawn
 returns-in-Some-clause-drawn g c =
     let a = c.args in
     let solution = keeps_rules a.c a.r a.x _ _ c.in-Some.is c.in_ok-filling.ensures.solution in
-    left_shuffled a.c a.r a.x a.limits.budget a.limits.tries _ _ _ _ _ _ c.in-Some.answer _ c.loop-attempt.invariant
+    left_shuffled a.c a.r a.x a.limits.budget a.limits.tries _ _ _ _ _ _ c.in-Some.answer c.loop-attempt.invariant
     (filled _ _ _ _ c.in-Some.is c.in_ok-filling.ensures.filling)
     (full_passes a.c a.r a.x c.in-Some.answer a.limits.budget (c.if-not-is_size.ensures.0 refl) solution) c.loop-attempt-test.true
-    c.in_ok-puzzle.ensures c.in_ok-thin.ensures.answer c.in_ok-thin.ensures.drawn
+    c.in_ok-puzzle.ensures c.in_ok-thin.ensures.drawn
 
 pub loop-attempt-preserved : goal.loop-attempt-preserved
 loop-attempt-preserved g c =
