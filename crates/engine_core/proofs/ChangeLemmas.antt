@@ -8,46 +8,22 @@ use Rattle.engine_core.specs.Puzzle.{Puzzle, IsLawful, IsBoardOf}
 use Rattle.engine_core.specs.PlaceLaws.{has_place-here}
 use Rattle.engine_core.specs.Sets.{IsBitsOf, IsChange}
 use Rattle.engine_core.proofs.ScopeLemmas.{cell_noted, scope_upto, scope-before, scope-more, cell-noted-same}
+use Rattle.std.proofs.lemmas.Grind.{common_steps}
 
 -- by the bits that boards give for a cell
 pub change-of : (p : Puzzle) (b b' : Layout) (place before after : ℕ) → IsBoardOf p b → SameShape b b' → place < p.cells → IsBitsOf (has b place) b.values before → IsBitsOf (has b' place) b'.values after
     → ((c v : ℕ) → (c ≡ place → ⊥) → has b' c v ≡ has b c v) → IsChange p.cells p.values (has b) (has b') place before after
-change-of p b b' place before after of shape lt was is others = record {
-  place_in = lt;
-  before_is = subst (λ n. IsBitsOf (has b place) n before) of.same_values was;
-  after_is = subst (λ n. IsBitsOf (has b' place) n after) (shape.same_values ∙ of.same_values) is;
-  within = λ v on. let w = has-within b' place v on in let a = shape.same_values in let c = of.same_values in omega (arith, w.1);
-  others = others;
-}
+change-of p b b' place before after of shape lt was is others = grind (arith, common_steps, has-within)
 
 pub kept-others : (K K' : Candidates) (place value c v : ℕ) → K' ≡ only K place value → (c ≡ place → ⊥) → K' c v ≡ K c v
 unfolding only
-kept-others K K' place value c v e ne = ap (λ (L : Candidates). L c v) e ∙ rw (ne_eqb c place ne) (by (K c v))
-  where
-    by : (x : Bool) → (x && true) ≡ x
-    by true = refl
-    by false = refl
+kept-others K K' place value c v e ne = grind (arith, common_steps)
 
 -- a cell that has the values of another board in place of its own
 pub noted-change : (p : Puzzle) (V K' : Candidates) (place before after : ℕ) → place < p.cells → IsBitsOf (V place) p.values before → IsBitsOf (K' place) p.values after
     → ((v : ℕ) → K' place v ≡ true → V place v ≡ true) → ((v : ℕ) → K' place v ≡ true → v < p.values) → IsChange p.cells p.values V (cell_noted V place K') place before after
 unfolding cell_noted
-noted-change p V K' place before after lt was is inside within = record {
-  place_in = lt;
-  before_is = was;
-  after_is = record { small = is.small; same = λ v ltv. is.same v ltv ∙ here (V place v) (K' place v) (inside v) };
-  within = λ v on. within v (here (V place v) (K' place v) (inside v) ∙ on);
-  others = λ c v ne. rw (ne_eqb c place ne) (whole (V c v));
-}
-  where
-    here : (a b : Bool) → (b ≡ true → a ≡ true) → b ≡ (a && (not (eqb place place) || b))
-    here a true f = rw (f refl, eq-eqb place place refl) refl
-    here true false f = rw (eq-eqb place place refl) refl
-    here false false f = refl
-
-    whole : (x : Bool) → (x && true) ≡ x
-    whole true = refl
-    whole false = refl
+noted-change p V K' place before after lt was is inside within = grind (arith, common_steps)
 
 -- the same for the cell at the number k of a house, after a visit
 pub scope-change : (p : Puzzle) (laws : IsLawful p) (h k : ℕ) (K K' : Candidates) (before after : ℕ) → h < p.houses → k < length (p.scope h) → IsWithin p.cells p.values K

@@ -15,6 +15,7 @@ use Rattle.engine_core.proofs.QueueLemmas.{closed-but_only}
 use Rattle.engine_core.proofs.SearchLemmas.{pending-pop, pending-trial}
 use Rattle.engine_core.proofs.TrailLemmas.{put_back-none}
 use Rattle.engine_core.proofs.RoomLemmas.{singles-only, open-room}
+use Rattle.std.proofs.lemmas.Grind.{common_steps}
 
 -- ---- the levels of frames
 frame_at-here : (frames : List Frame) (n : ℕ) (f : Frame) → n < length frames → frame_at (set frames n f) n ≡ f
@@ -46,66 +47,24 @@ pub levels-further : (p : Puzzle) (t t' : Trail) (frames : List Frame) (n : ℕ)
 levels-further p t t' frames n ready further = levels-same t' t frames frames n (λ k lt. level-with t' (frame_at frames k) _ (further.back (frame_at frames k).mark (ready.marked k lt)))
 
 pub ready-further : (p : Puzzle) (t t' : Trail) (frames : List Frame) (n : ℕ) → IsReady p t frames n → IsFurther t t' → IsReady p t' frames n
-ready-further p t t' frames n ready further = record {
-  room = ready.room;
-  marked = λ k lt. let le = ready.marked k lt in let grows = further.grows in omega arith;
-  ascend = ready.ascend;
-  open_levels = λ k lt. subst (λ (l : Level). IsOpen p l k) (sym (level-with t' (frame_at frames k) _ (further.back (frame_at frames k).mark (ready.marked k lt)))) (ready.open_levels k lt);
-}
+ready-further p t t' frames n ready further = grind (arith, common_steps)
 
 levels-back : (p : Puzzle) (t t' : Trail) (frames : List Frame) (n : ℕ) → IsReady p t frames n → 0 < n → IsBack t t' (frame_at frames (n - 1)).mark → levels_of t' frames n ≡ levels_of t frames n
 levels-back p t t' frames n ready pos back = levels-same t' t frames frames n (λ k lt. level-with t' (frame_at frames k) _ (back.back (frame_at frames k).mark (ready.ascend k (n - 1) (omega arith) (omega arith))))
 
 pub ready-back : (p : Puzzle) (t t' : Trail) (frames : List Frame) (n : ℕ) → IsReady p t frames n → 0 < n → IsBack t t' (frame_at frames (n - 1)).mark → IsReady p t' frames n
-ready-back p t t' frames n ready pos back = record {
-  room = ready.room;
-  marked = λ k lt. let le = ready.ascend k (n - 1) (omega arith) (omega arith) in let e = back.len in omega arith;
-  ascend = ready.ascend;
-  open_levels = λ k lt. subst (λ (l : Level). IsOpen p l k) (sym (level-with t' (frame_at frames k) _ (back.back (frame_at frames k).mark (ready.ascend k (n - 1) (omega arith) (omega arith))))) (ready.open_levels k lt);
-}
+ready-back p t t' frames n ready pos back = grind (arith, common_steps)
 
 -- ---- frames are pushed and popped
 -- a new frame at the end is the innermost level, and the others stay
 pub levels-push : (t : Trail) (frames : List Frame) (n cell m : ℕ) → n < length frames → m ≡ t.len
     → levels_of t (set frames n (record { cell = cell; next = 0; mark = m })) (n + 1) ≡ record { board = has t.board; cell = cell; next = 0 } ∷ levels_of t frames n
 unfolding levels_of
-levels-push t frames n cell m lt e =
-    let f : Frame = record { cell = cell; next = 0; mark = m } in
-    let rest : levels_of t (set frames n f) n ≡ levels_of t frames n = levels-same t t (set frames n f) frames n (λ k less. ap (level_at t) (frame_at-other frames n k f (let ne : k ≢ n = omega arith in ne))) in
-    rw add-one (rw (frame_at-here frames n f lt, rest) (ap (λ (l : Level). l ∷ levels_of t frames n) (level-here t f e)))
+levels-push t frames n cell m lt e = grind (arith, common_steps, add-one, frame_at-here, frame_at-other, level-here, levels-same)
 
 pub ready-push : (p : Puzzle) (t : Trail) (frames : List Frame) (n cell m : ℕ) → IsReady p t frames n → n < length frames → m ≡ t.len → IsOpen p (record { board = has t.board; cell = cell; next = 0 }) n
     → IsReady p t (set frames n (record { cell = cell; next = 0; mark = m })) (n + 1)
-ready-push p t frames n cell m ready lt is opened =
-    let f : Frame = record { cell = cell; next = 0; mark = m } in
-    record {
-      room = rw length-set ready.room;
-      marked = λ k less. elim (cases_eq k n) [
-        | inl e ↦ rw (e, frame_at-here frames n f lt) (omega arith)
-        | inr ne ↦ rw (frame_at-other frames n k f ne) (ready.marked k (omega arith))
-      ];
-      ascend = λ j k le less. elim (cases_eq k n) [
-        | inl e ↦ elim (cases_eq j n) [
-          | inl e' ↦ rw (e, e') (omega arith)
-          | inr ne ↦ rw (e, frame_at-here frames n f lt, frame_at-other frames n j f ne) (let le = ready.marked j (omega arith) in omega arith)
-        ]
-        | inr ne ↦
-            let nj : j ≢ n = (λ e'. ne (omega arith)) in
-            rw (frame_at-other frames n k f ne, frame_at-other frames n j f nj) (ready.ascend j k le (omega arith))
-      ];
-      open_levels = λ k less. elim (cases_eq k n) [
-        | inl e ↦ rw (e, frame_at-here frames n f lt) (subst (λ (l : Level). IsOpen p l n) (sym (level-here t f is)) opened)
-        | inr ne ↦ subst (λ (g : Frame). IsOpen p (level_at t g) k) (sym (frame_at-other frames n k f ne)) (ready.open_levels k (omega arith))
-      ];
-    }
-
-pub ready-popped : (p : Puzzle) (t : Trail) (frames : List Frame) (n : ℕ) → IsReady p t frames n → IsReady p t frames (n - 1)
-ready-popped p t frames n ready = record {
-  room = ready.room;
-  marked = λ k lt. ready.marked k (omega arith);
-  ascend = λ j k le lt. ready.ascend j k le (omega arith);
-  open_levels = λ k lt. ready.open_levels k (omega arith);
-}
+ready-push p t frames n cell m ready lt is opened = grind (arith, common_steps, cases_eq, frame_at-here, frame_at-other, length-set, level-here)
 
 -- ---- the innermost frame
 levels-top : (t : Trail) (frames : List Frame) (n : ℕ) → 0 < n → levels_of t frames n ≡ level_at t (frame_at frames (n - 1)) ∷ levels_of t frames (n - 1)
@@ -118,34 +77,11 @@ abbrev pub retried : List Frame → ℕ → ℕ → List Frame
 retried frames n next = set frames (n - 1) (record { cell = (frame_at frames (n - 1)).cell; next = next; mark = (frame_at frames (n - 1)).mark })
 
 ready-retried : (p : Puzzle) (t : Trail) (frames : List Frame) (n next : ℕ) → IsReady p t frames n → 0 < n → n - 1 < length frames → IsReady p t (retried frames n next) n
-ready-retried p t frames n next ready pos lt =
-    let top = frame_at frames (n - 1) in
-    let f : Frame = record { cell = top.cell; next = next; mark = top.mark } in
-    let mark_same : (k : ℕ) → (frame_at (set frames (n - 1) f) k).mark ≡ (frame_at frames k).mark =
-    (λ k. elim (cases_eq k (n - 1)) [
-      | inl e ↦ rw e (ap (λ (g : Frame). g.mark) (frame_at-here frames (n - 1) f lt))
-      | inr ne ↦ ap (λ (g : Frame). g.mark) (frame_at-other frames (n - 1) k f ne)
-    ]) in
-    record {
-      room = rw length-set ready.room;
-      marked = λ k less. let a = ready.marked k less in let s = mark_same k in omega arith;
-      ascend = λ j k le less. let a = ready.ascend j k le less in let s = mark_same k in let t = mark_same j in omega arith;
-      open_levels = λ k less. elim (cases_eq k (n - 1)) [
-        | inl e ↦
-            let q = ready.open_levels (n - 1) (omega arith) in
-            rw (e, frame_at-here frames (n - 1) f lt) (record { single = q.single; cell_in = q.cell_in; two = q.two; closed = q.closed; alive = q.alive })
-        | inr ne ↦ subst (λ (g : Frame). IsOpen p (level_at t g) k) (sym (frame_at-other frames (n - 1) k f ne)) (ready.open_levels k less)
-      ];
-    }
+ready-retried p t frames n next ready pos lt = grind (arith, common_steps)
 
 levels-retried : (t : Trail) (frames : List Frame) (n next : ℕ) → 0 < n → n - 1 < length frames → (frame_at frames (n - 1)).mark ≡ t.len
     → levels_of t (retried frames n next) n ≡ record { board = has t.board; cell = (frame_at frames (n - 1)).cell; next = next } ∷ levels_of t frames (n - 1)
-levels-retried t frames n next pos lt e =
-    let top = frame_at frames (n - 1) in
-    let f : Frame = record { cell = top.cell; next = next; mark = top.mark } in
-    let head : level_at t (frame_at (set frames (n - 1) f) (n - 1)) ≡ record { board = has t.board; cell = top.cell; next = next } = ap (level_at t) (frame_at-here frames (n - 1) f lt) ∙ level-here t f e in
-    let tail : levels_of t (set frames (n - 1) f) (n - 1) ≡ levels_of t frames (n - 1) = levels-same t t (set frames (n - 1) f) frames (n - 1) (λ k less. ap (level_at t) (frame_at-other frames (n - 1) k f (let ne : k ≢ n - 1 = omega arith in ne))) in
-    levels-top t (set frames (n - 1) f) n pos ∙ (ap (λ (l : Level). l ∷ levels_of t (set frames (n - 1) f) (n - 1)) head ∙ ap (λ ls. record { board = has t.board; cell = top.cell; next = next } ∷ ls) tail)
+levels-retried t frames n next pos lt e = grind (arith, common_steps, frame_at-here, frame_at-other, level-here, levels-same, levels-top)
 
 -- ---- the innermost level, once the trail was taken back to its mark
 -- where its cell has no value left, it is done
@@ -193,11 +129,7 @@ turn-ready p t t1 t2 frames n next ready pos lt back further =
 -- one more cell has a single value
 pub turn-single : (p : Puzzle) (t t1 t2 : Trail) (frames : List Frame) (n v : ℕ) → IsReady p t frames n → 0 < n → IsBack t t1 (frame_at frames (n - 1)).mark → v < p.values
     → has t1.board (frame_at frames (n - 1)).cell v ≡ true → has t2.board ≡ only (has t1.board) (frame_at frames (n - 1)).cell v → n ≤ singles p (has t2.board)
-turn-single p t t1 t2 frames n v ready pos back ltv on e =
-    let o = open-back p t t1 frames n ready pos back in
-    let less = singles-only p (has t1.board) (frame_at frames (n - 1)).cell v o.cell_in ltv on o.two in
-    let s = o.single in
-    rw e (omega arith)
+turn-single p t t1 t2 frames n v ready pos back ltv on e = grind (arith, common_steps, open-back, singles-only)
 
 -- the board of a trial was closed before it
 pub turn-closed : (p : Puzzle) (laws : IsLawful p) (t t1 t2 : Trail) (frames : List Frame) (n v : ℕ) → IsReady p t frames n → 0 < n → IsBack t t1 (frame_at frames (n - 1)).mark → v < p.values
@@ -231,8 +163,4 @@ pending-none p t frames n e = rw e refl
 -- under no frame nothing else is pending
 pub walk-alone : (p : Puzzle) (K : Candidates) (t : Trail) (frames : List Frame) → walk p 0 K ++ pending_in p t frames 0 ≡ walk p 0 K
 unfolding levels_of pending
-walk-alone p K t frames = append_nil (walk p 0 K)
-  where
-    append_nil : (xs : List Mark) → xs ++ [] ≡ xs
-    append_nil [] = refl
-    append_nil (x ∷ xs) = ap (λ ys. x ∷ ys) (append_nil xs)
+walk-alone p K t frames = grind (arith, common_steps)

@@ -9,6 +9,7 @@ pub mod QueueLemmas
 pub mod ListLemmas
 pub mod SweepLemmas
 pub mod JudgeLemmas
+pub mod KeepLemmas
 pub mod StoreLemmas
 pub mod HouseLemmas
 pub mod NeighboursLemmas

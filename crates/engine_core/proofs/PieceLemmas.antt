@@ -7,6 +7,7 @@ use Rattle.std.proofs.lemmas.List.Sums.{sum_by-cons}
 use Rattle.std.proofs.lemmas.List.Edits.{length-between}
 use Rattle.std.proofs.lemmas.Slice.{between_is, between_to_end}
 use Rattle.engine_core.specs.HouseList.{pieces, last_end, AreEnds, listed, begin_of, IsListed}
+use Rattle.std.proofs.lemmas.Grind.{common_steps}
 
 pub last-le : (n from : ℕ) (ends : List ℕ) → AreEnds n from ends → (from ≤ last_end from ends) × (last_end from ends ≤ n)
 last-le n from [] e = (omega arith, e)
@@ -38,22 +39,14 @@ pieces-push xs x from (end ∷ ends) (low, e) =
     rw (pieces-push xs x end ends e, piece) refl
   where
     piece : between from end (xs ++ x ∷ []) ≡ between from end xs
-    piece =
-        let w = last-le (length xs) end ends e in
-        let a = w.0 in
-        let b = w.1 in
-        between_is (xs ++ x ∷ []) from end ∙ ap (drop from) (take-append-le end xs (x ∷ []) (omega arith)) ∙ sym (between_is xs from end)
+    piece = grind (arith, common_steps, between_is, last-le, take-append-le)
 
 pub listed-push : (xs ends : List ℕ) (x : ℕ) → AreEnds (length xs) 0 ends
     → listed (xs ++ x ∷ []) ends ≡ record { closed = (listed xs ends).closed; begun = (listed xs ends).begun ++ x ∷ [] }
 listed-push xs ends x e = rw (pieces-push xs x 0 ends e, drop-append-le (last_end 0 ends) xs (x ∷ []) ((last-le (length xs) 0 ends e).1)) refl
 
 pub listed-close : (xs ends : List ℕ) → listed xs (ends ++ length xs ∷ []) ≡ record { closed = (listed xs ends).closed ++ (listed xs ends).begun ∷ []; begun = [] }
-listed-close xs ends = rw (pieces-close xs 0 (length xs) ends, last-close 0 (length xs) ends, between_to_end xs (last_end 0 ends) (length xs) (omega arith), nothing xs) refl
-  where
-    nothing : (xs : List ℕ) → drop (length xs) xs ≡ []
-    nothing [] = refl
-    nothing (x ∷ xs) = nothing xs
+listed-close xs ends = grind (arith, common_steps, between_to_end, last-close, pieces-close)
 
 pub piece-at : (xs : List ℕ) (from : ℕ) (ends : List ℕ) (h : ℕ) → h < length ends → get_or (pieces xs from ends) h [] ≡ between (begin_of from ends h) (get_or ends h 0) xs
 piece-at xs from [] h lt = absurd (omega arith)
@@ -100,8 +93,4 @@ total-closed xs ends n e is = let t = total-is xs 0 ends e in omega arith
 
 -- all closed lists have fewer than 2^32 places together
 pub few-listed : (xs ends : List ℕ) → IsListed xs ends → sum_by length (listed xs ends).closed < 2 ^ 32
-few-listed xs ends l =
-    let t = total-is xs 0 ends l.are_ends in
-    let w = (last-le (length xs) 0 ends l.are_ends).1 in
-    let few = l.few_places in
-    omega arith
+few-listed xs ends l = grind (arith, common_steps, last-le, total-is)

@@ -9,8 +9,10 @@ use Rattle.grid_core.proofs.BoardLemmas.{has-within}
 use Rattle.grid_core.proofs.GridLemmas.{only-inside, only-other, only-here}
 use Rattle.engine_core.specs.Puzzle.{Puzzle, IsLawful, IsClosed, IsInsideAt, IsBoardOf, after, has_place, share}
 use Rattle.engine_core.specs.PlaceLaws.{has_place-at, has_place-here}
-use Rattle.engine_core.specs.Queue.{calls, counts_of, woken, but, visits_left, IsRested, IsWoken, AreCalled, empties, IsClosedBut, waits_from}
+use Rattle.engine_core.specs.Queue.{calls, counts_of, woken, but, visits_left, IsRested, IsWoken, empties, IsClosedBut, waits_from}
+use Rattle.engine_core.specs.Waiting.{AreCalled}
 use Rattle.engine_core.proofs.ClosingLemmas.{after_inside}
+use Rattle.std.proofs.lemmas.Grind.{common_steps}
 
 -- ---- what a visit leaves in the cells of other houses
 -- a cell outside the house is left alone
@@ -71,11 +73,7 @@ rested_after p laws h K waits lth within rested = λ j c v ltj asleep on.
 -- where the houses that a closing begins with were called for, each other one strikes nothing
 pub rested_from : (p : Puzzle) (K : Candidates) (from : Option ℕ) (waits : ℕ → Bool) → IsClosedBut p K from → AreCalled p K (waits_from p from) (λ j. false) waits → IsRested p K waits
 unfolding waits_from
-rested_from p K None waits around called = λ h c v lt asleep on. called.idle h lt asleep refl c v on
-rested_from p K (Some place) waits around called = λ h c v lt asleep on. elim (cases_Bool (has_place (p.scope h) place)) [
-  | inl here ↦ called.idle h lt asleep here c v on
-  | inr off ↦ around.closed h c v lt off on
-]
+rested_from p K from waits e h = grind (arith, common_steps)
 
 -- a closed board whose cell lost all values but one is closed around it
 pub closed-but_only : (p : Puzzle) (laws : IsLawful p) (K : Candidates) (cell v : ℕ) → cell < p.cells → v < p.values → K cell v ≡ true → IsClosed p K → is_dead p.cells p.values K ≡ false → IsClosedBut p (only K cell v) (Some cell)
@@ -92,15 +90,6 @@ closed-but_only p laws K cell v lt ltv on closed alive = record {
 
 pub dead_of : (p : Puzzle) (b : Layout) → IsBoardOf p b → is_dead (cells_of b) b.values (has b) ≡ is_dead p.cells p.values (has b)
 dead_of p b of = ap (λ (n : ℕ). is_dead n b.values (has b)) of.same_cells ∙ ap (λ (v : ℕ). is_dead p.cells v (has b)) of.same_values
-
--- what the test for an empty cell and the marks ask of the board
-pub alive_of : (p : Puzzle) (b : Layout) (from : Option ℕ) → IsBoardOf p b → IsClosedBut p (has b) from → IfSome from (λ _. is_dead (cells_of b) b.values (has b) ≡ false)
-alive_of p b None of around = tt
-alive_of p b (Some place) of around = dead_of p b of ∙ around.alive
-
-pub marked_of : (p : Puzzle) (K : Candidates) (from : Option ℕ) → IsClosedBut p K from → IfSome from (λ place. place < p.cells)
-marked_of p K None around = tt
-marked_of p K (Some place) around = around.place_in
 
 -- where no house waits, the board is closed
 pub closed_from_rested : (p : Puzzle) (K : Candidates) (waits : ℕ → Bool) → ((h : ℕ) → h < p.houses → waits h ≡ false) → IsRested p K waits → IsClosed p K
@@ -145,19 +134,7 @@ unsent p h K c same = count_below-none (sent p h K c) p.houses (λ j _. and_left
 -- what a cell's houses cost is paid by the values that it lost
 cell_pays : (p : Puzzle) (h : ℕ) (K : Candidates) (c : ℕ) → h < p.houses → 0 < count_below (after p h K c) p.values
     → count_below (sent p h K c) p.houses + (count_below (after p h K c) p.values - 1) * share p c ≤ (count_below (K c) p.values - 1) * share p c
-cell_pays p h K c lth alive =
-    let le : count_below (after p h K c) p.values ≤ count_below (K c) p.values = count_below-le (after p h K c) (K c) p.values (λ v _. after_inside p h K c v) in
-    elim (cases_eq (count_below (K c) p.values) (count_below (after p h K c) p.values)) [
-      | inl same ↦
-          let none : count_below (sent p h K c) p.houses ≡ 0 = unsent p h K c same in
-          let e : (count_below (after p h K c) p.values - 1) * share p c ≡ (count_below (K c) p.values - 1) * share p c = ap (λ (x : ℕ). (x - 1) * share p c) (sym same) in
-          omega arith
-      | inr fell ↦
-          let few : count_below (sent p h K c) p.houses ≤ share p c = sent_few p h K c lth in
-          let g : (count_below (after p h K c) p.values - 1) * share p c + share p c ≤ (count_below (K c) p.values - 1) * share p c =
-          grow (count_below (K c) p.values) (count_below (after p h K c) p.values) (share p c) (omega arith) (omega arith) in
-          omega arith
-    ]
+cell_pays p h K c lth alive = grind (arith, common_steps, after_inside, cases_eq, count_below-le, grow, sent, sent_few, unsent)
 
 -- who waits after the visit, waited or was sent for by a cell
 woken_or_sent : (p : Puzzle) (laws : IsLawful p) (h : ℕ) (K : Candidates) (waits : ℕ → Bool) (j : ℕ) → h < p.houses
@@ -199,12 +176,7 @@ visit_pays p laws h K waits lth waiting alive =
 -- at the start the bound is enough
 pub visits_first : (p : Puzzle) (laws : IsLawful p) (K : Candidates) (waits : ℕ → Bool) → p.by_queue ≡ true → visits_left p K waits ≤ p.bound
 unfolding visits_left
-visits_first p laws K waits queue =
-    let houses : count_below waits p.houses ≤ p.houses = count_below-bound waits p.houses in
-    let cells : sum_below (λ c. (count_below (K c) p.values - 1) * share p c) p.cells ≤ sum_below (λ c. (p.values - 1) * share p c) p.cells =
-    sum_below-le (λ c. (count_below (K c) p.values - 1) * share p c) (λ c. (p.values - 1) * share p c) p.cells (λ c _. mul-le-mul_right (share p c) (let few = count_below-bound (K c) p.values in omega arith)) in
-    let bound = laws.bound_of_queue queue in
-    omega arith
+visits_first p laws K waits queue = grind (arith, common_steps, count_below-bound, mul-le-mul_right, sum_below-le)
 
 -- ---- one more cell of the house
 pub any_below-more : (p : ℕ → Bool) (n : ℕ) → any_below p (n + 1) ≡ (any_below p n || p n)
@@ -252,10 +224,7 @@ turn_enough p laws h K K' waits waits' visits lth waiting e woke enough alive =
 
 pub turn_rested : (p : Puzzle) (laws : IsLawful p) (h : ℕ) (K K' : Candidates) (waits waits' : ℕ → Bool) → h < p.houses → IsWithin p.cells p.values K → K' ≡ after p h K
     → IsWoken p h K K' waits waits' → IsRested p K waits → IsRested p K' waits'
-turn_rested p laws h K K' waits waits' lth within e woke rested = λ j c v lt asleep on. elim (cases_Bool (woken p h (counts_of p h K) K' (but waits h) j)) [
-  | inl woken_up ↦ woke.idle j lt asleep woken_up c v on
-  | inr quiet ↦ rw e (rested_after p laws h K waits lth within rested j c v lt (ap (λ (L : Candidates). woken p h (counts_of p h K) L (but waits h) j) (sym e) ∙ quiet) (ap (λ (L : Candidates). L c v) (sym e) ∙ on))
-]
+turn_rested p laws h K K' waits waits' lth within e woke rested = grind (arith, common_steps, cases_Bool, rested_after)
 
 pub pushed : (t : List ℕ) (n h : ℕ) → n < length t → take (n + 1) (set t n h) ≡ take n t ++ h ∷ []
 pushed t n h lt = rw add-one (take-suc-set t n h lt)
@@ -290,8 +259,7 @@ emptied-alive p laws h K K' lt alive e = elim (cases_Bool (any_below (empties p 
 ]
   where
     still_some : (x y : ℕ) → 0 < x → (not (eqb x y) && eqb y 0) ≡ false → 0 < y
-    still_some x zero pos f = absurd (true≢false (sym (and_from (not (eqb x 0)) (eqb 0 0) (not_from_false (eqb x 0) (ne_eqb x 0 (λ z. absurd (omega arith)))) (eq-eqb 0 0 refl)) ∙ f))
-    still_some x (suc y) pos f = omega arith
+    still_some x y e h = grind (arith, common_steps)
 
 -- a board is dead after a visit where it was before, or where a cell of the house lost its last values
 pub emptied-dead : (p : Puzzle) (laws : IsLawful p) (h : ℕ) (K K' : Candidates) → h < p.houses → K' ≡ after p h K
@@ -306,21 +274,7 @@ emptied-dead p laws h K K' lt e = elim (cases_Bool (is_dead p.cells p.values K))
 pub dead_by : (now was told : Bool) → now ≡ (was || told) → was ≡ false → now ≡ told
 dead_by now was told e alive = rw alive at e
 
--- where nothing was struck, the board is as dead as before
-pub unstruck-dead : (p : Puzzle) (K K' : Candidates) → K' ≡ K → is_dead p.cells p.values K' ≡ (is_dead p.cells p.values K || false)
-unstruck-dead p K K' e = ap (is_dead p.cells p.values) e ∙ unwoken (is_dead p.cells p.values K)
-
 -- where nothing was struck, no house is called for
 pub woken-none : (p : Puzzle) (h : ℕ) (K K' : Candidates) (waits : ℕ → Bool) (j : ℕ) → K' ≡ K → waits j ≡ woken p h (counts_of p h K) K' waits j
 unfolding woken
-woken-none p h K K' waits j same = elim (cases_Bool (any_below (calls p h (counts_of p h K) K' j) (length (p.scope h)))) [
-  | inl on ↦
-      let w = any_below-some (calls p h (counts_of p h K) K' j) (length (p.scope h)) on in
-      let parts = and_parts (not (eqb (counts_of p h K w.0) (counts_of p h K' w.0))) (has_place (p.scope j) (slice_index (p.scope h) w.0)) w.2 in
-      absurd (true≢false (sym (eq-eqb (counts_of p h K w.0) (counts_of p h K' w.0) (ap (λ L. counts_of p h L w.0) (sym same))) ∙ not-true (eqb (counts_of p h K w.0) (counts_of p h K' w.0)) parts.0))
-  | inr off ↦ rw off (or_none (waits j))
-]
-  where
-    or_none : (b : Bool) → b ≡ (b || false)
-    or_none true = refl
-    or_none false = refl
+woken-none p h K K' waits j same = grind (arith, common_steps, and_parts, any_below-some, cases_Bool, eq-eqb, not-true)

@@ -9,6 +9,7 @@ use Rattle.engine_core.specs.Closing.{closure}
 use Rattle.engine_core.specs.Search.{Level}
 use Rattle.engine_core.specs.Frames.{singles, IsOpen}
 use Rattle.engine_core.proofs.ClosingLemmas.{closure_closed}
+use Rattle.std.proofs.lemmas.Grind.{common_steps}
 
 pub singles-only : (p : Puzzle) (K : Candidates) (cell v : ℕ) → cell < p.cells → v < p.values → K cell v ≡ true → 2 ≤ count_below (K cell) p.values → singles p K < singles p (only K cell v)
 unfolding singles
@@ -27,12 +28,7 @@ singles-only p K cell v ltc ltv on two =
 
 pub singles-inside : (p : Puzzle) (J K : Candidates) → IsInside J K → is_dead p.cells p.values J ≡ false → singles p K ≤ singles p J
 unfolding singles
-singles-inside p J K inside alive =
-    count_below-le (λ c. eqb (count_below (K c) p.values) 1) (λ c. eqb (count_below (J c) p.values) 1) p.cells (λ c lt one.
-    let s : count_below (K c) p.values ≡ 1 = eqb-true _ _ one in
-    let le : count_below (J c) p.values ≤ count_below (K c) p.values = count_below-le (J c) (K c) p.values (λ v _. inside c v) in
-    let some = is_dead-not p.cells p.values J c alive lt in
-    eq-eqb (count_below (J c) p.values) 1 (omega arith))
+singles-inside p J K inside alive = grind (arith, common_steps, count_below-le, eq-eqb, eqb-true, is_dead-not)
 
 pub singles-room : (p : Puzzle) (K : Candidates) (cell : ℕ) → cell < p.cells → 2 ≤ count_below (K cell) p.values → singles p K < p.cells
 unfolding singles

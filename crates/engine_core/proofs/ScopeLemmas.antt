@@ -8,6 +8,7 @@ use Rattle.engine_core.specs.Puzzle.{Puzzle, IsLawful, after, has_place}
 use Rattle.engine_core.specs.PlaceLaws.{has_place-at}
 use Rattle.engine_core.proofs.QueueLemmas.{after-outside, any_below-more}
 use Rattle.engine_core.proofs.ClosingLemmas.{after_inside}
+use Rattle.std.proofs.lemmas.Grind.{common_steps}
 
 -- the cell keeps what it has in the second board too; the others are as in the first
 unfoldable pub cell_noted : Candidates → ℕ → Candidates → Candidates
@@ -31,21 +32,11 @@ scope-inside p h k K K' = λ c v on. (and_parts (K c v) _ on).0
 
 pub scope-shrinks : (p : Puzzle) (h k : ℕ) (K K' : Candidates) → IsInside (scope_upto p h K K' (k + 1)) (scope_upto p h K K' k)
 unfolding scope_upto
-scope-shrinks p h k K K' = λ c v on.
-    let w = and_parts (K c v) _ on in
-    and_from (K c v) _ w.0 (shrinks (K' c v) (any_below (λ j. eqb (slice_index (p.scope h) j) c) k) (eqb (slice_index (p.scope h) k) c) (rw any_below-more at w.1))
-  where
-    shrinks : (a b d : Bool) → (a || not (b || d)) ≡ true → (a || not b) ≡ true
-    shrinks true b d e = refl
-    shrinks false false d e = refl
-    shrinks false true d e = e
+scope-shrinks p h k K K' = grind (arith, common_steps, and_from, and_parts, any_below-more)
 
 -- the k-th cell is not among the first k
 scope-fresh : (p : Puzzle) (laws : IsLawful p) (h k : ℕ) → h < p.houses → k < length (p.scope h) → any_below (λ j. eqb (slice_index (p.scope h) j) (slice_index (p.scope h) k)) k ≡ false
-scope-fresh p laws h k lth lt = false_from_ne_true _ (λ on.
-    let w = any_below-some (λ j. eqb (slice_index (p.scope h) j) (slice_index (p.scope h) k)) k on in
-    let same = laws.scope_distinct h w.0 k lth (let l = w.1 in omega arith) lt (eqb-true _ _ w.2) in
-    let l = w.1 in absurd (omega arith))
+scope-fresh p laws h k lth lt = grind (arith, common_steps, any_below-some, eqb-true, false_from_ne_true)
 
 pub scope-before : (p : Puzzle) (laws : IsLawful p) (h k : ℕ) (K K' : Candidates) (v : ℕ) → h < p.houses → k < length (p.scope h) → scope_upto p h K K' k (slice_index (p.scope h) k) v ≡ K (slice_index (p.scope h) k) v
 unfolding scope_upto
@@ -69,14 +60,10 @@ scope-more p laws h k K K' lth lt = fun_ext λ c. fun_ext λ v. rw any_below-mor
     fresh c here = rw here (scope-fresh p laws h k lth lt)
 
     or_false : (a : Bool) → a ≡ (a || false)
-    or_false true = refl
-    or_false false = refl
+    or_false a = grind (arith, common_steps)
 
     both : (a b x : Bool) → ((a && (b || true)) && b) ≡ (a && (b || not (x || true)))
-    both true true x = refl
-    both true false true = refl
-    both true false false = refl
-    both false b x = refl
+    both a b x = grind (arith, common_steps)
 
 -- once all cells of the house are noted, the board is as after the visit
 pub scope-all : (p : Puzzle) (laws : IsLawful p) (h : ℕ) (K K' : Candidates) → h < p.houses → K' ≡ after p h K → scope_upto p h K K' (length (p.scope h)) ≡ K'
@@ -94,20 +81,12 @@ scope-all p laws h K K' lth e = fun_ext λ c. fun_ext λ v. elim (cases_Bool (K 
 ]
   where
     and_on : (a b : Bool) → a ≡ true → (a && b) ≡ b
-    and_on true b h = refl
-    and_on false b h = absurd (true≢false (sym h))
+    and_on a b e = grind (arith, common_steps)
 
     or_none : (b : Bool) → (b || false) ≡ b
-    or_none true = refl
-    or_none false = refl
+    or_none b = grind (arith, common_steps)
 
 -- a cell that keeps all that it had
 pub cell-noted-same : (V : Candidates) (place : ℕ) (K : Candidates) → ((v : ℕ) → V place v ≡ true → K place v ≡ true) → V ≡ cell_noted V place K
 unfolding cell_noted
-cell-noted-same V place K all = fun_ext λ c. fun_ext λ v. both (V c v) (eqb c place) (K c v)
-    (λ here on. let e = eqb-true c place here in ap (λ c. K c v) e ∙ all v (ap (λ c. V c v) (sym e) ∙ on))
-  where
-    both : (had here has : Bool) → (here ≡ true → had ≡ true → has ≡ true) → had ≡ (had && (not here || has))
-    both false here has h = refl
-    both true false has h = refl
-    both true true has h = rw (h refl refl) refl
+cell-noted-same V place K all = grind (arith, common_steps)

@@ -11,6 +11,7 @@ use Rattle.engine_core.specs.declared.search.Progress.{Progress}
 use Rattle.engine_core.specs.declared.search.Searched.{Searched}
 use Rattle.engine_core.specs.declared.search.Verdict.TheVariants as verdict
 use Rattle.engine_core.proofs.CountLemmas.{IsCounted, counted-first, counted-more, counted-trials, counted-turns, counted-deepest}
+use Rattle.std.proofs.lemmas.Grind.{common_steps}
 
 -- ---- a trial, after the grids found
 outcome-trial : (b : ℕ) (two one : Bool) (f g : List ℕ) (n : ℕ) (K : Candidates) (ms : List Mark) → two ≡ false
@@ -46,16 +47,7 @@ pub record IsSearching (p : Puzzle) (budget : ℕ) (all rest : List Mark) (trial
   pub counted : IsCounted p (tried budget None all) (tried (budget - trials) None rest) trials from turns first deepest
 
 pub searching-first : (p : Puzzle) (budget : ℕ) (all : List Mark) (turns deepest : ℕ) → IsSearching p budget all all 0 turns turns deepest deepest
-searching-first p budget all turns deepest =
-    let e : budget - 0 ≡ budget = omega arith in
-    record {
-      answer = rw e refl;
-      counted = rw e (counted-first p (tried budget None all) turns deepest);
-    }
-
-pub searching-same : (p : Puzzle) (budget : ℕ) (all rest rest' : List Mark) (trials from turns first deepest : ℕ) → IsSearching p budget all rest trials from turns first deepest → rest ≡ rest'
-    → IsSearching p budget all rest' trials from turns first deepest
-searching-same p budget all rest rest' trials from turns first deepest s e = subst (λ ms. IsSearching p budget all ms trials from turns first deepest) e s
+searching-first p budget all turns deepest = grind (arith, common_steps, counted-first)
 
 -- a trial is made
 pub searching-trial : (p : Puzzle) (budget : ℕ) (all rest : List Mark) (trials from turns turns' first deepest deepest' : ℕ) (two one : Bool) (f g : List ℕ) (n m : ℕ) (K : Candidates) (ms ms' rest' : List Mark)
@@ -78,12 +70,7 @@ searching-trial p budget all rest trials from turns turns' first deepest deepest
 ended : (p : Puzzle) (budget : ℕ) (all rest : List Mark) (from : Progress) (result : Searched) (first second : List ℕ)
     → IsSearching p budget all rest result.trials from.turns result.turns from.deepest result.deepest
     → Says result.verdict first second (outcome (budget - result.trials) None rest) → tried (budget - result.trials) None rest ≡ [] → IsSearched p budget all from result first second
-ended p budget all rest from result first second s says none = record {
-  says = subst (λ (r : Outcome). Says result.verdict first second r) (sym s.answer) says;
-  exact = counted-trials p _ _ _ _ _ _ _ s.counted none;
-  turned = counted-turns p _ _ _ _ _ _ _ s.counted none;
-  deepest = counted-deepest p _ _ _ _ _ _ _ s.counted none;
-}
+ended p budget all rest from result first second s says none = grind (arith, common_steps)
 
 -- a trial more than the budget allows
 pub ended-out : (p : Puzzle) (budget : ℕ) (all rest : List Mark) (from : Progress) (trials turns deepest : ℕ) (two one : Bool) (f g : List ℕ) (n : ℕ) (K : Candidates) (ms ms' : List Mark)
@@ -117,16 +104,10 @@ pub ended-one : (p : Puzzle) (budget : ℕ) (all rest : List Mark) (from : Progr
     → IsSearching p budget all rest trials from.turns turns from.deepest deepest → rest ≡ found_marks two one f g ++ ms → ms ≡ [] → two ≡ false → one ≡ true
     → IsSearched p budget all from (record { verdict = verdict.One; trials = trials; turns = turns; deepest = deepest }) f g
 unfolding outcome tried
-ended-one p budget all rest from trials turns deepest two one f g ms s is none going old =
-    let here : rest ≡ Found f ∷ [] = is ∙ (ap (λ xs. found_marks two one f g ++ xs) none ∙ (ap (λ t. found_marks t one f g ++ []) going ∙ ap (λ o. found_marks false o f g ++ []) old)) in
-    ended p budget all rest from (record { verdict = verdict.One; trials = trials; turns = turns; deepest = deepest }) f g s
-    (ap (outcome (budget - trials) None) here) (ap (tried (budget - trials) None) here)
+ended-one p budget all rest from trials turns deepest two one f g ms s is none going old = grind (arith, common_steps)
 
 pub ended-none : (p : Puzzle) (budget : ℕ) (all rest : List Mark) (from : Progress) (trials turns deepest : ℕ) (two one : Bool) (f g : List ℕ) (ms : List Mark)
     → IsSearching p budget all rest trials from.turns turns from.deepest deepest → rest ≡ found_marks two one f g ++ ms → ms ≡ [] → two ≡ false → one ≡ false
     → IsSearched p budget all from (record { verdict = verdict.None; trials = trials; turns = turns; deepest = deepest }) f g
 unfolding outcome tried
-ended-none p budget all rest from trials turns deepest two one f g ms s is none going new =
-    let here : rest ≡ [] = is ∙ (ap (λ xs. found_marks two one f g ++ xs) none ∙ (ap (λ t. found_marks t one f g ++ []) going ∙ ap (λ o. found_marks false o f g ++ []) new)) in
-    ended p budget all rest from (record { verdict = verdict.None; trials = trials; turns = turns; deepest = deepest }) f g s
-    (ap (outcome (budget - trials) None) here) (ap (tried (budget - trials) None) here)
+ended-none p budget all rest from trials turns deepest two one f g ms s is none going new = grind (arith, common_steps)

@@ -8,7 +8,8 @@ use Rattle.std.proofs.lemmas.Nat.{pow-add}
 use Rattle.std.proofs.lemmas.Nat.Bits.{bit_at_set_same, bit_at_set_other, bit_at_clear_same, bit_at_clear_other, bit_at-zero, bit_at-trailing_zeros, bit_at_above}
 use Rattle.engine_core.specs.Sets.{has_bit}
 use Rattle.engine_core.specs.Puzzle.{IsNext}
-use Rattle.engine_core.specs.Queue.{is_waiting, but}
+use Rattle.engine_core.specs.Queue.{but}
+use Rattle.engine_core.specs.Waiting.{is_waiting}
 
 -- ---- a house's word and bit
 same_house : (j h : ℕ) → j / 64 ≡ h / 64 → j % 64 ≡ h % 64 → j ≡ h

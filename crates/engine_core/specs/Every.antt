@@ -6,6 +6,7 @@ use Rattle.std.proofs.lemmas.Bool.{cases_Bool, true≢false}
 use Rattle.std.proofs.lemmas.List.{get_or_append_left, get_or-append-add}
 use Rattle.std.proofs.lemmas.List.Folds.{list_all_at}
 use Rattle.std.proofs.lemmas.List.FromFn.{get_or-map-range_with_len, length-map-range_with_len}
+use Rattle.std.proofs.lemmas.Grind.{common_steps}
 
 module _ {X : Type 0} (P : X → Type 0) where
   pub of_first : (xs ys : List X) → All P (xs ++ ys) → All P xs
@@ -18,10 +19,7 @@ module _ {X : Type 0} (P : X → Type 0) where
   of_value f n all k lt = rw (get_or-map-range_with_len f 0 n k k (f k) lt (omega arith)) at (all k (f k) (omega (arith, length-map-range_with_len f 0 n)))
 
 pub test_each : {X : Type 0} (test : X → Bool) (xs : List X) → list_all test xs ≡ true → All (λ y. test y ≡ true) xs
-test_each test xs on k d lt = elim (cases_Bool (test (get_or xs k d))) [
-  | inl here ↦ here
-  | inr off ↦ absurd (true≢false (sym on ∙ list_all_at test xs k d lt off))
-]
+test_each test xs on k d lt = grind (arith, common_steps)
 
 pub each_test : {X : Type 0} (test : X → Bool) (xs : List X) → All (λ y. test y ≡ true) xs → list_all test xs ≡ true
 each_test test [] all = refl

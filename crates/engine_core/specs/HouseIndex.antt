@@ -36,7 +36,8 @@ abbrev pub start_at : List (List ℕ) → ℕ → ℕ
 start_at scopes place = sum_below (number_at scopes (length scopes)) place
 
 -- place by place the houses that have it, ascending, but for those below `first`, whose room is still to be filled
-pub record IsIndex (slots : ℕ) (scopes : List (List ℕ)) (first : ℕ) (starts houses : List ℕ) : Type 0 where
+pub record IsIndex (slots : ℕ) (scopes : List (List ℕ)) (first : ℕ)
+    (starts houses : List ℕ) : Type 0 where
   pub as_many : length starts ≡ slots
   pub begins : (place : ℕ) → place < slots
       → slice_index starts place ≡ start_at scopes place + number_at scopes first place
@@ -58,12 +59,14 @@ pub record IsPut (house : ℕ) (places starts houses starts' houses' : List ℕ)
   pub long : length houses' ≡ length houses
   pub off : (c : ℕ) → has_place places c ≡ false → slice_index starts' c ≡ slice_index starts c
   pub on : (c : ℕ) → has_place places c ≡ true → suc (slice_index starts' c) ≡ slice_index starts c
-  pub put : (c : ℕ) → has_place places c ≡ true → slice_index houses' (slice_index starts' c) ≡ house
+  pub put : (c : ℕ) → has_place places c ≡ true
+      → slice_index houses' (slice_index starts' c) ≡ house
   pub kept : (i : ℕ) → ((c : ℕ) → has_place places c ≡ true → suc i ≡ slice_index starts c → ⊥)
       → slice_index houses' i ≡ slice_index houses i
 
 -- the first of the list that is `from` or later
 abbrev pub IsFirstFrom : List ℕ → ℕ → Option ℕ → Type 0
 IsFirstFrom houses from None = (k : ℕ) → k < length houses → slice_index houses k < from
-IsFirstFrom houses from (Some h) = (k : ℕ) × (k < length houses) × (slice_index houses k ≡ h) × (from ≤ h)
+IsFirstFrom houses from (Some h) =
+    (k : ℕ) × (k < length houses) × (slice_index houses k ≡ h) × (from ≤ h)
     × ((j : ℕ) → j < k → slice_index houses j < from)

@@ -15,6 +15,7 @@ use Rattle.engine_core.specs.FillingLaws.{strikes_settled, own_values_stay}
 use Rattle.engine_core.specs.House.{Decision, sets_at, strikes_at, AreDifferent}
 use Rattle.engine_core.specs.HouseLaws.{length-sets_at, sets_at-value, sets_at-small, strikes_at-some, strikes_at-in_scope, strikes_at-inside, strikes_at-place}
 use Rattle.engine_core.specs.Houses.{House, house_of, no_house, Setting, by_houses, AreLeft, IsSettled, AreOwn, Keeps, IsSound, IsSetting, visits_of}
+use Rattle.std.proofs.lemmas.Grind.{common_steps}
 
 -- ---- one house
 module _ (values : ℕ) (places : List ℕ) where
@@ -173,7 +174,4 @@ pub by_fillings-settles : (holds : List ℕ → Bool) → IsSettled (strikes_by_
 by_fillings-settles holds old new k v a lt on = strikes_settled holds old new k v (record { as_many = a.as_many; kept = a.left }) lt on
 
 pub by_fillings-keeps : (holds : List ℕ → Bool) (filling : List ℕ) → holds filling ≡ true → Keeps (strikes_by_fillings holds) filling
-by_fillings-keeps holds filling good sets k own lt = own_values_stay holds sets filling (record {
-  len = sym own.as_many;
-  each = λ j lj. own.own j (get_or filling j 0) (omega (arith, own.as_many)) ∙ eq-eqb (get_or filling j 0) (get_or filling j 0) refl;
-}) good k
+by_fillings-keeps holds filling good sets k own lt = grind (arith, common_steps, eq-eqb, own_values_stay)

@@ -7,12 +7,14 @@ pub mod Filling
 pub mod FillingLaws
 pub mod Sets
 pub mod House
+pub mod Keeping
 pub mod HouseLaws
 pub mod Every
 pub mod Houses
 pub mod HousesLaws
 pub mod HouseList
 pub mod HouseIndex
+pub mod Waiting
 pub mod Queue
 pub mod Walk
 pub mod Verdict

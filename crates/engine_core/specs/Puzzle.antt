@@ -51,17 +51,23 @@ share p c = count_below (λ h. has_place (p.scope h) c) p.houses - cond p.settle
 -- what every rule set keeps to
 pub record IsLawful (p : Puzzle) : Type 0 where
   -- what is struck in a board is struck in every board that has no more in the house's cells
-  pub strikes_inside : (h : ℕ) (K L : Candidates) → h < p.houses → IsInsideAt (p.scope h) K L → (c v : ℕ) → p.strikes h L c v ≡ true → p.strikes h K c v ≡ true
+  pub strikes_inside : (h : ℕ) (K L : Candidates) → h < p.houses → IsInsideAt (p.scope h) K L
+      → (c v : ℕ) → p.strikes h L c v ≡ true → p.strikes h K c v ≡ true
   -- a house strikes in its own cells alone
-  pub strikes_in_scope : (h : ℕ) (K : Candidates) (c v : ℕ) → h < p.houses → p.strikes h K c v ≡ true → has_place (p.scope h) c ≡ true
+  pub strikes_in_scope : (h : ℕ) (K : Candidates) (c v : ℕ) → h < p.houses
+      → p.strikes h K c v ≡ true → has_place (p.scope h) c ≡ true
   -- a solution lies inside the start, and nothing of it is ever struck
-  pub solutions_start : (g : List ℕ) → IsGridOf p g → p.is_solution g ≡ true → IsInside (single g) p.start
-  pub solutions_closed : (g : List ℕ) → IsGridOf p g → p.is_solution g ≡ true → IsClosed p (single g)
+  pub solutions_start : (g : List ℕ) → IsGridOf p g → p.is_solution g ≡ true
+      → IsInside (single g) p.start
+  pub solutions_closed : (g : List ℕ) → IsGridOf p g → p.is_solution g ≡ true
+      → IsClosed p (single g)
   -- a visit of a settled house leaves no value of the board for a second one
-  pub settles : p.settled ≡ true → (h : ℕ) (K : Candidates) (c v : ℕ) → h < p.houses → v < p.values → after p h K c v ≡ true → p.strikes h (after p h K) c v ≡ false
+  pub settles : p.settled ≡ true → (h : ℕ) (K : Candidates) (c v : ℕ) → h < p.houses → v < p.values
+      → after p h K c v ≡ true → p.strikes h (after p h K) c v ≡ false
   -- the bound is large enough: in a queue for each house once, and each cell's houses once more for each value that the cell
   -- can lose; in sweeps for each value that the cells can lose, and one sweep more
-  pub bound_of_queue : p.by_queue ≡ true → p.houses + sum_below (λ c. (p.values - 1) * share p c) p.cells ≤ p.bound
+  pub bound_of_queue : p.by_queue ≡ true
+      → p.houses + sum_below (λ c. (p.values - 1) * share p c) p.cells ≤ p.bound
   pub bound_of_sweeps : p.by_queue ≡ false → p.cells * (p.values - 1) + 1 ≤ p.bound
   pub some_values : 1 ≤ p.values
   pub few_values : p.values ≤ 31
@@ -69,7 +75,8 @@ pub record IsLawful (p : Puzzle) : Type 0 where
   pub start_within : IsWithin p.cells p.values p.start
   -- a house has different places of the board
   pub scope_within : (h c : ℕ) → h < p.houses → has_place (p.scope h) c ≡ true → c < p.cells
-  pub scope_distinct : (h j k : ℕ) → h < p.houses → j < length (p.scope h) → k < length (p.scope h) → slice_index (p.scope h) j ≡ slice_index (p.scope h) k → j ≡ k
+  pub scope_distinct : (h j k : ℕ) → h < p.houses → j < length (p.scope h) → k < length (p.scope h)
+      → slice_index (p.scope h) j ≡ slice_index (p.scope h) k → j ≡ k
 
 -- what memory is taken for
 pub record Needs : Type 0 where
@@ -86,7 +93,13 @@ longest scope (suc n) = max (longest scope n) (length (scope n))
 
 -- what a rule set needs memory for
 abbrev pub needs_of : Puzzle → Needs
-needs_of p = record { cells = p.cells; values = p.values; houses = p.houses; bound = p.bound; scope = longest p.scope p.houses }
+needs_of p = record {
+  cells = p.cells;
+  values = p.values;
+  houses = p.houses;
+  bound = p.bound;
+  scope = longest p.scope p.houses;
+}
 
 -- memory that was taken for the second serves the first
 pub record FitsIn (need had : Needs) : Type 0 where
@@ -104,7 +117,8 @@ pub record IsBoardOf (p : Puzzle) (b : Layout) : Type 0 where
 -- the answer is the least number from `from` on, and below n, that passes
 abbrev pub IsNext : (ℕ → Bool) → ℕ → ℕ → Option ℕ → Type 0
 IsNext p n from None = (j : ℕ) → from ≤ j → j < n → p j ≡ false
-IsNext p n from (Some k) = (from ≤ k) × (k < n) × (p k ≡ true) × ((j : ℕ) → from ≤ j → j < k → p j ≡ false)
+IsNext p n from (Some k) =
+    (from ≤ k) × (k < n) × (p k ≡ true) × ((j : ℕ) → from ≤ j → j < k → p j ≡ false)
 
 -- the answer is the number below n that passes and has k before it that pass
 abbrev pub IsKth : (ℕ → Bool) → ℕ → ℕ → Option ℕ → Type 0

@@ -29,7 +29,8 @@ abbrev pub back_at : Trail → ℕ → Candidates
 back_at t mark = put_back (has t.board) t.changes mark t.len
 
 -- the changes are of cells and values of the board, and there is room for as many as can come
-pub record IsTrail (cells values : ℕ) (K : Candidates) (changes : List (ℕ × ℕ)) (len : ℕ) : Type 0 where
+pub record IsTrail (cells values : ℕ) (K : Candidates) (changes : List (ℕ × ℕ))
+    (len : ℕ) : Type 0 where
   pub long : length changes ≡ cells * values
   pub changes_in : (k : ℕ) → k < len
       → ((change_at changes k).0 < cells) × ((change_at changes k).1 < 2 ^ values)

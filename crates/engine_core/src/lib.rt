@@ -34,6 +34,7 @@ pub use rules::Rules;
 pub use search::Verdict;
 pub use store::{Sizes, Store};
 pub use trials::trials_made_are_the_first;
+pub use waits::mark;
 
 #[cfg(test)]
 mod tests;

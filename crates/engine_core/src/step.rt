@@ -4,35 +4,15 @@ ghost use Rattle.std.specs.Prelude.{◌≡◌, ℕ, ◌<◌, ◌≤◌, ◌||◌
 ghost use Rattle.grid_core.specs.Board.{has};
 ghost use Rattle.grid_core.specs.Candidates.{Candidates, is_dead};
 ghost use Rattle.engine_core.specs.Puzzle.{has_place, after};
-ghost use Rattle.engine_core.specs.Queue.{words_of, is_waiting, waits_from, AreCalled, AreRemembered, IsWoken, called_for, are_emptied};
+ghost use Rattle.engine_core.specs.Queue.{waits_from, IsWoken};
+ghost use Rattle.engine_core.specs.Waiting.{words_of, is_waiting, AreCalled};
 ghost use Rattle.engine_core.specs.Trail.{IsFurther};
 ghost use Rattle.engine_core.specs.Working.{IsAlong};
 
 use crate::rules::Rules;
-use crate::sets::cell_bits;
 use crate::trailed::Trailed;
 use crate::waits::{mark, unmark};
 use crate::work::Work;
-use grid_core::Board;
-
-/// Marks the houses that have the place, but for those that strike nothing.
-pub(crate) fn mark_place<R: Rules>(rules: &R, place: usize, scratch: &R::Scratch, waits: &mut [u64])
-    requires place_in { place < (R.puzzle rules.now).cells }
-    requires waits_room { words_of (R.puzzle rules.now).houses ≤ length waits.old }
-    requires follows { (K : Candidates) × R.follows rules.now scratch.now K }
-    ensures called { (K : Candidates) → R.follows rules.now scratch.now K
-        → AreCalled (R.puzzle rules.now) K (λ j. has_place ((R.puzzle rules.now).scope j) place)
-        (is_waiting waits.old) (is_waiting waits.new) }
-{
-    for k in 0..rules.houses() {
-        let Some(found) = rules.house_of(place, k) else {
-            return;
-        };
-        if rules.calls(found, scratch) {
-            mark(waits, found);
-        }
-    }
-}
 
 /// Marks all houses, but for those that strike nothing.
 fn mark_all<R: Rules>(rules: &R, scratch: &R::Scratch, waits: &mut [u64])
@@ -66,7 +46,7 @@ pub(crate) fn wait_from<R: Rules>(
     waits.fill(0);
     match from {
         None => mark_all(rules, scratch, waits),
-        Some(place) => mark_place(rules, place, scratch, waits),
+        Some(place) => rules.wake(place, scratch, waits),
     }
 }
 
@@ -83,36 +63,6 @@ pub(crate) fn settle<R: Rules>(rules: &R, house: usize, waits: &mut [u64])
 }
 
 impl<R: Rules> Work<R> {
-    /// Marks the houses of each cell of the house that lost a value, but for those that strike nothing, and says whether
-    /// one of these cells has no value left.
-    fn wake(&mut self, rules: &R, house: usize, board: &Board) -> bool
-        requires along { IsAlong (R.puzzle rules.now) (R.follows rules.now) self.old board.now }
-        requires house_in { house < (R.puzzle rules.now).houses }
-        requires sets_room { length ((R.puzzle rules.now).scope house) ≤ length self.old.sets }
-        ensures called { (K : Candidates)
-            → AreRemembered (R.puzzle rules.now) house K (has board.now) self.old.sets
-            → AreCalled (R.puzzle rules.now) (has board.now)
-            (called_for (R.puzzle rules.now) house K (has board.now)) (is_waiting self.old.waits)
-            (is_waiting self.new.waits) }
-        ensures dead { (K : Candidates)
-            → AreRemembered (R.puzzle rules.now) house K (has board.now) self.old.sets
-            → result ≡ are_emptied (R.puzzle rules.now) house K (has board.now) }
-        ensures along { IsAlong (R.puzzle rules.now) (R.follows rules.now) self.new board.now }
-        ensures made { self.new.made ≡ self.old.made }
-        ensures trace { self.new.trace ≡ self.old.trace }
-    {
-        let mut dead = false;
-        for k in 0..rules.scope_len(house) {
-            let place = rules.scope(house, k);
-            let now = cell_bits(board, place);
-            if now != self.set_before(k) {
-                self.wait_at(rules, place);
-                dead |= now == 0;
-            }
-        }
-        dead
-    }
-
     /// Visits the house, marks the houses of each cell that lost a value in place of the house, but for those that strike
     /// nothing, and says whether one of these cells has no value left.
     pub(crate) fn step(&mut self, rules: &R, house: usize, trailed: &mut Trailed) -> bool
@@ -137,7 +87,7 @@ impl<R: Rules> Work<R> {
         if !self.visit(rules, house, trailed) {
             return false;
         }
-        let dead = self.wake(rules, house, trailed.board());
+        let dead = self.wake(rules, house);
         self.settle(rules, house);
         dead
     }

@@ -1,6 +1,6 @@
 //! A board, and the trail of its changes: what each changed cell had before, so that it can be put back.
 
-ghost use Rattle.std.specs.Prelude.{◌≡◌, ℕ, ◌*◌, ◌<◌, ◌≤◌, ◌^◌, ◌||◌, ◌&&◌, ◌==◌, IfOk, length, slice_index, true, false};
+ghost use Rattle.std.specs.Prelude.{◌≡◌, ℕ, ◌*◌, ◌<◌, ◌≤◌, ◌^◌, ◌||◌, ◌&&◌, ◌==◌, IfOk, bit_and, length, slice_index, true, false};
 ghost use Rattle.grid_core.specs.Board.{has, cells_of, SameShape};
 ghost use Rattle.grid_core.specs.Candidates.{count_below, only};
 ghost use Rattle.engine_core.specs.Puzzle.{Needs, needs_of, IsBoardOf, after};
@@ -97,42 +97,78 @@ impl Trailed {
     }
 
     /// Visits the house, notes what each of its cells had that lost a value, and says whether one did. The sets of all its
-    /// cells before the visit are left in `sets`.
+    /// cells before the visit are left in `sets`, and what it keeps of them in `kept`.
     pub(crate) fn visit<R: Rules>(
         &mut self,
         rules: &R,
         house: usize,
         scratch: &mut R::Scratch,
         sets: &mut [u32],
+        kept: &mut [u32],
     ) -> bool
         requires house_in { house < (R.puzzle rules.now).houses }
         requires board_of { IsBoardOf (R.puzzle rules.now) self.old.board }
         requires served { R.serves scratch.old (needs_of (R.puzzle rules.now)) }
         requires follows { R.follows rules.now scratch.old (has self.old.board) }
-        requires room { length ((R.puzzle rules.now).scope house) ≤ length sets.old }
+        requires sets_room { length ((R.puzzle rules.now).scope house) ≤ length sets.old }
+        requires kept_room { length ((R.puzzle rules.now).scope house) ≤ length kept.old }
         ensures left { has self.new.board ≡ after (R.puzzle rules.now) house (has self.old.board) }
         ensures unchanged { result ≡ false → has self.new.board ≡ has self.old.board }
         ensures further { IsFurther self.old self.new }
-        ensures sets { AreRemembered (R.puzzle rules.now) house (has self.old.board)
-            (has self.new.board) sets.new }
-        ensures long { length sets.new ≡ length sets.old }
+        ensures remembered { result ≡ true → AreRemembered (R.puzzle rules.now) house
+            (has self.old.board) (has self.new.board) sets.new kept.new }
+        ensures follows { R.follows rules.now scratch.new (has self.new.board) }
+        ensures keeps { (needs : Needs) → R.serves scratch.old needs → R.serves scratch.new needs }
+    {
+        let cells = rules.scope_len(house);
+        self.visit_cells(
+            rules,
+            house,
+            scratch,
+            &mut sets[..cells],
+            &mut kept[..cells],
+        )
+    }
+
+    /// The same in the parts of the slices that are as long as the house.
+    fn visit_cells<R: Rules>(
+        &mut self,
+        rules: &R,
+        house: usize,
+        scratch: &mut R::Scratch,
+        sets: &mut [u32],
+        kept: &mut [u32],
+    ) -> bool
+        requires house_in { house < (R.puzzle rules.now).houses }
+        requires board_of { IsBoardOf (R.puzzle rules.now) self.old.board }
+        requires served { R.serves scratch.old (needs_of (R.puzzle rules.now)) }
+        requires follows { R.follows rules.now scratch.old (has self.old.board) }
+        requires sets_room { length sets.old ≡ length ((R.puzzle rules.now).scope house) }
+        requires kept_room { length kept.old ≡ length ((R.puzzle rules.now).scope house) }
+        ensures left { has self.new.board ≡ after (R.puzzle rules.now) house (has self.old.board) }
+        ensures unchanged { result ≡ false → has self.new.board ≡ has self.old.board }
+        ensures further { IsFurther self.old self.new }
+        ensures remembered { result ≡ true → AreRemembered (R.puzzle rules.now) house
+            (has self.old.board) (has self.new.board) sets.new kept.new }
         ensures follows { R.follows rules.now scratch.new (has self.new.board) }
         ensures keeps { (needs : Needs) → R.serves scratch.old needs → R.serves scratch.new needs }
     {
         remember(rules, house, &self.board, sets);
-        if !rules.visit(house, &mut self.board, scratch) {
+        if !rules.keep(house, sets, kept, scratch) {
             return false;
         }
-        for k in 0..rules.scope_len(house) {
-            let place = rules.scope(house, k);
-            let now = cell_bits(&self.board, place);
+        let before = self.len;
+        for k in 0..sets.len() {
+            let now = left_of(sets[k], kept[k]);
             if now != sets[k] {
+                let place = rules.scope(house, k);
+                self.board.retain(place, now);
                 self.changes[self.len] = (place, sets[k]);
                 self.len += 1;
                 rules.change(place, sets[k], now, scratch);
             }
         }
-        true
+        self.len > before
     }
 
     /// Leaves that value alone in the cell, which has several, and notes what it had.
@@ -196,17 +232,23 @@ fn give_back(board: &mut Board, values: u8, place: usize, set: u32)
     }
 }
 
+/// What a cell has left of its set, by what is kept of it.
+pub(crate) fn left_of(set: u32, kept: u32) -> u32
+    ensures { result ≡ bit_and set kept }
+{
+    set & kept
+}
+
 /// Writes down the set of each cell of the house.
 fn remember<R: Rules>(rules: &R, house: usize, board: &Board, sets: &mut [u32])
     requires house_in { house < (R.puzzle rules.now).houses }
     requires board_of { IsBoardOf (R.puzzle rules.now) board.now }
-    requires room { length ((R.puzzle rules.now).scope house) ≤ length sets.old }
+    requires room { length sets.old ≡ length ((R.puzzle rules.now).scope house) }
     ensures sets { (k : ℕ) → k < length ((R.puzzle rules.now).scope house)
         → IsBitsOf (has board.now (slice_index ((R.puzzle rules.now).scope house) k))
         (R.puzzle rules.now).values (slice_index sets.new k) }
 {
-    for k in 0..rules.scope_len(house) {
-        let place = rules.scope(house, k);
-        sets[k] = cell_bits(board, place);
+    for k in 0..sets.len() {
+        sets[k] = cell_bits(board, rules.scope(house, k));
     }
 }

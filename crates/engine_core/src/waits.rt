@@ -2,7 +2,8 @@
 
 ghost use Rattle.std.specs.Prelude.{◌≡◌, ℕ, ◌/◌, ◌<◌, ◌≤◌, ◌||◌, ◌==◌, length};
 ghost use Rattle.engine_core.specs.Puzzle.{IsNext};
-ghost use Rattle.engine_core.specs.Queue.{words_of, is_waiting, but, IsAnyOf};
+ghost use Rattle.engine_core.specs.Queue.{but, IsAnyOf};
+ghost use Rattle.engine_core.specs.Waiting.{words_of, is_waiting};
 ghost use Rattle.engine_core.specs.Sets.{has_bit as is_set};
 
 /// In how many words the marks of so many houses stand.
@@ -12,8 +13,8 @@ pub(crate) fn words_for(houses: usize) -> usize
     houses / 64 + 1
 }
 
-/// Marks the house.
-pub(crate) fn mark(waits: &mut [u64], house: usize)
+/// Marks the house in the bits of those that wait.
+pub fn mark(waits: &mut [u64], house: usize)
     requires { house / 64 < length waits.old }
     ensures { (j : ℕ) → is_waiting waits.new j ≡ (is_waiting waits.old j || (j == house)) }
 {

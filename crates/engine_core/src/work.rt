@@ -1,17 +1,18 @@
 //! What closings work in.
 
-ghost use Rattle.std.specs.Prelude.{◌≡◌, ℕ, ◌+◌, ◌<◌, ◌≤◌, ◌^◌, ◌&&◌, ◌==◌, not, true, false, IfOk, IfSome, length, slice_index, slice_set, if◌then◌else◌};
+ghost use Rattle.std.specs.Prelude.{◌≡◌, ℕ, ◌+◌, ◌<◌, ◌≤◌, ◌^◌, ◌&&◌, ◌==◌, not, true, false, IfOk, IfSome, bit_and, length, slice_index, slice_set, if◌then◌else◌};
 ghost use Rattle.grid_core.specs.Board.{has};
 ghost use Rattle.grid_core.specs.Candidates.{Candidates, count_below, only};
 ghost use Rattle.engine_core.specs.Mode.{is_queue};
 ghost use Rattle.engine_core.specs.Puzzle.{needs_of, FitsIn, IsBoardOf, IsGridOf, IsNext, has_place, after};
-ghost use Rattle.engine_core.specs.Queue.{is_waiting, waits_from, but, AreCalled, AreRemembered, IsAnyOf};
+ghost use Rattle.engine_core.specs.Queue.{waits_from, but, AreRemembered, IsAnyOf, called_for, are_emptied};
+ghost use Rattle.engine_core.specs.Waiting.{is_waiting, AreCalled};
 ghost use Rattle.engine_core.specs.Trail.{IsBack, IsFurther};
 ghost use Rattle.engine_core.specs.Working.{needs_made, IsAlong, IsSameButWaits};
 
 use crate::rules::{Rules, by_queue};
-use crate::step::{mark_place, settle, wait_from};
-use crate::trailed::Trailed;
+use crate::step::{settle, wait_from};
+use crate::trailed::{Trailed, left_of};
 use crate::waits::{next_around, next_waiting, unmark, words_for};
 use grid_core::{Board, Grid};
 use std::alloc::{AllocError, Global};
@@ -27,13 +28,14 @@ pub(crate) struct Made {
     pub scope: usize,
 }
 
-/// What closings work in: the scratch of the rules, room for the sets of a house's cells, a mark for each house, and in a
-/// queue room for the houses visited.
+/// What closings work in: the scratch of the rules, room for the sets of a house's cells and for what is kept of them, a
+/// mark for each house, and in a queue room for the houses visited.
 #[derive(Drop)]
 pub(crate) struct Work<R: Rules> {
     made: Made,
     scratch: R::Scratch,
     sets: Vec<u32>,
+    kept: Vec<u32>,
     waits: Vec<u64>,
     trace: Vec<usize>,
 }
@@ -49,11 +51,12 @@ impl<R: Rules> Model for Work<R> {
       trace = w.trace.items;
       waits = w.waits.items;
       sets = w.sets.items;
+      kept = w.kept.items;
       scratch = w.scratch;
     } };
 
     ghost invariant = { λ w. IsWorkOf (is_queue R.MODE) (needs_made w.made) w.trace.items
-        w.waits.items w.sets.items × R.serves w.scratch (needs_made w.made) };
+        w.waits.items w.sets.items w.kept.items × R.serves w.scratch (needs_made w.made) };
 }
 
 impl<R: Rules> Work<R> {
@@ -71,6 +74,7 @@ impl<R: Rules> Work<R> {
             made,
             scratch: rules.scratch(alloc)?,
             sets: vec![in alloc; 0u32; made.scope]?,
+            kept: vec![in alloc; 0u32; made.scope]?,
             waits: vec![in alloc; 0u64; words_for(made.houses)]?,
             trace: vec![in alloc; 0usize; trace]?,
         })
@@ -117,7 +121,7 @@ impl<R: Rules> Work<R> {
             (is_waiting self.new.waits) }
         ensures others { IsSameButWaits self.old self.new }
     {
-        mark_place(rules, place, &self.scratch, &mut self.waits);
+        rules.wake(place, &self.scratch, &mut self.waits);
     }
 
     /// Takes the house's mark away.
@@ -152,24 +156,63 @@ impl<R: Rules> Work<R> {
             ≡ after (R.puzzle rules.now) house (has trailed.old.board) }
         ensures unchanged { result ≡ false → has trailed.new.board ≡ has trailed.old.board }
         ensures further { IsFurther trailed.old trailed.new }
-        ensures sets { AreRemembered (R.puzzle rules.now) house (has trailed.old.board)
-            (has trailed.new.board) self.new.sets }
+        ensures remembered { result ≡ true → AreRemembered (R.puzzle rules.now) house
+            (has trailed.old.board) (has trailed.new.board) self.new.sets self.new.kept }
         ensures sets_room { length ((R.puzzle rules.now).scope house) ≤ length self.new.sets }
+        ensures kept_room { length ((R.puzzle rules.now).scope house) ≤ length self.new.kept }
         ensures along { IsAlong (R.puzzle rules.now) (R.follows rules.now) self.new
             trailed.new.board }
         ensures waits { self.new.waits ≡ self.old.waits }
         ensures made { self.new.made ≡ self.old.made }
         ensures trace { self.new.trace ≡ self.old.trace }
     {
-        trailed.visit(rules, house, &mut self.scratch, &mut self.sets)
+        trailed.visit(
+            rules,
+            house,
+            &mut self.scratch,
+            &mut self.sets,
+            &mut self.kept,
+        )
     }
 
-    /// The set that the cell at this number of the house had before the visit.
-    pub(crate) fn set_before(&self, k: usize) -> u32
-        requires { k < length self.now.sets }
-        ensures { result ≡ slice_index self.now.sets k }
+    /// The set that the cell at this number of the house had before the visit, and what it has left.
+    fn sets_at(&self, k: usize) -> (u32, u32)
+        requires sets_room { k < length self.now.sets }
+        requires kept_room { k < length self.now.kept }
+        ensures before { result.0 ≡ slice_index self.now.sets k }
+        ensures left { result.1
+            ≡ bit_and (slice_index self.now.sets k) (slice_index self.now.kept k) }
     {
-        self.sets[k]
+        (self.sets[k], left_of(self.sets[k], self.kept[k]))
+    }
+
+    /// Marks the houses of each cell of the house that lost a value at its visit, but for those that strike nothing, and
+    /// says whether one of these cells has no value left.
+    pub(crate) fn wake(&mut self, rules: &R, house: usize) -> bool
+        requires fits { FitsIn (needs_of (R.puzzle rules.now)) self.old.made }
+        requires house_in { house < (R.puzzle rules.now).houses }
+        requires sets_room { length ((R.puzzle rules.now).scope house) ≤ length self.old.sets }
+        requires kept_room { length ((R.puzzle rules.now).scope house) ≤ length self.old.kept }
+        requires follows { (K : Candidates) × R.follows rules.now self.old.scratch K }
+        ensures called { (K K' : Candidates)
+            → AreRemembered (R.puzzle rules.now) house K K' self.old.sets self.old.kept
+            → R.follows rules.now self.old.scratch K'
+            → AreCalled (R.puzzle rules.now) K' (called_for (R.puzzle rules.now) house K K')
+            (is_waiting self.old.waits) (is_waiting self.new.waits) }
+        ensures dead { (K K' : Candidates)
+            → AreRemembered (R.puzzle rules.now) house K K' self.old.sets self.old.kept
+            → result ≡ are_emptied (R.puzzle rules.now) house K K' }
+        ensures others { IsSameButWaits self.old self.new }
+    {
+        let mut dead = false;
+        for k in 0..rules.scope_len(house) {
+            let (before, left) = self.sets_at(k);
+            if left != before {
+                self.wait_at(rules, rules.scope(house, k));
+                dead |= left == 0;
+            }
+        }
+        dead
     }
 
     /// The least house at or after `from` that waits.
@@ -200,6 +243,7 @@ impl<R: Rules> Work<R> {
               trace = slice_set self.old.trace visit house;
               waits = self.old.waits;
               sets = self.old.sets;
+              kept = self.old.kept;
               scratch = self.old.scratch;
             } }
     {

@@ -1,6 +1,6 @@
 use Rattle.std.proofs.Common.{◌&&◌, ltb, true}
 use Rattle.grid_core.specs.Candidates.{Candidates}
-use Rattle.engine_core.specs.Queue.{is_waiting, AreCalled}
+use Rattle.engine_core.specs.Waiting.{is_waiting, AreCalled}
 use Rattle.engine_core.proofs.step.mark_all.Given as goal
 
 abbrev pub invariant-loop-house : goal.invariant-loop-house

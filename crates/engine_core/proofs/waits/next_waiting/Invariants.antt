@@ -1,5 +1,5 @@
 use Rattle.std.proofs.Common.{◌≡◌, ℕ, ◌+◌, ◌*◌, ◌<◌, ◌≤◌, false}
-use Rattle.engine_core.specs.Queue.{is_waiting}
+use Rattle.engine_core.specs.Waiting.{is_waiting}
 use Rattle.engine_core.proofs.waits.next_waiting.Given as goal
 
 abbrev pub invariant-loop-word : goal.invariant-loop-word

@@ -4,6 +4,3 @@ use Rattle.engine_core.proofs.house_list.HouseList.len.Goals as goal
 
 pub returns-clause-len : goal.returns-clause-len
 returns-clause-len c = rw (← c.self.view_is, c.deref-ends.ensures.value) (sym (length-pieces _ 0 _))
-
-pub returns-clause-few : goal.returns-clause-few
-returns-clause-few c = rw c.deref-ends.ensures.value c.self.invariant.few_lists

@@ -3,94 +3,47 @@ use Rattle.std.proofs.lemmas.List.{get_or_read_under}
 use Rattle.engine_core.specs.Frames.{frame_at}
 use Rattle.engine_core.proofs.LevelLemmas.{open-cell, open-back, ready-back, turn-ready, turn-single, turn-closed, turn-marks, turn-done}
 use Rattle.engine_core.proofs.levels.Levels.next_trial.Goals as goal
+use Rattle.engine_core.proofs.levels.Levels.next_trial.Goals.{After-index-top}
+
+-- the frame that was read is the innermost
+top : (g : _) (c : After-index-top g) → c.index-top.result.now ≡ frame_at c.args.self.now.frames.items (c.args.self.now.depth - 1)
+top g c =
+    let fs = c.args.self.now.frames in
+    let o = open-cell _ _ _ _ c.requires.ready c.requires.deep in
+    get_or_read_under fs.items _ fs.len _ _ c.index-top.ensures (omega (arith, o.1, c.requires.ready.room, fs.ok.0)) fs.ok.0
 
 pub index-top-requires : goal.index-top-requires
 index-top-requires g c =
-    let p = g.R.Rules.puzzle c.args.rules.now in
-    let t = c.args.self.now.trailed in
-    let fs = c.args.self.now.frames in
-    let n = c.args.self.now.depth in
-    let o = open-cell p t fs.items n c.requires.ready c.requires.deep in
-    let room = c.requires.ready.room in
-    let long = fs.ok.0 in
-    omega (arith, o.1)
+    omega (arith, (open-cell _ _ _ _ c.requires.ready c.requires.deep).1, c.requires.ready.room, c.args.self.now.frames.ok.0)
 
 pub undo-requires-clause-marked : goal.undo-requires-clause-marked
 undo-requires-clause-marked g c =
-    let p = g.R.Rules.puzzle c.args.rules.now in
-    let t = c.args.self.now.trailed in
-    let fs = c.args.self.now.frames in
-    let n = c.args.self.now.depth in
-    let o = open-cell p t fs.items n c.requires.ready c.requires.deep in
-    let room = c.requires.ready.room in
-    let e : c.index-top.result.now ≡ frame_at fs.items (n - 1) = get_or_read_under fs.items (n - 1) fs.len _ _ c.index-top.ensures (let long = fs.ok.0 in omega (arith, o.1)) fs.ok.0 in
-    rw e (c.requires.ready.marked (n - 1) (let pos = c.requires.deep in omega arith))
+    rw (top g (goal.at.undo-requires-clause-marked g c).After-index-top) (c.requires.ready.marked (c.args.self.now.depth - 1) (let pos = c.requires.deep in omega arith))
 
 pub next_value-requires-clause-place_in : goal.next_value-requires-clause-place_in
 next_value-requires-clause-place_in g c =
-    let p = g.R.Rules.puzzle c.args.rules.now in
-    let t = c.args.self.now.trailed in
-    let fs = c.args.self.now.frames in
-    let n = c.args.self.now.depth in
-    let o = open-cell p t fs.items n c.requires.ready c.requires.deep in
-    let room = c.requires.ready.room in
-    let e : c.index-top.result.now ≡ frame_at fs.items (n - 1) = get_or_read_under fs.items (n - 1) fs.len _ _ c.index-top.ensures (let long = fs.ok.0 in omega (arith, o.1)) fs.ok.0 in
-    rw (c.board.ensures, c.undo.ensures.along.board_of.same_cells, e) o.0
+    rw (c.board.ensures, c.undo.ensures.along.board_of.same_cells, top g (goal.at.next_value-requires-clause-place_in g c).After-index-top)
+    (open-cell _ _ _ _ c.requires.ready c.requires.deep).0
 
 pub index_mut-requires : goal.index_mut-requires
 index_mut-requires g c =
-    let p = g.R.Rules.puzzle c.args.rules.now in
-    let t = c.args.self.now.trailed in
-    let fs = c.args.self.now.frames in
-    let n = c.args.self.now.depth in
-    let o = open-cell p t fs.items n c.requires.ready c.requires.deep in
-    let room = c.requires.ready.room in
-    let long = fs.ok.0 in
-    omega (arith, o.1)
+    omega (arith, (open-cell _ _ _ _ c.requires.ready c.requires.deep).1, c.requires.ready.room, c.args.self.now.frames.ok.0)
 
 pub keep-requires-clause-place_in : goal.keep-requires-clause-place_in
-keep-requires-clause-place_in g c =
-    let p = g.R.Rules.puzzle c.args.rules.now in
-    let t = c.args.self.now.trailed in
-    let fs = c.args.self.now.frames in
-    let n = c.args.self.now.depth in
-    let o = open-cell p t fs.items n c.requires.ready c.requires.deep in
-    let room = c.requires.ready.room in
-    let e : c.index-top.result.now ≡ frame_at fs.items (n - 1) = get_or_read_under fs.items (n - 1) fs.len _ _ c.index-top.ensures (let long = fs.ok.0 in omega (arith, o.1)) fs.ok.0 in
-    rw e o.0
+keep-requires-clause-place_in g c = rw (top g (goal.at.keep-requires-clause-place_in g c).After-index-top) (open-cell _ _ _ _ c.requires.ready c.requires.deep).0
 
 pub keep-requires-clause-several : goal.keep-requires-clause-several
 keep-requires-clause-several g c =
-    let p = g.R.Rules.puzzle c.args.rules.now in
-    let t = c.args.self.now.trailed in
-    let fs = c.args.self.now.frames in
-    let n = c.args.self.now.depth in
-    let o = open-cell p t fs.items n c.requires.ready c.requires.deep in
-    let room = c.requires.ready.room in
-    let e : c.index-top.result.now ≡ frame_at fs.items (n - 1) = get_or_read_under fs.items (n - 1) fs.len _ _ c.index-top.ensures (let long = fs.ok.0 in omega (arith, o.1)) fs.ok.0 in
-    rw e (open-back p t c.undo.new.trailed fs.items n c.requires.ready c.requires.deep (rw e at c.undo.ensures.back)).two
+    let e = top g (goal.at.keep-requires-clause-several g c).After-index-top in
+    rw e (open-back _ _ _ _ _ c.requires.ready c.requires.deep (rw e at c.undo.ensures.back)).two
 
 pub returns-in-None-clause-turn : goal.returns-in-None-clause-turn
 returns-in-None-clause-turn g c =
-    let p = g.R.Rules.puzzle c.args.rules.now in
-    let t = c.args.self.now.trailed in
-    let fs = c.args.self.now.frames in
-    let n = c.args.self.now.depth in
-    let o = open-cell p t fs.items n c.requires.ready c.requires.deep in
-    let room = c.requires.ready.room in
-    let e : c.index-top.result.now ≡ frame_at fs.items (n - 1) = get_or_read_under fs.items (n - 1) fs.len _ _ c.index-top.ensures (let long = fs.ok.0 in omega (arith, o.1)) fs.ok.0 in
-    turn-done p t c.undo.new.trailed fs.items n c.requires.ready c.requires.deep (rw e at c.undo.ensures.back) (rw (e, c.board.ensures, c.values.ensures) at c.in-None.ensures)
+    let e = top g (goal.at.returns-in-None-clause-turn g c).After-index-top in
+    turn-done _ _ _ _ _ c.requires.ready c.requires.deep (rw e at c.undo.ensures.back) (rw (e, c.board.ensures, c.values.ensures) at c.in-None.ensures)
 
 pub returns-in-None-clause-ready : goal.returns-in-None-clause-ready
-returns-in-None-clause-ready g c =
-    let p = g.R.Rules.puzzle c.args.rules.now in
-    let t = c.args.self.now.trailed in
-    let fs = c.args.self.now.frames in
-    let n = c.args.self.now.depth in
-    let o = open-cell p t fs.items n c.requires.ready c.requires.deep in
-    let room = c.requires.ready.room in
-    let e : c.index-top.result.now ≡ frame_at fs.items (n - 1) = get_or_read_under fs.items (n - 1) fs.len _ _ c.index-top.ensures (let long = fs.ok.0 in omega (arith, o.1)) fs.ok.0 in
-    ready-back p t c.undo.new.trailed fs.items n c.requires.ready c.requires.deep (rw e at c.undo.ensures.back)
+returns-in-None-clause-ready g c = ready-back _ _ _ _ _ c.requires.ready c.requires.deep (rw (top g (goal.at.returns-in-None-clause-ready g c).After-index-top) at c.undo.ensures.back)
 
 pub returns-in-Some-clause-turn : goal.returns-in-Some-clause-turn
 returns-in-Some-clause-turn g c =
@@ -100,7 +53,7 @@ returns-in-Some-clause-turn g c =
     let n = c.args.self.now.depth in
     let o = open-cell p t fs.items n c.requires.ready c.requires.deep in
     let room = c.requires.ready.room in
-    let e : c.index-top.result.now ≡ frame_at fs.items (n - 1) = get_or_read_under fs.items (n - 1) fs.len _ _ c.index-top.ensures (let long = fs.ok.0 in omega (arith, o.1)) fs.ok.0 in
+    let e = top g (goal.at.returns-in-Some-clause-turn g c).After-index-top in
     let t1 = c.undo.new.trailed in
     let t2 = c.keep.new.trailed in
     let back = rw e at c.undo.ensures.back in
@@ -115,11 +68,6 @@ returns-in-Some-clause-turn g c =
 
 pub returns-in-Some-clause-ready : goal.returns-in-Some-clause-ready
 returns-in-Some-clause-ready g c =
-    let p = g.R.Rules.puzzle c.args.rules.now in
-    let t = c.args.self.now.trailed in
-    let fs = c.args.self.now.frames in
-    let n = c.args.self.now.depth in
-    let o = open-cell p t fs.items n c.requires.ready c.requires.deep in
-    let room = c.requires.ready.room in
-    let e : c.index-top.result.now ≡ frame_at fs.items (n - 1) = get_or_read_under fs.items (n - 1) fs.len _ _ c.index-top.ensures (let long = fs.ok.0 in omega (arith, o.1)) fs.ok.0 in
-    rw e (turn-ready p t c.undo.new.trailed c.keep.new.trailed fs.items n (c.in-Some.value + 1) c.requires.ready c.requires.deep (omega (arith, o.1)) (rw e at c.undo.ensures.back) c.keep.ensures.further)
+    let e = top g (goal.at.returns-in-Some-clause-ready g c).After-index-top in
+    let o = open-cell _ _ _ _ c.requires.ready c.requires.deep in
+    rw e (turn-ready _ _ _ _ _ _ _ c.requires.ready c.requires.deep (omega (arith, o.1, c.requires.ready.room, c.args.self.now.frames.ok.0)) (rw e at c.undo.ensures.back) c.keep.ensures.further)

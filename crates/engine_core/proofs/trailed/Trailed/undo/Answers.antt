@@ -1,27 +1,28 @@
 use Rattle.std.proofs.Common.{◌-◌, arith, sym, ◌∙◌}
 use Rattle.std.proofs.lemmas.List.{get_or_read_under}
 use Rattle.grid_core.specs.Board.{has}
-use Rattle.engine_core.proofs.TrailLemmas.{put_back-none, undone, trail-len}
+use Rattle.engine_core.proofs.TrailLemmas.{IsUndone, put_back-none, undone, trail-len}
 use Rattle.engine_core.proofs.trailed.Trailed.undo.Goals as goal
+use Rattle.engine_core.proofs.trailed.Trailed.undo.Goals.{After-cell_bits}
 
-pub change-requires : goal.change-requires
-change-requires g c =
+-- what taking the last change back leaves
+last_undone : (g : _) (c : After-cell_bits g)
+    → IsUndone (g.R.Rules.puzzle c.args.rules.now) c.args.self.now.board c.loop-self.self-inside.board c.give_back.new.board c.loop-self.self-inside.changes.items c.loop-self.self-inside.len
+    c.index.result.now.0 c.cell_bits-before.result c.cell_bits.result
+last_undone g c =
     let i = c.loop-self.invariant in
     let t = c.loop-self.self-inside in
     let few = trail-len _ _ _ _ _ i.trail in
-    let last = get_or_read_under t.changes.items (t.len - 1) t.changes.len _ _ c.index.ensures (let long = t.changes.ok.0 in omega arith) t.changes.ok.0 in
-    let u = undone (g.R.Rules.puzzle c.args.rules.now) c.args.self.now.board t.board c.give_back.new.board t.changes.items t.len _ _ _ c.requires.board_of i.shape c.give_back.ensures.shape i.trail (omega arith) last
-    c.give_back.ensures.left c.cell_bits-before.ensures c.cell_bits.ensures in
-    (has t.board, has c.give_back.new.board, i.follows, u.change)
+    let last = get_or_read_under t.changes.items (t.len - 1) t.changes.len _ _ c.index.ensures (omega (arith, t.changes.ok.0)) t.changes.ok.0 in
+    undone _ _ _ _ _ _ _ _ _ c.requires.board_of i.shape c.give_back.ensures.shape i.trail (omega arith) last c.give_back.ensures.left c.cell_bits-before.ensures c.cell_bits.ensures
+
+pub change-requires : goal.change-requires
+change-requires g c = (_, _, c.loop-self.invariant.follows, (last_undone g (goal.at.change-requires g c).After-cell_bits).change)
 
 pub loop-self-preserved : goal.loop-self-preserved
 loop-self-preserved g c =
     let i = c.loop-self.invariant in
-    let t = c.loop-self.self-inside in
-    let few = trail-len _ _ _ _ _ i.trail in
-    let last = get_or_read_under t.changes.items (t.len - 1) t.changes.len _ _ c.index.ensures (let long = t.changes.ok.0 in omega arith) t.changes.ok.0 in
-    let u = undone (g.R.Rules.puzzle c.args.rules.now) c.args.self.now.board t.board c.give_back.new.board t.changes.items t.len _ _ _ c.requires.board_of i.shape c.give_back.ensures.shape i.trail (omega arith) last
-    c.give_back.ensures.left c.cell_bits-before.ensures c.cell_bits.ensures in
+    let u = last_undone g (goal.at.loop-self-preserved g c).After-cell_bits in
     record {
       low = omega arith;
       trail = u.trail;

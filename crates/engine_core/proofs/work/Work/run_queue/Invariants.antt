@@ -1,6 +1,6 @@
 use Rattle.std.proofs.Common.{◌≡◌, ◌-◌, ◌≤◌, take, length}
 use Rattle.grid_core.specs.Board.{has}
-use Rattle.engine_core.specs.Queue.{is_waiting}
+use Rattle.engine_core.specs.Waiting.{is_waiting}
 use Rattle.engine_core.specs.Trail.{IsFurther}
 use Rattle.engine_core.specs.Working.{IsAlong}
 use Rattle.engine_core.proofs.ListLemmas.{IsRunning}

@@ -2,7 +2,8 @@ use Rattle.std.proofs.Common.{◌≡◌}
 use Rattle.grid_core.specs.Board.{has}
 use Rattle.grid_core.specs.Candidates.{total}
 use Rattle.engine_core.specs.ClosingList.{IsAlive}
-use Rattle.engine_core.specs.Queue.{is_waiting, IsRested}
+use Rattle.engine_core.specs.Queue.{IsRested}
+use Rattle.engine_core.specs.Waiting.{is_waiting}
 use Rattle.engine_core.specs.Trail.{IsFurther}
 use Rattle.engine_core.specs.Working.{IsAlong}
 use Rattle.engine_core.proofs.SweepLemmas.{IsSwept}

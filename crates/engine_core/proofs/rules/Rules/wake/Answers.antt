@@ -1,17 +1,14 @@
 use Rattle.std.proofs.Common.{arith}
 use Rattle.grid_core.proofs.CandidateLemmas.{count_below-bound}
 use Rattle.engine_core.specs.Puzzle.{has_place}
-use Rattle.engine_core.specs.Queue.{is_waiting}
+use Rattle.engine_core.specs.Waiting.{is_waiting}
 use Rattle.engine_core.proofs.CallLemmas.{upto-first, upto-marked, upto-idle, upto-all}
-use Rattle.engine_core.proofs.step.mark_place.Goals as goal
-use Rattle.engine_core.proofs.step.mark_place.Goals.{then-calls, else-calls}
-
-pub loop-k-init : goal.loop-k-init
-loop-k-init g c = λ K follows. let p = g.R.Rules.puzzle c.args.rules.now in upto-first p K (λ j. has_place (p.scope j) c.args.place) (is_waiting c.args.waits.now)
+use Rattle.engine_core.proofs.rules.Rules.wake.Goals as goal
+use Rattle.engine_core.proofs.rules.Rules.wake.Goals.{then-calls, else-calls}
 
 pub loop-k-preserved : goal.loop-k-preserved
 loop-k-preserved g c = λ K follows.
-    let p = g.R.Rules.puzzle c.args.rules.now in
+    let p = g.Self.Rules.puzzle c.args.self.now in
     let e = c.in-Some.ensures in
     elim c.if-calls.branch [
       | then-calls w ↦ rw w.waits-is (upto-marked p K (λ j. has_place (p.scope j) c.args.place) (is_waiting c.args.waits.now) (is_waiting c.loop-k.waits) (is_waiting w.mark.new.waits) c.in-Some.found c.loop-k.k e.1 e.2 w.mark.ensures (c.loop-k.invariant K follows))
@@ -21,13 +18,13 @@ loop-k-preserved g c = λ K follows.
 pub returns : goal.returns
 returns g c = record {
   called = λ K follows.
-      let p = g.R.Rules.puzzle c.args.rules.now in
+      let p = g.Self.Rules.puzzle c.args.self.now in
       upto-all p K (λ j. has_place (p.scope j) c.args.place) (is_waiting c.args.waits.now) (is_waiting c.loop-k.waits) c.loop-k.k (let most = count_below-bound (λ j. has_place (p.scope j) c.args.place) p.houses in omega arith) (c.loop-k.invariant K follows);
 }
 
 pub returns-in_default : goal.returns-in_default
 returns-in_default g c = record {
   called = λ K follows.
-      let p = g.R.Rules.puzzle c.args.rules.now in
+      let p = g.Self.Rules.puzzle c.args.self.now in
       upto-all p K (λ j. has_place (p.scope j) c.args.place) (is_waiting c.args.waits.now) (is_waiting c.loop-k.waits) c.loop-k.k (rw c.in_default.is at c.house_of.ensures) (c.loop-k.invariant K follows);
 }

@@ -1,0 +1,21 @@
+-- What a visit keeps of the sets of a house's cells, as bits.
+use Rattle.std.specs.Prelude.{◌≡◌, ℕ, ◌<◌, Bool, true, false, not, List, length, slice_index}
+use Rattle.grid_core.specs.Candidates.{Candidates}
+use Rattle.engine_core.specs.Puzzle.{Puzzle}
+use Rattle.engine_core.specs.Sets.{has_bit, IsBitsOf}
+
+-- the bits of each are those of the set of the house's cell at its number
+pub record AreSetsOf (p : Puzzle) (h : ℕ) (K : Candidates) (sets : List ℕ) : Type 0 where
+  pub as_many : length sets ≡ length (p.scope h)
+  pub bits : (k : ℕ) → k < length (p.scope h)
+      → IsBitsOf (K (slice_index (p.scope h) k)) p.values (slice_index sets k)
+
+-- nothing is struck from the house's cells, or else a value that one of them has stays exactly where its bit is kept
+pub record IsKept (p : Puzzle) (h : ℕ) (K : Candidates) (struck : Bool)
+    (kept : List ℕ) : Type 0 where
+  pub none : struck ≡ false → (k v : ℕ) → k < length (p.scope h) → v < p.values
+      → K (slice_index (p.scope h) k) v ≡ true
+      → p.strikes h K (slice_index (p.scope h) k) v ≡ false
+  pub bits : struck ≡ true → (k v : ℕ) → k < length (p.scope h) → v < p.values
+      → K (slice_index (p.scope h) k) v ≡ true
+      → has_bit (slice_index kept k) v ≡ not (p.strikes h K (slice_index (p.scope h) k) v)
