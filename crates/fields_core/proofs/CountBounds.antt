@@ -1,210 +1,217 @@
--- Which numbers of ones the fillings of two-valued sets have.
-use Rattle.std.proofs.Common.{◌≡◌, ℕ, zero, suc, ◌+◌, ◌-◌, ◌<◌, ◌≤◌, max, Bool, true, false, true≢false, cond, leb, List, [], ◌∷◌, ◌++◌, length, get_or, take, drop, refl, sym, ◌∙◌, ap, subst, arith, ◌⊎◌, inl, inr, le-leb, leb-true, if◌then◌else◌}
-use Rattle.std.proofs.lemmas.Bool.{cases_lt, and_parts}
-use Rattle.std.proofs.lemmas.List.{length-append, length-take, take-append-drop}
-use Rattle.std.proofs.Math.Seq.{get_or-append_seam, drop-cons}
-use Rattle.engine_core.specs.Filling.{Set, has_value, Fills, IsShown}
-use Rattle.engine_core.specs.FillingLaws.{Fills-cons, Fills-tail, Fills-append, Fills-parts}
-use Rattle.fields_core.specs.Count.{nonzeros, counts_between}
+-- Which numbers of ones the fillings of a house's cells have, and what that says of a value of a cell.
+use Rattle.std.proofs.Common.{◌≡◌, ℕ, zero, suc, ◌+◌, ◌-◌, ◌<◌, ◌≤◌, max, Bool, true, false, not, true≢false, ◌&&◌, ◌||◌, leb, eqb, List, [], ◌∷◌, length, get_or, slice_index, refl, sym, ◌∙◌, ap, arith, ◌⊎◌, inl, inr, le-leb, leb-true}
+use Rattle.std.specs.List.{count_by}
+use Rattle.std.proofs.Math.Bool.{and-true}
+use Rattle.std.proofs.lemmas.Bool.{cases_Bool, cases_eq, cases_lt, and_parts, and_from, eq-eqb, ne_eqb}
+use Rattle.grid_core.specs.Candidates.{Candidates}
+use Rattle.engine_core.specs.PlaceLaws.{has_place-here, distinct-from}
+use Rattle.engine_core.specs.Filling.{Fills, IsShown}
+use Rattle.engine_core.specs.FillingLaws.{Fills-cons, Fills-tail}
+use Rattle.engine_core.specs.House.{sets_at, AreDifferent}
+use Rattle.engine_core.specs.HouseLaws.{length-sets_at, sets_at-value, sets_at-small}
+use Rattle.fields_core.specs.Count.{nonzeros, counts_between, is_open}
+use Rattle.fields_core.proofs.PlaceLists.{num, num-most, count-cons, count-at}
 
 -- how many cells must hold a one, and how many may
-abbrev pub must_of : List Set → ℕ
-must_of [] = 0
-must_of (set ∷ sets) = (if has_value set 0 then 0 else 1) + must_of sets
+abbrev pub must_of : Candidates → List ℕ → ℕ
+must_of K places = count_by (λ c. not (K c 0)) places
 
-abbrev pub may_of : List Set → ℕ
-may_of [] = 0
-may_of (set ∷ sets) = (if has_value set 1 then 1 else 0) + may_of sets
+abbrev pub may_of : Candidates → List ℕ → ℕ
+may_of K places = count_by (λ c. K c 1) places
 
--- each set has 0 or 1, and nothing else
-pub record IsCounted (sets : List Set) : Type 0 where
-  pub some : (k : ℕ) → k < length sets → (has_value (get_or sets k []) 0 ≡ true) ⊎ (has_value (get_or sets k []) 1 ≡ true)
-  pub two : (k v : ℕ) → k < length sets → has_value (get_or sets k []) v ≡ true → v < 2
+-- each cell has a value
+abbrev pub IsFull : Candidates → List ℕ → Type 0
+IsFull K places = (k : ℕ) → k < length places → (K (slice_index places k) 0 ≡ true) ⊎ (K (slice_index places k) 1 ≡ true)
 
-pub ones-append : (f g : List ℕ) → nonzeros (f ++ g) ≡ nonzeros f + nonzeros g
-ones-append [] g = (let z : nonzeros g ≡ 0 + nonzeros g = omega arith in z)
-ones-append (zero ∷ f) g = ones-append f g
-ones-append (suc x ∷ f) g = ap suc (ones-append f g) ∙ (let z : suc (nonzeros f + nonzeros g) ≡ suc (nonzeros f) + nonzeros g = omega arith in z)
+yes : (b : Bool) → b ≡ true → num b ≡ 1
+yes b e = rw e refl
 
-counted_tail : (set : Set) (sets : List Set) → IsCounted (set ∷ sets) → IsCounted sets
-counted_tail set sets c = record { some = λ k h. c.some (suc k) (omega arith); two = λ k v h e. c.two (suc k) v (omega arith) e }
+no : (b : Bool) → b ≡ true → num (not b) ≡ 0
+no b e = rw e refl
 
-Fills-none : Fills [] []
-Fills-none = record { len = refl; each = λ k h. absurd (omega arith) }
+-- a filling has one of the values of each cell
+pub filled-at : (K : Candidates) (places f : List ℕ) → Fills (sets_at 2 places K) f → (k : ℕ) → k < length places → (get_or f k 0 < 2) × (K (slice_index places k) (get_or f k 0) ≡ true)
+filled-at K places f p k lt =
+    let on = p.each k (omega (arith, length-sets_at 2 places K)) in
+    let low = sets_at-small 2 places K k (get_or f k 0) lt on in
+    (low, sym (sets_at-value 2 places K k (get_or f k 0) lt low) ∙ on)
 
--- what a set adds to the two bounds
-must_here : Set → ℕ
-must_here set = cond (has_value set 0) 0 1
+filled-from : (K : Candidates) (places f : List ℕ) → length f ≡ length places → ((k : ℕ) → k < length places → (get_or f k 0 < 2) × (K (slice_index places k) (get_or f k 0) ≡ true)) → Fills (sets_at 2 places K) f
+filled-from K places f long each = record {
+  len = long ∙ sym (length-sets_at 2 places K);
+  each = λ k lt.
+      let lk : k < length places = omega (arith, length-sets_at 2 places K) in
+      sets_at-value 2 places K k (get_or f k 0) lk (each k lk).0 ∙ (each k lk).1;
+}
 
-may_here : Set → ℕ
-may_here set = cond (has_value set 1) 1 0
-
--- a filling has as many ones as must be at least, and as may be at most
-pub ones_bounds : (sets : List Set) (f : List ℕ) → IsCounted sets → Fills sets f → (must_of sets ≤ nonzeros f) × (nonzeros f ≤ may_of sets)
-ones_bounds [] [] c p = (omega arith, omega arith)
-ones_bounds [] (v ∷ f) c p = absurd (omega (arith, p.len))
-ones_bounds (set ∷ sets) [] c p = absurd (omega (arith, p.len))
-ones_bounds (set ∷ sets) (v ∷ f) c p = by v (p.each 0 (omega arith)) (c.two 0 v (omega arith) (p.each 0 (omega arith))) (ones_bounds sets f (counted_tail set sets c) (Fills-tail set sets v f p))
+-- ---- how many ones
+ones-bounds : (K : Candidates) (places f : List ℕ) → Fills (sets_at 2 places K) f → (must_of K places ≤ nonzeros f) × (nonzeros f ≤ may_of K places)
+unfolding sets_at
+ones-bounds K [] [] p = (omega arith, omega arith)
+ones-bounds K [] (v ∷ f) p = absurd (omega (arith, p.len))
+ones-bounds K (x ∷ xs) [] p = absurd (omega (arith, p.len))
+ones-bounds K (x ∷ xs) (v ∷ f) p =
+    by v (filled-at K (x ∷ xs) (v ∷ f) p 0 (omega arith)) (ones-bounds K xs f (Fills-tail _ (sets_at 2 xs K) v f p)) (count-cons (λ c. not (K c 0)) x xs) (count-cons (λ c. K c 1) x xs)
   where
-    low : (b : Bool) → b ≡ true → ◌≡◌ {A = ℕ} (cond b 0 1) 0
-    low b e = rw e refl
+    by : (u : ℕ) → (u < 2) × (K x u ≡ true) → (must_of K xs ≤ nonzeros f) × (nonzeros f ≤ may_of K xs)
+        → must_of K (x ∷ xs) ≡ num (not (K x 0)) + must_of K xs → may_of K (x ∷ xs) ≡ num (K x 1) + may_of K xs
+        → (must_of K (x ∷ xs) ≤ nonzeros (u ∷ f)) × (nonzeros (u ∷ f) ≤ may_of K (x ∷ xs))
+    by zero on r a b = let z = no (K x 0) on.1 in (omega (arith, r.0), omega (arith, r.1))
+    by (suc zero) on r a b = let o = yes (K x 1) on.1 in let m = num-most (not (K x 0)) in (omega (arith, r.0), omega (arith, r.1))
+    by (suc (suc u)) on r a b = absurd (omega (arith, on.0))
 
-    low_most : (b : Bool) → cond b 0 1 ≤ 1
-    low_most true = omega arith
-    low_most false = omega arith
-
-    high : (b : Bool) → b ≡ true → ◌≡◌ {A = ℕ} (cond b 1 0) 1
-    high b e = rw e refl
-
-    by : (u : ℕ) → has_value set u ≡ true → u < 2 → (must_of sets ≤ nonzeros f) × (nonzeros f ≤ may_of sets)
-        → (cond (has_value set 0) 0 1 + must_of sets ≤ nonzeros (u ∷ f)) × (nonzeros (u ∷ f) ≤ cond (has_value set 1) 1 0 + may_of sets)
-    by zero has b r = (let a = low (has_value set 0) has in omega arith, omega arith)
-    by (suc zero) has b r = (let a = low_most (has_value set 0) in omega arith, let a = high (has_value set 1) has in omega arith)
-    by (suc (suc u)) has b r = absurd (omega arith)
-
--- no more must hold a one than may
-pub must_le_may : (sets : List Set) → IsCounted sets → must_of sets ≤ may_of sets
-must_le_may [] c = omega arith
-must_le_may (set ∷ sets) c = by (has_value set 0) (has_value set 1) (c.some 0 (omega arith)) (must_le_may sets (counted_tail set sets c))
+must-under : (K : Candidates) (places : List ℕ) → IsFull K places → must_of K places ≤ may_of K places
+must-under K [] full = omega arith
+must-under K (x ∷ xs) full =
+    by (full 0 (omega arith)) (must-under K xs (λ k lt. full (suc k) (omega arith))) (count-cons (λ c. not (K c 0)) x xs) (count-cons (λ c. K c 1) x xs)
   where
-    by : (a b : Bool) → (a ≡ true) ⊎ (b ≡ true) → must_of sets ≤ may_of sets → cond a 0 1 + must_of sets ≤ cond b 1 0 + may_of sets
-    by true true h r = omega arith
-    by true false h r = omega arith
-    by false true h r = omega arith
-    by false false (inl e) r = absurd (true≢false (sym e))
-    by false false (inr e) r = absurd (true≢false (sym e))
+    by : (K x 0 ≡ true) ⊎ (K x 1 ≡ true) → must_of K xs ≤ may_of K xs → must_of K (x ∷ xs) ≡ num (not (K x 0)) + must_of K xs → may_of K (x ∷ xs) ≡ num (K x 1) + may_of K xs
+        → must_of K (x ∷ xs) ≤ may_of K (x ∷ xs)
+    by (inl z) r a b = let e = no (K x 0) z in omega arith
+    by (inr o) r a b = let e = yes (K x 1) o in let m = num-most (not (K x 0)) in omega arith
 
 -- each number between the bounds is that of a filling
-pub ones_reached : (sets : List Set) (k : ℕ) → IsCounted sets → must_of sets ≤ k → k ≤ may_of sets → (f : List ℕ) × Fills sets f × (nonzeros f ≡ k)
-ones_reached [] k c low high = ([], Fills-none, omega arith)
-ones_reached (set ∷ sets) k c low high = by (true_or_false (has_value set 0)) (true_or_false (has_value set 1)) (λ j. ones_reached sets j (counted_tail set sets c))
+abbrev Reached : Candidates → List ℕ → ℕ → Type 0
+Reached K places n = (f : List ℕ) × Fills (sets_at 2 places K) f × (nonzeros f ≡ n)
+
+reached-more : (K : Candidates) (x : ℕ) (xs : List ℕ) (n : ℕ) → IsFull K (x ∷ xs) → must_of K (x ∷ xs) ≤ n → n ≤ may_of K (x ∷ xs) → ((m : ℕ) → must_of K xs ≤ m → m ≤ may_of K xs → Reached K xs m) → Reached K (x ∷ xs) n
+unfolding sets_at
+reached-more K x xs n full low high rest = elim (cases_Bool (K x 0)) [
+  | inl z ↦ elim (cases_lt (may_of K xs) n) [
+    | inr within ↦
+        let w = rest n (let a = must_cons in let e = no (K x 0) z in omega arith) within in
+        (0 ∷ w.0, Fills-cons _ (sets_at 2 xs K) 0 w.0 (sets_at-value 2 (x ∷ xs) K 0 0 (omega arith) (omega arith) ∙ z) w.1, w.2)
+    | inl over ↦ elim (cases_Bool (K x 1)) [
+      | inl o ↦ one o (let u = must-under K xs (λ k lt. full (suc k) (omega arith)) in omega arith)
+      | inr off ↦ absurd (let b = may_cons in let e : num (K x 1) ≡ 0 = rw off refl in omega arith)
+    ]
+  ]
+  | inr off ↦ elim (full 0 (omega arith)) [
+    | inl z ↦ absurd (true≢false (sym z ∙ off))
+    | inr o ↦ one o (let a = must_cons in let e : num (not (K x 0)) ≡ 1 = rw off refl in omega arith)
+  ]
+]
   where
-    true_or_false : (b : Bool) → (b ≡ true) ⊎ (b ≡ false)
-    true_or_false true = inl refl
-    true_or_false false = inr refl
+    must_cons : must_of K (x ∷ xs) ≡ num (not (K x 0)) + must_of K xs
+    must_cons = count-cons (λ c. not (K c 0)) x xs
 
-    white : has_value set 0 ≡ true → (f : List ℕ) × Fills sets f × (nonzeros f ≡ k) → (f : List ℕ) × Fills (set ∷ sets) f × (nonzeros f ≡ k)
-    white has (f, p, e) = (0 ∷ f, Fills-cons set sets 0 f has p, e)
+    may_cons : may_of K (x ∷ xs) ≡ num (K x 1) + may_of K xs
+    may_cons = count-cons (λ c. K c 1) x xs
 
-    black : has_value set 1 ≡ true → 0 < k → (f : List ℕ) × Fills sets f × (nonzeros f ≡ k - 1) → (f : List ℕ) × Fills (set ∷ sets) f × (nonzeros f ≡ k)
-    black has pos (f, p, e) = (1 ∷ f, Fills-cons set sets 1 f has p, omega arith)
+    one : K x 1 ≡ true → must_of K xs + 1 ≤ n → Reached K (x ∷ xs) n
+    one o some =
+        let w = rest (n - 1) (omega arith) (let b = may_cons in let e = yes (K x 1) o in omega arith) in
+        (1 ∷ w.0, Fills-cons _ (sets_at 2 xs K) 1 w.0 (sets_at-value 2 (x ∷ xs) K 0 1 (omega arith) (omega arith) ∙ o) w.1, omega (arith, w.2))
 
-    must_is : (b : Bool) → has_value set 0 ≡ b → must_of (set ∷ sets) ≡ cond b 0 1 + must_of sets
-    must_is b e = ap (λ t. cond t 0 1 + must_of sets) e
+ones-reached : (K : Candidates) (places : List ℕ) (n : ℕ) → IsFull K places → must_of K places ≤ n → n ≤ may_of K places → Reached K places n
+unfolding sets_at
+ones-reached K [] n full low high = ([], record { len = refl; each = λ k lt. absurd (omega arith) }, omega arith)
+ones-reached K (x ∷ xs) n full low high = reached-more K x xs n full low high (λ m. ones-reached K xs m (λ k lt. full (suc k) (omega arith)))
 
-    may_is : (b : Bool) → has_value set 1 ≡ b → may_of (set ∷ sets) ≡ cond b 1 0 + may_of sets
-    may_is b e = ap (λ t. cond t 1 0 + may_of sets) e
+-- ---- one value of a cell alone
+module _ (K : Candidates) (places : List ℕ) (k v : ℕ) (different : AreDifferent places) (lt : k < length places) (low : v < 2) (on : K (slice_index places k) v ≡ true) where
+  abbrev cell : ℕ
+  cell = slice_index places k
 
-    by : (has_value set 0 ≡ true) ⊎ (has_value set 0 ≡ false) → (has_value set 1 ≡ true) ⊎ (has_value set 1 ≡ false)
-        → ((j : ℕ) → must_of sets ≤ j → j ≤ may_of sets → (f : List ℕ) × Fills sets f × (nonzeros f ≡ j))
-        → (f : List ℕ) × Fills (set ∷ sets) f × (nonzeros f ≡ k)
-    by (inl z) (inl o) rest =
-        let a = must_is true z in
-        let b = may_is true o in
-        elim (cases_lt (may_of sets) k) [
-          | inl over ↦ black o (omega arith) (rest (k - 1) (omega (arith, must_le_may sets (counted_tail set sets c))) (omega arith))
-          | inr within ↦ white z (rest k (omega arith) (omega arith))
-        ]
-    by (inl z) (inr o) rest =
-        let a = must_is true z in
-        let b = may_is false o in
-        white z (rest k (omega arith) (omega arith))
-    by (inr z) (inl o) rest =
-        let a = must_is false z in
-        let b = may_is true o in
-        black o (omega arith) (rest (k - 1) (omega arith) (omega arith))
-    by (inr z) (inr o) rest = absurd (elim (c.some 0 (omega arith)) [
-      | inl h ↦ absurd (true≢false (sym h ∙ z))
-      | inr h ↦ absurd (true≢false (sym h ∙ o))
-    ])
+  abbrev fixed : Candidates
+  fixed c u = K c u && (not (eqb c cell) || eqb u v)
 
--- the value stays at a cell exactly where the bounds of the others leave room for it
-module _ (front back : List Set) (set : Set) (value : ℕ) (c : IsCounted (front ++ back)) (small : value < 2) (has : has_value set value ≡ true) where
-  one_of : nonzeros (value ∷ []) ≡ value
-  one_of = by value small
+  others : (c u : ℕ) → (c ≡ cell → ⊥) → fixed c u ≡ K c u
+  others c u ne = rw (ne_eqb c cell ne) (and-true (K c u))
+
+  own : fixed cell v ≡ true
+  own = rw (on, eq-eqb cell cell refl, eq-eqb v v refl) refl
+
+  own-is : (u : ℕ) → u ≡ v → fixed cell u ≡ true
+  own-is u e = ap (fixed cell) e ∙ own
+
+  own-alone : (u : ℕ) → (u ≡ v → ⊥) → fixed cell u ≡ false
+  own-alone u ne = rw (eq-eqb cell cell refl, ne_eqb u v ne) (by (K cell u))
     where
-      by : (v : ℕ) → v < 2 → nonzeros (v ∷ []) ≡ v
-      by zero h = refl
-      by (suc zero) h = refl
-      by (suc (suc v)) h = absurd (omega arith)
+      by : (b : Bool) → (b && false) ≡ false
+      by true = refl
+      by false = refl
 
-  with_value : (f : List ℕ) → nonzeros (value ∷ f) ≡ value + nonzeros f
-  with_value f = ones-append (value ∷ []) f ∙ ap (λ n. n + nonzeros f) one_of
-
-  pub count_shown : (least most : ℕ) → least ≤ most → least ≤ value + may_of (front ++ back) → value + must_of (front ++ back) ≤ most
-      → IsShown (counts_between least most) (front ++ set ∷ back) (length front) value
-  count_shown least most order low high = by (ones_reached (front ++ back) (max least (value + must_of (front ++ back)) - value) c (omega arith)
-      (let a = must_le_may (front ++ back) c in omega arith))
+  must-fixed : must_of fixed places + num (not (K cell 0)) ≡ must_of K places + v
+  must-fixed =
+      count-at (λ c. not (K c 0)) (λ c. not (fixed c 0)) cell (λ c ne. ap not (others c 0 ne)) places (distinct-from places different) (has_place-here places k lt)
+      ∙ ap (λ n. must_of K places + n) (by v low refl)
     where
-      by : (g : List ℕ) × Fills (front ++ back) g × (nonzeros g ≡ max least (value + must_of (front ++ back)) - value)
-          → IsShown (counts_between least most) (front ++ set ∷ back) (length front) value
-      by (g, p, e) = (
-        take (length front) g ++ value ∷ drop (length front) g,
-        record {
-          fills = Fills-append front (set ∷ back) (take (length front) g) (value ∷ drop (length front) g) parts.0 (Fills-cons set back value (drop (length front) g) has parts.1);
-          holds_true = between;
-          has_it = middle;
-        },
-      )
-        where
-          long : length front ≤ length g
-          long = omega (arith, p.len, length-append front back)
+      by : (u : ℕ) → u < 2 → u ≡ v → num (not (fixed cell 0)) ≡ u
+      by zero l e = rw (own-is _ e) refl
+      by (suc zero) l e = rw (own-alone 0 (λ z. absurd (omega arith))) refl
+      by (suc (suc u)) l e = absurd (omega arith)
 
-          cut_long : length (take (length front) g) ≡ length front
-          cut_long = let l = long in omega (arith, length-take (length front) g)
+  may-fixed : may_of fixed places + num (K cell 1) ≡ may_of K places + v
+  may-fixed =
+      count-at (λ c. K c 1) (λ c. fixed c 1) cell (λ c ne. others c 1 ne) places (distinct-from places different) (has_place-here places k lt)
+      ∙ ap (λ n. may_of K places + n) (by v low refl)
+    where
+      by : (u : ℕ) → u < 2 → u ≡ v → num (fixed cell 1) ≡ u
+      by zero l e = rw (own-alone 1 (λ o. absurd (omega arith))) refl
+      by (suc zero) l e = rw (own-is _ e) refl
+      by (suc (suc u)) l e = absurd (omega arith)
 
-          parts : Fills front (take (length front) g) × Fills back (drop (length front) g)
-          parts = Fills-parts front back (take (length front) g) (drop (length front) g) cut_long (subst (Fills (front ++ back)) (sym (take-append-drop (length front) g)) p)
+  full-fixed : IsFull K places → IsFull fixed places
+  full-fixed full j lj = elim (cases_eq (slice_index places j) cell) [
+    | inl here ↦ rw here (by v low refl)
+    | inr there ↦ elim (full j lj) [
+      | inl z ↦ inl (others (slice_index places j) 0 there ∙ z)
+      | inr o ↦ inr (others (slice_index places j) 1 there ∙ o)
+    ]
+  ]
+    where
+      by : (u : ℕ) → u < 2 → u ≡ v → (fixed cell 0 ≡ true) ⊎ (fixed cell 1 ≡ true)
+      by zero l e = inl (own-is 0 e)
+      by (suc zero) l e = inr (own-is 1 e)
+      by (suc (suc u)) l e = absurd (omega arith)
 
-          total : nonzeros (take (length front) g ++ value ∷ drop (length front) g) ≡ max least (value + must_of (front ++ back))
-          total =
-              let a = ones-append (take (length front) g) (value ∷ drop (length front) g) in
-              let b = with_value (drop (length front) g) in
-              let d = ones-append (take (length front) g) (drop (length front) g) in
-              let f = ap nonzeros (take-append-drop (length front) g) in
-              omega arith
+  -- a filling with the value at the cell fills the fixed board, and the other way round
+  fixed-filled : (f : List ℕ) → Fills (sets_at 2 places K) f → get_or f k 0 ≡ v → Fills (sets_at 2 places fixed) f
+  fixed-filled f p at = filled-from fixed places f (p.len ∙ length-sets_at 2 places K) (λ j lj. (
+    (filled-at K places f p j lj).0,
+    elim (cases_eq (slice_index places j) cell) [
+      | inl here ↦ rw (different j k lj lt here, at) own
+      | inr there ↦ others (slice_index places j) (get_or f j 0) there ∙ (filled-at K places f p j lj).1
+    ],
+  ))
 
-          between : counts_between least most (take (length front) g ++ value ∷ drop (length front) g) ≡ true
-          between = rw (le-leb least (nonzeros (take (length front) g ++ value ∷ drop (length front) g)) (let t = total in omega arith))
-              (le-leb (nonzeros (take (length front) g ++ value ∷ drop (length front) g)) most (let t = total in omega arith))
-
-          middle : get_or (take (length front) g ++ value ∷ drop (length front) g) (length front) 0 ≡ value
-          middle = ap (λ k. get_or (take (length front) g ++ value ∷ drop (length front) g) k 0) (sym cut_long)
-              ∙ get_or-append_seam (take (length front) g) value (drop (length front) g) 0
-
-  pub count_bounds : (least most : ℕ) → IsShown (counts_between least most) (front ++ set ∷ back) (length front) value
-      → (least ≤ most) × (least ≤ value + may_of (front ++ back)) × (value + must_of (front ++ back) ≤ most)
-  count_bounds least most (f, s) = (
-    (let t = limits in omega arith),
-    (let t = limits in let b = others in let e = total in omega arith),
-    (let t = limits in let b = others in let e = total in omega arith),
+  filled-fixed : (f : List ℕ) → Fills (sets_at 2 places fixed) f → Fills (sets_at 2 places K) f × (get_or f k 0 ≡ v)
+  filled-fixed f p = (
+    filled-from K places f (p.len ∙ length-sets_at 2 places fixed) (λ j lj. let w = filled-at fixed places f p j lj in (w.0, (and_parts (K (slice_index places j) (get_or f j 0)) _ w.1).0)),
+    elim (cases_eq (get_or f k 0) v) [
+      | inl is ↦ is
+      | inr ne ↦ absurd (true≢false (sym (filled-at fixed places f p k lt).1 ∙ own-alone (get_or f k 0) ne))
+    ],
   )
-    where
-      inside : length front < length f
-      inside = omega (arith, s.fills.len, length-append front (set ∷ back))
 
-      whole : f ≡ take (length front) f ++ value ∷ drop (suc (length front)) f
-      whole = sym (take-append-drop (length front) f)
-          ∙ ap (λ xs. take (length front) f ++ xs) (drop-cons f (length front) 0 inside)
-          ∙ ap (λ v. take (length front) f ++ v ∷ drop (suc (length front)) f) s.has_it
+  pub shown-bounds : (least most : ℕ) → IsShown (counts_between least most) (sets_at 2 places K) k v
+      → (least ≤ most) × (least + num (K cell 1) ≤ may_of K places + v) × (must_of K places + v ≤ most + num (not (K cell 0)))
+  shown-bounds least most (f, s) =
+      let b = ones-bounds fixed places f (fixed-filled f s.fills s.has_it) in
+      let p = and_parts (leb least (nonzeros f)) (leb (nonzeros f) most) s.holds_true in
+      let low = leb-true least (nonzeros f) p.0 in
+      let high = leb-true (nonzeros f) most p.1 in
+      let m = must-fixed in
+      let n = may-fixed in
+      (omega arith, omega (arith, b.1), omega (arith, b.0))
 
-      parts : Fills front (take (length front) f) × Fills (set ∷ back) (value ∷ drop (suc (length front)) f)
-      parts = Fills-parts front (set ∷ back) (take (length front) f) (value ∷ drop (suc (length front)) f)
-          (let i = inside in omega (arith, length-take (length front) f)) (subst (Fills (front ++ set ∷ back)) whole s.fills)
+  pub bounds-shown : (least most : ℕ) → IsFull K places → least ≤ most → least + num (K cell 1) ≤ may_of K places + v → must_of K places + v ≤ most + num (not (K cell 0))
+      → IsShown (counts_between least most) (sets_at 2 places K) k v
+  bounds-shown least most full order few many =
+      let m = must-fixed in
+      let n = may-fixed in
+      let w = ones-reached fixed places (max least (must_of fixed places)) (full-fixed full) (omega arith) (let u = must-under fixed places (full-fixed full) in omega arith) in
+      let o = filled-fixed w.0 w.1 in
+      (w.0, record { fills = o.0; holds_true = and_from _ _ (le-leb least (nonzeros w.0) (omega (arith, w.2))) (le-leb (nonzeros w.0) most (omega (arith, w.2))); has_it = o.1 })
 
-      others : (must_of (front ++ back) ≤ nonzeros (take (length front) f ++ drop (suc (length front)) f)) × (nonzeros (take (length front) f ++ drop (suc (length front)) f) ≤ may_of (front ++ back))
-      others = ones_bounds (front ++ back) (take (length front) f ++ drop (suc (length front)) f) c
-          (Fills-append front back (take (length front) f) (drop (suc (length front)) f) parts.0 (Fills-tail set back value (drop (suc (length front)) f) parts.1))
-
-      total : nonzeros f ≡ value + nonzeros (take (length front) f ++ drop (suc (length front)) f)
-      total =
-          let a = ap nonzeros whole in
-          let b = ones-append (take (length front) f) (value ∷ drop (suc (length front)) f) in
-          let d = with_value (drop (suc (length front)) f) in
-          let e = ones-append (take (length front) f) (drop (suc (length front)) f) in
-          omega arith
-
-      limits : (least ≤ nonzeros f) × (nonzeros f ≤ most)
-      limits =
-          let p = and_parts (leb least (nonzeros f)) (leb (nonzeros f) most) s.holds_true in
-          (leb-true least (nonzeros f) p.0, leb-true (nonzeros f) most p.1)
+  -- a cell that has both values may hold a one and need not
+  pub open-room : IsFull K places → is_open K cell ≡ true → must_of K places < may_of K places
+  open-room full both =
+      let w = and_parts (K cell 0) (K cell 1) both in
+      let m = must-fixed in
+      let n = may-fixed in
+      let z = no (K cell 0) w.0 in
+      let o = yes (K cell 1) w.1 in
+      let u = must-under fixed places (full-fixed full) in
+      omega arith

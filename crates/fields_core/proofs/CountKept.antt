@@ -1,218 +1,262 @@
--- From the counts over a house's cells to what a visit leaves of each.
-use Rattle.std.proofs.Common.{◌≡◌, ℕ, zero, suc, ◌+◌, ◌<◌, ◌≤◌, Bool, true, false, not, true≢false, ◌&&◌, ◌||◌, cond, leb, List, [], ◌∷◌, ◌++◌, map, length, get_or, slice_index, take, drop, refl, sym, ◌∙◌, ap, subst, arith, ◌⊎◌, inl, inr}
-use Rattle.std.specs.List.{count_by, list_any, range_with_len}
-use Rattle.std.proofs.lemmas.Bool.{cases_Bool, false_from_ne_true}
-use Rattle.std.proofs.lemmas.List.{length-take, take-append-drop, get_or-map, length-map}
-use Rattle.std.proofs.lemmas.List.Folds.{list_any_at}
-use Rattle.std.proofs.lemmas.List.Recursion.{is_count_by}
-use Rattle.std.proofs.lemmas.List.FromFn.{get_or-map-range_with_len, length-map-range_with_len}
-use Rattle.std.proofs.Math.Seq.{drop-cons}
-use Rattle.grid_core.specs.Candidates.{Candidates}
+-- What a visit of a count house leaves of its cells, by the tally of the house.
+use Rattle.std.proofs.Common.{◌≡◌, ℕ, zero, suc, ◌+◌, ◌*◌, ◌<◌, ◌≤◌, Bool, true, false, not, true≢false, ◌&&◌, ◌||◌, cond, eqb, ltb, length, get_or, slice_index, refl, sym, ◌∙◌, ap, ap₂, arith, ◌⊎◌, inl, inr}
+use Rattle.std.proofs.Math.Path.{fun_ext}
+use Rattle.std.proofs.Math.Bool.{and-true, and-false}
+use Rattle.std.proofs.lemmas.Bool.{cases_Bool, cases_eq, false_from_ne_true, and_parts, or_cases, or_parts, eqb-true, eq-eqb, ne_eqb, le-ltb, ltb-true, ltb-false}
+use Rattle.grid_core.specs.Candidates.{Candidates, IsWithin}
 use Rattle.engine_core.specs.Puzzle.{has_place}
-use Rattle.engine_core.specs.PlaceLaws.{has_place-at}
-use Rattle.engine_core.specs.Filling.{Set, has_value, IsShown, strikes_by_fillings}
-use Rattle.engine_core.specs.FillingLaws.{has_value_below, shown_from_test}
+use Rattle.engine_core.specs.PlaceLaws.{has_place-at, has_place-here}
+use Rattle.engine_core.specs.Sets.{has_bit, IsBitsOf}
+use Rattle.engine_core.specs.Filling.{IsShown, strikes_by_fillings}
+use Rattle.engine_core.specs.FillingLaws.{shown_from_test, test_from_shown}
+use Rattle.engine_core.specs.House.{sets_at}
+use Rattle.engine_core.specs.HouseLaws.{strikes_at-place, strikes_at-in_scope}
 use Rattle.fields_core.specs.Count.{counts_between, is_open, is_empty}
+use Rattle.fields_core.specs.CountHouse.{CountHouse, IsHouse, after_house, strikes_of}
+use Rattle.fields_core.specs.CountLists.{bounds_of}
+use Rattle.fields_core.specs.Tallies.{IsTally, lacks_filling, has_strikes, stays, kept_of}
+use Rattle.fields_core.specs.declared.count_list.Bounds.{Bounds}
+use Rattle.fields_core.specs.declared.tally.Tally.{Tally}
 use Rattle.fields_core.proofs.BelowLemmas.{any-some}
-use Rattle.fields_core.proofs.CountBounds.{IsCounted, must_of, may_of}
-use Rattle.fields_core.proofs.PlaceLists.{count-cons, count-some}
-use Rattle.fields_core.proofs.StaysLaws.{stays_middle, stays_by_bounds}
+use Rattle.fields_core.proofs.PlaceLists.{num, count-some, some-counted}
+use Rattle.fields_core.proofs.CountBounds.{IsFull, filled-at, shown-bounds, bounds-shown, open-room}
 
--- the set of a cell
-abbrev pub set_of : Candidates → ℕ → Set
-set_of K c = map (K c) (range_with_len 0 2)
+-- ---- a cell that is empty
+not-empty : (K : Candidates) (c v : ℕ) → v < 2 → K c v ≡ true → is_empty K c ≡ true → ⊥
+not-empty K c zero low on none = true≢false (sym none ∙ rw on refl)
+not-empty K c (suc zero) low on none = true≢false (sym none ∙ rw on (and-false (not (K c 0))))
+not-empty K c (suc (suc v)) low on none = absurd (omega arith)
 
-has_at : (K : Candidates) (c v : ℕ) → v < 2 → has_value (set_of K c) v ≡ K c v
-has_at K c v h = get_or-map-range_with_len (K c) 0 2 v v false h (omega arith)
+by-value : (K : Candidates) (c v : ℕ) → v < 2 → K c v ≡ true → cond (eqb v 0) (K c 0) (K c 1) ≡ true
+by-value K c zero low on = on
+by-value K c (suc zero) low on = on
+by-value K c (suc (suc v)) low on = absurd (omega arith)
 
-below_two : (K : Candidates) (c v : ℕ) → has_value (set_of K c) v ≡ true → v < 2
-below_two K c v h = let b = has_value_below (set_of K c) v h in omega (arith, length-map-range_with_len (K c) 0 2)
+within-values : (v : ℕ) (zero_on one_on : Bool) → v < 2 → cond (eqb v 0) zero_on one_on ≡ true → (v ≤ num one_on) × (num (not zero_on) ≤ v)
+within-values zero z o low on = (omega arith, rw on (omega arith))
+within-values (suc zero) true o low on = (rw on (omega arith), omega arith)
+within-values (suc zero) false o low on = (rw on (omega arith), omega arith)
+within-values (suc (suc v)) z o low on = absurd (omega arith)
 
-must_is : (K : Candidates) (places : List ℕ) → must_of (map (set_of K) places) ≡ count_by (λ c. not (K c 0)) places
-must_is K places = is_count_by (λ xs. must_of (map (set_of K) xs)) (λ c. not (K c 0)) refl step places
-  where
-    pick : (t : Bool) (n : ℕ) → cond t 0 1 + n ≡ cond (not t) (1 + n) n
-    pick true n = (let z : 0 + n ≡ n = omega arith in z)
-    pick false n = refl
+-- there is room for a value that a cell has, unless it has both and the value's bound is reached
+room : (least most must may v : ℕ) (zero_on one_on : Bool) → v < 2 → cond (eqb v 0) zero_on one_on ≡ true → least ≤ may → must ≤ most
+    → ((zero_on && one_on) && (((eqb v 1) && (eqb must most)) || ((eqb v 0) && (eqb may least)))) ≡ false
+    → (least + num one_on ≤ may + v) × (must + v ≤ most + num (not zero_on))
+room least most must may zero true true low on few many off = (let ne : may ≡ least → ⊥ = λ e. true≢false (sym (eq-eqb may least e) ∙ off) in omega (arith, ne), omega arith)
+room least most must may zero true false low on few many off = (omega arith, omega arith)
+room least most must may zero false o low on few many off = absurd (true≢false (sym on))
+room least most must may (suc zero) true true low on few many off =
+    (omega arith, let ne : must ≡ most → ⊥ = λ e. true≢false (sym (rw (eq-eqb must most e) refl) ∙ off) in omega (arith, ne))
+room least most must may (suc zero) false true low on few many off = (omega arith, omega arith)
+room least most must may (suc zero) z false low on few many off = absurd (true≢false (sym on))
+room least most must may (suc (suc v)) z o low on few many off = absurd (omega arith)
 
-    step : (x : ℕ) (xs : List ℕ) → must_of (map (set_of K) (x ∷ xs)) ≡ cond (not (K x 0)) (1 + must_of (map (set_of K) xs)) (must_of (map (set_of K) xs))
-    step x xs = ap (λ t. cond t 0 1 + must_of (map (set_of K) xs)) (has_at K x 0 (omega arith)) ∙ pick (K x 0) (must_of (map (set_of K) xs))
+neither : (k a b : Bool) → (k && not ((a && false) || (b && false))) ≡ k
+neither true true true = refl
+neither true true false = refl
+neither true false true = refl
+neither true false false = refl
+neither false a b = refl
 
-may_is : (K : Candidates) (places : List ℕ) → may_of (map (set_of K) places) ≡ count_by (λ c. K c 1) places
-may_is K places = is_count_by (λ xs. may_of (map (set_of K) xs)) (λ c. K c 1) refl step places
-  where
-    pick : (t : Bool) (n : ℕ) → cond t 1 0 + n ≡ cond t (1 + n) n
-    pick true n = refl
-    pick false n = (let z : 0 + n ≡ n = omega arith in z)
+module _ (cells : ℕ) (house : CountHouse) (K : Candidates) (t : Tally) (is : IsHouse cells house) (tally : IsTally K house.places t) where
+  abbrev at : ℕ → ℕ
+  at k = slice_index house.places k
 
-    step : (x : ℕ) (xs : List ℕ) → may_of (map (set_of K) (x ∷ xs)) ≡ cond (K x 1) (1 + may_of (map (set_of K) xs)) (may_of (map (set_of K) xs))
-    step x xs = ap (λ t. cond t 1 0 + may_of (map (set_of K) xs)) (has_at K x 1 (omega arith)) ∙ pick (K x 1) (may_of (map (set_of K) xs))
+  abbrev struck : ℕ → ℕ → Bool
+  struck k v = strikes_by_fillings (counts_between house.least house.most) (sets_at 2 house.places K) k v
 
--- ---- no cell is empty
-IsCounted-cons : (set : Set) (sets : List Set) → (has_value set 0 ≡ true) ⊎ (has_value set 1 ≡ true) → ((v : ℕ) → has_value set v ≡ true → v < 2)
-    → IsCounted sets → IsCounted (set ∷ sets)
-IsCounted-cons set sets some two c = record { some = some_at; two = two_at }
-  where
-    some_at : (k : ℕ) → k < length (set ∷ sets) → (has_value (get_or (set ∷ sets) k []) 0 ≡ true) ⊎ (has_value (get_or (set ∷ sets) k []) 1 ≡ true)
-    some_at zero h = some
-    some_at (suc k) h = c.some k (omega arith)
+  full : t.empty ≡ 0 → IsFull K house.places
+  full none k lt = by (cases_Bool (K (at k) 0)) (cases_Bool (K (at k) 1))
+    where
+      by : (K (at k) 0 ≡ true) ⊎ (K (at k) 0 ≡ false) → (K (at k) 1 ≡ true) ⊎ (K (at k) 1 ≡ false) → (K (at k) 0 ≡ true) ⊎ (K (at k) 1 ≡ true)
+      by (inl z) o = inl z
+      by (inr z) (inl o) = inr o
+      by (inr z) (inr o) = absurd (let s = count-some (is_empty K) house.places (at k) (has_place-here house.places k lt) (rw (z, o) refl) in omega (arith, tally.empty_is))
 
-    two_at : (k v : ℕ) → k < length (set ∷ sets) → has_value (get_or (set ∷ sets) k []) v ≡ true → v < 2
-    two_at zero v h e = two v e
-    two_at (suc k) v h e = c.two k v (omega arith) e
+  -- where there is no filling, no value is shown
+  none-shown : (k v : ℕ) → k < length house.places → v < 2 → K (at k) v ≡ true → lacks_filling t (bounds_of house) ≡ true
+      → IsShown (counts_between house.least house.most) (sets_at 2 house.places K) k v → ⊥
+  none-shown k v lt low on lacks (f, s) =
+      let b = shown-bounds K house.places k v is.different lt low on house.least house.most (f, s) in
+      let m = tally.must_is in
+      let n = tally.may_is in
+      let u = within-values v (K (at k) 0) (K (at k) 1) low (by-value K (at k) v low on) in
+      elim (or_cases (ltb 0 t.empty) _ lacks) [
+        | inl some ↦
+            let d = any-some (is_empty K) house.places (sym (some-counted (is_empty K) house.places) ∙ ap (ltb 0) (sym tally.empty_is) ∙ some) in
+            let j = has_place-at house.places d.0 d.1 in
+            let w = filled-at K house.places f s.fills j.0 j.1 in
+            not-empty K (at j.0) (get_or f j.0 0) w.0 w.1 (rw j.2 d.2)
+        | inr rest ↦ elim (or_cases (ltb house.most house.least) _ rest) [
+          | inl none ↦ let e = ltb-true house.most house.least none in absurd (omega arith)
+          | inr more ↦ elim (or_cases (ltb t.may house.least) (ltb house.most t.must) more) [
+            | inl few ↦ let e = ltb-true t.may house.least few in absurd (omega (arith, b.1, u.0))
+            | inr many ↦ let e = ltb-true house.most t.must many in absurd (omega (arith, b.2, u.1))
+          ]
+        ]
+      ]
 
-IsCounted-tail : (set : Set) (sets : List Set) → IsCounted (set ∷ sets) → IsCounted sets
-IsCounted-tail set sets c = record { some = λ k h. c.some (suc k) (omega arith); two = λ k v h e. c.two (suc k) v (omega arith) e }
+  pub stays-at : (k v : ℕ) → k < length house.places → v < 2 → (K (at k) v && not (struck k v)) ≡ (K (at k) v && stays t (bounds_of house) (is_open K (at k)) v)
+  stays-at k v lt low = elim (cases_Bool (K (at k) v)) [
+    | inr off ↦ rw off refl
+    | inl on ↦ ap (λ b. K (at k) v && b) (elim (cases_Bool (lacks_filling t (bounds_of house))) [
+      | inl lacks ↦ rw lacks (ap not (true-by (struck k v) (λ off. none-shown k v lt low on lacks (shown_from_test _ _ k v off))))
+      | inr fills ↦ rw fills (by on fills (cases_Bool (is_open K (at k) && at_bound v)))
+    ])
+  ]
+    where
+      at_bound : ℕ → Bool
+      at_bound u = ((eqb u 1) && (eqb t.must house.most)) || ((eqb u 0) && (eqb t.may house.least))
 
-IsCounted-without : (front back : List Set) (set : Set) → IsCounted (front ++ set ∷ back) → IsCounted (front ++ back)
-IsCounted-without [] back set c = IsCounted-tail set back c
-IsCounted-without (s ∷ front) back set c =
-    IsCounted-cons s (front ++ back) (c.some 0 (omega arith)) (λ v e. c.two 0 v (omega arith) e) (IsCounted-without front back set (IsCounted-tail s (front ++ set ∷ back) c))
+      true-by : (b : Bool) → (b ≡ false → ⊥) → b ≡ true
+      true-by true never = refl
+      true-by false never = absurd (never refl)
 
-some-value : (K : Candidates) (places : List ℕ) (k : ℕ) → list_any (is_empty K) places ≡ false → k < length places → (K (slice_index places k) 0 ≡ true) ⊎ (K (slice_index places k) 1 ≡ true)
-some-value K places k none lt = by (K (slice_index places k) 0) (K (slice_index places k) 1) refl refl
-  where
-    by : (a b : Bool) → K (slice_index places k) 0 ≡ a → K (slice_index places k) 1 ≡ b → (K (slice_index places k) 0 ≡ true) ⊎ (K (slice_index places k) 1 ≡ true)
-    by true b p q = inl p
-    by false true p q = inr q
-    by false false p q = absurd (true≢false (sym (list_any_at (is_empty K) places k 0 lt (rw (p, q) refl)) ∙ none))
+      by : K (at k) v ≡ true → lacks_filling t (bounds_of house) ≡ false → ((is_open K (at k) && at_bound v) ≡ true) ⊎ ((is_open K (at k) && at_bound v) ≡ false) → not (struck k v) ≡ not (is_open K (at k) && at_bound v)
+      by on fills (inl reached) = ap not (true-by (struck k v) (λ off. gone (shown_from_test _ _ k v off)) ∙ sym reached)
+        where
+          gone : IsShown (counts_between house.least house.most) (sets_at 2 house.places K) k v → ⊥
+          gone shown =
+              let b = shown-bounds K house.places k v is.different lt low on house.least house.most shown in
+              let m = tally.must_is in
+              let n = tally.may_is in
+              let w = and_parts (is_open K (at k)) (at_bound v) reached in
+              let both = and_parts (K (at k) 0) (K (at k) 1) w.0 in
+              let z : num (not (K (at k) 0)) ≡ 0 = rw both.0 refl in
+              let o : num (K (at k) 1) ≡ 1 = rw both.1 refl in
+              elim (or_cases (eqb v 1 && eqb t.must house.most) (eqb v 0 && eqb t.may house.least) w.1) [
+                | inl one ↦ let e = and_parts (eqb v 1) _ one in let f = eqb-true v 1 e.0 in let g = eqb-true t.must house.most e.1 in omega (arith, b.2)
+                | inr none ↦ let e = and_parts (eqb v 0) _ none in let f = eqb-true v 0 e.0 in let g = eqb-true t.may house.least e.1 in omega (arith, b.1)
+              ]
+      by on fills (inr free) =
+          let a = or_parts (ltb 0 t.empty) _ fills in
+          let order = or_parts (ltb house.most house.least) _ a.1 in
+          let ends = or_parts (ltb t.may house.least) _ order.1 in
+          let none : t.empty ≡ 0 = let e = ltb-false 0 t.empty a.0 in omega arith in
+          let w = room house.least house.most t.must t.may v (K (at k) 0) (K (at k) 1) low (by-value K (at k) v low on) (ltb-false t.may house.least ends.0) (ltb-false house.most t.must ends.1) free in
+          ap not (test_from_shown _ _ k v (bounds-shown K house.places k v is.different lt low on house.least house.most (full none) (ltb-false house.most house.least order.0)
+          (let n = tally.may_is in omega (arith, w.0)) (let m = tally.must_is in omega (arith, w.1))) ∙ sym free)
 
-counted : (K : Candidates) (places : List ℕ) → list_any (is_empty K) places ≡ false → IsCounted (map (set_of K) places)
-counted K places none = record {
-  some = λ k h.
-      let lt : k < length places = omega (arith, length-map places (set_of K)) in
-      let at : get_or (map (set_of K) places) k [] ≡ set_of K (slice_index places k) = get_or-map (set_of K) places k 0 [] lt in
-      elim (some-value K places k none lt) [
-        | inl a ↦ inl (ap (λ s. has_value s 0) at ∙ has_at K (slice_index places k) 0 (omega arith) ∙ a)
-        | inr b ↦ inr (ap (λ s. has_value s 1) at ∙ has_at K (slice_index places k) 1 (omega arith) ∙ b)
-      ];
-  two = λ k v h on.
-      let lt : k < length places = omega (arith, length-map places (set_of K)) in
-      let at : get_or (map (set_of K) places) k [] ≡ set_of K (slice_index places k) = get_or-map (set_of K) places k 0 [] lt in
-      below_two K (slice_index places k) v (sym (ap (λ s. has_value s v) at) ∙ on);
-}
+  -- ---- the board after a visit
+  pub after-at : (k v : ℕ) → k < length house.places → v < 2 → after_house house K (at k) v ≡ (K (at k) v && stays t (bounds_of house) (is_open K (at k)) v)
+  unfolding after_house strikes_of
+  after-at k v lt low = ap (λ b. K (at k) v && not b) (strikes_at-place 2 house.places (strikes_by_fillings (counts_between house.least house.most)) K k v is.different lt) ∙ stays-at k v lt low
 
--- ---- some cell is empty: there is no filling
-pub empty-struck : (K : Candidates) (places : List ℕ) (holds : List ℕ → Bool) (k v : ℕ) → list_any (is_empty K) places ≡ true → strikes_by_fillings holds (map (set_of K) places) k v ≡ true
-empty-struck K places holds k v some_empty = elim (cases_Bool (strikes_by_fillings holds (map (set_of K) places) k v)) [
-  | inl struck ↦ struck
-  | inr shown ↦ absurd (no_filling (shown_from_test holds (map (set_of K) places) k v shown))
-]
-  where
-    no_filling : IsShown holds (map (set_of K) places) k v → ⊥
-    no_filling (f, s) = at (any-some (is_empty K) places some_empty)
-      where
-        at : (d : ℕ) × (has_place places d ≡ true) × (is_empty K d ≡ true) → ⊥
-        at (d, on, none) = there (has_place-at places d on)
-          where
-            there : (j : ℕ) × (j < length places) × (slice_index places j ≡ d) → ⊥
-            there (j, inside, e) = by (get_or f j 0) has (below_two K d (get_or f j 0) has)
-              where
-                has : has_value (set_of K d) (get_or f j 0) ≡ true
-                has = ap (λ t. has_value t (get_or f j 0)) (sym (get_or-map (set_of K) places j 0 [] inside ∙ ap (set_of K) e)) ∙ s.fills.each j (omega (arith, length-map places (set_of K)))
+  pub after-off : (c v : ℕ) → has_place house.places c ≡ false → after_house house K c v ≡ K c v
+  unfolding after_house strikes_of
+  after-off c v off = ap (λ b. K c v && not b) (false_from_ne_true _ (λ on. true≢false (sym (strikes_at-in_scope 2 house.places _ K c v on) ∙ off))) ∙ and-true (K c v)
 
-                by : (u : ℕ) → has_value (set_of K d) u ≡ true → u < 2 → ⊥
-                by zero h low = neither (K d 0) (K d 1) none (inl (sym (has_at K d 0 (omega arith)) ∙ h))
-                  where
-                    neither : (a b : Bool) → (not a && not b) ≡ true → (a ≡ true) ⊎ (b ≡ true) → ⊥
-                    neither true b n o = true≢false (sym n)
-                    neither false true n o = true≢false (sym n)
-                    neither false false n (inl o) = true≢false (sym o)
-                    neither false false n (inr o) = true≢false (sym o)
-                by (suc zero) h low = neither (K d 0) (K d 1) none (inr (sym (has_at K d 1 (omega arith)) ∙ h))
-                  where
-                    neither : (a b : Bool) → (not a && not b) ≡ true → (a ≡ true) ⊎ (b ≡ true) → ⊥
-                    neither true b n o = true≢false (sym n)
-                    neither false true n o = true≢false (sym n)
-                    neither false false n (inl o) = true≢false (sym o)
-                    neither false false n (inr o) = true≢false (sym o)
-                by (suc (suc u)) h low = absurd (omega arith)
+  gone : (c v : ℕ) → K c v ≡ false → after_house house K c v ≡ false
+  unfolding after_house
+  gone c v none = rw none refl
 
--- ---- what stays of a cell, by the counts
-abbrev pub stays : ℕ → ℕ → ℕ → ℕ → Bool → Bool → Bool → ℕ → Bool
-stays least most must may here zero_on one_on v =
-    here && (leb least most && (leb (least + cond one_on 1 0) (v + may) && leb (v + must) (most + cond zero_on 0 1)))
+  -- it suffices to look at the cells of the house, and at their values
+  after-by : (L : Candidates) → IsWithin cells 2 K → ((k v : ℕ) → k < length house.places → v < 2 → L (at k) v ≡ (K (at k) v && stays t (bounds_of house) (is_open K (at k)) v))
+      → ((c v : ℕ) → has_place house.places c ≡ false → L c v ≡ K c v) → ((c v : ℕ) → K c v ≡ false → L c v ≡ false) → L ≡ after_house house K
+  after-by L within held there none = fun_ext λ c. fun_ext λ v. elim (cases_Bool (K c v)) [
+    | inr off ↦ none c v off ∙ sym (gone c v off)
+    | inl on ↦ elim (cases_Bool (has_place house.places c)) [
+      | inr out ↦ there c v out ∙ sym (after-off c v out)
+      | inl here ↦ let w = has_place-at house.places c here in let low = (within c v on).1 in rw (sym w.2) (held w.0 v w.1 low ∙ sym (after-at w.0 v w.1 low))
+    ]
+  ]
 
-pub counts-kept : (K : Candidates) (places : List ℕ) (least most must may k v : ℕ) → list_any (is_empty K) places ≡ false
-    → must ≡ count_by (λ c. not (K c 0)) places → may ≡ count_by (λ c. K c 1) places → k < length places → v < 2
-    → (K (slice_index places k) v && not (strikes_by_fillings (counts_between least most) (map (set_of K) places) k v))
-    ≡ stays least most must may (K (slice_index places k) v) (K (slice_index places k) 0) (K (slice_index places k) 1) v
-counts-kept K places least most must may k v none must_eq may_eq inside small =
-    ap (λ a. a && not (strikes_by_fillings (counts_between least most) sets k v)) (sym (has_at K c v small))
-    ∙ sym split
-    ∙ ap (λ n. stays_by_bounds least most n (may_of sets) (set_of K c) v) (must_is K places ∙ sym must_eq)
-    ∙ ap (λ n. stays_by_bounds least most must n (set_of K c) v) (may_is K places ∙ sym may_eq)
-    ∙ ap (λ b. stays least most must may b (has_value (set_of K c) 0) (has_value (set_of K c) 1) v) (has_at K c v small)
-    ∙ ap (λ b. stays least most must may (K c v) b (has_value (set_of K c) 1) v) (has_at K c 0 (omega arith))
-    ∙ ap (λ b. stays least most must may (K c v) (K c 0) b v) (has_at K c 1 (omega arith))
-  where
-    c : ℕ
-    c = slice_index places k
+  -- a house that does not call leaves the board
+  pub after-idle : IsWithin cells 2 K → has_strikes t (bounds_of house) ≡ false → K ≡ after_house house K
+  after-idle within off = after-by K within (λ k v lt low. sym (stays-all k v lt)) (λ c v out. refl) (λ c v none. none)
+    where
+      full_parts : (ltb 0 t.empty ≡ false) × ((ltb house.most house.least || (ltb t.may (house.least + num (not (eqb t.must t.may))) || ltb house.most (t.must + num (not (eqb t.must t.may))))) ≡ false)
+      full_parts = or_parts _ _ off
 
-    sets : List Set
-    sets = map (set_of K) places
+      stays-all : (k v : ℕ) → k < length house.places → (K (at k) v && stays t (bounds_of house) (is_open K (at k)) v) ≡ K (at k) v
+      stays-all k v lt =
+          let order = or_parts (ltb house.most house.least) (ltb t.may (house.least + num (not (eqb t.must t.may))) || ltb house.most (t.must + num (not (eqb t.must t.may)))) full_parts.1 in
+          let ends = or_parts (ltb t.may (house.least + num (not (eqb t.must t.may)))) (ltb house.most (t.must + num (not (eqb t.must t.may)))) order.1 in
+          let few = ltb-false t.may (house.least + num (not (eqb t.must t.may))) ends.0 in
+          let many = ltb-false house.most (t.must + num (not (eqb t.must t.may))) ends.1 in
+          rw (full_parts.0, order.0, le-ltb t.may house.least (omega arith), le-ltb house.most t.must (omega arith)) (elim (cases_Bool (is_open K (at k))) [
+            | inr shut ↦ rw shut (and-true (K (at k) v))
+            | inl both ↦
+                let w = and_parts (K (at k) 0) (K (at k) 1) both in
+                let m = tally.must_is in
+                let n = tally.may_is in
+                let apart : t.must < t.may = let r = open-room K house.places k 0 is.different lt (omega arith) w.0 (full (let e = ltb-false 0 t.empty full_parts.0 in omega arith)) both in omega arith in
+                let one : num (not (eqb t.must t.may)) ≡ 1 = rw (ne_eqb t.must t.may (λ e. absurd (omega arith))) refl in
+                rw (both, ne_eqb t.must house.most (λ e. absurd (omega arith)), ne_eqb t.may house.least (λ e. absurd (omega arith))) (neither (K (at k) v) (eqb v 1) (eqb v 0))
+          ])
 
-    whole : map (set_of K) places ≡ take k (map (set_of K) places) ++ set_of K (slice_index places k) ∷ drop (suc k) (map (set_of K) places)
-    whole = sym (take-append-drop k (map (set_of K) places))
-        ∙ ap (λ xs. take k (map (set_of K) places) ++ xs) (drop-cons (map (set_of K) places) k [] (omega (arith, length-map places (set_of K))))
-        ∙ ap (λ s. take k (map (set_of K) places) ++ s ∷ drop (suc k) (map (set_of K) places)) (get_or-map (set_of K) places k 0 [] inside)
+-- ---- the bits of a cell
+all-set : (bits : ℕ) → bits < 4 → eqb bits 3 ≡ (has_bit bits 0 && has_bit bits 1)
+all-set zero lt = refl
+all-set (suc zero) lt = refl
+all-set (suc (suc zero)) lt = refl
+all-set (suc (suc (suc zero))) lt = refl
+all-set (suc (suc (suc (suc bits)))) lt = absurd (omega arith)
 
-    front_long : length (take k (map (set_of K) places)) ≡ k
-    front_long = omega (arith, length-take k (map (set_of K) places), length-map places (set_of K))
+kept-table : (none few most : Bool) (bits v : ℕ) → bits < 4 → v < 2
+    → has_bit (cond none 0 (cond (eqb bits 3) (num (not few) + 2 * num (not most)) bits)) v ≡ (has_bit bits v && (not none && not (eqb bits 3 && (((eqb v 1) && most) || ((eqb v 0) && few)))))
+kept-table true few most bits zero small low = sym (and-false (has_bit bits 0))
+kept-table true few most bits (suc zero) small low = sym (and-false (has_bit bits 1))
+kept-table false few most zero v small low = sym (and-true (has_bit 0 v))
+kept-table false few most (suc zero) v small low = sym (and-true (has_bit 1 v))
+kept-table false few most (suc (suc zero)) v small low = sym (and-true (has_bit 2 v))
+kept-table false true true (suc (suc (suc zero))) zero small low = refl
+kept-table false true false (suc (suc (suc zero))) zero small low = refl
+kept-table false false true (suc (suc (suc zero))) zero small low = refl
+kept-table false false false (suc (suc (suc zero))) zero small low = refl
+kept-table false true true (suc (suc (suc zero))) (suc zero) small low = refl
+kept-table false true false (suc (suc (suc zero))) (suc zero) small low = refl
+kept-table false false true (suc (suc (suc zero))) (suc zero) small low = refl
+kept-table false false false (suc (suc (suc zero))) (suc zero) small low = refl
+kept-table none few most bits (suc (suc v)) small low = absurd (omega arith)
+kept-table none few most (suc (suc (suc (suc bits)))) v small low = absurd (omega arith)
 
-    split : stays_by_bounds least most (must_of (map (set_of K) places)) (may_of (map (set_of K) places)) (set_of K (slice_index places k)) v
-        ≡ (has_value (set_of K (slice_index places k)) v && not (strikes_by_fillings (counts_between least most) (map (set_of K) places) k v))
-    split =
-        subst (λ n. stays_by_bounds least most (must_of (map (set_of K) places)) (may_of (map (set_of K) places)) (set_of K (slice_index places k)) v
-        ≡ (has_value (set_of K (slice_index places k)) v && not (strikes_by_fillings (counts_between least most) (map (set_of K) places) n v))) front_long
-        (subst (λ all. stays_by_bounds least most (must_of all) (may_of all) (set_of K (slice_index places k)) v
-        ≡ (has_value (set_of K (slice_index places k)) v && not (strikes_by_fillings (counts_between least most) all (length (take k (map (set_of K) places))) v))) (sym whole)
-        (stays_middle least most (take k (map (set_of K) places)) (drop (suc k) (map (set_of K) places)) (set_of K (slice_index places k)) v
-        (IsCounted-without (take k (map (set_of K) places)) (drop (suc k) (map (set_of K) places)) (set_of K (slice_index places k))
-        (subst IsCounted whole (counted K places none))) small))
+pub kept-bits : (t : Tally) (b : Bounds) (K : Candidates) (c bits v : ℕ) → IsBitsOf (K c) 2 bits → v < 2 → has_bit (kept_of t b bits) v ≡ (K c v && stays t b (is_open K c) v)
+kept-bits t b K c bits v is low =
+    kept-table (lacks_filling t b) (eqb t.may b.least) (eqb t.must b.most) bits v is.small low
+    ∙ ap₂ (λ on both. on && stays t b both v) (is.same v low) (all-set bits is.small ∙ ap₂ (λ z o. z && o) (is.same 0 (omega arith)) (is.same 1 (omega arith)))
 
--- ---- as many cells must hold a one as may: none has both values
-both-counted : (K : Candidates) (places : List ℕ) → list_any (is_empty K) places ≡ false → count_by (λ c. K c 1) places ≡ count_by (λ c. not (K c 0)) places + count_by (is_open K) places
-both-counted K [] none = refl
-both-counted K (x ∷ xs) none = by (both-counted K xs) (K x 0) (K x 1) refl refl none
-  where
-    a : count_by (λ c. K c 1) (x ∷ xs) ≡ cond (K x 1) 1 0 + count_by (λ c. K c 1) xs
-    a = count-cons (λ c. K c 1) x xs
+-- a value that a cell has stays exactly where its bit is kept
+pub kept-strikes : (cells : ℕ) (house : CountHouse) (K : Candidates) (t : Tally) → IsHouse cells house → IsTally K house.places t → (k v bits : ℕ) → k < length house.places → v < 2
+    → IsBitsOf (K (slice_index house.places k)) 2 bits → K (slice_index house.places k) v ≡ true → has_bit (kept_of t (bounds_of house) bits) v ≡ not (strikes_of house K (slice_index house.places k) v)
+unfolding after_house
+kept-strikes cells house K t is tally k v bits lt low of on =
+    kept-bits t (bounds_of house) K (slice_index house.places k) bits v of low ∙ sym (after-at cells house K t is tally k v lt low) ∙ rw on refl
 
-    b : count_by (λ c. not (K c 0)) (x ∷ xs) ≡ cond (not (K x 0)) 1 0 + count_by (λ c. not (K c 0)) xs
-    b = count-cons (λ c. not (K c 0)) x xs
+-- ---- the pass that strikes
+pub record IsKeptBelow (house : CountHouse) (t : Tally) (K L : Candidates) (n : ℕ) : Type 0 where
+  pub here : (k v : ℕ) → k < n → v < 2 → L (slice_index house.places k) v ≡ (K (slice_index house.places k) v && stays t (bounds_of house) (is_open K (slice_index house.places k)) v)
+  pub rest : (c v : ℕ) → ((k : ℕ) → k < n → slice_index house.places k ≡ c → ⊥) → L c v ≡ K c v
+  pub inside : (c v : ℕ) → L c v ≡ true → K c v ≡ true
 
-    d : count_by (is_open K) (x ∷ xs) ≡ cond (is_open K x) 1 0 + count_by (is_open K) xs
-    d = count-cons (is_open K) x xs
+pub kept-first : (house : CountHouse) (t : Tally) (K : Candidates) → IsKeptBelow house t K K 0
+kept-first house t K = record { here = λ k v lt low. absurd (omega arith); rest = λ c v off. refl; inside = λ c v on. on }
 
-    by : (list_any (is_empty K) xs ≡ false → count_by (λ c. K c 1) xs ≡ count_by (λ c. not (K c 0)) xs + count_by (is_open K) xs) → (z o : Bool) → K x 0 ≡ z → K x 1 ≡ o → (not (K x 0) && not (K x 1) || list_any (is_empty K) xs) ≡ false
-        → count_by (λ c. K c 1) (x ∷ xs) ≡ count_by (λ c. not (K c 0)) (x ∷ xs) + count_by (is_open K) (x ∷ xs)
-    by rest true true p q h =
-        let r = rest (rw p at h) in
-        let f : ◌≡◌ {A = ℕ} (cond (K x 1) 1 0) 1 = rw q refl in
-        let g : ◌≡◌ {A = ℕ} (cond (not (K x 0)) 1 0) 0 = rw p refl in
-        let i : ◌≡◌ {A = ℕ} (cond (is_open K x) 1 0) 1 = rw (p, q) refl in
-        omega (arith, a, b, d)
-    by rest true false p q h =
-        let r = rest (rw p at h) in
-        let f : ◌≡◌ {A = ℕ} (cond (K x 1) 1 0) 0 = rw q refl in
-        let g : ◌≡◌ {A = ℕ} (cond (not (K x 0)) 1 0) 0 = rw p refl in
-        let i : ◌≡◌ {A = ℕ} (cond (is_open K x) 1 0) 0 = rw (p, q) refl in
-        omega (arith, a, b, d)
-    by rest false true p q h =
-        let r = rest (rw (p, q) at h) in
-        let f : ◌≡◌ {A = ℕ} (cond (K x 1) 1 0) 1 = rw q refl in
-        let g : ◌≡◌ {A = ℕ} (cond (not (K x 0)) 1 0) 1 = rw p refl in
-        let i : ◌≡◌ {A = ℕ} (cond (is_open K x) 1 0) 0 = rw p refl in
-        omega (arith, a, b, d)
-    by rest false false p q h = absurd (true≢false (rw (p, q) at h))
+module _ (cells : ℕ) (house : CountHouse) (K : Candidates) (t : Tally) (is : IsHouse cells house) where
+  pub kept-next : (L M : Candidates) (n bits : ℕ) → IsKeptBelow house t K L n → n < length house.places → IsBitsOf (L (slice_index house.places n)) 2 bits
+      → ((c v : ℕ) → M c v ≡ (L c v && not ((eqb (slice_index house.places n) c) && not (has_bit (kept_of t (bounds_of house) bits) v)))) → IsKeptBelow house t K M (n + 1)
+  kept-next L M n bits before lt of left = record {
+    here = λ k v low two. elim (cases_eq k n) [
+      | inl e ↦ rw e (
+          left (slice_index house.places n) v
+          ∙ rw (eq-eqb (slice_index house.places n) (slice_index house.places n) refl) (by (L (slice_index house.places n) v) _ _ (kept-bits t (bounds_of house) L (slice_index house.places n) bits v of two))
+          ∙ ap₂ (λ on both. on && stays t (bounds_of house) both v) (same v) (ap₂ (λ z o. z && o) (same 0) (same 1)))
+      | inr ne ↦ left (slice_index house.places k) v ∙ rw (ne_eqb (slice_index house.places n) (slice_index house.places k) (λ e. ne (is.different k n (omega arith) lt (sym e)))) (and-true (L (slice_index house.places k) v))
+          ∙ before.here k v (omega (arith, ne)) two
+    ];
+    rest = λ c v off. left c v ∙ rw (ne_eqb (slice_index house.places n) c (off n (omega arith))) (and-true (L c v)) ∙ before.rest c v (λ k low. off k (omega arith));
+    inside = λ c v on. before.inside c v (and_parts (L c v) _ (sym (left c v) ∙ on)).0;
+  }
+    where
+      same : (v : ℕ) → L (slice_index house.places n) v ≡ K (slice_index house.places n) v
+      same v = before.rest (slice_index house.places n) v (λ k low e. let d = is.different k n (omega arith) lt e in absurd (omega arith))
 
-pub must-under : (K : Candidates) (places : List ℕ) → list_any (is_empty K) places ≡ false → count_by (λ c. not (K c 0)) places ≤ count_by (λ c. K c 1) places
-must-under K places none = let e = both-counted K places none in omega arith
+      by : (a b s : Bool) → b ≡ (a && s) → (a && not (true && not b)) ≡ (a && s)
+      by true true s e = e
+      by true false s e = e
+      by false b s e = refl
 
-pub none-open : (K : Candidates) (places : List ℕ) (c : ℕ) → list_any (is_empty K) places ≡ false → count_by (λ c. not (K c 0)) places ≡ count_by (λ c. K c 1) places
-    → has_place places c ≡ true → is_open K c ≡ false
-none-open K places c none same on = false_from_ne_true (is_open K c) (λ on_both.
-    let e = both-counted K places none in
-    let s = count-some (is_open K) places c on on_both in
-    omega arith)
+  pub kept-whole : (L : Candidates) (n : ℕ) → IsTally K house.places t → IsWithin cells 2 K → IsKeptBelow house t K L n → n ≤ length house.places → length house.places ≤ n → L ≡ after_house house K
+  kept-whole L n tally within below le ge = after-by cells house K t is tally L within (λ k v lt low. below.here k v (omega arith) low)
+      (λ c v off. below.rest c v (λ k low e. true≢false (sym (rw e at (has_place-here house.places k (omega arith))) ∙ off)))
+      (λ c v none. false_from_ne_true (L c v) (λ on. true≢false (sym (below.inside c v on) ∙ none)))

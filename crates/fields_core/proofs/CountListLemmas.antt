@@ -6,7 +6,7 @@ use Rattle.engine_core.specs.Puzzle.{has_place, IsNext, IsKth}
 use Rattle.engine_core.specs.HouseIndex.{scope_of, AreScopes}
 use Rattle.engine_core.specs.PlaceLaws.{has_place-here}
 use Rattle.fields_core.specs.CountHouse.{CountHouse, CountedHouses, IsHouse, AreHouses, count_house_of, houses_below}
-use Rattle.fields_core.specs.CountLists.{house_places, bounds_of, bound_of, house_with, bounded, AreListed, IsBegun, IsHouseClosed, IsAdded}
+use Rattle.fields_core.specs.CountLists.{house_places, bounds_of, bound_of, house_with, bounded, AreListed, IsBegun, IsAdded}
 use Rattle.fields_core.proofs.CountTallies.{AreCounted}
 use Rattle.fields_core.specs.declared.count_list.Bounds.{Bounds}
 use Rattle.fields_core.specs.declared.count_list.CountList.{CountList}
@@ -39,23 +39,6 @@ added-none list houses none e = record {
   begun = none;
   bounds = rw e (sym (append-nil list.bounds.items));
 }
-
-pub added-one : (a b c : CountList) (places : List ℕ) (least most : ℕ) (houses : List CountHouse) → a.list.begun ≡ [] → IsBegun a b places → IsHouseClosed b c least most
-    → houses ≡ record { places = places; least = least; most = most } ∷ [] → IsAdded a c houses
-added-one a b c places least most houses none p q e =
-    let at : b.list.begun ≡ places = p.begun ∙ ap (λ l. l ++ places) none in
-    record {
-      closed = rw e (q.closed ∙ ap (λ l. b.list.closed ++ l ∷ []) at ∙ ap (λ l. l ++ places ∷ []) p.closed);
-      begun = q.begun;
-      bounds = rw e (q.bounds ∙ ap (λ l. l ++ record { least = least; most = most } ∷ []) p.bounds);
-    }
-
--- the house has as many ones as cells at most
-pub added-some : (a b c : CountList) (places : List ℕ) (houses : List CountHouse) → a.list.begun ≡ [] → IsBegun a b places → IsHouseClosed b c 1 (length b.list.begun)
-    → houses ≡ record { places = places; least = 1; most = length places } ∷ [] → IsAdded a c houses
-added-some a b c places houses none p q e =
-    let at : b.list.begun ≡ places = p.begun ∙ ap (λ l. l ++ places) none in
-    added-one a b c places 1 (length places) houses none p (subst (λ n. IsHouseClosed b c 1 n) (ap length at) q) e
 
 pub added-more : (a b c : CountList) (xs ys : List CountHouse) → IsAdded a b xs → IsAdded b c ys → IsAdded a c (xs ++ ys)
 added-more a b c xs ys p q = record {

@@ -1,7 +1,7 @@
 -- What is counted of the cells of count houses.
-use Rattle.std.proofs.Common.{◌≡◌, ℕ, zero, suc, ◌+◌, ◌<◌, ◌≤◌, ◌^◌, Bool, true, false, not, ◌&&◌, ◌||◌, eqb, ltb, cond, List, [], ◌∷◌, length, slice_index, set, take, refl, sym, ◌∙◌, ap, ap₂, subst, inl, inr, ◌⊎◌, arith}
-use Rattle.std.specs.List.{count_by, list_any}
-use Rattle.std.proofs.lemmas.Bool.{cases_Bool, cases_eq, eqb-true, lt-ltb, ltb-false, eq-eqb, or_cases, or_parts, true≢false, false≢true}
+use Rattle.std.proofs.Common.{◌≡◌, ℕ, zero, suc, ◌+◌, ◌<◌, ◌≤◌, ◌^◌, Bool, true, false, not, ◌&&◌, eqb, cond, List, length, slice_index, set, take, refl, sym, ◌∙◌, ap, ap₂, subst, inl, inr, arith}
+use Rattle.std.specs.List.{count_by}
+use Rattle.std.proofs.lemmas.Bool.{cases_Bool, cases_eq, true≢false, false≢true}
 use Rattle.std.proofs.lemmas.List.{take_all, length-set, get_or-set_same, get_or-set_other}
 use Rattle.std.proofs.lemmas.List.Sums.{sum_by_more, count_by-le-length}
 use Rattle.grid_core.specs.Candidates.{Candidates, IsWithin}
@@ -16,8 +16,8 @@ use Rattle.fields_core.specs.Tallies.{IsTally, has_strikes, moved_tally, tally_a
 use Rattle.fields_core.specs.CountLists.{bounds_of}
 use Rattle.fields_core.specs.declared.count_list.Bounds.{Bounds}
 use Rattle.fields_core.specs.declared.tally.Tally.{Tally}
-use Rattle.fields_core.proofs.PlaceLists.{count-cons}
-use Rattle.fields_core.proofs.CountStrikes.{IsTallied, all-stay}
+use Rattle.fields_core.proofs.PlaceLists.{num, num-most, count-off, count-at, count-there}
+use Rattle.fields_core.proofs.CountKept.{after-idle}
 
 -- ---- counted one cell after the other
 pub record IsTalliedBelow (K : Candidates) (places : List ℕ) (n must may empty : ℕ) : Type 0 where
@@ -34,10 +34,6 @@ tallied-first K places = record { must_is = refl; may_is = refl; empty_is = refl
 count-next : (test : ℕ → Bool) (xs : List ℕ) (n : ℕ) → n < length xs → count_by test (take (n + 1) xs) ≡ count_by test (take n xs) + cond (test (slice_index xs n)) 1 0
 count-next test xs n lt = sum_by_more (λ c. cond (test c) 1 0) xs n 0 lt
 
-at-most-one : (b : Bool) → cond b 1 0 ≤ 1
-at-most-one true = omega arith
-at-most-one false = omega arith
-
 pub tallied-more : (K : Candidates) (places : List ℕ) (n must may empty : ℕ) (zero_on one_on : Bool) (a b e : ℕ) → IsTalliedBelow K places n must may empty → n < length places
     → zero_on ≡ K (slice_index places n) 0 → one_on ≡ K (slice_index places n) 1 → a ≡ cond (not zero_on) 1 0 → b ≡ cond one_on 1 0 → e ≡ cond (not zero_on && not one_on) 1 0
     → IsTalliedBelow K places (n + 1) (must + a) (may + b) (empty + e)
@@ -45,9 +41,9 @@ tallied-more K places n must may empty zero_on one_on a b e t lt z o ea eb ee = 
   must_is = ap₂ (λ x y. x + y) t.must_is (ea ∙ ap (λ p. cond (not p) 1 0) z) ∙ sym (count-next (λ c. not (K c 0)) places n lt);
   may_is = ap₂ (λ x y. x + y) t.may_is (eb ∙ ap (λ p. cond p 1 0) o) ∙ sym (count-next (λ c. K c 1) places n lt);
   empty_is = ap₂ (λ x y. x + y) t.empty_is (ee ∙ ap₂ (λ p q. cond (not p && not q) 1 0) z o) ∙ sym (count-next (is_empty K) places n lt);
-  few_must = let f = t.few_must in let m = at-most-one (not zero_on) in omega arith;
-  few_may = let f = t.few_may in let m = at-most-one one_on in omega arith;
-  few_empty = let f = t.few_empty in let m = at-most-one (not zero_on && not one_on) in omega arith;
+  few_must = let f = t.few_must in let m = num-most (not zero_on) in omega arith;
+  few_may = let f = t.few_may in let m = num-most one_on in omega arith;
+  few_empty = let f = t.few_empty in let m = num-most (not zero_on && not one_on) in omega arith;
 }
 
 pub tallied-whole : (K : Candidates) (places : List ℕ) (n must may empty : ℕ) → IsTalliedBelow K places n must may empty → length places ≤ n
@@ -59,61 +55,6 @@ tallied-whole K places n must may empty t ge =
       may_is = t.may_is ∙ ap (count_by (λ c. K c 1)) e;
       empty_is = t.empty_is ∙ ap (count_by (is_empty K)) e;
     }
-
--- 1 if it holds, and else 0
-abbrev num : Bool → ℕ
-num b = cond b 1 0
-
--- ---- a cell is empty where the number of empty ones is not 0
-some-counted : (test : ℕ → Bool) (xs : List ℕ) → ltb 0 (count_by test xs) ≡ list_any test xs
-some-counted test [] = refl
-some-counted test (x ∷ xs) = ap (ltb 0) (count-cons test x xs) ∙ by (count_by test xs) (some-counted test xs) (test x)
-  where
-    by : (n : ℕ) → ltb 0 n ≡ list_any test xs → (b : Bool) → ltb 0 (num b + n) ≡ (b || list_any test xs)
-    by n rest true = lt-ltb 0 (1 + n) (omega arith)
-    by n rest false = (let e : 0 + n ≡ n = omega arith in ap (ltb 0) e) ∙ rest
-
-pub tallied-as : (K : Candidates) (places : List ℕ) (t : Tally) → IsTally K places t → IsTallied K places t.must t.may (ltb 0 t.empty)
-tallied-as K places t is = record { must_is = is.must_is; may_is = is.may_is; dead_is = ap (ltb 0) is.empty_is ∙ some-counted (is_empty K) places }
-
--- ---- where one cell changed
-module _ (p q : ℕ → Bool) (place : ℕ) (others : (c : ℕ) → (c ≡ place → ⊥) → q c ≡ p c) where
-  pub count-off : (xs : List ℕ) → has_place xs place ≡ false → count_by q xs ≡ count_by p xs
-  unfolding has_place
-  count-off [] off = refl
-  count-off (x ∷ xs) off = count-cons q x xs ∙ by (count-off xs) (eqb x place) refl off ∙ sym (count-cons p x xs)
-    where
-      by : (has_place xs place ≡ false → count_by q xs ≡ count_by p xs) → (b : Bool) → eqb x place ≡ b → (b || has_place xs place) ≡ false → num (q x) + count_by q xs ≡ num (p x) + count_by p xs
-      by rest true e o = absurd (true≢false o)
-      by rest false e o = ap₂ (λ b n. num b + n) (others x (λ same. true≢false (sym (eq-eqb x place same) ∙ e))) (rest o)
-
-  pub count-at : (xs : List ℕ) → AreDistinct xs → has_place xs place ≡ true → count_by q xs + num (p place) ≡ count_by p xs + num (q place)
-  unfolding has_place
-  count-at [] d on = absurd (false≢true on)
-  count-at (x ∷ xs) d on = ap (λ n. n + num (p place)) (count-cons q x xs) ∙ by (count-at xs d.1) (eqb x place) refl on ∙ ap (λ n. n + num (q place)) (sym (count-cons p x xs))
-    where
-      by : (has_place xs place ≡ true → count_by q xs + num (p place) ≡ count_by p xs + num (q place)) → (b : Bool) → eqb x place ≡ b → (b || has_place xs place) ≡ true
-          → (num (q x) + count_by q xs) + num (p place) ≡ (num (p x) + count_by p xs) + num (q place)
-      by more true e o =
-          let same : x ≡ place = eqb-true x place e in
-          let rest = count-off xs (ap (has_place xs) (sym same) ∙ d.0) in
-          let s = ap (λ c. num (q c)) same in
-          let t = ap (λ c. num (p c)) same in
-          omega arith
-      by more false e o =
-          let rest = more o in
-          let same = ap num (others x (λ s. true≢false (sym (eq-eqb x place s) ∙ e))) in
-          omega arith
-
-  -- the cell is one of those counted
-  pub count-there : (xs : List ℕ) → has_place xs place ≡ true → num (p place) ≤ count_by p xs
-  unfolding has_place
-  count-there [] on = absurd (false≢true on)
-  count-there (x ∷ xs) on = by (count-there xs) (count-cons p x xs) (or_cases (eqb x place) (has_place xs place) on)
-    where
-      by : (has_place xs place ≡ true → num (p place) ≤ count_by p xs) → count_by p (x ∷ xs) ≡ num (p x) + count_by p xs → (eqb x place ≡ true) ⊎ (has_place xs place ≡ true) → num (p place) ≤ count_by p (x ∷ xs)
-      by rest head (inl here) = let s = ap (λ c. num (p c)) (eqb-true x place here) in omega arith
-      by rest head (inr more) = let r = rest more in omega arith
 
 -- no bit of two is set
 none-set : (bits : ℕ) → bits < 4 → eqb bits 0 ≡ (not (has_bit bits 0) && not (has_bit bits 1))
@@ -216,9 +157,6 @@ pub record AreMovedBelow (old new : List Tally) (listed : List ℕ) (before afte
   pub moved : (k : ℕ) → k < n → tally_at new (slice_index listed k) ≡ moved_tally (tally_at old (slice_index listed k)) before after
   pub kept : (h : ℕ) → ((k : ℕ) → k < n → slice_index listed k ≡ h → ⊥) → tally_at new h ≡ tally_at old h
 
-pub moved-none : (old : List Tally) (listed : List ℕ) (before after : ℕ) → AreMovedBelow old old listed before after 0
-moved-none old listed before after = record { as_many = refl; moved = λ k lt. absurd (omega arith); kept = λ h none. refl }
-
 pub moved-next : (old new : List Tally) (listed : List ℕ) (before after n : ℕ) (t : Tally) → AreMovedBelow old new listed before after n → n < length listed
     → ((j k : ℕ) → j < length listed → k < length listed → slice_index listed j ≡ slice_index listed k → j ≡ k)
     → slice_index listed n < length old → t ≡ moved_tally (tally_at old (slice_index listed n)) before after → AreMovedBelow old (set new (slice_index listed n) t) listed before after (n + 1)
@@ -294,28 +232,15 @@ module _ (cells : ℕ) (scopes : List (List ℕ)) (houses : List CountHouse) (ta
   }
 
 -- ---- a house that does not call strikes nothing
-pub idle-house : (cells : ℕ) (house : CountHouse) (K : Candidates) (t : Tally) → IsHouse cells house → IsWithin cells 2 K → IsTally K house.places t
+idle-house : (cells : ℕ) (house : CountHouse) (K : Candidates) (t : Tally) → IsHouse cells house → IsWithin cells 2 K → IsTally K house.places t
     → has_strikes t (bounds_of house) ≡ false → (c v : ℕ) → K c v ≡ true → strikes_of house K c v ≡ false
 unfolding after_house
-idle-house cells house K t is within tally off c v on =
-    let full = or_parts _ _ off in
-    let order = or_parts _ _ full.1 in
-    let bounds = or_parts _ _ order.1 in
-    let few = ltb-false _ _ bounds.0 in
-    let many = ltb-false _ _ bounds.1 in
-    let stays = all-stay cells house K t.must t.may (ltb 0 t.empty) is (λ d u lives. (within d u lives).1) (tallied-as K house.places t tally)
-    full.0 (ltb-false _ _ order.0) (omega arith) (omega arith) (room (eqb t.must t.may) refl few many) in
-    by (K c v) (strikes_of house K c v) on (ap (λ (L : Candidates). L c v) stays)
+idle-house cells house K t is within tally off c v on = by (K c v) (strikes_of house K c v) on (ap (λ (L : Candidates). L c v) (after-idle cells house K t is tally within off))
   where
     by : (a b : Bool) → a ≡ true → a ≡ (a && not b) → b ≡ false
     by true false e f = refl
     by true true e f = absurd (true≢false f)
     by false b e f = absurd (false≢true e)
-
-    room : (b : Bool) → eqb t.must t.may ≡ b → house.least + num (not b) ≤ t.may → t.must + num (not b) ≤ house.most
-        → (t.must ≡ t.may) ⊎ ((house.least < t.may) × (t.must < house.most))
-    room true same few many = inl (eqb-true t.must t.may same)
-    room false other few many = inr (omega arith, omega arith)
 
 pub moved-end : (old new : List Tally) (listed : List ℕ) (before after n : ℕ) → AreMovedBelow old new listed before after n → n ≤ length listed → length listed ≤ n → AreMovedBelow old new listed before after (length listed)
 moved-end old new listed before after n m le ge = let e : n ≡ length listed = omega arith in subst (AreMovedBelow old new listed before after) e m

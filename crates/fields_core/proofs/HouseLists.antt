@@ -9,7 +9,7 @@ use Rattle.std.proofs.lemmas.List.FromFn.{length-map-range_with_len}
 use Rattle.grid_core.specs.Extent.{Extent}
 use Rattle.grid_core.specs.Regions.{row_places, column_places, steps, step}
 use Rattle.gameid_core.specs.Puzzles.{Light}
-use Rattle.gameid_core.specs.declared.light_cell.LightCell.TheVariants.{White, Black, Numbered}
+use Rattle.gameid_core.specs.declared.light_cell.LightCell.TheVariants.{White, Black}
 use Rattle.fields_core.specs.Light.{white}
 use Rattle.fields_core.specs.LightHouses.{begins_row_run, begins_column_run, number_house}
 use Rattle.fields_core.proofs.LightLines.{cell-at}
@@ -72,7 +72,3 @@ number-white p c e = rw (cell-at p c White e) refl
 
 pub number-black : (p : Light) (c : ℕ) → slice_get p.cells c ≡ Some Black → number_house p c ≡ []
 number-black p c e = rw (cell-at p c Black e) refl
-
-pub number-numbered : (p : Light) (c n least most : ℕ) → slice_get p.cells c ≡ Some (Numbered n) → least ≡ n → most ≡ n
-    → number_house p c ≡ record { places = filter (white p) (steps p.size c 4); least = least; most = most } ∷ []
-number-numbered p c n least most e low high = rw (cell-at p c (Numbered n) e, low, high) refl

@@ -1,7 +1,5 @@
 pub mod CountBounds
-pub mod StaysLaws
 pub mod CountKept
-pub mod CountStrikes
 pub mod CountTallies
 pub mod CountFollow
 pub mod CountListLemmas
@@ -18,7 +16,6 @@ pub mod LightCounting
 pub mod LightSeen
 pub mod RuleLemmas
 pub mod TentLines
-pub mod TentHouseLists
 pub mod BelowLemmas
 pub mod TentBeside
 pub mod TentCounting

@@ -1,5 +1,5 @@
 -- The count houses of Light Up keep to what every rule set of count houses keeps to.
-use Rattle.std.proofs.Common.{◌≡◌, ℕ, zero, suc, ◌+◌, ◌*◌, ◌/◌, ◌%◌, ◌^◌, ◌<◌, ◌≤◌, Bool, true, false, not, ◌&&◌, ◌||◌, eqb, List, [], ◌∷◌, ◌++◌, length, get_or, slice_index, map, refl, sym, ap, ◌∙◌, inl, inr, arith, le-leb}
+use Rattle.std.proofs.Common.{◌≡◌, ℕ, zero, suc, ◌+◌, ◌*◌, ◌/◌, ◌%◌, ◌^◌, ◌<◌, ◌≤◌, Bool, true, not, ◌&&◌, ◌||◌, eqb, List, [], ◌∷◌, ◌++◌, length, get_or, slice_index, map, refl, sym, ap, ◌∙◌, inl, inr, arith, le-leb}
 use Rattle.std.specs.List.{filter, AllByRecursion}
 use Rattle.std.proofs.lemmas.Bool.{cases_eq, cases_lt, or_left, or_right, or_cases, and_from, and_parts, true≢false, eqb-true, eq-eqb, ne_eqb, not-true}
 use Rattle.std.proofs.lemmas.List.{get_or_past, length-append}
@@ -9,7 +9,7 @@ use Rattle.grid_core.specs.Grids.{IsGrid}
 use Rattle.grid_core.specs.Regions.{row_places, column_places, steps}
 use Rattle.grid_core.proofs.CandidateLemmas.{all_below-at, any_below-here, any_below-some}
 use Rattle.engine_core.specs.Puzzle.{has_place}
-use Rattle.engine_core.specs.PlaceLaws.{has_place-here, AreDistinct, different-from}
+use Rattle.engine_core.specs.PlaceLaws.{has_place-here, AreDistinct, different-from, place-filter, place-kept, place-append, place-front, place-back, distinct-filter, distinct-append}
 use Rattle.gameid_core.specs.Puzzles.{Light, IsLight, IsLightCell}
 use Rattle.gameid_core.specs.declared.light_cell.LightCell.{LightCell}
 use Rattle.gameid_core.specs.declared.light_cell.LightCell.TheVariants.{White, Black, Numbered}
@@ -20,7 +20,7 @@ use Rattle.fields_core.specs.LightHouses.{row_run, column_run, seen_from, begins
 use Rattle.fields_core.proofs.LightFaultLemmas.{lit-parts}
 use Rattle.fields_core.proofs.LightSight.{bulb-in, row-of, column-of}
 use Rattle.fields_core.proofs.HouseLists.{row-long, column-long}
-use Rattle.fields_core.proofs.PlaceLists.{place-filter, place-kept, place-append, place-front, place-back, distinct-filter, distinct-append, count-some, count-one, count-filter, ones-bulbs}
+use Rattle.fields_core.proofs.PlaceLists.{count-some, count-one, count-filter, ones-bulbs}
 use Rattle.fields_core.proofs.StepLaws.{steps-distinct, steps-few}
 use Rattle.fields_core.proofs.LightHouseLaws.{EachOf, each-none, each-one, each-append, each-below, each-if, row-both, column-both, row-white-end, column-white-end, row-self, white-in, row-distinct, column-distinct, row-parts, column-parts}
 
@@ -261,15 +261,7 @@ each-met p board = each-append (IsMet p) _ _ (each-below (IsMet p) (number_house
 
 -- ---- a puzzle's board
 number-few : (cells : List LightCell) (c n : ℕ) → AllByRecursion IsLightCell cells → get_or cells c Black ≡ Numbered n → n ≤ 4
-number-few [] c n all e = absurd (black-not e)
-  where
-    black-not : Black ≡ Numbered n → ⊥
-    black-not e = true≢false (ap is_black e)
-      where
-        is_black : LightCell → Bool
-        is_black White = false
-        is_black Black = true
-        is_black (Numbered m) = false
+number-few [] c n all e = cc
 number-few (cell ∷ cells) zero n all e = rw e at all.0
 number-few (cell ∷ cells) (suc c) n all e = number-few cells c n all.1 e
 

@@ -1,5 +1,5 @@
 -- The cells of a puzzle of Light Up.
-use Rattle.std.proofs.Common.{◌≡◌, ℕ, get_or, Option, Some, None, sym, ap, ◌∙◌}
+use Rattle.std.proofs.Common.{◌≡◌, ℕ, get_or, Some, sym, ap, ◌∙◌}
 use Rattle.std.specs.List.{slice_get}
 use Rattle.std.proofs.lemmas.Option.{slice_get-get_or, slice_get_within}
 use Rattle.gameid_core.specs.Puzzles.{Light}
@@ -8,11 +8,7 @@ use Rattle.gameid_core.specs.declared.light_cell.LightCell.TheVariants.{Black}
 use Rattle.fields_core.specs.Light.{is_white, white}
 
 some-inj : {A : Type 0} {x y : A} → Some x ≡ Some y → x ≡ y
-some-inj {A} {x} {y} e = ap (λ (o : Option A). unwrap x o) e
-  where
-    unwrap : {A : Type 0} → A → Option A → A
-    unwrap d None = d
-    unwrap d (Some a) = a
+some-inj {A} {x} {y} e = cc
 
 pub cell-at : (p : Light) (c : ℕ) (cell : LightCell) → slice_get p.cells c ≡ Some cell → get_or p.cells c Black ≡ cell
 cell-at p c cell e = some-inj (sym (slice_get-get_or p.cells c Black (slice_get_within p.cells c cell e)) ∙ e)

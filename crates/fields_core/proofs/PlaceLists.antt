@@ -1,77 +1,21 @@
 -- Lists of different places, and how many of them pass a test.
-use Rattle.std.proofs.Common.{◌≡◌, ℕ, zero, suc, ◌+◌, ◌<◌, ◌≤◌, Bool, true, false, eqb, cond, List, [], ◌∷◌, ◌++◌, slice_index, map, refl, sym, ap, ◌∙◌, inl, inr, ◌⊎◌, arith}
-use Rattle.std.specs.List.{filter, count_by}
-use Rattle.std.proofs.lemmas.Bool.{cases_Bool, or_left, or_right, or_cases, true≢false, false_from_ne_true, eqb-true, eq-eqb}
+use Rattle.std.proofs.Common.{◌≡◌, ℕ, zero, suc, ◌+◌, ◌<◌, ◌≤◌, Bool, true, false, ◌||◌, eqb, ltb, cond, List, [], ◌∷◌, slice_index, map, refl, sym, ap, ap₂, ◌∙◌, inl, inr, ◌⊎◌, arith}
+use Rattle.std.specs.List.{filter, count_by, list_any}
+use Rattle.std.proofs.lemmas.Bool.{cases_Bool, lt-ltb, or_left, or_right, or_cases, true≢false, false≢true, false_from_ne_true, eqb-true, eq-eqb}
 use Rattle.engine_core.specs.Puzzle.{has_place}
 use Rattle.engine_core.specs.PlaceLaws.{AreDistinct}
 use Rattle.fields_core.specs.Count.{nonzeros}
 use Rattle.fields_core.specs.Light.{bulb}
 use Rattle.fields_core.proofs.LightSight.{count-append}
 
-pub place-filter : (test : ℕ → Bool) (xs : List ℕ) (d : ℕ) → has_place (filter test xs) d ≡ true → (has_place xs d ≡ true) × (test d ≡ true)
-unfolding has_place
-place-filter test [] d on = absurd (true≢false (sym on))
-place-filter test (x ∷ xs) d on = by (place-filter test xs d) (test x) refl on
-  where
-    by : (has_place (filter test xs) d ≡ true → (has_place xs d ≡ true) × (test d ≡ true)) → (b : Bool) → test x ≡ b → has_place (cond b (x ∷ filter test xs) (filter test xs)) d ≡ true → (has_place (x ∷ xs) d ≡ true) × (test d ≡ true)
-    by rest false e h = let w = rest h in (or_right (eqb x d) (has_place xs d) w.0, w.1)
-    by rest true e h = elim (or_cases (eqb x d) (has_place (filter test xs) d) h) [
-      | inl here ↦ (or_left (eqb x d) (has_place xs d) here, ap test (sym (eqb-true x d here)) ∙ e)
-      | inr more ↦ let w = rest more in (or_right (eqb x d) (has_place xs d) w.0, w.1)
-    ]
+-- 1 if it holds, and else 0
+abbrev pub num : Bool → ℕ
+num b = cond b 1 0
 
-pub place-kept : (test : ℕ → Bool) (xs : List ℕ) (d : ℕ) → has_place xs d ≡ true → test d ≡ true → has_place (filter test xs) d ≡ true
-unfolding has_place
-place-kept test [] d on passes = on
-place-kept test (x ∷ xs) d on passes = by (λ more. place-kept test xs d more passes) (test x) refl (or_cases (eqb x d) (has_place xs d) on)
-  where
-    by : (has_place xs d ≡ true → has_place (filter test xs) d ≡ true) → (b : Bool) → test x ≡ b → (eqb x d ≡ true) ⊎ (has_place xs d ≡ true) → has_place (cond b (x ∷ filter test xs) (filter test xs)) d ≡ true
-    by rest true e (inl here) = or_left (eqb x d) (has_place (filter test xs) d) here
-    by rest true e (inr more) = or_right (eqb x d) (has_place (filter test xs) d) (rest more)
-    by rest false e (inl here) = absurd (true≢false (sym passes ∙ ap test (sym (eqb-true x d here)) ∙ e))
-    by rest false e (inr more) = rest more
+pub num-most : (b : Bool) → num b ≤ 1
+num-most true = omega arith
+num-most false = omega arith
 
-pub place-append : (xs ys : List ℕ) (d : ℕ) → has_place (xs ++ ys) d ≡ true → (has_place xs d ≡ true) ⊎ (has_place ys d ≡ true)
-unfolding has_place
-place-append [] ys d on = inr on
-place-append (x ∷ xs) ys d on = elim (or_cases (eqb x d) (has_place (xs ++ ys) d) on) [
-  | inl here ↦ inl (or_left (eqb x d) (has_place xs d) here)
-  | inr more ↦ elim (place-append xs ys d more) [ inl a ↦ inl (or_right (eqb x d) (has_place xs d) a) | inr b ↦ inr b ]
-]
-
-pub place-front : (xs ys : List ℕ) (d : ℕ) → has_place xs d ≡ true → has_place (xs ++ ys) d ≡ true
-unfolding has_place
-place-front [] ys d on = absurd (true≢false (sym on))
-place-front (x ∷ xs) ys d on = elim (or_cases (eqb x d) (has_place xs d) on) [
-  | inl here ↦ or_left (eqb x d) (has_place (xs ++ ys) d) here
-  | inr more ↦ or_right (eqb x d) (has_place (xs ++ ys) d) (place-front xs ys d more)
-]
-
-pub place-back : (xs ys : List ℕ) (d : ℕ) → has_place ys d ≡ true → has_place (xs ++ ys) d ≡ true
-unfolding has_place
-place-back [] ys d on = on
-place-back (x ∷ xs) ys d on = or_right (eqb x d) (has_place (xs ++ ys) d) (place-back xs ys d on)
-
-pub distinct-filter : (test : ℕ → Bool) (xs : List ℕ) → AreDistinct xs → AreDistinct (filter test xs)
-distinct-filter test [] d = tt
-distinct-filter test (x ∷ xs) d = by (distinct-filter test xs d.1) (test x)
-  where
-    by : AreDistinct (filter test xs) → (b : Bool) → AreDistinct (cond b (x ∷ filter test xs) (filter test xs))
-    by rest false = rest
-    by rest true = (false_from_ne_true (has_place (filter test xs) x) (λ on. true≢false (sym (place-filter test xs x on).0 ∙ d.0)), rest)
-
-pub distinct-append : (xs ys : List ℕ) → AreDistinct xs → AreDistinct ys → ((d : ℕ) → has_place xs d ≡ true → has_place ys d ≡ true → ⊥) → AreDistinct (xs ++ ys)
-unfolding has_place
-distinct-append [] ys dx dy apart = dy
-distinct-append (x ∷ xs) ys dx dy apart = (
-  false_from_ne_true (has_place (xs ++ ys) x) (λ on. elim (place-append xs ys x on) [
-    | inl a ↦ true≢false (sym a ∙ dx.0)
-    | inr b ↦ apart x (or_left (eqb x x) (has_place xs x) (eq-eqb x x refl)) b
-  ]),
-  distinct-append xs ys dx.1 dy (λ d a b. apart d (or_right (eqb x d) (has_place xs d) a) b),
-)
-
--- ---- how many pass
 pub count-cons : (test : ℕ → Bool) (x : ℕ) (xs : List ℕ) → count_by test (x ∷ xs) ≡ cond (test x) 1 0 + count_by test xs
 count-cons test x xs = count-append test (x ∷ []) xs ∙ ap (λ n. n + count_by test xs) (let e : 0 + cond (test x) 1 0 ≡ cond (test x) 1 0 = omega arith in e)
 
@@ -84,6 +28,15 @@ count-some test (x ∷ xs) d on passes =
       | inl here ↦ let e : ◌≡◌ {A = ℕ} (cond (test x) 1 0) 1 = rw (ap test (eqb-true x d here) ∙ passes) refl in omega arith
       | inr more ↦ let r = count-some test xs d more passes in omega arith
     ]
+
+-- some pass where their number is not 0
+pub some-counted : (test : ℕ → Bool) (xs : List ℕ) → ltb 0 (count_by test xs) ≡ list_any test xs
+some-counted test [] = refl
+some-counted test (x ∷ xs) = ap (ltb 0) (count-cons test x xs) ∙ by (count_by test xs) (some-counted test xs) (test x)
+  where
+    by : (n : ℕ) → ltb 0 n ≡ list_any test xs → (b : Bool) → ltb 0 (num b + n) ≡ (b || list_any test xs)
+    by n rest true = lt-ltb 0 (1 + n) (omega arith)
+    by n rest false = (let e : 0 + n ≡ n = omega arith in ap (ltb 0) e) ∙ rest
 
 count-none : (test : ℕ → Bool) (xs : List ℕ) → ((d : ℕ) → has_place xs d ≡ true → test d ≡ true → ⊥) → count_by test xs ≡ 0
 unfolding has_place
@@ -124,6 +77,45 @@ count-filter test keeps (x ∷ xs) all = by (count-filter test keeps xs all) (ke
         let c = count-cons test x xs in
         let off : ◌≡◌ {A = ℕ} (cond (test x) 1 0) 0 = rw (false_from_ne_true (test x) (λ on. true≢false (sym (all x on) ∙ e))) refl in
         omega arith
+
+-- ---- where the test changed at one place
+module _ (p q : ℕ → Bool) (place : ℕ) (others : (c : ℕ) → (c ≡ place → ⊥) → q c ≡ p c) where
+  pub count-off : (xs : List ℕ) → has_place xs place ≡ false → count_by q xs ≡ count_by p xs
+  unfolding has_place
+  count-off [] off = refl
+  count-off (x ∷ xs) off = count-cons q x xs ∙ by (count-off xs) (eqb x place) refl off ∙ sym (count-cons p x xs)
+    where
+      by : (has_place xs place ≡ false → count_by q xs ≡ count_by p xs) → (b : Bool) → eqb x place ≡ b → (b || has_place xs place) ≡ false → num (q x) + count_by q xs ≡ num (p x) + count_by p xs
+      by rest true e o = absurd (true≢false o)
+      by rest false e o = ap₂ (λ b n. num b + n) (others x (λ same. true≢false (sym (eq-eqb x place same) ∙ e))) (rest o)
+
+  pub count-at : (xs : List ℕ) → AreDistinct xs → has_place xs place ≡ true → count_by q xs + num (p place) ≡ count_by p xs + num (q place)
+  unfolding has_place
+  count-at [] d on = absurd (false≢true on)
+  count-at (x ∷ xs) d on = ap (λ n. n + num (p place)) (count-cons q x xs) ∙ by (count-at xs d.1) (eqb x place) refl on ∙ ap (λ n. n + num (q place)) (sym (count-cons p x xs))
+    where
+      by : (has_place xs place ≡ true → count_by q xs + num (p place) ≡ count_by p xs + num (q place)) → (b : Bool) → eqb x place ≡ b → (b || has_place xs place) ≡ true
+          → (num (q x) + count_by q xs) + num (p place) ≡ (num (p x) + count_by p xs) + num (q place)
+      by more true e o =
+          let same : x ≡ place = eqb-true x place e in
+          let rest = count-off xs (ap (has_place xs) (sym same) ∙ d.0) in
+          let s = ap (λ c. num (q c)) same in
+          let t = ap (λ c. num (p c)) same in
+          omega arith
+      by more false e o =
+          let rest = more o in
+          let same = ap num (others x (λ s. true≢false (sym (eq-eqb x place s) ∙ e))) in
+          omega arith
+
+  -- the cell is one of those counted
+  pub count-there : (xs : List ℕ) → has_place xs place ≡ true → num (p place) ≤ count_by p xs
+  unfolding has_place
+  count-there [] on = absurd (false≢true on)
+  count-there (x ∷ xs) on = by (count-there xs) (count-cons p x xs) (or_cases (eqb x place) (has_place xs place) on)
+    where
+      by : (has_place xs place ≡ true → num (p place) ≤ count_by p xs) → count_by p (x ∷ xs) ≡ num (p x) + count_by p xs → (eqb x place ≡ true) ⊎ (has_place xs place ≡ true) → num (p place) ≤ count_by p (x ∷ xs)
+      by rest head (inl here) = let s = ap (λ c. num (p c)) (eqb-true x place here) in omega arith
+      by rest head (inr more) = let r = rest more in omega arith
 
 -- the ones of a grid's cells are its bulbs
 pub ones-bulbs : (g : List ℕ) (xs : List ℕ) → ((c : ℕ) → slice_index g c < 2) → nonzeros (map (slice_index g) xs) ≡ count_by (bulb g) xs

@@ -1,63 +1,34 @@
 -- From a table of count houses to the rules that it serves.
-use Rattle.std.proofs.Common.{◌≡◌, ℕ, ◌+◌, ◌<◌, ◌≤◌, Bool, true, false, not, ◌&&◌, ◌||◌, eqb, ltb, List, ◌++◌, length, slice_index, take, drop, subst, refl, sym, ap, ◌∙◌, inl, inr, arith}
+use Rattle.std.proofs.Common.{◌≡◌, ℕ, ◌+◌, ◌≤◌, Bool, true, false, not, ◌&&◌, ◌||◌, eqb, ltb, List, ◌++◌, length, take, drop, subst, refl, sym, ap, ◌∙◌, inl, inr, arith}
 use Rattle.std.proofs.Math.Path.{fun_ext}
 use Rattle.std.proofs.Math.Bool.{and-true, or-true, or-false}
-use Rattle.std.proofs.lemmas.Bool.{cases_eq, cases_lt, lt-ltb, le-ltb, ne_eqb, eq-eqb, false_from_ne_true}
+use Rattle.std.proofs.lemmas.Bool.{cases_eq, cases_lt, lt-ltb, le-ltb, ne_eqb, eq-eqb}
 use Rattle.grid_core.specs.Candidates.{Candidates, all_of, without}
 use Rattle.grid_core.specs.Board.{Layout, SameShape}
 use Rattle.std.proofs.lemmas.List.{append-nil, take_all, drop_all}
-use Rattle.engine_core.specs.Puzzle.{has_place, after}
+use Rattle.engine_core.specs.Puzzle.{after}
 use Rattle.engine_core.specs.Sets.{IsChange}
 use Rattle.fields_core.specs.Tallies.{AreTallied}
 use Rattle.fields_core.specs.declared.tally.Tally.{Tally}
-use Rattle.engine_core.specs.PlaceLaws.{has_place-at, has_place-here}
 use Rattle.gameid_core.specs.Puzzles.{Light}
 use Rattle.fields_core.specs.CountHouse.{CountHouse, CountedHouses, count_house_of, start_of, after_house, count_puzzle}
 use Rattle.fields_core.specs.CountLaws.{after-house}
-use Rattle.fields_core.specs.Light.{light_cells}
 use Rattle.fields_core.specs.LightHouses.{light_houses}
 use Rattle.fields_core.specs.Ruled.{light_table}
 
 pub light-houses : (t : CountedHouses) (p q : Light) → t ≡ light_table p → p ≡ q → t.houses ≡ light_houses q
 light-houses t p q e f = ap (λ (u : CountedHouses). u.houses) e ∙ ap light_houses f
 
-pub table-of : (t : CountedHouses) (p q : Light) (cells : ℕ) (houses : List CountHouse) → t ≡ record { cells = cells; houses = houses } → cells ≡ light_cells p → houses ≡ light_houses p → q ≡ p → t ≡ light_table q
-table-of t p q cells houses e low is same = e ∙ rw (low, is, same) refl
-
 pub after-is : (cells : ℕ) (blocked : ℕ → Bool) (is_solution : List ℕ → Bool) (had need : List CountHouse) (h : ℕ) (K K' : Candidates) → had ≡ need → K' ≡ after_house (count_house_of had h) K → K' ≡ after (count_puzzle cells blocked need is_solution) h K
 after-is cells blocked is_solution had need h K K' e left = left ∙ ap (λ houses. after_house (count_house_of houses h) K) e ∙ sym (after-house cells blocked need is_solution h K)
 
 -- ---- a place in a list
-pub place-found : (xs : List ℕ) (k place : ℕ) → k < length xs → slice_index xs k ≡ place → true ≡ has_place xs place
-place-found xs k place lt e = sym (rw e at (has_place-here xs k lt))
-
-pub place-missing : (xs : List ℕ) (place : ℕ) → ((k : ℕ) → k < length xs → slice_index xs k ≡ place → ⊥) → false ≡ has_place xs place
-place-missing xs place none = sym (false_from_ne_true (has_place xs place) (λ on. let w = has_place-at xs place on in none w.0 w.1 w.2))
-
 -- ---- the start, with the cells below a place blocked
 pub record IsStarted (cells : ℕ) (blocked : ℕ → Bool) (n : ℕ) (K : Candidates) : Type 0 where
   pub sets : (c v : ℕ) → K c v ≡ (all_of cells 2 c v && not ((ltb c n && blocked c) && eqb v 1))
 
 pub started : (cells : ℕ) (blocked : ℕ → Bool) (K : Candidates) → K ≡ all_of cells 2 → IsStarted cells blocked 0 K
 started cells blocked K e = record { sets = λ c v. ap (λ (L : Candidates). L c v) e ∙ sym (rw (le-ltb c 0 (omega arith)) (and-true (all_of cells 2 c v))) }
-
-pub start-free : (cells : ℕ) (blocked : ℕ → Bool) (n : ℕ) (K : Candidates) → IsStarted cells blocked n K → blocked n ≡ false → IsStarted cells blocked (n + 1) K
-start-free cells blocked n K before free = record { sets = λ c v. before.sets c v ∙ ap (λ b. all_of cells 2 c v && not (b && eqb v 1)) (same c) }
-  where
-    same : (c : ℕ) → (ltb c n && blocked c) ≡ (ltb c (n + 1) && blocked c)
-    same c = elim (cases_eq c n) [
-      | inl e ↦ rw (e, free) (by (ltb n n) (ltb n (n + 1)))
-      | inr other ↦ ap (λ b. b && blocked c) (elim (cases_lt c n) [
-        | inl low ↦ lt-ltb c n low ∙ sym (lt-ltb c (n + 1) (omega arith))
-        | inr high ↦ le-ltb c n high ∙ sym (le-ltb c (n + 1) (omega arith))
-      ])
-    ]
-      where
-        by : (a b : Bool) → (a && false) ≡ (b && false)
-        by true true = refl
-        by true false = refl
-        by false true = refl
-        by false false = refl
 
 pub start-blocked : (cells : ℕ) (blocked : ℕ → Bool) (n : ℕ) (K K' : Candidates) → IsStarted cells blocked n K → blocked n ≡ true → K' ≡ without K n 1 → IsStarted cells blocked (n + 1) K'
 unfolding without

@@ -6,26 +6,14 @@ use Rattle.std.proofs.Math.Nat.{mod-lt, mul-le-mul_right}
 use Rattle.grid_core.specs.Extent.{Extent}
 use Rattle.grid_core.specs.Regions.{steps, step, if_there}
 use Rattle.engine_core.specs.Puzzle.{has_place}
-use Rattle.engine_core.specs.PlaceLaws.{AreDistinct}
-use Rattle.fields_core.proofs.PlaceLists.{place-append, distinct-append}
+use Rattle.engine_core.specs.PlaceLaws.{AreDistinct, place-append, distinct-append}
 
 pub some-inj : {x y : ℕ} → Some x ≡ Some y → x ≡ y
-some-inj {x} {y} e = ap (λ (o : Option ℕ). unwrap x o) e
-  where
-    unwrap : ℕ → Option ℕ → ℕ
-    unwrap d None = d
-    unwrap d (Some a) = a
-
-none-not : {x : ℕ} → None ≡ Some x → ⊥
-none-not {x} e = true≢false (ap is_none e)
-  where
-    is_none : Option ℕ → Bool
-    is_none None = true
-    is_none (Some a) = false
+some-inj {x} {y} e = cc
 
 step-when : (b : Bool) (x d : ℕ) → cond b (Some x) None ≡ Some d → (b ≡ true) × (x ≡ d)
 step-when true x d e = (refl, some-inj e)
-step-when false x d e = absurd (none-not e)
+step-when false x d e = absurd (cc)
 
 pub step-up : (size : Extent) (c d : ℕ) → step size c 0 ≡ Some d → d + size.w ≡ c
 unfolding step

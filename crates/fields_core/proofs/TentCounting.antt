@@ -13,7 +13,7 @@ use Rattle.grid_core.specs.Candidates.{all_below}
 use Rattle.grid_core.proofs.RegionLemmas.{row-at, column-at}
 use Rattle.grid_core.proofs.CandidateLemmas.{all_below-at, any_below-here}
 use Rattle.engine_core.specs.Puzzle.{has_place}
-use Rattle.engine_core.specs.PlaceLaws.{has_place-at, has_place-here, AreDistinct, different-from}
+use Rattle.engine_core.specs.PlaceLaws.{has_place-at, has_place-here, AreDistinct, different-from, place-filter, place-kept, distinct-filter}
 use Rattle.engine_core.specs.Filling.{Set, has_value}
 use Rattle.engine_core.specs.FillingLaws.{filling_from_test, has_value_below}
 use Rattle.gameid_core.specs.Puzzles.{Tents, IsTents, AreCounts, line_cells}
@@ -21,7 +21,7 @@ use Rattle.fields_core.specs.CountHouse.{CountHouse, meets, IsHouse, IsCounting}
 use Rattle.fields_core.specs.Tents.{tent_cells, tree, tent, are_near, touches, tents_in_column, tents_in_row, tree_right, touch_right, column_right, row_right, names_none_twice, leaves_none_out, trees_beside, can_be_paired, is_camp}
 use Rattle.fields_core.specs.TentHouses.{column_of_tents, row_of_tents, free_beside, tree_house, square_house, tent_houses, is_bare}
 use Rattle.fields_core.proofs.HouseLists.{row-long, column-long}
-use Rattle.fields_core.proofs.PlaceLists.{place-filter, place-kept, distinct-filter, count-some, count-one, ones-bulbs}
+use Rattle.fields_core.proofs.PlaceLists.{count-some, count-one, ones-bulbs}
 use Rattle.fields_core.proofs.StepLaws.{steps-distinct, steps-few}
 use Rattle.fields_core.proofs.LightHouseLaws.{EachOf, each-one, each-append, each-below, each-if, row-distinct, column-distinct}
 use Rattle.fields_core.proofs.LightCounting.{small-at, between-from, filter-few}

@@ -116,25 +116,6 @@ next-joined p tents l from c (Some d) e next = (next.0, next.1, rw (sym e) next.
 pub record IsTreeless (p : Tents) (c n : ℕ) : Type 0 where
   pub none : (k d : ℕ) → k < n → step p.size c k ≡ Some d → tree p d ≡ false
 
-pub treeless-start : (p : Tents) (c : ℕ) → IsTreeless p c 0
-treeless-start p c = record { none = λ k d lt e. absurd (omega arith) }
-
-pub treeless-edge : (p : Tents) (c n : ℕ) → IsTreeless p c n → None ≡ step p.size c n → IsTreeless p c (n + 1)
-treeless-edge p c n before edge = record {
-  none = λ k d lt e. elim (cases_eq k n) [
-    | inl same ↦ absurd (none-some d (edge ∙ rw same at e))
-    | inr other ↦ before.none k d (omega arith) e
-  ];
-}
-
-pub treeless-more : (p : Tents) (c n other : ℕ) → IsTreeless p c n → Some other ≡ step p.size c n → tree p other ≡ false → IsTreeless p c (n + 1)
-treeless-more p c n other before at off = record {
-  none = λ k d lt e. elim (cases_eq k n) [
-    | inl same ↦ let s : other ≡ d = some-inj (at ∙ rw same at e) in rw s at off
-    | inr different ↦ before.none k d (omega arith) e
-  ];
-}
-
 pub treeless-all : (p : Tents) (c n : ℕ) → IsTreeless p c n → 4 ≤ n → false ≡ list_any (tree p) (steps p.size c 4)
 treeless-all p c n passed ge = sym (any-none (tree p) (steps p.size c 4) (λ d on. let s = steps-some p.size c 4 d on in let lt = s.1 in passed.none s.0 d (omega arith) s.2))
 

@@ -11,7 +11,7 @@ use Rattle.grid_core.specs.Pairings.{IsPairing, IsShortSet}
 use Rattle.grid_core.proofs.ShortSets.{no_choice}
 use Rattle.grid_core.proofs.CandidateLemmas.{all_below-from}
 use Rattle.engine_core.specs.Puzzle.{has_place}
-use Rattle.engine_core.specs.PlaceLaws.{has_place-here, AreDistinct, different-from, distinct-from}
+use Rattle.engine_core.specs.PlaceLaws.{has_place-here, AreDistinct, different-from, distinct-from, place-filter, place-kept, distinct-filter}
 use Rattle.engine_core.specs.Filling.{has_value, Fills}
 use Rattle.engine_core.specs.FillingLaws.{test_from_filling}
 use Rattle.engine_core.specs.House.{AreDifferent}
@@ -19,7 +19,6 @@ use Rattle.gameid_core.specs.Puzzles.{Tents}
 use Rattle.fields_core.specs.Tents.{tent_cells, tree, tent, names_none_twice, leaves_none_out, trees_beside, can_be_paired}
 use Rattle.fields_core.specs.TentPairs.{trees_of, tree_count, may_pair, AreIn}
 use Rattle.fields_core.specs.TentSolutions.{IsPairedBy}
-use Rattle.fields_core.proofs.PlaceLists.{place-filter, place-kept, distinct-filter}
 use Rattle.fields_core.proofs.BelowLemmas.{index_of, index-is, place-map, none-twice-from, distinct-none-twice, different-map, range-distinct, each-named}
 use Rattle.fields_core.proofs.TentBeside.{beside-in}
 use Rattle.fields_core.proofs.TentNumbers.{IsPassing, passing-long, passing-at, at-passing, count-under}

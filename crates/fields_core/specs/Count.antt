@@ -1,6 +1,5 @@
 -- Houses that count the ones of their cells.
-use Rattle.std.specs.Prelude.{ℕ, zero, suc, Bool, not, ◌&&◌, ◌==◌, List, [], ◌∷◌, nat_le}
-use Rattle.std.specs.List.{list_any}
+use Rattle.std.specs.Prelude.{ℕ, zero, suc, Bool, not, ◌&&◌, List, [], ◌∷◌, nat_le}
 use Rattle.grid_core.specs.Candidates.{Candidates}
 
 -- how many ones a filling has; any number but 0 counts as one
@@ -20,11 +19,3 @@ is_open K c = K c 0 && K c 1
 
 abbrev pub is_empty : Candidates → ℕ → Bool
 is_empty K c = not (K c 0) && not (K c 1)
-
--- the board without what is struck from the cells of a list
-abbrev pub struck_among : List ℕ → (ℕ → ℕ → Bool) → Candidates → Candidates
-struck_among places struck K c v = K c v && not (list_any (λ d. d == c) places && struck c v)
-
--- the value alone is struck, and from cells with both values alone
-abbrev pub strikes_open : ℕ → Candidates → ℕ → ℕ → Bool
-strikes_open value K c v = (v == value) && is_open K c

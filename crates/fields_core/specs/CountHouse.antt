@@ -82,6 +82,10 @@ count_puzzle cells blocked houses is_solution = record {
   is_solution = is_solution;
 }
 
+-- the rule set of a table's houses
+abbrev pub table_puzzle : (ℕ → Bool) → (List ℕ → Bool) → CountedHouses → Puzzle
+table_puzzle blocked is_solution table = count_puzzle table.cells blocked table.houses is_solution
+
 -- the game's solutions leave blocked cells at 0 and meet each house
 pub record IsCounting (cells : ℕ) (blocked : ℕ → Bool) (houses : List CountHouse)
     (is_solution : List ℕ → Bool)

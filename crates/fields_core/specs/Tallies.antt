@@ -1,5 +1,5 @@
 -- What is counted of the cells of count houses.
-use Rattle.std.specs.Prelude.{◌≡◌, ℕ, ◌+◌, ◌-◌, ◌<◌, ◌≤◌, Bool, not, ◌||◌, ◌==◌, nat_lt, cond, List, length, slice_index_or}
+use Rattle.std.specs.Prelude.{◌≡◌, ℕ, ◌+◌, ◌-◌, ◌*◌, ◌<◌, ◌≤◌, Bool, not, ◌&&◌, ◌||◌, ◌==◌, nat_lt, if◌then◌else◌, cond, List, length, slice_index_or}
 use Rattle.std.specs.List.{count_by}
 use Rattle.grid_core.specs.Candidates.{Candidates, IsWithin}
 use Rattle.engine_core.specs.Sets.{has_bit}
@@ -30,6 +30,19 @@ has_strikes t b =
     nat_lt 0 t.empty
     || (nat_lt b.most b.least
     || (nat_lt t.may (b.least + open_in t) || nat_lt b.most (t.must + open_in t)))
+
+-- a value of a cell stays, unless there is no filling, or the cell has both values and the value's bound is reached
+abbrev pub stays : Tally → Bounds → Bool → ℕ → Bool
+stays t b both v =
+    not (lacks_filling t b)
+    && not (both && (((v == 1) && (t.must == b.most)) || ((v == 0) && (t.may == b.least))))
+
+-- what a visit keeps of the set of a cell, as bits
+abbrev pub kept_of : Tally → Bounds → ℕ → ℕ
+kept_of t b bits =
+    if lacks_filling t b then 0
+    else if bits == 3 then cond (not (t.may == b.least)) 1 0 + 2 * cond (not (t.must == b.most)) 1 0
+    else bits
 
 -- the tally of a house by its number
 abbrev pub tally_at : List Tally → ℕ → Tally

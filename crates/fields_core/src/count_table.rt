@@ -1,19 +1,21 @@
 //! The count houses of a puzzle: what a visit of one strikes, and where their cells are.
 
-ghost use Rattle.std.specs.Prelude.{◌≡◌, ℕ, ◌<◌, ◌≤◌, ◌^◌, IfOk, length, slice_index, true, false};
+ghost use Rattle.std.specs.Prelude.{◌≡◌, ℕ, Bool, List, ◌<◌, ◌≤◌, ◌^◌, IfOk, length, slice_index, true, false};
 ghost use Rattle.grid_core.specs.Board.{has, cells_of, SameShape};
 ghost use Rattle.grid_core.specs.Candidates.{Candidates};
 ghost use Rattle.engine_core.specs.Puzzle.{IsNext, IsKth, has_place};
 ghost use Rattle.engine_core.specs.Closing.{HasStruck};
 ghost use Rattle.engine_core.specs.Sets.{IsChange};
-ghost use Rattle.fields_core.specs.CountHouse.{CountedHouses, AreHouses, count_house_of, strikes_of, after_house};
+ghost use Rattle.engine_core.specs.Keeping.{AreSetsOf, IsKept};
+ghost use Rattle.engine_core.specs.Waiting.{words_of, is_waiting, AreCalled};
+ghost use Rattle.fields_core.specs.CountHouse.{CountedHouses, AreHouses, count_house_of, strikes_of, after_house, table_puzzle};
 ghost use Rattle.fields_core.specs.Tallies.{AreTalliesOf};
 ghost use Rattle.fields_core.specs.CountLists.{bounded, bound_of};
 
 use crate::count_list::{Bounds, CountList};
-use crate::count_visit::visit_house;
+use crate::count_visit::{keep_cells, visit_house};
 use crate::tally::Tally;
-use engine_core::Houses;
+use engine_core::{Houses, mark};
 use grid_core::Board;
 use std::alloc::{AllocError, Global};
 use std::marker::Model;
@@ -122,6 +124,32 @@ impl CountTable {
         visit_house(board, self.houses.places(house), bounds)
     }
 
+    /// Decides by what was counted what a visit of the house keeps of the sets of its cells, and says whether anything
+    /// may be struck.
+    pub(crate) fn keep(
+        &self,
+        house: usize,
+        sets: &[u32],
+        kept: &mut [u32],
+        tallies: &[Tally],
+    ) -> bool
+        requires house_in { house < length self.now.houses }
+        requires as_many { length kept.old ≡ length sets.now }
+        requires tallied { (K : Candidates) × AreTalliesOf self.now tallies.now K }
+        ensures { (blocked : ℕ → Bool) (is_solution : List ℕ → Bool) (K : Candidates)
+            → AreSetsOf (table_puzzle blocked is_solution self.now) house K sets.now
+            → AreTalliesOf self.now tallies.now K
+            → IsKept (table_puzzle blocked is_solution self.now) house K result kept.new }
+    {
+        let tally = tallies[house];
+        let bounds = bounds_at(&self.bounds, house);
+        if !tally.calls(bounds) {
+            return false;
+        }
+        keep_cells(sets, kept, bounds, tally);
+        true
+    }
+
     /// Room for the tallies of the houses.
     pub(crate) fn tallies(&self, alloc: Global) -> Result<Vec<Tally>, AllocError>
         ensures { IfOk result (λ tallies. length tallies.items ≡ length self.now.houses) }
@@ -172,6 +200,26 @@ impl CountTable {
     {
         let tally = tallies[house];
         tally.calls(bounds_at(&self.bounds, house))
+    }
+
+    /// Marks the houses that have the place, but for those that strike nothing, by what was counted.
+    pub(crate) fn wake(&self, place: usize, tallies: &[Tally], waits: &mut [u64])
+        requires place_in { place < self.now.cells }
+        requires room { words_of (length self.now.houses) ≤ length waits.old }
+        requires tallied { (K : Candidates) × AreTalliesOf self.now tallies.now K }
+        ensures { (blocked : ℕ → Bool) (is_solution : List ℕ → Bool) (K : Candidates)
+            → AreTalliesOf self.now tallies.now K
+            → AreCalled (table_puzzle blocked is_solution self.now) K
+            (λ j. has_place (count_house_of self.now.houses j).places place)
+            (is_waiting waits.old) (is_waiting waits.new) }
+    {
+        let houses = self.houses.houses_at(place);
+        for k in 0..houses.len() {
+            let house = houses[k] as usize;
+            if self.calls(house, tallies) {
+                mark(waits, house);
+            }
+        }
     }
 }
 

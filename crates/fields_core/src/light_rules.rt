@@ -148,6 +148,10 @@ impl Rules for LightRules {
         self.table.visit(house, board)
     }
 
+    fn keep(&self, house: usize, sets: &[u32], kept: &mut [u32], tallies: &mut Vec<Tally>) -> bool {
+        self.table.keep(house, sets, kept, tallies)
+    }
+
     fn follow(&self, board: &Board, tallies: &mut Vec<Tally>) {
         self.table.follow(board, tallies);
     }
@@ -158,6 +162,10 @@ impl Rules for LightRules {
 
     fn calls(&self, house: usize, tallies: &Vec<Tally>) -> bool {
         self.table.calls(house, tallies)
+    }
+
+    fn wake(&self, place: usize, tallies: &Vec<Tally>, waits: &mut [u64]) {
+        self.table.wake(place, tallies, waits);
     }
 
     fn accept(&self, _tallies: &mut Vec<Tally>, grid: &Grid) -> bool {

@@ -3,7 +3,7 @@
 ghost use Rattle.std.specs.Prelude.{◌≡◌, ℕ, ◌<◌, ◌≤◌, ◌^◌, ◌==◌, not, cond, length, slice_index};
 ghost use Rattle.grid_core.specs.Board.{has, cells_of};
 ghost use Rattle.engine_core.specs.Sets.{has_bit as is_set};
-ghost use Rattle.fields_core.specs.Tallies.{IsTally, lacks_filling, has_strikes, moved_tally};
+ghost use Rattle.fields_core.specs.Tallies.{IsTally, lacks_filling, kept_of, has_strikes, moved_tally};
 
 use crate::count_list::Bounds;
 use engine_core::has_bit;
@@ -62,6 +62,20 @@ impl Tally {
             | (bounds.most < bounds.least)
             | (self.may < bounds.least)
             | (bounds.most < self.must)
+    }
+
+    /// What a visit of a house with these bounds keeps of the set of a cell, as bits. Of a cell with both values a
+    /// value goes whose bound is reached.
+    pub(crate) fn kept(self, bounds: Bounds, bits: u32) -> u32
+        ensures { result ≡ kept_of self bounds bits }
+    {
+        if self.has_no_filling(bounds) {
+            return 0;
+        }
+        if bits != 3 {
+            return bits;
+        }
+        number(self.may != bounds.least) + 2 * number(self.must != bounds.most)
     }
 
     /// Whether a visit of a house with these bounds may strike anything. A house with a cell that has

@@ -189,6 +189,10 @@ impl Rules for TentRules {
         self.table.visit(house, board)
     }
 
+    fn keep(&self, house: usize, sets: &[u32], kept: &mut [u32], work: &mut TentWork) -> bool {
+        self.table.keep(house, sets, kept, &work.tallies)
+    }
+
     fn follow(&self, board: &Board, work: &mut TentWork) {
         self.table.follow(board, &mut work.tallies);
     }
@@ -199,6 +203,10 @@ impl Rules for TentRules {
 
     fn calls(&self, house: usize, work: &TentWork) -> bool {
         self.table.calls(house, &work.tallies)
+    }
+
+    fn wake(&self, place: usize, work: &TentWork, waits: &mut [u64]) {
+        self.table.wake(place, &work.tallies, waits);
     }
 
     fn accept(&self, work: &mut TentWork, grid: &Grid) -> bool {
