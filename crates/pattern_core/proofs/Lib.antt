@@ -8,3 +8,5 @@ pub mod Words
 pub mod Spellings
 pub mod TableSteps
 pub mod Follows
+pub mod Roomy
+pub mod Fresh

@@ -14,13 +14,14 @@ use Rattle.engine_core.specs.Puzzle.{after}
 use Rattle.engine_core.specs.Filling.{strikes_by_fillings}
 use Rattle.engine_core.specs.Sets.{has_bit, set_of_bits, IsBitsOf}
 use Rattle.engine_core.specs.House.{sets_at, IsDecided, kept_in}
-use Rattle.engine_core.specs.HouseLaws.{visited}
+use Rattle.engine_core.specs.HouseLaws.{visited, kept-decided}
+use Rattle.engine_core.specs.Keeping.{AreSetsOf, IsKept}
 use Rattle.pattern_core.specs.Lines.{line_places, line_numbers, has_runs, clue_of, HasClue}
 use Rattle.pattern_core.specs.LineClues.{numbers_in}
 use Rattle.pattern_core.specs.declared.line_clue.LineClue.{LineClue}
 use Rattle.pattern_core.specs.Faults.{IsFirstWrongLine}
 use Rattle.pattern_core.specs.LineRules.{is_pattern_solution, after_line, line_rules}
-use Rattle.pattern_core.specs.LineLaws.{in_grid, is_solution-line}
+use Rattle.pattern_core.specs.LineLaws.{different_places, in_grid, is_solution-line}
 
 pub places_inside : (size : Extent) (line cells : ℕ) (places : List ℕ) → line < lines_of size → cells ≡ size.w * size.h → places ≡ line_places size line
     → (k : ℕ) → k < length places → slice_index places k < cells
@@ -68,6 +69,12 @@ nothing_struck size line clue K places sets same within long bits read decided =
 pub after_line_read : (p : Pattern) (line : ℕ) (clue : List ℕ) (K : Candidates) → clue ≡ clue_of p line → after_line p.size line clue K ≡ after (line_rules p) line K
 unfolding after_line after
 after_line_read p line clue K is = ap (λ (c : List ℕ). after_line p.size line c K) is
+
+-- what is kept of a line's sets, where its clue was read
+pub line_kept : (p : Pattern) (line : ℕ) (clue : List ℕ) (K : Candidates) (struck : Bool) (sets copied kept : List ℕ) → clue ≡ clue_of p line → AreSetsOf (line_rules p) line K sets → copied ≡ sets
+    → IsDecided 2 (strikes_by_fillings (has_runs clue)) copied kept → (struck ≡ false → kept ≡ copied) → IsKept (line_rules p) line K struck kept
+line_kept p line clue K struck sets copied kept is are same decided unchanged =
+    kept-decided (line_rules p) line (strikes_by_fillings (has_runs (clue_of p line))) K struck sets kept (λ L c v. refl) (different_places p.size line) are (rw is at (rw same at decided)) (λ none. unchanged none ∙ same)
 
 -- a clue that was read is the line's
 pub clue_read : (clues : List (List ℕ)) (k : ℕ) (clue : List ℕ) → k < length clues → clue ≡ get_or clues k clue → clue ≡ get_or clues k []

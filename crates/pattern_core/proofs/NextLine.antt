@@ -1,6 +1,6 @@
 -- The lines that have a place are its column and its row.
-use Rattle.std.proofs.Common.{◌≡◌, ℕ, zero, suc, length, ◌+◌, ◌*◌, ◌/◌, ◌%◌, ◌<◌, ◌≤◌, Bool, true, false, Some, None, refl, sym, ap, ◌∙◌, arith, inl, inr, ◌⊎◌}
-use Rattle.std.proofs.lemmas.Bool.{cases_lt, false_from_ne_true}
+use Rattle.std.proofs.Common.{◌≡◌, ℕ, zero, suc, length, ◌+◌, ◌*◌, ◌/◌, ◌%◌, ◌<◌, ◌≤◌, ◌||◌, eqb, Bool, true, false, Some, None, refl, sym, ap, ◌∙◌, arith, inl, inr, ◌⊎◌}
+use Rattle.std.proofs.lemmas.Bool.{cases_Bool, cases_lt, true≢false, or_left, or_right, eq-eqb, ne_eqb, false_from_ne_true}
 use Rattle.std.proofs.lemmas.Nat.{div-add-mod'}
 use Rattle.std.proofs.Math.Nat.{mul-le-mul_right, mod-lt}
 use Rattle.grid_core.specs.Extent.{Extent}
@@ -57,6 +57,16 @@ module _ (size : Extent) (w place from : ℕ) (same : w ≡ size.w) (some : 1 �
 
   pub next_none : place % w < from → w + place / w < from → IsNext (λ h. has_place (line_places size h) place) (lines_of size) from None
   next_none past later = λ j ge lt. not_between j (λ e. absurd (omega arith)) (λ e. absurd (omega arith))
+
+  pub its_lines : (line : ℕ) → (eqb line (place % w) || eqb line (w + place / w)) ≡ has_place (line_places size line) place
+  its_lines line = elim (cases_Bool (has_place (line_places size line) place)) [
+    | inl on ↦ elim (no_other line on) [
+      | inl e ↦ or_left _ _ (eq-eqb line (place % w) e) ∙ sym on
+      | inr e ↦ or_right _ _ (eq-eqb line (w + place / w) (e ∙ ap (λ v. v + place / w) (sym same))) ∙ sym on
+    ]
+    | inr off ↦ ap (λ b. b || eqb line (w + place / w)) (ne_eqb line (place % w) (λ e. true≢false (sym in_column ∙ rw e at off)))
+        ∙ ne_eqb line (w + place / w) (λ e. true≢false (sym in_row ∙ rw (e ∙ ap (λ v. v + place / w) same) at off)) ∙ sym off
+  ]
 
 -- ---- the same by their number
 module _ (size : Extent) (w place : ℕ) (same : w ≡ size.w) (some : 1 ≤ size.w) (within : place < size.w * size.h) where

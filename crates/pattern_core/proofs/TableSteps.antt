@@ -12,10 +12,10 @@ use Rattle.engine_core.specs.Sets.{has_bit, set_of_bits}
 use Rattle.engine_core.specs.House.{IsDecided}
 use Rattle.engine_core.proofs.BitLemmas.{bits-of_zero}
 use Rattle.pattern_core.specs.Lines.{has_runs}
-use Rattle.pattern_core.specs.Track.{spelled, Track, IsBelow, track_of, leads, some_leads, ahead, moved, any_cells, cell_is, sets_of, AreRows, AreKept}
+use Rattle.pattern_core.specs.Track.{spelled, Track, IsBelow, track_of, leads, some_leads, ahead, led_to, one_on, moved, any_cells, cell_is, sets_of, AreRows, AreKept}
 use Rattle.pattern_core.proofs.Leads.{same_tests, leads_any, leads_later, leads_white, leads_black, ways_on}
 use Rattle.pattern_core.proofs.SpelledRuns.{strikes_by_track}
-use Rattle.pattern_core.proofs.Words.{low_two, both_low}
+use Rattle.pattern_core.proofs.Words.{or_false, both_low, both_bits}
 
 -- what is shown at a cell from `at` on, by the places that are reached before the cell at `at`; and whether there is a way
 pub record AreReached (n : ℕ) (t : Track) (sets : List ℕ) (reached : ℕ → Bool) (at : ℕ) : Type 0 where
@@ -193,10 +193,6 @@ module _ (A : Type 0) (has : A → ℕ → Bool) (n : ℕ) (t : Track) (sets : L
       → (x ≡ (x && (x && any_below (λ p. reached p && white p) n))) × (y ≡ (y && (y && any_below (λ p. reached p && black p) n)))
   alone true true white black both on = absurd (true≢false both)
   alone true false white black both on = (sym on ∙ any_below-same (λ p. reached p && (white p || false)) (λ p. reached p && white p) n (λ p low. ap (λ x. reached p && x) (or_false (white p))), refl)
-    where
-      or_false : (x : Bool) → (x || false) ≡ x
-      or_false true = refl
-      or_false false = refl
   alone false true white black both on = (refl, sym on)
   alone false false white black both on = (refl, refl)
 
@@ -222,21 +218,30 @@ module _ (A : Type 0) (has : A → ℕ → Bool) (n : ℕ) (t : Track) (sets : L
   twice true y e = refl
   twice false y e = absurd (true≢false (sym e))
 
-  has_both : get_or sets at 0 % 4 ≡ 3 → (a ≡ true) × (b ≡ true)
-  unfolding a b
-  has_both e = and_parts (has_bit (get_or sets at 0) 0) (has_bit (get_or sets at 0) 1) (both_low (get_or sets at 0) ∙ ap (λ s. eqb s 3) e)
-
-  -- a cell that had both values, and keeps these
-  pub kept_both : (kept new : List ℕ) (bits : ℕ) → get_or sets at 0 % 4 ≡ 3
-      → has_bit bits 0 ≡ any_below (λ p. reached p && ((t.stay p && has next p) || (t.white p && has next (suc p)))) n
-      → has_bit bits 1 ≡ any_below (λ p. reached p && (t.black p && has next (suc p))) n
+  -- a cell that had both values, and keeps those by which a way leads from what it reaches
+  pub kept_both : (white black : ℕ → Bool) (kept new : List ℕ) → IsBelow n t → get_or sets at 0 % 4 ≡ 3
+      → ((p : ℕ) → p < n → white p ≡ led_to t.stay t.white reached p)
+      → ((p : ℕ) → p < n → black p ≡ one_on (λ q. t.black q && reached q) p)
+      → has_bit (get_or new at 0) 0 ≡ any_below (λ p. white p && has next p) n
+      → has_bit (get_or new at 0) 1 ≡ any_below (λ p. black p && has next p) n
       → AreKept t sets kept at → length new ≡ length kept → ((i : ℕ) → (i ≡ at → ⊥) → get_or new i 0 ≡ get_or kept i 0)
-      → ((v : ℕ) → v < 2 → has_bit (get_or new at 0) v ≡ has_bit bits v)
       → AreKept t sets new (at + 1)
-  unfolding white_way black_way
-  kept_both kept new bits e white black k long others same =
-      let w = has_both e in
-      goes_on kept new k long others (same 0 (omega arith) ∙ white ∙ twice a _ w.0) (same 1 (omega arith) ∙ black ∙ twice b _ w.1)
+  unfolding a b moved ahead white_way black_way
+  kept_both white black kept new below e is_white is_black shows_white shows_black k long others =
+      let w = both_bits (get_or sets at 0) e in
+      goes_on kept new k long others (shows_white ∙ by_white ∙ twice a _ w.0) (shows_black ∙ by_black ∙ twice b _ w.1)
+    where
+      by_white : any_below (λ p. white p && has next p) n ≡ any_below (λ p. reached p && white_way p) n
+      by_white =
+          any_below-same (λ p. white p && has next p) (λ p. moved t true false reached p && has next p) n
+          (λ p lt. ap (λ x. x && has next p) (is_white p lt ∙ sym (or_false (led_to t.stay t.white reached p))))
+          ∙ sym (ways_on t true false n below reached (has next))
+          ∙ any_below-same (λ p. reached p && ahead t true false (has next) p) (λ p. reached p && white_way p) n (λ p lt. ap (λ x. reached p && x) (or_false (white_way p)))
+
+      by_black : any_below (λ p. black p && has next p) n ≡ any_below (λ p. reached p && black_way p) n
+      by_black =
+          any_below-same (λ p. black p && has next p) (λ p. moved t false true reached p && has next p) n (λ p lt. ap (λ x. x && has next p) (is_black p lt))
+          ∙ sym (ways_on t false true n below reached (has next))
 
   -- a cell with one value at most
   pub kept_alone : (kept : List ℕ) → (get_or sets at 0 % 4 ≡ 3 → ⊥) → some_leads t (sets_of sets) any_cells 0 ≡ true
@@ -248,10 +253,6 @@ module _ (A : Type 0) (has : A → ℕ → Bool) (n : ℕ) (t : Track) (sets : L
       goes_on kept kept k refl (λ i other. refl) (ap (λ x. has_bit x 0) rest ∙ w.0) (ap (λ x. has_bit x 1) rest ∙ w.1)
 
 -- ---- all cells
--- 3 has both values, as a set whose lowest bits make 3
-pub both_values : (set v : ℕ) → set % 4 ≡ 3 → v < 2 → has_bit set v ≡ has_bit 3 v
-both_values set v e small = sym (low_two set v small) ∙ ap (λ s. has_bit s v) e
-
 -- where there is no way, nothing is shown
 pub nothing_kept : (t : Track) (sets kept : List ℕ) → some_leads t (sets_of sets) any_cells 0 ≡ false → length kept ≡ length sets → ((k : ℕ) → k < length sets → get_or kept k 0 ≡ 0) → AreKept t sets kept (length sets)
 unfolding some_leads any_cells

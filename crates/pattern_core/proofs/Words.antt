@@ -2,7 +2,7 @@
 use Rattle.std.proofs.Common.{◌≡◌, ◌∙◌, ℕ, zero, suc, ◌*◌, ◌/◌, ◌%◌, ◌^◌, ◌<◌, ◌≤◌, Bool, true, false, not, ◌&&◌, ◌||◌, eqb, [], ◌∷◌, get_or, refl, sym, ap, ap₂, arith, inl, inr}
 use Rattle.std.specs.Prelude.{bit_or}
 use Rattle.std.specs.Int.{bit_at}
-use Rattle.std.proofs.lemmas.Bool.{cases_eq, eq-eqb, ne_eqb, false_from_ne_true, true≢false}
+use Rattle.std.proofs.lemmas.Bool.{cases_eq, eq-eqb, ne_eqb, and_parts, false_from_ne_true, true≢false}
 use Rattle.std.proofs.lemmas.Nat.{div-add-mod'}
 use Rattle.std.proofs.Math.Nat.{mod-lt}
 use Rattle.std.proofs.Math.Bool.{and_assoc}
@@ -11,7 +11,7 @@ use Rattle.grid_core.specs.Candidates.{any_below}
 use Rattle.grid_core.proofs.CandidateLemmas.{any_below-none, any_below-some}
 use Rattle.engine_core.specs.Sets.{has_bit}
 use Rattle.engine_core.proofs.BitLemmas.{bits-either, bits-of_zero}
-use Rattle.pattern_core.specs.Track.{Track, one_on, ahead, moved}
+use Rattle.pattern_core.specs.Track.{Track, one_on, ahead, led_to, moved}
 
 -- ---- the bits of a word of w bits
 pub bits_next : (a p : ℕ) → has_bit (a / 2) p ≡ has_bit a (suc p)
@@ -54,7 +54,7 @@ some_bit_is w bits fits some = elim (cases_eq bits 0) [
     true_from_ne_false true h = refl
     true_from_ne_false false h = absurd (h refl)
 
-or_false : (x : Bool) → (x || false) ≡ x
+pub or_false : (x : Bool) → (x || false) ≡ x
 or_false true = refl
 or_false false = refl
 
@@ -86,6 +86,9 @@ both_low set =
     by (suc (suc zero)) lt = refl
     by (suc (suc (suc zero))) lt = refl
     by (suc (suc (suc (suc s)))) lt = absurd (omega arith)
+
+pub both_bits : (set : ℕ) → set % 4 ≡ 3 → (has_bit set 0 ≡ true) × (has_bit set 1 ≡ true)
+both_bits set e = and_parts (has_bit set 0) (has_bit set 1) (both_low set ∙ ap (λ s. eqb s 3) e)
 
 -- ---- the words of a step
 -- a cell that may be black stays nowhere by it
@@ -131,3 +134,12 @@ module _ (t : Track) (a b : Bool) (stays moves : ℕ → Bool) (stay : (p : ℕ)
       ap₂ (λ m n. (m && reached (suc p)) || (n && reached p)) (stay (suc p)) (move p)
       ∙ ap (λ m. m || (((a && t.white p) || (b && t.black p)) && reached p)) (and_assoc a (t.stay (suc p)) (reached (suc p)))
       ∙ spread a b (t.stay (suc p) && reached (suc p)) (t.white p) (t.black p) (reached p)
+
+-- the steps of a cell with both values
+pub moved_both : (t : Track) (set : ℕ) (white black reached : ℕ → Bool) (p : ℕ) → set % 4 ≡ 3
+    → white p ≡ led_to t.stay t.white reached p → black p ≡ one_on (λ q. t.black q && reached q) p
+    → (white p || black p) ≡ moved t (has_bit set 0) (has_bit set 1) reached p
+unfolding moved
+moved_both t set white black reached p e is_white is_black =
+    let both = both_bits set e in
+    ap₂ (λ a b. a || b) is_white is_black ∙ sym (ap₂ (λ a b. moved t a b reached p) both.0 both.1)

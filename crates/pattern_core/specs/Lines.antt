@@ -1,9 +1,11 @@
 -- Lines of either kind: the columns from the left, and then the rows from the top.
-use Rattle.std.specs.Prelude.{◌≡◌, ℕ, ◌-◌, ◌<◌, ◌≤◌, ◌++◌, ◌==◌, ◌&&◌, Bool, true, false, List, [], ◌∷◌, Option, MatchOption, length, nat_lt, if◌then◌else◌, slice_index_or, take}
+use Rattle.std.specs.Prelude.{◌≡◌, ℕ, ◌+◌, ◌-◌, ◌<◌, ◌≤◌, ◌++◌, ◌==◌, ◌&&◌, Bool, true, false, List, [], ◌∷◌, Option, MatchOption, length, nat_lt, if◌then◌else◌, slice_index_or, take}
+use Rattle.std.specs.List.{AllByRecursion}
+use Rattle.grid_core.specs.Candidates.{Candidates}
 use Rattle.grid_core.specs.Extent.{Extent}
 use Rattle.grid_core.specs.Grids.{row_cells, column_cells}
 use Rattle.grid_core.specs.Regions.{row_places, column_places}
-use Rattle.gameid_core.specs.Puzzles.{Pattern}
+use Rattle.gameid_core.specs.Puzzles.{Pattern, used}
 use Rattle.gameid_core.specs.BlackRuns.{run_of, runs}
 
 -- the places of a line's cells
@@ -44,3 +46,25 @@ abbrev pub EndsAfter : List ℕ → ℕ → ℕ → Option ℕ → Type 0
 EndsAfter clue ended k result = MatchOption result
     ((rest : List ℕ) → take ended clue ++ (run_of k ++ rest) ≡ clue → ⊥)
     (λ e. (e ≤ length clue) × (take e clue ≡ take ended clue ++ run_of k))
+
+-- the clue has a run, and a line of n cells is longer than the clue needs by as much as each run is
+pub record IsRoomy (clue : List ℕ) (n : ℕ) : Type 0 where
+  pub some : 0 < length clue
+  pub spare : ℕ
+  pub more : 0 < spare
+  pub short : AllByRecursion (λ m. m ≤ spare) clue
+  pub fits : used clue + spare ≤ n + 1
+
+-- a line of so many cells is roomy, and each longer one
+abbrev pub IsRoomyFrom : List ℕ → ℕ → Type 0
+IsRoomyFrom clue from = (n : ℕ) → n < 1000 → from ≤ n → IsRoomy clue n
+
+-- what a scratch has: lines of so many cells are worked in, and whether each cell of the board may be either
+pub record LineWork : Type 0 where
+  pub room : ℕ
+  pub fresh : Bool
+
+-- each of so many cells has both values, and no other
+pub record IsFresh (cells : ℕ) (K : Candidates) : Type 0 where
+  pub both : (c : ℕ) → c < cells → (K c 0 ≡ true) × (K c 1 ≡ true)
+  pub within : (c v : ℕ) → K c v ≡ true → v < 2

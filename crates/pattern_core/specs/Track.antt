@@ -4,7 +4,6 @@ use Rattle.std.specs.Prelude.{◌≡◌, ℕ, zero, suc, ◌+◌, ◌<◌, ◌�
 use Rattle.std.specs.List.{AllByRecursion}
 use Rattle.gameid_core.specs.BlackRuns.{runs}
 use Rattle.gameid_core.specs.Puzzles.{used}
-use Rattle.grid_core.specs.Candidates.{any_below}
 use Rattle.engine_core.specs.Filling.{Set, some_filling}
 use Rattle.engine_core.specs.Sets.{has_bit, set_of_bits}
 use Rattle.pattern_core.specs.declared.track.Spelling.{Spelling}
@@ -64,12 +63,10 @@ by_set white black set p = (has_bit set 0 && white p) || (has_bit set 1 && black
 abbrev pub leads_on : (ℕ → Bool) → (ℕ → Bool) → (ℕ → Bool) → ℕ → Bool
 leads_on stays moves after p = (stays p && after p) || (moves p && after (suc p))
 
--- whether a white cell, or a black one, leads on from a place that is reached
-abbrev pub shows_white : ℕ → Track → (ℕ → Bool) → (ℕ → Bool) → Bool
-shows_white room t reached after = any_below (λ p. reached p && leads_on t.stay t.white after p) room
-
-abbrev pub shows_black : ℕ → Track → (ℕ → Bool) → (ℕ → Bool) → Bool
-shows_black room t reached after = any_below (λ p. reached p && (t.black p && after (suc p))) room
+-- by what a cell may be, from which places it moves a line on along a track, and at which the line may stay
+pub record AreMoves (moves stays : ℕ → ℕ → Bool) (t : Track) : Type 0 where
+  pub on : (set p : ℕ) → moves set p ≡ by_set t.white t.black set p
+  pub stay : (set p : ℕ) → stays set p ≡ (has_bit set 0 && t.stay p)
 
 -- whether there is a way from the place to an end by a cell of this set, where `after` tells it of what follows
 unfoldable pub ahead : Track → Bool → Bool → (ℕ → Bool) → ℕ → Bool

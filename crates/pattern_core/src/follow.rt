@@ -8,7 +8,7 @@ ghost use Rattle.gameid_core.specs.Puzzles.{lines_of};
 ghost use Rattle.pattern_core.specs.Lines.{line_numbers};
 
 use crate::places::Places;
-use crate::table::{moved_by, moves_of, stays_of};
+use crate::table::{moved_by, moves_of};
 use crate::track::SpelledClue;
 use crate::walk::{line_len, number_at};
 use grid_core::{Grid, Size};
@@ -34,11 +34,10 @@ pub(crate) fn follows<P: Places>(
 {
     let steps = clue.steps();
     let moves = moves_of(steps);
-    let stays = stays_of(steps);
     let mut reached = P::first();
     for k in 0..line_len(size, line) {
         let set = alone(number_at(size, grid, line, k));
-        reached = moved_by::<P>(&moves, &stays, set, reached);
+        reached = moved_by(&moves, set, reached);
     }
     reached.both(steps.ends).is_some()
 }

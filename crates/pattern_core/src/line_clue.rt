@@ -1,15 +1,15 @@
 //! The clue of a line, spelled in words of 64 bits where they have room for it.
 
-ghost use Rattle.std.specs.Prelude.{◌≡◌, ℕ, ◌<◌, ◌≤◌, ◌*◌, ◌↔◌, IsTrue};
+ghost use Rattle.std.specs.Prelude.{◌≡◌, ℕ, ◌<◌, ◌≤◌, ◌*◌, ◌↔◌, IsTrue, true};
 ghost use Rattle.std.specs.List.{AllByRecursion};
 ghost use Rattle.grid_core.specs.Grids.{IsGrid};
 ghost use Rattle.gameid_core.specs.BlackRuns.{runs};
 ghost use Rattle.gameid_core.specs.Puzzles.{lines_of, used};
-ghost use Rattle.pattern_core.specs.Lines.{line_numbers};
+ghost use Rattle.pattern_core.specs.Lines.{line_numbers, IsRoomy};
 ghost use Rattle.pattern_core.specs.LineClues.{numbers_in};
 
 use crate::follow::follows;
-use crate::track::SpelledClue;
+use crate::track::{SpelledClue, measured, roomy_from};
 use grid_core::{Grid, Size};
 
 /// The clue of a line.
@@ -21,18 +21,6 @@ pub(crate) enum LineClue {
     Long(SpelledClue<u128>),
 }
 
-/// How many cells the clue is spelled with: those of each run, and a white one after it.
-fn spelled_len(numbers: &[u8]) -> usize
-    requires { used numbers.now < 128 }
-    ensures { result ≡ used numbers.now }
-{
-    let mut cells = 0;
-    for k in 0..numbers.len() {
-        cells += usize::from(numbers[k]) + 1;
-    }
-    cells
-}
-
 impl LineClue {
     /// The clue with these numbers.
     pub(crate) fn new(numbers: &[u8]) -> LineClue
@@ -40,10 +28,23 @@ impl LineClue {
         requires fits { used numbers.now < 128 }
         ensures { numbers_in result ≡ numbers.now }
     {
-        if spelled_len(numbers) < 64 {
-            LineClue::Short(SpelledClue::new(numbers))
+        let (cells, longest) = measured(numbers);
+        let from = roomy_from(numbers, cells, longest);
+        if cells < 64 {
+            LineClue::Short(SpelledClue::new(numbers, from))
         } else {
-            LineClue::Long(SpelledClue::new(numbers))
+            LineClue::Long(SpelledClue::new(numbers, from))
+        }
+    }
+
+    /// Whether a line of so many cells is known to be roomy for the clue.
+    pub(crate) fn is_roomy(&self, cells: usize) -> bool
+        requires { cells < 1000 }
+        ensures { result ≡ true → IsRoomy (numbers_in self.now) cells }
+    {
+        match self {
+            LineClue::Short(clue) => clue.is_roomy(cells),
+            LineClue::Long(clue) => clue.is_roomy(cells),
         }
     }
 

@@ -1,12 +1,14 @@
 //! The lines of a puzzle as the houses of a search: the columns from the left, and then the rows from the top.
 
-ghost use Rattle.std.specs.Prelude.{◌≡◌, ℕ, ◌+◌, ◌*◌, ◌<◌, ◌≤◌, IfOk, true, false, length, refl, slice_index};
+ghost use Rattle.std.specs.Prelude.{◌≡◌, ◌==◌, ℕ, ◌+◌, ◌*◌, ◌<◌, ◌≤◌, IfOk, true, false, length, refl, slice_index};
 ghost use Rattle.grid_core.specs.Extent.{IsExtent};
 ghost use Rattle.grid_core.specs.Board.{has, cells_of, SameShape};
 ghost use Rattle.gameid_core.specs.Puzzles.{lines_of, line_cells};
+ghost use Rattle.grid_core.specs.Candidates.{Candidates};
 ghost use Rattle.engine_core.specs.Closing.{HasStruck};
+ghost use Rattle.engine_core.specs.Waiting.{words_of, is_waiting, AreCalled};
 ghost use Rattle.engine_core.specs.declared.mode.Mode.TheVariants.{Queue};
-ghost use Rattle.pattern_core.specs.Lines.{line_places};
+ghost use Rattle.pattern_core.specs.Lines.{line_places, IsFresh};
 ghost use Rattle.pattern_core.specs.LineRules.{line_rules, after_line};
 
 use crate::line_clue::LineClue;
@@ -14,7 +16,7 @@ use crate::places::Places;
 use crate::table::keep;
 use crate::track::SpelledClue;
 use crate::walk::line_len;
-use engine_core::{Mode, Rules, apply, gather};
+use engine_core::{Mode, Rules, apply, gather, mark};
 use gameid_core::PatternPuzzle;
 use grid_core::{Board, Grid, Size, column_place, row_place};
 use std::alloc::{AllocError, Global};
@@ -45,22 +47,24 @@ impl Model for PatternLines {
     ghost invariant = { λ r. IsPattern (pattern_of r.size r.clues.items) };
 }
 
-/// What a visit of a line works in, for lines up to some length.
+/// What a visit of a line works in, for lines up to some length, and whether each cell of the board is known to have both
+/// values.
 #[derive(Drop)]
 pub struct LineScratch {
     places: Vec<u32>,
     sets: Vec<u32>,
     rows: Vec<u64>,
     long_rows: Vec<u128>,
+    fresh: bool,
 }
 
 impl Model for LineScratch {
-    ghost use Rattle.std.specs.Prelude.{ℕ, length};
-    ghost use Rattle.pattern_core.specs.Lines.{HasRoom};
+    ghost use Rattle.std.specs.Prelude.{length};
+    ghost use Rattle.pattern_core.specs.Lines.{HasRoom, LineWork};
 
-    ghost Value = { ℕ };
+    ghost Value = { LineWork };
 
-    ghost view = { λ s. length s.places.items };
+    ghost view = { λ s. record { room = length s.places.items; fresh = s.fresh } };
 
     ghost invariant = { λ s.
         HasRoom (length s.places.items) s.sets.items s.rows.items s.long_rows.items };
@@ -160,6 +164,20 @@ fn longest_line(size: Size) -> usize
     usize::from(size.w().max(size.h()))
 }
 
+/// Whether each cell has both values.
+fn is_fresh(board: &Board, cells: usize) -> bool
+    requires values { board.now.values ≡ 2 }
+    requires cells { cells ≡ cells_of board.now }
+    ensures { result ≡ true → IsFresh cells (has board.now) }
+{
+    for place in 0..cells {
+        if !board.has(place, 0) || !board.has(place, 1) {
+            return false;
+        }
+    }
+    true
+}
+
 impl PatternLines {
     /// The rules of the puzzle.
     ///
@@ -177,6 +195,22 @@ impl PatternLines {
             clues.push(LineClue::new(puzzle.line(line)))?;
         }
         Ok(PatternLines { size, clues })
+    }
+
+    /// Marks the line, unless it strikes nothing.
+    fn wake_line(&self, line: usize, scratch: &LineScratch, waits: &mut [u64])
+        requires line_in { line < lines_of self.now.pattern.size }
+        requires room { words_of (lines_of self.now.pattern.size) ≤ length waits.old }
+        requires follows { (K : Candidates) × (scratch.now.fresh ≡ true
+            → IsFresh (line_rules self.now.pattern).cells K) }
+        ensures { (K : Candidates)
+            → (scratch.now.fresh ≡ true → IsFresh (line_rules self.now.pattern).cells K)
+            → AreCalled (line_rules self.now.pattern) K (λ j. j == line) (is_waiting waits.old)
+            (is_waiting waits.new) }
+    {
+        if self.calls(line, scratch) {
+            mark(waits, line);
+        }
     }
 }
 
@@ -197,15 +231,15 @@ impl Rules for PatternLines {
 
     ghost mode_is = { λ _. refl };
 
-    ghost serves = { λ room needs. needs.scope ≤ room };
+    ghost serves = { λ scratch needs. needs.scope ≤ scratch.room };
 
-    ghost follows = { λ _ _ _. Unit {0} };
+    ghost follows = { λ r scratch K. scratch.fresh ≡ true → IsFresh (line_rules r.pattern).cells K };
 
     ghost lawful = { λ r. line_rules-lawful r.pattern r.extent };
 
     ghost settled_is = { λ _. refl };
 
-    ghost serves_smaller = { serves-smaller };
+    ghost serves_smaller = { λ scratch. serves-smaller scratch.room };
 
     fn cells(&self) -> usize {
         self.size.cells()
@@ -264,6 +298,7 @@ impl Rules for PatternLines {
             sets: vec![in alloc; 0u32; longest]?,
             rows: vec![in alloc; 0u64; longest + 1]?,
             long_rows: vec![in alloc; 0u128; longest + 1]?,
+            fresh: false,
         })
     }
 
@@ -282,12 +317,39 @@ impl Rules for PatternLines {
         }
     }
 
-    fn follow(&self, _board: &Board, _scratch: &mut LineScratch) {}
+    fn keep(
+        &self,
+        house: usize,
+        sets: &[u32],
+        kept: &mut [u32],
+        scratch: &mut LineScratch,
+    ) -> bool {
+        kept.copy_from_slice(sets);
+        match &self.clues[house] {
+            LineClue::Short(clue) => keep(kept, clue, &mut scratch.rows),
+            LineClue::Long(clue) => keep(kept, clue, &mut scratch.long_rows),
+        }
+    }
 
-    fn change(&self, _place: usize, _before: u32, _after: u32, _scratch: &mut LineScratch) {}
+    fn follow(&self, board: &Board, scratch: &mut LineScratch) {
+        scratch.fresh = is_fresh(board, self.cells());
+    }
 
-    fn calls(&self, _house: usize, _scratch: &LineScratch) -> bool {
-        true
+    fn change(&self, _place: usize, _before: u32, _after: u32, scratch: &mut LineScratch) {
+        scratch.fresh = false;
+    }
+
+    fn calls(&self, house: usize, scratch: &LineScratch) -> bool {
+        if !scratch.fresh {
+            return true;
+        }
+        !self.clues[house].is_roomy(line_len(self.size, house))
+    }
+
+    fn wake(&self, place: usize, scratch: &LineScratch, waits: &mut [u64]) {
+        let w = usize::from(self.size.w());
+        self.wake_line(place % w, scratch, waits);
+        self.wake_line(w + place / w, scratch, waits);
     }
 
     fn accept(&self, _scratch: &mut LineScratch, grid: &Grid) -> bool {

@@ -11,111 +11,138 @@ ghost use Rattle.engine_core.specs.Filling.{strikes_by_fillings};
 ghost use Rattle.engine_core.specs.Sets.{has_bit};
 ghost use Rattle.engine_core.specs.House.{IsDecided};
 ghost use Rattle.pattern_core.specs.Lines.{has_runs};
-ghost use Rattle.pattern_core.specs.Track.{along, by_set, leads_on, led_to, shows_white, shows_black, IsBelow, some_leads, sets_of, any_cells, AreRows, AreKept};
+ghost use Rattle.pattern_core.specs.Track.{along, AreMoves, leads_on, led_to, one_on, IsBelow, some_leads, sets_of, any_cells, AreRows, AreKept};
 
 use crate::places::Places;
 use crate::track::{SpelledClue, Steps};
 
+/// The set of black alone.
+const BLACK: u32 = 2;
+
 /// The set of both values.
 const BOTH: u32 = 3;
 
-/// By what a cell may be, the places from which a line goes on.
-pub(crate) fn moves_of<P: Places>(steps: Steps<P>) -> P::Masks
-    ensures { (set p : ℕ) → P.has_by result set p
-        ≡ by_set (P.has steps.white) (P.has steps.black) set p }
-{
-    P::masks(steps.white, steps.black)
+/// What a cell lets a line do, looked up by what the cell may be: the places from which the line goes on, and those at
+/// which it may stay.
+#[derive(Drop)]
+pub(crate) struct Moves<P: Places> {
+    moves: P::Masks,
+    stays: P::Masks,
 }
 
-/// By what a cell may be, the places at which a line may stay.
-pub(crate) fn stays_of<P: Places>(steps: Steps<P>) -> P::Masks
-    ensures { (set p : ℕ) → P.has_by result set p ≡ (has_bit set 0 && P.has steps.stay p) }
+/// What a cell lets a line do along a clue.
+pub(crate) fn moves_of<P: Places>(steps: Steps<P>) -> Moves<P>
+    ensures { AreMoves (P.has_by result.moves) (P.has_by result.stays) (along P.has steps) }
 {
-    P::masks(steps.stay, P::none())
-}
-
-/// From which places there is a way to the end by a cell of this set, by those from which there is one after it.
-fn ahead_of<P: Places>(moves: &P::Masks, stays: &P::Masks, set: u32, after: P) -> P
-    ensures { (p : ℕ) → P.has result p
-        ≡ leads_on (P.has_by stays.now set) (P.has_by moves.now set) (P.has after) p }
-{
-    let next = P::mask(moves, set).both(after.back());
-    P::mask(stays, set).both(after).either(next)
-}
-
-/// Which places are reached by a cell of this set, by those that are reached before it.
-pub(crate) fn moved_by<P: Places>(moves: &P::Masks, stays: &P::Masks, set: u32, reached: P) -> P
-    ensures { (p : ℕ) → p < P.room → P.has result p
-        ≡ led_to (P.has_by stays.now set) (P.has_by moves.now set) (P.has reached) p }
-{
-    let next = P::mask(moves, set).both(reached).on();
-    P::mask(stays, set).both(reached).either(next)
-}
-
-/// What is kept of a cell with both values: each by which a way leads on from a place that is reached.
-fn kept_of<P: Places>(steps: Steps<P>, reached: P, after: P) -> u32
-    ensures white { has_bit result 0
-        ≡ shows_white P.room (along P.has steps) (P.has reached) (P.has after) }
-    ensures black { has_bit result 1
-        ≡ shows_black P.room (along P.has steps) (P.has reached) (P.has after) }
-{
-    let next = after.back();
-    let white = steps.stay.both(after).either(steps.white.both(next));
-    let black = steps.black.both(next);
-    set_of(reached.both(white).is_some(), reached.both(black).is_some())
-}
-
-/// The set with these values.
-fn set_of(white: bool, black: bool) -> u32
-    ensures white { has_bit result 0 ≡ white }
-    ensures black { has_bit result 1 ≡ black }
-{
-    match (white, black) {
-        (false, false) => 0,
-        (true, false) => 1,
-        (false, true) => 2,
-        (true, true) => 3,
+    Moves {
+        moves: P::masks(steps.white, steps.black),
+        stays: P::masks(steps.stay, P::none()),
     }
 }
 
+/// From which places there is a way to the end by a cell of this set, by those from which there is one after it.
+fn ahead_of<P: Places>(moves: &Moves<P>, set: u32, after: P) -> P
+    ensures { (p : ℕ) → P.has result p ≡ leads_on (P.has_by moves.now.stays set)
+        (P.has_by moves.now.moves set) (P.has after) p }
+{
+    let next = P::mask(&moves.moves, set).both(after.back());
+    P::mask(&moves.stays, set).both(after).either(next)
+}
+
+/// Which places are reached by a cell of this set, by those that are reached before it.
+pub(crate) fn moved_by<P: Places>(moves: &Moves<P>, set: u32, reached: P) -> P
+    ensures { (p : ℕ) → p < P.room → P.has result p ≡ led_to (P.has_by moves.now.stays set)
+        (P.has_by moves.now.moves set) (P.has reached) p }
+{
+    let next = P::mask(&moves.moves, set).both(reached).on();
+    P::mask(&moves.stays, set).both(reached).either(next)
+}
+
+/// The places to which a cell with both values leads: by white, and by black.
+#[derive(Clone, Copy)]
+struct Ways<P> {
+    white: P,
+    black: P,
+}
+
+/// Where a cell with both values leads from the places that are reached before it.
+fn ways_of<P: Places>(steps: Steps<P>, reached: P) -> Ways<P>
+    ensures white { (p : ℕ) → p < P.room → P.has result.white p
+        ≡ led_to (P.has steps.stay) (P.has steps.white) (P.has reached) p }
+    ensures black { (p : ℕ) → p < P.room → P.has result.black p
+        ≡ one_on (λ q. P.has steps.black q && P.has reached q) p }
+{
+    let next = steps.white.both(reached).on();
+    Ways {
+        white: steps.stay.both(reached).either(next),
+        black: steps.black.both(reached).on(),
+    }
+}
+
+/// Keeps of a cell with both values those that are shown, and says whether it lost any.
+fn keep_shown(sets: &mut [u32], at: usize, white: bool, black: bool) -> bool
+    requires at { at < length sets.old }
+    requires both { slice_index sets.old at % 4 ≡ 3 }
+    ensures as_many { length sets.new ≡ length sets.old }
+    ensures others { (k : ℕ) → (k ≡ at → ⊥)
+        → slice_index sets.new k ≡ slice_index sets.old k }
+    ensures white { has_bit (slice_index sets.new at) 0 ≡ white }
+    ensures black { has_bit (slice_index sets.new at) 1 ≡ black }
+    ensures unchanged { result ≡ false → sets.new ≡ sets.old }
+{
+    if !black {
+        sets[at] = u32::from(white);
+        return true;
+    }
+    if !white {
+        sets[at] = BLACK;
+        return true;
+    }
+    false
+}
+
 /// Fills the table, from the last cell backwards.
-fn fill_rows<P: Places>(steps: Steps<P>, sets: &[u32], rows: &mut [P])
+fn fill_rows<P: Places>(steps: Steps<P>, moves: &Moves<P>, sets: &[u32], rows: &mut [P])
     requires room { length sets.now < length rows.old }
+    requires moves { AreMoves (P.has_by moves.now.moves) (P.has_by moves.now.stays)
+        (along P.has steps) }
     ensures { AreRows P.has (along P.has steps) sets.now rows.new 0 }
 {
-    let moves = moves_of(steps);
-    let stays = stays_of(steps);
     let mut at = sets.len();
     rows[at] = steps.ends;
     while at > 0 {
         at -= 1;
-        rows[at] = ahead_of::<P>(&moves, &stays, sets[at], rows[at + 1]);
+        rows[at] = ahead_of(moves, sets[at], rows[at + 1]);
     }
 }
 
 /// Keeps of each cell with both values what a way from the first place to the end shows there, and says whether one of
 /// them lost any. Some way leads to the end, so the other cells keep what they have.
-fn keep_cells<P: Places>(steps: Steps<P>, sets: &mut [u32], rows: &[P]) -> bool
+fn keep_cells<P: Places>(steps: Steps<P>, moves: &Moves<P>, sets: &mut [u32], rows: &[P]) -> bool
+    requires moves { AreMoves (P.has_by moves.now.moves) (P.has_by moves.now.stays)
+        (along P.has steps) }
     requires rows { AreRows P.has (along P.has steps) sets.old rows.now 0 }
     requires below { IsBelow P.room (along P.has steps) }
     requires some { some_leads (along P.has steps) (sets_of sets.old) any_cells 0 ≡ true }
     ensures kept { AreKept (along P.has steps) sets.old sets.new (length sets.old) }
     ensures unchanged { result ≡ false → sets.new ≡ sets.old }
 {
-    let moves = moves_of(steps);
-    let stays = stays_of(steps);
     let mut reached = P::first();
     let mut struck = false;
     for at in 0..sets.len() {
         let set = sets[at];
         if set % 4 == BOTH {
-            let kept = kept_of(steps, reached, rows[at + 1]);
-            if kept != BOTH {
-                sets[at] = kept;
+            let ways = ways_of(steps, reached);
+            let after = rows[at + 1];
+            let white = ways.white.both(after).is_some();
+            let black = ways.black.both(after).is_some();
+            if keep_shown(sets, at, white, black) {
                 struck = true;
             }
+            reached = ways.white.either(ways.black);
+        } else {
+            reached = moved_by(moves, set, reached);
         }
-        reached = moved_by::<P>(&moves, &stays, set, reached);
     }
     struck
 }
@@ -139,10 +166,11 @@ pub(crate) fn keep<P: Places>(sets: &mut [u32], clue: &SpelledClue<P>, rows: &mu
     ensures unchanged { result ≡ false → sets.new ≡ sets.old }
 {
     let steps = clue.steps();
-    fill_rows(steps, sets, rows);
+    let moves = moves_of(steps);
+    fill_rows(steps, &moves, sets, rows);
     if !rows[0].both(P::first()).is_some() {
         clear(sets);
         return true;
     }
-    keep_cells(steps, sets, rows)
+    keep_cells(steps, &moves, sets, rows)
 }

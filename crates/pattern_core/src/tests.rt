@@ -4,7 +4,7 @@ ghost use Rattle.gameid_core.specs.Puzzles.{used};
 
 use super::*;
 use crate::places::Places;
-use crate::track::SpelledClue;
+use crate::track::{SpelledClue, TOO_MANY};
 use crate::{listing, table};
 use engine_core::Rules;
 use gameid_core::{PatternPuzzle, read_pattern};
@@ -108,7 +108,7 @@ fn agree<P: Places>(clue: &[u8], rows: &mut [P]) -> bool
     requires fits { used clue.now < P.room }
     requires room { 6 < length rows.old }
 {
-    let spelled = SpelledClue::<P>::new(clue);
+    let spelled = SpelledClue::<P>::new(clue, TOO_MANY);
     for cells in 1..7 {
         for board in 0..1usize << (2 * cells) {
             let mut sets = [0u32; 6];

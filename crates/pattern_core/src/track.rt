@@ -2,9 +2,10 @@
 //! black cell or the white cell after a run takes it one place on, and before a run it may stay where it is for any
 //! number of white cells.
 
-ghost use Rattle.std.specs.Prelude.{◌≡◌, ◌<◌, ◌++◌, [], ◌∷◌, replicate};
+ghost use Rattle.std.specs.Prelude.{◌≡◌, ℕ, ◌<◌, ◌≤◌, true, length, slice_index, ◌++◌, [], ◌∷◌, replicate};
 ghost use Rattle.std.specs.List.{AllByRecursion};
 ghost use Rattle.gameid_core.specs.Puzzles.{used};
+ghost use Rattle.pattern_core.specs.Lines.{IsRoomy, IsRoomyFrom};
 ghost use Rattle.pattern_core.specs.Track.{spelled, track_of, along, AddsCells};
 
 use crate::places::Places;
@@ -82,33 +83,81 @@ fn spell<P: Places>(clue: &[u8]) -> Steps<P>
     }
 }
 
-/// A line's clue, spelled once for all visits. Its numbers are the runs of the black cells that are spelled.
+/// More cells than a line has.
+pub(crate) const TOO_MANY: usize = 1000;
+
+/// How many cells a clue is spelled with, those of each run and a white one after it; and its longest run, or 0 where it
+/// has none.
+pub(crate) fn measured(numbers: &[u8]) -> (usize, u8)
+    requires { used numbers.now < 128 }
+    ensures cells { result.0 ≡ used numbers.now }
+    ensures longest { (k : ℕ) → k < length numbers.now
+        → slice_index numbers.now k ≤ result.1 }
+{
+    let mut cells = 0;
+    let mut longest = 0;
+    for k in 0..numbers.len() {
+        cells += usize::from(numbers[k]) + 1;
+        longest = longest.max(numbers[k]);
+    }
+    (cells, longest)
+}
+
+/// From how many cells on a line is roomy for a clue, by what it measures.
+pub(crate) fn roomy_from(numbers: &[u8], cells: usize, longest: u8) -> usize
+    requires positive { AllByRecursion (λ n. 0 < n) numbers.now }
+    requires few { cells < 128 }
+    requires cells { cells ≡ used numbers.now }
+    requires longest { (k : ℕ) → k < length numbers.now → slice_index numbers.now k ≤ longest }
+    ensures { IsRoomyFrom numbers.now result }
+{
+    if numbers.is_empty() {
+        return TOO_MANY;
+    }
+    cells + usize::from(longest) - 1
+}
+
+/// A line's clue, spelled once for all visits, and from how many cells on a line is roomy for it. Its numbers are the runs
+/// of the black cells that are spelled.
 #[derive(Drop)]
 pub(crate) struct SpelledClue<P: Places> {
     steps: Steps<P>,
+    roomy_from: usize,
 }
 
 impl<P: Places> Model for SpelledClue<P> {
     ghost use Rattle.std.specs.Prelude.{◌≡◌, ℕ, List};
+    ghost use Rattle.pattern_core.specs.Lines.{IsRoomyFrom};
     ghost use Rattle.pattern_core.specs.Track.{along, clue_along, IsTrack};
 
     ghost Value = { List ℕ };
 
     ghost view = { λ c. clue_along P.room (along P.has c.steps) };
 
-    ghost invariant = { λ c. IsTrack P.room (along P.has c.steps) };
+    ghost invariant = { λ c. (IsTrack P.room (along P.has c.steps))
+        × IsRoomyFrom (clue_along P.room (along P.has c.steps)) c.roomy_from };
 }
 
 impl<P: Places> SpelledClue<P> {
-    /// The clue with these numbers.
-    pub(crate) fn new(numbers: &[u8]) -> SpelledClue<P>
+    /// The clue with these numbers, for which a line of so many cells is roomy, and each longer one.
+    pub(crate) fn new(numbers: &[u8], roomy_from: usize) -> SpelledClue<P>
         requires positive { AllByRecursion (λ n. 0 < n) numbers.now }
         requires fits { used numbers.now < P.room }
+        requires roomy { IsRoomyFrom numbers.now roomy_from }
         ensures { result ≡ numbers.now }
     {
         SpelledClue {
             steps: spell(numbers),
+            roomy_from,
         }
+    }
+
+    /// Whether a line of so many cells is known to be roomy for the clue.
+    pub(crate) fn is_roomy(&self, cells: usize) -> bool
+        requires { cells < 1000 }
+        ensures { result ≡ true → IsRoomy self.now cells }
+    {
+        self.roomy_from <= cells
     }
 
     /// How a line goes along the clue.

@@ -26,7 +26,7 @@ loop-k-preserved g c =
     let number : c.number_at.result ≡ get_or cells c.loop-k.k 0 = c.number_at.ensures.value in
     follow_next g.P.Places.room t below cells c.loop-k.k (has c.loop-k.reached) (has c.moved_by-reached.result) (cell_within _ _ _ _ _ c.line_len-k-end.ensures c.loop-k-test.true)
     (λ p lt. c.moved_by-reached.ensures p lt
-    ∙ moved_step t (has_bit set 0) (has_bit set 1) (g.P.Places.has_by c.stays_of-stays.result set) (g.P.Places.has_by c.moves_of-moves.result set) (c.stays_of-stays.ensures set) (c.moves_of-moves.ensures set) (has c.loop-k.reached) p
+    ∙ moved_step t (has_bit set 0) (has_bit set 1) (g.P.Places.has_by c.moves_of-moves.result.stays set) (g.P.Places.has_by c.moves_of-moves.result.moves set) (c.moves_of-moves.ensures.stay set) (c.moves_of-moves.ensures.on set) (has c.loop-k.reached) p
     ∙ ap₂ (λ a b. moved t a b (has c.loop-k.reached) p) (c.alone-set.ensures.white ∙ ap (λ n. eqb n 0) number) (c.alone-set.ensures.black ∙ ap (λ n. not (eqb n 0)) number))
     c.loop-k.invariant
 

@@ -22,6 +22,6 @@ loop-at-preserved g c =
       one_row _ g.P.Places.has t c.args.sets.now c.loop-at.rows (c.loop-at.at - 1) c.ahead_of.result c.index-rows-at.result
           (subst (AreRows g.P.Places.has t c.args.sets.now c.loop-at.rows) next c.loop-at.invariant.1) (omega arith) c.index-rows-at.is
           (λ p. c.ahead_of.ensures p
-          ∙ ahead_step t (has_bit set 0) (has_bit set 1) (g.P.Places.has_by c.stays_of-stays.result set) (g.P.Places.has_by c.moves_of-moves.result set) (c.stays_of-stays.ensures set) (c.moves_of-moves.ensures set)
+          ∙ ahead_step t (has_bit set 0) (has_bit set 1) (g.P.Places.has_by c.args.moves.now.stays set) (g.P.Places.has_by c.args.moves.now.moves set) (c.requires.moves.stay set) (c.requires.moves.on set)
           (g.P.Places.has c.index-rows-at.result) p),
     )

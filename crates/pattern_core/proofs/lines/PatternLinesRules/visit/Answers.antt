@@ -4,24 +4,25 @@ use Rattle.gameid_core.specs.Puzzles.{lines_of}
 use Rattle.engine_core.specs.Puzzle.{after}
 use Rattle.pattern_core.specs.LineClues.{numbers_in}
 use Rattle.pattern_core.specs.LineRules.{Ruled, line_rules}
+use Rattle.pattern_core.specs.Lines.{LineWork}
 use Rattle.pattern_core.proofs.NextLine.{line_in_room}
 use Rattle.pattern_core.proofs.LineVisits.{numbers_read, after_line_read}
 use Rattle.pattern_core.proofs.lines.PatternLinesRules.visit.Goals as goal
 
 pub visit_within-requires-clause-places : goal.visit_within-requires-clause-places
 visit_within-requires-clause-places c =
-    let fits = line_in_room c.self.inside.size c.args.self.now.pattern.size c.args.house c.args.scratch.now (ap (λ (r : Ruled). r.pattern.size) c.self.view_is) c.requires.house_in c.requires.served in
-    omega (arith, fits, c.scratch.view_is, ap length c.deref_mut.ensures.value)
+    let fits = line_in_room c.self.inside.size c.args.self.now.pattern.size c.args.house c.args.scratch.now.room (ap (λ (r : Ruled). r.pattern.size) c.self.view_is) c.requires.house_in c.requires.served in
+    omega (arith, fits, ap (λ (w : LineWork). w.room) c.scratch.view_is, ap length c.deref_mut.ensures.value)
 
 pub visit_within-requires-clause-sets : goal.visit_within-requires-clause-sets
 visit_within-requires-clause-sets c =
-    let fits = line_in_room c.self.inside.size c.args.self.now.pattern.size c.args.house c.args.scratch.now (ap (λ (r : Ruled). r.pattern.size) c.self.view_is) c.requires.house_in c.requires.served in
-    omega (arith, fits, c.scratch.view_is, c.scratch.invariant.0, ap length c.deref_mut-in-Short.ensures.value)
+    let fits = line_in_room c.self.inside.size c.args.self.now.pattern.size c.args.house c.args.scratch.now.room (ap (λ (r : Ruled). r.pattern.size) c.self.view_is) c.requires.house_in c.requires.served in
+    omega (arith, fits, ap (λ (w : LineWork). w.room) c.scratch.view_is, c.scratch.invariant.0, ap length c.deref_mut-in-Short.ensures.value)
 
 pub visit_within-requires-clause-rows : goal.visit_within-requires-clause-rows
 visit_within-requires-clause-rows c =
-    let fits = line_in_room c.self.inside.size c.args.self.now.pattern.size c.args.house c.args.scratch.now (ap (λ (r : Ruled). r.pattern.size) c.self.view_is) c.requires.house_in c.requires.served in
-    omega (arith, fits, c.scratch.view_is, c.scratch.invariant.1, ap length c.deref_mut-in-Short-2.ensures.value)
+    let fits = line_in_room c.self.inside.size c.args.self.now.pattern.size c.args.house c.args.scratch.now.room (ap (λ (r : Ruled). r.pattern.size) c.self.view_is) c.requires.house_in c.requires.served in
+    omega (arith, fits, ap (λ (w : LineWork). w.room) c.scratch.view_is, c.scratch.invariant.1, ap length c.deref_mut-in-Short-2.ensures.value)
 
 pub returns-in-Short-clause-left : goal.returns-in-Short-clause-left
 returns-in-Short-clause-left c =
@@ -33,18 +34,18 @@ returns-in-Short-clause-left c =
 
 pub visit_within-requires-in-Long-clause-places : goal.visit_within-requires-in-Long-clause-places
 visit_within-requires-in-Long-clause-places c =
-    let fits = line_in_room c.self.inside.size c.args.self.now.pattern.size c.args.house c.args.scratch.now (ap (λ (r : Ruled). r.pattern.size) c.self.view_is) c.requires.house_in c.requires.served in
-    omega (arith, fits, c.scratch.view_is, ap length c.deref_mut-in-Long.ensures.value)
+    let fits = line_in_room c.self.inside.size c.args.self.now.pattern.size c.args.house c.args.scratch.now.room (ap (λ (r : Ruled). r.pattern.size) c.self.view_is) c.requires.house_in c.requires.served in
+    omega (arith, fits, ap (λ (w : LineWork). w.room) c.scratch.view_is, ap length c.deref_mut-in-Long.ensures.value)
 
 pub visit_within-requires-in-Long-clause-sets : goal.visit_within-requires-in-Long-clause-sets
 visit_within-requires-in-Long-clause-sets c =
-    let fits = line_in_room c.self.inside.size c.args.self.now.pattern.size c.args.house c.args.scratch.now (ap (λ (r : Ruled). r.pattern.size) c.self.view_is) c.requires.house_in c.requires.served in
-    omega (arith, fits, c.scratch.view_is, c.scratch.invariant.0, ap length c.deref_mut-in-Long-2.ensures.value)
+    let fits = line_in_room c.self.inside.size c.args.self.now.pattern.size c.args.house c.args.scratch.now.room (ap (λ (r : Ruled). r.pattern.size) c.self.view_is) c.requires.house_in c.requires.served in
+    omega (arith, fits, ap (λ (w : LineWork). w.room) c.scratch.view_is, c.scratch.invariant.0, ap length c.deref_mut-in-Long-2.ensures.value)
 
 pub visit_within-requires-in-Long-clause-rows : goal.visit_within-requires-in-Long-clause-rows
 visit_within-requires-in-Long-clause-rows c =
-    let fits = line_in_room c.self.inside.size c.args.self.now.pattern.size c.args.house c.args.scratch.now (ap (λ (r : Ruled). r.pattern.size) c.self.view_is) c.requires.house_in c.requires.served in
-    omega (arith, fits, c.scratch.view_is, c.scratch.invariant.2, ap length c.deref_mut-in-Long-3.ensures.value)
+    let fits = line_in_room c.self.inside.size c.args.self.now.pattern.size c.args.house c.args.scratch.now.room (ap (λ (r : Ruled). r.pattern.size) c.self.view_is) c.requires.house_in c.requires.served in
+    omega (arith, fits, ap (λ (w : LineWork). w.room) c.scratch.view_is, c.scratch.invariant.2, ap length c.deref_mut-in-Long-3.ensures.value)
 
 pub returns-in-Long-clause-left : goal.returns-in-Long-clause-left
 returns-in-Long-clause-left c =

@@ -1,0 +1,203 @@
+-- A line of cells that may be either, longer than its clue needs by as much as each run is: each of its cells is white in some
+-- filling, and black in some.
+use Rattle.std.proofs.Common.{◌≡◌, ◌∙◌, ℕ, zero, suc, ◌+◌, ◌-◌, ◌<◌, ◌≤◌, List, [], ◌∷◌, ◌++◌, true, false, length, get_or, replicate, refl, ap, subst, arith, inl, inr}
+use Rattle.std.specs.List.{AllByRecursion}
+use Rattle.std.proofs.lemmas.Bool.{cases_lt, cases_eq}
+use Rattle.std.proofs.lemmas.List.{length-append, length-replicate, get_or-replicate, get_or_append_left, get_or-append_right}
+use Rattle.gameid_core.specs.BlackRuns.{runs, runs_after}
+use Rattle.gameid_core.specs.Puzzles.{used}
+use Rattle.engine_core.specs.Filling.{Set, has_value, strikes_by_fillings}
+use Rattle.engine_core.specs.FillingLaws.{test_from_shown}
+use Rattle.pattern_core.specs.Lines.{has_runs}
+use Rattle.pattern_core.specs.LineLaws.{has_runs-from}
+
+-- cells of such a number that have these runs
+pub record Fitting (clue : List ℕ) (n : ℕ) : Type 0 where
+  pub cells : List ℕ
+  pub long : length cells ≡ n
+  pub are : runs cells ≡ clue
+  pub small : (j : ℕ) → get_or cells j 0 < 2
+
+-- some such cells have the value at the place
+abbrev pub Shows : List ℕ → ℕ → ℕ → ℕ → Type 0
+Shows clue n k v = (f : Fitting clue n) × (get_or f.cells k 0 ≡ v)
+
+abbrev Positive : List ℕ → Type 0
+Positive clue = AllByRecursion (λ m. 0 < m) clue
+
+-- each run is at most s
+abbrev pub AtMost : ℕ → List ℕ → Type 0
+AtMost s clue = AllByRecursion (λ m. m ≤ s) clue
+
+-- white cells before others, and black ones
+whites : (d : ℕ) (cells : List ℕ) → runs (replicate d 0 ++ cells) ≡ runs cells
+unfolding runs_after
+whites zero cells = refl
+whites (suc d) cells = whites d cells
+
+blacks : (k d : ℕ) (cells : List ℕ) → runs_after k (replicate d 1 ++ cells) ≡ runs_after (k + d) cells
+unfolding runs_after
+blacks k zero cells = ap (λ j. runs_after j cells) (let z : k ≡ k + 0 = omega arith in z)
+blacks k (suc d) cells = blacks (suc k) d cells ∙ ap (λ j. runs_after j cells) (let z : suc k + d ≡ k + suc d = omega arith in z)
+
+run_first : (m : ℕ) (cells : List ℕ) → 0 < m → runs (replicate m 1 ++ 0 ∷ cells) ≡ m ∷ runs cells
+unfolding runs_after
+run_first zero cells some = absurd (omega arith)
+run_first (suc m) cells some = blacks 0 (suc m) (0 ∷ cells) ∙ ap (λ j. runs_after j (0 ∷ cells)) (let z : 0 + suc m ≡ suc m = omega arith in z)
+
+-- the cells with so many of one value before them
+module _ (d a : ℕ) (cells : List ℕ) where
+  before : (k : ℕ) → k < d → get_or (replicate d a ++ cells) k 0 ≡ a
+  before k lt = get_or_append_left (replicate d a) cells 0 k (omega (arith, length-replicate {A = ℕ} d a)) ∙ get_or-replicate d k a 0 lt
+
+  behind : (k : ℕ) → get_or (replicate d a ++ cells) (d + k) 0 ≡ get_or cells k 0
+  behind k = get_or-append_right (replicate d a) cells d (d + k) 0 (length-replicate d a) (omega arith) ∙ ap (λ j. get_or cells j 0) (let z : d + k - d ≡ k = omega arith in z)
+
+  stays_small : a < 2 → ((j : ℕ) → get_or cells j 0 < 2) → (j : ℕ) → get_or (replicate d a ++ cells) j 0 < 2
+  stays_small low small j = elim (cases_lt j d) [
+    | inl lt ↦ let e = before j lt in omega arith
+    | inr ge ↦ let e = behind (j - d) in let s = small (j - d) in
+        let z : get_or (replicate d a ++ cells) j 0 ≡ get_or cells (j - d) 0 = ap (λ i. get_or (replicate d a ++ cells) i 0) (let y : j ≡ d + (j - d) = omega arith in y) ∙ e in omega arith
+  ]
+
+  longer : length (replicate d a ++ cells) ≡ d + length cells
+  longer = omega (arith, length-append (replicate d a) cells, length-replicate {A = ℕ} d a)
+
+-- white cells come first
+abbrev whiter : {clue : List ℕ} {n : ℕ} (d : ℕ) → Fitting clue n → Fitting clue (d + n)
+whiter d f = record {
+  cells = replicate d 0 ++ f.cells;
+  long = let e = longer d 0 f.cells in let l = f.long in omega arith;
+  are = whites d f.cells ∙ f.are;
+  small = stays_small d 0 f.cells (omega arith) f.small;
+}
+
+-- a run comes first, and a white cell
+ended : (cells : List ℕ) → ((j : ℕ) → get_or cells j 0 < 2) → (j : ℕ) → get_or (0 ∷ cells) j 0 < 2
+ended cells small zero = omega arith
+ended cells small (suc j) = small j
+
+abbrev longer_by : {clue : List ℕ} {n : ℕ} (m : ℕ) → 0 < m → Fitting clue n → Fitting (m ∷ clue) (m + suc n)
+longer_by m some f = record {
+  cells = replicate m 1 ++ 0 ∷ f.cells;
+  long = let e = longer m 1 (0 ∷ f.cells) in let l = f.long in omega arith;
+  are = run_first m f.cells some ∙ ap (λ (r : List ℕ). m ∷ r) f.are;
+  small = stays_small m 1 (0 ∷ f.cells) (omega arith) (ended f.cells f.small);
+}
+
+none_small : (j : ℕ) → get_or {A = ℕ} [] j 0 < 2
+none_small zero = omega arith
+none_small (suc j) = omega arith
+
+no_runs : runs [] ≡ []
+unfolding runs_after
+no_runs = refl
+
+one_run : (k m : ℕ) → 0 < m → k ≡ m → runs_after k [] ≡ m ∷ []
+unfolding runs_after
+one_run zero m some e = absurd (omega arith)
+one_run (suc k) m some e = ap (λ (i : ℕ). i ∷ []) e
+
+-- white cells alone, and a run alone
+abbrev empty : Fitting [] 0
+empty = record { cells = []; long = refl; are = no_runs; small = none_small }
+
+abbrev alone : (m : ℕ) → 0 < m → Fitting (m ∷ []) (m + 0)
+alone m some = record {
+  cells = replicate m 1 ++ [];
+  long = longer m 1 [];
+  are = blacks 0 m [] ∙ one_run (0 + m) m some (omega arith);
+  small = stays_small m 1 [] (omega arith) none_small;
+}
+
+sized : {clue : List ℕ} {n : ℕ} (m : ℕ) → Fitting clue n → n ≡ m → Fitting clue m
+sized m f e = subst (Fitting _) e f
+
+-- a clue that fits has a filling
+fill : (clue : List ℕ) (n : ℕ) → Positive clue → used clue ≤ n + 1 → Fitting clue n
+fill [] n p fits = sized n (whiter n empty) (omega arith)
+fill (m ∷ []) n p fits = elim (cases_lt m n) [
+  | inl lt ↦ sized n (longer_by m p.0 (fill [] (n - m - 1) p.1 (omega arith))) (omega arith)
+  | inr ge ↦ sized n (alone m p.0) (omega arith)
+]
+fill (m ∷ x ∷ clue) n p fits = sized n (longer_by m p.0 (fill (x ∷ clue) (n - m - 1) p.1 (omega arith))) (omega arith)
+
+placed : {clue : List ℕ} {n k v : ℕ} (m j : ℕ) → Shows clue n k v → n ≡ m → k ≡ j → Shows clue m j v
+placed {clue} {n} {k} {v} m j s n_is k_is = subst (λ i. Shows clue i j v) n_is (subst (λ i. Shows clue n i v) k_is s)
+
+-- each cell is white in some filling
+pub white : (clue : List ℕ) (n k s : ℕ) → Positive clue → AtMost s clue → used clue + s ≤ n + 1 → k < n → Shows clue n k 0
+white [] n k s p most room lt = placed n k (whiter n empty, before n 0 [] k lt) (omega arith) refl
+white (m ∷ clue) n k s p most room lt = elim (cases_lt k m) [
+  | inl low ↦
+      let f : Fitting (m ∷ clue) (n - k - 1) = fill (m ∷ clue) (n - k - 1) p (let z = most.0 in omega arith) in
+      placed n k (whiter (k + 1) f, before (k + 1) 0 f.cells k (omega arith)) (omega arith) refl
+  | inr high ↦ elim (cases_eq k m) [
+    | inl e ↦
+        let f : Fitting clue (n - m - 1) = fill clue (n - m - 1) p.1 (omega arith) in
+        placed n k (longer_by m p.0 f, behind m 1 (0 ∷ f.cells) 0) (omega arith) (omega arith)
+    | inr ne ↦
+        let w = white clue (n - m - 1) (k - m - 1) s p.1 most.1 (omega arith) (omega arith) in
+        placed n k (longer_by m p.0 w.0, behind m 1 (0 ∷ w.0.cells) (suc (k - m - 1)) ∙ w.1) (omega arith) (omega arith)
+  ]
+]
+
+-- and black in some, where there is a run, and one cell more than needed
+in_first : (clue : List ℕ) (m n k : ℕ) → Positive (m ∷ clue) → used (m ∷ clue) ≤ n → k < m → Shows (m ∷ clue) n k 1
+in_first clue m n k p room low =
+    let f : Fitting clue (n - m - 1) = fill clue (n - m - 1) p.1 (omega arith) in
+    placed n k (longer_by m p.0 f, before m 1 (0 ∷ f.cells) k low) (omega arith) refl
+
+pub black : (clue : List ℕ) (m n k : ℕ) → Positive (m ∷ clue) → used (m ∷ clue) ≤ n → k < n → Shows (m ∷ clue) n k 1
+black [] m n k p room lt = elim (cases_lt k m) [
+  | inl low ↦ in_first [] m n k p room low
+  | inr high ↦
+      let more = p.0 in elim (cases_lt (k + 1) n) [
+        | inl short ↦
+            let w = in_first [] m (n - (k + 1 - m)) (m - 1) p (omega arith) (omega arith) in
+            placed n k (whiter (k + 1 - m) w.0, behind (k + 1 - m) 0 w.0.cells (m - 1) ∙ w.1) (omega arith) (omega arith)
+        | inr last ↦
+            placed n k (whiter (k + 1 - m) (alone m p.0), behind (k + 1 - m) 0 (replicate m 1 ++ []) (m - 1) ∙ before m 1 [] (m - 1) (omega arith)) (omega arith) (omega arith)
+      ]
+]
+black (x ∷ clue) m n k p room lt = elim (cases_lt k m) [
+  | inl low ↦ in_first (x ∷ clue) m n k p room low
+  | inr high ↦
+      let more = p.0 in elim (cases_eq k m) [
+        | inl e ↦
+            let next = p.1.0 in
+            let f : Fitting (x ∷ clue) (n - m - 2) = fill (x ∷ clue) (n - m - 2) p.1 (omega arith) in
+            let w = longer_by m p.0 f in
+            placed n k (whiter 1 w, behind 1 0 w.cells (m - 1) ∙ before m 1 (0 ∷ f.cells) (m - 1) (omega arith)) (omega arith) (omega arith)
+        | inr ne ↦
+            let w = black clue x (n - m - 1) (k - m - 1) p.1 (omega arith) (omega arith) in
+            placed n k (longer_by m p.0 w.0, behind m 1 (0 ∷ w.0.cells) (suc (k - m - 1)) ∙ w.1) (omega arith) (omega arith)
+      ]
+]
+
+-- nothing is struck from cells that may be either
+pub nothing_struck : (clue : List ℕ) (sets : List Set) (k v s : ℕ) → Positive clue → 0 < length clue → AtMost s clue → 0 < s → used clue + s ≤ length sets + 1
+    → ((j : ℕ) → j < length sets → (has_value (get_or sets j []) 0 ≡ true) × (has_value (get_or sets j []) 1 ≡ true)) → k < length sets → v < 2
+    → strikes_by_fillings (has_runs clue) sets k v ≡ false
+nothing_struck clue sets k v s p some most one room both lt low = by clue v p some most room low
+  where
+    by_filling : (clue : List ℕ) (v : ℕ) → Shows clue (length sets) k v → strikes_by_fillings (has_runs clue) sets k v ≡ false
+    by_filling clue v (f, shown) = test_from_shown (has_runs clue) sets k v (
+      f.cells,
+      record {
+        fills = record { len = f.long; each = λ j inside. either (get_or f.cells j 0) (f.small j) (get_or sets j []) (both j inside) };
+        holds_true = has_runs-from clue f.cells f.are;
+        has_it = shown;
+      },
+    )
+      where
+        either : (u : ℕ) → u < 2 → (set : Set) → (has_value set 0 ≡ true) × (has_value set 1 ≡ true) → has_value set u ≡ true
+        either zero small set both = both.0
+        either (suc zero) small set both = both.1
+        either (suc (suc u)) small set both = absurd (omega arith)
+
+    by : (clue : List ℕ) (v : ℕ) → Positive clue → 0 < length clue → AtMost s clue → used clue + s ≤ length sets + 1 → v < 2 → strikes_by_fillings (has_runs clue) sets k v ≡ false
+    by clue zero p some most room low = by_filling clue 0 (white clue (length sets) k s p most room lt)
+    by [] (suc zero) p some most room low = absurd (omega arith)
+    by (m ∷ clue) (suc zero) p some most room low = by_filling (m ∷ clue) 1 (black clue m (length sets) k p (omega arith) lt)
+    by clue (suc (suc v)) p some most room low = absurd (omega arith)
