@@ -10,6 +10,9 @@ pub mod StartLemmas
 pub mod AnyLemmas
 pub mod SinglesLemmas
 mod PeelLemmas
+mod AloneLemmas
+mod TurningLemmas
+mod QuickLemmas
 mod MateLemmas
 mod HouseLemmas
 mod DecidingLemmas

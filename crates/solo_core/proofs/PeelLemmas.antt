@@ -1,31 +1,18 @@
 -- Striking the value of a cell that has one alone from the other cells takes no filling away.
-use Rattle.std.proofs.Common.{◌≡◌, ℕ, ◌-◌, ◌<◌, ◌^◌, Bool, true, false, not, ◌&&◌, ◌||◌, eqb, bit_and, w32, List, map, length, slice_index, refl, sym, ap, ◌∙◌, inl, inr, arith}
-use Rattle.std.specs.Int.{bit_at, bit_not}
-use Rattle.std.proofs.lemmas.Bool.{cases_eq, cases_lt, and_parts, and_from, eq-eqb, ne_eqb, eqb-true, or_cases, true≢false, false_from_ne_true}
-use Rattle.std.proofs.lemmas.Nat.Bits.{bit_at_not, bit_at_above, bit_at-lt}
+use Rattle.std.proofs.Common.{◌≡◌, ℕ, ◌+◌, ◌<◌, ◌≤◌, ◌⊎◌, Bool, true, false, not, ◌&&◌, ◌||◌, eqb, List, map, length, slice_index, refl, sym, ap, ◌∙◌, inl, inr, arith}
+use Rattle.std.proofs.lemmas.Bool.{cases_Bool, cases_eq, cases_lt, and_from, eq-eqb, eqb-true, or_cases, or_left, or_right, true≢false, false_from_ne_true}
 use Rattle.engine_core.specs.Filling.{strikes_by_fillings}
 use Rattle.engine_core.specs.FillingLaws.{shown_from_test}
 use Rattle.engine_core.specs.House.{IsDecided}
 use Rattle.engine_core.specs.Sets.{has_bit, set_of_bits}
-use Rattle.engine_core.proofs.BitLemmas.{bits-both, bits-of_zero}
+use Rattle.engine_core.proofs.BitLemmas.{bits-of_zero}
 use Rattle.grid_core.specs.Pairings.{IsPairing}
 use Rattle.solo_core.specs.Deciding.{has_in, is_struck}
 use Rattle.solo_core.specs.NoRepeat.{no_repeat}
-use Rattle.solo_core.specs.Peeled.{IsPeeled, IsAlone, AreAlone}
+use Rattle.solo_core.specs.Peeled.{IsPeeled, IsAlone, AreAlone, AreCounts, IsSingleSet, IsDropped}
 use Rattle.solo_core.proofs.PairedFillings.{shown_by_pairing, pairing_of_filling}
-
--- ---- the bits of one number without those of another
-flipped : (n : ℕ) → n < 2 → eqb (1 - n) 1 ≡ not (eqb n 1)
-flipped n lt = elim (cases_eq n 0) [
-  | inl e ↦ rw e refl
-  | inr ne ↦ let e : n ≡ 1 = omega arith in rw e refl
-]
-
-pub bits-without : (bits gone v : ℕ) → bits < 2 ^ 32 → gone < 2 ^ 32 → has_bit (bit_and bits (bit_not w32 gone)) v ≡ (has_bit bits v && not (has_bit gone v))
-bits-without bits gone v small low = bits-both bits (bit_not w32 gone) v ∙ elim (cases_lt v 32) [
-  | inl inside ↦ ap (λ b. has_bit bits v && b) (ap (λ n. eqb n 1) (bit_at_not w32 gone v low inside) ∙ flipped (bit_at gone v) (bit_at-lt gone v))
-  | inr outside ↦ let none : has_bit bits v ≡ false = ap (λ n. eqb n 1) (bit_at_above bits 32 v small outside) in rw none refl
-]
+use Rattle.solo_core.proofs.Turned.{none_missed}
+use Rattle.solo_core.proofs.Marks.{none_in_zero}
 
 pub and_true : (b : Bool) → b ≡ (b && true)
 and_true true = refl
@@ -63,66 +50,106 @@ peeled-more n first second third a b = record {
 pub alone-none : (n : ℕ) (sets : List ℕ) → AreAlone n sets 0
 alone-none n sets k lk on = absurd (true≢false (sym on ∙ bits-of_zero k))
 
--- one cell's value is struck from the others
-module _ (n : ℕ) (old new : List ℕ) (cell value : ℕ) (cell_in : cell < length old) (value_in : value < n) (single : (v : ℕ) → has_in old cell v ≡ eqb v value)
-    (as_many : length new ≡ length old) (bits : (k v : ℕ) → k < length old → has_in new k v ≡ (has_in old k v && (eqb k cell || not (has_in old cell v)))) where
-  inside : (k v : ℕ) → k < length old → has_in new k v ≡ true → has_in old k v ≡ true
-  inside k v lk on = (and_parts (has_in old k v) (eqb k cell || not (has_in old cell v)) (sym (bits k v lk) ∙ on)).0
+-- ---- counts
+pub counts-none : (sets : List ℕ) (some single shared : ℕ) → (some ≡ 0) × (single ≡ 0) × (shared ≡ 0) → AreCounts sets 0 some single shared
+counts-none sets some single shared (a, b, c) = record {
+  has = λ j v lj on. absurd (omega arith);
+  singles = λ v on. absurd (none_in_zero v (rw b at on));
+  shares = λ j k v lt lk on_j on_k. absurd (omega arith);
+}
 
-  own : (v : ℕ) → has_in new cell v ≡ eqb v value
-  own v = bits cell v cell_in ∙ rw (eq-eqb cell cell refl) (sym (and_true (has_in old cell v))) ∙ single v
+-- the counts of the first cells are the same in a list with the same first cells
+pub counts-same : (sets new : List ℕ) (first some single shared : ℕ) → AreCounts sets first some single shared → ((j : ℕ) → j < first → slice_index new j ≡ slice_index sets j)
+    → AreCounts new first some single shared
+counts-same sets new first some single shared c same = record {
+  has = λ j v lj on. c.has j v lj (ap (λ (b : ℕ). has_bit b v) (sym (same j lj)) ∙ on);
+  singles = λ v on. let w = c.singles v on in (w.0, w.1, λ u. ap (λ (b : ℕ). has_bit b u) (same w.0 w.1) ∙ w.2 u);
+  shares = λ j k v lt lk on_j on_k. c.shares j k v lt lk
+      (ap (λ (b : ℕ). has_bit b v) (sym (same j (omega arith))) ∙ on_j) (ap (λ (b : ℕ). has_bit b v) (sym (same k lk)) ∙ on_k);
+}
 
-  -- another cell keeps any other value
-  other : (k v : ℕ) → k < length old → (k ≡ cell → ⊥) → has_in new k v ≡ (has_in old k v && not (eqb v value))
-  other k v lk ne = bits k v lk ∙ rw (ne_eqb k cell ne, single v) refl
+pub counts-more : (sets : List ℕ) (first some single shared some' single' shared' : ℕ) → AreCounts sets first some single shared
+    → ((v : ℕ) → has_bit some' v ≡ (has_bit some v || has_in sets first v))
+    → ((v : ℕ) → has_bit single' v ≡ true → (has_bit single v ≡ true) ⊎ IsSingleSet (slice_index sets first) v)
+    → ((v : ℕ) → has_bit shared' v ≡ (has_bit shared v || (has_bit some v && has_in sets first v)))
+    → AreCounts sets (first + 1) some' single' shared'
+counts-more sets first some single shared some' single' shared' c a b d = record {
+  has = λ j v lj on. a v ∙ elim (cases_eq j first) [
+    | inl e ↦ or_right (has_bit some v) (has_in sets first v) (ap (λ (j : ℕ). has_in sets j v) (sym e) ∙ on)
+    | inr ne ↦ or_left (has_bit some v) (has_in sets first v) (c.has j v (omega arith) on)
+  ];
+  singles = λ v on. elim (b v on) [
+    | inl was ↦ let w = c.singles v was in (w.0, omega (arith, w.1), w.2)
+    | inr new ↦ (first, omega arith, new)
+  ];
+  shares = λ j k v lt lk on_j on_k. d v ∙ elim (cases_eq k first) [
+    | inl e ↦ or_right (has_bit shared v) (has_bit some v && has_in sets first v)
+        (and_from (has_bit some v) (has_in sets first v) (c.has j v (omega arith) on_j) (ap (λ (j : ℕ). has_in sets j v) (sym e) ∙ on_k))
+    | inr ne ↦ or_left (has_bit shared v) (has_bit some v && has_in sets first v) (c.shares j k v lt (omega arith) on_j on_k)
+  ];
+}
 
-  pub peeled-step : IsPeeled n old new
-  peeled-step = record {
+-- what is dropped, no pairing has: each value has a cell, and a cell with one value alone has it
+module _ (n : ℕ) (old : List ℕ) (square : length old ≡ n) (some single shared : ℕ) (c : AreCounts old (length old) some single shared) where
+  shares : (j k v : ℕ) → j < length old → k < length old → (j ≡ k → ⊥) → has_in old j v ≡ true → has_in old k v ≡ true → has_bit shared v ≡ true
+  shares j k v lj lk ne on_j on_k = elim (cases_lt j k) [
+    | inl low ↦ c.shares j k v low lk on_j on_k
+    | inr high ↦ c.shares k j v (by high) lj on_k on_j
+  ]
+    where
+      by : k ≤ j → k < j
+      by high = elim (cases_eq j k) [
+        | inl e ↦ absurd (ne e)
+        | inr apart ↦ omega arith
+      ]
+
+  not_dropped : (mates : List ℕ) → IsPairing (has_in old) (length old) n mates → (k : ℕ) → k < length old
+      → IsDropped n single shared (slice_index old k) (slice_index mates k) → ⊥
+  not_dropped mates p k lk (w, lw, has, ne, inl lone) =
+      none_missed n (slice_index mates) (λ x lx. p.in_range x (omega arith)) (λ x y lx ly same. p.own x y (omega arith) (omega arith) same) w lw (λ x lx is. elim (cases_eq x k) [
+        | inl e ↦ ne (sym is ∙ ap (slice_index mates) e)
+        | inr nk ↦ true≢false (sym (shares x k w (omega arith) lk nk (sym (ap (has_in old x) is) ∙ p.joined x (omega arith)) has) ∙ lone)
+      ])
+  not_dropped mates p k lk (w, lw, has, ne, inr on) =
+      let j = c.singles (slice_index mates k) on in
+      elim (cases_eq j.0 k) [
+        | inl e ↦ ne (eqb-true w (slice_index mates k) (sym (j.2 w) ∙ ap (λ i. has_in old i w) e ∙ has))
+        | inr nj ↦ nj (p.own j.0 k j.1 lk (eqb-true (slice_index mates j.0) (slice_index mates k) (sym (j.2 (slice_index mates j.0)) ∙ p.joined j.0 j.1)))
+      ]
+
+  pub peeled-step : (new : List ℕ) → length new ≡ length old
+      → ((k v : ℕ) → k < length old → has_in new k v ≡ true → has_in old k v ≡ true)
+      → ((k v : ℕ) → k < length old → v < n → has_in old k v ≡ true → has_in new k v ≡ false → IsDropped n single shared (slice_index old k) v)
+      → IsPeeled n old new
+  peeled-step new as_many inside dropped = record {
     as_many = as_many;
     inside = inside;
-    keeps = λ mates p k lk. elim (cases_eq k cell) [
-      | inl same ↦ rw (sym same) at (own (slice_index mates cell) ∙ sym (single (slice_index mates cell)) ∙ p.joined cell cell_in)
-      | inr ne ↦ other k (slice_index mates k) lk ne ∙ and_from (has_in old k (slice_index mates k)) (not (eqb (slice_index mates k) value)) (p.joined k lk)
-          (ap not (ne_eqb (slice_index mates k) value (λ taken.
-          ne (p.own k cell lk cell_in (taken ∙ sym (eqb-true (slice_index mates cell) value (sym (single (slice_index mates cell)) ∙ p.joined cell cell_in)))))))
+    keeps = λ mates p k lk. elim (cases_Bool (has_in new k (slice_index mates k))) [
+      | inl on ↦ on
+      | inr off ↦ absurd (not_dropped mates p k lk (dropped k (slice_index mates k) lk (p.in_range k lk) (p.joined k lk) off))
     ];
   }
 
-  -- no other cell has the value
-  no_other : (k : ℕ) → k < length new → (k ≡ cell → ⊥) → has_in new k value ≡ false
-  no_other k lk ne = other k value (omega (arith, as_many)) ne ∙ rw (eq-eqb value value refl) (none (has_in old k value))
-    where
-      none : (b : Bool) → (b && false) ≡ false
-      none true = refl
-      none false = refl
+  -- a cell with a value that some cell has alone, and that no two have
+  pub alone-lone : (k v : ℕ) → k < length old → v < n → has_in old k v ≡ true → has_bit single v ≡ true → has_bit shared v ≡ false → IsAlone n old k
+  alone-lone k v lk lv has on off =
+      let j = c.singles v on in
+      record {
+        value = v;
+        value_in = lv;
+        has = has;
+        only = λ w there. elim (cases_eq j.0 k) [
+          | inl e ↦ eqb-true w v (sym (j.2 w) ∙ ap (λ i. has_in old i w) e ∙ there)
+          | inr nj ↦ absurd (true≢false (sym (shares j.0 k v j.1 lk nj (j.2 v ∙ eq-eqb v v refl) has) ∙ off))
+        ];
+        apart = λ m lm ne. false_from_ne_true (has_in old m v) (λ there. true≢false (sym (shares m k v lm lk ne there has) ∙ off));
+      }
 
-  alone-new : IsAlone n new cell
-  alone-new = record {
-    value = value;
-    value_in = value_in;
-    has = own value ∙ eq-eqb value value refl;
-    only = λ v on. eqb-true v value (sym (own v) ∙ on);
-    apart = no_other;
-  }
-
-  alone-old : (k : ℕ) → k < length old → (k ≡ cell → ⊥) → IsAlone n old k → IsAlone n new k
-  alone-old k lk ne a = record {
-    value = a.value;
-    value_in = a.value_in;
-    has = other k a.value lk ne ∙ and_from (has_in old k a.value) (not (eqb a.value value)) a.has
-        (ap not (sym (single a.value) ∙ a.apart cell cell_in (λ e. ne (sym e))));
-    only = λ v on. a.only v (inside k v lk on);
-    apart = λ j lj apart. false_from_ne_true (has_in new j a.value) (λ on. true≢false (sym (inside j a.value (omega (arith, as_many)) on) ∙ a.apart j (omega (arith, as_many)) apart));
-  }
-
-  pub alone-step : (cells more : ℕ) → AreAlone n old cells → ((k : ℕ) → has_bit more k ≡ (has_bit cells k || eqb k cell)) → AreAlone n new more
-  alone-step cells more alone bit k lk on = elim (cases_eq k cell) [
-    | inl same ↦ rw (sym same) at alone-new
-    | inr ne ↦ elim (or_cases (has_bit cells k) (eqb k cell) (sym (bit k) ∙ on)) [
-      | inl was ↦ alone-old k (omega (arith, as_many)) ne (alone k (omega (arith, as_many)) was)
-      | inr here ↦ absurd (ne (eqb-true k cell here))
-    ]
-  ]
+pub alone-more : (n : ℕ) (sets : List ℕ) (cells more cell : ℕ) → AreAlone n sets cells → IsAlone n sets cell → ((k : ℕ) → has_bit more k ≡ (has_bit cells k || eqb k cell)) → AreAlone n sets more
+alone-more n sets cells more cell alone a bit k lk on = elim (or_cases (has_bit cells k) (eqb k cell) (sym (bit k) ∙ on)) [
+  | inl was ↦ alone k lk was
+  | inr here ↦ rw (sym (eqb-true k cell here)) at a
+]
 
 -- ---- what is decided of the peeled sets is decided of the sets
 pub decided_by_peeled : (n : ℕ) (sets peeled kept : List ℕ) → IsPeeled n sets peeled → IsDecided n (strikes_by_fillings no_repeat) peeled kept

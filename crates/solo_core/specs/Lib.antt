@@ -20,4 +20,6 @@ pub mod Bits
 pub mod Deciding
 pub mod Ways
 pub mod Peeled
+pub mod Turning
+pub mod Quick
 pub mod Work

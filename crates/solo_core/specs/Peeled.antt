@@ -1,6 +1,6 @@
 -- What may be struck from a house before its cells are paired with values: the value of a cell that has one alone, from
--- the other cells.
-use Rattle.std.specs.Prelude.{◌≡◌, ℕ, ◌<◌, ◌&&◌, ◌||◌, ◌==◌, Bool, true, false, not, List, length, slice_index}
+-- the other cells; and the other values of a cell that is the only one with some value.
+use Rattle.std.specs.Prelude.{◌≡◌, ℕ, ◌<◌, ◌&&◌, ◌==◌, ◌⊎◌, Bool, true, false, not, List, length, slice_index}
 use Rattle.std.specs.List.{range_with_len, filter}
 use Rattle.grid_core.specs.Pairings.{IsPairing, IsShortSet}
 use Rattle.engine_core.specs.Sets.{has_bit}
@@ -67,7 +67,20 @@ abbrev pub KeepsReaching : ℕ → List ℕ → List ℕ → List ℕ → List �
 KeepsReaching n mates reach old new = (k v : ℕ) → k < length old → v < n
     → has_in new k v ≡ (has_in old k v && has_in reach v (slice_index mates k))
 
--- the values of the set are struck from every cell but this one
-abbrev pub StrikesOthers : ℕ → ℕ → List ℕ → List ℕ → Type 0
-StrikesOthers cell set old new = (k v : ℕ) → k < length old
-    → has_in new k v ≡ (has_in old k v && ((k == cell) || not (has_bit set v)))
+-- the set has the value and no other
+abbrev pub IsSingleSet : ℕ → ℕ → Type 0
+IsSingleSet set value = (w : ℕ) → has_bit set w ≡ (w == value)
+
+-- of the first cells: the values that some have, only such that some have alone, and all that two have
+pub record AreCounts (sets : List ℕ) (first some single shared : ℕ) : Type 0 where
+  pub has : (j v : ℕ) → j < first → has_in sets j v ≡ true → has_bit some v ≡ true
+  pub singles : (v : ℕ) → has_bit single v ≡ true
+      → (k : ℕ) × (k < first) × IsSingleSet (slice_index sets k) v
+  pub shares : (j k v : ℕ) → j < k → k < first → has_in sets j v ≡ true → has_in sets k v ≡ true
+      → has_bit shared v ≡ true
+
+-- the set has another value, and no other set has that one, or some set has this one alone
+abbrev pub IsDropped : ℕ → ℕ → ℕ → ℕ → ℕ → Type 0
+IsDropped n single shared set v =
+    (w : ℕ) × (w < n) × (has_bit set w ≡ true) × (w ≡ v → ⊥)
+    × ((has_bit shared w ≡ false) ⊎ (has_bit single v ≡ true))

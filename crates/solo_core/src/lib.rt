@@ -13,6 +13,7 @@ mod laws;
 mod mates;
 mod peel;
 mod places;
+mod quick;
 mod reach;
 mod rooms;
 mod rules;
@@ -21,6 +22,7 @@ mod solo_house;
 mod solo_scope;
 mod start;
 mod strikes;
+mod turning;
 
 pub use check::check_solo;
 pub use fault::SoloFault;

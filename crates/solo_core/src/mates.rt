@@ -9,6 +9,7 @@ ghost use Rattle.solo_core.specs.Peeled.{IsRest, IsPaired, IsShort, HasMate, Got
 
 use crate::bits::next_bit;
 use crate::joined::Joined;
+use crate::quick::pair_quickly;
 use arrayvec::ArrayVec;
 use engine_core::has_bit;
 use grid_core::{Paired, Pairing};
@@ -33,35 +34,56 @@ pub(crate) fn rest_of(len: usize, alone: u32) -> ArrayVec<u8, MANY>
 }
 
 /// Pairs these cells with values.
-pub(crate) fn pair_rest(values: u8, sets: &[u32], rest: &[u8], pairing: &mut Pairing) -> Paired
+pub(crate) fn pair_rest(
+    values: u8,
+    sets: &[u32],
+    rest: &[u8],
+    pairing: &mut Pairing,
+    paired: &mut [u8],
+) -> Paired
     requires few { values ≤ 31 }
     requires rest_in { (i : ℕ) → i < length rest.now → slice_index rest.now i < length sets.now }
     requires lefts { length rest.now ≤ pairing.old.room }
     requires rights { values ≤ pairing.old.room }
+    requires paired_room { length paired.old ≡ length rest.now }
     ensures room { pairing.new.room ≡ pairing.old.room }
-    ensures all { result ≡ Paired.All → IsPaired values sets.now rest.now pairing.new.mates }
+    ensures all { result ≡ Paired.All → IsPaired values sets.now rest.now paired.new }
     ensures short { result ≡ Paired.Short → IsShort values sets.now rest.now pairing.new.short }
 {
     let joined = Joined { sets, rest, values };
-    pairing.run(&joined)
+    if pair_quickly(&joined, paired) {
+        return Paired::All;
+    }
+    let found = pairing.run(&joined);
+    if let Paired::All = found {
+        copy_mates(values, pairing, paired);
+    }
+    found
+}
+
+/// Writes the mates of a pairing.
+fn copy_mates(values: u8, pairing: &Pairing, paired: &mut [u8])
+    requires as_many { length pairing.now.mates ≡ length paired.old }
+    requires small { (i : ℕ) → i < length paired.old → slice_index pairing.now.mates i < values }
+    ensures as_many { length paired.new ≡ length paired.old }
+    ensures same { (i : ℕ) → i < length paired.old
+        → slice_index paired.new i ≡ slice_index pairing.now.mates i }
+{
+    for i in 0..paired.len() {
+        paired[i] = pairing.mate(i) as u8;
+    }
 }
 
 /// Writes for each cell its value: its own, where it is alone, and else the one that it is paired with.
-pub(crate) fn write_mates(
-    values: u8,
-    sets: &[u32],
-    rest: &[u8],
-    pairing: &Pairing,
-    mates: &mut [u8],
-)
+pub(crate) fn write_mates(values: u8, sets: &[u32], rest: &[u8], paired: &[u8], mates: &mut [u8])
     requires few { values ≤ 31 }
     requires as_many { length mates.old ≡ length sets.now }
     requires alone { IsRest values sets.now rest.now }
-    requires paired { IsPaired values sets.now rest.now pairing.now.mates }
+    requires paired { IsPaired values sets.now rest.now paired.now }
     ensures { IsPairing (has_in sets.now) (length sets.now) values mates.new }
 {
     write_own(values, sets, mates);
-    write_rest(values, rest, pairing, mates);
+    write_rest(rest, paired, mates);
 }
 
 /// Writes for each cell the least value of its set.
@@ -88,17 +110,15 @@ fn lowest(values: u8, set: u32) -> u8
 }
 
 /// Writes for each of these cells the value that it is paired with.
-fn write_rest(values: u8, rest: &[u8], pairing: &Pairing, mates: &mut [u8])
-    requires few { values ≤ 31 }
+fn write_rest(rest: &[u8], paired: &[u8], mates: &mut [u8])
     requires rest_in { (i : ℕ) → i < length rest.now → slice_index rest.now i < length mates.old }
     requires different { AreDifferent rest.now }
-    requires as_many { length pairing.now.mates ≡ length rest.now }
-    requires small { (i : ℕ) → i < length rest.now → slice_index pairing.now.mates i < values }
+    requires as_many { length paired.now ≡ length rest.now }
     ensures as_many { length mates.new ≡ length mates.old }
-    ensures paired { GotMates rest.now pairing.now.mates mates.new }
+    ensures paired { GotMates rest.now paired.now mates.new }
     ensures others { KeepMates rest.now mates.old mates.new }
 {
     for i in 0..rest.len() {
-        mates[usize::from(rest[i])] = pairing.mate(i) as u8;
+        mates[usize::from(rest[i])] = paired[i];
     }
 }

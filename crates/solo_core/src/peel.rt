@@ -1,90 +1,131 @@
-//! What a visit strikes before it pairs: the value of each cell that has one alone, from the other cells.
+//! What a visit strikes before it pairs: by cells that have one value alone, and by values that one cell has alone.
 
-ghost use Rattle.std.specs.Prelude.{◌≡◌, ℕ, ◌<◌, ◌≤◌, ◌&&◌, ◌||◌, ◌==◌, true, not, length, slice_index};
+ghost use Rattle.std.specs.Prelude.{◌≡◌, ℕ, ◌<◌, ◌≤◌, ◌&&◌, ◌||◌, ◌⊎◌, true, false, length};
 ghost use Rattle.engine_core.specs.Sets.{has_bit as is_set};
-ghost use Rattle.solo_core.specs.Peeled.{IsPeeled, AreAlone, StrikesOthers};
+ghost use Rattle.solo_core.specs.Peeled.{IsPeeled, AreAlone, AreCounts, IsSingleSet, IsDropped};
 
-use crate::bits::{is_alone, next_bit, with_bit};
-use engine_core::has_bit;
+use crate::bits::{all_below, has_any, single_of, with_bit, without};
 
-/// Strikes the value of each cell that has one alone from the other cells, as long as that leaves another cell with one
-/// alone, and tells by bits which cells these are. Every filling without repeat stays.
+/// The values that some cell has, those that some cell has alone, and those that several cells have.
+#[derive(Clone, Copy)]
+struct Counts {
+    some: u32,
+    single: u32,
+    shared: u32,
+}
+
+/// Strikes the value of a cell that has one alone from the other cells, and the other values of a cell that is the only
+/// one with some value, until there is no such cell. Tells by bits which cells then have a value alone that no
+/// other cell has. Every filling without repeat stays.
 pub(crate) fn peel(values: u8, sets: &mut [u32]) -> u32
     requires few { values ≤ 31 }
     requires square { length sets.old ≡ values }
     ensures peeled { IsPeeled values sets.old sets.new }
     ensures alone { AreAlone values sets.new result }
 {
-    let mut alone = 0u32;
+    let mut counts = count(sets);
     for _turn in 0..sets.len() {
-        let found = peel_all(values, sets, alone);
-        if found == alone {
-            return found;
+        if counts.are_settled() {
+            break;
         }
-        alone = found;
+        let narrowed = narrow_all(values, counts, sets);
+        if narrowed.single == counts.single && narrowed.shared == counts.shared {
+            return alone_cells(values, narrowed, sets);
+        }
+        counts = narrowed;
+    }
+    alone_cells(values, counts, sets)
+}
+
+/// The counts of no cells.
+fn no_counts() -> Counts
+    ensures { (result.some ≡ 0) × (result.single ≡ 0) × (result.shared ≡ 0) }
+{
+    Counts {
+        some: 0,
+        single: 0,
+        shared: 0,
+    }
+}
+
+impl Counts {
+    /// Whether no cell has alone what others have too, and no cell with several values has one that no other cell has.
+    fn are_settled(self) -> bool {
+        self.single & self.shared == 0 && self.some & !self.shared & !self.single == 0
+    }
+
+    /// The counts with one more cell.
+    fn with(self, set: u32) -> Counts
+        ensures some { (v : ℕ) → is_set result.some v ≡ (is_set self.some v || is_set set v) }
+        ensures single { (v : ℕ) → is_set result.single v ≡ true
+            → (is_set self.single v ≡ true) ⊎ IsSingleSet set v }
+        ensures shared { (v : ℕ) → is_set result.shared v
+            ≡ (is_set self.shared v || (is_set self.some v && is_set set v)) }
+    {
+        Counts {
+            some: self.some | set,
+            single: self.single | single_of(set),
+            shared: self.shared | (self.some & set),
+        }
+    }
+}
+
+/// Counts the cells that have each value.
+fn count(sets: &[u32]) -> Counts
+    ensures { AreCounts sets.now (length sets.now) result.some result.single result.shared }
+{
+    let mut counts = no_counts();
+    for k in 0..sets.len() {
+        counts = counts.with(sets[k]);
+    }
+    counts
+}
+
+/// Strikes from each set what the counts say, and counts again.
+fn narrow_all(values: u8, counts: Counts, sets: &mut [u32]) -> Counts
+    requires few { values ≤ 31 }
+    requires square { length sets.old ≡ values }
+    requires counts { AreCounts sets.old (length sets.old) counts.some counts.single counts.shared }
+    ensures peeled { IsPeeled values sets.old sets.new }
+    ensures counts { AreCounts sets.new (length sets.new) result.some result.single result.shared }
+{
+    let mut narrowed = no_counts();
+    for k in 0..sets.len() {
+        let set = narrow(values, counts, sets[k]);
+        sets[k] = set;
+        narrowed = narrowed.with(set);
+    }
+    narrowed
+}
+
+/// The values of the set that no other cell has, if it has such; else those that no cell has alone, if it has such.
+fn narrow(values: u8, counts: Counts, set: u32) -> u32
+    requires { values ≤ 31 }
+    ensures inside { (v : ℕ) → is_set result v ≡ true → is_set set v ≡ true }
+    ensures dropped { (v : ℕ) → v < values → is_set set v ≡ true → is_set result v ≡ false
+        → IsDropped values counts.single counts.shared set v }
+{
+    let own = set & without(all_below(values), counts.shared);
+    if has_any(own) {
+        return own;
+    }
+    let open = set & without(all_below(values), counts.single);
+    if has_any(open) { open } else { set }
+}
+
+/// The cells that have a value alone that no other has.
+fn alone_cells(values: u8, counts: Counts, sets: &[u32]) -> u32
+    requires few { values ≤ 31 }
+    requires square { length sets.now ≡ values }
+    requires counts { AreCounts sets.now (length sets.now) counts.some counts.single counts.shared }
+    ensures { AreAlone values sets.now result }
+{
+    let lone = counts.single & without(all_below(values), counts.shared);
+    let mut alone = 0u32;
+    for k in 0..sets.len() {
+        if has_any(sets[k] & lone) {
+            alone = with_bit(alone, k);
+        }
     }
     alone
-}
-
-/// Does so with each cell once.
-fn peel_all(values: u8, sets: &mut [u32], alone: u32) -> u32
-    requires few { values ≤ 31 }
-    requires square { length sets.old ≡ values }
-    requires alone { AreAlone values sets.old alone }
-    ensures peeled { IsPeeled values sets.old sets.new }
-    ensures alone { AreAlone values sets.new result }
-{
-    let mut found = alone;
-    for cell in 0..sets.len() {
-        found = peel_cell(values, sets, cell, found);
-    }
-    found
-}
-
-/// Does so with one cell.
-fn peel_cell(values: u8, sets: &mut [u32], cell: usize, alone: u32) -> u32
-    requires few { values ≤ 31 }
-    requires square { length sets.old ≡ values }
-    requires cell_in { cell < length sets.old }
-    requires alone { AreAlone values sets.old alone }
-    ensures peeled { IsPeeled values sets.old sets.new }
-    ensures alone { AreAlone values sets.new result }
-{
-    let set = sets[cell];
-    if has_bit(alone, cell as u8) {
-        return alone;
-    }
-    if !is_single(values, set) {
-        return alone;
-    }
-    strike_others(sets, cell, set);
-    with_bit(alone, cell)
-}
-
-/// Whether the set has one value alone.
-fn is_single(values: u8, set: u32) -> bool
-    requires { values ≤ 31 }
-    ensures { result ≡ true → (v : ℕ) × (v < values) × ((w : ℕ) → is_set set w ≡ (w == v)) }
-{
-    match next_bit(set, 0, usize::from(values)) {
-        None => false,
-        Some(value) => is_alone(set, value as u8),
-    }
-}
-
-/// Strikes the values of the set from every cell but this one.
-fn strike_others(sets: &mut [u32], cell: usize, set: u32)
-    ensures as_many { length sets.new ≡ length sets.old }
-    ensures bits { StrikesOthers cell set sets.old sets.new }
-{
-    for other in 0..sets.len() {
-        sets[other] = without_unless(sets[other], set, other == cell);
-    }
-}
-
-/// The bits without those of `gone`, unless they are to be kept.
-fn without_unless(bits: u32, gone: u32, keep: bool) -> u32
-    ensures { (v : ℕ) → is_set result v ≡ (is_set bits v && (keep || not (is_set gone v))) }
-{
-    if keep { bits } else { bits & !gone }
 }

@@ -186,6 +186,17 @@ impl<S: Strikes> Rules for SoloRules<S> {
         self.strike(house, board, sets, kept, &mut scratch.work)
     }
 
+    fn keep(
+        &self,
+        house: usize,
+        sets: &[u32],
+        kept: &mut [u32],
+        scratch: &mut SoloWork<S::Work>,
+    ) -> bool {
+        S::keep(&self.puzzle, house, sets, kept, &mut scratch.work);
+        true
+    }
+
     fn follow(&self, _board: &Board, _scratch: &mut SoloWork<S::Work>) {}
 
     fn change(&self, _place: usize, _before: u32, _after: u32, _scratch: &mut SoloWork<S::Work>) {}

@@ -1,15 +1,13 @@
-use Rattle.std.proofs.Common.{refl, ◌∙◌, ap, length, arith}
-use Rattle.solo_core.proofs.Turned.{decided_by_none}
-use Rattle.solo_core.proofs.MateLemmas.{rest-within, no_pairing}
+use Rattle.std.proofs.Common.{ℕ, ◌∙◌, ap, length, arith}
+use Rattle.engine_core.specs.Sets.{has_bit}
+use Rattle.solo_core.proofs.AloneLemmas.{decided_alone}
 use Rattle.solo_core.proofs.keep_houses.keep_peeled.Goals as goal
 
-pub pair_rest-requires-clause-rest_in : goal.pair_rest-requires-clause-rest_in
-pair_rest-requires-clause-rest_in c = rest-within (length c.args.kept.now) c.args.alone c.deref.result.now (c.deref.ensures.0 ∙ c.rest_of-rest.ensures.rest)
+pub returns-then-alone-all_below-clause-decided : goal.returns-then-alone-all_below-clause-decided
+returns-then-alone-all_below-clause-decided c = decided_alone c.args.values c.args.kept.now c.args.alone c.requires.alone (λ k lk. ap (λ (b : ℕ). has_bit b k) c.if-alone-all_below.true ∙ c.all_below.ensures.all k (omega (arith, c.requires.square)))
 
-pub pair_rest-requires-clause-lefts : goal.pair_rest-requires-clause-lefts
-pair_rest-requires-clause-lefts c = omega (arith, ap length c.deref.ensures.0, c.rest_of-rest.ensures.few, c.requires.square, c.requires.room)
+pub keep_rest-requires-clause-alone : goal.keep_rest-requires-clause-alone
+keep_rest-requires-clause-alone c = (c.args.alone, c.deref.ensures.0 ∙ c.rest_of-rest.ensures.rest, c.requires.alone)
 
-pub returns-in-Short-clause-decided : goal.returns-in-Short-clause-decided
-returns-in-Short-clause-decided c = decided_by_none c.args.values c.args.kept.now _
-    (λ mates p. no_pairing c.args.values c.args.alone c.args.kept.now c.deref.result.now _ mates (c.deref.ensures.0 ∙ c.rest_of-rest.ensures.rest) (c.in-Short.ensures.short refl) p)
-    c.clear.ensures.as_many c.clear.ensures.none
+pub keep_rest-requires-clause-rest_few : goal.keep_rest-requires-clause-rest_few
+keep_rest-requires-clause-rest_few c = omega (arith, ap length c.deref.ensures.0, c.rest_of-rest.ensures.few, c.requires.square)

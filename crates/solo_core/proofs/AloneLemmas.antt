@@ -1,0 +1,124 @@
+-- A house whose cells are alone, but for some that have a choice of different values.
+use Rattle.std.proofs.Common.{◌≡◌, ℕ, zero, suc, ◌<◌, Bool, true, false, not, ◌&&◌, cond, List, length, slice_index, map, refl, sym, ap, ◌∙◌, inl, inr, arith}
+use Rattle.std.specs.List.{range_with_len}
+use Rattle.std.proofs.lemmas.Bool.{cases_Bool, cases_eq, true≢false}
+use Rattle.std.proofs.lemmas.List.FromFn.{get_or-map-range_with_len, length-map-range_with_len}
+use Rattle.engine_core.specs.Filling.{strikes_by_fillings}
+use Rattle.engine_core.specs.House.{IsDecided}
+use Rattle.engine_core.specs.Sets.{has_bit}
+use Rattle.grid_core.specs.Pairings.{IsPairing}
+use Rattle.solo_core.specs.Deciding.{has_in, is_struck}
+use Rattle.solo_core.specs.NoRepeat.{no_repeat}
+use Rattle.solo_core.specs.Peeled.{AreAlone}
+use Rattle.solo_core.proofs.PairedFillings.{shown_by_pairing}
+
+-- where no value is struck, the sets are kept
+pub decided_by_all : (n : ℕ) (sets : List ℕ) → ((k v : ℕ) → k < length sets → v < n → has_in sets k v ≡ true → is_struck n sets k v ≡ false)
+    → IsDecided n (strikes_by_fillings no_repeat) sets sets
+decided_by_all n sets all = record {
+  as_many = refl;
+  bits = λ k v lk lv. by (has_in sets k v) (is_struck n sets k v) (λ on. all k v lk lv on);
+}
+  where
+    by : (b struck : Bool) → (b ≡ true → struck ≡ false) → b ≡ (b && not struck)
+    by true struck shown = rw (shown refl) refl
+    by false struck shown = refl
+
+-- the last number below n that passes
+pub last : ℕ → (ℕ → Bool) → ℕ
+last zero passes = 0
+last (suc n) passes = cond (passes n) n (last n passes)
+
+pub last-passes : (n : ℕ) (passes : ℕ → Bool) (v : ℕ) → v < n → passes v ≡ true → passes (last n passes) ≡ true
+unfolding last
+last-passes zero passes v lt on = absurd (omega arith)
+last-passes (suc n) passes v lt on = by (passes n) refl (λ low. last-passes n passes v low on)
+  where
+    by : (b : Bool) → passes n ≡ b → (v < n → passes (last n passes) ≡ true) → passes (cond b n (last n passes)) ≡ true
+    by true e below = e
+    by false e below = elim (cases_eq v n) [
+      | inl same ↦ absurd (true≢false (sym on ∙ ap passes same ∙ e))
+      | inr ne ↦ below (omega arith)
+    ]
+
+pub last-below : (n : ℕ) (passes : ℕ → Bool) → 0 < n → last n passes < n
+unfolding last
+last-below zero passes some = absurd (omega arith)
+last-below (suc n) passes some = by (passes n) (λ m. last-below n passes m)
+  where
+    above : (n : ℕ) → (n ≡ 0 → ⊥) → 0 < n
+    above zero some = absurd (some refl)
+    above (suc n) some = omega arith
+
+    by : (b : Bool) → (0 < n → last n passes < n) → cond b n (last n passes) < suc n
+    by true below = omega arith
+    by false below = elim (cases_eq n 0) [
+      | inl e ↦ rw e (omega arith)
+      | inr ne ↦ let lt = below (above n ne) in omega arith
+    ]
+
+-- cells that are alone, and others with a choice of different values
+module _ (n : ℕ) (sets : List ℕ) (cells : ℕ) (alone : AreAlone n sets cells) (choice : ℕ → ℕ)
+    (fits : (k : ℕ) → k < length sets → has_bit cells k ≡ false → (choice k < n) × (has_in sets k (choice k) ≡ true))
+    (different : (k m : ℕ) → k < length sets → m < length sets → has_bit cells k ≡ false → has_bit cells m ≡ false → choice k ≡ choice m → k ≡ m) where
+  pub put : ℕ → ℕ
+  put k = cond (has_bit cells k) (last n (has_in sets k)) (choice k)
+
+  pub put-alone : (k v : ℕ) → k < length sets → has_bit cells k ≡ true → has_in sets k v ≡ true → put k ≡ v
+  unfolding put
+  put-alone k v lk on has =
+      let a = alone k lk on in
+      rw on (a.only (last n (has_in sets k)) (last-passes n (has_in sets k) a.value a.value_in a.has) ∙ sym (a.only v has))
+
+  pub put-other : (k : ℕ) → has_bit cells k ≡ false → put k ≡ choice k
+  unfolding put
+  put-other k off = rw off refl
+
+  put-fits : (k : ℕ) → k < length sets → (put k < n) × (has_in sets k (put k) ≡ true)
+  put-fits k lk = elim (cases_Bool (has_bit cells k)) [
+    | inl on ↦ let a = alone k lk on in rw (put-alone k a.value lk on a.has) (a.value_in, a.has)
+    | inr off ↦ rw (put-other k off) (fits k lk off)
+  ]
+
+  apart : (k m : ℕ) → k < length sets → m < length sets → has_bit cells k ≡ true → (m ≡ k → ⊥) → put k ≡ put m → ⊥
+  apart k m lk lm on ne same =
+      let a = alone k lk on in
+      true≢false (sym (put-fits m lm).1 ∙ ap (has_in sets m) (sym same ∙ put-alone k a.value lk on a.has) ∙ a.apart m lm ne)
+
+  pub mates : List ℕ
+  mates = map put (range_with_len 0 (length sets))
+
+  pub mates-at : (k : ℕ) → k < length sets → slice_index mates k ≡ put k
+  unfolding mates
+  mates-at k lk = get_or-map-range_with_len put 0 (length sets) k k 0 lk (omega arith)
+
+  pub pairing : IsPairing (has_in sets) (length sets) n mates
+  unfolding mates
+  pairing = record {
+    len = length-map-range_with_len put 0 (length sets);
+    in_range = λ k lk. rw (mates-at k lk) (put-fits k lk).0;
+    joined = λ k lk. rw (mates-at k lk) (put-fits k lk).1;
+    own = λ k m lk lm same. own k m lk lm (sym (mates-at k lk) ∙ same ∙ mates-at m lm);
+  }
+    where
+      own : (k m : ℕ) → k < length sets → m < length sets → put k ≡ put m → k ≡ m
+      own k m lk lm same = elim (cases_eq k m) [
+        | inl e ↦ e
+        | inr ne ↦ elim (cases_Bool (has_bit cells k)) [
+          | inl on ↦ absurd (apart k m lk lm on (λ e. ne (sym e)) same)
+          | inr off ↦ elim (cases_Bool (has_bit cells m)) [
+            | inl on ↦ absurd (apart m k lm lk on ne (sym same))
+            | inr off_m ↦ different k m lk lm off off_m (sym (put-other k off) ∙ same ∙ put-other m off_m)
+          ]
+        ]
+      ]
+
+  pub shown_by_choice : (k v : ℕ) → k < length sets → put k ≡ v → is_struck n sets k v ≡ false
+  shown_by_choice k v lk is = rw (mates-at k lk ∙ is) at (shown_by_pairing sets n mates pairing k)
+
+-- where all are alone, nothing more is struck
+pub decided_alone : (n : ℕ) (sets : List ℕ) (cells : ℕ) → AreAlone n sets cells → ((k : ℕ) → k < length sets → has_bit cells k ≡ true)
+    → IsDecided n (strikes_by_fillings no_repeat) sets sets
+decided_alone n sets cells alone all = decided_by_all n sets (λ k v lk lv has.
+    shown_by_choice n sets cells alone (λ k. 0) (λ k lk off. absurd (true≢false (sym (all k lk) ∙ off))) (λ k m lk lm off off_m same. absurd (true≢false (sym (all k lk) ∙ off)))
+    k v lk (put-alone n sets cells alone (λ k. 0) (λ k lk off. absurd (true≢false (sym (all k lk) ∙ off))) (λ k m lk lm off off_m same. absurd (true≢false (sym (all k lk) ∙ off))) k v lk (all k lk) has))

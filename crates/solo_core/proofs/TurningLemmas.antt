@@ -1,0 +1,143 @@
+-- Where each value of the paired cells leads to a root and back, each of them can stand in each cell that has it.
+use Rattle.std.proofs.Common.{◌≡◌, ℕ, ◌<◌, ◌⊎◌, Bool, true, false, not, bit_and, ◌&&◌, ◌||◌, eqb, List, [], ◌∷◌, ◌++◌, length, slice_index, refl, sym, ap, ◌∙◌, inl, inr, arith}
+use Rattle.std.proofs.lemmas.Bool.{cases_Bool, and_parts, or_cases, eqb-true, eq-eqb}
+use Rattle.engine_core.specs.Filling.{strikes_by_fillings}
+use Rattle.engine_core.specs.House.{IsDecided}
+use Rattle.engine_core.specs.Sets.{has_bit}
+use Rattle.engine_core.proofs.BitLemmas.{bits-both}
+use Rattle.grid_core.specs.Pairings.{IsPairing}
+use Rattle.solo_core.specs.Deciding.{has_in}
+use Rattle.solo_core.specs.NoRepeat.{no_repeat}
+use Rattle.solo_core.specs.Peeled.{AreAlone, IsPaired, rest_of}
+use Rattle.solo_core.specs.Turning.{LeadsByMates, Leads, ComesAfter, ComesBefore, LiesOnRounds}
+use Rattle.solo_core.specs.Ways.{IsWay}
+use Rattle.solo_core.proofs.AloneLemmas.{decided_by_all, last, last-passes, last-below, put-alone, put-other, shown_by_choice, mates as whole_mates, mates-at, pairing}
+use Rattle.solo_core.proofs.MateLemmas.{rest-has, rest-in, rest-different}
+use Rattle.solo_core.proofs.Turned.{shown_by_way}
+use Rattle.solo_core.proofs.WayLemmas.{way_on}
+use Rattle.solo_core.proofs.Marks.{none_in_zero}
+
+-- ---- steps
+module _ (n : ℕ) (sets rest mates : List ℕ) where
+  pub after-root : (root bits : ℕ) → ((v : ℕ) → has_bit bits v ≡ (has_bit 0 v || eqb v root)) → ComesAfter n sets rest mates root bits
+  unfolding IsWay
+  after-root root bits is v lv on leads f = elim (or_cases (has_bit 0 v) (eqb v root) (sym (is v) ∙ on)) [
+    | inl none ↦ absurd (none_in_zero v none)
+    | inr here ↦ ([], sym (eqb-true v root here))
+  ]
+
+  pub before-root : (root bits : ℕ) → root < n → ((v : ℕ) → has_bit bits v ≡ (has_bit 0 v || eqb v root)) → ComesBefore n sets rest mates root bits
+  unfolding IsWay
+  before-root root bits low is v on = elim (or_cases (has_bit 0 v) (eqb v root) (sym (is v) ∙ on)) [
+    | inl none ↦ absurd (none_in_zero v none)
+    | inr here ↦ let e = eqb-true v root here in (omega (arith, e), λ leads f. ([], e))
+  ]
+
+  module _ (root i : ℕ) (li : i < length rest) (small : slice_index mates i < n) where
+    pub after-step : (after more : ℕ) → ComesAfter n sets rest mates root after
+        → ((v : ℕ) → has_bit more v ≡ (has_bit after v || (has_bit after (slice_index mates i) && has_in sets (slice_index rest i) v)))
+        → ComesAfter n sets rest mates root more
+    unfolding IsWay
+    after-step after more c bits v lv on = elim (or_cases (has_bit after v) (has_bit after (slice_index mates i) && has_in sets (slice_index rest i) v) (sym (bits v) ∙ on)) [
+      | inl was ↦ c v lv was
+      | inr new ↦
+          let both = and_parts (has_bit after (slice_index mates i)) (has_in sets (slice_index rest i) v) new in
+          λ leads f.
+          let w = c (slice_index mates i) small both.0 leads f in
+          (w.0 ++ v ∷ [], way_on leads n root (slice_index mates i) v w.0 (v ∷ []) w.1 (f i v li ∙ both.1, lv, refl))
+    ]
+
+    pub before-step : (before more : ℕ) → ComesBefore n sets rest mates root before
+        → ((v : ℕ) → has_bit more v ≡ true → (has_bit before v ≡ true)
+        ⊎ ((v ≡ slice_index mates i) × ((w : ℕ) × (has_in sets (slice_index rest i) w ≡ true) × (has_bit before w ≡ true))))
+        → ComesBefore n sets rest mates root more
+    unfolding IsWay
+    before-step before more c bits v on = by (bits v on)
+      where
+        by : (has_bit before v ≡ true) ⊎ ((v ≡ slice_index mates i) × ((w : ℕ) × (has_in sets (slice_index rest i) w ≡ true) × (has_bit before w ≡ true)))
+            → (v < n) × Leads n sets rest mates v root
+        by (inl was) = c v was
+        by (inr (e, over)) =
+            (omega (arith, e), λ leads f. let x = (c over.0 over.2).1 leads f in (over.0 ∷ x.0, (ap (λ u. leads u over.0) e ∙ f i over.0 li ∙ over.1, (c over.0 over.2).0, x.1)))
+
+-- a bit of all that is not outside both is in both
+pub in_ends : (all after before : ℕ) (rest : ℕ) (v : ℕ) → has_bit rest v ≡ (has_bit all v && not (has_bit (bit_and after before) v)) → has_bit all v ≡ true → (has_bit rest v ≡ true → ⊥)
+    → (has_bit after v ≡ true) × (has_bit before v ≡ true)
+in_ends all after before rest v is on none = and_parts (has_bit after v) (has_bit before v) (sym (bits-both after before v) ∙ by (has_bit (bit_and after before) v) refl)
+  where
+    by : (b : Bool) → has_bit (bit_and after before) v ≡ b → has_bit (bit_and after before) v ≡ true
+    by true e = e
+    by false e = absurd (none (is ∙ rw (on, e) refl))
+
+-- ---- the house
+module _ (n : ℕ) (sets : List ℕ) (square : length sets ≡ n) (cells : ℕ) (alone : AreAlone n sets cells) (mates : List ℕ) (p : IsPaired n sets (rest_of (length sets) cells) mates) where
+  abbrev rest : List ℕ
+  rest = rest_of (length sets) cells
+
+  -- the place of a cell in the rest
+  at : ℕ → ℕ
+  at k = last (length rest) (λ i. eqb (slice_index rest i) k)
+
+  at-is : (k : ℕ) → k < length sets → has_bit cells k ≡ false → (at k < length rest) × (slice_index rest (at k) ≡ k)
+  unfolding at
+  at-is k lk off =
+      let w = rest-has (length sets) cells k lk off in (
+        last-below (length rest) (λ i. eqb (slice_index rest i) k) (omega (arith, w.1)),
+        eqb-true (slice_index rest (at k)) k (last-passes (length rest) (λ i. eqb (slice_index rest i) k) w.0 w.1 (eq-eqb (slice_index rest w.0) k w.2)),
+      )
+
+  choice : ℕ → ℕ
+  choice k = slice_index mates (at k)
+
+  fits : (k : ℕ) → k < length sets → has_bit cells k ≡ false → (choice k < n) × (has_in sets k (choice k) ≡ true)
+  unfolding choice
+  fits k lk off =
+      let a = at-is k lk off in
+      (p.in_range (at k) a.0, ap (λ (x : ℕ). has_in sets x (slice_index mates (at k))) (sym a.1) ∙ p.joined (at k) a.0)
+
+  different : (k m : ℕ) → k < length sets → m < length sets → has_bit cells k ≡ false → has_bit cells m ≡ false → choice k ≡ choice m → k ≡ m
+  unfolding choice
+  different k m lk lm off off_m same =
+      let a = at-is k lk off in
+      let b = at-is m lm off_m in
+      sym a.1 ∙ ap (slice_index rest) (p.own (at k) (at m) a.0 b.0 same) ∙ b.1
+
+  abbrev whole : List ℕ
+  whole = whole_mates n sets cells alone choice fits different
+
+  whole_pairing : IsPairing (has_in sets) (length sets) n whole
+  whole_pairing = pairing n sets cells alone choice fits different
+
+  leads : ℕ → ℕ → Bool
+  leads u v = has_in sets (last n (λ x. eqb (slice_index whole x) u)) v
+
+  follow : (x v : ℕ) → x < n → leads (slice_index whole x) v ≡ has_in sets x v
+  unfolding leads
+  follow x v lx =
+      let passes : ℕ → Bool = λ y. eqb (slice_index whole y) (slice_index whole x) in
+      let low = last-below n passes (omega arith) in
+      let same = eqb-true (slice_index whole (last n passes)) (slice_index whole x) (last-passes n passes x lx (eq-eqb (slice_index whole x) (slice_index whole x) refl)) in
+      ap (λ (y : ℕ). has_in sets y v) (whole_pairing.own (last n passes) x (omega arith) (omega arith) same)
+
+  whole-at : (k : ℕ) → k < length sets → has_bit cells k ≡ false → slice_index whole k ≡ slice_index mates (at k)
+  unfolding choice
+  whole-at k lk off = mates-at n sets cells alone choice fits different k lk ∙ put-other n sets cells alone choice fits different k off
+
+  by_mates : LeadsByMates sets rest mates leads
+  by_mates i v li =
+      let r = rest-in (length sets) cells i li in
+      let a = at-is (slice_index rest i) r.0 r.1 in
+      let same : slice_index mates i ≡ slice_index whole (slice_index rest i) =
+      sym (whole-at (slice_index rest i) r.0 r.1 ∙ ap (slice_index mates) (rest-different (length sets) cells (at (slice_index rest i)) i a.0 li a.1)) in
+      ap (λ (u : ℕ). leads u v) same ∙ follow (slice_index rest i) v (omega (arith, r.0, square))
+
+  pub decided_by_rounds : LiesOnRounds n sets rest mates → IsDecided n (strikes_by_fillings no_repeat) sets sets
+  decided_by_rounds (root, r) = decided_by_all n sets (λ k v lk lv has. elim (cases_Bool (has_bit cells k)) [
+    | inl on ↦ shown_by_choice n sets cells alone choice fits different k v lk (put-alone n sets cells alone choice fits different k v lk on has)
+    | inr off ↦
+        let a = at-is k lk off in
+        let there = (r (at k) v a.0 lv (ap (λ (x : ℕ). has_in sets x v) a.1 ∙ has)).1 leads by_mates in
+        let back = (r (at k) (slice_index mates (at k)) a.0 (p.in_range (at k) a.0) (p.joined (at k) a.0)).0 leads by_mates in
+        shown_by_way n sets whole square whole_pairing leads follow k v (omega arith) lv has (there.0 ++ back.0)
+        (way_on leads n v root (slice_index whole k) there.0 back.0 there.1 (rw (whole-at k lk off) back.1))
+  ])

@@ -1,0 +1,27 @@
+use Rattle.std.proofs.Common.{◌≡◌, Bool, true, false, not, ◌&&◌, eqb, slice_index, refl, sym, ap, ◌∙◌}
+use Rattle.std.proofs.lemmas.Bool.{and_parts, or_right, eq-eqb}
+use Rattle.engine_core.specs.Sets.{has_bit}
+use Rattle.solo_core.proofs.QuickLemmas.{begun-none}
+use Rattle.solo_core.proofs.quick.pair_quickly.Goals as goal
+
+and_false : (b : Bool) → (b && false) ≡ false
+and_false true = refl
+and_false false = refl
+
+pub loop-i-init : goal.loop-i-init
+loop-i-init c = record {
+  as_many = refl;
+  begun = begun-none c.args.joined.now.values c.args.joined.now.sets.now c.args.joined.now.rest.now (slice_index c.args.mates.now) c.all_below-free.result;
+}
+
+pub loop-i-preserved : goal.loop-i-preserved
+loop-i-preserved c =
+    let value = c.in-Some.value in
+    let on = c.in-Some.ensures.on in
+    let gone : has_bit c.with_bit.result value ≡ true = c.with_bit.ensures value ∙ or_right (has_bit 0 value) (eqb value value) (eq-eqb value value refl) in
+    record {
+      as_many = c.give.ensures.as_many ∙ c.loop-i.invariant.as_many;
+      begun = on.1 c.without-free.result
+          (λ v left. (and_parts (has_bit c.loop-i.free v) (not (has_bit c.with_bit.result v)) (sym (c.without-free.ensures v) ∙ left)).0)
+          (c.without-free.ensures value ∙ ap (λ b. has_bit c.loop-i.free value && not b) gone ∙ and_false (has_bit c.loop-i.free value));
+    }
