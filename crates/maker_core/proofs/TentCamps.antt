@@ -6,11 +6,10 @@ use Rattle.rand_core.specs.Stream.{Stream}
 use Rattle.grid_core.specs.Extent.{Extent}
 use Rattle.grid_core.specs.Regions.{steps}
 use Rattle.engine_core.specs.Puzzle.{has_place}
-use Rattle.engine_core.specs.PlaceLaws.{has_place-here}
+use Rattle.engine_core.specs.PlaceLaws.{has_place-here, place-filter}
 use Rattle.grid_core.specs.Candidates.{any_below}
 use Rattle.fields_core.specs.Tents.{touches, tent}
 use Rattle.fields_core.proofs.TentBeside.{beside-in}
-use Rattle.fields_core.proofs.PlaceLists.{place-filter}
 use Rattle.fields_core.proofs.LightCounting.{filter-few}
 use Rattle.fields_core.proofs.StepLaws.{steps-few}
 use Rattle.maker_core.specs.declared.camp.Camp.{Camp}
