@@ -1,13 +1,11 @@
--- Each text has an answer: by cases on its reading, and then on the verdict, which is right.
-use Rattle.std.proofs.Common.{◌≡◌, ◌⊎◌, ℕ, List, Result, Err, Some, None, inl, inr, refl}
+-- What is true of the grids that rules accept is right of the solutions.
+use Rattle.std.proofs.Common.{◌≡◌, ℕ, List, Some, None}
 use Rattle.std.specs.Prelude.{◌↔◌}
 use Rattle.engine_core.specs.Puzzle.{Puzzle}
 use Rattle.engine_core.specs.Verdict.{Outcome, Outcome.NoGrid, Outcome.OneGrid, Outcome.TwoGrids, Outcome.OutOfBudget, verdict_of, IsTrueOf, Solves}
-use Rattle.gameid_core.specs.declared.fault.IdFault.{IdFault}
 use Rattle.grid_core.specs.Extent.{Extent}
 use Rattle.puzzles.specs.Answers.{Answer, Text}
 use Rattle.gameid_core.specs.GridTexts.{grid_text}
-use Rattle.puzzles.specs.IdAnswers.{AllowsId}
 use Rattle.puzzles.specs.Solving.{IsSolved}
 use Rattle.puzzles.specs.Verdicts.{IsRight, verdict_answer}
 
@@ -20,13 +18,6 @@ right_of p solves (OutOfBudget None) same h = tt
 right_of p solves (OutOfBudget (Some g)) same h = (same g).0 h
 
 module _ {P : Type 0} (solves : P → List ℕ → Type 0) (rules : P → Puzzle) (cell : P → List ℕ → ℕ → Text) (size : P → Extent) (budget : ℕ) where
-  -- a text that spells a puzzle or has a fault has an answer
-  pub answer_of : (reading : Result P IdFault) (spells : P → Type 0) → ((p : P) × spells p) ⊎ ((f : IdFault) × (reading ≡ Err f))
-      → ((p : P) → spells p → IsRight (solves p) (verdict_of (rules p) budget))
-      → (a : Answer) × AllowsId reading spells (λ p. IsSolved (solves p) (rules p) (cell p) (size p) budget) a
-  answer_of reading spells (inl s) right = (_, inr (record { puzzle = s.0; spelled = s.1; allowed = record { right = right s.0 s.1; told = refl } }))
-  answer_of reading spells (inr f) right = (_, inl (record { fault = f.0; first = f.1; told = refl }))
-
   -- a search by the rules of a puzzle tells what is allowed
   pub solved_of : (p : P) (q : Puzzle) (a : Answer) → q ≡ rules p → ((g : List ℕ) → Solves (rules p) g ↔ solves p g)
       → a ≡ verdict_answer (λ g. grid_text (cell p g) (size p)) (verdict_of q budget) → IsTrueOf q (verdict_of q budget)

@@ -5,7 +5,7 @@ use Rattle.std.specs.List.{All, slice_split}
 use Rattle.std.proofs.lemmas.List.Splits.{slice_split_at, slice_split_none, length-slice_split}
 use Rattle.std.proofs.lemmas.List.Elements.{All-push, All-nil}
 use Rattle.std.specs.Str.Lines.{lines, lines_of_parts, strip_carriage_return}
-use Rattle.puzzles.specs.Answers.{Answer, Begins, BeginsAnswer, Text}
+use Rattle.puzzles.specs.Answers.{Answer, BeginsAnswer, PutBegun, Text}
 use Rattle.puzzles.specs.Each.{AllowsEach, Answered, Begun, HasAnswers, Stopped, both, silence}
 use Rattle.puzzles.specs.Batches.{Batched}
 use Rattle.puzzles.specs.LineStates.{Holds}
@@ -63,16 +63,16 @@ module _ (allows : Text → Answer → Type 0) where
     }
 
     pub step_broken : HasAnswers allows → (start now new : S) (batch : Batch) (seen : Text) (x : Answer) → Batched takes allows start batch seen now
-        → ((piece : Text) → Holds batch.line piece → allows (strip_carriage_return piece) x) → ((w : Text) × takes now w new × Begins w x.text)
+        → ((piece : Text) → Holds batch.line piece → allows (strip_carriage_return piece) x) → PutBegun takes now x.text new
         → Stopped takes allows start (seen ++ 10 ∷ []) new
     step_broken answers start now new batch seen x b allowed w = record {
-      written = b.written ++ w.0;
-      took = both_times start now new b.written w.0 b.took w.1;
+      written = b.written ++ w.done;
+      took = both_times start now new b.written w.done b.took w.took;
       begun = λ rest.
           let z = each_has answers (lines rest) in
-          let text_is : b.written ++ (x.text ++ z.0.text) ≡ (b.written ++ w.0) ++ (w.2.0 ++ z.0.text) =
-          ap (λ t. b.written ++ (t ++ z.0.text)) w.2.1 ∙ ap (λ t. b.written ++ t) (append_assoc w.0 w.2.0 z.0.text) ∙ sym (append_assoc b.written w.0 (w.2.0 ++ z.0.text)) in
-          inr (_, after_line start now batch seen x b (allowed b.piece b.holds) rest z.0 z.1, (w.2.0 ++ z.0.text, text_is));
+          let text_is : b.written ++ (x.text ++ z.0.text) ≡ (b.written ++ w.done) ++ (w.begun.0 ++ z.0.text) =
+          ap (λ t. b.written ++ (t ++ z.0.text)) w.begun.1 ∙ ap (λ t. b.written ++ t) (append_assoc w.done w.begun.0 z.0.text) ∙ sym (append_assoc b.written w.done (w.begun.0 ++ z.0.text)) in
+          inr (_, after_line start now batch seen x b (allowed b.piece b.holds) rest z.0 z.1, (w.begun.0 ++ z.0.text, text_is));
     }
 
     -- no more was written
@@ -144,11 +144,11 @@ module _ (allows : Text → Answer → Type 0) where
 
     pub last_broken : (start now new : S) (batch : Batch) (seen : Text) (x : Answer) → Batched takes allows start batch seen now
         → ((piece : Text) → Holds batch.line piece → false ≡ (length piece == 0)) → ((piece : Text) → Holds batch.line piece → allows piece x)
-        → ((w : Text) × takes now w new × Begins w x.text) → Begun takes allows start seen new
+        → PutBegun takes now x.text new → Begun takes allows start seen new
     last_broken start now new batch seen x b some allowed w = record {
-      written = b.written ++ w.0;
-      took = both_times start now new b.written w.0 b.took w.1;
-      begun = inr (_, after_last start now batch seen x b (some b.piece b.holds) (allowed b.piece b.holds), (w.2.0, ap (λ t. b.written ++ t) w.2.1 ∙ sym (append_assoc b.written w.0 w.2.0)));
+      written = b.written ++ w.done;
+      took = both_times start now new b.written w.done b.took w.took;
+      begun = inr (_, after_last start now batch seen x b (some b.piece b.holds) (allowed b.piece b.holds), (w.begun.0, ap (λ t. b.written ++ t) w.begun.1 ∙ sym (append_assoc b.written w.done w.begun.0)));
     }
 
     -- no more was written

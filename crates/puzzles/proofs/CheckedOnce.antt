@@ -1,15 +1,16 @@
 -- An input has one answer of `check`, and the printed form of a solution is told to be correct.
-use Rattle.std.proofs.Common.{◌≡◌, ◌∙◌, ◌*◌, ℕ, List, Option, None, length, slice_index, refl, sym, ap, subst, arith, codes, inl, inr}
-use Rattle.std.specs.Prelude.{◌↔◌, ◌++◌, option_map}
+use Rattle.std.proofs.Common.{◌≡◌, ◌∙◌, ◌*◌, ℕ, List, None, length, slice_index, refl, sym, subst, arith, codes, inl, inr}
+use Rattle.std.specs.Prelude.{◌↔◌, ◌++◌}
 use Rattle.std.proofs.lemmas.Bool.{cases_lt}
 use Rattle.std.proofs.lemmas.List.{get_or_past}
-use Rattle.grid_core.specs.Extent.{Extent}
 use Rattle.grid_core.specs.Grids.{IsGrid}
-use Rattle.gameid_core.specs.GridReading.{IsAsShown, IsPrinted}
+use Rattle.gameid_core.specs.GridReading.{IsPrinted}
 use Rattle.gameid_core.specs.GridTexts.{grid_text}
 use Rattle.puzzles.specs.Answers.{Answer, Text}
-use Rattle.puzzles.specs.CheckAnswers.{AllowsGrid, IsFaultTold, IsInputOf, checked}
+use Rattle.puzzles.specs.CheckAnswers.{IsInputOf, checked}
+use Rattle.puzzles.specs.Checking.{ChecksGrid}
 use Rattle.puzzles.specs.Checks.{without_returns}
+use Rattle.puzzles.specs.Games.{Playing}
 use Rattle.puzzles.specs.Refusals.{refused}
 use Rattle.puzzles.specs.Texts.{text_limit}
 use Rattle.puzzles.proofs.CheckedPuzzles.{CheckedPuzzle}
@@ -18,11 +19,16 @@ use Rattle.puzzles.proofs.OneAnswer.{AreSame}
 use Rattle.puzzles.proofs.PrintedOnce.{printed_once}
 use Rattle.puzzles.proofs.PrintedTexts.{plain_kept}
 
-module _ {F : Type 0} (hides : ℕ → Type 0) (values : ℕ) (size : Extent) (cell : List ℕ → ℕ → Text) (is : List ℕ → Option F → Type 0)
-    (fault_text : F → Text) (solves : List ℕ → Type 0) (game : CheckedPuzzle hides values size cell is solves) where
+module _ {P : Type 0} (play : Playing P) (p : P) (game : CheckedPuzzle play p) where
+  abbrev printed : List ℕ → Text
+  printed g = grid_text (play.cell_text p g) (play.extent p)
+
+  abbrev Given : Text → List ℕ → Type 0
+  Given = IsInputOf (play.hides p) (play.value_count p) (play.extent p) (play.cell_text p)
+
   -- ---- there is an answer
-  hidden_decided : (g : List ℕ) → IsGrid (size.w * size.h) values g → Decided ((place : ℕ) → hides place → slice_index g place ≡ 0)
-  hidden_decided g grid = elim (decided_below (length g) (λ place. hides place → slice_index g place ≡ 0) each) [
+  hidden_decided : (g : List ℕ) → Decided ((place : ℕ) → play.hides p place → slice_index g place ≡ 0)
+  hidden_decided g = elim (decided_below (length g) (λ place. play.hides p place → slice_index g place ≡ 0) each) [
     | inl all ↦ inl (λ place hidden. elim (cases_lt place (length g)) [
       | inl within ↦ all place within hidden
       | inr past ↦ get_or_past g place 0 past
@@ -30,7 +36,7 @@ module _ {F : Type 0} (hides : ℕ → Type 0) (values : ℕ) (size : Extent) (c
     | inr never ↦ inr (λ all. never (λ place lt. all place))
   ]
     where
-      each : (place : ℕ) → Decided (hides place → slice_index g place ≡ 0)
+      each : (place : ℕ) → Decided (play.hides p place → slice_index g place ≡ 0)
       each place = elim (game.decides place) [
         | inr shown ↦ inl (λ hidden. absurd (shown hidden))
         | inl hidden ↦ elim (decided_number (slice_index g place) 0) [
@@ -39,10 +45,10 @@ module _ {F : Type 0} (hides : ℕ → Type 0) (values : ℕ) (size : Extent) (c
         ]
       ]
 
-  input_decided : (input : Text) (g : List ℕ) → IsGrid (size.w * size.h) values g → Decided (IsInputOf hides values size cell input g)
+  input_decided : (input : Text) (g : List ℕ) → IsGrid ((play.extent p).w * (play.extent p).h) (play.value_count p) g → Decided (Given input g)
   input_decided input g grid = elim (cases_lt text_limit (length input)) [
     | inl over ↦ inr (λ given. let small = given.small in absurd (omega arith))
-    | inr small ↦ elim (hidden_decided g grid) [
+    | inr small ↦ elim (hidden_decided g) [
       | inr never ↦ inr (λ given. never given.shown.hidden)
       | inl hidden ↦ elim (form (without_returns input)) [
         | inr never ↦ inr (λ given. never given.printed)
@@ -51,60 +57,45 @@ module _ {F : Type 0} (hides : ℕ → Type 0) (values : ℕ) (size : Extent) (c
     ]
   ]
     where
-      form : (text : Text) → Decided (IsPrinted text (grid_text (cell g) size))
-      form text = decided_either (text ≡ grid_text (cell g) size) (text ++ codes "\n" ≡ grid_text (cell g) size)
-          (decided_text text (grid_text (cell g) size)) (decided_text (text ++ codes "\n") (grid_text (cell g) size))
+      form : (text : Text) → Decided (IsPrinted text (printed g))
+      form text = decided_either (text ≡ printed g) (text ++ codes "\n" ≡ printed g) (decided_text text (printed g)) (decided_text (text ++ codes "\n") (printed g))
 
-  input_once : (input : Text) (g h : List ℕ) → IsInputOf hides values size cell input g → IsInputOf hides values size cell input h → g ≡ h
-  input_once input g h a b = printed_once hides values size cell game.once g h a.shown b.shown (without_returns input) a.printed b.printed
+  input_once : (input : Text) (g h : List ℕ) → Given input g → Given input h → g ≡ h
+  input_once input g h a b = printed_once (play.hides p) (play.value_count p) (play.extent p) (play.cell_text p) game.once g h a.shown b.shown (without_returns input) a.printed b.printed
 
-  pub check_some : (input : Text) → (a : Answer) × AllowsGrid hides values size cell (λ g. IsFaultTold (is g) fault_text) input a
-  check_some input = elim (grid_found (size.w * size.h) values (IsInputOf hides values size cell input) (input_decided input)) [
+  pub check_some : (input : Text) → (a : Answer) × ChecksGrid play p input a
+  check_some input = elim (grid_found ((play.extent p).w * (play.extent p).h) (play.value_count p) (Given input) (input_decided input)) [
     | inl found ↦
-        let fault = game.some found.0 found.1 in (
-          checked (option_map fault_text fault.0),
+        let said = game.some found.0 found.1 in (
+          said.0,
           inl (record {
             grid = found.0;
             given = found.2;
             only = λ other given. input_once input found.0 other found.2 given;
-            told = record { fault = fault.0; first = fault.1; told = refl };
+            told = said.1;
           }),
         )
     | inr none ↦ (refused (codes "grid"), inr (record { none = λ g given. none g given.shown.grid given; told = refl }))
   ]
 
   -- ---- and no other
-  told_same : (g : List ℕ) → AreSame (IsFaultTold (is g) fault_text)
-  told_same g a b x y = x.told ∙ ap (λ (f : Option F). checked (option_map fault_text f)) (game.alone g x.fault y.fault x.first y.first) ∙ sym y.told
-
-  pub check_same : (input : Text) → AreSame (AllowsGrid hides values size cell (λ g. IsFaultTold (is g) fault_text) input)
-  check_same input a b (inl x) (inl y) = told_same y.grid a b (subst (λ g. IsFaultTold (is g) fault_text a) (x.only y.grid y.given) x.told) y.told
+  pub check_same : (input : Text) → AreSame (ChecksGrid play p input)
+  check_same input a b (inl x) (inl y) = game.alone y.grid a b (subst (λ g. play.game.told p g a) (x.only y.grid y.given) x.told) y.told
   check_same input a b (inl x) (inr y) = absurd (y.none x.grid x.given)
   check_same input a b (inr x) (inl y) = absurd (x.none y.grid y.given)
   check_same input a b (inr x) (inr y) = x.told ∙ sym y.told
 
   -- ---- a solution's printed form is correct, and nothing else is said of it
-  pub correct_grid : (g : List ℕ) → solves g → (said : Answer)
-      → AllowsGrid hides values size cell (λ g. IsFaultTold (is g) fault_text) (grid_text (cell g) size) said ↔ (said ≡ checked None)
+  pub correct_grid : (g : List ℕ) → play.game.solves p g → (said : Answer) → ChecksGrid play p (printed g) said ↔ (said ≡ checked None)
   correct_grid g solution said = (
-    λ allowed. check_same (grid_text (cell g) size) said (checked None) allowed correct,
-    λ same. subst (AllowsGrid hides values size cell (λ g. IsFaultTold (is g) fault_text) (grid_text (cell g) size)) (sym same) correct,
+    λ allowed. check_same (printed g) said (checked None) allowed correct,
+    λ same. subst (ChecksGrid play p (printed g)) (sym same) correct,
   )
     where
-      shown : IsAsShown hides values size g
-      shown = game.shown g solution
+      given : Given (printed g) g
+      given =
+          let shown = game.shown g solution in
+          record { small = (game.text g shown).small; shown = shown; printed = inl (plain_kept (printed g) (game.text g shown).plain) }
 
-      given : IsInputOf hides values size cell (grid_text (cell g) size) g
-      given = record {
-        small = (game.text g shown).small;
-        shown = shown;
-        printed = inl (plain_kept (grid_text (cell g) size) (game.text g shown).plain);
-      }
-
-      correct : AllowsGrid hides values size cell (λ g. IsFaultTold (is g) fault_text) (grid_text (cell g) size) (checked None)
-      correct = inl (record {
-        grid = g;
-        given = given;
-        only = λ other also. input_once (grid_text (cell g) size) g other given also;
-        told = record { fault = None; first = game.right g solution; told = refl };
-      })
+      correct : ChecksGrid play p (printed g) (checked None)
+      correct = inl (record { grid = g; given = given; only = λ other also. input_once (printed g) g other given also; told = game.right g solution })

@@ -1,8 +1,9 @@
 -- What the checks of grids rest on, for a puzzle of each game.
-use Rattle.std.proofs.Common.{◌≡◌, ◌≢◌, ◌∙◌, ◌*◌, ◌<◌, ℕ, true, List, Option, Some, None, zero, suc, [], ◌∷◌, length, get_or, slice_index, refl, sym, arith, inl, inr, true≢false}
+use Rattle.std.proofs.Common.{◌≡◌, ◌≢◌, ◌∙◌, ◌*◌, ◌<◌, ℕ, true, List, Option, Some, None, zero, suc, [], ◌∷◌, length, get_or, slice_index, refl, sym, ap, subst, arith, inl, inr, true≢false}
 use Rattle.std.specs.List.{slice_get}
 use Rattle.std.proofs.lemmas.Bool.{cases_lt, eq-eqb}
 use Rattle.std.proofs.lemmas.List.{get_or_past}
+use Rattle.std.specs.Prelude.{option_map}
 use Rattle.grid_core.specs.Extent.{Extent, max_side}
 use Rattle.grid_core.specs.Grids.{IsGrid}
 use Rattle.gameid_core.specs.GridReading.{IsAsShown, hides_nothing, light_hides, tent_hides}
@@ -19,29 +20,47 @@ use Rattle.fields_core.specs.TentSolutions.{IsTentSolution}
 use Rattle.fields_core.proofs.LightRuleLemmas as light
 use Rattle.fields_core.proofs.TentRuleLemmas as tents
 use Rattle.pattern_core.specs.Faults.{IsCheck}
-use Rattle.pattern_core.specs.Solutions.{IsPatternSolution}
 use Rattle.solo_core.specs.Faults.{IsFirstFault}
-use Rattle.solo_core.specs.Solutions.{IsSoloSolution}
-use Rattle.puzzles.specs.Answers.{Text}
+use Rattle.gameid_core.specs.declared.game.Game.TheVariants as game
+use Rattle.puzzles.specs.Answers.{Answer, Text}
+use Rattle.puzzles.specs.CheckAnswers.{IsFaultTold, checked, pattern_fault, solo_fault, light_fault, tent_fault}
+use Rattle.puzzles.specs.Games.{Playing, played}
 use Rattle.puzzles.proofs.CellsOnce.{light_once, pattern_once, solo_once, tents_once}
 use Rattle.puzzles.proofs.FaultsOnce.{light_alone, light_some, pattern_alone, pattern_some, solo_alone, solo_some, tent_alone, tent_some}
 use Rattle.puzzles.proofs.GridSearch.{Decided, decided_number}
 use Rattle.puzzles.proofs.PrintedOnce.{CellOnce}
 use Rattle.puzzles.proofs.PrintedTexts.{IsGridText, grid_is_text, light_cell_text, pattern_cell_text, solo_cell_text, tents_cell_text}
 
-pub record CheckedPuzzle {F : Type 0} (hides : ℕ → Type 0) (values : ℕ) (size : Extent) (cell : List ℕ → ℕ → Text)
-    (is : List ℕ → Option F → Type 0) (solves : List ℕ → Type 0) : Type 0 where
+pub record CheckedPuzzle {P : Type 0} (play : Playing P) (p : P) : Type 0 where
   -- a printed grid tells its numbers, and may be read
-  pub once : CellOnce hides values size cell
-  pub text : (g : List ℕ) → IsAsShown hides values size g → IsGridText (grid_text (cell g) size)
-  pub decides : (place : ℕ) → Decided (hides place)
+  pub once : CellOnce (play.hides p) (play.value_count p) (play.extent p) (play.cell_text p)
+  pub text : (g : List ℕ) → IsAsShown (play.hides p) (play.value_count p) (play.extent p) g → IsGridText (grid_text (play.cell_text p g) (play.extent p))
+  pub decides : (place : ℕ) → Decided (play.hides p place)
   -- there is one answer, and it is that nothing is wrong for solutions alone
-  pub some : (g : List ℕ) → IsGrid (size.w * size.h) values g → (fault : Option F) × is g fault
-  pub alone : (g : List ℕ) (a b : Option F) → is g a → is g b → a ≡ b
-  pub sound : (g : List ℕ) → IsGrid (size.w * size.h) values g → is g None → solves g
-  pub right : (g : List ℕ) → solves g → is g None
+  pub some : (g : List ℕ) → IsGrid ((play.extent p).w * (play.extent p).h) (play.value_count p) g → (a : Answer) × play.game.told p g a
+  pub alone : (g : List ℕ) (a b : Answer) → play.game.told p g a → play.game.told p g b → a ≡ b
+  pub sound : (g : List ℕ) (a : Answer) → IsGrid ((play.extent p).w * (play.extent p).h) (play.value_count p) g → play.game.told p g a → a.status ≡ 0 → play.game.solves p g
+  pub right : (g : List ℕ) → play.game.solves p g → play.game.told p g (checked None)
   -- a solution is shown by its printed form
-  pub shown : (g : List ℕ) → solves g → IsAsShown hides values size g
+  pub shown : (g : List ℕ) → play.game.solves p g → IsAsShown (play.hides p) (play.value_count p) (play.extent p) g
+
+-- the answers that tell a fault
+module _ {F : Type 0} (is : Option F → Type 0) (fault_text : F → Text) where
+  told_some : (fault : Option F) × is fault → (a : Answer) × IsFaultTold is fault_text a
+  told_some fault = (checked (option_map fault_text fault.0), record { fault = fault.0; first = fault.1; told = refl })
+
+  told_alone : ((a b : Option F) → is a → is b → a ≡ b) → (a b : Answer) → IsFaultTold is fault_text a → IsFaultTold is fault_text b → a ≡ b
+  told_alone alone a b x y = x.told ∙ ap (λ (f : Option F). checked (option_map fault_text f)) (alone x.fault y.fault x.first y.first) ∙ sym y.told
+
+  told_sound : (a : Answer) → IsFaultTold is fault_text a → a.status ≡ 0 → is None
+  told_sound a x fine = subst is (no_fault x.fault (sym (ap (λ (c : Answer). c.status) x.told) ∙ fine)) x.first
+    where
+      no_fault : (fault : Option F) → (checked (option_map fault_text fault)).status ≡ 0 → fault ≡ None
+      no_fault None e = refl
+      no_fault (Some f) e = absurd (omega (arith, e))
+
+  told_right : is None → IsFaultTold is fault_text (checked None)
+  told_right first = record { fault = None; first = first; told = refl }
 
 shows_all : (values : ℕ) (size : Extent) (g : List ℕ) → IsGrid (size.w * size.h) values g → IsAsShown hides_nothing values size g
 shows_all values size g grid = record { grid = grid; hidden = λ place none. absurd none }
@@ -57,27 +76,27 @@ hidden_zero cells g place grid never = elim (cases_lt place (length g)) [
   | inr past ↦ get_or_past g place 0 past
 ]
 
-pub pattern_checked : (p : Pattern) → IsPattern p → CheckedPuzzle hides_nothing 2 p.size (pattern_cell p) (IsCheck p) (IsPatternSolution p)
+pub pattern_checked : (p : Pattern) → IsPattern p → CheckedPuzzle (played game.Pattern) p
 pattern_checked p ok = record {
   once = pattern_once p;
   text = λ g shown. grid_is_text (pattern_cell p g) p.size 1 (λ place lt. pattern_cell_text p g place) max_side ok.size.w_high ok.size.h_high (omega arith);
   decides = λ place. inr (λ none. none);
-  some = pattern_some p;
-  alone = pattern_alone p;
-  sound = λ g grid is. is;
-  right = λ g s. s;
+  some = λ g grid. told_some (IsCheck p g) pattern_fault (pattern_some p g grid);
+  alone = λ g. told_alone (IsCheck p g) pattern_fault (pattern_alone p g);
+  sound = λ g a grid told fine. told_sound (IsCheck p g) pattern_fault a told fine;
+  right = λ g s. told_right (IsCheck p g) pattern_fault (s);
   shown = λ g s. shows_all 2 p.size g s.grid;
 }
 
-pub solo_checked : (p : Solo) → IsSolo p → CheckedPuzzle hides_nothing (solo_n p) (solo_extent p) (solo_cell p) (IsFirstFault p) (IsSoloSolution p)
+pub solo_checked : (p : Solo) → IsSolo p → CheckedPuzzle (played game.Solo) p
 solo_checked p ok = record {
   once = solo_once p ok;
   text = λ g shown. grid_is_text (solo_cell p g) (solo_extent p) 3 (λ place lt. solo_cell_text p ok hides_nothing g shown place lt) max_numbers ok.n_high ok.n_high (omega arith);
   decides = λ place. inr (λ none. none);
-  some = λ g grid. solo_some p ok g grid;
-  alone = solo_alone p ok;
-  sound = λ g grid is. is;
-  right = λ g s. s;
+  some = λ g grid. told_some (IsFirstFault p g) (solo_fault p) (solo_some p ok g grid);
+  alone = λ g. told_alone (IsFirstFault p g) (solo_fault p) (solo_alone p ok g);
+  sound = λ g a grid told fine. told_sound (IsFirstFault p g) (solo_fault p) a told fine;
+  right = λ g s. told_right (IsFirstFault p g) (solo_fault p) (s);
   shown = λ g s. shows_all (solo_n p) (solo_extent p) g s.grid;
 }
 
@@ -95,20 +114,18 @@ light_hidden p g s place hides = hidden_zero (light_cells p) g place s.grid
     (λ lt one. hides (white_at p.cells place (s.none_on_black place lt (eq-eqb (slice_index g place) 1 one))))
 
 light_decides : (o : Option LightCell) → Decided (o ≢ Some White)
-light_decides None = inl (λ e. cc)
 light_decides (Some White) = inr (λ never. never refl)
-light_decides (Some Black) = inl (λ e. cc)
-light_decides (Some (Numbered n)) = inl (λ e. cc)
+light_decides o = inl (λ e. cc)
 
-pub light_checked : (p : Light) → IsLight p → CheckedPuzzle (light_hides p) 2 p.size (light_cell p) (IsLightFault p) (IsLightSolution p)
+pub light_checked : (p : Light) → IsLight p → CheckedPuzzle (played game.LightUp) p
 light_checked p ok = record {
   once = light_once p;
   text = λ g shown. grid_is_text (light_cell p g) p.size 1 (λ place lt. light_cell_text p ok g place) max_side ok.size.extent.w_high ok.size.extent.h_high (omega arith);
   decides = λ place. light_decides (slice_get p.cells place);
-  some = λ g grid. light_some p g;
-  alone = light_alone p;
-  sound = λ g grid is. (light.none-exactly p g None grid is).0 refl;
-  right = λ g s. light.test-from-rule p g s.grid s;
+  some = λ g grid. told_some (IsLightFault p g) (light_fault p) (light_some p g);
+  alone = λ g. told_alone (IsLightFault p g) (light_fault p) (light_alone p g);
+  sound = λ g a grid told fine. (light.none-exactly p g None grid (told_sound (IsLightFault p g) (light_fault p) a told fine)).0 refl;
+  right = λ g s. told_right (IsLightFault p g) (light_fault p) (light.test-from-rule p g s.grid s);
   shown = λ g s. record { grid = s.grid; hidden = light_hidden p g s };
 }
 
@@ -116,14 +133,14 @@ tent_hidden : (p : Tents) (g : List ℕ) → IsTentSolution p g → (place : ℕ
 tent_hidden p g s place hides = hidden_zero (p.size.w * p.size.h) g place s.grid
     (λ lt one. true≢false (sym (eq-eqb (slice_index p.trees place) 1 hides) ∙ s.none_on_trees place lt (eq-eqb (slice_index g place) 1 one)))
 
-pub tents_checked : (p : Tents) → IsTents p → CheckedPuzzle (tent_hides p) 2 p.size (tents_cell p) (IsTentFault p) (IsTentSolution p)
+pub tents_checked : (p : Tents) → IsTents p → CheckedPuzzle (played game.Tents) p
 tents_checked p ok = record {
   once = tents_once p;
   text = λ g shown. grid_is_text (tents_cell p g) p.size 1 (λ place lt. tents_cell_text p g place) max_side ok.size.extent.w_high ok.size.extent.h_high (omega arith);
   decides = λ place. decided_number (slice_index p.trees place) 1;
-  some = λ g grid. tent_some p g;
-  alone = tent_alone p;
-  sound = λ g grid is. (tents.none-exactly p g None grid is).0 refl;
-  right = λ g s. tents.test-from-rule p g s.grid s;
+  some = λ g grid. told_some (IsTentFault p g) (tent_fault p) (tent_some p g);
+  alone = λ g. told_alone (IsTentFault p g) (tent_fault p) (tent_alone p g);
+  sound = λ g a grid told fine. (tents.none-exactly p g None grid (told_sound (IsTentFault p g) (tent_fault p) a told fine)).0 refl;
+  right = λ g s. told_right (IsTentFault p g) (tent_fault p) (tents.test-from-rule p g s.grid s);
   shown = λ g s. record { grid = s.grid; hidden = tent_hidden p g s };
 }

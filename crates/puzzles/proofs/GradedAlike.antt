@@ -1,6 +1,6 @@
 -- The grade of a puzzle goes along with its verdict, and so what is told of the two.
 use Rattle.std.proofs.Common.{◌≡◌, ◌≢◌, ◌∙◌, ◌++◌, ◌∷◌, ◌⊎◌, ℕ, Bool, true, false, List, [], Result, Err, if◌then◌else◌, codes, refl, sym, ap, subst, arith, inl, inr, slice_index, true≢false}
-use Rattle.std.specs.Prelude.{◌↔◌, ◌+◌, ◌*◌, Some, None}
+use Rattle.std.specs.Prelude.{◌↔◌, ◌+◌, ◌*◌, None}
 use Rattle.engine_core.specs.Puzzle.{Puzzle, IsLawful}
 use Rattle.engine_core.specs.Stored.{is_settled}
 use Rattle.engine_core.specs.Verdict.{Outcome, Outcome.NoGrid, Outcome.OneGrid, Outcome.TwoGrids, Outcome.OutOfBudget, verdict_of, trials_in}
@@ -13,7 +13,7 @@ use Rattle.puzzles.specs.LawsOfGrades.{GoesAlong, NamesRules, is_within_search}
 use Rattle.puzzles.specs.Refusals.{refused, fault_text}
 use Rattle.puzzles.specs.Verdicts.{IsRight, verdict_answer}
 use Rattle.puzzles.specs.declared.grade.Grade.{Grade}
-use Rattle.puzzles.specs.declared.grade.Grade.TheVariants.{ByRules, BySearch, NoSolution, SeveralSolutions, GaveUp}
+use Rattle.puzzles.specs.declared.grade.Grade.TheVariants.{ByRules, BySearch}
 use Rattle.puzzles.specs.declared.grade.RuleSet.{RuleSet}
 use Rattle.puzzles.specs.declared.grade.RuleSet.TheVariants.{Singles, Houses, Crossings, Lines, Local}
 use Rattle.puzzles.proofs.SettledLemmas.{settled_found, one_settled}
@@ -43,19 +43,14 @@ verdict_status (OutOfBudget found) = 4
 
 pub told_status : (printed : List ℕ → Text) (o : Outcome) → (verdict_answer printed o).status ≡ verdict_status o
 unfolding verdict_status
-told_status printed NoGrid = refl
-told_status printed (OneGrid g) = refl
-told_status printed (TwoGrids g h) = refl
 told_status printed (OutOfBudget None) = refl
-told_status printed (OutOfBudget (Some g)) = refl
+told_status printed o = refl
 
 -- a grade by a search has the verdict's status
 by_status : (trials : ℕ) (o : Outcome) → grade_status (grade_by trials o) ≡ verdict_status o
 unfolding verdict_status
-by_status trials NoGrid = refl
-by_status trials (OneGrid g) = refl
-by_status trials (TwoGrids g h) = refl
 by_status trials (OutOfBudget found) = refl
+by_status trials o = refl
 
 one_status : (o : Outcome) (g : List ℕ) → o ≡ OneGrid g → 0 ≡ verdict_status o
 unfolding verdict_status
@@ -63,19 +58,15 @@ one_status o g e = sym (ap verdict_status e)
 
 pub status_one : (o : Outcome) → verdict_status o ≡ 0 → (g : List ℕ) × (o ≡ OneGrid g)
 unfolding verdict_status
-status_one NoGrid e = absurd (omega (arith, e))
 status_one (OneGrid g) e = (g, refl)
-status_one (TwoGrids g h) e = absurd (omega (arith, e))
-status_one (OutOfBudget found) e = absurd (omega (arith, e))
+status_one o e = absurd (omega (arith, e))
 
 -- ---- what a grade means beside a verdict
 -- a grade that names a rule set or a search is that of a puzzle with one solution
 pub graded_one : (solves : List ℕ → Type 0) (grade : Grade) → IsRightGrade solves grade → grade_status grade ≡ 0 → HasOneSolution solves
 graded_one solves (ByRules set) right e = right
 graded_one solves (BySearch trials) right e = right
-graded_one solves NoSolution right e = absurd (omega (arith, e))
-graded_one solves SeveralSolutions right e = absurd (omega (arith, e))
-graded_one solves GaveUp right e = absurd (omega (arith, e))
+graded_one solves grade right e = absurd (omega (arith, e))
 
 -- a verdict that is right of a puzzle with one solution is that one, or that the search gave up
 one_or_out : (solves : List ℕ → Type 0) (o : Outcome) → IsRight solves o → HasOneSolution solves → verdict_status o ≢ 4 → 0 ≡ verdict_status o
@@ -117,17 +108,12 @@ goes_along sets search solves budget verdict grade = by (named_or_searched sets 
 -- whether a grade is by a rule set that strikes no more than the search's rules
 pub is_within : Grade → Bool
 is_within (ByRules set) = is_within_search set
-is_within (BySearch trials) = false
-is_within NoSolution = false
-is_within SeveralSolutions = false
-is_within GaveUp = false
+is_within grade = false
 
 searched_apart : (trials : ℕ) (o : Outcome) → is_within (grade_by trials o) ≡ false
 unfolding is_within
-searched_apart trials NoGrid = refl
-searched_apart trials (OneGrid g) = refl
-searched_apart trials (TwoGrids g h) = refl
 searched_apart trials (OutOfBudget found) = refl
+searched_apart trials o = refl
 
 -- rule sets that may strike more than the search's rules
 abbrev pub AreBeyond : List Settling → Type 0
@@ -177,26 +163,7 @@ named_is (ByRules Singles) lines rest set within e = refl
 named_is (ByRules Houses) lines rest set within e = refl
 named_is (ByRules Lines) lines rest set within e = refl
 named_is (ByRules Local) lines rest set within e = refl
-named_is (BySearch trials) lines rest Singles within e = absurd (omega (arith, ap marks e))
-named_is (BySearch trials) lines rest Houses within e = absurd (omega (arith, ap marks e))
-named_is (BySearch trials) lines rest Lines within e = absurd (omega (arith, ap marks e))
-named_is (BySearch trials) lines rest Local within e = absurd (omega (arith, ap marks e))
-named_is NoSolution lines rest Singles within e = absurd (omega (arith, ap marks e))
-named_is NoSolution lines rest Houses within e = absurd (omega (arith, ap marks e))
-named_is NoSolution lines rest Lines within e = absurd (omega (arith, ap marks e))
-named_is NoSolution lines rest Local within e = absurd (omega (arith, ap marks e))
-named_is SeveralSolutions lines rest Singles within e = absurd (omega (arith, ap marks e))
-named_is SeveralSolutions lines rest Houses within e = absurd (omega (arith, ap marks e))
-named_is SeveralSolutions lines rest Lines within e = absurd (omega (arith, ap marks e))
-named_is SeveralSolutions lines rest Local within e = absurd (omega (arith, ap marks e))
-named_is GaveUp lines rest Singles within e = absurd (omega (arith, ap marks e))
-named_is GaveUp lines rest Houses within e = absurd (omega (arith, ap marks e))
-named_is GaveUp lines rest Lines within e = absurd (omega (arith, ap marks e))
-named_is GaveUp lines rest Local within e = absurd (omega (arith, ap marks e))
-named_is (ByRules Crossings) lines rest Singles within e = absurd (omega (arith, ap marks e))
-named_is (ByRules Crossings) lines rest Houses within e = absurd (omega (arith, ap marks e))
-named_is (ByRules Crossings) lines rest Lines within e = absurd (omega (arith, ap marks e))
-named_is (ByRules Crossings) lines rest Local within e = absurd (omega (arith, ap marks e))
+named_is grade lines rest set within e = absurd (omega (arith, ap marks e))
 
 names_it : (grade : Grade) (lines : Text) → is_within grade ≡ true
     → (set : RuleSet) × (is_within_search set ≡ true) × Begins (rule_set_text set ++ codes "\n") (grade_text grade ++ codes "\n" ++ lines)
@@ -206,19 +173,13 @@ names_it (ByRules Houses) lines e = (Houses, e, (lines, refl))
 names_it (ByRules Crossings) lines e = absurd (true≢false (sym e))
 names_it (ByRules Lines) lines e = (Lines, e, (lines, refl))
 names_it (ByRules Local) lines e = (Local, e, (lines, refl))
-names_it (BySearch trials) lines e = absurd cc
-names_it NoSolution lines e = absurd cc
-names_it SeveralSolutions lines e = absurd cc
-names_it GaveUp lines e = absurd cc
+names_it grade lines e = absurd cc
 
 -- a refusal names no rule set
 none_named : (cause : Text) → NamesRules (refused cause) → ⊥
 unfolding marks
-none_named cause (Singles, within, (rest, e)) = absurd (omega (arith, ap marks e))
-none_named cause (Houses, within, (rest, e)) = absurd (omega (arith, ap marks e))
 none_named cause (Crossings, within, (rest, e)) = absurd (true≢false (sym within))
-none_named cause (Lines, within, (rest, e)) = absurd (omega (arith, ap marks e))
-none_named cause (Local, within, (rest, e)) = absurd (omega (arith, ap marks e))
+none_named cause (set, within, (rest, e)) = absurd (omega (arith, ap marks e))
 
 pub refusals_apart : (first second : Text) → NamesRules (refused second) ↔ ((refused first).status ≡ 0)
 refusals_apart first second = (λ named. absurd (none_named second named), λ e. absurd (omega (arith, e)))

@@ -5,7 +5,7 @@ use Rattle.gameid_core.specs.Head.{max_id}
 use Rattle.gameid_core.specs.declared.game.Game.{Game}
 use Rattle.gameid_core.specs.Steps.{Fails}
 use Rattle.gameid_core.specs.declared.fault.IdFault.{IdFault}
-use Rattle.gameid_core.specs.declared.fault.IdFault.TheVariants.{TooLong, SeedId, NoColon, BadSize, Variant, SizeRange, BadByte, NumberRange, LineTooFull, TooFew, TooMany, Memory}
+use Rattle.gameid_core.specs.declared.fault.IdFault.TheVariants.{Memory, TooLong}
 use Rattle.puzzles.specs.Answers.{Answer, Text}
 use Rattle.puzzles.specs.Games.{played}
 use Rattle.puzzles.specs.IdAnswers.{AllowsId}
@@ -16,17 +16,7 @@ use Rattle.puzzles.specs.declared.answers.reply.Reply.{Reply}
 
 first_fault : {P : Type 0} (fault : IdFault) (reading : Result P IdFault) → fault ≢ Memory → Fails fault reading → reading ≡ Err fault
 first_fault Memory reading other fails = absurd (other refl)
-first_fault TooLong reading other fails = fails
-first_fault SeedId reading other fails = fails
-first_fault NoColon reading other fails = fails
-first_fault BadSize reading other fails = fails
-first_fault Variant reading other fails = fails
-first_fault SizeRange reading other fails = fails
-first_fault (BadByte p) reading other fails = fails
-first_fault (NumberRange p) reading other fails = fails
-first_fault (LineTooFull p) reading other fails = fails
-first_fault TooFew reading other fails = fails
-first_fault TooMany reading other fails = fails
+first_fault fault reading other fails = fails
 
 -- by what the reader ensures
 pub refused_id : {P : Type 0} (spells : P → Type 0) (allows : P → Answer → Type 0) (reading : Result P IdFault) (fault : IdFault) (answer : Answer)
@@ -35,7 +25,7 @@ refused_id spells allows reading fault answer other fails told = inl (record { f
 
 -- an over-long text is refused as too long
 pub too_long_id : {E : Type 0} (game : Game) (budget : ℕ) (result : Result Reply E)
-    → ((text : Text) → max_id < length text → (played game).reading text ≡ Err TooLong)
+    → ((text : Text) → max_id < length text → (played game).game.reading text ≡ Err TooLong)
     → IfOk result (λ r. answer_in r ≡ refused (fault_text TooLong))
     → IfOk result (λ r. (id : Text) → max_id < length id → AllowsSolve game budget id (answer_in r))
 too_long_id game budget (Ok r) long told = λ id more. inl (record { fault = TooLong; first = long id more; told = told })

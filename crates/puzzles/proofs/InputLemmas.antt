@@ -6,6 +6,8 @@ use Rattle.puzzles.specs.Answers.{Answer, Begins, BeginsAnswer, IsInput, Text}
 use Rattle.puzzles.specs.Each.{AllowsEach, Answered, Begun, HasAnswers, Stopped}
 use Rattle.puzzles.specs.Batches.{Batched, StoppedUpTo, TakenUpTo}
 use Rattle.puzzles.specs.declared.batch.Batch.{Batch}
+use Rattle.puzzles.specs.declared.ends.Sink as sinks
+use Rattle.puzzles.specs.declared.ends.Source as sources
 use Rattle.puzzles.proofs.BatchLemmas.{step_stopped}
 
 module _ {I S : Type 0} (gives : I → Text → I → Type 0) (gives_both : (s t u : I) (a b : Text) → gives s a t → gives t b u → gives s (a ++ b) u)
@@ -50,9 +52,9 @@ same_input : (ended : Bool) (read input : Text) → ended ≡ true → IsInput e
 same_input true read input end is = sym is
 same_input false read input end is = absurd (true≢false (sym end))
 
-module _ {I S : Type 0} (gives : I → Text → I → Type 0) (has_ended : I → Bool) (takes : S → Text → S → Type 0) (takes_both : (s t u : S) (a b : Text) → takes s a t → takes t b u → takes s (a ++ b) u)
+module _ {I S : Type 0} (source : sources.Ghosts I) (sink : sinks.Ghosts S) (takes_both : (s t u : S) (a b : Text) → sink.takes s a t → sink.takes t b u → sink.takes s (a ++ b) u)
     (allows : Text → Answer → Type 0) where
-  pub ran_stopped : (i j : I) (o p : S) (status : ℕ) → 5 ≤ status → StoppedUpTo gives takes allows i o j p → Ran gives has_ended takes (λ input. AllowsEach allows (lines input)) i j o p status
+  pub ran_stopped : (i j : I) (o p : S) (status : ℕ) → 5 ≤ status → StoppedUpTo source.gives sink.takes allows i o j p → Ran source sink (λ input. AllowsEach allows (lines input)) i j o p status
   ran_stopped i j o p status high s = record {
     read = s.seen;
     written = s.stopped.written;
@@ -60,36 +62,36 @@ module _ {I S : Type 0} (gives : I → Text → I → Type 0) (has_ended : I →
     took = s.stopped.took;
     leaves = record {
       begun = λ input is.
-          let more = begins_input (has_ended j) s.seen input is in
+          let more = begins_input (source.has_ended j) s.seen input is in
           subst (λ (t : Text). BeginsAnswer (AllowsEach allows (lines t)) s.stopped.written) (sym more.1) (s.stopped.begun more.0);
       whole = λ low. absurd (omega arith);
     };
   }
 
-  pub ran_begun : (i j : I) (o p : S) (seen : Text) (status : ℕ) → 5 ≤ status → has_ended j ≡ true → gives i seen j → Begun takes allows o seen p → Ran gives has_ended takes (λ input. AllowsEach allows (lines input)) i j o p status
+  pub ran_begun : (i j : I) (o p : S) (seen : Text) (status : ℕ) → 5 ≤ status → source.has_ended j ≡ true → source.gives i seen j → Begun sink.takes allows o seen p → Ran source sink (λ input. AllowsEach allows (lines input)) i j o p status
   ran_begun i j o p seen status high ended gave s = record {
     read = seen;
     written = s.written;
     gave = gave;
     took = s.took;
     leaves = record {
-      begun = λ input is. subst (λ (t : Text). BeginsAnswer (AllowsEach allows (lines t)) s.written) (same_input (has_ended j) seen input ended is) s.begun;
+      begun = λ input is. subst (λ (t : Text). BeginsAnswer (AllowsEach allows (lines t)) s.written) (same_input (source.has_ended j) seen input ended is) s.begun;
       whole = λ low. absurd (omega arith);
     };
   }
 
   -- all was answered, and the finishing took nothing more
-  pub ran_answered : (i j : I) (o p q : S) (seen : Text) (told status : ℕ) → (status ≡ told) ⊎ (status ≡ 6) → has_ended j ≡ true → gives i seen j → Answered takes allows o told seen p → takes p [] q
-      → Ran gives has_ended takes (λ input. AllowsEach allows (lines input)) i j o q status
+  pub ran_answered : (i j : I) (o p q : S) (seen : Text) (told status : ℕ) → (status ≡ told) ⊎ (status ≡ 6) → source.has_ended j ≡ true → source.gives i seen j → Answered sink.takes allows o told seen p → sink.takes p [] q
+      → Ran source sink (λ input. AllowsEach allows (lines input)) i j o q status
   ran_answered i j o p q seen told status is_told ended gave s more = record {
     read = seen;
     written = s.written;
     gave = gave;
-    took = subst (λ (t : Text). takes o t q) (append-nil s.written) (takes_both o p q s.written [] s.took more);
+    took = subst (λ (t : Text). sink.takes o t q) (append-nil s.written) (takes_both o p q s.written [] s.took more);
     leaves = record {
-      begun = λ input is. inr (_, subst (λ (t : Text). AllowsEach allows (lines t) (record { text = s.written; status = told })) (same_input (has_ended j) seen input ended is) s.whole, ([], sym (append-nil s.written)));
+      begun = λ input is. inr (_, subst (λ (t : Text). AllowsEach allows (lines t) (record { text = s.written; status = told })) (same_input (source.has_ended j) seen input ended is) s.whole, ([], sym (append-nil s.written)));
       whole = λ low input is. elim is_told [
-        | inl same ↦ subst (λ (n : ℕ). AllowsEach allows (lines input) (record { text = s.written; status = n })) (sym same) (subst (λ (t : Text). AllowsEach allows (lines t) (record { text = s.written; status = told })) (same_input (has_ended j) seen input ended is) s.whole)
+        | inl same ↦ subst (λ (n : ℕ). AllowsEach allows (lines input) (record { text = s.written; status = n })) (sym same) (subst (λ (t : Text). AllowsEach allows (lines t) (record { text = s.written; status = told })) (same_input (source.has_ended j) seen input ended is) s.whole)
         | inr broken ↦ absurd (omega arith)
       ];
     };

@@ -33,5 +33,6 @@ mod SearchedPuzzles
 mod SoloNames
 mod RightGrades
 mod PassingGrids
+mod GameFacts
 mod SeedWords
 mod MadeOnce

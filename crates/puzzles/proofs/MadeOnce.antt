@@ -3,7 +3,7 @@ use Rattle.std.proofs.Common.{◌≡◌, ◌∙◌, ◌*◌, ◌≤◌, ◌⊎�
 use Rattle.std.specs.Prelude.{nat_le, if◌then◌else◌}
 use Rattle.std.proofs.lemmas.Bool.{and_parts, cases_lt, leb-true, not-false, not-true}
 use Rattle.rand_core.specs.Stream.{Stream}
-use Rattle.engine_core.specs.Verdict.{Outcome, Outcome.NoGrid, Outcome.OneGrid, Outcome.TwoGrids, Outcome.OutOfBudget, IsTrueOf, verdict_of}
+use Rattle.engine_core.specs.Verdict.{Outcome, Outcome.OneGrid, IsTrueOf, verdict_of}
 use Rattle.engine_core.proofs.VerdictLemmas.{outcome-true}
 use Rattle.fields_core.specs.Firsts.{IsFirstWrong}
 use Rattle.fields_core.specs.TentHouses.{tent_rules}
@@ -14,7 +14,7 @@ use Rattle.gameid_core.specs.GridTexts.{grid_text, pattern_cell, tents_cell}
 use Rattle.gameid_core.specs.Head.{SizeRead, extent_of, in_range, size_of}
 use Rattle.gameid_core.specs.Lines.{lines_ones, lines_runs}
 use Rattle.gameid_core.specs.PatternText.{pattern_text}
-use Rattle.gameid_core.specs.Puzzles.{IsPattern, IsTents, Pattern, Tents}
+use Rattle.gameid_core.specs.Puzzles.{IsTents, Pattern, Tents}
 use Rattle.gameid_core.specs.TentsText.{tents_text}
 use Rattle.gameid_core.specs.declared.fault.IdFault.{IdFault}
 use Rattle.gameid_core.specs.declared.fault.IdFault.TheVariants.{SizeRange}
@@ -41,8 +41,9 @@ use Rattle.pattern_core.specs.LineLaws.{is_solution-from, is_solution-is, line_r
 use Rattle.pattern_core.specs.LineRules.{line_rules}
 use Rattle.pattern_core.specs.Solutions.{IsPatternSolution}
 use Rattle.puzzles.specs.Answers.{Answer, Text}
-use Rattle.puzzles.specs.Making.{AllowsMade, AllowsOfSize, wanted}
-use Rattle.puzzles.specs.Makings.{AllowsMaking, exhausted_answer, made_answer, size_to_make}
+use Rattle.puzzles.specs.Games.{Playing, played}
+use Rattle.puzzles.specs.Making.{AllowsMade, AllowsOfSize, MakesOf, wanted}
+use Rattle.puzzles.specs.Makings.{AllowsMaking, Wanted, exhausted_answer, made_answer, size_to_make}
 use Rattle.puzzles.specs.Refusals.{fault_text, refused}
 use Rattle.puzzles.specs.Seeds.{seed_stream}
 use Rattle.puzzles.proofs.FaultsOnce.{first_of}
@@ -94,10 +95,24 @@ making_same reading allows same a b (inr x) (inr y) = same x.size a b x.allowed 
     sizes : (s t : SizeRead) → ◌≡◌ {A = Result SizeRead IdFault} (Ok s) (Ok t) → s ≡ t
     sizes s t e = cc
 
-pub made_pattern_same : (text : Text) (seed budget tries black : ℕ) → AreSame (AllowsMade game.Pattern text seed budget tries black)
-made_pattern_same text seed budget tries black = making_same (size_to_make game.Pattern text) (AllowsOfSize game.Pattern (wanted seed budget tries black)) same
+-- a text that is a size has an answer where that has, and any other its fault
+some_made : {P : Type 0} (play : Playing P) (w : Wanted) (text : Text) → ((read : SizeRead) → play.game.sizes text ≡ Ok read → (a : Answer) × AllowsOfSize play w read a)
+    → (a : Answer) × MakesOf play w text a
+some_made play w text each = by (play.game.sizes text) refl
   where
-    same : (read : SizeRead) → AreSame (AllowsOfSize game.Pattern (wanted seed budget tries black) read)
+    by : (r : Result SizeRead IdFault) → play.game.sizes text ≡ r → (a : Answer) × MakesOf play w text a
+    by (Err f) is = (refused (fault_text f), inl (record { fault = f; first = is; told = refl }))
+    by (Ok read) is = let one = each read is in (one.0, inr (record { size = read; read = is; allowed = one.1 }))
+
+-- a puzzle of which no clue was thinned is handed out
+handed_out : {P : Type 0} (play : Playing P) (w : Wanted) (read : SizeRead) (p : P) (g : List ℕ) → play.game.makes read w p g []
+    → play.game.spells (play.game.written p) p → (a : Answer) × AllowsOfSize play w read a
+handed_out play w read p g made spelled = (_, inl (record { puzzle = p; solution = g; kept = []; made = made; spelled = spelled; told = refl }))
+
+pub made_pattern_same : (text : Text) (seed budget tries black : ℕ) → AreSame (AllowsMade game.Pattern text seed budget tries black)
+made_pattern_same text seed budget tries black = making_same (size_to_make game.Pattern text) (AllowsOfSize (played game.Pattern) (wanted seed budget tries black)) same
+  where
+    same : (read : SizeRead) → AreSame (AllowsOfSize (played game.Pattern) (wanted seed budget tries black) read)
     same read a b (inl x) (inl y) =
         let size : Extent = extent_of read in
         let make : Making (List ℕ) = pattern_filling size black in
@@ -110,9 +125,9 @@ made_pattern_same text seed budget tries black = making_same (size_to_make game.
     same read a b (inr x) (inr y) = x.told ∙ sym y.told
 
 pub made_tents_same : (text : Text) (seed budget tries black : ℕ) → AreSame (AllowsMade game.Tents text seed budget tries black)
-made_tents_same text seed budget tries black = making_same (size_to_make game.Tents text) (AllowsOfSize game.Tents (wanted seed budget tries black)) same
+made_tents_same text seed budget tries black = making_same (size_to_make game.Tents text) (AllowsOfSize (played game.Tents) (wanted seed budget tries black)) same
   where
-    same : (read : SizeRead) → AreSame (AllowsOfSize game.Tents (wanted seed budget tries black) read)
+    same : (read : SizeRead) → AreSame (AllowsOfSize (played game.Tents) (wanted seed budget tries black) read)
     same read a b (inl x) (inl y) =
         let size : Extent = extent_of read in
         let k = first_once (tent_filling size) (tents_pass size budget) (seed_stream seed) tries x.made.k y.made.k x.made.first y.made.first in
@@ -125,10 +140,8 @@ made_tents_same text seed budget tries black = making_same (size_to_make game.Te
 
 -- ---- a filling of Pattern that passes is the one solution of its puzzle
 one_found : (o : Outcome) → is_one o ≡ true → (g : List ℕ) × (o ≡ OneGrid g)
-one_found NoGrid e = absurd (true≢false (sym e))
 one_found (OneGrid g) e = (g, refl)
-one_found (TwoGrids g h) e = absurd (true≢false (sym e))
-one_found (OutOfBudget found) e = absurd (true≢false (sym e))
+one_found o e = absurd (true≢false (sym e))
 
 is_extent : (w h : ℕ) → in_range game.Pattern w h ≡ true → IsExtent (record { w = w; h = h })
 is_extent w h e =
@@ -172,37 +185,17 @@ module _ (size : Extent) (extent : IsExtent size) (black budget tries : ℕ) (s 
       only = pattern_only (clued_by size (grid_of k)) (grid_of k) (λ q h grid. (is_solution-is q h grid, is_solution-from q h)) budget has solved
 
 pub made_pattern_some : (text : Text) (seed budget tries black : ℕ) → (a : Answer) × AllowsMade game.Pattern text seed budget tries black a
-made_pattern_some text seed budget tries black = by (size_to_make game.Pattern text) refl
-  where
-    of_size : (read : SizeRead) → size_to_make game.Pattern text ≡ Ok read → IsExtent (extent_of read)
-        → ((k : ℕ) × IsFirstPassing (pattern_filling (extent_of read) black) (pattern_passes (extent_of read) budget) (seed_stream seed) tries k)
-        ⊎ NonePasses (pattern_filling (extent_of read) black) (pattern_passes (extent_of read) budget) (seed_stream seed) tries
-        → (a : Answer) × AllowsMade game.Pattern text seed budget tries black a
-    of_size read is extent (inr none) = (exhausted_answer, inr (record { size = read; read = is; allowed = inr (record { none = none; told = refl }) }))
-    of_size read is extent (inl first) =
-        let size : Extent = extent_of read in
-        let g : List ℕ = filling_at (pattern_filling size black) first.0 (seed_stream seed) in
-        let p : Pattern = clued_by size g in
-        let lawful : IsPattern p = runs_lawful size g (lines_runs size g) extent refl in (
-          made_answer (pattern_text p) (grid_text (pattern_cell p g) p.size),
-          inr (record {
-            size = read;
-            read = is;
-            allowed = inl (record {
-              puzzle = p;
-              solution = g;
-              kept = [];
-              made = pattern_made size extent black budget tries (seed_stream seed) first.0 first.1;
-              spelled = (pattern_is_written p lawful).spells;
-              told = refl;
-            });
-          }),
-        )
-
-    by : (r : Result SizeRead IdFault) → size_to_make game.Pattern text ≡ r → (a : Answer) × AllowsMade game.Pattern text seed budget tries black a
-    by (Err f) is = (refused (fault_text f), inl (record { fault = f; first = is; told = refl }))
-    by (Ok read) is = of_size read is (is_extent read.w read.h (size_take game.Pattern text read is).1)
-        (first_or_none (pattern_filling (extent_of read) black) (pattern_passes (extent_of read) budget) (seed_stream seed) tries)
+made_pattern_some text seed budget tries black = some_made (played game.Pattern) (wanted seed budget tries black) text (λ read is.
+    let size : Extent = extent_of read in
+    let extent = is_extent read.w read.h (size_take game.Pattern text read is).1 in
+    elim (first_or_none (pattern_filling size black) (pattern_passes size budget) (seed_stream seed) tries) [
+      | inr none ↦ (exhausted_answer, inr (record { none = none; told = refl }))
+      | inl first ↦
+          let g : List ℕ = filling_at (pattern_filling size black) first.0 (seed_stream seed) in
+          let p : Pattern = clued_by size g in
+          handed_out (played game.Pattern) (wanted seed budget tries black) read p g (pattern_made size extent black budget tries (seed_stream seed) first.0 first.1)
+          (pattern_is_written p (runs_lawful size g (lines_runs size g) extent refl)).spells
+    ])
 
 -- ---- a filling of Tents that passes is the one solution of its puzzle
 record IsTentsExtent (size : Extent) : Type 0 where
@@ -292,33 +285,15 @@ module _ (filled : AreFilled) (size : Extent) (large : IsTentsExtent size) (budg
           (λ q h grid. (tents.rule-from-test q h grid, tents.test-from-rule q h grid)) budget has
 
 pub made_tents_some : AreFilled → (text : Text) (seed budget tries black : ℕ) → (a : Answer) × AllowsMade game.Tents text seed budget tries black a
-made_tents_some filled text seed budget tries black = by (size_to_make game.Tents text) refl
-  where
-    of_size : (read : SizeRead) → size_to_make game.Tents text ≡ Ok read → IsTentsExtent (extent_of read)
-        → ((k : ℕ) × IsFirstPassing (tent_filling (extent_of read)) (tents_pass (extent_of read) budget) (seed_stream seed) tries k)
-        ⊎ NonePasses (tent_filling (extent_of read)) (tents_pass (extent_of read) budget) (seed_stream seed) tries
-        → (a : Answer) × AllowsMade game.Tents text seed budget tries black a
-    of_size read is large (inr none) = (exhausted_answer, inr (record { size = read; read = is; allowed = inr (record { none = none; told = refl }) }))
-    of_size read is large (inl first) =
-        let size : Extent = extent_of read in
-        let camp : Camp = filling_at (tent_filling size) first.0 (seed_stream seed) in
-        let p : Tents = tents_puzzle_of size camp in (
-          made_answer (tents_text p) (grid_text (tents_cell p camp.tents) p.size),
-          inr (record {
-            size = read;
-            read = is;
-            allowed = inl (record {
-              puzzle = p;
-              solution = camp.tents;
-              kept = [];
-              made = tents_made filled size large budget tries (seed_stream seed) (seed_words seed) first.0 first.1;
-              spelled = (tents_is_written p (camp_lawful filled size large budget tries (seed_stream seed) (seed_words seed) first.0)).spells;
-              told = refl;
-            });
-          }),
-        )
-
-    by : (r : Result SizeRead IdFault) → size_to_make game.Tents text ≡ r → (a : Answer) × AllowsMade game.Tents text seed budget tries black a
-    by (Err f) is = (refused (fault_text f), inl (record { fault = f; first = is; told = refl }))
-    by (Ok read) is = of_size read is (tents_extent text read is)
-        (first_or_none (tent_filling (extent_of read)) (tents_pass (extent_of read) budget) (seed_stream seed) tries)
+made_tents_some filled text seed budget tries black = some_made (played game.Tents) (wanted seed budget tries black) text (λ read is.
+    let size : Extent = extent_of read in
+    let large = tents_extent text read is in
+    elim (first_or_none (tent_filling size) (tents_pass size budget) (seed_stream seed) tries) [
+      | inr none ↦ (exhausted_answer, inr (record { none = none; told = refl }))
+      | inl first ↦
+          let camp : Camp = filling_at (tent_filling size) first.0 (seed_stream seed) in
+          let p : Tents = tents_puzzle_of size camp in
+          handed_out (played game.Tents) (wanted seed budget tries black) read p camp.tents
+          (tents_made filled size large budget tries (seed_stream seed) (seed_words seed) first.0 first.1)
+          (tents_is_written p (camp_lawful filled size large budget tries (seed_stream seed) (seed_words seed) first.0)).spells
+    ])

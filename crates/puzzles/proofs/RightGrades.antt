@@ -1,20 +1,19 @@
 -- A grade by rule sets in turn, and else by a search, is right where each of their rules is lawful and accepts the solutions.
-use Rattle.std.proofs.Common.{◌≡◌, ◌∷◌, ℕ, Bool, true, false, List, [], Result, if◌then◌else◌, refl, sym, ap, subst, arith, inl, inr, ◌∙◌}
+use Rattle.std.proofs.Common.{◌≡◌, ◌∷◌, ℕ, Bool, true, false, List, [], if◌then◌else◌, refl, sym, ap, subst, arith, inl, inr, ◌∙◌}
 use Rattle.std.specs.Prelude.{◌↔◌, ◌≤◌}
 use Rattle.engine_core.specs.Puzzle.{Puzzle}
 use Rattle.engine_core.specs.Stored.{is_settled}
 use Rattle.engine_core.specs.Verdict.{Outcome, Outcome.NoGrid, Outcome.OneGrid, Outcome.TwoGrids, Outcome.OutOfBudget, trials_in, verdict_of}
 use Rattle.engine_core.specs.Walk.{walk}
-use Rattle.gameid_core.specs.declared.fault.IdFault.{IdFault}
 use Rattle.gameid_core.specs.GridTexts.{grid_text}
-use Rattle.grid_core.specs.Extent.{Extent}
 use Rattle.puzzles.specs.Answers.{Answer, Text}
-use Rattle.puzzles.specs.Grades.{HasOneSolution, IsGradeOf, IsRightGrade, Settling, grade_by, listed_grade, searched_grade}
-use Rattle.puzzles.specs.IdAnswers.{AllowsId}
+use Rattle.puzzles.specs.Games.{Playing}
+use Rattle.puzzles.specs.Grades.{HasOneSolution, IsRightGrade, Settling, grade_by, listed_grade, searched_grade}
+use Rattle.puzzles.specs.Grading.{GradesId}
 use Rattle.puzzles.specs.Replies.{one_answer}
-use Rattle.puzzles.specs.Solving.{IsSolved}
+use Rattle.puzzles.specs.Solving.{SolvesId}
 use Rattle.puzzles.specs.Verdicts.{IsRight}
-use Rattle.puzzles.specs.declared.grade.Grade.{Grade}
+use Rattle.puzzles.specs.declared.grade.Telling.{Telling}
 use Rattle.puzzles.specs.declared.grade.Grade.TheVariants.{ByRules}
 use Rattle.puzzles.proofs.GradedAlike.{graded_one}
 use Rattle.puzzles.proofs.Readings.{Reading}
@@ -50,19 +49,16 @@ listed_right solves (first ∷ rest) search budget each searched = by (is_settle
     by false unsettled later = later
 
 -- with enough budget a search tells the one solution of a puzzle whose grade names a rule set or a search
-module _ {P : Type 0} (of : Text → Result P IdFault) (spells : Text → P → Type 0) (reading : Reading of spells)
-    (solves : P → List ℕ → Type 0) (rules : P → Puzzle) (cell : P → List ℕ → ℕ → Text) (size : P → Extent)
-    (searched : (id : Text) (p : P) → spells id p → SearchedPuzzle (rules p) (solves p)) where
-  pub with_enough : (grade : P → Grade) (tells : P → Text → Type 0) (traced : Bool) (id : Text) (graded : Answer)
-      → AllowsId (of id) (spells id) (λ p. IsGradeOf (solves p) (grade p) traced (tells p)) graded → graded.status ≡ 0
-      → (enough : ℕ) × (grid : Text) × ((budget : ℕ) → enough ≤ budget → (said : Answer)
-      → AllowsId (of id) (spells id) (λ p. IsSolved (solves p) (rules p) (cell p) (size p) budget) said ↔ (said ≡ one_answer grid))
-  with_enough grade tells traced id graded (inl refusal) fine = absurd (omega (arith, fine, ap (λ (a : Answer). a.status) refusal.told))
-  with_enough grade tells traced id graded (inr answered) fine =
-      let p = answered.puzzle in
-      let one = graded_one (solves p) (grade p) answered.allowed.right (sym answered.allowed.told.status ∙ fine) in (
-        trials_in (walk (rules p) 0 (rules p).start),
-        grid_text (cell p one.0) (size p),
-        λ budget room said. found_alone of spells reading.one reading.apart solves rules cell size id p budget one.0 said answered.spelled
-            (found_with_enough (rules p) (solves p) (searched id p answered.spelled) one budget room) (one.1, λ h other. sym (one.2 h other)),
-      )
+pub with_enough : {P : Type 0} (play : Playing P) (reading : Reading play.game.reading play.game.spells)
+    → ((id : Text) (p : P) → play.game.spells id p → SearchedPuzzle (play.game.rules p) (play.game.solves p))
+    → (telling : Telling) (id : Text) (graded : Answer) → GradesId play.game telling id graded → graded.status ≡ 0
+    → (enough : ℕ) × (grid : Text) × ((budget : ℕ) → enough ≤ budget → (said : Answer) → SolvesId play budget id said ↔ (said ≡ one_answer grid))
+with_enough play reading searched telling id graded (inl refusal) fine = absurd (omega (arith, fine, ap (λ (a : Answer). a.status) refusal.told))
+with_enough play reading searched telling id graded (inr answered) fine =
+    let p = answered.puzzle in
+    let one = graded_one (play.game.solves p) _ answered.allowed.right (sym answered.allowed.told.status ∙ fine) in (
+      trials_in (walk (play.game.rules p) 0 (play.game.rules p).start),
+      grid_text (play.cell_text p one.0) (play.extent p),
+      λ budget room said. found_alone play reading id p budget one.0 said answered.spelled
+          (found_with_enough (play.game.rules p) (play.game.solves p) (searched id p answered.spelled) one budget room) (one.1, λ h other. sym (one.2 h other)),
+    )

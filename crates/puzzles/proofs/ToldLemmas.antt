@@ -1,9 +1,10 @@
 -- A grade's line and the lines of its trace, on their way to a sink: what was put of them, and what is delivered then.
-use Rattle.std.proofs.Common.{◌≡◌, ◌∙◌, ◌++◌, ◌≤◌, ℕ, Bool, [], refl, sym, ap, inr, arith, append_assoc, codes}
+use Rattle.std.proofs.Common.{◌≡◌, ◌∙◌, ◌++◌, ◌≤◌, ℕ, Bool, true, false, [], refl, sym, ap, inr, arith, append_assoc, append-nil, codes, true≢false}
 use Rattle.puzzles.specs.Answers.{Answer, Delivers, Text}
 use Rattle.puzzles.specs.Grades.{TellsGrade, grade_status, grade_text}
 use Rattle.puzzles.specs.Stops.{Tells}
-use Rattle.puzzles.specs.TracePieces.{AddsTrace, BeginsTrace, PutsTrace}
+use Rattle.puzzles.specs.TracePieces.{BeginsTrace, PutsTrace}
+use Rattle.puzzles.specs.Traces.{IsTrace}
 use Rattle.puzzles.specs.declared.grade.Grade.{Grade}
 
 module _ {S : Type 0} (takes : S → Text → S → Type 0) (nothing : (s : S) → takes s [] s) (both : (s t u : S) (a b : Text) → takes s a t → takes t b u → takes s (a ++ b) u)
@@ -45,9 +46,19 @@ module _ {S : Type 0} (takes : S → Text → S → Type 0) (nothing : (s : S) �
   }
 
   -- nothing was put before
-  pub nothing_put : (s : S) (line text : Text) → AddsTrace traced tells line text → PutsTrace takes traced tells s line text s
-  nothing_put s line text adds = record {
-    lines = adds.lines;
-    trace = adds.trace;
-    put = record { done = []; took = nothing s; split = sym adds.added };
-  }
+  pub nothing_put : (s : S) (line text lines : Text) → IsTrace traced tells lines → text ≡ line ++ lines → PutsTrace takes traced tells s line text s
+  nothing_put s line text lines trace added = record { lines = lines; trace = trace; put = record { done = []; took = nothing s; split = sym added } }
+
+-- a trace was asked for
+pub is_traced : (traced : Bool) (tells : Text → Type 0) (lines : Text) → traced ≡ true → tells lines → IsTrace traced tells lines
+is_traced true tells lines e told = told
+is_traced false tells lines e told = absurd (true≢false (sym e))
+
+-- no trace was asked for
+pub untraced : {S : Type 0} (takes : S → Text → S → Type 0) (traced : Bool) (tells : Text → Type 0) (s : S) (text : Text) → takes s [] s → traced ≡ false
+    → PutsTrace takes traced tells s text text s
+untraced takes traced tells s text nothing is = record { lines = []; trace = none traced is; put = record { done = []; took = nothing; split = append-nil text } }
+  where
+    none : (b : Bool) → b ≡ false → IsTrace b tells []
+    none true e = absurd (true≢false e)
+    none false e = refl

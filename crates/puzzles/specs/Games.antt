@@ -1,4 +1,4 @@
--- What the commands know of a game: one record for each.
+-- What the commands know of the games: one record for each.
 use Rattle.std.specs.Prelude.{ℕ, List, Result}
 use Rattle.grid_core.specs.Extent.{Extent}
 use Rattle.engine_core.specs.Puzzle.{Puzzle}
@@ -30,34 +30,41 @@ use Rattle.maker_core.specs.TentMaking.{IsTentsMade}
 use Rattle.maker_core.specs.declared.made.Kept.{Kept}
 use Rattle.puzzles.specs.Answers.{Answer, Text}
 use Rattle.puzzles.specs.CheckAnswers.{pattern_told, solo_told, light_told, tent_told}
-use Rattle.puzzles.specs.Grades.{pattern_grade, pattern_trace, solo_grade, solo_trace, light_grade, light_trace, tent_grade, tent_trace}
-use Rattle.puzzles.specs.Makings.{Wanted, IsExhausted, IsUnfilled}
-use Rattle.puzzles.specs.declared.grade.Grade.{Grade}
+use Rattle.puzzles.specs.Grades.{Settling, pattern_sets, solo_sets, light_sets, tent_sets}
+use Rattle.puzzles.specs.Makings.{Wanted, IsExhausted, IsUnfilled, size_to_make}
+use Rattle.puzzles.specs.Traces.{TellsSweeps, TellsVisits, pattern_name, solo_name}
 
-pub record Played (P : Type 0) : Type 1 where
+pub record GameOf (P : Type 0) : Type 1 where
   -- the puzzle that a text spells, or its first fault
   pub reading : Text → Result P IdFault
   -- the text spells the puzzle
   pub spells : Text → P → Type 0
   -- the ID that is written for a puzzle
   pub written : P → Text
-  -- the columns and rows of its grids, and how many values a cell may have
-  pub extent : P → Extent
-  pub values : P → ℕ
-  -- what is printed of a grid at a place, and whether that shows nothing of the number
-  pub cell : P → List ℕ → ℕ → Text
-  pub hides : P → ℕ → Type 0
   -- the solutions, the rules that a search goes by, and what a check tells of a grid
   pub solves : P → List ℕ → Type 0
   pub rules : P → Puzzle
   pub told : P → List ℕ → Answer → Type 0
-  -- the grade with a budget, and what the lines of its trace tell
-  pub grade : ℕ → P → Grade
-  pub trace : P → Text → Type 0
+  -- the rule sets that are tried in turn, and what the lines tell of a closing by such rules
+  pub sets : P → List Settling
+  pub tells : P → Puzzle → Text → Type 0
+  -- the size that a text is, within the limits of what is made, or its first fault
+  pub sizes : Text → Result SizeRead IdFault
   -- a puzzle is made of the size with that solution and those clues left, or that none is made is
   -- told
   pub makes : SizeRead → Wanted → P → List ℕ → List Kept → Type 0
   pub gives_up : SizeRead → Wanted → Answer → Type 0
+
+-- The puzzles of a game: the columns and rows of their grids, how many values a cell may have, what
+-- is printed of a grid at a place, whether that shows nothing of the number, and their game.
+abbrev pub Playing : Type 0 → Type 1
+Playing P = record {
+  extent : P → Extent;
+  value_count : P → ℕ;
+  cell_text : P → List ℕ → ℕ → Text;
+  hides : P → ℕ → Type 0;
+  game : GameOf P;
+}
 
 abbrev pub puzzle_of : Game → Type 0
 puzzle_of game.Pattern = Pattern
@@ -65,72 +72,83 @@ puzzle_of game.Solo = Solo
 puzzle_of game.LightUp = Light
 puzzle_of game.Tents = Tents
 
-abbrev pub played : (g : Game) → Played (puzzle_of g)
+abbrev pub played : (g : Game) → Playing (puzzle_of g)
 played game.Pattern = record {
-  reading = pattern_of;
-  spells = SpellsPattern;
-  written = pattern_text;
   extent = λ p. p.size;
-  values = λ p. 2;
-  cell = pattern_cell;
+  value_count = λ p. 2;
+  cell_text = pattern_cell;
   hides = λ p. hides_nothing;
-  solves = IsPatternSolution;
-  rules = line_rules;
-  told = pattern_told;
-  grade = pattern_grade;
-  trace = pattern_trace;
-  makes = λ size w. IsPatternMade (extent_of size) w.black w.budget w.tries w.stream;
-  gives_up = λ size w. IsExhausted (pattern_filling (extent_of size) w.black)
-      (pattern_passes (extent_of size) w.budget) w.stream w.tries;
+  game = record {
+    reading = pattern_of;
+    spells = SpellsPattern;
+    written = pattern_text;
+    solves = IsPatternSolution;
+    rules = line_rules;
+    told = pattern_told;
+    sets = pattern_sets;
+    tells = λ p. TellsVisits (pattern_name p);
+    sizes = size_to_make game.Pattern;
+    makes = λ size w. IsPatternMade (extent_of size) w.black w.budget w.tries w.stream;
+    gives_up = λ size w. IsExhausted (pattern_filling (extent_of size) w.black)
+        (pattern_passes (extent_of size) w.budget) w.stream w.tries;
+  };
 }
 played game.Solo = record {
-  reading = solo_of;
-  spells = SpellsSolo;
-  written = solo_text;
   extent = solo_extent;
-  values = solo_n;
-  cell = solo_cell;
+  value_count = solo_n;
+  cell_text = solo_cell;
   hides = λ p. hides_nothing;
-  solves = IsSoloSolution;
-  rules = houses_rules;
-  told = solo_told;
-  grade = solo_grade;
-  trace = solo_trace;
-  makes = λ size w. IsSoloMade size.w size.h size.x w.budget w.tries w.stream;
-  gives_up = λ size w. IsUnfilled size w.budget w.tries w.stream;
+  game = record {
+    reading = solo_of;
+    spells = SpellsSolo;
+    written = solo_text;
+    solves = IsSoloSolution;
+    rules = houses_rules;
+    told = solo_told;
+    sets = solo_sets;
+    tells = λ p. TellsVisits (solo_name p);
+    sizes = size_to_make game.Solo;
+    makes = λ size w. IsSoloMade size.w size.h size.x w.budget w.tries w.stream;
+    gives_up = λ size w. IsUnfilled size w.budget w.tries w.stream;
+  };
 }
 played game.LightUp = record {
-  reading = light_of;
-  spells = SpellsLight;
-  written = light_text;
   extent = λ p. p.size;
-  values = λ p. 2;
-  cell = light_cell;
+  value_count = λ p. 2;
+  cell_text = light_cell;
   hides = light_hides;
-  solves = IsLightSolution;
-  rules = light_rules;
-  told = light_told;
-  grade = light_grade;
-  trace = light_trace;
-  makes = λ size w. IsLightMade (extent_of size) w.black w.budget w.tries w.stream;
-  gives_up = λ size w. IsExhausted (light_filling (extent_of size) w.black)
-      (light_passes (extent_of size) w.budget) w.stream w.tries;
+  game = record {
+    reading = light_of;
+    spells = SpellsLight;
+    written = light_text;
+    solves = IsLightSolution;
+    rules = light_rules;
+    told = light_told;
+    sets = light_sets;
+    tells = λ p. TellsSweeps;
+    sizes = size_to_make game.LightUp;
+    makes = λ size w. IsLightMade (extent_of size) w.black w.budget w.tries w.stream;
+    gives_up = λ size w. IsExhausted (light_filling (extent_of size) w.black)
+        (light_passes (extent_of size) w.budget) w.stream w.tries;
+  };
 }
 played game.Tents = record {
-  reading = tents_of;
-  spells = SpellsTents;
-  written = tents_text;
   extent = λ p. p.size;
-  values = λ p. 2;
-  cell = tents_cell;
+  value_count = λ p. 2;
+  cell_text = tents_cell;
   hides = tent_hides;
-  solves = IsTentSolution;
-  rules = tent_rules;
-  told = tent_told;
-  grade = tent_grade;
-  trace = tent_trace;
-  makes = λ size w. IsTentsMade (extent_of size) w.budget w.tries w.stream;
-  gives_up = λ size w. IsExhausted (tent_filling (extent_of size))
-      (tents_pass (extent_of size) w.budget)
-      w.stream w.tries;
+  game = record {
+    reading = tents_of;
+    spells = SpellsTents;
+    written = tents_text;
+    solves = IsTentSolution;
+    rules = tent_rules;
+    told = tent_told;
+    sets = tent_sets;
+    tells = λ p. TellsSweeps;
+    sizes = size_to_make game.Tents;
+    makes = λ size w. IsTentsMade (extent_of size) w.budget w.tries w.stream;
+    gives_up = λ size w. IsExhausted (tent_filling (extent_of size))
+        (tents_pass (extent_of size) w.budget) w.stream w.tries;
+  };
 }

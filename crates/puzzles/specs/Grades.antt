@@ -11,7 +11,7 @@ use Rattle.fields_core.specs.TentHouses.{tent_rules}
 use Rattle.pattern_core.specs.LineRules.{line_rules}
 use Rattle.solo_core.specs.RuleSets.{singles_rules, houses_rules, crossings_rules}
 use Rattle.puzzles.specs.Answers.{Answer, Text}
-use Rattle.puzzles.specs.Traces.{IsTrace, TellsVisits, TellsSweeps, pattern_name, solo_name}
+use Rattle.puzzles.specs.Traces.{IsTrace}
 use Rattle.puzzles.specs.declared.grade.Grade.{Grade}
 use Rattle.puzzles.specs.declared.grade.Grade.TheVariants.{ByRules, BySearch, NoSolution, SeveralSolutions, GaveUp}
 use Rattle.puzzles.specs.declared.grade.RuleSet.{RuleSet}
@@ -76,18 +76,6 @@ light_sets p = only_set Local (light_rules p)
 abbrev pub tent_sets : Tents → List Settling
 tent_sets p = only_set Local (tent_rules p)
 
-abbrev pub solo_grade : ℕ → Solo → Grade
-solo_grade budget p = listed_grade (solo_sets p) (houses_rules p) budget
-
-abbrev pub pattern_grade : ℕ → Pattern → Grade
-pattern_grade budget p = listed_grade (pattern_sets p) (line_rules p) budget
-
-abbrev pub light_grade : ℕ → Light → Grade
-light_grade budget p = listed_grade (light_sets p) (light_rules p) budget
-
-abbrev pub tent_grade : ℕ → Tents → Grade
-tent_grade budget p = listed_grade (tent_sets p) (tent_rules p) budget
-
 -- some grid is a solution, and no other is
 abbrev pub HasOneSolution : (List ℕ → Type 0) → Type 0
 HasOneSolution solves = (g : List ℕ) × solves g × ((h : List ℕ) → solves h → g ≡ h)
@@ -120,19 +108,6 @@ grade_status (BySearch trials) = 0
 grade_status NoSolution = 1
 grade_status SeveralSolutions = 3
 grade_status GaveUp = 4
-
--- the closing by the rules that were tried last
-abbrev pub solo_trace : Solo → Text → Type 0
-solo_trace p = TellsVisits (solo_name p) (last_tried (houses_rules p) (solo_sets p))
-
-abbrev pub pattern_trace : Pattern → Text → Type 0
-pattern_trace p = TellsVisits (pattern_name p) (last_tried (line_rules p) (pattern_sets p))
-
-abbrev pub light_trace : Light → Text → Type 0
-light_trace p = TellsSweeps (last_tried (light_rules p) (light_sets p))
-
-abbrev pub tent_trace : Tents → Text → Type 0
-tent_trace p = TellsSweeps (last_tried (tent_rules p) (tent_sets p))
 
 -- the grade's line, and the lines of a trace
 pub record TellsGrade (grade : Grade) (traced : Bool) (tells : Text → Type 0)

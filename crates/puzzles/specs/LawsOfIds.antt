@@ -14,12 +14,12 @@ pub record IsRewritten {P : Type 0} (spells : Text → P → Type 0) (written : 
   pub is_written : other ≡ written puzzle
 
 abbrev pub Rewrites : Game → Text → Text → Type 0
-Rewrites game = IsRewritten (played game).spells (played game).written
+Rewrites game = IsRewritten (played game).game.spells (played game).game.written
 
 -- the two texts spell the same puzzles of the game
 abbrev pub SpellTheSame : Game → Text → Text → Type 0
-SpellTheSame game id other = (p : puzzle_of game) → (played game).spells id p
-    ↔ (played game).spells other p
+SpellTheSame game id other = (p : puzzle_of game)
+    → (played game).game.spells id p ↔ (played game).game.spells other p
 
 -- the two requests allow the same answers, whatever the input
 abbrev pub AllowTheSame : Asked → Asked → Type 0

@@ -18,12 +18,12 @@ pub mod TracePieces
 pub mod Grades
 pub mod Checks
 pub mod Refusals
-pub mod IdAnswers
 pub mod Each
 pub mod CheckAnswers
 pub mod Seeds
 pub mod Makings
 pub mod Games
+pub mod IdAnswers
 pub mod Solving
 pub mod Making
 pub mod Unmade

@@ -1,5 +1,6 @@
 -- What is kept of a line that is being read. No contract of a run uses these words.
-use Rattle.std.specs.Prelude.{◌≡◌, ◌==◌, ℕ, List, [], ◌∷◌, take, drop, if◌then◌else◌}
+use Rattle.std.specs.Borrow.{Bor}
+use Rattle.std.specs.Prelude.{◌≡◌, ◌==◌, ◌<◌, ℕ, List, Option, MatchOption, [], ◌∷◌, length, take, drop, if◌then◌else◌}
 use Rattle.gameid_core.specs.Head.{max_id}
 use Rattle.puzzles.specs.declared.batch.lines.Tail.{Tail}
 use Rattle.puzzles.specs.declared.batch.lines.Tail.TheVariants.{Nothing, Return, More}
@@ -25,3 +26,7 @@ pub record HoldsUpTo (most : ℕ) (line : Line) (piece : List ℕ) : Type 0 wher
 -- no more than the bytes of an ID are kept
 abbrev pub Holds : Line → List ℕ → Type 0
 Holds line piece = HoldsUpTo max_id line piece
+
+-- the line is there with these bytes, or they are too many for an ID
+abbrev pub IsLine : Option (Bor (List ℕ)) → List ℕ → Type 0
+IsLine line bytes = MatchOption line (max_id < length bytes) (λ l. l.now ≡ bytes)

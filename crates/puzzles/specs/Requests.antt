@@ -1,5 +1,5 @@
 -- What the words ask for.
-use Rattle.std.specs.Prelude.{false, ℕ, Bool, List, Option, Some, None, codes, if◌then◌else◌, option_and_then, option_map}
+use Rattle.std.specs.Prelude.{false, ℕ, Bool, List, Option, Some, None, String, codes, if◌then◌else◌, map, option_and_then, option_map, string_bytes}
 use Rattle.std.specs.Str.{bytes_eq}
 use Rattle.std.specs.Option.{option_map_or}
 use Rattle.clap.specs.Walk.{Row, Text, first_of}
@@ -94,3 +94,7 @@ asked_by name rows = if bytes_eq name (codes "solve") then solve_in rows
 -- what the words ask for; None where they are refused
 unfoldable pub asked_of : List Text → Option Asked
 asked_of words = option_and_then (λ p. asked_by p.0 p.1) (parsed words)
+
+-- the same of words in memory
+abbrev pub request_of : {Z : Type 0} → List (String Z) → Option Asked
+request_of words = asked_of (map string_bytes words)

@@ -2,11 +2,13 @@
 -- words.
 use Rattle.std.specs.Prelude.{◌≡◌, ◌<◌, ◌≤◌, ℕ, Bool, true, false, Result, Ok, Err}
 use Rattle.puzzles.specs.Answers.{Answer, BeginsAnswer, Text}
-use Rattle.puzzles.specs.Runs.{IsBroken}
+use Rattle.puzzles.specs.Runs.{IsBroken, Ran}
 use Rattle.puzzles.specs.Statuses.{code_of}
 use Rattle.puzzles.specs.declared.answers.status.Status.{Status}
 use Rattle.puzzles.specs.declared.answers.status.Stop.{Stop}
 use Rattle.puzzles.specs.declared.answers.status.Stop.TheVariants.{Memory, Broken}
+use Rattle.puzzles.specs.declared.ends.Sink as sinks
+use Rattle.puzzles.specs.declared.ends.Source as sources
 
 -- the status of a run that ended before its answer was whole
 abbrev pub status_of : Stop → ℕ
@@ -20,10 +22,11 @@ is_broken Broken = true
 
 -- How a step that stopped leaves the ends: for a failing end one is broken, and for want of memory
 -- none has failed.
-pub record StopsWith (stop : Stop) (calls : ℕ) (input_failed input_ended output_failed : Bool) :
-    Type 0 where
-  pub memory : is_broken stop ≡ false → (input_failed ≡ false) × (output_failed ≡ false)
-  pub cause : is_broken stop ≡ true → IsBroken input_failed output_failed calls input_ended
+pub record StopsWith {I : Type 0} (source : sources.Ghosts I) (stop : Stop) (input : I)
+    (output_failed : Bool) : Type 0 where
+  pub memory : is_broken stop ≡ false
+      → (source.has_failed input ≡ false) × (output_failed ≡ false)
+  pub cause : is_broken stop ≡ true → IsBroken source input output_failed
 
 -- the status that was found, or that of the stop
 abbrev pub status_in : Result Status Stop → ℕ
@@ -46,3 +49,30 @@ pub record IsSinkAfter (status : ℕ) (failed flushed : Bool) : Type 0 where
   pub sound : status ≤ 5 → failed ≡ false
   pub sent : status < 5 → flushed ≡ true
   pub broken : status ≡ 6 → failed ≡ true
+
+-- the same of a step with that result
+abbrev pub Told : {S : Type 0} → (S → Text → S → Type 0) → (Answer → Type 0) → S → S
+    → Result Status Stop → Type 0
+Told takes allows old new result = Tells takes allows old new (status_in result)
+
+abbrev pub LeavesSink : {S : Type 0} → sinks.Ghosts S → S → Result Status Stop → Type 0
+LeavesSink sink new result =
+    IsSinkAfter (status_in result) (sink.has_failed new) (sink.is_flushed new)
+
+-- what a step with that result did to the ends of a run
+abbrev pub Runs : {I O : Type 0} → sources.Ghosts I → sinks.Ghosts O → (Text → Answer → Type 0)
+    → I → I → O → O → Result Status Stop → Type 0
+Runs source sink allows i j o p result = Ran source sink allows i j o p (status_in result)
+
+-- How a step that reads its input, or not, leaves the ends with a result. With status 6 an end is
+-- broken, and else neither failed. With one below 5 the output was sent on whole, and the input
+-- read to its end, or not at all.
+pub record LeavesEnds {I O : Type 0} (source : sources.Ghosts I) (sink : sinks.Ghosts O)
+    (reads : Bool) (input : I) (output : O) (result : Result Status Stop) : Type 0 where
+  pub within : status_in result ≤ 6
+  pub sound : status_in result ≤ 5
+      → (source.has_failed input ≡ false) × (sink.has_failed output ≡ false)
+  pub sent : status_in result < 5 → sink.is_flushed output ≡ true
+  pub broken : status_in result ≡ 6 → IsBroken source input (sink.has_failed output)
+  pub unread : reads ≡ false → source.call_count input ≡ 0
+  pub ended : reads ≡ true → status_in result < 5 → source.has_ended input ≡ true

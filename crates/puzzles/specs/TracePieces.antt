@@ -1,8 +1,9 @@
 -- How a trace is put in pieces. No contract of a run uses these words: they serve the steps that
 -- put it.
-use Rattle.std.specs.Prelude.{◌≡◌, ◌<◌, ◌⊎◌, ◌++◌, ◌∷◌, ℕ, Bool, List, [], length}
+use Rattle.std.specs.Prelude.{◌≡◌, ◌<◌, ◌+◌, ◌⊎◌, ◌++◌, ◌∷◌, ℕ, Bool, List, String, [], length, string_bytes, string_len}
 use Rattle.puzzles.specs.Answers.{Text, PutUpTo, PutBegun}
-use Rattle.puzzles.specs.Traces.{IsTrace}
+use Rattle.puzzles.specs.Traces.{IsTrace, visits_text}
+use Rattle.puzzles.specs.declared.grade.trace.TheConstants.{LINE, PIECE}
 
 -- the sink took a text and the lines of its trace, up to a rest
 pub record PutsTrace {S : Type 0} (takes : S → Text → S → Type 0) (traced : Bool)
@@ -42,15 +43,19 @@ pub record PutInPieces {S : Type 0} (takes : S → Text → S → Type 0) (most 
   pub took : TakesPieces takes most old pieces new
   pub split : text ≡ joined pieces ++ rest
 
--- the same of a text and the lines of its trace
-pub record PutsPieces {S : Type 0} (takes : S → Text → S → Type 0) (most : ℕ) (traced : Bool)
-    (tells : Text → Type 0) (old : S) (text rest : Text) (new : S) : Type 0 where
-  pub lines : Text
-  pub trace : IsTrace traced tells lines
-  pub put : PutInPieces takes most old (text ++ lines) rest new
+-- a text and then a line for each visit
+abbrev pub with_visits : {Z : Type 0} → String Z → (ℕ → Text) → List ℕ → Text
+with_visits text name visits = string_bytes text ++ visits_text name visits
 
--- the lines of a trace were added to the text
-pub record AddsTrace (traced : Bool) (tells : Text → Type 0) (old new : Text) : Type 0 where
-  pub lines : Text
-  pub trace : IsTrace traced tells lines
-  pub added : new ≡ old ++ lines
+module _ {S Z : Type 0} (takes : S → Text → S → Type 0) (name : ℕ → Text) (visits : List ℕ) where
+  -- all of that was put up to a rest; in pieces, after a short text; a beginning of it was put
+  abbrev pub VisitsPut : S → String Z → String Z → S → Type 0
+  VisitsPut old text rest new =
+      PutUpTo takes old (with_visits text name visits) (string_bytes rest) new
+
+  abbrev pub VisitsInPieces : S → String Z → String Z → S → Type 0
+  VisitsInPieces old text rest new = string_len text < PIECE
+      → PutInPieces takes (PIECE + LINE) old (with_visits text name visits) (string_bytes rest) new
+
+  abbrev pub VisitsBegun : S → String Z → S → Type 0
+  VisitsBegun old text new = PutBegun takes old (with_visits text name visits) new

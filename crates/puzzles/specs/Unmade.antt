@@ -1,12 +1,13 @@
--- Why a maker made no puzzle. No contract of a run uses these words.
-use Rattle.std.specs.Prelude.{◌≡◌, ⊤, Result, Err}
-use Rattle.gameid_core.specs.Head.{SizeRead}
-use Rattle.gameid_core.specs.declared.fault.IdFault.{IdFault}
+-- What a maker made, or why it made no puzzle. No contract of a run uses these words.
+use Rattle.std.specs.Prelude.{◌≡◌, ⊤, ℕ, List, Err}
 use Rattle.gameid_core.specs.declared.fault.IdFault.TheVariants.{SizeRange}
+use Rattle.maker_core.specs.declared.made.Kept.{Kept}
 use Rattle.maker_core.specs.declared.made.MakeFault.{MakeFault}
 use Rattle.maker_core.specs.declared.made.MakeFault.TheVariants as fault
+use Rattle.puzzles.specs.Answers.{Text}
+use Rattle.puzzles.specs.Games.{GameOf}
 use Rattle.puzzles.specs.Making.{wanted}
-use Rattle.puzzles.specs.Makings.{IsOfSize, Wanted}
+use Rattle.puzzles.specs.Makings.{IsOfSize, Wanted, exhausted_answer}
 use Rattle.puzzles.specs.declared.generate.Recipe.{Recipe}
 use Rattle.puzzles.specs.declared.generate.makable.Unmade.{Unmade}
 use Rattle.puzzles.specs.declared.generate.makable.Unmade.TheVariants.{Size, Exhausted, Memory}
@@ -19,8 +20,14 @@ unmade_by fault.SizeRange = Size SizeRange
 unmade_by fault.Exhausted = Exhausted
 unmade_by fault.Memory = Memory
 
--- the first fault of the size is given, or of the size that was read this holds
-abbrev pub IsUnmade : Result SizeRead IdFault → (SizeRead → Type 0) → Unmade → Type 0
-IsUnmade reading none (Size fault) = reading ≡ Err fault
-IsUnmade reading none Exhausted = IsOfSize reading none
-IsUnmade reading none Memory = ⊤
+-- of the size that the text is that puzzle is made, with that solution and those clues left
+abbrev pub IsMade : {P : Type 0} → GameOf P → Recipe → Text → P → List ℕ → List Kept → Type 0
+IsMade game recipe text p g kept =
+    IsOfSize (game.sizes text) (λ size. game.makes size (wanted_in recipe) p g kept)
+
+-- the first fault of the size is given, or none is made of the size that was read
+abbrev pub IsUnmade : {P : Type 0} → GameOf P → Recipe → Text → Unmade → Type 0
+IsUnmade game recipe text (Size fault) = game.sizes text ≡ Err fault
+IsUnmade game recipe text Exhausted =
+    IsOfSize (game.sizes text) (λ size. game.gives_up size (wanted_in recipe) exhausted_answer)
+IsUnmade game recipe text Memory = ⊤

@@ -1,22 +1,18 @@
 //! Many IDs, one a line.
-ghost use Rattle.std.specs.Prelude.{◌≡◌, ◌<◌, ◌≤◌, ◌++◌, ◌∷◌, [], List, ℕ, max, true, false, IfOk, IfErr, OnErr, OnOk, MatchOption, length};
-ghost use Rattle.std.specs.Str.Lines.{lines};
-ghost use Rattle.gameid_core.specs.Head.{max_id};
-ghost use Rattle.puzzles.specs.Answers.{Answer, Begins, Text};
+ghost use Rattle.std.specs.Prelude.{◌≡◌, ◌∷◌, [], max, true, false, IfOk, IfErr, OnErr, OnOk};
+ghost use Rattle.puzzles.specs.Answers.{PutBegun, Text};
+ghost use Rattle.puzzles.specs.Batches.{AllowsLines, EndsIn, EndsWith, GoesOn, StopsIn, StopsReading, TakesTask, AllowsTask};
+ghost use Rattle.puzzles.specs.LineStates.{Holds, IsLine};
 ghost use Rattle.puzzles.specs.Replies.{answer_in};
-ghost use Rattle.puzzles.specs.Each.{AllowsEach, Answered, Begun, HasAnswers, Stopped};
-ghost use Rattle.puzzles.specs.Batches.{Batched, StoppedUpTo, TakenUpTo};
+ghost use Rattle.puzzles.specs.Runs.{AreNew};
 ghost use Rattle.puzzles.specs.Statuses.{code_of};
-ghost use Rattle.puzzles.specs.Stops.{StopsWith, is_broken, status_in};
-ghost use Rattle.puzzles.specs.Runs.{AreNew, LeavesEnds, Ran};
+ghost use Rattle.puzzles.specs.Stops.{LeavesEnds, Runs, StopsWith, is_broken};
 ghost use Rattle.puzzles.specs.declared.answers.status.Status.TheVariants.{Fine};
-ghost use Rattle.puzzles.specs.Solving.{AllowsSolve};
-ghost use Rattle.puzzles.specs.LineStates.{Holds};
 
 pub mod lines;
 
 use crate::answers::reply::{Reply, id_refused_in};
-use crate::answers::status::{Status, Stop};
+use crate::answers::status::{Ended, Status, Stop};
 use crate::batch::lines::Line;
 use crate::ends::output::put_all;
 use crate::ends::{CALL_LIMIT, CHUNK, Sink, Source};
@@ -43,9 +39,8 @@ fn line_reply(
     line: Option<&[u8]>,
     text: String,
 ) -> Result<Reply, AllocError>
-    ensures { IfOk result (λ r. (id : Text)
-        → MatchOption line.entry (max_id < length id) (λ l. l.now ≡ id)
-        → AllowsSolve task.game task.budget id (answer_in r)) }
+    ensures { IfOk result
+        (λ r. (id : Text) → IsLine line.entry id → AllowsTask task id (answer_in r)) }
 {
     gameid_core::over_long_is_too_long();
     match line {
@@ -70,12 +65,12 @@ impl Batch {
     /// Puts the text of a reply, and keeps the greater status.
     fn put_reply<O: Sink>(&mut self, reply: &Reply, output: &mut O) -> Result<(), Stop>
         requires { O.has_failed output.old ≡ false }
-        ensures put { OnOk result (O.takes output.old (answer_in reply.now).text output.new
-            × (O.has_failed output.new ≡ false)) }
-        ensures status { OnOk result (code_of self.new.status
-            ≡ max (code_of self.old.status) (code_of reply.now.status)) }
-        ensures begun { OnErr result ((written : List ℕ) × O.takes output.old written output.new
-            × Begins written (answer_in reply.now).text) }
+        ensures put { OnOk result (O.takes output.old (answer_in reply.now).text output.new) }
+        ensures fine { OnOk result (O.has_failed output.new ≡ false) }
+        ensures status { OnOk result
+            (code_of self.new.status ≡ max (code_of self.old.status) (code_of reply.now.status)) }
+        ensures begun { OnErr result
+            (PutBegun O.takes output.old (answer_in reply.now).text output.new) }
         ensures cause { IfErr result (λ e. (O.has_failed output.new ≡ true)
             × (is_broken e ≡ true)) }
     {
@@ -97,15 +92,10 @@ impl Batch {
     ) -> Result<(), Stop>
         requires { O.has_failed output.old ≡ false }
         ensures fine { OnOk result (O.has_failed output.new ≡ false) }
-        ensures goes_on { OnOk result ((start : O) (seen : List ℕ)
-            → Batched O.takes (AllowsSolve task.game task.budget) start self.old seen output.old
-            → Batched O.takes (AllowsSolve task.game task.budget) start self.new
-            (seen ++ 10 ∷ []) output.new) }
-        ensures stopped { IfErr result (λ e. HasAnswers (AllowsSolve task.game task.budget)
-            → (start : O) (seen : List ℕ)
-            → Batched O.takes (AllowsSolve task.game task.budget) start self.old seen output.old
-            → Stopped O.takes (AllowsSolve task.game task.budget) start
-            (seen ++ 10 ∷ []) output.new) }
+        ensures goes_on { OnOk result
+            (GoesOn O.takes task self.old self.new (10 ∷ []) output.old output.new) }
+        ensures stopped { OnErr result
+            (StopsIn O.takes task self.old (10 ∷ []) output.old output.new) }
         ensures cause { IfErr result (λ e. O.has_failed output.new ≡ is_broken e) }
     {
         let text = replace(&mut self.text, String::new(alloc));
@@ -127,15 +117,10 @@ impl Batch {
     ) -> Result<(), Stop>
         requires { O.has_failed output.old ≡ false }
         ensures fine { OnOk result (O.has_failed output.new ≡ false) }
-        ensures goes_on { OnOk result ((start : O) (seen : List ℕ)
-            → Batched O.takes (AllowsSolve task.game task.budget) start self.old seen output.old
-            → Batched O.takes (AllowsSolve task.game task.budget) start self.new
-            (seen ++ byte ∷ []) output.new) }
-        ensures stopped { IfErr result (λ e. HasAnswers (AllowsSolve task.game task.budget)
-            → (start : O) (seen : List ℕ)
-            → Batched O.takes (AllowsSolve task.game task.budget) start self.old seen output.old
-            → Stopped O.takes (AllowsSolve task.game task.budget) start
-            (seen ++ byte ∷ []) output.new) }
+        ensures goes_on { OnOk result
+            (GoesOn O.takes task self.old self.new (byte ∷ []) output.old output.new) }
+        ensures stopped { OnErr result
+            (StopsIn O.takes task self.old (byte ∷ []) output.old output.new) }
         ensures cause { IfErr result (λ e. O.has_failed output.new ≡ is_broken e) }
     {
         if byte == b'\n' {
@@ -155,15 +140,10 @@ impl Batch {
     ) -> Result<(), Stop>
         requires { O.has_failed output.old ≡ false }
         ensures fine { OnOk result (O.has_failed output.new ≡ false) }
-        ensures goes_on { OnOk result ((start : O) (seen : List ℕ)
-            → Batched O.takes (AllowsSolve task.game task.budget) start self.old seen output.old
-            → Batched O.takes (AllowsSolve task.game task.budget) start self.new
-            (seen ++ chunk.now) output.new) }
-        ensures stopped { IfErr result (λ e. HasAnswers (AllowsSolve task.game task.budget)
-            → (start : O) (seen : List ℕ)
-            → Batched O.takes (AllowsSolve task.game task.budget) start self.old seen output.old
-            → Stopped O.takes (AllowsSolve task.game task.budget) start
-            (seen ++ chunk.now) output.new) }
+        ensures goes_on { OnOk result
+            (GoesOn O.takes task self.old self.new chunk.now output.old output.new) }
+        ensures stopped { OnErr result
+            (StopsIn O.takes task self.old chunk.now output.old output.new) }
         ensures cause { IfErr result (λ e. O.has_failed output.new ≡ is_broken e) }
     {
         for byte in chunk {
@@ -181,14 +161,9 @@ impl Batch {
     ) -> Result<(), Stop>
         requires { O.has_failed output.old ≡ false }
         ensures fine { OnOk result (O.has_failed output.new ≡ false) }
-        ensures whole { OnOk result ((start : O) (seen : List ℕ)
-            → Batched O.takes (AllowsSolve task.game task.budget) start self.old seen output.old
-            → Answered O.takes (AllowsSolve task.game task.budget) start
-            (code_of self.new.status) seen output.new) }
-        ensures begun { IfErr result (λ e. HasAnswers (AllowsSolve task.game task.budget)
-            → (start : O) (seen : List ℕ)
-            → Batched O.takes (AllowsSolve task.game task.budget) start self.old seen output.old
-            → Begun O.takes (AllowsSolve task.game task.budget) start seen output.new) }
+        ensures whole { OnOk result
+            (EndsWith O.takes task self.old self.new.status output.old output.new) }
+        ensures begun { OnErr result (EndsIn O.takes task self.old output.old output.new) }
         ensures cause { IfErr result (λ e. O.has_failed output.new ≡ is_broken e) }
     {
         if self.line.is_empty() {
@@ -210,19 +185,18 @@ fn take_input<I: Source, O: Sink>(
     input: &mut I,
     output: &mut O,
 ) -> Result<(), Stop>
-    requires new { AreNew (I.call_count input.old) (I.has_failed input.old) (I.has_ended input.old)
-        (O.has_failed output.old) }
+    requires new { AreNew I.Source O.Sink input.old output.old }
     requires no_line { Holds batch.old.line [] }
     requires no_status { batch.old.status ≡ Fine }
-    ensures fine { OnOk result ((I.has_failed input.new ≡ false) × (I.has_ended input.new ≡ true)
-        × (O.has_failed output.new ≡ false)) }
-    ensures taken { OnOk result (TakenUpTo I.gives O.takes (AllowsSolve task.game task.budget)
+    ensures input { OnOk result (I.has_failed input.new ≡ false) }
+    ensures ended { OnOk result (I.has_ended input.new ≡ true) }
+    ensures output { OnOk result (O.has_failed output.new ≡ false) }
+    ensures taken { OnOk result (TakesTask I.gives O.takes task
         input.old output.old batch.new input.new output.new) }
-    ensures stopped { IfErr result (λ e. HasAnswers (AllowsSolve task.game task.budget)
-        → StoppedUpTo I.gives O.takes (AllowsSolve task.game task.budget)
+    ensures stopped { OnErr result (StopsReading I.gives O.takes task
         input.old output.old input.new output.new) }
-    ensures left { IfErr result (λ e. StopsWith e (I.call_count input.new) (I.has_failed input.new)
-        (I.has_ended input.new) (O.has_failed output.new)) }
+    ensures left { IfErr result
+        (λ e. StopsWith I.Source e input.new (O.has_failed output.new)) }
 {
     let mut buffer = [0u8; CHUNK];
     for _turn in 0..CALL_LIMIT {
@@ -243,17 +217,13 @@ fn answer_lines<I: Source, O: Sink>(
     batch: &mut Batch,
     input: &mut I,
     output: &mut O,
-) -> Result<Status, Stop>
-    requires new { AreNew (I.call_count input.old) (I.has_failed input.old) (I.has_ended input.old)
-        (O.has_failed output.old) }
+) -> Ended
+    requires new { AreNew I.Source O.Sink input.old output.old }
     requires no_line { Holds batch.old.line [] }
     requires no_status { batch.old.status ≡ Fine }
-    ensures ran { Ran I.gives I.has_ended O.takes
-        (λ read. AllowsEach (AllowsSolve task.game task.budget) (lines read))
-        input.old input.new output.old output.new (status_in result) }
-    ensures left { LeavesEnds true (I.call_count input.new)
-        (I.has_failed input.new) (I.has_ended input.new) (O.has_failed output.new)
-        (O.is_flushed output.new) (status_in result) }
+    ensures ran { Runs I.Source O.Sink (AllowsLines task)
+        input.old input.new output.old output.new result }
+    ensures left { LeavesEnds I.Source O.Sink true input.new output.new result }
 {
     each_text_has_an_answer();
     take_input(alloc, task, batch, input, output)?;
@@ -275,15 +245,11 @@ pub fn solve_lines<I: Source, O: Sink>(
     task: Task,
     input: &mut I,
     output: &mut O,
-) -> Result<Status, Stop>
-    requires { AreNew (I.call_count input.old) (I.has_failed input.old) (I.has_ended input.old)
-        (O.has_failed output.old) }
-    ensures ran { Ran I.gives I.has_ended O.takes
-        (λ read. AllowsEach (AllowsSolve task.game task.budget) (lines read))
-        input.old input.new output.old output.new (status_in result) }
-    ensures left { LeavesEnds true (I.call_count input.new)
-        (I.has_failed input.new) (I.has_ended input.new) (O.has_failed output.new)
-        (O.is_flushed output.new) (status_in result) }
+) -> Ended
+    requires { AreNew I.Source O.Sink input.old output.old }
+    ensures ran { Runs I.Source O.Sink (AllowsLines task)
+        input.old input.new output.old output.new result }
+    ensures left { LeavesEnds I.Source O.Sink true input.new output.new result }
 {
     let mut batch = Batch::new(alloc);
     answer_lines(alloc, task, &mut batch, input, output)

@@ -1,19 +1,17 @@
 //! `check`: the grid that the input gives, against a puzzle.
 ghost use Rattle.std.specs.Prelude.{true, is_ok, IfOk};
 ghost use Rattle.puzzles.specs.Answers.{Text};
-ghost use Rattle.puzzles.specs.CheckAnswers.{AllowsGrid};
-ghost use Rattle.puzzles.specs.Checking.{AllowsCheck, is_read};
-ghost use Rattle.puzzles.specs.IdAnswers.{AllowsId};
+ghost use Rattle.puzzles.specs.Checking.{AllowsCheck, ChecksGrid, ChecksId, is_read};
 ghost use Rattle.puzzles.specs.Replies.{answer_in};
 ghost use Rattle.puzzles.specs.Texts.{IsText};
-ghost use Rattle.puzzles.specs.Runs.{AreNew, LeavesEnds, Ran};
-ghost use Rattle.puzzles.specs.Stops.{status_in};
+ghost use Rattle.puzzles.specs.Runs.{AreNew};
+ghost use Rattle.puzzles.specs.Stops.{LeavesEnds, Runs};
 
 pub mod checked;
 
 use crate::answers::check_reply::grid_refused;
 use crate::answers::reply::{Reply, id_refused};
-use crate::answers::status::{Status, Stop};
+use crate::answers::status::{Ended, Stop};
 use crate::check::checked::Checked;
 use crate::ends::output::deliver;
 use crate::ends::text::{read_whole, without_returns};
@@ -28,9 +26,7 @@ fn input_reply<P: Checked>(
     input: Option<Vec<u8>>,
 ) -> Result<Reply, AllocError>
     ensures { IfOk result (λ r. (text : Text) → IsText input text
-        → AllowsGrid (P.hides puzzle.now) (P.value_count puzzle.now) (P.extent puzzle.now)
-        (P.cell_text puzzle.now) (P.told puzzle.now)
-        text (answer_in r)) }
+        → ChecksGrid P.Played puzzle.now text (answer_in r)) }
 {
     let Some(bytes) = input else {
         return grid_refused(alloc);
@@ -48,16 +44,11 @@ fn check_input<P: Checked, I: Source, O: Sink>(
     puzzle: &P,
     input: &mut I,
     output: &mut O,
-) -> Result<Status, Stop>
-    requires { AreNew (I.call_count input.old) (I.has_failed input.old) (I.has_ended input.old)
-        (O.has_failed output.old) }
-    ensures ran { Ran I.gives I.has_ended O.takes
-        (AllowsGrid (P.hides puzzle.now) (P.value_count puzzle.now) (P.extent puzzle.now)
-        (P.cell_text puzzle.now) (P.told puzzle.now))
-        input.old input.new output.old output.new (status_in result) }
-    ensures left { LeavesEnds true (I.call_count input.new)
-        (I.has_failed input.new) (I.has_ended input.new) (O.has_failed output.new)
-        (O.is_flushed output.new) (status_in result) }
+) -> Ended
+    requires { AreNew I.Source O.Sink input.old output.old }
+    ensures ran { Runs I.Source O.Sink (ChecksGrid P.Played puzzle.now)
+        input.old input.new output.old output.new result }
+    ensures left { LeavesEnds I.Source O.Sink true input.new output.new result }
 {
     let text = read_whole(alloc, input)?;
     let reply = input_reply(alloc, puzzle, text)?;
@@ -70,17 +61,11 @@ fn check_one<P: Checked + Drop, I: Source, O: Sink>(
     id: &[u8],
     input: &mut I,
     output: &mut O,
-) -> Result<Status, Stop>
-    requires { AreNew (I.call_count input.old) (I.has_failed input.old) (I.has_ended input.old)
-        (O.has_failed output.old) }
-    ensures ran { Ran I.gives I.has_ended O.takes
-        (λ text. AllowsId (P.reading id.now) (P.spells id.now)
-        (λ p. AllowsGrid (P.hides p) (P.value_count p) (P.extent p) (P.cell_text p)
-        (P.told p) text))
-        input.old input.new output.old output.new (status_in result) }
-    ensures left { LeavesEnds (is_ok (P.reading id.now)) (I.call_count input.new)
-        (I.has_failed input.new) (I.has_ended input.new) (O.has_failed output.new)
-        (O.is_flushed output.new) (status_in result) }
+) -> Ended
+    requires { AreNew I.Source O.Sink input.old output.old }
+    ensures ran { Runs I.Source O.Sink (ChecksId P.Played id.now)
+        input.old input.new output.old output.new result }
+    ensures left { LeavesEnds I.Source O.Sink (is_ok (P.game.reading id.now)) input.new output.new result }
 {
     match P::read_id(alloc, id) {
         Ok(puzzle) => check_input(alloc, &puzzle, input, output),
@@ -100,14 +85,11 @@ pub fn check_id<I: Source, O: Sink>(
     id: &[u8],
     input: &mut I,
     output: &mut O,
-) -> Result<Status, Stop>
-    requires { AreNew (I.call_count input.old) (I.has_failed input.old) (I.has_ended input.old)
-        (O.has_failed output.old) }
-    ensures ran { Ran I.gives I.has_ended O.takes (AllowsCheck game id.now)
-        input.old input.new output.old output.new (status_in result) }
-    ensures left { LeavesEnds (is_read game id.now) (I.call_count input.new)
-        (I.has_failed input.new) (I.has_ended input.new) (O.has_failed output.new)
-        (O.is_flushed output.new) (status_in result) }
+) -> Ended
+    requires { AreNew I.Source O.Sink input.old output.old }
+    ensures ran { Runs I.Source O.Sink (AllowsCheck game id.now)
+        input.old input.new output.old output.new result }
+    ensures left { LeavesEnds I.Source O.Sink (is_read game id.now) input.new output.new result }
 {
     match game {
         Game::Pattern => check_one::<PatternPuzzle, I, O>(alloc, id, input, output),

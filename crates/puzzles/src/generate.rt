@@ -1,11 +1,11 @@
 //! The answers of `generate`.
-ghost use Rattle.std.specs.Prelude.{◌≡◌, ◌⊎◌, IfOk, string_bytes};
+ghost use Rattle.std.specs.Prelude.{◌≡◌, IfOk, string_bytes};
 ghost use Rattle.puzzles.specs.Answers.{IsGridFor};
-ghost use Rattle.gameid_core.specs.GridTexts.{grid_text};
-ghost use Rattle.puzzles.specs.Making.{AllowsMade};
-ghost use Rattle.puzzles.specs.Makings.{AllowsMaking, IsHandedOut, made_answer, exhausted_answer};
+ghost use Rattle.puzzles.specs.Games.{played};
+ghost use Rattle.puzzles.specs.Making.{MakesOf};
+ghost use Rattle.puzzles.specs.Makings.{made_answer, exhausted_answer};
 ghost use Rattle.puzzles.specs.Unmade.{wanted_in};
-ghost use Rattle.puzzles.specs.Replies.{answer_in};
+ghost use Rattle.puzzles.specs.Replies.{answer_in, grid_of};
 
 pub mod makable;
 pub mod percent;
@@ -31,22 +31,15 @@ pub struct Recipe {
 }
 
 /// The answer that hands out a puzzle by its written ID, with its solution.
-fn made_reply<P: Printed>(
-    mut written: String,
-    puzzle: &P,
-    answer: &Grid,
-) -> Result<Reply, AllocError>
-    requires { IsGridFor (P.extent puzzle.now) (P.value_count puzzle.now) answer.now }
+fn made_reply<P: Printed>(mut text: String, puzzle: &P, grid: &Grid) -> Result<Reply, AllocError>
+    requires { IsGridFor (P.extent puzzle.now) (P.value_count puzzle.now) grid.now }
     ensures { IfOk result (λ r. answer_in r
-        ≡ made_answer (string_bytes written)
-        (grid_text (P.cell_text puzzle.now answer.now) (P.extent puzzle.now))) }
+        ≡ made_answer (string_bytes text) (grid_of P.Printed puzzle.now grid.now)) }
 {
-    written.push_str("\n")?;
-    push_grid(&mut written, puzzle, answer)?;
-    Ok(Reply {
-        text: written,
-        status: Status::Fine,
-    })
+    text.push_str("\n")?;
+    push_grid(&mut text, puzzle, grid)?;
+    let status = Status::Fine;
+    Ok(Reply { text, status })
 }
 
 /// The answer where no try made a puzzle with one solution.
@@ -54,10 +47,8 @@ fn exhausted_reply(alloc: Global) -> Result<Reply, AllocError>
     ensures { IfOk result (λ r. answer_in r ≡ exhausted_answer) }
 {
     let text = String::from_str(alloc, "exhausted\n")?;
-    Ok(Reply {
-        text,
-        status: Status::GaveUp,
-    })
+    let status = Status::GaveUp;
+    Ok(Reply { text, status })
 }
 
 /// The answer to a size of which a puzzle is to be made.
@@ -66,10 +57,7 @@ fn generate_one<P: Makable + Drop>(
     size: &[u8],
     recipe: Recipe,
 ) -> Result<Reply, AllocError>
-    ensures { IfOk result (λ r. AllowsMaking (P.sizes size.now) (λ s answer.
-        IsHandedOut (P.makes s (wanted_in recipe)) P.spells P.written
-        (λ p g. grid_text (P.cell_text p g) (P.extent p)) answer
-        ⊎ P.gives_up s (wanted_in recipe) answer) (answer_in r)) }
+    ensures { IfOk result (λ r. MakesOf P.Played (wanted_in recipe) size.now (answer_in r)) }
 {
     match P::make(alloc, size, recipe) {
         Ok(made) => {
@@ -93,8 +81,8 @@ pub fn generated(
     size: &[u8],
     recipe: Recipe,
 ) -> Result<Reply, AllocError>
-    ensures { IfOk result (λ r. AllowsMade game size.now recipe.seed recipe.limits.budget
-        recipe.limits.tries recipe.black.value (answer_in r)) }
+    ensures { IfOk result
+        (λ r. MakesOf (played game) (wanted_in recipe) size.now (answer_in r)) }
 {
     match game {
         Game::Pattern => generate_one::<PatternPuzzle>(alloc, size, recipe),

@@ -1,30 +1,20 @@
 //! Puzzles of the games that are played: how their IDs are read and written.
-ghost use Rattle.std.specs.Prelude.{◌≡◌, List, Result, Err, IfOk, IfErr, string_bytes};
-ghost use Rattle.gameid_core.specs.LightText.{SpellsLight, light_of, light_text};
-ghost use Rattle.gameid_core.specs.PatternText.{SpellsPattern, pattern_of, pattern_text};
-ghost use Rattle.gameid_core.specs.SoloText.{SpellsSolo, solo_of, solo_text};
+ghost use Rattle.std.specs.Prelude.{◌≡◌, Err, IfOk, IfErr, string_bytes};
 ghost use Rattle.gameid_core.specs.Steps.{Fails};
-ghost use Rattle.gameid_core.specs.TentsText.{SpellsTents, tents_of, tents_text};
 ghost use Rattle.gameid_core.specs.declared.fault.IdFault.{IdFault};
-ghost use Rattle.puzzles.specs.Answers.{Text};
+ghost use Rattle.gameid_core.specs.declared.game.Game.TheVariants.{LightUp, Pattern, Solo, Tents};
+ghost use Rattle.puzzles.specs.Games.{GameOf, played};
 
 use gameid_core::{
-    IdFault, LightPuzzle, PatternPuzzle, Readable, SoloPuzzle, TentsPuzzle, one_reading_of_lights,
-    one_reading_of_pattern, one_reading_of_solo, one_reading_of_tents, read_lights, read_pattern,
-    read_solo, read_tents, write_lights, write_pattern, write_solo, write_tents,
+    IdFault, LightPuzzle, PatternPuzzle, Readable, SoloPuzzle, TentsPuzzle, read_lights,
+    read_pattern, read_solo, read_tents, write_lights, write_pattern, write_solo, write_tents,
 };
 use std::alloc::{AllocError, Global};
 
 /// A puzzle of a game that is played.
 pub trait Played: Readable + Sized {
-    // The puzzle that a text spells, or its first fault.
-    ghost reading: { Text → Result Self IdFault };
-
-    // The text spells the puzzle.
-    ghost spells: { Text → Self → Type 0 };
-
-    // The ID that is written for the puzzle.
-    ghost written: { Self → Text };
+    // What the commands know of its game.
+    ghost game: { GameOf Self };
 
     /// The puzzle that an ID spells.
     ///
@@ -32,9 +22,10 @@ pub trait Played: Readable + Sized {
     ///
     /// The first fault of the ID, or that memory was refused.
     fn read_id(alloc: Global, id: &[u8]) -> Result<Self, IdFault>
-        ensures found { IfOk result (λ p. spells id.now p) }
-        ensures fault { IfErr result (λ f. Fails f (reading id.now)) }
-        ensures apart { (p : Self) (f : IdFault) → spells id.now p → reading id.now ≡ Err f → ⊥ };
+        ensures found { IfOk result (λ p. game.spells id.now p) }
+        ensures fault { IfErr result (λ f. Fails f (game.reading id.now)) }
+        ensures apart { (p : Self) (f : IdFault)
+            → game.spells id.now p → game.reading id.now ≡ Err f → ⊥ };
 
     /// The ID that is written for the puzzle.
     ///
@@ -42,19 +33,14 @@ pub trait Played: Readable + Sized {
     ///
     /// When memory was refused.
     fn write_id(&self, alloc: Global) -> Result<String, AllocError>
-        ensures text { IfOk result (λ text. string_bytes text ≡ written self.now) }
-        ensures again { IfOk result (λ text. spells (string_bytes text) self.now) };
+        ensures text { IfOk result (λ text. string_bytes text ≡ game.written self.now) }
+        ensures again { IfOk result (λ text. game.spells (string_bytes text) self.now) };
 }
 
 impl Played for PatternPuzzle {
-    ghost reading = { pattern_of };
-
-    ghost spells = { SpellsPattern };
-
-    ghost written = { pattern_text };
+    ghost game = { (played Pattern).game };
 
     fn read_id(alloc: Global, id: &[u8]) -> Result<PatternPuzzle, IdFault> {
-        one_reading_of_pattern();
         read_pattern(alloc, id)
     }
 
@@ -64,14 +50,9 @@ impl Played for PatternPuzzle {
 }
 
 impl Played for SoloPuzzle {
-    ghost reading = { solo_of };
-
-    ghost spells = { SpellsSolo };
-
-    ghost written = { solo_text };
+    ghost game = { (played Solo).game };
 
     fn read_id(alloc: Global, id: &[u8]) -> Result<SoloPuzzle, IdFault> {
-        one_reading_of_solo();
         read_solo(alloc, id)
     }
 
@@ -81,14 +62,9 @@ impl Played for SoloPuzzle {
 }
 
 impl Played for LightPuzzle {
-    ghost reading = { light_of };
-
-    ghost spells = { SpellsLight };
-
-    ghost written = { light_text };
+    ghost game = { (played LightUp).game };
 
     fn read_id(alloc: Global, id: &[u8]) -> Result<LightPuzzle, IdFault> {
-        one_reading_of_lights();
         read_lights(alloc, id)
     }
 
@@ -98,14 +74,9 @@ impl Played for LightPuzzle {
 }
 
 impl Played for TentsPuzzle {
-    ghost reading = { tents_of };
-
-    ghost spells = { SpellsTents };
-
-    ghost written = { tents_text };
+    ghost game = { (played Tents).game };
 
     fn read_id(alloc: Global, id: &[u8]) -> Result<TentsPuzzle, IdFault> {
-        one_reading_of_tents();
         read_tents(alloc, id)
     }
 

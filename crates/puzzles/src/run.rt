@@ -1,14 +1,14 @@
 //! One run of the program.
-ghost use Rattle.std.specs.Prelude.{◌≡◌, ◌<◌, ◌≤◌, true, false, map, option_map, string_bytes, IfOk};
-ghost use Rattle.puzzles.specs.Answers.{BeginsAnswer, Text};
+ghost use Rattle.std.specs.Prelude.{◌≡◌, ◌<◌, ◌≤◌, true, false, option_map, IfOk};
+ghost use Rattle.puzzles.specs.Answers.{BeginsAnswer, Text, answer_with};
 ghost use Rattle.puzzles.specs.Outputs.{Allows, is_put_whole, reads_input};
 ghost use Rattle.puzzles.specs.Replies.{answer_in};
-ghost use Rattle.puzzles.specs.Requests.{asked_in, asked_of};
-ghost use Rattle.puzzles.specs.Runs.{AreNew, LeavesEnds, Ran, IsBroken};
-ghost use Rattle.puzzles.specs.Stops.{status_in};
+ghost use Rattle.puzzles.specs.Requests.{asked_in, request_of};
+ghost use Rattle.puzzles.specs.Runs.{AreNew, IsBroken, Ran};
+ghost use Rattle.puzzles.specs.Stops.{LeavesEnds, Runs};
 
 use crate::answers::reply::{Reply, words_refused};
-use crate::answers::status::{NO_MEMORY, Status, Stop};
+use crate::answers::status::{Ended, NO_MEMORY};
 use crate::batch::solve_lines;
 use crate::check::check_id;
 use crate::ends::output::deliver;
@@ -54,14 +54,12 @@ fn answer<I: Source, O: Sink>(
     words: &[String],
     input: &mut I,
     output: &mut O,
-) -> Result<Status, Stop>
-    requires { AreNew (I.call_count input.old) (I.has_failed input.old) (I.has_ended input.old)
-        (O.has_failed output.old) }
-    ensures ran { Ran I.gives I.has_ended O.takes (Allows (asked_of (map string_bytes words.now)))
-        input.old input.new output.old output.new (status_in result) }
-    ensures left { LeavesEnds (reads_input (asked_of (map string_bytes words.now)))
-        (I.call_count input.new) (I.has_failed input.new) (I.has_ended input.new)
-        (O.has_failed output.new) (O.is_flushed output.new) (status_in result) }
+) -> Ended
+    requires { AreNew I.Source O.Sink input.old output.old }
+    ensures ran { Runs I.Source O.Sink (Allows (request_of words.now))
+        input.old input.new output.old output.new result }
+    ensures left { LeavesEnds I.Source O.Sink (reads_input (request_of words.now))
+        input.new output.new result }
 {
     let request = read_words(alloc, words)?;
     if let Some(
@@ -93,18 +91,16 @@ pub fn run<I: Source, O: Sink>(alloc: Global, words: &[String], input: &mut I, o
     requires input_fine { I.has_failed input.old ≡ false }
     requires input_open { I.has_ended input.old ≡ false }
     requires output_fine { O.has_failed output.old ≡ false }
-    ensures ran { Ran I.gives I.has_ended O.takes (Allows (asked_of (map string_bytes words.now)))
+    ensures ran { Ran I.Source O.Sink (Allows (request_of words.now))
         input.old input.new output.old output.new result }
     ensures status { result ≤ 6 }
     ensures sound { result ≤ NO_MEMORY
         → (I.has_failed input.new ≡ false) × (O.has_failed output.new ≡ false) }
     ensures sent { result < NO_MEMORY → O.is_flushed output.new ≡ true }
-    ensures broken { result ≡ 6 → IsBroken (I.has_failed input.new) (O.has_failed output.new)
-        (I.call_count input.new) (I.has_ended input.new) }
-    ensures unread { reads_input (asked_of (map string_bytes words.now)) ≡ false
-        → I.call_count input.new ≡ 0 }
-    ensures ended { reads_input (asked_of (map string_bytes words.now)) ≡ true
-        → result < NO_MEMORY → I.has_ended input.new ≡ true }
+    ensures broken { result ≡ 6 → IsBroken I.Source input.new (O.has_failed output.new) }
+    ensures unread { reads_input (request_of words.now) ≡ false → I.call_count input.new ≡ 0 }
+    ensures ended { reads_input (request_of words.now) ≡ true → result < NO_MEMORY
+        → I.has_ended input.new ≡ true }
 {
     match answer(alloc, words, input, output) {
         Ok(status) => status.code(),
@@ -114,10 +110,9 @@ pub fn run<I: Source, O: Sink>(alloc: Global, words: &[String], input: &mut I, o
 
 /// A run over bytes in memory: what it writes, and its status.
 pub fn run_on_bytes(alloc: Global, words: &[String], bytes: &[u8]) -> (Vec<u8>, u8)
-    ensures whole { result.1 < NO_MEMORY → Allows (asked_of (map string_bytes words.now)) bytes.now
-        (record { text = result.0.items; status = result.1 }) }
-    ensures begun { BeginsAnswer (Allows (asked_of (map string_bytes words.now)) bytes.now)
-        result.0.items }
+    ensures whole { result.1 < NO_MEMORY
+        → Allows (request_of words.now) bytes.now (answer_with result.0.items result.1) }
+    ensures begun { BeginsAnswer (Allows (request_of words.now) bytes.now) result.0.items }
 {
     let mut input = ReadEnd::new(bytes);
     let mut output = WriteEnd::new(Vec::new(alloc));

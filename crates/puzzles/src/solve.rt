@@ -3,11 +3,9 @@ ghost use Rattle.std.specs.Prelude.{◌≡◌, ◌<◌, ◌*◌, List, ℕ, None
 ghost use Rattle.engine_core.specs.Puzzle.{FitsIn, needs_of};
 ghost use Rattle.engine_core.specs.Verdict.{IsTrueOf, verdict_of};
 ghost use Rattle.puzzles.specs.Each.{HasAnswers};
-ghost use Rattle.gameid_core.specs.GridTexts.{grid_text};
-ghost use Rattle.puzzles.specs.IdAnswers.{AllowsId};
-ghost use Rattle.puzzles.specs.Solving.{IsSolved, AllowsSolve};
+ghost use Rattle.puzzles.specs.Solving.{AllowsSolve, SolvesId};
 ghost use Rattle.puzzles.specs.Replies.{answer_in};
-ghost use Rattle.puzzles.specs.Verdicts.{verdict_answer};
+ghost use Rattle.puzzles.specs.Verdicts.{verdict_told};
 
 pub mod solvable;
 
@@ -72,9 +70,8 @@ fn searched<P: Printed, R: Rules>(
     requires cells { (R.puzzle rules.now).cells ≡ (P.extent puzzle.now).w
         * (P.extent puzzle.now).h }
     requires values { (R.puzzle rules.now).values ≡ P.value_count puzzle.now }
-    ensures told { IfOk result (λ r. answer_in r ≡ verdict_answer
-        (λ g. grid_text (P.cell_text puzzle.now g) (P.extent puzzle.now))
-        (verdict_of (R.puzzle rules.now) budget)) }
+    ensures told { IfOk result
+        (λ r. answer_in r ≡ verdict_told P.Printed puzzle.now (R.puzzle rules.now) budget) }
     ensures right { IfOk result
         (λ r. IsTrueOf (R.puzzle rules.now) (verdict_of (R.puzzle rules.now) budget)) }
 {
@@ -103,9 +100,7 @@ fn solve_one<P: Solvable + Drop>(
 where
     P::Search: Rules,
     requires means { (rules : P.Search) → P.Search.puzzle rules ≡ P.meaning rules }
-    ensures { IfOk result (λ r. AllowsId (P.reading id.now) (P.spells id.now)
-        (λ p. IsSolved (P.solves p) (P.rules_of p) (P.cell_text p) (P.extent p) budget)
-        (answer_in r)) }
+    ensures { IfOk result (λ r. SolvesId P.Played budget id.now (answer_in r)) }
 {
     match P::read_id(alloc, id) {
         Ok(puzzle) => {
@@ -159,18 +154,4 @@ impl Stores {
 /// the law.
 pub fn each_text_has_an_answer()
     ensures { (game : Game) (budget : ℕ) → HasAnswers (AllowsSolve game budget) }
-{
-    gameid_core::one_reading_of_solo();
-    gameid_core::one_reading_of_pattern();
-    gameid_core::one_reading_of_lights();
-    gameid_core::one_reading_of_tents();
-    engine_core::verdict_is_true();
-    solo_core::rules_are_lawful();
-    solo_core::accepted_are_solutions();
-    pattern_core::rules_are_lawful();
-    pattern_core::accepted_are_solutions();
-    fields_core::rules_of_lights_are_lawful();
-    fields_core::rules_of_tents_are_lawful();
-    fields_core::accepted_tents_are_solutions();
-    fields_core::accepted_lights_are_solutions();
-}
+{}

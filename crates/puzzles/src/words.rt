@@ -1,6 +1,6 @@
 //! What the words of a command line ask for.
 ghost use Rattle.puzzles.specs.Numbers.{number_of, number_or};
-ghost use Rattle.std.specs.Prelude.{◌≡◌, ◌≤◌, IfSome, IfOk, option_and_then, MatchOption, None, option_map, map, string_bytes, false};
+ghost use Rattle.std.specs.Prelude.{◌≡◌, ◌≤◌, IfSome, IfOk, option_and_then, option_map, map, string_bytes, false};
 ghost use Rattle.clap.specs.Walk.{rule_of, first_of, rows_of};
 ghost use Rattle.clap.specs.Simple.{app_of, subcommand_rows_of};
 ghost use Rattle.clap.specs.Matches.{found_of};
@@ -161,9 +161,8 @@ fn puzzles_command<'a>(alloc: Global) -> Result<Command<'a>, AllocError>
 
 /// What was found in the words, or nothing where they are refused.
 fn matches_of<'a>(alloc: Global, words: &'a [String]) -> Result<Option<ArgMatches<'a>>, AllocError>
-    ensures { IfOk result (λ found. MatchOption found
-        (parsed (map string_bytes words.entry.now) ≡ None)
-        (λ m. subcommand_rows_of m ≡ parsed (map string_bytes words.entry.now))) }
+    ensures { IfOk result (λ found. option_and_then subcommand_rows_of found
+        ≡ parsed (map string_bytes words.entry.now)) }
 {
     let command = puzzles_command(alloc)?;
     match command.try_get_matches_from(words) {

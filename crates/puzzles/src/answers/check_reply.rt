@@ -18,10 +18,8 @@ pub fn grid_refused(alloc: Global) -> Result<Reply, AllocError>
     ensures { IfOk result (λ r. answer_in r ≡ refused (codes "grid")) }
 {
     let text = String::from_str(alloc, "refused: grid\n")?;
-    Ok(Reply {
-        text,
-        status: Status::Refused,
-    })
+    let status = Status::Refused;
+    Ok(Reply { text, status })
 }
 
 /// The answer to a solution.
@@ -33,10 +31,8 @@ pub fn correct_reply(alloc: Global) -> Result<Reply, AllocError>
     ensures { IfOk result (λ r. answer_in r ≡ checked None) }
 {
     let text = String::from_str(alloc, "correct\n")?;
-    Ok(Reply {
-        text,
-        status: Status::Fine,
-    })
+    let status = Status::Fine;
+    Ok(Reply { text, status })
 }
 
 /// The answer to a grid that breaks a rule of the whole.
@@ -50,10 +46,8 @@ pub fn wrong_reply(alloc: Global, rule: &str) -> Result<Reply, AllocError>
     let mut text = String::from_str(alloc, "wrong: ")?;
     text.push_str(rule)?;
     text.push_str("\n")?;
-    Ok(Reply {
-        text,
-        status: Status::Wrong,
-    })
+    let status = Status::Wrong;
+    Ok(Reply { text, status })
 }
 
 /// The answer to a grid that breaks a rule in a row, column, block or diagonal. The kind has a
@@ -69,10 +63,8 @@ pub fn wrong_line_reply(alloc: Global, kind: &str, line: usize) -> Result<Reply,
     text.push_str(kind)?;
     push_number(&mut text, line)?;
     text.push_str("\n")?;
-    Ok(Reply {
-        text,
-        status: Status::Wrong,
-    })
+    let status = Status::Wrong;
+    Ok(Reply { text, status })
 }
 
 /// The answer to a grid that breaks a rule at a place of so many columns: the place's column, a
@@ -97,8 +89,6 @@ pub fn wrong_place_reply(
     text.push_str(",")?;
     push_number(&mut text, place / columns)?;
     text.push_str("\n")?;
-    Ok(Reply {
-        text,
-        status: Status::Wrong,
-    })
+    let status = Status::Wrong;
+    Ok(Reply { text, status })
 }

@@ -2,9 +2,8 @@
 ghost use Rattle.std.specs.Prelude.{◌≡◌, ◌*◌, [], ◌≢◌, ◌++◌, ◌<◌, IfOk, OnOk, codes, decimal, string_bytes};
 ghost use Rattle.gameid_core.specs.declared.fault.IdFault.TheVariants.{Memory};
 ghost use Rattle.puzzles.specs.Answers.{IsGridFor};
-ghost use Rattle.gameid_core.specs.GridTexts.{grid_text};
 ghost use Rattle.puzzles.specs.Refusals.{refused, refused_words, fault_text};
-ghost use Rattle.puzzles.specs.Replies.{answer_in, none_answer, one_answer, several_answer, gave_up_answer};
+ghost use Rattle.puzzles.specs.Replies.{answer_in, none_answer, one_answer, two_grids, gave_up_answer, grid_of};
 
 use crate::answers::decimal::push_number;
 use crate::answers::status::Status;
@@ -28,10 +27,8 @@ pub fn words_refused(alloc: Global) -> Result<Reply, AllocError>
     ensures { IfOk result (λ r. answer_in r ≡ refused_words) }
 {
     let text = String::from_str(alloc, "refused: words\n")?;
-    Ok(Reply {
-        text,
-        status: Status::Refused,
-    })
+    let status = Status::Refused;
+    Ok(Reply { text, status })
 }
 
 /// A text of these words, in the memory of another one, of which nothing stays.
@@ -97,10 +94,8 @@ pub fn id_refused_in(text: String, fault: IdFault) -> Result<Reply, AllocError>
     let mut text = begun(text, "refused: ")?;
     push_fault(&mut text, fault)?;
     text.push_str("\n")?;
-    Ok(Reply {
-        text,
-        status: Status::Refused,
-    })
+    let status = Status::Refused;
+    Ok(Reply { text, status })
 }
 
 /// The answer where no grid is a solution, in the memory of a text.
@@ -112,10 +107,8 @@ pub fn none_reply(text: String) -> Result<Reply, AllocError>
     ensures { IfOk result (λ r. answer_in r ≡ none_answer) }
 {
     let text = begun(text, "none\n")?;
-    Ok(Reply {
-        text,
-        status: Status::Wrong,
-    })
+    let status = Status::Wrong;
+    Ok(Reply { text, status })
 }
 
 /// The answer where this grid is the one solution, in the memory of a text.
@@ -125,15 +118,13 @@ pub fn none_reply(text: String) -> Result<Reply, AllocError>
 /// When memory was refused.
 pub fn one_reply<P: Printed>(text: String, puzzle: &P, grid: &Grid) -> Result<Reply, AllocError>
     requires { IsGridFor (P.extent puzzle.now) (P.value_count puzzle.now) grid.now }
-    ensures { IfOk result (λ r. answer_in r
-        ≡ one_answer (grid_text (P.cell_text puzzle.now grid.now) (P.extent puzzle.now))) }
+    ensures { IfOk result
+        (λ r. answer_in r ≡ one_answer (grid_of P.Printed puzzle.now grid.now)) }
 {
     let mut text = begun(text, "one\n")?;
     push_grid(&mut text, puzzle, grid)?;
-    Ok(Reply {
-        text,
-        status: Status::Fine,
-    })
+    let status = Status::Fine;
+    Ok(Reply { text, status })
 }
 
 /// The answer where these two grids are solutions, in the memory of a text.
@@ -149,18 +140,15 @@ pub fn several_reply<P: Printed>(
 ) -> Result<Reply, AllocError>
     requires first { IsGridFor (P.extent puzzle.now) (P.value_count puzzle.now) first.now }
     requires second { IsGridFor (P.extent puzzle.now) (P.value_count puzzle.now) second.now }
-    ensures { IfOk result (λ r. answer_in r
-        ≡ several_answer (grid_text (P.cell_text puzzle.now first.now) (P.extent puzzle.now))
-        (grid_text (P.cell_text puzzle.now second.now) (P.extent puzzle.now))) }
+    ensures { IfOk result
+        (λ r. answer_in r ≡ two_grids P.Printed puzzle.now first.now second.now) }
 {
     let mut text = begun(text, "several\n")?;
     push_grid(&mut text, puzzle, first)?;
     text.push_str("\n")?;
     push_grid(&mut text, puzzle, second)?;
-    Ok(Reply {
-        text,
-        status: Status::Several,
-    })
+    let status = Status::Several;
+    Ok(Reply { text, status })
 }
 
 /// The answer of a search that gave up and had found nothing, in the memory of a text.
@@ -172,10 +160,8 @@ pub fn gave_up_reply(text: String) -> Result<Reply, AllocError>
     ensures { IfOk result (λ r. answer_in r ≡ gave_up_answer []) }
 {
     let text = begun(text, "gave up\n")?;
-    Ok(Reply {
-        text,
-        status: Status::GaveUp,
-    })
+    let status = Status::GaveUp;
+    Ok(Reply { text, status })
 }
 
 /// The answer of a search that gave up and had found this grid, in the memory of a text.
@@ -189,13 +175,11 @@ pub fn gave_up_with_reply<P: Printed>(
     grid: &Grid,
 ) -> Result<Reply, AllocError>
     requires { IsGridFor (P.extent puzzle.now) (P.value_count puzzle.now) grid.now }
-    ensures { IfOk result (λ r. answer_in r
-        ≡ gave_up_answer (grid_text (P.cell_text puzzle.now grid.now) (P.extent puzzle.now))) }
+    ensures { IfOk result
+        (λ r. answer_in r ≡ gave_up_answer (grid_of P.Printed puzzle.now grid.now)) }
 {
     let mut text = begun(text, "gave up\n")?;
     push_grid(&mut text, puzzle, grid)?;
-    Ok(Reply {
-        text,
-        status: Status::GaveUp,
-    })
+    let status = Status::GaveUp;
+    Ok(Reply { text, status })
 }

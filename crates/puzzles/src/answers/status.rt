@@ -62,6 +62,9 @@ pub enum Stop {
     Broken,
 }
 
+/// How a step of a run ends: with the status of its answer, or before that was whole.
+pub type Ended = Result<Status, Stop>;
+
 impl Stop {
     /// The status of a run that ended so.
     pub fn code(self) -> u8

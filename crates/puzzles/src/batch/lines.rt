@@ -2,7 +2,7 @@
 ghost use Rattle.std.specs.Prelude.{◌≡◌, ◌<◌, ◌≤◌, ◌++◌, ◌∷◌, [], List, ℕ, OnOk, MatchOption, ◌==◌, length};
 ghost use Rattle.std.specs.Str.Lines.{strip_carriage_return};
 ghost use Rattle.gameid_core.specs.Head.{max_id};
-ghost use Rattle.puzzles.specs.LineStates.{Holds, next_tail};
+ghost use Rattle.puzzles.specs.LineStates.{IsLine, Holds, next_tail};
 
 use gameid_core::MAX_ID;
 use std::alloc::{AllocError, Global};
@@ -88,9 +88,8 @@ impl Line {
 
     /// The line where a newline ends it, or nothing where it is over-long.
     pub fn ended(&self) -> Option<&[u8]>
-        ensures { (piece : List ℕ) → Holds self.now piece → MatchOption result
-            (max_id < length (strip_carriage_return piece))
-            (λ line. line.now ≡ strip_carriage_return piece) }
+        ensures { (piece : List ℕ) → Holds self.now piece
+            → IsLine result (strip_carriage_return piece) }
     {
         match self.tail {
             Tail::Nothing => Some(without_return(self.kept.as_slice())),
@@ -101,8 +100,7 @@ impl Line {
 
     /// The line where the end of the input ends it, or nothing where it is over-long.
     pub fn last(&self) -> Option<&[u8]>
-        ensures { (piece : List ℕ) → Holds self.now piece → MatchOption result
-            (max_id < length piece) (λ line. line.now ≡ piece) }
+        ensures { (piece : List ℕ) → Holds self.now piece → IsLine result piece }
     {
         match self.tail {
             Tail::Nothing => Some(self.kept.as_slice()),

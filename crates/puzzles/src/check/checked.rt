@@ -1,7 +1,6 @@
 //! Puzzles whose grids can be checked, and what each game tells of a grid.
-ghost use Rattle.std.specs.Prelude.{◌*◌, ◌<◌, List, ℕ, IfOk};
-ghost use Rattle.puzzles.specs.Answers.{Answer, IsGridFor};
-ghost use Rattle.puzzles.specs.CheckAnswers.{pattern_told, solo_told, light_told, tent_told};
+ghost use Rattle.std.specs.Prelude.{IfOk};
+ghost use Rattle.puzzles.specs.Answers.{IsGridFor};
 ghost use Rattle.puzzles.specs.Replies.{answer_in};
 
 use crate::answers::check_reply::{
@@ -18,9 +17,6 @@ use std::alloc::{AllocError, Global};
 
 /// A puzzle whose grids can be checked.
 pub trait Checked: Played {
-    // The answer to a grid.
-    ghost told: { Self → List ℕ → Answer → Type 0 };
-
     /// The answer to a grid: that it is a solution, or the first rule that it breaks. The grid has
     /// a number for each cell, by place.
     ///
@@ -29,12 +25,10 @@ pub trait Checked: Played {
     /// When memory was refused.
     fn check_reply(&self, alloc: Global, grid: &Grid) -> Result<Reply, AllocError>
         requires { IsGridFor (Self.extent self.now) (Self.value_count self.now) grid.now }
-        ensures { IfOk result (λ r. told self.now grid.now (answer_in r)) };
+        ensures { IfOk result (λ r. Self.game.told self.now grid.now (answer_in r)) };
 }
 
 impl Checked for PatternPuzzle {
-    ghost told = { pattern_told };
-
     fn check_reply(&self, alloc: Global, grid: &Grid) -> Result<Reply, AllocError> {
         match check_pattern(self, grid) {
             None => correct_reply(alloc),
@@ -45,8 +39,6 @@ impl Checked for PatternPuzzle {
 }
 
 impl Checked for SoloPuzzle {
-    ghost told = { solo_told };
-
     fn check_reply(&self, alloc: Global, grid: &Grid) -> Result<Reply, AllocError> {
         let columns = self.columns();
         match check_solo(self, grid) {
@@ -61,8 +53,6 @@ impl Checked for SoloPuzzle {
 }
 
 impl Checked for LightPuzzle {
-    ghost told = { light_told };
-
     fn check_reply(&self, alloc: Global, grid: &Grid) -> Result<Reply, AllocError> {
         let columns = self.columns();
         match check_lights(self, grid) {
@@ -76,8 +66,6 @@ impl Checked for LightPuzzle {
 }
 
 impl Checked for TentsPuzzle {
-    ghost told = { tent_told };
-
     fn check_reply(&self, alloc: Global, grid: &Grid) -> Result<Reply, AllocError> {
         let columns = self.columns();
         match check_tents(alloc, self, grid)? {

@@ -1,11 +1,11 @@
 //! Texts on their way to a sink.
-ghost use Rattle.std.specs.Prelude.{◌≡◌, ◌++◌, List, ℕ, true, false, OnOk, OnErr};
-ghost use Rattle.puzzles.specs.Answers.{Begins, Delivers};
+ghost use Rattle.std.specs.Prelude.{◌≡◌, true, false, OnOk, OnErr};
+ghost use Rattle.puzzles.specs.Answers.{Delivers, PutBegun};
 ghost use Rattle.puzzles.specs.Replies.{answer_in};
-ghost use Rattle.puzzles.specs.Stops.{IsSinkAfter, status_in};
+ghost use Rattle.puzzles.specs.Stops.{LeavesSink, status_in};
 
 use crate::answers::reply::Reply;
-use crate::answers::status::{Status, Stop};
+use crate::answers::status::{Ended, Stop};
 use crate::ends::Sink;
 
 /// An end failed.
@@ -19,10 +19,10 @@ pub struct Broken;
 /// Where the sink failed. It took a beginning of the bytes then.
 pub fn put_all<O: Sink>(output: &mut O, bytes: &[u8]) -> Result<(), Broken>
     requires { O.has_failed output.old ≡ false }
-    ensures ok { OnOk result ((O.takes output.old bytes.now output.new)
-        × (O.has_failed output.new ≡ false)) }
-    ensures err { OnErr result (((written : List ℕ) × O.takes output.old written output.new
-        × Begins written bytes.now) × (O.has_failed output.new ≡ true)) }
+    ensures ok { OnOk result (O.takes output.old bytes.now output.new) }
+    ensures fine { OnOk result (O.has_failed output.new ≡ false) }
+    ensures err { OnErr result (PutBegun O.takes output.old bytes.now output.new) }
+    ensures failed { OnErr result (O.has_failed output.new ≡ true) }
 {
     let mut rest = bytes;
     while !rest.is_empty() {
@@ -39,12 +39,11 @@ pub fn put_all<O: Sink>(output: &mut O, bytes: &[u8]) -> Result<(), Broken>
 /// # Errors
 ///
 /// Where the sink failed. It took a beginning of the text then.
-pub fn deliver<O: Sink>(output: &mut O, reply: &Reply) -> Result<Status, Stop>
+pub fn deliver<O: Sink>(output: &mut O, reply: &Reply) -> Ended
     requires { O.has_failed output.old ≡ false }
     ensures delivers { Delivers O.takes output.old (answer_in reply.now) output.new
         (status_in result) }
-    ensures left { IsSinkAfter (status_in result) (O.has_failed output.new)
-        (O.is_flushed output.new) }
+    ensures left { LeavesSink O.Sink output.new result }
 {
     match put_all(output, reply.text.as_bytes()) {
         Ok(()) => {

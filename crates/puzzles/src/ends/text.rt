@@ -3,7 +3,7 @@ ghost use Rattle.std.specs.Prelude.{◌≡◌, ◌++◌, ◌==◌, ◌&&◌, [],
 ghost use Rattle.puzzles.specs.Checks.{begins_with_line_end, without_returns};
 ghost use Rattle.puzzles.specs.Texts.{IsKept, IsText, KeptUpTo, ReadWhole};
 ghost use Rattle.puzzles.specs.Stops.{StopsWith};
-ghost use Rattle.puzzles.specs.Runs.{AreNew};
+ghost use Rattle.puzzles.specs.Runs.{IsUnread};
 
 use crate::answers::status::Stop;
 use crate::ends::{CALL_LIMIT, CHUNK, Source};
@@ -42,14 +42,12 @@ impl Kept {
 
 /// Takes the input to its end.
 fn take_whole<I: Source>(kept: &mut Kept, input: &mut I) -> Result<(), Stop>
-    requires new { AreNew (I.call_count input.old) (I.has_failed input.old)
-        (I.has_ended input.old) false }
+    requires unread { IsUnread I.Source input.old }
     requires empty { IsKept kept.old [] }
     ensures fine { OnOk result ((I.has_failed input.new ≡ false) × (I.has_ended input.new ≡ true)) }
     ensures taken { OnOk result (KeptUpTo I.gives input.old kept.new input.new) }
     ensures read { (seen : List ℕ) × I.gives input.old seen input.new }
-    ensures left { IfErr result (λ e. StopsWith e (I.call_count input.new) (I.has_failed input.new)
-        (I.has_ended input.new) false) }
+    ensures left { IfErr result (λ e. StopsWith I.Source e input.new false) }
 {
     let mut buffer = [0u8; CHUNK];
     for _turn in 0..CALL_LIMIT {
@@ -69,13 +67,11 @@ fn take_whole<I: Source>(kept: &mut Kept, input: &mut I) -> Result<(), Stop>
 ///
 /// When memory was refused, or the source failed, or its calls were used up before its end.
 pub fn read_whole<I: Source>(alloc: Global, input: &mut I) -> Result<Option<Vec<u8>>, Stop>
-    requires { AreNew (I.call_count input.old) (I.has_failed input.old)
-        (I.has_ended input.old) false }
+    requires { IsUnread I.Source input.old }
     ensures fine { OnOk result ((I.has_failed input.new ≡ false) × (I.has_ended input.new ≡ true)) }
     ensures whole { IfOk result (λ text. ReadWhole I.gives input.old text input.new) }
     ensures read { (seen : List ℕ) × I.gives input.old seen input.new }
-    ensures left { IfErr result (λ e. StopsWith e (I.call_count input.new) (I.has_failed input.new)
-        (I.has_ended input.new) false) }
+    ensures left { IfErr result (λ e. StopsWith I.Source e input.new false) }
 {
     let mut kept = Kept {
         bytes: Vec::new(alloc),

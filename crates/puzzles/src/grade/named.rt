@@ -1,9 +1,10 @@
 //! The names of what a closing visits.
 ghost use Rattle.std.specs.Prelude.{◌≡◌, ◌++◌, ◌+◌, ◌<◌, ◌≤◌, ℕ, OnOk, length, string_bytes, string_len};
+ghost use Rattle.engine_core.specs.Puzzle.{Puzzle};
 ghost use Rattle.gameid_core.specs.Puzzles.{Pattern, Solo};
 ghost use Rattle.solo_core.specs.Scopes.{scopes_of};
 ghost use Rattle.puzzles.specs.Answers.{Text};
-ghost use Rattle.puzzles.specs.Traces.{house_text, scope_text, pattern_name, solo_name};
+ghost use Rattle.puzzles.specs.Traces.{TellsVisits, house_text, scope_text, pattern_name, solo_name};
 
 use crate::answers::decimal::push_number;
 use crate::played::Played;
@@ -35,6 +36,10 @@ pub trait Named: Played {
         ensures name { OnOk result
             (string_bytes text.new ≡ string_bytes text.old ++ name_of self.now number) }
         ensures short { OnOk result (string_len text.new ≤ string_len text.old + NAME) };
+
+    // The names of what a closing visits are what the game tells of it.
+    ghost by_visits: { (p : Self) (rules : Puzzle) (lines : Text)
+        → TellsVisits (name_of p) rules lines → Self.game.tells p rules lines };
 }
 
 impl Named for SoloPuzzle {
@@ -45,6 +50,8 @@ impl Named for SoloPuzzle {
     fn push_name(&self, number: usize, text: &mut String) -> Result<(), AllocError> {
         push_scope(text, scope_of(self, number))
     }
+
+    ghost by_visits = { λ p rules lines told. told };
 }
 
 impl Named for PatternPuzzle {
@@ -60,6 +67,8 @@ impl Named for PatternPuzzle {
             push_house(text, SoloHouse::Row(number - w))
         }
     }
+
+    ghost by_visits = { λ p rules lines told. told };
 }
 
 /// Adds the name of a house: its kind, and its number among those.

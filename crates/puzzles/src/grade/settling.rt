@@ -3,9 +3,10 @@ ghost use Rattle.std.specs.Prelude.{◌≡◌, ◌↔◌, List, ℕ, true, IfOk}
 ghost use Rattle.engine_core.specs.Puzzle.{needs_of, FitsIn};
 ghost use Rattle.engine_core.specs.Stored.{is_settled};
 ghost use Rattle.engine_core.specs.Verdict.{Solves};
-ghost use Rattle.puzzles.specs.Grades.{HasOneSolution, IsRightGrade, searched_grade, settled_or};
+ghost use Rattle.puzzles.specs.Grading.{grade_after};
+ghost use Rattle.puzzles.specs.Grades.{HasOneSolution, IsRightGrade, searched_grade};
 
-use crate::grade::{Grade, RuleSet};
+use crate::grade::{Attempt, Grade};
 use crate::solve::solvable::Solvable;
 use engine_core::{Rules, Store, Verdict};
 use std::alloc::{AllocError, Global};
@@ -42,36 +43,37 @@ fn search_grade<P: Solvable>(alloc: Global, puzzle: &P, budget: u64) -> Result<G
 where
     P::Search: Rules,
     requires means { (rules : P.Search) → P.Search.puzzle rules ≡ P.meaning rules }
-    ensures grade { IfOk result (λ grade. grade ≡ searched_grade (P.rules_of puzzle.now) budget) }
-    ensures right { IfOk result (λ grade. IsRightGrade (P.solves puzzle.now) grade) }
+    ensures grade { IfOk result (λ grade. grade ≡ searched_grade (P.game.rules puzzle.now) budget) }
+    ensures right { IfOk result (λ grade. IsRightGrade (P.game.solves puzzle.now) grade) }
 {
     let rules = puzzle.rules(alloc)?;
     let mut store = Store::new(alloc, &rules)?;
     Ok(searched(&mut store, &rules, budget))
 }
 
-/// The grade of a puzzle by these rules, the last in the list, and else by a search.
-pub fn last_grade<P: Solvable, R: Rules>(
-    alloc: Global,
-    set: RuleSet,
-    puzzle: &P,
-    rules: &R,
-    store: &mut Store<R>,
-    budget: u64,
-) -> Result<Grade, AllocError>
-where
-    P::Search: Rules,
-    requires means { (rules : P.Search) → P.Search.puzzle rules ≡ P.meaning rules }
-    requires fits { FitsIn (needs_of (R.puzzle rules.now)) store.old.made }
-    requires accepted { (g : List ℕ) → Solves (R.puzzle rules.now) g ↔ P.solves puzzle.now g }
-    ensures grade { IfOk result (λ grade. grade
-        ≡ settled_or set (R.puzzle rules.now) (searched_grade (P.rules_of puzzle.now) budget)) }
-    ensures right { IfOk result (λ grade. IsRightGrade (P.solves puzzle.now) grade) }
-    ensures made { store.new.made ≡ store.old.made }
-{
-    if settles(store, rules) {
-        Ok(Grade::ByRules(set))
-    } else {
-        search_grade(alloc, puzzle, budget)
+impl Attempt {
+    /// The grade of a puzzle by these rules, the last in the list, and else by a search.
+    pub fn grade<P: Solvable, R: Rules>(
+        self,
+        puzzle: &P,
+        rules: &R,
+        store: &mut Store<R>,
+    ) -> Result<Grade, AllocError>
+    where
+        P::Search: Rules,
+        requires means { (rules : P.Search) → P.Search.puzzle rules ≡ P.meaning rules }
+        requires fits { FitsIn (needs_of (R.puzzle rules.now)) store.old.made }
+        requires accepted { (g : List ℕ)
+            → Solves (R.puzzle rules.now) g ↔ P.game.solves puzzle.now g }
+        ensures grade { IfOk result
+            (λ grade. grade ≡ grade_after P.game puzzle.now self (R.puzzle rules.now)) }
+        ensures right { IfOk result (λ grade. IsRightGrade (P.game.solves puzzle.now) grade) }
+        ensures made { store.new.made ≡ store.old.made }
+    {
+        if settles(store, rules) {
+            Ok(Grade::ByRules(self.set))
+        } else {
+            search_grade(self.alloc, puzzle, self.wanted.budget)
+        }
     }
 }

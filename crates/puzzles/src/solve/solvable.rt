@@ -3,14 +3,10 @@ ghost use Rattle.std.specs.Prelude.{◌≡◌, ◌*◌, ◌↔◌, List, ℕ, If
 ghost use Rattle.engine_core.specs.Puzzle.{Puzzle};
 ghost use Rattle.engine_core.specs.Verdict.{Solves};
 ghost use Rattle.fields_core.specs.LightHouses.{light_rules};
-ghost use Rattle.fields_core.specs.LightSolutions.{IsLightSolution};
 ghost use Rattle.fields_core.specs.TentHouses.{tent_rules};
-ghost use Rattle.fields_core.specs.TentSolutions.{IsTentSolution};
 ghost use Rattle.gameid_core.specs.Puzzles.{IsSolo};
 ghost use Rattle.pattern_core.specs.LineRules.{line_rules};
-ghost use Rattle.pattern_core.specs.Solutions.{IsPatternSolution};
 ghost use Rattle.solo_core.specs.RuleSets.{houses_rules};
-ghost use Rattle.solo_core.specs.Solutions.{IsSoloSolution};
 
 use crate::played::Played;
 use fields_core::{LightRules, TentRules};
@@ -27,33 +23,24 @@ pub trait Solvable: Played {
     // What those rules mean.
     ghost meaning: { Self.Search → Puzzle };
 
-    // The rules of a search.
-    ghost rules_of: { Self → Puzzle };
-
-    // The solutions by the game.
-    ghost solves: { Self → List ℕ → Type 0 };
-
     /// The rules of a search. The grids that they accept are the solutions by the game.
     ///
     /// # Errors
     ///
     /// When memory was refused.
     fn rules(&self, alloc: Global) -> Result<Self::Search, AllocError>
-        ensures made { IfOk result (λ rules. meaning rules ≡ rules_of self.now) }
-        ensures cells { (rules_of self.now).cells ≡ (Self.extent self.now).w
-            * (Self.extent self.now).h }
-        ensures values { (rules_of self.now).values ≡ Self.value_count self.now }
-        ensures solutions { (g : List ℕ) → Solves (rules_of self.now) g ↔ solves self.now g };
+        ensures made { IfOk result (λ rules. meaning rules ≡ Self.game.rules self.now) }
+        ensures cells { (Self.game.rules self.now).cells
+            ≡ (Self.extent self.now).w * (Self.extent self.now).h }
+        ensures values { (Self.game.rules self.now).values ≡ Self.value_count self.now }
+        ensures solutions { (g : List ℕ)
+            → Solves (Self.game.rules self.now) g ↔ Self.game.solves self.now g };
 }
 
 impl Solvable for PatternPuzzle {
     type Search = PatternLines;
 
     ghost meaning = { λ search. line_rules search.pattern };
-
-    ghost rules_of = { line_rules };
-
-    ghost solves = { IsPatternSolution };
 
     fn rules(&self, alloc: Global) -> Result<PatternLines, AllocError> {
         pattern_core::accepted_are_solutions();
@@ -73,10 +60,6 @@ impl Solvable for SoloPuzzle {
 
     ghost meaning = { λ search. houses_rules search.puzzle };
 
-    ghost rules_of = { houses_rules };
-
-    ghost solves = { IsSoloSolution };
-
     fn rules(&self, alloc: Global) -> Result<SoloHouses, AllocError> {
         solo_is_lawful(self);
         solo_core::accepted_are_solutions();
@@ -89,10 +72,6 @@ impl Solvable for LightPuzzle {
 
     ghost meaning = { λ search. light_rules search.light };
 
-    ghost rules_of = { light_rules };
-
-    ghost solves = { IsLightSolution };
-
     fn rules(&self, alloc: Global) -> Result<LightRules, AllocError> {
         fields_core::accepted_lights_are_solutions();
         LightRules::new(alloc, self)
@@ -103,10 +82,6 @@ impl Solvable for TentsPuzzle {
     type Search = TentRules;
 
     ghost meaning = { λ search. tent_rules search.tents };
-
-    ghost rules_of = { tent_rules };
-
-    ghost solves = { IsTentSolution };
 
     fn rules(&self, alloc: Global) -> Result<TentRules, AllocError> {
         fields_core::accepted_tents_are_solutions();

@@ -1,29 +1,29 @@
 use Rattle.std.proofs.Common.{inl, inr, refl}
-use Rattle.puzzles.specs.Solving.{AllowsSolve}
+use Rattle.puzzles.specs.Batches.{AllowsTask}
 use Rattle.puzzles.proofs.InputLemmas.{ran_answered, ran_begun, ran_stopped}
 use Rattle.puzzles.proofs.StopLemmas.{is_late}
 use Rattle.puzzles.specs.Statuses.{code_of}
 use Rattle.puzzles.proofs.batch.answer_lines.Goals as goal
 
 pub returns-in_err-take_input-clause-ran : goal.returns-in_err-take_input-clause-ran
-returns-in_err-take_input-clause-ran g c = ran_stopped g.I.Source.gives g.I.Source.has_ended g.O.Sink.takes g.met.O.Sink.takes_both (AllowsSolve c.args.task.game c.args.task.budget)
+returns-in_err-take_input-clause-ran g c = ran_stopped g.I.Source g.O.Sink g.met.O.Sink.takes_both (AllowsTask c.args.task)
     _ _ _ _ _ (is_late _ _ c.from_residual.ensures) (c.in_err-take_input.ensures.stopped (c.each_text_has_an_answer.ensures c.args.task.game c.args.task.budget))
 
 pub returns-in_err-answer_last-clause-ran : goal.returns-in_err-answer_last-clause-ran
 returns-in_err-answer_last-clause-ran g c =
     let t = c.in_ok-take_input.ensures.taken in
-    ran_begun g.I.Source.gives g.I.Source.has_ended g.O.Sink.takes g.met.O.Sink.takes_both (AllowsSolve c.args.task.game c.args.task.budget)
+    ran_begun g.I.Source g.O.Sink g.met.O.Sink.takes_both (AllowsTask c.args.task)
     _ _ _ _ t.seen _ (is_late _ _ c.from_residual-in_err-answer_last.ensures)
-    c.in_ok-take_input.ensures.fine.1 t.gave (c.in_err-answer_last.ensures.begun (c.each_text_has_an_answer.ensures c.args.task.game c.args.task.budget) c.args.output.now t.seen t.batched)
+    c.in_ok-take_input.ensures.ended t.gave (c.in_err-answer_last.ensures.begun (c.each_text_has_an_answer.ensures c.args.task.game c.args.task.budget) c.args.output.now t.seen t.batched)
 
 pub returns-then-finish-clause-ran : goal.returns-then-finish-clause-ran
 returns-then-finish-clause-ran g c =
     let t = c.in_ok-take_input.ensures.taken in
-    ran_answered g.I.Source.gives g.I.Source.has_ended g.O.Sink.takes g.met.O.Sink.takes_both (AllowsSolve c.args.task.game c.args.task.budget)
-    _ _ _ _ _ t.seen (code_of c.answer_last.new.self.status) _ (inl refl) c.in_ok-take_input.ensures.fine.1 t.gave (c.in_ok-answer_last.ensures.whole c.args.output.now t.seen t.batched) c.if-finish.ensures.bytes
+    ran_answered g.I.Source g.O.Sink g.met.O.Sink.takes_both (AllowsTask c.args.task)
+    _ _ _ _ _ t.seen (code_of c.answer_last.new.self.status) _ (inl refl) c.in_ok-take_input.ensures.ended t.gave (c.in_ok-answer_last.ensures.whole c.args.output.now t.seen t.batched) c.if-finish.ensures.bytes
 
 pub returns-else-finish-clause-ran : goal.returns-else-finish-clause-ran
 returns-else-finish-clause-ran g c =
     let t = c.in_ok-take_input.ensures.taken in
-    ran_answered g.I.Source.gives g.I.Source.has_ended g.O.Sink.takes g.met.O.Sink.takes_both (AllowsSolve c.args.task.game c.args.task.budget)
-    _ _ _ _ _ t.seen (code_of c.answer_last.new.self.status) _ (inr refl) c.in_ok-take_input.ensures.fine.1 t.gave (c.in_ok-answer_last.ensures.whole c.args.output.now t.seen t.batched) c.if-finish.ensures.bytes
+    ran_answered g.I.Source g.O.Sink g.met.O.Sink.takes_both (AllowsTask c.args.task)
+    _ _ _ _ _ t.seen (code_of c.answer_last.new.self.status) _ (inr refl) c.in_ok-take_input.ensures.ended t.gave (c.in_ok-answer_last.ensures.whole c.args.output.now t.seen t.batched) c.if-finish.ensures.bytes

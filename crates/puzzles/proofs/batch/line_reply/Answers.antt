@@ -11,7 +11,7 @@ use Rattle.puzzles.proofs.batch.line_reply.Goals as goal
 pub returns-in-None : goal.returns-in-None
 returns-in-None c = rw c.in-None.is (too_long_id c.args.task.game c.args.task.budget _ (long c.args.task.game) c.id_refused_in.ensures)
   where
-    long : (game : Game) (text : Text) → max_id < length text → (played game).reading text ≡ Err TooLong
+    long : (game : Game) (text : Text) → max_id < length text → (played game).game.reading text ≡ Err TooLong
     long Solo = c.over_long_is_too_long.ensures.solo
     long Pattern = c.over_long_is_too_long.ensures.pattern
     long LightUp = c.over_long_is_too_long.ensures.lights

@@ -5,10 +5,10 @@ use Rattle.puzzles.proofs.RunLemmas.{ran_by_reply, ran_nothing}
 use Rattle.puzzles.proofs.check.check_one.Goals as goal
 
 pub returns-in-Err-Memory-clause-ran : goal.returns-in-Err-Memory-clause-ran
-returns-in-Err-Memory-clause-ran g c = ran_nothing g.I.Source.gives g.I.Source.has_ended g.O.Sink.takes _ _ _ _ (omega arith) (g.met.I.Source.gives_nothing c.args.input.now) (g.met.O.Sink.takes_nothing c.args.output.now)
+returns-in-Err-Memory-clause-ran g c = ran_nothing g.I.Source g.O.Sink _ _ _ _ (omega arith) (g.met.I.Source.gives_nothing c.args.input.now) (g.met.O.Sink.takes_nothing c.args.output.now)
 
 pub returns-in_ok-reply-in-Err-clause-ran : goal.returns-in_ok-reply-in-Err-clause-ran
 returns-in_ok-reply-in-Err-clause-ran g c =
     let other : c.in-Err.fault ≢ Memory = search rules in
-    ran_by_reply g.I.Source.gives g.I.Source.has_ended g.O.Sink.takes _ _ _ _ _ _ (g.met.I.Source.gives_nothing c.args.input.now)
+    ran_by_reply g.I.Source g.O.Sink _ _ _ _ _ _ (g.met.I.Source.gives_nothing c.args.input.now)
     (λ input. refused_id _ _ _ c.in-Err.fault _ other c.in-Err.ensures.fault c.in_ok-reply-in-Err.ensures) c.deliver.ensures.delivers

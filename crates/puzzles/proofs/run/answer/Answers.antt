@@ -7,18 +7,18 @@ use Rattle.puzzles.proofs.StopLemmas.{is_late}
 use Rattle.puzzles.proofs.run.answer.Goals as goal
 
 pub returns-in_err-request-clause-ran : goal.returns-in_err-request-clause-ran
-returns-in_err-request-clause-ran g c = ran_nothing g.I.Source.gives g.I.Source.has_ended g.O.Sink.takes _ _ _ _
+returns-in_err-request-clause-ran g c = ran_nothing g.I.Source g.O.Sink _ _ _ _
     (is_late _ _ c.from_residual.ensures) (g.met.I.Source.gives_nothing c.args.input.now) (g.met.O.Sink.takes_nothing c.args.output.now)
 
 pub returns-in_err-reply-clause-ran : goal.returns-in_err-reply-clause-ran
-returns-in_err-reply-clause-ran g c = ran_nothing g.I.Source.gives g.I.Source.has_ended g.O.Sink.takes _ _ _ _
+returns-in_err-reply-clause-ran g c = ran_nothing g.I.Source g.O.Sink _ _ _ _
     (is_late _ _ c.from_residual-in_err-reply.ensures) (g.met.I.Source.gives_nothing c.args.input.now) (g.met.O.Sink.takes_nothing c.args.output.now)
 
 pub returns-clause-ran : goal.returns-clause-ran
 returns-clause-ran g c =
     let h = c.in_ok-reply.ensures in
     let e = c.in_ok-request.ensures in
-    ran_by_reply g.I.Source.gives g.I.Source.has_ended g.O.Sink.takes _ c.args.input.now c.args.output.now c.deliver.new.output _ _
+    ran_by_reply g.I.Source g.O.Sink _ c.args.input.now c.args.output.now c.deliver.new.output _ _
     (g.met.I.Source.gives_nothing c.args.input.now) (rw e at h) c.deliver.ensures.delivers
 
 pub returns-in-Some-Grade-clause-ran : goal.returns-in-Some-Grade-clause-ran
@@ -27,7 +27,7 @@ returns-in-Some-Grade-clause-ran g c =
     let f = rw a.is at a.field-0-is in
     let asked : Some (grade a.game c.as_bytes.result.now a.telling.budget a.telling.traced) ≡ asked_of (map string_bytes c.args.words.now) =
     ap (λ t. Some (grade a.game t a.telling.budget a.telling.traced)) c.as_bytes.ensures.value ∙ sym (ap (λ r. Some (asked_in r)) f) ∙ sym (ap (option_map asked_in) a.is) ∙ c.in_ok-request.ensures in
-    ran_by_telling g.I.Source.gives g.I.Source.has_ended g.O.Sink.takes _ c.args.input.now c.args.output.now c.grade_id.new.output _ _
+    ran_by_telling g.I.Source g.O.Sink _ c.args.input.now c.args.output.now c.grade_id.new.output _ _
     (g.met.I.Source.gives_nothing c.args.input.now) (λ input b told. subst (λ (q : Option Asked). Allows q input b) asked told) c.grade_id.ensures.told
 
 pub returns-in-Some-Check-clause-ran : goal.returns-in-Some-Check-clause-ran
@@ -36,5 +36,5 @@ returns-in-Some-Check-clause-ran g c =
     let f = rw a.is at a.field-0-is in
     let asked : Some (check a.game c.as_bytes-in-Some-Check.result.now) ≡ asked_of (map string_bytes c.args.words.now) =
     ap (λ t. Some (check a.game t)) c.as_bytes-in-Some-Check.ensures.value ∙ sym (ap (λ r. Some (asked_in r)) f) ∙ sym (ap (option_map asked_in) a.is) ∙ c.in_ok-request.ensures in
-    ran_more g.I.Source.gives g.I.Source.has_ended g.O.Sink.takes _ _ _ _ _ _ _
+    ran_more g.I.Source g.O.Sink _ _ _ _ _ _ _
     (λ input b told. subst (λ (q : Option Asked). Allows q input b) asked told) c.check_id.ensures.ran

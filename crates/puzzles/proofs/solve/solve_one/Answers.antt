@@ -9,7 +9,7 @@ returns-in_ok-reply-in-Ok g c =
     inr (record {
       puzzle = c.in-Ok.puzzle;
       spelled = c.in-Ok.ensures.found;
-      allowed = solved_of g.P.Solvable.solves g.P.Solvable.rules_of g.P.Printed.cell_text g.P.Printed.extent c.args.budget c.in-Ok.puzzle _ _
+      allowed = solved_of g.P.Played.game.solves g.P.Played.game.rules g.P.Printed.cell_text g.P.Printed.extent c.args.budget c.in-Ok.puzzle _ _
           (c.requires.means _ ∙ c.in_ok-rules-in-Ok.ensures.made) c.in_ok-rules-in-Ok.ensures.solutions told.told told.right;
     })
 

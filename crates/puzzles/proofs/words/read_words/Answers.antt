@@ -1,4 +1,4 @@
-use Rattle.std.proofs.Common.{◌∙◌, ap, option_and_then, sym}
+use Rattle.std.proofs.Common.{◌∙◌, ap, option_and_then}
 use Rattle.puzzles.specs.Requests.{asked_of, asked_by}
 use Rattle.puzzles.proofs.words.read_words.Goals as goal
 
@@ -8,4 +8,4 @@ returns-in-Some c = c.request_in.ensures ∙ ap (option_and_then (λ p. asked_by
 
 pub returns-in-None : goal.returns-in-None
 unfolding asked_of
-returns-in-None c = ap (option_and_then (λ p. asked_by p.0 p.1)) (sym (rw c.in-None.is at c.in_ok-matches.ensures))
+returns-in-None c = ap (option_and_then (λ p. asked_by p.0 p.1)) (rw c.in-None.is at c.in_ok-matches.ensures)

@@ -1,8 +1,9 @@
-use Rattle.std.proofs.Common.{arith, refl, rules, sym}
-use Rattle.solo_core.specs.RuleSets.{crossings_rules, houses_rules, singles_rules}
+use Rattle.std.proofs.Common.{[], arith, refl, rules, sym}
+use Rattle.gameid_core.specs.declared.game.Game.TheVariants.{Solo}
+use Rattle.solo_core.specs.RuleSets.{crossings_rules, houses_rules}
 use Rattle.solo_core.specs.Solutions.{IsSoloSolution}
+use Rattle.puzzles.specs.Games.{played}
 use Rattle.puzzles.specs.Grades.{only_set}
-use Rattle.puzzles.specs.Traces.{TellsVisits, solo_name}
 use Rattle.puzzles.specs.declared.grade.RuleSet.TheVariants.{Crossings, Houses}
 use Rattle.puzzles.proofs.GameLemmas.{accepted_by, told_by, told_first, told_later}
 use Rattle.puzzles.proofs.SearchedPuzzles.{crossings_searched, solo_searched}
@@ -32,17 +33,14 @@ tell_by_visits-requires-clause-accepted g c =
 pub returns-then-settles-clause-told : goal.returns-then-settles-clause-told
 returns-then-settles-clause-told g c =
     let p = c.args.puzzle.now in
-    told_first g.O.Sink.takes c.args.telling.traced _ _ _ (IsSoloSolution p) (TellsVisits (solo_name p)) (houses_rules p) c.args.telling.budget
-    _ (singles_rules p) Houses (houses_rules p) (only_set Crossings (crossings_rules p)) c.in_ok-houses.ensures.rules (sym c.if-settles.ensures.settled)
-    (solo_searched p c.solo_is_lawful.ensures).accepted (c.if-settles.ensures.one refl) c.tell_with_visits.ensures.told
+    told_first (played Solo).game p c.args.wanted g.O.Sink.takes _ _ _ _ Houses (houses_rules p) (only_set Crossings (crossings_rules p)) c.in_ok-houses.ensures.rules
+    (sym c.if-settles.ensures.settled) (solo_searched p c.solo_is_lawful.ensures).accepted (c.if-settles.ensures.one refl) c.tell_with_visits.ensures.told
 
 pub returns-clause-told : goal.returns-clause-told
 returns-clause-told g c =
     let p = c.args.puzzle.now in
-    told_later g.O.Sink.takes c.args.telling.traced _ _ _ (IsSoloSolution p) (TellsVisits (solo_name p)) (houses_rules p) c.args.telling.budget
-    _ (singles_rules p) Houses (houses_rules p) (only_set Crossings (crossings_rules p)) c.in_ok-houses.ensures.rules (sym c.if-settles.ensures.settled)
-    (told_by g.O.Sink.takes c.args.telling.traced _ _ _ (IsSoloSolution p) (TellsVisits (solo_name p)) (houses_rules p) c.args.telling.budget
-    _ (crossings_rules p) (houses_rules p) Crossings c.in_ok-crossings.ensures.rules c.tell_by_visits.ensures.told)
+    told_later (played Solo).game p c.args.wanted g.O.Sink.takes _ _ _ _ Houses (houses_rules p) _ [] c.in_ok-houses.ensures.rules (sym c.if-settles.ensures.settled)
+    (told_by (played Solo).game p c.args.wanted g.O.Sink.takes _ _ _ _ (crossings_rules p) Crossings c.in_ok-crossings.ensures.rules c.tell_by_visits.ensures.told)
 
 pub returns-in_err-crossings-clause-left : goal.returns-in_err-crossings-clause-left
 returns-in_err-crossings-clause-left g c = left_alone _ _ _ c.requires c.from_residual-in_err-crossings.ensures

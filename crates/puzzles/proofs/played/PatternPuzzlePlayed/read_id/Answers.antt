@@ -1,4 +1,5 @@
+use Rattle.puzzles.proofs.Readings.{pattern_reading}
 use Rattle.puzzles.proofs.played.PatternPuzzlePlayed.read_id.Goals as goal
 
 pub returns-clause-apart : goal.returns-clause-apart
-returns-clause-apart c = c.one_reading_of_pattern.ensures.apart c.args.id.now
+returns-clause-apart c = pattern_reading.apart c.args.id.now

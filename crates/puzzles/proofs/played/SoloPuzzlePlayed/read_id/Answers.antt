@@ -1,4 +1,5 @@
+use Rattle.puzzles.proofs.Readings.{solo_reading}
 use Rattle.puzzles.proofs.played.SoloPuzzlePlayed.read_id.Goals as goal
 
 pub returns-clause-apart : goal.returns-clause-apart
-returns-clause-apart c = c.one_reading_of_solo.ensures.apart c.args.id.now
+returns-clause-apart c = solo_reading.apart c.args.id.now

@@ -1,9 +1,9 @@
 use Rattle.std.proofs.Common.{arith, refl, rules, sym}
-use Rattle.solo_core.specs.RuleSets.{houses_rules, singles_rules}
-use Rattle.solo_core.specs.Solutions.{IsSoloSolution}
-use Rattle.puzzles.specs.Grades.{after_singles}
-use Rattle.puzzles.specs.Traces.{TellsVisits, solo_name}
-use Rattle.puzzles.specs.declared.grade.RuleSet.TheVariants.{Singles}
+use Rattle.gameid_core.specs.declared.game.Game.TheVariants.{Solo}
+use Rattle.solo_core.specs.RuleSets.{crossings_rules, singles_rules}
+use Rattle.puzzles.specs.Games.{played}
+use Rattle.puzzles.specs.Grades.{after_singles, only_set}
+use Rattle.puzzles.specs.declared.grade.RuleSet.TheVariants.{Crossings, Singles}
 use Rattle.puzzles.proofs.GameLemmas.{told_first, told_later}
 use Rattle.puzzles.proofs.SearchedPuzzles.{singles_searched}
 use Rattle.puzzles.proofs.SoloNames.{houses_named, named}
@@ -20,13 +20,11 @@ tell_with_visits-requires-clause-named g c = named c.args.self.now _ _ c.in_ok-s
 pub returns-then-settles-clause-told : goal.returns-then-settles-clause-told
 returns-then-settles-clause-told g c =
     let p = c.args.self.now in
-    told_first g.O.Sink.takes c.args.telling.traced _ _ _ (IsSoloSolution p) (TellsVisits (solo_name p)) (houses_rules p) c.args.telling.budget
-    _ (houses_rules p) Singles (singles_rules p) (after_singles p) c.in_ok-singles.ensures.rules (sym c.if-settles.ensures.settled)
-    (singles_searched p c.solo_is_lawful.ensures).accepted (c.if-settles.ensures.one refl) c.tell_with_visits.ensures.told
+    told_first (played Solo).game p c.args.wanted g.O.Sink.takes _ _ _ _ Singles (singles_rules p) (after_singles p) c.in_ok-singles.ensures.rules
+    (sym c.if-settles.ensures.settled) (singles_searched p c.solo_is_lawful.ensures).accepted (c.if-settles.ensures.one refl) c.tell_with_visits.ensures.told
 
 pub returns-clause-told : goal.returns-clause-told
 returns-clause-told g c =
     let p = c.args.self.now in
-    told_later g.O.Sink.takes c.args.telling.traced _ _ _ (IsSoloSolution p) (TellsVisits (solo_name p)) (houses_rules p) c.args.telling.budget
-    _ (houses_rules p) Singles (singles_rules p) (after_singles p) c.in_ok-singles.ensures.rules (sym c.if-settles.ensures.settled)
-    c.tell_by_houses.ensures.told
+    told_later (played Solo).game p c.args.wanted g.O.Sink.takes _ _ _ _ Singles (singles_rules p) _ (only_set Crossings (crossings_rules p)) c.in_ok-singles.ensures.rules
+    (sym c.if-settles.ensures.settled) c.tell_by_houses.ensures.told
