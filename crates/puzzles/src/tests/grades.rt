@@ -58,15 +58,15 @@ fn grades_are_told(rt: HostRuntime) -> Result<(), Fail> {
     Ok(())
 }
 
-/// Whether a grade with a trace begins with this text, has this status, and is longer just where
-/// there is a trace.
+/// Whether a grade with a trace begins with this text, and has this status. A refusal ends there:
+/// it has no trace.
 fn is_traced(alloc: Global, words: [&str; 3], text: &str, status: u8) -> Result<bool, AllocError> {
     let (taken, found) = traced(alloc, words[0], words[1], words[2])?;
     let is_longer = taken.len() > text.len();
     Ok(
         taken.as_slice().starts_with(text.as_bytes())
             && found == status
-            && is_longer == (status != 2),
+            && !(is_longer && status == 2),
     )
 }
 
