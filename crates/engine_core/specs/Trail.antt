@@ -1,7 +1,7 @@
 -- A board with the trail of its changes, so that it can be put back. No public contract uses these words.
 use Rattle.std.specs.Prelude.{◌≡◌, ℕ, zero, suc, ◌+◌, ◌*◌, ◌^◌, ◌<◌, ◌≤◌, ◌&&◌, ◌||◌, ◌==◌, nat_le, List, length, slice_index_or, if◌then◌else◌}
 use Rattle.grid_core.specs.Board.{Layout, has, SameShape}
-use Rattle.grid_core.specs.Candidates.{Candidates, IsInside, total}
+use Rattle.grid_core.specs.Candidates.{Candidates, IsInside, total, with_set}
 use Rattle.engine_core.specs.Sets.{has_bit}
 
 -- a change: the cell, and the set that it had before, as bits
@@ -9,8 +9,8 @@ abbrev pub change_at : List (ℕ × ℕ) → ℕ → ℕ × ℕ
 change_at changes k = slice_index_or changes k (0, 0)
 
 -- the board with the values that the cell had before the change
-unfoldable pub given_back : Candidates → ℕ × ℕ → Candidates
-given_back K change c v = K c v || ((c == change.0) && has_bit change.1 v)
+abbrev pub given_back : Candidates → ℕ × ℕ → Candidates
+given_back K change = with_set K change.0 change.1
 
 -- the board before the changes from the number `mark` up to n
 unfoldable pub put_back : Candidates → List (ℕ × ℕ) → ℕ → ℕ → Candidates

@@ -5,10 +5,9 @@ ghost use Rattle.grid_core.specs.Board.{has, cells_of, SameShape};
 ghost use Rattle.grid_core.specs.Candidates.{count_below, only};
 ghost use Rattle.engine_core.specs.Puzzle.{Needs, needs_of, IsBoardOf, after};
 ghost use Rattle.engine_core.specs.Queue.{AreRemembered};
-ghost use Rattle.engine_core.specs.Sets.{has_bit as is_set, IsBitsOf};
-ghost use Rattle.engine_core.specs.Trail.{back_at, given_back, IsFurther, IsBack};
+ghost use Rattle.engine_core.specs.Sets.{IsBitsOf};
+ghost use Rattle.engine_core.specs.Trail.{back_at, IsFurther, IsBack};
 
-use crate::house::has_bit;
 use crate::rules::Rules;
 use crate::sets::cell_bits;
 use grid_core::Board;
@@ -210,24 +209,8 @@ impl Trailed {
             self.len -= 1;
             let (place, set) = self.changes[self.len];
             let before = cell_bits(&self.board, place);
-            give_back(&mut self.board, rules.values(), place, set);
+            self.board.restore(place, set);
             rules.change(place, before, cell_bits(&self.board, place), scratch);
-        }
-    }
-}
-
-/// Puts the values of the set into the cell's set.
-fn give_back(board: &mut Board, values: u8, place: usize, set: u32)
-    requires values_of { values ≡ board.old.values }
-    requires few { values ≤ 31 }
-    requires place_in { place < cells_of board.old }
-    requires small { set < 2 ^ values }
-    ensures left { has board.new ≡ given_back (has board.old) (place, set) }
-    ensures shape { SameShape board.old board.new }
-{
-    for value in 0..values {
-        if has_bit(set, value) {
-            board.restore(place, value);
         }
     }
 }
