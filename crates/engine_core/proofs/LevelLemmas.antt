@@ -3,7 +3,8 @@ use Rattle.std.proofs.Common.{◌≡◌, ◌≢◌, ℕ, zero, suc, ◌+◌, ◌
 use Rattle.std.proofs.lemmas.Bool.{cases_eq}
 use Rattle.std.proofs.lemmas.List.{get_or-set_same, get_or-set_other}
 use Rattle.grid_core.specs.Board.{has}
-use Rattle.grid_core.specs.Candidates.{Candidates, only}
+use Rattle.grid_core.specs.Candidates.{Candidates, only, pick}
+use Rattle.grid_core.proofs.GridLemmas.{only-inside}
 use Rattle.engine_core.specs.Puzzle.{Puzzle, IsLawful, IsNext}
 use Rattle.engine_core.specs.Queue.{IsClosedBut}
 use Rattle.engine_core.specs.Walk.{Mark, Mark.Trial, walk}
@@ -14,7 +15,8 @@ use Rattle.engine_core.specs.declared.levels.Frame.{Frame}
 use Rattle.engine_core.proofs.QueueLemmas.{closed-but_only}
 use Rattle.engine_core.proofs.SearchLemmas.{pending-pop, pending-trial}
 use Rattle.engine_core.proofs.TrailLemmas.{put_back-none}
-use Rattle.engine_core.proofs.RoomLemmas.{singles-only, open-room}
+use Rattle.engine_core.proofs.RoomLemmas.{singles-only, open-cell, open-room}
+use Rattle.engine_core.proofs.PickLemmas.{pick-inside, pick-before}
 use Rattle.std.proofs.lemmas.Grind.{common_steps}
 
 -- ---- the levels of frames
@@ -110,10 +112,10 @@ trial-pending p t frames n v pos lt e next =
 
 -- ---- one turn of the search: the trail t was taken back to t1, and the innermost cell keeps one value in t2
 -- the innermost level is open
-pub open-cell : (p : Puzzle) (t : Trail) (frames : List Frame) (n : ℕ) → IsReady p t frames n → 0 < n → ((frame_at frames (n - 1)).cell < p.cells) × (n - 1 < p.cells)
-open-cell p t frames n ready pos =
+pub top-open : (p : Puzzle) (t : Trail) (frames : List Frame) (n : ℕ) → IsReady p t frames n → 0 < n → ((frame_at frames (n - 1)).cell < p.cells) × (n - 1 < p.cells)
+top-open p t frames n ready pos =
     let o = ready.open_levels (n - 1) (omega arith) in
-    (o.cell_in, open-room p _ (n - 1) o)
+    ((open-cell p _ (n - 1) o).within, open-room p _ (n - 1) o)
 
 pub open-back : (p : Puzzle) (t t1 : Trail) (frames : List Frame) (n : ℕ) → IsReady p t frames n → 0 < n → IsBack t t1 (frame_at frames (n - 1)).mark
     → IsOpen p (record { board = has t1.board; cell = (frame_at frames (n - 1)).cell; next = (frame_at frames (n - 1)).next }) (n - 1)
@@ -129,14 +131,25 @@ turn-ready p t t1 t2 frames n next ready pos lt back further =
 -- one more cell has a single value
 pub turn-single : (p : Puzzle) (t t1 t2 : Trail) (frames : List Frame) (n v : ℕ) → IsReady p t frames n → 0 < n → IsBack t t1 (frame_at frames (n - 1)).mark → v < p.values
     → has t1.board (frame_at frames (n - 1)).cell v ≡ true → has t2.board ≡ only (has t1.board) (frame_at frames (n - 1)).cell v → n ≤ singles p (has t2.board)
-turn-single p t t1 t2 frames n v ready pos back ltv on e = grind (arith, common_steps, open-back, singles-only)
+turn-single p t t1 t2 frames n v ready pos back ltv on e =
+    let o = open-back p t t1 frames n ready pos back in
+    let best = open-cell p _ (n - 1) o in
+    let s = o.single in
+    rw e (let more = singles-only p (has t1.board) (frame_at frames (n - 1)).cell v best.within ltv on best.two in omega arith)
+
+-- of two values, no cell before that of the trial has both
+pub turn-before : (p : Puzzle) (t t1 t2 : Trail) (frames : List Frame) (n v : ℕ) → IsReady p t frames n → 0 < n → IsBack t t1 (frame_at frames (n - 1)).mark
+    → has t2.board ≡ only (has t1.board) (frame_at frames (n - 1)).cell v → p.values ≡ 2 → pick (frame_at frames (n - 1)).cell p.values (has t2.board) ≡ None
+turn-before p t t1 t2 frames n v ready pos back e two =
+    let cell = (frame_at frames (n - 1)).cell in
+    rw e (pick-inside cell p.values _ (has t1.board) (only-inside (has t1.board) cell v) (pick-before p.cells p.values (has t1.board) cell two (open-back p t t1 frames n ready pos back).picked))
 
 -- the board of a trial was closed before it
 pub turn-closed : (p : Puzzle) (laws : IsLawful p) (t t1 t2 : Trail) (frames : List Frame) (n v : ℕ) → IsReady p t frames n → 0 < n → IsBack t t1 (frame_at frames (n - 1)).mark → v < p.values
     → has t1.board (frame_at frames (n - 1)).cell v ≡ true → has t2.board ≡ only (has t1.board) (frame_at frames (n - 1)).cell v → IsClosedBut p (has t2.board) (Some (frame_at frames (n - 1)).cell)
 turn-closed p laws t t1 t2 frames n v ready pos back ltv on e =
     let o = open-back p t t1 frames n ready pos back in
-    rw e (closed-but_only p laws (has t1.board) (frame_at frames (n - 1)).cell v o.cell_in ltv on o.closed o.alive)
+    rw e (closed-but_only p laws (has t1.board) (frame_at frames (n - 1)).cell v (open-cell p _ (n - 1) o).within ltv on o.closed o.alive)
 
 -- the trial comes next
 pub turn-marks : (p : Puzzle) (t t1 t2 : Trail) (frames : List Frame) (n v : ℕ) → IsReady p t frames n → 0 < n → n - 1 < length frames → IsBack t t1 (frame_at frames (n - 1)).mark

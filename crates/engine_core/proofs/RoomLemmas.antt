@@ -3,11 +3,13 @@ use Rattle.std.proofs.Common.{◌≡◌, ℕ, ◌<◌, ◌≤◌, true, false, e
 use Rattle.std.proofs.lemmas.Bool.{cases_eq, eqb-true, ne_eqb, eq-eqb}
 use Rattle.grid_core.specs.Candidates.{Candidates, IsInside, IsWithin, is_dead, pick, only, count_below}
 use Rattle.grid_core.proofs.CandidateLemmas.{count_below-lt, count_below-le, count_below-few, count_below-pos, count_below-bound, is_dead-not}
-use Rattle.grid_core.proofs.GridLemmas.{only-at, only-other, only-here, pick-two}
+use Rattle.grid_core.proofs.GridLemmas.{only-at, only-other, only-here}
 use Rattle.engine_core.specs.Puzzle.{Puzzle, IsClosed}
 use Rattle.engine_core.specs.Closing.{closure}
+use Rattle.engine_core.specs.Walk.{IsFewest}
 use Rattle.engine_core.specs.Search.{Level}
 use Rattle.engine_core.specs.Frames.{singles, IsOpen}
+use Rattle.engine_core.proofs.PickLemmas.{pick-fewest}
 use Rattle.engine_core.proofs.ClosingLemmas.{closure_closed}
 use Rattle.std.proofs.lemmas.Grind.{common_steps}
 
@@ -41,9 +43,12 @@ singles-room p K cell lt two =
 pub split-room : (p : Puzzle) (K K' : Candidates) (n cell : ℕ) → IsInside K' K → n ≤ singles p K → is_dead p.cells p.values K' ≡ false → pick p.cells p.values K' ≡ Some cell
     → IsWithin p.cells p.values K → (is_dead p.cells p.values K' ≡ false → K' ≡ closure p K) → IsOpen p (record { board = K'; cell = cell; next = 0 }) n
 split-room p K K' n cell inside single alive picked within reached =
-    let two = pick-two p.cells p.values K' cell picked in
     let more = singles-inside p K' K inside alive in
-    record { single = omega arith; cell_in = two.0; two = two.1; closed = subst (IsClosed p) (sym (reached alive)) (closure_closed p K within); alive = alive }
+    record { single = omega arith; picked = picked; closed = subst (IsClosed p) (sym (reached alive)) (closure_closed p K within); alive = alive }
+
+-- its cell is one with fewest values
+pub open-cell : (p : Puzzle) (level : Level) (n : ℕ) → IsOpen p level n → IsFewest p.cells p.values level.board level.cell
+open-cell p level n o = pick-fewest p.cells p.values level.board level.cell o.picked
 
 pub open-room : (p : Puzzle) (level : Level) (n : ℕ) → IsOpen p level n → n < p.cells
-open-room p level n o = let less = singles-room p level.board level.cell o.cell_in o.two in let s = o.single in omega arith
+open-room p level n o = let best = open-cell p level n o in let less = singles-room p level.board level.cell best.within best.two in let s = o.single in omega arith
