@@ -1,6 +1,5 @@
 -- Boards that differ in one cell alone.
-use Rattle.std.proofs.Common.{◌≡◌, ℕ, ◌+◌, ◌<◌, length, slice_index, Bool, true, false, not, ◌&&◌, ◌||◌, eqb, refl, sym, ap, ◌∙◌, subst, arith}
-use Rattle.std.proofs.lemmas.Bool.{ne_eqb, eq-eqb}
+use Rattle.std.proofs.Common.{◌≡◌, ℕ, ◌+◌, ◌<◌, length, slice_index, true, sym, ◌∙◌, subst, arith}
 use Rattle.grid_core.specs.Board.{Layout, has, SameShape}
 use Rattle.grid_core.specs.Candidates.{Candidates, IsInside, IsWithin, only}
 use Rattle.grid_core.proofs.BoardLemmas.{has-within}

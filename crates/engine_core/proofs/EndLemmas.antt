@@ -1,12 +1,11 @@
 -- What a closing left.
-use Rattle.std.proofs.Common.{arith, ◌≡◌, ℕ, ◌≤◌, max, Bool, true, false, List, length, take, refl, sym, ◌∙◌, inl, inr, ◌↔◌}
-use Rattle.std.proofs.lemmas.Bool.{true≢false}
+use Rattle.std.proofs.Common.{arith, ◌≡◌, ℕ, ◌≤◌, max, Bool, false, List, length, take, inl, inr, ◌↔◌}
 use Rattle.grid_core.specs.Candidates.{Candidates, is_dead}
 use Rattle.engine_core.specs.Puzzle.{Puzzle}
 use Rattle.engine_core.specs.Closing.{closure, replay}
 use Rattle.engine_core.specs.ClosingList.{IsDead, IsClosing, Reaches}
 use Rattle.engine_core.specs.declared.mode.Closing.{Closing}
-use Rattle.engine_core.specs.declared.mode.Closing.TheVariants.{Dead, Open}
+use Rattle.engine_core.specs.declared.mode.Closing.TheVariants.{Dead}
 use Rattle.engine_core.specs.Queue.{IsEnded}
 use Rattle.engine_core.specs.Counts.{IsClosedIn}
 use Rattle.engine_core.proofs.CountLemmas.{closed-in}

@@ -1,7 +1,6 @@
 -- What a visit leaves, by what is kept of the sets of its house's cells.
-use Rattle.std.proofs.Common.{◌≡◌, ℕ, ◌+◌, ◌<◌, Bool, true, false, not, ◌&&◌, ◌||◌, eqb, bit_and, List, length, slice_index, refl, sym, ap, ◌∙◌, arith, inl, inr}
-use Rattle.std.proofs.Math.Path.{fun_ext}
-use Rattle.std.proofs.lemmas.Bool.{cases_Bool, cases_eq, true≢false, and_left, and_from, false_from_ne_true, eq-eqb, ne_eqb}
+use Rattle.std.proofs.Common.{◌≡◌, ℕ, ◌+◌, ◌<◌, true, false, not, ◌&&◌, eqb, bit_and, List, length, slice_index, arith}
+use Rattle.std.proofs.lemmas.Bool.{cases_Bool, cases_eq, and_left, and_from, false_from_ne_true, eq-eqb, ne_eqb}
 use Rattle.std.proofs.lemmas.Nat.{and_le_l}
 use Rattle.grid_core.specs.Candidates.{Candidates, IsWithin}
 use Rattle.engine_core.specs.Puzzle.{Puzzle, IsLawful, after}

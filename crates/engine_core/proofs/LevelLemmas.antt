@@ -1,5 +1,5 @@
 -- The levels of a search: what its frames and its trail say of the boards that are open.
-use Rattle.std.proofs.Common.{◌≡◌, ◌≢◌, ℕ, zero, suc, ◌+◌, ◌-◌, ◌<◌, ◌≤◌, true, false, List, [], ◌∷◌, ◌++◌, length, length-set, set, Some, None, refl, sym, ap, ◌∙◌, subst, inl, inr, arith, add-one}
+use Rattle.std.proofs.Common.{◌≡◌, ◌≢◌, ℕ, zero, suc, ◌+◌, ◌-◌, ◌<◌, ◌≤◌, true, false, List, [], ◌∷◌, ◌++◌, length, length-set, set, Some, None, refl, sym, ap, ◌∙◌, subst, arith, add-one}
 use Rattle.std.proofs.lemmas.Bool.{cases_eq}
 use Rattle.std.proofs.lemmas.List.{get_or-set_same, get_or-set_other}
 use Rattle.grid_core.specs.Board.{has}
@@ -7,7 +7,7 @@ use Rattle.grid_core.specs.Candidates.{Candidates, only, pick}
 use Rattle.grid_core.proofs.GridLemmas.{only-inside}
 use Rattle.engine_core.specs.Puzzle.{Puzzle, IsLawful, IsNext}
 use Rattle.engine_core.specs.Queue.{IsClosedBut}
-use Rattle.engine_core.specs.Walk.{Mark, Mark.Trial, walk}
+use Rattle.engine_core.specs.Walk.{Mark.Trial, walk}
 use Rattle.engine_core.specs.Search.{Level, pending}
 use Rattle.engine_core.specs.Trail.{Trail, back_at, IsFurther, IsBack}
 use Rattle.engine_core.specs.Frames.{level_at, frame_at, levels_of, singles, IsOpen, IsReady, pending_in}

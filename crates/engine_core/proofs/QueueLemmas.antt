@@ -1,4 +1,4 @@
-use Rattle.std.proofs.Common.{add-one, ◌≡◌, ℕ, zero, suc, ◌+◌, ◌-◌, ◌*◌, ◌<◌, ◌≤◌, Bool, true, false, not, cond, ◌&&◌, ◌||◌, eqb, List, [], ◌∷◌, ◌++◌, length, slice_index, take, set, Option, Some, None, IfSome, refl, sym, ap, ◌∙◌, inl, inr, arith}
+use Rattle.std.proofs.Common.{add-one, ◌≡◌, ℕ, ◌+◌, ◌-◌, ◌*◌, ◌<◌, ◌≤◌, Bool, true, false, not, cond, ◌&&◌, ◌||◌, eqb, List, [], ◌∷◌, ◌++◌, length, slice_index, take, set, Option, Some, refl, sym, ap, ◌∙◌, inl, inr, arith}
 use Rattle.std.proofs.lemmas.Bool.{and_left, and_right, cases_Bool, cases_eq, true≢false, and_parts, and_from, or_cases, or_left, or_right, or_parts, not-true, not-false, not_from_false, not_from_true, false_from_ne_true, eqb-true, eq-eqb, ne_eqb}
 use Rattle.std.proofs.Math.Nat.{mul-le-mul_right}
 use Rattle.std.proofs.Math.Seq.{take-suc-set}
@@ -9,7 +9,7 @@ use Rattle.grid_core.proofs.BoardLemmas.{has-within}
 use Rattle.grid_core.proofs.GridLemmas.{only-inside, only-other, only-here}
 use Rattle.engine_core.specs.Puzzle.{Puzzle, IsLawful, IsClosed, IsInsideAt, IsBoardOf, after, has_place, share}
 use Rattle.engine_core.specs.PlaceLaws.{has_place-at, has_place-here}
-use Rattle.engine_core.specs.Queue.{calls, counts_of, woken, but, visits_left, IsRested, IsWoken, empties, IsClosedBut, waits_from}
+use Rattle.engine_core.specs.Queue.{counts_of, woken, but, visits_left, IsRested, IsWoken, empties, IsClosedBut, waits_from}
 use Rattle.engine_core.specs.Waiting.{AreCalled}
 use Rattle.engine_core.proofs.ClosingLemmas.{after_inside}
 use Rattle.std.proofs.lemmas.Grind.{common_steps}

@@ -1,16 +1,16 @@
 -- A search that is under way: which marks are left, and what was counted of those before.
-use Rattle.std.proofs.Common.{◌≡◌, ℕ, suc, ◌+◌, ◌-◌, ◌<◌, max, Bool, true, false, List, [], ◌∷◌, ◌++◌, Some, None, if◌then◌else◌, refl, sym, ap, ◌∙◌, arith, subst}
+use Rattle.std.proofs.Common.{◌≡◌, ℕ, suc, ◌+◌, ◌-◌, ◌<◌, max, Bool, true, false, List, [], ◌∷◌, ◌++◌, Some, None, if◌then◌else◌, refl, ap, ◌∙◌, arith}
 use Rattle.std.proofs.lemmas.Bool.{true≢false}
 use Rattle.grid_core.specs.Candidates.{Candidates}
 use Rattle.engine_core.specs.Puzzle.{Puzzle}
-use Rattle.engine_core.specs.Walk.{Mark, Mark.Trial, Mark.Found}
-use Rattle.engine_core.specs.Verdict.{Outcome, Outcome.TwoGrids, Outcome.OutOfBudget, outcome, tried}
+use Rattle.engine_core.specs.Walk.{Mark, Mark.Trial}
+use Rattle.engine_core.specs.Verdict.{Outcome.TwoGrids, Outcome.OutOfBudget, outcome, tried}
 use Rattle.engine_core.specs.Counts.{IsClosedIn}
 use Rattle.engine_core.specs.Frames.{found_marks, Says, IsSearched}
 use Rattle.engine_core.specs.declared.search.Progress.{Progress}
 use Rattle.engine_core.specs.declared.search.Searched.{Searched}
 use Rattle.engine_core.specs.declared.search.Verdict.TheVariants as verdict
-use Rattle.engine_core.proofs.CountLemmas.{IsCounted, counted-first, counted-more, counted-trials, counted-turns, counted-deepest}
+use Rattle.engine_core.proofs.CountLemmas.{IsCounted, counted-first, counted-more}
 use Rattle.std.proofs.lemmas.Grind.{common_steps}
 
 -- ---- a trial, after the grids found

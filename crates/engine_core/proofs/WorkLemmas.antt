@@ -1,8 +1,6 @@
 -- The lists that closings work in are long enough for rules that fit.
-use Rattle.std.proofs.Common.{◌≡◌, ℕ, ◌<◌, ◌≤◌, Bool, true, List, length, ◌∙◌, arith}
-use Rattle.std.proofs.lemmas.Bool.{cond-true}
+use Rattle.std.proofs.Common.{ℕ, ◌<◌, ◌≤◌, Bool, List, length, arith}
 use Rattle.engine_core.specs.Puzzle.{Puzzle, Needs, needs_of, FitsIn}
-use Rattle.engine_core.specs.Waiting.{words_of}
 use Rattle.engine_core.specs.Working.{IsWorkOf}
 use Rattle.engine_core.proofs.StoreLemmas.{scope_le-longest}
 use Rattle.std.proofs.lemmas.Grind.{common_steps}

@@ -1,5 +1,6 @@
 -- Tables of houses: which places each house has, and which houses have a place.
-use Rattle.std.specs.Prelude.{◌≡◌, ℕ, suc, ◌+◌, ◌<◌, ◌≤◌, true, false, Option, Some, None, List, [], length, slice_index, slice_index_or}
+use Rattle.std.specs.Prelude.{◌≡◌, ℕ, suc, ◌+◌, ◌<◌, ◌≤◌, true, false, cond, Option, Some, None, List, [], length, slice_index, slice_index_or}
+use Rattle.std.specs.List.{between}
 use Rattle.grid_core.specs.Candidates.{count_below, sum_below}
 use Rattle.engine_core.specs.Puzzle.{has_place}
 use Rattle.engine_core.specs.House.{AreDifferent}
@@ -70,3 +71,28 @@ IsFirstFrom houses from None = (k : ℕ) → k < length houses → slice_index h
 IsFirstFrom houses from (Some h) =
     (k : ℕ) × (k < length houses) × (slice_index houses k ≡ h) × (from ≤ h)
     × ((j : ℕ) → j < k → slice_index houses j < from)
+
+-- the first n numbers of the list
+abbrev pub AreAt : ℕ → (ℕ → ℕ) → List ℕ → Type 0
+AreAt n f xs = (c : ℕ) → c < n → slice_index xs c ≡ f c
+
+-- how many of the houses have the place
+abbrev pub number_in : List (List ℕ) → ℕ → ℕ
+number_in scopes place = number_at scopes (length scopes) place
+
+-- no house is put yet
+abbrev pub IsUnfilled : List (List ℕ) → List ℕ → List ℕ → Type 0
+IsUnfilled scopes starts houses = IsIndex (length starts) scopes (length scopes) starts houses
+
+-- the houses from where those of the place start
+abbrev pub houses_from : List ℕ → List ℕ → ℕ → List ℕ
+houses_from starts houses place =
+    between (slice_index starts place) (slice_index starts (place + 1)) houses
+
+-- one more at each of the places
+abbrev pub counted_on : List ℕ → List ℕ → ℕ → ℕ
+counted_on counts places c = slice_index counts c + cond (has_place places c) 1 0
+
+-- the sum of each number with those before it
+abbrev pub sum_to : List ℕ → ℕ → ℕ
+sum_to xs c = sum_below (slice_index xs) (suc c)

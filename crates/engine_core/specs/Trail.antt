@@ -1,8 +1,7 @@
 -- A board with the trail of its changes, so that it can be put back. No public contract uses these words.
-use Rattle.std.specs.Prelude.{◌≡◌, ℕ, zero, suc, ◌+◌, ◌*◌, ◌^◌, ◌<◌, ◌≤◌, ◌&&◌, ◌||◌, ◌==◌, nat_le, List, length, slice_index_or, if◌then◌else◌}
+use Rattle.std.specs.Prelude.{◌≡◌, ℕ, zero, suc, ◌+◌, ◌*◌, ◌^◌, ◌<◌, ◌≤◌, nat_le, List, length, slice_index_or, if◌then◌else◌}
 use Rattle.grid_core.specs.Board.{Layout, has, SameShape}
 use Rattle.grid_core.specs.Candidates.{Candidates, IsInside, total, with_set}
-use Rattle.engine_core.specs.Sets.{has_bit}
 
 -- a change: the cell, and the set that it had before, as bits
 abbrev pub change_at : List (ℕ × ℕ) → ℕ → ℕ × ℕ

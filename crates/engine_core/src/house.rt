@@ -1,7 +1,7 @@
 //! A visit of a house in three steps: `gather` reads the sets of its cells, the rules decide what is kept of them, and
 //! `apply` strikes the rest. All strikes of a visit are decided before the first is made.
 
-ghost use Rattle.std.specs.Prelude.{◌≡◌, ℕ, ◌<◌, ◌≤◌, ◌↔◌, ◌&&◌, ◌==◌, not, true, false, map, length, slice_index};
+ghost use Rattle.std.specs.Prelude.{◌≡◌, ℕ, ◌<◌, ◌==◌, true, false, map, length, slice_index};
 ghost use Rattle.grid_core.specs.Board.{has, cells_of, SameShape};
 ghost use Rattle.engine_core.specs.Closing.{HasStruck};
 ghost use Rattle.engine_core.specs.Sets.{has_bit as is_set, set_of_bits, IsBitsOf};

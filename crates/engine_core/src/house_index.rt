@@ -1,11 +1,10 @@
 //! Houses, and which of them have a place.
 
-ghost use Rattle.std.specs.Prelude.{◌≡◌, ℕ, suc, ◌+◌, ◌<◌, ◌≤◌, ◌^◌, cond, IfOk, length, sum_by, slice_index};
-ghost use Rattle.std.specs.List.{between};
+ghost use Rattle.std.specs.Prelude.{◌≡◌, ℕ, suc, ◌+◌, ◌<◌, ◌≤◌, ◌^◌, IfOk, length, sum_by, slice_index};
 ghost use Rattle.grid_core.specs.Candidates.{sum_below};
 ghost use Rattle.engine_core.specs.Puzzle.{has_place, IsNext, IsKth, longest};
 ghost use Rattle.engine_core.specs.House.{AreDifferent};
-ghost use Rattle.engine_core.specs.HouseIndex.{AreScopes, scope_of, number_at, start_at, AreHousesAt, IsIndex, IsRoom, IsPut, IsFirstFrom};
+ghost use Rattle.engine_core.specs.HouseIndex.{AreScopes, scope_of, start_at, AreHousesAt, IsIndex, IsRoom, IsPut, IsFirstFrom, AreAt, counted_on, number_in, IsUnfilled, houses_from, sum_to};
 
 use crate::house_list::{HouseList, part};
 use std::alloc::{AllocError, Global};
@@ -18,8 +17,7 @@ fn count_house(counts: &mut [u32], places: &[u32])
     requires different { AreDifferent places.now }
     requires few { (c : ℕ) → c < length counts.old → slice_index counts.old c + 1 < 2 ^ 32 }
     ensures as_many { length counts.new ≡ length counts.old }
-    ensures counted { (c : ℕ) → c < length counts.old
-        → slice_index counts.new c ≡ slice_index counts.old c + cond (has_place places.now c) 1 0 }
+    ensures counted { AreAt (length counts.old) (counted_on counts.old places.now) counts.new }
 {
     for k in 0..places.len() {
         counts[places[k] as usize] += 1;
@@ -31,8 +29,7 @@ fn count_houses(counts: &mut [u32], list: &HouseList)
     requires scopes { AreScopes (length counts.old) list.now.closed }
     requires none { (c : ℕ) → c < length counts.old → slice_index counts.old c ≡ 0 }
     ensures as_many { length counts.new ≡ length counts.old }
-    ensures counted { (c : ℕ) → c < length counts.old
-        → slice_index counts.new c ≡ number_at list.now.closed (length list.now.closed) c }
+    ensures counted { AreAt (length counts.old) (number_in list.now.closed) counts.new }
 {
     for house in 0..list.len() {
         count_house(counts, list.places(house));
@@ -43,8 +40,7 @@ fn count_houses(counts: &mut [u32], list: &HouseList)
 fn sum_up(counts: &mut [u32]) -> u32
     requires { sum_below (slice_index counts.old) (length counts.old) < 2 ^ 32 }
     ensures as_many { length counts.new ≡ length counts.old }
-    ensures sums { (c : ℕ) → c < length counts.old
-        → slice_index counts.new c ≡ sum_below (slice_index counts.old) (suc c) }
+    ensures sums { AreAt (length counts.old) (sum_to counts.old) counts.new }
     ensures all { result ≡ sum_below (slice_index counts.old) (length counts.old) }
 {
     let mut sum = 0u32;
@@ -61,8 +57,7 @@ fn write_ends(ends: &mut [u32], list: &HouseList) -> u32
     requires few { sum_by length list.now.closed < 2 ^ 32 }
     requires none { (c : ℕ) → c < length ends.old → slice_index ends.old c ≡ 0 }
     ensures as_many { length ends.new ≡ length ends.old }
-    ensures ends { (c : ℕ) → c < length ends.old
-        → slice_index ends.new c ≡ start_at list.now.closed (suc c) }
+    ensures ends { AreAt (length ends.old) (λ c. start_at list.now.closed (suc c)) ends.new }
     ensures all { result ≡ start_at list.now.closed (length ends.old) }
 {
     count_houses(ends, list);
@@ -88,8 +83,7 @@ fn put_house(starts: &mut [u32], houses: &mut [u32], house: u32, places: &[u32])
 /// Puts all houses, from the last on, each before those that stand already at its places.
 fn put_houses(starts: &mut [u32], houses: &mut [u32], list: &HouseList)
     requires scopes { AreScopes (length starts.old) list.now.closed }
-    requires none { IsIndex (length starts.old) list.now.closed (length list.now.closed)
-        starts.old houses.old }
+    requires none { IsUnfilled list.now.closed starts.old houses.old }
     ensures { IsIndex (length starts.old) list.now.closed 0 starts.new houses.new }
 {
     for after in 0..list.len() {
@@ -103,8 +97,7 @@ fn houses_of<'a>(starts: &[u32], houses: &'a [u32], place: usize) -> &'a [u32]
     requires place_in { place + 1 < length starts.now }
     requires ascending { slice_index starts.now place ≤ slice_index starts.now (place + 1) }
     requires within { slice_index starts.now (place + 1) ≤ length houses.now }
-    ensures { result.now
-        ≡ between (slice_index starts.now place) (slice_index starts.now (place + 1)) houses.now }
+    ensures { result.now ≡ houses_from starts.now houses.now place }
 {
     let from = starts[place] as usize;
     let end = starts[place + 1] as usize;

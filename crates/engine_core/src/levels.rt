@@ -2,8 +2,7 @@
 
 ghost use Rattle.std.specs.Prelude.{◌≡◌, ◌≤◌, ◌<◌, IfOk, length};
 ghost use Rattle.grid_core.specs.Board.{cells_of, SameShape};
-ghost use Rattle.engine_core.specs.Working.{IsAlong};
-ghost use Rattle.engine_core.specs.Frames.{AreReady, pending_of, IsTurn};
+ghost use Rattle.engine_core.specs.Frames.{AreReady, IsTurn, AreAlong};
 
 use crate::judge::next_value;
 use crate::rules::Rules;
@@ -56,18 +55,15 @@ impl Levels {
     /// Takes back what was struck since the innermost frame, and leaves its cell's next value alone: which cell, or none
     /// where that has no value left.
     pub(crate) fn next_trial<R: Rules>(&mut self, rules: &R, work: &mut Work<R>) -> Option<usize>
-        requires along { IsAlong (R.puzzle rules.now) (R.follows rules.now) work.old
-            self.old.trailed.board }
+        requires along { AreAlong (R.puzzle rules.now) (R.follows rules.now) work.old self.old }
         requires ready { AreReady (R.puzzle rules.now) self.old }
         requires deep { 0 < self.old.depth }
-        ensures turn { IsTurn (R.puzzle rules.now) (pending_of (R.puzzle rules.now) self.old)
-            self.new result }
+        ensures turn { IsTurn (R.puzzle rules.now) self.old self.new result }
         ensures ready { AreReady (R.puzzle rules.now) self.new }
         ensures depth { self.new.depth ≡ self.old.depth }
         ensures frames { length self.new.frames.items ≡ length self.old.frames.items }
         ensures shape { SameShape self.old.trailed.board self.new.trailed.board }
-        ensures along { IsAlong (R.puzzle rules.now) (R.follows rules.now) work.new
-            self.new.trailed.board }
+        ensures along { AreAlong (R.puzzle rules.now) (R.follows rules.now) work.new self.new }
         ensures made { work.new.made ≡ work.old.made }
     {
         let top = self.frames[self.depth - 1];

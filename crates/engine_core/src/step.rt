@@ -1,13 +1,12 @@
 //! A visit of a house, and which houses wait after it.
 
-ghost use Rattle.std.specs.Prelude.{◌≡◌, ℕ, ◌<◌, ◌≤◌, ◌||◌, ◌&&◌, ◌==◌, not, true, false, length, IfSome};
+ghost use Rattle.std.specs.Prelude.{◌≡◌, ◌<◌, ◌≤◌, false, length, IfSome};
 ghost use Rattle.grid_core.specs.Board.{has};
-ghost use Rattle.grid_core.specs.Candidates.{Candidates, is_dead};
-ghost use Rattle.engine_core.specs.Puzzle.{has_place, after};
-ghost use Rattle.engine_core.specs.Queue.{waits_from, IsWoken};
-ghost use Rattle.engine_core.specs.Waiting.{words_of, is_waiting, AreCalled};
+ghost use Rattle.grid_core.specs.Candidates.{Candidates};
+ghost use Rattle.engine_core.specs.Puzzle.{after};
+ghost use Rattle.engine_core.specs.Waiting.{words_of};
 ghost use Rattle.engine_core.specs.Trail.{IsFurther};
-ghost use Rattle.engine_core.specs.Working.{IsAlong};
+ghost use Rattle.engine_core.specs.Working.{IsAlong, AllAreCalled, WaitsFrom, Settles, Wakes, DiesIf};
 
 use crate::rules::Rules;
 use crate::trailed::Trailed;
@@ -18,8 +17,7 @@ use crate::work::Work;
 fn mark_all<R: Rules>(rules: &R, scratch: &R::Scratch, waits: &mut [u64])
     requires waits_room { words_of (R.puzzle rules.now).houses ≤ length waits.old }
     requires follows { (K : Candidates) × R.follows rules.now scratch.now K }
-    ensures called { (K : Candidates) → R.follows rules.now scratch.now K
-        → AreCalled (R.puzzle rules.now) K (λ j. true) (is_waiting waits.old) (is_waiting waits.new) }
+    ensures { AllAreCalled (R.puzzle rules.now) (R.follows rules.now) scratch.now waits.old waits.new }
 {
     for house in 0..rules.houses() {
         if rules.calls(house, scratch) {
@@ -39,9 +37,7 @@ pub(crate) fn wait_from<R: Rules>(
     requires place_in { IfSome from (λ place. place < (R.puzzle rules.now).cells) }
     requires waits_room { words_of (R.puzzle rules.now).houses ≤ length waits.old }
     requires follows { (K : Candidates) × R.follows rules.now scratch.now K }
-    ensures called { (K : Candidates) → R.follows rules.now scratch.now K
-        → AreCalled (R.puzzle rules.now) K (waits_from (R.puzzle rules.now) from) (λ j. false)
-        (is_waiting waits.new) }
+    ensures called { WaitsFrom (R.puzzle rules.now) (R.follows rules.now) scratch.now from waits.new }
 {
     waits.fill(0);
     match from {
@@ -54,8 +50,7 @@ pub(crate) fn wait_from<R: Rules>(
 pub(crate) fn settle<R: Rules>(rules: &R, house: usize, waits: &mut [u64])
     requires house_in { house < (R.puzzle rules.now).houses }
     requires waits_room { words_of (R.puzzle rules.now).houses ≤ length waits.old }
-    ensures { (j : ℕ) → is_waiting waits.new j
-        ≡ (is_waiting waits.old j && not ((R.puzzle rules.now).settled && (j == house))) }
+    ensures { Settles (R.puzzle rules.now) house waits.old waits.new }
 {
     if R::SETTLED {
         unmark(waits, house);
@@ -71,12 +66,8 @@ impl<R: Rules> Work<R> {
         requires house_in { house < (R.puzzle rules.now).houses }
         ensures left { has trailed.new.board
             ≡ after (R.puzzle rules.now) house (has trailed.old.board) }
-        ensures waiting { IsWoken (R.puzzle rules.now) house (has trailed.old.board)
-            (has trailed.new.board) (is_waiting self.old.waits) (is_waiting self.new.waits) }
-        ensures dead { is_dead (R.puzzle rules.now).cells (R.puzzle rules.now).values
-            (has trailed.new.board)
-            ≡ (is_dead (R.puzzle rules.now).cells (R.puzzle rules.now).values
-            (has trailed.old.board) || result) }
+        ensures waiting { Wakes (R.puzzle rules.now) house trailed.old trailed.new self.old self.new }
+        ensures dead { DiesIf (R.puzzle rules.now) trailed.old trailed.new result }
         ensures further { IsFurther trailed.old trailed.new }
         ensures along { IsAlong (R.puzzle rules.now) (R.follows rules.now) self.new
             trailed.new.board }

@@ -1,12 +1,12 @@
 //! A board, and the trail of its changes: what each changed cell had before, so that it can be put back.
 
-ghost use Rattle.std.specs.Prelude.{◌≡◌, ℕ, ◌*◌, ◌<◌, ◌≤◌, ◌^◌, ◌||◌, ◌&&◌, ◌==◌, IfOk, bit_and, length, slice_index, true, false};
+ghost use Rattle.std.specs.Prelude.{◌≡◌, ◌*◌, ◌<◌, ◌≤◌, IfOk, bit_and, length, true, false};
 ghost use Rattle.grid_core.specs.Board.{has, cells_of, SameShape};
 ghost use Rattle.grid_core.specs.Candidates.{count_below, only};
 ghost use Rattle.engine_core.specs.Puzzle.{Needs, needs_of, IsBoardOf, after};
-ghost use Rattle.engine_core.specs.Queue.{AreRemembered};
-ghost use Rattle.engine_core.specs.Sets.{IsBitsOf};
 ghost use Rattle.engine_core.specs.Trail.{back_at, IsFurther, IsBack};
+ghost use Rattle.engine_core.specs.Working.{Recalls};
+ghost use Rattle.engine_core.specs.Keeping.{AreSetsOf};
 
 use crate::rules::Rules;
 use crate::sets::cell_bits;
@@ -114,8 +114,7 @@ impl Trailed {
         ensures left { has self.new.board ≡ after (R.puzzle rules.now) house (has self.old.board) }
         ensures unchanged { result ≡ false → has self.new.board ≡ has self.old.board }
         ensures further { IsFurther self.old self.new }
-        ensures remembered { result ≡ true → AreRemembered (R.puzzle rules.now) house
-            (has self.old.board) (has self.new.board) sets.new kept.new }
+        ensures remembered { Recalls (R.puzzle rules.now) house self.old self.new result sets.new kept.new }
         ensures follows { R.follows rules.now scratch.new (has self.new.board) }
         ensures keeps { (needs : Needs) → R.serves scratch.old needs → R.serves scratch.new needs }
     {
@@ -147,8 +146,7 @@ impl Trailed {
         ensures left { has self.new.board ≡ after (R.puzzle rules.now) house (has self.old.board) }
         ensures unchanged { result ≡ false → has self.new.board ≡ has self.old.board }
         ensures further { IsFurther self.old self.new }
-        ensures remembered { result ≡ true → AreRemembered (R.puzzle rules.now) house
-            (has self.old.board) (has self.new.board) sets.new kept.new }
+        ensures remembered { Recalls (R.puzzle rules.now) house self.old self.new result sets.new kept.new }
         ensures follows { R.follows rules.now scratch.new (has self.new.board) }
         ensures keeps { (needs : Needs) → R.serves scratch.old needs → R.serves scratch.new needs }
     {
@@ -227,9 +225,7 @@ fn remember<R: Rules>(rules: &R, house: usize, board: &Board, sets: &mut [u32])
     requires house_in { house < (R.puzzle rules.now).houses }
     requires board_of { IsBoardOf (R.puzzle rules.now) board.now }
     requires room { length sets.old ≡ length ((R.puzzle rules.now).scope house) }
-    ensures sets { (k : ℕ) → k < length ((R.puzzle rules.now).scope house)
-        → IsBitsOf (has board.now (slice_index ((R.puzzle rules.now).scope house) k))
-        (R.puzzle rules.now).values (slice_index sets.new k) }
+    ensures sets { AreSetsOf (R.puzzle rules.now) house (has board.now) sets.new }
 {
     for k in 0..sets.len() {
         sets[k] = cell_bits(board, rules.scope(house, k));

@@ -1,14 +1,14 @@
 //! What closings work in.
 
-ghost use Rattle.std.specs.Prelude.{◌≡◌, ℕ, ◌+◌, ◌<◌, ◌≤◌, ◌^◌, ◌&&◌, ◌==◌, not, true, false, IfOk, IfSome, bit_and, length, slice_index, slice_set, if◌then◌else◌};
+ghost use Rattle.std.specs.Prelude.{◌≡◌, ℕ, ◌+◌, ◌<◌, ◌≤◌, ◌^◌, ◌==◌, true, false, IfOk, IfSome, bit_and, length, slice_index, slice_set, if◌then◌else◌};
 ghost use Rattle.grid_core.specs.Board.{has};
 ghost use Rattle.grid_core.specs.Candidates.{Candidates, count_below, only};
 ghost use Rattle.engine_core.specs.Mode.{is_queue};
-ghost use Rattle.engine_core.specs.Puzzle.{needs_of, FitsIn, IsBoardOf, IsGridOf, IsNext, has_place, after};
-ghost use Rattle.engine_core.specs.Queue.{waits_from, but, AreRemembered, IsAnyOf, called_for, are_emptied};
-ghost use Rattle.engine_core.specs.Waiting.{is_waiting, AreCalled};
+ghost use Rattle.engine_core.specs.Puzzle.{needs_of, FitsIn, IsBoardOf, IsGridOf, IsNext, after};
+ghost use Rattle.engine_core.specs.Queue.{but, IsAnyOf};
+ghost use Rattle.engine_core.specs.Waiting.{is_waiting};
 ghost use Rattle.engine_core.specs.Trail.{IsBack, IsFurther};
-ghost use Rattle.engine_core.specs.Working.{needs_made, IsAlong, IsSameButWaits};
+ghost use Rattle.engine_core.specs.Working.{needs_made, IsAlong, IsSameButWaits, WorkWaits, HasTraceRoom, WakesAt, Settles, IsRecalled, WakesFor, Empties, StillFollows};
 
 use crate::rules::{Rules, by_queue};
 use crate::step::{settle, wait_from};
@@ -100,11 +100,8 @@ impl<R: Rules> Work<R> {
         requires fits { FitsIn (needs_of (R.puzzle rules.now)) self.old.made }
         requires place_in { IfSome from (λ place. place < (R.puzzle rules.now).cells) }
         requires follows { (K : Candidates) × R.follows rules.now self.old.scratch K }
-        ensures called { (K : Candidates) → R.follows rules.now self.old.scratch K
-            → AreCalled (R.puzzle rules.now) K (waits_from (R.puzzle rules.now) from) (λ j. false)
-            (is_waiting self.new.waits) }
-        ensures trace_room { (R.puzzle rules.now).by_queue ≡ true
-            → (R.puzzle rules.now).bound ≤ length self.new.trace }
+        ensures called { WorkWaits (R.puzzle rules.now) (R.follows rules.now) from self.old self.new }
+        ensures trace_room { HasTraceRoom (R.puzzle rules.now) self.new.trace }
         ensures others { IsSameButWaits self.old self.new }
     {
         wait_from(rules, from, &self.scratch, &mut self.waits);
@@ -115,10 +112,7 @@ impl<R: Rules> Work<R> {
         requires fits { FitsIn (needs_of (R.puzzle rules.now)) self.old.made }
         requires place_in { place < (R.puzzle rules.now).cells }
         requires follows { (K : Candidates) × R.follows rules.now self.old.scratch K }
-        ensures called { (K : Candidates) → R.follows rules.now self.old.scratch K
-            → AreCalled (R.puzzle rules.now) K
-            (λ j. has_place ((R.puzzle rules.now).scope j) place) (is_waiting self.old.waits)
-            (is_waiting self.new.waits) }
+        ensures called { WakesAt (R.puzzle rules.now) (R.follows rules.now) place self.old self.new }
         ensures others { IsSameButWaits self.old self.new }
     {
         rules.wake(place, &self.scratch, &mut self.waits);
@@ -139,9 +133,7 @@ impl<R: Rules> Work<R> {
     pub(crate) fn settle(&mut self, rules: &R, house: usize)
         requires fits { FitsIn (needs_of (R.puzzle rules.now)) self.old.made }
         requires house_in { house < (R.puzzle rules.now).houses }
-        ensures waits { (j : ℕ) → is_waiting self.new.waits j
-            ≡ (is_waiting self.old.waits j
-            && not ((R.puzzle rules.now).settled && (j == house))) }
+        ensures waits { Settles (R.puzzle rules.now) house self.old.waits self.new.waits }
         ensures others { IsSameButWaits self.old self.new }
     {
         settle(rules, house, &mut self.waits);
@@ -156,8 +148,7 @@ impl<R: Rules> Work<R> {
             ≡ after (R.puzzle rules.now) house (has trailed.old.board) }
         ensures unchanged { result ≡ false → has trailed.new.board ≡ has trailed.old.board }
         ensures further { IsFurther trailed.old trailed.new }
-        ensures remembered { result ≡ true → AreRemembered (R.puzzle rules.now) house
-            (has trailed.old.board) (has trailed.new.board) self.new.sets self.new.kept }
+        ensures remembered { IsRecalled (R.puzzle rules.now) house trailed.old trailed.new result self.new }
         ensures sets_room { length ((R.puzzle rules.now).scope house) ≤ length self.new.sets }
         ensures kept_room { length ((R.puzzle rules.now).scope house) ≤ length self.new.kept }
         ensures along { IsAlong (R.puzzle rules.now) (R.follows rules.now) self.new
@@ -194,14 +185,8 @@ impl<R: Rules> Work<R> {
         requires sets_room { length ((R.puzzle rules.now).scope house) ≤ length self.old.sets }
         requires kept_room { length ((R.puzzle rules.now).scope house) ≤ length self.old.kept }
         requires follows { (K : Candidates) × R.follows rules.now self.old.scratch K }
-        ensures called { (K K' : Candidates)
-            → AreRemembered (R.puzzle rules.now) house K K' self.old.sets self.old.kept
-            → R.follows rules.now self.old.scratch K'
-            → AreCalled (R.puzzle rules.now) K' (called_for (R.puzzle rules.now) house K K')
-            (is_waiting self.old.waits) (is_waiting self.new.waits) }
-        ensures dead { (K K' : Candidates)
-            → AreRemembered (R.puzzle rules.now) house K K' self.old.sets self.old.kept
-            → result ≡ are_emptied (R.puzzle rules.now) house K K' }
+        ensures called { WakesFor (R.puzzle rules.now) (R.follows rules.now) house self.old self.new }
+        ensures dead { Empties (R.puzzle rules.now) house self.old result }
         ensures others { IsSameButWaits self.old self.new }
     {
         let mut dead = false;
@@ -237,15 +222,7 @@ impl<R: Rules> Work<R> {
     pub(crate) fn write(&mut self, visit: usize, house: usize)
         requires { visit < length self.old.trace }
         ensures few { visit + 1 < 2 ^ 64 }
-        ensures written { self.new
-            ≡ record {
-              made = self.old.made;
-              trace = slice_set self.old.trace visit house;
-              waits = self.old.waits;
-              sets = self.old.sets;
-              kept = self.old.kept;
-              scratch = self.old.scratch;
-            } }
+        ensures written { self.new ≡ record self.old { trace = slice_set self.old.trace visit house } }
     {
         self.trace[visit] = house;
     }
@@ -255,8 +232,7 @@ impl<R: Rules> Work<R> {
         requires room { FitsIn (needs_of (R.puzzle rules.now)) self.old.made }
         requires fits { IsGridOf (R.puzzle rules.now) grid.now }
         ensures solution { result ≡ (R.puzzle rules.now).is_solution grid.now }
-        ensures follows { (K : Candidates) → R.follows rules.now self.old.scratch K
-            → R.follows rules.now self.new.scratch K }
+        ensures follows { StillFollows (R.follows rules.now) self.old.scratch self.new.scratch }
         ensures made { self.new.made ≡ self.old.made }
         ensures trace { self.new.trace ≡ self.old.trace }
     {

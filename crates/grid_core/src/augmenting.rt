@@ -1,6 +1,6 @@
 //! The search for a free right, and the change of mates along the way to it.
 
-ghost use Rattle.std.specs.Prelude.{◌≡◌, ℕ, ◌+◌, ◌<◌, ◌≤◌, MatchOption, length, slice_index};
+ghost use Rattle.std.specs.Prelude.{◌≡◌, ◌+◌, ◌<◌, ◌≤◌, MatchOption, length, slice_index};
 ghost use Rattle.grid_core.specs.Augmenting.{AreJoined, IsFreeFor, IsBlocked, IsReach, IsClosed};
 ghost use Rattle.grid_core.specs.Augmenting.{ReachesOwners, Extends};
 

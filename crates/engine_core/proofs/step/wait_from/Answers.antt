@@ -13,7 +13,7 @@ returns-in-None g c = record {
       let p = g.R.Rules.puzzle c.args.rules.now in
       let made : c.fill.new.self ≡ replicate (length c.args.waits.now) 0 = search rules in
       rw c.in-None.is (called-from p K (λ j. true) (λ j. true) (is_waiting c.fill.new.self) (is_waiting c.mark_all.new.waits)
-      (λ j lt. rw made (waiting-none (length c.args.waits.now) j (let long = c.requires.waits_room in omega arith))) (λ j lt. refl) (c.mark_all.ensures.called K follows));
+      (λ j lt. rw made (waiting-none (length c.args.waits.now) j (let long = c.requires.waits_room in omega arith))) (λ j lt. refl) (c.mark_all.ensures K follows));
 }
 
 pub returns-in-Some : goal.returns-in-Some

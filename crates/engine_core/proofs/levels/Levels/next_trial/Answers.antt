@@ -1,4 +1,4 @@
-use Rattle.std.proofs.Common.{◌≡◌, ◌+◌, ◌-◌, arith}
+use Rattle.std.proofs.Common.{◌≡◌, ◌-◌, arith}
 use Rattle.std.proofs.lemmas.List.{get_or_read_under}
 use Rattle.engine_core.specs.Frames.{frame_at}
 use Rattle.engine_core.proofs.LevelLemmas.{top-open, open-back, ready-back, turn-ready, turn-single, turn-before, turn-closed, turn-marks, turn-done}

@@ -1,5 +1,4 @@
 use Rattle.std.proofs.Common.{arith}
-use Rattle.grid_core.specs.Board.{has}
 use Rattle.engine_core.proofs.TrailLemmas.{IsKept, kept-room, kept-noted, trail-len}
 use Rattle.engine_core.proofs.trailed.Trailed.keep.Goals as goal
 use Rattle.engine_core.proofs.trailed.Trailed.keep.Goals.{After-cell_bits}

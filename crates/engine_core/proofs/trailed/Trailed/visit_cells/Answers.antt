@@ -1,11 +1,9 @@
-use Rattle.std.proofs.Common.{◌≡◌, ◌+◌, ◌<◌, true, bit_and, length, slice_index, sym, ap, ◌∙◌, subst, refl, arith}
-use Rattle.std.proofs.lemmas.Bool.{ltb-false}
+use Rattle.std.proofs.Common.{◌≡◌, ◌<◌, length, sym, ap, ◌∙◌, subst, refl, arith}
 use Rattle.grid_core.specs.Board.{has}
 use Rattle.grid_core.specs.Candidates.{Candidates, IsInside}
 use Rattle.engine_core.specs.Keeping.{AreSetsOf}
-use Rattle.engine_core.specs.PlaceLaws.{has_place-here}
 use Rattle.engine_core.specs.Puzzle.{after}
-use Rattle.engine_core.specs.Trail.{Trail, IsTrail, put_back}
+use Rattle.engine_core.specs.Trail.{IsTrail, put_back}
 use Rattle.engine_core.proofs.ClosingLemmas.{after_inside}
 use Rattle.engine_core.proofs.KeepLemmas.{IsLeft, kept-none, kept-left, left-at, scope-retained}
 use Rattle.engine_core.proofs.QueueLemmas.{IsBoardOf-same, within_of}
@@ -16,7 +14,7 @@ use Rattle.engine_core.proofs.trailed.Trailed.visit_cells.Goals.{After-keep, Aft
 
 -- the sets that were remembered
 are : (g : _) (c : After-keep g) → AreSetsOf (g.R.Rules.puzzle c.args.rules.now) c.args.house (has c.args.self.now.board) c.remember.new.sets
-are g c = record { as_many = omega (arith, c.requires.sets_room, c.remember.auto.sets); bits = rw (← c.self.view_is) c.remember.ensures.sets }
+are g c = rw (← c.self.view_is) c.remember.ensures.sets
 
 -- the cell of this turn
 at_cell : (g : _) (c : After-left_of-now g)

@@ -3,7 +3,6 @@ use Rattle.grid_core.specs.Board.{has}
 use Rattle.engine_core.proofs.QueueLemmas.{rested_from, dead_of, within_of}
 use Rattle.engine_core.proofs.ListLemmas.{closing-none}
 use Rattle.engine_core.proofs.EndLemmas.{ended-whole}
-use Rattle.engine_core.proofs.TrailLemmas.{further-none}
 use Rattle.engine_core.proofs.work.Work.close.Goals as goal
 
 pub returns-then-has_empty_cell-clause-ended : goal.returns-then-has_empty_cell-clause-ended

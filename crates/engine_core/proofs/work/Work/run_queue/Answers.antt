@@ -1,7 +1,5 @@
-use Rattle.std.proofs.Common.{◌<◌, take, arith, ◌∙◌, ap, refl, ℕ, List}
+use Rattle.std.proofs.Common.{◌<◌, take, arith, ◌∙◌, ap, refl, ℕ}
 use Rattle.std.proofs.lemmas.List.{length-set}
-use Rattle.grid_core.specs.Board.{has}
-use Rattle.engine_core.specs.Waiting.{is_waiting}
 use Rattle.engine_core.proofs.QueueLemmas.{pushed, within_of, dead_by}
 use Rattle.engine_core.proofs.TrailLemmas.{further-none, further-more}
 use Rattle.engine_core.proofs.ListLemmas.{running-first, running-alive, running-turn, closing-dead, closing-open, room}
