@@ -1,20 +1,15 @@
 -- What a closing left.
-use Rattle.std.proofs.Common.{arith, ◌≡◌, ℕ, ◌≤◌, max, Bool, false, List, length, take, inl, inr, ◌↔◌}
+use Rattle.std.proofs.Common.{arith, ◌≡◌, ℕ, ◌≤◌, max, Bool, false, List, length, take, ◌↔◌}
 use Rattle.grid_core.specs.Candidates.{Candidates, is_dead}
 use Rattle.engine_core.specs.Puzzle.{Puzzle}
-use Rattle.engine_core.specs.Closing.{closure, replay}
-use Rattle.engine_core.specs.ClosingList.{IsDead, IsClosing, Reaches}
+use Rattle.engine_core.specs.Closing.{closure}
+use Rattle.engine_core.specs.ClosingList.{IsDead, IsClosing}
 use Rattle.engine_core.specs.declared.mode.Closing.{Closing}
 use Rattle.engine_core.specs.declared.mode.Closing.TheVariants.{Dead}
 use Rattle.engine_core.specs.Queue.{IsEnded}
 use Rattle.engine_core.specs.Counts.{IsClosedIn}
 use Rattle.engine_core.proofs.CountLemmas.{closed-in}
 use Rattle.std.proofs.lemmas.Grind.{common_steps}
-
--- a closing that reached a dead closure left a dead board
-reaches-dead : (p : Puzzle) (K E : Candidates) (t : List ℕ) → E ≡ replay p K t → Reaches p K t → IsDead p (closure p K) → IsDead p E
-reaches-dead p K E t e (inl same) dead = rw (e, same) dead
-reaches-dead p K E t e (inr both) dead = rw e both.1
 
 -- a whole closing
 pub ended-whole : (p : Puzzle) (K E : Candidates) (whole : Bool) (answer : Closing) (trace : List ℕ) (sweeps : ℕ) → IsClosing p K E answer trace sweeps → IsEnded p K E whole answer trace sweeps
