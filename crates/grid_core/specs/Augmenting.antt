@@ -1,6 +1,7 @@
 -- The states of a search for augmenting paths, over lists of numbers.
 -- No public contract uses these words.
-use Rattle.std.specs.Prelude.{◌≡◌, ℕ, ◌<◌, ◌≤◌, Bool, true, false, IsTrue, List, length, get_or, slice_index, Option, Some, None, Contains}
+use Rattle.std.specs.Prelude.{◌≡◌, ℕ, ◌<◌, ◌≤◌, Bool, true, false, IsTrue, List, length, get_or, slice_index, Option, Some, None, ◌++◌, [], ◌∷◌, MatchOption, Contains}
+use Rattle.grid_core.specs.declared.augmenting.Way.{Way}
 
 -- the first `count` entries of a list differ from one another
 pub record IsApart (xs : List ℕ) (count : ℕ) : Type 0 where
@@ -83,3 +84,43 @@ pub record Extends (xs ys : List ℕ) : Type 0 where
 abbrev pub IsClosed : (ℕ → ℕ → Bool) → ℕ → List ℕ → List ℕ → ℕ → Type 0
 IsClosed joins rights mates lefts count = (j r : ℕ) → j < count → r < rights
     → IsTrue (joins (slice_index lefts j) r) → IsMateOfLater mates lefts r
+
+-- ---- what contracts say of answers
+-- no two of the first n lefts have the same mate
+abbrev pub AreOwn : List ℕ → ℕ → Type 0
+AreOwn mates n =
+    (l m : ℕ) → l < n → m < n → slice_index mates l ≡ slice_index mates m → l ≡ m
+
+-- the left that has the right for its mate, or none has
+abbrev pub IsOwner : List ℕ → ℕ → Option ℕ → Type 0
+IsOwner mates right owner = MatchOption owner (IsFree mates right)
+    (λ l. (l < length mates) × (slice_index mates l ≡ right))
+
+-- a right that is free for the left, or none is
+abbrev pub IsFreeRight : (ℕ → ℕ → Bool) → ℕ → List ℕ → ℕ → Option ℕ → Type 0
+IsFreeRight joins rights mates left right =
+    MatchOption right (IsBlocked joins rights mates left) (IsFreeFor joins rights mates left)
+
+-- one more left was reached
+abbrev pub with_left : ReachedView → ℕ → ℕ → ReachedView
+with_left reached left parent = record {
+  room = reached.room;
+  lefts = reached.lefts ++ left ∷ [];
+  parents = reached.parents ++ parent ∷ [];
+}
+
+-- each right that is joined to the left at `head` is free, or the mate of a left that was reached
+abbrev pub Reaches : (ℕ → ℕ → Bool) → ℕ → MatesView → ReachedView → ℕ → Type 0
+Reaches joins rights mates reached head =
+    ReachesOwners joins mates.mates reached.lefts (slice_index reached.lefts head) rights
+
+-- the right is free for the left at the place
+abbrev pub IsFreeAt : (ℕ → ℕ → Bool) → ℕ → MatesView → ReachedView → Way → Type 0
+IsFreeAt joins rights mates reached way =
+    IsFreeFor joins rights mates.mates (slice_index reached.lefts way.place) way.right
+
+-- such a way, or none: then all rights that are joined to the lefts reached are mates of others of them
+abbrev pub IsWay : (ℕ → ℕ → Bool) → ℕ → MatesView → ReachedView → Option Way → Type 0
+IsWay joins rights mates reached answer = MatchOption answer
+    (IsClosed joins rights mates.mates reached.lefts (length reached.lefts))
+    (λ way. (way.place < length reached.lefts) × IsFreeAt joins rights mates reached way)

@@ -1,8 +1,8 @@
 //! The search for a free right, and the change of mates along the way to it.
 
-ghost use Rattle.std.specs.Prelude.{◌≡◌, ◌+◌, ◌<◌, ◌≤◌, MatchOption, length, slice_index};
-ghost use Rattle.grid_core.specs.Augmenting.{AreJoined, IsFreeFor, IsBlocked, IsReach, IsClosed};
-ghost use Rattle.grid_core.specs.Augmenting.{ReachesOwners, Extends};
+ghost use Rattle.std.specs.Prelude.{◌≡◌, ◌+◌, ◌<◌, ◌≤◌, length};
+ghost use Rattle.grid_core.specs.Augmenting.{AreJoined, IsReach, IsFreeRight, Reaches, IsWay, IsFreeAt};
+ghost use Rattle.grid_core.specs.Augmenting.{Extends};
 
 use crate::mates::Mates;
 use crate::pairing::Edges;
@@ -12,9 +12,7 @@ use crate::reached::Reached;
 fn free_right<E: Edges>(edges: &E, mates: &Mates, left: usize) -> Option<usize>
     requires left_in { left < E.left_count edges.now }
     requires rights_fit { E.right_count edges.now ≤ mates.now.room }
-    ensures { MatchOption result
-        (IsBlocked (E.joins edges.now) (E.right_count edges.now) mates.now.mates left)
-        (IsFreeFor (E.joins edges.now) (E.right_count edges.now) mates.now.mates left) }
+    ensures { IsFreeRight (E.joins edges.now) (E.right_count edges.now) mates.now.mates left result }
 {
     let mut from = 0;
     while let Some(right) = edges.next(left, from) {
@@ -36,8 +34,7 @@ fn reach_owners<E: Edges>(edges: &E, mates: &Mates, head: usize, reached: &mut R
     ensures room { reached.new.room ≡ reached.old.room }
     ensures reach { IsReach (E.joins edges.now) mates.now.mates reached.new }
     ensures grown { Extends reached.old.lefts reached.new.lefts }
-    ensures owners { ReachesOwners (E.joins edges.now) mates.now.mates reached.new.lefts
-        (slice_index reached.new.lefts head) (E.right_count edges.now) }
+    ensures owners { Reaches (E.joins edges.now) (E.right_count edges.now) mates.now reached.new head }
 {
     let left = reached.left(head);
     let mut from = 0;
@@ -65,12 +62,7 @@ pub(crate) fn explore<E: Edges>(edges: &E, mates: &Mates, reached: &mut Reached)
     requires rights_fit { E.right_count edges.now ≤ mates.now.room }
     ensures room { reached.new.room ≡ reached.old.room }
     ensures reach { IsReach (E.joins edges.now) mates.now.mates reached.new }
-    ensures found { MatchOption result
-        (IsClosed (E.joins edges.now) (E.right_count edges.now) mates.now.mates reached.new.lefts
-        (length reached.new.lefts))
-        (λ way. (way.place < length reached.new.lefts)
-        × IsFreeFor (E.joins edges.now) (E.right_count edges.now) mates.now.mates
-        (slice_index reached.new.lefts way.place) way.right) }
+    ensures found { IsWay (E.joins edges.now) (E.right_count edges.now) mates.now reached.new result }
 {
     reached.clear();
     reached.push(mates.count(), 0);
@@ -92,8 +84,7 @@ pub(crate) fn shift<E: Edges>(edges: &E, reached: &Reached, way: Way, mates: &mu
     requires root_fits { length mates.old.mates < mates.old.room }
     requires reach { IsReach (E.joins edges.now) mates.old.mates reached.now }
     requires place_in { way.place < length reached.now.lefts }
-    requires free { IsFreeFor (E.joins edges.now) (E.right_count edges.now) mates.old.mates
-        (slice_index reached.now.lefts way.place) way.right }
+    requires free { IsFreeAt (E.joins edges.now) (E.right_count edges.now) mates.old reached.now way }
     ensures room { mates.new.room ≡ mates.old.room }
     ensures more { length mates.new.mates ≡ length mates.old.mates + 1 }
     ensures joined { AreJoined (E.joins edges.now) (E.right_count edges.now) mates.new.mates }

@@ -1,7 +1,7 @@
 //! The mates of lefts, and the lefts that own rights.
 
-ghost use Rattle.std.specs.Prelude.{◌≡◌, ℕ, ◌+◌, ◌^◌, ◌<◌, MatchOption, IfOk, [], ◌∷◌, ◌++◌, length, slice_index, slice_set};
-ghost use Rattle.grid_core.specs.Augmenting.{IsFree};
+ghost use Rattle.std.specs.Prelude.{◌≡◌, ◌+◌, ◌^◌, ◌<◌, IfOk, [], ◌∷◌, ◌++◌, length, slice_index, slice_set};
+ghost use Rattle.grid_core.specs.Augmenting.{IsFree, AreOwn, IsOwner};
 
 use std::alloc::{AllocError, Global};
 use std::marker::Model;
@@ -49,8 +49,7 @@ impl Mates {
     /// How many lefts have a mate, each its own.
     pub(crate) fn count(&self) -> usize
         ensures count { result ≡ length self.now.mates }
-        ensures own { (l m : ℕ) → l < result → m < result
-            → slice_index self.now.mates l ≡ slice_index self.now.mates m → l ≡ m }
+        ensures own { AreOwn self.now.mates result }
     {
         self.count
     }
@@ -66,8 +65,7 @@ impl Mates {
     /// The left whose mate is the right.
     pub(crate) fn owner(&self, right: usize) -> Option<usize>
         requires { right < self.now.room }
-        ensures owner { MatchOption result (IsFree self.now.mates right)
-            (λ l. (l < length self.now.mates) × (slice_index self.now.mates l ≡ right)) }
+        ensures owner { IsOwner self.now.mates right result }
         ensures next_fits { right + 1 < 2 ^ 64 }
     {
         self.owners[right]

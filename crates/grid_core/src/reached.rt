@@ -1,8 +1,9 @@
 //! The lefts that a search has reached.
 
-ghost use Rattle.std.specs.Prelude.{◌≡◌, ℕ, ◌<◌, ◌≤◌, ◌↔◌, IsTrue, IfOk, [], ◌∷◌, ◌++◌, length, slice_index, Contains, IsPermutation, IsSorted, take};
+ghost use Rattle.std.specs.Prelude.{◌≡◌, ℕ, ◌<◌, ◌≤◌, ◌↔◌, IsTrue, IfOk, [], length, slice_index, Contains, IsPermutation, IsSorted, take};
 ghost use Rattle.std.specs.Ordering.{nat_cmp};
 ghost use Rattle.std.specs.List.Sorted.{IsStrictlyIncreasing};
+ghost use Rattle.grid_core.specs.Augmenting.{with_left};
 
 use std::alloc::{AllocError, Global};
 use std::marker::Model;
@@ -100,10 +101,7 @@ impl Reached {
     pub(crate) fn push(&mut self, left: usize, parent: usize)
         requires left_in { left < self.old.room }
         requires new { Contains self.old.lefts left → ⊥ }
-        ensures { self.new ≡ record self.old {
-          lefts = self.old.lefts ++ left ∷ [];
-          parents = self.old.parents ++ parent ∷ [];
-        } }
+        ensures { self.new ≡ with_left self.old left parent }
     {
         self.seen[left] = true;
         self.queue[self.count] = left;
