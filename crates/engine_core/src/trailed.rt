@@ -207,7 +207,7 @@ impl Trailed {
             self.len -= 1;
             let (place, set) = self.changes[self.len];
             let before = cell_bits(&self.board, place);
-            self.board.restore(place, set);
+            self.board.restore_set(place, set);
             rules.change(place, before, cell_bits(&self.board, place), scratch);
         }
     }

@@ -48,7 +48,7 @@ fn a_board_loses_and_regains_values(rt: HostRuntime) -> Result<(), Fail> {
     assert!(rt; !board.has(0, 1));
     assert!(rt; board.strike(0, 0));
     assert!(rt; board.has_empty_cell());
-    board.restore(0, 1 << 1);
+    board.restore(0, 1);
     assert!(rt; board.has(0, 1));
     board.fill();
     assert_eq!(rt; board.count(0), 2);
