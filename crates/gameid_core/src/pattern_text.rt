@@ -122,7 +122,7 @@ fn clues(
         (clues_at size base description.now) }
 {
     let lines = lines(size);
-    let mut clues = Vec::new(alloc);
+    let mut clues = Vec::with_capacity(alloc, lines)?;
     let mut clue = Vec::new(alloc);
     let mut before = 0;
     let mut rest = description;
