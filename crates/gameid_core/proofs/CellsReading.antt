@@ -1,58 +1,39 @@
 -- Reading a description that fills cells: Solo and Light Up.
-use Rattle.std.proofs.Common.{◌≡◌, ℕ, ◌+◌, ◌<◌, ◌≤◌, true, false, eqb, eq-eqb, List, [], ◌∷◌, ◌++◌, map, length, Result, Ok, Err, refl, sym, ap, ◌∙◌, cond, ltb, arith, append_assoc, length-append}
+use Rattle.std.proofs.Common.{◌≡◌, ℕ, Bool, ◌+◌, ◌<◌, ◌≤◌, true, false, eqb, eq-eqb, List, [], ◌∷◌, ◌++◌, map, length, Result, Ok, Err, refl, sym, ap, ◌∙◌, cond, ltb, arith, append_assoc, length-append}
 use Rattle.std.specs.List.{AllByRecursion, flat_map}
 use Rattle.std.proofs.lemmas.Bool.{ne_eqb, le-ltb, lt-ltb, eqb-true}
 use Rattle.std.proofs.lemmas.List.{append-nil}
 use Rattle.gameid_core.specs.declared.fault.IdFault.{IdFault}
 use Rattle.gameid_core.specs.declared.fault.IdFault.TheVariants.{TooMany, TooFew}
 use Rattle.gameid_core.specs.Words.{words, Cuts}
-use Rattle.gameid_core.specs.Steps.{reading}
+use Rattle.gameid_core.specs.Steps.{reading, ◌>>=◌}
 use Rattle.gameid_core.specs.Cells.{fill_step, fill_end}
-use Rattle.gameid_core.proofs.Reading.{turn_of, fault_of, end_of, place}
+use Rattle.gameid_core.proofs.Reading.{turn_of, end_of, place}
 use Rattle.gameid_core.proofs.Results.{bind_ok, not_refused, only_taken, taken, ok_is}
 
 -- ---- filling
 
-pub fill_taken : {A : Type 0} (token : ℕ → List ℕ → Result (List A) IdFault) (all at : ℕ) (cells more : List A) (word : List ℕ) → token at word ≡ Ok more → length cells + length more ≤ all → fill_step token all at cells word ≡ Ok (cells ++ more)
-unfolding fill_step
-fill_taken token all at cells more word e room = rw (e, le-ltb _ _ room) refl
+-- the cells with a token's cells after them, unless they pass the grid's
+abbrev pub filled : {A : Type 0} → ℕ → List A → List A → Result (List A) IdFault
+filled all cells more = cond (ltb all (length cells + length more)) (Err TooMany) (Ok (cells ++ more))
 
-pub fill_over : {A : Type 0} (token : ℕ → List ℕ → Result (List A) IdFault) (all at : ℕ) (cells more : List A) (word : List ℕ) → token at word ≡ Ok more → all < length cells + length more → fill_step token all at cells word ≡ Err TooMany
+pub fill_is : {A : Type 0} (token : ℕ → List ℕ → Result (List A) IdFault) (all at : ℕ) (cells : List A) (word : List ℕ) (r : Result (List A) IdFault) → token at word ≡ r → fill_step token all at cells word ≡ (r >>= filled all cells)
 unfolding fill_step
-fill_over token all at cells more word e over = rw (e, lt-ltb _ _ over) refl
+fill_is token all at cells word r e = rw e refl
 
-pub fill_fault : {A : Type 0} (token : ℕ → List ℕ → Result (List A) IdFault) (all at : ℕ) (f : IdFault) (cells : List A) (word : List ℕ) → token at word ≡ Err f → fill_step token all at cells word ≡ Err f
-unfolding fill_step
-fill_fault token all at f cells word e = rw e refl
+pub fill_end_is : {A : Type 0} (all : ℕ) (cells : List A) (full : Bool) → eqb (length cells) all ≡ full → fill_end all cells ≡ cond full (Ok cells) (Err TooFew)
+unfolding fill_end
+fill_end_is all cells full e = rw e refl
 
 abbrev fills : {A : Type 0} → (ℕ → List ℕ → Result (List A) IdFault) → ℕ → ℕ → List A → List ℕ → Result (List A) IdFault
 fills token all at cells text = reading (fill_step token all) (fill_end all) at cells (words text)
 
-pub turn_fill : {A : Type 0} (token : ℕ → List ℕ → Result (List A) IdFault) (all base d : ℕ) (cells more : List A) (rest word after : List ℕ) (total : Result (List A) IdFault) → Cuts rest word after → length rest ≤ d → token (place base d rest) word ≡ Ok more → length cells + length more ≤ all → fills token all (place base d rest) cells rest ≡ total → fills token all (place base d after) (cells ++ more) after ≡ total
-turn_fill token all base d cells more rest word after total cuts le e room so =
-    turn_of (fill_step token all) (fill_end all) base d cells (cells ++ more) rest word after total cuts le (fill_taken token all (place base d rest) cells more word e room) so
+pub turn_fill : {A : Type 0} (token : ℕ → List ℕ → Result (List A) IdFault) (all base d : ℕ) (cells : List A) (rest word after : List ℕ) (r : Result (List A) IdFault) (total : Result (List A) IdFault) → Cuts rest word after → length rest ≤ d → token (place base d rest) word ≡ r → fills token all (place base d rest) cells rest ≡ total → ((r >>= filled all cells) >>= (λ t. fills token all (place base d after) t after)) ≡ total
+turn_fill token all base d cells rest word after r total cuts le e so =
+    turn_of (fill_step token all) (fill_end all) base d cells rest word after (r >>= filled all cells) total cuts le (fill_is token all (place base d rest) cells word r e) so
 
-pub over_fill : {A : Type 0} (token : ℕ → List ℕ → Result (List A) IdFault) (all at : ℕ) (cells more : List A) (rest word after : List ℕ) (total : Result (List A) IdFault) → Cuts rest word after → token at word ≡ Ok more → all < length cells + length more → fills token all at cells rest ≡ total → total ≡ Err TooMany
-over_fill token all at cells more rest word after total cuts e over so =
-    fault_of (fill_step token all) (fill_end all) at cells TooMany rest word after total cuts (fill_over token all at cells more word e over) so
-
-pub fault_fill : {A : Type 0} (token : ℕ → List ℕ → Result (List A) IdFault) (all at : ℕ) (f : IdFault) (cells : List A) (rest word after : List ℕ) (total : Result (List A) IdFault) → Cuts rest word after → token at word ≡ Err f → fills token all at cells rest ≡ total → total ≡ Err f
-fault_fill token all at f cells rest word after total cuts e so =
-    fault_of (fill_step token all) (fill_end all) at cells f rest word after total cuts (fill_fault token all at f cells word e) so
-
-pub fill_full : {A : Type 0} (all : ℕ) (cells : List A) → length cells ≡ all → fill_end all cells ≡ Ok cells
-unfolding fill_end
-fill_full all cells e = let full : eqb (length cells) all ≡ true = eq-eqb _ _ e in rw full refl
-
-pub fill_few : {A : Type 0} (all : ℕ) (cells : List A) → (length cells ≡ all → ⊥) → fill_end all cells ≡ Err TooFew
-unfolding fill_end
-fill_few all cells ne = let less : eqb (length cells) all ≡ false = ne_eqb _ _ ne in rw less refl
-
-pub few_fill : {A : Type 0} (token : ℕ → List ℕ → Result (List A) IdFault) (all at : ℕ) (cells : List A) (rest : List ℕ) (total : Result (List A) IdFault) → rest ≡ [] → (length cells ≡ all → ⊥) → fills token all at cells rest ≡ total → total ≡ Err TooFew
-few_fill token all at cells rest total e ne so = end_of (fill_step token all) (fill_end all) at cells rest (Err TooFew) total e (fill_few all cells ne) so
-
-pub done_fill : {A : Type 0} (token : ℕ → List ℕ → Result (List A) IdFault) (all at : ℕ) (cells : List A) (rest : List ℕ) (total : Result (List A) IdFault) → rest ≡ [] → length cells ≡ all → fills token all at cells rest ≡ total → total ≡ Ok cells
-done_fill token all at cells rest total e is so = end_of (fill_step token all) (fill_end all) at cells rest (Ok cells) total e (fill_full all cells is) so
+pub end_fill : {A : Type 0} (token : ℕ → List ℕ → Result (List A) IdFault) (all at : ℕ) (cells : List A) (rest : List ℕ) (full : Bool) (total : Result (List A) IdFault) → rest ≡ [] → eqb (length cells) all ≡ full → fills token all at cells rest ≡ total → total ≡ cond full (Ok cells) (Err TooFew)
+end_fill token all at cells rest full total e is so = end_of (fill_step token all) (fill_end all) at cells rest _ total e (fill_end_is all cells full is) so
 
 -- a token of a filling that was taken
 fill_cases : {A : Type 0} (token : ℕ → List ℕ → Result (List A) IdFault) (all at : ℕ) (cells : List A) (word : List ℕ) (t : List A) → fill_step token all at cells word ≡ Ok t → (more : List A) × (token at word ≡ Ok more) × (cells ++ more ≡ t)
@@ -105,11 +86,11 @@ cells_spelled {A = A} text cells Fits token Is take most at before (word ∷ ws)
 pub cells_again : {T A : Type 0} (text : T → List ℕ) (cells : T → List A) (Fits : T → Type 0) (token : ℕ → List ℕ → Result (List A) IdFault) → ((at : ℕ) (t : T) → Fits t → token at (text t) ≡ Ok (cells t)) → (most at : ℕ) (before : List A) (tokens : List T) → AllByRecursion Fits tokens → length before + length (flat_map cells tokens) ≡ most → reading (fill_step token most) (fill_end most) at before (map text tokens) ≡ Ok (before ++ flat_map cells tokens)
 unfolding reading
 cells_again {A = A} text cells Fits token again most at before [] each full =
-    fill_full most before (omega arith) ∙ ap (λ (cs : List A). taken cs) (sym (append-nil before))
+    fill_end_is most before true (eq-eqb _ _ (omega arith)) ∙ ap (λ (cs : List A). taken cs) (sym (append-nil before))
 cells_again {A = A} text cells Fits token again most at before (t ∷ tokens) each full =
     let more : List A = cells t in
     let later : List A = flat_map cells tokens in
     let both = length-append more later in
     let so_far = length-append before more in
-    let step = fill_taken token most at before more (text t) (again at t each.0) (omega arith) in
-    rw step (cells_again text cells Fits token again most (at + length (text t)) (before ++ more) tokens each.1 (omega arith) ∙ ap (λ (cs : List A). taken cs) (append_assoc before more later))
+    let room : length before + length more ≤ most = omega arith in
+    rw (fill_is token most at before (text t) (Ok more) (again at t each.0), le-ltb _ _ room) (cells_again text cells Fits token again most (at + length (text t)) (before ++ more) tokens each.1 (omega arith) ∙ ap (λ (cs : List A). taken cs) (append_assoc before more later))

@@ -1,14 +1,14 @@
 -- Light Up: reading byte by byte, and that a text is read exactly where it spells a puzzle.
-use Rattle.std.proofs.Common.{◌≡◌, ℕ, ◌+◌, ◌<◌, ◌≤◌, List, [], ◌∷◌, ◌++◌, map, length, drop, get_or, Result, Ok, Err, refl, sym, ap, ◌∙◌, eqb, arith, ◌-◌, ◌*◌, true, ◌&&◌, leb, subst, inl, inr, false}
+use Rattle.std.proofs.Common.{◌≡◌, ℕ, Bool, cond, ◌+◌, ◌<◌, ◌≤◌, List, [], ◌∷◌, ◌++◌, map, length, drop, get_or, Result, Ok, Err, refl, sym, ap, ◌∙◌, eqb, arith, ◌-◌, ◌*◌, true, ◌&&◌, leb, subst, inl, inr, false}
 use Rattle.std.proofs.lemmas.Bool.{ne_eqb, leb-true, eqb-true, le-leb}
 use Rattle.std.proofs.lemmas.List.{drop_all}
 use Rattle.gameid_core.specs.declared.fault.IdFault.{IdFault}
 use Rattle.gameid_core.specs.declared.fault.IdFault.TheVariants.{TooMany, TooFew}
 use Rattle.gameid_core.specs.declared.light_cell.LightCell.{LightCell}
-use Rattle.gameid_core.specs.Steps.{reading}
+use Rattle.gameid_core.specs.Steps.{reading, ◌>>=◌}
 use Rattle.gameid_core.specs.Cells.{fill_step, fill_end, is_letter}
 use Rattle.gameid_core.specs.LightText.{light_token, light_cells_at, LightToken, whites, black, numbered, light_token_byte, light_token_cells, IsLightToken, SpellsLight, light_of}
-use Rattle.gameid_core.proofs.CellsReading.{Token, cells_spelled, cells_again, fill_taken, fill_over, fill_fault, fill_few, fill_full}
+use Rattle.gameid_core.proofs.CellsReading.{Token, cells_spelled, cells_again, filled, fill_is, fill_end_is}
 use Rattle.gameid_core.proofs.Lists.{next_cell, AllByRecursion-replicate, AllByRecursion-flat_map}
 use Rattle.std.specs.Prelude.{map}
 use Rattle.std.specs.List.{AllByRecursion, flat_map, concat}
@@ -25,36 +25,15 @@ use Rattle.gameid_core.proofs.HeadLaws.{parts_of, plain_size, head_again, after_
 abbrev pub lights : ℕ → ℕ → List LightCell → List ℕ → Result (List LightCell) IdFault
 lights all at cells text = reading (fill_step light_token all) (fill_end all) at cells (map (λ b. b ∷ []) text)
 
-one_taken : (all at b : ℕ) (cells more : List LightCell) (rest : List ℕ) → light_token at (b ∷ []) ≡ Ok more → length cells + length more ≤ all → lights all at cells (b ∷ rest) ≡ lights all (at + 1) (cells ++ more) rest
+pub turn_light : (all base k : ℕ) (cells : List LightCell) (text : List ℕ) (r total : Result (List LightCell) IdFault) → k < length text → light_token (base + k) (get_or text k 0 ∷ []) ≡ r → lights all (base + k) cells (drop k text) ≡ total → ((r >>= filled all cells) >>= (λ t. lights all (base + (k + 1)) t (drop (k + 1) text))) ≡ total
 unfolding reading
-one_taken all at b cells more rest e room = rw (fill_taken light_token all at cells more (b ∷ []) e room) refl
+turn_light all base k cells text r total lt e so =
+    let next : base + (k + 1) ≡ base + k + 1 = omega arith in
+    rw (next, ← fill_is light_token all (base + k) cells (get_or text k 0 ∷ []) r e) (ap (lights all (base + k) cells) (sym (next_cell text k lt)) ∙ so)
 
-one_refused : (all at b : ℕ) (f : IdFault) (cells : List LightCell) (rest : List ℕ) → fill_step light_token all at cells (b ∷ []) ≡ Err f → lights all at cells (b ∷ rest) ≡ Err f
+pub end_light : (all base k : ℕ) (cells : List LightCell) (text : List ℕ) (full : Bool) (total : Result (List LightCell) IdFault) → length text ≤ k → eqb (length cells) all ≡ full → lights all (base + k) cells (drop k text) ≡ total → total ≡ cond full (Ok cells) (Err TooFew)
 unfolding reading
-one_refused all at b f cells rest e = rw e refl
-
-pub turn_light : (all base k : ℕ) (cells more : List LightCell) (text : List ℕ) (total : Result (List LightCell) IdFault) → k < length text → light_token (base + k) (get_or text k 0 ∷ []) ≡ Ok more → length cells + length more ≤ all → lights all (base + k) cells (drop k text) ≡ total → lights all (base + (k + 1)) (cells ++ more) (drop (k + 1) text) ≡ total
-turn_light all base k cells more text total lt e room so =
-    ap (λ (at : ℕ). lights all at (cells ++ more) (drop (k + 1) text)) (let p : base + (k + 1) ≡ base + k + 1 = omega arith in p)
-    ∙ sym (one_taken all (base + k) (get_or text k 0) cells more (drop (k + 1) text) e room) ∙ ap (lights all (base + k) cells) (sym (next_cell text k lt)) ∙ so
-
-pub over_light : (all base k : ℕ) (cells more : List LightCell) (text : List ℕ) (total : Result (List LightCell) IdFault) → k < length text → light_token (base + k) (get_or text k 0 ∷ []) ≡ Ok more → all < length cells + length more → lights all (base + k) cells (drop k text) ≡ total → total ≡ Err TooMany
-over_light all base k cells more text total lt e over so =
-    sym so ∙ ap (lights all (base + k) cells) (next_cell text k lt) ∙ one_refused all (base + k) (get_or text k 0) TooMany cells (drop (k + 1) text) (fill_over light_token all (base + k) cells more (get_or text k 0 ∷ []) e over)
-
-pub fault_light : (all base k : ℕ) (f : IdFault) (cells : List LightCell) (text : List ℕ) (total : Result (List LightCell) IdFault) → k < length text → light_token (base + k) (get_or text k 0 ∷ []) ≡ Err f → lights all (base + k) cells (drop k text) ≡ total → total ≡ Err f
-fault_light all base k f cells text total lt e so =
-    sym so ∙ ap (lights all (base + k) cells) (next_cell text k lt) ∙ one_refused all (base + k) (get_or text k 0) f cells (drop (k + 1) text) (fill_fault light_token all (base + k) f cells (get_or text k 0 ∷ []) e)
-
-light_end : (all at : ℕ) (cells : List LightCell) (text : List ℕ) → text ≡ [] → lights all at cells text ≡ fill_end all cells
-unfolding reading
-light_end all at cells text e = rw e refl
-
-pub few_light : (all base k : ℕ) (cells : List LightCell) (text : List ℕ) (total : Result (List LightCell) IdFault) → length text ≤ k → (length cells ≡ all → ⊥) → lights all (base + k) cells (drop k text) ≡ total → total ≡ Err TooFew
-few_light all base k cells text total past ne so = sym so ∙ light_end all (base + k) cells (drop k text) (drop_all k text past) ∙ fill_few all cells ne
-
-pub done_light : (all base k : ℕ) (cells : List LightCell) (text : List ℕ) (total : Result (List LightCell) IdFault) → length text ≤ k → length cells ≡ all → lights all (base + k) cells (drop k text) ≡ total → total ≡ Ok cells
-done_light all base k cells text total past is so = sym so ∙ light_end all (base + k) cells (drop k text) (drop_all k text past) ∙ fill_full all cells is
+end_light all base k cells text full total past is so = sym so ∙ rw (drop_all k text past) (fill_end_is all cells full is)
 
 pub wide_of : (w h : ℕ) → in_range game.LightUp w h ≡ true → IsWide (record { w = w; h = h })
 wide_of w h e =

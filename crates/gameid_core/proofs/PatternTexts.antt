@@ -2,7 +2,7 @@
 use Rattle.std.proofs.Common.{◌≡◌, ℕ, ◌+◌, true, ◌&&◌, eqb, ltb, List, ◌∷◌, ◌++◌, map, length, drop, Ok, refl, sym, ap, ◌∙◌, inl, inr, arith, append_assoc, [], ◌<◌, ◌≤◌, false, subst, zero-add, length-append, leb}
 use Rattle.std.specs.List.{AllByRecursion, flat_map, concat, join_with_byte}
 use Rattle.std.specs.Char.{is_ascii_digit}
-use Rattle.std.proofs.lemmas.Bool.{false≢true, eqb-true, ne_eqb, le-ltb, leb-true, le-leb}
+use Rattle.std.proofs.lemmas.Bool.{eq-eqb, false≢true, eqb-true, ne_eqb, le-ltb, leb-true, le-leb}
 use Rattle.std.proofs.lemmas.List.{append-nil}
 use Rattle.grid_core.specs.Extent.{Extent, IsExtent, max_side}
 use Rattle.gameid_core.specs.Words.{begins, joins, value, IsNumeral, words}
@@ -10,7 +10,7 @@ use Rattle.gameid_core.specs.Steps.{reading}
 use Rattle.gameid_core.specs.Puzzles.{line_cells, used, IsPattern, IsClue, AreClues, lines_of, Pattern}
 use Rattle.gameid_core.specs.PatternText.{clue_number, clue_token, pattern_step, pattern_end, clues_text, clues_at, pattern_of, SpellsPattern}
 use Rattle.gameid_core.proofs.Results.{bind_ok, taken, and_parts}
-use Rattle.gameid_core.proofs.PatternReading.{first_cases, further_cases, end_full, so_far, step_cases, end_cases, step_slash, step_number, clues_lawful}
+use Rattle.gameid_core.proofs.PatternReading.{first_cases, further_cases, end_is, so_far, step_cases, end_cases, step_slash, step_number, clues_lawful}
 use Rattle.gameid_core.proofs.Tokens.{IsWord, numeral_word, words_are, concat_words, cuts_single}
 use Rattle.std.specs.Str.{all_ascii_digits}
 use Rattle.gameid_core.proofs.Reading.{reading_turn, reading_end}
@@ -172,13 +172,13 @@ clue_again size all clues [] (num ∷ ns) later d fits next at =
     let room = used_fits (line_cells size (length clues)) (value num) [] (map value ns) fits in
     let text : tail_text [] (num ∷ ns) ++ later_text later ≡ num ++ (tail_text (value num ∷ []) ns ++ later_text later) = ap (λ (t : List ℕ). t ++ later_text later) (join_cons 46 num ns) ∙ append_assoc num (tail_text (value num ∷ []) ns) (later_text later) in
     let cuts = numeral_cuts num (tail_text (value num ∷ []) ns ++ later_text later) d.0 (rest_begins (value num) [] ns later) in
-    let step = step_number size at (value num) clues [] num (numeral_other num d.0) (first_read _ _ at num d.0 room.0 (omega arith)) in
+    let step = step_number size at clues [] num (Ok (value num)) (numeral_other num d.0) (first_read _ _ at num d.0 room.0 (omega arith)) in
     rw text (reading_turn (pattern_step size) (pattern_end size) at (so_far clues []) (so_far clues (value num ∷ [])) _ num _ cuts step ∙ clue_again size all clues (value num ∷ []) ns later d.1 fits next (at + length num))
 clue_again size all clues (m ∷ clue) (num ∷ ns) later d fits next at =
     let room = used_fits (line_cells size (length clues)) (value num) (m ∷ clue) (map value ns) fits in
     let text : tail_text (m ∷ clue) (num ∷ ns) ++ later_text later ≡ 46 ∷ (num ++ (tail_text (m ∷ clue) ns ++ later_text later)) = append_assoc (46 ∷ num) (tail_text (m ∷ clue) ns) (later_text later) in
     let cuts = joined_cuts 46 refl num (tail_text (m ∷ clue) ns ++ later_text later) d.0 (rest_begins m clue ns later) in
-    let step = step_number size at (value num) clues (m ∷ clue) (46 ∷ num) refl (further_read _ _ at m clue num d.0 room.0 room.1) in
+    let step = step_number size at clues (m ∷ clue) (46 ∷ num) (Ok (value num)) refl (further_read _ _ at m clue num d.0 room.0 room.1) in
     let moved : (m ∷ clue) ++ value num ∷ map value ns ≡ ((m ∷ clue) ++ value num ∷ []) ++ map value ns = sym (append_assoc (m ∷ clue) (value num ∷ []) (map value ns)) in
     rw text (reading_turn (pattern_step size) (pattern_end size) at (so_far clues (m ∷ clue)) (so_far clues ((m ∷ clue) ++ value num ∷ [])) _ (46 ∷ num) _ cuts step ∙ clue_again size all clues ((m ∷ clue) ++ value num ∷ []) ns later d.1 (subst (λ (c : List ℕ). IsClue (line_cells size (length clues)) c) moved fits) (subst (λ (c : List ℕ). Reads size all clues c (later_text later)) moved next) (at + length (46 ∷ num)))
 
@@ -192,7 +192,7 @@ are_at size line (x ∷ xs) c ys h =
 
 later_again : (size : Extent) (all clues : List (List ℕ)) (clue : List ℕ) (later : List (List (List ℕ))) → AllByRecursion (AllByRecursion IsNumeral) later → clues ++ clue ∷ map (map value) later ≡ all → length all ≡ lines_of size → AreClues size 0 all → Reads size all clues clue (later_text later)
 later_again size all clues clue [] d is len are at =
-    reading_end (pattern_step size) (pattern_end size) at (so_far clues clue) [] refl ∙ end_full size clues clue (omega (arith, ap length is, length-append clues (clue ∷ []))) ∙ ap (λ (cs : List (List ℕ)). taken cs) is
+    reading_end (pattern_step size) (pattern_end size) at (so_far clues clue) [] refl ∙ end_is size clues clue true (eq-eqb _ _ (omega (arith, ap length is, length-append clues (clue ∷ [])))) ∙ ap (λ (cs : List (List ℕ)). taken cs) is
 later_again size all clues clue (l ∷ later) d is len are at =
     let grouped : (clues ++ clue ∷ []) ++ map value l ∷ map (map value) later ≡ all = append_assoc clues (clue ∷ []) (map value l ∷ map (map value) later) ∙ is in
     let fits : IsClue (line_cells size (length (clues ++ clue ∷ []))) (map value l) =
@@ -201,7 +201,7 @@ later_again size all clues clue (l ∷ later) d is len are at =
     let split = length-append clues (clue ∷ map value l ∷ map (map value) later) in
     let room : eqb (length clues + 1) (lines_of size) ≡ false = ne_eqb _ _ (λ e. omega arith) in
     let next = clue_again size all (clues ++ clue ∷ []) [] l later d.0 fits (later_again size all (clues ++ clue ∷ []) (map value l) later d.1 grouped len are) in
-    reading_turn (pattern_step size) (pattern_end size) at (so_far clues clue) (so_far (clues ++ clue ∷ []) []) (47 ∷ (join_with_byte 46 l ++ later_text later)) (47 ∷ []) (join_with_byte 46 l ++ later_text later) (cuts_single 47 (join_with_byte 46 l ++ later_text later) refl) (step_slash size at clues clue room) ∙ next (at + 1)
+    reading_turn (pattern_step size) (pattern_end size) at (so_far clues clue) (so_far (clues ++ clue ∷ []) []) (47 ∷ (join_with_byte 46 l ++ later_text later)) (47 ∷ []) (join_with_byte 46 l ++ later_text later) (cuts_single 47 (join_with_byte 46 l ++ later_text later) refl) (step_slash size at clues clue false room) ∙ next (at + 1)
 
 flat_map-map : (later : List (List (List ℕ))) → flat_map (λ y. 47 ∷ y) (map (join_with_byte 46) later) ≡ later_text later
 flat_map-map [] = refl

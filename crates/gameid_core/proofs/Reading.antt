@@ -9,14 +9,11 @@ use Rattle.gameid_core.specs.declared.fault.IdFault.TheVariants as faults
 use Rattle.std.specs.List.{concat}
 use Rattle.gameid_core.specs.FirstFault.{stop, FirstFault}
 use Rattle.gameid_core.proofs.Results.{taken, ok_is}
+use Rattle.gameid_core.proofs.Tokens.{cuts_some}
 
 pub reading_turn : {S P : Type 0} (step : ℕ → S → List ℕ → Result S IdFault) (end : S → Result P IdFault) (at : ℕ) (s t : S) (text word after : List ℕ) → Cuts text word after → step at s word ≡ Ok t → reading step end at s (words text) ≡ reading step end (at + length word) t (words after)
 unfolding reading
 reading_turn step end at s t text word after cuts e = ap (reading step end at s) cuts.tokens ∙ rw e refl
-
-pub reading_fault : {S P : Type 0} (step : ℕ → S → List ℕ → Result S IdFault) (end : S → Result P IdFault) (at : ℕ) (s : S) (f : IdFault) (text word after : List ℕ) → Cuts text word after → step at s word ≡ Err f → reading step end at s (words text) ≡ Err f
-unfolding reading
-reading_fault step end at s f text word after cuts e = ap (reading step end at s) cuts.tokens ∙ rw e refl
 
 pub reading_end : {S P : Type 0} (step : ℕ → S → List ℕ → Result S IdFault) (end : S → Result P IdFault) (at : ℕ) (s : S) (text : List ℕ) → text ≡ [] → reading step end at s (words text) ≡ end s
 unfolding reading words
@@ -29,13 +26,17 @@ place base d rest = base + (d - length rest)
 pub place_moves : (base d : ℕ) (rest word after : List ℕ) → length rest ≤ d → length rest ≡ length word + length after → place base d rest + length word ≡ place base d after
 place_moves base d rest word after le e = omega arith
 
--- a turn of a reader's loop: a token that was taken, one with a fault, and the end
-pub turn_of : {S P : Type 0} (step : ℕ → S → List ℕ → Result S IdFault) (end : S → Result P IdFault) (base d : ℕ) (s t : S) (rest word after : List ℕ) (total : Result P IdFault) → Cuts rest word after → length rest ≤ d → step (place base d rest) s word ≡ Ok t → reading step end (place base d rest) s (words rest) ≡ total → reading step end (place base d after) t (words after) ≡ total
-turn_of step end base d s t rest word after total cuts le e so =
-    ap (λ (at : ℕ). reading step end at t (words after)) (sym (place_moves base d rest word after le cuts.lengths)) ∙ sym (reading_turn step end (place base d rest) s t rest word after cuts e) ∙ so
+-- a turn of a reader's loop: the first token's fault is what is read, or reading goes on behind it
+pub turn_of : {S P : Type 0} (step : ℕ → S → List ℕ → Result S IdFault) (end : S → Result P IdFault) (base d : ℕ) (s : S) (rest word after : List ℕ) (r : Result S IdFault) (total : Result P IdFault) → Cuts rest word after → length rest ≤ d → step (place base d rest) s word ≡ r → reading step end (place base d rest) s (words rest) ≡ total → (r >>= (λ t. reading step end (place base d after) t (words after))) ≡ total
+unfolding reading
+turn_of step end base d s rest word after r total cuts le e so =
+    rw (← e, ← place_moves base d rest word after le cuts.lengths) (ap (reading step end (place base d rest) s) (sym cuts.tokens) ∙ so)
 
-pub fault_of : {S P : Type 0} (step : ℕ → S → List ℕ → Result S IdFault) (end : S → Result P IdFault) (at : ℕ) (s : S) (f : IdFault) (rest word after : List ℕ) (total : Result P IdFault) → Cuts rest word after → step at s word ≡ Err f → reading step end at s (words rest) ≡ total → total ≡ Err f
-fault_of step end at s f rest word after total cuts e so = sym so ∙ reading_fault step end at s f rest word after cuts e
+-- each token that begins with that byte has the fault
+pub fault_first : {S P : Type 0} (step : ℕ → S → List ℕ → Result S IdFault) (end : S → Result P IdFault) (base d first : ℕ) (s : S) (f : IdFault) (rest after : List ℕ) (total : Result P IdFault) → rest ≡ first ∷ after → length rest ≤ d → ((more : List ℕ) → step (place base d rest) s (first ∷ more) ≡ Err f) → reading step end (place base d rest) s (words rest) ≡ total → Err f ≡ total
+fault_first step end base d first s f rest after total e le fault so =
+    let c = cuts_some first after in
+    turn_of step end base d s rest (first ∷ c.0) c.1 (Err f) total (rw e c.2) le (fault c.0) so
 
 pub end_of : {S P : Type 0} (step : ℕ → S → List ℕ → Result S IdFault) (end : S → Result P IdFault) (at : ℕ) (s : S) (rest : List ℕ) (read total : Result P IdFault) → rest ≡ [] → end s ≡ read → reading step end at s (words rest) ≡ total → total ≡ read
 end_of step end at s rest read total e is so = sym so ∙ reading_end step end at s rest e ∙ is
@@ -44,18 +45,18 @@ pub cuts_shorter : (text word after : List ℕ) (first : ℕ) (tail : List ℕ) 
 cuts_shorter text [] after first tail e cuts = absurd (false≢true (cuts.first (λ _. true) ∙ ap (begins (λ _. true)) e))
 cuts_shorter text (b ∷ word) after first tail e cuts = omega (arith, cuts.lengths)
 
-pub fails_is : {Y : Type 0} (e : IdFault) (read : Result Y IdFault) → read ≡ Err e → Fails e read
-fails_is faults.TooLong read h = h
-fails_is faults.SeedId read h = h
-fails_is faults.NoColon read h = h
-fails_is faults.BadSize read h = h
-fails_is faults.Variant read h = h
-fails_is faults.SizeRange read h = h
-fails_is (faults.BadByte p) read h = h
-fails_is (faults.NumberRange p) read h = h
-fails_is (faults.LineTooFull p) read h = h
-fails_is faults.TooFew read h = h
-fails_is faults.TooMany read h = h
+pub fails_is : {Y : Type 0} (e : IdFault) (read : Result Y IdFault) → Err e ≡ read → Fails e read
+fails_is faults.TooLong read h = sym h
+fails_is faults.SeedId read h = sym h
+fails_is faults.NoColon read h = sym h
+fails_is faults.BadSize read h = sym h
+fails_is faults.Variant read h = sym h
+fails_is faults.SizeRange read h = sym h
+fails_is (faults.BadByte p) read h = sym h
+fails_is (faults.NumberRange p) read h = sym h
+fails_is (faults.LineTooFull p) read h = sym h
+fails_is faults.TooFew read h = sym h
+fails_is faults.TooMany read h = sym h
 fails_is faults.Memory read h = tt
 
 reading_cons : {S P : Type 0} (step : ℕ → S → List ℕ → Result S IdFault) (end : S → Result P IdFault) (at : ℕ) (s : S) (word : List ℕ) (words : List (List ℕ)) → reading step end at s (word ∷ words) ≡ (step at s word >>= (λ t. reading step end (at + length word) t words))

@@ -10,14 +10,6 @@ use Rattle.gameid_core.specs.Lines.{line_list, lines_runs}
 use Rattle.gameid_core.proofs.LineLaws.{length_line}
 use Rattle.gameid_core.proofs.Lists.{AllByRecursion-append, next_cell}
 
-pub runs-nil : runs [] ≡ []
-unfolding runs_after
-runs-nil = refl
-
-pub runs-white : (cells : List ℕ) → runs (0 ∷ cells) ≡ runs cells
-unfolding runs_after
-runs-white cells = refl
-
 -- a white cell cuts a line in two
 pub runs_after-cut : (k : ℕ) (f g : List ℕ) → runs_after k (f ++ 0 ∷ g) ≡ runs_after k f ++ runs g
 unfolding runs_after
@@ -31,11 +23,11 @@ runs_after-ones k zero = ap run_of (let z : k ≡ k + 0 = omega arith in z)
 runs_after-ones k (suc n) = runs_after-ones (suc k) n ∙ ap run_of (let z : suc k + n ≡ k + suc n = omega arith in z)
 
 -- black cells alone are one run
-pub runs-black : (n : ℕ) → runs (replicate (suc n) 1) ≡ suc n ∷ []
-runs-black n = runs_after-ones 0 (suc n) ∙ ap run_of (let z : 0 + suc n ≡ suc n = omega arith in z)
+pub runs_run : (n : ℕ) → runs (replicate (suc n) 1) ≡ suc n ∷ []
+runs_run n = runs_after-ones 0 (suc n) ∙ ap run_of (let z : 0 + suc n ≡ suc n = omega arith in z)
 
-pub runs-black_white : (n : ℕ) (cells : List ℕ) → runs (replicate (suc n) 1 ++ 0 ∷ cells) ≡ suc n ∷ runs cells
-runs-black_white n cells = runs_after-cut 0 (replicate (suc n) 1) cells ∙ ap (λ xs. xs ++ runs cells) (runs-black n)
+pub runs_run_and_white : (n : ℕ) (cells : List ℕ) → runs (replicate (suc n) 1 ++ 0 ∷ cells) ≡ suc n ∷ runs cells
+runs_run_and_white n cells = runs_after-cut 0 (replicate (suc n) 1) cells ∙ ap (λ xs. xs ++ runs cells) (runs_run n)
 
 used-append : (xs ys : List ℕ) → used (xs ++ ys) ≡ used xs + used ys
 used-append [] ys = omega arith

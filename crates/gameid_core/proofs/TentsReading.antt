@@ -8,11 +8,11 @@ use Rattle.grid_core.specs.Extent.{Extent}
 use Rattle.gameid_core.specs.declared.fault.IdFault.{IdFault}
 use Rattle.gameid_core.specs.declared.fault.IdFault.TheVariants.{BadByte, NumberRange, TooMany, TooFew}
 use Rattle.gameid_core.specs.Words.{begins, joins, words, digits_front, value, Cuts}
-use Rattle.gameid_core.specs.Steps.{reading}
+use Rattle.gameid_core.specs.Steps.{reading, ◌>>=◌}
 use Rattle.gameid_core.specs.Puzzles.{line_cells, lines_of, IsWide, IsTents, AreCounts}
 use Rattle.gameid_core.specs.TentsText.{TentsToken, blanks_and_tree, only_blanks, tents_token_byte, tents_token_cells, IsTentsToken, TentsSoFar, cells_in, tents_run, run_cells, tents_tree, tents_count, tents_step, tents_end, tents_at}
-use Rattle.gameid_core.proofs.Tokens.{front_turn, cuts_some, cuts_single, no_join}
-use Rattle.gameid_core.proofs.Reading.{turn_of, reading_fault, place}
+use Rattle.gameid_core.proofs.Tokens.{front_turn, cuts_single, no_join}
+use Rattle.gameid_core.proofs.Reading.{turn_of, fault_first, place}
 use Rattle.gameid_core.proofs.Results.{bind_ok, chosen, not_refused, only_taken, taken, ok_is, and_parts}
 use Rattle.std.specs.List.{AllByRecursion}
 use Rattle.gameid_core.specs.Head.{in_range}
@@ -24,22 +24,6 @@ abbrev pub at_tents : List ℕ → List ℕ → TentsSoFar
 at_tents places counts = record { places = places; counts = counts }
 
 -- ---- a number behind ','
-
-pub count_few : (size : Extent) (at : ℕ) (places counts word : List ℕ) → length places < cells_in size + 1 → tents_count size at (at_tents places counts) word ≡ Err TooFew
-unfolding tents_count
-count_few size at places counts word less = rw (lt-ltb _ _ less) refl
-
-pub count_many : (size : Extent) (at : ℕ) (places counts word : List ℕ) → cells_in size + 1 ≤ length places → length counts ≡ lines_of size → tents_count size at (at_tents places counts) word ≡ Err TooMany
-unfolding tents_count
-count_many size at places counts word full lines = rw (le-ltb _ _ full, eq-eqb _ _ lines) refl
-
-pub count_bare : (size : Extent) (at : ℕ) (places counts word : List ℕ) → cells_in size + 1 ≤ length places → (length counts ≡ lines_of size → ⊥) → length word ≡ 1 → tents_count size at (at_tents places counts) word ≡ Err (BadByte at)
-unfolding tents_count
-count_bare size at places counts word full lines one = rw (le-ltb _ _ full, ne_eqb _ _ lines, eq-eqb _ _ one) refl
-
-pub count_over : (size : Extent) (at : ℕ) (places counts word : List ℕ) → cells_in size + 1 ≤ length places → (length counts ≡ lines_of size → ⊥) → (length word ≡ 1 → ⊥) → line_cells size (length counts) < value (drop 1 word) → tents_count size at (at_tents places counts) word ≡ Err (NumberRange (at + 1))
-unfolding tents_count
-count_over size at places counts word full lines one over = rw (le-ltb _ _ full, ne_eqb _ _ lines, ne_eqb _ _ one, lt-ltb _ _ over) refl
 
 pub count_read : (size : Extent) (at : ℕ) (places counts word : List ℕ) → cells_in size + 1 ≤ length places → (length counts ≡ lines_of size → ⊥) → (length word ≡ 1 → ⊥) → value (drop 1 word) ≤ line_cells size (length counts) → tents_count size at (at_tents places counts) word ≡ Ok (value (drop 1 word))
 unfolding tents_count
@@ -92,85 +76,46 @@ pub run_length : (blanks : ℕ) (tree : Bool) → length (run_cells blanks tree)
 run_length blanks true = omega (arith, length-append {A = ℕ} (replicate blanks 0) (1 ∷ []), length-replicate {A = ℕ} blanks 0)
 run_length blanks false = omega (arith, length-append {A = ℕ} (replicate blanks 0) [], length-replicate {A = ℕ} blanks 0)
 
-pub tree_step : (size : Extent) (at b blanks : ℕ) (tree : Bool) (places word : List ℕ) → begins (λ c. eqb c 44) (b ∷ word) ≡ false → tents_run at b ≡ Ok (blanks, tree) → length places + (blanks + cond tree 1 0) ≤ cells_in size + cond tree 1 0 → tents_step size at (at_tents places []) (b ∷ word) ≡ Ok (at_tents (places ++ run_cells blanks tree) [])
-unfolding tents_step tents_tree
-tree_step size at b blanks tree places word other run room =
-    rw (other, run, le-ltb (cells_in size + cond tree 1 0) (length places + length (run_cells blanks tree)) (omega (arith, run_length blanks tree))) refl
-
-tree_over : (size : Extent) (at b blanks : ℕ) (tree : Bool) (places word : List ℕ) → begins (λ c. eqb c 44) (b ∷ word) ≡ false → tents_run at b ≡ Ok (blanks, tree) → cells_in size + cond tree 1 0 < length places + (blanks + cond tree 1 0) → tents_step size at (at_tents places []) (b ∷ word) ≡ Err TooMany
-unfolding tents_step tents_tree
-tree_over size at b blanks tree places word other run over =
-    rw (other, run, lt-ltb (cells_in size + cond tree 1 0) (length places + length (run_cells blanks tree)) (omega (arith, run_length blanks tree))) refl
-
-tree_bad : (size : Extent) (at b : ℕ) (f : IdFault) (places word : List ℕ) → begins (λ c. eqb c 44) (b ∷ word) ≡ false → tents_run at b ≡ Err f → tents_step size at (at_tents places []) (b ∷ word) ≡ Err f
-unfolding tents_step tents_tree
-tree_bad size at b f places word other run = rw (other, run) refl
-
-tree_late : (size : Extent) (at b n : ℕ) (places counts word : List ℕ) → begins (λ c. eqb c 44) (b ∷ word) ≡ false → tents_step size at (at_tents places (n ∷ counts)) (b ∷ word) ≡ Err (BadByte at)
-unfolding tents_step
-tree_late size at b n places counts word other = let some : ltb 0 (length (n ∷ counts)) ≡ true = lt-ltb _ _ (omega arith) in rw (other, some) refl
-
-pub count_step : (size : Extent) (at n : ℕ) (places counts word : List ℕ) → begins (λ c. eqb c 44) word ≡ true → tents_count size at (at_tents places counts) word ≡ Ok n → tents_step size at (at_tents places counts) word ≡ Ok (at_tents places (counts ++ n ∷ []))
-unfolding tents_step
-count_step size at n places counts word comma e = rw (comma, e) refl
-
-count_bad : (size : Extent) (at : ℕ) (f : IdFault) (places counts word : List ℕ) → begins (λ c. eqb c 44) word ≡ true → tents_count size at (at_tents places counts) word ≡ Err f → tents_step size at (at_tents places counts) word ≡ Err f
-unfolding tents_step
-count_bad size at f places counts word comma e = rw (comma, e) refl
-
 -- ---- turns
+
+-- the places with blanks after them and a tree if there is one, unless they pass the cells and that tree
+abbrev pub planted : Extent → List ℕ → List ℕ → ℕ → Bool → Result TentsSoFar IdFault
+planted size places counts blanks tree =
+    cond (ltb (cells_in size + cond tree 1 0) (length places + (blanks + cond tree 1 0))) (Err TooMany) (Ok (at_tents (places ++ run_cells blanks tree) counts))
+
+pub tree_step : (size : Extent) (at b blanks : ℕ) (tree : Bool) (places word : List ℕ) → eqb b 44 ≡ false → tents_run at b ≡ Ok (blanks, tree) → tents_step size at (at_tents places []) (b ∷ word) ≡ planted size places [] blanks tree
+unfolding tents_step tents_tree
+tree_step size at b blanks tree places word other run = rw (other, run, run_length blanks tree) refl
+
+pub count_step : (size : Extent) (at : ℕ) (places counts word : List ℕ) (r : Result ℕ IdFault) → begins (λ c. eqb c 44) word ≡ true → tents_count size at (at_tents places counts) word ≡ r → tents_step size at (at_tents places counts) word ≡ (r >>= (λ n. Ok (at_tents places (counts ++ n ∷ []))))
+unfolding tents_step
+count_step size at places counts word r comma e = rw (comma, e) refl
 
 abbrev reads : Extent → ℕ → List ℕ → List ℕ → List ℕ → Result TentsSoFar IdFault
 reads size at places counts rest = reading (tents_step size) (tents_end size) at (at_tents places counts) (words rest)
 
-begins_comma : (rest word tail after : List ℕ) (first : ℕ) → rest ≡ first ∷ after → first ≡ 44 → Cuts rest word tail → begins (λ c. eqb c 44) word ≡ true
-begins_comma rest word tail after first e is cuts = cuts.first (λ c. eqb c 44) ∙ ap (begins (λ c. eqb c 44)) e ∙ eq-eqb first 44 is
+pub turn_count : (size : Extent) (base d first : ℕ) (places counts rest tail word after : List ℕ) (r : Result ℕ IdFault) (total : Result TentsSoFar IdFault) → rest ≡ first ∷ tail → first ≡ 44 → length rest ≤ d → Cuts (44 ∷ tail) word after → tents_count size (place base d rest) (at_tents places counts) word ≡ r → reads size (place base d rest) places counts rest ≡ total → ((r >>= (λ n. Ok (at_tents places (counts ++ n ∷ [])))) >>= (λ t. reading (tents_step size) (tents_end size) (place base d after) t (words after))) ≡ total
+turn_count size base d first places counts rest tail word after r total e is le cuts token so =
+    turn_of (tents_step size) (tents_end size) base d (at_tents places counts) rest word after _ total (rw (e, is) cuts) le (count_step size (place base d rest) places counts word r (cuts.first (λ c. eqb c 44)) token) so
 
-pub turn_count : (size : Extent) (base d first n : ℕ) (places counts rest tail word after : List ℕ) (total : Result TentsSoFar IdFault) → rest ≡ first ∷ tail → first ≡ 44 → length rest ≤ d → Cuts (44 ∷ tail) word after → tents_count size (place base d rest) (at_tents places counts) word ≡ Ok n → reads size (place base d rest) places counts rest ≡ total → reads size (place base d after) places (counts ++ n ∷ []) after ≡ total
-turn_count size base d first n places counts rest tail word after total e is le cuts' token so =
-    let text : rest ≡ 44 ∷ tail = e ∙ ap (λ (b : ℕ). b ∷ tail) is in
-    let cuts : Cuts rest word after = subst (λ (r : List ℕ). Cuts r word after) (sym text) cuts' in
-    turn_of (tents_step size) (tents_end size) base d (at_tents places counts) (at_tents places (counts ++ n ∷ [])) rest word after total cuts le (count_step size (place base d rest) n places counts word (begins_comma rest word after tail first e is cuts) token) so
+pub turn_run : (size : Extent) (base d first blanks : ℕ) (tree : Bool) (places counts rest after : List ℕ) (total : Result TentsSoFar IdFault) → rest ≡ first ∷ after → (first ≡ 44 → ⊥) → counts ≡ [] → length rest ≤ d → tents_run (place base d rest) first ≡ Ok (blanks, tree) → reads size (place base d rest) places counts rest ≡ total → (planted size places counts blanks tree >>= (λ t. reading (tents_step size) (tents_end size) (place base d after) t (words after))) ≡ total
+turn_run size base d first blanks tree places counts rest after total e ne none le run so =
+    let cuts : Cuts rest (first ∷ []) after = rw e (cuts_single first after (rw (run_single (place base d rest) first (blanks, tree) run) refl)) in
+    rw none (turn_of (tents_step size) (tents_end size) base d (at_tents places []) rest (first ∷ []) after _ total cuts le (tree_step size (place base d rest) first blanks tree places [] (ne_eqb first 44 ne) run) (rw none at so))
 
-pub fault_count : (size : Extent) (base d first : ℕ) (f : IdFault) (places counts rest tail word after : List ℕ) (total : Result TentsSoFar IdFault) → rest ≡ first ∷ tail → first ≡ 44 → Cuts (44 ∷ tail) word after → tents_count size (place base d rest) (at_tents places counts) word ≡ Err f → reads size (place base d rest) places counts rest ≡ total → total ≡ Err f
-fault_count size base d first f places counts rest tail word after total e is cuts' token so =
-    let text : rest ≡ 44 ∷ tail = e ∙ ap (λ (b : ℕ). b ∷ tail) is in
-    let cuts : Cuts rest word after = subst (λ (r : List ℕ). Cuts r word after) (sym text) cuts' in
-    sym so ∙ reading_fault (tents_step size) (tents_end size) (place base d rest) (at_tents places counts) f rest word after cuts (count_bad size (place base d rest) f places counts word (begins_comma rest word after tail first e is cuts) token)
+pub bad_run : (size : Extent) (base d first : ℕ) (f : IdFault) (places counts rest after : List ℕ) (total : Result TentsSoFar IdFault) → rest ≡ first ∷ after → (first ≡ 44 → ⊥) → counts ≡ [] → length rest ≤ d → tents_run (place base d rest) first ≡ Err f → reads size (place base d rest) places counts rest ≡ total → Err f ≡ total
+unfolding tents_step tents_tree
+bad_run size base d first f places counts rest after total e ne none le run so =
+    fault_first (tents_step size) (tents_end size) base d first (at_tents places []) f rest after total e le (λ more. rw (ne_eqb first 44 ne, run) refl) (rw none at so)
 
-pub turn_run : (size : Extent) (base d first blanks : ℕ) (tree : Bool) (places counts rest after : List ℕ) (total : Result TentsSoFar IdFault) → rest ≡ first ∷ after → (first ≡ 44 → ⊥) → counts ≡ [] → length rest ≤ d → tents_run (place base d rest) first ≡ Ok (blanks, tree) → length places + (blanks + cond tree 1 0) ≤ cells_in size + cond tree 1 0 → reads size (place base d rest) places counts rest ≡ total → reads size (place base d after) (places ++ run_cells blanks tree) counts after ≡ total
-turn_run size base d first blanks tree places counts rest after total e ne none le run room so =
-    let single = run_single (place base d rest) first (blanks, tree) run in
-    let cuts : Cuts rest (first ∷ []) after = subst (λ (r : List ℕ). Cuts r (first ∷ []) after) (sym e) (cuts_single first after (rw single refl)) in
-    let so' : reads size (place base d rest) places [] rest ≡ total = ap (λ (c : List ℕ). reads size (place base d rest) places c rest) (sym none) ∙ so in
-    ap (λ (c : List ℕ). reads size (place base d after) (places ++ run_cells blanks tree) c after) none ∙ turn_of (tents_step size) (tents_end size) base d (at_tents places []) (at_tents (places ++ run_cells blanks tree) []) rest (first ∷ []) after total cuts le (tree_step size (place base d rest) first blanks tree places [] (ne_eqb first 44 ne) run room) so'
+pub late_run : (size : Extent) (base d first : ℕ) (places counts rest after : List ℕ) (total : Result TentsSoFar IdFault) → rest ≡ first ∷ after → (first ≡ 44 → ⊥) → 0 < length counts → length rest ≤ d → reads size (place base d rest) places counts rest ≡ total → Err (BadByte (place base d rest)) ≡ total
+unfolding tents_step
+late_run size base d first places counts rest after total e ne some le so =
+    fault_first (tents_step size) (tents_end size) base d first (at_tents places counts) _ rest after total e le (λ more. rw (ne_eqb first 44 ne, lt-ltb 0 (length counts) some) refl) so
 
-pub over_run : (size : Extent) (base d first blanks : ℕ) (tree : Bool) (places counts rest after : List ℕ) (total : Result TentsSoFar IdFault) → rest ≡ first ∷ after → (first ≡ 44 → ⊥) → counts ≡ [] → tents_run (place base d rest) first ≡ Ok (blanks, tree) → cells_in size + cond tree 1 0 < length places + (blanks + cond tree 1 0) → reads size (place base d rest) places counts rest ≡ total → total ≡ Err TooMany
-over_run size base d first blanks tree places counts rest after total e ne none run over so =
-    let c = cuts_some first after in
-    let cuts : Cuts rest (first ∷ c.0) c.1 = subst (λ (r : List ℕ). Cuts r (first ∷ c.0) c.1) (sym e) c.2 in
-    sym so ∙ ap (λ (k : List ℕ). reads size (place base d rest) places k rest) none ∙ reading_fault (tents_step size) (tents_end size) (place base d rest) (at_tents places []) TooMany rest (first ∷ c.0) c.1 cuts (tree_over size (place base d rest) first blanks tree places c.0 (ne_eqb first 44 ne) run over)
-
-pub bad_run : (size : Extent) (base d first : ℕ) (f : IdFault) (places counts rest after : List ℕ) (total : Result TentsSoFar IdFault) → rest ≡ first ∷ after → (first ≡ 44 → ⊥) → counts ≡ [] → tents_run (place base d rest) first ≡ Err f → reads size (place base d rest) places counts rest ≡ total → total ≡ Err f
-bad_run size base d first f places counts rest after total e ne none run so =
-    let c = cuts_some first after in
-    let cuts : Cuts rest (first ∷ c.0) c.1 = subst (λ (r : List ℕ). Cuts r (first ∷ c.0) c.1) (sym e) c.2 in
-    sym so ∙ ap (λ (k : List ℕ). reads size (place base d rest) places k rest) none ∙ reading_fault (tents_step size) (tents_end size) (place base d rest) (at_tents places []) f rest (first ∷ c.0) c.1 cuts (tree_bad size (place base d rest) first f places c.0 (ne_eqb first 44 ne) run)
-
-pub late_run : (size : Extent) (base d first : ℕ) (places counts rest after : List ℕ) (total : Result TentsSoFar IdFault) → rest ≡ first ∷ after → (first ≡ 44 → ⊥) → 0 < length counts → reads size (place base d rest) places counts rest ≡ total → total ≡ Err (BadByte (place base d rest))
-late_run size base d first places [] rest after total e ne some so = absurd (omega arith)
-late_run size base d first places (n ∷ counts) rest after total e ne some so =
-    let c = cuts_some first after in
-    let cuts : Cuts rest (first ∷ c.0) c.1 = subst (λ (r : List ℕ). Cuts r (first ∷ c.0) c.1) (sym e) c.2 in
-    sym so ∙ reading_fault (tents_step size) (tents_end size) (place base d rest) (at_tents places (n ∷ counts)) (BadByte (place base d rest)) rest (first ∷ c.0) c.1 cuts (tree_late size (place base d rest) first n places counts c.0 (ne_eqb first 44 ne))
-
-pub end_few : (size : Extent) (places counts : List ℕ) → (length counts ≡ lines_of size → ⊥) → tents_end size (at_tents places counts) ≡ Err TooFew
+pub end_is : (size : Extent) (places counts : List ℕ) (full : Bool) → eqb (length counts) (lines_of size) ≡ full → tents_end size (at_tents places counts) ≡ cond full (Ok (at_tents places counts)) (Err TooFew)
 unfolding tents_end
-end_few size places counts ne = let less : eqb (length counts) (lines_of size) ≡ false = ne_eqb _ _ ne in rw less refl
-
-pub end_full : (size : Extent) (places counts : List ℕ) → length counts ≡ lines_of size → tents_end size (at_tents places counts) ≡ Ok (at_tents places counts)
-unfolding tents_end
-end_full size places counts e = let full : eqb (length counts) (lines_of size) ≡ true = eq-eqb _ _ e in rw full refl
+end_is size places counts full e = rw e refl
 
 -- ---- a step that was taken: a number behind ',', or cells of the trees
 

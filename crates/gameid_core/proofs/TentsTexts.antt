@@ -3,7 +3,7 @@ use Rattle.std.proofs.Common.{◌≡◌, ℕ, ◌+◌, ◌-◌, ◌<◌, ◌≤�
 use Rattle.std.specs.Prelude.{replicate}
 use Rattle.std.specs.List.{AllByRecursion, flat_map, concat}
 use Rattle.std.specs.Char.{is_ascii_digit}
-use Rattle.std.proofs.lemmas.Bool.{eqb-true, ne_eqb}
+use Rattle.std.proofs.lemmas.Bool.{eqb-true, ne_eqb, eq-eqb, le-ltb}
 use Rattle.std.proofs.lemmas.List.{append-nil, length-replicate, take_at}
 use Rattle.grid_core.specs.Extent.{Extent}
 use Rattle.gameid_core.specs.declared.fault.IdFault.{IdFault}
@@ -15,7 +15,7 @@ use Rattle.gameid_core.proofs.Tokens.{cuts_single, between, IsWord, words_are, c
 use Rattle.gameid_core.proofs.Numerals.{joined_cuts}
 use Rattle.gameid_core.proofs.Results.{bind_ok, taken}
 use Rattle.gameid_core.proofs.Reading.{reading_turn, reading_end}
-use Rattle.gameid_core.proofs.TentsReading.{run_token, letter_byte, end_full, at_tents, run_single, tree_step, count_step, count_read, step_cases, end_cases, tents_read, tents_lawful}
+use Rattle.gameid_core.proofs.TentsReading.{run_token, letter_byte, end_is, at_tents, run_single, tree_step, count_step, count_read, step_cases, end_cases, tents_read, tents_lawful}
 use Rattle.gameid_core.specs.declared.game.Game.TheVariants as game
 use Rattle.gameid_core.specs.Head.{HeadRead, extent_of, max_id}
 use Rattle.gameid_core.proofs.HeadLaws.{parts_of, plain_size, head_again, after_front}
@@ -131,14 +131,14 @@ not_one num some e = absurd (omega (arith, e))
 numbers_again : (size : Extent) (places counts total : List ℕ) (numerals : List (List ℕ)) → AllByRecursion IsNumeral numerals → cells_in size + 1 ≤ length places → counts ++ map value numerals ≡ total → length total ≡ lines_of size → AreCounts size 0 total → Reads size (at_tents places total) places counts (numbers_text numerals)
 numbers_again size places counts total [] d full is len are at =
     let same : counts ≡ total = sym (append-nil counts) ∙ is in
-    reading_end (tents_step size) (tents_end size) at (at_tents places counts) [] refl ∙ end_full size places counts (ap length same ∙ len) ∙ ap (λ (c : List ℕ). taken (at_tents places c)) same
+    reading_end (tents_step size) (tents_end size) at (at_tents places counts) [] refl ∙ end_is size places counts true (eq-eqb _ _ (ap length same ∙ len)) ∙ ap (λ (c : List ℕ). taken (at_tents places c)) same
 numbers_again size places counts total (num ∷ numerals) d full is len are at =
     let n : ℕ = value num in
     let more : List ℕ = map value numerals in
     let room : length counts ≡ lines_of size → ⊥ = λ e. absurd (omega (arith, e, ap length is, len, length-append counts (n ∷ more))) in
     let fits : n ≤ line_cells size (length counts) = subst (λ (k : ℕ). n ≤ line_cells size k) (zero-add (length counts)) (counts_at size 0 counts n more (subst (λ (c : List ℕ). AreCounts size 0 c) (sym is) are)) in
     let cuts = joined_cuts 44 refl num (numbers_text numerals) d.0 (numbers_begin numerals) in
-    let step = count_step size at n places counts (44 ∷ num) refl (count_read size at places counts (44 ∷ num) full room (not_one num (let some : 0 < length num = d.0.some in some)) fits) in
+    let step = count_step size at places counts (44 ∷ num) (Ok n) refl (count_read size at places counts (44 ∷ num) full room (not_one num (let some : 0 < length num = d.0.some in some)) fits) in
     reading_turn (tents_step size) (tents_end size) at (at_tents places counts) (at_tents places (counts ++ n ∷ [])) (44 ∷ (num ++ numbers_text numerals)) (44 ∷ num) (numbers_text numerals) cuts step
     ∙ numbers_again size places (counts ++ n ∷ []) total numerals d.1 full (append_assoc counts (n ∷ []) more ∙ is) len are (at + length (44 ∷ num))
 
@@ -212,8 +212,8 @@ trees_again size all places trees (token ∷ tokens) rest each count is next at 
     let after : List ℕ = map tents_token_byte tokens ++ rest in
     let run = token_run at token each.0 in
     let cuts = cuts_single b after (rw (run_single at b (token_blanks token, token_tree token) run) refl) in
-    let step = tree_step size at b (token_blanks token) (token_tree token) places [] (token_other token each.0) run (tree_room size places trees token later count is) in
-    let planted : tents_step size at (at_tents places []) (b ∷ []) ≡ Ok (at_tents (places ++ cells) []) = step ∙ ap (λ (c : List ℕ). taken (at_tents (places ++ c) [])) (cells_of_token token) in
+    let step = tree_step size at b (token_blanks token) (token_tree token) places [] (token_other token each.0) run in
+    let planted : tents_step size at (at_tents places []) (b ∷ []) ≡ Ok (at_tents (places ++ cells) []) = rw (le-ltb _ _ (tree_room size places trees token later count is), cells_of_token token) at step in
     reading_turn (tents_step size) (tents_end size) at (at_tents places []) (at_tents (places ++ cells) []) (b ∷ after) (b ∷ []) after cuts planted
     ∙ trees_again size all (places ++ cells) trees tokens rest each.1 count (append_assoc places cells later ∙ is) next (at + 1)
 

@@ -14,6 +14,7 @@ ghost use Rattle.gameid_core.specs.declared.fault.IdFault.TheVariants.{TooLong};
 ghost use Rattle.gameid_core.specs.declared.game.Game.{Game};
 
 /// A text of more bytes than an ID may have is too long, whatever they are.
+#[tactic(auto, using(crate::proofs::HeadLaws::head_too_long), unfolding(crate::specs::PatternText::pattern_of, crate::specs::SoloText::solo_of, crate::specs::LightText::light_of, crate::specs::TentsText::tents_of))]
 pub fn over_long_is_too_long()
     ensures pattern { (text : List ℕ) → max_id < length text → pattern_of text ≡ Err TooLong }
     ensures solo { (text : List ℕ) → max_id < length text → solo_of text ≡ Err TooLong }
@@ -31,6 +32,7 @@ pub fn first_failed_test()
 {}
 
 /// Cutting a text into tokens loses nothing.
+#[tactic(auto, using(crate::proofs::Tokens::concat_words, crate::proofs::Tokens::concat_bytes))]
 pub fn tokens_lose_nothing()
     ensures words { (text : List ℕ) → concat (words text) ≡ text }
     ensures bytes { (text : List ℕ) → concat (map (λ b. b ∷ []) text) ≡ text }

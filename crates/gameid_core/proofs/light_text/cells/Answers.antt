@@ -1,10 +1,11 @@
-use Rattle.std.proofs.Common.{◌≡◌, ◌+◌, ◌≤◌, ◌++◌, length, ap, refl, arith, length-append}
+use Rattle.std.proofs.Common.{◌≡◌, ◌<◌, Ok, Err, true, false, sym, eq-eqb, ◌+◌, ◌≤◌, ◌++◌, length, ap, refl, arith, length-append}
 use Rattle.std.specs.Prelude.{replicate}
+use Rattle.std.proofs.lemmas.Bool.{ne_eqb, le-ltb, lt-ltb}
 use Rattle.std.proofs.lemmas.List.{length-replicate}
 use Rattle.std.proofs.lemmas.Result.{err_from_is_err_and}
 use Rattle.gameid_core.specs.LightText.{light_cells_at}
 use Rattle.gameid_core.proofs.Reading.{fails_is}
-use Rattle.gameid_core.proofs.LightTexts.{turn_light, over_light, fault_light, few_light, done_light}
+use Rattle.gameid_core.proofs.LightTexts.{turn_light, end_light}
 use Rattle.gameid_core.proofs.light_text.cells.Goals as goal
 
 pub loop-k-init : goal.loop-k-init
@@ -16,12 +17,13 @@ loop-k-init c =
 pub returns-in_err-count : goal.returns-in_err-count
 returns-in_err-count c =
     let p = err_from_is_err_and c.from_residual.result c.from_residual.ensures.1 in
-    rw (p.1, p.2) (fails_is _ _ (fault_light c.args.all c.args.base c.loop-k.k _ c.loop-k.cells.items c.args.description.now _ c.loop-k-test.true c.in_err-count.ensures c.loop-k.invariant.so_far))
+    rw (p.1, p.2) (fails_is _ _ (turn_light c.args.all c.args.base c.loop-k.k c.loop-k.cells.items c.args.description.now (Err _) _ c.loop-k-test.true c.in_err-count.ensures c.loop-k.invariant.so_far))
 
 pub returns-then-count-all : goal.returns-then-count-all
 returns-then-count-all c =
     let count = length-replicate c.in_ok-count.count c.in_ok-count.cell in
-    over_light c.args.all c.args.base c.loop-k.k c.loop-k.cells.items _ c.args.description.now _ c.loop-k-test.true c.in_ok-count.ensures (omega (arith, c.loop-k.cells.ok.0)) c.loop-k.invariant.so_far
+    let over : c.args.all < length c.loop-k.cells.items + length (replicate c.in_ok-count.count c.in_ok-count.cell) = omega (arith, c.loop-k.cells.ok.0) in
+    sym (rw (lt-ltb _ _ over) at (turn_light c.args.all c.args.base c.loop-k.k c.loop-k.cells.items c.args.description.now (Ok _) _ c.loop-k-test.true c.in_ok-count.ensures c.loop-k.invariant.so_far))
 
 pub loop-k-preserved : goal.loop-k-preserved
 loop-k-preserved c =
@@ -30,13 +32,13 @@ loop-k-preserved c =
     let room : length c.loop-k.cells.items + length (replicate c.in_ok-count.count c.in_ok-count.cell) ≤ c.args.all = omega (arith, c.loop-k.cells.ok.0) in
     record {
       room = omega (arith, ap length pushed, length-append c.loop-k.cells.items (replicate c.in_ok-count.count c.in_ok-count.cell));
-      so_far = rw pushed (turn_light c.args.all c.args.base c.loop-k.k c.loop-k.cells.items _ c.args.description.now _ c.loop-k-test.true c.in_ok-count.ensures room c.loop-k.invariant.so_far);
+      so_far = rw pushed (rw (le-ltb _ _ room) at (turn_light c.args.all c.args.base c.loop-k.k c.loop-k.cells.items c.args.description.now (Ok _) _ c.loop-k-test.true c.in_ok-count.ensures c.loop-k.invariant.so_far));
     }
 
 pub returns-then-len-all : goal.returns-then-len-all
 returns-then-len-all c =
-    few_light c.args.all c.args.base c.loop-k.k c.loop-k.cells.items c.args.description.now _ c.loop-k-test.false (λ e. c.if-len-all.true (omega (arith, c.loop-k.cells.ok.0))) c.loop-k.invariant.so_far
+    end_light c.args.all c.args.base c.loop-k.k c.loop-k.cells.items c.args.description.now false _ c.loop-k-test.false (ne_eqb _ _ (λ e. c.if-len-all.true (omega (arith, c.loop-k.cells.ok.0)))) c.loop-k.invariant.so_far
 
 pub returns : goal.returns
 returns c =
-    done_light c.args.all c.args.base c.loop-k.k c.loop-k.cells.items c.args.description.now _ c.loop-k-test.false (omega (arith, c.loop-k.cells.ok.0)) c.loop-k.invariant.so_far
+    end_light c.args.all c.args.base c.loop-k.k c.loop-k.cells.items c.args.description.now true _ c.loop-k-test.false (eq-eqb _ _ (omega (arith, c.loop-k.cells.ok.0))) c.loop-k.invariant.so_far

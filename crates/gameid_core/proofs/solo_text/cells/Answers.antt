@@ -1,10 +1,11 @@
-use Rattle.std.proofs.Common.{◌≡◌, ◌+◌, ◌*◌, ◌-◌, ◌≤◌, ◌++◌, length, ap, refl, arith, length-append, []}
+use Rattle.std.proofs.Common.{◌≡◌, ◌<◌, Ok, Err, true, false, sym, eq-eqb, ◌+◌, ◌*◌, ◌-◌, ◌≤◌, ◌++◌, length, ap, refl, arith, length-append, []}
 use Rattle.std.specs.Prelude.{replicate}
+use Rattle.std.proofs.lemmas.Bool.{ne_eqb, le-ltb, lt-ltb}
 use Rattle.std.proofs.lemmas.List.{length-replicate}
 use Rattle.std.proofs.lemmas.Result.{err_from_is_err_and}
 use Rattle.gameid_core.specs.SoloText.{solo_token, solo_cells_at}
 use Rattle.gameid_core.proofs.Reading.{cuts_shorter, fails_is}
-use Rattle.gameid_core.proofs.CellsReading.{turn_fill, over_fill, fault_fill, few_fill, done_fill}
+use Rattle.gameid_core.proofs.CellsReading.{turn_fill, end_fill}
 use Rattle.gameid_core.proofs.solo_text.cells.Goals as goal
 
 pub loop-first-init : goal.loop-first-init
@@ -18,14 +19,15 @@ pub returns-in_err-count : goal.returns-in_err-count
 returns-in_err-count c =
     let p = err_from_is_err_and c.from_residual.result c.from_residual.ensures.1 in
     let w = c.in_err-count.ensures in
-    rw (p.1, p.2) (fails_is _ _ (fault_fill (solo_token c.args.n) _ _ _ _ _ _ _ _ w.2 w.3 c.loop-first.invariant.so_far))
+    rw (p.1, p.2) (fails_is _ _ (turn_fill (solo_token c.args.n) _ c.args.base (length c.args.description.now) _ _ _ _ (Err _) _ w.2 c.loop-first.invariant.short w.3 c.loop-first.invariant.so_far))
 
 pub returns-then-count-all : goal.returns-then-count-all
 returns-then-count-all c =
     let w = c.in_ok-count.ensures in
     let square : c.from.result * c.from-2.result ≡ c.args.n * c.args.n = rw (c.from.ensures, c.from-2.ensures) refl in
     let count = length-replicate c.in_ok-count.count c.in_ok-count.value in
-    over_fill (solo_token c.args.n) _ _ _ _ _ _ _ _ w.1 w.2 (omega (arith, c.loop-first.cells.ok.0)) c.loop-first.invariant.so_far
+    let over : c.args.n * c.args.n < length c.loop-first.cells.items + length (replicate c.in_ok-count.count c.in_ok-count.value) = omega (arith, c.loop-first.cells.ok.0) in
+    sym (rw (lt-ltb _ _ over) at (turn_fill (solo_token c.args.n) _ c.args.base (length c.args.description.now) _ _ _ _ (Ok _) _ w.1 c.loop-first.invariant.short w.2 c.loop-first.invariant.so_far))
 
 pub loop-first-smaller : goal.loop-first-smaller
 loop-first-smaller c = cuts_shorter _ _ _ _ _ c.in-Some.ensures c.in_ok-count.ensures.1
@@ -41,13 +43,13 @@ loop-first-preserved c =
     record {
       short = omega arith;
       room = omega (arith, ap length pushed, length-append c.loop-first.cells.items (replicate c.in_ok-count.count c.in_ok-count.value));
-      so_far = rw pushed (turn_fill (solo_token c.args.n) _ c.args.base (length c.args.description.now) _ _ _ _ _ _ w.1 c.loop-first.invariant.short w.2 room c.loop-first.invariant.so_far);
+      so_far = rw pushed (rw (le-ltb _ _ room) at (turn_fill (solo_token c.args.n) _ c.args.base (length c.args.description.now) _ _ _ _ (Ok _) _ w.1 c.loop-first.invariant.short w.2 c.loop-first.invariant.so_far));
     }
 
 pub returns-then-len-all : goal.returns-then-len-all
 returns-then-len-all c =
-    few_fill (solo_token c.args.n) _ _ _ _ _ c.in_default.ensures (λ e. c.if-len-all.true (let square : c.from.result * c.from-2.result ≡ c.args.n * c.args.n = rw (c.from.ensures, c.from-2.ensures) refl in omega (arith, c.loop-first.cells.ok.0))) c.loop-first.invariant.so_far
+    end_fill (solo_token c.args.n) _ _ _ _ false _ c.in_default.ensures (ne_eqb _ _ (λ e. c.if-len-all.true (let square : c.from.result * c.from-2.result ≡ c.args.n * c.args.n = rw (c.from.ensures, c.from-2.ensures) refl in omega (arith, c.loop-first.cells.ok.0)))) c.loop-first.invariant.so_far
 
 pub returns : goal.returns
 returns c =
-    done_fill (solo_token c.args.n) _ _ _ _ _ c.in_default.ensures (let square : c.from.result * c.from-2.result ≡ c.args.n * c.args.n = rw (c.from.ensures, c.from-2.ensures) refl in omega (arith, c.loop-first.cells.ok.0)) c.loop-first.invariant.so_far
+    end_fill (solo_token c.args.n) _ _ _ _ true _ c.in_default.ensures (eq-eqb _ _ (let square : c.from.result * c.from-2.result ≡ c.args.n * c.args.n = rw (c.from.ensures, c.from-2.ensures) refl in omega (arith, c.loop-first.cells.ok.0))) c.loop-first.invariant.so_far

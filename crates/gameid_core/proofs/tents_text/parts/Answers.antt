@@ -1,13 +1,13 @@
-use Rattle.std.proofs.Common.{◌≡◌, ℕ, ◌<◌, ◌+◌, ◌*◌, ◌-◌, ◌≤◌, Bool, true, false, cond, List, ◌∷◌, [], ◌++◌, length, Result, sym, ap, ◌∙◌, refl, arith, length-append}
+use Rattle.std.proofs.Common.{◌≡◌, ℕ, ◌<◌, ◌+◌, ◌*◌, ◌-◌, ◌≤◌, Bool, true, false, cond, List, ◌∷◌, [], ◌++◌, length, Ok, Err, sym, ap, ◌∙◌, refl, arith, length-append}
 use Rattle.std.proofs.lemmas.Result.{err_from_is_err_and}
-use Rattle.std.proofs.lemmas.Bool.{eqb-true, eqb-false}
+use Rattle.std.proofs.lemmas.Bool.{eqb-true, eqb-false, eq-eqb, ne_eqb, le-ltb, lt-ltb}
 use Rattle.std.proofs.lemmas.List.{nil_from_length}
 use Rattle.grid_core.specs.Extent.{Extent}
 use Rattle.gameid_core.specs.declared.fault.IdFault.{IdFault}
 use Rattle.gameid_core.specs.Words.{Cuts}
 use Rattle.gameid_core.specs.TentsText.{tents_at, tents_step, tents_end, tents_count, run_cells}
 use Rattle.gameid_core.proofs.Reading.{cuts_shorter, fails_is, end_of}
-use Rattle.gameid_core.proofs.TentsReading.{at_tents, run_length, turn_count, fault_count, turn_run, over_run, bad_run, late_run, end_few, end_full}
+use Rattle.gameid_core.proofs.TentsReading.{at_tents, run_length, turn_count, turn_run, bad_run, late_run, end_is}
 use Rattle.gameid_core.proofs.tents_text.parts.Goals as goal
 
 pub loop-first-init : goal.loop-first-init
@@ -20,21 +20,17 @@ loop-first-init c =
 
 pub returns-then-len-lines : goal.returns-then-len-lines
 returns-then-len-lines c =
-    end_of (tents_step c.args.size) (tents_end c.args.size) _ (at_tents c.loop-first.places.items c.loop-first.counts.items) _ _ _ c.in_default.ensures (end_few _ _ _ (λ e. c.if-len-lines.true (omega (arith, c.lines.ensures.value, c.loop-first.counts.ok.0)))) c.loop-first.invariant.so_far
+    end_of (tents_step c.args.size) (tents_end c.args.size) _ (at_tents c.loop-first.places.items c.loop-first.counts.items) _ _ _ c.in_default.ensures (end_is _ _ _ false (ne_eqb _ _ (λ e. c.if-len-lines.true (omega (arith, c.lines.ensures.value, c.loop-first.counts.ok.0))))) c.loop-first.invariant.so_far
 
 pub returns : goal.returns
 returns c =
-    end_of (tents_step c.args.size) (tents_end c.args.size) _ (at_tents c.loop-first.places.items c.loop-first.counts.items) _ _ _ c.in_default.ensures (end_full _ _ _ (omega (arith, c.lines.ensures.value, c.loop-first.counts.ok.0))) c.loop-first.invariant.so_far
-
--- the lists that the call saw are those of the vectors
-seen : (size : Extent) (at : ℕ) (places places' counts counts' word : List ℕ) (r : Result ℕ IdFault) → places' ≡ places → counts' ≡ counts → tents_count size at (at_tents places' counts') word ≡ r → tents_count size at (at_tents places counts) word ≡ r
-seen size at places places' counts counts' word r p q e = ap (λ (c : List ℕ). tents_count size at (at_tents places c) word) (sym q) ∙ ap (λ (x : List ℕ). tents_count size at (at_tents x counts') word) (sym p) ∙ e
+    end_of (tents_step c.args.size) (tents_end c.args.size) _ (at_tents c.loop-first.places.items c.loop-first.counts.items) _ _ _ c.in_default.ensures (end_is _ _ _ true (eq-eqb _ _ (omega (arith, c.lines.ensures.value, c.loop-first.counts.ok.0)))) c.loop-first.invariant.so_far
 
 pub returns-in_err-count : goal.returns-in_err-count
 returns-in_err-count c =
     let p = err_from_is_err_and c.from_residual.result c.from_residual.ensures.1 in
     let w = c.in_err-count.ensures in
-    rw (p.1, p.2) (fails_is _ _ (fault_count c.args.size c.args.base (length c.args.description.now) _ _ c.loop-first.places.items c.loop-first.counts.items _ _ _ _ _ c.in-Some.ensures c.if-first-eq44.true w.2 (seen c.args.size _ c.loop-first.places.items c.deref.result.now c.loop-first.counts.items c.deref-then-first-eq44.result.now _ _ c.deref.ensures.value c.deref-then-first-eq44.ensures.value w.3) c.loop-first.invariant.so_far))
+    rw (p.1, p.2) (fails_is _ _ (turn_count c.args.size c.args.base (length c.args.description.now) _ c.loop-first.places.items c.loop-first.counts.items _ _ _ _ (Err _) _ c.in-Some.ensures c.if-first-eq44.true c.loop-first.invariant.short w.2 (rw (c.deref.ensures.value, c.deref-then-first-eq44.ensures.value) at w.3) c.loop-first.invariant.so_far))
 
 comma_shorter : (rest word after tail : List ℕ) (first : ℕ) → rest ≡ first ∷ tail → first ≡ 44 → Cuts (44 ∷ tail) word after → length after < length rest
 comma_shorter rest word after tail first e is cuts = omega (arith, cuts_shorter (44 ∷ tail) word after 44 tail refl cuts, ap length e)
@@ -50,23 +46,24 @@ loop-first-preserved-then-first-eq44 c =
     record {
       short = omega arith;
       few = c.loop-first.invariant.few;
-      so_far = rw pushed (turn_count c.args.size c.args.base (length c.args.description.now) _ _ c.loop-first.places.items c.loop-first.counts.items _ _ _ _ _ c.in-Some.ensures c.if-first-eq44.true c.loop-first.invariant.short w.1 (seen c.args.size _ c.loop-first.places.items c.deref.result.now c.loop-first.counts.items c.deref-then-first-eq44.result.now _ _ c.deref.ensures.value c.deref-then-first-eq44.ensures.value w.2) c.loop-first.invariant.so_far);
+      so_far = rw pushed (turn_count c.args.size c.args.base (length c.args.description.now) _ c.loop-first.places.items c.loop-first.counts.items _ _ _ _ (Ok _) _ c.in-Some.ensures c.if-first-eq44.true c.loop-first.invariant.short w.1 (rw (c.deref.ensures.value, c.deref-then-first-eq44.ensures.value) at w.2) c.loop-first.invariant.so_far);
     }
 
 pub returns-then-not-is_empty : goal.returns-then-not-is_empty
 returns-then-not-is_empty c =
-    late_run c.args.size c.args.base (length c.args.description.now) _ c.loop-first.places.items c.loop-first.counts.items _ _ _ c.in-Some.ensures c.if-first-eq44.false (let ne = eqb-false _ _ (sym c.is_empty.ensures ∙ c.if-not-is_empty.true) in omega (arith, c.loop-first.counts.ok.0, ne)) c.loop-first.invariant.so_far
+    sym (late_run c.args.size c.args.base (length c.args.description.now) _ c.loop-first.places.items c.loop-first.counts.items _ _ _ c.in-Some.ensures c.if-first-eq44.false (let ne = eqb-false _ _ (sym c.is_empty.ensures ∙ c.if-not-is_empty.true) in omega (arith, c.loop-first.counts.ok.0, ne)) c.loop-first.invariant.short c.loop-first.invariant.so_far)
 
 pub returns-in_err-blanks : goal.returns-in_err-blanks
 returns-in_err-blanks c =
     let p = err_from_is_err_and c.from_residual-in_err-blanks.result c.from_residual-in_err-blanks.ensures.1 in
     let none : c.loop-first.counts.items ≡ [] = nil_from_length c.loop-first.counts.items (omega (arith, c.loop-first.counts.ok.0, eqb-true _ _ (sym c.is_empty.ensures ∙ c.if-not-is_empty.false))) in
-    rw (p.1, p.2) (fails_is _ _ (bad_run c.args.size c.args.base (length c.args.description.now) _ _ c.loop-first.places.items c.loop-first.counts.items _ _ _ c.in-Some.ensures c.if-first-eq44.false none (sym c.in_err-blanks.ensures.exact) c.loop-first.invariant.so_far))
+    rw (p.1, p.2) (fails_is _ _ (bad_run c.args.size c.args.base (length c.args.description.now) _ _ c.loop-first.places.items c.loop-first.counts.items _ _ _ c.in-Some.ensures c.if-first-eq44.false none c.loop-first.invariant.short (sym c.in_err-blanks.ensures.exact) c.loop-first.invariant.so_far))
 
 pub returns-then-len-more : goal.returns-then-len-more
 returns-then-len-more c =
     let none : c.loop-first.counts.items ≡ [] = nil_from_length c.loop-first.counts.items (omega (arith, c.loop-first.counts.ok.0, eqb-true _ _ (sym c.is_empty.ensures ∙ c.if-not-is_empty.false))) in
-    over_run c.args.size c.args.base (length c.args.description.now) _ c.in_ok-blanks.blanks c.in_ok-blanks.tree c.loop-first.places.items c.loop-first.counts.items _ _ _ c.in-Some.ensures c.if-first-eq44.false none (sym c.in_ok-blanks.ensures.exact) (omega (arith, c.loop-first.places.ok.0, c.cells.ensures.value, c.from.ensures, c.from-else-first-eq44.ensures)) c.loop-first.invariant.so_far
+    let over : c.args.size.w * c.args.size.h + cond c.in_ok-blanks.tree 1 0 < length c.loop-first.places.items + (c.in_ok-blanks.blanks + cond c.in_ok-blanks.tree 1 0) = omega (arith, c.loop-first.places.ok.0, c.cells.ensures.value, c.from.ensures, c.from-else-first-eq44.ensures) in
+    sym (rw (lt-ltb _ _ over) at (turn_run c.args.size c.args.base (length c.args.description.now) _ c.in_ok-blanks.blanks c.in_ok-blanks.tree c.loop-first.places.items c.loop-first.counts.items _ _ _ c.in-Some.ensures c.if-first-eq44.false none c.loop-first.invariant.short (sym c.in_ok-blanks.ensures.exact) c.loop-first.invariant.so_far))
 
 pub loop-first-preserved : goal.loop-first-preserved
 loop-first-preserved c =
@@ -78,7 +75,7 @@ loop-first-preserved c =
     record {
       short = omega (arith, ap length c.in-Some.ensures);
       few = few_more c.in_ok-blanks.tree _ _ _ _ _ (ap length pushed ∙ both) long room;
-      so_far = rw pushed (turn_run c.args.size c.args.base (length c.args.description.now) _ c.in_ok-blanks.blanks c.in_ok-blanks.tree c.loop-first.places.items c.loop-first.counts.items _ _ _ c.in-Some.ensures c.if-first-eq44.false none c.loop-first.invariant.short (sym c.in_ok-blanks.ensures.exact) room c.loop-first.invariant.so_far);
+      so_far = rw pushed (rw (le-ltb _ _ room) at (turn_run c.args.size c.args.base (length c.args.description.now) _ c.in_ok-blanks.blanks c.in_ok-blanks.tree c.loop-first.places.items c.loop-first.counts.items _ _ _ c.in-Some.ensures c.if-first-eq44.false none c.loop-first.invariant.short (sym c.in_ok-blanks.ensures.exact) c.loop-first.invariant.so_far));
     }
   where
     few_more : (tree : Bool) (all new old more b : ℕ) → new ≡ old + more → more ≡ b + cond tree 1 0 → old + (b + cond tree 1 0) ≤ all + cond tree 1 0 → new ≤ all + 1
