@@ -1,5 +1,7 @@
 -- Reading a description that fills cells: Solo and Light Up.
 use Rattle.std.proofs.Common.{◌≡◌, ℕ, Bool, ◌+◌, ◌<◌, ◌≤◌, true, false, eqb, eq-eqb, List, [], ◌∷◌, ◌++◌, map, length, Result, Ok, Err, refl, sym, ap, ◌∙◌, cond, ltb, arith, append_assoc, length-append}
+use Rattle.std.proofs.lemmas.Bool.Decides.{nat_tests}
+use Rattle.std.proofs.lemmas.Grind.{common_steps}
 use Rattle.std.specs.List.{AllByRecursion, flat_map}
 use Rattle.std.proofs.lemmas.Bool.{ne_eqb, le-ltb, lt-ltb, eqb-true}
 use Rattle.std.proofs.lemmas.List.{append-nil}
@@ -29,8 +31,7 @@ abbrev fills : {A : Type 0} → (ℕ → List ℕ → Result (List A) IdFault) �
 fills token all at cells text = reading (fill_step token all) (fill_end all) at cells (words text)
 
 pub turn_fill : {A : Type 0} (token : ℕ → List ℕ → Result (List A) IdFault) (all base d : ℕ) (cells : List A) (rest word after : List ℕ) (r : Result (List A) IdFault) (total : Result (List A) IdFault) → Cuts rest word after → length rest ≤ d → token (place base d rest) word ≡ r → fills token all (place base d rest) cells rest ≡ total → ((r >>= filled all cells) >>= (λ t. fills token all (place base d after) t after)) ≡ total
-turn_fill token all base d cells rest word after r total cuts le e so =
-    turn_of (fill_step token all) (fill_end all) base d cells rest word after (r >>= filled all cells) total cuts le (fill_is token all (place base d rest) cells word r e) so
+turn_fill token all base d cells rest word after r total cuts le e so = grind (arith, nat_tests, common_steps, turn_of (fill_step token all) (fill_end all) base d cells rest word after (r >>= filled all cells) total cuts le (fill_is token all (place base d rest) cells word r e) so, fill_is token all (place base d rest) cells word r e)
 
 pub end_fill : {A : Type 0} (token : ℕ → List ℕ → Result (List A) IdFault) (all at : ℕ) (cells : List A) (rest : List ℕ) (full : Bool) (total : Result (List A) IdFault) → rest ≡ [] → eqb (length cells) all ≡ full → fills token all at cells rest ≡ total → total ≡ cond full (Ok cells) (Err TooFew)
 end_fill token all at cells rest full total e is so = end_of (fill_step token all) (fill_end all) at cells rest _ total e (fill_end_is all cells full is) so
@@ -38,9 +39,7 @@ end_fill token all at cells rest full total e is so = end_of (fill_step token al
 -- a token of a filling that was taken
 fill_cases : {A : Type 0} (token : ℕ → List ℕ → Result (List A) IdFault) (all at : ℕ) (cells : List A) (word : List ℕ) (t : List A) → fill_step token all at cells word ≡ Ok t → (more : List A) × (token at word ≡ Ok more) × (cells ++ more ≡ t)
 unfolding fill_step
-fill_cases token all at cells word t e =
-    let b = bind_ok (token at word) (λ more. cond (ltb all (length cells + length more)) (Err TooMany) (Ok (cells ++ more))) t e in
-    (b.0, b.1, ok_is _ _ (not_refused (ltb all (length cells + length b.0)) _ _ _ b.2).1)
+fill_cases token all at cells word t e = grind (arith, nat_tests)
 
 fill_end_cases : {A : Type 0} (all : ℕ) (cells t : List A) → fill_end all cells ≡ Ok t → (length cells ≡ all) × (cells ≡ t)
 unfolding fill_end
@@ -64,9 +63,7 @@ pub record Spelled {T A : Type 0} (text : T → List ℕ) (cells : T → List A)
 
 pub cells_spelled : {T A : Type 0} (text : T → List ℕ) (cells : T → List A) (Fits : T → Type 0) (token : ℕ → List ℕ → Result (List A) IdFault) (Is : List ℕ → Type 0) → ((at : ℕ) (word : List ℕ) (more : List A) → Is word → token at word ≡ Ok more → Token text cells Fits word more) → (most at : ℕ) (before : List A) (ws : List (List ℕ)) (all : List A) → AllByRecursion Is ws → reading (fill_step token most) (fill_end most) at before ws ≡ Ok all → Spelled text cells Fits ws before all × (length all ≡ most)
 unfolding reading
-cells_spelled text cells Fits token Is take most at before [] all w e =
-    let d = fill_end_cases most before all e in
-    (record { tokens = []; texts = refl; each = tt; filled = append-nil before ∙ d.1 }, sym (ap length d.1) ∙ d.0)
+cells_spelled text cells Fits token Is take most at before [] all w e = grind (arith, nat_tests, common_steps, fill_end_cases most before all e, append-nil before)
 cells_spelled {A = A} text cells Fits token Is take most at before (word ∷ ws) all w e =
     let b = bind_ok (fill_step token most at before word) (λ s. reading (fill_step token most) (fill_end most) (at + length word) s ws) all e in
     let f = fill_cases token most at before word b.0 b.1 in
@@ -85,8 +82,7 @@ cells_spelled {A = A} text cells Fits token Is take most at before (word ∷ ws)
 -- tokens that fill the grid are read
 pub cells_again : {T A : Type 0} (text : T → List ℕ) (cells : T → List A) (Fits : T → Type 0) (token : ℕ → List ℕ → Result (List A) IdFault) → ((at : ℕ) (t : T) → Fits t → token at (text t) ≡ Ok (cells t)) → (most at : ℕ) (before : List A) (tokens : List T) → AllByRecursion Fits tokens → length before + length (flat_map cells tokens) ≡ most → reading (fill_step token most) (fill_end most) at before (map text tokens) ≡ Ok (before ++ flat_map cells tokens)
 unfolding reading
-cells_again {A = A} text cells Fits token again most at before [] each full =
-    fill_end_is most before true (eq-eqb _ _ (omega arith)) ∙ ap (λ (cs : List A). taken cs) (sym (append-nil before))
+cells_again {A = A} text cells Fits token again most at before [] each full = grind (arith, nat_tests, common_steps, fill_end_is most before true, eq-eqb, append-nil before)
 cells_again {A = A} text cells Fits token again most at before (t ∷ tokens) each full =
     let more : List A = cells t in
     let later : List A = flat_map cells tokens in

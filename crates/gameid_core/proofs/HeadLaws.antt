@@ -1,5 +1,7 @@
 -- The part of an ID before its colon: what is read is spelled, and what is spelled is read.
 use Rattle.std.proofs.Common.{◌≡◌, ℕ, suc, ◌+◌, ◌*◌, ◌^◌, ◌<◌, ◌≤◌, Bool, true, false, cond, ◌&&◌, ◌||◌, eqb, ltb, leb, List, ◌∷◌, ◌++◌, length, get_or, take, drop, Option, Some, None, Result, Ok, Err, refl, sym, ap, subst, ◌∙◌, inl, inr, arith, length-append, append_assoc, drop-cons, [], lt-ltb}
+use Rattle.std.proofs.lemmas.Bool.Decides.{nat_tests}
+use Rattle.std.proofs.lemmas.Grind.{common_steps}
 use Rattle.std.specs.Prelude.{decimal, position}
 use Rattle.std.specs.List.{list_any, position_or_len}
 use Rattle.std.specs.Str.{all_ascii_digits}
@@ -29,20 +31,12 @@ use Rattle.gameid_core.proofs.Reading.{place}
 pub front_parts : (text : List ℕ) → digits_front text ++ after_digits text ≡ text
 unfolding digits_front after_digits
 front_parts [] = refl
-front_parts (b ∷ after) =
-    elim (is_ascii_digit b) as (λ v. cond v (b ∷ digits_front after) [] ++ cond v (after_digits after) (b ∷ after) ≡ b ∷ after) [
-      | true ↦ ap (λ (t : List ℕ). b ∷ t) (front_parts after)
-      | false ↦ refl
-    ]
+front_parts (b ∷ after) = grind (arith, nat_tests, front_parts after)
 
 pub front_digits : (text : List ℕ) → all_ascii_digits (digits_front text) ≡ true
 unfolding digits_front
 front_digits [] = refl
-front_digits (b ∷ after) =
-    elim (is_ascii_digit b) as (λ v. is_ascii_digit b ≡ v → all_ascii_digits (cond v (b ∷ digits_front after) []) ≡ true) [
-      | true ↦ λ e. rw e (front_digits after)
-      | false ↦ λ e. refl
-    ] refl
+front_digits (b ∷ after) = grind (arith, nat_tests, front_digits after)
 
 -- the digits in front are what is written of their value
 front_decimal : (text : List ℕ) → begins is_lead text ≡ true → value (digits_front text) < 2 ^ 64 → (decimal (value (digits_front text)) ≡ digits_front text) × (0 < value (digits_front text))
@@ -151,18 +145,9 @@ sides_take game text s small_w small_h e =
 
 pub sides_again : (game : Game) (front : List ℕ) (a b : ℕ) (x : Bool) → a < 2 ^ 64 → b < 2 ^ 64 → 0 < a → 0 < b → IsGameSize game front a b x → sides_at game front ≡ Ok (record { w = a; h = b; x = x; rest = [] })
 unfolding sides_at
-sides_again game front a b false small_a small_b some_a some_b (inl e) =
-    let one = side_again a (120 ∷ decimal b) small_a some_a refl in
-    let two : side_at (decimal b) ≡ Ok (b, []) = ap side_at (sym (append-nil (decimal b))) ∙ side_again b [] small_b some_b refl in
-    rw (e, one, two, no_x game) refl
-sides_again game front a b false small_a small_b some_a some_b (inr e) =
-    let one : side_at (decimal a) ≡ Ok (a, []) = ap side_at (sym (append-nil (decimal a))) ∙ side_again a [] small_a some_a refl in
-    rw (e.1, one, e.0) refl
-sides_again game front a b true small_a small_b some_a some_b e =
-    let one = side_again a (120 ∷ (decimal b ++ 120 ∷ [])) small_a some_a refl in
-    let two = side_again b (120 ∷ []) small_b some_b refl in
-    let whole : front ≡ decimal a ++ 120 ∷ (decimal b ++ 120 ∷ []) = e.1 ∙ append_assoc (decimal a) (120 ∷ decimal b) (120 ∷ []) in
-    rw (e.0, whole, one, two) refl
+sides_again game front a b false small_a small_b some_a some_b (inl e) = grind (arith, nat_tests, common_steps, side_again a (120 ∷ decimal b) small_a some_a refl, append-nil (decimal b), side_again b [] small_b some_b refl, no_x game)
+sides_again game front a b false small_a small_b some_a some_b (inr e) = grind (arith, nat_tests, common_steps, append-nil (decimal a), side_again a [] small_a some_a refl)
+sides_again game front a b true small_a small_b some_a some_b e = grind (arith, nat_tests, common_steps, side_again a (120 ∷ (decimal b ++ 120 ∷ [])) small_a some_a refl, side_again b (120 ∷ []) small_b some_b refl, append_assoc (decimal a) (120 ∷ decimal b) (120 ∷ []))
 
 -- ---- the size
 
@@ -173,11 +158,7 @@ pub record Small (a b : ℕ) : Type 0 where
   pub b_small : b ≤ max_side
 
 both_small : (low a b : ℕ) → 0 < low → (leb low a && leb low b && leb a max_side && leb b max_side) ≡ true → Small a b
-both_small low a b some e =
-    let p = and_parts (leb low a && leb low b && leb a max_side) (leb b max_side) e in
-    let q = and_parts (leb low a && leb low b) (leb a max_side) p.0 in
-    let r = and_parts (leb low a) (leb low b) q.0 in
-    record { a_some = omega (arith, leb-true _ _ r.0); b_some = omega (arith, leb-true _ _ r.1); a_small = leb-true _ _ q.1; b_small = leb-true _ _ p.1 }
+both_small low a b some e = grind (arith, nat_tests)
 
 pub range_small : (game : Game) (a b : ℕ) → in_range game a b ≡ true → Small a b
 range_small Solo a b e =
@@ -217,19 +198,13 @@ size_take game text size e =
 
 pub size_again : (game : Game) (front : List ℕ) (a b : ℕ) (x : Bool) → IsGameSize game front a b x → in_range game a b ≡ true → size_of game front ≡ Ok (sized a b x)
 unfolding size_of
-size_again game front a b x text range =
-    let small = range_small game a b range in
-    let sides = sides_again game front a b x (omega (arith, small.a_small)) (omega (arith, small.b_small)) small.a_some small.b_some text in
-    rw (sides, range) refl
+size_again game front a b x text range = grind (arith, nat_tests, common_steps, range_small game a b range, sides_again game front a b x)
 
 -- ---- up to the colon
 
 digits_lack : (k : ℕ) (ds : List ℕ) → is_ascii_digit k ≡ false → all_ascii_digits ds ≡ true → list_any (λ c. eqb c k) ds ≡ false
 digits_lack k [] other d = refl
-digits_lack k (c ∷ ds) other d =
-    let p = and_parts (is_ascii_digit c) (all_ascii_digits ds) d in
-    let ne : eqb c k ≡ false = ne_eqb c k (λ e. absurd (false≢true (sym other ∙ ap is_ascii_digit (sym e) ∙ p.0))) in
-    rw (ne, digits_lack k ds other p.1) refl
+digits_lack k (c ∷ ds) other d = grind (arith, nat_tests, digits_lack k ds other)
 
 size_lacks : (k : ℕ) (front : List ℕ) (a b : ℕ) → is_ascii_digit k ≡ false → eqb 120 k ≡ false → a < 2 ^ 64 → b < 2 ^ 64 → IsSizeText front a b → list_any (λ c. eqb c k) front ≡ false
 size_lacks k front a b other x small_a small_b (inl e) =
@@ -238,23 +213,14 @@ size_lacks k front a b other x small_a small_b (inr e) = rw e.1 (digits_lack k (
 
 game_size_lacks : (k : ℕ) (game : Game) (front : List ℕ) (a b : ℕ) (x : Bool) → is_ascii_digit k ≡ false → eqb 120 k ≡ false → a < 2 ^ 64 → b < 2 ^ 64 → IsGameSize game front a b x → list_any (λ c. eqb c k) front ≡ false
 game_size_lacks k game front a b false other x small_a small_b s = size_lacks k front a b other x small_a small_b s
-game_size_lacks k game front a b true other x small_a small_b s =
-    rw (s.1, list_any-append (λ c. eqb c k) (size_text a b) (120 ∷ []), size_lacks k (size_text a b) a b other x small_a small_b (inl refl), x) refl
+game_size_lacks k game front a b true other x small_a small_b s = grind (arith, nat_tests, common_steps, list_any-append, size_lacks k (size_text a b) a b other x small_a small_b (inl refl))
 
 pub place_of : (p : ℕ → Bool) (front : List ℕ) (c : ℕ) (rest : List ℕ) → list_any p front ≡ false → p c ≡ true → position_or_len p (front ++ c ∷ rest) ≡ length front
 place_of p [] c rest none here = rw here refl
-place_of p (b ∷ front) c rest none here =
-    elim (p b) as (λ v. p b ≡ v → position_or_len p ((b ∷ front) ++ c ∷ rest) ≡ length (b ∷ front)) [
-      | true ↦ λ e. absurd (false≢true (sym none ∙ ap (λ v. v || list_any p front) e))
-      | false ↦ λ e. let tail : list_any p front ≡ false = sym (ap (λ v. v || list_any p front) e) ∙ none in
-          rw e (omega (arith, place_of p front c rest tail here))
-    ] refl
+place_of p (b ∷ front) c rest none here = grind (arith, nat_tests, place_of p front c rest)
 
 pub position_at : (p : ℕ → Bool) (front : List ℕ) (c : ℕ) (rest : List ℕ) → list_any p front ≡ false → p c ≡ true → position p (front ++ c ∷ rest) ≡ Some (length front)
-position_at p front c rest none here =
-    let at = place_of p front c rest none here in
-    let within : ltb (length front) (length (front ++ c ∷ rest)) ≡ true = lt-ltb _ _ (omega (arith, length-append front (c ∷ rest))) in
-    rw (at, within) refl
+position_at p front c rest none here = grind (arith, nat_tests, common_steps, place_of p front c rest none here, lt-ltb, length-append front (c ∷ rest))
 
 pub record IsHead (game : Game) (text : List ℕ) (head : HeadRead) : Type 0 where
   pub front : List ℕ
@@ -306,18 +272,10 @@ parts_of game text body make p e =
 
 pub head_again : (game : Game) (front rest : List ℕ) (a b : ℕ) (x : Bool) → IsGameSize game front a b x → in_range game a b ≡ true → length (front ++ 58 ∷ rest) ≤ max_id → head_of game (front ++ 58 ∷ rest) ≡ Ok (record { size = sized a b x; description = length front + 1 })
 unfolding head_of head_at
-head_again game front rest a b x text range short =
-    let small = range_small game a b range in
-    let colon = position_at (λ c. eqb c 58) front 58 rest (game_size_lacks 58 game front a b x refl refl (omega (arith, small.a_small)) (omega (arith, small.b_small)) text) refl in
-    let hash = game_size_lacks 35 game front a b x refl refl (omega (arith, small.a_small)) (omega (arith, small.b_small)) text in
-    let fits : ltb max_id (length (front ++ 58 ∷ rest)) ≡ false = le-ltb _ _ short in
-    let before = take_at front (58 ∷ rest) (length front) refl in
-    rw (fits, colon, before, hash, size_again game front a b x text range) refl
+head_again game front rest a b x text range short = grind (arith, nat_tests, common_steps, range_small game a b range, position_at, game_size_lacks 58 game front a b x refl refl, game_size_lacks 35 game front a b x refl refl, le-ltb, take_at front (58 ∷ rest) (length front) refl, size_again game front a b x text range)
 
 pub after_front : (front rest : List ℕ) → drop (length front + 1) (front ++ 58 ∷ rest) ≡ rest
-after_front front rest =
-    let moved : front ++ 58 ∷ rest ≡ (front ++ 58 ∷ []) ++ rest = sym (append_assoc front (58 ∷ []) rest) in
-    ap (drop (length front + 1)) moved ∙ drop_at (front ++ 58 ∷ []) rest (length front + 1) (length-append front (58 ∷ []))
+after_front front rest = grind (arith, nat_tests, common_steps, append_assoc front (58 ∷ []) rest, drop_at (front ++ 58 ∷ []) rest (length front + 1) (length-append front (58 ∷ [])), length-append front (58 ∷ []))
 
 pub head_too_long : (game : Game) (text : List ℕ) → max_id < length text → head_of game text ≡ Err TooLong
 unfolding head_of

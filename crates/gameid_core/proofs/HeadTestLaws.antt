@@ -1,5 +1,7 @@
 -- The first of the tests before the colon that fails is the fault that is read.
 use Rattle.std.proofs.Common.{◌≡◌, ◌↔◌, ℕ, ◌+◌, ◌≤◌, Bool, true, false, cond, eqb, ltb, List, ◌∷◌, ◌++◌, length, take, drop, get_or, append_assoc, Some, None, Result, Ok, Err, refl, sym, ap, subst, ◌∙◌, ◌⊎◌, inl, inr, arith, []}
+use Rattle.std.proofs.lemmas.Bool.Decides.{nat_tests}
+use Rattle.std.proofs.lemmas.Grind.{common_steps}
 use Rattle.std.specs.Prelude.{position}
 use Rattle.std.specs.List.{AllByRecursion, list_any, position_or_len}
 use Rattle.std.specs.Char.{is_ascii_digit}
@@ -45,42 +47,28 @@ err_is g f e = cc
 
 exactly : {A : Type 0} (fails : IdFault → Type 0) (tests : List IdFault) (r : Result A IdFault) (f : IdFault) → IsJudged fails tests r → (r ≡ Err f) ↔ IsFirstFailed fails tests f
 exactly fails tests (Ok x) f all = (λ e. absurd cc, λ p. absurd (none_failed fails tests f all p))
-exactly {A = A} fails tests (Err g) f p =
-    (λ e. subst (λ h. IsFirstFailed fails tests h) (err_is {A = A} g f e) p, λ q. ap (failed {A = A}) (first_failed_one fails tests g f p q))
+exactly {A = A} fails tests (Err g) f p = grind (arith, nat_tests, common_steps, err_is {A = A} g f, first_failed_one fails tests g f p)
 
 -- ---- a number
 
 after_stops : (text : List ℕ) → begins is_ascii_digit (after_digits text) ≡ false
 unfolding after_digits
 after_stops [] = refl
-after_stops (b ∷ after) =
-    elim (is_ascii_digit b) as (λ v. is_ascii_digit b ≡ v → begins is_ascii_digit (cond v (after_digits after) (b ∷ after)) ≡ false) [
-      | true ↦ λ e. after_stops after
-      | false ↦ λ e. e
-    ] refl
+after_stops (b ∷ after) = grind (arith, nat_tests, after_stops after)
 
 number_in : (text : List ℕ) → begins is_lead text ≡ true → HasNumber text (digits_front text) (after_digits text)
 number_in [] e = absurd (false≢true e)
-number_in (b ∷ after) e = record {
-  parts = sym (front_parts (b ∷ after));
-  digits = front_digits (b ∷ after);
-  lead = rw (front_turn (b ∷ after) b after refl (lead_is_digit b e)).0 e;
-  all = after_stops (b ∷ after);
-}
+number_in (b ∷ after) e = grind (arith, nat_tests, common_steps, front_parts (b ∷ after), front_digits (b ∷ after), front_turn (b ∷ after) b after refl (lead_is_digit b e), lead_is_digit b e, after_stops (b ∷ after))
 
 number_leads : (text number rest : List ℕ) → HasNumber text number rest → begins is_lead text ≡ true
 number_leads text number rest h = ap (begins is_lead) h.parts ∙ begins_front is_lead number rest h.lead
 
 number_is : (text number rest : List ℕ) → HasNumber text number rest → (digits_front text ≡ number) × (after_digits text ≡ rest)
-number_is text number rest h =
-    let f = front_numeral number rest h.digits h.all in
-    (ap digits_front h.parts ∙ f.0, ap after_digits h.parts ∙ f.1)
+number_is text number rest h = grind (arith, nat_tests, common_steps, front_numeral number rest h.digits h.all)
 
 side_read : (text number rest : List ℕ) → HasNumber text number rest → side_at text ≡ Ok (value number, rest)
 unfolding side_at
-side_read text number rest h =
-    let f = number_is text number rest h in
-    rw (number_leads text number rest h, f.0, f.1) refl
+side_read text number rest h = grind (arith, nat_tests, common_steps, number_is text number rest h, number_leads text number rest h)
 
 -- what is read of a side
 abbrev IsSideRead : List ℕ → Result (ℕ × List ℕ) IdFault → Type 0
@@ -89,11 +77,7 @@ IsSideRead text (Err f) = (f ≡ BadSize) × ((number rest : List ℕ) → HasNu
 
 side_judged : (text : List ℕ) → IsSideRead text (side_at text)
 unfolding side_at
-side_judged text =
-    elim (begins is_lead text) as (λ v. begins is_lead text ≡ v → IsSideRead text (cond v (Ok (value (digits_front text), after_digits text)) (Err BadSize))) [
-      | true ↦ λ e. (digits_front text, number_in text e, refl)
-      | false ↦ λ e. (refl, λ number rest h. absurd (false≢true (sym e ∙ number_leads text number rest h)))
-    ] refl
+side_judged text = grind (arith, nat_tests, common_steps, number_in text, number_leads text)
 
 -- ---- a size
 
@@ -111,23 +95,15 @@ goes_on_is LightUp after false rest h = (refl, h.1)
 goes_on_is Tents after false rest h = (refl, h.1)
 
 goes_on : (game : Game) (after : List ℕ) → GoesOn game after (has_x game after) (cond (has_x game after) (drop 1 after) after)
-goes_on game after =
-    elim (has_x game after) as (λ v. has_x game after ≡ v → GoesOn game after v (cond v (drop 1 after) after)) [
-      | true ↦ λ e. x_game game after e
-      | false ↦ λ e. ((λ solo. ap (λ g. has_x g after) (sym solo) ∙ e), refl)
-    ] refl
+goes_on game after = grind (arith, nat_tests)
 
 two_is : (game : Game) (size : Sides) (a b : ℕ) (after : List ℕ) → a ≡ size.w → b ≡ size.h → GoesOn game after size.x size.rest → sides_ok (two_sides game a b after) ≡ sides_ok size
-two_is game size a b after p q h =
-    let g = goes_on_is game after size.x size.rest h in
-    rw (p, q, g.0, g.1) refl
+two_is game size a b after p q h = grind (arith, nat_tests)
 
 size_read : (game : Game) (text : List ℕ) (size : Sides) → HasSize game text size → sides_at game text ≡ sides_ok size
 unfolding sides_at
-size_read game text size (inl h) =
-    rw (side_read text h.side size.rest h.number, h.alone) (one_is size (value h.side) h.both.0 h.both.1 h.plain)
-size_read game text size (inr h) =
-    rw (side_read text h.left (120 ∷ h.behind) h.first, side_read h.behind h.right h.after h.second) (two_is game size (value h.left) (value h.right) h.after h.both.0 h.both.1 h.goes_on)
+size_read game text size (inl h) = grind (arith, nat_tests, common_steps, side_read text h.side size.rest h.number, one_is size (value h.side) h.both.0 h.both.1 h.plain)
+size_read game text size (inr h) = grind (arith, nat_tests, common_steps, side_read text h.left (120 ∷ h.behind) h.first, side_read h.behind h.right h.after h.second, two_is game size (value h.left) (value h.right) h.after h.both.0 h.both.1 h.goes_on)
 
 -- what is read of both sides
 abbrev AreSidesRead : Game → List ℕ → Result Sides IdFault → Type 0
@@ -232,9 +208,7 @@ none_at byte [] h = refl
 none_at byte (b ∷ text) h = rw (ne_eqb b byte h.0) (omega (arith, none_at byte text h.1))
 
 position_none : (byte : ℕ) (text : List ℕ) → Lacks byte text → position (λ b. eqb b byte) text ≡ None
-position_none byte text h =
-    let past : ltb (length text) (length text) ≡ false = le-ltb _ _ (omega arith) in
-    rw (none_at byte text h, past) refl
+position_none byte text h = grind (arith, nat_tests, common_steps, le-ltb, none_at byte text h)
 
 head_byte : (b c : ℕ) (xs ys : List ℕ) → b ∷ xs ≡ c ∷ ys → b ≡ c
 head_byte b c xs ys e = ap (λ t. get_or t 0 0) e
@@ -251,10 +225,7 @@ front_is : (byte : ℕ) (text f g r s : List ℕ) → text ≡ f ++ byte ∷ r �
 front_is byte text [] [] r s p lp q lq = refl
 front_is byte text [] (c ∷ g) r s p lp q lq = absurd (lq.0 (sym (head_byte byte c r (g ++ byte ∷ s) (sym p ∙ q))))
 front_is byte text (b ∷ f) [] r s p lp q lq = absurd (lp.0 (head_byte b byte (f ++ byte ∷ r) s (sym p ∙ q)))
-front_is byte text (b ∷ f) (c ∷ g) r s p lp q lq =
-    let first : b ≡ c = head_byte b c (f ++ byte ∷ r) (g ++ byte ∷ s) (sym p ∙ q) in
-    let more : f ≡ g = front_is byte (drop 1 text) f g r s (ap (drop 1) p) lp.1 (ap (drop 1) q) lq.1 in
-    rw (first, more) refl
+front_is byte text (b ∷ f) (c ∷ g) r s p lp q lq = grind (arith, nat_tests, front_is byte (drop 1 text) f g r s (ap (drop 1) p) lp.1 (ap (drop 1) q) lq.1)
 
 -- ---- the part before the colon
 

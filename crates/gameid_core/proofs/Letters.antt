@@ -1,5 +1,7 @@
 -- The letters of a run of cells, and the written text of Solo's cells.
 use Rattle.std.proofs.Common.{◌≡◌, ℕ, zero, suc, ◌*◌, ◌+◌, ◌-◌, ◌/◌, ◌%◌, ◌<◌, ◌≤◌, false, eqb, List, ◌∷◌, ◌++◌, length, refl, sym, ap, ◌∙◌, arith, length-append, []}
+use Rattle.std.proofs.lemmas.Bool.Decides.{nat_tests}
+use Rattle.std.proofs.lemmas.Grind.{common_steps}
 use Rattle.std.specs.Prelude.{replicate}
 use Rattle.std.proofs.lemmas.Bool.{ne_eqb}
 use Rattle.std.proofs.lemmas.List.{length-replicate}
@@ -25,16 +27,10 @@ unfolding letters_of
 letters_one r = refl
 
 pub letters_more : (k : ℕ) → 26 < k → letters k ≡ 122 ∷ letters (k - 26)
-letters_more k long =
-    let q : (k - 1) / 26 ≡ suc ((k - 26 - 1) / 26) = omega arith in
-    let r : (k - 1) % 26 ≡ (k - 26 - 1) % 26 = omega arith in
-    letters_are k _ _ (omega arith) q r ∙ letters_suc ((k - 26 - 1) / 26) ((k - 26 - 1) % 26) ∙ ap (λ (t : List ℕ). 122 ∷ t) (sym (letters_are (k - 26) _ _ (omega arith) refl refl))
+letters_more k long = grind (arith, nat_tests, common_steps, letters_are k, letters_suc ((k - 26 - 1) / 26) ((k - 26 - 1) % 26), letters_are (k - 26))
 
 pub letters_last : (k : ℕ) → 0 < k → k ≤ 26 → letters k ≡ (96 + k) ∷ []
-letters_last k some short =
-    let q : (k - 1) / 26 ≡ 0 = omega arith in
-    let r : (k - 1) % 26 ≡ k - 1 = omega arith in
-    letters_are k 0 (k - 1) some q r ∙ letters_one (k - 1) ∙ ap (λ (c : ℕ). c ∷ []) (let c : 97 + (k - 1) ≡ 96 + k = omega arith in c)
+letters_last k some short = grind (arith, nat_tests, common_steps, letters_are k 0 (k - 1) some, letters_one (k - 1))
 
 -- ---- Solo's cells
 
@@ -50,10 +46,7 @@ letters_short (suc k) = omega (arith, ap length (letters_are (suc k) _ _ (omega 
 -- a run of so many times 26 cells and 1 to 26 more
 pub letters_at : (q k : ℕ) → 1 ≤ k → k ≤ 26 → letters (26 * q + k) ≡ replicate q 122 ++ (96 + k) ∷ []
 unfolding letters_of
-letters_at q k some few =
-    let d : (26 * q + k - 1) / 26 ≡ q = omega arith in
-    let m : (26 * q + k - 1) % 26 ≡ k - 1 = omega arith in
-    letters_are (26 * q + k) q (k - 1) (omega arith) d m ∙ ap (λ (c : ℕ). replicate q 122 ++ c ∷ []) (let e : 97 + (k - 1) ≡ 96 + k = omega arith in e)
+letters_at q k some few = grind (arith, nat_tests, common_steps, letters_are (26 * q + k) q (k - 1))
 
 -- the last 'z' goes over to what follows
 pub z_moves : (q : ℕ) (rest : List ℕ) → replicate (suc q) 122 ++ rest ≡ replicate q 122 ++ 122 ∷ rest

@@ -1,5 +1,7 @@
 -- Light Up: reading byte by byte, and that a text is read exactly where it spells a puzzle.
 use Rattle.std.proofs.Common.{◌≡◌, ℕ, Bool, cond, ◌+◌, ◌<◌, ◌≤◌, List, [], ◌∷◌, ◌++◌, map, length, drop, get_or, Result, Ok, Err, refl, sym, ap, ◌∙◌, eqb, arith, ◌-◌, ◌*◌, true, ◌&&◌, leb, subst, inl, inr, false}
+use Rattle.std.proofs.lemmas.Bool.Decides.{nat_tests}
+use Rattle.std.proofs.lemmas.Grind.{common_steps}
 use Rattle.std.proofs.lemmas.Bool.{ne_eqb, leb-true, eqb-true, le-leb}
 use Rattle.std.proofs.lemmas.List.{drop_all}
 use Rattle.gameid_core.specs.declared.fault.IdFault.{IdFault}
@@ -27,24 +29,14 @@ lights all at cells text = reading (fill_step light_token all) (fill_end all) at
 
 pub turn_light : (all base k : ℕ) (cells : List LightCell) (text : List ℕ) (r total : Result (List LightCell) IdFault) → k < length text → light_token (base + k) (get_or text k 0 ∷ []) ≡ r → lights all (base + k) cells (drop k text) ≡ total → ((r >>= filled all cells) >>= (λ t. lights all (base + (k + 1)) t (drop (k + 1) text))) ≡ total
 unfolding reading
-turn_light all base k cells text r total lt e so =
-    let next : base + (k + 1) ≡ base + k + 1 = omega arith in
-    rw (next, ← fill_is light_token all (base + k) cells (get_or text k 0 ∷ []) r e) (ap (lights all (base + k) cells) (sym (next_cell text k lt)) ∙ so)
+turn_light all base k cells text r total lt e so = grind (arith, nat_tests, common_steps, fill_is light_token all (base + k) cells (get_or text k 0 ∷ []) r e, next_cell text k lt)
 
 pub end_light : (all base k : ℕ) (cells : List LightCell) (text : List ℕ) (full : Bool) (total : Result (List LightCell) IdFault) → length text ≤ k → eqb (length cells) all ≡ full → lights all (base + k) cells (drop k text) ≡ total → total ≡ cond full (Ok cells) (Err TooFew)
 unfolding reading
 end_light all base k cells text full total past is so = sym so ∙ rw (drop_all k text past) (fill_end_is all cells full is)
 
 pub wide_of : (w h : ℕ) → in_range game.LightUp w h ≡ true → IsWide (record { w = w; h = h })
-wide_of w h e =
-    let p = and_parts (leb 2 w && leb 2 h && leb w max_side) (leb h max_side) e in
-    let q = and_parts (leb 2 w && leb 2 h) (leb w max_side) p.0 in
-    let r = and_parts (leb 2 w) (leb 2 h) q.0 in
-    let w_two : 2 ≤ w = leb-true _ _ r.0 in
-    let h_two : 2 ≤ h = leb-true _ _ r.1 in
-    let w_high : w ≤ max_side = leb-true _ _ q.1 in
-    let h_high : h ≤ max_side = leb-true _ _ p.1 in
-    record { extent = record { w_low = omega arith; w_high = w_high; h_low = omega arith; h_high = h_high }; w_two = w_two; h_two = h_two }
+wide_of w h e = grind (arith, nat_tests)
 
 pub cells_few : (size : Extent) → IsExtent size → size.w * size.h ≤ max_side * max_side
 cells_few size h = omega (arith, h.w_high, h.h_high, mul-le-mul_left size.w h.h_high, mul-le-mul_right max_side h.w_high)
@@ -117,29 +109,18 @@ token_fits black h = (tt, tt)
 token_fits (numbered n) h = (h, tt)
 
 pub light_lawful : (w h at : ℕ) (description : List ℕ) (cells : List LightCell) → in_range game.LightUp w h ≡ true → light_cells_at (w * h) at description ≡ Ok cells → IsLight (record { size = record { w = w; h = h }; cells = cells })
-light_lawful w h at description cells range e =
-    let d = light_take (w * h) at description cells e in
-    let fits = AllByRecursion-flat_map IsLightToken IsLightCell light_token_cells token_fits d.tokens d.each in
-    record { size = wide_of w h range; count = d.count; each = subst (λ (cs : List LightCell). AllByRecursion IsLightCell cs) d.filled fits }
+light_lawful w h at description cells range e = grind (arith, nat_tests, common_steps, light_take (w * h) at description cells e, AllByRecursion-flat_map IsLightToken IsLightCell light_token_cells token_fits, token_fits, wide_of w h range)
 
 pub light_fits : (size : Extent) (w h all at : ℕ) (description : List ℕ) (cells : List LightCell) → size ≡ sized w h → all ≡ size.w * size.h → in_range game.LightUp w h ≡ true → light_cells_at all at description ≡ Ok cells → IsLight (record { size = size; cells = cells })
-light_fits size w h all at description cells is count range e =
-    let same : all ≡ w * h = count ∙ ap (λ (s : Extent). s.w * s.h) is in
-    subst (λ (s : Extent). IsLight (record { size = s; cells = cells })) (sym is) (light_lawful w h at description cells range (ap (λ (a : ℕ). light_cells_at a at description) (sym same) ∙ e))
+light_fits size w h all at description cells is count range e = grind (arith, nat_tests, common_steps, light_lawful w h at description cells range)
 
 -- ---- what is spelled is read
 
 token_read : (at : ℕ) (token : LightToken) → IsLightToken token → light_token at (light_token_byte token ∷ []) ≡ Ok (light_token_cells token)
 unfolding light_token
-token_read at (whites k) h =
-    let count : 96 + k - 96 ≡ k = omega arith in
-    rw (between 97 122 (96 + k) (omega (arith, h.0)) (omega (arith, h.1)), count) refl
+token_read at (whites k) h = grind (arith, nat_tests)
 token_read at black h = refl
-token_read at (numbered n) h =
-    let no_letter : is_letter (48 + n) ≡ false = not_between 97 122 (48 + n) (λ l u. omega (arith, h)) in
-    let no_black : eqb (48 + n) 66 ≡ false = ne_eqb (48 + n) 66 (λ q. omega (arith, h)) in
-    let count : 48 + n - 48 ≡ n = omega arith in
-    rw (no_letter, no_black, between 48 52 (48 + n) (omega arith) (omega (arith, h)), count) refl
+token_read at (numbered n) h = grind (arith, nat_tests)
 
 -- what tokens that fill the grid spell is read
 light_again : (all at : ℕ) (tokens : List LightToken) → AllByRecursion IsLightToken tokens → length (flat_map light_token_cells tokens) ≡ all → light_cells_at all at (map light_token_byte tokens) ≡ Ok (flat_map light_token_cells tokens)
@@ -167,18 +148,8 @@ light_takes text p e =
 
 -- a wide size is in the limits of Light Up, which are those of Tents
 pub wide_range : (size : Extent) → IsWide size → in_range game.LightUp size.w size.h ≡ true
-wide_range size h =
-    let a : leb 2 size.w ≡ true = le-leb _ _ h.w_two in
-    let b : leb 2 size.h ≡ true = le-leb _ _ h.h_two in
-    let c : leb size.w max_side ≡ true = le-leb _ _ h.extent.w_high in
-    let d : leb size.h max_side ≡ true = le-leb _ _ h.extent.h_high in
-    rw (a, b, c, d) refl
+wide_range size h = grind (arith, nat_tests)
 
 pub light_text_again : (text : List ℕ) (p : Light) → SpellsLight text p → light_of text ≡ Ok p
 unfolding light_of
-light_text_again text p s =
-    let h = s.puzzle in
-    let whole = head_again game.LightUp s.front (map light_token_byte s.tokens) p.size.w p.size.h false s.size (wide_range p.size h.size) (subst (λ (t : List ℕ). length t ≤ max_id) s.parts s.short) in
-    let full : length (flat_map light_token_cells s.tokens) ≡ p.size.w * p.size.h = ap length s.cells ∙ h.count in
-    let read = light_again (p.size.w * p.size.h) (length s.front + 1) s.tokens s.each full in
-    ap light_of s.parts ∙ rw (whole, after_front s.front (map light_token_byte s.tokens), read, s.cells) refl
+light_text_again text p s = grind (arith, nat_tests, common_steps, head_again game.LightUp s.front (map light_token_byte s.tokens) p.size.w p.size.h false s.size, wide_range p.size, light_again (p.size.w * p.size.h) (length s.front + 1) s.tokens s.each, after_front s.front (map light_token_byte s.tokens))

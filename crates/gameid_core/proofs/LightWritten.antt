@@ -1,5 +1,7 @@
 -- The written text of a puzzle of Light Up: the writer's turns, its length, that it spells the puzzle, and that no other does.
 use Rattle.std.proofs.Common.{◌≡◌, ℕ, zero, suc, ◌+◌, ◌-◌, ◌<◌, ◌≤◌, List, [], ◌∷◌, ◌++◌, map, length, drop, get_or, refl, sym, ap, ◌∙◌, inl, inr, arith, append_assoc, length-append, ◌*◌}
+use Rattle.std.proofs.lemmas.Bool.Decides.{nat_tests}
+use Rattle.std.proofs.lemmas.Grind.{common_steps}
 use Rattle.std.specs.Prelude.{replicate, decimal}
 use Rattle.std.specs.List.{AllByRecursion, flat_map}
 use Rattle.std.proofs.lemmas.Bool.{cases_lt}
@@ -39,22 +41,13 @@ black_ascii b Black is h = omega (arith, h)
 black_ascii b (Numbered n) is h = omega (arith, h, is)
 
 pub lights_end : (k i : ℕ) (cells : List LightCell) (old out new : List ℕ) → length cells ≤ i → out ++ light_cells_text k (drop i cells) ≡ old → new ≡ out ++ letters k → new ≡ old
-lights_end k i cells old out new past so e =
-    let none : drop i cells ≡ [] = drop_all i cells past in
-    e ∙ ap (λ (t : List ℕ). out ++ t) (sym (lights_nil k) ∙ ap (light_cells_text k) (sym none)) ∙ so
+lights_end k i cells old out new past so e = grind (arith, nat_tests, common_steps, drop_all i cells past, lights_nil k)
 
 pub lights_step_white : (k i k' : ℕ) (cells : List LightCell) (old out out' : List ℕ) → i < length cells → get_or cells i White ≡ White → k' ≡ k + 1 → out' ≡ out → out ++ light_cells_text k (drop i cells) ≡ old → out' ++ light_cells_text k' (drop (i + 1) cells) ≡ old
-lights_step_white k i k' cells old out out' lt white more same so =
-    rw (more, same) (ap (λ (t : List ℕ). out ++ t) (sym (lights_white k (drop (i + 1) cells)) ∙ ap (λ (v : LightCell). light_cells_text k (v ∷ drop (i + 1) cells)) (sym white) ∙ ap (light_cells_text k) (sym (next_of White cells i lt))) ∙ so)
+lights_step_white k i k' cells old out out' lt white more same so = grind (arith, nat_tests, common_steps, lights_white k (drop (i + 1) cells), next_of White cells i lt)
 
 pub lights_step_black : (k i k' b : ℕ) (cells : List LightCell) (old out mid new out' : List ℕ) → i < length cells → IsBlackByte b (get_or cells i White) → mid ≡ out ++ letters k → new ≡ mid ++ b ∷ [] → k' ≡ 0 → out' ≡ new → out ++ light_cells_text k (drop i cells) ≡ old → out' ++ light_cells_text k' (drop (i + 1) cells) ≡ old
-lights_step_black k i k' b cells old out mid new out' lt byte m n none same so =
-    let rest : List ℕ = light_cells_text 0 (drop (i + 1) cells) in
-    rw (none, same) (ap (λ (t : List ℕ). t ++ rest) (n ∙ ap (λ (t : List ℕ). t ++ b ∷ []) m)
-    ∙ append_assoc (out ++ letters k) (b ∷ []) rest
-    ∙ append_assoc out (letters k) (b ∷ rest)
-    ∙ ap (λ (t : List ℕ). out ++ t) (sym (lights_black k b (get_or cells i White) (drop (i + 1) cells) byte) ∙ ap (light_cells_text k) (sym (next_of White cells i lt)))
-    ∙ so)
+lights_step_black k i k' b cells old out mid new out' lt byte m n none same so = grind (arith, nat_tests, common_steps, append_assoc (out ++ letters k) (b ∷ []), append_assoc out (letters k), lights_black k b (get_or cells i White) (drop (i + 1) cells) byte, next_of White cells i lt)
 
 -- ---- how long
 
@@ -67,12 +60,7 @@ cells_short k (Black ∷ cells) = omega (arith, letters_short k, cells_short 0 c
 cells_short k (Numbered n ∷ cells) = omega (arith, letters_short k, cells_short 0 cells, length-append (letters k) ((48 + n) ∷ light_cells_text 0 cells))
 
 pub light_short : (p : Light) → IsLight p → length (light_text p) ≤ max_id
-light_short p h =
-    let e = h.size.extent in
-    let w = length_decimal p.size.w (omega (arith, e.w_high)) e.w_low in
-    let v = length_decimal p.size.h (omega (arith, e.h_high)) e.h_low in
-    let cells = cells_short 0 p.cells in
-    omega (arith, e.w_high, e.h_high, h.count, cells_few p.size e, length-append (decimal p.size.w) (120 ∷ decimal p.size.h), length-append (size_text p.size.w p.size.h) (58 ∷ light_cells_text 0 p.cells))
+light_short p h = grind (arith, nat_tests, common_steps, length_decimal p.size.w, length_decimal p.size.h, cells_short 0 p.cells, cells_few p.size, length-append (decimal p.size.w) (120 ∷ decimal p.size.h), length-append (size_text p.size.w p.size.h) (58 ∷ light_cells_text 0 p.cells))
 
 -- ---- what it spells
 
@@ -152,18 +140,8 @@ black_tokens k token cell text cells is dark one r =
 
 cells_written : (k : ℕ) (cells : List LightCell) → AllByRecursion IsLightCell cells → Tokens (light_cells_text k cells) (replicate k White ++ cells)
 unfolding light_cells_text
-cells_written k [] h =
-    let s = letter_tokens k k (omega arith) in
-    record { tokens = s.tokens; spelled = s.spelled; each = s.each; full = s.full; filled = s.filled ∙ sym (append-nil (replicate k White)) }
-cells_written k (White ∷ cells) h =
-    let r = cells_written (k + 1) cells h.1 in
-    record {
-      tokens = r.tokens;
-      spelled = r.spelled;
-      each = r.each;
-      full = r.full;
-      filled = r.filled ∙ ap (λ (t : List LightCell). t ++ cells) (sym (replicate-append-replicate {A = LightCell} k 1 White)) ∙ append_assoc (replicate k White) (White ∷ []) cells;
-    }
+cells_written k [] h = grind (arith, nat_tests, common_steps, letter_tokens k k, append-nil (replicate k White))
+cells_written k (White ∷ cells) h = grind (arith, nat_tests, common_steps, cells_written (k + 1) cells h.1, replicate-append-replicate {A = LightCell} k 1 White, append_assoc (replicate k White) (White ∷ []) cells)
 cells_written k (Black ∷ cells) h = black_tokens k black Black (light_cells_text 0 cells) cells tt tt refl (cells_written 0 cells h.1)
 cells_written k (Numbered n ∷ cells) h = black_tokens k (numbered n) (Numbered n) (light_cells_text 0 cells) cells h.0 tt refl (cells_written 0 cells h.1)
 
@@ -191,8 +169,7 @@ light_spelled p h = (light_is_written p h).spells
 
 cells_run : (k j : ℕ) (rest : List LightCell) → light_cells_text k (replicate j White ++ rest) ≡ light_cells_text (k + j) rest
 cells_run k zero rest = ap (λ (i : ℕ). light_cells_text i rest) (let e : k ≡ k + 0 = omega arith in e)
-cells_run k (suc j) rest =
-    lights_white k (replicate j White ++ rest) ∙ cells_run (k + 1) j rest ∙ ap (λ (i : ℕ). light_cells_text i rest) (let e : k + 1 + j ≡ k + suc j = omega arith in e)
+cells_run k (suc j) rest = grind (arith, nat_tests, common_steps, lights_white k (replicate j White ++ rest), cells_run (k + 1) j rest)
 
 -- letters that were left before the tokens go on in their first letter
 abbrev Leads : ℕ → List LightToken → Type 0
@@ -202,39 +179,23 @@ Leads (suc q) tokens = ⊥
 
 -- a black cell behind a run of white ones, and behind none
 black_behind : (q k b : ℕ) (cell : LightCell) (cells : List LightCell) (later : List ℕ) → 1 ≤ k → k ≤ 26 → IsBlackByte b cell → light_cells_text 0 cells ≡ later → light_cells_text (26 * q) (replicate k White ++ cell ∷ cells) ≡ replicate q 122 ++ (96 + k) ∷ b ∷ later
-black_behind q k b cell cells later some few is e =
-    cells_run (26 * q) k (cell ∷ cells)
-    ∙ lights_black (26 * q + k) b cell cells is
-    ∙ ap (λ (t : List ℕ). t ++ b ∷ light_cells_text 0 cells) (letters_at q k some few)
-    ∙ append_assoc (replicate q 122) ((96 + k) ∷ []) (b ∷ light_cells_text 0 cells)
-    ∙ ap (λ (t : List ℕ). replicate q 122 ++ (96 + k) ∷ b ∷ t) e
+black_behind q k b cell cells later some few is e = grind (arith, nat_tests, common_steps, cells_run (26 * q) k (cell ∷ cells), lights_black (26 * q + k) b cell cells is, letters_at q k some few, append_assoc (replicate q 122) ((96 + k) ∷ []) (b ∷ light_cells_text 0 cells))
 
 black_alone : (b : ℕ) (cell : LightCell) (cells : List LightCell) (later : List ℕ) → IsBlackByte b cell → light_cells_text 0 cells ≡ later → light_cells_text 0 (cell ∷ cells) ≡ b ∷ later
-black_alone b cell cells later is e =
-    lights_black 0 b cell cells is ∙ ap (λ (t : List ℕ). t ++ b ∷ light_cells_text 0 cells) (letters_none 0 refl) ∙ ap (λ (t : List ℕ). b ∷ t) e
+black_alone b cell cells later is e = grind (arith, nat_tests, common_steps, lights_black 0 b cell cells is, letters_none 0 refl)
 
 -- the cells of tokens of the form, with so many times 26 white cells before them, are written as the tokens are
 form_text : (q : ℕ) (tokens : List LightToken) → AllByRecursion IsLightToken tokens → AreFullLights tokens → Leads q tokens → light_cells_text (26 * q) (flat_map light_token_cells tokens) ≡ replicate q 122 ++ map light_token_byte tokens
 form_text zero [] each full leads = lights_nil 0 ∙ letters_none 0 refl
 form_text (suc q) [] each full leads = absurd leads
 form_text q (whites k ∷ []) each full leads = cells_run (26 * q) k [] ∙ lights_nil (26 * q + k) ∙ letters_at q k each.0.0 each.0.1
-form_text q (whites k ∷ whites j ∷ tokens) each full leads =
-    let count : 26 * q + k ≡ 26 * suc q = omega (arith, full.0) in
-    cells_run (26 * q) k (flat_map light_token_cells (whites j ∷ tokens))
-    ∙ ap (λ (i : ℕ). light_cells_text i (flat_map light_token_cells (whites j ∷ tokens))) count
-    ∙ form_text (suc q) (whites j ∷ tokens) each.1 full.1 tt
-    ∙ z_moves q (map light_token_byte (whites j ∷ tokens))
-    ∙ ap (λ (c : ℕ). replicate q 122 ++ c ∷ map light_token_byte (whites j ∷ tokens)) (let e : 122 ≡ 96 + k = omega (arith, full.0) in e)
-form_text q (whites k ∷ black ∷ tokens) each full leads =
-    black_behind q k 66 Black (flat_map light_token_cells tokens) (map light_token_byte tokens) each.0.0 each.0.1 refl (form_text 0 tokens each.1.1 full tt)
-form_text q (whites k ∷ numbered m ∷ tokens) each full leads =
-    black_behind q k (48 + m) (Numbered m) (flat_map light_token_cells tokens) (map light_token_byte tokens) each.0.0 each.0.1 refl (form_text 0 tokens each.1.1 full tt)
+form_text q (whites k ∷ whites j ∷ tokens) each full leads = grind (arith, nat_tests, common_steps, cells_run (26 * q) k (flat_map light_token_cells (whites j ∷ tokens)), form_text (suc q) (whites j ∷ tokens) each.1 full.1 tt, z_moves q (map light_token_byte (whites j ∷ tokens)))
+form_text q (whites k ∷ black ∷ tokens) each full leads = grind (arith, nat_tests, common_steps, black_behind q k 66 Black (flat_map light_token_cells tokens) (map light_token_byte tokens) each.0.0 each.0.1 refl (form_text 0 tokens each.1.1 full tt), form_text 0 tokens each.1.1 full tt)
+form_text q (whites k ∷ numbered m ∷ tokens) each full leads = grind (arith, nat_tests, common_steps, black_behind q k (48 + m) (Numbered m) (flat_map light_token_cells tokens) (map light_token_byte tokens) each.0.0 each.0.1 refl (form_text 0 tokens each.1.1 full tt), form_text 0 tokens each.1.1 full tt)
 form_text (suc q) (black ∷ tokens) each full leads = absurd leads
 form_text zero (black ∷ tokens) each full leads = black_alone 66 Black (flat_map light_token_cells tokens) (map light_token_byte tokens) refl (form_text 0 tokens each.1 full tt)
 form_text (suc q) (numbered m ∷ tokens) each full leads = absurd leads
 form_text zero (numbered m ∷ tokens) each full leads = black_alone (48 + m) (Numbered m) (flat_map light_token_cells tokens) (map light_token_byte tokens) refl (form_text 0 tokens each.1 full tt)
 
 pub light_form : (text : List ℕ) (p : Light) → IsWrittenLight text p → text ≡ light_text p
-light_form text p w =
-    let s = w.spells in
-    s.parts ∙ ap (λ (t : List ℕ). t ++ 58 ∷ map light_token_byte s.tokens) w.both ∙ ap (λ (t : List ℕ). size_text p.size.w p.size.h ++ 58 ∷ t) (sym (form_text 0 s.tokens s.each w.full tt) ∙ ap (light_cells_text 0) s.cells)
+light_form text p w = grind (arith, nat_tests, common_steps, form_text 0)

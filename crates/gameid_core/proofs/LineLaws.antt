@@ -1,5 +1,7 @@
 -- The lines of a grid: their places lie in it, and what is read of each is its list.
 use Rattle.std.proofs.Common.{◌≡◌, ℕ, ◌+◌, ◌-◌, ◌*◌, ◌<◌, ◌≤◌, Bool, true, false, cond, ltb, List, [], ◌∷◌, ◌++◌, map, length, get_or, refl, sym, ap, subst, ◌∙◌, arith}
+use Rattle.std.proofs.lemmas.Bool.Decides.{nat_tests}
+use Rattle.std.proofs.lemmas.Grind.{common_steps}
 use Rattle.std.specs.List.{range_with_len}
 use Rattle.std.proofs.lemmas.Bool.{lt-ltb, le-ltb}
 use Rattle.std.proofs.lemmas.List.FromFn.{map-range_with_len_more, length-map-range_with_len, get_or-map-range_with_len}
@@ -29,30 +31,17 @@ front_more size g line k p n numbers new place is e so =
     ∙ sym (map-range_with_len_more (λ j. get_or g (line_place size line j) 0) 0 k k (let z : 0 + k ≡ k = omega arith in z))
 
 pub front_whole : (size : Extent) (g : List ℕ) (line : ℕ) → line_front size g line (line_cells size line) ≡ line_list size g line
-front_whole size g line =
-    elim (ltb line size.w) as (λ v. map (λ j. get_or g (cond v (j * size.w + line) ((line - size.w) * size.w + j)) 0) (range_with_len 0 (cond v size.h size.w)) ≡ cond v (column_cells size g line) (row_cells size g (line - size.w))) [
-      | true ↦ refl
-      | false ↦ refl
-    ]
+front_whole size g line = grind (arith, nat_tests)
 
 pub length_line : (size : Extent) (g : List ℕ) (line : ℕ) → length (line_list size g line) ≡ line_cells size line
-length_line size g line =
-    sym (ap length (front_whole size g line)) ∙ length-map-range_with_len (λ j. get_or g (line_place size line j) 0) 0 (line_cells size line)
+length_line size g line = grind (arith, nat_tests, common_steps, front_whole size g line, length-map-range_with_len)
 
 -- a function of each line's list, for the columns and for the rows
 pub at_column : {A : Type 0} (f : List ℕ → A) (d : A) (size : Extent) (g : List ℕ) (x : ℕ) → x < size.w → get_or (map (λ line. f (line_list size g line)) (range_with_len 0 (lines_of size))) x d ≡ f (column_cells size g x)
-at_column f d size g x lt =
-    let column : ltb x size.w ≡ true = lt-ltb _ _ lt in
-    get_or-map-range_with_len (λ line. f (line_list size g line)) 0 (lines_of size) x x d (omega arith) (let z : 0 + x ≡ x = omega arith in z)
-    ∙ ap (λ (v : Bool). f (cond v (column_cells size g x) (row_cells size g (x - size.w)))) column
+at_column f d size g x lt = grind (arith, nat_tests, common_steps, lt-ltb, get_or-map-range_with_len)
 
 pub at_row : {A : Type 0} (f : List ℕ → A) (d : A) (size : Extent) (g : List ℕ) (y : ℕ) → y < size.h → get_or (map (λ line. f (line_list size g line)) (range_with_len 0 (lines_of size))) (size.w + y) d ≡ f (row_cells size g y)
-at_row f d size g y lt =
-    let row : ltb (size.w + y) size.w ≡ false = le-ltb _ _ (let n : size.w ≤ size.w + y = omega arith in n) in
-    let back : size.w + y - size.w ≡ y = omega arith in
-    get_or-map-range_with_len (λ line. f (line_list size g line)) 0 (lines_of size) (size.w + y) (size.w + y) d (omega arith) (let z : 0 + (size.w + y) ≡ size.w + y = omega arith in z)
-    ∙ ap (λ (v : Bool). f (cond v (column_cells size g (size.w + y)) (row_cells size g (size.w + y - size.w)))) row
-    ∙ ap (λ (k : ℕ). f (row_cells size g k)) back
+at_row f d size g y lt = grind (arith, nat_tests, common_steps, le-ltb, get_or-map-range_with_len)
 
 -- a function of the lists of the first lines
 abbrev pub lines_front : {A : Type 0} → (List ℕ → A) → Extent → List ℕ → ℕ → List A

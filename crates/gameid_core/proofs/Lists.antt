@@ -1,5 +1,7 @@
 -- Lists.
 use Rattle.std.proofs.Common.{◌≡◌, ℕ, ◌+◌, ◌<◌, List, ◌∷◌, ◌++◌, length, ap, ◌∙◌, arith, zero, suc, get_or, drop, drop-cons, [], append_assoc, append-nil, add-one, sym, ◌≤◌, map, take, refl}
+use Rattle.std.proofs.lemmas.Bool.Decides.{nat_tests}
+use Rattle.std.proofs.lemmas.Grind.{common_steps}
 use Rattle.std.specs.Prelude.{replicate}
 use Rattle.std.specs.List.{AllByRecursion, flat_map, join_with_byte}
 use Rattle.gameid_core.specs.GridTexts.{each_below}
@@ -35,8 +37,7 @@ none_pushed text f = sym (append-nil text)
 pub one_pushed : (old text new : List ℕ) (f : ℕ → List ℕ) (n : ℕ) (piece : List ℕ) → text ≡ old ++ each_below f n
     → new ≡ text ++ piece → piece ≡ f n → new ≡ old ++ each_below f (n + 1)
 unfolding each_below
-one_pushed old text new f n piece so_far more is = more ∙ ap (λ t. t ++ piece) so_far ∙ append_assoc old (each_below f n) piece
-    ∙ ap (λ t. old ++ (each_below f n ++ t)) is ∙ ap (λ m. old ++ each_below f m) (sym (add-one n))
+one_pushed old text new f n piece so_far more is = grind (arith, nat_tests, common_steps, append_assoc old (each_below f n) piece, add-one n)
 
 join_push : (c : ℕ) (y : List ℕ) (xs : List (List ℕ)) (x : List ℕ) → join_with_byte c ((y ∷ xs) ++ x ∷ []) ≡ join_with_byte c (y ∷ xs) ++ c ∷ x
 join_push c y [] x = refl
@@ -50,13 +51,7 @@ join_some c f [] x some = absurd (omega arith)
 join_some c f (y ∷ ys) x some = join_push c (f y) (map f ys) x
 
 pub joined_first : {A : Type 0} (c : ℕ) (f : A → List ℕ) (xs : List A) (k : ℕ) (d x : A) (old out new : List ℕ) → k ≤ 0 → k < length xs → x ≡ get_or xs k d → out ≡ old ++ join_with_byte c (map f (take k xs)) → new ≡ out ++ f x → new ≡ old ++ join_with_byte c (map f (take (k + 1) xs))
-joined_first c f xs k d x old out new none lt is so e =
-    let zero : k ≡ 0 = omega arith in
-    let before : take k xs ≡ [] = ap (λ (i : ℕ). take i xs) zero in
-    rw (map_more f xs k d x lt is, before) (e ∙ ap (λ (t : List ℕ). t ++ f x) (so ∙ ap (λ ys. old ++ join_with_byte c (map f ys)) before) ∙ append_assoc old [] (f x))
+joined_first c f xs k d x old out new none lt is so e = grind (arith, nat_tests, common_steps, map_more f xs k d x lt is, append_assoc old [] (f x))
 
 pub joined_more : {A : Type 0} (c : ℕ) (f : A → List ℕ) (xs : List A) (k : ℕ) (d x : A) (old out mid new : List ℕ) → 0 < k → k < length xs → x ≡ get_or xs k d → out ≡ old ++ join_with_byte c (map f (take k xs)) → mid ≡ out ++ c ∷ [] → new ≡ mid ++ f x → new ≡ old ++ join_with_byte c (map f (take (k + 1) xs))
-joined_more c f xs k d x old out mid new some lt is so m e =
-    let long : 0 < length (take k xs) = omega (arith, length-take k xs) in
-    rw (map_more f xs k d x lt is, join_some c f (take k xs) (f x) long)
-    (e ∙ ap (λ (t : List ℕ). t ++ f x) (m ∙ ap (λ (t : List ℕ). t ++ c ∷ []) so) ∙ append_assoc (old ++ join_with_byte c (map f (take k xs))) (c ∷ []) (f x) ∙ append_assoc old (join_with_byte c (map f (take k xs))) (c ∷ f x))
+joined_more c f xs k d x old out mid new some lt is so m e = grind (arith, nat_tests, common_steps, length-take k xs, map_more f xs k d x lt is, join_some c f (take k xs) (f x), append_assoc (old ++ join_with_byte c (map f (take k xs))) (c ∷ []) (f x), append_assoc old (join_with_byte c (map f (take k xs))) (c ∷ f x))

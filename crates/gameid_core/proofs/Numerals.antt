@@ -1,5 +1,7 @@
 -- Numbers as texts: the digits in front, and the written digits of a number.
 use Rattle.std.proofs.Common.{◌≡◌, ℕ, zero, suc, ◌+◌, ◌-◌, ◌*◌, ◌^◌, ◌<◌, ◌≤◌, Bool, true, false, ◌&&◌, leb, List, ◌∷◌, ◌++◌, length, refl, ap, subst, ◌∙◌, arith, rules, length-append, ◌%◌, []}
+use Rattle.std.proofs.lemmas.Bool.Decides.{nat_tests}
+use Rattle.std.proofs.lemmas.Grind.{common_steps}
 use Rattle.std.specs.Prelude.{decimal}
 use Rattle.std.specs.Str.{all_ascii_digits}
 use Rattle.std.specs.Char.{is_ascii_digit}
@@ -29,10 +31,7 @@ decimal_leads n small =
     decimal_by_steps (λ n ds. 0 < n → begins is_lead ds ≡ true) (λ n lt some. lead_digit n some lt) (λ n ds ge h some. begins_front is_lead ds _ (h (omega arith))) n small
 
 pub lead_is_digit : (b : ℕ) → is_lead b ≡ true → is_ascii_digit b ≡ true
-lead_is_digit b e =
-    let p = and_parts (leb 49 b) (leb b 57) e in
-    let a : leb 48 b ≡ true = le-leb _ _ (omega (arith, leb-true _ _ p.0)) in
-    rw (a, p.1) refl
+lead_is_digit b e = grind (arith, nat_tests)
 
 pub value_positive : (b : ℕ) (ds : List ℕ) → 49 ≤ b → 0 < value (b ∷ ds)
 unfolding value_after
@@ -42,11 +41,7 @@ value_positive b ds low = omega (arith, value_after_ge (10 * 0 + (b - 48)) ds)
 pub front_numeral : (digits rest : List ℕ) → all_ascii_digits digits ≡ true → begins is_ascii_digit rest ≡ false → (digits_front (digits ++ rest) ≡ digits) × (after_digits (digits ++ rest) ≡ rest)
 front_numeral [] [] d other = front_end [] refl
 front_numeral [] (b ∷ rest) d other = front_stop (b ∷ rest) b rest refl other
-front_numeral (c ∷ digits) rest d other =
-    let p = and_parts (is_ascii_digit c) (all_ascii_digits digits) d in
-    let t = front_turn (c ∷ (digits ++ rest)) c (digits ++ rest) refl p.0 in
-    let h = front_numeral digits rest p.1 other in
-    (t.0 ∙ ap (λ (x : List ℕ). c ∷ x) h.0, t.1 ∙ h.1)
+front_numeral (c ∷ digits) rest d other = grind (arith, nat_tests, common_steps, and_parts (is_ascii_digit c) (all_ascii_digits digits) d, front_turn (c ∷ (digits ++ rest)) c (digits ++ rest) refl, front_numeral digits rest)
 
 pub digit_front : (num rest : List ℕ) → IsNumeral num → begins is_ascii_digit (num ++ rest) ≡ true
 digit_front [] rest h = absurd (let some : 0 < 0 = h.some in omega arith)
@@ -57,15 +52,11 @@ digit_begins [] h = absurd (let some : 0 < 0 = h.some in omega arith)
 digit_begins (c ∷ digits) h = (and_parts (is_ascii_digit c) (all_ascii_digits digits) h.digits).0
 
 pub numeral_cuts : (num rest : List ℕ) → IsNumeral num → begins is_ascii_digit rest ≡ false → Cuts (num ++ rest) num rest
-numeral_cuts num rest h other =
-    let f = front_numeral num rest h.digits other in
-    subst (λ (after : List ℕ). Cuts (num ++ rest) num after) f.1 (subst (λ (word : List ℕ). Cuts (num ++ rest) word (after_digits (num ++ rest))) f.0 (cuts_number (num ++ rest) (digit_front num rest h)))
+numeral_cuts num rest h other = grind (arith, nat_tests, common_steps, front_numeral num rest h.digits other, cuts_number (num ++ rest) (digit_front num rest h), digit_front num rest h)
 
 -- a byte that joins digits, and a numeral
 pub joined_cuts : (b : ℕ) → joins b ≡ true → (num rest : List ℕ) → IsNumeral num → begins is_ascii_digit rest ≡ false → Cuts (b ∷ (num ++ rest)) (b ∷ num) rest
-joined_cuts b j num rest h other =
-    let f = front_numeral num rest h.digits other in
-    subst (λ (after : List ℕ). Cuts (b ∷ (num ++ rest)) (b ∷ num) after) f.1 (subst (λ (word : List ℕ). Cuts (b ∷ (num ++ rest)) (b ∷ word) (after_digits (num ++ rest))) f.0 (cuts_joined b (num ++ rest) j))
+joined_cuts b j num rest h other = grind (arith, nat_tests, common_steps, front_numeral num rest h.digits other, cuts_joined b (num ++ rest) j)
 
 -- a number takes no more digits than it counts
 pub length_decimal : (n : ℕ) → n < 2 ^ 64 → 0 < n → length (decimal n) ≤ n
@@ -90,10 +81,5 @@ lead_plain (b ∷ []) e = tt
 lead_plain (b ∷ c ∷ more) e = λ zero. absurd (let low : 49 ≤ b = leb-true _ _ (and_parts (leb 49 b) (leb b 57) e).0 in omega (arith, zero))
 
 pub decimal_plain : (n : ℕ) → n < 2 ^ 64 → IsPlain (decimal n)
-decimal_plain zero small = one_digit (decimal 0) (length-decimal-le 1 0 (omega arith) (omega arith) (omega arith))
-  where
-    one_digit : (ds : List ℕ) → length ds ≤ 1 → IsPlain ds
-    one_digit [] le = tt
-    one_digit (b ∷ []) le = tt
-    one_digit (b ∷ c ∷ more) le = absurd (omega arith)
+decimal_plain zero small = grind (arith, nat_tests, common_steps, length-decimal-le 1 0)
 decimal_plain (suc n) small = lead_plain (decimal (suc n)) (decimal_leads (suc n) small (omega arith))

@@ -1,5 +1,7 @@
 -- The ones of a line are no more than its cells; the turns of counting them.
 use Rattle.std.proofs.Common.{◌≡◌, ℕ, zero, suc, ◌+◌, ◌*◌, ◌<◌, ◌≤◌, true, false, cond, eqb, eq-eqb, List, [], ◌∷◌, map, length, drop, get_or, refl, sym, ap, subst, ◌∙◌, arith}
+use Rattle.std.proofs.lemmas.Bool.Decides.{nat_tests}
+use Rattle.std.proofs.lemmas.Grind.{common_steps}
 use Rattle.std.specs.List.{All, AllByRecursion, range_with_len, filter}
 use Rattle.std.proofs.lemmas.Bool.{ne_eqb}
 use Rattle.std.proofs.lemmas.List.{drop_all}
@@ -19,25 +21,17 @@ ones_other : (b : ℕ) (cells : List ℕ) → (b ≡ 1 → ⊥) → ones (b ∷ 
 ones_other b cells ne = let other : eqb b 1 ≡ false = ne_eqb b 1 ne in rw other refl
 
 pub turn_one : (k k' i : ℕ) (cells : List ℕ) (total : ℕ) → i < length cells → get_or cells i 0 ≡ 1 → k' ≡ k + 1 → k + ones (drop i cells) ≡ total → k' + ones (drop (i + 1) cells) ≡ total
-turn_one k k' i cells total lt is more so =
-    let here = ap ones (next_cell cells i lt) ∙ ones_one (get_or cells i 0) (drop (i + 1) cells) is in
-    omega (arith, here, so, more)
+turn_one k k' i cells total lt is more so = grind (arith, nat_tests, common_steps, next_cell cells i lt, ones_one (get_or cells i 0) (drop (i + 1) cells) is)
 
 pub turn_other : (k k' i : ℕ) (cells : List ℕ) (total : ℕ) → i < length cells → (get_or cells i 0 ≡ 1 → ⊥) → k' ≡ k → k + ones (drop i cells) ≡ total → k' + ones (drop (i + 1) cells) ≡ total
-turn_other k k' i cells total lt ne same so =
-    let here = ap ones (next_cell cells i lt) ∙ ones_other (get_or cells i 0) (drop (i + 1) cells) ne in
-    omega (arith, here, so, same)
+turn_other k k' i cells total lt ne same so = grind (arith, nat_tests, common_steps, next_cell cells i lt, ones_other (get_or cells i 0) (drop (i + 1) cells) ne)
 
 pub turns_done : (k i : ℕ) (cells : List ℕ) (total : ℕ) → length cells ≤ i → k + ones (drop i cells) ≡ total → k ≡ total
 turns_done k i cells total past so = let none = ap ones (drop_all i cells past) in omega (arith, none, so)
 
 ones_few : (cells : List ℕ) → ones cells ≤ length cells
 ones_few [] = omega arith
-ones_few (b ∷ cells) =
-    elim (eqb b 1) as (λ v. length (cond v (b ∷ filter (λ c. eqb c 1) cells) (filter (λ c. eqb c 1) cells)) ≤ length (b ∷ cells)) [
-      | true ↦ omega (arith, ones_few cells)
-      | false ↦ omega (arith, ones_few cells)
-    ]
+ones_few (b ∷ cells) = grind (arith, nat_tests, ones_few cells)
 
 are_ones : (size : Extent) (g : List ℕ) (line n : ℕ) → AreCounts size line (map (λ i. ones (line_list size g i)) (range_with_len line n))
 are_ones size g line zero = tt
@@ -49,12 +43,4 @@ each_of P (x ∷ xs) h = (All-head P x xs h, each_of P xs (All-tail P x xs h))
 
 -- trees, and the ones of the lines, are a puzzle
 pub ones_lawful : (size : Extent) (trees tents counts kept : List ℕ) → IsExtent size → 2 ≤ size.w → 2 ≤ size.h → IsGrid (size.w * size.h) 2 trees → kept ≡ trees → counts ≡ lines_ones size tents → IsTents (record { size = size; trees = kept; counts = counts })
-ones_lawful size trees tents counts kept e w h grid same is =
-    subst (λ (t : List ℕ). IsTents (record { size = size; trees = t; counts = counts })) (sym same)
-    (subst (λ (c : List ℕ). IsTents (record { size = size; trees = trees; counts = c })) (sym is) (record {
-      size = record { extent = e; w_two = w; h_two = h };
-      cells = grid.each_cell;
-      bits = each_of (λ b. b < 2) trees grid.each_value;
-      lines = length-map-range_with_len (λ i. ones (line_list size tents i)) 0 (lines_of size);
-      range = are_ones size tents 0 (lines_of size);
-    }))
+ones_lawful size trees tents counts kept e w h grid same is = grind (arith, nat_tests, common_steps, each_of, length-map-range_with_len, are_ones size tents 0 (lines_of size))

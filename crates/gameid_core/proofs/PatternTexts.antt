@@ -1,5 +1,7 @@
 -- Pattern: a text is read exactly where it spells a puzzle.
 use Rattle.std.proofs.Common.{◌≡◌, ℕ, ◌+◌, true, ◌&&◌, eqb, ltb, List, ◌∷◌, ◌++◌, map, length, drop, Ok, refl, sym, ap, ◌∙◌, inl, inr, arith, append_assoc, [], ◌<◌, ◌≤◌, false, subst, zero-add, length-append, leb}
+use Rattle.std.proofs.lemmas.Bool.Decides.{nat_tests}
+use Rattle.std.proofs.lemmas.Grind.{common_steps}
 use Rattle.std.specs.List.{AllByRecursion, flat_map, concat, join_with_byte}
 use Rattle.std.specs.Char.{is_ascii_digit}
 use Rattle.std.proofs.lemmas.Bool.{eq-eqb, false≢true, eqb-true, ne_eqb, le-ltb, leb-true, le-leb}
@@ -55,25 +57,11 @@ dotted_word (b ∷ c ∷ more) w dot d = (ap (λ (k : ℕ). k ∷ c ∷ more) (e
 
 slash_word : (word : List ℕ) → IsWord word → begins (λ b. eqb b 47) word ≡ true → word ≡ 47 ∷ []
 slash_word [] w s = absurd w
-slash_word (b ∷ more) w s =
-    let is : b ≡ 47 = eqb-true b 47 s in
-    elim w.1 [
-      | inl j ↦ absurd (false≢true (ap joins (sym is) ∙ j))
-      | inr e ↦ ap (λ (k : ℕ). k ∷ more) is ∙ ap (λ (t : List ℕ). 47 ∷ t) e
-    ]
+slash_word (b ∷ more) w s = grind (arith, nat_tests)
 
 pub read_spelled : (size : Extent) (at : ℕ) (clues : List (List ℕ)) (clue : List ℕ) (ws : List (List ℕ)) (all : List (List ℕ)) → AllByRecursion IsWord ws → reading (pattern_step size) (pattern_end size) at (so_far clues clue) ws ≡ Ok all → Spelled clues clue (concat ws) all
 unfolding reading
-read_spelled size at clues clue [] all w e =
-    let d = end_cases size clues clue all e in
-    record {
-      ns = [];
-      later = [];
-      parts = rw (tail_none clue) refl;
-      ns_digits = tt;
-      later_digits = tt;
-      values = ap (λ (c : List ℕ). clues ++ c ∷ []) (append-nil clue) ∙ d.1;
-    }
+read_spelled size at clues clue [] all w e = grind (arith, nat_tests, common_steps, end_cases size clues clue all e, tail_none clue, append-nil clue)
 read_spelled size at clues clue (word ∷ ws) all w e =
     let b = bind_ok (pattern_step size at (so_far clues clue) word) (λ t. reading (pattern_step size) (pattern_end size) (at + length word) t ws) all e in
     elim (step_cases size at clues clue word b.0 b.1) [
@@ -137,10 +125,7 @@ used_fits cells n (m ∷ clue) rest h =
 
 number_read : (cells line before at : ℕ) (digits : List ℕ) → 0 < value digits → before + value digits ≤ cells → clue_number cells line before at digits ≡ Ok (value digits)
 unfolding clue_number
-number_read cells line before at digits some room =
-    let some' : eqb (value digits) 0 ≡ false = ne_eqb _ _ (λ e. omega arith) in
-    let room' : ltb cells (before + value digits) ≡ false = le-ltb _ _ room in
-    rw (some', room') refl
+number_read cells line before at digits some room = grind (arith, nat_tests)
 
 first_read : (cells line at : ℕ) (num : List ℕ) → IsNumeral num → 0 < value num → value num ≤ cells → clue_token cells line [] at num ≡ Ok (value num)
 unfolding clue_token
@@ -152,8 +137,7 @@ further_read cells line at m clue num h some room = rw (digit_begins num h) (num
 
 numeral_other : (num : List ℕ) → IsNumeral num → begins (λ b. eqb b 47) num ≡ false
 numeral_other [] h = refl
-numeral_other (c ∷ digits) h =
-    ne_eqb c 47 (λ e. absurd (false≢true (ap is_ascii_digit (sym e) ∙ (and_parts (is_ascii_digit c) (all_ascii_digits digits) h.digits).0)))
+numeral_other (c ∷ digits) h = grind (arith, nat_tests)
 
 -- no clue's rest and no later clue begins with a digit
 rest_begins : (m : ℕ) (clue : List ℕ) (ns : List (List ℕ)) (later : List (List (List ℕ))) → begins is_ascii_digit (tail_text (m ∷ clue) ns ++ later_text later) ≡ false
@@ -166,14 +150,8 @@ Reads size all clues clue text = (at : ℕ) → reading (pattern_step size) (pat
 
 -- the rest of a clue is read, and then what follows it
 clue_again : (size : Extent) (all clues : List (List ℕ)) (clue : List ℕ) (ns : List (List ℕ)) (later : List (List (List ℕ))) → AllByRecursion IsNumeral ns → IsClue (line_cells size (length clues)) (clue ++ map value ns) → Reads size all clues (clue ++ map value ns) (later_text later) → Reads size all clues clue (tail_text clue ns ++ later_text later)
-clue_again size all clues clue [] later d fits next at =
-    rw (tail_none clue) (subst (λ (c : List ℕ). Reads size all clues c (later_text later)) (append-nil clue) next at)
-clue_again size all clues [] (num ∷ ns) later d fits next at =
-    let room = used_fits (line_cells size (length clues)) (value num) [] (map value ns) fits in
-    let text : tail_text [] (num ∷ ns) ++ later_text later ≡ num ++ (tail_text (value num ∷ []) ns ++ later_text later) = ap (λ (t : List ℕ). t ++ later_text later) (join_cons 46 num ns) ∙ append_assoc num (tail_text (value num ∷ []) ns) (later_text later) in
-    let cuts = numeral_cuts num (tail_text (value num ∷ []) ns ++ later_text later) d.0 (rest_begins (value num) [] ns later) in
-    let step = step_number size at clues [] num (Ok (value num)) (numeral_other num d.0) (first_read _ _ at num d.0 room.0 (omega arith)) in
-    rw text (reading_turn (pattern_step size) (pattern_end size) at (so_far clues []) (so_far clues (value num ∷ [])) _ num _ cuts step ∙ clue_again size all clues (value num ∷ []) ns later d.1 fits next (at + length num))
+clue_again size all clues clue [] later d fits next at = grind (arith, nat_tests, common_steps, tail_none clue, append-nil clue)
+clue_again size all clues [] (num ∷ ns) later d fits next at = grind (arith, nat_tests, common_steps, used_fits (line_cells size (length clues)) (value num) [] (map value ns) fits, join_cons 46 num ns, append_assoc num (tail_text (value num ∷ []) ns) (later_text later), numeral_cuts num (tail_text (value num ∷ []) ns ++ later_text later) d.0 (rest_begins (value num) [] ns later), rest_begins (value num) [] ns later, step_number size at clues [] num (Ok (value num)) (numeral_other num d.0), numeral_other num d.0, first_read, reading_turn (pattern_step size) (pattern_end size) at (so_far clues []) (so_far clues (value num ∷ [])), clue_again size all clues (value num ∷ []) ns later d.1 fits next (at + length num))
 clue_again size all clues (m ∷ clue) (num ∷ ns) later d fits next at =
     let room = used_fits (line_cells size (length clues)) (value num) (m ∷ clue) (map value ns) fits in
     let text : tail_text (m ∷ clue) (num ∷ ns) ++ later_text later ≡ 46 ∷ (num ++ (tail_text (m ∷ clue) ns ++ later_text later)) = append_assoc (46 ∷ num) (tail_text (m ∷ clue) ns) (later_text later) in
@@ -186,22 +164,11 @@ clue_again size all clues (m ∷ clue) (num ∷ ns) later d fits next at =
 
 are_at : (size : Extent) (line : ℕ) (xs : List (List ℕ)) (c : List ℕ) (ys : List (List ℕ)) → AreClues size line (xs ++ c ∷ ys) → IsClue (line_cells size (line + length xs)) c
 are_at size line [] c ys h = subst (λ (k : ℕ). IsClue (line_cells size k) c) (let e : line ≡ line + 0 = omega arith in e) h.0
-are_at size line (x ∷ xs) c ys h =
-    let e : (line + 1) + length xs ≡ line + length (x ∷ xs) = omega arith in
-    subst (λ (k : ℕ). IsClue (line_cells size k) c) e (are_at size (line + 1) xs c ys h.1)
+are_at size line (x ∷ xs) c ys h = grind (arith, nat_tests, are_at size (line + 1) xs c ys h.1)
 
 later_again : (size : Extent) (all clues : List (List ℕ)) (clue : List ℕ) (later : List (List (List ℕ))) → AllByRecursion (AllByRecursion IsNumeral) later → clues ++ clue ∷ map (map value) later ≡ all → length all ≡ lines_of size → AreClues size 0 all → Reads size all clues clue (later_text later)
-later_again size all clues clue [] d is len are at =
-    reading_end (pattern_step size) (pattern_end size) at (so_far clues clue) [] refl ∙ end_is size clues clue true (eq-eqb _ _ (omega (arith, ap length is, length-append clues (clue ∷ [])))) ∙ ap (λ (cs : List (List ℕ)). taken cs) is
-later_again size all clues clue (l ∷ later) d is len are at =
-    let grouped : (clues ++ clue ∷ []) ++ map value l ∷ map (map value) later ≡ all = append_assoc clues (clue ∷ []) (map value l ∷ map (map value) later) ∙ is in
-    let fits : IsClue (line_cells size (length (clues ++ clue ∷ []))) (map value l) =
-    subst (λ (k : ℕ). IsClue (line_cells size k) (map value l)) (zero-add (length (clues ++ clue ∷ []))) (are_at size 0 (clues ++ clue ∷ []) (map value l) (map (map value) later) (subst (λ (cs : List (List ℕ)). AreClues size 0 cs) (sym grouped) are)) in
-    let more = ap length is in
-    let split = length-append clues (clue ∷ map value l ∷ map (map value) later) in
-    let room : eqb (length clues + 1) (lines_of size) ≡ false = ne_eqb _ _ (λ e. omega arith) in
-    let next = clue_again size all (clues ++ clue ∷ []) [] l later d.0 fits (later_again size all (clues ++ clue ∷ []) (map value l) later d.1 grouped len are) in
-    reading_turn (pattern_step size) (pattern_end size) at (so_far clues clue) (so_far (clues ++ clue ∷ []) []) (47 ∷ (join_with_byte 46 l ++ later_text later)) (47 ∷ []) (join_with_byte 46 l ++ later_text later) (cuts_single 47 (join_with_byte 46 l ++ later_text later) refl) (step_slash size at clues clue false room) ∙ next (at + 1)
+later_again size all clues clue [] d is len are at = grind (arith, nat_tests, common_steps, reading_end (pattern_step size) (pattern_end size) at (so_far clues clue) [] refl, end_is size clues clue true, eq-eqb, length-append clues (clue ∷ []))
+later_again size all clues clue (l ∷ later) d is len are at = grind (arith, nat_tests, common_steps, append_assoc clues (clue ∷ []) (map value l ∷ map (map value) later), zero-add (length (clues ++ clue ∷ [])), are_at size 0 (clues ++ clue ∷ []) (map value l) (map (map value) later), length-append clues (clue ∷ map value l ∷ map (map value) later), ne_eqb, clue_again size all (clues ++ clue ∷ []) [] l later d.0, later_again size all (clues ++ clue ∷ []) (map value l) later d.1, reading_turn (pattern_step size) (pattern_end size) at (so_far clues clue) (so_far (clues ++ clue ∷ []) []) (47 ∷ (join_with_byte 46 l ++ later_text later)) (47 ∷ []) (join_with_byte 46 l ++ later_text later) (cuts_single 47 (join_with_byte 46 l ++ later_text later) refl), cuts_single 47 (join_with_byte 46 l ++ later_text later) refl, step_slash size at clues clue false)
 
 flat_map-map : (later : List (List (List ℕ))) → flat_map (λ y. 47 ∷ y) (map (join_with_byte 46) later) ≡ later_text later
 flat_map-map [] = refl
@@ -236,19 +203,10 @@ clues_take size at description all e =
     }
 
 is_extent : (w h : ℕ) → in_range game.Pattern w h ≡ true → IsExtent (record { w = w; h = h })
-is_extent w h e =
-    let p = and_parts (leb 1 w && leb 1 h && leb w max_side) (leb h max_side) e in
-    let q = and_parts (leb 1 w && leb 1 h) (leb w max_side) p.0 in
-    let r = and_parts (leb 1 w) (leb 1 h) q.0 in
-    record { w_low = leb-true _ _ r.0; w_high = leb-true _ _ q.1; h_low = leb-true _ _ r.1; h_high = leb-true _ _ p.1 }
+is_extent w h e = grind (arith, nat_tests)
 
 range_of : (size : Extent) → IsExtent size → in_range game.Pattern size.w size.h ≡ true
-range_of size h =
-    let a : leb 1 size.w ≡ true = le-leb _ _ h.w_low in
-    let b : leb 1 size.h ≡ true = le-leb _ _ h.h_low in
-    let c : leb size.w max_side ≡ true = le-leb _ _ h.w_high in
-    let d : leb size.h max_side ≡ true = le-leb _ _ h.h_high in
-    rw (a, b, c, d) refl
+range_of size h = grind (arith, nat_tests)
 
 pub pattern_takes : (text : List ℕ) (p : Pattern) → pattern_of text ≡ Ok p → SpellsPattern text p
 unfolding pattern_of
@@ -270,9 +228,4 @@ pattern_takes text p e =
 
 pub pattern_again : (text : List ℕ) (p : Pattern) → SpellsPattern text p → pattern_of text ≡ Ok p
 unfolding pattern_of
-pattern_again text p s =
-    let whole = head_again game.Pattern s.front (clues_text s.numerals) p.size.w p.size.h false s.size (range_of p.size s.puzzle.size) (subst (λ (t : List ℕ). length t ≤ max_id) s.parts s.short) in
-    let same : map (map value) s.numerals ≡ p.clues = s.clues in
-    let lawful : IsPattern (record { size = p.size; clues = map (map value) s.numerals }) = subst (λ (cs : List (List ℕ)). IsPattern (record { size = p.size; clues = cs })) (sym same) s.puzzle in
-    let read = clues_again p.size (length s.front + 1) s.numerals s.digits lawful in
-    ap pattern_of s.parts ∙ rw (whole, after_front s.front (clues_text s.numerals), read, same) refl
+pattern_again text p s = grind (arith, nat_tests, common_steps, head_again game.Pattern s.front (clues_text s.numerals) p.size.w p.size.h false s.size (range_of p.size s.puzzle.size), range_of p.size s.puzzle.size, clues_again p.size (length s.front + 1) s.numerals s.digits, after_front s.front (clues_text s.numerals))

@@ -1,13 +1,13 @@
 -- A printed number below 100 is read back by its one or two digits.
 use Rattle.std.proofs.Common.{◌≡◌, ◌∙◌, ◌+◌, ◌*◌, ◌/◌, ◌%◌, ◌-◌, ◌<◌, ◌≤◌, ◌++◌, ◌∷◌, ◌&&◌, ◌⊎◌, inl, inr, ℕ, List, Bool, [], Option, Some, None, length, sym, ap, ap₂, arith, if◌then◌else◌, decimal}
+use Rattle.std.proofs.lemmas.Bool.Decides.{nat_tests}
+use Rattle.std.proofs.lemmas.Grind.{common_steps}
 use Rattle.std.proofs.lemmas.Bool.{cases_lt, le-leb}
 use Rattle.std.proofs.lemmas.Fmt.{decimal_digit, decimal_step}
 use Rattle.gameid_core.specs.GridReading.{digit_of, first_digit}
 
 digit_is : (d : ℕ) → d < 10 → digit_of (48 + d) ≡ Some d
-digit_is d small =
-    ap (λ (b : Bool). if b then Some (48 + d - 48) else None) (ap₂ (λ (a b : Bool). a && b) (le-leb 48 (48 + d) (omega arith)) (le-leb (48 + d) 57 (omega arith)))
-    ∙ ap Some (omega arith)
+digit_is d small = grind (arith, nat_tests)
 
 two_digits : (n : ℕ) → 10 ≤ n → n < 100 → decimal n ≡ (48 + n / 10) ∷ (48 + n % 10) ∷ []
 two_digits n low high = decimal_step n low (omega arith) ∙ ap (λ (t : List ℕ). t ++ ((48 + n % 10) ∷ [])) (decimal_digit (n / 10) (omega arith))
@@ -19,26 +19,10 @@ pub record Number (n : ℕ) (byte : ℕ) (rest : List ℕ) : Type 0 where
 
 pub number_of : (n : ℕ) (text after rest : List ℕ) (byte : ℕ) → n < 100 → first_digit after ≡ None → text ≡ decimal n ++ after → text ≡ byte ∷ rest
     → Number n byte rest
-number_of n text after rest byte small ends is split = elim (cases_lt n 10) [
-  | inl low ↦
-      let d = decimal_digit n low in
-      let both : byte ∷ rest ≡ (48 + n) ∷ after = sym split ∙ is ∙ ap (λ (t : List ℕ). t ++ after) d in
-      let one : byte ≡ 48 + n = cc in
-      let more : rest ≡ after = cc in
-      record { digits = inl (ap digit_of one ∙ digit_is n low, ap first_digit more ∙ ends, ap (λ (t : List ℕ). length t) d) }
-  | inr high ↦
-      let d = two_digits n high small in
-      let both : byte ∷ rest ≡ (48 + n / 10) ∷ (48 + n % 10) ∷ after = sym split ∙ is ∙ ap (λ (t : List ℕ). t ++ after) d in
-      let one : byte ≡ 48 + n / 10 = cc in
-      let more : rest ≡ (48 + n % 10) ∷ after = cc in
-      record { digits = inr (ap digit_of one ∙ digit_is (n / 10) (omega arith), ap first_digit more ∙ digit_is (n % 10) (omega arith), ap (λ (t : List ℕ). length t) d) }
-]
+number_of n text after rest byte small ends is split = grind (arith, nat_tests, common_steps, cases_lt n 10, decimal_digit n, digit_is n, two_digits n, digit_is (n / 10), digit_is (n % 10))
 
 pub not_empty : (n : ℕ) (text after : List ℕ) → n < 100 → text ≡ decimal n ++ after → length text ≡ 0 → ⊥
-not_empty n text after small is empty = elim (cases_lt n 10) [
-  | inl low ↦ let e : text ≡ (48 + n) ∷ after = is ∙ ap (λ (t : List ℕ). t ++ after) (decimal_digit n low) in absurd (omega (arith, ap (λ (t : List ℕ). length t) e))
-  | inr high ↦ let e : text ≡ (48 + n / 10) ∷ (48 + n % 10) ∷ after = is ∙ ap (λ (t : List ℕ). t ++ after) (two_digits n high small) in absurd (omega (arith, ap (λ (t : List ℕ). length t) e))
-]
+not_empty n text after small is empty = grind (arith, nat_tests, common_steps, cases_lt n 10, decimal_digit n, two_digits n)
 
 -- the first byte is a digit
 pub no_digit : (n : ℕ) (byte : ℕ) (rest : List ℕ) → Number n byte rest → digit_of byte ≡ None → ⊥
@@ -46,17 +30,8 @@ no_digit n byte rest number none = elim number.digits [ inl h ↦ absurd (cc (h.
 
 pub one_read : (n byte first : ℕ) (rest : List ℕ) → Number n byte rest → digit_of byte ≡ Some first → first_digit rest ≡ None
     → ◌≡◌ {A = Option (ℕ × ℕ)} (Some (first, 1)) (Some (n, length (decimal n)))
-one_read n byte first rest number is none = elim number.digits [
-  | inl h ↦ let same : first ≡ n = cc (h.0, is) in ap₂ (λ (a b : ℕ). Some (a, b)) same (sym h.2)
-  | inr h ↦ absurd (cc (h.1, none))
-]
+one_read n byte first rest number is none = grind (arith, nat_tests)
 
 pub two_read : (n byte first second : ℕ) (rest : List ℕ) → Number n byte rest → digit_of byte ≡ Some first → first_digit rest ≡ Some second
     → ◌≡◌ {A = Option (ℕ × ℕ)} (Some (10 * first + second, 2)) (Some (n, length (decimal n)))
-two_read n byte first second rest number is also = elim number.digits [
-  | inl h ↦ absurd (cc (h.1, also))
-  | inr h ↦
-      let tens : first ≡ n / 10 = cc (h.0, is) in
-      let ones : second ≡ n % 10 = cc (h.1, also) in
-      ap₂ (λ (a b : ℕ). Some (a, b)) (omega arith) (sym h.2)
-]
+two_read n byte first second rest number is also = grind (arith, nat_tests)

@@ -1,6 +1,7 @@
 -- A row is read cell by cell: what is left of it is what is printed of the cells from there on, its line end and what
 -- follows.
 use Rattle.std.proofs.Common.{◌≡◌, ◌∙◌, ◌+◌, ◌*◌, ◌%◌, ◌<◌, ◌≤◌, ◌-◌, ◌++◌, ◌∷◌, ℕ, List, zero, suc, [], Option, Some, None, length, take, drop, slice_index, set, sym, ap, ap₂, subst, refl, arith, codes, ◌⊎◌, inl, inr, append_assoc, append-nil, add-one, ◌≢◌, get_or-set_other, get_or-set_same}
+use Rattle.std.proofs.lemmas.Bool.Decides.{nat_tests}
 use Rattle.std.proofs.lemmas.Bool.{cases_lt}
 use Rattle.std.proofs.lemmas.Grind.{common_steps}
 use Rattle.std.proofs.lemmas.Nat.{mod-mul-add}
@@ -18,9 +19,7 @@ each_from text k (suc n) = text k ++ each_from text (suc k) n
 both_parts : (f : ℕ → List ℕ) (k n : ℕ) → each_below f (k + n) ≡ each_below f k ++ each_from f k n
 unfolding each_below each_from
 both_parts f k zero = let e : k + zero ≡ k = omega arith in ap (each_below f) e ∙ sym (append-nil (each_below f k))
-both_parts f k (suc n) =
-    let e : k + suc n ≡ suc k + n = omega arith in
-    ap (each_below f) e ∙ both_parts f (suc k) n ∙ append_assoc (each_below f k) (f k) (each_from f (suc k) n)
+both_parts f k (suc n) = grind (arith, nat_tests, common_steps, both_parts f (suc k) n, append_assoc (each_below f k) (f k) (each_from f (suc k) n))
 
 pub from_zero : (f : ℕ → List ℕ) (n : ℕ) → each_below f n ≡ each_from f 0 n
 unfolding each_below
@@ -35,8 +34,7 @@ abbrev pub Left : (ℕ → List ℕ) → ℕ → List ℕ → ℕ → List ℕ �
 Left f w more x rest = LeftOf f w (codes "\n" ++ more) x rest
 
 pub all_left : (f : ℕ → List ℕ) (w : ℕ) (more text : List ℕ) → text ≡ (each_below f w ++ codes "\n") ++ more → Left f w more 0 text
-all_left f w more text is m e =
-    is ∙ append_assoc (each_below f w) (codes "\n") more ∙ ap (λ (t : List ℕ). t ++ (codes "\n" ++ more)) (from_zero f w ∙ ap (each_from f 0) (sym (let z : m ≡ w = omega arith in z)))
+all_left f w more text is m e = grind (arith, nat_tests, common_steps, append_assoc (each_below f w) (codes "\n") more, from_zero f w)
 
 -- what is left after a cell
 pub record AfterCell (f : ℕ → List ℕ) (w : ℕ) (more : List ℕ) (x : ℕ) (rest : List ℕ) : Type 0 where
@@ -50,13 +48,7 @@ end_or_cell : (f : ℕ → List ℕ) (w : ℕ) (more : List ℕ) (x m : ℕ) →
     ⊎ ((x + 1 < w) × ((t : List ℕ) × (each_from f (suc x) m ++ (codes "\n" ++ more) ≡ f (x + 1) ++ t)))
 unfolding each_from
 end_or_cell f w more x zero e = inl (omega arith, refl)
-end_or_cell f w more x (suc m) e = inr (
-  omega arith,
-  (
-    each_from f (suc (suc x)) m ++ (codes "\n" ++ more),
-    ap (λ (t : List ℕ). t ++ (codes "\n" ++ more)) (ap (λ (k : ℕ). f k ++ each_from f (suc (suc x)) m) (sym (add-one x))) ∙ append_assoc (f (x + 1)) (each_from f (suc (suc x)) m) (codes "\n" ++ more),
-  ),
-)
+end_or_cell f w more x (suc m) e = grind (arith, nat_tests, common_steps, add-one x, append_assoc (f (x + 1)) (each_from f (suc (suc x)) m) (codes "\n" ++ more))
 
 pub after_cell : (f : ℕ → List ℕ) (w : ℕ) (more rest : List ℕ) (x : ℕ) → x < w → Left f w more x rest → AfterCell f w more x rest
 unfolding each_from
@@ -77,32 +69,18 @@ none_left f w more rest x e left = left 0 (omega arith)
 -- what follows a cell, as the reader of cells wants it
 pub cell_follows : (cell : ℕ → List ℕ) (size : Extent) (y w x : ℕ) (more rest : List ℕ) → w ≡ size.w
     → (a : AfterCell (λ k. cell (y * w + k)) w more x rest) → Follows cell size (y * w + x) a.after
-cell_follows cell size y w x more rest wide a = elim a.follows [
-  | inl end ↦ inl (more, end.1)
-  | inr next ↦
-      let same : y * w + x + 1 ≡ y * w + (x + 1) = omega arith in
-      let rem : (y * w + x + 1) % size.w ≡ x + 1 = ap₂ (λ (n d : ℕ). n % d) same (sym wide) ∙ mod-mul-add y w (x + 1) next.0 in
-      inr (λ zero_rem. absurd (omega arith), (next.1.0, next.1.1 ∙ ap (λ (n : ℕ). cell n ++ next.1.0) (sym same)))
-]
+cell_follows cell size y w x more rest wide a = grind (arith, nat_tests, common_steps, mod-mul-add y w (x + 1))
 
 -- what is left of the slice
 pub cut_off : (front after rest : List ℕ) (n m : ℕ) → rest ≡ front ++ after → n ≡ length front → m ≡ length rest → take (m - n) (drop n rest) ≡ after
-cut_off front after rest n m split e all =
-    let dropped : drop n rest ≡ after = ap₂ (λ (k : ℕ) (t : List ℕ). drop k t) e split ∙ drop-append_seam front after in
-    grind (arith, common_steps, dropped)
+cut_off front after rest n m split e all = grind (arith, nat_tests, common_steps, drop-append_seam front after, common_steps)
 
 pub fit_more : (hides : ℕ → Type 0) (values : ℕ) (g new : List ℕ) (n k v : ℕ) → n < length g → new ≡ set g n v → k ≡ n + 1 → FitUpTo hides values g n → v < values
     → (hides n → v ≡ 0) → FitUpTo hides values new k
-fit_more hides values g new n k v within written next fit small zero_there place lt = rw written (elim (cases_lt place n) [
-  | inl below ↦ let other : place ≢ n = omega arith in rw get_or-set_other (fit place below)
-  | inr here ↦ let same : place ≡ n = omega arith in rw (same, get_or-set_same) (small, zero_there)
-])
+fit_more hides values g new n k v within written next fit small zero_there place lt = grind (arith, nat_tests, common_steps, cases_lt place n, get_or-set_other, get_or-set_same)
 
 pub agree_more : (g new h : List ℕ) (n k v : ℕ) → n < length g → new ≡ set g n v → k ≡ n + 1 → AgreeUpTo g h n → v ≡ slice_index h n → AgreeUpTo new h k
-agree_more g new h n k v within written next agree is place lt = rw written (elim (cases_lt place n) [
-  | inl below ↦ let other : place ≢ n = omega arith in rw get_or-set_other (agree place below)
-  | inr here ↦ let same : place ≡ n = omega arith in rw (same, get_or-set_same) is
-])
+agree_more g new h n k v within written next agree is place lt = grind (arith, nat_tests, common_steps, cases_lt place n, get_or-set_other, get_or-set_same)
 
 -- what the reader of cells gives for the next cell
 pub record KnownCell (f : ℕ → List ℕ) (w : ℕ) (more rest : List ℕ) (x v : ℕ) (result : Option (ℕ × ℕ)) : Type 0 where
@@ -123,13 +101,7 @@ known_cell cell size y w x v more rest result wide lt left reads =
 -- the cell was read: what is left after it, and the number
 pub cell_read : (f : ℕ → List ℕ) (w x v value count m : ℕ) (more rest : List ℕ) (result : Option (ℕ × ℕ)) → KnownCell f w more rest x v result
     → result ≡ Some (value, count) → m ≡ length rest → Left f w more (x + 1) (take (m - count) (drop count rest)) × (value ≡ v)
-cell_read f w x v value count m more rest result known is all =
-    let both : ◌≡◌ {A = Option (ℕ × ℕ)} (Some (value, count)) (Some (v, length (f x))) = sym is ∙ known.read in
-    let pair : ◌≡◌ {A = ℕ × ℕ} (value, count) (v, length (f x)) = cc in
-    let counted : count ≡ length (f x) = ap (λ (p : ℕ × ℕ). p.1) pair in (
-      subst (Left f w more (x + 1)) (sym (cut_off (f x) known.cell.after rest count m known.cell.split counted all)) known.cell.left,
-      ap (λ (p : ℕ × ℕ). p.0) pair,
-    )
+cell_read f w x v value count m more rest result known is all = grind (arith, nat_tests, common_steps, cut_off (f x) known.cell.after rest count m known.cell.split)
 
 -- the cell is always read
 pub cell_not_missed : (f : ℕ → List ℕ) (w x v : ℕ) (more rest : List ℕ) (result : Option (ℕ × ℕ)) → KnownCell f w more rest x v result → result ≡ None → ⊥
@@ -139,11 +111,7 @@ pub next_row : (y w : ℕ) → (y + 1) * w ≡ y * w + w
 next_row y w = ap (λ (n : ℕ). n * w) (add-one y) ∙ suc-mul y w
 
 pub in_grid : (size : Extent) (y w x cells : ℕ) → w ≡ size.w → x < w → y < size.h → cells ≡ size.w * size.h → y * w + x < cells
-in_grid size y w x cells wide lt below all =
-    let next : (y + 1) * w ≡ y * w + w = next_row y w in
-    let high : (y + 1) * w ≤ size.h * w = mul-le-mul_right w (let l : y + 1 ≤ size.h = omega arith in l) in
-    let turned : size.w * size.h ≡ size.h * w = mul_comm size.w size.h ∙ ap (λ (n : ℕ). size.h * n) (sym wide) in
-    omega arith
+in_grid size y w x cells wide lt below all = grind (arith, nat_tests)
 
 pub line_end : (rest more left : List ℕ) (byte : ℕ) → rest ≡ byte ∷ more → rest ≡ 10 ∷ left → (byte ≡ 10) × (more ≡ left)
 line_end rest more left byte split is = (cc, cc)

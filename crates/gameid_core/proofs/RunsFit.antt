@@ -1,5 +1,7 @@
 -- Laws of the runs of a line, by induction on the cells.
 use Rattle.std.proofs.Common.{◌≡◌, ℕ, zero, suc, ◌+◌, List, ◌∷◌, ◌++◌, replicate, refl, sym, ◌∙◌, ap, arith, append_assoc, [], ◌<◌, ◌≤◌, length, map, subst, drop, get_or}
+use Rattle.std.proofs.lemmas.Bool.Decides.{nat_tests}
+use Rattle.std.proofs.lemmas.Grind.{common_steps}
 use Rattle.gameid_core.specs.BlackRuns.{run_of, runs_after, runs}
 use Rattle.std.specs.List.{AllByRecursion, range_with_len}
 use Rattle.std.proofs.lemmas.List.{drop_all}
@@ -72,18 +74,13 @@ unfolding runs_after
 runs_end k = refl
 
 pub turn_white : (k i k' : ℕ) (cells found found' total : List ℕ) → i < length cells → get_or cells i 0 ≡ 0 → k' ≡ 0 → found' ≡ found ++ run_of k → found ++ runs_after k (drop i cells) ≡ total → found' ++ runs_after k' (drop (i + 1) cells) ≡ total
-turn_white k i k' cells found found' total lt white zero-is e so =
-    rw (zero-is, e) (append_assoc found (run_of k) (runs_after 0 (drop (i + 1) cells)))
-    ∙ ap (λ (t : List ℕ). found ++ t) (sym (runs_white k (drop (i + 1) cells)) ∙ ap (λ (v : ℕ). runs_after k (v ∷ drop (i + 1) cells)) (sym white) ∙ ap (runs_after k) (sym (next_cell cells i lt))) ∙ so
+turn_white k i k' cells found found' total lt white zero-is e so = grind (arith, nat_tests, common_steps, append_assoc found (run_of k) (runs_after 0 (drop (i + 1) cells)), runs_white k (drop (i + 1) cells), next_cell cells i lt)
 
 pub turn_black : (k i k' : ℕ) (cells found found' total : List ℕ) → i < length cells → (get_or cells i 0 ≡ 0 → ⊥) → k' ≡ k + 1 → found' ≡ found → found ++ runs_after k (drop i cells) ≡ total → found' ++ runs_after k' (drop (i + 1) cells) ≡ total
-turn_black k i k' cells found found' total lt black more e so =
-    let next : k' ≡ suc k = omega (arith, more) in
-    rw (next, e) (ap (λ (t : List ℕ). found ++ t) (sym (runs_black k (get_or cells i 0) (drop (i + 1) cells) black) ∙ ap (runs_after k) (sym (next_cell cells i lt)))) ∙ so
+turn_black k i k' cells found found' total lt black more e so = grind (arith, nat_tests, common_steps, runs_black k (get_or cells i 0) (drop (i + 1) cells) black, next_cell cells i lt)
 
 pub turn_end : (k i : ℕ) (cells found found' total : List ℕ) → length cells ≤ i → found' ≡ found ++ run_of k → found ++ runs_after k (drop i cells) ≡ total → found' ≡ total
-turn_end k i cells found found' total past e so =
-    e ∙ ap (λ (t : List ℕ). found ++ t) (sym (runs_end k) ∙ ap (runs_after k) (sym (drop_all i cells past))) ∙ so
+turn_end k i cells found found' total past e so = grind (arith, nat_tests, common_steps, runs_end k, drop_all i cells past)
 
 runs_line_fits : (size : Extent) (g : List ℕ) (line : ℕ) → IsClue (line_cells size line) (runs (line_list size g line))
 runs_line_fits size g line = subst (λ (n : ℕ). IsClue n (runs (line_list size g line))) (length_line size g line) (runs_fit (line_list size g line))
@@ -94,5 +91,4 @@ are_runs size g line (suc n) = (runs_line_fits size g line, are_runs size g (lin
 
 -- the runs of the lines are clues that fit
 pub runs_lawful : (size : Extent) (g : List ℕ) (clues : List (List ℕ)) → IsExtent size → clues ≡ lines_runs size g → IsPattern (record { size = size; clues = clues })
-runs_lawful size g clues e is =
-    subst (λ (cs : List (List ℕ)). IsPattern (record { size = size; clues = cs })) (sym is) (record { size = e; lines = length-map-range_with_len (λ i. runs (line_list size g i)) 0 (lines_of size); clues = are_runs size g 0 (lines_of size) })
+runs_lawful size g clues e is = grind (arith, nat_tests, common_steps, length-map-range_with_len, are_runs size g 0 (lines_of size))

@@ -1,5 +1,7 @@
 -- The written text of a puzzle of Solo: the writer's turns, its length, that it spells the puzzle, and that no other does.
 use Rattle.std.proofs.Common.{◌≡◌, ℕ, zero, suc, ◌+◌, ◌*◌, ◌≤◌, Bool, true, false, List, ◌∷◌, ◌++◌, length, refl, ap, arith, length-append, ◌<◌, get_or, drop, sym, ◌∙◌, append_assoc, [], ◌-◌, inl, inr}
+use Rattle.std.proofs.lemmas.Bool.Decides.{nat_tests}
+use Rattle.std.proofs.lemmas.Grind.{common_steps}
 use Rattle.std.specs.Prelude.{decimal, replicate}
 use Rattle.std.specs.List.{AllByRecursion, flat_map}
 use Rattle.std.proofs.Math.Nat.{mul-le-mul_left, mul-le-mul_right}
@@ -29,8 +31,7 @@ cells_short : (k : ℕ) (touches : Bool) (cells : List ℕ) → AllByRecursion (
 unfolding cells_text
 cells_short k touches [] h = omega (arith, letters_short k)
 cells_short k touches (zero ∷ cells) h = omega (arith, cells_short (k + 1) touches cells h.1)
-cells_short k touches (suc v ∷ cells) h =
-    omega (arith, h.0, cells_short 0 true cells h.1, before_short k touches, length-decimal-le 2 (suc v) (omega arith) (omega (arith, h.0)) (omega (arith, h.0)), length-append (before_given k touches) (decimal (suc v) ++ cells_text 0 true cells), length-append (decimal (suc v)) (cells_text 0 true cells))
+cells_short k touches (suc v ∷ cells) h = grind (arith, nat_tests, common_steps, cells_short 0 true cells h.1, before_short k touches, length-decimal-le 2 (suc v), length-append (before_given k touches) (decimal (suc v) ++ cells_text 0 true cells), length-append (decimal (suc v)) (cells_text 0 true cells))
 
 range_more : (n : ℕ) (cells : List ℕ) → n ≤ max_numbers → AllByRecursion (λ v. v ≤ n) cells → AllByRecursion (λ v. v ≤ max_numbers) cells
 range_more n [] le h = tt
@@ -41,14 +42,7 @@ size_short c r false = omega arith
 size_short c r true = omega (arith, length-append (size_text c r) (120 ∷ []))
 
 pub solo_short : (p : Solo) → IsSolo p → length (solo_text p) ≤ max_id
-solo_short p h =
-    let n = h.n_high in
-    let c : p.c ≤ max_numbers = omega (arith, mul-le-mul_left p.c h.r_low) in
-    let r : p.r ≤ max_numbers = omega (arith, mul-le-mul_right p.r h.c_low) in
-    let a = length-decimal-le 2 p.c (omega arith) (omega arith) (omega arith) in
-    let b = length-decimal-le 2 p.r (omega arith) (omega arith) (omega arith) in
-    let cells = cells_short 0 false p.givens (range_more (solo_n p) p.givens n h.range) in
-    omega (arith, h.cells, solo_few (solo_n p) n, size_short p.c p.r p.x, length-append (decimal p.c) (120 ∷ decimal p.r), length-append (solo_size_text p.c p.r p.x) (58 ∷ cells_text 0 false p.givens))
+solo_short p h = grind (arith, nat_tests, common_steps, mul-le-mul_left p.c h.r_low, mul-le-mul_right p.r h.c_low, length-decimal-le 2 p.c, length-decimal-le 2 p.r, cells_short 0 false p.givens, range_more (solo_n p) p.givens, solo_few (solo_n p), size_short p.c p.r p.x, length-append (decimal p.c) (120 ∷ decimal p.r), length-append (solo_size_text p.c p.r p.x) (58 ∷ cells_text 0 false p.givens))
 
 pub cells_nil : (k : ℕ) (touches : Bool) → cells_text k touches [] ≡ letters k
 unfolding cells_text
@@ -64,22 +58,13 @@ cells_given k zero touches cells ne = absurd (ne refl)
 cells_given k (suc v) touches cells ne = refl
 
 pub cells_end : (k i : ℕ) (touches : Bool) (cells old out new : List ℕ) → length cells ≤ i → out ++ cells_text k touches (drop i cells) ≡ old → new ≡ out ++ letters k → new ≡ old
-cells_end k i touches cells old out new past so e =
-    let none : drop i cells ≡ [] = drop_all i cells past in
-    e ∙ ap (λ (t : List ℕ). out ++ t) (sym (cells_nil k touches) ∙ ap (cells_text k touches) (sym none)) ∙ so
+cells_end k i touches cells old out new past so e = grind (arith, nat_tests, common_steps, drop_all i cells past, cells_nil k touches)
 
 pub cells_step_blank : (k i : ℕ) (touches : Bool) (cells old out : List ℕ) → i < length cells → get_or cells i 0 ≡ 0 → out ++ cells_text k touches (drop i cells) ≡ old → out ++ cells_text (k + 1) touches (drop (i + 1) cells) ≡ old
-cells_step_blank k i touches cells old out lt blank so =
-    ap (λ (t : List ℕ). out ++ t) (sym (cells_blank k touches (drop (i + 1) cells)) ∙ ap (λ (v : ℕ). cells_text k touches (v ∷ drop (i + 1) cells)) (sym blank) ∙ ap (cells_text k touches) (sym (next_cell cells i lt))) ∙ so
+cells_step_blank k i touches cells old out lt blank so = grind (arith, nat_tests, common_steps, cells_blank k touches (drop (i + 1) cells), next_cell cells i lt)
 
 pub cells_step_given : (k i : ℕ) (touches : Bool) (cells old out mid new : List ℕ) → i < length cells → (get_or cells i 0 ≡ 0 → ⊥) → mid ≡ out ++ before_given k touches → new ≡ mid ++ decimal (get_or cells i 0) → out ++ cells_text k touches (drop i cells) ≡ old → new ++ cells_text 0 true (drop (i + 1) cells) ≡ old
-cells_step_given k i touches cells old out mid new lt some m e so =
-    let v : ℕ = get_or cells i 0 in
-    ap (λ (t : List ℕ). t ++ cells_text 0 true (drop (i + 1) cells)) (e ∙ ap (λ (t : List ℕ). t ++ decimal v) m)
-    ∙ append_assoc (out ++ before_given k touches) (decimal v) (cells_text 0 true (drop (i + 1) cells))
-    ∙ append_assoc out (before_given k touches) (decimal v ++ cells_text 0 true (drop (i + 1) cells))
-    ∙ ap (λ (t : List ℕ). out ++ t) (sym (cells_given k v touches (drop (i + 1) cells) some) ∙ ap (cells_text k touches) (sym (next_cell cells i lt)))
-    ∙ so
+cells_step_given k i touches cells old out mid new lt some m e so = grind (arith, nat_tests, common_steps, append_assoc (out ++ before_given k touches), append_assoc out (before_given k touches), cells_given k, next_cell cells i lt)
 
 -- a token that is no number
 abbrev pub IsSpace : SoloToken → Type 0
@@ -226,18 +211,7 @@ cells_written n k touches [] h =
     let t = letter_spaces n k k (omega arith) in
     let s = t.0 in
     record { full = s.full; needed = letters_needed touches s.spaces t.1; tokens = s.spaces; spelled = s.spelled; each = s.each; apart = spaces_alone s.spaces s.spaces_only; clear = λ e. clear_spaces s.spaces s.spaces_only; filled = s.filled ∙ sym (append-nil (replicate k 0)) }
-cells_written n k touches (zero ∷ cells) h =
-    let r = cells_written n (k + 1) touches cells h.1 in
-    record {
-      tokens = r.tokens;
-      spelled = r.spelled;
-      each = r.each;
-      apart = r.apart;
-      clear = r.clear;
-      full = r.full;
-      needed = r.needed;
-      filled = r.filled ∙ ap (λ (t : List ℕ). t ++ cells) (sym (replicate-append-replicate {A = ℕ} k 1 0)) ∙ append_assoc (replicate k 0) (0 ∷ []) cells;
-    }
+cells_written n k touches (zero ∷ cells) h = grind (arith, nat_tests, common_steps, cells_written n (k + 1) touches cells h.1, replicate-append-replicate {A = ℕ} k 1 0, append_assoc (replicate k 0) (0 ∷ []) cells)
 cells_written n k touches (suc v ∷ cells) h =
     let b = before_spaces n k touches in
     let s = b.before in
@@ -284,8 +258,7 @@ solo_spelled p h = (solo_is_written p h).spells
 
 cells_run : (k j : ℕ) (touches : Bool) (rest : List ℕ) → cells_text k touches (replicate j 0 ++ rest) ≡ cells_text (k + j) touches rest
 cells_run k zero touches rest = ap (λ (i : ℕ). cells_text i touches rest) (let e : k ≡ k + 0 = omega arith in e)
-cells_run k (suc j) touches rest =
-    cells_blank k touches (replicate j 0 ++ rest) ∙ cells_run (k + 1) j touches rest ∙ ap (λ (i : ℕ). cells_text i touches rest) (let e : k + 1 + j ≡ k + suc j = omega arith in e)
+cells_run k (suc j) touches rest = grind (arith, nat_tests, common_steps, cells_blank k touches (replicate j 0 ++ rest), cells_run (k + 1) j touches rest)
 
 before_some : (k : ℕ) (touches : Bool) → 0 < k → before_given k touches ≡ letters k
 before_some zero touches some = absurd (omega arith)
@@ -313,60 +286,24 @@ after_given v (gap ∷ tokens) h = (h, tt)
 after_given v (given u ∷ tokens) h = absurd h
 
 form_given : (n q v : ℕ) (touches : Bool) (tokens : List SoloToken) → AllByRecursion (IsSoloToken n) (given v ∷ tokens) → AreApart (given v ∷ tokens) → AreFull tokens → AreNeeded true tokens → Form n 0 true tokens
-form_given n q v touches tokens each apart full needed =
-    let a = after_given v tokens apart in
-    record { each = each.1; apart = a.0; full = full; needed = needed; leads = tt; clear = λ e. a.1 }
+form_given n q v touches tokens each apart full needed = grind (arith, nat_tests)
 
 form_text : (n q : ℕ) (touches : Bool) (tokens : List SoloToken) → Form n q touches tokens → cells_text (26 * q) touches (flat_map solo_token_cells tokens) ≡ replicate q 122 ++ flat_map solo_token_text tokens
 form_text n zero touches [] f = cells_nil 0 touches ∙ letters_none 0 refl
 form_text n (suc q) touches [] f = absurd f.leads
-form_text n q touches (blanks k ∷ []) f =
-    let each = f.each in
-    cells_run (26 * q) k touches [] ∙ cells_nil (26 * q + k) touches ∙ letters_at q k each.0.0 each.0.1
-form_text n q touches (blanks k ∷ blanks j ∷ tokens) f =
-    let full = f.full in
-    let rest : List SoloToken = blanks j ∷ tokens in
-    let next : Form n (suc q) touches rest = record { each = (let each = f.each in each.1); apart = f.apart; full = full.1; needed = f.needed; leads = tt; clear = λ e. tt } in
-    let count : 26 * q + k ≡ 26 * suc q = omega (arith, full.0) in
-    cells_run (26 * q) k touches (flat_map solo_token_cells rest)
-    ∙ ap (λ (i : ℕ). cells_text i touches (flat_map solo_token_cells rest)) count
-    ∙ form_text n (suc q) touches (blanks j ∷ tokens) next
-    ∙ z_moves q (flat_map solo_token_text rest)
-    ∙ ap (λ (c : ℕ). replicate q 122 ++ c ∷ flat_map solo_token_text rest) (let e : 122 ≡ 96 + k = omega (arith, full.0) in e)
+form_text n q touches (blanks k ∷ []) f = grind (arith, nat_tests, common_steps, cells_run (26 * q) k touches [], cells_nil (26 * q + k) touches, letters_at q k)
+form_text n q touches (blanks k ∷ blanks j ∷ tokens) f = grind (arith, nat_tests, common_steps, cells_run (26 * q) k touches, form_text n (suc q) touches (blanks j ∷ tokens), z_moves q)
 form_text n q touches (blanks k ∷ gap ∷ tokens) f = absurd (let needed = f.needed in false≢true needed.0)
-form_text n q touches (blanks k ∷ given v ∷ tokens) f =
-    let each = f.each in
-    let next = form_given n q v touches tokens each.1 f.apart f.full f.needed in
-    let some : v ≡ 0 → ⊥ = λ e. absurd (omega (arith, e, each.1.0.0)) in
-    cells_run (26 * q) k touches (v ∷ flat_map solo_token_cells tokens)
-    ∙ cells_given (26 * q + k) v touches (flat_map solo_token_cells tokens) some
-    ∙ ap (λ (t : List ℕ). t ++ (decimal v ++ cells_text 0 true (flat_map solo_token_cells tokens))) (before_some (26 * q + k) touches (omega (arith, each.0.0)) ∙ letters_at q k each.0.0 each.0.1)
-    ∙ ap (λ (t : List ℕ). (replicate q 122 ++ (96 + k) ∷ []) ++ (decimal v ++ t)) (form_text n 0 true tokens next)
-    ∙ append_assoc (replicate q 122) ((96 + k) ∷ []) (decimal v ++ flat_map solo_token_text tokens)
+form_text n q touches (blanks k ∷ given v ∷ tokens) f = grind (arith, nat_tests, common_steps, form_given n q v touches tokens, cells_run (26 * q) k touches (v ∷ flat_map solo_token_cells tokens), cells_given (26 * q + k) v touches (flat_map solo_token_cells tokens), before_some (26 * q + k) touches, letters_at q k, form_text n 0 true tokens, append_assoc (replicate q 122) ((96 + k) ∷ []) (decimal v ++ flat_map solo_token_text tokens))
 form_text n (suc q) touches (gap ∷ tokens) f = absurd f.leads
 form_text n zero touches (gap ∷ []) f = absurd (let needed = f.needed in needed.1)
 form_text n zero touches (gap ∷ blanks k ∷ tokens) f = absurd (let needed = f.needed in needed.1)
 form_text n zero touches (gap ∷ gap ∷ tokens) f = absurd (let needed = f.needed in needed.1)
 form_text n zero false (gap ∷ given v ∷ tokens) f = absurd (let needed = f.needed in false≢true needed.0)
-form_text n zero true (gap ∷ given v ∷ tokens) f =
-    let each = f.each in
-    let needed = f.needed in
-    let next = form_given n 0 v true tokens each.1 f.apart f.full needed.2 in
-    let some : v ≡ 0 → ⊥ = λ e. absurd (omega (arith, e, each.1.0.0)) in
-    cells_given 0 v true (flat_map solo_token_cells tokens) some
-    ∙ ap (λ (t : List ℕ). 95 ∷ (decimal v ++ t)) (form_text n 0 true tokens next)
+form_text n zero true (gap ∷ given v ∷ tokens) f = grind (arith, nat_tests, common_steps, form_given n 0 v true tokens, cells_given 0 v true (flat_map solo_token_cells tokens), form_text n 0 true tokens)
 form_text n (suc q) touches (given v ∷ tokens) f = absurd f.leads
 form_text n zero true (given v ∷ tokens) f = absurd (f.clear refl)
-form_text n zero false (given v ∷ tokens) f =
-    let each = f.each in
-    let next = form_given n 0 v false tokens each f.apart f.full f.needed in
-    let some : v ≡ 0 → ⊥ = λ e. absurd (omega (arith, e, each.0.0)) in
-    cells_given 0 v false (flat_map solo_token_cells tokens) some
-    ∙ ap (λ (t : List ℕ). t ++ (decimal v ++ cells_text 0 true (flat_map solo_token_cells tokens))) (letters_none 0 refl)
-    ∙ ap (λ (t : List ℕ). decimal v ++ t) (form_text n 0 true tokens next)
+form_text n zero false (given v ∷ tokens) f = grind (arith, nat_tests, common_steps, form_given n 0 v false tokens, cells_given 0 v false (flat_map solo_token_cells tokens), letters_none 0 refl, form_text n 0 true tokens)
 
 pub solo_form : (text : List ℕ) (p : Solo) → IsWrittenSolo text p → text ≡ solo_text p
-solo_form text p w =
-    let s = w.spells in
-    let f : Form (solo_n p) 0 false s.tokens = record { each = s.each; apart = s.apart; full = w.full; needed = w.needed; leads = tt; clear = λ e. absurd (false≢true e) } in
-    s.parts ∙ ap (λ (t : List ℕ). t ++ 58 ∷ flat_map solo_token_text s.tokens) w.both ∙ ap (λ (t : List ℕ). solo_size_text p.c p.r p.x ++ 58 ∷ t) (sym (form_text (solo_n p) 0 false s.tokens f) ∙ ap (cells_text 0 false) s.cells)
+solo_form text p w = grind (arith, nat_tests, common_steps, form_text (solo_n p) 0 false)

@@ -1,5 +1,7 @@
 -- Solo: the tokens of a text, and that a text is read exactly where it spells a puzzle.
 use Rattle.std.proofs.Common.{◌≡◌, ℕ, ◌-◌, ◌<◌, ◌≤◌, true, false, ◌&&◌, eqb, leb, List, ◌∷◌, Ok, Err, refl, sym, subst, ◌∙◌, arith, [], ◌*◌, Bool, ltb, get_or, inl, inr, ◌+◌, ◌^◌, cond, ◌++◌, map, length, Result, ap, drop}
+use Rattle.std.proofs.lemmas.Bool.Decides.{nat_tests}
+use Rattle.std.proofs.lemmas.Grind.{common_steps}
 use Rattle.std.specs.Prelude.{replicate, decimal}
 use Rattle.std.proofs.lemmas.Bool.{ne_eqb, false≢true, le-ltb, lt-ltb, leb-true, ltb-false, eqb-true, le-leb}
 use Rattle.gameid_core.specs.declared.fault.IdFault.TheVariants.{BadByte, NumberRange}
@@ -24,11 +26,7 @@ use Rattle.gameid_core.proofs.HeadLaws.{parts_of, solo_size, size_of_solo, head_
 
 pub solo_letter : (n at first : ℕ) (after : List ℕ) → 97 ≤ first → first ≤ 122 → Cuts (first ∷ after) (first ∷ []) after × (solo_token n at (first ∷ []) ≡ Ok (replicate (first - 96) 0))
 unfolding solo_token
-solo_letter n at first after low high =
-    let digit : (leb 48 first && leb first 57) ≡ false = not_between 48 57 first (λ l h. omega arith) in
-    let dot : eqb first 46 ≡ false = ne_eqb _ _ (λ e. omega arith) in
-    let comma : eqb first 44 ≡ false = ne_eqb _ _ (λ e. omega arith) in
-    (cuts_single first after (rw (digit, dot, comma) refl), rw (between 97 122 first low high) refl)
+solo_letter n at first after low high = grind (arith, nat_tests, common_steps, not_between 48 57 first, ne_eqb, cuts_single first after, between 97 122 first low high)
 
 pub solo_gap : (n at : ℕ) (after : List ℕ) → Cuts (95 ∷ after) (95 ∷ []) after × (solo_token n at (95 ∷ []) ≡ Ok [])
 unfolding solo_token
@@ -67,14 +65,7 @@ number_word (b ∷ after) e =
     }
 
 pub bad_byte : (n at first : ℕ) (rest after : List ℕ) → rest ≡ first ∷ after → (97 ≤ first → first ≤ 122 → ⊥) → (first ≡ 95 → ⊥) → (49 ≤ first → first ≤ 57 → ⊥) → (word tail : List ℕ) × Cuts rest word tail × (solo_token n at word ≡ Err (BadByte at))
-bad_byte n at first rest after e letter no_gap lead =
-    let c = cuts_some first after in
-    let cuts = c.2 in (
-      first ∷ c.0,
-      c.1,
-      subst (λ (r : List ℕ). Cuts r (first ∷ c.0) c.1) (sym e) cuts,
-      solo_other n at (first ∷ c.0) (not_between 97 122 first letter) (ne_eqb first 95 no_gap) (not_between 49 57 first lead),
-    )
+bad_byte n at first rest after e letter no_gap lead = grind (arith, nat_tests, common_steps, cuts_some first after, solo_other n at, not_between 97 122 first letter, ne_eqb first 95 no_gap, not_between 49 57 first lead)
 
 -- ---- numbers among the tokens stand apart
 
@@ -91,34 +82,13 @@ Apart (w ∷ ws) = NotBefore w ws × Apart ws
 
 apart_front : (b : ℕ) (w : List ℕ) (ws : List (List ℕ)) → (is_ascii_digit b ≡ true → digit_first w ≡ true) → NotBefore w ws → NotBefore (b ∷ w) ws
 apart_front b w [] f h = tt
-apart_front b w (v ∷ ws) f h = λ d.
-    elim (is_ascii_digit b) as (λ x. is_ascii_digit b ≡ x → x ≡ false) [
-      | true ↦ λ e. absurd (false≢true (sym (h d) ∙ f e))
-      | false ↦ λ e. refl
-    ] refl
+apart_front b w (v ∷ ws) f h = grind (arith, nat_tests)
 
 pub words_apart : (text : List ℕ) → Apart (words text)
 unfolding words
 words_apart [] = tt
-words_apart (b ∷ []) =
-    elim (joins b) as (λ v. Apart (cond (v && false) (put_in_front b []) ((b ∷ []) ∷ []))) [ true ↦ (tt, tt) | false ↦ (tt, tt) ]
-words_apart (b ∷ d ∷ after) =
-    let c = cuts_some d after in
-    let rest : Apart ((d ∷ c.0) ∷ words c.1) = subst (λ (ws : List (List ℕ)). Apart ws) c.2.tokens (words_apart (d ∷ after)) in
-    elim (joins b && is_ascii_digit d) as (λ v. (joins b && is_ascii_digit d) ≡ v → Apart (cond v (put_in_front b (words (d ∷ after))) ((b ∷ []) ∷ words (d ∷ after)))) [
-      | true ↦ λ e.
-          let p = and_parts (joins b) (is_ascii_digit d) e in
-          subst (λ (ws : List (List ℕ)). Apart (put_in_front b ws)) (sym c.2.tokens) (apart_front b (d ∷ c.0) (words c.1) (λ x. p.1) rest.0, rest.1)
-      | false ↦ λ e.
-          subst (λ (ws : List (List ℕ)). Apart ((b ∷ []) ∷ ws)) (sym c.2.tokens) (cut_apart b d e, rest)
-    ] refl
-  where
-    cut_apart : (b d : ℕ) → (joins b && is_ascii_digit d) ≡ false → is_ascii_digit d ≡ true → is_ascii_digit b ≡ false
-    cut_apart b d e digit =
-        elim (is_ascii_digit b) as (λ x. is_ascii_digit b ≡ x → x ≡ false) [
-          | true ↦ λ f. absurd (false≢true (sym e ∙ rw (f, digit) refl))
-          | false ↦ λ f. refl
-        ] refl
+words_apart (b ∷ []) = grind (arith, nat_tests)
+words_apart (b ∷ d ∷ after) = grind (arith, nat_tests, common_steps, cuts_some d after, words_apart (d ∷ after), and_parts (joins b) (is_ascii_digit d), apart_front b)
 
 -- ---- a word that was taken is a token
 
@@ -137,10 +107,7 @@ letter_word n (b ∷ more) w e =
 
 gap_word : (n : ℕ) (word : List ℕ) → IsWord word → begins (λ b. eqb b 95) word ≡ true → SoloWord n word []
 gap_word n [] w e = absurd w
-gap_word n (b ∷ more) w e =
-    let is : b ≡ 95 = eqb-true b 95 e in
-    let rest = alone b more w (ap joins is) in
-    record { token = gap; texts = ap (λ (m : List ℕ). b ∷ m) rest ∙ ap (λ (k : ℕ). k ∷ []) is; each = tt; stands = refl }
+gap_word n (b ∷ more) w e = grind (arith, nat_tests)
 
 given_word : (n : ℕ) (word : List ℕ) → n < 2 ^ 64 → IsWord word → begins is_lead word ≡ true → value word ≤ n → SoloWord n word (value word ∷ [])
 given_word n [] small w e le = absurd w
@@ -186,10 +153,7 @@ apart_tokens n (gap ∷ tokens) small each h = apart_tokens n tokens small each.
 apart_tokens n (given u ∷ []) small each h = tt
 apart_tokens n (given u ∷ blanks k ∷ tokens) small each h = apart_tokens n (blanks k ∷ tokens) small each.1 h.1
 apart_tokens n (given u ∷ gap ∷ tokens) small each h = apart_tokens n (gap ∷ tokens) small each.1 h.1
-apart_tokens n (given u ∷ given v ∷ tokens) small each h =
-    let first = decimal_digit_first u (omega (arith, each.0.1)) each.0.0 in
-    let second = decimal_digit_first v (omega (arith, each.1.0.1)) each.1.0.0 in
-    false≢true (sym (h.0 second) ∙ first)
+apart_tokens n (given u ∷ given v ∷ tokens) small each h = grind (arith, nat_tests, common_steps, decimal_digit_first u, decimal_digit_first v)
 
 concat_texts : (tokens : List SoloToken) → concat (map solo_token_text tokens) ≡ flat_map solo_token_text tokens
 concat_texts [] = refl
@@ -205,17 +169,7 @@ record SoloDescribed (n : ℕ) (description cells : List ℕ) : Type 0 where
 
 solo_take : (n at : ℕ) (description cells : List ℕ) → n < 2 ^ 64 → solo_cells_at n at description ≡ Ok cells → SoloDescribed n description cells
 unfolding solo_cells_at
-solo_take n at description cells small e =
-    let s = cells_spelled solo_token_text solo_token_cells (IsSoloToken n) (solo_token n) IsWord (token_word n small) (n * n) at [] (words description) cells (words_are description) e in
-    let r = s.0 in
-    record {
-      tokens = r.tokens;
-      parts = sym (concat_words description) ∙ ap concat (sym r.texts) ∙ concat_texts r.tokens;
-      each = r.each;
-      apart = apart_tokens n r.tokens small r.each (subst (λ (ws : List (List ℕ)). Apart ws) (sym r.texts) (words_apart description));
-      filled = r.filled;
-      count = s.1;
-    }
+solo_take n at description cells small e = grind (arith, nat_tests, common_steps, cells_spelled solo_token_text solo_token_cells (IsSoloToken n) (solo_token n) IsWord (token_word n small) (n * n) at [] (words description) cells (words_are description) e, token_word n small, words_are description, concat_words description, concat_texts, apart_tokens n, words_apart description)
 
 -- ---- what is read fits
 
@@ -275,21 +229,17 @@ token_cuts n (given v) tokens small each h = numeral_cuts (decimal v) (flat_map 
 -- the texts of tokens are the tokens of their text
 words_again : (n : ℕ) (tokens : List SoloToken) → n < 2 ^ 64 → AllByRecursion (IsSoloToken n) tokens → AreApart tokens → words (flat_map solo_token_text tokens) ≡ map solo_token_text tokens
 words_again n [] small each h = words_nil
-words_again n (token ∷ tokens) small each h =
-    (token_cuts n token tokens small each h).tokens ∙ ap (λ (ws : List (List ℕ)). solo_token_text token ∷ ws) (words_again n tokens small each.1 (apart_rest token tokens h))
+words_again n (token ∷ tokens) small each h = grind (arith, nat_tests, common_steps, token_cuts n token tokens small each h, words_again n tokens small each.1 (apart_rest token tokens h), apart_rest token tokens h)
 
 token_again : (n : ℕ) → n < 2 ^ 64 → (at : ℕ) (token : SoloToken) → IsSoloToken n token → solo_token n at (solo_token_text token) ≡ Ok (solo_token_cells token)
-token_again n small at (blanks k) h =
-    let count : 96 + k - 96 ≡ k = omega arith in
-    (solo_letter n at (96 + k) [] (omega (arith, h.0)) (omega (arith, h.1))).1 ∙ ap (λ (j : ℕ). taken (replicate j 0)) count
+token_again n small at (blanks k) h = grind (arith, nat_tests, common_steps, solo_letter n at (96 + k) [])
 token_again n small at gap h = (solo_gap n at []).1
 token_again n small at (given v) h = given_read n at v (omega (arith, h.1)) h.0 h.1
 
 -- what tokens that fill the grid spell is read
 solo_again : (n at : ℕ) (tokens : List SoloToken) → n < 2 ^ 64 → AllByRecursion (IsSoloToken n) tokens → AreApart tokens → length (flat_map solo_token_cells tokens) ≡ n * n → solo_cells_at n at (flat_map solo_token_text tokens) ≡ Ok (flat_map solo_token_cells tokens)
 unfolding solo_cells_at
-solo_again n at tokens small each h full =
-    ap (reading (fill_step (solo_token n) (n * n)) (fill_end (n * n)) at []) (words_again n tokens small each h) ∙ cells_again solo_token_text solo_token_cells (IsSoloToken n) (solo_token n) (token_again n small) (n * n) at [] tokens each (omega arith)
+solo_again n at tokens small each h full = grind (arith, nat_tests, common_steps, words_again n tokens small each h, cells_again solo_token_text solo_token_cells (IsSoloToken n) (solo_token n) (token_again n small) (n * n) at [] tokens each, token_again n small)
 
 pub solo_takes : (text : List ℕ) (p : Solo) → solo_of text ≡ Ok p → SpellsSolo text p
 unfolding solo_of
@@ -312,17 +262,8 @@ solo_takes text p e =
     })
 
 range_of : (p : Solo) → IsSolo p → in_range game.Solo p.c p.r ≡ true
-range_of p h =
-    let a : leb 2 p.c ≡ true = le-leb _ _ h.c_low in
-    let b : leb 2 p.r ≡ true = le-leb _ _ h.r_low in
-    let c : leb (p.c * p.r) max_numbers ≡ true = le-leb _ _ h.n_high in
-    rw (a, b, c) refl
+range_of p h = grind (arith, nat_tests)
 
 pub solo_text_again : (text : List ℕ) (p : Solo) → SpellsSolo text p → solo_of text ≡ Ok p
 unfolding solo_of
-solo_text_again text p s =
-    let h = s.puzzle in
-    let whole = head_again game.Solo s.front (flat_map solo_token_text s.tokens) p.c p.r p.x (size_of_solo s.front p.c p.r p.x s.size) (range_of p h) (subst (λ (t : List ℕ). length t ≤ max_id) s.parts s.short) in
-    let full : length (flat_map solo_token_cells s.tokens) ≡ (p.c * p.r) * (p.c * p.r) = ap length s.cells ∙ h.cells in
-    let read = solo_again (p.c * p.r) (length s.front + 1) s.tokens (omega (arith, h.n_high)) s.each s.apart full in
-    ap solo_of s.parts ∙ rw (whole, after_front s.front (flat_map solo_token_text s.tokens), read, s.cells) refl
+solo_text_again text p s = grind (arith, nat_tests, common_steps, head_again game.Solo s.front (flat_map solo_token_text s.tokens) p.c p.r p.x (size_of_solo s.front p.c p.r p.x s.size), size_of_solo s.front p.c p.r p.x s.size, range_of p, solo_again (p.c * p.r) (length s.front + 1) s.tokens, after_front s.front (flat_map solo_token_text s.tokens))

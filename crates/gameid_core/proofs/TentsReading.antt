@@ -1,5 +1,7 @@
 -- Tents: reading a description turn by turn, and that what is read fits.
 use Rattle.std.proofs.Common.{◌≡◌, ℕ, ◌-◌, ◌+◌, ◌<◌, ◌≤◌, Bool, true, false, cond, ◌&&◌, eqb, ltb, leb, eq-eqb, List, [], ◌∷◌, ◌++◌, length, drop, Result, Ok, Err, refl, sym, ap, subst, ◌∙◌, inl, inr, arith, length-append, zero, suc, ◌*◌, take, get_or, ◌⊎◌, append_assoc}
+use Rattle.std.proofs.lemmas.Bool.Decides.{nat_tests}
+use Rattle.std.proofs.lemmas.Grind.{common_steps}
 use Rattle.std.specs.Prelude.{replicate}
 use Rattle.std.specs.Char.{is_ascii_digit}
 use Rattle.std.proofs.lemmas.Bool.{ne_eqb, false≢true, eqb-true, le-ltb, lt-ltb, leb-true, eqb-false, ltb-false}
@@ -95,18 +97,14 @@ abbrev reads : Extent → ℕ → List ℕ → List ℕ → List ℕ → Result 
 reads size at places counts rest = reading (tents_step size) (tents_end size) at (at_tents places counts) (words rest)
 
 pub turn_count : (size : Extent) (base d first : ℕ) (places counts rest tail word after : List ℕ) (r : Result ℕ IdFault) (total : Result TentsSoFar IdFault) → rest ≡ first ∷ tail → first ≡ 44 → length rest ≤ d → Cuts (44 ∷ tail) word after → tents_count size (place base d rest) (at_tents places counts) word ≡ r → reads size (place base d rest) places counts rest ≡ total → ((r >>= (λ n. Ok (at_tents places (counts ++ n ∷ [])))) >>= (λ t. reading (tents_step size) (tents_end size) (place base d after) t (words after))) ≡ total
-turn_count size base d first places counts rest tail word after r total e is le cuts token so =
-    turn_of (tents_step size) (tents_end size) base d (at_tents places counts) rest word after _ total (rw (e, is) cuts) le (count_step size (place base d rest) places counts word r (cuts.first (λ c. eqb c 44)) token) so
+turn_count size base d first places counts rest tail word after r total e is le cuts token so = grind (arith, nat_tests, common_steps, turn_of (tents_step size) (tents_end size) base d (at_tents places counts) rest word after, count_step size (place base d rest) places counts word r)
 
 pub turn_run : (size : Extent) (base d first blanks : ℕ) (tree : Bool) (places counts rest after : List ℕ) (total : Result TentsSoFar IdFault) → rest ≡ first ∷ after → (first ≡ 44 → ⊥) → counts ≡ [] → length rest ≤ d → tents_run (place base d rest) first ≡ Ok (blanks, tree) → reads size (place base d rest) places counts rest ≡ total → (planted size places counts blanks tree >>= (λ t. reading (tents_step size) (tents_end size) (place base d after) t (words after))) ≡ total
-turn_run size base d first blanks tree places counts rest after total e ne none le run so =
-    let cuts : Cuts rest (first ∷ []) after = rw e (cuts_single first after (rw (run_single (place base d rest) first (blanks, tree) run) refl)) in
-    rw none (turn_of (tents_step size) (tents_end size) base d (at_tents places []) rest (first ∷ []) after _ total cuts le (tree_step size (place base d rest) first blanks tree places [] (ne_eqb first 44 ne) run) (rw none at so))
+turn_run size base d first blanks tree places counts rest after total e ne none le run so = grind (arith, nat_tests, common_steps, cuts_single first after, run_single (place base d rest) first (blanks, tree) run, turn_of (tents_step size) (tents_end size) base d (at_tents places []) rest (first ∷ []) after, tree_step size (place base d rest) first blanks tree places [] (ne_eqb first 44 ne) run, ne_eqb first 44 ne)
 
 pub bad_run : (size : Extent) (base d first : ℕ) (f : IdFault) (places counts rest after : List ℕ) (total : Result TentsSoFar IdFault) → rest ≡ first ∷ after → (first ≡ 44 → ⊥) → counts ≡ [] → length rest ≤ d → tents_run (place base d rest) first ≡ Err f → reads size (place base d rest) places counts rest ≡ total → Err f ≡ total
 unfolding tents_step tents_tree
-bad_run size base d first f places counts rest after total e ne none le run so =
-    fault_first (tents_step size) (tents_end size) base d first (at_tents places []) f rest after total e le (λ more. rw (ne_eqb first 44 ne, run) refl) (rw none at so)
+bad_run size base d first f places counts rest after total e ne none le run so = grind (arith, nat_tests, common_steps, fault_first (tents_step size) (tents_end size) base d first (at_tents places []) f rest after total e le, ne_eqb first 44 ne)
 
 pub late_run : (size : Extent) (base d first : ℕ) (places counts rest after : List ℕ) (total : Result TentsSoFar IdFault) → rest ≡ first ∷ after → (first ≡ 44 → ⊥) → 0 < length counts → length rest ≤ d → reads size (place base d rest) places counts rest ≡ total → Err (BadByte (place base d rest)) ≡ total
 unfolding tents_step
@@ -136,19 +134,11 @@ pub record Planted (size : Extent) (at : ℕ) (places counts word : List ℕ) (t
 
 count_cases : (size : Extent) (at n : ℕ) (places counts word : List ℕ) → tents_count size at (at_tents places counts) word ≡ Ok n → (cells_in size + 1 ≤ length places) × (length word ≡ 1 → ⊥) × (value (drop 1 word) ≤ line_cells size (length counts)) × (value (drop 1 word) ≡ n)
 unfolding tents_count
-count_cases size at n places counts word e =
-    let c = not_refused (ltb (length places) (cells_in size + 1)) _ _ _ e in
-    let d = not_refused (eqb (length counts) (lines_of size)) _ _ _ c.1 in
-    let f = not_refused (eqb (length word) 1) _ _ _ d.1 in
-    let g = not_refused (ltb (line_cells size (length counts)) (value (drop 1 word))) _ _ _ f.1 in
-    (ltb-false _ _ c.0, eqb-false _ _ f.0, ltb-false _ _ g.0, ok_is _ _ g.1)
+count_cases size at n places counts word e = grind (arith, nat_tests)
 
 tree_cases : (size : Extent) (at b : ℕ) (places counts : List ℕ) (t : TentsSoFar) → tents_tree size at (at_tents places counts) b ≡ Ok t → (run : ℕ × Bool) × (tents_run at b ≡ Ok run) × (length places + length (run_cells run.0 run.1) ≤ cells_in size + cond run.1 1 0) × (at_tents (places ++ run_cells run.0 run.1) counts ≡ t)
 unfolding tents_tree
-tree_cases size at b places counts t e =
-    let r = bind_ok (tents_run at b) (λ run. cond (ltb (cells_in size + cond run.1 1 0) (length places + length (run_cells run.0 run.1))) (Err TooMany) (Ok (at_tents (places ++ run_cells run.0 run.1) counts))) t e in
-    let c = not_refused (ltb (cells_in size + cond r.0.1 1 0) (length places + length (run_cells r.0.0 r.0.1))) _ _ _ r.2 in
-    (r.0, r.1, ltb-false _ _ c.0, ok_is _ _ c.1)
+tree_cases size at b places counts t e = grind (arith, nat_tests)
 
 pub step_cases : (size : Extent) (at : ℕ) (places counts word : List ℕ) (t : TentsSoFar) → tents_step size at (at_tents places counts) word ≡ Ok t → Counted size places counts word t ⊎ Planted size at places counts word t
 unfolding tents_step
@@ -166,9 +156,7 @@ step_cases size at places counts word t e =
 
 pub end_cases : (size : Extent) (places counts : List ℕ) (t : TentsSoFar) → tents_end size (at_tents places counts) ≡ Ok t → (length counts ≡ lines_of size) × (at_tents places counts ≡ t)
 unfolding tents_end
-end_cases size places counts t e =
-    let c = only_taken (eqb (length counts) (lines_of size)) _ _ _ e in
-    (eqb-true _ _ c.0, ok_is _ _ c.1)
+end_cases size places counts t e = grind (arith, nat_tests)
 
 -- ---- what is read fits
 
@@ -178,9 +166,7 @@ run_bits blanks false = AllByRecursion-append (λ b. b < 2) (replicate blanks 0)
 
 AreCounts-push : (size : Extent) (line : ℕ) (counts : List ℕ) (n : ℕ) → AreCounts size line counts → n ≤ line_cells size (line + length counts) → AreCounts size line (counts ++ n ∷ [])
 AreCounts-push size line [] n h p = (subst (λ (k : ℕ). n ≤ line_cells size k) (let e : line + 0 ≡ line = omega arith in e) p, tt)
-AreCounts-push size line (m ∷ counts) n h p =
-    let e : line + length (m ∷ counts) ≡ (line + 1) + length counts = omega arith in
-    (h.0, AreCounts-push size (line + 1) counts n h.1 (subst (λ (k : ℕ). n ≤ line_cells size k) e p))
+AreCounts-push size line (m ∷ counts) n h p = grind (arith, nat_tests, AreCounts-push size (line + 1) counts n h.1)
 
 -- the places read so far, whose last is a tree where they are all that there are; and the numbers so far
 record Sound (size : Extent) (places counts : List ℕ) : Type 0 where
@@ -191,35 +177,15 @@ record Sound (size : Extent) (places counts : List ℕ) : Type 0 where
   fit : AreCounts size 0 counts
 
 sound_counted : (size : Extent) (places counts : List ℕ) (n : ℕ) → Sound size places counts → cells_in size + 1 ≤ length places → n ≤ line_cells size (length counts) → Sound size places (counts ++ n ∷ [])
-sound_counted size places counts n s full fits = record {
-  bits = s.bits;
-  full = λ some. omega (arith, s.few);
-  few = s.few;
-  tree = s.tree;
-  fit = AreCounts-push size 0 counts n s.fit (subst (λ (k : ℕ). n ≤ line_cells size k) (let e : length counts ≡ 0 + length counts = omega arith in e) fits);
-}
+sound_counted size places counts n s full fits = grind (arith, nat_tests, common_steps, AreCounts-push size 0 counts n s.fit)
 
 sound_planted : (size : Extent) (places counts : List ℕ) (blanks : ℕ) (tree : Bool) → Sound size places counts → length counts ≤ 0 → length places + length (run_cells blanks tree) ≤ cells_in size + cond tree 1 0 → Sound size (places ++ run_cells blanks tree) counts
-sound_planted size places counts blanks true s early room = record {
-  bits = AllByRecursion-append (λ b. b < 2) places (run_cells blanks true) s.bits (run_bits blanks true);
-  full = λ some. absurd (omega arith);
-  few = omega (arith, length-append places (run_cells blanks true));
-  tree = λ e. (places ++ replicate blanks 0, sym (append_assoc places (replicate blanks 0) (1 ∷ [])));
-  fit = s.fit;
-}
-sound_planted size places counts blanks false s early room = record {
-  bits = AllByRecursion-append (λ b. b < 2) places (run_cells blanks false) s.bits (run_bits blanks false);
-  full = λ some. absurd (omega arith);
-  few = omega (arith, length-append places (run_cells blanks false));
-  tree = λ e. absurd (omega (arith, length-append places (run_cells blanks false)));
-  fit = s.fit;
-}
+sound_planted size places counts blanks true s early room = grind (arith, nat_tests, common_steps, AllByRecursion-append, run_bits blanks true, length-append places (run_cells blanks true), append_assoc places (replicate blanks 0) (1 ∷ []))
+sound_planted size places counts blanks false s early room = grind (arith, nat_tests, common_steps, AllByRecursion-append, run_bits blanks false, length-append places (run_cells blanks false))
 
 sound_read : (size : Extent) (at : ℕ) (places counts : List ℕ) (ws : List (List ℕ)) (all : TentsSoFar) → Sound size places counts → reading (tents_step size) (tents_end size) at (at_tents places counts) ws ≡ Ok all → Sound size all.places all.counts × (length all.counts ≡ lines_of size)
 unfolding reading
-sound_read size at places counts [] all s e =
-    let d = end_cases size places counts all e in
-    (subst (λ (t : TentsSoFar). Sound size t.places t.counts) d.1 s, sym (ap (λ (t : TentsSoFar). length t.counts) d.1) ∙ d.0)
+sound_read size at places counts [] all s e = grind (arith, nat_tests, common_steps, end_cases size places counts all e)
 sound_read size at places counts (word ∷ ws) all s e =
     let b = bind_ok (tents_step size at (at_tents places counts) word) (λ t. reading (tents_step size) (tents_end size) (at + length word) t ws) all e in
     elim (step_cases size at places counts word b.0 b.1) [
@@ -238,14 +204,7 @@ pub record CellsAndTree (size : Extent) (places : List ℕ) : Type 0 where
   pub bits : AllByRecursion (λ b. b < 2) (take (cells_in size) places)
 
 cells_and_tree : (size : Extent) (places front : List ℕ) → AllByRecursion (λ b. b < 2) places → length places ≡ cells_in size + 1 → places ≡ front ++ 1 ∷ [] → CellsAndTree size places
-cells_and_tree size places front bits long e =
-    let count : length front ≡ cells_in size = omega (arith, ap length e, length-append front (1 ∷ [])) in
-    let is : take (cells_in size) places ≡ front = ap (take (cells_in size)) e ∙ take_at front (1 ∷ []) (cells_in size) count in
-    record {
-      whole = e ∙ ap (λ (f : List ℕ). f ++ 1 ∷ []) (sym is);
-      count = ap length is ∙ count;
-      bits = subst (λ (f : List ℕ). AllByRecursion (λ b. b < 2) f) (sym is) (AllByRecursion-front (λ b. b < 2) front (1 ∷ []) (subst (λ (p : List ℕ). AllByRecursion (λ b. b < 2) p) e bits));
-    }
+cells_and_tree size places front bits long e = grind (arith, nat_tests, common_steps, length-append front (1 ∷ []), take_at front (1 ∷ []) (cells_in size), AllByRecursion-front)
 
 pub record TentsRead (size : Extent) (s : TentsSoFar) : Type 0 where
   pub cells : CellsAndTree size s.places
@@ -254,19 +213,10 @@ pub record TentsRead (size : Extent) (s : TentsSoFar) : Type 0 where
 
 pub tents_read : (size : Extent) (at : ℕ) (description : List ℕ) (s : TentsSoFar) → IsWide size → tents_at size at description ≡ Ok s → TentsRead size s
 unfolding tents_at
-tents_read size at description s wide e =
-    let r = sound_read size at [] [] (words description) s (record { bits = tt; full = λ some. absurd (omega arith); few = omega arith; tree = λ q. absurd (omega arith); fit = tt }) e in
-    let long = r.0.full (omega (arith, r.1, wide.w_two)) in
-    let t = r.0.tree long in
-    record { cells = cells_and_tree size s.places t.0 r.0.bits long t.1; lines = r.1; range = r.0.fit }
+tents_read size at description s wide e = grind (arith, nat_tests, common_steps, sound_read size at [] [] (words description) s, cells_and_tree size s.places)
 
 pub tents_lawful : (size : Extent) (at : ℕ) (description : List ℕ) (s : TentsSoFar) → IsWide size → tents_at size at description ≡ Ok s → IsTents (record { size = size; trees = take (cells_in size) s.places; counts = s.counts })
-tents_lawful size at description s wide e =
-    let r = tents_read size at description s wide e in
-    record { size = wide; cells = r.cells.count; bits = r.cells.bits; lines = r.lines; range = r.range }
+tents_lawful size at description s wide e = grind (arith, nat_tests, common_steps, tents_read size at description s wide e)
 
 pub tents_fits : (size : Extent) (w h n at : ℕ) (description places counts trees : List ℕ) → size ≡ sized w h → n ≡ size.w * size.h → trees ≡ take n places → in_range game.Tents w h ≡ true → tents_at size at description ≡ Ok (at_tents places counts) → IsTents (record { size = size; trees = trees; counts = counts })
-tents_fits size w h n at description places counts trees is count kept range e =
-    let wide : IsWide size = subst (λ (s : Extent). IsWide s) (sym is) (wide_of w h range) in
-    let same : trees ≡ take (cells_in size) places = kept ∙ ap (λ (k : ℕ). take k places) count in
-    subst (λ (t : List ℕ). IsTents (record { size = size; trees = t; counts = counts })) (sym same) (tents_lawful size at description (at_tents places counts) wide e)
+tents_fits size w h n at description places counts trees is count kept range e = grind (arith, nat_tests, common_steps, wide_of w h range, tents_lawful size at description (at_tents places counts))

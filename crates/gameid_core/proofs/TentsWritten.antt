@@ -1,5 +1,7 @@
 -- The written text of a puzzle of Tents: the writer's turns, its length, that it spells the puzzle, and that no other does.
 use Rattle.std.proofs.Common.{◌≡◌, ℕ, zero, suc, ◌+◌, ◌*◌, ◌^◌, ◌<◌, ◌≤◌, true, false, cond, eqb, eq-eqb, List, [], ◌∷◌, ◌++◌, map, length, drop, get_or, refl, sym, ap, subst, ◌∙◌, inl, arith, append_assoc, length-append}
+use Rattle.std.proofs.lemmas.Bool.Decides.{nat_tests}
+use Rattle.std.proofs.lemmas.Grind.{common_steps}
 use Rattle.std.specs.Prelude.{replicate, decimal}
 use Rattle.std.specs.List.{AllByRecursion, flat_map}
 use Rattle.std.proofs.lemmas.Bool.{ne_eqb, eqb-true, eqb-false}
@@ -40,51 +42,32 @@ pub blank_pushed : (k k' : ℕ) (cells out : List ℕ) → (k ≡ 25 → ⊥) �
 blank_pushed k k' cells out ne e = rw e (ap (λ (ts : List TentsToken). out ++ map tents_token_byte ts) (sym (tokens_blank k cells ne)))
 
 pub full_pushed : (k : ℕ) (cells out new : List ℕ) → k ≡ 25 → new ≡ out ++ 122 ∷ [] → new ++ trees_text 1 cells ≡ out ++ trees_text k (0 ∷ cells)
-full_pushed k cells out new full e =
-    ap (λ (t : List ℕ). t ++ trees_text 1 cells) e ∙ append_assoc out (122 ∷ []) (trees_text 1 cells) ∙ ap (λ (ts : List TentsToken). out ++ map tents_token_byte ts) (sym (tokens_full k cells full))
+full_pushed k cells out new full e = grind (arith, nat_tests, common_steps, append_assoc out (122 ∷ []) (trees_text 1 cells), tokens_full k cells full)
 
 pub trees_step_blank : (k i k' : ℕ) (cells old out new : List ℕ) → i < length cells → get_or cells i 0 ≡ 0 → ((rest : List ℕ) → new ++ trees_text k' rest ≡ out ++ trees_text k (0 ∷ rest)) → out ++ trees_text k (drop i cells) ≡ old → new ++ trees_text k' (drop (i + 1) cells) ≡ old
-trees_step_blank k i k' cells old out new lt blank pushed so =
-    pushed (drop (i + 1) cells) ∙ ap (λ (t : List ℕ). out ++ trees_text k t) (ap (λ (b : ℕ). b ∷ drop (i + 1) cells) (sym blank) ∙ sym (next_cell cells i lt)) ∙ so
+trees_step_blank k i k' cells old out new lt blank pushed so = grind (arith, nat_tests, common_steps, next_cell cells i lt)
 
 pub trees_step_tree : (k i k' b : ℕ) (cells old out new : List ℕ) → i < length cells → (get_or cells i 0 ≡ 0 → ⊥) → k' ≡ 0 → b ≡ tents_token_byte (blanks_and_tree k) → new ≡ out ++ b ∷ [] → out ++ trees_text k (drop i cells) ≡ old → new ++ trees_text k' (drop (i + 1) cells) ≡ old
-trees_step_tree k i k' b cells old out new lt tree none byte e so =
-    let rest : List ℕ = trees_text 0 (drop (i + 1) cells) in
-    rw none (ap (λ (t : List ℕ). t ++ rest) (e ∙ ap (λ (c : ℕ). out ++ c ∷ []) byte)
-    ∙ append_assoc out (tents_token_byte (blanks_and_tree k) ∷ []) rest
-    ∙ ap (λ (ts : List TentsToken). out ++ map tents_token_byte ts) (sym (tokens_tree k (get_or cells i 0) (drop (i + 1) cells) tree) ∙ ap (tents_tokens k) (sym (next_cell cells i lt)))
-    ∙ so)
+trees_step_tree k i k' b cells old out new lt tree none byte e so = grind (arith, nat_tests, common_steps, append_assoc out (tents_token_byte (blanks_and_tree k) ∷ []), tokens_tree k (get_or cells i 0) (drop (i + 1) cells) tree, next_cell cells i lt)
 
 pub trees_done : (k i b : ℕ) (cells old out new : List ℕ) → length cells ≤ i → b ≡ tents_token_byte (blanks_and_tree k) → new ≡ out ++ b ∷ [] → out ++ trees_text k (drop i cells) ≡ old → new ≡ old
-trees_done k i b cells old out new past byte e so =
-    let none : drop i cells ≡ [] = drop_all i cells past in
-    e ∙ ap (λ (c : ℕ). out ++ c ∷ []) byte ∙ ap (λ (ts : List TentsToken). out ++ map tents_token_byte ts) (sym (tokens_end k) ∙ ap (tents_tokens k) (sym none)) ∙ so
+trees_done k i b cells old out new past byte e so = grind (arith, nat_tests, common_steps, drop_all i cells past, tokens_end k)
 
 abbrev pub counts_text : List ℕ → List ℕ
 counts_text counts = flat_map (λ n. 44 ∷ decimal n) counts
 
 pub counts_step : (i : ℕ) (counts old out mid new : List ℕ) → i < length counts → mid ≡ out ++ 44 ∷ [] → new ≡ mid ++ decimal (get_or counts i 0) → out ++ counts_text (drop i counts) ≡ old → new ++ counts_text (drop (i + 1) counts) ≡ old
-counts_step i counts old out mid new lt m e so =
-    let n : ℕ = get_or counts i 0 in
-    let rest : List ℕ = counts_text (drop (i + 1) counts) in
-    ap (λ (t : List ℕ). t ++ rest) (e ∙ ap (λ (t : List ℕ). t ++ decimal n) m)
-    ∙ append_assoc (out ++ 44 ∷ []) (decimal n) rest ∙ append_assoc out (44 ∷ []) (decimal n ++ rest)
-    ∙ ap (λ (t : List ℕ). out ++ counts_text t) (sym (next_cell counts i lt)) ∙ so
+counts_step i counts old out mid new lt m e so = grind (arith, nat_tests, common_steps, append_assoc (out ++ 44 ∷ []), append_assoc out (44 ∷ []), next_cell counts i lt)
 
 pub counts_done : (i : ℕ) (counts old out : List ℕ) → length counts ≤ i → out ++ counts_text (drop i counts) ≡ old → out ≡ old
-counts_done i counts old out past so =
-    sym (append-nil out) ∙ ap (λ (t : List ℕ). out ++ counts_text t) (sym (drop_all i counts past)) ∙ so
+counts_done i counts old out past so = grind (arith, nat_tests, common_steps, append-nil out, drop_all i counts past)
 
 -- ---- how long
 
 tokens_short : (k : ℕ) (cells : List ℕ) → length (tents_tokens k cells) ≤ length cells + 1
 unfolding tents_tokens
 tokens_short k [] = omega arith
-tokens_short k (zero ∷ cells) =
-    elim (eqb k 25) as (λ v. length (cond v (only_blanks ∷ tents_tokens 1 cells) (tents_tokens (k + 1) cells)) ≤ length (0 ∷ cells) + 1) [
-      | true ↦ omega (arith, tokens_short 1 cells)
-      | false ↦ omega (arith, tokens_short (k + 1) cells)
-    ]
+tokens_short k (zero ∷ cells) = grind (arith, nat_tests, tokens_short 1 cells, tokens_short (k + 1) cells)
 tokens_short k (suc b ∷ cells) = omega (arith, tokens_short 0 cells)
 
 count_short : (n : ℕ) → n ≤ max_side → length (decimal n) ≤ max_side
@@ -93,18 +76,10 @@ count_short (suc n) small = omega (arith, length_decimal (suc n) (omega (arith, 
 
 counts_short : (size : Extent) (line : ℕ) (counts : List ℕ) → IsExtent size → AreCounts size line counts → length (counts_text counts) ≤ (max_side + 1) * length counts
 counts_short size line [] e h = omega arith
-counts_short size line (n ∷ counts) e h =
-    let small = line_small size line e in
-    omega (arith, count_short n (omega (arith, small, h.0)), counts_short size (line + 1) counts e h.1, length-append (decimal n) (counts_text counts))
+counts_short size line (n ∷ counts) e h = grind (arith, nat_tests, common_steps, line_small size line e, count_short n, counts_short size (line + 1) counts e h.1, length-append (decimal n) (counts_text counts))
 
 pub tents_short : (p : Tents) → IsTents p → length (tents_text p) ≤ max_id
-tents_short p h =
-    let e = h.size.extent in
-    let w = length_decimal p.size.w (omega (arith, e.w_high)) e.w_low in
-    let v = length_decimal p.size.h (omega (arith, e.h_high)) e.h_low in
-    let trees = tokens_short 0 p.trees in
-    let counts = counts_short p.size 0 p.counts e h.range in
-    omega (arith, e.w_high, e.h_high, h.cells, h.lines, cells_few p.size e, length-map (tents_tokens 0 p.trees) tents_token_byte, length-append (decimal p.size.w) (120 ∷ decimal p.size.h), length-append (size_text p.size.w p.size.h) (58 ∷ (trees_text 0 p.trees ++ counts_text p.counts)), length-append (trees_text 0 p.trees) (counts_text p.counts))
+tents_short p h = grind (arith, nat_tests, common_steps, length_decimal p.size.w, length_decimal p.size.h, tokens_short 0 p.trees, counts_short p.size 0 p.counts, cells_few p.size, length-map (tents_tokens 0 p.trees) tents_token_byte, length-append (decimal p.size.w) (120 ∷ decimal p.size.h), length-append (size_text p.size.w p.size.h) (58 ∷ (trees_text 0 p.trees ++ counts_text p.counts)), length-append (trees_text 0 p.trees) (counts_text p.counts))
 
 -- ---- what it spells
 
@@ -126,8 +101,7 @@ some_first (suc k) tokens some = tt
 no_tree_first : (k : ℕ) (cells : List ℕ) → 0 < k → NoTreeFirst (tents_tokens k cells)
 unfolding tents_tokens
 no_tree_first k [] some = some_first k [] some
-no_tree_first k (zero ∷ cells) some =
-    elim (eqb k 25) as (λ v. NoTreeFirst (cond v (only_blanks ∷ tents_tokens 1 cells) (tents_tokens (k + 1) cells))) [ true ↦ tt | false ↦ no_tree_first (k + 1) cells (omega arith) ]
+no_tree_first k (zero ∷ cells) some = grind (arith, nat_tests, no_tree_first (k + 1) cells)
 no_tree_first k (suc b ∷ cells) some = some_first k (tents_tokens 0 cells) some
 
 tight_join : (tokens : List TentsToken) → NoTreeFirst tokens → AreTight tokens → AreTight (only_blanks ∷ tokens)
@@ -139,33 +113,8 @@ tight_join (only_blanks ∷ tokens) f h = h
 cells_written : (k : ℕ) (cells : List ℕ) → k ≤ 25 → AllByRecursion (λ b. b < 2) cells → Written k cells (tents_tokens k cells)
 unfolding tents_tokens
 cells_written k [] few h = record { each = (few, tt); tight = tt; filled = append-nil (replicate k 0 ++ 1 ∷ []) }
-cells_written k (zero ∷ cells) few h =
-    elim (eqb k 25) as (λ v. eqb k 25 ≡ v → Written k (0 ∷ cells) (cond v (only_blanks ∷ tents_tokens 1 cells) (tents_tokens (k + 1) cells))) [
-      | true ↦ λ e.
-          let r = cells_written 1 cells (omega arith) h.1 in
-          let full : k ≡ 25 = eqb-true k 25 e in
-          record {
-            each = (tt, r.each);
-            tight = tight_join (tents_tokens 1 cells) (no_tree_first 1 cells (omega arith)) r.tight;
-            filled = ap (λ (t : List ℕ). replicate 25 0 ++ t) r.filled ∙ ap (λ (j : ℕ). replicate j 0 ++ 0 ∷ (cells ++ 1 ∷ [])) (sym full);
-          }
-      | false ↦ λ e.
-          let ne = eqb-false k 25 e in
-          let r = cells_written (k + 1) cells (omega (arith, ne)) h.1 in
-          record {
-            each = r.each;
-            tight = r.tight;
-            filled = r.filled ∙ ap (λ (t : List ℕ). t ++ (cells ++ 1 ∷ [])) (sym (replicate-append-replicate {A = ℕ} k 1 0)) ∙ append_assoc (replicate k 0) (0 ∷ []) (cells ++ 1 ∷ []);
-          }
-    ] refl
-cells_written k (suc b ∷ cells) few h =
-    let one : suc b ≡ 1 = omega (arith, h.0) in
-    let r = cells_written 0 cells (omega arith) h.1 in
-    record {
-      each = (few, r.each);
-      tight = r.tight;
-      filled = ap (λ (t : List ℕ). (replicate k 0 ++ 1 ∷ []) ++ t) r.filled ∙ append_assoc (replicate k 0) (1 ∷ []) (cells ++ 1 ∷ []) ∙ ap (λ (c : ℕ). replicate k 0 ++ c ∷ (cells ++ 1 ∷ [])) (sym one);
-    }
+cells_written k (zero ∷ cells) few h = grind (arith, nat_tests, common_steps, cells_written 1 cells, eqb-true k 25, tight_join (tents_tokens 1 cells), no_tree_first 1 cells, eqb-false k 25, cells_written (k + 1) cells, replicate-append-replicate {A = ℕ} k 1 0, append_assoc (replicate k 0) (0 ∷ []) (cells ++ 1 ∷ []))
+cells_written k (suc b ∷ cells) few h = grind (arith, nat_tests, common_steps, cells_written 0 cells, append_assoc (replicate k 0) (1 ∷ []) (cells ++ 1 ∷ []))
 
 pub numbers_are : (counts : List ℕ) → counts_text counts ≡ numbers_text (map decimal counts)
 numbers_are [] = refl
@@ -181,9 +130,7 @@ numerals size line (n ∷ counts) e h =
 
 counts_are_plain : (size : Extent) (line : ℕ) (counts : List ℕ) → IsExtent size → AreCounts size line counts → AllByRecursion IsPlain (map decimal counts)
 counts_are_plain size line [] e h = tt
-counts_are_plain size line (n ∷ counts) e h =
-    let small = line_small size line e in
-    (decimal_plain n (omega (arith, small, h.0)), counts_are_plain size (line + 1) counts e h.1)
+counts_are_plain size line (n ∷ counts) e h = grind (arith, nat_tests, common_steps, line_small size line e, decimal_plain n, counts_are_plain size (line + 1) counts e h.1)
 
 -- the written text has the form of a written text, and so it spells the puzzle
 pub tents_is_written : (p : Tents) → IsTents p → IsWrittenTents (tents_text p) p
@@ -233,11 +180,7 @@ of_nil k = refl
 
 blank_cell : (k : ℕ) (cells : List ℕ) → tokens_of 1 (cells ++ 1 ∷ []) ≡ tents_tokens 1 cells → tokens_of (k + 1) (cells ++ 1 ∷ []) ≡ tents_tokens (k + 1) cells → tokens_of k (0 ∷ (cells ++ 1 ∷ [])) ≡ tents_tokens k (0 ∷ cells)
 unfolding tokens_of
-blank_cell k cells one next =
-    elim (eqb k 25) as (λ v. eqb k 25 ≡ v → cond v (only_blanks ∷ tokens_of 1 (cells ++ 1 ∷ [])) (tokens_of (k + 1) (cells ++ 1 ∷ [])) ≡ tents_tokens k (0 ∷ cells)) [
-      | true ↦ λ e. ap (λ (ts : List TentsToken). only_blanks ∷ ts) one ∙ sym (tokens_full k cells (eqb-true k 25 e))
-      | false ↦ λ e. next ∙ sym (tokens_blank k cells (eqb-false k 25 e))
-    ] refl
+blank_cell k cells one next = grind (arith, nat_tests, common_steps, tokens_full k cells, eqb-true k 25, tokens_blank k cells, eqb-false k 25)
 
 -- the tree after the cells ends them
 of_cells : (k : ℕ) (cells : List ℕ) → tokens_of k (cells ++ 1 ∷ []) ≡ tents_tokens k cells
@@ -248,8 +191,7 @@ of_cells k (zero ∷ cells) = blank_cell k cells (of_cells 1 cells) (of_cells (k
 
 of_run : (k j : ℕ) (places : List ℕ) → k + j ≤ 25 → tokens_of k (replicate j 0 ++ places) ≡ tokens_of (k + j) places
 of_run k zero places le = ap (λ (i : ℕ). tokens_of i places) (let e : k ≡ k + 0 = omega arith in e)
-of_run k (suc j) places le =
-    of_blank k (replicate j 0 ++ places) (λ e. absurd (omega (arith, e))) ∙ of_run (k + 1) j places (omega arith) ∙ ap (λ (i : ℕ). tokens_of i places) (let e : k + 1 + j ≡ k + suc j = omega arith in e)
+of_run k (suc j) places le = grind (arith, nat_tests, common_steps, of_blank k (replicate j 0 ++ places), of_run (k + 1) j places)
 
 last_behind : (xs : List ℕ) (y : ℕ) (ys : List ℕ) → last_of (xs ++ y ∷ ys) ≡ last_of (y ∷ ys)
 unfolding last_of
@@ -293,14 +235,4 @@ numbers_plain size line (num ∷ numerals) e h d plain =
     rw (plain_decimal num d.0 plain.0 (omega (arith, small, h.0)), numbers_plain size (line + 1) numerals e h.1 d.1 plain.1) refl
 
 pub tents_form : (text : List ℕ) (p : Tents) → IsWrittenTents text p → text ≡ tents_text p
-tents_form text p w =
-    let s = w.spells in
-    let front : List ℕ = size_text p.size.w p.size.h in
-    let ends : last_of (cells_of_all s.tokens) ≡ 1 = ap last_of s.cells ∙ last_push p.trees 1 in
-    let same : tents_tokens 0 p.trees ≡ s.tokens = sym (of_cells 0 p.trees) ∙ ap (tokens_of 0) (sym s.cells) ∙ form_tokens s.tokens s.each w.tight (λ some. ends) in
-    let are : AreCounts p.size 0 (map value s.numerals) = subst (λ (c : List ℕ). AreCounts p.size 0 c) (sym s.counts) s.puzzle.range in
-    let numbers : map decimal p.counts ≡ s.numerals = ap (map decimal) (sym s.counts) ∙ numbers_plain p.size 0 s.numerals s.puzzle.size.extent are s.digits w.plain in
-    s.parts ∙ ap (λ (t : List ℕ). t ++ 58 ∷ (map tents_token_byte s.tokens ++ numbers_text s.numerals)) w.both
-    ∙ ap (λ (ts : List TentsToken). front ++ 58 ∷ (map tents_token_byte ts ++ numbers_text s.numerals)) (sym same)
-    ∙ ap (λ (ns : List (List ℕ)). front ++ 58 ∷ (trees_text 0 p.trees ++ numbers_text ns)) (sym numbers)
-    ∙ ap (λ (t : List ℕ). front ++ 58 ∷ (trees_text 0 p.trees ++ t)) (sym (numbers_are p.counts))
+tents_form text p w = grind (arith, nat_tests, common_steps, last_push p.trees 1, of_cells 0 p.trees, form_tokens, numbers_plain p.size 0, numbers_are p.counts)
