@@ -27,7 +27,7 @@ pub fill_end_is : {A : Type 0} (all : ℕ) (cells : List A) (full : Bool) → eq
 unfolding fill_end
 fill_end_is all cells full e = rw e refl
 
-abbrev fills : {A : Type 0} → (ℕ → List ℕ → Result (List A) IdFault) → ℕ → ℕ → List A → List ℕ → Result (List A) IdFault
+abbrev pub fills : {A : Type 0} → (ℕ → List ℕ → Result (List A) IdFault) → ℕ → ℕ → List A → List ℕ → Result (List A) IdFault
 fills token all at cells text = reading (fill_step token all) (fill_end all) at cells (words text)
 
 pub turn_fill : {A : Type 0} (token : ℕ → List ℕ → Result (List A) IdFault) (all base d : ℕ) (cells : List A) (rest word after : List ℕ) (r : Result (List A) IdFault) (total : Result (List A) IdFault) → Cuts rest word after → length rest ≤ d → token (place base d rest) word ≡ r → fills token all (place base d rest) cells rest ≡ total → ((r >>= filled all cells) >>= (λ t. fills token all (place base d after) t after)) ≡ total

@@ -65,10 +65,7 @@ side_takes text n rest small e =
 
 pub side_again : (n : ℕ) (rest : List ℕ) → n < 2 ^ 64 → 0 < n → begins is_ascii_digit rest ≡ false → side_at (decimal n ++ rest) ≡ Ok (n, rest)
 unfolding side_at
-side_again n rest small some other =
-    let lead = begins_front is_lead (decimal n) rest (decimal_leads n small some) in
-    let f = front_numeral (decimal n) rest (digits_decimal own n small) other in
-    rw (lead, f.0, f.1, digits_value-decimal own n small) refl
+side_again n rest small some other = grind (arith, nat_tests, common_steps, begins_front, decimal_leads, front_numeral, digits_decimal, own, digits_value-decimal)
 
 -- ---- both sides
 
@@ -207,8 +204,7 @@ digits_lack k [] other d = refl
 digits_lack k (c ∷ ds) other d = grind (arith, nat_tests, digits_lack k ds other)
 
 size_lacks : (k : ℕ) (front : List ℕ) (a b : ℕ) → is_ascii_digit k ≡ false → eqb 120 k ≡ false → a < 2 ^ 64 → b < 2 ^ 64 → IsSizeText front a b → list_any (λ c. eqb c k) front ≡ false
-size_lacks k front a b other x small_a small_b (inl e) =
-    rw (e, list_any-append (λ c. eqb c k) (decimal a) (120 ∷ decimal b), digits_lack k (decimal a) other (digits_decimal own a small_a), x, digits_lack k (decimal b) other (digits_decimal own b small_b)) refl
+size_lacks k front a b other x small_a small_b (inl e) = grind (arith, nat_tests, common_steps, list_any-append, digits_lack, digits_decimal, own)
 size_lacks k front a b other x small_a small_b (inr e) = rw e.1 (digits_lack k (decimal a) other (digits_decimal own a small_a))
 
 game_size_lacks : (k : ℕ) (game : Game) (front : List ℕ) (a b : ℕ) (x : Bool) → is_ascii_digit k ≡ false → eqb 120 k ≡ false → a < 2 ^ 64 → b < 2 ^ 64 → IsGameSize game front a b x → list_any (λ c. eqb c k) front ≡ false
@@ -252,9 +248,7 @@ colon_take game text head (Some k) short o e =
 
 pub head_take : (game : Game) (text : List ℕ) (head : HeadRead) → head_of game text ≡ Ok head → IsHead game text head
 unfolding head_of
-head_take game text head e =
-    let c = not_refused (ltb max_id (length text)) _ _ _ e in
-    colon_take game text head (position (λ c. eqb c 58) text) (ltb-false _ _ c.0) refl c.1
+head_take game text head e = grind (arith, nat_tests, common_steps, not_refused, colon_take, ltb-false)
 
 -- a puzzle that was read: its head, and what its description gave
 pub record Parts {B P : Type 0} (game : Game) (text : List ℕ) (body : HeadRead → Result B IdFault) (make : HeadRead → B → P) (p : P) : Type 0 where
@@ -265,10 +259,7 @@ pub record Parts {B P : Type 0} (game : Game) (text : List ℕ) (body : HeadRead
   pub made : make head given ≡ p
 
 pub parts_of : {B P : Type 0} (game : Game) (text : List ℕ) (body : HeadRead → Result B IdFault) (make : HeadRead → B → P) (p : P) → (head_of game text >>= (λ head. body head >>= (λ b. taken (make head b)))) ≡ Ok p → Parts game text body make p
-parts_of game text body make p e =
-    let a = bind_ok (head_of game text) (λ head. body head >>= (λ b. taken (make head b))) p e in
-    let b = bind_ok (body a.0) (λ b. taken (make a.0 b)) p a.2 in
-    record { head = a.0; given = b.0; is_head = head_take game text a.0 a.1; read = b.1; made = ok_is (make a.0 b.0) p b.2 }
+parts_of game text body make p e = grind (arith, nat_tests, common_steps, bind_ok, head_take, ok_is)
 
 pub head_again : (game : Game) (front rest : List ℕ) (a b : ℕ) (x : Bool) → IsGameSize game front a b x → in_range game a b ≡ true → length (front ++ 58 ∷ rest) ≤ max_id → head_of game (front ++ 58 ∷ rest) ≡ Ok (record { size = sized a b x; description = length front + 1 })
 unfolding head_of head_at

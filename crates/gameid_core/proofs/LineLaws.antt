@@ -12,11 +12,7 @@ use Rattle.gameid_core.specs.Puzzles.{line_cells, lines_of}
 use Rattle.gameid_core.specs.Lines.{line_place, line_list}
 
 pub within_column : (size : Extent) (line k w : ℕ) → w ≡ size.w → line < w → k < line_cells size line → k * w + line < size.w * size.h
-within_column size line k w is lt room =
-    let column : ltb line size.w ≡ true = lt-ltb _ _ (omega (arith, is)) in
-    let low : k < size.h = subst (λ (v : Bool). k < cond v size.h size.w) column room in
-    let rows = mul-le-mul_right size.w (let n : k + 1 ≤ size.h = omega arith in n) in
-    rw is (omega (arith, rows, is, lt))
+within_column size line k w is lt room = grind (arith, nat_tests, common_steps, lt-ltb, mul-le-mul_right)
 
 -- the first numbers of a line
 abbrev pub line_front : Extent → List ℕ → ℕ → ℕ → List ℕ

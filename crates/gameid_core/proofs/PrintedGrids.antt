@@ -13,16 +13,7 @@ use Rattle.gameid_core.specs.GridReading.{IsAsShown, IsReadOf, FitUpTo, AgreeUpT
 -- numbers that fit are a grid
 pub is_shown : (hides : ℕ → Type 0) (values : ℕ) (size : Extent) (g : List ℕ) (y : ℕ) → size.h ≤ y → y ≤ size.h → length g ≡ size.w * size.h
     → FitUpTo hides values g (y * size.w) → IsAsShown hides values size g
-is_shown hides values size g y over under cells fit = record {
-  grid = record { each_cell = cells; each_value = λ k d lt. subst (λ (n : ℕ). n < values) (get_or_default g k 0 d lt) (fit k (within k lt)).0 };
-  hidden = λ place hidden. elim (cases_lt place (length g)) [
-    | inl lt ↦ (fit place (within place lt)).1 hidden
-    | inr past ↦ get_or_past g place 0 past
-  ];
-}
-  where
-    within : (k : ℕ) → k < length g → k < y * size.w
-    within k lt = let same : y ≡ size.h = omega arith in let all : y * size.w ≡ size.w * size.h = ap (λ (n : ℕ). n * size.w) same ∙ mul_comm size.h size.w in omega arith
+is_shown hides values size g y over under cells fit = grind (arith, nat_tests, get_or_default, cases_lt, get_or_past, mul_comm)
 
 -- grids that agree are the same
 pub same_grid : (hides : ℕ → Type 0) (values : ℕ) (size : Extent) (g h : List ℕ) (y : ℕ) → size.h ≤ y → y ≤ size.h → length g ≡ size.w * size.h

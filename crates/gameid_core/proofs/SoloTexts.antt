@@ -207,19 +207,7 @@ apart_rest (given u) (gap ∷ tokens) h = h
 apart_rest (given u) (given v ∷ tokens) h = absurd h
 
 given_read : (n at v : ℕ) → v < 2 ^ 64 → 0 < v → v ≤ n → solo_token n at (decimal v) ≡ Ok (v ∷ [])
-given_read n at v small some le =
-    let is : value (decimal v) ≡ v = digits_value-decimal own v small in
-    solo_given n at (decimal v) (other is_letter (λ b d. not_between 97 122 b (λ low high. absurd (omega (arith, digit_high b d)))) (decimal v) (decimal_digit_first v small some)) (other (λ b. eqb b 95) (λ b d. ne_eqb b 95 (λ q. absurd (omega (arith, digit_high b d)))) (decimal v) (decimal_digit_first v small some)) (decimal_leads v small some) (omega arith) ∙ ap one is
-  where
-    one : ℕ → Result (List ℕ) IdFault
-    one k = Ok (k ∷ [])
-
-    digit_high : (b : ℕ) → is_ascii_digit b ≡ true → b ≤ 57
-    digit_high b d = leb-true _ _ (and_parts (leb 48 b) (leb b 57) d).1
-
-    other : (kind : ℕ → Bool) → ((b : ℕ) → is_ascii_digit b ≡ true → kind b ≡ false) → (word : List ℕ) → digit_first word ≡ true → begins kind word ≡ false
-    other kind f [] d = refl
-    other kind f (b ∷ more) d = f b d
+given_read n at v small some le = grind (arith, nat_tests, common_steps, digits_value-decimal, own, solo_given, not_between, decimal_digit_first, ne_eqb, decimal_leads, leb-true, and_parts)
 
 token_cuts : (n : ℕ) (token : SoloToken) (tokens : List SoloToken) → n < 2 ^ 64 → AllByRecursion (IsSoloToken n) (token ∷ tokens) → AreApart (token ∷ tokens) → Cuts (solo_token_text token ++ flat_map solo_token_text tokens) (solo_token_text token) (flat_map solo_token_text tokens)
 token_cuts n (blanks k) tokens small each h = (solo_letter n 0 (96 + k) (flat_map solo_token_text tokens) (omega (arith, each.0.0)) (omega (arith, each.0.1))).0

@@ -93,7 +93,7 @@ pub count_step : (size : Extent) (at : ℕ) (places counts word : List ℕ) (r :
 unfolding tents_step
 count_step size at places counts word r comma e = rw (comma, e) refl
 
-abbrev reads : Extent → ℕ → List ℕ → List ℕ → List ℕ → Result TentsSoFar IdFault
+abbrev pub reads : Extent → ℕ → List ℕ → List ℕ → List ℕ → Result TentsSoFar IdFault
 reads size at places counts rest = reading (tents_step size) (tents_end size) at (at_tents places counts) (words rest)
 
 pub turn_count : (size : Extent) (base d first : ℕ) (places counts rest tail word after : List ℕ) (r : Result ℕ IdFault) (total : Result TentsSoFar IdFault) → rest ≡ first ∷ tail → first ≡ 44 → length rest ≤ d → Cuts (44 ∷ tail) word after → tents_count size (place base d rest) (at_tents places counts) word ≡ r → reads size (place base d rest) places counts rest ≡ total → ((r >>= (λ n. Ok (at_tents places (counts ++ n ∷ [])))) >>= (λ t. reading (tents_step size) (tents_end size) (place base d after) t (words after))) ≡ total
@@ -142,17 +142,7 @@ tree_cases size at b places counts t e = grind (arith, nat_tests)
 
 pub step_cases : (size : Extent) (at : ℕ) (places counts word : List ℕ) (t : TentsSoFar) → tents_step size at (at_tents places counts) word ≡ Ok t → Counted size places counts word t ⊎ Planted size at places counts word t
 unfolding tents_step
-step_cases size at places counts word t e =
-    elim (chosen (begins (λ b. eqb b 44) word) _ _ _ e) [
-      | inl c ↦
-          let n = bind_ok (tents_count size at (at_tents places counts) word) (λ n. taken (at_tents places (counts ++ n ∷ []))) t c.1 in
-          let d = count_cases size at n.0 places counts word n.1 in
-          inl (record { comma = c.0; full = d.0; some = d.1; fits = d.2; leads = ap (λ (k : ℕ). at_tents places (counts ++ k ∷ [])) d.3 ∙ ok_is _ _ n.2 })
-      | inr c ↦
-          let d = not_refused (ltb 0 (length counts)) _ _ _ c.1 in
-          let r = tree_cases size at (get_or word 0 0) places counts t d.1 in
-          inr (record { other = c.0; early = ltb-false _ _ d.0; run = r.0; read = r.1; room = r.2; leads = r.3 })
-    ]
+step_cases size at places counts word t e = grind (arith, nat_tests, common_steps, chosen, bind_ok, count_cases, ok_is, not_refused, tree_cases, ltb-false)
 
 pub end_cases : (size : Extent) (places counts : List ℕ) (t : TentsSoFar) → tents_end size (at_tents places counts) ≡ Ok t → (length counts ≡ lines_of size) × (at_tents places counts ≡ t)
 unfolding tents_end

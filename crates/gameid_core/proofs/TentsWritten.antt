@@ -206,8 +206,7 @@ cells_of_all tokens = flat_map tents_token_cells tokens
 -- tokens of the form are those of their cells
 form_tokens : (tokens : List TentsToken) → AllByRecursion IsTentsToken tokens → AreTight tokens → (0 < length tokens → last_of (cells_of_all tokens) ≡ 1) → tokens_of 0 (cells_of_all tokens) ≡ tokens
 form_tokens [] each tight last = of_nil 0
-form_tokens (blanks_and_tree k ∷ []) each tight last =
-    ap (tokens_of 0) (append-nil (replicate k 0 ++ 1 ∷ [])) ∙ of_run 0 k (1 ∷ []) (omega (arith, each.0)) ∙ ap (λ (i : ℕ). tokens_of i (1 ∷ [])) (let e : 0 + k ≡ k = omega arith in e) ∙ of_tree k [] ∙ ap (λ (ts : List TentsToken). blanks_and_tree k ∷ ts) (of_nil 0)
+form_tokens (blanks_and_tree k ∷ []) each tight last = grind (arith, nat_tests, common_steps, append-nil, of_run, of_tree, of_nil)
 form_tokens (blanks_and_tree k ∷ token ∷ tokens) each tight last =
     let later : List ℕ = cells_of_all (token ∷ tokens) in
     ap (tokens_of 0) (append_assoc (replicate k 0) (1 ∷ []) later) ∙ of_run 0 k (1 ∷ later) (omega (arith, each.0)) ∙ ap (λ (i : ℕ). tokens_of i (1 ∷ later)) (let e : 0 + k ≡ k = omega arith in e) ∙ of_tree k later
@@ -230,9 +229,7 @@ form_tokens (only_blanks ∷ only_blanks ∷ tokens) each tight last =
 
 numbers_plain : (size : Extent) (line : ℕ) (numerals : List (List ℕ)) → IsExtent size → AreCounts size line (map value numerals) → AllByRecursion IsNumeral numerals → AllByRecursion IsPlain numerals → map decimal (map value numerals) ≡ numerals
 numbers_plain size line [] e h d plain = refl
-numbers_plain size line (num ∷ numerals) e h d plain =
-    let small = line_small size line e in
-    rw (plain_decimal num d.0 plain.0 (omega (arith, small, h.0)), numbers_plain size (line + 1) numerals e h.1 d.1 plain.1) refl
+numbers_plain size line (num ∷ numerals) e h d plain = grind (arith, nat_tests, common_steps, numbers_plain size (line + 1) numerals e h.1 d.1 plain.1, line_small, plain_decimal, numerals)
 
 pub tents_form : (text : List ℕ) (p : Tents) → IsWrittenTents text p → text ≡ tents_text p
 tents_form text p w = grind (arith, nat_tests, common_steps, last_push p.trees 1, of_cells 0 p.trees, form_tokens, numbers_plain p.size 0, numbers_are p.counts)

@@ -15,3 +15,4 @@ pub mod TentsText
 pub mod Lines
 pub mod GridTexts
 pub mod GridReading
+pub mod OneText

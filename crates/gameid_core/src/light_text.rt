@@ -10,6 +10,7 @@ ghost use Rattle.gameid_core.specs.FirstTokens.{GivesRun};
 ghost use Rattle.gameid_core.specs.LightText.{SpellsLight, light_token, light_cells_at, light_of};
 ghost use Rattle.gameid_core.specs.Cells.{fill_step, fill_end};
 ghost use Rattle.gameid_core.specs.FirstFault.{FirstFault};
+ghost use Rattle.gameid_core.specs.OneText.{HasOneReading};
 
 use crate::fault::IdFault;
 use crate::game::Game;
@@ -107,11 +108,7 @@ pub fn read_lights(alloc: Global, text: &[u8]) -> Result<LightPuzzle, IdFault>
 
 /// Each text spells exactly one puzzle of Light Up or has exactly one fault, and never both.
 pub fn one_reading_of_lights()
-    ensures one { (text : List ℕ) (p q : Light) → SpellsLight text p → SpellsLight text q → p ≡ q }
-    ensures apart { (text : List ℕ) (p : Light) (f : IdFault) → SpellsLight text p
-        → light_of text ≡ Err f → ⊥ }
-    ensures either { (text : List ℕ) → ((p : Light) × SpellsLight text p)
-        ⊎ ((f : IdFault) × (light_of text ≡ Err f)) }
+    ensures { HasOneReading SpellsLight light_of }
 {}
 
 /// A description's fault is that of its first token with one, or of its end, after tokens without

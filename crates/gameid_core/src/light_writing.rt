@@ -4,6 +4,7 @@ ghost use Rattle.std.specs.Prelude.{◌≡◌, ◌≤◌, ◌++◌, length, stri
 ghost use Rattle.std.specs.List.{AllByRecursion};
 ghost use Rattle.gameid_core.specs.declared.light_cell.LightCell.TheVariants.{White};
 ghost use Rattle.gameid_core.specs.Head.{max_id};
+ghost use Rattle.gameid_core.specs.OneText.{HasOneText};
 ghost use Rattle.gameid_core.specs.Puzzles.{Light, IsLight, IsLightCell};
 ghost use Rattle.gameid_core.specs.LightText.{IsWrittenLight, IsBlackByte, SpellsLight, light_cells_text, light_text};
 
@@ -77,7 +78,5 @@ pub fn write_lights(alloc: Global, puzzle: &LightPuzzle) -> Result<String, Alloc
 /// Each puzzle of Light Up has exactly one written text: the one that spells it with both numbers
 /// of the size, where each letter directly before a letter is `z`.
 pub fn one_written_text_of_lights()
-    ensures some { (p : Light) → IsLight p → IsWrittenLight (light_text p) p }
-    ensures one { (text other : List ℕ) (p : Light) → IsWrittenLight text p → IsWrittenLight other p
-        → text ≡ other }
+    ensures { HasOneText IsLight IsWrittenLight light_text }
 {}

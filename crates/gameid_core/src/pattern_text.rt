@@ -9,6 +9,7 @@ ghost use Rattle.gameid_core.specs.Puzzles.{Pattern};
 ghost use Rattle.gameid_core.specs.PatternText.{SpellsPattern, pattern_of, GivesNumber, clue_number, clue_token, clues_at, pattern_step, pattern_end, nothing_yet};
 ghost use Rattle.gameid_core.specs.Words.{digits_front, after_digits, words};
 ghost use Rattle.gameid_core.specs.FirstFault.{FirstFault};
+ghost use Rattle.gameid_core.specs.OneText.{HasOneReading};
 ghost use Rattle.gameid_core.specs.FirstTokens.{TakesNumber};
 ghost use Rattle.grid_core.specs.Extent.{Extent};
 
@@ -198,12 +199,7 @@ pub fn read_pattern(alloc: Global, text: &[u8]) -> Result<PatternPuzzle, IdFault
 
 /// Each text spells exactly one puzzle of Pattern or has exactly one fault, and never both.
 pub fn one_reading_of_pattern()
-    ensures one { (text : List ℕ) (p q : Pattern) → SpellsPattern text p → SpellsPattern text q
-        → p ≡ q }
-    ensures apart { (text : List ℕ) (p : Pattern) (f : IdFault) → SpellsPattern text p
-        → pattern_of text ≡ Err f → ⊥ }
-    ensures either { (text : List ℕ) → ((p : Pattern) × SpellsPattern text p)
-        ⊎ ((f : IdFault) × (pattern_of text ≡ Err f)) }
+    ensures { HasOneReading SpellsPattern pattern_of }
 {}
 
 /// The fault of a description of Pattern is that of its first token with one, or of its end, after

@@ -3,6 +3,7 @@
 ghost use Rattle.std.specs.Prelude.{◌≡◌, ◌≤◌, ◌++◌, map, string_bytes, length, OnOk, IfOk, List, ℕ};
 ghost use Rattle.std.specs.List.{join_with_byte};
 ghost use Rattle.gameid_core.specs.Head.{max_id};
+ghost use Rattle.gameid_core.specs.OneText.{HasOneText};
 ghost use Rattle.gameid_core.specs.Puzzles.{Pattern, IsPattern};
 ghost use Rattle.gameid_core.specs.PatternText.{IsWrittenPattern, clue_text, pattern_text, SpellsPattern};
 
@@ -69,7 +70,5 @@ pub fn write_pattern(alloc: Global, puzzle: &PatternPuzzle) -> Result<String, Al
 /// Each puzzle of Pattern has exactly one written text: the one that spells it with both numbers of
 /// the size and no leading zeros.
 pub fn one_written_text_of_pattern()
-    ensures some { (p : Pattern) → IsPattern p → IsWrittenPattern (pattern_text p) p }
-    ensures one { (text other : List ℕ) (p : Pattern) → IsWrittenPattern text p
-        → IsWrittenPattern other p → text ≡ other }
+    ensures { HasOneText IsPattern IsWrittenPattern pattern_text }
 {}

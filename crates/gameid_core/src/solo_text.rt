@@ -10,6 +10,7 @@ ghost use Rattle.gameid_core.specs.Head.{head_of, max_numbers};
 ghost use Rattle.gameid_core.specs.declared.fault.IdFault.{IdFault};
 ghost use Rattle.gameid_core.specs.Cells.{fill_step, fill_end};
 ghost use Rattle.gameid_core.specs.FirstFault.{FirstFault};
+ghost use Rattle.gameid_core.specs.OneText.{HasOneReading};
 
 use crate::fault::IdFault;
 use crate::game::Game;
@@ -119,11 +120,7 @@ pub fn read_solo(alloc: Global, text: &[u8]) -> Result<SoloPuzzle, IdFault>
 
 /// Each text spells exactly one puzzle of Solo or has exactly one fault, and never both.
 pub fn one_reading_of_solo()
-    ensures one { (text : List ℕ) (p q : Solo) → SpellsSolo text p → SpellsSolo text q → p ≡ q }
-    ensures apart { (text : List ℕ) (p : Solo) (f : IdFault) → SpellsSolo text p
-        → solo_of text ≡ Err f → ⊥ }
-    ensures either { (text : List ℕ) → ((p : Solo) × SpellsSolo text p)
-        ⊎ ((f : IdFault) × (solo_of text ≡ Err f)) }
+    ensures { HasOneReading SpellsSolo solo_of }
 {}
 
 /// A description's fault is that of its first token with one, or of its end, after tokens without

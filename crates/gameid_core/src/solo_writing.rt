@@ -2,6 +2,7 @@
 
 ghost use Rattle.std.specs.Prelude.{◌≡◌, ◌≤◌, ◌++◌, length, false, string_bytes, OnOk, IfOk, List, ℕ};
 ghost use Rattle.gameid_core.specs.Head.{max_id};
+ghost use Rattle.gameid_core.specs.OneText.{HasOneText};
 ghost use Rattle.gameid_core.specs.Puzzles.{Solo, IsSolo};
 ghost use Rattle.gameid_core.specs.SizeText.{solo_size_text};
 ghost use Rattle.gameid_core.specs.SoloText.{IsWrittenSolo, before_given, cells_text, solo_text, SpellsSolo};
@@ -83,7 +84,5 @@ pub fn write_solo(alloc: Global, puzzle: &SoloPuzzle) -> Result<String, AllocErr
 /// the size, where each letter directly before a letter is `z` and `_` stands only between two
 /// numbers.
 pub fn one_written_text_of_solo()
-    ensures some { (p : Solo) → IsSolo p → IsWrittenSolo (solo_text p) p }
-    ensures one { (text other : List ℕ) (p : Solo) → IsWrittenSolo text p → IsWrittenSolo other p
-        → text ≡ other }
+    ensures { HasOneText IsSolo IsWrittenSolo solo_text }
 {}

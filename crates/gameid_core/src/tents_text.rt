@@ -8,6 +8,7 @@ ghost use Rattle.gameid_core.specs.Puzzles.{Tents};
 ghost use Rattle.gameid_core.specs.TentsText.{SpellsTents, tents_at, tents_of, tents_run, tents_count, tents_step, tents_end, no_places, run_cells};
 ghost use Rattle.grid_core.specs.Extent.{Extent};
 ghost use Rattle.gameid_core.specs.FirstFault.{FirstFault};
+ghost use Rattle.gameid_core.specs.OneText.{HasOneReading};
 ghost use Rattle.gameid_core.specs.Words.{words};
 ghost use Rattle.gameid_core.specs.FirstTokens.{TakesNumber};
 
@@ -161,11 +162,7 @@ pub fn read_tents(alloc: Global, text: &[u8]) -> Result<TentsPuzzle, IdFault>
 
 /// Each text spells exactly one puzzle of Tents or has exactly one fault, and never both.
 pub fn one_reading_of_tents()
-    ensures one { (text : List ℕ) (p q : Tents) → SpellsTents text p → SpellsTents text q → p ≡ q }
-    ensures apart { (text : List ℕ) (p : Tents) (f : IdFault) → SpellsTents text p
-        → tents_of text ≡ Err f → ⊥ }
-    ensures either { (text : List ℕ) → ((p : Tents) × SpellsTents text p)
-        ⊎ ((f : IdFault) × (tents_of text ≡ Err f)) }
+    ensures { HasOneReading SpellsTents tents_of }
 {}
 
 /// A description's fault is that of its first token with one, or of its end, after tokens without

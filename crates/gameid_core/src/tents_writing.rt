@@ -3,6 +3,7 @@
 ghost use Rattle.std.specs.Prelude.{◌≡◌, ◌≤◌, ◌<◌, ◌++◌, ◌∷◌, ℕ, List, length, decimal, string_bytes, OnOk, IfOk};
 ghost use Rattle.std.specs.List.{flat_map};
 ghost use Rattle.gameid_core.specs.Head.{max_id};
+ghost use Rattle.gameid_core.specs.OneText.{HasOneText};
 ghost use Rattle.gameid_core.specs.Puzzles.{Tents, IsTents};
 ghost use Rattle.gameid_core.specs.TentsText.{IsWrittenTents, SpellsTents, blanks_and_tree, tents_text, tents_token_byte, trees_text};
 
@@ -98,7 +99,5 @@ pub fn write_tents(alloc: Global, puzzle: &TentsPuzzle) -> Result<String, AllocE
 /// Each puzzle of Tents has exactly one written text: the one that spells it with both numbers of
 /// the size, no `z` directly before `_`, and no leading zeros.
 pub fn one_written_text_of_tents()
-    ensures some { (p : Tents) → IsTents p → IsWrittenTents (tents_text p) p }
-    ensures one { (text other : List ℕ) (p : Tents) → IsWrittenTents text p → IsWrittenTents other p
-        → text ≡ other }
+    ensures { HasOneText IsTents IsWrittenTents tents_text }
 {}
