@@ -1,6 +1,5 @@
 -- Reading a description that fills cells: Solo and Light Up.
 use Rattle.std.proofs.Common.{◌≡◌, ℕ, Bool, ◌+◌, ◌<◌, ◌≤◌, true, false, eqb, eq-eqb, List, [], ◌∷◌, ◌++◌, map, length, Result, Ok, Err, refl, sym, ap, ◌∙◌, cond, ltb, arith, append_assoc, length-append}
-use Rattle.std.proofs.lemmas.Bool.Decides.{nat_tests}
 use Rattle.std.proofs.lemmas.Grind.{common_steps}
 use Rattle.std.specs.List.{AllByRecursion, flat_map}
 use Rattle.std.proofs.lemmas.Bool.{ne_eqb, le-ltb, lt-ltb, eqb-true}
@@ -31,19 +30,19 @@ abbrev pub fills : {A : Type 0} → (ℕ → List ℕ → Result (List A) IdFaul
 fills token all at cells text = reading (fill_step token all) (fill_end all) at cells (words text)
 
 pub turn_fill : {A : Type 0} (token : ℕ → List ℕ → Result (List A) IdFault) (all base d : ℕ) (cells : List A) (rest word after : List ℕ) (r : Result (List A) IdFault) (total : Result (List A) IdFault) → Cuts rest word after → length rest ≤ d → token (place base d rest) word ≡ r → fills token all (place base d rest) cells rest ≡ total → ((r >>= filled all cells) >>= (λ t. fills token all (place base d after) t after)) ≡ total
-turn_fill token all base d cells rest word after r total cuts le e so = grind (arith, nat_tests, common_steps, turn_of (fill_step token all) (fill_end all) base d cells rest word after (r >>= filled all cells) total cuts le (fill_is token all (place base d rest) cells word r e) so, fill_is token all (place base d rest) cells word r e)
+turn_fill token all base d cells rest word after r total cuts le e so = grind (arith, turn_of (fill_step token all) (fill_end all) base d cells rest word after (r >>= filled all cells) total cuts le (fill_is token all (place base d rest) cells word r e) so)
 
 pub end_fill : {A : Type 0} (token : ℕ → List ℕ → Result (List A) IdFault) (all at : ℕ) (cells : List A) (rest : List ℕ) (full : Bool) (total : Result (List A) IdFault) → rest ≡ [] → eqb (length cells) all ≡ full → fills token all at cells rest ≡ total → total ≡ cond full (Ok cells) (Err TooFew)
-end_fill token all at cells rest full total e is so = end_of (fill_step token all) (fill_end all) at cells rest _ total e (fill_end_is all cells full is) so
+end_fill token all at cells rest full total e is so = grind (arith, common_steps, end_of, fill_end_is)
 
 -- a token of a filling that was taken
 fill_cases : {A : Type 0} (token : ℕ → List ℕ → Result (List A) IdFault) (all at : ℕ) (cells : List A) (word : List ℕ) (t : List A) → fill_step token all at cells word ≡ Ok t → (more : List A) × (token at word ≡ Ok more) × (cells ++ more ≡ t)
 unfolding fill_step
-fill_cases token all at cells word t e = grind (arith, nat_tests)
+fill_cases token all at cells word t e = grind arith
 
 fill_end_cases : {A : Type 0} (all : ℕ) (cells t : List A) → fill_end all cells ≡ Ok t → (length cells ≡ all) × (cells ≡ t)
 unfolding fill_end
-fill_end_cases all cells t e = let c = only_taken (eqb (length cells) all) _ _ _ e in (eqb-true _ _ c.0, ok_is _ _ c.1)
+fill_end_cases all cells t e = grind arith
 
 -- ---- what is read is spelled, and what is spelled is read
 
@@ -63,7 +62,7 @@ pub record Spelled {T A : Type 0} (text : T → List ℕ) (cells : T → List A)
 
 pub cells_spelled : {T A : Type 0} (text : T → List ℕ) (cells : T → List A) (Fits : T → Type 0) (token : ℕ → List ℕ → Result (List A) IdFault) (Is : List ℕ → Type 0) → ((at : ℕ) (word : List ℕ) (more : List A) → Is word → token at word ≡ Ok more → Token text cells Fits word more) → (most at : ℕ) (before : List A) (ws : List (List ℕ)) (all : List A) → AllByRecursion Is ws → reading (fill_step token most) (fill_end most) at before ws ≡ Ok all → Spelled text cells Fits ws before all × (length all ≡ most)
 unfolding reading
-cells_spelled text cells Fits token Is take most at before [] all w e = grind (arith, nat_tests, common_steps, fill_end_cases most before all e, append-nil before)
+cells_spelled text cells Fits token Is take most at before [] all w e = grind (arith, common_steps, fill_end_cases most before all e)
 cells_spelled {A = A} text cells Fits token Is take most at before (word ∷ ws) all w e =
     let b = bind_ok (fill_step token most at before word) (λ s. reading (fill_step token most) (fill_end most) (at + length word) s ws) all e in
     let f = fill_cases token most at before word b.0 b.1 in
@@ -82,7 +81,7 @@ cells_spelled {A = A} text cells Fits token Is take most at before (word ∷ ws)
 -- tokens that fill the grid are read
 pub cells_again : {T A : Type 0} (text : T → List ℕ) (cells : T → List A) (Fits : T → Type 0) (token : ℕ → List ℕ → Result (List A) IdFault) → ((at : ℕ) (t : T) → Fits t → token at (text t) ≡ Ok (cells t)) → (most at : ℕ) (before : List A) (tokens : List T) → AllByRecursion Fits tokens → length before + length (flat_map cells tokens) ≡ most → reading (fill_step token most) (fill_end most) at before (map text tokens) ≡ Ok (before ++ flat_map cells tokens)
 unfolding reading
-cells_again {A = A} text cells Fits token again most at before [] each full = grind (arith, nat_tests, common_steps, fill_end_is most before true, eq-eqb, append-nil before)
+cells_again {A = A} text cells Fits token again most at before [] each full = grind (arith, common_steps, fill_end_is most before true)
 cells_again {A = A} text cells Fits token again most at before (t ∷ tokens) each full =
     let more : List A = cells t in
     let later : List A = flat_map cells tokens in

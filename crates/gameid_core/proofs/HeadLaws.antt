@@ -31,12 +31,12 @@ use Rattle.gameid_core.proofs.Reading.{place}
 pub front_parts : (text : List ℕ) → digits_front text ++ after_digits text ≡ text
 unfolding digits_front after_digits
 front_parts [] = refl
-front_parts (b ∷ after) = grind (arith, nat_tests, front_parts after)
+front_parts (b ∷ after) = grind (arith, front_parts after)
 
 pub front_digits : (text : List ℕ) → all_ascii_digits (digits_front text) ≡ true
 unfolding digits_front
 front_digits [] = refl
-front_digits (b ∷ after) = grind (arith, nat_tests, front_digits after)
+front_digits (b ∷ after) = grind (arith, front_digits after)
 
 -- the digits in front are what is written of their value
 front_decimal : (text : List ℕ) → begins is_lead text ≡ true → value (digits_front text) < 2 ^ 64 → (decimal (value (digits_front text)) ≡ digits_front text) × (0 < value (digits_front text))
@@ -65,7 +65,7 @@ side_takes text n rest small e =
 
 pub side_again : (n : ℕ) (rest : List ℕ) → n < 2 ^ 64 → 0 < n → begins is_ascii_digit rest ≡ false → side_at (decimal n ++ rest) ≡ Ok (n, rest)
 unfolding side_at
-side_again n rest small some other = grind (arith, nat_tests, common_steps, begins_front, decimal_leads, front_numeral, digits_decimal, own, digits_value-decimal)
+side_again n rest small some other = grind (arith, begins_front, decimal_leads, front_numeral, digits_decimal, own, digits_value-decimal)
 
 -- ---- both sides
 
@@ -142,9 +142,9 @@ sides_take game text s small_w small_h e =
 
 pub sides_again : (game : Game) (front : List ℕ) (a b : ℕ) (x : Bool) → a < 2 ^ 64 → b < 2 ^ 64 → 0 < a → 0 < b → IsGameSize game front a b x → sides_at game front ≡ Ok (record { w = a; h = b; x = x; rest = [] })
 unfolding sides_at
-sides_again game front a b false small_a small_b some_a some_b (inl e) = grind (arith, nat_tests, common_steps, side_again a (120 ∷ decimal b) small_a some_a refl, append-nil (decimal b), side_again b [] small_b some_b refl, no_x game)
-sides_again game front a b false small_a small_b some_a some_b (inr e) = grind (arith, nat_tests, common_steps, append-nil (decimal a), side_again a [] small_a some_a refl)
-sides_again game front a b true small_a small_b some_a some_b e = grind (arith, nat_tests, common_steps, side_again a (120 ∷ (decimal b ++ 120 ∷ [])) small_a some_a refl, side_again b (120 ∷ []) small_b some_b refl, append_assoc (decimal a) (120 ∷ decimal b) (120 ∷ []))
+sides_again game front a b false small_a small_b some_a some_b (inl e) = grind (arith, common_steps, side_again a (120 ∷ decimal b) small_a some_a refl, side_again b [] small_b some_b refl)
+sides_again game front a b false small_a small_b some_a some_b (inr e) = grind (arith, common_steps, side_again a [] small_a some_a refl)
+sides_again game front a b true small_a small_b some_a some_b e = grind (arith, common_steps, side_again a (120 ∷ (decimal b ++ 120 ∷ [])) small_a some_a refl, side_again b (120 ∷ []) small_b some_b refl)
 
 -- ---- the size
 
@@ -155,7 +155,7 @@ pub record Small (a b : ℕ) : Type 0 where
   pub b_small : b ≤ max_side
 
 both_small : (low a b : ℕ) → 0 < low → (leb low a && leb low b && leb a max_side && leb b max_side) ≡ true → Small a b
-both_small low a b some e = grind (arith, nat_tests)
+both_small low a b some e = grind arith
 
 pub range_small : (game : Game) (a b : ℕ) → in_range game a b ≡ true → Small a b
 range_small Solo a b e =
@@ -195,7 +195,7 @@ size_take game text size e =
 
 pub size_again : (game : Game) (front : List ℕ) (a b : ℕ) (x : Bool) → IsGameSize game front a b x → in_range game a b ≡ true → size_of game front ≡ Ok (sized a b x)
 unfolding size_of
-size_again game front a b x text range = grind (arith, nat_tests, common_steps, range_small game a b range, sides_again game front a b x)
+size_again game front a b x text range = grind (arith, range_small game a b range, sides_again game front a b x)
 
 -- ---- up to the colon
 
@@ -204,19 +204,19 @@ digits_lack k [] other d = refl
 digits_lack k (c ∷ ds) other d = grind (arith, nat_tests, digits_lack k ds other)
 
 size_lacks : (k : ℕ) (front : List ℕ) (a b : ℕ) → is_ascii_digit k ≡ false → eqb 120 k ≡ false → a < 2 ^ 64 → b < 2 ^ 64 → IsSizeText front a b → list_any (λ c. eqb c k) front ≡ false
-size_lacks k front a b other x small_a small_b (inl e) = grind (arith, nat_tests, common_steps, list_any-append, digits_lack, digits_decimal, own)
+size_lacks k front a b other x small_a small_b (inl e) = grind (arith, list_any-append, digits_lack, digits_decimal, own)
 size_lacks k front a b other x small_a small_b (inr e) = rw e.1 (digits_lack k (decimal a) other (digits_decimal own a small_a))
 
 game_size_lacks : (k : ℕ) (game : Game) (front : List ℕ) (a b : ℕ) (x : Bool) → is_ascii_digit k ≡ false → eqb 120 k ≡ false → a < 2 ^ 64 → b < 2 ^ 64 → IsGameSize game front a b x → list_any (λ c. eqb c k) front ≡ false
 game_size_lacks k game front a b false other x small_a small_b s = size_lacks k front a b other x small_a small_b s
-game_size_lacks k game front a b true other x small_a small_b s = grind (arith, nat_tests, common_steps, list_any-append, size_lacks k (size_text a b) a b other x small_a small_b (inl refl))
+game_size_lacks k game front a b true other x small_a small_b s = grind (arith, common_steps, size_lacks k (size_text a b) a b other x small_a small_b (inl refl))
 
 pub place_of : (p : ℕ → Bool) (front : List ℕ) (c : ℕ) (rest : List ℕ) → list_any p front ≡ false → p c ≡ true → position_or_len p (front ++ c ∷ rest) ≡ length front
 place_of p [] c rest none here = rw here refl
 place_of p (b ∷ front) c rest none here = grind (arith, nat_tests, place_of p front c rest)
 
 pub position_at : (p : ℕ → Bool) (front : List ℕ) (c : ℕ) (rest : List ℕ) → list_any p front ≡ false → p c ≡ true → position p (front ++ c ∷ rest) ≡ Some (length front)
-position_at p front c rest none here = grind (arith, nat_tests, common_steps, place_of p front c rest none here, lt-ltb, length-append front (c ∷ rest))
+position_at p front c rest none here = grind (arith, common_steps, place_of p front c rest none here)
 
 pub record IsHead (game : Game) (text : List ℕ) (head : HeadRead) : Type 0 where
   pub front : List ℕ
@@ -239,7 +239,7 @@ described size place = record { size = size; description = place }
 
 colon_take : (game : Game) (text : List ℕ) (head : HeadRead) (o : Option ℕ) → length text ≤ max_id → position (λ c. eqb c 58) text ≡ o → head_at game text o ≡ Ok head → IsHead game text head
 unfolding head_at
-colon_take game text head None short o e = let c = not_refused (has_hash text) _ _ _ e in absurd (let bad : Err NoColon ≡ taken head = c.1 in cc)
+colon_take game text head None short o e = grind arith
 colon_take game text head (Some k) short o e =
     let c = not_refused (has_hash (take k text)) _ _ _ e in
     let s = bind_ok (size_of game (take k text)) (λ size. taken (described size (k + 1))) head c.1 in
@@ -248,7 +248,7 @@ colon_take game text head (Some k) short o e =
 
 pub head_take : (game : Game) (text : List ℕ) (head : HeadRead) → head_of game text ≡ Ok head → IsHead game text head
 unfolding head_of
-head_take game text head e = grind (arith, nat_tests, common_steps, not_refused, colon_take, ltb-false)
+head_take game text head e = grind (arith, not_refused, colon_take, ltb-false)
 
 -- a puzzle that was read: its head, and what its description gave
 pub record Parts {B P : Type 0} (game : Game) (text : List ℕ) (body : HeadRead → Result B IdFault) (make : HeadRead → B → P) (p : P) : Type 0 where
@@ -259,14 +259,14 @@ pub record Parts {B P : Type 0} (game : Game) (text : List ℕ) (body : HeadRead
   pub made : make head given ≡ p
 
 pub parts_of : {B P : Type 0} (game : Game) (text : List ℕ) (body : HeadRead → Result B IdFault) (make : HeadRead → B → P) (p : P) → (head_of game text >>= (λ head. body head >>= (λ b. taken (make head b)))) ≡ Ok p → Parts game text body make p
-parts_of game text body make p e = grind (arith, nat_tests, common_steps, bind_ok, head_take, ok_is)
+parts_of game text body make p e = grind (arith, bind_ok, head_take, ok_is)
 
 pub head_again : (game : Game) (front rest : List ℕ) (a b : ℕ) (x : Bool) → IsGameSize game front a b x → in_range game a b ≡ true → length (front ++ 58 ∷ rest) ≤ max_id → head_of game (front ++ 58 ∷ rest) ≡ Ok (record { size = sized a b x; description = length front + 1 })
 unfolding head_of head_at
-head_again game front rest a b x text range short = grind (arith, nat_tests, common_steps, range_small game a b range, position_at, game_size_lacks 58 game front a b x refl refl, game_size_lacks 35 game front a b x refl refl, le-ltb, take_at front (58 ∷ rest) (length front) refl, size_again game front a b x text range)
+head_again game front rest a b x text range short = grind (arith, common_steps, range_small game a b range, position_at, game_size_lacks 58 game front a b x refl refl, game_size_lacks 35 game front a b x refl refl, size_again game front a b x text range)
 
 pub after_front : (front rest : List ℕ) → drop (length front + 1) (front ++ 58 ∷ rest) ≡ rest
-after_front front rest = grind (arith, nat_tests, common_steps, append_assoc front (58 ∷ []) rest, drop_at (front ++ 58 ∷ []) rest (length front + 1) (length-append front (58 ∷ [])), length-append front (58 ∷ []))
+after_front front rest = grind (arith, append_assoc front (58 ∷ []) rest, drop_at (front ++ 58 ∷ []) rest (length front + 1) (length-append front (58 ∷ [])), length-append front (58 ∷ []))
 
 pub head_too_long : (game : Game) (text : List ℕ) → max_id < length text → head_of game text ≡ Err TooLong
 unfolding head_of

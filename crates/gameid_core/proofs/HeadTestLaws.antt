@@ -1,6 +1,5 @@
 -- The first of the tests before the colon that fails is the fault that is read.
 use Rattle.std.proofs.Common.{◌≡◌, ◌↔◌, ℕ, ◌+◌, ◌≤◌, Bool, true, false, cond, eqb, ltb, List, ◌∷◌, ◌++◌, length, take, drop, get_or, append_assoc, Some, None, Result, Ok, Err, refl, sym, ap, subst, ◌∙◌, ◌⊎◌, inl, inr, arith, []}
-use Rattle.std.proofs.lemmas.Bool.Decides.{nat_tests}
 use Rattle.std.proofs.lemmas.Grind.{common_steps}
 use Rattle.std.specs.Prelude.{position}
 use Rattle.std.specs.List.{AllByRecursion, list_any, position_or_len}
@@ -47,28 +46,28 @@ err_is g f e = cc
 
 exactly : {A : Type 0} (fails : IdFault → Type 0) (tests : List IdFault) (r : Result A IdFault) (f : IdFault) → IsJudged fails tests r → (r ≡ Err f) ↔ IsFirstFailed fails tests f
 exactly fails tests (Ok x) f all = (λ e. absurd cc, λ p. absurd (none_failed fails tests f all p))
-exactly {A = A} fails tests (Err g) f p = grind (arith, nat_tests, common_steps, err_is {A = A} g f, first_failed_one fails tests g f p)
+exactly {A = A} fails tests (Err g) f p = grind (arith, first_failed_one fails tests g f p)
 
 -- ---- a number
 
 after_stops : (text : List ℕ) → begins is_ascii_digit (after_digits text) ≡ false
 unfolding after_digits
 after_stops [] = refl
-after_stops (b ∷ after) = grind (arith, nat_tests, after_stops after)
+after_stops (b ∷ after) = grind (arith, after_stops after)
 
 number_in : (text : List ℕ) → begins is_lead text ≡ true → HasNumber text (digits_front text) (after_digits text)
 number_in [] e = absurd (false≢true e)
-number_in (b ∷ after) e = grind (arith, nat_tests, common_steps, front_parts (b ∷ after), front_digits (b ∷ after), front_turn (b ∷ after) b after refl (lead_is_digit b e), lead_is_digit b e, after_stops (b ∷ after))
+number_in (b ∷ after) e = grind (arith, front_parts (b ∷ after), front_digits (b ∷ after), after_stops (b ∷ after))
 
 number_leads : (text number rest : List ℕ) → HasNumber text number rest → begins is_lead text ≡ true
 number_leads text number rest h = ap (begins is_lead) h.parts ∙ begins_front is_lead number rest h.lead
 
 number_is : (text number rest : List ℕ) → HasNumber text number rest → (digits_front text ≡ number) × (after_digits text ≡ rest)
-number_is text number rest h = grind (arith, nat_tests, common_steps, front_numeral number rest h.digits h.all)
+number_is text number rest h = grind (arith, front_numeral number rest h.digits h.all)
 
 side_read : (text number rest : List ℕ) → HasNumber text number rest → side_at text ≡ Ok (value number, rest)
 unfolding side_at
-side_read text number rest h = grind (arith, nat_tests, common_steps, number_is text number rest h, number_leads text number rest h)
+side_read text number rest h = grind (arith, number_is text number rest h)
 
 -- what is read of a side
 abbrev IsSideRead : List ℕ → Result (ℕ × List ℕ) IdFault → Type 0
@@ -77,7 +76,7 @@ IsSideRead text (Err f) = (f ≡ BadSize) × ((number rest : List ℕ) → HasNu
 
 side_judged : (text : List ℕ) → IsSideRead text (side_at text)
 unfolding side_at
-side_judged text = grind (arith, nat_tests, common_steps, number_in text, number_leads text)
+side_judged text = grind (arith, number_in text)
 
 -- ---- a size
 
@@ -95,15 +94,15 @@ goes_on_is LightUp after false rest h = (refl, h.1)
 goes_on_is Tents after false rest h = (refl, h.1)
 
 goes_on : (game : Game) (after : List ℕ) → GoesOn game after (has_x game after) (cond (has_x game after) (drop 1 after) after)
-goes_on game after = grind (arith, nat_tests)
+goes_on game after = grind arith
 
 two_is : (game : Game) (size : Sides) (a b : ℕ) (after : List ℕ) → a ≡ size.w → b ≡ size.h → GoesOn game after size.x size.rest → sides_ok (two_sides game a b after) ≡ sides_ok size
-two_is game size a b after p q h = grind (arith, nat_tests)
+two_is game size a b after p q h = grind arith
 
 size_read : (game : Game) (text : List ℕ) (size : Sides) → HasSize game text size → sides_at game text ≡ sides_ok size
 unfolding sides_at
-size_read game text size (inl h) = grind (arith, nat_tests, common_steps, side_read text h.side size.rest h.number, one_is size (value h.side) h.both.0 h.both.1 h.plain)
-size_read game text size (inr h) = grind (arith, nat_tests, common_steps, side_read text h.left (120 ∷ h.behind) h.first, side_read h.behind h.right h.after h.second, two_is game size (value h.left) (value h.right) h.after h.both.0 h.both.1 h.goes_on)
+size_read game text size (inl h) = grind (arith, side_read text h.side size.rest h.number)
+size_read game text size (inr h) = grind (arith, side_read text h.left (120 ∷ h.behind) h.first, side_read h.behind h.right h.after h.second)
 
 -- what is read of both sides
 abbrev AreSidesRead : Game → List ℕ → Result Sides IdFault → Type 0
@@ -201,14 +200,14 @@ any_lacks byte (b ∷ text) h = rw (ne_eqb b byte h.0, any_lacks byte text h.1) 
 
 any_has : (byte : ℕ) (front rest : List ℕ) → list_any (λ b. eqb b byte) (front ++ byte ∷ rest) ≡ true
 any_has byte [] rest = rw (eq-eqb byte byte refl) refl
-any_has byte (b ∷ front) rest = or_right (eqb b byte) (list_any (λ c. eqb c byte) (front ++ byte ∷ rest)) (any_has byte front rest)
+any_has byte (b ∷ front) rest = grind (arith, any_has byte front rest)
 
 none_at : (byte : ℕ) (text : List ℕ) → Lacks byte text → position_or_len (λ b. eqb b byte) text ≡ length text
 none_at byte [] h = refl
 none_at byte (b ∷ text) h = rw (ne_eqb b byte h.0) (omega (arith, none_at byte text h.1))
 
 position_none : (byte : ℕ) (text : List ℕ) → Lacks byte text → position (λ b. eqb b byte) text ≡ None
-position_none byte text h = grind (arith, nat_tests, common_steps, le-ltb, none_at byte text h)
+position_none byte text h = grind (arith, none_at byte text h)
 
 head_byte : (b c : ℕ) (xs ys : List ℕ) → b ∷ xs ≡ c ∷ ys → b ≡ c
 head_byte b c xs ys e = ap (λ t. get_or t 0 0) e
@@ -225,7 +224,7 @@ front_is : (byte : ℕ) (text f g r s : List ℕ) → text ≡ f ++ byte ∷ r �
 front_is byte text [] [] r s p lp q lq = refl
 front_is byte text [] (c ∷ g) r s p lp q lq = absurd (lq.0 (sym (head_byte byte c r (g ++ byte ∷ s) (sym p ∙ q))))
 front_is byte text (b ∷ f) [] r s p lp q lq = absurd (lp.0 (head_byte b byte (f ++ byte ∷ r) s (sym p ∙ q)))
-front_is byte text (b ∷ f) (c ∷ g) r s p lp q lq = grind (arith, nat_tests, front_is byte (drop 1 text) f g r s (ap (drop 1) p) lp.1 (ap (drop 1) q) lq.1)
+front_is byte text (b ∷ f) (c ∷ g) r s p lp q lq = grind (arith, front_is byte (drop 1 text) f g r s (ap (drop 1) p) lp.1 (ap (drop 1) q) lq.1)
 
 -- ---- the part before the colon
 
@@ -240,7 +239,7 @@ all_moved fails other (t ∷ tests) same h = ((λ x. h.0 (same.0.1 x)), all_move
 first_moved : (fails other : IdFault → Type 0) (tests : List IdFault) (f : IdFault) → AllByRecursion (λ t. fails t ↔ other t) tests → IsFirstFailed fails tests f → IsFirstFailed other tests f
 first_moved fails other [] f same h = h
 first_moved fails other (t ∷ tests) f same (inl h) = inl (h.0, same.0.0 h.1)
-first_moved fails other (t ∷ tests) f same (inr h) = inr ((λ x. h.0 (same.0.1 x)), first_moved fails other tests f same.1 h.1)
+first_moved fails other (t ∷ tests) f same (inr h) = grind (arith, first_moved fails other tests f same.1 h.1)
 
 judged_moved : {A B : Type 0} (fails other : IdFault → Type 0) (tests : List IdFault) (g : A → B) (r : Result A IdFault) → AllByRecursion (λ t. fails t ↔ other t) tests → IsJudged fails tests r → IsJudged other tests (r >>= (λ x. Ok (g x)))
 judged_moved fails other tests g (Ok x) same h = all_moved fails other tests same h
@@ -283,7 +282,7 @@ head_judged game text =
     ] refl
 
 pub size_exact : (game : Game) (text : List ℕ) (f : IdFault) → (size_of game text ≡ Err f) ↔ IsFirstFailed (FailsSize game text) size_tests f
-size_exact game text f = exactly (FailsSize game text) size_tests (size_of game text) f (size_judged game text)
+size_exact game text f = grind (arith, common_steps, exactly, size_judged)
 
 pub head_exact : (game : Game) (text : List ℕ) (f : IdFault) → (head_of game text ≡ Err f) ↔ IsFirstFailed (FailsHead game text) head_tests f
-head_exact game text f = exactly (FailsHead game text) head_tests (head_of game text) f (head_judged game text)
+head_exact game text f = grind (arith, common_steps, exactly, head_judged)

@@ -1,6 +1,5 @@
 -- The letters of a run of cells, and the written text of Solo's cells.
 use Rattle.std.proofs.Common.{◌≡◌, ℕ, zero, suc, ◌*◌, ◌+◌, ◌-◌, ◌/◌, ◌%◌, ◌<◌, ◌≤◌, false, eqb, List, ◌∷◌, ◌++◌, length, refl, sym, ap, ◌∙◌, arith, length-append, []}
-use Rattle.std.proofs.lemmas.Bool.Decides.{nat_tests}
 use Rattle.std.proofs.lemmas.Grind.{common_steps}
 use Rattle.std.specs.Prelude.{replicate}
 use Rattle.std.proofs.lemmas.Bool.{ne_eqb}
@@ -16,7 +15,7 @@ letters_of q r = replicate q 122 ++ (97 + r) ∷ []
 
 pub letters_are : (k q r : ℕ) → 0 < k → (k - 1) / 26 ≡ q → (k - 1) % 26 ≡ r → letters k ≡ letters_of q r
 unfolding letters letters_of
-letters_are k q r some d m = let ne : eqb k 0 ≡ false = ne_eqb _ _ (λ e. omega arith) in rw (ne, d, m) refl
+letters_are k q r some d m = grind arith
 
 letters_suc : (q r : ℕ) → letters_of (suc q) r ≡ 122 ∷ letters_of q r
 unfolding letters_of
@@ -27,26 +26,26 @@ unfolding letters_of
 letters_one r = refl
 
 pub letters_more : (k : ℕ) → 26 < k → letters k ≡ 122 ∷ letters (k - 26)
-letters_more k long = grind (arith, nat_tests, common_steps, letters_are k, letters_suc ((k - 26 - 1) / 26) ((k - 26 - 1) % 26), letters_are (k - 26))
+letters_more k long = grind (arith, letters_are k, letters_suc ((k - 26 - 1) / 26) ((k - 26 - 1) % 26), letters_are (k - 26))
 
 pub letters_last : (k : ℕ) → 0 < k → k ≤ 26 → letters k ≡ (96 + k) ∷ []
-letters_last k some short = grind (arith, nat_tests, common_steps, letters_are k 0 (k - 1) some, letters_one (k - 1))
+letters_last k some short = grind (arith, letters_are k 0 (k - 1) some, letters_one (k - 1))
 
 -- ---- Solo's cells
 
 pub letters_of_length : (q r : ℕ) → length (letters_of q r) ≡ q + 1
 unfolding letters_of
-letters_of_length q r = omega (arith, length-append (replicate q 122) ((97 + r) ∷ []), length-replicate {A = ℕ} q 122)
+letters_of_length q r = grind (arith, common_steps, length-append, length-replicate)
 
 -- letters are no more than the cells
 pub letters_short : (k : ℕ) → length (letters k) ≤ k
 letters_short zero = omega (arith, ap length (letters_none 0 refl))
-letters_short (suc k) = omega (arith, ap length (letters_are (suc k) _ _ (omega arith) refl refl), letters_of_length ((suc k - 1) / 26) ((suc k - 1) % 26))
+letters_short (suc k) = grind (arith, common_steps, letters_are, letters_of_length)
 
 -- a run of so many times 26 cells and 1 to 26 more
 pub letters_at : (q k : ℕ) → 1 ≤ k → k ≤ 26 → letters (26 * q + k) ≡ replicate q 122 ++ (96 + k) ∷ []
 unfolding letters_of
-letters_at q k some few = grind (arith, nat_tests, common_steps, letters_are (26 * q + k) q (k - 1))
+letters_at q k some few = grind (arith, letters_are (26 * q + k) q (k - 1))
 
 -- the last 'z' goes over to what follows
 pub z_moves : (q : ℕ) (rest : List ℕ) → replicate (suc q) 122 ++ rest ≡ replicate q 122 ++ 122 ∷ rest

@@ -1,6 +1,5 @@
 -- Light Up: reading byte by byte, and that a text is read exactly where it spells a puzzle.
 use Rattle.std.proofs.Common.{◌≡◌, ℕ, Bool, cond, ◌+◌, ◌<◌, ◌≤◌, List, [], ◌∷◌, ◌++◌, map, length, drop, get_or, Result, Ok, Err, refl, sym, ap, ◌∙◌, eqb, arith, ◌-◌, ◌*◌, true, ◌&&◌, leb, subst, inl, inr, false}
-use Rattle.std.proofs.lemmas.Bool.Decides.{nat_tests}
 use Rattle.std.proofs.lemmas.Grind.{common_steps}
 use Rattle.std.proofs.lemmas.Bool.{ne_eqb, leb-true, eqb-true, le-leb}
 use Rattle.std.proofs.lemmas.List.{drop_all}
@@ -29,17 +28,17 @@ lights all at cells text = reading (fill_step light_token all) (fill_end all) at
 
 pub turn_light : (all base k : ℕ) (cells : List LightCell) (text : List ℕ) (r total : Result (List LightCell) IdFault) → k < length text → light_token (base + k) (get_or text k 0 ∷ []) ≡ r → lights all (base + k) cells (drop k text) ≡ total → ((r >>= filled all cells) >>= (λ t. lights all (base + (k + 1)) t (drop (k + 1) text))) ≡ total
 unfolding reading
-turn_light all base k cells text r total lt e so = grind (arith, nat_tests, common_steps, fill_is light_token all (base + k) cells (get_or text k 0 ∷ []) r e, next_cell text k lt)
+turn_light all base k cells text r total lt e so = grind (arith, common_steps, fill_is light_token all (base + k) cells (get_or text k 0 ∷ []) r e)
 
 pub end_light : (all base k : ℕ) (cells : List LightCell) (text : List ℕ) (full : Bool) (total : Result (List LightCell) IdFault) → length text ≤ k → eqb (length cells) all ≡ full → lights all (base + k) cells (drop k text) ≡ total → total ≡ cond full (Ok cells) (Err TooFew)
 unfolding reading
 end_light all base k cells text full total past is so = sym so ∙ rw (drop_all k text past) (fill_end_is all cells full is)
 
 pub wide_of : (w h : ℕ) → in_range game.LightUp w h ≡ true → IsWide (record { w = w; h = h })
-wide_of w h e = grind (arith, nat_tests)
+wide_of w h e = grind arith
 
 pub cells_few : (size : Extent) → IsExtent size → size.w * size.h ≤ max_side * max_side
-cells_few size h = omega (arith, h.w_high, h.h_high, mul-le-mul_left size.w h.h_high, mul-le-mul_right max_side h.w_high)
+cells_few size h = grind arith
 
 abbrev pub sized : ℕ → ℕ → Extent
 sized w h = record { w = w; h = h }
@@ -84,7 +83,7 @@ are_bytes (b ∷ text) = (omega arith, are_bytes text)
 
 texts_are : (tokens : List LightToken) → map (λ b. b ∷ []) (map light_token_byte tokens) ≡ map light_token_text tokens
 texts_are [] = refl
-texts_are (token ∷ tokens) = ap (λ (ws : List (List ℕ)). light_token_text token ∷ ws) (texts_are tokens)
+texts_are (token ∷ tokens) = grind (arith, texts_are tokens)
 
 record LightDescribed (all : ℕ) (description : List ℕ) (cells : List LightCell) : Type 0 where
   tokens : List LightToken
@@ -109,18 +108,18 @@ token_fits black h = (tt, tt)
 token_fits (numbered n) h = (h, tt)
 
 pub light_lawful : (w h at : ℕ) (description : List ℕ) (cells : List LightCell) → in_range game.LightUp w h ≡ true → light_cells_at (w * h) at description ≡ Ok cells → IsLight (record { size = record { w = w; h = h }; cells = cells })
-light_lawful w h at description cells range e = grind (arith, nat_tests, common_steps, light_take (w * h) at description cells e, AllByRecursion-flat_map IsLightToken IsLightCell light_token_cells token_fits, token_fits, wide_of w h range)
+light_lawful w h at description cells range e = grind (arith, light_take (w * h) at description cells e, AllByRecursion-flat_map IsLightToken IsLightCell light_token_cells token_fits)
 
 pub light_fits : (size : Extent) (w h all at : ℕ) (description : List ℕ) (cells : List LightCell) → size ≡ sized w h → all ≡ size.w * size.h → in_range game.LightUp w h ≡ true → light_cells_at all at description ≡ Ok cells → IsLight (record { size = size; cells = cells })
-light_fits size w h all at description cells is count range e = grind (arith, nat_tests, common_steps, light_lawful w h at description cells range)
+light_fits size w h all at description cells is count range e = grind (arith, light_lawful w h at description cells range)
 
 -- ---- what is spelled is read
 
 token_read : (at : ℕ) (token : LightToken) → IsLightToken token → light_token at (light_token_byte token ∷ []) ≡ Ok (light_token_cells token)
 unfolding light_token
-token_read at (whites k) h = grind (arith, nat_tests)
+token_read at (whites k) h = grind arith
 token_read at black h = refl
-token_read at (numbered n) h = grind (arith, nat_tests)
+token_read at (numbered n) h = grind arith
 
 -- what tokens that fill the grid spell is read
 light_again : (all at : ℕ) (tokens : List LightToken) → AllByRecursion IsLightToken tokens → length (flat_map light_token_cells tokens) ≡ all → light_cells_at all at (map light_token_byte tokens) ≡ Ok (flat_map light_token_cells tokens)
@@ -148,8 +147,8 @@ light_takes text p e =
 
 -- a wide size is in the limits of Light Up, which are those of Tents
 pub wide_range : (size : Extent) → IsWide size → in_range game.LightUp size.w size.h ≡ true
-wide_range size h = grind (arith, nat_tests)
+wide_range size h = grind arith
 
 pub light_text_again : (text : List ℕ) (p : Light) → SpellsLight text p → light_of text ≡ Ok p
 unfolding light_of
-light_text_again text p s = grind (arith, nat_tests, common_steps, head_again game.LightUp s.front (map light_token_byte s.tokens) p.size.w p.size.h false s.size, wide_range p.size, light_again (p.size.w * p.size.h) (length s.front + 1) s.tokens s.each, after_front s.front (map light_token_byte s.tokens))
+light_text_again text p s = grind (arith, head_again game.LightUp s.front (map light_token_byte s.tokens) p.size.w p.size.h false s.size, light_again (p.size.w * p.size.h) (length s.front + 1) s.tokens s.each, after_front s.front (map light_token_byte s.tokens))

@@ -1,6 +1,5 @@
 -- The written text of a puzzle of Light Up: the writer's turns, its length, that it spells the puzzle, and that no other does.
 use Rattle.std.proofs.Common.{◌≡◌, ℕ, zero, suc, ◌+◌, ◌-◌, ◌<◌, ◌≤◌, List, [], ◌∷◌, ◌++◌, map, length, drop, get_or, refl, sym, ap, ◌∙◌, inl, inr, arith, append_assoc, length-append, ◌*◌}
-use Rattle.std.proofs.lemmas.Bool.Decides.{nat_tests}
 use Rattle.std.proofs.lemmas.Grind.{common_steps}
 use Rattle.std.specs.Prelude.{replicate, decimal}
 use Rattle.std.specs.List.{AllByRecursion, flat_map}
@@ -41,13 +40,13 @@ black_ascii b Black is h = omega (arith, h)
 black_ascii b (Numbered n) is h = omega (arith, h, is)
 
 pub lights_end : (k i : ℕ) (cells : List LightCell) (old out new : List ℕ) → length cells ≤ i → out ++ light_cells_text k (drop i cells) ≡ old → new ≡ out ++ letters k → new ≡ old
-lights_end k i cells old out new past so e = grind (arith, nat_tests, common_steps, drop_all i cells past, lights_nil k)
+lights_end k i cells old out new past so e = grind (arith, common_steps, lights_nil k)
 
 pub lights_step_white : (k i k' : ℕ) (cells : List LightCell) (old out out' : List ℕ) → i < length cells → get_or cells i White ≡ White → k' ≡ k + 1 → out' ≡ out → out ++ light_cells_text k (drop i cells) ≡ old → out' ++ light_cells_text k' (drop (i + 1) cells) ≡ old
-lights_step_white k i k' cells old out out' lt white more same so = grind (arith, nat_tests, common_steps, lights_white k (drop (i + 1) cells), next_of White cells i lt)
+lights_step_white k i k' cells old out out' lt white more same so = grind (arith, common_steps, lights_white k (drop (i + 1) cells))
 
 pub lights_step_black : (k i k' b : ℕ) (cells : List LightCell) (old out mid new out' : List ℕ) → i < length cells → IsBlackByte b (get_or cells i White) → mid ≡ out ++ letters k → new ≡ mid ++ b ∷ [] → k' ≡ 0 → out' ≡ new → out ++ light_cells_text k (drop i cells) ≡ old → out' ++ light_cells_text k' (drop (i + 1) cells) ≡ old
-lights_step_black k i k' b cells old out mid new out' lt byte m n none same so = grind (arith, nat_tests, common_steps, append_assoc (out ++ letters k) (b ∷ []), append_assoc out (letters k), lights_black k b (get_or cells i White) (drop (i + 1) cells) byte, next_of White cells i lt)
+lights_step_black k i k' b cells old out mid new out' lt byte m n none same so = grind (arith, common_steps, lights_black k b (get_or cells i White) (drop (i + 1) cells) byte)
 
 -- ---- how long
 
@@ -56,11 +55,11 @@ cells_short : (k : ℕ) (cells : List LightCell) → length (light_cells_text k 
 unfolding light_cells_text
 cells_short k [] = omega (arith, letters_short k)
 cells_short k (White ∷ cells) = omega (arith, cells_short (k + 1) cells)
-cells_short k (Black ∷ cells) = omega (arith, letters_short k, cells_short 0 cells, length-append (letters k) (66 ∷ light_cells_text 0 cells))
-cells_short k (Numbered n ∷ cells) = omega (arith, letters_short k, cells_short 0 cells, length-append (letters k) ((48 + n) ∷ light_cells_text 0 cells))
+cells_short k (Black ∷ cells) = grind (arith, common_steps, cells_short 0 cells, letters_short, length-append)
+cells_short k (Numbered n ∷ cells) = grind (arith, common_steps, cells_short 0 cells, letters_short, length-append)
 
 pub light_short : (p : Light) → IsLight p → length (light_text p) ≤ max_id
-light_short p h = grind (arith, nat_tests, common_steps, length_decimal p.size.w, length_decimal p.size.h, cells_short 0 p.cells, cells_few p.size, length-append (decimal p.size.w) (120 ∷ decimal p.size.h), length-append (size_text p.size.w p.size.h) (58 ∷ light_cells_text 0 p.cells))
+light_short p h = grind (arith, common_steps, length_decimal p.size.w, length_decimal p.size.h, cells_short 0 p.cells)
 
 -- ---- what it spells
 
@@ -102,7 +101,7 @@ record Tokens (text : List ℕ) (cells : List LightCell) : Type 0 where
   filled : flat_map light_token_cells tokens ≡ cells
 
 letter_tokens : (fuel k : ℕ) → k ≤ fuel → Tokens (letters k) (replicate k White)
-letter_tokens fuel zero le = record { tokens = []; spelled = letters_none 0 refl; each = tt; full = tt; filled = refl }
+letter_tokens fuel zero le = grind (arith, common_steps, letters_none)
 letter_tokens zero (suc k) le = absurd (omega arith)
 letter_tokens (suc fuel) (suc k) le =
     elim (cases_lt 26 (suc k)) [
@@ -140,8 +139,8 @@ black_tokens k token cell text cells is dark one r =
 
 cells_written : (k : ℕ) (cells : List LightCell) → AllByRecursion IsLightCell cells → Tokens (light_cells_text k cells) (replicate k White ++ cells)
 unfolding light_cells_text
-cells_written k [] h = grind (arith, nat_tests, common_steps, letter_tokens k k, append-nil (replicate k White))
-cells_written k (White ∷ cells) h = grind (arith, nat_tests, common_steps, cells_written (k + 1) cells h.1, replicate-append-replicate {A = LightCell} k 1 White, append_assoc (replicate k White) (White ∷ []) cells)
+cells_written k [] h = grind (arith, common_steps, letter_tokens k k)
+cells_written k (White ∷ cells) h = grind (arith, common_steps, cells_written (k + 1) cells h.1)
 cells_written k (Black ∷ cells) h = black_tokens k black Black (light_cells_text 0 cells) cells tt tt refl (cells_written 0 cells h.1)
 cells_written k (Numbered n ∷ cells) h = black_tokens k (numbered n) (Numbered n) (light_cells_text 0 cells) cells h.0 tt refl (cells_written 0 cells h.1)
 
@@ -168,8 +167,8 @@ pub light_spelled : (p : Light) → IsLight p → SpellsLight (light_text p) p
 light_spelled p h = (light_is_written p h).spells
 
 cells_run : (k j : ℕ) (rest : List LightCell) → light_cells_text k (replicate j White ++ rest) ≡ light_cells_text (k + j) rest
-cells_run k zero rest = ap (λ (i : ℕ). light_cells_text i rest) (let e : k ≡ k + 0 = omega arith in e)
-cells_run k (suc j) rest = grind (arith, nat_tests, common_steps, lights_white k (replicate j White ++ rest), cells_run (k + 1) j rest)
+cells_run k zero rest = grind arith
+cells_run k (suc j) rest = grind (arith, lights_white k (replicate j White ++ rest), cells_run (k + 1) j rest)
 
 -- letters that were left before the tokens go on in their first letter
 abbrev Leads : ℕ → List LightToken → Type 0
@@ -179,23 +178,23 @@ Leads (suc q) tokens = ⊥
 
 -- a black cell behind a run of white ones, and behind none
 black_behind : (q k b : ℕ) (cell : LightCell) (cells : List LightCell) (later : List ℕ) → 1 ≤ k → k ≤ 26 → IsBlackByte b cell → light_cells_text 0 cells ≡ later → light_cells_text (26 * q) (replicate k White ++ cell ∷ cells) ≡ replicate q 122 ++ (96 + k) ∷ b ∷ later
-black_behind q k b cell cells later some few is e = grind (arith, nat_tests, common_steps, cells_run (26 * q) k (cell ∷ cells), lights_black (26 * q + k) b cell cells is, letters_at q k some few, append_assoc (replicate q 122) ((96 + k) ∷ []) (b ∷ light_cells_text 0 cells))
+black_behind q k b cell cells later some few is e = grind (arith, common_steps, cells_run (26 * q) k (cell ∷ cells), lights_black (26 * q + k) b cell cells is, letters_at q k some few)
 
 black_alone : (b : ℕ) (cell : LightCell) (cells : List LightCell) (later : List ℕ) → IsBlackByte b cell → light_cells_text 0 cells ≡ later → light_cells_text 0 (cell ∷ cells) ≡ b ∷ later
-black_alone b cell cells later is e = grind (arith, nat_tests, common_steps, lights_black 0 b cell cells is, letters_none 0 refl)
+black_alone b cell cells later is e = grind (arith, lights_black 0 b cell cells is, letters_none 0 refl)
 
 -- the cells of tokens of the form, with so many times 26 white cells before them, are written as the tokens are
 form_text : (q : ℕ) (tokens : List LightToken) → AllByRecursion IsLightToken tokens → AreFullLights tokens → Leads q tokens → light_cells_text (26 * q) (flat_map light_token_cells tokens) ≡ replicate q 122 ++ map light_token_byte tokens
 form_text zero [] each full leads = lights_nil 0 ∙ letters_none 0 refl
 form_text (suc q) [] each full leads = absurd leads
-form_text q (whites k ∷ []) each full leads = cells_run (26 * q) k [] ∙ lights_nil (26 * q + k) ∙ letters_at q k each.0.0 each.0.1
-form_text q (whites k ∷ whites j ∷ tokens) each full leads = grind (arith, nat_tests, common_steps, cells_run (26 * q) k (flat_map light_token_cells (whites j ∷ tokens)), form_text (suc q) (whites j ∷ tokens) each.1 full.1 tt, z_moves q (map light_token_byte (whites j ∷ tokens)))
-form_text q (whites k ∷ black ∷ tokens) each full leads = grind (arith, nat_tests, common_steps, black_behind q k 66 Black (flat_map light_token_cells tokens) (map light_token_byte tokens) each.0.0 each.0.1 refl (form_text 0 tokens each.1.1 full tt), form_text 0 tokens each.1.1 full tt)
-form_text q (whites k ∷ numbered m ∷ tokens) each full leads = grind (arith, nat_tests, common_steps, black_behind q k (48 + m) (Numbered m) (flat_map light_token_cells tokens) (map light_token_byte tokens) each.0.0 each.0.1 refl (form_text 0 tokens each.1.1 full tt), form_text 0 tokens each.1.1 full tt)
+form_text q (whites k ∷ []) each full leads = grind (arith, common_steps, cells_run, lights_nil, letters_at)
+form_text q (whites k ∷ whites j ∷ tokens) each full leads = grind (arith, cells_run (26 * q) k (flat_map light_token_cells (whites j ∷ tokens)), form_text (suc q) (whites j ∷ tokens) each.1 full.1 tt, z_moves q (map light_token_byte (whites j ∷ tokens)))
+form_text q (whites k ∷ black ∷ tokens) each full leads = grind (arith, black_behind q k 66 Black (flat_map light_token_cells tokens) (map light_token_byte tokens) each.0.0 each.0.1 refl (form_text 0 tokens each.1.1 full tt), form_text 0 tokens each.1.1 full tt)
+form_text q (whites k ∷ numbered m ∷ tokens) each full leads = grind (arith, black_behind q k (48 + m) (Numbered m) (flat_map light_token_cells tokens) (map light_token_byte tokens) each.0.0 each.0.1 refl (form_text 0 tokens each.1.1 full tt), form_text 0 tokens each.1.1 full tt)
 form_text (suc q) (black ∷ tokens) each full leads = absurd leads
 form_text zero (black ∷ tokens) each full leads = black_alone 66 Black (flat_map light_token_cells tokens) (map light_token_byte tokens) refl (form_text 0 tokens each.1 full tt)
 form_text (suc q) (numbered m ∷ tokens) each full leads = absurd leads
 form_text zero (numbered m ∷ tokens) each full leads = black_alone (48 + m) (Numbered m) (flat_map light_token_cells tokens) (map light_token_byte tokens) refl (form_text 0 tokens each.1 full tt)
 
 pub light_form : (text : List ℕ) (p : Light) → IsWrittenLight text p → text ≡ light_text p
-light_form text p w = grind (arith, nat_tests, common_steps, form_text 0)
+light_form text p w = grind (arith, form_text 0)

@@ -1,6 +1,5 @@
 -- The lines of a grid: their places lie in it, and what is read of each is its list.
 use Rattle.std.proofs.Common.{◌≡◌, ℕ, ◌+◌, ◌-◌, ◌*◌, ◌<◌, ◌≤◌, Bool, true, false, cond, ltb, List, [], ◌∷◌, ◌++◌, map, length, get_or, refl, sym, ap, subst, ◌∙◌, arith}
-use Rattle.std.proofs.lemmas.Bool.Decides.{nat_tests}
 use Rattle.std.proofs.lemmas.Grind.{common_steps}
 use Rattle.std.specs.List.{range_with_len}
 use Rattle.std.proofs.lemmas.Bool.{lt-ltb, le-ltb}
@@ -12,14 +11,14 @@ use Rattle.gameid_core.specs.Puzzles.{line_cells, lines_of}
 use Rattle.gameid_core.specs.Lines.{line_place, line_list}
 
 pub within_column : (size : Extent) (line k w : ℕ) → w ≡ size.w → line < w → k < line_cells size line → k * w + line < size.w * size.h
-within_column size line k w is lt room = grind (arith, nat_tests, common_steps, lt-ltb, mul-le-mul_right)
+within_column size line k w is lt room = grind (arith, lt-ltb, mul-le-mul_right)
 
 -- the first numbers of a line
 abbrev pub line_front : Extent → List ℕ → ℕ → ℕ → List ℕ
 line_front size g line k = map (λ j. get_or g (line_place size line j) 0) (range_with_len 0 k)
 
 pub length_front : (size : Extent) (g : List ℕ) (line k : ℕ) → length (line_front size g line k) ≡ k
-length_front size g line k = length-map-range_with_len (λ j. get_or g (line_place size line j) 0) 0 k
+length_front size g line k = grind (arith, common_steps, length-map-range_with_len)
 
 pub front_more : (size : Extent) (g : List ℕ) (line k p n : ℕ) (numbers new : List ℕ) → p ≡ line_place size line k → n ≡ get_or g p 0 → new ≡ numbers ++ n ∷ [] → numbers ≡ line_front size g line k → new ≡ line_front size g line (k + 1)
 front_more size g line k p n numbers new place is e so =
@@ -27,17 +26,17 @@ front_more size g line k p n numbers new place is e so =
     ∙ sym (map-range_with_len_more (λ j. get_or g (line_place size line j) 0) 0 k k (let z : 0 + k ≡ k = omega arith in z))
 
 pub front_whole : (size : Extent) (g : List ℕ) (line : ℕ) → line_front size g line (line_cells size line) ≡ line_list size g line
-front_whole size g line = grind (arith, nat_tests)
+front_whole size g line = grind arith
 
 pub length_line : (size : Extent) (g : List ℕ) (line : ℕ) → length (line_list size g line) ≡ line_cells size line
-length_line size g line = grind (arith, nat_tests, common_steps, front_whole size g line, length-map-range_with_len)
+length_line size g line = grind (arith, length-map-range_with_len)
 
 -- a function of each line's list, for the columns and for the rows
 pub at_column : {A : Type 0} (f : List ℕ → A) (d : A) (size : Extent) (g : List ℕ) (x : ℕ) → x < size.w → get_or (map (λ line. f (line_list size g line)) (range_with_len 0 (lines_of size))) x d ≡ f (column_cells size g x)
-at_column f d size g x lt = grind (arith, nat_tests, common_steps, lt-ltb, get_or-map-range_with_len)
+at_column f d size g x lt = grind (arith, get_or-map-range_with_len)
 
 pub at_row : {A : Type 0} (f : List ℕ → A) (d : A) (size : Extent) (g : List ℕ) (y : ℕ) → y < size.h → get_or (map (λ line. f (line_list size g line)) (range_with_len 0 (lines_of size))) (size.w + y) d ≡ f (row_cells size g y)
-at_row f d size g y lt = grind (arith, nat_tests, common_steps, le-ltb, get_or-map-range_with_len)
+at_row f d size g y lt = grind (arith, get_or-map-range_with_len)
 
 -- a function of the lists of the first lines
 abbrev pub lines_front : {A : Type 0} → (List ℕ → A) → Extent → List ℕ → ℕ → List A

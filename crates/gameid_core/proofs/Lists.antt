@@ -1,6 +1,5 @@
 -- Lists.
 use Rattle.std.proofs.Common.{◌≡◌, ℕ, ◌+◌, ◌<◌, List, ◌∷◌, ◌++◌, length, ap, ◌∙◌, arith, zero, suc, get_or, drop, drop-cons, [], append_assoc, append-nil, add-one, sym, ◌≤◌, map, take, refl}
-use Rattle.std.proofs.lemmas.Bool.Decides.{nat_tests}
 use Rattle.std.proofs.lemmas.Grind.{common_steps}
 use Rattle.std.specs.Prelude.{replicate}
 use Rattle.std.specs.List.{AllByRecursion, flat_map, join_with_byte}
@@ -20,7 +19,7 @@ AllByRecursion-flat_map Fits P f h [] all = tt
 AllByRecursion-flat_map Fits P f h (t ∷ ts) all = AllByRecursion-append P (f t) (flat_map f ts) (h t all.0) (AllByRecursion-flat_map Fits P f h ts all.1)
 
 pub next_of : {A : Type 0} (d : A) (cells : List A) (i : ℕ) → i < length cells → drop i cells ≡ get_or cells i d ∷ drop (i + 1) cells
-next_of d cells i lt = drop-cons cells i d lt ∙ ap (λ (k : ℕ). get_or cells i d ∷ drop k cells) (let k : suc i ≡ i + 1 = omega arith in k)
+next_of d cells i lt = grind (arith, common_steps, drop-cons)
 
 pub next_cell : (cells : List ℕ) (i : ℕ) → i < length cells → drop i cells ≡ get_or cells i 0 ∷ drop (i + 1) cells
 next_cell cells i lt = next_of 0 cells i lt
@@ -37,21 +36,21 @@ none_pushed text f = sym (append-nil text)
 pub one_pushed : (old text new : List ℕ) (f : ℕ → List ℕ) (n : ℕ) (piece : List ℕ) → text ≡ old ++ each_below f n
     → new ≡ text ++ piece → piece ≡ f n → new ≡ old ++ each_below f (n + 1)
 unfolding each_below
-one_pushed old text new f n piece so_far more is = grind (arith, nat_tests, common_steps, append_assoc old (each_below f n) piece, add-one n)
+one_pushed old text new f n piece so_far more is = grind (arith, common_steps)
 
 join_push : (c : ℕ) (y : List ℕ) (xs : List (List ℕ)) (x : List ℕ) → join_with_byte c ((y ∷ xs) ++ x ∷ []) ≡ join_with_byte c (y ∷ xs) ++ c ∷ x
 join_push c y [] x = refl
-join_push c y (z ∷ xs) x = ap (λ (t : List ℕ). y ++ (c ∷ t)) (join_push c z xs x) ∙ sym (append_assoc y (c ∷ join_with_byte c (z ∷ xs)) (c ∷ x))
+join_push c y (z ∷ xs) x = grind (arith, common_steps, join_push c z xs x, append_assoc)
 
 map_more : {A : Type 0} (f : A → List ℕ) (xs : List A) (k : ℕ) (d x : A) → k < length xs → x ≡ get_or xs k d → map f (take (k + 1) xs) ≡ map f (take k xs) ++ f x ∷ []
-map_more f xs k d x lt is = ap (map f) (take_more xs k d lt) ∙ map-append f (take k xs) (get_or xs k d ∷ []) ∙ ap (λ y. map f (take k xs) ++ f y ∷ []) (sym is)
+map_more f xs k d x lt is = grind (arith, common_steps, take_more, map-append)
 
 join_some : {A : Type 0} (c : ℕ) (f : A → List ℕ) (ys : List A) (x : List ℕ) → 0 < length ys → join_with_byte c (map f ys ++ x ∷ []) ≡ join_with_byte c (map f ys) ++ c ∷ x
 join_some c f [] x some = absurd (omega arith)
 join_some c f (y ∷ ys) x some = join_push c (f y) (map f ys) x
 
 pub joined_first : {A : Type 0} (c : ℕ) (f : A → List ℕ) (xs : List A) (k : ℕ) (d x : A) (old out new : List ℕ) → k ≤ 0 → k < length xs → x ≡ get_or xs k d → out ≡ old ++ join_with_byte c (map f (take k xs)) → new ≡ out ++ f x → new ≡ old ++ join_with_byte c (map f (take (k + 1) xs))
-joined_first c f xs k d x old out new none lt is so e = grind (arith, nat_tests, common_steps, map_more f xs k d x lt is, append_assoc old [] (f x))
+joined_first c f xs k d x old out new none lt is so e = grind (arith, common_steps)
 
 pub joined_more : {A : Type 0} (c : ℕ) (f : A → List ℕ) (xs : List A) (k : ℕ) (d x : A) (old out mid new : List ℕ) → 0 < k → k < length xs → x ≡ get_or xs k d → out ≡ old ++ join_with_byte c (map f (take k xs)) → mid ≡ out ++ c ∷ [] → new ≡ mid ++ f x → new ≡ old ++ join_with_byte c (map f (take (k + 1) xs))
-joined_more c f xs k d x old out mid new some lt is so m e = grind (arith, nat_tests, common_steps, length-take k xs, map_more f xs k d x lt is, join_some c f (take k xs) (f x), append_assoc (old ++ join_with_byte c (map f (take k xs))) (c ∷ []) (f x), append_assoc old (join_with_byte c (map f (take k xs))) (c ∷ f x))
+joined_more c f xs k d x old out mid new some lt is so m e = grind (arith, common_steps, join_some c f (take k xs) (f x))

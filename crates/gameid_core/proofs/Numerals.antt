@@ -24,14 +24,14 @@ begins_front kind [] ys e = absurd (false≢true e)
 begins_front kind (x ∷ xs) ys e = e
 
 pub lead_digit : (n : ℕ) → 0 < n → n < 10 → is_lead (48 + n) ≡ true
-lead_digit n some small = let a : leb 49 (48 + n) ≡ true = le-leb _ _ (omega arith) in let b : leb (48 + n) 57 ≡ true = le-leb _ _ (omega arith) in rw (a, b) refl
+lead_digit n some small = grind arith
 
 pub decimal_leads : (n : ℕ) → n < 2 ^ 64 → 0 < n → begins is_lead (decimal n) ≡ true
 decimal_leads n small =
     decimal_by_steps (λ n ds. 0 < n → begins is_lead ds ≡ true) (λ n lt some. lead_digit n some lt) (λ n ds ge h some. begins_front is_lead ds _ (h (omega arith))) n small
 
 pub lead_is_digit : (b : ℕ) → is_lead b ≡ true → is_ascii_digit b ≡ true
-lead_is_digit b e = grind (arith, nat_tests)
+lead_is_digit b e = grind arith
 
 pub value_positive : (b : ℕ) (ds : List ℕ) → 49 ≤ b → 0 < value (b ∷ ds)
 unfolding value_after
@@ -52,11 +52,11 @@ digit_begins [] h = absurd (let some : 0 < 0 = h.some in omega arith)
 digit_begins (c ∷ digits) h = (and_parts (is_ascii_digit c) (all_ascii_digits digits) h.digits).0
 
 pub numeral_cuts : (num rest : List ℕ) → IsNumeral num → begins is_ascii_digit rest ≡ false → Cuts (num ++ rest) num rest
-numeral_cuts num rest h other = grind (arith, nat_tests, common_steps, front_numeral num rest h.digits other, cuts_number (num ++ rest) (digit_front num rest h), digit_front num rest h)
+numeral_cuts num rest h other = grind (arith, front_numeral num rest h.digits other, cuts_number (num ++ rest) (digit_front num rest h))
 
 -- a byte that joins digits, and a numeral
 pub joined_cuts : (b : ℕ) → joins b ≡ true → (num rest : List ℕ) → IsNumeral num → begins is_ascii_digit rest ≡ false → Cuts (b ∷ (num ++ rest)) (b ∷ num) rest
-joined_cuts b j num rest h other = grind (arith, nat_tests, common_steps, front_numeral num rest h.digits other, cuts_joined b (num ++ rest) j)
+joined_cuts b j num rest h other = grind (arith, front_numeral num rest h.digits other, cuts_joined b (num ++ rest) j)
 
 -- a number takes no more digits than it counts
 pub length_decimal : (n : ℕ) → n < 2 ^ 64 → 0 < n → length (decimal n) ≤ n
@@ -78,8 +78,8 @@ plain_decimal (b ∷ c ∷ more) d h small = decimal-digits_value own (b ∷ c �
 lead_plain : (ds : List ℕ) → begins is_lead ds ≡ true → IsPlain ds
 lead_plain [] e = tt
 lead_plain (b ∷ []) e = tt
-lead_plain (b ∷ c ∷ more) e = λ zero. absurd (let low : 49 ≤ b = leb-true _ _ (and_parts (leb 49 b) (leb b 57) e).0 in omega (arith, zero))
+lead_plain (b ∷ c ∷ more) e = grind arith
 
 pub decimal_plain : (n : ℕ) → n < 2 ^ 64 → IsPlain (decimal n)
-decimal_plain zero small = grind (arith, nat_tests, common_steps, length-decimal-le 1 0)
-decimal_plain (suc n) small = lead_plain (decimal (suc n)) (decimal_leads (suc n) small (omega arith))
+decimal_plain zero small = grind (arith, length-decimal-le 1 0)
+decimal_plain (suc n) small = grind (arith, common_steps, lead_plain, decimal_leads)

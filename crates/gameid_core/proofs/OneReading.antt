@@ -1,5 +1,6 @@
 -- A text spells one puzzle or has one fault, for any game whose reading and spelling agree.
 use Rattle.std.proofs.Common.{◌≡◌, ℕ, List, Result, Ok, Err, refl, sym, subst, ◌∙◌, ◌⊎◌, inl, inr}
+use Rattle.std.proofs.Common.{arith}
 use Rattle.gameid_core.specs.declared.fault.IdFault.{IdFault}
 use Rattle.gameid_core.specs.Steps.{Gives}
 use Rattle.gameid_core.proofs.Results.{taken, ok_is}
@@ -25,7 +26,7 @@ either_of {P} spells of takes text = cases (of text) refl
     cases (Err f) e = inr (f, e)
 
 pub only_of : {P : Type 0} (spells : List ℕ → P → Type 0) (of : List ℕ → Result P IdFault) → Again spells of → (text : List ℕ) (r : Result P IdFault) → Gives (λ p. p) r (of text) → (p : P) → spells text p → Gives (λ q. q) r (Ok p)
-only_of {P} spells of again text r gives p s = subst (λ (read : Result P IdFault). Gives (λ q. q) r read) (again text p s) gives
+only_of {P} spells of again text r gives p s = grind arith
 
 -- a form that only one text has
 pub one_text : {P : Type 0} (written : List ℕ → P → Type 0) (write : P → List ℕ) → ((text : List ℕ) (p : P) → written text p → text ≡ write p) → (text other : List ℕ) (p : P) → written text p → written other p → text ≡ other

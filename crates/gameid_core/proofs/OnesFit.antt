@@ -1,6 +1,5 @@
 -- The ones of a line are no more than its cells; the turns of counting them.
 use Rattle.std.proofs.Common.{◌≡◌, ℕ, zero, suc, ◌+◌, ◌*◌, ◌<◌, ◌≤◌, true, false, cond, eqb, eq-eqb, List, [], ◌∷◌, map, length, drop, get_or, refl, sym, ap, subst, ◌∙◌, arith}
-use Rattle.std.proofs.lemmas.Bool.Decides.{nat_tests}
 use Rattle.std.proofs.lemmas.Grind.{common_steps}
 use Rattle.std.specs.List.{All, AllByRecursion, range_with_len, filter}
 use Rattle.std.proofs.lemmas.Bool.{ne_eqb}
@@ -21,21 +20,21 @@ ones_other : (b : ℕ) (cells : List ℕ) → (b ≡ 1 → ⊥) → ones (b ∷ 
 ones_other b cells ne = let other : eqb b 1 ≡ false = ne_eqb b 1 ne in rw other refl
 
 pub turn_one : (k k' i : ℕ) (cells : List ℕ) (total : ℕ) → i < length cells → get_or cells i 0 ≡ 1 → k' ≡ k + 1 → k + ones (drop i cells) ≡ total → k' + ones (drop (i + 1) cells) ≡ total
-turn_one k k' i cells total lt is more so = grind (arith, nat_tests, common_steps, next_cell cells i lt, ones_one (get_or cells i 0) (drop (i + 1) cells) is)
+turn_one k k' i cells total lt is more so = grind (arith, common_steps)
 
 pub turn_other : (k k' i : ℕ) (cells : List ℕ) (total : ℕ) → i < length cells → (get_or cells i 0 ≡ 1 → ⊥) → k' ≡ k → k + ones (drop i cells) ≡ total → k' + ones (drop (i + 1) cells) ≡ total
-turn_other k k' i cells total lt ne same so = grind (arith, nat_tests, common_steps, next_cell cells i lt, ones_other (get_or cells i 0) (drop (i + 1) cells) ne)
+turn_other k k' i cells total lt ne same so = grind (arith, common_steps)
 
 pub turns_done : (k i : ℕ) (cells : List ℕ) (total : ℕ) → length cells ≤ i → k + ones (drop i cells) ≡ total → k ≡ total
 turns_done k i cells total past so = let none = ap ones (drop_all i cells past) in omega (arith, none, so)
 
 ones_few : (cells : List ℕ) → ones cells ≤ length cells
 ones_few [] = omega arith
-ones_few (b ∷ cells) = grind (arith, nat_tests, ones_few cells)
+ones_few (b ∷ cells) = grind (arith, ones_few cells)
 
 are_ones : (size : Extent) (g : List ℕ) (line n : ℕ) → AreCounts size line (map (λ i. ones (line_list size g i)) (range_with_len line n))
 are_ones size g line zero = tt
-are_ones size g line (suc n) = (omega (arith, ones_few (line_list size g line), length_line size g line), are_ones size g (line + 1) n)
+are_ones size g line (suc n) = grind (arith, common_steps, are_ones size g (line + 1) n, ones_few, length_line)
 
 each_of : {A : Type 0} (P : A → Type 0) (xs : List A) → All P xs → AllByRecursion P xs
 each_of P [] h = tt
@@ -43,4 +42,4 @@ each_of P (x ∷ xs) h = (All-head P x xs h, each_of P xs (All-tail P x xs h))
 
 -- trees, and the ones of the lines, are a puzzle
 pub ones_lawful : (size : Extent) (trees tents counts kept : List ℕ) → IsExtent size → 2 ≤ size.w → 2 ≤ size.h → IsGrid (size.w * size.h) 2 trees → kept ≡ trees → counts ≡ lines_ones size tents → IsTents (record { size = size; trees = kept; counts = counts })
-ones_lawful size trees tents counts kept e w h grid same is = grind (arith, nat_tests, common_steps, each_of, length-map-range_with_len, are_ones size tents 0 (lines_of size))
+ones_lawful size trees tents counts kept e w h grid same is = grind (arith, each_of, length-map-range_with_len, are_ones size tents 0 (lines_of size))

@@ -53,15 +53,15 @@ pub record Spelled (clues : List (List ℕ)) (clue text : List ℕ) (all : List 
 dotted_word : (word : List ℕ) → IsWord word → begins (λ b. eqb b 46) word ≡ true → begins is_ascii_digit (drop 1 word) ≡ true → (word ≡ 46 ∷ drop 1 word) × IsNumeral (drop 1 word)
 dotted_word [] w dot d = absurd w
 dotted_word (b ∷ []) w dot d = absurd (false≢true d)
-dotted_word (b ∷ c ∷ more) w dot d = (ap (λ (k : ℕ). k ∷ c ∷ more) (eqb-true b 46 dot), record { some = omega arith; digits = w.0 })
+dotted_word (b ∷ c ∷ more) w dot d = grind arith
 
 slash_word : (word : List ℕ) → IsWord word → begins (λ b. eqb b 47) word ≡ true → word ≡ 47 ∷ []
 slash_word [] w s = absurd w
-slash_word (b ∷ more) w s = grind (arith, nat_tests)
+slash_word (b ∷ more) w s = grind arith
 
 pub read_spelled : (size : Extent) (at : ℕ) (clues : List (List ℕ)) (clue : List ℕ) (ws : List (List ℕ)) (all : List (List ℕ)) → AllByRecursion IsWord ws → reading (pattern_step size) (pattern_end size) at (so_far clues clue) ws ≡ Ok all → Spelled clues clue (concat ws) all
 unfolding reading
-read_spelled size at clues clue [] all w e = grind (arith, nat_tests, common_steps, end_cases size clues clue all e, tail_none clue, append-nil clue)
+read_spelled size at clues clue [] all w e = grind (arith, end_cases size clues clue all e, tail_none clue, append-nil clue)
 read_spelled size at clues clue (word ∷ ws) all w e =
     let b = bind_ok (pattern_step size at (so_far clues clue) word) (λ t. reading (pattern_step size) (pattern_end size) (at + length word) t ws) all e in
     elim (step_cases size at clues clue word b.0 b.1) [
@@ -106,7 +106,7 @@ read_spelled size at clues clue (word ∷ ws) all w e =
 -- ---- what fits
 
 used_fits : (cells n : ℕ) (clue rest : List ℕ) → IsClue cells (clue ++ n ∷ rest) → (0 < n) × (used clue + n ≤ cells)
-used_fits cells n [] rest h = (h.positive.0, (let fits : used (n ∷ rest) ≤ cells + 1 = h.fits in omega arith))
+used_fits cells n [] rest h = grind arith
 used_fits cells n (m ∷ clue) rest h =
     let fits : (m + 1) + used (clue ++ n ∷ rest) ≤ cells + 1 = h.fits in
     let more : (0 < n) × (used clue + n ≤ used (clue ++ n ∷ rest)) = used_part n clue rest h.positive.1 in
@@ -125,19 +125,19 @@ used_fits cells n (m ∷ clue) rest h =
 
 number_read : (cells line before at : ℕ) (digits : List ℕ) → 0 < value digits → before + value digits ≤ cells → clue_number cells line before at digits ≡ Ok (value digits)
 unfolding clue_number
-number_read cells line before at digits some room = grind (arith, nat_tests)
+number_read cells line before at digits some room = grind arith
 
 first_read : (cells line at : ℕ) (num : List ℕ) → IsNumeral num → 0 < value num → value num ≤ cells → clue_token cells line [] at num ≡ Ok (value num)
 unfolding clue_token
-first_read cells line at num h some room = rw (digit_begins num h) (number_read cells line 0 at num some (omega arith))
+first_read cells line at num h some room = grind (arith, common_steps, digit_begins, number_read)
 
 further_read : (cells line at m : ℕ) (clue num : List ℕ) → IsNumeral num → 0 < value num → used (m ∷ clue) + value num ≤ cells → clue_token cells line (m ∷ clue) at (46 ∷ num) ≡ Ok (value num)
 unfolding clue_token
-further_read cells line at m clue num h some room = rw (digit_begins num h) (number_read cells line (used (m ∷ clue)) (at + 1) num some room)
+further_read cells line at m clue num h some room = grind (arith, common_steps, digit_begins, number_read)
 
 numeral_other : (num : List ℕ) → IsNumeral num → begins (λ b. eqb b 47) num ≡ false
 numeral_other [] h = refl
-numeral_other (c ∷ digits) h = grind (arith, nat_tests)
+numeral_other (c ∷ digits) h = grind arith
 
 -- no clue's rest and no later clue begins with a digit
 rest_begins : (m : ℕ) (clue : List ℕ) (ns : List (List ℕ)) (later : List (List (List ℕ))) → begins is_ascii_digit (tail_text (m ∷ clue) ns ++ later_text later) ≡ false
@@ -150,8 +150,8 @@ Reads size all clues clue text = (at : ℕ) → reading (pattern_step size) (pat
 
 -- the rest of a clue is read, and then what follows it
 clue_again : (size : Extent) (all clues : List (List ℕ)) (clue : List ℕ) (ns : List (List ℕ)) (later : List (List (List ℕ))) → AllByRecursion IsNumeral ns → IsClue (line_cells size (length clues)) (clue ++ map value ns) → Reads size all clues (clue ++ map value ns) (later_text later) → Reads size all clues clue (tail_text clue ns ++ later_text later)
-clue_again size all clues clue [] later d fits next at = grind (arith, nat_tests, common_steps, tail_none clue, append-nil clue)
-clue_again size all clues [] (num ∷ ns) later d fits next at = grind (arith, nat_tests, common_steps, used_fits (line_cells size (length clues)) (value num) [] (map value ns) fits, join_cons 46 num ns, append_assoc num (tail_text (value num ∷ []) ns) (later_text later), numeral_cuts num (tail_text (value num ∷ []) ns ++ later_text later) d.0 (rest_begins (value num) [] ns later), rest_begins (value num) [] ns later, step_number size at clues [] num (Ok (value num)) (numeral_other num d.0), numeral_other num d.0, first_read, reading_turn (pattern_step size) (pattern_end size) at (so_far clues []) (so_far clues (value num ∷ [])), clue_again size all clues (value num ∷ []) ns later d.1 fits next (at + length num))
+clue_again size all clues clue [] later d fits next at = grind (arith, common_steps)
+clue_again size all clues [] (num ∷ ns) later d fits next at = grind (arith, common_steps, join_cons 46 num ns, numeral_cuts num (tail_text (value num ∷ []) ns ++ later_text later) d.0 (rest_begins (value num) [] ns later), step_number size at clues [] num (Ok (value num)) (numeral_other num d.0), first_read, reading_turn (pattern_step size) (pattern_end size) at (so_far clues []) (so_far clues (value num ∷ [])), clue_again size all clues (value num ∷ []) ns later d.1 fits next (at + length num))
 clue_again size all clues (m ∷ clue) (num ∷ ns) later d fits next at =
     let room = used_fits (line_cells size (length clues)) (value num) (m ∷ clue) (map value ns) fits in
     let text : tail_text (m ∷ clue) (num ∷ ns) ++ later_text later ≡ 46 ∷ (num ++ (tail_text (m ∷ clue) ns ++ later_text later)) = append_assoc (46 ∷ num) (tail_text (m ∷ clue) ns) (later_text later) in
@@ -163,24 +163,24 @@ clue_again size all clues (m ∷ clue) (num ∷ ns) later d fits next at =
 -- ---- the clues after a clue
 
 are_at : (size : Extent) (line : ℕ) (xs : List (List ℕ)) (c : List ℕ) (ys : List (List ℕ)) → AreClues size line (xs ++ c ∷ ys) → IsClue (line_cells size (line + length xs)) c
-are_at size line [] c ys h = subst (λ (k : ℕ). IsClue (line_cells size k) c) (let e : line ≡ line + 0 = omega arith in e) h.0
-are_at size line (x ∷ xs) c ys h = grind (arith, nat_tests, are_at size (line + 1) xs c ys h.1)
+are_at size line [] c ys h = grind arith
+are_at size line (x ∷ xs) c ys h = grind (arith, are_at size (line + 1) xs c ys h.1)
 
 later_again : (size : Extent) (all clues : List (List ℕ)) (clue : List ℕ) (later : List (List (List ℕ))) → AllByRecursion (AllByRecursion IsNumeral) later → clues ++ clue ∷ map (map value) later ≡ all → length all ≡ lines_of size → AreClues size 0 all → Reads size all clues clue (later_text later)
-later_again size all clues clue [] d is len are at = grind (arith, nat_tests, common_steps, reading_end (pattern_step size) (pattern_end size) at (so_far clues clue) [] refl, end_is size clues clue true, eq-eqb, length-append clues (clue ∷ []))
+later_again size all clues clue [] d is len are at = grind (arith, common_steps, reading_end (pattern_step size) (pattern_end size) at (so_far clues clue) [] refl, end_is size clues clue true)
 later_again size all clues clue (l ∷ later) d is len are at = grind (arith, nat_tests, common_steps, append_assoc clues (clue ∷ []) (map value l ∷ map (map value) later), zero-add (length (clues ++ clue ∷ [])), are_at size 0 (clues ++ clue ∷ []) (map value l) (map (map value) later), length-append clues (clue ∷ map value l ∷ map (map value) later), ne_eqb, clue_again size all (clues ++ clue ∷ []) [] l later d.0, later_again size all (clues ++ clue ∷ []) (map value l) later d.1, reading_turn (pattern_step size) (pattern_end size) at (so_far clues clue) (so_far (clues ++ clue ∷ []) []) (47 ∷ (join_with_byte 46 l ++ later_text later)) (47 ∷ []) (join_with_byte 46 l ++ later_text later) (cuts_single 47 (join_with_byte 46 l ++ later_text later) refl), cuts_single 47 (join_with_byte 46 l ++ later_text later) refl, step_slash size at clues clue false)
 
 flat_map-map : (later : List (List (List ℕ))) → flat_map (λ y. 47 ∷ y) (map (join_with_byte 46) later) ≡ later_text later
 flat_map-map [] = refl
-flat_map-map (l ∷ later) = ap (λ (t : List ℕ). (47 ∷ join_with_byte 46 l) ++ t) (flat_map-map later)
+flat_map-map (l ∷ later) = grind (arith, flat_map-map later)
 
 pub clues_text_is : (ns : List (List ℕ)) (later : List (List (List ℕ))) → clues_text (ns ∷ later) ≡ tail_text [] ns ++ later_text later
-clues_text_is ns later = join_cons 47 (join_with_byte 46 ns) (map (join_with_byte 46) later) ∙ ap (λ (t : List ℕ). join_with_byte 46 ns ++ t) (flat_map-map later)
+clues_text_is ns later = grind (arith, common_steps, join_cons, flat_map-map)
 
 -- what clues that fit spell is read
 pub clues_again : (size : Extent) (at : ℕ) (numerals : List (List (List ℕ))) → AllByRecursion (AllByRecursion IsNumeral) numerals → IsPattern (record { size = size; clues = map (map value) numerals }) → clues_at size at (clues_text numerals) ≡ Ok (map (map value) numerals)
 unfolding clues_at
-clues_again size at [] d h = absurd (let none : 0 ≡ lines_of size = h.lines in let w : 1 ≤ size.w = h.size.w_low in omega arith)
+clues_again size at [] d h = grind arith
 clues_again size at (ns ∷ later) d h =
     let all : List (List ℕ) = map (map value) (ns ∷ later) in
     rw (clues_text_is ns later) (clue_again size all [] [] ns later d.0 h.clues.0 (later_again size all [] (map value ns) later d.1 refl h.lines h.clues) at)
@@ -203,10 +203,10 @@ clues_take size at description all e =
     }
 
 is_extent : (w h : ℕ) → in_range game.Pattern w h ≡ true → IsExtent (record { w = w; h = h })
-is_extent w h e = grind (arith, nat_tests)
+is_extent w h e = grind arith
 
 range_of : (size : Extent) → IsExtent size → in_range game.Pattern size.w size.h ≡ true
-range_of size h = grind (arith, nat_tests)
+range_of size h = grind arith
 
 pub pattern_takes : (text : List ℕ) (p : Pattern) → pattern_of text ≡ Ok p → SpellsPattern text p
 unfolding pattern_of
@@ -228,4 +228,4 @@ pattern_takes text p e =
 
 pub pattern_again : (text : List ℕ) (p : Pattern) → SpellsPattern text p → pattern_of text ≡ Ok p
 unfolding pattern_of
-pattern_again text p s = grind (arith, nat_tests, common_steps, head_again game.Pattern s.front (clues_text s.numerals) p.size.w p.size.h false s.size (range_of p.size s.puzzle.size), range_of p.size s.puzzle.size, clues_again p.size (length s.front + 1) s.numerals s.digits, after_front s.front (clues_text s.numerals))
+pattern_again text p s = grind (arith, head_again game.Pattern s.front (clues_text s.numerals) p.size.w p.size.h false s.size (range_of p.size s.puzzle.size), clues_again p.size (length s.front + 1) s.numerals s.digits, after_front s.front (clues_text s.numerals))

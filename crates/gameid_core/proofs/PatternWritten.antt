@@ -16,7 +16,7 @@ use Rattle.gameid_core.proofs.Numerals.{decimal_plain, own, length_decimal, nume
 -- ---- how long
 
 pub line_small : (size : Extent) (line : ℕ) → IsExtent size → line_cells size line ≤ max_side
-line_small size line h = elim (ltb line size.w) as (λ v. cond v size.h size.w ≤ max_side) [ true ↦ h.h_high | false ↦ h.w_high ]
+line_small size line h = grind arith
 
 length_clue : (clue : List ℕ) → AllByRecursion (λ n. 0 < n) clue → used clue < 2 ^ 64 → 0 < length clue → length (clue_text clue) + 1 ≤ used clue
 length_clue [] h small some = absurd (omega arith)
@@ -30,11 +30,11 @@ clue_short cells (n ∷ clue) h small = let fits : used (n ∷ clue) ≤ cells +
 
 clues_short : (size : Extent) (line : ℕ) (clues : List (List ℕ)) → IsExtent size → AreClues size line clues → length (join_with_byte 47 (map clue_text clues)) ≤ (max_side + 1) * length clues
 clues_short size line [] e h = omega arith
-clues_short size line (c ∷ []) e h = let small = line_small size line e in omega (arith, clue_short (line_cells size line) c h.0 small)
-clues_short size line (c ∷ d ∷ clues) e h = grind (arith, nat_tests, common_steps, line_small size line e, clue_short (line_cells size line) c h.0, clues_short size (line + 1) (d ∷ clues) e h.1, length-append (clue_text c) (47 ∷ join_with_byte 47 (map clue_text (d ∷ clues))))
+clues_short size line (c ∷ []) e h = grind (arith, common_steps, line_small, clue_short)
+clues_short size line (c ∷ d ∷ clues) e h = grind (arith, common_steps, clue_short (line_cells size line) c h.0, clues_short size (line + 1) (d ∷ clues) e h.1)
 
 pub pattern_short : (p : Pattern) → IsPattern p → length (pattern_text p) ≤ max_id
-pattern_short p h = grind (arith, nat_tests, common_steps, length_decimal p.size.w, length_decimal p.size.h, clues_short p.size 0 p.clues, length-append (decimal p.size.w) (120 ∷ decimal p.size.h), length-append (size_text p.size.w p.size.h) (58 ∷ join_with_byte 47 (map clue_text p.clues)))
+pattern_short p h = grind (arith, common_steps, length_decimal p.size.w, length_decimal p.size.h, clues_short p.size 0 p.clues)
 
 -- ---- what it spells
 
@@ -51,7 +51,7 @@ numerals (n ∷ clue) small =
 
 all_numerals : (size : Extent) (line : ℕ) (clues : List (List ℕ)) → IsExtent size → AreClues size line clues → AllByRecursion (AllByRecursion IsNumeral) (map (map decimal) clues) × (map (map value) (map (map decimal) clues) ≡ clues)
 all_numerals size line [] e h = (tt, refl)
-all_numerals size line (c ∷ clues) e h = grind (arith, nat_tests, common_steps, line_small size line e, numerals c, all_numerals size (line + 1) clues e h.1)
+all_numerals size line (c ∷ clues) e h = grind (arith, numerals c, all_numerals size (line + 1) clues e h.1)
 
 clue_is_plain : (clue : List ℕ) → used clue < 2 ^ 64 → AllByRecursion IsPlain (map decimal clue)
 clue_is_plain [] small = tt
@@ -59,7 +59,7 @@ clue_is_plain (n ∷ clue) small = (decimal_plain n (omega (arith, small)), clue
 
 clues_are_plain : (size : Extent) (line : ℕ) (clues : List (List ℕ)) → IsExtent size → AreClues size line clues → AllByRecursion (AllByRecursion IsPlain) (map (map decimal) clues)
 clues_are_plain size line [] e h = tt
-clues_are_plain size line (c ∷ clues) e h = grind (arith, nat_tests, common_steps, line_small size line e, clue_is_plain c, clues_are_plain size (line + 1) clues e h.1)
+clues_are_plain size line (c ∷ clues) e h = grind (arith, clue_is_plain c, clues_are_plain size (line + 1) clues e h.1)
 
 -- the written text has the form of a written text, and so it spells the puzzle
 pub pattern_is_written : (p : Pattern) → IsPattern p → IsWrittenPattern (pattern_text p) p
@@ -89,7 +89,7 @@ clue_plain (num ∷ clue) d h small = rw (plain_decimal num d.0 h.0 (omega (arit
 
 clues_plain : (size : Extent) (line : ℕ) (clues : List (List (List ℕ))) → IsExtent size → AreClues size line (map (map value) clues) → AllByRecursion (AllByRecursion IsNumeral) clues → AllByRecursion (AllByRecursion IsPlain) clues → map (map decimal) (map (map value) clues) ≡ clues
 clues_plain size line [] e h d plain = refl
-clues_plain size line (clue ∷ clues) e h d plain = grind (arith, nat_tests, common_steps, line_small size line e, clue_plain clue d.0 plain.0, clues_plain size (line + 1) clues e h.1 d.1 plain.1)
+clues_plain size line (clue ∷ clues) e h d plain = grind (arith, clue_plain clue d.0 plain.0, clues_plain size (line + 1) clues e h.1 d.1 plain.1)
 
 pub pattern_form : (text : List ℕ) (p : Pattern) → IsWrittenPattern text p → text ≡ pattern_text p
 pattern_form text p w =

@@ -1,7 +1,5 @@
 -- What is printed of a cell is read back: one byte for each cell, or a number.
 use Rattle.std.proofs.Common.{◌≡◌, ◌≢◌, ◌∙◌, ◌+◌, ◌*◌, ◌<◌, ◌≤◌, ◌++◌, ◌∷◌, ◌==◌, ℕ, List, Bool, true, false, [], Option, Some, zero, suc, length, slice_index, sym, ap, refl, arith, if◌then◌else◌, codes, decimal}
-use Rattle.std.proofs.lemmas.Bool.Decides.{nat_tests}
-use Rattle.std.proofs.lemmas.Grind.{common_steps}
 use Rattle.std.specs.Prelude.{IsTrue, ◌↔◌}
 use Rattle.std.proofs.lemmas.Bool.{ne_eqb, true≢false}
 use Rattle.std.proofs.lemmas.Fmt.{decimal_digit}
@@ -30,8 +28,8 @@ mark_read mark other (suc (suc v)) text after result small same different read i
 pub black_read : (cell : LightCell) (o : Option LightCell) (v : ℕ) (text after : List ℕ) (result : Option (ℕ × ℕ)) → o ≡ Some cell → cell ≢ White → IsLightCell cell → v ≡ 0
     → (1 ≤ length text → result ≡ Some (0, 1)) → text ≡ light_mark o v ++ after → result ≡ Some (v, length (light_mark o v))
 black_read White o v text after result at black small none read is = absurd (black refl)
-black_read Black o v text after result at black small none read is = grind (arith, nat_tests)
-black_read (Numbered n) o v text after result at black small none read is = grind (arith, nat_tests, common_steps, decimal_digit n)
+black_read Black o v text after result at black small none read is = grind arith
+black_read (Numbered n) o v text after result at black small none read is = grind (arith, decimal_digit n)
 
 -- a white cell
 pub white_read : (o : Option LightCell) (v : ℕ) (text after : List ℕ) (result : Option (ℕ × ℕ)) → o ≡ Some White → v < 2
@@ -45,7 +43,7 @@ pub tent_read : (tree : ℕ) (answer : Bool) (v : ℕ) (text after : List ℕ) (
     → ((byte : ℕ) (rest : List ℕ) → text ≡ byte ∷ rest → result ≡ Some ((if byte == 94 then 1 else 0), 1))
     → text ≡ (if tree == 1 then codes "T" else (if v == 1 then codes "^" else codes ".")) ++ after
     → result ≡ Some (v, length (if tree == 1 then codes "T" else (if v == 1 then codes "^" else codes ".")))
-tent_read tree answer v text after result means none small read is = grind (arith, nat_tests, common_steps, ne_eqb tree 1, mark_read 94 46 v text after result small refl refl read)
+tent_read tree answer v text after result means none small read is = grind (arith, mark_read 94 46 v text after result small refl refl read)
 
 pub same_some : (a b : LightCell) (o : Option LightCell) → o ≡ Some a → o ≡ Some b → a ≡ b
 same_some a b o is also = cc

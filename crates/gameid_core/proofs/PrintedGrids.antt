@@ -1,7 +1,6 @@
 -- A grid is read row by row: it agrees so far with every grid whose printed form the text begins with, so in the end it
 -- is the only one.
 use Rattle.std.proofs.Common.{◌≡◌, ◌∙◌, ◌*◌, ◌<◌, ◌≤◌, ◌++◌, ◌⊎◌, inl, inr, ℕ, List, [], Option, Some, None, length, take, sym, ap, ap₂, subst, arith, codes, append-nil}
-use Rattle.std.proofs.lemmas.Bool.Decides.{nat_tests}
 use Rattle.std.proofs.lemmas.Grind.{common_steps}
 use Rattle.std.proofs.lemmas.Bool.{cases_lt}
 use Rattle.std.proofs.lemmas.List.{ext_get_or, get_or_default, get_or_past, take-append-le}
@@ -13,28 +12,28 @@ use Rattle.gameid_core.specs.GridReading.{IsAsShown, IsReadOf, FitUpTo, AgreeUpT
 -- numbers that fit are a grid
 pub is_shown : (hides : ℕ → Type 0) (values : ℕ) (size : Extent) (g : List ℕ) (y : ℕ) → size.h ≤ y → y ≤ size.h → length g ≡ size.w * size.h
     → FitUpTo hides values g (y * size.w) → IsAsShown hides values size g
-is_shown hides values size g y over under cells fit = grind (arith, nat_tests, get_or_default, cases_lt, get_or_past, mul_comm)
+is_shown hides values size g y over under cells fit = grind (arith, get_or_default, cases_lt, get_or_past, mul_comm)
 
 -- grids that agree are the same
 pub same_grid : (hides : ℕ → Type 0) (values : ℕ) (size : Extent) (g h : List ℕ) (y : ℕ) → size.h ≤ y → y ≤ size.h → length g ≡ size.w * size.h
     → IsAsShown hides values size h → AgreeUpTo g h (y * size.w) → g ≡ h
-same_grid hides values size g h y over under cells shown agree = grind (arith, nat_tests, common_steps, ext_get_or 0 g h (cells ∙ sym shown.grid.each_cell), mul_comm size.h size.w)
+same_grid hides values size g h y over under cells shown agree = grind (arith, ext_get_or 0 g h (cells ∙ sym shown.grid.each_cell))
 
 -- the text, with a line end after it, begins with each printed form that it is
 pub begins_with_form : (text ended printed : List ℕ) → ended ≡ text ++ codes "\n" → IsPrinted text printed → (more : List ℕ) × (ended ≡ printed ++ more)
-begins_with_form text ended printed is form = grind (arith, nat_tests, common_steps, append-nil printed)
+begins_with_form text ended printed is form = grind (arith, common_steps)
 
 -- the text without the line end that was put after it
 front_is : (text ended : List ℕ) (n : ℕ) → ended ≡ text ++ codes "\n" → n ≡ length text → take n ended ≡ text
-front_is text ended n is all = ap₂ (λ (k : ℕ) (t : List ℕ). take k t) all is ∙ take-append-le (length text) text (codes "\n") (omega arith) ∙ take-length text
+front_is text ended n is all = grind (arith, common_steps, take-append-le, take-length)
 
 pub either_form : (text front ended bytes printed : List ℕ) (n : ℕ) → front ≡ text ++ codes "\n" → ended ≡ text ++ codes "\n" → n ≡ length text → bytes ≡ printed
     → (take n front ≡ bytes) ⊎ (ended ≡ bytes) → IsPrinted text printed
-either_form text front ended bytes printed n is same all form one = grind (arith, nat_tests, common_steps, front_is text front n is all)
+either_form text front ended bytes printed n is same all form one = grind (arith, common_steps)
 
 pub form_either : (text front ended bytes printed : List ℕ) (n : ℕ) → front ≡ text ++ codes "\n" → ended ≡ text ++ codes "\n" → n ≡ length text → bytes ≡ printed
     → IsPrinted text printed → (take n front ≡ bytes) ⊎ (ended ≡ bytes)
-form_either text front ended bytes printed n is same all form one = grind (arith, nat_tests, common_steps, front_is text front n is all)
+form_either text front ended bytes printed n is same all form one = grind (arith, common_steps)
 
 -- What was read of the text with a line end after it is what the text is the printed form of.
 module _ (hides : ℕ → Type 0) (values : ℕ) (size : Extent) (printed : List ℕ → List ℕ) (text ended : List ℕ) (field : Option (List ℕ)) where

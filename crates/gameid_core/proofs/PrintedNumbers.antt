@@ -1,16 +1,15 @@
 -- A printed number below 100 is read back by its one or two digits.
 use Rattle.std.proofs.Common.{◌≡◌, ◌∙◌, ◌+◌, ◌*◌, ◌/◌, ◌%◌, ◌-◌, ◌<◌, ◌≤◌, ◌++◌, ◌∷◌, ◌&&◌, ◌⊎◌, inl, inr, ℕ, List, Bool, [], Option, Some, None, length, sym, ap, ap₂, arith, if◌then◌else◌, decimal}
-use Rattle.std.proofs.lemmas.Bool.Decides.{nat_tests}
 use Rattle.std.proofs.lemmas.Grind.{common_steps}
 use Rattle.std.proofs.lemmas.Bool.{cases_lt, le-leb}
 use Rattle.std.proofs.lemmas.Fmt.{decimal_digit, decimal_step}
 use Rattle.gameid_core.specs.GridReading.{digit_of, first_digit}
 
 digit_is : (d : ℕ) → d < 10 → digit_of (48 + d) ≡ Some d
-digit_is d small = grind (arith, nat_tests)
+digit_is d small = grind arith
 
 two_digits : (n : ℕ) → 10 ≤ n → n < 100 → decimal n ≡ (48 + n / 10) ∷ (48 + n % 10) ∷ []
-two_digits n low high = decimal_step n low (omega arith) ∙ ap (λ (t : List ℕ). t ++ ((48 + n % 10) ∷ [])) (decimal_digit (n / 10) (omega arith))
+two_digits n low high = grind (arith, common_steps, decimal_step, decimal_digit)
 
 -- what is read of a number
 pub record Number (n : ℕ) (byte : ℕ) (rest : List ℕ) : Type 0 where
@@ -19,19 +18,19 @@ pub record Number (n : ℕ) (byte : ℕ) (rest : List ℕ) : Type 0 where
 
 pub number_of : (n : ℕ) (text after rest : List ℕ) (byte : ℕ) → n < 100 → first_digit after ≡ None → text ≡ decimal n ++ after → text ≡ byte ∷ rest
     → Number n byte rest
-number_of n text after rest byte small ends is split = grind (arith, nat_tests, common_steps, cases_lt n 10, decimal_digit n, digit_is n, two_digits n, digit_is (n / 10), digit_is (n % 10))
+number_of n text after rest byte small ends is split = grind (arith, decimal_digit n, two_digits n)
 
 pub not_empty : (n : ℕ) (text after : List ℕ) → n < 100 → text ≡ decimal n ++ after → length text ≡ 0 → ⊥
-not_empty n text after small is empty = grind (arith, nat_tests, common_steps, cases_lt n 10, decimal_digit n, two_digits n)
+not_empty n text after small is empty = grind (arith, decimal_digit n, two_digits n)
 
 -- the first byte is a digit
 pub no_digit : (n : ℕ) (byte : ℕ) (rest : List ℕ) → Number n byte rest → digit_of byte ≡ None → ⊥
-no_digit n byte rest number none = elim number.digits [ inl h ↦ absurd (cc (h.0, none)) | inr h ↦ absurd (cc (h.0, none)) ]
+no_digit n byte rest number none = grind arith
 
 pub one_read : (n byte first : ℕ) (rest : List ℕ) → Number n byte rest → digit_of byte ≡ Some first → first_digit rest ≡ None
     → ◌≡◌ {A = Option (ℕ × ℕ)} (Some (first, 1)) (Some (n, length (decimal n)))
-one_read n byte first rest number is none = grind (arith, nat_tests)
+one_read n byte first rest number is none = grind arith
 
 pub two_read : (n byte first second : ℕ) (rest : List ℕ) → Number n byte rest → digit_of byte ≡ Some first → first_digit rest ≡ Some second
     → ◌≡◌ {A = Option (ℕ × ℕ)} (Some (10 * first + second, 2)) (Some (n, length (decimal n)))
-two_read n byte first second rest number is also = grind (arith, nat_tests)
+two_read n byte first second rest number is also = grind arith

@@ -1,7 +1,6 @@
 -- A row is read cell by cell: what is left of it is what is printed of the cells from there on, its line end and what
 -- follows.
 use Rattle.std.proofs.Common.{◌≡◌, ◌∙◌, ◌+◌, ◌*◌, ◌%◌, ◌<◌, ◌≤◌, ◌-◌, ◌++◌, ◌∷◌, ℕ, List, zero, suc, [], Option, Some, None, length, take, drop, slice_index, set, sym, ap, ap₂, subst, refl, arith, codes, ◌⊎◌, inl, inr, append_assoc, append-nil, add-one, ◌≢◌, get_or-set_other, get_or-set_same}
-use Rattle.std.proofs.lemmas.Bool.Decides.{nat_tests}
 use Rattle.std.proofs.lemmas.Bool.{cases_lt}
 use Rattle.std.proofs.lemmas.Grind.{common_steps}
 use Rattle.std.proofs.lemmas.Nat.{mod-mul-add}
@@ -18,8 +17,8 @@ each_from text k (suc n) = text k ++ each_from text (suc k) n
 
 both_parts : (f : ℕ → List ℕ) (k n : ℕ) → each_below f (k + n) ≡ each_below f k ++ each_from f k n
 unfolding each_below each_from
-both_parts f k zero = let e : k + zero ≡ k = omega arith in ap (each_below f) e ∙ sym (append-nil (each_below f k))
-both_parts f k (suc n) = grind (arith, nat_tests, common_steps, both_parts f (suc k) n, append_assoc (each_below f k) (f k) (each_from f (suc k) n))
+both_parts f k zero = grind (arith, common_steps, append-nil)
+both_parts f k (suc n) = grind (arith, common_steps, both_parts f (suc k) n)
 
 pub from_zero : (f : ℕ → List ℕ) (n : ℕ) → each_below f n ≡ each_from f 0 n
 unfolding each_below
@@ -34,7 +33,7 @@ abbrev pub Left : (ℕ → List ℕ) → ℕ → List ℕ → ℕ → List ℕ �
 Left f w more x rest = LeftOf f w (codes "\n" ++ more) x rest
 
 pub all_left : (f : ℕ → List ℕ) (w : ℕ) (more text : List ℕ) → text ≡ (each_below f w ++ codes "\n") ++ more → Left f w more 0 text
-all_left f w more text is m e = grind (arith, nat_tests, common_steps, append_assoc (each_below f w) (codes "\n") more, from_zero f w)
+all_left f w more text is m e = grind (arith, common_steps, from_zero f w)
 
 -- what is left after a cell
 pub record AfterCell (f : ℕ → List ℕ) (w : ℕ) (more : List ℕ) (x : ℕ) (rest : List ℕ) : Type 0 where
@@ -48,7 +47,7 @@ end_or_cell : (f : ℕ → List ℕ) (w : ℕ) (more : List ℕ) (x m : ℕ) →
     ⊎ ((x + 1 < w) × ((t : List ℕ) × (each_from f (suc x) m ++ (codes "\n" ++ more) ≡ f (x + 1) ++ t)))
 unfolding each_from
 end_or_cell f w more x zero e = inl (omega arith, refl)
-end_or_cell f w more x (suc m) e = grind (arith, nat_tests, common_steps, add-one x, append_assoc (f (x + 1)) (each_from f (suc (suc x)) m) (codes "\n" ++ more))
+end_or_cell f w more x (suc m) e = grind (arith, append_assoc (f (x + 1)) (each_from f (suc (suc x)) m) (codes "\n" ++ more))
 
 pub after_cell : (f : ℕ → List ℕ) (w : ℕ) (more rest : List ℕ) (x : ℕ) → x < w → Left f w more x rest → AfterCell f w more x rest
 unfolding each_from
@@ -69,18 +68,18 @@ none_left f w more rest x e left = left 0 (omega arith)
 -- what follows a cell, as the reader of cells wants it
 pub cell_follows : (cell : ℕ → List ℕ) (size : Extent) (y w x : ℕ) (more rest : List ℕ) → w ≡ size.w
     → (a : AfterCell (λ k. cell (y * w + k)) w more x rest) → Follows cell size (y * w + x) a.after
-cell_follows cell size y w x more rest wide a = grind (arith, nat_tests, common_steps, mod-mul-add y w (x + 1))
+cell_follows cell size y w x more rest wide a = grind (arith, mod-mul-add y w (x + 1))
 
 -- what is left of the slice
 pub cut_off : (front after rest : List ℕ) (n m : ℕ) → rest ≡ front ++ after → n ≡ length front → m ≡ length rest → take (m - n) (drop n rest) ≡ after
-cut_off front after rest n m split e all = grind (arith, nat_tests, common_steps, drop-append_seam front after, common_steps)
+cut_off front after rest n m split e all = grind (arith, common_steps)
 
 pub fit_more : (hides : ℕ → Type 0) (values : ℕ) (g new : List ℕ) (n k v : ℕ) → n < length g → new ≡ set g n v → k ≡ n + 1 → FitUpTo hides values g n → v < values
     → (hides n → v ≡ 0) → FitUpTo hides values new k
-fit_more hides values g new n k v within written next fit small zero_there place lt = grind (arith, nat_tests, common_steps, cases_lt place n, get_or-set_other, get_or-set_same)
+fit_more hides values g new n k v within written next fit small zero_there place lt = grind (arith, common_steps)
 
 pub agree_more : (g new h : List ℕ) (n k v : ℕ) → n < length g → new ≡ set g n v → k ≡ n + 1 → AgreeUpTo g h n → v ≡ slice_index h n → AgreeUpTo new h k
-agree_more g new h n k v within written next agree is place lt = grind (arith, nat_tests, common_steps, cases_lt place n, get_or-set_other, get_or-set_same)
+agree_more g new h n k v within written next agree is place lt = grind (arith, common_steps)
 
 -- what the reader of cells gives for the next cell
 pub record KnownCell (f : ℕ → List ℕ) (w : ℕ) (more rest : List ℕ) (x v : ℕ) (result : Option (ℕ × ℕ)) : Type 0 where
@@ -101,7 +100,7 @@ known_cell cell size y w x v more rest result wide lt left reads =
 -- the cell was read: what is left after it, and the number
 pub cell_read : (f : ℕ → List ℕ) (w x v value count m : ℕ) (more rest : List ℕ) (result : Option (ℕ × ℕ)) → KnownCell f w more rest x v result
     → result ≡ Some (value, count) → m ≡ length rest → Left f w more (x + 1) (take (m - count) (drop count rest)) × (value ≡ v)
-cell_read f w x v value count m more rest result known is all = grind (arith, nat_tests, common_steps, cut_off (f x) known.cell.after rest count m known.cell.split)
+cell_read f w x v value count m more rest result known is all = grind (arith, common_steps)
 
 -- the cell is always read
 pub cell_not_missed : (f : ℕ → List ℕ) (w x v : ℕ) (more rest : List ℕ) (result : Option (ℕ × ℕ)) → KnownCell f w more rest x v result → result ≡ None → ⊥
@@ -111,18 +110,18 @@ pub next_row : (y w : ℕ) → (y + 1) * w ≡ y * w + w
 next_row y w = ap (λ (n : ℕ). n * w) (add-one y) ∙ suc-mul y w
 
 pub in_grid : (size : Extent) (y w x cells : ℕ) → w ≡ size.w → x < w → y < size.h → cells ≡ size.w * size.h → y * w + x < cells
-in_grid size y w x cells wide lt below all = grind (arith, nat_tests)
+in_grid size y w x cells wide lt below all = grind arith
 
 pub line_end : (rest more left : List ℕ) (byte : ℕ) → rest ≡ byte ∷ more → rest ≡ 10 ∷ left → (byte ≡ 10) × (more ≡ left)
 line_end rest more left byte split is = (cc, cc)
 
 pub row_end : (y w x width : ℕ) → w ≤ x → x ≤ w → w ≡ width → (y + 1) * width ≡ y * w + x
-row_end y w x width over under wide = let at_end : w ≡ x = omega arith in next_row y width ∙ ap₂ (λ (a b : ℕ). y * a + b) (sym wide) (sym wide ∙ at_end)
+row_end y w x width over under wide = grind arith
 
 -- ---- the rows of a grid
 
 pub all_rows_left : (f : ℕ → List ℕ) (n : ℕ) (tail text : List ℕ) → text ≡ each_below f n ++ tail → LeftOf f n tail 0 text
-all_rows_left f n tail text is m e = is ∙ ap (λ (t : List ℕ). t ++ tail) (from_zero f n ∙ ap (each_from f 0) (sym (let z : m ≡ n = omega arith in z)))
+all_rows_left f n tail text is m e = grind (arith, common_steps, from_zero)
 
 -- the next row, and what is left after it
 pub record NextRow (f : ℕ → List ℕ) (n : ℕ) (tail : List ℕ) (k : ℕ) (rest : List ℕ) : Type 0 where

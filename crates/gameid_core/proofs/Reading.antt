@@ -1,6 +1,5 @@
 -- Reading a description token by token, for any game, and its first fault.
 use Rattle.std.proofs.Common.{◌≡◌, ℕ, ◌+◌, ◌-◌, ◌<◌, ◌≤◌, true, List, ◌∷◌, length, Result, Ok, Err, refl, ap, ◌∙◌, arith, [], ◌↔◌, ◌⊎◌, ◌++◌, sym, inl, inr, length-append}
-use Rattle.std.proofs.lemmas.Bool.Decides.{nat_tests}
 use Rattle.std.proofs.lemmas.Grind.{common_steps}
 use Rattle.std.proofs.lemmas.Bool.{false≢true}
 use Rattle.gameid_core.specs.declared.fault.IdFault.{IdFault}
@@ -31,7 +30,7 @@ place_moves base d rest word after le e = omega arith
 -- a turn of a reader's loop: the first token's fault is what is read, or reading goes on behind it
 pub turn_of : {S P : Type 0} (step : ℕ → S → List ℕ → Result S IdFault) (end : S → Result P IdFault) (base d : ℕ) (s : S) (rest word after : List ℕ) (r : Result S IdFault) (total : Result P IdFault) → Cuts rest word after → length rest ≤ d → step (place base d rest) s word ≡ r → reading step end (place base d rest) s (words rest) ≡ total → (r >>= (λ t. reading step end (place base d after) t (words after))) ≡ total
 unfolding reading
-turn_of step end base d s rest word after r total cuts le e so = grind (arith, nat_tests)
+turn_of step end base d s rest word after r total cuts le e so = grind arith
 
 -- each token that begins with that byte has the fault
 pub fault_first : {S P : Type 0} (step : ℕ → S → List ℕ → Result S IdFault) (end : S → Result P IdFault) (base d first : ℕ) (s : S) (f : IdFault) (rest after : List ℕ) (total : Result P IdFault) → rest ≡ first ∷ after → length rest ≤ d → ((more : List ℕ) → step (place base d rest) s (first ∷ more) ≡ Err f) → reading step end (place base d rest) s (words rest) ≡ total → Err f ≡ total
@@ -75,7 +74,7 @@ err_is : {A : Type 0} (g f : IdFault) → failed {A = A} g ≡ failed f → g �
 err_is g f e = cc
 
 pub first_fault : {S P : Type 0} (step : ℕ → S → List ℕ → Result S IdFault) (end : S → Result P IdFault) (at : ℕ) (s : S) (words : List (List ℕ)) (f : IdFault) → reading step end at s words ≡ Err f → FirstFault step end at s words f
-first_fault step end at s [] f e = grind (arith, nat_tests, common_steps, reading_nil step stop at s, reading_nil step end at s)
+first_fault step end at s [] f e = grind (arith, reading_nil step stop at s, reading_nil step end at s)
 first_fault {S = S} {P = P} step end at s (word ∷ words) f e = cases (step at s word) refl (λ t. first_fault step end (at + length word) t words f)
   where
     cases : (r : Result S IdFault) → step at s word ≡ r → ((t : S) → reading step end (at + length word) t words ≡ Err f → FirstFault step end (at + length word) t words f) → FirstFault step end at s (word ∷ words) f
@@ -103,10 +102,10 @@ FailsAfter step end at front rest state f = ((rest ≡ []) × (end state ≡ Err
 
 one_later : {S P : Type 0} (step : ℕ → S → List ℕ → Result S IdFault) (end : S → Result P IdFault) (at : ℕ) (word : List ℕ) (front rest : List (List ℕ)) (state : S) (f : IdFault) → FailsAfter step end at (word ∷ front) rest state f → FailsAfter step end (at + length word) front rest state f
 one_later step end at word front rest state f (inl a) = inl a
-one_later step end at word front rest state f (inr b) = grind (arith, nat_tests, common_steps, length-append word (concat front))
+one_later step end at word front rest state f (inr b) = grind (arith, common_steps)
 
 fails_after : {S P : Type 0} (step : ℕ → S → List ℕ → Result S IdFault) (end : S → Result P IdFault) (at : ℕ) (s : S) (front rest : List (List ℕ)) (state : S) (f : IdFault) → reading step stop at s front ≡ Ok state → FailsAfter step end at front rest state f → reading step end at s (front ++ rest) ≡ Err f
-fails_after step end at s [] rest state f leads fault = grind (arith, nat_tests, common_steps, ok_is s state (sym (reading_nil step stop at s) ∙ leads), reading_nil step stop at s, reading_nil step end at s, reading_cons step end at s)
+fails_after step end at s [] rest state f leads fault = grind (arith, reading_nil step stop at s, reading_nil step end at s, reading_cons step end at s)
 fails_after {S = S} {P = P} step end at s (word ∷ front) rest state f leads fault =
     cases (step at s word) refl (λ t led. fails_after step end (at + length word) t front rest state f led (one_later step end at word front rest state f fault))
   where

@@ -1,6 +1,5 @@
 -- Laws of the runs of a line, by induction on the cells.
 use Rattle.std.proofs.Common.{◌≡◌, ℕ, zero, suc, ◌+◌, List, ◌∷◌, ◌++◌, replicate, refl, sym, ◌∙◌, ap, arith, append_assoc, [], ◌<◌, ◌≤◌, length, map, subst, drop, get_or}
-use Rattle.std.proofs.lemmas.Bool.Decides.{nat_tests}
 use Rattle.std.proofs.lemmas.Grind.{common_steps}
 use Rattle.gameid_core.specs.BlackRuns.{run_of, runs_after, runs}
 use Rattle.std.specs.List.{AllByRecursion, range_with_len}
@@ -16,13 +15,13 @@ use Rattle.gameid_core.proofs.Lists.{AllByRecursion-append, next_cell}
 pub runs_after-cut : (k : ℕ) (f g : List ℕ) → runs_after k (f ++ 0 ∷ g) ≡ runs_after k f ++ runs g
 unfolding runs_after
 runs_after-cut k [] g = refl
-runs_after-cut k (zero ∷ f) g = ap (λ xs. run_of k ++ xs) (runs_after-cut 0 f g) ∙ sym (append_assoc (run_of k) (runs_after 0 f) (runs g))
+runs_after-cut k (zero ∷ f) g = grind (arith, runs_after-cut 0 f g)
 runs_after-cut k (suc x ∷ f) g = runs_after-cut (suc k) f g
 
 runs_after-ones : (k n : ℕ) → runs_after k (replicate n 1) ≡ run_of (k + n)
 unfolding runs_after
 runs_after-ones k zero = ap run_of (let z : k ≡ k + 0 = omega arith in z)
-runs_after-ones k (suc n) = runs_after-ones (suc k) n ∙ ap run_of (let z : suc k + n ≡ k + suc n = omega arith in z)
+runs_after-ones k (suc n) = grind (arith, runs_after-ones (suc k) n)
 
 -- black cells alone are one run
 pub runs_run : (n : ℕ) → runs (replicate (suc n) 1) ≡ suc n ∷ []
@@ -46,17 +45,17 @@ run_of_used (suc k) = omega arith
 runs_positive : (k : ℕ) (cells : List ℕ) → AllByRecursion (λ n. 0 < n) (runs_after k cells)
 unfolding runs_after
 runs_positive k [] = run_of_positive k
-runs_positive k (zero ∷ cells) = AllByRecursion-append (λ n. 0 < n) (run_of k) (runs_after 0 cells) (run_of_positive k) (runs_positive 0 cells)
+runs_positive k (zero ∷ cells) = grind (arith, runs_positive 0 cells)
 runs_positive k (suc b ∷ cells) = runs_positive (suc k) cells
 
 runs_used : (k : ℕ) (cells : List ℕ) → used (runs_after k cells) ≤ k + length cells + 1
 unfolding runs_after
 runs_used k [] = omega (arith, run_of_used k)
-runs_used k (zero ∷ cells) = omega (arith, run_of_used k, runs_used 0 cells, used-append (run_of k) (runs_after 0 cells))
+runs_used k (zero ∷ cells) = grind (arith, runs_used 0 cells)
 runs_used k (suc b ∷ cells) = omega (arith, runs_used (suc k) cells)
 
 pub runs_fit : (cells : List ℕ) → IsClue (length cells) (runs cells)
-runs_fit cells = record { positive = runs_positive 0 cells; fits = omega (arith, runs_used 0 cells) }
+runs_fit cells = grind (arith, common_steps, runs_positive, runs_used)
 
 -- one cell of the writer's loop
 
@@ -74,16 +73,16 @@ unfolding runs_after
 runs_end k = refl
 
 pub turn_white : (k i k' : ℕ) (cells found found' total : List ℕ) → i < length cells → get_or cells i 0 ≡ 0 → k' ≡ 0 → found' ≡ found ++ run_of k → found ++ runs_after k (drop i cells) ≡ total → found' ++ runs_after k' (drop (i + 1) cells) ≡ total
-turn_white k i k' cells found found' total lt white zero-is e so = grind (arith, nat_tests, common_steps, append_assoc found (run_of k) (runs_after 0 (drop (i + 1) cells)), runs_white k (drop (i + 1) cells), next_cell cells i lt)
+turn_white k i k' cells found found' total lt white zero-is e so = grind (arith, common_steps, runs_white k (drop (i + 1) cells))
 
 pub turn_black : (k i k' : ℕ) (cells found found' total : List ℕ) → i < length cells → (get_or cells i 0 ≡ 0 → ⊥) → k' ≡ k + 1 → found' ≡ found → found ++ runs_after k (drop i cells) ≡ total → found' ++ runs_after k' (drop (i + 1) cells) ≡ total
-turn_black k i k' cells found found' total lt black more e so = grind (arith, nat_tests, common_steps, runs_black k (get_or cells i 0) (drop (i + 1) cells) black, next_cell cells i lt)
+turn_black k i k' cells found found' total lt black more e so = grind (arith, common_steps, runs_black k (get_or cells i 0) (drop (i + 1) cells) black)
 
 pub turn_end : (k i : ℕ) (cells found found' total : List ℕ) → length cells ≤ i → found' ≡ found ++ run_of k → found ++ runs_after k (drop i cells) ≡ total → found' ≡ total
-turn_end k i cells found found' total past e so = grind (arith, nat_tests, common_steps, runs_end k, drop_all i cells past)
+turn_end k i cells found found' total past e so = grind (arith, common_steps, runs_end k)
 
 runs_line_fits : (size : Extent) (g : List ℕ) (line : ℕ) → IsClue (line_cells size line) (runs (line_list size g line))
-runs_line_fits size g line = subst (λ (n : ℕ). IsClue n (runs (line_list size g line))) (length_line size g line) (runs_fit (line_list size g line))
+runs_line_fits size g line = grind (arith, common_steps, length_line, runs_fit)
 
 are_runs : (size : Extent) (g : List ℕ) (line n : ℕ) → AreClues size line (map (λ i. runs (line_list size g i)) (range_with_len line n))
 are_runs size g line zero = tt
@@ -91,4 +90,4 @@ are_runs size g line (suc n) = (runs_line_fits size g line, are_runs size g (lin
 
 -- the runs of the lines are clues that fit
 pub runs_lawful : (size : Extent) (g : List ℕ) (clues : List (List ℕ)) → IsExtent size → clues ≡ lines_runs size g → IsPattern (record { size = size; clues = clues })
-runs_lawful size g clues e is = grind (arith, nat_tests, common_steps, length-map-range_with_len, are_runs size g 0 (lines_of size))
+runs_lawful size g clues e is = grind (arith, length-map-range_with_len, are_runs size g 0 (lines_of size))

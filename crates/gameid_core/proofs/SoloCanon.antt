@@ -31,7 +31,7 @@ cells_short : (k : ℕ) (touches : Bool) (cells : List ℕ) → AllByRecursion (
 unfolding cells_text
 cells_short k touches [] h = omega (arith, letters_short k)
 cells_short k touches (zero ∷ cells) h = omega (arith, cells_short (k + 1) touches cells h.1)
-cells_short k touches (suc v ∷ cells) h = grind (arith, nat_tests, common_steps, cells_short 0 true cells h.1, before_short k touches, length-decimal-le 2 (suc v), length-append (before_given k touches) (decimal (suc v) ++ cells_text 0 true cells), length-append (decimal (suc v)) (cells_text 0 true cells))
+cells_short k touches (suc v ∷ cells) h = grind (arith, common_steps, cells_short 0 true cells h.1, before_short k touches, length-decimal-le 2 (suc v))
 
 range_more : (n : ℕ) (cells : List ℕ) → n ≤ max_numbers → AllByRecursion (λ v. v ≤ n) cells → AllByRecursion (λ v. v ≤ max_numbers) cells
 range_more n [] le h = tt
@@ -42,7 +42,7 @@ size_short c r false = omega arith
 size_short c r true = omega (arith, length-append (size_text c r) (120 ∷ []))
 
 pub solo_short : (p : Solo) → IsSolo p → length (solo_text p) ≤ max_id
-solo_short p h = grind (arith, nat_tests, common_steps, mul-le-mul_left p.c h.r_low, mul-le-mul_right p.r h.c_low, length-decimal-le 2 p.c, length-decimal-le 2 p.r, cells_short 0 false p.givens, range_more (solo_n p) p.givens, solo_few (solo_n p), size_short p.c p.r p.x, length-append (decimal p.c) (120 ∷ decimal p.r), length-append (solo_size_text p.c p.r p.x) (58 ∷ cells_text 0 false p.givens))
+solo_short p h = grind (arith, mul-le-mul_left p.c h.r_low, mul-le-mul_right p.r h.c_low, length-decimal-le 2 p.c, length-decimal-le 2 p.r, cells_short 0 false p.givens, range_more (solo_n p) p.givens, solo_few (solo_n p), size_short p.c p.r p.x, length-append (decimal p.c) (120 ∷ decimal p.r), length-append (solo_size_text p.c p.r p.x) (58 ∷ cells_text 0 false p.givens))
 
 pub cells_nil : (k : ℕ) (touches : Bool) → cells_text k touches [] ≡ letters k
 unfolding cells_text
@@ -58,13 +58,13 @@ cells_given k zero touches cells ne = absurd (ne refl)
 cells_given k (suc v) touches cells ne = refl
 
 pub cells_end : (k i : ℕ) (touches : Bool) (cells old out new : List ℕ) → length cells ≤ i → out ++ cells_text k touches (drop i cells) ≡ old → new ≡ out ++ letters k → new ≡ old
-cells_end k i touches cells old out new past so e = grind (arith, nat_tests, common_steps, drop_all i cells past, cells_nil k touches)
+cells_end k i touches cells old out new past so e = grind (arith, common_steps, cells_nil k touches)
 
 pub cells_step_blank : (k i : ℕ) (touches : Bool) (cells old out : List ℕ) → i < length cells → get_or cells i 0 ≡ 0 → out ++ cells_text k touches (drop i cells) ≡ old → out ++ cells_text (k + 1) touches (drop (i + 1) cells) ≡ old
-cells_step_blank k i touches cells old out lt blank so = grind (arith, nat_tests, common_steps, cells_blank k touches (drop (i + 1) cells), next_cell cells i lt)
+cells_step_blank k i touches cells old out lt blank so = grind (arith, common_steps, cells_blank k touches (drop (i + 1) cells))
 
 pub cells_step_given : (k i : ℕ) (touches : Bool) (cells old out mid new : List ℕ) → i < length cells → (get_or cells i 0 ≡ 0 → ⊥) → mid ≡ out ++ before_given k touches → new ≡ mid ++ decimal (get_or cells i 0) → out ++ cells_text k touches (drop i cells) ≡ old → new ++ cells_text 0 true (drop (i + 1) cells) ≡ old
-cells_step_given k i touches cells old out mid new lt some m e so = grind (arith, nat_tests, common_steps, append_assoc (out ++ before_given k touches), append_assoc out (before_given k touches), cells_given k, next_cell cells i lt)
+cells_step_given k i touches cells old out mid new lt some m e so = grind (arith, common_steps, cells_given k)
 
 -- a token that is no number
 abbrev pub IsSpace : SoloToken → Type 0
@@ -211,7 +211,7 @@ cells_written n k touches [] h =
     let t = letter_spaces n k k (omega arith) in
     let s = t.0 in
     record { full = s.full; needed = letters_needed touches s.spaces t.1; tokens = s.spaces; spelled = s.spelled; each = s.each; apart = spaces_alone s.spaces s.spaces_only; clear = λ e. clear_spaces s.spaces s.spaces_only; filled = s.filled ∙ sym (append-nil (replicate k 0)) }
-cells_written n k touches (zero ∷ cells) h = grind (arith, nat_tests, common_steps, cells_written n (k + 1) touches cells h.1, replicate-append-replicate {A = ℕ} k 1 0, append_assoc (replicate k 0) (0 ∷ []) cells)
+cells_written n k touches (zero ∷ cells) h = grind (arith, common_steps, cells_written n (k + 1) touches cells h.1)
 cells_written n k touches (suc v ∷ cells) h =
     let b = before_spaces n k touches in
     let s = b.before in
@@ -257,8 +257,8 @@ pub solo_spelled : (p : Solo) → IsSolo p → SpellsSolo (solo_text p) p
 solo_spelled p h = (solo_is_written p h).spells
 
 cells_run : (k j : ℕ) (touches : Bool) (rest : List ℕ) → cells_text k touches (replicate j 0 ++ rest) ≡ cells_text (k + j) touches rest
-cells_run k zero touches rest = ap (λ (i : ℕ). cells_text i touches rest) (let e : k ≡ k + 0 = omega arith in e)
-cells_run k (suc j) touches rest = grind (arith, nat_tests, common_steps, cells_blank k touches (replicate j 0 ++ rest), cells_run (k + 1) j touches rest)
+cells_run k zero touches rest = grind arith
+cells_run k (suc j) touches rest = grind (arith, cells_blank k touches (replicate j 0 ++ rest), cells_run (k + 1) j touches rest)
 
 before_some : (k : ℕ) (touches : Bool) → 0 < k → before_given k touches ≡ letters k
 before_some zero touches some = absurd (omega arith)
@@ -286,12 +286,12 @@ after_given v (gap ∷ tokens) h = (h, tt)
 after_given v (given u ∷ tokens) h = absurd h
 
 form_given : (n q v : ℕ) (touches : Bool) (tokens : List SoloToken) → AllByRecursion (IsSoloToken n) (given v ∷ tokens) → AreApart (given v ∷ tokens) → AreFull tokens → AreNeeded true tokens → Form n 0 true tokens
-form_given n q v touches tokens each apart full needed = grind (arith, nat_tests)
+form_given n q v touches tokens each apart full needed = grind arith
 
 form_text : (n q : ℕ) (touches : Bool) (tokens : List SoloToken) → Form n q touches tokens → cells_text (26 * q) touches (flat_map solo_token_cells tokens) ≡ replicate q 122 ++ flat_map solo_token_text tokens
 form_text n zero touches [] f = cells_nil 0 touches ∙ letters_none 0 refl
 form_text n (suc q) touches [] f = absurd f.leads
-form_text n q touches (blanks k ∷ []) f = grind (arith, nat_tests, common_steps, cells_run (26 * q) k touches [], cells_nil (26 * q + k) touches, letters_at q k)
+form_text n q touches (blanks k ∷ []) f = grind (arith, cells_run (26 * q) k touches [], cells_nil (26 * q + k) touches, letters_at q k)
 form_text n q touches (blanks k ∷ blanks j ∷ tokens) f = grind (arith, nat_tests, common_steps, cells_run (26 * q) k touches, form_text n (suc q) touches (blanks j ∷ tokens), z_moves q)
 form_text n q touches (blanks k ∷ gap ∷ tokens) f = absurd (let needed = f.needed in false≢true needed.0)
 form_text n q touches (blanks k ∷ given v ∷ tokens) f = grind (arith, nat_tests, common_steps, form_given n q v touches tokens, cells_run (26 * q) k touches (v ∷ flat_map solo_token_cells tokens), cells_given (26 * q + k) v touches (flat_map solo_token_cells tokens), before_some (26 * q + k) touches, letters_at q k, form_text n 0 true tokens, append_assoc (replicate q 122) ((96 + k) ∷ []) (decimal v ++ flat_map solo_token_text tokens))
@@ -306,4 +306,4 @@ form_text n zero true (given v ∷ tokens) f = absurd (f.clear refl)
 form_text n zero false (given v ∷ tokens) f = grind (arith, nat_tests, common_steps, form_given n 0 v false tokens, cells_given 0 v false (flat_map solo_token_cells tokens), letters_none 0 refl, form_text n 0 true tokens)
 
 pub solo_form : (text : List ℕ) (p : Solo) → IsWrittenSolo text p → text ≡ solo_text p
-solo_form text p w = grind (arith, nat_tests, common_steps, form_text (solo_n p) 0 false)
+solo_form text p w = grind (arith, form_text (solo_n p) 0 false)

@@ -1,7 +1,5 @@
 -- Solo: the tokens of a text, and that a text is read exactly where it spells a puzzle.
 use Rattle.std.proofs.Common.{◌≡◌, ℕ, ◌-◌, ◌<◌, ◌≤◌, true, false, ◌&&◌, eqb, leb, List, ◌∷◌, Ok, Err, refl, sym, subst, ◌∙◌, arith, [], ◌*◌, Bool, ltb, get_or, inl, inr, ◌+◌, ◌^◌, cond, ◌++◌, map, length, Result, ap, drop}
-use Rattle.std.proofs.lemmas.Bool.Decides.{nat_tests}
-use Rattle.std.proofs.lemmas.Grind.{common_steps}
 use Rattle.std.specs.Prelude.{replicate, decimal}
 use Rattle.std.proofs.lemmas.Bool.{ne_eqb, false≢true, le-ltb, lt-ltb, leb-true, ltb-false, eqb-true, le-leb}
 use Rattle.gameid_core.specs.declared.fault.IdFault.TheVariants.{BadByte, NumberRange}
@@ -26,7 +24,7 @@ use Rattle.gameid_core.proofs.HeadLaws.{parts_of, solo_size, size_of_solo, head_
 
 pub solo_letter : (n at first : ℕ) (after : List ℕ) → 97 ≤ first → first ≤ 122 → Cuts (first ∷ after) (first ∷ []) after × (solo_token n at (first ∷ []) ≡ Ok (replicate (first - 96) 0))
 unfolding solo_token
-solo_letter n at first after low high = grind (arith, nat_tests, common_steps, not_between 48 57 first, ne_eqb, cuts_single first after, between 97 122 first low high)
+solo_letter n at first after low high = grind (arith, cuts_single first after)
 
 pub solo_gap : (n at : ℕ) (after : List ℕ) → Cuts (95 ∷ after) (95 ∷ []) after × (solo_token n at (95 ∷ []) ≡ Ok [])
 unfolding solo_token
@@ -65,7 +63,7 @@ number_word (b ∷ after) e =
     }
 
 pub bad_byte : (n at first : ℕ) (rest after : List ℕ) → rest ≡ first ∷ after → (97 ≤ first → first ≤ 122 → ⊥) → (first ≡ 95 → ⊥) → (49 ≤ first → first ≤ 57 → ⊥) → (word tail : List ℕ) × Cuts rest word tail × (solo_token n at word ≡ Err (BadByte at))
-bad_byte n at first rest after e letter no_gap lead = grind (arith, nat_tests, common_steps, cuts_some first after, solo_other n at, not_between 97 122 first letter, ne_eqb first 95 no_gap, not_between 49 57 first lead)
+bad_byte n at first rest after e letter no_gap lead = grind (arith, cuts_some first after, solo_other n at)
 
 -- ---- numbers among the tokens stand apart
 
@@ -82,13 +80,13 @@ Apart (w ∷ ws) = NotBefore w ws × Apart ws
 
 apart_front : (b : ℕ) (w : List ℕ) (ws : List (List ℕ)) → (is_ascii_digit b ≡ true → digit_first w ≡ true) → NotBefore w ws → NotBefore (b ∷ w) ws
 apart_front b w [] f h = tt
-apart_front b w (v ∷ ws) f h = grind (arith, nat_tests)
+apart_front b w (v ∷ ws) f h = grind arith
 
 pub words_apart : (text : List ℕ) → Apart (words text)
 unfolding words
 words_apart [] = tt
-words_apart (b ∷ []) = grind (arith, nat_tests)
-words_apart (b ∷ d ∷ after) = grind (arith, nat_tests, common_steps, cuts_some d after, words_apart (d ∷ after), and_parts (joins b) (is_ascii_digit d), apart_front b)
+words_apart (b ∷ []) = grind arith
+words_apart (b ∷ d ∷ after) = grind (arith, cuts_some d after, words_apart (d ∷ after), apart_front b)
 
 -- ---- a word that was taken is a token
 
@@ -107,7 +105,7 @@ letter_word n (b ∷ more) w e =
 
 gap_word : (n : ℕ) (word : List ℕ) → IsWord word → begins (λ b. eqb b 95) word ≡ true → SoloWord n word []
 gap_word n [] w e = absurd w
-gap_word n (b ∷ more) w e = grind (arith, nat_tests)
+gap_word n (b ∷ more) w e = grind arith
 
 given_word : (n : ℕ) (word : List ℕ) → n < 2 ^ 64 → IsWord word → begins is_lead word ≡ true → value word ≤ n → SoloWord n word (value word ∷ [])
 given_word n [] small w e le = absurd w
@@ -153,7 +151,7 @@ apart_tokens n (gap ∷ tokens) small each h = apart_tokens n tokens small each.
 apart_tokens n (given u ∷ []) small each h = tt
 apart_tokens n (given u ∷ blanks k ∷ tokens) small each h = apart_tokens n (blanks k ∷ tokens) small each.1 h.1
 apart_tokens n (given u ∷ gap ∷ tokens) small each h = apart_tokens n (gap ∷ tokens) small each.1 h.1
-apart_tokens n (given u ∷ given v ∷ tokens) small each h = grind (arith, nat_tests, common_steps, decimal_digit_first u, decimal_digit_first v)
+apart_tokens n (given u ∷ given v ∷ tokens) small each h = grind (arith, decimal_digit_first u, decimal_digit_first v)
 
 concat_texts : (tokens : List SoloToken) → concat (map solo_token_text tokens) ≡ flat_map solo_token_text tokens
 concat_texts [] = refl
@@ -169,7 +167,7 @@ record SoloDescribed (n : ℕ) (description cells : List ℕ) : Type 0 where
 
 solo_take : (n at : ℕ) (description cells : List ℕ) → n < 2 ^ 64 → solo_cells_at n at description ≡ Ok cells → SoloDescribed n description cells
 unfolding solo_cells_at
-solo_take n at description cells small e = grind (arith, nat_tests, common_steps, cells_spelled solo_token_text solo_token_cells (IsSoloToken n) (solo_token n) IsWord (token_word n small) (n * n) at [] (words description) cells (words_are description) e, token_word n small, words_are description, concat_words description, concat_texts, apart_tokens n, words_apart description)
+solo_take n at description cells small e = grind (arith, cells_spelled solo_token_text solo_token_cells (IsSoloToken n) (solo_token n) IsWord (token_word n small) (n * n) at [] (words description) cells (words_are description) e, concat_words description, concat_texts, apart_tokens n, words_apart description)
 
 -- ---- what is read fits
 
@@ -179,7 +177,7 @@ token_range n gap h = tt
 token_range n (given v) h = (h.1, tt)
 
 pub solo_n_small : (c r : ℕ) → in_range game.Solo c r ≡ true → c * r ≤ max_numbers
-solo_n_small c r range = leb-true _ _ (and_parts (leb 2 c && leb 2 r) (leb (c * r) max_numbers) range).1
+solo_n_small c r range = grind arith
 
 pub solo_lawful : (c r : ℕ) (x : Bool) (at : ℕ) (description cells : List ℕ) → in_range game.Solo c r ≡ true → solo_cells_at (c * r) at description ≡ Ok cells → IsSolo (solo_puzzle c r x cells)
 solo_lawful c r x at description cells range e =
@@ -207,7 +205,7 @@ apart_rest (given u) (gap ∷ tokens) h = h
 apart_rest (given u) (given v ∷ tokens) h = absurd h
 
 given_read : (n at v : ℕ) → v < 2 ^ 64 → 0 < v → v ≤ n → solo_token n at (decimal v) ≡ Ok (v ∷ [])
-given_read n at v small some le = grind (arith, nat_tests, common_steps, digits_value-decimal, own, solo_given, not_between, decimal_digit_first, ne_eqb, decimal_leads, leb-true, and_parts)
+given_read n at v small some le = grind (arith, digits_value-decimal, own, solo_given, not_between, decimal_digit_first, ne_eqb, decimal_leads, leb-true, and_parts)
 
 token_cuts : (n : ℕ) (token : SoloToken) (tokens : List SoloToken) → n < 2 ^ 64 → AllByRecursion (IsSoloToken n) (token ∷ tokens) → AreApart (token ∷ tokens) → Cuts (solo_token_text token ++ flat_map solo_token_text tokens) (solo_token_text token) (flat_map solo_token_text tokens)
 token_cuts n (blanks k) tokens small each h = (solo_letter n 0 (96 + k) (flat_map solo_token_text tokens) (omega (arith, each.0.0)) (omega (arith, each.0.1))).0
@@ -217,17 +215,17 @@ token_cuts n (given v) tokens small each h = numeral_cuts (decimal v) (flat_map 
 -- the texts of tokens are the tokens of their text
 words_again : (n : ℕ) (tokens : List SoloToken) → n < 2 ^ 64 → AllByRecursion (IsSoloToken n) tokens → AreApart tokens → words (flat_map solo_token_text tokens) ≡ map solo_token_text tokens
 words_again n [] small each h = words_nil
-words_again n (token ∷ tokens) small each h = grind (arith, nat_tests, common_steps, token_cuts n token tokens small each h, words_again n tokens small each.1 (apart_rest token tokens h), apart_rest token tokens h)
+words_again n (token ∷ tokens) small each h = grind (arith, token_cuts n token tokens small each h, words_again n tokens small each.1 (apart_rest token tokens h))
 
 token_again : (n : ℕ) → n < 2 ^ 64 → (at : ℕ) (token : SoloToken) → IsSoloToken n token → solo_token n at (solo_token_text token) ≡ Ok (solo_token_cells token)
-token_again n small at (blanks k) h = grind (arith, nat_tests, common_steps, solo_letter n at (96 + k) [])
+token_again n small at (blanks k) h = grind (arith, solo_letter n at (96 + k) [])
 token_again n small at gap h = (solo_gap n at []).1
 token_again n small at (given v) h = given_read n at v (omega (arith, h.1)) h.0 h.1
 
 -- what tokens that fill the grid spell is read
 solo_again : (n at : ℕ) (tokens : List SoloToken) → n < 2 ^ 64 → AllByRecursion (IsSoloToken n) tokens → AreApart tokens → length (flat_map solo_token_cells tokens) ≡ n * n → solo_cells_at n at (flat_map solo_token_text tokens) ≡ Ok (flat_map solo_token_cells tokens)
 unfolding solo_cells_at
-solo_again n at tokens small each h full = grind (arith, nat_tests, common_steps, words_again n tokens small each h, cells_again solo_token_text solo_token_cells (IsSoloToken n) (solo_token n) (token_again n small) (n * n) at [] tokens each, token_again n small)
+solo_again n at tokens small each h full = grind (arith, words_again n tokens small each h, cells_again solo_token_text solo_token_cells (IsSoloToken n) (solo_token n) (token_again n small) (n * n) at [] tokens each)
 
 pub solo_takes : (text : List ℕ) (p : Solo) → solo_of text ≡ Ok p → SpellsSolo text p
 unfolding solo_of
@@ -250,8 +248,8 @@ solo_takes text p e =
     })
 
 range_of : (p : Solo) → IsSolo p → in_range game.Solo p.c p.r ≡ true
-range_of p h = grind (arith, nat_tests)
+range_of p h = grind arith
 
 pub solo_text_again : (text : List ℕ) (p : Solo) → SpellsSolo text p → solo_of text ≡ Ok p
 unfolding solo_of
-solo_text_again text p s = grind (arith, nat_tests, common_steps, head_again game.Solo s.front (flat_map solo_token_text s.tokens) p.c p.r p.x (size_of_solo s.front p.c p.r p.x s.size), size_of_solo s.front p.c p.r p.x s.size, range_of p, solo_again (p.c * p.r) (length s.front + 1) s.tokens, after_front s.front (flat_map solo_token_text s.tokens))
+solo_text_again text p s = grind (arith, head_again game.Solo s.front (flat_map solo_token_text s.tokens) p.c p.r p.x (size_of_solo s.front p.c p.r p.x s.size), solo_again (p.c * p.r) (length s.front + 1) s.tokens, after_front s.front (flat_map solo_token_text s.tokens))

@@ -29,7 +29,7 @@ at_tents places counts = record { places = places; counts = counts }
 
 pub count_read : (size : Extent) (at : ℕ) (places counts word : List ℕ) → cells_in size + 1 ≤ length places → (length counts ≡ lines_of size → ⊥) → (length word ≡ 1 → ⊥) → value (drop 1 word) ≤ line_cells size (length counts) → tents_count size at (at_tents places counts) word ≡ Ok (value (drop 1 word))
 unfolding tents_count
-count_read size at places counts word full lines one fits = rw (le-ltb _ _ full, ne_eqb _ _ lines, ne_eqb _ _ one, le-ltb _ _ fits) refl
+count_read size at places counts word full lines one fits = grind arith
 
 -- some digit is in front
 pub front_some : (after : List ℕ) → begins is_ascii_digit after ≡ true → length (44 ∷ digits_front after) ≡ 1 → ⊥
@@ -64,19 +64,19 @@ run_token at b run e =
     ]
 
 pub letter_byte : (k : ℕ) → tents_token_byte (blanks_and_tree (suc k)) ≡ 97 + k
-letter_byte k = let some : eqb (suc k) 0 ≡ false = ne_eqb _ _ (λ e. absurd (omega (arith, e))) in rw some (omega arith)
+letter_byte k = grind arith
 
 byte_single : (token : TentsToken) → joins (tents_token_byte token) ≡ false
 byte_single (blanks_and_tree zero) = refl
-byte_single (blanks_and_tree (suc k)) = rw (letter_byte k) (no_join (97 + k) (λ l h. omega arith) (λ q. omega (arith, q)) (λ q. omega (arith, q)))
+byte_single (blanks_and_tree (suc k)) = grind arith
 byte_single only_blanks = refl
 
 pub run_single : (at b : ℕ) (run : ℕ × Bool) → tents_run at b ≡ Ok run → joins b ≡ false
 run_single at b run e = let t = run_token at b run e in ap joins t.byte ∙ byte_single t.token
 
 pub run_length : (blanks : ℕ) (tree : Bool) → length (run_cells blanks tree) ≡ blanks + cond tree 1 0
-run_length blanks true = omega (arith, length-append {A = ℕ} (replicate blanks 0) (1 ∷ []), length-replicate {A = ℕ} blanks 0)
-run_length blanks false = omega (arith, length-append {A = ℕ} (replicate blanks 0) [], length-replicate {A = ℕ} blanks 0)
+run_length blanks true = grind (arith, common_steps, length-append, length-replicate)
+run_length blanks false = grind (arith, common_steps, length-append, length-replicate)
 
 -- ---- turns
 
@@ -97,14 +97,14 @@ abbrev pub reads : Extent → ℕ → List ℕ → List ℕ → List ℕ → Res
 reads size at places counts rest = reading (tents_step size) (tents_end size) at (at_tents places counts) (words rest)
 
 pub turn_count : (size : Extent) (base d first : ℕ) (places counts rest tail word after : List ℕ) (r : Result ℕ IdFault) (total : Result TentsSoFar IdFault) → rest ≡ first ∷ tail → first ≡ 44 → length rest ≤ d → Cuts (44 ∷ tail) word after → tents_count size (place base d rest) (at_tents places counts) word ≡ r → reads size (place base d rest) places counts rest ≡ total → ((r >>= (λ n. Ok (at_tents places (counts ++ n ∷ [])))) >>= (λ t. reading (tents_step size) (tents_end size) (place base d after) t (words after))) ≡ total
-turn_count size base d first places counts rest tail word after r total e is le cuts token so = grind (arith, nat_tests, common_steps, turn_of (tents_step size) (tents_end size) base d (at_tents places counts) rest word after, count_step size (place base d rest) places counts word r)
+turn_count size base d first places counts rest tail word after r total e is le cuts token so = grind (arith, turn_of (tents_step size) (tents_end size) base d (at_tents places counts) rest word after, count_step size (place base d rest) places counts word r)
 
 pub turn_run : (size : Extent) (base d first blanks : ℕ) (tree : Bool) (places counts rest after : List ℕ) (total : Result TentsSoFar IdFault) → rest ≡ first ∷ after → (first ≡ 44 → ⊥) → counts ≡ [] → length rest ≤ d → tents_run (place base d rest) first ≡ Ok (blanks, tree) → reads size (place base d rest) places counts rest ≡ total → (planted size places counts blanks tree >>= (λ t. reading (tents_step size) (tents_end size) (place base d after) t (words after))) ≡ total
-turn_run size base d first blanks tree places counts rest after total e ne none le run so = grind (arith, nat_tests, common_steps, cuts_single first after, run_single (place base d rest) first (blanks, tree) run, turn_of (tents_step size) (tents_end size) base d (at_tents places []) rest (first ∷ []) after, tree_step size (place base d rest) first blanks tree places [] (ne_eqb first 44 ne) run, ne_eqb first 44 ne)
+turn_run size base d first blanks tree places counts rest after total e ne none le run so = grind (arith, cuts_single first after, run_single (place base d rest) first (blanks, tree) run, turn_of (tents_step size) (tents_end size) base d (at_tents places []) rest (first ∷ []) after, tree_step size (place base d rest) first blanks tree places [] (ne_eqb first 44 ne) run)
 
 pub bad_run : (size : Extent) (base d first : ℕ) (f : IdFault) (places counts rest after : List ℕ) (total : Result TentsSoFar IdFault) → rest ≡ first ∷ after → (first ≡ 44 → ⊥) → counts ≡ [] → length rest ≤ d → tents_run (place base d rest) first ≡ Err f → reads size (place base d rest) places counts rest ≡ total → Err f ≡ total
 unfolding tents_step tents_tree
-bad_run size base d first f places counts rest after total e ne none le run so = grind (arith, nat_tests, common_steps, fault_first (tents_step size) (tents_end size) base d first (at_tents places []) f rest after total e le, ne_eqb first 44 ne)
+bad_run size base d first f places counts rest after total e ne none le run so = grind (arith, fault_first (tents_step size) (tents_end size) base d first (at_tents places []) f rest after total e le)
 
 pub late_run : (size : Extent) (base d first : ℕ) (places counts rest after : List ℕ) (total : Result TentsSoFar IdFault) → rest ≡ first ∷ after → (first ≡ 44 → ⊥) → 0 < length counts → length rest ≤ d → reads size (place base d rest) places counts rest ≡ total → Err (BadByte (place base d rest)) ≡ total
 unfolding tents_step
@@ -134,19 +134,19 @@ pub record Planted (size : Extent) (at : ℕ) (places counts word : List ℕ) (t
 
 count_cases : (size : Extent) (at n : ℕ) (places counts word : List ℕ) → tents_count size at (at_tents places counts) word ≡ Ok n → (cells_in size + 1 ≤ length places) × (length word ≡ 1 → ⊥) × (value (drop 1 word) ≤ line_cells size (length counts)) × (value (drop 1 word) ≡ n)
 unfolding tents_count
-count_cases size at n places counts word e = grind (arith, nat_tests)
+count_cases size at n places counts word e = grind arith
 
 tree_cases : (size : Extent) (at b : ℕ) (places counts : List ℕ) (t : TentsSoFar) → tents_tree size at (at_tents places counts) b ≡ Ok t → (run : ℕ × Bool) × (tents_run at b ≡ Ok run) × (length places + length (run_cells run.0 run.1) ≤ cells_in size + cond run.1 1 0) × (at_tents (places ++ run_cells run.0 run.1) counts ≡ t)
 unfolding tents_tree
-tree_cases size at b places counts t e = grind (arith, nat_tests)
+tree_cases size at b places counts t e = grind arith
 
 pub step_cases : (size : Extent) (at : ℕ) (places counts word : List ℕ) (t : TentsSoFar) → tents_step size at (at_tents places counts) word ≡ Ok t → Counted size places counts word t ⊎ Planted size at places counts word t
 unfolding tents_step
-step_cases size at places counts word t e = grind (arith, nat_tests, common_steps, chosen, bind_ok, count_cases, ok_is, not_refused, tree_cases, ltb-false)
+step_cases size at places counts word t e = grind (arith, chosen, bind_ok, count_cases, ok_is, not_refused, tree_cases, ltb-false)
 
 pub end_cases : (size : Extent) (places counts : List ℕ) (t : TentsSoFar) → tents_end size (at_tents places counts) ≡ Ok t → (length counts ≡ lines_of size) × (at_tents places counts ≡ t)
 unfolding tents_end
-end_cases size places counts t e = grind (arith, nat_tests)
+end_cases size places counts t e = grind arith
 
 -- ---- what is read fits
 
@@ -155,7 +155,7 @@ run_bits blanks true = AllByRecursion-append (λ b. b < 2) (replicate blanks 0) 
 run_bits blanks false = AllByRecursion-append (λ b. b < 2) (replicate blanks 0) [] (AllByRecursion-replicate (λ b. b < 2) 0 blanks (omega arith)) tt
 
 AreCounts-push : (size : Extent) (line : ℕ) (counts : List ℕ) (n : ℕ) → AreCounts size line counts → n ≤ line_cells size (line + length counts) → AreCounts size line (counts ++ n ∷ [])
-AreCounts-push size line [] n h p = (subst (λ (k : ℕ). n ≤ line_cells size k) (let e : line + 0 ≡ line = omega arith in e) p, tt)
+AreCounts-push size line [] n h p = grind arith
 AreCounts-push size line (m ∷ counts) n h p = grind (arith, nat_tests, AreCounts-push size (line + 1) counts n h.1)
 
 -- the places read so far, whose last is a tree where they are all that there are; and the numbers so far
@@ -167,15 +167,15 @@ record Sound (size : Extent) (places counts : List ℕ) : Type 0 where
   fit : AreCounts size 0 counts
 
 sound_counted : (size : Extent) (places counts : List ℕ) (n : ℕ) → Sound size places counts → cells_in size + 1 ≤ length places → n ≤ line_cells size (length counts) → Sound size places (counts ++ n ∷ [])
-sound_counted size places counts n s full fits = grind (arith, nat_tests, common_steps, AreCounts-push size 0 counts n s.fit)
+sound_counted size places counts n s full fits = grind (arith, AreCounts-push size 0 counts n s.fit)
 
 sound_planted : (size : Extent) (places counts : List ℕ) (blanks : ℕ) (tree : Bool) → Sound size places counts → length counts ≤ 0 → length places + length (run_cells blanks tree) ≤ cells_in size + cond tree 1 0 → Sound size (places ++ run_cells blanks tree) counts
-sound_planted size places counts blanks true s early room = grind (arith, nat_tests, common_steps, AllByRecursion-append, run_bits blanks true, length-append places (run_cells blanks true), append_assoc places (replicate blanks 0) (1 ∷ []))
-sound_planted size places counts blanks false s early room = grind (arith, nat_tests, common_steps, AllByRecursion-append, run_bits blanks false, length-append places (run_cells blanks false))
+sound_planted size places counts blanks true s early room = grind (arith, common_steps, run_bits blanks true, append_assoc places (replicate blanks 0) (1 ∷ []))
+sound_planted size places counts blanks false s early room = grind (arith, common_steps, run_bits blanks false)
 
 sound_read : (size : Extent) (at : ℕ) (places counts : List ℕ) (ws : List (List ℕ)) (all : TentsSoFar) → Sound size places counts → reading (tents_step size) (tents_end size) at (at_tents places counts) ws ≡ Ok all → Sound size all.places all.counts × (length all.counts ≡ lines_of size)
 unfolding reading
-sound_read size at places counts [] all s e = grind (arith, nat_tests, common_steps, end_cases size places counts all e)
+sound_read size at places counts [] all s e = grind (arith, end_cases size places counts all e)
 sound_read size at places counts (word ∷ ws) all s e =
     let b = bind_ok (tents_step size at (at_tents places counts) word) (λ t. reading (tents_step size) (tents_end size) (at + length word) t ws) all e in
     elim (step_cases size at places counts word b.0 b.1) [
@@ -194,7 +194,7 @@ pub record CellsAndTree (size : Extent) (places : List ℕ) : Type 0 where
   pub bits : AllByRecursion (λ b. b < 2) (take (cells_in size) places)
 
 cells_and_tree : (size : Extent) (places front : List ℕ) → AllByRecursion (λ b. b < 2) places → length places ≡ cells_in size + 1 → places ≡ front ++ 1 ∷ [] → CellsAndTree size places
-cells_and_tree size places front bits long e = grind (arith, nat_tests, common_steps, length-append front (1 ∷ []), take_at front (1 ∷ []) (cells_in size), AllByRecursion-front)
+cells_and_tree size places front bits long e = grind (arith, common_steps)
 
 pub record TentsRead (size : Extent) (s : TentsSoFar) : Type 0 where
   pub cells : CellsAndTree size s.places
@@ -203,10 +203,10 @@ pub record TentsRead (size : Extent) (s : TentsSoFar) : Type 0 where
 
 pub tents_read : (size : Extent) (at : ℕ) (description : List ℕ) (s : TentsSoFar) → IsWide size → tents_at size at description ≡ Ok s → TentsRead size s
 unfolding tents_at
-tents_read size at description s wide e = grind (arith, nat_tests, common_steps, sound_read size at [] [] (words description) s, cells_and_tree size s.places)
+tents_read size at description s wide e = grind (arith, common_steps, sound_read size at [] [] (words description) s)
 
 pub tents_lawful : (size : Extent) (at : ℕ) (description : List ℕ) (s : TentsSoFar) → IsWide size → tents_at size at description ≡ Ok s → IsTents (record { size = size; trees = take (cells_in size) s.places; counts = s.counts })
-tents_lawful size at description s wide e = grind (arith, nat_tests, common_steps, tents_read size at description s wide e)
+tents_lawful size at description s wide e = grind (arith, tents_read size at description s wide e)
 
 pub tents_fits : (size : Extent) (w h n at : ℕ) (description places counts trees : List ℕ) → size ≡ sized w h → n ≡ size.w * size.h → trees ≡ take n places → in_range game.Tents w h ≡ true → tents_at size at description ≡ Ok (at_tents places counts) → IsTents (record { size = size; trees = trees; counts = counts })
-tents_fits size w h n at description places counts trees is count kept range e = grind (arith, nat_tests, common_steps, wide_of w h range, tents_lawful size at description (at_tents places counts))
+tents_fits size w h n at description places counts trees is count kept range e = grind (arith, tents_lawful size at description (at_tents places counts))

@@ -1,6 +1,5 @@
 -- Tents: a text is read exactly where it spells a puzzle.
 use Rattle.std.proofs.Common.{◌≡◌, ℕ, ◌+◌, ◌-◌, ◌<◌, ◌≤◌, Bool, true, false, cond, eqb, suc, zero, List, [], ◌∷◌, ◌++◌, map, length, drop, get_or, Result, Ok, refl, sym, ap, subst, ◌∙◌, inl, inr, arith, append_assoc, length-append, zero-add, ◌*◌, take}
-use Rattle.std.proofs.lemmas.Bool.Decides.{nat_tests}
 use Rattle.std.proofs.lemmas.Grind.{common_steps}
 use Rattle.std.specs.Prelude.{replicate}
 use Rattle.std.specs.List.{AllByRecursion, flat_map, concat}
@@ -42,7 +41,7 @@ record Spelled (places counts text : List ℕ) (all : TentsSoFar) : Type 0 where
 comma_word : (word : List ℕ) → IsWord word → begins (λ b. eqb b 44) word ≡ true → (length word ≡ 1 → ⊥) → (word ≡ 44 ∷ drop 1 word) × IsNumeral (drop 1 word)
 comma_word [] w c some = absurd w
 comma_word (b ∷ []) w c some = absurd (some refl)
-comma_word (b ∷ d ∷ more) w c some = (ap (λ (k : ℕ). k ∷ d ∷ more) (eqb-true b 44 c), record { some = omega arith; digits = w.0 })
+comma_word (b ∷ d ∷ more) w c some = grind arith
 
 spelled_counted : (places counts word rest : List ℕ) (all : TentsSoFar) → (word ≡ 44 ∷ drop 1 word) × IsNumeral (drop 1 word) → Spelled places (counts ++ value (drop 1 word) ∷ []) rest all → Spelled places counts (word ++ rest) all
 spelled_counted places counts word rest all w r =
@@ -107,7 +106,7 @@ pub record TentsDescribed (description : List ℕ) (all : TentsSoFar) : Type 0 w
 
 pub tents_take : (size : Extent) (at : ℕ) (description : List ℕ) (all : TentsSoFar) → tents_at size at description ≡ Ok all → TentsDescribed description all
 unfolding tents_at
-tents_take size at description all e = grind (arith, nat_tests, common_steps, read_spelled size at [] [] (words description) all (words_are description) e, words_are description, concat_words description)
+tents_take size at description all e = grind (arith, read_spelled size at [] [] (words description) all (words_are description) e, concat_words description)
 
 -- ---- what is spelled is read
 
@@ -115,8 +114,8 @@ abbrev Reads : Extent → TentsSoFar → List ℕ → List ℕ → List ℕ → 
 Reads size all places counts text = (at : ℕ) → reading (tents_step size) (tents_end size) at (at_tents places counts) (words text) ≡ Ok all
 
 counts_at : (size : Extent) (line : ℕ) (xs : List ℕ) (n : ℕ) (ys : List ℕ) → AreCounts size line (xs ++ n ∷ ys) → n ≤ line_cells size (line + length xs)
-counts_at size line [] n ys h = subst (λ (k : ℕ). n ≤ line_cells size k) (let e : line ≡ line + 0 = omega arith in e) h.0
-counts_at size line (x ∷ xs) n ys h = grind (arith, nat_tests, counts_at size (line + 1) xs n ys h.1)
+counts_at size line [] n ys h = grind arith
+counts_at size line (x ∷ xs) n ys h = grind (arith, counts_at size (line + 1) xs n ys h.1)
 
 -- no number begins with a digit, as it begins with ','
 numbers_begin : (numerals : List (List ℕ)) → begins is_ascii_digit (numbers_text numerals) ≡ false
@@ -127,7 +126,7 @@ not_one : (num : List ℕ) → 0 < length num → length (44 ∷ num) ≡ 1 → 
 not_one num some e = absurd (omega (arith, e))
 
 numbers_again : (size : Extent) (places counts total : List ℕ) (numerals : List (List ℕ)) → AllByRecursion IsNumeral numerals → cells_in size + 1 ≤ length places → counts ++ map value numerals ≡ total → length total ≡ lines_of size → AreCounts size 0 total → Reads size (at_tents places total) places counts (numbers_text numerals)
-numbers_again size places counts total [] d full is len are at = grind (arith, nat_tests, common_steps, append-nil counts, reading_end (tents_step size) (tents_end size) at (at_tents places counts) [] refl, end_is size places counts true, eq-eqb)
+numbers_again size places counts total [] d full is len are at = grind (arith, common_steps, reading_end (tents_step size) (tents_end size) at (at_tents places counts) [] refl, end_is size places counts true)
 numbers_again size places counts total (num ∷ numerals) d full is len are at =
     let n : ℕ = value num in
     let more : List ℕ = map value numerals in
@@ -156,7 +155,7 @@ run_of k tree = Ok (k, tree)
 
 letter_run : (at k : ℕ) → suc k ≤ 25 → tents_run at (97 + k) ≡ Ok (suc k, true)
 unfolding tents_run
-letter_run at k h = grind (arith, nat_tests)
+letter_run at k h = grind arith
 
 token_run : (at : ℕ) (token : TentsToken) → IsTentsToken token → tents_run at (tents_token_byte token) ≡ Ok (token_blanks token, token_tree token)
 unfolding tents_run
@@ -182,15 +181,15 @@ last_push (y ∷ []) x = refl
 last_push (y ∷ z ∷ xs) x = last_push (z ∷ xs) x
 
 blank_last : (places trees : List ℕ) → places ++ replicate 25 0 ≡ trees ++ 1 ∷ [] → ⊥
-blank_last places trees e = grind (arith, nat_tests, common_steps, append_assoc places (replicate 24 0) (0 ∷ []), last_push (places ++ replicate 24 0) 0, last_push trees 1)
+blank_last places trees e = grind (arith, append_assoc places (replicate 24 0) (0 ∷ []), last_push (places ++ replicate 24 0) 0, last_push trees 1)
 
 tree_room : (size : Extent) (places trees : List ℕ) (token : TentsToken) (rest : List ℕ) → length trees ≡ cells_in size → places ++ (tents_token_cells token ++ rest) ≡ trees ++ 1 ∷ [] → length places + (token_blanks token + cond (token_tree token) 1 0) ≤ cells_in size + cond (token_tree token) 1 0
-tree_room size places trees (blanks_and_tree k) rest count is = grind (arith, nat_tests, common_steps, length-append places ((replicate k 0 ++ 1 ∷ []) ++ rest), length-append (replicate k 0 ++ 1 ∷ []) rest, length-append {A = ℕ} (replicate k 0) (1 ∷ []), length-replicate {A = ℕ} k 0, length-append trees (1 ∷ []))
+tree_room size places trees (blanks_and_tree k) rest count is = grind (arith, common_steps)
 tree_room size places trees only_blanks [] count is = absurd (blank_last places trees is)
-tree_room size places trees only_blanks (r ∷ rest) count is = grind (arith, nat_tests, common_steps, length-append places (replicate 25 0 ++ r ∷ rest), length-append {A = ℕ} (replicate 25 0) (r ∷ rest), length-append trees (1 ∷ []))
+tree_room size places trees only_blanks (r ∷ rest) count is = grind (arith, common_steps)
 
 trees_again : (size : Extent) (all : TentsSoFar) (places trees : List ℕ) (tokens : List TentsToken) (rest : List ℕ) → AllByRecursion IsTentsToken tokens → length trees ≡ cells_in size → places ++ flat_map tents_token_cells tokens ≡ trees ++ 1 ∷ [] → Reads size all (trees ++ 1 ∷ []) [] rest → Reads size all places [] (map tents_token_byte tokens ++ rest)
-trees_again size all places trees [] rest each count is next at = grind (arith, nat_tests, common_steps, append-nil places)
+trees_again size all places trees [] rest each count is next at = grind (arith, common_steps)
 trees_again size all places trees (token ∷ tokens) rest each count is next at =
     let cells : List ℕ = tents_token_cells token in
     let later : List ℕ = flat_map tents_token_cells tokens in
@@ -206,7 +205,7 @@ trees_again size all places trees (token ∷ tokens) rest each count is next at 
 -- what tokens and numerals that fit spell is read
 pub tents_again : (size : Extent) (at : ℕ) (trees counts : List ℕ) (tokens : List TentsToken) (numerals : List (List ℕ)) → AllByRecursion IsTentsToken tokens → AllByRecursion IsNumeral numerals → length trees ≡ cells_in size → flat_map tents_token_cells tokens ≡ trees ++ 1 ∷ [] → map value numerals ≡ counts → length counts ≡ lines_of size → AreCounts size 0 counts → tents_at size at (map tents_token_byte tokens ++ numbers_text numerals) ≡ Ok (at_tents (trees ++ 1 ∷ []) counts)
 unfolding tents_at
-tents_again size at trees counts tokens numerals each digits count cells is len are = grind (arith, nat_tests, common_steps, trees_again size (at_tents (trees ++ 1 ∷ []) counts) [] trees tokens (numbers_text numerals) each count cells, numbers_again size (trees ++ 1 ∷ []) [] counts numerals digits, length-append trees (1 ∷ []))
+tents_again size at trees counts tokens numerals each digits count cells is len are = grind (arith, common_steps, trees_again size (at_tents (trees ++ 1 ∷ []) counts) [] trees tokens (numbers_text numerals) each count cells, numbers_again size (trees ++ 1 ∷ []) [] counts numerals digits)
 
 pub tents_takes : (text : List ℕ) (p : Tents) → tents_of text ≡ Ok p → SpellsTents text p
 unfolding tents_of

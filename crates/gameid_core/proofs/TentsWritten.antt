@@ -39,47 +39,47 @@ unfolding tents_tokens
 tokens_end k = refl
 
 pub blank_pushed : (k k' : ℕ) (cells out : List ℕ) → (k ≡ 25 → ⊥) → k' ≡ k + 1 → out ++ trees_text k' cells ≡ out ++ trees_text k (0 ∷ cells)
-blank_pushed k k' cells out ne e = rw e (ap (λ (ts : List TentsToken). out ++ map tents_token_byte ts) (sym (tokens_blank k cells ne)))
+blank_pushed k k' cells out ne e = grind (arith, common_steps, tokens_blank)
 
 pub full_pushed : (k : ℕ) (cells out new : List ℕ) → k ≡ 25 → new ≡ out ++ 122 ∷ [] → new ++ trees_text 1 cells ≡ out ++ trees_text k (0 ∷ cells)
-full_pushed k cells out new full e = grind (arith, nat_tests, common_steps, append_assoc out (122 ∷ []) (trees_text 1 cells), tokens_full k cells full)
+full_pushed k cells out new full e = grind (arith, common_steps, tokens_full k cells full)
 
 pub trees_step_blank : (k i k' : ℕ) (cells old out new : List ℕ) → i < length cells → get_or cells i 0 ≡ 0 → ((rest : List ℕ) → new ++ trees_text k' rest ≡ out ++ trees_text k (0 ∷ rest)) → out ++ trees_text k (drop i cells) ≡ old → new ++ trees_text k' (drop (i + 1) cells) ≡ old
-trees_step_blank k i k' cells old out new lt blank pushed so = grind (arith, nat_tests, common_steps, next_cell cells i lt)
+trees_step_blank k i k' cells old out new lt blank pushed so = grind (arith, common_steps)
 
 pub trees_step_tree : (k i k' b : ℕ) (cells old out new : List ℕ) → i < length cells → (get_or cells i 0 ≡ 0 → ⊥) → k' ≡ 0 → b ≡ tents_token_byte (blanks_and_tree k) → new ≡ out ++ b ∷ [] → out ++ trees_text k (drop i cells) ≡ old → new ++ trees_text k' (drop (i + 1) cells) ≡ old
-trees_step_tree k i k' b cells old out new lt tree none byte e so = grind (arith, nat_tests, common_steps, append_assoc out (tents_token_byte (blanks_and_tree k) ∷ []), tokens_tree k (get_or cells i 0) (drop (i + 1) cells) tree, next_cell cells i lt)
+trees_step_tree k i k' b cells old out new lt tree none byte e so = grind (arith, common_steps, tokens_tree k (get_or cells i 0) (drop (i + 1) cells) tree)
 
 pub trees_done : (k i b : ℕ) (cells old out new : List ℕ) → length cells ≤ i → b ≡ tents_token_byte (blanks_and_tree k) → new ≡ out ++ b ∷ [] → out ++ trees_text k (drop i cells) ≡ old → new ≡ old
-trees_done k i b cells old out new past byte e so = grind (arith, nat_tests, common_steps, drop_all i cells past, tokens_end k)
+trees_done k i b cells old out new past byte e so = grind (arith, common_steps, tokens_end k)
 
 abbrev pub counts_text : List ℕ → List ℕ
 counts_text counts = flat_map (λ n. 44 ∷ decimal n) counts
 
 pub counts_step : (i : ℕ) (counts old out mid new : List ℕ) → i < length counts → mid ≡ out ++ 44 ∷ [] → new ≡ mid ++ decimal (get_or counts i 0) → out ++ counts_text (drop i counts) ≡ old → new ++ counts_text (drop (i + 1) counts) ≡ old
-counts_step i counts old out mid new lt m e so = grind (arith, nat_tests, common_steps, append_assoc (out ++ 44 ∷ []), append_assoc out (44 ∷ []), next_cell counts i lt)
+counts_step i counts old out mid new lt m e so = grind (arith, common_steps)
 
 pub counts_done : (i : ℕ) (counts old out : List ℕ) → length counts ≤ i → out ++ counts_text (drop i counts) ≡ old → out ≡ old
-counts_done i counts old out past so = grind (arith, nat_tests, common_steps, append-nil out, drop_all i counts past)
+counts_done i counts old out past so = grind (arith, common_steps)
 
 -- ---- how long
 
 tokens_short : (k : ℕ) (cells : List ℕ) → length (tents_tokens k cells) ≤ length cells + 1
 unfolding tents_tokens
 tokens_short k [] = omega arith
-tokens_short k (zero ∷ cells) = grind (arith, nat_tests, tokens_short 1 cells, tokens_short (k + 1) cells)
+tokens_short k (zero ∷ cells) = grind (arith, tokens_short 1 cells, tokens_short (k + 1) cells)
 tokens_short k (suc b ∷ cells) = omega (arith, tokens_short 0 cells)
 
 count_short : (n : ℕ) → n ≤ max_side → length (decimal n) ≤ max_side
-count_short zero small = omega (arith, length-decimal-le 1 0 (omega arith) (omega arith) (omega arith))
-count_short (suc n) small = omega (arith, length_decimal (suc n) (omega (arith, small)) (omega arith))
+count_short zero small = grind (arith, common_steps, length-decimal-le)
+count_short (suc n) small = grind (arith, common_steps, length_decimal)
 
 counts_short : (size : Extent) (line : ℕ) (counts : List ℕ) → IsExtent size → AreCounts size line counts → length (counts_text counts) ≤ (max_side + 1) * length counts
 counts_short size line [] e h = omega arith
-counts_short size line (n ∷ counts) e h = grind (arith, nat_tests, common_steps, line_small size line e, count_short n, counts_short size (line + 1) counts e h.1, length-append (decimal n) (counts_text counts))
+counts_short size line (n ∷ counts) e h = grind (arith, common_steps, count_short n, counts_short size (line + 1) counts e h.1)
 
 pub tents_short : (p : Tents) → IsTents p → length (tents_text p) ≤ max_id
-tents_short p h = grind (arith, nat_tests, common_steps, length_decimal p.size.w, length_decimal p.size.h, tokens_short 0 p.trees, counts_short p.size 0 p.counts, cells_few p.size, length-map (tents_tokens 0 p.trees) tents_token_byte, length-append (decimal p.size.w) (120 ∷ decimal p.size.h), length-append (size_text p.size.w p.size.h) (58 ∷ (trees_text 0 p.trees ++ counts_text p.counts)), length-append (trees_text 0 p.trees) (counts_text p.counts))
+tents_short p h = grind (arith, common_steps, length_decimal p.size.w, length_decimal p.size.h, tokens_short 0 p.trees, counts_short p.size 0 p.counts)
 
 -- ---- what it spells
 
@@ -112,7 +112,7 @@ tight_join (only_blanks ∷ tokens) f h = h
 
 cells_written : (k : ℕ) (cells : List ℕ) → k ≤ 25 → AllByRecursion (λ b. b < 2) cells → Written k cells (tents_tokens k cells)
 unfolding tents_tokens
-cells_written k [] few h = record { each = (few, tt); tight = tt; filled = append-nil (replicate k 0 ++ 1 ∷ []) }
+cells_written k [] few h = grind (arith, common_steps, append-nil)
 cells_written k (zero ∷ cells) few h = grind (arith, nat_tests, common_steps, cells_written 1 cells, eqb-true k 25, tight_join (tents_tokens 1 cells), no_tree_first 1 cells, eqb-false k 25, cells_written (k + 1) cells, replicate-append-replicate {A = ℕ} k 1 0, append_assoc (replicate k 0) (0 ∷ []) (cells ++ 1 ∷ []))
 cells_written k (suc b ∷ cells) few h = grind (arith, nat_tests, common_steps, cells_written 0 cells, append_assoc (replicate k 0) (1 ∷ []) (cells ++ 1 ∷ []))
 
@@ -130,7 +130,7 @@ numerals size line (n ∷ counts) e h =
 
 counts_are_plain : (size : Extent) (line : ℕ) (counts : List ℕ) → IsExtent size → AreCounts size line counts → AllByRecursion IsPlain (map decimal counts)
 counts_are_plain size line [] e h = tt
-counts_are_plain size line (n ∷ counts) e h = grind (arith, nat_tests, common_steps, line_small size line e, decimal_plain n, counts_are_plain size (line + 1) counts e h.1)
+counts_are_plain size line (n ∷ counts) e h = grind (arith, decimal_plain n, counts_are_plain size (line + 1) counts e h.1)
 
 -- the written text has the form of a written text, and so it spells the puzzle
 pub tents_is_written : (p : Tents) → IsTents p → IsWrittenTents (tents_text p) p
@@ -180,17 +180,17 @@ of_nil k = refl
 
 blank_cell : (k : ℕ) (cells : List ℕ) → tokens_of 1 (cells ++ 1 ∷ []) ≡ tents_tokens 1 cells → tokens_of (k + 1) (cells ++ 1 ∷ []) ≡ tents_tokens (k + 1) cells → tokens_of k (0 ∷ (cells ++ 1 ∷ [])) ≡ tents_tokens k (0 ∷ cells)
 unfolding tokens_of
-blank_cell k cells one next = grind (arith, nat_tests, common_steps, tokens_full k cells, eqb-true k 25, tokens_blank k cells, eqb-false k 25)
+blank_cell k cells one next = grind (arith, tokens_full k cells, tokens_blank k cells)
 
 -- the tree after the cells ends them
 of_cells : (k : ℕ) (cells : List ℕ) → tokens_of k (cells ++ 1 ∷ []) ≡ tents_tokens k cells
 unfolding tokens_of
 of_cells k [] = sym (tokens_end k)
-of_cells k (suc b ∷ cells) = ap (λ (ts : List TentsToken). blanks_and_tree k ∷ ts) (of_cells 0 cells) ∙ sym (tokens_tree k (suc b) cells (λ e. absurd (omega (arith, e))))
+of_cells k (suc b ∷ cells) = grind (arith, common_steps, of_cells 0 cells, tokens_tree)
 of_cells k (zero ∷ cells) = blank_cell k cells (of_cells 1 cells) (of_cells (k + 1) cells)
 
 of_run : (k j : ℕ) (places : List ℕ) → k + j ≤ 25 → tokens_of k (replicate j 0 ++ places) ≡ tokens_of (k + j) places
-of_run k zero places le = ap (λ (i : ℕ). tokens_of i places) (let e : k ≡ k + 0 = omega arith in e)
+of_run k zero places le = grind arith
 of_run k (suc j) places le = grind (arith, nat_tests, common_steps, of_blank k (replicate j 0 ++ places), of_run (k + 1) j places)
 
 last_behind : (xs : List ℕ) (y : ℕ) (ys : List ℕ) → last_of (xs ++ y ∷ ys) ≡ last_of (y ∷ ys)
@@ -206,7 +206,7 @@ cells_of_all tokens = flat_map tents_token_cells tokens
 -- tokens of the form are those of their cells
 form_tokens : (tokens : List TentsToken) → AllByRecursion IsTentsToken tokens → AreTight tokens → (0 < length tokens → last_of (cells_of_all tokens) ≡ 1) → tokens_of 0 (cells_of_all tokens) ≡ tokens
 form_tokens [] each tight last = of_nil 0
-form_tokens (blanks_and_tree k ∷ []) each tight last = grind (arith, nat_tests, common_steps, append-nil, of_run, of_tree, of_nil)
+form_tokens (blanks_and_tree k ∷ []) each tight last = grind (arith, append-nil, of_run, of_tree, of_nil)
 form_tokens (blanks_and_tree k ∷ token ∷ tokens) each tight last =
     let later : List ℕ = cells_of_all (token ∷ tokens) in
     ap (tokens_of 0) (append_assoc (replicate k 0) (1 ∷ []) later) ∙ of_run 0 k (1 ∷ later) (omega (arith, each.0)) ∙ ap (λ (i : ℕ). tokens_of i (1 ∷ later)) (let e : 0 + k ≡ k = omega arith in e) ∙ of_tree k later
@@ -229,7 +229,7 @@ form_tokens (only_blanks ∷ only_blanks ∷ tokens) each tight last =
 
 numbers_plain : (size : Extent) (line : ℕ) (numerals : List (List ℕ)) → IsExtent size → AreCounts size line (map value numerals) → AllByRecursion IsNumeral numerals → AllByRecursion IsPlain numerals → map decimal (map value numerals) ≡ numerals
 numbers_plain size line [] e h d plain = refl
-numbers_plain size line (num ∷ numerals) e h d plain = grind (arith, nat_tests, common_steps, numbers_plain size (line + 1) numerals e h.1 d.1 plain.1, line_small, plain_decimal, numerals)
+numbers_plain size line (num ∷ numerals) e h d plain = grind (arith, numbers_plain size (line + 1) numerals e h.1 d.1 plain.1, line_small, plain_decimal, numerals)
 
 pub tents_form : (text : List ℕ) (p : Tents) → IsWrittenTents text p → text ≡ tents_text p
-tents_form text p w = grind (arith, nat_tests, common_steps, last_push p.trees 1, of_cells 0 p.trees, form_tokens, numbers_plain p.size 0, numbers_are p.counts)
+tents_form text p w = grind (arith, last_push p.trees 1, of_cells 0 p.trees, form_tokens, numbers_plain p.size 0, numbers_are p.counts)

@@ -16,6 +16,4 @@ loop-line-preserved c =
     lines_more runs c.args.size c.args.grid.now c.loop-line.line c.deref.result.now c.in_ok-clue.clue.items (map (λ clue. clue.items) c.loop-line.clues.items) _ (c.deref.ensures.value ∙ c.in_ok-cells.ensures.list) c.in_ok-clue.ensures (ap (map (λ clue. clue.items)) c.in_ok-push.ensures.items ∙ map-append (λ v. v.items) c.loop-line.clues.items (c.in_ok-clue.clue ∷ [])) c.loop-line.invariant
 
 pub returns-clause-runs : goal.returns-clause-runs
-returns-clause-runs c =
-    let end : c.loop-line.line ≡ lines_of c.args.size = omega (arith, c.lines-line-end.ensures.value) in
-    c.loop-line.invariant ∙ ap (λ (k : ℕ). lines_front runs c.args.size c.args.grid.now k) end
+returns-clause-runs c = grind arith

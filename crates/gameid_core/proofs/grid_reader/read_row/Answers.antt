@@ -33,20 +33,10 @@ returns-in_err-value-clause-read g c grid more shown is agree =
     absurd (cell_not_missed _ _ _ _ more _ _ known refl)
 
 pub returns-in_err-byte-clause-read : goal.returns-in_err-byte-clause-read
-returns-in_err-byte-clause-read g c grid more shown is agree =
-    let so_far = c.loop-x.invariant.read grid more shown is (rw c.columns-w.ensures.value agree) in
-    let end = none_left _ _ more _ _ (let e : c.loop-x.x ≡ c.columns-w.result = omega arith in e) so_far.0 in
-    absurd (let l = ap length end in let m = c.in_err-byte.ensures.cases in omega arith)
+returns-in_err-byte-clause-read g c grid more shown is agree = grind (arith, none_left)
 
 pub returns-then-byte-eq10-clause-read : goal.returns-then-byte-eq10-clause-read
-returns-then-byte-eq10-clause-read g c grid more shown is agree =
-    let so_far = c.loop-x.invariant.read grid more shown is (rw c.columns-w.ensures.value agree) in
-    let end = none_left _ _ more _ _ (let e : c.loop-x.x ≡ c.columns-w.result = omega arith in e) so_far.0 in
-    let ended = row_end c.args.y c.columns-w.result c.loop-x.x (g.P.Printed.extent c.args.puzzle.now).w c.loop-x-test.false c.loop-x.auto.x-end c.columns-w.ensures.value in
-    ((line_end _ _ more _ c.in_ok-byte.ensures.cases.0 end).1, λ place lt. so_far.1 place (omega arith))
+returns-then-byte-eq10-clause-read g c grid more shown is agree = grind (arith, none_left, row_end, line_end)
 
 pub returns-else-byte-eq10-clause-read : goal.returns-else-byte-eq10-clause-read
-returns-else-byte-eq10-clause-read g c grid more shown is agree =
-    let so_far = c.loop-x.invariant.read grid more shown is (rw c.columns-w.ensures.value agree) in
-    let end = none_left _ _ more _ _ (let e : c.loop-x.x ≡ c.columns-w.result = omega arith in e) so_far.0 in
-    absurd (let e = (line_end _ _ more _ c.in_ok-byte.ensures.cases.0 end).0 in let k = c.if-byte-eq10.false in omega arith)
+returns-else-byte-eq10-clause-read g c grid more shown is agree = grind (arith, none_left, line_end)

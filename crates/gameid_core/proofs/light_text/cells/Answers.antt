@@ -10,9 +10,7 @@ use Rattle.gameid_core.proofs.light_text.cells.Goals as goal
 
 pub loop-k-init : goal.loop-k-init
 unfolding light_cells_at
-loop-k-init c =
-    let here : c.args.base + 0 ≡ c.args.base = omega arith in
-    record { room = rw c.new-cells.ensures.items (omega arith); so_far = rw (c.new-cells.ensures.items, here) refl }
+loop-k-init c = grind arith
 
 pub returns-in_err-count : goal.returns-in_err-count
 returns-in_err-count c =

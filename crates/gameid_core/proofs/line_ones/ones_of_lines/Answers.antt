@@ -9,6 +9,4 @@ loop-line-preserved c =
     lines_more ones c.args.size c.args.grid.now c.loop-line.line c.deref.result.now c.ones_of.result c.loop-line.counts.items _ (c.deref.ensures.value ∙ c.in_ok-cells.ensures.list) c.ones_of.ensures c.in_ok-push.ensures.items c.loop-line.invariant
 
 pub returns-clause-ones : goal.returns-clause-ones
-returns-clause-ones c =
-    let end : c.loop-line.line ≡ lines_of c.args.size = omega (arith, c.lines-line-end.ensures.value) in
-    c.loop-line.invariant ∙ ap (λ (k : ℕ). lines_front ones c.args.size c.args.grid.now k) end
+returns-clause-ones c = grind arith

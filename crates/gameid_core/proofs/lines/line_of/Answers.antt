@@ -10,9 +10,7 @@ pub loop-k-preserved : goal.loop-k-preserved
 loop-k-preserved c = front_more c.args.size c.args.grid.now c.args.line c.loop-k.k _ _ c.loop-k.numbers.items _ c.place_of.ensures.place c.get.ensures c.in_ok-push.ensures.items c.loop-k.invariant
 
 pub returns-clause-list : goal.returns-clause-list
-returns-clause-list c =
-    let end : c.loop-k.k ≡ line_cells c.args.size c.args.line = omega (arith, c.from-k-end.ensures, c.cells_of.ensures) in
-    c.loop-k.invariant ∙ ap (λ (k : ℕ). line_front c.args.size c.args.grid.now c.args.line k) end ∙ front_whole c.args.size c.args.grid.now c.args.line
+returns-clause-list c = grind (arith, front_whole)
 
 pub returns-clause-short : goal.returns-clause-short
 returns-clause-short c = omega (arith, c.from-k-end.ensures, c.cells_of.type_inv, ap length c.loop-k.invariant, length_front c.args.size c.args.grid.now c.args.line c.loop-k.k)

@@ -10,10 +10,7 @@ use Rattle.gameid_core.proofs.solo_text.cells.Goals as goal
 
 pub loop-first-init : goal.loop-first-init
 unfolding solo_cells_at
-loop-first-init c =
-    let none : c.new-cells.result.items ≡ [] = c.new-cells.ensures.items in
-    let here : c.args.base + (length c.args.description.now - length c.args.description.now) ≡ c.args.base = omega arith in
-    record { short = omega arith; room = rw none (omega arith); so_far = rw (none, here) refl }
+loop-first-init c = grind arith
 
 pub returns-in_err-count : goal.returns-in_err-count
 returns-in_err-count c =

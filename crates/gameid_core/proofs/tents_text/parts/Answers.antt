@@ -12,19 +12,13 @@ use Rattle.gameid_core.proofs.tents_text.parts.Goals as goal
 
 pub loop-first-init : goal.loop-first-init
 unfolding tents_at
-loop-first-init c =
-    let none : c.new-places.result.items ≡ [] = c.new-places.ensures.items in
-    let empty : c.new-counts.result.items ≡ [] = c.new-counts.ensures.items in
-    let here : c.args.base + (length c.args.description.now - length c.args.description.now) ≡ c.args.base = omega arith in
-    record { short = omega arith; few = rw none (omega arith); so_far = rw (none, empty, here) refl }
+loop-first-init c = grind arith
 
 pub returns-then-len-lines : goal.returns-then-len-lines
-returns-then-len-lines c =
-    end_of (tents_step c.args.size) (tents_end c.args.size) _ (at_tents c.loop-first.places.items c.loop-first.counts.items) _ _ _ c.in_default.ensures (end_is _ _ _ false (ne_eqb _ _ (λ e. c.if-len-lines.true (omega (arith, c.lines.ensures.value, c.loop-first.counts.ok.0))))) c.loop-first.invariant.so_far
+returns-then-len-lines c = grind (arith, end_of, end_is, ne_eqb)
 
 pub returns : goal.returns
-returns c =
-    end_of (tents_step c.args.size) (tents_end c.args.size) _ (at_tents c.loop-first.places.items c.loop-first.counts.items) _ _ _ c.in_default.ensures (end_is _ _ _ true (eq-eqb _ _ (omega (arith, c.lines.ensures.value, c.loop-first.counts.ok.0)))) c.loop-first.invariant.so_far
+returns c = grind (arith, end_of, end_is, eq-eqb)
 
 pub returns-in_err-count : goal.returns-in_err-count
 returns-in_err-count c =
@@ -50,8 +44,7 @@ loop-first-preserved-then-first-eq44 c =
     }
 
 pub returns-then-not-is_empty : goal.returns-then-not-is_empty
-returns-then-not-is_empty c =
-    sym (late_run c.args.size c.args.base (length c.args.description.now) _ c.loop-first.places.items c.loop-first.counts.items _ _ _ c.in-Some.ensures c.if-first-eq44.false (let ne = eqb-false _ _ (sym c.is_empty.ensures ∙ c.if-not-is_empty.true) in omega (arith, c.loop-first.counts.ok.0, ne)) c.loop-first.invariant.short c.loop-first.invariant.so_far)
+returns-then-not-is_empty c = grind (arith, late_run, eqb-false)
 
 pub returns-in_err-blanks : goal.returns-in_err-blanks
 returns-in_err-blanks c =

@@ -4,9 +4,7 @@ use Rattle.gameid_core.proofs.TentsWritten.{blank_pushed, full_pushed}
 use Rattle.gameid_core.proofs.tents_writing.push_blank.Goals as goal
 
 pub returns-in_ok-push-clause-text : goal.returns-in_ok-push-clause-text
-returns-in_ok-push-clause-text c =
-    let z = c.in_ok-push.ensures.ascii (omega arith) in
-    λ cells. full_pushed c.args.blanks cells (string_bytes c.args.out.now) _ c.if-blanks-eq25.true (c.in_ok-push.ensures.bytes ∙ ap (λ (t : List ℕ). string_bytes c.args.out.now ++ t) z)
+returns-in_ok-push-clause-text c = grind (arith, full_pushed)
 
 pub returns-else-blanks-eq25-clause-text : goal.returns-else-blanks-eq25-clause-text
 returns-else-blanks-eq25-clause-text c = λ cells. blank_pushed c.args.blanks _ cells (string_bytes c.args.out.now) c.if-blanks-eq25.false refl

@@ -1,4 +1,5 @@
 use Rattle.std.proofs.Common.{◌≡◌, ◌-◌, ℕ, ◌++◌, ◌∷◌, List, sym, ap, ◌∙◌, arith, append_assoc, []}
+use Rattle.std.proofs.lemmas.Grind.{common_steps}
 use Rattle.std.specs.Prelude.{string_bytes}
 use Rattle.std.proofs.lemmas.List.{append-nil}
 use Rattle.gameid_core.specs.Cells.{letters}
@@ -13,14 +14,7 @@ pub returns-then-count-eq0 : goal.returns-then-count-eq0
 returns-then-count-eq0 c = sym (ap (λ (t : List ℕ). string_bytes c.args.out.now ++ t) (letters_none c.args.count c.if-count-eq0.true) ∙ append-nil (string_bytes c.args.out.now))
 
 pub loop-left-preserved : goal.loop-left-preserved
-loop-left-preserved c =
-    let z = c.in_ok-push.ensures.ascii (omega arith) in
-    record {
-      some = omega arith;
-      so_far = push_step (string_bytes c.loop-left.out) 122 _ (letters (c.loop-left.left - 26)) _ _ (c.in_ok-push.ensures.bytes ∙ ap (λ (t : List ℕ). string_bytes c.loop-left.out ++ t) z) (letters_more c.loop-left.left (omega arith)) c.loop-left.invariant.so_far;
-    }
+loop-left-preserved c = grind (arith, common_steps, push_step, letters_more)
 
 pub returns : goal.returns
-returns c =
-    let z = c.in_ok-push-2.ensures.ascii (omega arith) in
-    c.in_ok-push-2.ensures.bytes ∙ ap (λ (t : List ℕ). string_bytes c.loop-left.out ++ t) (z ∙ sym (letters_last c.loop-left.left c.loop-left.invariant.some (omega arith))) ∙ c.loop-left.invariant.so_far
+returns c = grind (arith, letters_last)
