@@ -99,12 +99,6 @@ x_game Pattern after e = absurd (false≢true e)
 x_game LightUp after e = absurd (false≢true e)
 x_game Tents after e = absurd (false≢true e)
 
-no_x : (game : Game) → has_x game [] ≡ false
-no_x Solo = refl
-no_x Pattern = refl
-no_x LightUp = refl
-no_x Tents = refl
-
 -- what the text begins with is a size of those sides
 abbrev Begins : Game → List ℕ → Sides → Type 0
 Begins game text s = (front : List ℕ) × (text ≡ front ++ s.rest) × IsGameSize game front s.w s.h s.x

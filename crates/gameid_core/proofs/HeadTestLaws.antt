@@ -41,9 +41,6 @@ none_failed fails (t ∷ tests) f all (inr p) = none_failed fails tests f all.1 
 abbrev failed : {A : Type 0} → IdFault → Result A IdFault
 failed e = Err e
 
-err_is : {A : Type 0} (g f : IdFault) → failed {A = A} g ≡ failed f → g ≡ f
-err_is g f e = cc
-
 exactly : {A : Type 0} (fails : IdFault → Type 0) (tests : List IdFault) (r : Result A IdFault) (f : IdFault) → IsJudged fails tests r → (r ≡ Err f) ↔ IsFirstFailed fails tests f
 exactly fails tests (Ok x) f all = (λ e. absurd cc, λ p. absurd (none_failed fails tests f all p))
 exactly {A = A} fails tests (Err g) f p = grind (arith, first_failed_one fails tests g f p)
@@ -58,9 +55,6 @@ after_stops (b ∷ after) = grind (arith, after_stops after)
 number_in : (text : List ℕ) → begins is_lead text ≡ true → HasNumber text (digits_front text) (after_digits text)
 number_in [] e = absurd (false≢true e)
 number_in (b ∷ after) e = grind (arith, front_parts (b ∷ after), front_digits (b ∷ after), after_stops (b ∷ after))
-
-number_leads : (text number rest : List ℕ) → HasNumber text number rest → begins is_lead text ≡ true
-number_leads text number rest h = ap (begins is_lead) h.parts ∙ begins_front is_lead number rest h.lead
 
 number_is : (text number rest : List ℕ) → HasNumber text number rest → (digits_front text ≡ number) × (after_digits text ≡ rest)
 number_is text number rest h = grind (arith, front_numeral number rest h.digits h.all)
@@ -83,21 +77,8 @@ side_judged text = grind (arith, number_in text)
 abbrev sides_ok : Sides → Result Sides IdFault
 sides_ok size = Ok size
 
-one_is : (size : Sides) (a : ℕ) → a ≡ size.w → a ≡ size.h → size.x ≡ false → let made : Sides = record { w = a; h = a; x = false; rest = size.rest } in sides_ok made ≡ sides_ok size
-one_is size a p q x = rw (p ∙ sym p, ← p) (rw (← q, x) refl)
-
-goes_on_is : (game : Game) (after : List ℕ) (x : Bool) (rest : List ℕ) → GoesOn game after x rest → (has_x game after ≡ x) × (cond x (drop 1 after) after ≡ rest)
-goes_on_is game after true rest h = (rw (h.0, h.1) refl, ap (drop 1) h.1)
-goes_on_is Solo after false rest h = (h.0 refl, h.1)
-goes_on_is Pattern after false rest h = (refl, h.1)
-goes_on_is LightUp after false rest h = (refl, h.1)
-goes_on_is Tents after false rest h = (refl, h.1)
-
 goes_on : (game : Game) (after : List ℕ) → GoesOn game after (has_x game after) (cond (has_x game after) (drop 1 after) after)
 goes_on game after = grind arith
-
-two_is : (game : Game) (size : Sides) (a b : ℕ) (after : List ℕ) → a ≡ size.w → b ≡ size.h → GoesOn game after size.x size.rest → sides_ok (two_sides game a b after) ≡ sides_ok size
-two_is game size a b after p q h = grind arith
 
 size_read : (game : Game) (text : List ℕ) (size : Sides) → HasSize game text size → sides_at game text ≡ sides_ok size
 unfolding sides_at

@@ -10,7 +10,7 @@ use Rattle.gameid_core.specs.Steps.{reading, ◌>>=◌}
 use Rattle.gameid_core.specs.Cells.{fill_step, fill_end, is_letter}
 use Rattle.gameid_core.specs.LightText.{light_token, light_cells_at, LightToken, whites, black, numbered, light_token_byte, light_token_cells, IsLightToken, SpellsLight, light_of}
 use Rattle.gameid_core.proofs.CellsReading.{Token, cells_spelled, cells_again, filled, fill_is, fill_end_is}
-use Rattle.gameid_core.proofs.Lists.{next_cell, AllByRecursion-replicate, AllByRecursion-flat_map}
+use Rattle.gameid_core.proofs.Lists.{AllByRecursion-replicate, AllByRecursion-flat_map}
 use Rattle.std.specs.Prelude.{map}
 use Rattle.std.specs.List.{AllByRecursion, flat_map, concat}
 use Rattle.std.proofs.Math.Nat.{mul-le-mul_left, mul-le-mul_right}
@@ -20,7 +20,7 @@ use Rattle.gameid_core.specs.Head.{SizeRead, extent_of, in_range, max_id}
 use Rattle.gameid_core.specs.Puzzles.{IsLight, IsLightCell, IsWide, Light}
 use Rattle.gameid_core.proofs.Results.{chosen, only_taken, ok_is, and_parts}
 use Rattle.gameid_core.specs.declared.game.Game.TheVariants as game
-use Rattle.gameid_core.proofs.Tokens.{concat_bytes, between, not_between}
+use Rattle.gameid_core.proofs.Tokens.{concat_bytes, not_between}
 use Rattle.gameid_core.proofs.HeadLaws.{parts_of, plain_size, head_again, after_front}
 
 abbrev pub lights : ℕ → ℕ → List LightCell → List ℕ → Result (List LightCell) IdFault

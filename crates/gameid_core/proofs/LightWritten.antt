@@ -14,7 +14,7 @@ use Rattle.gameid_core.specs.SizeText.{size_text}
 use Rattle.gameid_core.specs.Puzzles.{Light, IsLight, IsLightCell}
 use Rattle.gameid_core.specs.LightText.{LightToken, whites, black, numbered, light_token_byte, light_token_cells, IsLightToken, IsBlackByte, AreFullLights, SpellsLight, IsWrittenLight, light_cells_text, light_text}
 use Rattle.gameid_core.proofs.Letters.{letters_none, letters_more, letters_last, letters_short, letters_at, z_moves}
-use Rattle.gameid_core.proofs.Lists.{AllByRecursion-append, next_of}
+use Rattle.gameid_core.proofs.Lists.{AllByRecursion-append}
 use Rattle.gameid_core.proofs.Numerals.{length_decimal}
 use Rattle.gameid_core.proofs.LightTexts.{cells_few}
 

@@ -18,12 +18,6 @@ pub AllByRecursion-flat_map : {T A : Type 0} (Fits : T → Type 0) (P : A → Ty
 AllByRecursion-flat_map Fits P f h [] all = tt
 AllByRecursion-flat_map Fits P f h (t ∷ ts) all = AllByRecursion-append P (f t) (flat_map f ts) (h t all.0) (AllByRecursion-flat_map Fits P f h ts all.1)
 
-pub next_of : {A : Type 0} (d : A) (cells : List A) (i : ℕ) → i < length cells → drop i cells ≡ get_or cells i d ∷ drop (i + 1) cells
-next_of d cells i lt = grind (arith, common_steps, drop-cons)
-
-pub next_cell : (cells : List ℕ) (i : ℕ) → i < length cells → drop i cells ≡ get_or cells i 0 ∷ drop (i + 1) cells
-next_cell cells i lt = next_of 0 cells i lt
-
 pub all_at : {A : Type 0} (P : A → Type 0) (d : A) (xs : List A) (i : ℕ) → AllByRecursion P xs → i < length xs → P (get_or xs i d)
 all_at P d [] i h lt = absurd (omega arith)
 all_at P d (x ∷ xs) zero h lt = h.0
@@ -41,9 +35,6 @@ one_pushed old text new f n piece so_far more is = grind (arith, common_steps)
 join_push : (c : ℕ) (y : List ℕ) (xs : List (List ℕ)) (x : List ℕ) → join_with_byte c ((y ∷ xs) ++ x ∷ []) ≡ join_with_byte c (y ∷ xs) ++ c ∷ x
 join_push c y [] x = refl
 join_push c y (z ∷ xs) x = grind (arith, common_steps, join_push c z xs x, append_assoc)
-
-map_more : {A : Type 0} (f : A → List ℕ) (xs : List A) (k : ℕ) (d x : A) → k < length xs → x ≡ get_or xs k d → map f (take (k + 1) xs) ≡ map f (take k xs) ++ f x ∷ []
-map_more f xs k d x lt is = grind (arith, common_steps, take_more, map-append)
 
 join_some : {A : Type 0} (c : ℕ) (f : A → List ℕ) (ys : List A) (x : List ℕ) → 0 < length ys → join_with_byte c (map f ys ++ x ∷ []) ≡ join_with_byte c (map f ys) ++ c ∷ x
 join_some c f [] x some = absurd (omega arith)

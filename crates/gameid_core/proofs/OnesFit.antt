@@ -10,14 +10,7 @@ use Rattle.grid_core.specs.Extent.{Extent, IsExtent}
 use Rattle.grid_core.specs.Grids.{IsGrid}
 use Rattle.gameid_core.specs.Puzzles.{IsTents, AreCounts, lines_of}
 use Rattle.gameid_core.specs.Lines.{line_list, ones, lines_ones}
-use Rattle.gameid_core.proofs.Lists.{next_cell}
 use Rattle.gameid_core.proofs.LineLaws.{length_line}
-
-ones_one : (b : ℕ) (cells : List ℕ) → b ≡ 1 → ones (b ∷ cells) ≡ ones cells + 1
-ones_one b cells is = let one : eqb b 1 ≡ true = eq-eqb b 1 is in rw one (omega arith)
-
-ones_other : (b : ℕ) (cells : List ℕ) → (b ≡ 1 → ⊥) → ones (b ∷ cells) ≡ ones cells
-ones_other b cells ne = let other : eqb b 1 ≡ false = ne_eqb b 1 ne in rw other refl
 
 pub turn_one : (k k' i : ℕ) (cells : List ℕ) (total : ℕ) → i < length cells → get_or cells i 0 ≡ 1 → k' ≡ k + 1 → k + ones (drop i cells) ≡ total → k' + ones (drop (i + 1) cells) ≡ total
 turn_one k k' i cells total lt is more so = grind (arith, common_steps)

@@ -23,10 +23,6 @@ same_grid hides values size g h y over under cells shown agree = grind (arith, e
 pub begins_with_form : (text ended printed : List ℕ) → ended ≡ text ++ codes "\n" → IsPrinted text printed → (more : List ℕ) × (ended ≡ printed ++ more)
 begins_with_form text ended printed is form = grind (arith, common_steps)
 
--- the text without the line end that was put after it
-front_is : (text ended : List ℕ) (n : ℕ) → ended ≡ text ++ codes "\n" → n ≡ length text → take n ended ≡ text
-front_is text ended n is all = grind (arith, common_steps, take-append-le, take-length)
-
 pub either_form : (text front ended bytes printed : List ℕ) (n : ℕ) → front ≡ text ++ codes "\n" → ended ≡ text ++ codes "\n" → n ≡ length text → bytes ≡ printed
     → (take n front ≡ bytes) ⊎ (ended ≡ bytes) → IsPrinted text printed
 either_form text front ended bytes printed n is same all form one = grind (arith, common_steps)

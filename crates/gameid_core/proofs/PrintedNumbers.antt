@@ -5,9 +5,6 @@ use Rattle.std.proofs.lemmas.Bool.{cases_lt, le-leb}
 use Rattle.std.proofs.lemmas.Fmt.{decimal_digit, decimal_step}
 use Rattle.gameid_core.specs.GridReading.{digit_of, first_digit}
 
-digit_is : (d : ℕ) → d < 10 → digit_of (48 + d) ≡ Some d
-digit_is d small = grind arith
-
 two_digits : (n : ℕ) → 10 ≤ n → n < 100 → decimal n ≡ (48 + n / 10) ∷ (48 + n % 10) ∷ []
 two_digits n low high = grind (arith, common_steps, decimal_step, decimal_digit)
 

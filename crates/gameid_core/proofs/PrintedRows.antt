@@ -70,10 +70,6 @@ pub cell_follows : (cell : ℕ → List ℕ) (size : Extent) (y w x : ℕ) (more
     → (a : AfterCell (λ k. cell (y * w + k)) w more x rest) → Follows cell size (y * w + x) a.after
 cell_follows cell size y w x more rest wide a = grind (arith, mod-mul-add y w (x + 1))
 
--- what is left of the slice
-pub cut_off : (front after rest : List ℕ) (n m : ℕ) → rest ≡ front ++ after → n ≡ length front → m ≡ length rest → take (m - n) (drop n rest) ≡ after
-cut_off front after rest n m split e all = grind (arith, common_steps)
-
 pub fit_more : (hides : ℕ → Type 0) (values : ℕ) (g new : List ℕ) (n k v : ℕ) → n < length g → new ≡ set g n v → k ≡ n + 1 → FitUpTo hides values g n → v < values
     → (hides n → v ≡ 0) → FitUpTo hides values new k
 fit_more hides values g new n k v within written next fit small zero_there place lt = grind (arith, common_steps)

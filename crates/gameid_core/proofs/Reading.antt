@@ -24,9 +24,6 @@ reading_end step end at s text e = rw e refl
 abbrev pub place : ℕ → ℕ → List ℕ → ℕ
 place base d rest = base + (d - length rest)
 
-pub place_moves : (base d : ℕ) (rest word after : List ℕ) → length rest ≤ d → length rest ≡ length word + length after → place base d rest + length word ≡ place base d after
-place_moves base d rest word after le e = omega arith
-
 -- a turn of a reader's loop: the first token's fault is what is read, or reading goes on behind it
 pub turn_of : {S P : Type 0} (step : ℕ → S → List ℕ → Result S IdFault) (end : S → Result P IdFault) (base d : ℕ) (s : S) (rest word after : List ℕ) (r : Result S IdFault) (total : Result P IdFault) → Cuts rest word after → length rest ≤ d → step (place base d rest) s word ≡ r → reading step end (place base d rest) s (words rest) ≡ total → (r >>= (λ t. reading step end (place base d after) t (words after))) ≡ total
 unfolding reading

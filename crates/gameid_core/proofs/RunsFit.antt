@@ -9,7 +9,7 @@ use Rattle.grid_core.specs.Extent.{Extent, IsExtent}
 use Rattle.gameid_core.specs.Puzzles.{IsPattern, IsClue, AreClues, line_cells, lines_of, used}
 use Rattle.gameid_core.specs.Lines.{line_list, lines_runs}
 use Rattle.gameid_core.proofs.LineLaws.{length_line}
-use Rattle.gameid_core.proofs.Lists.{AllByRecursion-append, next_cell}
+use Rattle.gameid_core.proofs.Lists.{AllByRecursion-append}
 
 -- a white cell cuts a line in two
 pub runs_after-cut : (k : ℕ) (f g : List ℕ) → runs_after k (f ++ 0 ∷ g) ≡ runs_after k f ++ runs g
@@ -29,10 +29,6 @@ runs_run n = runs_after-ones 0 (suc n) ∙ ap run_of (let z : 0 + suc n ≡ suc 
 
 pub runs_run_and_white : (n : ℕ) (cells : List ℕ) → runs (replicate (suc n) 1 ++ 0 ∷ cells) ≡ suc n ∷ runs cells
 runs_run_and_white n cells = runs_after-cut 0 (replicate (suc n) 1) cells ∙ ap (λ xs. xs ++ runs cells) (runs_run n)
-
-used-append : (xs ys : List ℕ) → used (xs ++ ys) ≡ used xs + used ys
-used-append [] ys = omega arith
-used-append (x ∷ xs) ys = omega (arith, used-append xs ys)
 
 run_of_positive : (k : ℕ) → AllByRecursion (λ n. 0 < n) (run_of k)
 run_of_positive zero = tt

@@ -13,7 +13,7 @@ use Rattle.gameid_core.specs.Puzzles.{Solo, IsSolo, solo_n}
 use Rattle.gameid_core.specs.SoloText.{before_given, cells_text, solo_text, SoloToken, blanks, gap, given, solo_token_text, solo_token_cells, IsSoloToken, AreApart, AreFull, AreNeeded, SpellsSolo, IsWrittenSolo}
 use Rattle.gameid_core.specs.Head.{max_id, max_numbers}
 use Rattle.gameid_core.proofs.Letters.{letters_short, letters_none, letters_more, letters_last, letters_at, z_moves}
-use Rattle.gameid_core.proofs.Lists.{next_cell, AllByRecursion-append}
+use Rattle.gameid_core.proofs.Lists.{AllByRecursion-append}
 use Rattle.std.proofs.lemmas.Bool.{cases_lt, false≢true}
 use Rattle.std.proofs.lemmas.List.Concat.{flat_map-append}
 
@@ -278,12 +278,6 @@ record Form (n q : ℕ) (touches : Bool) (tokens : List SoloToken) : Type 0 wher
   needed : AreNeeded touches tokens
   leads : Leads q tokens
   clear : touches ≡ true → IsClear tokens
-
-after_given : (v : ℕ) (tokens : List SoloToken) → AreApart (given v ∷ tokens) → AreApart tokens × IsClear tokens
-after_given v [] h = (tt, tt)
-after_given v (blanks k ∷ tokens) h = (h, tt)
-after_given v (gap ∷ tokens) h = (h, tt)
-after_given v (given u ∷ tokens) h = absurd h
 
 form_given : (n q v : ℕ) (touches : Bool) (tokens : List SoloToken) → AllByRecursion (IsSoloToken n) (given v ∷ tokens) → AreApart (given v ∷ tokens) → AreFull tokens → AreNeeded true tokens → Form n 0 true tokens
 form_given n q v touches tokens each apart full needed = grind arith

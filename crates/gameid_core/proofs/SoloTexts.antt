@@ -6,7 +6,7 @@ use Rattle.gameid_core.specs.declared.fault.IdFault.TheVariants.{BadByte, Number
 use Rattle.gameid_core.specs.Words.{begins, digits_front, after_digits, value, Cuts, words, joins, put_in_front}
 use Rattle.gameid_core.specs.Cells.{is_letter, fill_step, fill_end}
 use Rattle.gameid_core.specs.SoloText.{solo_token, solo_cells_at, SoloToken, blanks, gap, given, solo_token_text, solo_token_cells, IsSoloToken, AreApart, SpellsSolo, solo_of}
-use Rattle.gameid_core.proofs.Tokens.{cuts_some, cuts_single, cuts_number, kind_of, between, not_between, words_nil, no_join, IsWord, words_are, concat_words, alone}
+use Rattle.gameid_core.proofs.Tokens.{cuts_some, cuts_single, cuts_number, kind_of, not_between, words_nil, no_join, IsWord, words_are, concat_words, alone}
 use Rattle.gameid_core.proofs.Numerals.{is_lead, lead_is_digit, numeral_cuts, numeral, own, decimal_leads, value_positive}
 use Rattle.gameid_core.proofs.Results.{and_parts, chosen, not_refused, only_taken, taken, ok_is}
 use Rattle.std.specs.List.{AllByRecursion, flat_map, concat}
@@ -246,9 +246,6 @@ solo_takes text p e =
       apart = d.apart;
       cells = d.filled;
     })
-
-range_of : (p : Solo) → IsSolo p → in_range game.Solo p.c p.r ≡ true
-range_of p h = grind arith
 
 pub solo_text_again : (text : List ℕ) (p : Solo) → SpellsSolo text p → solo_of text ≡ Ok p
 unfolding solo_of

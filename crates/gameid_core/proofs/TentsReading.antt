@@ -183,18 +183,11 @@ sound_read size at places counts (word ∷ ws) all s e =
       | inr p ↦ sound_read size (at + length word) (places ++ run_cells p.run.0 p.run.1) counts ws all (sound_planted size places counts p.run.0 p.run.1 s p.early p.room) (ap (λ t. reading (tents_step size) (tents_end size) (at + length word) t ws) p.leads ∙ b.2)
     ]
 
-AllByRecursion-front : {A : Type 0} (P : A → Type 0) (xs ys : List A) → AllByRecursion P (xs ++ ys) → AllByRecursion P xs
-AllByRecursion-front P [] ys h = tt
-AllByRecursion-front P (x ∷ xs) ys h = (h.0, AllByRecursion-front P xs ys h.1)
-
 -- the cells without the tree after them
 pub record CellsAndTree (size : Extent) (places : List ℕ) : Type 0 where
   pub whole : places ≡ take (cells_in size) places ++ 1 ∷ []
   pub count : length (take (cells_in size) places) ≡ cells_in size
   pub bits : AllByRecursion (λ b. b < 2) (take (cells_in size) places)
-
-cells_and_tree : (size : Extent) (places front : List ℕ) → AllByRecursion (λ b. b < 2) places → length places ≡ cells_in size + 1 → places ≡ front ++ 1 ∷ [] → CellsAndTree size places
-cells_and_tree size places front bits long e = grind (arith, common_steps)
 
 pub record TentsRead (size : Extent) (s : TentsSoFar) : Type 0 where
   pub cells : CellsAndTree size s.places

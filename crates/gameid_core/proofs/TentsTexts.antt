@@ -12,7 +12,7 @@ use Rattle.gameid_core.specs.Words.{IsNumeral, begins, words, value}
 use Rattle.gameid_core.specs.Steps.{reading}
 use Rattle.gameid_core.specs.Puzzles.{AreCounts, line_cells, lines_of, Tents}
 use Rattle.gameid_core.specs.TentsText.{TentsSoFar, TentsToken, blanks_and_tree, only_blanks, tents_token_byte, tents_token_cells, IsTentsToken, cells_in, tents_run, run_cells, tents_step, tents_end, tents_at, SpellsTents, tents_of}
-use Rattle.gameid_core.proofs.Tokens.{cuts_single, between, IsWord, words_are, concat_words, alone}
+use Rattle.gameid_core.proofs.Tokens.{cuts_single, IsWord, words_are, concat_words, alone}
 use Rattle.gameid_core.proofs.Numerals.{joined_cuts}
 use Rattle.gameid_core.proofs.Results.{bind_ok, taken}
 use Rattle.gameid_core.proofs.Reading.{reading_turn, reading_end}

@@ -13,7 +13,6 @@ use Rattle.gameid_core.specs.Words.{IsNumeral, IsPlain, value}
 use Rattle.gameid_core.specs.SizeText.{size_text}
 use Rattle.gameid_core.specs.Puzzles.{Tents, IsTents, AreCounts}
 use Rattle.gameid_core.specs.TentsText.{TentsToken, blanks_and_tree, only_blanks, tents_token_byte, tents_token_cells, IsTentsToken, AreTight, IsWrittenTents, tents_tokens, trees_text, tents_text}
-use Rattle.gameid_core.proofs.Lists.{next_cell}
 use Rattle.gameid_core.proofs.Numerals.{own, decimal_plain, numeral, length_decimal, plain_decimal}
 use Rattle.gameid_core.proofs.LightTexts.{cells_few}
 use Rattle.gameid_core.proofs.PatternWritten.{line_small}
