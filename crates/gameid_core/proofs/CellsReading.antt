@@ -61,8 +61,8 @@ pub record Spelled {T A : Type 0} (text : T → List ℕ) (cells : T → List A)
   pub filled : before ++ flat_map cells tokens ≡ all
 
 pub cells_spelled : {T A : Type 0} (text : T → List ℕ) (cells : T → List A) (Fits : T → Type 0) (token : ℕ → List ℕ → Result (List A) IdFault) (Is : List ℕ → Type 0) → ((at : ℕ) (word : List ℕ) (more : List A) → Is word → token at word ≡ Ok more → Token text cells Fits word more) → (most at : ℕ) (before : List A) (ws : List (List ℕ)) (all : List A) → AllByRecursion Is ws → reading (fill_step token most) (fill_end most) at before ws ≡ Ok all → Spelled text cells Fits ws before all × (length all ≡ most)
-unfolding reading
-cells_spelled text cells Fits token Is take most at before [] all w e = grind (arith, common_steps, fill_end_cases most before all e)
+unfolding reading fill_end
+cells_spelled text cells Fits token Is take most at before [] all w e = grind (arith, common_steps)
 cells_spelled {A = A} text cells Fits token Is take most at before (word ∷ ws) all w e =
     let b = bind_ok (fill_step token most at before word) (λ s. reading (fill_step token most) (fill_end most) (at + length word) s ws) all e in
     let f = fill_cases token most at before word b.0 b.1 in

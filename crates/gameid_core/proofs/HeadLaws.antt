@@ -78,26 +78,19 @@ IsGameSize game front a b false = IsSizeText front a b
 IsGameSize game front a b true = (game ≡ Solo) × (front ≡ solo_size_text a b true)
 
 pub solo_size : (front : List ℕ) (a b : ℕ) (x : Bool) → IsGameSize Solo front a b x → IsSoloSizeText front a b x
-solo_size front a b false s = s
-solo_size front a b true s = s.1
+solo_size front a b x s = grind arith
 
 pub size_of_solo : (front : List ℕ) (a b : ℕ) (x : Bool) → IsSoloSizeText front a b x → IsGameSize Solo front a b x
-size_of_solo front a b false s = s
-size_of_solo front a b true s = (refl, s)
+size_of_solo front a b x s = grind arith
 
 pub plain_size : (game : Game) (front : List ℕ) (a b : ℕ) (x : Bool) → (game ≡ Solo → ⊥) → IsGameSize game front a b x → IsSizeText front a b
-plain_size game front a b false other s = s
-plain_size game front a b true other s = absurd (other s.0)
+plain_size game front a b x other s = grind arith
 
 pub x_first : (text : List ℕ) → begins (λ c. eqb c 120) text ≡ true → text ≡ 120 ∷ drop 1 text
-x_first [] e = absurd (false≢true e)
-x_first (c ∷ text) e = ap (λ (k : ℕ). k ∷ text) (eqb-true c 120 e)
+x_first text e = grind arith
 
 pub x_game : (game : Game) (after : List ℕ) → has_x game after ≡ true → (game ≡ Solo) × (after ≡ 120 ∷ drop 1 after)
-x_game Solo after e = (refl, x_first after e)
-x_game Pattern after e = absurd (false≢true e)
-x_game LightUp after e = absurd (false≢true e)
-x_game Tents after e = absurd (false≢true e)
+x_game game after e = grind arith
 
 -- what the text begins with is a size of those sides
 abbrev Begins : Game → List ℕ → Sides → Type 0
@@ -152,18 +145,7 @@ both_small : (low a b : ℕ) → 0 < low → (leb low a && leb low b && leb a ma
 both_small low a b some e = grind arith
 
 pub range_small : (game : Game) (a b : ℕ) → in_range game a b ≡ true → Small a b
-range_small Solo a b e =
-    let p = and_parts _ _ e in
-    let q = and_parts _ _ p.0 in
-    let two_a : 2 ≤ a = leb-true _ _ q.0 in
-    let two_b : 2 ≤ b = leb-true _ _ q.1 in
-    let all : a * b ≤ max_numbers = leb-true _ _ p.1 in
-    let by_a : a * 2 ≤ a * b = mul-le-mul_left a two_b in
-    let by_b : b * 2 ≤ b * a = mul-le-mul_left b two_a in
-    record { a_some = omega arith; b_some = omega arith; a_small = omega arith; b_small = omega (arith, mul_comm a b) }
-range_small Pattern a b e = both_small 1 a b (omega arith) e
-range_small LightUp a b e = both_small 2 a b (omega arith) e
-range_small Tents a b e = both_small 2 a b (omega arith) e
+range_small game a b e = grind arith
 
 abbrev pub sized : ℕ → ℕ → Bool → SizeRead
 sized a b x = record { w = a; h = b; x = x }
@@ -198,12 +180,10 @@ digits_lack k [] other d = refl
 digits_lack k (c ∷ ds) other d = grind (arith, nat_tests, digits_lack k ds other)
 
 size_lacks : (k : ℕ) (front : List ℕ) (a b : ℕ) → is_ascii_digit k ≡ false → eqb 120 k ≡ false → a < 2 ^ 64 → b < 2 ^ 64 → IsSizeText front a b → list_any (λ c. eqb c k) front ≡ false
-size_lacks k front a b other x small_a small_b (inl e) = grind (arith, list_any-append, digits_lack, digits_decimal, own)
-size_lacks k front a b other x small_a small_b (inr e) = rw e.1 (digits_lack k (decimal a) other (digits_decimal own a small_a))
+size_lacks k front a b other x small_a small_b h8 = grind (arith, common_steps, list_any-append, digits_lack, digits_decimal, own)
 
 game_size_lacks : (k : ℕ) (game : Game) (front : List ℕ) (a b : ℕ) (x : Bool) → is_ascii_digit k ≡ false → eqb 120 k ≡ false → a < 2 ^ 64 → b < 2 ^ 64 → IsGameSize game front a b x → list_any (λ c. eqb c k) front ≡ false
-game_size_lacks k game front a b false other x small_a small_b s = size_lacks k front a b other x small_a small_b s
-game_size_lacks k game front a b true other x small_a small_b s = grind (arith, common_steps, size_lacks k (size_text a b) a b other x small_a small_b (inl refl))
+game_size_lacks k game front a b x other x' small_a small_b s = grind (arith, common_steps, size_lacks)
 
 pub place_of : (p : ℕ → Bool) (front : List ℕ) (c : ℕ) (rest : List ℕ) → list_any p front ≡ false → p c ≡ true → position_or_len p (front ++ c ∷ rest) ≡ length front
 place_of p [] c rest none here = rw here refl
@@ -242,7 +222,7 @@ colon_take game text head (Some k) short o e =
 
 pub head_take : (game : Game) (text : List ℕ) (head : HeadRead) → head_of game text ≡ Ok head → IsHead game text head
 unfolding head_of
-head_take game text head e = grind (arith, not_refused, colon_take, ltb-false)
+head_take game text head e = grind (arith, colon_take)
 
 -- a puzzle that was read: its head, and what its description gave
 pub record Parts {B P : Type 0} (game : Game) (text : List ℕ) (body : HeadRead → Result B IdFault) (make : HeadRead → B → P) (p : P) : Type 0 where
@@ -253,14 +233,14 @@ pub record Parts {B P : Type 0} (game : Game) (text : List ℕ) (body : HeadRead
   pub made : make head given ≡ p
 
 pub parts_of : {B P : Type 0} (game : Game) (text : List ℕ) (body : HeadRead → Result B IdFault) (make : HeadRead → B → P) (p : P) → (head_of game text >>= (λ head. body head >>= (λ b. taken (make head b)))) ≡ Ok p → Parts game text body make p
-parts_of game text body make p e = grind (arith, bind_ok, head_take, ok_is)
+parts_of game text body make p e = grind (arith, head_take)
 
 pub head_again : (game : Game) (front rest : List ℕ) (a b : ℕ) (x : Bool) → IsGameSize game front a b x → in_range game a b ≡ true → length (front ++ 58 ∷ rest) ≤ max_id → head_of game (front ++ 58 ∷ rest) ≡ Ok (record { size = sized a b x; description = length front + 1 })
 unfolding head_of head_at
 head_again game front rest a b x text range short = grind (arith, common_steps, range_small game a b range, position_at, game_size_lacks 58 game front a b x refl refl, game_size_lacks 35 game front a b x refl refl, size_again game front a b x text range)
 
 pub after_front : (front rest : List ℕ) → drop (length front + 1) (front ++ 58 ∷ rest) ≡ rest
-after_front front rest = grind (arith, append_assoc front (58 ∷ []) rest, drop_at (front ++ 58 ∷ []) rest (length front + 1) (length-append front (58 ∷ [])), length-append front (58 ∷ []))
+after_front front rest = grind (arith, append_assoc front (58 ∷ []) rest, drop_at (front ++ 58 ∷ []) rest (length front + 1) (length-append front (58 ∷ [])))
 
 pub head_too_long : (game : Game) (text : List ℕ) → max_id < length text → head_of game text ≡ Err TooLong
 unfolding head_of

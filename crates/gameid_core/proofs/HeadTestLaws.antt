@@ -22,11 +22,8 @@ use Rattle.gameid_core.proofs.HeadLaws.{front_parts, front_digits, position_at, 
 -- ---- the first that fails
 
 first_failed_one : (fails : IdFault → Type 0) (tests : List IdFault) (f g : IdFault) → IsFirstFailed fails tests f → IsFirstFailed fails tests g → f ≡ g
-first_failed_one fails [] f g p q = absurd p
-first_failed_one fails (t ∷ tests) f g (inl p) (inl q) = sym p.0 ∙ q.0
-first_failed_one fails (t ∷ tests) f g (inl p) (inr q) = absurd (q.0 p.1)
-first_failed_one fails (t ∷ tests) f g (inr p) (inl q) = absurd (p.0 q.1)
-first_failed_one fails (t ∷ tests) f g (inr p) (inr q) = first_failed_one fails tests f g p.1 q.1
+first_failed_one fails [] f g p q = grind arith
+first_failed_one fails (x1 ∷ xs1) f g p q = grind (arith, first_failed_one fails xs1)
 
 -- what was read tells the first test that fails, or all of them pass
 abbrev IsJudged : {A : Type 0} → (IdFault → Type 0) → List IdFault → Result A IdFault → Type 0
@@ -34,16 +31,14 @@ IsJudged fails tests (Ok x) = AllByRecursion (λ t. fails t → ⊥) tests
 IsJudged fails tests (Err f) = IsFirstFailed fails tests f
 
 none_failed : (fails : IdFault → Type 0) (tests : List IdFault) (f : IdFault) → AllByRecursion (λ t. fails t → ⊥) tests → IsFirstFailed fails tests f → ⊥
-none_failed fails [] f all p = p
-none_failed fails (t ∷ tests) f all (inl p) = all.0 p.1
-none_failed fails (t ∷ tests) f all (inr p) = none_failed fails tests f all.1 p.1
+none_failed fails [] f all p = grind arith
+none_failed fails (x1 ∷ xs1) f all p = grind (arith, none_failed fails xs1)
 
 abbrev failed : {A : Type 0} → IdFault → Result A IdFault
 failed e = Err e
 
 exactly : {A : Type 0} (fails : IdFault → Type 0) (tests : List IdFault) (r : Result A IdFault) (f : IdFault) → IsJudged fails tests r → (r ≡ Err f) ↔ IsFirstFailed fails tests f
-exactly fails tests (Ok x) f all = (λ e. absurd cc, λ p. absurd (none_failed fails tests f all p))
-exactly {A = A} fails tests (Err g) f p = grind (arith, first_failed_one fails tests g f p)
+exactly fails tests r f all = grind (arith, common_steps, none_failed, first_failed_one)
 
 -- ---- a number
 
@@ -82,8 +77,7 @@ goes_on game after = grind arith
 
 size_read : (game : Game) (text : List ℕ) (size : Sides) → HasSize game text size → sides_at game text ≡ sides_ok size
 unfolding sides_at
-size_read game text size (inl h) = grind (arith, side_read text h.side size.rest h.number)
-size_read game text size (inr h) = grind (arith, side_read text h.left (120 ∷ h.behind) h.first, side_read h.behind h.right h.after h.second)
+size_read game text size h3 = grind (arith, common_steps, side_read)
 
 -- what is read of both sides
 abbrev AreSidesRead : Game → List ℕ → Result Sides IdFault → Type 0
@@ -210,21 +204,18 @@ front_is byte text (b ∷ f) (c ∷ g) r s p lp q lq = grind (arith, front_is by
 -- ---- the part before the colon
 
 passed : {A : Type 0} (fails : IdFault → Type 0) (t : IdFault) (tests : List IdFault) (r : Result A IdFault) → (fails t → ⊥) → IsJudged fails tests r → IsJudged fails (t ∷ tests) r
-passed fails t tests (Ok x) passes h = (passes, h)
-passed fails t tests (Err f) passes h = inr (passes, h)
+passed fails t tests r passes h = grind arith
 
 all_moved : (fails other : IdFault → Type 0) (tests : List IdFault) → AllByRecursion (λ t. fails t ↔ other t) tests → AllByRecursion (λ t. fails t → ⊥) tests → AllByRecursion (λ t. other t → ⊥) tests
 all_moved fails other [] same h = tt
 all_moved fails other (t ∷ tests) same h = ((λ x. h.0 (same.0.1 x)), all_moved fails other tests same.1 h.1)
 
 first_moved : (fails other : IdFault → Type 0) (tests : List IdFault) (f : IdFault) → AllByRecursion (λ t. fails t ↔ other t) tests → IsFirstFailed fails tests f → IsFirstFailed other tests f
-first_moved fails other [] f same h = h
-first_moved fails other (t ∷ tests) f same (inl h) = inl (h.0, same.0.0 h.1)
-first_moved fails other (t ∷ tests) f same (inr h) = grind (arith, first_moved fails other tests f same.1 h.1)
+first_moved fails other [] f same h = grind arith
+first_moved fails other (x1 ∷ xs1) f same h = grind (arith, first_moved fails other xs1)
 
 judged_moved : {A B : Type 0} (fails other : IdFault → Type 0) (tests : List IdFault) (g : A → B) (r : Result A IdFault) → AllByRecursion (λ t. fails t ↔ other t) tests → IsJudged fails tests r → IsJudged other tests (r >>= (λ x. Ok (g x)))
-judged_moved fails other tests g (Ok x) same h = all_moved fails other tests same h
-judged_moved fails other tests g (Err f) same h = first_moved fails other tests f same h
+judged_moved fails other tests g r same h = grind (arith, common_steps, all_moved, first_moved)
 
 head_at_judged : (game : Game) (text : List ℕ) → IsJudged {A = HeadRead} (FailsHead game text) (SeedId ∷ NoColon ∷ size_tests) (head_at game text (position (λ b. eqb b 58) text))
 unfolding head_at
@@ -263,7 +254,7 @@ head_judged game text =
     ] refl
 
 pub size_exact : (game : Game) (text : List ℕ) (f : IdFault) → (size_of game text ≡ Err f) ↔ IsFirstFailed (FailsSize game text) size_tests f
-size_exact game text f = grind (arith, common_steps, exactly, size_judged)
+size_exact game text f = grind (arith, common_steps, size_judged)
 
 pub head_exact : (game : Game) (text : List ℕ) (f : IdFault) → (head_of game text ≡ Err f) ↔ IsFirstFailed (FailsHead game text) head_tests f
-head_exact game text f = grind (arith, common_steps, exactly, head_judged)
+head_exact game text f = grind (arith, common_steps, head_judged)

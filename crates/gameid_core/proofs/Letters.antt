@@ -35,12 +35,11 @@ letters_last k some short = grind (arith, letters_are k 0 (k - 1) some, letters_
 
 pub letters_of_length : (q r : ℕ) → length (letters_of q r) ≡ q + 1
 unfolding letters_of
-letters_of_length q r = grind (arith, common_steps, length-append, length-replicate)
+letters_of_length q r = grind (arith, common_steps)
 
 -- letters are no more than the cells
 pub letters_short : (k : ℕ) → length (letters k) ≤ k
-letters_short zero = omega (arith, ap length (letters_none 0 refl))
-letters_short (suc k) = grind (arith, common_steps, letters_are, letters_of_length)
+letters_short k = grind (arith, common_steps, letters_none, letters_are, letters_of_length)
 
 -- a run of so many times 26 cells and 1 to 26 more
 pub letters_at : (q k : ℕ) → 1 ≤ k → k ≤ 26 → letters (26 * q + k) ≡ replicate q 122 ++ (96 + k) ∷ []

@@ -117,9 +117,7 @@ light_fits size w h all at description cells is count range e = grind (arith, li
 
 token_read : (at : ℕ) (token : LightToken) → IsLightToken token → light_token at (light_token_byte token ∷ []) ≡ Ok (light_token_cells token)
 unfolding light_token
-token_read at (whites k) h = grind arith
-token_read at black h = refl
-token_read at (numbered n) h = grind arith
+token_read at token h = grind arith
 
 -- what tokens that fill the grid spell is read
 light_again : (all at : ℕ) (tokens : List LightToken) → AllByRecursion IsLightToken tokens → length (flat_map light_token_cells tokens) ≡ all → light_cells_at all at (map light_token_byte tokens) ≡ Ok (flat_map light_token_cells tokens)

@@ -30,23 +30,22 @@ lights_white k cells = refl
 
 pub lights_black : (k b : ℕ) (cell : LightCell) (cells : List LightCell) → IsBlackByte b cell → light_cells_text k (cell ∷ cells) ≡ letters k ++ b ∷ light_cells_text 0 cells
 unfolding light_cells_text
-lights_black k b White cells h = absurd h
-lights_black k b Black cells h = ap (λ (c : ℕ). letters k ++ c ∷ light_cells_text 0 cells) (sym h)
-lights_black k b (Numbered n) cells h = ap (λ (c : ℕ). letters k ++ c ∷ light_cells_text 0 cells) (sym h)
+lights_black k b cell cells h = grind arith
 
 pub black_ascii : (b : ℕ) (cell : LightCell) → IsLightCell cell → IsBlackByte b cell → b < 128
-black_ascii b White is h = absurd h
-black_ascii b Black is h = omega (arith, h)
-black_ascii b (Numbered n) is h = omega (arith, h, is)
+black_ascii b cell is h = grind arith
 
 pub lights_end : (k i : ℕ) (cells : List LightCell) (old out new : List ℕ) → length cells ≤ i → out ++ light_cells_text k (drop i cells) ≡ old → new ≡ out ++ letters k → new ≡ old
-lights_end k i cells old out new past so e = grind (arith, common_steps, lights_nil k)
+unfolding light_cells_text
+lights_end k i cells old out new past so e = grind (arith, common_steps)
 
 pub lights_step_white : (k i k' : ℕ) (cells : List LightCell) (old out out' : List ℕ) → i < length cells → get_or cells i White ≡ White → k' ≡ k + 1 → out' ≡ out → out ++ light_cells_text k (drop i cells) ≡ old → out' ++ light_cells_text k' (drop (i + 1) cells) ≡ old
-lights_step_white k i k' cells old out out' lt white more same so = grind (arith, common_steps, lights_white k (drop (i + 1) cells))
+unfolding light_cells_text
+lights_step_white k i k' cells old out out' lt white more same so = grind (arith, common_steps)
 
 pub lights_step_black : (k i k' b : ℕ) (cells : List LightCell) (old out mid new out' : List ℕ) → i < length cells → IsBlackByte b (get_or cells i White) → mid ≡ out ++ letters k → new ≡ mid ++ b ∷ [] → k' ≡ 0 → out' ≡ new → out ++ light_cells_text k (drop i cells) ≡ old → out' ++ light_cells_text k' (drop (i + 1) cells) ≡ old
-lights_step_black k i k' b cells old out mid new out' lt byte m n none same so = grind (arith, common_steps, lights_black k b (get_or cells i White) (drop (i + 1) cells) byte)
+unfolding light_cells_text
+lights_step_black k i k' b cells old out mid new out' lt byte m n none same so = grind (arith, common_steps)
 
 -- ---- how long
 
@@ -55,8 +54,8 @@ cells_short : (k : ℕ) (cells : List LightCell) → length (light_cells_text k 
 unfolding light_cells_text
 cells_short k [] = omega (arith, letters_short k)
 cells_short k (White ∷ cells) = omega (arith, cells_short (k + 1) cells)
-cells_short k (Black ∷ cells) = grind (arith, common_steps, cells_short 0 cells, letters_short, length-append)
-cells_short k (Numbered n ∷ cells) = grind (arith, common_steps, cells_short 0 cells, letters_short, length-append)
+cells_short k (Black ∷ cells) = grind (arith, common_steps, cells_short 0 cells, letters_short)
+cells_short k (Numbered n ∷ cells) = grind (arith, common_steps, cells_short 0 cells, letters_short)
 
 pub light_short : (p : Light) → IsLight p → length (light_text p) ≤ max_id
 light_short p h = grind (arith, common_steps, length_decimal p.size.w, length_decimal p.size.h, cells_short 0 p.cells)
@@ -64,10 +63,7 @@ light_short p h = grind (arith, common_steps, length_decimal p.size.w, length_de
 -- ---- what it spells
 
 full_z : (tokens : List LightToken) → AreFullLights tokens → AreFullLights (whites 26 ∷ tokens)
-full_z [] h = tt
-full_z (whites k ∷ tokens) h = (refl, h)
-full_z (black ∷ tokens) h = h
-full_z (numbered n ∷ tokens) h = h
+full_z tokens h = grind arith
 
 -- tokens, and a black cell behind them
 abbrev IsBlackToken : LightToken → Type 0
@@ -167,8 +163,9 @@ pub light_spelled : (p : Light) → IsLight p → SpellsLight (light_text p) p
 light_spelled p h = (light_is_written p h).spells
 
 cells_run : (k j : ℕ) (rest : List LightCell) → light_cells_text k (replicate j White ++ rest) ≡ light_cells_text (k + j) rest
+unfolding light_cells_text
 cells_run k zero rest = grind arith
-cells_run k (suc j) rest = grind (arith, lights_white k (replicate j White ++ rest), cells_run (k + 1) j rest)
+cells_run k (suc j) rest = grind (arith, cells_run (k + 1) j rest)
 
 -- letters that were left before the tokens go on in their first letter
 abbrev Leads : ℕ → List LightToken → Type 0
@@ -178,16 +175,19 @@ Leads (suc q) tokens = ⊥
 
 -- a black cell behind a run of white ones, and behind none
 black_behind : (q k b : ℕ) (cell : LightCell) (cells : List LightCell) (later : List ℕ) → 1 ≤ k → k ≤ 26 → IsBlackByte b cell → light_cells_text 0 cells ≡ later → light_cells_text (26 * q) (replicate k White ++ cell ∷ cells) ≡ replicate q 122 ++ (96 + k) ∷ b ∷ later
-black_behind q k b cell cells later some few is e = grind (arith, common_steps, cells_run (26 * q) k (cell ∷ cells), lights_black (26 * q + k) b cell cells is, letters_at q k some few)
+unfolding light_cells_text
+black_behind q k b cell cells later some few is e = grind (arith, common_steps, cells_run (26 * q) k (cell ∷ cells), letters_at q k some few)
 
 black_alone : (b : ℕ) (cell : LightCell) (cells : List LightCell) (later : List ℕ) → IsBlackByte b cell → light_cells_text 0 cells ≡ later → light_cells_text 0 (cell ∷ cells) ≡ b ∷ later
-black_alone b cell cells later is e = grind (arith, lights_black 0 b cell cells is, letters_none 0 refl)
+unfolding light_cells_text
+black_alone b cell cells later is e = grind (arith, letters_none 0 refl)
 
 -- the cells of tokens of the form, with so many times 26 white cells before them, are written as the tokens are
 form_text : (q : ℕ) (tokens : List LightToken) → AllByRecursion IsLightToken tokens → AreFullLights tokens → Leads q tokens → light_cells_text (26 * q) (flat_map light_token_cells tokens) ≡ replicate q 122 ++ map light_token_byte tokens
+unfolding light_cells_text
 form_text zero [] each full leads = lights_nil 0 ∙ letters_none 0 refl
 form_text (suc q) [] each full leads = absurd leads
-form_text q (whites k ∷ []) each full leads = grind (arith, common_steps, cells_run, lights_nil, letters_at)
+form_text q (whites k ∷ []) each full leads = grind (arith, common_steps, cells_run, letters_at)
 form_text q (whites k ∷ whites j ∷ tokens) each full leads = grind (arith, cells_run (26 * q) k (flat_map light_token_cells (whites j ∷ tokens)), form_text (suc q) (whites j ∷ tokens) each.1 full.1 tt, z_moves q (map light_token_byte (whites j ∷ tokens)))
 form_text q (whites k ∷ black ∷ tokens) each full leads = grind (arith, black_behind q k 66 Black (flat_map light_token_cells tokens) (map light_token_byte tokens) each.0.0 each.0.1 refl (form_text 0 tokens each.1.1 full tt), form_text 0 tokens each.1.1 full tt)
 form_text q (whites k ∷ numbered m ∷ tokens) each full leads = grind (arith, black_behind q k (48 + m) (Numbered m) (flat_map light_token_cells tokens) (map light_token_byte tokens) each.0.0 each.0.1 refl (form_text 0 tokens each.1.1 full tt), form_text 0 tokens each.1.1 full tt)

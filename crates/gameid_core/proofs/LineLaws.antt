@@ -11,7 +11,7 @@ use Rattle.gameid_core.specs.Puzzles.{line_cells, lines_of}
 use Rattle.gameid_core.specs.Lines.{line_place, line_list}
 
 pub within_column : (size : Extent) (line k w : ℕ) → w ≡ size.w → line < w → k < line_cells size line → k * w + line < size.w * size.h
-within_column size line k w is lt room = grind (arith, lt-ltb, mul-le-mul_right)
+within_column size line k w is lt room = grind (arith, lt-ltb)
 
 -- the first numbers of a line
 abbrev pub line_front : Extent → List ℕ → ℕ → ℕ → List ℕ

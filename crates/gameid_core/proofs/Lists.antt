@@ -19,9 +19,8 @@ AllByRecursion-flat_map Fits P f h [] all = tt
 AllByRecursion-flat_map Fits P f h (t ∷ ts) all = AllByRecursion-append P (f t) (flat_map f ts) (h t all.0) (AllByRecursion-flat_map Fits P f h ts all.1)
 
 pub all_at : {A : Type 0} (P : A → Type 0) (d : A) (xs : List A) (i : ℕ) → AllByRecursion P xs → i < length xs → P (get_or xs i d)
-all_at P d [] i h lt = absurd (omega arith)
-all_at P d (x ∷ xs) zero h lt = h.0
-all_at P d (x ∷ xs) (suc i) h lt = all_at P d xs i h.1 (omega arith)
+all_at P d [] i h lt = grind arith
+all_at P d (x1 ∷ xs1) i h lt = grind (arith, all_at P d xs1)
 
 pub none_pushed : (text : List ℕ) (f : ℕ → List ℕ) → text ≡ text ++ each_below f 0
 unfolding each_below
@@ -34,7 +33,7 @@ one_pushed old text new f n piece so_far more is = grind (arith, common_steps)
 
 join_push : (c : ℕ) (y : List ℕ) (xs : List (List ℕ)) (x : List ℕ) → join_with_byte c ((y ∷ xs) ++ x ∷ []) ≡ join_with_byte c (y ∷ xs) ++ c ∷ x
 join_push c y [] x = refl
-join_push c y (z ∷ xs) x = grind (arith, common_steps, join_push c z xs x, append_assoc)
+join_push c y (z ∷ xs) x = grind (arith, common_steps, join_push c z xs x)
 
 join_some : {A : Type 0} (c : ℕ) (f : A → List ℕ) (ys : List A) (x : List ℕ) → 0 < length ys → join_with_byte c (map f ys ++ x ∷ []) ≡ join_with_byte c (map f ys) ++ c ∷ x
 join_some c f [] x some = absurd (omega arith)

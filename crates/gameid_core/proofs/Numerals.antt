@@ -20,8 +20,7 @@ abbrev pub is_lead : ℕ → Bool
 is_lead b = leb 49 b && leb b 57
 
 pub begins_front : (kind : ℕ → Bool) (xs ys : List ℕ) → begins kind xs ≡ true → begins kind (xs ++ ys) ≡ true
-begins_front kind [] ys e = absurd (false≢true e)
-begins_front kind (x ∷ xs) ys e = e
+begins_front kind xs ys e = grind arith
 
 pub lead_digit : (n : ℕ) → 0 < n → n < 10 → is_lead (48 + n) ≡ true
 lead_digit n some small = grind arith
@@ -41,15 +40,14 @@ value_positive b ds low = omega (arith, value_after_ge (10 * 0 + (b - 48)) ds)
 pub front_numeral : (digits rest : List ℕ) → all_ascii_digits digits ≡ true → begins is_ascii_digit rest ≡ false → (digits_front (digits ++ rest) ≡ digits) × (after_digits (digits ++ rest) ≡ rest)
 front_numeral [] [] d other = front_end [] refl
 front_numeral [] (b ∷ rest) d other = front_stop (b ∷ rest) b rest refl other
-front_numeral (c ∷ digits) rest d other = grind (arith, nat_tests, common_steps, and_parts (is_ascii_digit c) (all_ascii_digits digits) d, front_turn (c ∷ (digits ++ rest)) c (digits ++ rest) refl, front_numeral digits rest)
+front_numeral (c ∷ digits) rest d other = grind (arith, nat_tests, common_steps, front_turn (c ∷ (digits ++ rest)) c (digits ++ rest) refl, front_numeral digits rest)
 
 pub digit_front : (num rest : List ℕ) → IsNumeral num → begins is_ascii_digit (num ++ rest) ≡ true
 digit_front [] rest h = absurd (let some : 0 < 0 = h.some in omega arith)
 digit_front (c ∷ digits) rest h = (and_parts (is_ascii_digit c) (all_ascii_digits digits) h.digits).0
 
 pub digit_begins : (num : List ℕ) → IsNumeral num → begins is_ascii_digit num ≡ true
-digit_begins [] h = absurd (let some : 0 < 0 = h.some in omega arith)
-digit_begins (c ∷ digits) h = (and_parts (is_ascii_digit c) (all_ascii_digits digits) h.digits).0
+digit_begins num h = grind arith
 
 pub numeral_cuts : (num rest : List ℕ) → IsNumeral num → begins is_ascii_digit rest ≡ false → Cuts (num ++ rest) num rest
 numeral_cuts num rest h other = grind (arith, front_numeral num rest h.digits other, cuts_number (num ++ rest) (digit_front num rest h))
@@ -76,9 +74,7 @@ plain_decimal (b ∷ []) d h small = decimal-digits_value own (b ∷ []) d.digit
 plain_decimal (b ∷ c ∷ more) d h small = decimal-digits_value own (b ∷ c ∷ more) d.digits d.some (λ zero. absurd (h zero)) small
 
 lead_plain : (ds : List ℕ) → begins is_lead ds ≡ true → IsPlain ds
-lead_plain [] e = tt
-lead_plain (b ∷ []) e = tt
-lead_plain (b ∷ c ∷ more) e = grind arith
+lead_plain ds e = grind arith
 
 pub decimal_plain : (n : ℕ) → n < 2 ^ 64 → IsPlain (decimal n)
 decimal_plain zero small = grind (arith, length-decimal-le 1 0)

@@ -36,8 +36,7 @@ abbrev pub later_text : List (List (List ℕ)) → List ℕ
 later_text later = flat_map (λ ns. 47 ∷ join_with_byte 46 ns) later
 
 pub tail_none : (clue : List ℕ) → tail_text clue [] ≡ []
-tail_none [] = refl
-tail_none (m ∷ clue) = refl
+tail_none clue = grind arith
 
 -- ---- what is read is spelled
 
@@ -51,17 +50,14 @@ pub record Spelled (clues : List (List ℕ)) (clue text : List ℕ) (all : List 
 
 -- a '.' and a numeral
 dotted_word : (word : List ℕ) → IsWord word → begins (λ b. eqb b 46) word ≡ true → begins is_ascii_digit (drop 1 word) ≡ true → (word ≡ 46 ∷ drop 1 word) × IsNumeral (drop 1 word)
-dotted_word [] w dot d = absurd w
-dotted_word (b ∷ []) w dot d = absurd (false≢true d)
-dotted_word (b ∷ c ∷ more) w dot d = grind arith
+dotted_word word w dot d = grind arith
 
 slash_word : (word : List ℕ) → IsWord word → begins (λ b. eqb b 47) word ≡ true → word ≡ 47 ∷ []
-slash_word [] w s = absurd w
-slash_word (b ∷ more) w s = grind arith
+slash_word word w s = grind arith
 
 pub read_spelled : (size : Extent) (at : ℕ) (clues : List (List ℕ)) (clue : List ℕ) (ws : List (List ℕ)) (all : List (List ℕ)) → AllByRecursion IsWord ws → reading (pattern_step size) (pattern_end size) at (so_far clues clue) ws ≡ Ok all → Spelled clues clue (concat ws) all
-unfolding reading
-read_spelled size at clues clue [] all w e = grind (arith, end_cases size clues clue all e, tail_none clue, append-nil clue)
+unfolding reading pattern_end
+read_spelled size at clues clue [] all w e = grind (arith, tail_none clue, append-nil clue)
 read_spelled size at clues clue (word ∷ ws) all w e =
     let b = bind_ok (pattern_step size at (so_far clues clue) word) (λ t. reading (pattern_step size) (pattern_end size) (at + length word) t ws) all e in
     elim (step_cases size at clues clue word b.0 b.1) [
@@ -128,16 +124,15 @@ unfolding clue_number
 number_read cells line before at digits some room = grind arith
 
 first_read : (cells line at : ℕ) (num : List ℕ) → IsNumeral num → 0 < value num → value num ≤ cells → clue_token cells line [] at num ≡ Ok (value num)
-unfolding clue_token
-first_read cells line at num h some room = grind (arith, common_steps, digit_begins, number_read)
+unfolding clue_token clue_number
+first_read cells line at num h some room = grind (arith, common_steps)
 
 further_read : (cells line at m : ℕ) (clue num : List ℕ) → IsNumeral num → 0 < value num → used (m ∷ clue) + value num ≤ cells → clue_token cells line (m ∷ clue) at (46 ∷ num) ≡ Ok (value num)
-unfolding clue_token
-further_read cells line at m clue num h some room = grind (arith, common_steps, digit_begins, number_read)
+unfolding clue_token clue_number
+further_read cells line at m clue num h some room = grind (arith, common_steps)
 
 numeral_other : (num : List ℕ) → IsNumeral num → begins (λ b. eqb b 47) num ≡ false
-numeral_other [] h = refl
-numeral_other (c ∷ digits) h = grind arith
+numeral_other num h = grind arith
 
 -- no clue's rest and no later clue begins with a digit
 rest_begins : (m : ℕ) (clue : List ℕ) (ns : List (List ℕ)) (later : List (List (List ℕ))) → begins is_ascii_digit (tail_text (m ∷ clue) ns ++ later_text later) ≡ false
@@ -167,8 +162,9 @@ are_at size line [] c ys h = grind arith
 are_at size line (x ∷ xs) c ys h = grind (arith, are_at size (line + 1) xs c ys h.1)
 
 later_again : (size : Extent) (all clues : List (List ℕ)) (clue : List ℕ) (later : List (List (List ℕ))) → AllByRecursion (AllByRecursion IsNumeral) later → clues ++ clue ∷ map (map value) later ≡ all → length all ≡ lines_of size → AreClues size 0 all → Reads size all clues clue (later_text later)
+unfolding pattern_step
 later_again size all clues clue [] d is len are at = grind (arith, common_steps, reading_end (pattern_step size) (pattern_end size) at (so_far clues clue) [] refl, end_is size clues clue true)
-later_again size all clues clue (l ∷ later) d is len are at = grind (arith, nat_tests, common_steps, append_assoc clues (clue ∷ []) (map value l ∷ map (map value) later), zero-add (length (clues ++ clue ∷ [])), are_at size 0 (clues ++ clue ∷ []) (map value l) (map (map value) later), length-append clues (clue ∷ map value l ∷ map (map value) later), ne_eqb, clue_again size all (clues ++ clue ∷ []) [] l later d.0, later_again size all (clues ++ clue ∷ []) (map value l) later d.1, reading_turn (pattern_step size) (pattern_end size) at (so_far clues clue) (so_far (clues ++ clue ∷ []) []) (47 ∷ (join_with_byte 46 l ++ later_text later)) (47 ∷ []) (join_with_byte 46 l ++ later_text later) (cuts_single 47 (join_with_byte 46 l ++ later_text later) refl), cuts_single 47 (join_with_byte 46 l ++ later_text later) refl, step_slash size at clues clue false)
+later_again size all clues clue (l ∷ later) d is len are at = grind (arith, nat_tests, common_steps, are_at size 0 (clues ++ clue ∷ []) (map value l) (map (map value) later), clue_again size all (clues ++ clue ∷ []) [] l later d.0, later_again size all (clues ++ clue ∷ []) (map value l) later d.1, reading_turn (pattern_step size) (pattern_end size) at (so_far clues clue) (so_far (clues ++ clue ∷ []) []) (47 ∷ (join_with_byte 46 l ++ later_text later)) (47 ∷ []) (join_with_byte 46 l ++ later_text later) (cuts_single 47 (join_with_byte 46 l ++ later_text later) refl))
 
 flat_map-map : (later : List (List (List ℕ))) → flat_map (λ y. 47 ∷ y) (map (join_with_byte 46) later) ≡ later_text later
 flat_map-map [] = refl

@@ -19,18 +19,16 @@ pub line_small : (size : Extent) (line : ℕ) → IsExtent size → line_cells s
 line_small size line h = grind arith
 
 length_clue : (clue : List ℕ) → AllByRecursion (λ n. 0 < n) clue → used clue < 2 ^ 64 → 0 < length clue → length (clue_text clue) + 1 ≤ used clue
-length_clue [] h small some = absurd (omega arith)
-length_clue (n ∷ []) h small some = omega (arith, length_decimal n (omega arith) h.0)
-length_clue (n ∷ m ∷ clue) h small some = grind (arith, nat_tests, common_steps, length_decimal n, length_clue (m ∷ clue) h.1, length-append (decimal n) (46 ∷ clue_text (m ∷ clue)))
+length_clue [] h small some = grind (arith, common_steps, length_decimal, length-append)
+length_clue (x1 ∷ xs1) h small some = grind (arith, common_steps, length_clue xs1, length_decimal, length-append)
 
 -- a clue's text is no longer than its line
 pub clue_short : (cells : ℕ) (clue : List ℕ) → IsClue cells clue → cells ≤ max_side → length (clue_text clue) ≤ cells
-clue_short cells [] h small = omega arith
-clue_short cells (n ∷ clue) h small = let fits : used (n ∷ clue) ≤ cells + 1 = h.fits in omega (arith, length_clue (n ∷ clue) h.positive (omega arith) (omega arith))
+clue_short cells clue h small = grind (arith, common_steps, length_clue)
 
 clues_short : (size : Extent) (line : ℕ) (clues : List (List ℕ)) → IsExtent size → AreClues size line clues → length (join_with_byte 47 (map clue_text clues)) ≤ (max_side + 1) * length clues
 clues_short size line [] e h = omega arith
-clues_short size line (c ∷ []) e h = grind (arith, common_steps, line_small, clue_short)
+clues_short size line (c ∷ []) e h = grind (arith, common_steps, clue_short)
 clues_short size line (c ∷ d ∷ clues) e h = grind (arith, common_steps, clue_short (line_cells size line) c h.0, clues_short size (line + 1) (d ∷ clues) e h.1)
 
 pub pattern_short : (p : Pattern) → IsPattern p → length (pattern_text p) ≤ max_id

@@ -1,5 +1,6 @@
 -- What is printed of a cell is read back: one byte for each cell, or a number.
 use Rattle.std.proofs.Common.{◌≡◌, ◌≢◌, ◌∙◌, ◌+◌, ◌*◌, ◌<◌, ◌≤◌, ◌++◌, ◌∷◌, ◌==◌, ℕ, List, Bool, true, false, [], Option, Some, zero, suc, length, slice_index, sym, ap, refl, arith, if◌then◌else◌, codes, decimal}
+use Rattle.std.proofs.lemmas.Grind.{common_steps}
 use Rattle.std.specs.Prelude.{IsTrue, ◌↔◌}
 use Rattle.std.proofs.lemmas.Bool.{ne_eqb, true≢false}
 use Rattle.std.proofs.lemmas.Fmt.{decimal_digit}
@@ -27,9 +28,7 @@ mark_read mark other (suc (suc v)) text after result small same different read i
 -- a black cell is one byte
 pub black_read : (cell : LightCell) (o : Option LightCell) (v : ℕ) (text after : List ℕ) (result : Option (ℕ × ℕ)) → o ≡ Some cell → cell ≢ White → IsLightCell cell → v ≡ 0
     → (1 ≤ length text → result ≡ Some (0, 1)) → text ≡ light_mark o v ++ after → result ≡ Some (v, length (light_mark o v))
-black_read White o v text after result at black small none read is = absurd (black refl)
-black_read Black o v text after result at black small none read is = grind arith
-black_read (Numbered n) o v text after result at black small none read is = grind (arith, decimal_digit n)
+black_read cell o v text after result at black small none read is = grind (arith, common_steps, decimal_digit)
 
 -- a white cell
 pub white_read : (o : Option LightCell) (v : ℕ) (text after : List ℕ) (result : Option (ℕ × ℕ)) → o ≡ Some White → v < 2

@@ -12,7 +12,7 @@ use Rattle.gameid_core.specs.GridReading.{IsAsShown, IsReadOf, FitUpTo, AgreeUpT
 -- numbers that fit are a grid
 pub is_shown : (hides : ℕ → Type 0) (values : ℕ) (size : Extent) (g : List ℕ) (y : ℕ) → size.h ≤ y → y ≤ size.h → length g ≡ size.w * size.h
     → FitUpTo hides values g (y * size.w) → IsAsShown hides values size g
-is_shown hides values size g y over under cells fit = grind (arith, get_or_default, cases_lt, get_or_past, mul_comm)
+is_shown hides values size g y over under cells fit = grind (arith, get_or_default, get_or_past)
 
 -- grids that agree are the same
 pub same_grid : (hides : ℕ → Type 0) (values : ℕ) (size : Extent) (g h : List ℕ) (y : ℕ) → size.h ≤ y → y ≤ size.h → length g ≡ size.w * size.h

@@ -17,7 +17,7 @@ each_from text k (suc n) = text k ++ each_from text (suc k) n
 
 both_parts : (f : ℕ → List ℕ) (k n : ℕ) → each_below f (k + n) ≡ each_below f k ++ each_from f k n
 unfolding each_below each_from
-both_parts f k zero = grind (arith, common_steps, append-nil)
+both_parts f k zero = grind (arith, common_steps)
 both_parts f k (suc n) = grind (arith, common_steps, both_parts f (suc k) n)
 
 pub from_zero : (f : ℕ → List ℕ) (n : ℕ) → each_below f n ≡ each_from f 0 n

@@ -43,18 +43,7 @@ cuts_shorter text [] after first tail e cuts = absurd (false≢true (cuts.first 
 cuts_shorter text (b ∷ word) after first tail e cuts = omega (arith, cuts.lengths)
 
 pub fails_is : {Y : Type 0} (e : IdFault) (read : Result Y IdFault) → Err e ≡ read → Fails e read
-fails_is faults.TooLong read h = sym h
-fails_is faults.SeedId read h = sym h
-fails_is faults.NoColon read h = sym h
-fails_is faults.BadSize read h = sym h
-fails_is faults.Variant read h = sym h
-fails_is faults.SizeRange read h = sym h
-fails_is (faults.BadByte p) read h = sym h
-fails_is (faults.NumberRange p) read h = sym h
-fails_is (faults.LineTooFull p) read h = sym h
-fails_is faults.TooFew read h = sym h
-fails_is faults.TooMany read h = sym h
-fails_is faults.Memory read h = tt
+fails_is e read h = grind arith
 
 reading_cons : {S P : Type 0} (step : ℕ → S → List ℕ → Result S IdFault) (end : S → Result P IdFault) (at : ℕ) (s : S) (word : List ℕ) (words : List (List ℕ)) → reading step end at s (word ∷ words) ≡ (step at s word >>= (λ t. reading step end (at + length word) t words))
 unfolding reading

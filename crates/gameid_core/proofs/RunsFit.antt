@@ -31,12 +31,10 @@ pub runs_run_and_white : (n : ℕ) (cells : List ℕ) → runs (replicate (suc n
 runs_run_and_white n cells = runs_after-cut 0 (replicate (suc n) 1) cells ∙ ap (λ xs. xs ++ runs cells) (runs_run n)
 
 run_of_positive : (k : ℕ) → AllByRecursion (λ n. 0 < n) (run_of k)
-run_of_positive zero = tt
-run_of_positive (suc k) = (omega arith, tt)
+run_of_positive k = grind arith
 
 run_of_used : (k : ℕ) → used (run_of k) ≤ k + 1
-run_of_used zero = omega arith
-run_of_used (suc k) = omega arith
+run_of_used k = grind arith
 
 runs_positive : (k : ℕ) (cells : List ℕ) → AllByRecursion (λ n. 0 < n) (runs_after k cells)
 unfolding runs_after
@@ -61,21 +59,23 @@ runs_white k cells = refl
 
 pub runs_black : (k b : ℕ) (cells : List ℕ) → (b ≡ 0 → ⊥) → runs_after k (b ∷ cells) ≡ runs_after (suc k) cells
 unfolding runs_after
-runs_black k zero cells ne = absurd (ne refl)
-runs_black k (suc b) cells ne = refl
+runs_black k b cells ne = grind arith
 
 pub runs_end : (k : ℕ) → runs_after k [] ≡ run_of k
 unfolding runs_after
 runs_end k = refl
 
 pub turn_white : (k i k' : ℕ) (cells found found' total : List ℕ) → i < length cells → get_or cells i 0 ≡ 0 → k' ≡ 0 → found' ≡ found ++ run_of k → found ++ runs_after k (drop i cells) ≡ total → found' ++ runs_after k' (drop (i + 1) cells) ≡ total
-turn_white k i k' cells found found' total lt white zero-is e so = grind (arith, common_steps, runs_white k (drop (i + 1) cells))
+unfolding runs_after
+turn_white k i k' cells found found' total lt white zero-is e so = grind (arith, common_steps)
 
 pub turn_black : (k i k' : ℕ) (cells found found' total : List ℕ) → i < length cells → (get_or cells i 0 ≡ 0 → ⊥) → k' ≡ k + 1 → found' ≡ found → found ++ runs_after k (drop i cells) ≡ total → found' ++ runs_after k' (drop (i + 1) cells) ≡ total
-turn_black k i k' cells found found' total lt black more e so = grind (arith, common_steps, runs_black k (get_or cells i 0) (drop (i + 1) cells) black)
+unfolding runs_after
+turn_black k i k' cells found found' total lt black more e so = grind (arith, common_steps)
 
 pub turn_end : (k i : ℕ) (cells found found' total : List ℕ) → length cells ≤ i → found' ≡ found ++ run_of k → found ++ runs_after k (drop i cells) ≡ total → found' ≡ total
-turn_end k i cells found found' total past e so = grind (arith, common_steps, runs_end k)
+unfolding runs_after
+turn_end k i cells found found' total past e so = grind (arith, common_steps)
 
 runs_line_fits : (size : Extent) (g : List ℕ) (line : ℕ) → IsClue (line_cells size line) (runs (line_list size g line))
 runs_line_fits size g line = grind (arith, common_steps, length_line, runs_fit)

@@ -22,9 +22,7 @@ pub solo_few : (n : ℕ) → n ≤ max_numbers → n * n ≤ max_numbers * max_n
 solo_few n h = omega (arith, mul-le-mul_left n h, mul-le-mul_right max_numbers h)
 
 before_short : (k : ℕ) (touches : Bool) → length (before_given k touches) ≤ k + 1
-before_short zero true = omega arith
-before_short zero false = omega (arith, letters_short 0)
-before_short (suc k) touches = omega (arith, letters_short (suc k))
+before_short k touches = grind (arith, common_steps, letters_short)
 
 -- a cell takes at most three bytes: '_' and two digits
 cells_short : (k : ℕ) (touches : Bool) (cells : List ℕ) → AllByRecursion (λ v. v ≤ max_numbers) cells → length (cells_text k touches cells) ≤ k + 3 * length cells
@@ -38,11 +36,10 @@ range_more n [] le h = tt
 range_more n (v ∷ cells) le h = (omega (arith, h.0), range_more n cells le h.1)
 
 size_short : (c r : ℕ) (x : Bool) → length (solo_size_text c r x) ≤ length (size_text c r) + 1
-size_short c r false = omega arith
-size_short c r true = omega (arith, length-append (size_text c r) (120 ∷ []))
+size_short c r x = grind (arith, common_steps, length-append)
 
 pub solo_short : (p : Solo) → IsSolo p → length (solo_text p) ≤ max_id
-solo_short p h = grind (arith, mul-le-mul_left p.c h.r_low, mul-le-mul_right p.r h.c_low, length-decimal-le 2 p.c, length-decimal-le 2 p.r, cells_short 0 false p.givens, range_more (solo_n p) p.givens, solo_few (solo_n p), size_short p.c p.r p.x, length-append (decimal p.c) (120 ∷ decimal p.r), length-append (solo_size_text p.c p.r p.x) (58 ∷ cells_text 0 false p.givens))
+solo_short p h = grind (arith, length-decimal-le 2 p.c, length-decimal-le 2 p.r, cells_short 0 false p.givens, range_more (solo_n p) p.givens, solo_few (solo_n p), size_short p.c p.r p.x, length-append (decimal p.c) (120 ∷ decimal p.r), length-append (solo_size_text p.c p.r p.x) (58 ∷ cells_text 0 false p.givens))
 
 pub cells_nil : (k : ℕ) (touches : Bool) → cells_text k touches [] ≡ letters k
 unfolding cells_text
@@ -54,17 +51,19 @@ cells_blank k touches cells = refl
 
 pub cells_given : (k v : ℕ) (touches : Bool) (cells : List ℕ) → (v ≡ 0 → ⊥) → cells_text k touches (v ∷ cells) ≡ before_given k touches ++ (decimal v ++ cells_text 0 true cells)
 unfolding cells_text
-cells_given k zero touches cells ne = absurd (ne refl)
-cells_given k (suc v) touches cells ne = refl
+cells_given k v touches cells ne = grind arith
 
 pub cells_end : (k i : ℕ) (touches : Bool) (cells old out new : List ℕ) → length cells ≤ i → out ++ cells_text k touches (drop i cells) ≡ old → new ≡ out ++ letters k → new ≡ old
-cells_end k i touches cells old out new past so e = grind (arith, common_steps, cells_nil k touches)
+unfolding cells_text
+cells_end k i touches cells old out new past so e = grind (arith, common_steps)
 
 pub cells_step_blank : (k i : ℕ) (touches : Bool) (cells old out : List ℕ) → i < length cells → get_or cells i 0 ≡ 0 → out ++ cells_text k touches (drop i cells) ≡ old → out ++ cells_text (k + 1) touches (drop (i + 1) cells) ≡ old
-cells_step_blank k i touches cells old out lt blank so = grind (arith, common_steps, cells_blank k touches (drop (i + 1) cells))
+unfolding cells_text
+cells_step_blank k i touches cells old out lt blank so = grind (arith, common_steps)
 
 pub cells_step_given : (k i : ℕ) (touches : Bool) (cells old out mid new : List ℕ) → i < length cells → (get_or cells i 0 ≡ 0 → ⊥) → mid ≡ out ++ before_given k touches → new ≡ mid ++ decimal (get_or cells i 0) → out ++ cells_text k touches (drop i cells) ≡ old → new ++ cells_text 0 true (drop (i + 1) cells) ≡ old
-cells_step_given k i touches cells old out mid new lt some m e so = grind (arith, common_steps, cells_given k)
+unfolding cells_text
+cells_step_given k i touches cells old out mid new lt some m e so = grind (arith, common_steps)
 
 -- a token that is no number
 abbrev pub IsSpace : SoloToken → Type 0
@@ -78,16 +77,11 @@ IsClear [] = Unit {0}
 IsClear (token ∷ tokens) = IsSpace token
 
 spaces_apart : (spaces tokens : List SoloToken) → AllByRecursion IsSpace spaces → AreApart tokens → AreApart (spaces ++ tokens)
-spaces_apart [] tokens s h = h
-spaces_apart (blanks k ∷ spaces) tokens s h = spaces_apart spaces tokens s.1 h
-spaces_apart (gap ∷ spaces) tokens s h = spaces_apart spaces tokens s.1 h
-spaces_apart (given v ∷ spaces) tokens s h = absurd s.0
+spaces_apart [] tokens s h = grind arith
+spaces_apart (x1 ∷ xs1) tokens s h = grind (arith, spaces_apart xs1)
 
 given_apart : (v : ℕ) (tokens : List SoloToken) → IsClear tokens → AreApart tokens → AreApart (given v ∷ tokens)
-given_apart v [] c h = tt
-given_apart v (blanks k ∷ tokens) c h = h
-given_apart v (gap ∷ tokens) c h = h
-given_apart v (given u ∷ tokens) c h = absurd c
+given_apart v tokens c h = grind arith
 
 -- a letter
 abbrev IsLetters : SoloToken → Type 0
@@ -108,19 +102,11 @@ letters_needed_before behind v (gap ∷ spaces) rest h r = absurd h.0
 letters_needed_before behind v (given u ∷ spaces) rest h r = absurd h.0
 
 full_z : (tokens : List SoloToken) → AreFull tokens → AreFull (blanks 26 ∷ tokens)
-full_z [] h = tt
-full_z (blanks k ∷ tokens) h = (refl, h)
-full_z (gap ∷ tokens) h = h
-full_z (given v ∷ tokens) h = h
+full_z tokens h = grind arith
 
 full_join : (v : ℕ) (spaces rest : List SoloToken) → AreFull spaces → AreFull rest → AreFull (spaces ++ given v ∷ rest)
-full_join v [] rest s r = r
-full_join v (blanks j ∷ []) rest s r = r
-full_join v (blanks j ∷ blanks k ∷ spaces) rest s r = (s.0, full_join v (blanks k ∷ spaces) rest s.1 r)
-full_join v (blanks j ∷ gap ∷ spaces) rest s r = full_join v (gap ∷ spaces) rest s r
-full_join v (blanks j ∷ given u ∷ spaces) rest s r = full_join v (given u ∷ spaces) rest s r
-full_join v (gap ∷ spaces) rest s r = full_join v spaces rest s r
-full_join v (given u ∷ spaces) rest s r = full_join v spaces rest s r
+full_join v [] rest s r = grind arith
+full_join v (x1 ∷ xs1) rest s r = grind (arith, full_join v xs1)
 
 -- tokens without a number that spell a text and stand for so many blanks
 record Spaces (n : ℕ) (text : List ℕ) (k : ℕ) : Type 0 where
@@ -186,14 +172,11 @@ clear_front [] tokens some s = absurd (omega arith)
 clear_front (token ∷ spaces) tokens some s = s.0
 
 clear_spaces : (spaces : List SoloToken) → AllByRecursion IsSpace spaces → IsClear spaces
-clear_spaces [] s = tt
-clear_spaces (token ∷ spaces) s = s.0
+clear_spaces spaces s = grind arith
 
 spaces_alone : (spaces : List SoloToken) → AllByRecursion IsSpace spaces → AreApart spaces
-spaces_alone [] s = tt
-spaces_alone (blanks k ∷ spaces) s = spaces_alone spaces s.1
-spaces_alone (gap ∷ spaces) s = spaces_alone spaces s.1
-spaces_alone (given v ∷ spaces) s = absurd s.0
+spaces_alone [] s = grind arith
+spaces_alone (x1 ∷ xs1) s = grind (arith, spaces_alone xs1)
 
 record Written (n k : ℕ) (touches : Bool) (cells : List ℕ) : Type 0 where
   tokens : List SoloToken
@@ -229,8 +212,7 @@ cells_written n k touches (suc v ∷ cells) h =
     }
 
 written_size : (c r : ℕ) (x : Bool) → IsSoloSizeText (solo_size_text c r x) c r x
-written_size c r false = inl refl
-written_size c r true = refl
+written_size c r x = grind arith
 
 -- the written text has the form of a written text, and so it spells the puzzle
 pub solo_is_written : (p : Solo) → IsSolo p → IsWrittenSolo (solo_text p) p
@@ -257,12 +239,12 @@ pub solo_spelled : (p : Solo) → IsSolo p → SpellsSolo (solo_text p) p
 solo_spelled p h = (solo_is_written p h).spells
 
 cells_run : (k j : ℕ) (touches : Bool) (rest : List ℕ) → cells_text k touches (replicate j 0 ++ rest) ≡ cells_text (k + j) touches rest
+unfolding cells_text
 cells_run k zero touches rest = grind arith
-cells_run k (suc j) touches rest = grind (arith, cells_blank k touches (replicate j 0 ++ rest), cells_run (k + 1) j touches rest)
+cells_run k (suc j) touches rest = grind (arith, cells_run (k + 1) j touches rest)
 
 before_some : (k : ℕ) (touches : Bool) → 0 < k → before_given k touches ≡ letters k
-before_some zero touches some = absurd (omega arith)
-before_some (suc k) touches some = refl
+before_some k touches some = grind arith
 
 -- letters that were left before the tokens go on in their first letter
 abbrev Leads : ℕ → List SoloToken → Type 0
@@ -283,9 +265,10 @@ form_given : (n q v : ℕ) (touches : Bool) (tokens : List SoloToken) → AllByR
 form_given n q v touches tokens each apart full needed = grind arith
 
 form_text : (n q : ℕ) (touches : Bool) (tokens : List SoloToken) → Form n q touches tokens → cells_text (26 * q) touches (flat_map solo_token_cells tokens) ≡ replicate q 122 ++ flat_map solo_token_text tokens
+unfolding cells_text
 form_text n zero touches [] f = cells_nil 0 touches ∙ letters_none 0 refl
 form_text n (suc q) touches [] f = absurd f.leads
-form_text n q touches (blanks k ∷ []) f = grind (arith, cells_run (26 * q) k touches [], cells_nil (26 * q + k) touches, letters_at q k)
+form_text n q touches (blanks k ∷ []) f = grind (arith, cells_run (26 * q) k touches [], letters_at q k)
 form_text n q touches (blanks k ∷ blanks j ∷ tokens) f = grind (arith, nat_tests, common_steps, cells_run (26 * q) k touches, form_text n (suc q) touches (blanks j ∷ tokens), z_moves q)
 form_text n q touches (blanks k ∷ gap ∷ tokens) f = absurd (let needed = f.needed in false≢true needed.0)
 form_text n q touches (blanks k ∷ given v ∷ tokens) f = grind (arith, nat_tests, common_steps, form_given n q v touches tokens, cells_run (26 * q) k touches (v ∷ flat_map solo_token_cells tokens), cells_given (26 * q + k) v touches (flat_map solo_token_cells tokens), before_some (26 * q + k) touches, letters_at q k, form_text n 0 true tokens, append_assoc (replicate q 122) ((96 + k) ∷ []) (decimal v ++ flat_map solo_token_text tokens))
@@ -294,10 +277,10 @@ form_text n zero touches (gap ∷ []) f = absurd (let needed = f.needed in neede
 form_text n zero touches (gap ∷ blanks k ∷ tokens) f = absurd (let needed = f.needed in needed.1)
 form_text n zero touches (gap ∷ gap ∷ tokens) f = absurd (let needed = f.needed in needed.1)
 form_text n zero false (gap ∷ given v ∷ tokens) f = absurd (let needed = f.needed in false≢true needed.0)
-form_text n zero true (gap ∷ given v ∷ tokens) f = grind (arith, nat_tests, common_steps, form_given n 0 v true tokens, cells_given 0 v true (flat_map solo_token_cells tokens), form_text n 0 true tokens)
+form_text n zero true (gap ∷ given v ∷ tokens) f = grind (arith, nat_tests, common_steps, form_text n 0 true tokens)
 form_text n (suc q) touches (given v ∷ tokens) f = absurd f.leads
 form_text n zero true (given v ∷ tokens) f = absurd (f.clear refl)
-form_text n zero false (given v ∷ tokens) f = grind (arith, nat_tests, common_steps, form_given n 0 v false tokens, cells_given 0 v false (flat_map solo_token_cells tokens), letters_none 0 refl, form_text n 0 true tokens)
+form_text n zero false (given v ∷ tokens) f = grind (arith, nat_tests, common_steps, letters_none 0 refl, form_text n 0 true tokens)
 
 pub solo_form : (text : List ℕ) (p : Solo) → IsWrittenSolo text p → text ≡ solo_text p
 solo_form text p w = grind (arith, form_text (solo_n p) 0 false)

@@ -1,5 +1,6 @@
 -- Solo: the tokens of a text, and that a text is read exactly where it spells a puzzle.
 use Rattle.std.proofs.Common.{◌≡◌, ℕ, ◌-◌, ◌<◌, ◌≤◌, true, false, ◌&&◌, eqb, leb, List, ◌∷◌, Ok, Err, refl, sym, subst, ◌∙◌, arith, [], ◌*◌, Bool, ltb, get_or, inl, inr, ◌+◌, ◌^◌, cond, ◌++◌, map, length, Result, ap, drop}
+use Rattle.std.proofs.lemmas.Grind.{common_steps}
 use Rattle.std.specs.Prelude.{replicate, decimal}
 use Rattle.std.proofs.lemmas.Bool.{ne_eqb, false≢true, le-ltb, lt-ltb, leb-true, ltb-false, eqb-true, le-leb}
 use Rattle.gameid_core.specs.declared.fault.IdFault.TheVariants.{BadByte, NumberRange}
@@ -63,7 +64,8 @@ number_word (b ∷ after) e =
     }
 
 pub bad_byte : (n at first : ℕ) (rest after : List ℕ) → rest ≡ first ∷ after → (97 ≤ first → first ≤ 122 → ⊥) → (first ≡ 95 → ⊥) → (49 ≤ first → first ≤ 57 → ⊥) → (word tail : List ℕ) × Cuts rest word tail × (solo_token n at word ≡ Err (BadByte at))
-bad_byte n at first rest after e letter no_gap lead = grind (arith, cuts_some first after, solo_other n at)
+unfolding solo_token
+bad_byte n at first rest after e letter no_gap lead = grind (arith, cuts_some first after)
 
 -- ---- numbers among the tokens stand apart
 
@@ -79,8 +81,7 @@ Apart [] = Unit {0}
 Apart (w ∷ ws) = NotBefore w ws × Apart ws
 
 apart_front : (b : ℕ) (w : List ℕ) (ws : List (List ℕ)) → (is_ascii_digit b ≡ true → digit_first w ≡ true) → NotBefore w ws → NotBefore (b ∷ w) ws
-apart_front b w [] f h = tt
-apart_front b w (v ∷ ws) f h = grind arith
+apart_front b w ws f h = grind arith
 
 pub words_apart : (text : List ℕ) → Apart (words text)
 unfolding words
@@ -104,8 +105,7 @@ letter_word n (b ∷ more) w e =
     record { token = blanks (b - 96); texts = ap (λ (m : List ℕ). b ∷ m) rest ∙ ap (λ (k : ℕ). k ∷ []) byte; each = (omega arith, omega arith); stands = refl }
 
 gap_word : (n : ℕ) (word : List ℕ) → IsWord word → begins (λ b. eqb b 95) word ≡ true → SoloWord n word []
-gap_word n [] w e = absurd w
-gap_word n (b ∷ more) w e = grind arith
+gap_word n word w e = grind arith
 
 given_word : (n : ℕ) (word : List ℕ) → n < 2 ^ 64 → IsWord word → begins is_lead word ≡ true → value word ≤ n → SoloWord n word (value word ∷ [])
 given_word n [] small w e le = absurd w
@@ -145,13 +145,8 @@ decimal_digit_first v small some = lead_first (decimal v) (decimal_leads v small
     lead_first (b ∷ more) e = lead_is_digit b e
 
 apart_tokens : (n : ℕ) (tokens : List SoloToken) → n < 2 ^ 64 → AllByRecursion (IsSoloToken n) tokens → Apart (map solo_token_text tokens) → AreApart tokens
-apart_tokens n [] small each h = tt
-apart_tokens n (blanks k ∷ tokens) small each h = apart_tokens n tokens small each.1 h.1
-apart_tokens n (gap ∷ tokens) small each h = apart_tokens n tokens small each.1 h.1
-apart_tokens n (given u ∷ []) small each h = tt
-apart_tokens n (given u ∷ blanks k ∷ tokens) small each h = apart_tokens n (blanks k ∷ tokens) small each.1 h.1
-apart_tokens n (given u ∷ gap ∷ tokens) small each h = apart_tokens n (gap ∷ tokens) small each.1 h.1
-apart_tokens n (given u ∷ given v ∷ tokens) small each h = grind (arith, decimal_digit_first u, decimal_digit_first v)
+apart_tokens n [] small each h = grind (arith, common_steps, decimal_digit_first)
+apart_tokens n (x1 ∷ xs1) small each h = grind (arith, common_steps, apart_tokens n xs1, decimal_digit_first)
 
 concat_texts : (tokens : List SoloToken) → concat (map solo_token_text tokens) ≡ flat_map solo_token_text tokens
 concat_texts [] = refl
@@ -191,21 +186,13 @@ solo_lawful c r x at description cells range e =
 -- ---- what is spelled is read
 
 no_digit_first : (n v : ℕ) (tokens : List SoloToken) → AllByRecursion (IsSoloToken n) tokens → AreApart (given v ∷ tokens) → begins is_ascii_digit (flat_map solo_token_text tokens) ≡ false
-no_digit_first n v [] each h = refl
-no_digit_first n v (blanks k ∷ tokens) each h = not_between 48 57 (96 + k) (λ low high. omega arith)
-no_digit_first n v (gap ∷ tokens) each h = refl
-no_digit_first n v (given u ∷ tokens) each h = absurd h
+no_digit_first n v tokens each h = grind arith
 
 apart_rest : (token : SoloToken) (tokens : List SoloToken) → AreApart (token ∷ tokens) → AreApart tokens
-apart_rest (blanks k) tokens h = h
-apart_rest gap tokens h = h
-apart_rest (given u) [] h = tt
-apart_rest (given u) (blanks k ∷ tokens) h = h
-apart_rest (given u) (gap ∷ tokens) h = h
-apart_rest (given u) (given v ∷ tokens) h = absurd h
+apart_rest token tokens h = grind arith
 
 given_read : (n at v : ℕ) → v < 2 ^ 64 → 0 < v → v ≤ n → solo_token n at (decimal v) ≡ Ok (v ∷ [])
-given_read n at v small some le = grind (arith, digits_value-decimal, own, solo_given, not_between, decimal_digit_first, ne_eqb, decimal_leads, leb-true, and_parts)
+given_read n at v small some le = grind (arith, digits_value-decimal, own, solo_given, decimal_leads)
 
 token_cuts : (n : ℕ) (token : SoloToken) (tokens : List SoloToken) → n < 2 ^ 64 → AllByRecursion (IsSoloToken n) (token ∷ tokens) → AreApart (token ∷ tokens) → Cuts (solo_token_text token ++ flat_map solo_token_text tokens) (solo_token_text token) (flat_map solo_token_text tokens)
 token_cuts n (blanks k) tokens small each h = (solo_letter n 0 (96 + k) (flat_map solo_token_text tokens) (omega (arith, each.0.0)) (omega (arith, each.0.1))).0

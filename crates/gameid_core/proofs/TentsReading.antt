@@ -67,16 +67,13 @@ pub letter_byte : (k : ℕ) → tents_token_byte (blanks_and_tree (suc k)) ≡ 9
 letter_byte k = grind arith
 
 byte_single : (token : TentsToken) → joins (tents_token_byte token) ≡ false
-byte_single (blanks_and_tree zero) = refl
-byte_single (blanks_and_tree (suc k)) = grind arith
-byte_single only_blanks = refl
+byte_single token = grind arith
 
 pub run_single : (at b : ℕ) (run : ℕ × Bool) → tents_run at b ≡ Ok run → joins b ≡ false
 run_single at b run e = let t = run_token at b run e in ap joins t.byte ∙ byte_single t.token
 
 pub run_length : (blanks : ℕ) (tree : Bool) → length (run_cells blanks tree) ≡ blanks + cond tree 1 0
-run_length blanks true = grind (arith, common_steps, length-append, length-replicate)
-run_length blanks false = grind (arith, common_steps, length-append, length-replicate)
+run_length blanks tree = grind (arith, common_steps, length-append, length-replicate)
 
 -- ---- turns
 
@@ -141,8 +138,8 @@ unfolding tents_tree
 tree_cases size at b places counts t e = grind arith
 
 pub step_cases : (size : Extent) (at : ℕ) (places counts word : List ℕ) (t : TentsSoFar) → tents_step size at (at_tents places counts) word ≡ Ok t → Counted size places counts word t ⊎ Planted size at places counts word t
-unfolding tents_step
-step_cases size at places counts word t e = grind (arith, chosen, bind_ok, count_cases, ok_is, not_refused, tree_cases, ltb-false)
+unfolding tents_step tents_count tents_tree
+step_cases size at places counts word t e = grind arith
 
 pub end_cases : (size : Extent) (places counts : List ℕ) (t : TentsSoFar) → tents_end size (at_tents places counts) ≡ Ok t → (length counts ≡ lines_of size) × (at_tents places counts ≡ t)
 unfolding tents_end
@@ -174,8 +171,8 @@ sound_planted size places counts blanks true s early room = grind (arith, common
 sound_planted size places counts blanks false s early room = grind (arith, common_steps, run_bits blanks false)
 
 sound_read : (size : Extent) (at : ℕ) (places counts : List ℕ) (ws : List (List ℕ)) (all : TentsSoFar) → Sound size places counts → reading (tents_step size) (tents_end size) at (at_tents places counts) ws ≡ Ok all → Sound size all.places all.counts × (length all.counts ≡ lines_of size)
-unfolding reading
-sound_read size at places counts [] all s e = grind (arith, end_cases size places counts all e)
+unfolding reading tents_end
+sound_read size at places counts [] all s e = grind arith
 sound_read size at places counts (word ∷ ws) all s e =
     let b = bind_ok (tents_step size at (at_tents places counts) word) (λ t. reading (tents_step size) (tents_end size) (at + length word) t ws) all e in
     elim (step_cases size at places counts word b.0 b.1) [

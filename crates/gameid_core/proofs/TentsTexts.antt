@@ -39,9 +39,7 @@ record Spelled (places counts text : List ℕ) (all : TentsSoFar) : Type 0 where
   late : 0 < length counts → tokens ≡ []
 
 comma_word : (word : List ℕ) → IsWord word → begins (λ b. eqb b 44) word ≡ true → (length word ≡ 1 → ⊥) → (word ≡ 44 ∷ drop 1 word) × IsNumeral (drop 1 word)
-comma_word [] w c some = absurd w
-comma_word (b ∷ []) w c some = absurd (some refl)
-comma_word (b ∷ d ∷ more) w c some = grind arith
+comma_word word w c some = grind arith
 
 spelled_counted : (places counts word rest : List ℕ) (all : TentsSoFar) → (word ≡ 44 ∷ drop 1 word) × IsNumeral (drop 1 word) → Spelled places (counts ++ value (drop 1 word) ∷ []) rest all → Spelled places counts (word ++ rest) all
 spelled_counted places counts word rest all w r =
@@ -147,8 +145,7 @@ token_tree (blanks_and_tree k) = true
 token_tree only_blanks = false
 
 cells_of_token : (token : TentsToken) → run_cells (token_blanks token) (token_tree token) ≡ tents_token_cells token
-cells_of_token (blanks_and_tree k) = refl
-cells_of_token only_blanks = refl
+cells_of_token token = grind arith
 
 abbrev run_of : ℕ → Bool → Result (ℕ × Bool) IdFault
 run_of k tree = Ok (k, tree)
@@ -159,14 +156,10 @@ letter_run at k h = grind arith
 
 token_run : (at : ℕ) (token : TentsToken) → IsTentsToken token → tents_run at (tents_token_byte token) ≡ Ok (token_blanks token, token_tree token)
 unfolding tents_run
-token_run at (blanks_and_tree zero) h = refl
-token_run at (blanks_and_tree (suc k)) h = ap (tents_run at) (letter_byte k) ∙ letter_run at k h
-token_run at only_blanks h = refl
+token_run at token h = grind arith
 
 token_other : (token : TentsToken) → IsTentsToken token → eqb (tents_token_byte token) 44 ≡ false
-token_other (blanks_and_tree zero) h = refl
-token_other (blanks_and_tree (suc k)) h = ne_eqb _ _ (λ q. absurd (omega (arith, q, letter_byte k)))
-token_other only_blanks h = refl
+token_other token h = grind arith
 
 -- blanks don't reach the tree after the cells
 unfoldable pub last_of : List ℕ → ℕ
@@ -176,17 +169,14 @@ last_of (x ∷ y ∷ ys) = last_of (y ∷ ys)
 
 pub last_push : (xs : List ℕ) (x : ℕ) → last_of (xs ++ x ∷ []) ≡ x
 unfolding last_of
-last_push [] x = refl
-last_push (y ∷ []) x = refl
-last_push (y ∷ z ∷ xs) x = last_push (z ∷ xs) x
+last_push [] x = grind arith
+last_push (x1 ∷ xs1) x = grind (arith, common_steps, last_push xs1)
 
 blank_last : (places trees : List ℕ) → places ++ replicate 25 0 ≡ trees ++ 1 ∷ [] → ⊥
 blank_last places trees e = grind (arith, append_assoc places (replicate 24 0) (0 ∷ []), last_push (places ++ replicate 24 0) 0, last_push trees 1)
 
 tree_room : (size : Extent) (places trees : List ℕ) (token : TentsToken) (rest : List ℕ) → length trees ≡ cells_in size → places ++ (tents_token_cells token ++ rest) ≡ trees ++ 1 ∷ [] → length places + (token_blanks token + cond (token_tree token) 1 0) ≤ cells_in size + cond (token_tree token) 1 0
-tree_room size places trees (blanks_and_tree k) rest count is = grind (arith, common_steps)
-tree_room size places trees only_blanks [] count is = absurd (blank_last places trees is)
-tree_room size places trees only_blanks (r ∷ rest) count is = grind (arith, common_steps)
+tree_room size places trees token rest count is = grind (arith, common_steps, blank_last)
 
 trees_again : (size : Extent) (all : TentsSoFar) (places trees : List ℕ) (tokens : List TentsToken) (rest : List ℕ) → AllByRecursion IsTentsToken tokens → length trees ≡ cells_in size → places ++ flat_map tents_token_cells tokens ≡ trees ++ 1 ∷ [] → Reads size all (trees ++ 1 ∷ []) [] rest → Reads size all places [] (map tents_token_byte tokens ++ rest)
 trees_again size all places trees [] rest each count is next at = grind (arith, common_steps)

@@ -30,27 +30,30 @@ tokens_full k cells e = let full : eqb k 25 ≡ true = eq-eqb k 25 e in rw full 
 
 pub tokens_tree : (k b : ℕ) (cells : List ℕ) → (b ≡ 0 → ⊥) → tents_tokens k (b ∷ cells) ≡ blanks_and_tree k ∷ tents_tokens 0 cells
 unfolding tents_tokens
-tokens_tree k zero cells ne = absurd (ne refl)
-tokens_tree k (suc b) cells ne = refl
+tokens_tree k b cells ne = grind arith
 
 pub tokens_end : (k : ℕ) → tents_tokens k [] ≡ blanks_and_tree k ∷ []
 unfolding tents_tokens
 tokens_end k = refl
 
 pub blank_pushed : (k k' : ℕ) (cells out : List ℕ) → (k ≡ 25 → ⊥) → k' ≡ k + 1 → out ++ trees_text k' cells ≡ out ++ trees_text k (0 ∷ cells)
-blank_pushed k k' cells out ne e = grind (arith, common_steps, tokens_blank)
+unfolding tents_tokens
+blank_pushed k k' cells out ne e = grind (arith, common_steps)
 
 pub full_pushed : (k : ℕ) (cells out new : List ℕ) → k ≡ 25 → new ≡ out ++ 122 ∷ [] → new ++ trees_text 1 cells ≡ out ++ trees_text k (0 ∷ cells)
-full_pushed k cells out new full e = grind (arith, common_steps, tokens_full k cells full)
+unfolding tents_tokens
+full_pushed k cells out new full e = grind (arith, common_steps)
 
 pub trees_step_blank : (k i k' : ℕ) (cells old out new : List ℕ) → i < length cells → get_or cells i 0 ≡ 0 → ((rest : List ℕ) → new ++ trees_text k' rest ≡ out ++ trees_text k (0 ∷ rest)) → out ++ trees_text k (drop i cells) ≡ old → new ++ trees_text k' (drop (i + 1) cells) ≡ old
 trees_step_blank k i k' cells old out new lt blank pushed so = grind (arith, common_steps)
 
 pub trees_step_tree : (k i k' b : ℕ) (cells old out new : List ℕ) → i < length cells → (get_or cells i 0 ≡ 0 → ⊥) → k' ≡ 0 → b ≡ tents_token_byte (blanks_and_tree k) → new ≡ out ++ b ∷ [] → out ++ trees_text k (drop i cells) ≡ old → new ++ trees_text k' (drop (i + 1) cells) ≡ old
-trees_step_tree k i k' b cells old out new lt tree none byte e so = grind (arith, common_steps, tokens_tree k (get_or cells i 0) (drop (i + 1) cells) tree)
+unfolding tents_tokens
+trees_step_tree k i k' b cells old out new lt tree none byte e so = grind (arith, common_steps)
 
 pub trees_done : (k i b : ℕ) (cells old out new : List ℕ) → length cells ≤ i → b ≡ tents_token_byte (blanks_and_tree k) → new ≡ out ++ b ∷ [] → out ++ trees_text k (drop i cells) ≡ old → new ≡ old
-trees_done k i b cells old out new past byte e so = grind (arith, common_steps, tokens_end k)
+unfolding tents_tokens
+trees_done k i b cells old out new past byte e so = grind (arith, common_steps)
 
 abbrev pub counts_text : List ℕ → List ℕ
 counts_text counts = flat_map (λ n. 44 ∷ decimal n) counts
@@ -70,8 +73,7 @@ tokens_short k (zero ∷ cells) = grind (arith, tokens_short 1 cells, tokens_sho
 tokens_short k (suc b ∷ cells) = omega (arith, tokens_short 0 cells)
 
 count_short : (n : ℕ) → n ≤ max_side → length (decimal n) ≤ max_side
-count_short zero small = grind (arith, common_steps, length-decimal-le)
-count_short (suc n) small = grind (arith, common_steps, length_decimal)
+count_short n small = grind (arith, common_steps, length-decimal-le, length_decimal)
 
 counts_short : (size : Extent) (line : ℕ) (counts : List ℕ) → IsExtent size → AreCounts size line counts → length (counts_text counts) ≤ (max_side + 1) * length counts
 counts_short size line [] e h = omega arith
@@ -94,8 +96,7 @@ NoTreeFirst (blanks_and_tree zero ∷ tokens) = ⊥
 NoTreeFirst (token ∷ tokens) = Unit {0}
 
 some_first : (k : ℕ) (tokens : List TentsToken) → 0 < k → NoTreeFirst (blanks_and_tree k ∷ tokens)
-some_first zero tokens some = absurd (omega arith)
-some_first (suc k) tokens some = tt
+some_first k tokens some = grind arith
 
 no_tree_first : (k : ℕ) (cells : List ℕ) → 0 < k → NoTreeFirst (tents_tokens k cells)
 unfolding tents_tokens
@@ -104,16 +105,13 @@ no_tree_first k (zero ∷ cells) some = grind (arith, nat_tests, no_tree_first (
 no_tree_first k (suc b ∷ cells) some = some_first k (tents_tokens 0 cells) some
 
 tight_join : (tokens : List TentsToken) → NoTreeFirst tokens → AreTight tokens → AreTight (only_blanks ∷ tokens)
-tight_join [] f h = tt
-tight_join (blanks_and_tree zero ∷ tokens) f h = absurd f
-tight_join (blanks_and_tree (suc k) ∷ tokens) f h = h
-tight_join (only_blanks ∷ tokens) f h = h
+tight_join tokens f h = grind arith
 
 cells_written : (k : ℕ) (cells : List ℕ) → k ≤ 25 → AllByRecursion (λ b. b < 2) cells → Written k cells (tents_tokens k cells)
 unfolding tents_tokens
-cells_written k [] few h = grind (arith, common_steps, append-nil)
-cells_written k (zero ∷ cells) few h = grind (arith, nat_tests, common_steps, cells_written 1 cells, eqb-true k 25, tight_join (tents_tokens 1 cells), no_tree_first 1 cells, eqb-false k 25, cells_written (k + 1) cells, replicate-append-replicate {A = ℕ} k 1 0, append_assoc (replicate k 0) (0 ∷ []) (cells ++ 1 ∷ []))
-cells_written k (suc b ∷ cells) few h = grind (arith, nat_tests, common_steps, cells_written 0 cells, append_assoc (replicate k 0) (1 ∷ []) (cells ++ 1 ∷ []))
+cells_written k [] few h = grind (arith, common_steps)
+cells_written k (zero ∷ cells) few h = grind (arith, nat_tests, common_steps, cells_written 1 cells, cells_written (k + 1) cells)
+cells_written k (suc b ∷ cells) few h = grind (arith, nat_tests, common_steps, cells_written 0 cells)
 
 pub numbers_are : (counts : List ℕ) → counts_text counts ≡ numbers_text (map decimal counts)
 numbers_are [] = refl
@@ -178,25 +176,25 @@ unfolding tokens_of
 of_nil k = refl
 
 blank_cell : (k : ℕ) (cells : List ℕ) → tokens_of 1 (cells ++ 1 ∷ []) ≡ tents_tokens 1 cells → tokens_of (k + 1) (cells ++ 1 ∷ []) ≡ tents_tokens (k + 1) cells → tokens_of k (0 ∷ (cells ++ 1 ∷ [])) ≡ tents_tokens k (0 ∷ cells)
-unfolding tokens_of
-blank_cell k cells one next = grind (arith, tokens_full k cells, tokens_blank k cells)
+unfolding tokens_of tents_tokens
+blank_cell k cells one next = grind arith
 
 -- the tree after the cells ends them
 of_cells : (k : ℕ) (cells : List ℕ) → tokens_of k (cells ++ 1 ∷ []) ≡ tents_tokens k cells
-unfolding tokens_of
+unfolding tokens_of tents_tokens
 of_cells k [] = sym (tokens_end k)
-of_cells k (suc b ∷ cells) = grind (arith, common_steps, of_cells 0 cells, tokens_tree)
+of_cells k (suc b ∷ cells) = grind (arith, common_steps, of_cells 0 cells)
 of_cells k (zero ∷ cells) = blank_cell k cells (of_cells 1 cells) (of_cells (k + 1) cells)
 
 of_run : (k j : ℕ) (places : List ℕ) → k + j ≤ 25 → tokens_of k (replicate j 0 ++ places) ≡ tokens_of (k + j) places
+unfolding tokens_of
 of_run k zero places le = grind arith
-of_run k (suc j) places le = grind (arith, nat_tests, common_steps, of_blank k (replicate j 0 ++ places), of_run (k + 1) j places)
+of_run k (suc j) places le = grind (arith, nat_tests, common_steps, of_run (k + 1) j places)
 
 last_behind : (xs : List ℕ) (y : ℕ) (ys : List ℕ) → last_of (xs ++ y ∷ ys) ≡ last_of (y ∷ ys)
 unfolding last_of
-last_behind [] y ys = refl
-last_behind (x ∷ []) y ys = refl
-last_behind (x ∷ z ∷ xs) y ys = last_behind (z ∷ xs) y ys
+last_behind [] y ys = grind arith
+last_behind (x1 ∷ xs1) y ys = grind (arith, common_steps, last_behind xs1)
 
 -- the cells of tokens that go on
 abbrev cells_of_all : List TentsToken → List ℕ
@@ -204,8 +202,9 @@ cells_of_all tokens = flat_map tents_token_cells tokens
 
 -- tokens of the form are those of their cells
 form_tokens : (tokens : List TentsToken) → AllByRecursion IsTentsToken tokens → AreTight tokens → (0 < length tokens → last_of (cells_of_all tokens) ≡ 1) → tokens_of 0 (cells_of_all tokens) ≡ tokens
+unfolding tokens_of
 form_tokens [] each tight last = of_nil 0
-form_tokens (blanks_and_tree k ∷ []) each tight last = grind (arith, append-nil, of_run, of_tree, of_nil)
+form_tokens (blanks_and_tree k ∷ []) each tight last = grind (arith, append-nil, of_run)
 form_tokens (blanks_and_tree k ∷ token ∷ tokens) each tight last =
     let later : List ℕ = cells_of_all (token ∷ tokens) in
     ap (tokens_of 0) (append_assoc (replicate k 0) (1 ∷ []) later) ∙ of_run 0 k (1 ∷ later) (omega (arith, each.0)) ∙ ap (λ (i : ℕ). tokens_of i (1 ∷ later)) (let e : 0 + k ≡ k = omega arith in e) ∙ of_tree k later
@@ -228,7 +227,7 @@ form_tokens (only_blanks ∷ only_blanks ∷ tokens) each tight last =
 
 numbers_plain : (size : Extent) (line : ℕ) (numerals : List (List ℕ)) → IsExtent size → AreCounts size line (map value numerals) → AllByRecursion IsNumeral numerals → AllByRecursion IsPlain numerals → map decimal (map value numerals) ≡ numerals
 numbers_plain size line [] e h d plain = refl
-numbers_plain size line (num ∷ numerals) e h d plain = grind (arith, numbers_plain size (line + 1) numerals e h.1 d.1 plain.1, line_small, plain_decimal, numerals)
+numbers_plain size line (num ∷ numerals) e h d plain = grind (arith, numbers_plain size (line + 1) numerals e h.1 d.1 plain.1, plain_decimal)
 
 pub tents_form : (text : List ℕ) (p : Tents) → IsWrittenTents text p → text ≡ tents_text p
 tents_form text p w = grind (arith, last_push p.trees 1, of_cells 0 p.trees, form_tokens, numbers_plain p.size 0, numbers_are p.counts)
