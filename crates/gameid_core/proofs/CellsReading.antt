@@ -40,10 +40,6 @@ fill_cases : {A : Type 0} (token : ℕ → List ℕ → Result (List A) IdFault)
 unfolding fill_step
 fill_cases token all at cells word t e = grind arith
 
-fill_end_cases : {A : Type 0} (all : ℕ) (cells t : List A) → fill_end all cells ≡ Ok t → (length cells ≡ all) × (cells ≡ t)
-unfolding fill_end
-fill_end_cases all cells t e = grind arith
-
 -- ---- what is read is spelled, and what is spelled is read
 
 -- a word that is a token, which stands for those cells

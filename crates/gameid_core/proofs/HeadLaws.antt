@@ -141,9 +141,6 @@ pub record Small (a b : ℕ) : Type 0 where
   pub a_small : a ≤ max_side
   pub b_small : b ≤ max_side
 
-both_small : (low a b : ℕ) → 0 < low → (leb low a && leb low b && leb a max_side && leb b max_side) ≡ true → Small a b
-both_small low a b some e = grind arith
-
 pub range_small : (game : Game) (a b : ℕ) → in_range game a b ≡ true → Small a b
 range_small game a b e = grind arith
 

@@ -21,24 +21,13 @@ use Rattle.gameid_core.proofs.HeadLaws.{front_parts, front_digits, position_at, 
 
 -- ---- the first that fails
 
-first_failed_one : (fails : IdFault → Type 0) (tests : List IdFault) (f g : IdFault) → IsFirstFailed fails tests f → IsFirstFailed fails tests g → f ≡ g
-first_failed_one fails [] f g p q = grind arith
-first_failed_one fails (x1 ∷ xs1) f g p q = grind (arith, first_failed_one fails xs1)
-
 -- what was read tells the first test that fails, or all of them pass
 abbrev IsJudged : {A : Type 0} → (IdFault → Type 0) → List IdFault → Result A IdFault → Type 0
 IsJudged fails tests (Ok x) = AllByRecursion (λ t. fails t → ⊥) tests
 IsJudged fails tests (Err f) = IsFirstFailed fails tests f
 
-none_failed : (fails : IdFault → Type 0) (tests : List IdFault) (f : IdFault) → AllByRecursion (λ t. fails t → ⊥) tests → IsFirstFailed fails tests f → ⊥
-none_failed fails [] f all p = grind arith
-none_failed fails (x1 ∷ xs1) f all p = grind (arith, none_failed fails xs1)
-
 abbrev failed : {A : Type 0} → IdFault → Result A IdFault
 failed e = Err e
-
-exactly : {A : Type 0} (fails : IdFault → Type 0) (tests : List IdFault) (r : Result A IdFault) (f : IdFault) → IsJudged fails tests r → (r ≡ Err f) ↔ IsFirstFailed fails tests f
-exactly fails tests r f all = grind (arith, common_steps, none_failed, first_failed_one)
 
 -- ---- a number
 

@@ -24,14 +24,6 @@ pub lights_nil : (k : ℕ) → light_cells_text k [] ≡ letters k
 unfolding light_cells_text
 lights_nil k = refl
 
-pub lights_white : (k : ℕ) (cells : List LightCell) → light_cells_text k (White ∷ cells) ≡ light_cells_text (k + 1) cells
-unfolding light_cells_text
-lights_white k cells = refl
-
-pub lights_black : (k b : ℕ) (cell : LightCell) (cells : List LightCell) → IsBlackByte b cell → light_cells_text k (cell ∷ cells) ≡ letters k ++ b ∷ light_cells_text 0 cells
-unfolding light_cells_text
-lights_black k b cell cells h = grind arith
-
 pub black_ascii : (b : ℕ) (cell : LightCell) → IsLightCell cell → IsBlackByte b cell → b < 128
 black_ascii b cell is h = grind arith
 

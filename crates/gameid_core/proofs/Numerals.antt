@@ -46,9 +46,6 @@ pub digit_front : (num rest : List ℕ) → IsNumeral num → begins is_ascii_di
 digit_front [] rest h = absurd (let some : 0 < 0 = h.some in omega arith)
 digit_front (c ∷ digits) rest h = (and_parts (is_ascii_digit c) (all_ascii_digits digits) h.digits).0
 
-pub digit_begins : (num : List ℕ) → IsNumeral num → begins is_ascii_digit num ≡ true
-digit_begins num h = grind arith
-
 pub numeral_cuts : (num rest : List ℕ) → IsNumeral num → begins is_ascii_digit rest ≡ false → Cuts (num ++ rest) num rest
 numeral_cuts num rest h other = grind (arith, front_numeral num rest h.digits other, cuts_number (num ++ rest) (digit_front num rest h))
 

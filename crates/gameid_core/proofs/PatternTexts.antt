@@ -12,11 +12,11 @@ use Rattle.gameid_core.specs.Steps.{reading}
 use Rattle.gameid_core.specs.Puzzles.{line_cells, used, IsPattern, IsClue, AreClues, lines_of, Pattern}
 use Rattle.gameid_core.specs.PatternText.{clue_number, clue_token, pattern_step, pattern_end, clues_text, clues_at, pattern_of, SpellsPattern}
 use Rattle.gameid_core.proofs.Results.{bind_ok, taken, and_parts}
-use Rattle.gameid_core.proofs.PatternReading.{first_cases, further_cases, end_is, so_far, step_cases, end_cases, step_slash, step_number, clues_lawful}
+use Rattle.gameid_core.proofs.PatternReading.{first_cases, further_cases, end_is, so_far, step_cases, step_number, clues_lawful}
 use Rattle.gameid_core.proofs.Tokens.{IsWord, numeral_word, words_are, concat_words, cuts_single}
 use Rattle.std.specs.Str.{all_ascii_digits}
 use Rattle.gameid_core.proofs.Reading.{reading_turn, reading_end}
-use Rattle.gameid_core.proofs.Numerals.{digit_begins, numeral_cuts, joined_cuts}
+use Rattle.gameid_core.proofs.Numerals.{numeral_cuts, joined_cuts}
 use Rattle.gameid_core.specs.Head.{SizeRead, extent_of, in_range, max_id}
 use Rattle.gameid_core.proofs.HeadLaws.{parts_of, plain_size, head_again, after_front}
 use Rattle.gameid_core.specs.declared.game.Game.TheVariants as game
@@ -118,10 +118,6 @@ used_fits cells n (m ∷ clue) rest h =
 
     used_room : (cells m n : ℕ) (clue rest : List ℕ) → (m + 1) + used (clue ++ n ∷ rest) ≤ cells + 1 → ((m + 1) + used clue) + n ≤ cells
     used_room cells m n clue rest h = omega (arith, used_more n clue rest)
-
-number_read : (cells line before at : ℕ) (digits : List ℕ) → 0 < value digits → before + value digits ≤ cells → clue_number cells line before at digits ≡ Ok (value digits)
-unfolding clue_number
-number_read cells line before at digits some room = grind arith
 
 first_read : (cells line at : ℕ) (num : List ℕ) → IsNumeral num → 0 < value num → value num ≤ cells → clue_token cells line [] at num ≡ Ok (value num)
 unfolding clue_token clue_number

@@ -53,18 +53,6 @@ runs_fit cells = grind (arith, common_steps, runs_positive, runs_used)
 
 -- one cell of the writer's loop
 
-pub runs_white : (k : ℕ) (cells : List ℕ) → runs_after k (0 ∷ cells) ≡ run_of k ++ runs_after 0 cells
-unfolding runs_after
-runs_white k cells = refl
-
-pub runs_black : (k b : ℕ) (cells : List ℕ) → (b ≡ 0 → ⊥) → runs_after k (b ∷ cells) ≡ runs_after (suc k) cells
-unfolding runs_after
-runs_black k b cells ne = grind arith
-
-pub runs_end : (k : ℕ) → runs_after k [] ≡ run_of k
-unfolding runs_after
-runs_end k = refl
-
 pub turn_white : (k i k' : ℕ) (cells found found' total : List ℕ) → i < length cells → get_or cells i 0 ≡ 0 → k' ≡ 0 → found' ≡ found ++ run_of k → found ++ runs_after k (drop i cells) ≡ total → found' ++ runs_after k' (drop (i + 1) cells) ≡ total
 unfolding runs_after
 turn_white k i k' cells found found' total lt white zero-is e so = grind (arith, common_steps)

@@ -45,10 +45,6 @@ pub cells_nil : (k : ℕ) (touches : Bool) → cells_text k touches [] ≡ lette
 unfolding cells_text
 cells_nil k touches = refl
 
-pub cells_blank : (k : ℕ) (touches : Bool) (cells : List ℕ) → cells_text k touches (0 ∷ cells) ≡ cells_text (k + 1) touches cells
-unfolding cells_text
-cells_blank k touches cells = refl
-
 pub cells_given : (k v : ℕ) (touches : Bool) (cells : List ℕ) → (v ≡ 0 → ⊥) → cells_text k touches (v ∷ cells) ≡ before_given k touches ++ (decimal v ++ cells_text 0 true cells)
 unfolding cells_text
 cells_given k v touches cells ne = grind arith

@@ -39,10 +39,6 @@ pub solo_over : (n at : ℕ) (word : List ℕ) → begins is_letter word ≡ fal
 unfolding solo_token
 solo_over n at word letter no_gap lead lt = rw (letter, no_gap, lead, lt-ltb _ _ lt) refl
 
-pub solo_other : (n at : ℕ) (word : List ℕ) → begins is_letter word ≡ false → begins (λ b. eqb b 95) word ≡ false → begins is_lead word ≡ false → solo_token n at word ≡ Err (BadByte at)
-unfolding solo_token
-solo_other n at word letter no_gap lead = rw (letter, no_gap, lead) refl
-
 pub record NumberWord (rest : List ℕ) : Type 0 where
   pub cuts : Cuts rest (digits_front rest) (after_digits rest)
   pub letter : begins is_letter (digits_front rest) ≡ false

@@ -63,9 +63,6 @@ run_token at b run e =
       ]
     ]
 
-pub letter_byte : (k : ℕ) → tents_token_byte (blanks_and_tree (suc k)) ≡ 97 + k
-letter_byte k = grind arith
-
 byte_single : (token : TentsToken) → joins (tents_token_byte token) ≡ false
 byte_single token = grind arith
 
@@ -128,14 +125,6 @@ pub record Planted (size : Extent) (at : ℕ) (places counts word : List ℕ) (t
   pub read : tents_run at (get_or word 0 0) ≡ Ok run
   pub room : length places + length (run_cells run.0 run.1) ≤ cells_in size + cond run.1 1 0
   pub leads : at_tents (places ++ run_cells run.0 run.1) counts ≡ t
-
-count_cases : (size : Extent) (at n : ℕ) (places counts word : List ℕ) → tents_count size at (at_tents places counts) word ≡ Ok n → (cells_in size + 1 ≤ length places) × (length word ≡ 1 → ⊥) × (value (drop 1 word) ≤ line_cells size (length counts)) × (value (drop 1 word) ≡ n)
-unfolding tents_count
-count_cases size at n places counts word e = grind arith
-
-tree_cases : (size : Extent) (at b : ℕ) (places counts : List ℕ) (t : TentsSoFar) → tents_tree size at (at_tents places counts) b ≡ Ok t → (run : ℕ × Bool) × (tents_run at b ≡ Ok run) × (length places + length (run_cells run.0 run.1) ≤ cells_in size + cond run.1 1 0) × (at_tents (places ++ run_cells run.0 run.1) counts ≡ t)
-unfolding tents_tree
-tree_cases size at b places counts t e = grind arith
 
 pub step_cases : (size : Extent) (at : ℕ) (places counts word : List ℕ) (t : TentsSoFar) → tents_step size at (at_tents places counts) word ≡ Ok t → Counted size places counts word t ⊎ Planted size at places counts word t
 unfolding tents_step tents_count tents_tree

@@ -16,7 +16,7 @@ use Rattle.gameid_core.proofs.Tokens.{cuts_single, IsWord, words_are, concat_wor
 use Rattle.gameid_core.proofs.Numerals.{joined_cuts}
 use Rattle.gameid_core.proofs.Results.{bind_ok, taken}
 use Rattle.gameid_core.proofs.Reading.{reading_turn, reading_end}
-use Rattle.gameid_core.proofs.TentsReading.{run_token, letter_byte, end_is, at_tents, run_single, tree_step, count_step, count_read, step_cases, end_cases, tents_read, tents_lawful}
+use Rattle.gameid_core.proofs.TentsReading.{run_token, end_is, at_tents, run_single, tree_step, count_step, count_read, step_cases, end_cases, tents_read, tents_lawful}
 use Rattle.gameid_core.specs.declared.game.Game.TheVariants as game
 use Rattle.gameid_core.specs.Head.{HeadRead, extent_of, max_id}
 use Rattle.gameid_core.proofs.HeadLaws.{parts_of, plain_size, head_again, after_front}
@@ -149,10 +149,6 @@ cells_of_token token = grind arith
 
 abbrev run_of : ℕ → Bool → Result (ℕ × Bool) IdFault
 run_of k tree = Ok (k, tree)
-
-letter_run : (at k : ℕ) → suc k ≤ 25 → tents_run at (97 + k) ≡ Ok (suc k, true)
-unfolding tents_run
-letter_run at k h = grind arith
 
 token_run : (at : ℕ) (token : TentsToken) → IsTentsToken token → tents_run at (tents_token_byte token) ≡ Ok (token_blanks token, token_tree token)
 unfolding tents_run

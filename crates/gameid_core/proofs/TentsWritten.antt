@@ -20,18 +20,6 @@ use Rattle.gameid_core.proofs.TentsTexts.{numbers_text, last_of, last_push}
 
 -- ---- one cell of the writer's loop
 
-pub tokens_blank : (k : ℕ) (cells : List ℕ) → (k ≡ 25 → ⊥) → tents_tokens k (0 ∷ cells) ≡ tents_tokens (k + 1) cells
-unfolding tents_tokens
-tokens_blank k cells ne = let less : eqb k 25 ≡ false = ne_eqb k 25 ne in rw less refl
-
-pub tokens_full : (k : ℕ) (cells : List ℕ) → k ≡ 25 → tents_tokens k (0 ∷ cells) ≡ only_blanks ∷ tents_tokens 1 cells
-unfolding tents_tokens
-tokens_full k cells e = let full : eqb k 25 ≡ true = eq-eqb k 25 e in rw full refl
-
-pub tokens_tree : (k b : ℕ) (cells : List ℕ) → (b ≡ 0 → ⊥) → tents_tokens k (b ∷ cells) ≡ blanks_and_tree k ∷ tents_tokens 0 cells
-unfolding tents_tokens
-tokens_tree k b cells ne = grind arith
-
 pub tokens_end : (k : ℕ) → tents_tokens k [] ≡ blanks_and_tree k ∷ []
 unfolding tents_tokens
 tokens_end k = refl
@@ -95,18 +83,6 @@ NoTreeFirst [] = Unit {0}
 NoTreeFirst (blanks_and_tree zero ∷ tokens) = ⊥
 NoTreeFirst (token ∷ tokens) = Unit {0}
 
-some_first : (k : ℕ) (tokens : List TentsToken) → 0 < k → NoTreeFirst (blanks_and_tree k ∷ tokens)
-some_first k tokens some = grind arith
-
-no_tree_first : (k : ℕ) (cells : List ℕ) → 0 < k → NoTreeFirst (tents_tokens k cells)
-unfolding tents_tokens
-no_tree_first k [] some = some_first k [] some
-no_tree_first k (zero ∷ cells) some = grind (arith, nat_tests, no_tree_first (k + 1) cells)
-no_tree_first k (suc b ∷ cells) some = some_first k (tents_tokens 0 cells) some
-
-tight_join : (tokens : List TentsToken) → NoTreeFirst tokens → AreTight tokens → AreTight (only_blanks ∷ tokens)
-tight_join tokens f h = grind arith
-
 cells_written : (k : ℕ) (cells : List ℕ) → k ≤ 25 → AllByRecursion (λ b. b < 2) cells → Written k cells (tents_tokens k cells)
 unfolding tents_tokens
 cells_written k [] few h = grind (arith, common_steps)
@@ -158,10 +134,6 @@ unfoldable pub tokens_of : ℕ → List ℕ → List TentsToken
 tokens_of k [] = []
 tokens_of k (zero ∷ places) = cond (eqb k 25) (only_blanks ∷ tokens_of 1 places) (tokens_of (k + 1) places)
 tokens_of k (suc b ∷ places) = blanks_and_tree k ∷ tokens_of 0 places
-
-of_blank : (k : ℕ) (places : List ℕ) → (k ≡ 25 → ⊥) → tokens_of k (0 ∷ places) ≡ tokens_of (k + 1) places
-unfolding tokens_of
-of_blank k places ne = let less : eqb k 25 ≡ false = ne_eqb k 25 ne in rw less refl
 
 of_full : (places : List ℕ) → tokens_of 25 (0 ∷ places) ≡ only_blanks ∷ tokens_of 0 (0 ∷ places)
 unfolding tokens_of
