@@ -1,23 +1,21 @@
 -- The first of the tests before the colon that fails is the fault that is read.
-use Rattle.std.proofs.Common.{◌≡◌, ◌↔◌, ℕ, ◌+◌, ◌≤◌, Bool, true, false, cond, eqb, ltb, List, ◌∷◌, ◌++◌, length, take, drop, get_or, append_assoc, Some, None, Result, Ok, Err, refl, sym, ap, subst, ◌∙◌, ◌⊎◌, inl, inr, arith, []}
+use Rattle.std.proofs.Common.{◌≡◌, ◌↔◌, ℕ, ◌+◌, ◌≤◌, true, false, cond, eqb, ltb, List, ◌∷◌, ◌++◌, length, take, drop, get_or, append_assoc, Some, None, Result, Ok, Err, refl, sym, ap, subst, ◌∙◌, ◌⊎◌, inl, inr, arith, []}
 use Rattle.std.proofs.lemmas.Grind.{common_steps}
 use Rattle.std.specs.Prelude.{position}
 use Rattle.std.specs.List.{AllByRecursion, list_any, position_or_len}
 use Rattle.std.specs.Char.{is_ascii_digit}
-use Rattle.std.proofs.lemmas.Bool.{false≢true, eqb-true, eqb-false, eq-eqb, ne_eqb, ltb-true, ltb-false, le-ltb, or_right}
+use Rattle.std.proofs.lemmas.Bool.{false≢true, eqb-true, eqb-false, eq-eqb, ne_eqb, ltb-true, ltb-false}
 use Rattle.std.proofs.lemmas.List.{take_at}
 use Rattle.gameid_core.specs.declared.fault.IdFault.{IdFault}
 use Rattle.gameid_core.specs.declared.fault.IdFault.TheVariants.{TooLong, SeedId, NoColon, BadSize, Variant, SizeRange}
 use Rattle.gameid_core.specs.declared.game.Game.{Game}
-use Rattle.gameid_core.specs.declared.game.Game.TheVariants.{Solo, Pattern, LightUp, Tents}
 use Rattle.gameid_core.specs.Steps.{◌>>=◌}
 use Rattle.gameid_core.specs.Words.{begins, digits_front, after_digits, value}
 use Rattle.gameid_core.specs.Head.{SizeRead, HeadRead, Sides, has_x, two_sides, side_at, sides_at, size_of, head_at, head_of, has_hash, in_range, max_id}
 use Rattle.gameid_core.specs.HeadTests.{Lacks, Comes, HasNumber, GoesOn, HasSize, FailsSize, FailsHead, size_tests, head_tests, IsFirstFailed}
-use Rattle.gameid_core.proofs.Numerals.{front_numeral, is_lead, begins_front, lead_is_digit}
-use Rattle.gameid_core.proofs.Tokens.{front_turn}
+use Rattle.gameid_core.proofs.Numerals.{front_numeral, is_lead}
 use Rattle.gameid_core.proofs.Results.{ok_is}
-use Rattle.gameid_core.proofs.HeadLaws.{front_parts, front_digits, position_at, x_first, x_game}
+use Rattle.gameid_core.proofs.HeadLaws.{front_parts, front_digits, position_at, x_first}
 
 -- ---- the first that fails
 

@@ -1,10 +1,10 @@
 -- Light Up: reading byte by byte, and that a text is read exactly where it spells a puzzle.
 use Rattle.std.proofs.Common.{◌≡◌, ℕ, Bool, cond, ◌+◌, ◌<◌, ◌≤◌, List, [], ◌∷◌, ◌++◌, map, length, drop, get_or, Result, Ok, Err, refl, sym, ap, ◌∙◌, eqb, arith, ◌-◌, ◌*◌, true, ◌&&◌, leb, subst, inl, inr, false}
 use Rattle.std.proofs.lemmas.Grind.{common_steps}
-use Rattle.std.proofs.lemmas.Bool.{ne_eqb, leb-true, eqb-true, le-leb}
+use Rattle.std.proofs.lemmas.Bool.{leb-true, eqb-true}
 use Rattle.std.proofs.lemmas.List.{drop_all}
 use Rattle.gameid_core.specs.declared.fault.IdFault.{IdFault}
-use Rattle.gameid_core.specs.declared.fault.IdFault.TheVariants.{TooMany, TooFew}
+use Rattle.gameid_core.specs.declared.fault.IdFault.TheVariants.{TooFew}
 use Rattle.gameid_core.specs.declared.light_cell.LightCell.{LightCell}
 use Rattle.gameid_core.specs.Steps.{reading, ◌>>=◌}
 use Rattle.gameid_core.specs.Cells.{fill_step, fill_end, is_letter}
@@ -13,14 +13,13 @@ use Rattle.gameid_core.proofs.CellsReading.{Token, cells_spelled, cells_again, f
 use Rattle.gameid_core.proofs.Lists.{AllByRecursion-replicate, AllByRecursion-flat_map}
 use Rattle.std.specs.Prelude.{map}
 use Rattle.std.specs.List.{AllByRecursion, flat_map, concat}
-use Rattle.std.proofs.Math.Nat.{mul-le-mul_left, mul-le-mul_right}
 use Rattle.grid_core.specs.Extent.{Extent, IsExtent, max_side}
 use Rattle.gameid_core.specs.declared.light_cell.LightCell.TheVariants.{White}
-use Rattle.gameid_core.specs.Head.{SizeRead, extent_of, in_range, max_id}
+use Rattle.gameid_core.specs.Head.{SizeRead, extent_of, in_range}
 use Rattle.gameid_core.specs.Puzzles.{IsLight, IsLightCell, IsWide, Light}
 use Rattle.gameid_core.proofs.Results.{chosen, only_taken, ok_is, and_parts}
 use Rattle.gameid_core.specs.declared.game.Game.TheVariants as game
-use Rattle.gameid_core.proofs.Tokens.{concat_bytes, not_between}
+use Rattle.gameid_core.proofs.Tokens.{concat_bytes}
 use Rattle.gameid_core.proofs.HeadLaws.{parts_of, plain_size, head_again, after_front}
 
 abbrev pub lights : ℕ → ℕ → List LightCell → List ℕ → Result (List LightCell) IdFault

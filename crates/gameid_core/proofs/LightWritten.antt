@@ -1,10 +1,10 @@
 -- The written text of a puzzle of Light Up: the writer's turns, its length, that it spells the puzzle, and that no other does.
-use Rattle.std.proofs.Common.{◌≡◌, ℕ, zero, suc, ◌+◌, ◌-◌, ◌<◌, ◌≤◌, List, [], ◌∷◌, ◌++◌, map, length, drop, get_or, refl, sym, ap, ◌∙◌, inl, inr, arith, append_assoc, length-append, ◌*◌}
+use Rattle.std.proofs.Common.{◌≡◌, ℕ, zero, suc, ◌+◌, ◌-◌, ◌<◌, ◌≤◌, List, [], ◌∷◌, ◌++◌, map, length, drop, get_or, refl, sym, ap, ◌∙◌, inl, inr, arith, ◌*◌}
 use Rattle.std.proofs.lemmas.Grind.{common_steps}
-use Rattle.std.specs.Prelude.{replicate, decimal}
+use Rattle.std.specs.Prelude.{replicate}
 use Rattle.std.specs.List.{AllByRecursion, flat_map}
 use Rattle.std.proofs.lemmas.Bool.{cases_lt}
-use Rattle.std.proofs.lemmas.List.{append-nil, drop_all, map-append, replicate-append-replicate}
+use Rattle.std.proofs.lemmas.List.{append-nil, map-append, replicate-append-replicate}
 use Rattle.std.proofs.lemmas.List.Concat.{flat_map-append}
 use Rattle.gameid_core.specs.declared.light_cell.LightCell.{LightCell}
 use Rattle.gameid_core.specs.declared.light_cell.LightCell.TheVariants.{White, Black, Numbered}
@@ -16,7 +16,6 @@ use Rattle.gameid_core.specs.LightText.{LightToken, whites, black, numbered, lig
 use Rattle.gameid_core.proofs.Letters.{letters_none, letters_more, letters_last, letters_short, letters_at, z_moves}
 use Rattle.gameid_core.proofs.Lists.{AllByRecursion-append}
 use Rattle.gameid_core.proofs.Numerals.{length_decimal}
-use Rattle.gameid_core.proofs.LightTexts.{cells_few}
 
 -- ---- one cell of the writer's loop
 

@@ -1,23 +1,21 @@
 -- Pattern: a text is read exactly where it spells a puzzle.
-use Rattle.std.proofs.Common.{◌≡◌, ℕ, ◌+◌, true, ◌&&◌, eqb, ltb, List, ◌∷◌, ◌++◌, map, length, drop, Ok, refl, sym, ap, ◌∙◌, inl, inr, arith, append_assoc, [], ◌<◌, ◌≤◌, false, subst, zero-add, length-append, leb}
+use Rattle.std.proofs.Common.{◌≡◌, ℕ, ◌+◌, true, eqb, List, ◌∷◌, ◌++◌, map, length, drop, Ok, refl, sym, ap, ◌∙◌, inl, inr, arith, append_assoc, [], ◌<◌, ◌≤◌, false, subst}
 use Rattle.std.proofs.lemmas.Bool.Decides.{nat_tests}
 use Rattle.std.proofs.lemmas.Grind.{common_steps}
 use Rattle.std.specs.List.{AllByRecursion, flat_map, concat, join_with_byte}
 use Rattle.std.specs.Char.{is_ascii_digit}
-use Rattle.std.proofs.lemmas.Bool.{eq-eqb, false≢true, eqb-true, ne_eqb, le-ltb, leb-true, le-leb}
 use Rattle.std.proofs.lemmas.List.{append-nil}
-use Rattle.grid_core.specs.Extent.{Extent, IsExtent, max_side}
-use Rattle.gameid_core.specs.Words.{begins, joins, value, IsNumeral, words}
+use Rattle.grid_core.specs.Extent.{Extent, IsExtent}
+use Rattle.gameid_core.specs.Words.{begins, value, IsNumeral, words}
 use Rattle.gameid_core.specs.Steps.{reading}
 use Rattle.gameid_core.specs.Puzzles.{line_cells, used, IsPattern, IsClue, AreClues, lines_of, Pattern}
 use Rattle.gameid_core.specs.PatternText.{clue_number, clue_token, pattern_step, pattern_end, clues_text, clues_at, pattern_of, SpellsPattern}
-use Rattle.gameid_core.proofs.Results.{bind_ok, taken, and_parts}
+use Rattle.gameid_core.proofs.Results.{bind_ok}
 use Rattle.gameid_core.proofs.PatternReading.{first_cases, further_cases, end_is, so_far, step_cases, step_number, clues_lawful}
 use Rattle.gameid_core.proofs.Tokens.{IsWord, numeral_word, words_are, concat_words, cuts_single}
-use Rattle.std.specs.Str.{all_ascii_digits}
 use Rattle.gameid_core.proofs.Reading.{reading_turn, reading_end}
 use Rattle.gameid_core.proofs.Numerals.{numeral_cuts, joined_cuts}
-use Rattle.gameid_core.specs.Head.{SizeRead, extent_of, in_range, max_id}
+use Rattle.gameid_core.specs.Head.{SizeRead, extent_of, in_range}
 use Rattle.gameid_core.proofs.HeadLaws.{parts_of, plain_size, head_again, after_front}
 use Rattle.gameid_core.specs.declared.game.Game.TheVariants as game
 

@@ -1,12 +1,11 @@
 -- What is printed of a cell is read back: one byte for each cell, or a number.
-use Rattle.std.proofs.Common.{◌≡◌, ◌≢◌, ◌∙◌, ◌+◌, ◌*◌, ◌<◌, ◌≤◌, ◌++◌, ◌∷◌, ◌==◌, ℕ, List, Bool, true, false, [], Option, Some, zero, suc, length, slice_index, sym, ap, refl, arith, if◌then◌else◌, codes, decimal}
+use Rattle.std.proofs.Common.{◌≡◌, ◌≢◌, ◌∙◌, ◌*◌, ◌<◌, ◌≤◌, ◌++◌, ◌∷◌, ◌==◌, ℕ, List, Bool, true, false, [], Option, Some, zero, suc, length, slice_index, ap, refl, arith, if◌then◌else◌, codes}
 use Rattle.std.proofs.lemmas.Grind.{common_steps}
 use Rattle.std.specs.Prelude.{IsTrue, ◌↔◌}
-use Rattle.std.proofs.lemmas.Bool.{ne_eqb, true≢false}
 use Rattle.std.proofs.lemmas.Fmt.{decimal_digit}
 use Rattle.gameid_core.specs.Puzzles.{IsLightCell}
 use Rattle.gameid_core.specs.declared.light_cell.LightCell.{LightCell}
-use Rattle.gameid_core.specs.declared.light_cell.LightCell.TheVariants.{White, Black, Numbered}
+use Rattle.gameid_core.specs.declared.light_cell.LightCell.TheVariants.{White}
 use Rattle.grid_core.specs.Extent.{Extent}
 use Rattle.gameid_core.specs.GridReading.{IsAsShown}
 use Rattle.gameid_core.specs.GridTexts.{light_mark}

@@ -1,11 +1,8 @@
 -- A grid is read row by row: it agrees so far with every grid whose printed form the text begins with, so in the end it
 -- is the only one.
-use Rattle.std.proofs.Common.{◌≡◌, ◌∙◌, ◌*◌, ◌<◌, ◌≤◌, ◌++◌, ◌⊎◌, inl, inr, ℕ, List, [], Option, Some, None, length, take, sym, ap, ap₂, subst, arith, codes, append-nil}
+use Rattle.std.proofs.Common.{◌≡◌, ◌∙◌, ◌*◌, ◌≤◌, ◌++◌, ◌⊎◌, ℕ, List, Option, Some, None, length, take, sym, subst, arith, codes}
 use Rattle.std.proofs.lemmas.Grind.{common_steps}
-use Rattle.std.proofs.lemmas.Bool.{cases_lt}
-use Rattle.std.proofs.lemmas.List.{ext_get_or, get_or_default, get_or_past, take-append-le}
-use Rattle.std.proofs.Math.Seq.{take-length}
-use Rattle.std.proofs.Math.Nat.{mul_comm}
+use Rattle.std.proofs.lemmas.List.{ext_get_or, get_or_default, get_or_past}
 use Rattle.grid_core.specs.Extent.{Extent}
 use Rattle.gameid_core.specs.GridReading.{IsAsShown, IsReadOf, FitUpTo, AgreeUpTo, IsPrinted}
 

@@ -1,11 +1,9 @@
 -- A row is read cell by cell: what is left of it is what is printed of the cells from there on, its line end and what
 -- follows.
-use Rattle.std.proofs.Common.{◌≡◌, ◌∙◌, ◌+◌, ◌*◌, ◌%◌, ◌<◌, ◌≤◌, ◌-◌, ◌++◌, ◌∷◌, ℕ, List, zero, suc, [], Option, Some, None, length, take, drop, slice_index, set, sym, ap, ap₂, subst, refl, arith, codes, ◌⊎◌, inl, inr, append_assoc, append-nil, add-one, ◌≢◌, get_or-set_other, get_or-set_same}
-use Rattle.std.proofs.lemmas.Bool.{cases_lt}
+use Rattle.std.proofs.Common.{◌≡◌, ◌∙◌, ◌+◌, ◌*◌, ◌<◌, ◌≤◌, ◌-◌, ◌++◌, ◌∷◌, ℕ, List, zero, suc, [], Option, Some, None, length, take, drop, slice_index, set, ap, ap₂, refl, arith, codes, ◌⊎◌, inl, append_assoc, add-one}
 use Rattle.std.proofs.lemmas.Grind.{common_steps}
 use Rattle.std.proofs.lemmas.Nat.{mod-mul-add}
-use Rattle.std.proofs.Math.Nat.{suc-mul, mul-le-mul_right, mul_comm}
-use Rattle.std.proofs.Math.Seq.{drop-append_seam}
+use Rattle.std.proofs.Math.Nat.{suc-mul}
 use Rattle.grid_core.specs.Extent.{Extent}
 use Rattle.gameid_core.specs.GridReading.{Follows, FitUpTo, AgreeUpTo}
 use Rattle.gameid_core.specs.GridTexts.{each_below}

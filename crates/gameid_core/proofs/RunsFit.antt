@@ -1,15 +1,13 @@
 -- Laws of the runs of a line, by induction on the cells.
-use Rattle.std.proofs.Common.{◌≡◌, ℕ, zero, suc, ◌+◌, List, ◌∷◌, ◌++◌, replicate, refl, sym, ◌∙◌, ap, arith, append_assoc, [], ◌<◌, ◌≤◌, length, map, subst, drop, get_or}
+use Rattle.std.proofs.Common.{◌≡◌, ℕ, zero, suc, ◌+◌, List, ◌∷◌, ◌++◌, replicate, refl, ◌∙◌, ap, arith, [], ◌<◌, ◌≤◌, length, map, drop, get_or}
 use Rattle.std.proofs.lemmas.Grind.{common_steps}
 use Rattle.gameid_core.specs.BlackRuns.{run_of, runs_after, runs}
 use Rattle.std.specs.List.{AllByRecursion, range_with_len}
-use Rattle.std.proofs.lemmas.List.{drop_all}
 use Rattle.std.proofs.lemmas.List.FromFn.{length-map-range_with_len}
 use Rattle.grid_core.specs.Extent.{Extent, IsExtent}
 use Rattle.gameid_core.specs.Puzzles.{IsPattern, IsClue, AreClues, line_cells, lines_of, used}
 use Rattle.gameid_core.specs.Lines.{line_list, lines_runs}
 use Rattle.gameid_core.proofs.LineLaws.{length_line}
-use Rattle.gameid_core.proofs.Lists.{AllByRecursion-append}
 
 -- a white cell cuts a line in two
 pub runs_after-cut : (k : ℕ) (f g : List ℕ) → runs_after k (f ++ 0 ∷ g) ≡ runs_after k f ++ runs g

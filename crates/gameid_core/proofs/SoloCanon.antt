@@ -6,7 +6,7 @@ use Rattle.std.specs.Prelude.{decimal, replicate}
 use Rattle.std.specs.List.{AllByRecursion, flat_map}
 use Rattle.std.proofs.Math.Nat.{mul-le-mul_left, mul-le-mul_right}
 use Rattle.std.proofs.lemmas.Fmt.{length-decimal-le}
-use Rattle.std.proofs.lemmas.List.{drop_all, append-nil, replicate-append-replicate}
+use Rattle.std.proofs.lemmas.List.{append-nil, replicate-append-replicate}
 use Rattle.gameid_core.specs.Cells.{letters}
 use Rattle.gameid_core.specs.SizeText.{size_text, solo_size_text, IsSoloSizeText}
 use Rattle.gameid_core.specs.Puzzles.{Solo, IsSolo, solo_n}

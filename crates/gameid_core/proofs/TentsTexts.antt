@@ -1,11 +1,11 @@
 -- Tents: a text is read exactly where it spells a puzzle.
-use Rattle.std.proofs.Common.{◌≡◌, ℕ, ◌+◌, ◌-◌, ◌<◌, ◌≤◌, Bool, true, false, cond, eqb, suc, zero, List, [], ◌∷◌, ◌++◌, map, length, drop, get_or, Result, Ok, refl, sym, ap, subst, ◌∙◌, inl, inr, arith, append_assoc, length-append, zero-add, ◌*◌, take}
+use Rattle.std.proofs.Common.{◌≡◌, ℕ, ◌+◌, ◌<◌, ◌≤◌, Bool, true, false, cond, eqb, List, [], ◌∷◌, ◌++◌, map, length, drop, get_or, Result, Ok, refl, sym, ap, subst, ◌∙◌, inl, inr, arith, append_assoc, length-append, zero-add, ◌*◌, take}
 use Rattle.std.proofs.lemmas.Grind.{common_steps}
 use Rattle.std.specs.Prelude.{replicate}
 use Rattle.std.specs.List.{AllByRecursion, flat_map, concat}
 use Rattle.std.specs.Char.{is_ascii_digit}
-use Rattle.std.proofs.lemmas.Bool.{eqb-true, ne_eqb, eq-eqb, le-ltb}
-use Rattle.std.proofs.lemmas.List.{append-nil, length-replicate, take_at}
+use Rattle.std.proofs.lemmas.Bool.{le-ltb}
+use Rattle.std.proofs.lemmas.List.{append-nil, take_at}
 use Rattle.grid_core.specs.Extent.{Extent}
 use Rattle.gameid_core.specs.declared.fault.IdFault.{IdFault}
 use Rattle.gameid_core.specs.Words.{IsNumeral, begins, words, value}
@@ -14,7 +14,7 @@ use Rattle.gameid_core.specs.Puzzles.{AreCounts, line_cells, lines_of, Tents}
 use Rattle.gameid_core.specs.TentsText.{TentsSoFar, TentsToken, blanks_and_tree, only_blanks, tents_token_byte, tents_token_cells, IsTentsToken, cells_in, tents_run, run_cells, tents_step, tents_end, tents_at, SpellsTents, tents_of}
 use Rattle.gameid_core.proofs.Tokens.{cuts_single, IsWord, words_are, concat_words, alone}
 use Rattle.gameid_core.proofs.Numerals.{joined_cuts}
-use Rattle.gameid_core.proofs.Results.{bind_ok, taken}
+use Rattle.gameid_core.proofs.Results.{bind_ok}
 use Rattle.gameid_core.proofs.Reading.{reading_turn, reading_end}
 use Rattle.gameid_core.proofs.TentsReading.{run_token, end_is, at_tents, run_single, tree_step, count_step, count_read, step_cases, end_cases, tents_read, tents_lawful}
 use Rattle.gameid_core.specs.declared.game.Game.TheVariants as game

@@ -1,12 +1,11 @@
 -- The written text of a puzzle of Tents: the writer's turns, its length, that it spells the puzzle, and that no other does.
-use Rattle.std.proofs.Common.{◌≡◌, ℕ, zero, suc, ◌+◌, ◌*◌, ◌^◌, ◌<◌, ◌≤◌, true, false, cond, eqb, eq-eqb, List, [], ◌∷◌, ◌++◌, map, length, drop, get_or, refl, sym, ap, subst, ◌∙◌, inl, arith, append_assoc, length-append}
+use Rattle.std.proofs.Common.{◌≡◌, ℕ, zero, suc, ◌+◌, ◌*◌, ◌^◌, ◌<◌, ◌≤◌, cond, eqb, List, [], ◌∷◌, ◌++◌, map, length, drop, get_or, refl, sym, ap, ◌∙◌, inl, arith, append_assoc}
 use Rattle.std.proofs.lemmas.Bool.Decides.{nat_tests}
 use Rattle.std.proofs.lemmas.Grind.{common_steps}
 use Rattle.std.specs.Prelude.{replicate, decimal}
 use Rattle.std.specs.List.{AllByRecursion, flat_map}
-use Rattle.std.proofs.lemmas.Bool.{ne_eqb, eqb-true, eqb-false}
 use Rattle.std.proofs.lemmas.Fmt.{digits_value-decimal, length-decimal-le}
-use Rattle.std.proofs.lemmas.List.{append-nil, drop_all, length-map, replicate-append-replicate}
+use Rattle.std.proofs.lemmas.List.{append-nil}
 use Rattle.grid_core.specs.Extent.{Extent, IsExtent, max_side}
 use Rattle.gameid_core.specs.Head.{max_id}
 use Rattle.gameid_core.specs.Words.{IsNumeral, IsPlain, value}
@@ -14,7 +13,6 @@ use Rattle.gameid_core.specs.SizeText.{size_text}
 use Rattle.gameid_core.specs.Puzzles.{Tents, IsTents, AreCounts}
 use Rattle.gameid_core.specs.TentsText.{TentsToken, blanks_and_tree, only_blanks, tents_token_byte, tents_token_cells, IsTentsToken, AreTight, IsWrittenTents, tents_tokens, trees_text, tents_text}
 use Rattle.gameid_core.proofs.Numerals.{own, decimal_plain, numeral, length_decimal, plain_decimal}
-use Rattle.gameid_core.proofs.LightTexts.{cells_few}
 use Rattle.gameid_core.proofs.PatternWritten.{line_small}
 use Rattle.gameid_core.proofs.TentsTexts.{numbers_text, last_of, last_push}
 

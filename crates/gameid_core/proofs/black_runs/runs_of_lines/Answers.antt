@@ -1,8 +1,7 @@
-use Rattle.std.proofs.Common.{◌≡◌, ◌≤◌, ℕ, List, [], ◌∷◌, map, length, ap, subst, sym, ◌∙◌, arith}
+use Rattle.std.proofs.Common.{◌≤◌, ℕ, List, [], ◌∷◌, map, length, ap, subst, sym, ◌∙◌, arith}
 use Rattle.std.proofs.lemmas.List.{map-append}
 use Rattle.gameid_core.specs.BlackRuns.{runs}
-use Rattle.gameid_core.specs.Puzzles.{lines_of}
-use Rattle.gameid_core.proofs.LineLaws.{lines_front, lines_more}
+use Rattle.gameid_core.proofs.LineLaws.{lines_more}
 use Rattle.gameid_core.proofs.black_runs.runs_of_lines.Goals as goal
 
 pub loop-line-init : goal.loop-line-init

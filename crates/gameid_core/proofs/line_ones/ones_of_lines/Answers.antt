@@ -1,7 +1,6 @@
-use Rattle.std.proofs.Common.{◌≡◌, ℕ, ap, ◌∙◌, arith}
-use Rattle.gameid_core.specs.Puzzles.{lines_of}
+use Rattle.std.proofs.Common.{◌∙◌, arith}
 use Rattle.gameid_core.specs.Lines.{ones}
-use Rattle.gameid_core.proofs.LineLaws.{lines_front, lines_more}
+use Rattle.gameid_core.proofs.LineLaws.{lines_more}
 use Rattle.gameid_core.proofs.line_ones.ones_of_lines.Goals as goal
 
 pub loop-line-preserved : goal.loop-line-preserved

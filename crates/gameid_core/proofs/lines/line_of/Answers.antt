@@ -1,6 +1,5 @@
-use Rattle.std.proofs.Common.{◌≡◌, ℕ, length, ap, ◌∙◌, arith}
-use Rattle.gameid_core.specs.Puzzles.{line_cells}
-use Rattle.gameid_core.proofs.LineLaws.{line_front, front_more, front_whole, length_front}
+use Rattle.std.proofs.Common.{length, ap, arith}
+use Rattle.gameid_core.proofs.LineLaws.{front_more, front_whole, length_front}
 use Rattle.gameid_core.proofs.lines.line_of.Goals as goal
 
 pub loop-k-init : goal.loop-k-init

@@ -1,4 +1,4 @@
-use Rattle.std.proofs.Common.{◌≡◌, ◌<◌, Ok, Err, true, false, sym, eq-eqb, ◌+◌, ◌*◌, ◌-◌, ◌≤◌, ◌++◌, length, ap, refl, arith, length-append, []}
+use Rattle.std.proofs.Common.{◌≡◌, ◌<◌, Ok, Err, true, false, sym, eq-eqb, ◌+◌, ◌*◌, ◌≤◌, ◌++◌, length, ap, refl, arith, length-append}
 use Rattle.std.specs.Prelude.{replicate}
 use Rattle.std.proofs.lemmas.Bool.{ne_eqb, le-ltb, lt-ltb}
 use Rattle.std.proofs.lemmas.List.{length-replicate}

@@ -1,13 +1,11 @@
-use Rattle.std.proofs.Common.{◌≡◌, ℕ, ◌<◌, ◌+◌, ◌*◌, ◌-◌, ◌≤◌, Bool, true, false, cond, List, ◌∷◌, [], ◌++◌, length, Ok, Err, sym, ap, ◌∙◌, refl, arith, length-append}
+use Rattle.std.proofs.Common.{◌≡◌, ℕ, ◌<◌, ◌+◌, ◌*◌, ◌≤◌, Bool, true, false, cond, List, ◌∷◌, [], ◌++◌, length, Ok, Err, sym, ap, ◌∙◌, refl, arith, length-append}
 use Rattle.std.proofs.lemmas.Result.{err_from_is_err_and}
 use Rattle.std.proofs.lemmas.Bool.{eqb-true, eqb-false, eq-eqb, ne_eqb, le-ltb, lt-ltb}
 use Rattle.std.proofs.lemmas.List.{nil_from_length}
-use Rattle.grid_core.specs.Extent.{Extent}
-use Rattle.gameid_core.specs.declared.fault.IdFault.{IdFault}
 use Rattle.gameid_core.specs.Words.{Cuts}
-use Rattle.gameid_core.specs.TentsText.{tents_at, tents_step, tents_end, tents_count, run_cells}
+use Rattle.gameid_core.specs.TentsText.{tents_at, run_cells}
 use Rattle.gameid_core.proofs.Reading.{cuts_shorter, fails_is, end_of}
-use Rattle.gameid_core.proofs.TentsReading.{at_tents, run_length, turn_count, turn_run, bad_run, late_run, end_is}
+use Rattle.gameid_core.proofs.TentsReading.{run_length, turn_count, turn_run, bad_run, late_run, end_is}
 use Rattle.gameid_core.proofs.tents_text.parts.Goals as goal
 
 pub loop-first-init : goal.loop-first-init

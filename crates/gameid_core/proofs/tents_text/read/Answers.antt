@@ -1,6 +1,4 @@
-use Rattle.std.proofs.Common.{◌≡◌, rules}
 use Rattle.std.proofs.Common.{arith}
-use Rattle.gameid_core.proofs.LightTexts.{sized}
 use Rattle.gameid_core.proofs.TentsReading.{tents_fits}
 use Rattle.gameid_core.proofs.tents_text.read.Goals as goal
 

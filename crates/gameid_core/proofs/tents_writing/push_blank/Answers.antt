@@ -1,4 +1,4 @@
-use Rattle.std.proofs.Common.{ℕ, ◌++◌, List, ap, ◌∙◌, refl, arith}
+use Rattle.std.proofs.Common.{refl, arith}
 use Rattle.std.specs.Prelude.{string_bytes}
 use Rattle.gameid_core.proofs.TentsWritten.{blank_pushed, full_pushed}
 use Rattle.gameid_core.proofs.tents_writing.push_blank.Goals as goal

@@ -1,8 +1,7 @@
-use Rattle.std.proofs.Common.{◌≡◌, ◌-◌, ℕ, ◌++◌, ◌∷◌, List, sym, ap, ◌∙◌, arith, append_assoc, []}
+use Rattle.std.proofs.Common.{◌≡◌, ℕ, ◌++◌, ◌∷◌, List, sym, ap, ◌∙◌, arith, append_assoc, []}
 use Rattle.std.proofs.lemmas.Grind.{common_steps}
 use Rattle.std.specs.Prelude.{string_bytes}
 use Rattle.std.proofs.lemmas.List.{append-nil}
-use Rattle.gameid_core.specs.Cells.{letters}
 use Rattle.gameid_core.proofs.Letters.{letters_none, letters_more, letters_last}
 use Rattle.gameid_core.proofs.writing.push_letters.Goals as goal
 
