@@ -143,3 +143,12 @@ unfolding moved
 moved_both t set white black reached p e is_white is_black =
     let both = both_bits set e in
     ap₂ (λ a b. a || b) is_white is_black ∙ sym (ap₂ (λ a b. moved t a b reached p) both.0 both.1)
+
+-- the steps of a cell with a number
+pub moved_white : (t : Track) (number : ℕ) (reached : ℕ → Bool) (p : ℕ) → number ≡ 0 → moved t (eqb number 0) (not (eqb number 0)) reached p ≡ led_to t.stay t.white reached p
+unfolding moved
+moved_white t number reached p e = ap (λ a. moved t a (not a) reached p) (eq-eqb number 0 e) ∙ or_false (led_to t.stay t.white reached p)
+
+pub moved_black : (t : Track) (number : ℕ) (reached : ℕ → Bool) (p : ℕ) → (number ≡ 0 → ⊥) → moved t (eqb number 0) (not (eqb number 0)) reached p ≡ one_on (λ q. t.black q && reached q) p
+unfolding moved
+moved_black t number reached p ne = ap (λ a. moved t a (not a) reached p) (ne_eqb number 0 ne)

@@ -1,12 +1,14 @@
 -- What the rules of Pattern mean to a search: each line is a house.
-use Rattle.std.specs.Prelude.{ℕ, ◌+◌, ◌*◌, Bool, true, not, ◌&&◌, List}
+use Rattle.std.specs.Prelude.{◌≡◌, ℕ, ◌+◌, ◌*◌, ◌==◌, Bool, true, not, ◌&&◌, List, IsTrue}
 use Rattle.grid_core.specs.Extent.{Extent, IsExtent}
 use Rattle.grid_core.specs.Candidates.{Candidates, all_below, all_of}
+use Rattle.grid_core.specs.Grids.{IsGrid}
 use Rattle.gameid_core.specs.Puzzles.{Pattern, lines_of}
 use Rattle.engine_core.specs.Puzzle.{Puzzle}
 use Rattle.engine_core.specs.Filling.{strikes_by_fillings}
 use Rattle.engine_core.specs.House.{strikes_at}
-use Rattle.pattern_core.specs.Lines.{line_places, line_numbers, clue_of, has_runs}
+use Rattle.engine_core.specs.Waiting.{is_waiting, AreCalled}
+use Rattle.pattern_core.specs.Lines.{line_places, line_numbers, clue_of, has_runs, LineWork, IsFresh}
 
 -- whether each line's runs are its clue
 unfoldable pub is_pattern_solution : Pattern → List ℕ → Bool
@@ -36,3 +38,20 @@ after_line size line clue K c v = K c v && not (strikes_at 2 (line_places size l
 pub record Ruled : Type 0 where
   pub pattern : Pattern
   pub extent : IsExtent pattern.size
+
+-- what is known of the board is so: where it is known to be fresh, it is
+abbrev pub GoesAlong : Pattern → LineWork → Candidates → Type 0
+GoesAlong p work K = work.fresh ≡ true → IsFresh (p.size.w * p.size.h) K
+
+-- the line is marked beside those that were, unless it strikes nothing of the board that is gone along with
+abbrev pub CallsLine : Pattern → LineWork → ℕ → List ℕ → List ℕ → Type 0
+CallsLine p work line old new = (K : Candidates) → GoesAlong p work K
+    → AreCalled (line_rules p) K (λ j. j == line) (is_waiting old) (is_waiting new)
+
+-- a search by the rules accepts the grid
+abbrev pub IsAccepted : Pattern → List ℕ → Type 0
+IsAccepted p g = IsTrue ((line_rules p).is_solution g)
+
+-- a grid of the puzzle's size has 0 for white and 1 for black
+abbrev pub IsPatternGrid : Pattern → List ℕ → Type 0
+IsPatternGrid p g = IsGrid (p.size.w * p.size.h) 2 g

@@ -72,6 +72,10 @@ pub record AreMoves (moves stays : ℕ → ℕ → Bool) (t : Track) : Type 0 wh
 unfoldable pub ahead : Track → Bool → Bool → (ℕ → Bool) → ℕ → Bool
 ahead t white black after p = (white && ((t.stay p && after p) || (t.white p && after (suc p)))) || (black && (t.black p && after (suc p)))
 
+-- the same of the words of a clue's steps, of which `by` tells what they have for a set
+abbrev pub AreMovesOf : {A M : Type 0} → (M → ℕ → ℕ → Bool) → (A → ℕ → Bool) → M → M → Steps A → Type 0
+AreMovesOf by has moves stays steps = AreMoves (by moves) (by stays) (along has steps)
+
 -- each place one further on
 unfoldable pub one_on : (ℕ → Bool) → ℕ → Bool
 one_on places zero = false
@@ -80,6 +84,25 @@ one_on places (suc p) = places p
 -- the places to which a step leads from where a line may be
 abbrev pub led_to : (ℕ → Bool) → (ℕ → Bool) → (ℕ → Bool) → ℕ → Bool
 led_to stays moves reached p = (stays p && reached p) || one_on (λ q. moves q && reached q) p
+
+-- a step by a cell of this set leads from the places to where there is a way on
+abbrev pub AreAhead : {A M : Type 0} → (M → ℕ → ℕ → Bool) → (A → ℕ → Bool) → M → M → ℕ → A → A → Type 0
+AreAhead by has stays moves set after result =
+    (p : ℕ) → has result p ≡ leads_on (by stays set) (by moves set) (has after) p
+
+-- a step by a cell of this set leads to the places, of n
+abbrev pub AreLedTo : {A M : Type 0} → ℕ → (M → ℕ → ℕ → Bool) → (A → ℕ → Bool) → M → M → ℕ → A → A → Type 0
+AreLedTo n by has stays moves set reached result =
+    (p : ℕ) → p < n → has result p ≡ led_to (by stays set) (by moves set) (has reached) p
+
+-- a step by a white cell leads to the places, and one by a black cell
+abbrev pub AreLedByWhite : {A : Type 0} → ℕ → (A → ℕ → Bool) → Steps A → A → A → Type 0
+AreLedByWhite n has steps reached result =
+    (p : ℕ) → p < n → has result p ≡ led_to (has steps.stay) (has steps.white) (has reached) p
+
+abbrev pub AreLedByBlack : {A : Type 0} → ℕ → (A → ℕ → Bool) → Steps A → A → A → Type 0
+AreLedByBlack n has steps reached result =
+    (p : ℕ) → p < n → has result p ≡ one_on (λ q. has steps.black q && has reached q) p
 
 -- the places reached by a cell of this set
 unfoldable pub moved : Track → Bool → Bool → (ℕ → Bool) → ℕ → Bool

@@ -1,14 +1,17 @@
 //! The clue of a line, spelled in words of 64 bits where they have room for it.
 
-ghost use Rattle.std.specs.Prelude.{◌≡◌, ℕ, ◌<◌, ◌≤◌, ◌*◌, ◌↔◌, IsTrue, true};
+ghost use Rattle.std.specs.Prelude.{◌≡◌, ℕ, ◌<◌, ◌≤◌, ◌*◌, ◌↔◌, IsTrue, true, false, length};
 ghost use Rattle.std.specs.List.{AllByRecursion};
 ghost use Rattle.grid_core.specs.Grids.{IsGrid};
+ghost use Rattle.engine_core.specs.Filling.{strikes_by_fillings};
+ghost use Rattle.engine_core.specs.House.{IsDecided};
 ghost use Rattle.gameid_core.specs.BlackRuns.{runs};
 ghost use Rattle.gameid_core.specs.Puzzles.{lines_of, used};
-ghost use Rattle.pattern_core.specs.Lines.{line_numbers, IsRoomy};
+ghost use Rattle.pattern_core.specs.Lines.{line_numbers, has_runs, IsRoomy};
 ghost use Rattle.pattern_core.specs.LineClues.{numbers_in};
 
 use crate::follow::follows;
+use crate::table::keep;
 use crate::track::{SpelledClue, measured, roomy_from};
 use grid_core::{Grid, Size};
 
@@ -45,6 +48,20 @@ impl LineClue {
         match self {
             LineClue::Short(clue) => clue.is_roomy(cells),
             LineClue::Long(clue) => clue.is_roomy(cells),
+        }
+    }
+
+    /// Keeps of each cell of a line the values that some filling with the clue's runs has there, as `table::keep` says.
+    pub(crate) fn keep(&self, sets: &mut [u32], rows: &mut [u64], long_rows: &mut [u128]) -> bool
+        requires room { length sets.old < length rows.old }
+        requires long_room { length sets.old < length long_rows.old }
+        ensures decided { IsDecided 2 (strikes_by_fillings (has_runs (numbers_in self.now)))
+            sets.old sets.new }
+        ensures unchanged { result ≡ false → sets.new ≡ sets.old }
+    {
+        match self {
+            LineClue::Short(clue) => keep(sets, clue, rows),
+            LineClue::Long(clue) => keep(sets, clue, long_rows),
         }
     }
 

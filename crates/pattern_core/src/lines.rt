@@ -1,20 +1,19 @@
 //! The lines of a puzzle as the houses of a search: the columns from the left, and then the rows from the top.
 
-ghost use Rattle.std.specs.Prelude.{◌≡◌, ◌==◌, ℕ, ◌+◌, ◌*◌, ◌<◌, ◌≤◌, IfOk, true, false, length, refl, slice_index};
+ghost use Rattle.std.specs.Prelude.{◌≡◌, ℕ, ◌+◌, ◌*◌, ◌<◌, ◌≤◌, IfOk, true, false, length, refl, slice_index};
 ghost use Rattle.grid_core.specs.Extent.{IsExtent};
 ghost use Rattle.grid_core.specs.Board.{has, cells_of, SameShape};
 ghost use Rattle.gameid_core.specs.Puzzles.{lines_of, line_cells};
 ghost use Rattle.grid_core.specs.Candidates.{Candidates};
 ghost use Rattle.engine_core.specs.Closing.{HasStruck};
-ghost use Rattle.engine_core.specs.Waiting.{words_of, is_waiting, AreCalled};
+ghost use Rattle.engine_core.specs.Waiting.{words_of};
 ghost use Rattle.engine_core.specs.declared.mode.Mode.TheVariants.{Queue};
 ghost use Rattle.pattern_core.specs.Lines.{line_places, IsFresh};
-ghost use Rattle.pattern_core.specs.LineRules.{line_rules, after_line};
+ghost use Rattle.pattern_core.specs.LineClues.{left_by};
+ghost use Rattle.pattern_core.specs.LineRules.{line_rules, GoesAlong, CallsLine};
 
 use crate::line_clue::LineClue;
-use crate::places::Places;
-use crate::table::keep;
-use crate::track::SpelledClue;
+use crate::table::BOTH;
 use crate::walk::line_len;
 use engine_core::{Mode, Rules, apply, gather, mark};
 use gameid_core::PatternPuzzle;
@@ -99,62 +98,44 @@ fn write_places(size: Size, line: usize, places: &mut [u32])
 
 /// A line of a puzzle: the puzzle's size, the line's number, and its clue.
 #[derive(Clone, Copy)]
-struct Line<'a, P: Places> {
+struct Line<'a> {
     size: Size,
     number: usize,
-    clue: &'a SpelledClue<P>,
+    clue: &'a LineClue,
 }
 
-/// Strikes from the line's cells what no filling with the clue's runs has, and says whether that was anything.
-fn visit_line<P: Places>(
-    line: &Line<'_, P>,
-    board: &mut Board,
-    places: &mut [u32],
-    sets: &mut [u32],
-    rows: &mut [P],
-) -> bool
-    requires line { line.now.number < lines_of line.now.size }
-    requires cells { cells_of board.old ≡ line.now.size.w * line.now.size.h }
-    requires values { board.old.values ≡ 2 }
-    requires places { length places.old ≡ line_cells line.now.size line.now.number }
-    requires sets { length sets.old ≡ line_cells line.now.size line.now.number }
-    requires rows { line_cells line.now.size line.now.number < length rows.old }
-    ensures left { has board.new
-        ≡ after_line line.now.size line.now.number line.now.clue.now (has board.old) }
-    ensures shape { SameShape board.old board.new }
-    ensures unchanged { result ≡ false → has board.new ≡ has board.old }
-    ensures changed { result ≡ true → HasStruck (has board.old) (has board.new) }
-{
-    write_places(line.size, line.number, places);
-    gather(board, places, sets);
-    if !keep(sets, line.clue, rows) {
-        return false;
+impl Line<'_> {
+    /// Strikes from the line's cells what no filling with the clue's runs has, and says whether that was anything. It works
+    /// in the first parts of the slices, which may be longer than the line.
+    fn visit(
+        &self,
+        board: &mut Board,
+        places: &mut [u32],
+        sets: &mut [u32],
+        rows: &mut [u64],
+        long_rows: &mut [u128],
+    ) -> bool
+        requires line { self.now.number < lines_of self.now.size }
+        requires cells { cells_of board.old ≡ self.now.size.w * self.now.size.h }
+        requires values { board.old.values ≡ 2 }
+        requires places { line_cells self.now.size self.now.number ≤ length places.old }
+        requires sets { line_cells self.now.size self.now.number ≤ length sets.old }
+        requires rows { line_cells self.now.size self.now.number < length rows.old }
+        requires long_rows { line_cells self.now.size self.now.number < length long_rows.old }
+        ensures left { has board.new ≡ left_by self.now (has board.old) }
+        ensures shape { SameShape board.old board.new }
+        ensures unchanged { result ≡ false → has board.new ≡ has board.old }
+        ensures changed { result ≡ true → HasStruck (has board.old) (has board.new) }
+    {
+        let cells = line_len(self.size, self.number);
+        let (places, sets) = (&mut places[..cells], &mut sets[..cells]);
+        write_places(self.size, self.number, places);
+        gather(board, places, sets);
+        if !self.clue.keep(sets, rows, long_rows) {
+            return false;
+        }
+        apply(board, places, sets)
     }
-    apply(board, places, sets)
-}
-
-/// The same in the first parts of slices that may be longer than the line.
-fn visit_within<P: Places>(
-    line: &Line<'_, P>,
-    board: &mut Board,
-    places: &mut [u32],
-    sets: &mut [u32],
-    rows: &mut [P],
-) -> bool
-    requires line { line.now.number < lines_of line.now.size }
-    requires cells { cells_of board.old ≡ line.now.size.w * line.now.size.h }
-    requires values { board.old.values ≡ 2 }
-    requires places { line_cells line.now.size line.now.number ≤ length places.old }
-    requires sets { line_cells line.now.size line.now.number ≤ length sets.old }
-    requires rows { line_cells line.now.size line.now.number < length rows.old }
-    ensures left { has board.new
-        ≡ after_line line.now.size line.now.number line.now.clue.now (has board.old) }
-    ensures shape { SameShape board.old board.new }
-    ensures unchanged { result ≡ false → has board.new ≡ has board.old }
-    ensures changed { result ≡ true → HasStruck (has board.old) (has board.new) }
-{
-    let cells = line_len(line.size, line.number);
-    visit_line(line, board, &mut places[..cells], &mut sets[..cells], rows)
 }
 
 /// The length of the longer side.
@@ -171,7 +152,7 @@ fn is_fresh(board: &Board, cells: usize) -> bool
     ensures { result ≡ true → IsFresh cells (has board.now) }
 {
     for place in 0..cells {
-        if !board.has(place, 0) || !board.has(place, 1) {
+        if board.bits(place) != BOTH {
             return false;
         }
     }
@@ -201,12 +182,8 @@ impl PatternLines {
     fn wake_line(&self, line: usize, scratch: &LineScratch, waits: &mut [u64])
         requires line_in { line < lines_of self.now.pattern.size }
         requires room { words_of (lines_of self.now.pattern.size) ≤ length waits.old }
-        requires follows { (K : Candidates) × (scratch.now.fresh ≡ true
-            → IsFresh (line_rules self.now.pattern).cells K) }
-        ensures { (K : Candidates)
-            → (scratch.now.fresh ≡ true → IsFresh (line_rules self.now.pattern).cells K)
-            → AreCalled (line_rules self.now.pattern) K (λ j. j == line) (is_waiting waits.old)
-            (is_waiting waits.new) }
+        requires follows { (K : Candidates) × GoesAlong self.now.pattern scratch.now K }
+        ensures { CallsLine self.now.pattern scratch.now line waits.old waits.new }
     {
         if self.calls(line, scratch) {
             mark(waits, line);
@@ -233,7 +210,7 @@ impl Rules for PatternLines {
 
     ghost serves = { λ scratch needs. needs.scope ≤ scratch.room };
 
-    ghost follows = { λ r scratch K. scratch.fresh ≡ true → IsFresh (line_rules r.pattern).cells K };
+    ghost follows = { λ r. GoesAlong r.pattern };
 
     ghost lawful = { λ r. line_rules-lawful r.pattern r.extent };
 
@@ -303,18 +280,9 @@ impl Rules for PatternLines {
     }
 
     fn visit(&self, house: usize, board: &mut Board, scratch: &mut LineScratch) -> bool {
-        let (size, number) = (self.size, house);
+        let line = Line { size: self.size, number: house, clue: &self.clues[house] };
         let (places, sets) = (&mut scratch.places, &mut scratch.sets);
-        match &self.clues[house] {
-            LineClue::Short(clue) => {
-                let line = Line { size, number, clue };
-                visit_within(&line, board, places, sets, &mut scratch.rows)
-            }
-            LineClue::Long(clue) => {
-                let line = Line { size, number, clue };
-                visit_within(&line, board, places, sets, &mut scratch.long_rows)
-            }
-        }
+        line.visit(board, places, sets, &mut scratch.rows, &mut scratch.long_rows)
     }
 
     fn keep(
@@ -325,10 +293,7 @@ impl Rules for PatternLines {
         scratch: &mut LineScratch,
     ) -> bool {
         kept.copy_from_slice(sets);
-        match &self.clues[house] {
-            LineClue::Short(clue) => keep(kept, clue, &mut scratch.rows),
-            LineClue::Long(clue) => keep(kept, clue, &mut scratch.long_rows),
-        }
+        self.clues[house].keep(kept, &mut scratch.rows, &mut scratch.long_rows)
     }
 
     fn follow(&self, board: &Board, scratch: &mut LineScratch) {

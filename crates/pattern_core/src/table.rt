@@ -11,7 +11,7 @@ ghost use Rattle.engine_core.specs.Filling.{strikes_by_fillings};
 ghost use Rattle.engine_core.specs.Sets.{has_bit};
 ghost use Rattle.engine_core.specs.House.{IsDecided};
 ghost use Rattle.pattern_core.specs.Lines.{has_runs};
-ghost use Rattle.pattern_core.specs.Track.{along, AreMoves, leads_on, led_to, one_on, IsBelow, some_leads, sets_of, any_cells, AreRows, AreKept};
+ghost use Rattle.pattern_core.specs.Track.{along, AreMovesOf, AreAhead, AreLedTo, AreLedByWhite, AreLedByBlack, IsBelow, some_leads, sets_of, any_cells, AreRows, AreKept};
 
 use crate::places::Places;
 use crate::track::{SpelledClue, Steps};
@@ -20,19 +20,19 @@ use crate::track::{SpelledClue, Steps};
 const BLACK: u32 = 2;
 
 /// The set of both values.
-const BOTH: u32 = 3;
+pub(crate) const BOTH: u32 = 3;
 
 /// What a cell lets a line do, looked up by what the cell may be: the places from which the line goes on, and those at
 /// which it may stay.
 #[derive(Drop)]
-pub(crate) struct Moves<P: Places> {
+struct Moves<P: Places> {
     moves: P::Masks,
     stays: P::Masks,
 }
 
 /// What a cell lets a line do along a clue.
-pub(crate) fn moves_of<P: Places>(steps: Steps<P>) -> Moves<P>
-    ensures { AreMoves (P.has_by result.moves) (P.has_by result.stays) (along P.has steps) }
+fn moves_of<P: Places>(steps: Steps<P>) -> Moves<P>
+    ensures { AreMovesOf P.has_by P.has result.moves result.stays steps }
 {
     Moves {
         moves: P::masks(steps.white, steps.black),
@@ -42,17 +42,15 @@ pub(crate) fn moves_of<P: Places>(steps: Steps<P>) -> Moves<P>
 
 /// From which places there is a way to the end by a cell of this set, by those from which there is one after it.
 fn ahead_of<P: Places>(moves: &Moves<P>, set: u32, after: P) -> P
-    ensures { (p : ℕ) → P.has result p ≡ leads_on (P.has_by moves.now.stays set)
-        (P.has_by moves.now.moves set) (P.has after) p }
+    ensures { AreAhead P.has_by P.has moves.now.stays moves.now.moves set after result }
 {
     let next = P::mask(&moves.moves, set).both(after.back());
     P::mask(&moves.stays, set).both(after).either(next)
 }
 
 /// Which places are reached by a cell of this set, by those that are reached before it.
-pub(crate) fn moved_by<P: Places>(moves: &Moves<P>, set: u32, reached: P) -> P
-    ensures { (p : ℕ) → p < P.room → P.has result p ≡ led_to (P.has_by moves.now.stays set)
-        (P.has_by moves.now.moves set) (P.has reached) p }
+fn moved_by<P: Places>(moves: &Moves<P>, set: u32, reached: P) -> P
+    ensures { AreLedTo P.room P.has_by P.has moves.now.stays moves.now.moves set reached result }
 {
     let next = P::mask(&moves.moves, set).both(reached).on();
     P::mask(&moves.stays, set).both(reached).either(next)
@@ -60,17 +58,15 @@ pub(crate) fn moved_by<P: Places>(moves: &Moves<P>, set: u32, reached: P) -> P
 
 /// The places to which a cell with both values leads: by white, and by black.
 #[derive(Clone, Copy)]
-struct Ways<P> {
-    white: P,
-    black: P,
+pub(crate) struct Ways<P> {
+    pub(crate) white: P,
+    pub(crate) black: P,
 }
 
 /// Where a cell with both values leads from the places that are reached before it.
-fn ways_of<P: Places>(steps: Steps<P>, reached: P) -> Ways<P>
-    ensures white { (p : ℕ) → p < P.room → P.has result.white p
-        ≡ led_to (P.has steps.stay) (P.has steps.white) (P.has reached) p }
-    ensures black { (p : ℕ) → p < P.room → P.has result.black p
-        ≡ one_on (λ q. P.has steps.black q && P.has reached q) p }
+pub(crate) fn ways_of<P: Places>(steps: Steps<P>, reached: P) -> Ways<P>
+    ensures white { AreLedByWhite P.room P.has steps reached result.white }
+    ensures black { AreLedByBlack P.room P.has steps reached result.black }
 {
     let next = steps.white.both(reached).on();
     Ways {
@@ -104,8 +100,7 @@ fn keep_shown(sets: &mut [u32], at: usize, white: bool, black: bool) -> bool
 /// Fills the table, from the last cell backwards.
 fn fill_rows<P: Places>(steps: Steps<P>, moves: &Moves<P>, sets: &[u32], rows: &mut [P])
     requires room { length sets.now < length rows.old }
-    requires moves { AreMoves (P.has_by moves.now.moves) (P.has_by moves.now.stays)
-        (along P.has steps) }
+    requires moves { AreMovesOf P.has_by P.has moves.now.moves moves.now.stays steps }
     ensures { AreRows P.has (along P.has steps) sets.now rows.new 0 }
 {
     let mut at = sets.len();
@@ -119,8 +114,7 @@ fn fill_rows<P: Places>(steps: Steps<P>, moves: &Moves<P>, sets: &[u32], rows: &
 /// Keeps of each cell with both values what a way from the first place to the end shows there, and says whether one of
 /// them lost any. Some way leads to the end, so the other cells keep what they have.
 fn keep_cells<P: Places>(steps: Steps<P>, moves: &Moves<P>, sets: &mut [u32], rows: &[P]) -> bool
-    requires moves { AreMoves (P.has_by moves.now.moves) (P.has_by moves.now.stays)
-        (along P.has steps) }
+    requires moves { AreMovesOf P.has_by P.has moves.now.moves moves.now.stays steps }
     requires rows { AreRows P.has (along P.has steps) sets.old rows.now 0 }
     requires below { IsBelow P.room (along P.has steps) }
     requires some { some_leads (along P.has steps) (sets_of sets.old) any_cells 0 ≡ true }

@@ -1,5 +1,4 @@
-use Rattle.std.proofs.Common.{◌≡◌, ◌∙◌, not, eqb, get_or, sym, ap, ap₂, arith, subst}
-use Rattle.engine_core.specs.Sets.{has_bit}
+use Rattle.std.proofs.Common.{◌≡◌, ◌∙◌, not, eqb, get_or, sym, ap, arith, subst}
 use Rattle.pattern_core.specs.Lines.{line_numbers}
 use Rattle.pattern_core.specs.LineLaws.{has_runs-is, has_runs-from}
 use Rattle.pattern_core.specs.Track.{spelled, IsBelow, along, leads, moved}
@@ -7,7 +6,6 @@ use Rattle.pattern_core.proofs.Follows.{follow_next, follow_end}
 use Rattle.pattern_core.proofs.SpelledRuns.{length-spelled, track_below}
 use Rattle.pattern_core.proofs.TableSteps.{at_first}
 use Rattle.pattern_core.proofs.WalkLemmas.{cell_within, all_cells}
-use Rattle.pattern_core.proofs.Words.{moved_step}
 use Rattle.pattern_core.proofs.follow.follows.Goals as goal
 
 pub loop-k-init : goal.loop-k-init
@@ -22,12 +20,9 @@ loop-k-preserved g c =
     let cells = line_numbers c.args.size c.args.grid.now c.args.line in
     let below : IsBelow g.P.Places.room t = subst (IsBelow g.P.Places.room) (sym c.steps-steps.ensures.track)
     (track_below (spelled c.args.clue.now) g.P.Places.room (omega (arith, length-spelled c.args.clue.now, c.steps-steps.ensures.fits))) in
-    let set = c.alone-set.result in
     let number : c.number_at.result ≡ get_or cells c.loop-k.k 0 = c.number_at.ensures.value in
-    follow_next g.P.Places.room t below cells c.loop-k.k (has c.loop-k.reached) (has c.moved_by-reached.result) (cell_within _ _ _ _ _ c.line_len-k-end.ensures c.loop-k-test.true)
-    (λ p lt. c.moved_by-reached.ensures p lt
-    ∙ moved_step t (has_bit set 0) (has_bit set 1) (g.P.Places.has_by c.moves_of-moves.result.stays set) (g.P.Places.has_by c.moves_of-moves.result.moves set) (c.moves_of-moves.ensures.stay set) (c.moves_of-moves.ensures.on set) (has c.loop-k.reached) p
-    ∙ ap₂ (λ a b. moved t a b (has c.loop-k.reached) p) (c.alone-set.ensures.white ∙ ap (λ n. eqb n 0) number) (c.alone-set.ensures.black ∙ ap (λ n. not (eqb n 0)) number))
+    follow_next g.P.Places.room t below cells c.loop-k.k (has c.loop-k.reached) (has c.led_by-reached.result) (cell_within _ _ _ _ _ c.line_len-k-end.ensures c.loop-k-test.true)
+    (λ p lt. c.led_by-reached.ensures p lt ∙ ap (λ n. moved t (eqb n 0) (not (eqb n 0)) (has c.loop-k.reached) p) number)
     c.loop-k.invariant
 
 pub returns : goal.returns

@@ -9,48 +9,30 @@ use Rattle.pattern_core.proofs.NextLine.{line_in_room}
 use Rattle.pattern_core.proofs.LineVisits.{numbers_read, after_line_read}
 use Rattle.pattern_core.proofs.lines.PatternLinesRules.visit.Goals as goal
 
-pub visit_within-requires-clause-places : goal.visit_within-requires-clause-places
-visit_within-requires-clause-places c =
+pub visit-requires-clause-places : goal.visit-requires-clause-places
+visit-requires-clause-places c =
     let fits = line_in_room c.self.inside.size c.args.self.now.pattern.size c.args.house c.args.scratch.now.room (ap (λ (r : Ruled). r.pattern.size) c.self.view_is) c.requires.house_in c.requires.served in
     omega (arith, fits, ap (λ (w : LineWork). w.room) c.scratch.view_is, ap length c.deref_mut.ensures.value)
 
-pub visit_within-requires-clause-sets : goal.visit_within-requires-clause-sets
-visit_within-requires-clause-sets c =
+pub visit-requires-clause-sets : goal.visit-requires-clause-sets
+visit-requires-clause-sets c =
     let fits = line_in_room c.self.inside.size c.args.self.now.pattern.size c.args.house c.args.scratch.now.room (ap (λ (r : Ruled). r.pattern.size) c.self.view_is) c.requires.house_in c.requires.served in
-    omega (arith, fits, ap (λ (w : LineWork). w.room) c.scratch.view_is, c.scratch.invariant.0, ap length c.deref_mut-in-Short.ensures.value)
+    omega (arith, fits, ap (λ (w : LineWork). w.room) c.scratch.view_is, c.scratch.invariant.0, ap length c.deref_mut-2.ensures.value)
 
-pub visit_within-requires-clause-rows : goal.visit_within-requires-clause-rows
-visit_within-requires-clause-rows c =
+pub visit-requires-clause-rows : goal.visit-requires-clause-rows
+visit-requires-clause-rows c =
     let fits = line_in_room c.self.inside.size c.args.self.now.pattern.size c.args.house c.args.scratch.now.room (ap (λ (r : Ruled). r.pattern.size) c.self.view_is) c.requires.house_in c.requires.served in
-    omega (arith, fits, ap (λ (w : LineWork). w.room) c.scratch.view_is, c.scratch.invariant.1, ap length c.deref_mut-in-Short-2.ensures.value)
+    omega (arith, fits, ap (λ (w : LineWork). w.room) c.scratch.view_is, c.scratch.invariant.1, ap length c.deref_mut-3.ensures.value)
 
-pub returns-in-Short-clause-left : goal.returns-in-Short-clause-left
-returns-in-Short-clause-left c =
+pub returns-clause-left : goal.returns-clause-left
+returns-clause-left c =
     let low : c.args.house < lines_of c.self.inside.size = let e = ap (λ (r : Ruled). lines_of r.pattern.size) c.self.view_is in omega (arith, e, c.requires.house_in) in
-    c.visit_within.ensures.left
+    c.visit.ensures.left
     ∙ after_line_read _ c.args.house _ (has c.args.board.now)
-    (sym (ap numbers_in c.in-Short.is) ∙ numbers_read c.self.inside.clues.items c.args.house c.index.result.now (omega (arith, low, c.self.invariant.lines)) c.index.ensures)
+    (numbers_read c.self.inside.clues.items c.args.house c.index.result.now (omega (arith, low, c.self.invariant.lines)) c.index.ensures)
     ∙ ap (λ (r : Ruled). after (line_rules r.pattern) c.args.house (has c.args.board.now)) c.self.view_is
 
-pub visit_within-requires-in-Long-clause-places : goal.visit_within-requires-in-Long-clause-places
-visit_within-requires-in-Long-clause-places c =
+pub visit-requires-clause-long_rows : goal.visit-requires-clause-long_rows
+visit-requires-clause-long_rows c =
     let fits = line_in_room c.self.inside.size c.args.self.now.pattern.size c.args.house c.args.scratch.now.room (ap (λ (r : Ruled). r.pattern.size) c.self.view_is) c.requires.house_in c.requires.served in
-    omega (arith, fits, ap (λ (w : LineWork). w.room) c.scratch.view_is, ap length c.deref_mut-in-Long.ensures.value)
-
-pub visit_within-requires-in-Long-clause-sets : goal.visit_within-requires-in-Long-clause-sets
-visit_within-requires-in-Long-clause-sets c =
-    let fits = line_in_room c.self.inside.size c.args.self.now.pattern.size c.args.house c.args.scratch.now.room (ap (λ (r : Ruled). r.pattern.size) c.self.view_is) c.requires.house_in c.requires.served in
-    omega (arith, fits, ap (λ (w : LineWork). w.room) c.scratch.view_is, c.scratch.invariant.0, ap length c.deref_mut-in-Long-2.ensures.value)
-
-pub visit_within-requires-in-Long-clause-rows : goal.visit_within-requires-in-Long-clause-rows
-visit_within-requires-in-Long-clause-rows c =
-    let fits = line_in_room c.self.inside.size c.args.self.now.pattern.size c.args.house c.args.scratch.now.room (ap (λ (r : Ruled). r.pattern.size) c.self.view_is) c.requires.house_in c.requires.served in
-    omega (arith, fits, ap (λ (w : LineWork). w.room) c.scratch.view_is, c.scratch.invariant.2, ap length c.deref_mut-in-Long-3.ensures.value)
-
-pub returns-in-Long-clause-left : goal.returns-in-Long-clause-left
-returns-in-Long-clause-left c =
-    let low : c.args.house < lines_of c.self.inside.size = let e = ap (λ (r : Ruled). lines_of r.pattern.size) c.self.view_is in omega (arith, e, c.requires.house_in) in
-    c.visit_within-in-Long.ensures.left
-    ∙ after_line_read _ c.args.house _ (has c.args.board.now)
-    (sym (ap numbers_in c.in-Long.is) ∙ numbers_read c.self.inside.clues.items c.args.house c.index.result.now (omega (arith, low, c.self.invariant.lines)) c.index.ensures)
-    ∙ ap (λ (r : Ruled). after (line_rules r.pattern) c.args.house (has c.args.board.now)) c.self.view_is
+    omega (arith, fits, ap (λ (w : LineWork). w.room) c.scratch.view_is, c.scratch.invariant.2, ap length c.deref_mut-4.ensures.value)
