@@ -1,8 +1,10 @@
 -- What a house that holds a number twice says of the grid, and what a house that does not rules out.
-use Rattle.std.proofs.Common.{◌≡◌, ℕ, suc, ◌+◌, ◌<◌, true, false, not, eqb, List, [], ◌∷◌, ◌++◌, map, take, length, get_or, slice_index, Some, sym, ap, ◌∙◌, inl, inr, arith}
+use Rattle.std.proofs.Common.{◌≡◌, ℕ, suc, ◌+◌, ◌<◌, ◌≤◌, true, false, not, ◌||◌, eqb, List, [], ◌∷◌, length, get_or, slice_index, Some, sym, ap, ◌∙◌, inl, inr, arith}
 use Rattle.std.specs.List.{list_any}
-use Rattle.std.proofs.lemmas.Bool.{cases_eq, and_cases, true≢false, not-false, false_from_ne_true}
-use Rattle.std.proofs.lemmas.List.{get_or-map, length-map, get_or_default, take_more, map-append}
+use Rattle.std.proofs.lemmas.Bool.{cases_eq, and_cases, or_cases, or_left, or_right, eqb-true, eq-eqb, true≢false, not-false, false_from_ne_true}
+use Rattle.std.proofs.lemmas.List.{get_or-map, length-map, get_or_default}
+use Rattle.engine_core.specs.Sets.{has_bit}
+use Rattle.engine_core.proofs.BitLemmas.{bits-of_zero}
 use Rattle.grid_core.specs.Grids.{IsGrid}
 use Rattle.grid_core.proofs.ShortSets.{contains_from_member}
 use Rattle.gameid_core.specs.Puzzles.{Solo, IsSolo, solo_n}
@@ -16,7 +18,7 @@ use Rattle.solo_core.specs.Houses.{houses_of, IsHouseOf, lies_in, places_of}
 use Rattle.solo_core.specs.Solutions.{numbers_of, IsSoloSolution, is_solo_solution}
 use Rattle.solo_core.specs.HouseLaws.{lists_house, all_houses, each_house}
 use Rattle.solo_core.specs.NoRepeat.{no_repeat}
-use Rattle.solo_core.specs.NoRepeatLaws.{different_from_no_repeat}
+use Rattle.solo_core.specs.NoRepeatLaws.{different_from_no_repeat, no_repeat_from_different}
 use Rattle.solo_core.specs.Faults.{AllStand, Repeats, RepeatsFirst, IsFirstFault, fault_of}
 
 -- where the numbers repeat, two entries are equal
@@ -33,12 +35,51 @@ repeat_found (x ∷ xs) e = elim (and_cases (not (list_any (eqb x) xs)) (no_repe
 pub repeat_shown : (xs : List ℕ) (i j : ℕ) → i < j → j < length xs → slice_index xs i ≡ slice_index xs j → false ≡ no_repeat xs
 repeat_shown xs i j low within same = sym (false_from_ne_true (no_repeat xs) (λ on. different_from_no_repeat xs on i j low within same))
 
--- one number more of a list that is read in order
-pub map_more : (f : ℕ → ℕ) (xs : List ℕ) (k : ℕ) → k < length xs → map f (take (k + 1) xs) ≡ map f (take k xs) ++ f (slice_index xs k) ∷ []
-map_more f xs k lt = ap (map f) (take_more xs k 0 lt) ∙ map-append f (take k xs) (slice_index xs k ∷ [])
+-- the numbers of a house, one by one
+pub len_of : (p : Solo) (g : List ℕ) (house : SoloHouse) → IsSolo p → IsHouseOf p house → length (numbers_of p g house) ≡ solo_n p
+len_of p g house ok is = length-map (places_of p house) (slice_index g) ∙ (lists_house p ok house is).len
 
-pub read_more : (f : ℕ → ℕ) (xs read : List ℕ) (k z : ℕ) → k < length xs → read ≡ map f (take k xs) → z ≡ f (slice_index xs k) → read ++ z ∷ [] ≡ map f (take (k + 1) xs)
-read_more f xs read k z lt e is = rw (e, is) (sym (map_more f xs k lt))
+pub number_at : (p : Solo) (g : List ℕ) (house : SoloHouse) (k place number : ℕ) → IsSolo p → IsHouseOf p house → k < solo_n p
+    → place ≡ slice_index (places_of p house) k → number ≡ slice_index g place → number ≡ get_or (numbers_of p g house) k 0
+number_at p g house k place number ok is lt at read =
+    let len = (lists_house p ok house is).len in
+    read ∙ ap (slice_index g) at ∙ sym (get_or-map (slice_index g) (places_of p house) k 0 0 (omega arith))
+
+-- the bits are the first k numbers, which differ
+pub record HasSeen (xs : List ℕ) (k seen : ℕ) : Type 0 where
+  pub shown : (v : ℕ) → has_bit seen v ≡ true → (i : ℕ) × (i < k) × (get_or xs i 0 ≡ v)
+  pub noted : (i : ℕ) → i < k → has_bit seen (get_or xs i 0) ≡ true
+  pub different : (i j : ℕ) → i < j → j < k → get_or xs i 0 ≡ get_or xs j 0 → ⊥
+
+pub seen_none : (xs : List ℕ) → HasSeen xs 0 0
+seen_none xs = record {
+  shown = λ v on. absurd (true≢false (sym on ∙ bits-of_zero v));
+  noted = λ i lt. absurd (omega arith);
+  different = λ i j low below same. absurd (omega arith);
+}
+
+module _ (xs : List ℕ) (k seen number : ℕ) (h : HasSeen xs k seen) (is : number ≡ get_or xs k 0) where
+  pub seen_more : (new : ℕ) → has_bit seen number ≡ false → ((v : ℕ) → has_bit new v ≡ (has_bit seen v || eqb v number)) → HasSeen xs (k + 1) new
+  seen_more new off each = record {
+    shown = λ v on. elim (or_cases (has_bit seen v) (eqb v number) (sym (each v) ∙ on)) [
+      | inl before ↦ let w = h.shown v before in (w.0, omega (arith, w.1), w.2)
+      | inr here ↦ (k, omega arith, sym (eqb-true v number here ∙ is))
+    ];
+    noted = λ i lt. each (get_or xs i 0) ∙ elim (cases_eq i k) [
+      | inl e ↦ or_right (has_bit seen (get_or xs i 0)) (eqb (get_or xs i 0) number) (eq-eqb (get_or xs i 0) number (ap (λ j. get_or xs j 0) e ∙ sym is))
+      | inr ne ↦ or_left (has_bit seen (get_or xs i 0)) (eqb (get_or xs i 0) number) (h.noted i (omega arith))
+    ];
+    different = λ i j low below same. elim (cases_eq j k) [
+      | inl e ↦ true≢false (sym (h.noted i (omega arith)) ∙ ap (has_bit seen) (same ∙ ap (λ m. get_or xs m 0) e ∙ sym is) ∙ off)
+      | inr ne ↦ h.different i j low (omega arith) same
+    ];
+  }
+
+  pub seen_again : k < length xs → has_bit seen number ≡ true → false ≡ no_repeat xs
+  seen_again lt on = let w = h.shown number on in repeat_shown xs w.0 k w.1 lt (w.2 ∙ is)
+
+pub seen_all : (xs : List ℕ) (k seen : ℕ) → HasSeen xs k seen → length xs ≤ k → true ≡ no_repeat xs
+seen_all xs k seen h all = sym (no_repeat_from_different xs (λ i j low within same. h.different i j low (omega arith) same))
 
 module _ (p : Solo) (ok : IsSolo p) (g : List ℕ) where
   -- a house that holds a number twice

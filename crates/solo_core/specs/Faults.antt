@@ -1,5 +1,5 @@
 -- The first rule of Solo that a grid breaks.
-use Rattle.std.specs.Prelude.{◌≡◌, ℕ, ◌+◌, ◌<◌, ◌≤◌, true, List, length, slice_index, slice_index_or, Option, Some, None}
+use Rattle.std.specs.Prelude.{◌≡◌, ℕ, ◌+◌, ◌<◌, ◌≤◌, true, List, length, slice_index, slice_index_or, Option, Some, None, MatchOption}
 use Rattle.gameid_core.specs.Puzzles.{Solo}
 use Rattle.solo_core.specs.Cells.{solo_cells}
 use Rattle.solo_core.specs.Houses.{houses_of, lies_in}
@@ -55,3 +55,10 @@ fault_of (Row y) = BadRow y
 fault_of (Column i) = BadColumn i
 fault_of (Block b) = BadBlock b
 fault_of (Diagonal d) = BadDiagonal d
+
+-- the first place whose given doesn't stand, and the first house that holds a number twice, where there is one
+abbrev pub IsFirstFallen : Solo → List ℕ → Option ℕ → Type 0
+IsFirstFallen p g place = MatchOption place (AllStand p g) (FallsFirst p g)
+
+abbrev pub IsFirstRepeating : Solo → List ℕ → Option SoloHouse → Type 0
+IsFirstRepeating p g house = MatchOption house (NoneRepeats p g) (RepeatsFirst p g)

@@ -36,3 +36,7 @@ places_of p (Row y) = row_places (square p) y
 places_of p (Column i) = column_places (square p) i
 places_of p (Block b) = block_places p.c p.r b
 places_of p (Diagonal d) = diagonal_places (solo_n p) d
+
+-- those of each house
+abbrev pub house_places : Solo → List (List ℕ)
+house_places p = map (places_of p) (houses_of p)

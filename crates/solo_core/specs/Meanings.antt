@@ -48,3 +48,6 @@ house_visits p = length (houses_of p) + length (houses_of p) * (solo_n p * solo_
 abbrev pub crossing_visits : Solo → ℕ
 crossing_visits p = solo_n p * p.c * (1 + (2 * solo_n p - p.r) * solo_n p)
     + solo_n p * p.r * (1 + (2 * solo_n p - p.c) * solo_n p)
+
+abbrev pub all_visits : Solo → ℕ
+all_visits p = house_visits p + crossing_visits p

@@ -1,6 +1,6 @@
 -- What may be struck from a house before its cells are paired with values: the value of a cell that has one alone, from
 -- the other cells; and the other values of a cell that is the only one with some value.
-use Rattle.std.specs.Prelude.{◌≡◌, ℕ, ◌<◌, ◌&&◌, ◌==◌, ◌⊎◌, Bool, true, false, not, List, length, slice_index}
+use Rattle.std.specs.Prelude.{◌≡◌, ℕ, ◌<◌, ◌&&◌, ◌||◌, ◌==◌, ◌⊎◌, Bool, true, false, not, List, length, slice_index}
 use Rattle.std.specs.List.{range_with_len, filter}
 use Rattle.grid_core.specs.Pairings.{IsPairing, IsShortSet}
 use Rattle.engine_core.specs.Sets.{has_bit}
@@ -84,3 +84,21 @@ abbrev pub IsDropped : ℕ → ℕ → ℕ → ℕ → ℕ → Type 0
 IsDropped n single shared set v =
     (w : ℕ) × (w < n) × (has_bit set w ≡ true) × (w ≡ v → ⊥)
     × ((has_bit shared w ≡ false) ⊎ (has_bit single v ≡ true))
+
+-- each value that was dropped from the set is such
+abbrev pub AreDropped : ℕ → ℕ → ℕ → ℕ → ℕ → Type 0
+AreDropped n single shared set left = (v : ℕ) → v < n → has_bit set v ≡ true
+    → has_bit left v ≡ false → IsDropped n single shared set v
+
+-- the counts with one more set: what some set has alone at most, and what several have
+abbrev pub AddsSingle : ℕ → ℕ → ℕ → Type 0
+AddsSingle old set new =
+    (v : ℕ) → has_bit new v ≡ true → (has_bit old v ≡ true) ⊎ IsSingleSet set v
+
+abbrev pub AddsShared : ℕ → ℕ → ℕ → ℕ → Type 0
+AddsShared old some set new =
+    (v : ℕ) → has_bit new v ≡ (has_bit old v || (has_bit some v && has_bit set v))
+
+-- the first so many of both lists are the same
+abbrev pub AgreeBelow : ℕ → List ℕ → List ℕ → Type 0
+AgreeBelow n mates others = (i : ℕ) → i < n → slice_index mates i ≡ slice_index others i

@@ -1,7 +1,9 @@
 -- A pairing of the first cells with values, and the values that are free yet.
-use Rattle.std.specs.Prelude.{◌≡◌, ℕ, ◌+◌, ◌<◌, true, false, List, slice_index}
+use Rattle.std.specs.Prelude.{◌≡◌, ℕ, ◌+◌, ◌<◌, true, false, List, slice_index, Option, MatchOption}
 use Rattle.engine_core.specs.Sets.{has_bit}
 use Rattle.solo_core.specs.Deciding.{has_in}
+use Rattle.solo_core.specs.Peeled.{IsPaired}
+use Rattle.solo_core.specs.declared.joined.Joined.{Joined}
 
 -- each of the first cells has a value of its own, which isn't free
 pub record IsBegun (n : ℕ) (sets rest : List ℕ) (first : ℕ) (mate : ℕ → ℕ) (free : ℕ) : Type 0 where
@@ -15,3 +17,16 @@ abbrev pub GoesOn : ℕ → List ℕ → List ℕ → ℕ → (ℕ → ℕ) → 
 GoesOn n sets rest first mate free value = (value < n)
     × ((left : ℕ) → ((v : ℕ) → has_bit left v ≡ true → has_bit free v ≡ true)
     → has_bit left value ≡ false → IsBegun n sets rest (first + 1) mate left)
+
+-- the same of some cells of a house and their values: all are paired, the first cells are, or one cell more is, where
+-- a value could be given
+abbrev pub AllPaired : Joined → List ℕ → Type 0
+AllPaired joined mates = IsPaired joined.values joined.sets.now joined.rest.now mates
+
+abbrev pub FirstPaired : Joined → ℕ → List ℕ → ℕ → Type 0
+FirstPaired joined first mates free =
+    IsBegun joined.values joined.sets.now joined.rest.now first (slice_index mates) free
+
+abbrev pub OneMorePaired : Joined → ℕ → List ℕ → ℕ → Option ℕ → Type 0
+OneMorePaired joined first mates free value = MatchOption value (Unit {0})
+    (GoesOn joined.values joined.sets.now joined.rest.now first (slice_index mates) free)

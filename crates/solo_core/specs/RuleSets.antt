@@ -1,12 +1,13 @@
 -- The rule sets of Solo. They have the same start and the same solutions; singles and houses strike differently in the
 -- same houses, and crossings have further ones.
-use Rattle.std.specs.Prelude.{ℕ, ◌+◌, ◌*◌, Bool, true, false, ◌&&◌, ◌||◌, ◌==◌, nat_lt, List, ◌++◌, map, slice_index, sum_by}
+use Rattle.std.specs.Prelude.{◌≡◌, ℕ, ◌<◌, ◌+◌, ◌*◌, Bool, true, false, ◌&&◌, ◌||◌, ◌==◌, nat_lt, List, ◌++◌, map, slice_index, sum_by}
 use Rattle.std.specs.List.{range_with_len}
 use Rattle.grid_core.specs.Candidates.{Candidates}
 use Rattle.gameid_core.specs.Puzzles.{Solo, solo_n}
 use Rattle.engine_core.specs.Puzzle.{Puzzle, has_place}
 use Rattle.engine_core.specs.Filling.{strikes_by_fillings}
 use Rattle.engine_core.specs.House.{Decision}
+use Rattle.engine_core.specs.Sets.{has_bit}
 use Rattle.engine_core.specs.Houses.{House, Setting, by_houses, visits_of}
 use Rattle.solo_core.specs.declared.solo_house.SoloHouse.{SoloHouse}
 use Rattle.solo_core.specs.declared.solo_house.SoloHouse.TheVariants.{Block}
@@ -95,3 +96,11 @@ crossings_of p = row_crossings p ++ column_crossings p
 
 abbrev pub crossings_rules : Solo → Puzzle
 crossings_rules p = rules_of true p (filled_houses p ++ crossings_of p)
+
+-- the rules by what the houses of a puzzle are
+abbrev pub rules_by : Bool → (Solo → List House) → Solo → Puzzle
+rules_by settled houses p = rules_of settled p (houses p)
+
+-- the bits are those of the block's cells that are the line's too
+abbrev pub AreShared : Solo → ℕ → SoloHouse → ℕ → Type 0
+AreShared p block line bits = (k : ℕ) → k < solo_n p → has_bit bits k ≡ is_shared p block line k

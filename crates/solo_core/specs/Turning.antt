@@ -28,3 +28,17 @@ abbrev pub LiesOnRounds : ℕ → List ℕ → List ℕ → List ℕ → Type 0
 LiesOnRounds n sets rest mates = (root : ℕ) × ((i v : ℕ) → i < length rest → v < n
     → has_in sets (slice_index rest i) v ≡ true
     → Leads n sets rest mates root v × Leads n sets rest mates v root)
+
+-- the bits have each value of these cells
+abbrev pub HasValuesOf : List ℕ → List ℕ → ℕ → Type 0
+HasValuesOf sets rest all = (i v : ℕ) → i < length rest
+    → has_in sets (slice_index rest i) v ≡ true → has_bit all v ≡ true
+
+-- from the root there is a way to each of the new values too, or from each to the root
+abbrev pub StaysAfter : ℕ → List ℕ → List ℕ → List ℕ → ℕ → ℕ → Type 0
+StaysAfter n sets rest mates old new =
+    (root : ℕ) → ComesAfter n sets rest mates root old → ComesAfter n sets rest mates root new
+
+abbrev pub StaysBefore : ℕ → List ℕ → List ℕ → List ℕ → ℕ → ℕ → Type 0
+StaysBefore n sets rest mates old new =
+    (root : ℕ) → ComesBefore n sets rest mates root old → ComesBefore n sets rest mates root new

@@ -1,8 +1,8 @@
 -- What a visit works in.
-use Rattle.std.specs.Prelude.{◌≡◌, ℕ, List, [], ◌++◌, map}
+use Rattle.std.specs.Prelude.{◌≡◌, ℕ, ◌≤◌, List, [], ◌∷◌, ◌++◌, map, length}
 use Rattle.engine_core.specs.House.{IsDecided}
 use Rattle.engine_core.specs.HouseList.{Listed}
-use Rattle.engine_core.specs.Houses.{House}
+use Rattle.engine_core.specs.Houses.{House, house_of}
 use Rattle.engine_core.specs.HouseIndex.{Table}
 use Rattle.gameid_core.specs.Puzzles.{Solo, solo_n}
 use Rattle.solo_core.specs.Cells.{solo_cells}
@@ -25,3 +25,14 @@ HasBegun more old new = new ≡ record { closed = old.closed; begun = old.begun 
 -- what is kept of the sets is what the house doesn't strike
 abbrev pub IsKeptBy : Solo → House → List ℕ → List ℕ → Type 0
 IsKeptBy p house sets kept = IsDecided (solo_n p) house.decides sets kept
+
+-- the list with one more closed list of places, and none begun; and the list with these places begun
+abbrev pub HasClosed : List ℕ → Listed → Listed → Type 0
+HasClosed places = HasAdded (places ∷ [])
+
+abbrev pub Begins : List ℕ → Listed → Listed → Type 0
+Begins places old new = new ≡ record { closed = old.closed; begun = places }
+
+-- there is a slot for each cell of the house
+abbrev pub HasRoom : List House → ℕ → List ℕ → Type 0
+HasRoom houses h slots = length (house_of houses h).places ≤ length slots

@@ -1,13 +1,13 @@
 //! The crossings of a puzzle: each block with each row and each column that it meets.
 
-ghost use Rattle.std.specs.Prelude.{◌≡◌, ℕ, ◌*◌, ◌<◌, ◌∷◌, ◌&&◌, ◌||◌, ◌==◌, [], OnOk, length};
+ghost use Rattle.std.specs.Prelude.{◌≡◌, ℕ, ◌*◌, ◌<◌, ◌&&◌, ◌||◌, ◌==◌, [], OnOk, length};
 ghost use Rattle.gameid_core.specs.Puzzles.{solo_n};
 ghost use Rattle.engine_core.specs.Sets.{has_bit as is_set};
 ghost use Rattle.engine_core.specs.Houses.{house_of};
 ghost use Rattle.solo_core.specs.declared.solo_house.SoloHouse.TheVariants.{Block};
 ghost use Rattle.solo_core.specs.Houses.{IsHouseOf, places_of};
-ghost use Rattle.solo_core.specs.RuleSets.{crossing_of, row_crossings, column_crossings, crossings_of, rest_of_line, is_shared};
-ghost use Rattle.solo_core.specs.Work.{all_places, HasAdded, HasBegun, IsKeptBy};
+ghost use Rattle.solo_core.specs.RuleSets.{crossing_of, row_crossings, column_crossings, crossings_of, rest_of_line, AreShared};
+ghost use Rattle.solo_core.specs.Work.{all_places, HasAdded, HasBegun, HasClosed, Begins, IsKeptBy};
 
 use crate::bits::with_bit;
 use crate::keep_crossing::keep_crossing;
@@ -22,8 +22,7 @@ use std::alloc::AllocError;
 fn push_block(list: &mut HouseList, puzzle: &SoloPuzzle, block: usize) -> Result<(), AllocError>
     requires block_in { block < solo_n puzzle.now }
     requires closed { list.old.begun ≡ [] }
-    ensures { OnOk result (list.new
-        ≡ record { closed = list.old.closed; begun = places_of puzzle.now (Block block) }) }
+    ensures { OnOk result (Begins (places_of puzzle.now (Block block)) list.old list.new) }
 {
     for k in 0..usize::from(puzzle.n()) {
         list.push(place(puzzle, SoloHouse::Block(block), k))?;
@@ -62,7 +61,7 @@ fn push_crossing(
     requires block_in { block < solo_n puzzle.now }
     requires line_of { IsHouseOf puzzle.now line }
     requires closed { list.old.begun ≡ [] }
-    ensures { OnOk result (HasAdded ((crossing_of puzzle.now block line).places ∷ []) list.old list.new) }
+    ensures { OnOk result (HasClosed (crossing_of puzzle.now block line).places list.old list.new) }
 {
     push_block(list, puzzle, block)?;
     push_rest(list, puzzle, block, line)?;
@@ -98,7 +97,7 @@ pub(crate) fn push_columns(list: &mut HouseList, puzzle: &SoloPuzzle) -> Result<
 fn shared(puzzle: &SoloPuzzle, block: usize, line: SoloHouse) -> u32
     requires block_in { block < solo_n puzzle.now }
     requires line_of { IsHouseOf puzzle.now line }
-    ensures { (k : ℕ) → k < solo_n puzzle.now → is_set result k ≡ is_shared puzzle.now block line k }
+    ensures { AreShared puzzle.now block line result }
 {
     let mut bits = 0;
     for k in 0..usize::from(puzzle.n()) {

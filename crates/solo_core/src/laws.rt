@@ -5,7 +5,7 @@ ghost use Rattle.gameid_core.specs.Puzzles.{Solo, IsSolo, solo_n};
 ghost use Rattle.engine_core.specs.Puzzle.{IsLawful};
 ghost use Rattle.solo_core.specs.declared.solo_house.SoloHouse.{SoloHouse};
 ghost use Rattle.solo_core.specs.Houses.{houses_of, IsHouseOf};
-ghost use Rattle.solo_core.specs.Meanings.{AcceptsSolutions, StrikesAsMuch, ListsItsPlaces, HousesComeFirst, AreNamedByScopes, house_visits, crossing_visits};
+ghost use Rattle.solo_core.specs.Meanings.{AcceptsSolutions, StrikesAsMuch, ListsItsPlaces, HousesComeFirst, AreNamedByScopes, house_visits, all_visits};
 ghost use Rattle.solo_core.specs.RuleSets.{houses_rules, singles_rules, crossings_rules};
 ghost use Rattle.solo_core.specs.Scopes.{scopes_of};
 
@@ -29,14 +29,14 @@ pub fn bounds_are()
     ensures houses { (p : Solo) → IsSolo p → (houses_rules p).bound ≡ house_visits p }
     ensures singles { (p : Solo) → IsSolo p → (singles_rules p).bound ≡ house_visits p }
     ensures crossings { (p : Solo) → IsSolo p
-        → (crossings_rules p).bound ≡ house_visits p + crossing_visits p }
+        → (crossings_rules p).bound ≡ all_visits p }
 {}
 
 /// The houses' lists of places have exactly the cells of the rows, the columns, the blocks and the diagonals, of which
 /// the rules speak.
 pub fn houses_are_lines_and_blocks()
     ensures { (p : Solo) → IsSolo p
-        → (house : SoloHouse) → IsHouseOf p house → ListsItsPlaces p house }
+        → (h : SoloHouse) → IsHouseOf p h → ListsItsPlaces p h }
 {}
 
 /// What each number names: the rule sets of singles and of houses visit the puzzle's houses, and that of crossings all

@@ -5,7 +5,7 @@ ghost use Rattle.engine_core.specs.House.{AreDifferent};
 ghost use Rattle.engine_core.specs.Sets.{has_bit as is_set};
 ghost use Rattle.grid_core.specs.Pairings.{IsPairing};
 ghost use Rattle.solo_core.specs.Deciding.{has_in};
-ghost use Rattle.solo_core.specs.Peeled.{IsRest, IsPaired, IsShort, HasMate, GotMates, KeepMates, rest_of as rest_cells};
+ghost use Rattle.solo_core.specs.Peeled.{IsRest, IsPaired, IsShort, HasMate, GotMates, KeepMates, AgreeBelow, rest_of as rest_cells};
 
 use crate::bits::next_bit;
 use crate::joined::Joined;
@@ -66,8 +66,7 @@ fn copy_mates(values: u8, pairing: &Pairing, paired: &mut [u8])
     requires as_many { length pairing.now.mates ≡ length paired.old }
     requires small { (i : ℕ) → i < length paired.old → slice_index pairing.now.mates i < values }
     ensures as_many { length paired.new ≡ length paired.old }
-    ensures same { (i : ℕ) → i < length paired.old
-        → slice_index paired.new i ≡ slice_index pairing.now.mates i }
+    ensures same { AgreeBelow (length paired.old) paired.new pairing.now.mates }
 {
     for i in 0..paired.len() {
         paired[i] = pairing.mate(i) as u8;

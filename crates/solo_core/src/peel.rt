@@ -1,8 +1,8 @@
 //! What a visit strikes before it pairs: by cells that have one value alone, and by values that one cell has alone.
 
-ghost use Rattle.std.specs.Prelude.{◌≡◌, ℕ, ◌<◌, ◌≤◌, ◌&&◌, ◌||◌, ◌⊎◌, true, false, length};
+ghost use Rattle.std.specs.Prelude.{◌≡◌, ℕ, ◌<◌, ◌≤◌, ◌||◌, true, length};
 ghost use Rattle.engine_core.specs.Sets.{has_bit as is_set};
-ghost use Rattle.solo_core.specs.Peeled.{IsPeeled, AreAlone, AreCounts, IsSingleSet, IsDropped};
+ghost use Rattle.solo_core.specs.Peeled.{IsPeeled, AreAlone, AreCounts, AddsSingle, AddsShared, AreDropped};
 
 use crate::bits::{all_below, has_any, single_of, with_bit, without};
 
@@ -57,10 +57,8 @@ impl Counts {
     /// The counts with one more cell.
     fn with(self, set: u32) -> Counts
         ensures some { (v : ℕ) → is_set result.some v ≡ (is_set self.some v || is_set set v) }
-        ensures single { (v : ℕ) → is_set result.single v ≡ true
-            → (is_set self.single v ≡ true) ⊎ IsSingleSet set v }
-        ensures shared { (v : ℕ) → is_set result.shared v
-            ≡ (is_set self.shared v || (is_set self.some v && is_set set v)) }
+        ensures single { AddsSingle self.single set result.single }
+        ensures shared { AddsShared self.shared self.some set result.shared }
     {
         Counts {
             some: self.some | set,
@@ -102,8 +100,7 @@ fn narrow_all(values: u8, counts: Counts, sets: &mut [u32]) -> Counts
 fn narrow(values: u8, counts: Counts, set: u32) -> u32
     requires { values ≤ 31 }
     ensures inside { (v : ℕ) → is_set result v ≡ true → is_set set v ≡ true }
-    ensures dropped { (v : ℕ) → v < values → is_set set v ≡ true → is_set result v ≡ false
-        → IsDropped values counts.single counts.shared set v }
+    ensures dropped { AreDropped values counts.single counts.shared set result }
 {
     let own = set & without(all_below(values), counts.shared);
     if has_any(own) {

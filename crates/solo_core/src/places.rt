@@ -1,11 +1,11 @@
 //! The houses of a puzzle, their places, and the list of both.
 
-ghost use Rattle.std.specs.Prelude.{◌≡◌, ◌<◌, ◌≤◌, ◌∷◌, [], OnOk, length, map, slice_index, slice_index_or};
+ghost use Rattle.std.specs.Prelude.{◌≡◌, ◌<◌, ◌≤◌, [], OnOk, length, slice_index, slice_index_or};
 ghost use Rattle.gameid_core.specs.Puzzles.{IsSolo, solo_n};
 ghost use Rattle.solo_core.specs.declared.solo_house.SoloHouse.{SoloHouse};
 ghost use Rattle.solo_core.specs.Cells.{solo_cells};
-ghost use Rattle.solo_core.specs.Houses.{houses_of, IsHouseOf, lies_in, places_of};
-ghost use Rattle.solo_core.specs.Work.{HasAdded};
+ghost use Rattle.solo_core.specs.Houses.{houses_of, house_places, IsHouseOf, lies_in, places_of};
+ghost use Rattle.solo_core.specs.Work.{HasAdded, HasClosed};
 
 use crate::solo_house::SoloHouse;
 use engine_core::HouseList;
@@ -88,7 +88,7 @@ pub(crate) fn lies(puzzle: &SoloPuzzle, house: SoloHouse, place: usize) -> bool
 fn push_house(list: &mut HouseList, puzzle: &SoloPuzzle, house: SoloHouse) -> Result<(), AllocError>
     requires house_of { IsHouseOf puzzle.now house }
     requires closed { list.old.begun ≡ [] }
-    ensures { OnOk result (HasAdded (places_of puzzle.now house ∷ []) list.old list.new) }
+    ensures { OnOk result (HasClosed (places_of puzzle.now house) list.old list.new) }
 {
     for k in 0..usize::from(puzzle.n()) {
         list.push(place(puzzle, house, k))?;
@@ -101,7 +101,7 @@ fn push_house(list: &mut HouseList, puzzle: &SoloPuzzle, house: SoloHouse) -> Re
 pub(crate) fn push_houses(list: &mut HouseList, puzzle: &SoloPuzzle) -> Result<(), AllocError>
     requires closed { list.old.begun ≡ [] }
     ensures { OnOk result
-        (HasAdded (map (places_of puzzle.now) (houses_of puzzle.now)) list.old list.new) }
+        (HasAdded (house_places puzzle.now) list.old list.new) }
 {
     for number in 0..houses(puzzle) {
         push_house(list, puzzle, house(puzzle, number))?;

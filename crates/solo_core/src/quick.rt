@@ -1,8 +1,7 @@
 //! A pairing of the cells of a house with values that is found without a search.
 
-ghost use Rattle.std.specs.Prelude.{◌≡◌, ◌<◌, true, length, slice_index, MatchOption};
-ghost use Rattle.solo_core.specs.Peeled.{IsPaired};
-ghost use Rattle.solo_core.specs.Quick.{IsBegun, GoesOn};
+ghost use Rattle.std.specs.Prelude.{◌≡◌, ◌<◌, true, length};
+ghost use Rattle.solo_core.specs.Quick.{AllPaired, FirstPaired, OneMorePaired};
 
 use crate::bits::{all_below, next_bit, with_bit, without};
 use crate::joined::Joined;
@@ -13,8 +12,7 @@ use engine_core::has_bit;
 pub(crate) fn pair_quickly(joined: &Joined, mates: &mut [u8]) -> bool
     requires room { length mates.old ≡ length joined.now.rest.now }
     ensures as_many { length mates.new ≡ length mates.old }
-    ensures paired { result ≡ true
-        → IsPaired joined.now.values joined.now.sets.now joined.now.rest.now mates.new }
+    ensures paired { result ≡ true → AllPaired joined.now mates.new }
 {
     let mut free = all_below(joined.values);
     for i in 0..joined.rest.len() {
@@ -30,11 +28,9 @@ pub(crate) fn pair_quickly(joined: &Joined, mates: &mut [u8]) -> bool
 fn give(joined: &Joined, i: usize, free: u32, mates: &mut [u8]) -> Option<usize>
     requires i_in { i < length joined.now.rest.now }
     requires room { length mates.old ≡ length joined.now.rest.now }
-    requires begun { IsBegun joined.now.values joined.now.sets.now joined.now.rest.now i
-        (slice_index mates.old) free }
+    requires begun { FirstPaired joined.now i mates.old free }
     ensures as_many { length mates.new ≡ length mates.old }
-    ensures on { MatchOption result (Unit {0}) (GoesOn joined.now.values joined.now.sets.now
-        joined.now.rest.now i (slice_index mates.new) free) }
+    ensures on { OneMorePaired joined.now i mates.new free result }
 {
     match next_bit(joined.set(i) & free, 0, usize::from(joined.values)) {
         Some(value) => {
@@ -49,11 +45,9 @@ fn give(joined: &Joined, i: usize, free: u32, mates: &mut [u8]) -> Option<usize>
 fn swap(joined: &Joined, i: usize, free: u32, mates: &mut [u8]) -> Option<usize>
     requires i_in { i < length joined.now.rest.now }
     requires room { length mates.old ≡ length joined.now.rest.now }
-    requires begun { IsBegun joined.now.values joined.now.sets.now joined.now.rest.now i
-        (slice_index mates.old) free }
+    requires begun { FirstPaired joined.now i mates.old free }
     ensures as_many { length mates.new ≡ length mates.old }
-    ensures on { MatchOption result (Unit {0}) (GoesOn joined.now.values joined.now.sets.now
-        joined.now.rest.now i (slice_index mates.new) free) }
+    ensures on { OneMorePaired joined.now i mates.new free result }
 {
     let set = joined.set(i);
     for j in 0..i {

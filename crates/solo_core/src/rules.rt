@@ -6,10 +6,9 @@ ghost use Rattle.grid_core.specs.Board.{has, SameShape};
 ghost use Rattle.gameid_core.specs.Puzzles.{IsSolo, solo_n};
 ghost use Rattle.engine_core.specs.Puzzle.{IsBoardOf, Needs, after};
 ghost use Rattle.engine_core.specs.Closing.{HasStruck};
-ghost use Rattle.engine_core.specs.Houses.{house_of};
 ghost use Rattle.engine_core.specs.declared.mode.Mode.TheVariants.{Queue};
-ghost use Rattle.solo_core.specs.RuleSets.{rules_of};
-ghost use Rattle.solo_core.specs.Work.{table_of};
+ghost use Rattle.solo_core.specs.RuleSets.{rules_of, rules_by};
+ghost use Rattle.solo_core.specs.Work.{table_of, HasRoom};
 
 use crate::check::accepts;
 use crate::places::cells;
@@ -56,8 +55,8 @@ impl<S: Strikes> SoloRules<S> {
     /// When memory was refused.
     pub fn new(alloc: Global, puzzle: &SoloPuzzle) -> Result<SoloRules<S>, AllocError>
         ensures copied { IfOk result (λ rules. rules.puzzle ≡ puzzle.now) }
-        ensures rules { IfOk result (λ rules. ⟦<SoloRules<S> as Rules>⟧.puzzle rules
-            ≡ rules_of S.SETTLED puzzle.now (S.houses puzzle.now)) }
+        ensures rules { IfOk result (λ r. ⟦<SoloRules<S> as Rules>⟧.puzzle r
+            ≡ rules_by S.SETTLED S.houses puzzle.now) }
     {
         let puzzle = puzzle.copy(alloc)?;
         let list = S::list(alloc, &puzzle)?;
@@ -79,16 +78,12 @@ impl<S: Strikes> SoloRules<S> {
         work: &mut S::Work,
     ) -> bool
         requires house_in { house < length (S.houses self.now.puzzle) }
-        requires board_of { IsBoardOf
-            (rules_of S.SETTLED self.now.puzzle (S.houses self.now.puzzle)) board.old }
-        requires sets_room { length (house_of (S.houses self.now.puzzle) house).places
-            ≤ length sets.old }
-        requires kept_room { length (house_of (S.houses self.now.puzzle) house).places
-            ≤ length kept.old }
+        requires board_of { IsBoardOf (rules_by S.SETTLED S.houses self.now.puzzle) board.old }
+        requires sets_room { HasRoom (S.houses self.now.puzzle) house sets.old }
+        requires kept_room { HasRoom (S.houses self.now.puzzle) house kept.old }
         requires served { S.serves work.old (solo_n self.now.puzzle) }
         ensures left { has board.new
-            ≡ after (rules_of S.SETTLED self.now.puzzle (S.houses self.now.puzzle))
-            house (has board.old) }
+            ≡ after (rules_by S.SETTLED S.houses self.now.puzzle) house (has board.old) }
         ensures shape { SameShape board.old board.new }
         ensures unchanged { result ≡ false → has board.new ≡ has board.old }
         ensures changed { result ≡ true → HasStruck (has board.old) (has board.new) }

@@ -1,9 +1,8 @@
 //! Whether a pairing of the cells of a house can be turned to each value that they have.
 
-ghost use Rattle.std.specs.Prelude.{◌≡◌, ℕ, ◌<◌, ◌≤◌, ◌&&◌, ◌||◌, ◌⊎◌, true, false, length, slice_index};
-ghost use Rattle.engine_core.specs.Sets.{has_bit as is_set};
-ghost use Rattle.solo_core.specs.Deciding.{has_in};
-ghost use Rattle.solo_core.specs.Turning.{ComesAfter, ComesBefore, LiesOnRounds};
+ghost use Rattle.std.specs.Prelude.{◌≡◌, ℕ, ◌<◌, ◌≤◌, true, length, slice_index};
+ghost use Rattle.solo_core.specs.Bits.{HasMore, HasBefore};
+ghost use Rattle.solo_core.specs.Turning.{HasValuesOf, StaysAfter, StaysBefore, LiesOnRounds};
 
 use crate::bits::{has_any, with_bit, with_more, without};
 
@@ -47,8 +46,7 @@ pub(crate) fn lie_on_rounds(values: u8, sets: &[u32], rest: &[u8], mates: &[u8])
 /// The values that some of the cells has.
 fn values_of(sets: &[u32], rest: &[u8]) -> u32
     requires rest_in { (i : ℕ) → i < length rest.now → slice_index rest.now i < length sets.now }
-    ensures { (i v : ℕ) → i < length rest.now → has_in sets.now (slice_index rest.now i) v ≡ true
-        → is_set result v ≡ true }
+    ensures { HasValuesOf sets.now rest.now result }
 {
     let mut all = 0u32;
     for i in 0..rest.len() {
@@ -63,10 +61,8 @@ fn spread(values: u8, sets: &[u32], rest: &[u8], mates: &[u8], ends: Ends) -> En
     requires rest_in { (i : ℕ) → i < length rest.now → slice_index rest.now i < length sets.now }
     requires as_many { length mates.now ≡ length rest.now }
     requires small { (i : ℕ) → i < length rest.now → slice_index mates.now i < values }
-    ensures after { (root : ℕ) → ComesAfter values sets.now rest.now mates.now root ends.after
-        → ComesAfter values sets.now rest.now mates.now root result.after }
-    ensures before { (root : ℕ) → ComesBefore values sets.now rest.now mates.now root ends.before
-        → ComesBefore values sets.now rest.now mates.now root result.before }
+    ensures after { StaysAfter values sets.now rest.now mates.now ends.after result.after }
+    ensures before { StaysBefore values sets.now rest.now mates.now ends.before result.before }
 {
     let mut more = ends;
     for i in 0..rest.len() {
@@ -79,10 +75,8 @@ impl Ends {
     /// Goes on over a value that leads to these.
     fn over(self, value: usize, next: u32) -> Ends
         requires { value < 32 }
-        ensures after { (v : ℕ) → is_set result.after v
-            ≡ (is_set self.after v || (is_set self.after value && is_set next v)) }
-        ensures before { (v : ℕ) → is_set result.before v ≡ true → (is_set self.before v ≡ true)
-            ⊎ ((v ≡ value) × ((w : ℕ) × (is_set next w ≡ true) × (is_set self.before w ≡ true))) }
+        ensures after { HasMore self.after value next result.after }
+        ensures before { HasBefore self.before value next result.before }
     {
         Ends {
             after: with_more(self.after, value as u8, next),
@@ -94,8 +88,7 @@ impl Ends {
 /// The bits with bit `value` set too, where some bit of `next` is among them.
 fn with_bit_over(bits: u32, value: usize, next: u32) -> u32
     requires { value < 32 }
-    ensures { (v : ℕ) → is_set result v ≡ true → (is_set bits v ≡ true)
-        ⊎ ((v ≡ value) × ((w : ℕ) × (is_set next w ≡ true) × (is_set bits w ≡ true))) }
+    ensures { HasBefore bits value next result }
 {
     if has_any(next & bits) {
         with_bit(bits, value)

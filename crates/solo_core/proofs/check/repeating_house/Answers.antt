@@ -3,17 +3,17 @@ use Rattle.solo_core.proofs.HouseLemmas.{house_is}
 use Rattle.solo_core.proofs.RepeatLemmas.{first_house, fine_more}
 use Rattle.solo_core.proofs.check.repeating_house.Goals as goal
 
-pub numbers_of-requires-clause-house_of : goal.numbers_of-requires-clause-house_of
-numbers_of-requires-clause-house_of c = let e = c.houses-number-end.ensures.value in house_is c.args.puzzle.now c.loop-number.number c.house-house.result (omega arith) (c.house-house.ensures c.house-house.result)
+pub holds_each_once-requires-clause-house_of : goal.holds_each_once-requires-clause-house_of
+holds_each_once-requires-clause-house_of c = let e = c.houses-number-end.ensures.value in house_is c.args.puzzle.now c.loop-number.number c.house-house.result (omega arith) (c.house-house.ensures c.house-house.result)
 
-pub returns-then-not-no_repeat-clause-first : goal.returns-then-not-no_repeat-clause-first
-returns-then-not-no_repeat-clause-first c =
+pub returns-then-not-holds_each_once-clause-first : goal.returns-then-not-holds_each_once-clause-first
+returns-then-not-holds_each_once-clause-first c =
     let e = c.houses-number-end.ensures.value in
     first_house c.args.puzzle.now c.houses-number-end.ensures.lawful c.args.grid.now c.loop-number.number c.house-house.result (omega arith) (c.house-house.ensures c.house-house.result)
-    (sym (rw (c.deref.ensures.0, c.numbers_of.ensures) at c.no_repeat.ensures) ∙ c.if-not-no_repeat.true) c.loop-number.invariant
+    (sym c.holds_each_once.ensures ∙ c.if-not-holds_each_once.true) c.loop-number.invariant
 
 pub loop-number-preserved : goal.loop-number-preserved
 loop-number-preserved c =
     let e = c.houses-number-end.ensures.value in
     fine_more c.args.puzzle.now c.args.grid.now c.loop-number.number c.house-house.result (omega arith) (c.house-house.ensures c.house-house.result)
-    (sym (rw (c.deref.ensures.0, c.numbers_of.ensures) at c.no_repeat.ensures) ∙ c.if-not-no_repeat.false) c.loop-number.invariant
+    (sym c.holds_each_once.ensures ∙ c.if-not-holds_each_once.false) c.loop-number.invariant
