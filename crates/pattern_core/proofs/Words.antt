@@ -10,7 +10,7 @@ use Rattle.std.proofs.lemmas.Nat.Bits.{bit_at-suc, bit_at-zero, bit_at-lt, bit_a
 use Rattle.grid_core.specs.Candidates.{any_below}
 use Rattle.grid_core.proofs.CandidateLemmas.{any_below-none, any_below-some}
 use Rattle.engine_core.specs.Sets.{has_bit}
-use Rattle.engine_core.proofs.BitLemmas.{bits-either, bits-of_zero}
+use Rattle.engine_core.proofs.BitLemmas.{bits-both, bits-either, bits-of_power, bits-of_zero}
 use Rattle.pattern_core.specs.Track.{Track, one_on, ahead, led_to, moved}
 
 -- ---- the bits of a word of w bits
@@ -74,6 +74,9 @@ masks_are white black set p =
     by (suc (suc zero)) lt = refl
     by (suc (suc (suc zero))) lt = bits-either white black p
     by (suc (suc (suc (suc s)))) lt = absurd (omega arith)
+
+-- what the operations of words say of their bits
+pub ruleset place_laws = (bits-of_zero, bits-of_power, bits-both, bits-either, bits_next, bits_on, no_high, masks_are, some_bit_is)
 
 -- both are set exactly where they make 3
 pub both_low : (set : ℕ) → (has_bit set 0 && has_bit set 1) ≡ eqb (set % 4) 3

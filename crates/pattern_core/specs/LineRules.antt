@@ -1,8 +1,7 @@
 -- What the rules of Pattern mean to a search: each line is a house.
-use Rattle.std.specs.Prelude.{◌≡◌, ℕ, ◌+◌, ◌*◌, ◌==◌, Bool, true, not, ◌&&◌, List, IsTrue}
+use Rattle.std.specs.Prelude.{◌≡◌, ℕ, ◌+◌, ◌*◌, ◌==◌, Bool, true, not, ◌&&◌, List}
 use Rattle.grid_core.specs.Extent.{Extent, IsExtent}
 use Rattle.grid_core.specs.Candidates.{Candidates, all_below, all_of}
-use Rattle.grid_core.specs.Grids.{IsGrid}
 use Rattle.gameid_core.specs.Puzzles.{Pattern, lines_of}
 use Rattle.engine_core.specs.Puzzle.{Puzzle}
 use Rattle.engine_core.specs.Filling.{strikes_by_fillings}
@@ -47,11 +46,3 @@ GoesAlong p work K = work.fresh ≡ true → IsFresh (p.size.w * p.size.h) K
 abbrev pub CallsLine : Pattern → LineWork → ℕ → List ℕ → List ℕ → Type 0
 CallsLine p work line old new = (K : Candidates) → GoesAlong p work K
     → AreCalled (line_rules p) K (λ j. j == line) (is_waiting old) (is_waiting new)
-
--- a search by the rules accepts the grid
-abbrev pub IsAccepted : Pattern → List ℕ → Type 0
-IsAccepted p g = IsTrue ((line_rules p).is_solution g)
-
--- a grid of the puzzle's size has 0 for white and 1 for black
-abbrev pub IsPatternGrid : Pattern → List ℕ → Type 0
-IsPatternGrid p g = IsGrid (p.size.w * p.size.h) 2 g

@@ -7,6 +7,8 @@ use Rattle.grid_core.specs.Grids.{row_cells, column_cells}
 use Rattle.grid_core.specs.Regions.{row_places, column_places}
 use Rattle.gameid_core.specs.Puzzles.{Pattern, used}
 use Rattle.gameid_core.specs.BlackRuns.{run_of, runs}
+use Rattle.engine_core.specs.Filling.{strikes_by_fillings}
+use Rattle.engine_core.specs.House.{IsDecided}
 
 -- the places of a line's cells
 unfoldable pub line_places : Extent → ℕ → List ℕ
@@ -68,3 +70,7 @@ pub record LineWork : Type 0 where
 pub record IsFresh (cells : ℕ) (K : Candidates) : Type 0 where
   pub both : (c : ℕ) → c < cells → (K c 0 ≡ true) × (K c 1 ≡ true)
   pub within : (c v : ℕ) → K c v ≡ true → v < 2
+
+-- what is kept of a line's sets is what some filling with the clue's runs has
+abbrev pub IsDecidedBy : List ℕ → List ℕ → List ℕ → Type 0
+IsDecidedBy clue sets kept = IsDecided 2 (strikes_by_fillings (has_runs clue)) sets kept

@@ -1,7 +1,8 @@
 -- Which grids solve a puzzle of Pattern. A grid has 0 for a white cell and 1 for a black one.
-use Rattle.std.specs.Prelude.{◌≡◌, ℕ, ◌+◌, ◌*◌, ◌<◌, List, [], slice_index_or}
+use Rattle.std.specs.Prelude.{◌≡◌, ℕ, ◌+◌, ◌*◌, ◌<◌, ◌↔◌, IsTrue, List, [], slice_index_or}
 use Rattle.grid_core.specs.Grids.{IsGrid, row_cells, column_cells}
 use Rattle.gameid_core.specs.Puzzles.{Pattern}
+use Rattle.engine_core.specs.Puzzle.{Puzzle}
 use Rattle.gameid_core.specs.BlackRuns.{runs}
 
 -- the lengths of the maximal black runs of each column, downwards, and of each row, rightwards, are its clue
@@ -9,3 +10,8 @@ pub record IsPatternSolution (p : Pattern) (g : List ℕ) : Type 0 where
   pub grid : IsGrid (p.size.w * p.size.h) 2 g
   pub columns : (x : ℕ) → x < p.size.w → runs (column_cells p.size g x) ≡ slice_index_or p.clues x []
   pub rows : (y : ℕ) → y < p.size.h → runs (row_cells p.size g y) ≡ slice_index_or p.clues (p.size.w + y) []
+
+-- the grids that the rules accept are the solutions of the puzzle
+abbrev pub AcceptsSolutions : Pattern → Puzzle → Type 0
+AcceptsSolutions p rules = (g : List ℕ) → IsGrid (p.size.w * p.size.h) 2 g
+    → (IsTrue (rules.is_solution g)) ↔ IsPatternSolution p g

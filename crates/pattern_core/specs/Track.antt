@@ -1,6 +1,6 @@
 -- A clue spelled out as cells, and how a line goes along it. The places along the clue are numbered from 0, before its
 -- first cell. A line that is at a place has passed what is spelled before it. No public contract uses these words.
-use Rattle.std.specs.Prelude.{◌≡◌, ℕ, zero, suc, ◌+◌, ◌<◌, ◌≤◌, Bool, true, false, ◌&&◌, ◌||◌, ◌==◌, List, [], ◌∷◌, ◌++◌, length, get_or, replicate, drop, map, if◌then◌else◌}
+use Rattle.std.specs.Prelude.{◌≡◌, ℕ, zero, suc, ◌+◌, ◌<◌, ◌≤◌, Bool, true, false, ◌&&◌, ◌||◌, ◌==◌, not, List, [], ◌∷◌, ◌++◌, length, get_or, replicate, drop, map, if◌then◌else◌}
 use Rattle.std.specs.List.{AllByRecursion}
 use Rattle.gameid_core.specs.BlackRuns.{runs}
 use Rattle.gameid_core.specs.Puzzles.{used}
@@ -107,6 +107,11 @@ AreLedByBlack n has steps reached result =
 -- the places reached by a cell of this set
 unfoldable pub moved : Track → Bool → Bool → (ℕ → Bool) → ℕ → Bool
 moved t white black reached p = (white && ((t.stay p && reached p) || one_on (λ q. t.white q && reached q) p)) || (black && one_on (λ q. t.black q && reached q) p)
+
+-- the places are those reached by a cell with this number, of n
+abbrev pub AreLedByNumber : {A : Type 0} → ℕ → (A → ℕ → Bool) → Steps A → ℕ → A → A → Type 0
+AreLedByNumber n has steps number reached result = (p : ℕ) → p < n
+    → has result p ≡ moved (along has steps) (number == 0) (not (number == 0)) (has reached) p
 
 -- every filling passes
 unfoldable pub any_cells : List ℕ → Bool

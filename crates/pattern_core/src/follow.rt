@@ -1,11 +1,11 @@
 //! Whether a line of a grid goes along its spelled clue to the end.
 
-ghost use Rattle.std.specs.Prelude.{◌≡◌, ℕ, ◌<◌, ◌*◌, ◌↔◌, ◌==◌, not, IsTrue};
+ghost use Rattle.std.specs.Prelude.{◌≡◌, ◌<◌, ◌*◌, ◌↔◌, IsTrue};
 ghost use Rattle.grid_core.specs.Grids.{IsGrid};
 ghost use Rattle.gameid_core.specs.BlackRuns.{runs};
 ghost use Rattle.gameid_core.specs.Puzzles.{lines_of};
 ghost use Rattle.pattern_core.specs.Lines.{line_numbers};
-ghost use Rattle.pattern_core.specs.Track.{along, moved};
+ghost use Rattle.pattern_core.specs.Track.{AreLedByNumber};
 
 use crate::places::Places;
 use crate::table::ways_of;
@@ -15,8 +15,7 @@ use grid_core::{Grid, Size};
 
 /// Which places are reached by a cell with this number, by those that are reached before it.
 fn led_by<P: Places>(steps: Steps<P>, number: u8, reached: P) -> P
-    ensures { (p : ℕ) → p < P.room → P.has result p ≡ moved (along P.has steps)
-        (number == 0) (not (number == 0)) (P.has reached) p }
+    ensures { AreLedByNumber P.room P.has steps number reached result }
 {
     let ways = ways_of(steps, reached);
     if number == 0 { ways.white } else { ways.black }

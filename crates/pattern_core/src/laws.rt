@@ -1,14 +1,13 @@
 //! What the rules of a search mean. These calls do nothing: their contracts are the laws.
 
-ghost use Rattle.std.specs.Prelude.{◌↔◌, ℕ, List};
 ghost use Rattle.gameid_core.specs.Puzzles.{Pattern, IsPattern};
 ghost use Rattle.engine_core.specs.Puzzle.{IsLawful};
-ghost use Rattle.pattern_core.specs.LineRules.{line_rules, IsAccepted, IsPatternGrid};
-ghost use Rattle.pattern_core.specs.Solutions.{IsPatternSolution};
+ghost use Rattle.pattern_core.specs.LineRules.{line_rules};
+ghost use Rattle.pattern_core.specs.Solutions.{AcceptsSolutions};
 
 /// The grids that a search accepts are the solutions of its puzzle.
 pub fn accepted_are_solutions()
-    ensures { (p : Pattern) (g : List ℕ) → IsPatternGrid p g → IsAccepted p g ↔ IsPatternSolution p g }
+    ensures { (p : Pattern) → AcceptsSolutions p (line_rules p) }
 {}
 
 /// The rules of a search keep to what every search relies on, for each puzzle.

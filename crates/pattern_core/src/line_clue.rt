@@ -3,11 +3,9 @@
 ghost use Rattle.std.specs.Prelude.{◌≡◌, ℕ, ◌<◌, ◌≤◌, ◌*◌, ◌↔◌, IsTrue, true, false, length};
 ghost use Rattle.std.specs.List.{AllByRecursion};
 ghost use Rattle.grid_core.specs.Grids.{IsGrid};
-ghost use Rattle.engine_core.specs.Filling.{strikes_by_fillings};
-ghost use Rattle.engine_core.specs.House.{IsDecided};
 ghost use Rattle.gameid_core.specs.BlackRuns.{runs};
 ghost use Rattle.gameid_core.specs.Puzzles.{lines_of, used};
-ghost use Rattle.pattern_core.specs.Lines.{line_numbers, has_runs, IsRoomy};
+ghost use Rattle.pattern_core.specs.Lines.{line_numbers, IsDecidedBy, IsRoomy};
 ghost use Rattle.pattern_core.specs.LineClues.{numbers_in};
 
 use crate::follow::follows;
@@ -55,8 +53,7 @@ impl LineClue {
     pub(crate) fn keep(&self, sets: &mut [u32], rows: &mut [u64], long_rows: &mut [u128]) -> bool
         requires room { length sets.old < length rows.old }
         requires long_room { length sets.old < length long_rows.old }
-        ensures decided { IsDecided 2 (strikes_by_fillings (has_runs (numbers_in self.now)))
-            sets.old sets.new }
+        ensures decided { IsDecidedBy (numbers_in self.now) sets.old sets.new }
         ensures unchanged { result ≡ false → sets.new ≡ sets.old }
     {
         match self {

@@ -1,4 +1,5 @@
 //! Sets of places along a clue, one bit of a word for each.
+#![tactic(auto, using(crate::proofs::Words::place_laws))]
 
 ghost use Rattle.std.specs.Prelude.{◌≡◌, ℕ, suc, ◌%◌, ◌<◌, ◌≤◌, Bool, false, ◌&&◌, ◌||◌, ◌==◌, slice_index};
 ghost use Rattle.grid_core.specs.Candidates.{any_below};

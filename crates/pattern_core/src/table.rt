@@ -7,10 +7,8 @@
 //! value of a cell stays where the two meet. What a cell's set lets a line do is looked up by the set.
 
 ghost use Rattle.std.specs.Prelude.{◌≡◌, ℕ, ◌<◌, ◌≤◌, ◌&&◌, ◌%◌, true, false, length, slice_index};
-ghost use Rattle.engine_core.specs.Filling.{strikes_by_fillings};
 ghost use Rattle.engine_core.specs.Sets.{has_bit};
-ghost use Rattle.engine_core.specs.House.{IsDecided};
-ghost use Rattle.pattern_core.specs.Lines.{has_runs};
+ghost use Rattle.pattern_core.specs.Lines.{IsDecidedBy};
 ghost use Rattle.pattern_core.specs.Track.{along, AreMovesOf, AreAhead, AreLedTo, AreLedByWhite, AreLedByBlack, IsBelow, some_leads, sets_of, any_cells, AreRows, AreKept};
 
 use crate::places::Places;
@@ -156,7 +154,7 @@ fn clear(sets: &mut [u32])
 /// steps are two for each cell of the line, of a few word operations each.
 pub(crate) fn keep<P: Places>(sets: &mut [u32], clue: &SpelledClue<P>, rows: &mut [P]) -> bool
     requires room { length sets.old < length rows.old }
-    ensures decided { IsDecided 2 (strikes_by_fillings (has_runs clue.now)) sets.old sets.new }
+    ensures decided { IsDecidedBy clue.now sets.old sets.new }
     ensures unchanged { result ≡ false → sets.new ≡ sets.old }
 {
     let steps = clue.steps();

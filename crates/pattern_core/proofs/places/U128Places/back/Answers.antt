@@ -1,5 +1,0 @@
-use Rattle.pattern_core.proofs.Words.{bits_next}
-use Rattle.pattern_core.proofs.places.U128Places.back.Goals as goal
-
-pub returns : goal.returns
-returns c = bits_next c.args.self

@@ -1,5 +1,0 @@
-use Rattle.engine_core.proofs.BitLemmas.{bits-of_power}
-use Rattle.pattern_core.proofs.places.U128Places.first.Goals as goal
-
-pub returns : goal.returns
-returns c = bits-of_power 0

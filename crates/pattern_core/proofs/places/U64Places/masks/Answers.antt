@@ -1,5 +1,0 @@
-use Rattle.pattern_core.proofs.Words.{masks_are}
-use Rattle.pattern_core.proofs.places.U64Places.masks.Goals as goal
-
-pub returns : goal.returns
-returns c = masks_are c.args.white c.args.black
