@@ -10,7 +10,7 @@ use Rattle.solo_core.specs.declared.solo_house.SoloHouse.{SoloHouse}
 use Rattle.solo_core.specs.declared.solo_house.SoloHouse.TheVariants.{Row, Column, Block, Diagonal}
 use Rattle.solo_core.specs.Houses.{houses_of, IsHouseOf, places_of}
 use Rattle.solo_core.specs.HouseLaws.{all_houses}
-use Rattle.solo_core.specs.BoundLaws.{house_count}
+use Rattle.solo_core.specs.BoundLaws.{house_count, count_x, count_plain}
 
 module _ (p : Solo) where
   abbrev n : ℕ
@@ -83,3 +83,6 @@ module _ (p : Solo) where
   pub listed-all : (list : Listed) (closed : List (List ℕ)) (k : ℕ) → length (houses_of p) ≡ k → list ≡ record { closed = closed ++ map (places_of p) (take k (houses_of p)); begun = [] }
       → list ≡ record { closed = closed ++ map (places_of p) (houses_of p); begun = [] }
   listed-all list closed k long was = was ∙ rw (← long, take-length (houses_of p)) refl
+
+-- the houses by their numbers, and what the list gets of them
+pub ruleset house_laws = (row_at, column_at, block_at, diagonal_at, house_is, count_x, count_plain, listed-none, listed-more, listed-all)

@@ -1,4 +1,5 @@
 //! What a visit of a crossing of a block and a line keeps.
+#![tactic(auto, using(crate::proofs::CrossingLemmas::part_laws))]
 
 ghost use Rattle.std.specs.Prelude.{◌≡◌, ℕ, ◌≤◌, ◌&&◌, ◌||◌, not, length};
 ghost use Rattle.engine_core.specs.Sets.{has_bit as is_set};

@@ -1,4 +1,5 @@
 //! The houses of a puzzle, their places, and the list of both.
+#![tactic(auto, using(crate::proofs::HouseLemmas::house_laws))]
 
 ghost use Rattle.std.specs.Prelude.{◌≡◌, ◌<◌, ◌≤◌, [], OnOk, length, slice_index, slice_index_or};
 ghost use Rattle.gameid_core.specs.Puzzles.{IsSolo, solo_n};
