@@ -20,3 +20,4 @@ mod CrossingLemmas
 mod CrossedLemmas
 mod ScopeLemmas
 mod SinglesInHouses
+pub mod LawSets

@@ -1,4 +1,5 @@
 //! The check of a grid.
+#![tactic(auto, using(crate::proofs::LawSets::check_laws))]
 
 ghost use Rattle.std.specs.Prelude.{◌≡◌};
 ghost use Rattle.grid_core.specs.Grids.{IsGrid};

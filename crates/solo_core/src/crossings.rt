@@ -1,4 +1,5 @@
 //! The crossings of a puzzle: each block with each row and each column that it meets.
+#![tactic(auto, using(crate::proofs::LawSets::crossings_laws))]
 
 ghost use Rattle.std.specs.Prelude.{◌≡◌, ℕ, ◌*◌, ◌<◌, ◌&&◌, ◌||◌, ◌==◌, [], OnOk, length};
 ghost use Rattle.gameid_core.specs.Puzzles.{solo_n};

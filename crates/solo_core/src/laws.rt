@@ -1,4 +1,5 @@
 //! What the rules of a search mean. These calls do nothing: their contracts are the laws.
+#![tactic(auto, using(crate::proofs::LawSets::laws_laws))]
 
 ghost use Rattle.std.specs.Prelude.{◌≡◌, ◌+◌, ◌*◌, length, if◌then◌else◌};
 ghost use Rattle.gameid_core.specs.Puzzles.{Solo, IsSolo, solo_n};

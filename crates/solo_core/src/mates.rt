@@ -1,4 +1,5 @@
 //! Which cell of a house has which value in one filling without repeat.
+#![tactic(auto, using(crate::proofs::LawSets::mates_laws))]
 
 ghost use Rattle.std.specs.Prelude.{◌≡◌, ℕ, ◌<◌, ◌≤◌, true, length, slice_index};
 ghost use Rattle.engine_core.specs.House.{AreDifferent};

@@ -1,4 +1,5 @@
 //! What a visit strikes before it pairs: by cells that have one value alone, and by values that one cell has alone.
+#![tactic(auto, using(crate::proofs::LawSets::peel_laws))]
 
 ghost use Rattle.std.specs.Prelude.{◌≡◌, ℕ, ◌<◌, ◌≤◌, ◌||◌, true, length};
 ghost use Rattle.engine_core.specs.Sets.{has_bit as is_set};

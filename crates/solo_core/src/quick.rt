@@ -1,4 +1,5 @@
 //! A pairing of the cells of a house with values that is found without a search.
+#![tactic(auto, using(crate::proofs::LawSets::quick_laws))]
 
 ghost use Rattle.std.specs.Prelude.{◌≡◌, ◌<◌, true, length};
 ghost use Rattle.solo_core.specs.Quick.{AllPaired, FirstPaired, OneMorePaired};

@@ -1,4 +1,5 @@
 //! What the numbers of a rule set's houses name.
+#![tactic(auto, using(crate::proofs::LawSets::scopes_laws))]
 
 ghost use Rattle.std.specs.Prelude.{◌≡◌, ◌*◌, ◌<◌, length, slice_index_or};
 ghost use Rattle.gameid_core.specs.Puzzles.{solo_n};

@@ -1,4 +1,5 @@
 //! What the houses of Solo strike.
+#![tactic(auto, using(crate::proofs::LawSets::strikes_laws))]
 
 ghost use Rattle.std.specs.Prelude.{◌≡◌, ℕ, ◌<◌, ◌≤◌, ◌^◌, sum_by, Bool, true, false, All, IfOk, List, length};
 ghost use Rattle.gameid_core.specs.Puzzles.{Solo, IsSolo, solo_n};

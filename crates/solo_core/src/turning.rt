@@ -1,4 +1,5 @@
 //! Whether a pairing of the cells of a house can be turned to each value that they have.
+#![tactic(auto, using(crate::proofs::LawSets::turning_laws))]
 
 ghost use Rattle.std.specs.Prelude.{◌≡◌, ℕ, ◌<◌, ◌≤◌, true, length, slice_index};
 ghost use Rattle.solo_core.specs.Bits.{HasMore, HasBefore};

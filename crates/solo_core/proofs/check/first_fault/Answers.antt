@@ -1,8 +1,5 @@
-use Rattle.solo_core.proofs.RepeatLemmas.{first_fault, solved}
+use Rattle.solo_core.proofs.RepeatLemmas.{first_fault}
 use Rattle.solo_core.proofs.check.first_fault.Goals as goal
-
-pub returns-in-None-clause-first : goal.returns-in-None-clause-first
-returns-in-None-clause-first c = solved c.args.puzzle.now c.repeating_house.ensures.lawful c.args.grid.now c.requires.fits c.in_default.ensures.first c.in-None.ensures.first
 
 pub returns-in-Some-repeating_house-clause-first : goal.returns-in-Some-repeating_house-clause-first
 returns-in-Some-repeating_house-clause-first c =

@@ -8,9 +8,6 @@ use Rattle.solo_core.specs.Scopes.{crossing_scopes}
 use Rattle.solo_core.proofs.ScopeLemmas.{crossing-named, crossings-length, scopes-length}
 use Rattle.solo_core.proofs.crossings.keep_crossed.Goals as goal
 
-pub crossing_at-block-requires : goal.crossing_at-block-requires
-crossing_at-block-requires c = omega (arith, c.requires.number_in, crossings-length c.args.puzzle.now, scopes-length c.args.puzzle.now)
-
 pub returns : goal.returns
 returns c =
     let inside : c.args.number < length (crossing_scopes c.args.puzzle.now) = omega (arith, c.requires.number_in, crossings-length c.args.puzzle.now, scopes-length c.args.puzzle.now) in

@@ -1,9 +1,6 @@
-use Rattle.std.proofs.Common.{◌∙◌, length}
-use Rattle.solo_core.proofs.MateLemmas.{rest-apart, house_pairing}
+use Rattle.std.proofs.Common.{◌∙◌}
+use Rattle.solo_core.proofs.MateLemmas.{house_pairing}
 use Rattle.solo_core.proofs.mates.write_mates.Goals as goal
-
-pub write_rest-requires-clause-different : goal.write_rest-requires-clause-different
-write_rest-requires-clause-different c = rest-apart (length c.args.sets.now) c.requires.alone.0 c.args.rest.now c.requires.alone.1
 
 pub returns : goal.returns
 returns c = house_pairing c.args.values c.requires.alone.0 c.args.sets.now c.args.rest.now _ c.write_own.new.mates c.write_rest.new.mates c.requires.alone.1 c.requires.alone.2

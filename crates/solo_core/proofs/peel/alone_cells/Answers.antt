@@ -2,12 +2,9 @@ use Rattle.std.proofs.Common.{not, sym, ◌∙◌, slice_index, bit_and, arith}
 use Rattle.std.proofs.lemmas.Bool.{and_parts, not-true}
 use Rattle.engine_core.specs.Sets.{has_bit}
 use Rattle.engine_core.proofs.BitLemmas.{bits-both}
-use Rattle.solo_core.proofs.PeelLemmas.{alone-none, alone-lone, alone-more}
+use Rattle.solo_core.proofs.PeelLemmas.{alone-lone, alone-more}
 use Rattle.solo_core.proofs.peel.alone_cells.Goals as goal
 use Rattle.solo_core.proofs.peel.alone_cells.Goals.{then-has_any, else-has_any}
-
-pub loop-k-init : goal.loop-k-init
-loop-k-init c = alone-none c.args.values c.args.sets.now
 
 pub loop-k-preserved : goal.loop-k-preserved
 loop-k-preserved c = elim c.if-has_any.branch [

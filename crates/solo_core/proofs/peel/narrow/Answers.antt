@@ -1,4 +1,4 @@
-use Rattle.std.proofs.Common.{◌≡◌, ℕ, Bool, true, false, not, ◌&&◌, true≢false, refl, sym, ap, ◌∙◌, bit_and, inl, inr}
+use Rattle.std.proofs.Common.{◌≡◌, ℕ, Bool, true, false, not, ◌&&◌, true≢false, refl, sym, ap, ◌∙◌, bit_and, inr}
 use Rattle.std.proofs.lemmas.Bool.{and_parts, not-true}
 use Rattle.engine_core.specs.Sets.{has_bit}
 use Rattle.engine_core.proofs.BitLemmas.{bits-both}
@@ -15,18 +15,6 @@ in_both set all out rest w bits on =
     let both = and_parts (has_bit set w) (has_bit rest w) (sym (bits-both set rest w) ∙ on) in
     let parts = and_parts (has_bit all w) (not (has_bit out w)) (sym (bits w) ∙ both.1) in
     (both.0, parts.0, not-true (has_bit out w) parts.1)
-
-pub returns-then-has_any-clause-inside : goal.returns-then-has_any-clause-inside
-returns-then-has_any-clause-inside c = λ v on. (in_both c.args.set c.all_below.result c.args.counts.shared c.without.result v c.without.ensures on).0
-
-pub returns-then-has_any-clause-dropped : goal.returns-then-has_any-clause-dropped
-returns-then-has_any-clause-dropped c = λ v lv on off.
-    let w = c.has_any.ensures.some c.if-has_any.true in
-    let h = in_both c.args.set c.all_below.result c.args.counts.shared c.without.result w.0 c.without.ensures w.1 in
-    (w.0, c.all_below.ensures.below w.0 h.1, h.0, λ e. true≢false (sym w.1 ∙ ap (has_bit (bit_and c.args.set c.without.result)) e ∙ off), inl h.2)
-
-pub returns-then-has_any-2-clause-inside : goal.returns-then-has_any-2-clause-inside
-returns-then-has_any-2-clause-inside c = λ v on. (in_both c.args.set c.all_below-2.result c.args.counts.single c.without-2.result v c.without-2.ensures on).0
 
 pub returns-then-has_any-2-clause-dropped : goal.returns-then-has_any-2-clause-dropped
 returns-then-has_any-2-clause-dropped c = λ v lv on off.

@@ -3,17 +3,8 @@ use Rattle.std.proofs.lemmas.Bool.{cases_eq}
 use Rattle.std.proofs.lemmas.List.{get_or-set_other, length-set}
 use Rattle.std.proofs.lemmas.Grind.{get_or-set_at}
 use Rattle.engine_core.specs.Sets.{has_bit}
-use Rattle.solo_core.proofs.PeelLemmas.{peeled-step, counts-none, counts-same, counts-more}
+use Rattle.solo_core.proofs.PeelLemmas.{peeled-step, counts-same, counts-more}
 use Rattle.solo_core.proofs.peel.narrow_all.Goals as goal
-
-pub loop-k-init : goal.loop-k-init
-loop-k-init c = record {
-  as_many = refl;
-  counts = counts-none c.args.sets.now _ _ _ c.no_counts-narrowed.ensures;
-  inside = λ j v lj on. absurd (omega arith);
-  dropped = λ j v lj lv on off. absurd (omega arith);
-  rest = λ j le. refl;
-}
 
 pub loop-k-preserved : goal.loop-k-preserved
 loop-k-preserved c =

@@ -1,8 +1,5 @@
-use Rattle.solo_core.proofs.PeelLemmas.{peeled-none, peeled-more}
+use Rattle.solo_core.proofs.PeelLemmas.{peeled-more}
 use Rattle.solo_core.proofs.peel.peel.Goals as goal
-
-pub loop-turn-init : goal.loop-turn-init
-loop-turn-init c = record { peeled = peeled-none c.args.values c.args.sets.now; counts = c.count-counts.ensures }
 
 pub loop-turn-preserved : goal.loop-turn-preserved
 loop-turn-preserved c = record {

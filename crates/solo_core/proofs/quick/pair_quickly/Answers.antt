@@ -1,18 +1,11 @@
-use Rattle.std.proofs.Common.{◌≡◌, Bool, true, false, not, ◌&&◌, eqb, slice_index, refl, sym, ap, ◌∙◌}
+use Rattle.std.proofs.Common.{◌≡◌, Bool, true, false, not, ◌&&◌, eqb, refl, sym, ap, ◌∙◌}
 use Rattle.std.proofs.lemmas.Bool.{and_parts, or_right, eq-eqb}
 use Rattle.engine_core.specs.Sets.{has_bit}
-use Rattle.solo_core.proofs.QuickLemmas.{begun-none}
 use Rattle.solo_core.proofs.quick.pair_quickly.Goals as goal
 
 and_false : (b : Bool) → (b && false) ≡ false
 and_false true = refl
 and_false false = refl
-
-pub loop-i-init : goal.loop-i-init
-loop-i-init c = record {
-  as_many = refl;
-  begun = begun-none c.args.joined.now.values c.args.joined.now.sets.now c.args.joined.now.rest.now (slice_index c.args.mates.now) c.all_below-free.result;
-}
 
 pub loop-i-preserved : goal.loop-i-preserved
 loop-i-preserved c =

@@ -8,12 +8,6 @@ use Rattle.solo_core.specs.Quick.{IsBegun}
 use Rattle.solo_core.proofs.QuickLemmas.{goes_on_swapped}
 use Rattle.solo_core.proofs.quick.swap.Goals as goal
 
-pub has_bit-requires : goal.has_bit-requires
-has_bit-requires c =
-    let low = c.requires.begun.in_range c.loop-j.j (omega arith) in
-    let few = c.args.joined.now.few in
-    omega (arith, low, few, ap (λ (xs : List ℕ). slice_index xs c.loop-j.j) c.loop-j.invariant)
-
 pub returns-in-Some-clause-on : goal.returns-in-Some-clause-on
 returns-in-Some-clause-on c =
     let n = c.args.joined.now.values in

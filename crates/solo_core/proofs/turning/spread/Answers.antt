@@ -2,9 +2,6 @@ use Rattle.std.proofs.Common.{arith}
 use Rattle.solo_core.proofs.TurningLemmas.{after-step, before-step}
 use Rattle.solo_core.proofs.turning.spread.Goals as goal
 
-pub loop-i-init : goal.loop-i-init
-loop-i-init c = record { after = λ root a. a; before = λ root b. b }
-
 pub loop-i-preserved : goal.loop-i-preserved
 loop-i-preserved c =
     let small = c.requires.small c.loop-i.i (omega arith) in

@@ -1,5 +1,0 @@
-use Rattle.solo_core.proofs.ScopeLemmas.{row_in}
-use Rattle.solo_core.proofs.scopes.row_crossing.Goals as goal
-
-pub returns-clause-line_of : goal.returns-clause-line_of
-returns-clause-line_of c = rw (c.from-c.ensures, c.c.ensures.value) ((row_in c.args.puzzle.now c.c.ensures.lawful c.args.m c.requires).1)
