@@ -280,9 +280,19 @@ impl Rules for PatternLines {
     }
 
     fn visit(&self, house: usize, board: &mut Board, scratch: &mut LineScratch) -> bool {
-        let line = Line { size: self.size, number: house, clue: &self.clues[house] };
+        let line = Line {
+            size: self.size,
+            number: house,
+            clue: &self.clues[house],
+        };
         let (places, sets) = (&mut scratch.places, &mut scratch.sets);
-        line.visit(board, places, sets, &mut scratch.rows, &mut scratch.long_rows)
+        line.visit(
+            board,
+            places,
+            sets,
+            &mut scratch.rows,
+            &mut scratch.long_rows,
+        )
     }
 
     fn keep(
