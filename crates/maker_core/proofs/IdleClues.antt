@@ -6,7 +6,7 @@ use Rattle.std.proofs.lemmas.List.{get_or-map, length-map}
 use Rattle.maker_core.specs.Thinning.{Game, IsGame, has_clue, IsThinnedFrom, HasTwo, IsReason, AreReasons, LeavesNoIdleClue}
 use Rattle.maker_core.specs.declared.made.Kept.{Kept}
 use Rattle.maker_core.specs.declared.made.Why.TheVariants.{Needed}
-use Rattle.maker_core.proofs.ThinningLists.{passes_kept}
+use Rattle.maker_core.proofs.FilteredRanges.{passes_kept}
 use Rattle.maker_core.proofs.ThinningTurns.{some_of, two_in}
 
 lacking_within : {A : Type 0} (game : Game A) → IsGame game → (p q : A) (place n : ℕ) → IsThinnedFrom game q p → game.clue p place ≡ Some n → has_clue game q place ≡ false
@@ -32,6 +32,6 @@ needed_at game budget all p kept place reasons needed listed =
 pub none_is_idle : {A : Type 0} (game : Game A) → IsGame game → LeavesNoIdleClue game
 none_is_idle game laws budget all p q kept place reasons needed w has lacks =
     let n = some_of (game.clue p place) has in
-    let listed = passes_kept (has_clue game p) 0 (game.cells p) place (omega arith) (omega (arith, laws.clue_in p place n.0 n.1)) has in
+    let listed = passes_kept (has_clue game p) (game.cells p) place (laws.clue_in p place n.0 n.1) has in
     two_in game laws _ _ (lacking_within game laws p q place n.0 w n.1 lacks)
     (needed_at game budget all p kept place reasons needed (subst (λ xs. Contains xs place) (sym reasons.places) listed))

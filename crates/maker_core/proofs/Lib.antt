@@ -26,10 +26,12 @@ pub mod Flips
 pub mod FlippedHouses
 pub mod SoloXSearch
 pub mod ThinningLemmas
-pub mod ThinningLists
+pub mod FilteredRanges
 pub mod ThinningTurns
 pub mod ThinningReasons
 pub mod PutBack
 pub mod SoloMakings
 pub mod IdleClues
 pub mod Switches
+mod WrittenGrids
+mod OnlySolutions

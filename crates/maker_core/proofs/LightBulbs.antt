@@ -1,57 +1,28 @@
 -- Bulbs that are placed in turn.
-use Rattle.std.proofs.Common.{◌≡◌, ℕ, zero, suc, ◌+◌, ◌<◌, Bool, true, false, List, [], ◌∷◌, ◌++◌, length, replicate, get_or, get_or-set_other, append-nil, refl, sym, ap, ◌∙◌, arith, add-one, inl, inr, cond, length-set}
+use Rattle.std.proofs.Common.{◌≡◌, ℕ, zero, suc, ◌+◌, Bool, true, false, List, replicate, refl, sym, ap, ◌∙◌, arith, add-one}
 use Rattle.std.specs.Prelude.{◌||◌, slice_index, slice_set, filter}
 use Rattle.std.specs.List.{range_with_len}
-use Rattle.std.proofs.lemmas.Bool.{cases_eq, eq-eqb, ne_eqb, or_left, or_right}
-use Rattle.std.proofs.lemmas.Grind.{get_or-set_at}
-use Rattle.std.proofs.lemmas.List.Elements.{filter-append}
-use Rattle.std.proofs.lemmas.List.{length-replicate, get_or-replicate}
+use Rattle.std.proofs.lemmas.Bool.{eq-eqb, ne_eqb, or_left, or_right}
 use Rattle.grid_core.specs.Grids.{IsGrid}
 use Rattle.gameid_core.specs.Puzzles.{Light}
 use Rattle.fields_core.specs.Light.{light_cells, white, bulb, sees_bulb}
 use Rattle.maker_core.specs.LightFilling.{with_bulb, bulbs_after, white_places}
-use Rattle.maker_core.proofs.DrawSteps.{range_more}
+use Rattle.maker_core.proofs.DrawsBelow.{if_either}
+use Rattle.maker_core.proofs.WrittenGrids.{grid_with, zeros-grid}
 
 -- ---- the white cells
-pub filter_more : (test : ℕ → Bool) (k : ℕ) → filter test (range_with_len 0 (k + 1)) ≡ filter test (range_with_len 0 k) ++ cond (test k) (k ∷ []) []
-filter_more test k = ap (filter test) (range_more k) ∙ filter-append test (range_with_len 0 k) (k ∷ [])
-
-pub white_skip : (p : Light) (k : ℕ) (test : Bool) (xs : List ℕ) → xs ≡ filter (white p) (range_with_len 0 k) → test ≡ white p k → test ≡ false
-    → xs ≡ filter (white p) (range_with_len 0 (k + 1))
-white_skip p k test xs before is off =
-    before ∙ sym (append-nil (filter (white p) (range_with_len 0 k)))
-    ∙ ap (λ b. filter (white p) (range_with_len 0 k) ++ cond b (k ∷ []) []) (sym off ∙ is) ∙ sym (filter_more (white p) k)
-
-pub white_more : (p : Light) (k : ℕ) (test : Bool) (xs ys : List ℕ) → xs ≡ filter (white p) (range_with_len 0 k) → test ≡ white p k → test ≡ true → ys ≡ xs ++ k ∷ []
-    → ys ≡ filter (white p) (range_with_len 0 (k + 1))
-white_more p k test xs ys before is on now =
-    now ∙ ap (λ zs. zs ++ k ∷ []) before ∙ ap (λ b. filter (white p) (range_with_len 0 k) ++ cond b (k ∷ []) []) (sym on ∙ is) ∙ sym (filter_more (white p) k)
-
 pub white_all : (p : Light) (k : ℕ) (xs : List ℕ) → xs ≡ filter (white p) (range_with_len 0 k) → k ≡ light_cells p → xs ≡ white_places p
 unfolding white_places
 white_all p k xs is all = is ∙ ap (λ n. filter (white p) (range_with_len 0 n)) all
 
 -- ---- the bulbs
-pub set_value : (g : List ℕ) (c k d : ℕ) → ((k d : ℕ) → k < length g → get_or g k d < 2) → k < length g → get_or (slice_set g c 1) k d < 2
-set_value g c k d small lt = elim (cases_eq k c) [
-  | inl e ↦ rw (get_or-set_at g c k 1 d e (let same = e in omega arith)) (omega arith)
-  | inr ne ↦ rw (get_or-set_other g c k 1 d ne) (small k d lt)
-]
-
-with_bulb-grid : (p : Light) (g : List ℕ) (c : ℕ) (b : Bool) → IsGrid (light_cells p) 2 g → IsGrid (light_cells p) 2 (cond b g (slice_set g c 1))
-with_bulb-grid p g c true grid = grid
-with_bulb-grid p g c false grid = record {
-  each_cell = length-set g c 1 ∙ grid.each_cell;
-  each_value = λ k d lt. set_value g c k d grid.each_value (let l = length-set g c 1 in omega arith);
-}
-
 pub bulbs_after-grid : (p : Light) (order : List ℕ) (k : ℕ) → IsGrid (light_cells p) 2 (bulbs_after p order k)
 unfolding bulbs_after with_bulb
-bulbs_after-grid p order zero = record {
-  each_cell = length-replicate (light_cells p) 0;
-  each_value = λ k d lt. rw (get_or-replicate (light_cells p) k 0 d (let l = length-replicate {A = ℕ} (light_cells p) 0 in omega arith)) (omega arith);
-}
-bulbs_after-grid p order (suc k) = with_bulb-grid p (bulbs_after p order k) (slice_index order k) _ (bulbs_after-grid p order k)
+bulbs_after-grid p order zero = zeros-grid (light_cells p)
+bulbs_after-grid p order (suc k) =
+    let before = bulbs_after-grid p order k in
+    if_either (IsGrid (light_cells p) 2) (bulb (bulbs_after p order k) (slice_index order k) || sees_bulb p (bulbs_after p order k) (slice_index order k)) _ _
+    (λ held. before) (λ none. grid_with (light_cells p) (slice_index order k) 1 _ _ (omega arith) refl before)
 
 pub bulbs_none : (p : Light) (order : List ℕ) → replicate (light_cells p) 0 ≡ bulbs_after p order 0
 unfolding bulbs_after

@@ -1,10 +1,11 @@
 -- The cells of a puzzle of Light Up, rewritten one by one.
-use Rattle.std.proofs.Common.{◌≡◌, ℕ, ◌+◌, ◌*◌, ◌<◌, ◌≤◌, Bool, true, false, List, [], ◌∷◌, length, map, get_or, get_or-set_other, refl, sym, ap, subst, ◌∙◌, arith, inl, inr}
+use Rattle.std.proofs.Common.{◌≡◌, ℕ, ◌+◌, ◌*◌, ◌<◌, ◌≤◌, Bool, true, false, List, length, map, get_or, get_or-set_other, refl, sym, ap, subst, ◌∙◌, arith, inl, inr}
 use Rattle.std.specs.Prelude.{◌==◌, if◌then◌else◌, slice_set, count_by}
 use Rattle.std.specs.List.{range_with_len}
 use Rattle.std.proofs.lemmas.Bool.{cases_eq, true≢false}
 use Rattle.std.proofs.lemmas.Grind.{common_steps, get_or-set_at}
 use Rattle.std.proofs.lemmas.List.{same_lists, get_or_default, get_or-map, length-map}
+use Rattle.std.proofs.lemmas.List.Sums.{count_by-le-length}
 use Rattle.std.proofs.lemmas.List.FromFn.{get_or-map-range_with_len, length-map-range_with_len}
 use Rattle.grid_core.specs.Extent.{Extent}
 use Rattle.gameid_core.specs.Puzzles.{Light}
@@ -12,10 +13,8 @@ use Rattle.gameid_core.specs.declared.light_cell.LightCell.{LightCell}
 use Rattle.gameid_core.specs.declared.light_cell.LightCell.TheVariants.{White, Black, Numbered}
 use Rattle.grid_core.specs.Regions.{beside}
 use Rattle.fields_core.specs.Light.{light_cells, white, is_white, bulb, bulbs_beside}
-use Rattle.fields_core.proofs.PlaceLists.{count-cons}
 use Rattle.fields_core.proofs.StepLaws.{steps-few}
 use Rattle.maker_core.specs.LightFilling.{lights_of, numbered_cell, with_numbers}
-use Rattle.maker_core.proofs.BlackCells.{bit_below}
 
 -- the cells below `place` are the new ones, and the others the old ones
 pub record IsRewritten (size : Extent) (new old : ℕ → LightCell) (place : ℕ) (p : Light) : Type 0 where
@@ -32,10 +31,6 @@ white_cell k = White
 
 abbrev pub old_cell : Light → ℕ → LightCell
 old_cell p k = get_or p.cells k Black
-
-pub IsRewritten-none : (size : Extent) (new old : ℕ → LightCell) (p : Light) → p.size ≡ size → length p.cells ≡ size.w * size.h
-    → ((k : ℕ) → k < size.w * size.h → get_or p.cells k Black ≡ old k) → IsRewritten size new old 0 p
-IsRewritten-none size new old p sized long was = record { sized = sized; long = long; now = λ k lt _. absurd (omega arith); before = λ k _ lt. was k lt }
 
 -- a cell that is left as it is
 pub IsRewritten-left : (size : Extent) (new old : ℕ → LightCell) (place : ℕ) (p : Light) → IsRewritten size new old place p
@@ -110,9 +105,6 @@ numbered_here size p q r g place bulbs n test w same within is off count cast re
     IsRewritten-more size (numbered_cell p g) (old_cell p) place q r (Numbered n) w within rewritten
     (ap Numbered (cast ∙ count ∙ ap (λ (s : Extent). count_by (bulb g) (beside s place)) (w.sized ∙ same)) ∙ ap (λ b. if b then White else Numbered (bulbs_beside p g place)) (sym here))
 
-pub numbers_start : (p : Light) (g : List ℕ) → length p.cells ≡ light_cells p → IsRewritten p.size (numbered_cell p g) (old_cell p) 0 p
-numbers_start p g long = IsRewritten-none p.size (numbered_cell p g) (old_cell p) p refl long (λ k lt. refl)
-
 pub numbered_all : (p q : Light) (g : List ℕ) (place : ℕ) → IsRewritten p.size (numbered_cell p g) (old_cell p) place q → light_cells p ≤ place → q ≡ with_numbers p g
 unfolding with_numbers
 numbered_all p q g place w all =
@@ -120,10 +112,6 @@ numbered_all p q g place w all =
     (length-map-range_with_len (numbered_cell p g) 0 (light_cells p))
     (λ k lt. get_or-map-range_with_len (numbered_cell p g) 0 (light_cells p) k k Black lt (omega arith))
 
-count-few : (test : ℕ → Bool) (xs : List ℕ) → count_by test xs ≤ length xs
-count-few test [] = omega arith
-count-few test (x ∷ xs) = let rest = count-few test xs in let here = bit_below (test x) in rw (count-cons test x xs) (omega arith)
-
 -- a cell has at most four beside it
 pub bulbs_few : (p : Light) (g : List ℕ) (c : ℕ) → bulbs_beside p g c ≤ 4
-bulbs_few p g c = let a = count-few (bulb g) (beside p.size c) in let b = steps-few p.size c 4 in omega arith
+bulbs_few p g c = let a = count_by-le-length (bulb g) (beside p.size c) in let b = steps-few p.size c 4 in omega arith

@@ -62,10 +62,6 @@ pub puzzle_is : (size : Extent) (cells bulbs : List ℕ) (p q : Light) → p ≡
 unfolding light_puzzle_of
 puzzle_is size cells bulbs p q blacks numbers = numbers ∙ ap (λ r. with_numbers r bulbs) blacks
 
-pub cells_are : (size : Extent) (cells : List ℕ) → light_cells (lights_of size cells) ≡ size.w * size.h
-unfolding lights_of
-cells_are size cells = refl
-
 -- black cells alone
 colour_of : (v : ℕ) → v ≡ 1 → is_white (if v == 1 then Black else White) ≡ false
 colour_of v e = ap (λ b. is_white (if b then Black else White)) (eq-eqb v 1 e)

@@ -1,5 +1,5 @@
 -- What a try at a puzzle of Light Up shows: that the first filling that passes was made, or that it failed.
-use Rattle.std.proofs.Common.{◌≡◌, ℕ, suc, ◌+◌, ◌<◌, Bool, true, false, not, ◌&&◌, List, slice_index, refl, sym, ap, subst, ◌∙◌, arith, inl, inr}
+use Rattle.std.proofs.Common.{◌≡◌, ℕ, suc, ◌+◌, ◌<◌, Bool, true, false, not, ◌&&◌, List, slice_index, sym, ap, subst, ◌∙◌, arith, inl, inr}
 use Rattle.std.specs.Prelude.{◌==◌, ◌↔◌, IsTrue}
 use Rattle.std.proofs.lemmas.Bool.{true≢false, and_parts, or_cases, eqb-true, eq-eqb, cases_eq}
 use Rattle.rand_core.specs.Stream.{Stream}
@@ -13,7 +13,6 @@ use Rattle.fields_core.specs.Light.{light_cells, white, black_right, is_lit}
 use Rattle.fields_core.specs.LightHouses.{light_rules}
 use Rattle.fields_core.specs.LightSolutions.{IsLightSolution}
 use Rattle.engine_core.specs.Puzzle.{IsGridOf}
-use Rattle.engine_core.specs.Verdict.{Solves}
 use Rattle.fields_core.proofs.LightFaultLemmas.{lit-parts}
 use Rattle.maker_core.specs.declared.made.Kept.{Kept}
 use Rattle.maker_core.specs.Draws.{IsFirstPassing, filling_at, stream_after}
@@ -23,6 +22,7 @@ use Rattle.maker_core.specs.LightMaking.{IsLightMade}
 use Rattle.maker_core.specs.Made.{is_one, has_one, TellsOne, IsOnlySolution}
 use Rattle.maker_core.specs.Thinning.{IsOnly, IsThinnedFrom, AreReasons, stream_after_clues}
 use Rattle.maker_core.proofs.FoundAtOnce.{IsKnown, found_at_once}
+use Rattle.maker_core.proofs.OnlySolutions.{only_is}
 use Rattle.maker_core.proofs.Tries.{IsTrying, IsTrying-more, first_passing, left_by}
 
 -- ---- black cells alone
@@ -56,8 +56,7 @@ black_passes p g budget known grid lit black =
 pub lights_only : (p : Light) (g answer : List ℕ) → ((q : Light) (h : List ℕ) → IsGridOf (light_rules q) h → (IsTrue ((light_rules q).is_solution h)) ↔ IsLightSolution q h)
     → answer ≡ g → IsOnly (light_rules p) g → IsOnlySolution (IsLightSolution p) answer
 lights_only p g answer accepted is only =
-    let solves : (h : List ℕ) → IsLightSolution p h → Solves (light_rules p) h = λ h s. record { grid = s.grid; good = (accepted p h s.grid).1 s } in
-    subst (λ (a : List ℕ). IsOnlySolution (IsLightSolution p) a) (sym is) ((accepted p g only.0.grid).0 only.0.good, λ h s. sym (only.1 h (solves h s)))
+    subst (IsOnlySolution (IsLightSolution p)) (sym is) (only_is (light_rules p) (IsLightSolution p) (λ h s. s.grid) (accepted p) g only)
 
 -- ---- a try
 -- what a try made of the generator that the last one left
@@ -127,14 +126,3 @@ made_lights size black budget tries s p g made kept taken sized only same found 
   verdict = subst (TellsOne (light_rules p) budget) (sym same) found;
   reasons = reasons_are budget p g made kept same reasons;
 }
-
--- where each cell is black the first try is the last
-pub record IsFullFirst (black done : ℕ) : Type 0 where
-  pub sure : black ≡ 100 → done ≡ 0
-
-pub IsFullFirst-none : (black : ℕ) → IsFullFirst black 0
-IsFullFirst-none black = record { sure = λ e. refl }
-
-pub IsFullFirst-more : (black done : ℕ) (p : Light) (passed : Bool) → (black ≡ 100 → (c : ℕ) → white p c ≡ false) → (((c : ℕ) → white p c ≡ false) → passed ≡ true) → passed ≡ false
-    → IsFullFirst black (done + 1)
-IsFullFirst-more black done p passed full passes failed = record { sure = λ e. absurd (true≢false (sym (passes (full e)) ∙ failed)) }

@@ -2,7 +2,8 @@
 use Rattle.std.proofs.Common.{◌≡◌, ℕ, ◌+◌, ◌*◌, ◌/◌, ◌%◌, ◌<◌, Bool, true, false, not, ◌&&◌, List, eqb, length, get_or, map, refl, sym, ap, ◌∙◌, arith, inl, inr}
 use Rattle.std.specs.Prelude.{◌||◌, ◌==◌, if◌then◌else◌}
 use Rattle.std.specs.List.{range_with_len}
-use Rattle.std.proofs.lemmas.Bool.{cases_lt, true≢false, and_parts, and_from, or_cases, or_left, or_right, eqb-true, eq-eqb}
+use Rattle.std.proofs.lemmas.Bool.{cases_lt, and_parts, and_from, or_cases, or_left, or_right, eq-eqb}
+use Rattle.std.proofs.lemmas.Cmp.{nat_eq_equiv}
 use Rattle.std.proofs.lemmas.List.{get_or_past}
 use Rattle.std.proofs.lemmas.List.FromFn.{get_or-map-range_with_len, length-map-range_with_len}
 use Rattle.grid_core.proofs.CandidateLemmas.{any_below-here, any_below-some}
@@ -56,17 +57,11 @@ pub sees_back : (p : Light) (a b : ℕ) → white p a ≡ true → sees p a b �
 unfolding sees
 sees_back p a b on seen =
     let parts = and_parts (not (eqb a b)) _ seen in
-    and_from _ _ (apart (eqb a b) (eqb b a) parts.0 (λ e. eq-eqb a b (sym (eqb-true b a e))))
+    and_from _ _ (ap not (nat_eq_equiv.symm b a) ∙ parts.0)
     (elim (or_cases (joined_in_row p a b) (joined_in_column p a b) parts.1) [
       | inl row ↦ or_left _ _ (row-both p a b a row (row-self p a on))
       | inr column ↦ or_right _ _ (column-both p a b a column (column-self p a on))
     ])
-  where
-    apart : (t u : Bool) → not t ≡ true → (u ≡ true → t ≡ true) → not u ≡ true
-    apart true u e back = absurd (true≢false (sym e))
-    apart false true e back = absurd (true≢false (sym (back refl)))
-    apart false false e back = refl
-
 pub sees_itself : (p : Light) (a : ℕ) → sees p a a ≡ false
 unfolding sees
 sees_itself p a = ap (λ t. not t && (joined_in_row p a a || joined_in_column p a a)) (eq-eqb a a refl)

@@ -1,13 +1,13 @@
 -- White cells that were taken in turn, in any order, hold or see a bulb, and no bulb sees a bulb: the grid solves the
 -- puzzle with all numbers.
-use Rattle.std.proofs.Common.{◌≡◌, ℕ, zero, suc, ◌<◌, ◌≤◌, Bool, true, false, not, cond, List, [], ◌∷◌, ◌++◌, add-one, subst, length, get_or, get_or-set_other, refl, sym, ap, ◌∙◌, arith, inl, inr, ◌⊎◌, replicate}
-use Rattle.std.specs.Prelude.{◌||◌, ◌==◌, slice_index, slice_set, if◌then◌else◌, filter, Contains, IsPermutation}
-use Rattle.std.proofs.lemmas.Bool.{cases_lt, cases_eq, true≢false, false_from_ne_true, and_parts, or_cases, or_left, or_right, eqb-true, eq-eqb}
+use Rattle.std.proofs.Common.{◌≡◌, ℕ, zero, suc, ◌<◌, ◌≤◌, Bool, true, false, not, List, length, get_or, refl, sym, ap, ◌∙◌, arith, inl, inr, replicate}
+use Rattle.std.specs.Prelude.{◌||◌, slice_index, slice_set, if◌then◌else◌, IsPermutation}
+use Rattle.std.proofs.lemmas.Bool.{cases_eq, true≢false, false_from_ne_true, and_parts, or_cases, or_left, or_right, eq-eqb}
 use Rattle.std.proofs.lemmas.Grind.{get_or-set_at}
-use Rattle.std.proofs.lemmas.List.Elements.{filter_passes, All-contains, Contains-get_or, Contains-append_left, Contains-append_right}
+use Rattle.std.proofs.lemmas.List.Elements.{filter_passes, All-contains, Contains-get_or}
 use Rattle.std.proofs.lemmas.List.Sorted.{Contains-permutation, IsPermutation-sym}
 use Rattle.std.specs.List.{range_with_len}
-use Rattle.std.proofs.lemmas.List.{get_or-replicate, length-replicate, get_or_past, get_or_default}
+use Rattle.std.proofs.lemmas.List.{get_or_default}
 use Rattle.grid_core.proofs.CandidateLemmas.{all_below-from}
 use Rattle.grid_core.specs.Grids.{IsGrid}
 use Rattle.gameid_core.specs.Puzzles.{Light}
@@ -18,7 +18,9 @@ use Rattle.fields_core.proofs.LightFaultLemmas.{lit-from}
 use Rattle.fields_core.proofs.LightHouseLaws.{white-in}
 use Rattle.fields_core.proofs.LightSight.{bulb-in}
 use Rattle.maker_core.specs.LightFilling.{white_places, with_bulb, bulbs_after, numbered_cell, with_numbers}
-use Rattle.maker_core.proofs.LightBulbs.{filter_more, bulbs_after-grid, with_bulb-held, with_bulb-new}
+use Rattle.maker_core.proofs.FilteredRanges.{passes_kept}
+use Rattle.maker_core.proofs.LightBulbs.{bulbs_after-grid, with_bulb-held, with_bulb-new}
+use Rattle.maker_core.proofs.WrittenGrids.{new_or_old, no_one, old_stays}
 use Rattle.maker_core.proofs.LightSight.{number_at, same_white, same_sees, sees_back, sees_itself, seen_bulb, bulb_seen}
 
 -- the first k cells of the order hold or see a bulb, bulbs stand on white cells and none sees another
@@ -27,21 +29,10 @@ pub record IsPlanted (p : Light) (order g : List ℕ) (k : ℕ) : Type 0 where
   pub apart : (c d : ℕ) → bulb g c ≡ true → bulb g d ≡ true → sees p c d ≡ false
   pub lit : (j : ℕ) → j < k → (bulb g (slice_index order j) || sees_bulb p g (slice_index order j)) ≡ true
 
-pub no_bulb : (n c : ℕ) → bulb (replicate n 0) c ≡ true → ⊥
-no_bulb n c on =
-    let zeros : List ℕ = replicate n 0 in
-    let one : slice_index zeros c ≡ 1 = eqb-true (slice_index zeros c) 1 on in
-    let l : length zeros ≡ n = length-replicate {A = ℕ} n 0 in
-    let none : slice_index zeros c ≡ 0 = elim (cases_lt c n) [
-      | inl low ↦ get_or-replicate n c 0 0 low
-      | inr high ↦ get_or_past zeros c 0 (omega arith)
-    ] in
-    absurd (omega arith)
-
 planted_none : (p : Light) (order : List ℕ) → IsPlanted p order (replicate (light_cells p) 0) 0
 planted_none p order = record {
-  on_white = λ c on. absurd (no_bulb (light_cells p) c on);
-  apart = λ c d on _. absurd (no_bulb (light_cells p) c on);
+  on_white = λ c on. absurd (no_one (light_cells p) c on);
+  apart = λ c d on _. absurd (no_one (light_cells p) c on);
   lit = λ j lt. absurd (omega arith);
 }
 
@@ -56,18 +47,6 @@ planted_held p order g k w held = record {
 }
 
 -- ---- a new bulb
-pub new_or_old : (g : List ℕ) (c d : ℕ) → bulb (slice_set g c 1) d ≡ true → (d ≡ c) ⊎ (bulb g d ≡ true)
-new_or_old g c d on = elim (cases_eq d c) [
-  | inl e ↦ inl e
-  | inr ne ↦ inr (ap (λ v. v == 1) (sym (get_or-set_other g c d 1 0 ne)) ∙ on)
-]
-
-pub old_stays : (g : List ℕ) (c d : ℕ) → c < length g → bulb g d ≡ true → bulb (slice_set g c 1) d ≡ true
-old_stays g c d lt on = elim (cases_eq d c) [
-  | inl e ↦ eq-eqb _ _ (get_or-set_at g c d 1 0 e lt)
-  | inr ne ↦ ap (λ v. v == 1) (get_or-set_other g c d 1 0 ne) ∙ on
-]
-
 lit_stays : (p : Light) (g : List ℕ) (c d : ℕ) → c < length g → (bulb g d || sees_bulb p g d) ≡ true → (bulb (slice_set g c 1) d || sees_bulb p (slice_set g c 1) d) ≡ true
 lit_stays p g c d lt on = elim (or_cases (bulb g d) (sees_bulb p g d) on) [
   | inl own ↦ or_left _ _ (old_stays g c d lt own)
@@ -179,22 +158,11 @@ order_white p order mixed j lt =
     All-contains (λ c. white p c ≡ true) (white_places p) (slice_index order j) (filter_passes (white p) (range_with_len 0 (light_cells p)))
     (Contains-permutation order (white_places p) (slice_index order j) (IsPermutation-sym (white_places p) order mixed) (Contains-get_or order j 0 lt))
 
-listed : (test : ℕ → Bool) (n c : ℕ) → c < n → test c ≡ true → Contains (filter test (range_with_len 0 n)) c
-listed test zero c lt on = absurd (omega arith)
-listed test (suc n) c lt on = elim (cases_eq c n) [
-  | inl e ↦ subst (λ xs. Contains xs c) (sym now) (Contains-append_right (filter test (range_with_len 0 n)) (cond (test n) (n ∷ []) []) c
-      (subst (λ b. Contains (cond b (n ∷ []) []) c) (sym on ∙ ap test e) (subst (λ x. Contains (n ∷ []) x) (sym e) (0, omega arith, refl))))
-  | inr ne ↦ subst (λ xs. Contains xs c) (sym now) (Contains-append_left (filter test (range_with_len 0 n)) (cond (test n) (n ∷ []) []) c (listed test n c (omega arith) on))
-]
-  where
-    now : filter test (range_with_len 0 (suc n)) ≡ filter test (range_with_len 0 n) ++ cond (test n) (n ∷ []) []
-    now = ap (λ k. filter test (range_with_len 0 k)) (sym (add-one n)) ∙ filter_more test n
-
 order_each : (p : Light) (order : List ℕ) → length p.cells ≡ light_cells p → IsPermutation (white_places p) order → (c : ℕ) → white p c ≡ true
     → (j : ℕ) × (j < length order) × (slice_index order j ≡ c)
 unfolding white_places
 order_each p order long mixed c on =
-    let w = Contains-permutation (white_places p) order c mixed (listed (white p) (light_cells p) c (white-in p c long on) on) in
+    let w = Contains-permutation (white_places p) order c mixed (passes_kept (white p) (light_cells p) c (white-in p c long on) on) in
     (w.0, w.1, get_or_default order w.0 0 c w.1 ∙ w.2)
 
 pub lit_solved : (p : Light) (order g : List ℕ) → length p.cells ≡ light_cells p → IsPermutation (white_places p) order → g ≡ bulbs_after p order (length order)

@@ -1,7 +1,7 @@
 -- The puzzle of a grid has the runs of its lines as clues, and the grid is a solution of it.
-use Rattle.std.proofs.Common.{◌≡◌, ℕ, ◌+◌, ◌-◌, ◌*◌, ◌<◌, List, [], length, subst, ◌⊎◌, Bool, true, false, refl, sym, ap, ◌∙◌, arith, inl, inr}
+use Rattle.std.proofs.Common.{◌≡◌, ℕ, ◌+◌, ◌-◌, ◌*◌, ◌<◌, List, [], length, subst, refl, sym, ap, ◌∙◌, arith, inl, inr}
 use Rattle.std.specs.Prelude.{slice_index_or, IsTrue, ◌↔◌}
-use Rattle.std.proofs.lemmas.Bool.{cases_lt, lt-ltb, le-ltb, true≢false}
+use Rattle.std.proofs.lemmas.Bool.{cases_lt, lt-ltb, le-ltb}
 use Rattle.std.proofs.lemmas.List.{same_lists, get_or_default}
 use Rattle.std.proofs.lemmas.List.FromFn.{get_or-map-range_with_len, length-map-range_with_len}
 use Rattle.grid_core.specs.Extent.{Extent}
@@ -11,10 +11,9 @@ use Rattle.gameid_core.specs.Lines.{line_list, lines_runs}
 use Rattle.gameid_core.specs.Puzzles.{Pattern, lines_of}
 use Rattle.pattern_core.specs.LineRules.{line_rules}
 use Rattle.pattern_core.specs.Solutions.{IsPatternSolution}
-use Rattle.engine_core.specs.Verdict.{Solves}
 use Rattle.maker_core.specs.Made.{HasOne, TellsOne, IsOnlySolution}
-use Rattle.maker_core.specs.Draws.{AreAll}
 use Rattle.maker_core.specs.PatternMaking.{clued_by}
+use Rattle.maker_core.proofs.OnlySolutions.{one_is}
 
 -- a puzzle with those clues
 pub record HasRuns (size : Extent) (g : List ℕ) (p : Pattern) : Type 0 where
@@ -66,22 +65,4 @@ pub pattern_only : (p : Pattern) (g : List ℕ)
     → ((q : Pattern) (h : List ℕ) → IsGrid (q.size.w * q.size.h) 2 h → (IsTrue ((line_rules q).is_solution h)) ↔ IsPatternSolution q h)
     → (budget : ℕ) → HasOne (line_rules p) budget
     → IsPatternSolution p g → IsOnlySolution (IsPatternSolution p) g × TellsOne (line_rules p) budget g
-pattern_only p g accepted budget one good =
-    let solves : (h : List ℕ) → IsPatternSolution p h → Solves (line_rules p) h = λ h s. record { grid = s.grid; good = (accepted p h s.grid).1 s } in
-    let same = one.only.1 g (solves g good) in
-    ((good, λ h s. sym (one.only.1 h (solves h s)) ∙ same), subst (TellsOne (line_rules p) budget) same one.found)
-
--- with one colour alone the first try is the last
-pub record IsFirstSure (black done : ℕ) : Type 0 where
-  pub sure : (black ≡ 0) ⊎ (black ≡ 100) → done ≡ 0
-
-pub IsFirstSure-more : (black done : ℕ) (g : List ℕ) (passed : Bool) → (black ≡ 0 → AreAll 0 g) → (black ≡ 100 → AreAll 1 g)
-    → (AreAll 0 g ⊎ AreAll 1 g → passed ≡ true) → passed ≡ false → IsFirstSure black (done + 1)
-IsFirstSure-more black done g passed white full passes failed = record { sure = λ plain. absurd (true≢false (sym (passes (colour plain)) ∙ failed)) }
-  where
-    colour : (black ≡ 0) ⊎ (black ≡ 100) → AreAll 0 g ⊎ AreAll 1 g
-    colour (inl e) = inl (white e)
-    colour (inr e) = inr (full e)
-
-pub IsFirstSure-none : (black : ℕ) → IsFirstSure black 0
-IsFirstSure-none black = record { sure = λ plain. refl }
+pattern_only p g accepted budget one good = one_is (line_rules p) (IsPatternSolution p) (λ h s. s.grid) (accepted p) g budget one good

@@ -4,7 +4,8 @@
 use Rattle.std.proofs.Common.{◌≡◌, ℕ, ◌+◌, ◌-◌, ◌*◌, ◌/◌, ◌<◌, ◌≤◌, eqb, List, ◌++◌, [], map, length, slice_index, get_or, sym, ap, ◌∙◌, inl, inr, arith, true≢false}
 use Rattle.std.specs.Prelude.{IsPermutation}
 use Rattle.std.specs.List.{IsDistinct, range_with_len}
-use Rattle.std.proofs.lemmas.Bool.{cases_lt, cases_eq, eq-eqb, ne_eqb}
+use Rattle.std.proofs.lemmas.Bool.{cases_lt, eq-eqb, ne_eqb}
+use Rattle.std.proofs.lemmas.Cmp.{nat_eq_equiv}
 use Rattle.std.proofs.lemmas.Nat.{mul-le, div_below, div-mul-add, mod_below, div-add-mod'}
 use Rattle.std.proofs.lemmas.List.{length-map, length-append, get_or-map, get_or_append_left, get_or-append_right}
 use Rattle.std.proofs.lemmas.List.Elements.{All-get_or, All-from_get_or}
@@ -33,12 +34,6 @@ range_distinct n = IsDistinct-from_apart eqb (range_with_len 0 n) (λ i j d belo
     let at' = get_or-range_with_len 0 n j d (omega arith) in
     ne_eqb _ _ (λ same. omega arith))
 
-eqb_flips : (x y : ℕ) → eqb x y ≡ eqb y x
-eqb_flips x y = elim (cases_eq x y) [
-  | inl e ↦ eq-eqb x y e ∙ sym (eq-eqb y x (sym e))
-  | inr ne ↦ ne_eqb x y ne ∙ sym (ne_eqb y x (λ e. ne (sym e)))
-]
-
 distinct_places : (xs : List ℕ) → IsDistinct eqb xs → (j k : ℕ) → j < k → k < length xs → slice_index xs j ≡ slice_index xs k → ⊥
 distinct_places xs distinct j k lt within same =
     true≢false (sym (eq-eqb (slice_index xs j) (slice_index xs k) same) ∙ apart_from_distinct eqb xs j k 0 distinct lt within)
@@ -47,7 +42,7 @@ pub order_from_permutation : (n : ℕ) (xs : List ℕ) → IsPermutation (range_
 order_from_permutation n xs p =
     let long = length_permutation (range_with_len 0 n) xs p ∙ length-range_with_len 0 n in
     let all = All-permutation (λ v. v < n) (range_with_len 0 n) xs p (All-from_get_or (λ v. v < n) (range_with_len 0 n) 0 (range_below n)) in
-    let distinct = IsDistinct-IsPermutation eqb eqb_flips (range_with_len 0 n) xs p (range_distinct n) in
+    let distinct = IsDistinct-IsPermutation eqb nat_eq_equiv.symm (range_with_len 0 n) xs p (range_distinct n) in
     record {
       len = long;
       within = λ k lt. All-get_or (λ v. v < n) xs k 0 (omega arith) all;

@@ -2,8 +2,7 @@
 use Rattle.std.proofs.Common.{◌≡◌, ◌≢◌, ℕ, ◌*◌, ◌<◌, Bool, true, false, List, length, refl, sym, ap, ◌∙◌, arith, not, Option, Some, None}
 use Rattle.std.specs.Prelude.{slice_index, slice_set, is_some, IsTrue, ◌↔◌}
 use Rattle.std.proofs.lemmas.Bool.{true≢false}
-use Rattle.std.proofs.lemmas.List.{length-set, get_or-set_same}
-use Rattle.std.proofs.lemmas.List.Elements.{All-set}
+use Rattle.std.proofs.lemmas.List.{get_or-set_same}
 use Rattle.grid_core.specs.Grids.{IsGrid}
 use Rattle.gameid_core.specs.Puzzles.{Pattern}
 use Rattle.engine_core.specs.Puzzle.{Puzzle}
@@ -14,13 +13,8 @@ use Rattle.pattern_core.specs.LineRules.{line_rules}
 use Rattle.pattern_core.specs.Solutions.{IsPatternSolution}
 use Rattle.maker_core.specs.Made.{is_one, has_one}
 use Rattle.maker_core.specs.Switch.{HasOther}
+use Rattle.maker_core.proofs.OnlySolutions.{solution}
 use Rattle.maker_core.proofs.PutBack.{set_back}
-
-pub grid_with : (n c v : ℕ) (g h : List ℕ) → v < 2 → h ≡ slice_set g c v → IsGrid n 2 g → IsGrid n 2 h
-grid_with n c v g h few e grid = rw e (record {
-  each_cell = length-set g c v ∙ grid.each_cell;
-  each_value = All-set (λ x. x < 2) g c v few grid.each_value;
-})
 
 -- one number put back, after those that were written later
 pub undone : (g h back k : List ℕ) (i u was : ℕ) → h ≡ slice_set g i u → was ≡ slice_index g i → back ≡ h → k ≡ slice_set back i was → k ≡ g
@@ -49,5 +43,5 @@ pub other_fails : (p : Pattern) (g : List ℕ) (budget : ℕ)
     → ((q : Pattern) (h : List ℕ) → IsGrid (q.size.w * q.size.h) 2 h → (IsTrue ((line_rules q).is_solution h)) ↔ IsPatternSolution q h)
     → IsTrueOf (line_rules p) (verdict_of (line_rules p) budget) → IsPatternSolution p g → HasOther p g → has_one (line_rules p) budget ≡ false
 other_fails p g budget accepted true_of good other =
-    let solves : (h : List ℕ) → IsPatternSolution p h → Solves (line_rules p) h = λ h s. record { grid = s.grid; good = (accepted p h s.grid).1 s } in
+    let solves = solution (line_rules p) (IsPatternSolution p) (λ h s. s.grid) (accepted p) in
     two_fail (line_rules p) g other.0 (verdict_of (line_rules p) budget) true_of (solves g good) (solves other.0 other.1) other.2

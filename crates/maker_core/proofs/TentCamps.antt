@@ -1,7 +1,7 @@
 -- What taking a cell does, as the definitions say it.
 use Rattle.std.proofs.Common.{replicate, add-one, ◌≡◌, ℕ, zero, suc, ◌+◌, ◌*◌, ◌/◌, ◌<◌, ◌≤◌, Bool, true, false, not, ◌&&◌, List, length, refl, sym, ap, subst, ◌∙◌, arith, add-one}
 use Rattle.std.specs.Prelude.{◌==◌, nat_lt, slice_index, slice_set, filter}
-use Rattle.std.proofs.lemmas.Bool.{true≢false, and_parts, and_from, lt-ltb, le-ltb, ltb-true, ne_eqb, eq-eqb, eqb-true}
+use Rattle.std.proofs.lemmas.Bool.{true≢false, and_left, and_right, and_parts, and_from, lt-ltb, le-ltb, ltb-true, ne_eqb, eq-eqb, eqb-true}
 use Rattle.rand_core.specs.Stream.{Stream}
 use Rattle.grid_core.specs.Extent.{Extent}
 use Rattle.grid_core.specs.Regions.{steps}
@@ -56,29 +56,22 @@ pub few_pitched : (size : Extent) (camp : Camp) (c : ℕ) → may_pitch size cam
 unfolding may_pitch
 few_pitched size camp c may = ltb-true camp.pitched (size.w * size.h / 5) (and_parts _ _ may).0
 
-and_false : (a b : Bool) → a ≡ false → (a && b) ≡ false
-and_false a b e = rw e refl
-
-and_right_false : (a b : Bool) → b ≡ false → (a && b) ≡ false
-and_right_false true b e = e
-and_right_false false b e = refl
-
 pub enough : (size : Extent) (camp : Camp) (c : ℕ) → size.w * size.h / 5 ≤ camp.pitched → may_pitch size camp c ≡ false
 unfolding may_pitch
-enough size camp c le = and_false _ _ (le-ltb camp.pitched (size.w * size.h / 5) le)
+enough size camp c le = and_left _ _ (le-ltb camp.pitched (size.w * size.h / 5) le)
 
 pub on_tree : (size : Extent) (camp : Camp) (c v : ℕ) → v ≡ slice_index camp.trees c → (v ≡ 0 → ⊥) → may_pitch size camp c ≡ false
 unfolding may_pitch
-on_tree size camp c v is tree = and_right_false (nat_lt camp.pitched (size.w * size.h / 5)) _ (and_false _ _ (ne_eqb (slice_index camp.trees c) 0 (λ e. tree (is ∙ e))))
+on_tree size camp c v is tree = and_right (nat_lt camp.pitched (size.w * size.h / 5)) _ (and_left _ _ (ne_eqb (slice_index camp.trees c) 0 (λ e. tree (is ∙ e))))
 
 pub touching : (size : Extent) (camp : Camp) (c : ℕ) → touches_tent size camp.tents c ≡ true → may_pitch size camp c ≡ false
 unfolding may_pitch
-touching size camp c near = and_right_false (nat_lt camp.pitched (size.w * size.h / 5)) _ (and_right_false (slice_index camp.trees c == 0) _ (and_false _ _ (ap not near)))
+touching size camp c near = and_right (nat_lt camp.pitched (size.w * size.h / 5)) _ (and_right (slice_index camp.trees c == 0) _ (and_left _ _ (ap not near)))
 
 pub hemmed : (size : Extent) (camp : Camp) (c : ℕ) (free : List ℕ) → free ≡ free_cells_beside size camp c → length free ≡ 0 → may_pitch size camp c ≡ false
 unfolding may_pitch
 hemmed size camp c free is none =
-    and_right_false (nat_lt camp.pitched (size.w * size.h / 5)) _ (and_right_false (slice_index camp.trees c == 0) _ (and_right_false (not (touches_tent size camp.tents c)) _ (le-ltb 0 (length (free_cells_beside size camp c)) (let e = ap length is in omega arith))))
+    and_right (nat_lt camp.pitched (size.w * size.h / 5)) _ (and_right (slice_index camp.trees c == 0) _ (and_right (not (touches_tent size camp.tents c)) _ (le-ltb 0 (length (free_cells_beside size camp c)) (let e = ap length is in omega arith))))
 
 pub may : (size : Extent) (camp : Camp) (c v : ℕ) (free : List ℕ) → camp.pitched < size.w * size.h / 5 → v ≡ slice_index camp.trees c → v ≡ 0
     → touches_tent size camp.tents c ≡ false → free ≡ free_cells_beside size camp c → 0 < length free → may_pitch size camp c ≡ true

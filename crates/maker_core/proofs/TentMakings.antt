@@ -9,12 +9,12 @@ use Rattle.grid_core.specs.Grids.{row_cells, column_cells}
 use Rattle.gameid_core.specs.Lines.{line_list, lines_ones, ones}
 use Rattle.gameid_core.specs.Puzzles.{Tents, lines_of}
 use Rattle.engine_core.specs.Puzzle.{IsGridOf}
-use Rattle.engine_core.specs.Verdict.{Solves}
 use Rattle.fields_core.specs.TentHouses.{tent_rules}
 use Rattle.fields_core.specs.TentSolutions.{IsTentSolution}
 use Rattle.maker_core.specs.declared.camp.Camp.{Camp}
 use Rattle.maker_core.specs.Made.{HasOne, TellsOne, IsOnlySolution}
 use Rattle.maker_core.specs.TentFilling.{tents_puzzle_of}
+use Rattle.maker_core.proofs.OnlySolutions.{one_is}
 
 -- a puzzle with those trees and numbers
 pub record HasParts (size : Extent) (camp : Camp) (p : Tents) : Type 0 where
@@ -23,7 +23,7 @@ pub record HasParts (size : Extent) (camp : Camp) (p : Tents) : Type 0 where
   pub columns : (x : ℕ) → x < size.w → slice_index p.counts x ≡ ones (column_cells size camp.tents x)
   pub rows : (y : ℕ) → y < size.h → slice_index p.counts (size.w + y) ≡ ones (row_cells size camp.tents y)
 
-ones_at : (size : Extent) (g : List ℕ) (line : ℕ) → line < lines_of size → slice_index (lines_ones size g) line ≡ ones (line_list size g line)
+pub ones_at : (size : Extent) (g : List ℕ) (line : ℕ) → line < lines_of size → slice_index (lines_ones size g) line ≡ ones (line_list size g line)
 ones_at size g line lt = get_or-map-range_with_len (λ l. ones (line_list size g l)) 0 (lines_of size) line line 0 lt (omega arith)
 
 count_at : (size : Extent) (camp : Camp) (p : Tents) → HasParts size camp p → (line : ℕ) → line < lines_of size
@@ -55,7 +55,4 @@ pub tents_only : (size : Extent) (camp : Camp) (p : Tents) → p ≡ tents_puzzl
     → ((q : Tents) (h : List ℕ) → IsGridOf (tent_rules q) h → (IsTrue ((tent_rules q).is_solution h)) ↔ IsTentSolution q h)
     → (budget : ℕ) → HasOne (tent_rules p) budget → IsOnlySolution (IsTentSolution p) camp.tents × TellsOne (tent_rules p) budget camp.tents
 tents_only size camp p is solution accepted budget one =
-    let solves : (h : List ℕ) → IsTentSolution p h → Solves (tent_rules p) h = λ h s. record { grid = s.grid; good = (accepted p h s.grid).1 s } in
-    let good = subst (λ (q : Tents). IsTentSolution q camp.tents) (sym is) solution in
-    let same = one.only.1 camp.tents (solves camp.tents good) in
-    ((good, λ h s. sym (one.only.1 h (solves h s)) ∙ same), subst (TellsOne (tent_rules p) budget) same one.found)
+    one_is (tent_rules p) (IsTentSolution p) (λ h s. s.grid) (accepted p) camp.tents budget one (subst (λ (q : Tents). IsTentSolution q camp.tents) (sym is) solution)

@@ -1,18 +1,16 @@
 -- Cells that were taken in turn: each tent has a tree of its own beside it, none stands on a tree, and no two touch.
-use Rattle.std.proofs.Common.{◌≡◌, ℕ, zero, suc, ◌+◌, ◌-◌, ◌*◌, ◌/◌, ◌%◌, ◌<◌, ◌≤◌, Bool, true, false, not, ◌&&◌, cond, List, [], ◌∷◌, length, length-set, map, get_or-set_other, refl, sym, ap, subst, ◌∙◌, arith, inl, inr, ◌⊎◌, replicate, Some}
+use Rattle.std.proofs.Common.{◌≡◌, ℕ, zero, suc, ◌+◌, ◌-◌, ◌*◌, ◌/◌, ◌%◌, ◌<◌, ◌≤◌, Bool, true, false, not, ◌&&◌, cond, List, [], ◌∷◌, length, map, get_or-set_other, refl, sym, ap, subst, ◌∙◌, arith, inl, inr, Some}
 use Rattle.std.specs.Prelude.{◌==◌, nat_lt, nat_le, slice_index, slice_set, count_by}
 use Rattle.std.specs.List.{range_with_len}
-use Rattle.std.proofs.lemmas.Bool.{cases_eq, true≢false, false_from_ne_true, and_parts, and_from, eqb-true, eq-eqb, ne_eqb, lt-ltb, le-ltb}
+use Rattle.std.proofs.lemmas.Bool.{true≢false, false_from_ne_true, and_parts, and_from, eqb-true, eq-eqb, ne_eqb, not-true, lt-ltb, le-ltb}
+use Rattle.std.proofs.lemmas.Cmp.{nat_eq_equiv}
 use Rattle.std.proofs.lemmas.Grind.{get_or-set_at}
-use Rattle.std.proofs.lemmas.List.{get_or-replicate, length-replicate}
-use Rattle.std.proofs.lemmas.List.FromFn.{get_or-map-range_with_len}
 use Rattle.std.proofs.lemmas.Simd.{map-map}
 use Rattle.grid_core.specs.Extent.{Extent}
 use Rattle.grid_core.specs.Grids.{IsGrid, row_cells, column_cells}
 use Rattle.grid_core.specs.Regions.{steps, step, row_places, column_places}
 use Rattle.grid_core.proofs.CandidateLemmas.{any_below-none}
 use Rattle.gameid_core.specs.Lines.{line_list, lines_ones, ones}
-use Rattle.gameid_core.specs.Puzzles.{lines_of}
 use Rattle.engine_core.specs.Puzzle.{has_place}
 use Rattle.fields_core.specs.Tents.{tent, are_near, touches, tents_in_column, tents_in_row}
 use Rattle.fields_core.specs.TentSolutions.{IsTentSolution}
@@ -24,9 +22,9 @@ use Rattle.maker_core.specs.declared.camp.Camp.{Camp}
 use Rattle.maker_core.specs.SoloOrders.{IsOrder}
 use Rattle.maker_core.specs.TentFilling.{no_camp, touches_tent, may_pitch, tents_puzzle_of}
 use Rattle.maker_core.specs.TentSteps.{IsPitched, IsTaken}
-use Rattle.maker_core.proofs.LightBulbs.{set_value}
-use Rattle.maker_core.proofs.LightSolved.{new_or_old, old_stays, no_bulb}
+use Rattle.maker_core.proofs.WrittenGrids.{grid_with, new_or_old, no_one, old_stays, zeros-grid}
 use Rattle.maker_core.proofs.TentCamps.{free_place}
+use Rattle.maker_core.proofs.TentMakings.{ones_at}
 
 -- what the first k cells of the order made
 pub record IsCamp (size : Extent) (order : List ℕ) (k : ℕ) (camp : Camp) : Type 0 where
@@ -60,27 +58,13 @@ unfolding touches
 touch_back size a b on =
     let w = and_parts (not (a == b)) _ on in
     let v = and_parts (are_near (a / size.w) (b / size.w)) _ w.1 in
-    and_from _ _ (other (a == b) (b == a) w.0 (λ e. eq-eqb a b (sym (eqb-true b a e)))) (and_from _ _ (near_back (a / size.w) (b / size.w) v.0) (near_back (a % size.w) (b % size.w) v.1))
-  where
-    other : (t u : Bool) → not t ≡ true → (u ≡ true → t ≡ true) → not u ≡ true
-    other true u e back = absurd (true≢false (sym e))
-    other false true e back = absurd (true≢false (sym (back refl)))
-    other false false e back = refl
+    and_from _ _ (ap not (nat_eq_equiv.symm b a) ∙ w.0) (and_from _ _ (near_back (a / size.w) (b / size.w) v.0) (near_back (a % size.w) (b % size.w) v.1))
 
 touch_itself : (size : Extent) (a : ℕ) → touches size a a ≡ false
 unfolding touches
 touch_itself size a = ap (λ t. not t && (are_near (a / size.w) (a / size.w) && are_near (a % size.w) (a % size.w))) (eq-eqb a a refl)
 
 -- ---- no cell, and a cell that is left
-zeros-grid : (n : ℕ) → IsGrid n 2 (replicate n 0)
-zeros-grid n = record {
-  each_cell = length-replicate n 0;
-  each_value = λ k d lt. rw (get_or-replicate n k 0 d (let l = length-replicate {A = ℕ} n 0 in omega arith)) (omega arith);
-}
-
-no_one : (n t : ℕ) → slice_index (replicate n 0) t ≡ 1 → ⊥
-no_one n t e = no_bulb n t (eq-eqb _ _ e)
-
 pub camp_none : (size : Extent) (order : List ℕ) (camp : Camp) → camp ≡ no_camp size → IsCamp size order 0 camp
 unfolding no_camp
 camp_none size order camp is =
@@ -88,14 +72,14 @@ camp_none size order camp is =
     rw is (record {
       trees_grid = zeros-grid n;
       tents_grid = zeros-grid n;
-      taken = λ d on. absurd (no_bulb n d on);
-      off_trees = λ d on. absurd (no_bulb n d on);
-      apart = λ c d on _. absurd (no_bulb n c on);
+      taken = λ d on. absurd (no_one n d on);
+      off_trees = λ d on. absurd (no_one n d on);
+      apart = λ c d on _. absurd (no_one n c on);
       tree_of = λ d. d;
-      is_tree = λ d on. absurd (no_bulb n d on);
-      is_beside = λ d on. absurd (no_bulb n d on);
-      own = λ c d on _ _. absurd (no_bulb n c on);
-      none_out = λ t e. absurd (no_one n t e);
+      is_tree = λ d on. absurd (no_one n d on);
+      is_beside = λ d on. absurd (no_one n d on);
+      own = λ c d on _ _. absurd (no_one n c on);
+      none_out = λ t e. absurd (no_one n t (eq-eqb _ _ e));
     })
 
 camp_left : (size : Extent) (order : List ℕ) (k : ℕ) (camp : Camp) → IsCamp size order k camp → IsCamp size order (k + 1) camp
@@ -113,24 +97,6 @@ camp_left size order k camp w = record {
 }
 
 -- ---- a tent more
-grid_set : (n c : ℕ) (g : List ℕ) → IsGrid n 2 g → IsGrid n 2 (slice_set g c 1)
-grid_set n c g grid = record {
-  each_cell = length-set g c 1 ∙ grid.each_cell;
-  each_value = λ k d lt. set_value g c k d grid.each_value (let l = length-set g c 1 in omega arith);
-}
-
-set_cases : (g : List ℕ) (c d : ℕ) → slice_index (slice_set g c 1) d ≡ 1 → (d ≡ c) ⊎ (slice_index g d ≡ 1)
-set_cases g c d e = elim (cases_eq d c) [
-  | inl same ↦ inl same
-  | inr ne ↦ inr (sym (get_or-set_other g c d 1 0 ne) ∙ e)
-]
-
-set_stays : (g : List ℕ) (c d : ℕ) → c < length g → slice_index g d ≡ 1 → slice_index (slice_set g c 1) d ≡ 1
-set_stays g c d lt e = elim (cases_eq d c) [
-  | inl same ↦ get_or-set_at g c d 1 0 same lt
-  | inr ne ↦ get_or-set_other g c d 1 0 ne ∙ e
-]
-
 -- the cell, its tree and what stood before
 record IsNew (size : Extent) (old : Camp) (c t : ℕ) : Type 0 where
   c_in : c < size.w * size.h
@@ -162,13 +128,9 @@ new_from size order k c old new w ordered lt at before p =
       t_tent = eqb-true _ _ bare.1;
       other = λ e. none_itself size c w (subst (λ x. has_place (steps size c 4) x ≡ true) (sym e) free.0);
       beside = free.0;
-      alone = λ d on. no_touch d on (any_below-none (λ d. touches size c d && tent old.tents d) (size.w * size.h) (not-true-is _ last.0) d (tent-in old.tents (size.w * size.h) d before.tents_grid.each_cell on));
+      alone = λ d on. no_touch d on (any_below-none (λ d. touches size c d && tent old.tents d) (size.w * size.h) (not-true _ last.0) d (tent-in old.tents (size.w * size.h) d before.tents_grid.each_cell on));
     }
   where
-    not-true-is : (b : Bool) → not b ≡ true → b ≡ false
-    not-true-is true e = absurd (true≢false (sym e))
-    not-true-is false e = refl
-
     no_touch : (d : ℕ) → tent old.tents d ≡ true → (touches size c d && tent old.tents d) ≡ false → touches size c d ≡ false
     no_touch d on none = false_from_ne_true _ (λ near. true≢false (sym (and_from _ _ near on) ∙ none))
 
@@ -184,8 +146,8 @@ tree_there tree_of c t d ne = ap (λ b. cond b t (tree_of d)) (ne_eqb d c ne)
 camp_more : (size : Extent) (order : List ℕ) (k c t : ℕ) (old : Camp) → IsCamp size order k old → IsNew size old c t → c ≡ slice_index order k
     → (pitched : ℕ) → IsCamp size order (k + 1) (record { trees = slice_set old.trees t 1; tents = slice_set old.tents c 1; pitched = pitched })
 camp_more size order k c t old w n at pitched = record {
-  trees_grid = grid_set (size.w * size.h) t old.trees w.trees_grid;
-  tents_grid = grid_set (size.w * size.h) c old.tents w.tents_grid;
+  trees_grid = grid_with (size.w * size.h) t 1 old.trees _ (omega arith) refl w.trees_grid;
+  tents_grid = grid_with (size.w * size.h) c 1 old.tents _ (omega arith) refl w.tents_grid;
   taken = λ d on. elim (new_or_old old.tents c d on) [
     | inl e ↦ (k, omega arith, sym at ∙ sym e)
     | inr was ↦ let j = w.taken d was in (j.0, omega (arith, j.1), j.2)
@@ -207,7 +169,7 @@ camp_more size order k c t old w n at pitched = record {
   tree_of = tree_now w.tree_of c t;
   is_tree = λ d on. elim (new_or_old old.tents c d on) [
     | inl e ↦ ap (slice_index (slice_set old.trees t 1)) (tree_here w.tree_of c t d e) ∙ get_or-set_at old.trees t t 1 0 refl t_within
-    | inr was ↦ ap (slice_index (slice_set old.trees t 1)) (tree_there w.tree_of c t d (old_other d was)) ∙ set_stays old.trees t (w.tree_of d) t_within (w.is_tree d was)
+    | inr was ↦ ap (slice_index (slice_set old.trees t 1)) (tree_there w.tree_of c t d (old_other d was)) ∙ eqb-true _ _ (old_stays old.trees t (w.tree_of d) t_within (eq-eqb _ _ (w.is_tree d was)))
   ];
   is_beside = λ d on. elim (new_or_old old.tents c d on) [
     | inl e ↦ ap (has_place (steps size d 4)) (tree_here w.tree_of c t d e) ∙ ap (λ x. has_place (steps size x 4) t) e ∙ n.beside
@@ -223,9 +185,9 @@ camp_more size order k c t old w n at pitched = record {
       | inr too ↦ w.own a b was too (sym (tree_there w.tree_of c t a (old_other a was)) ∙ same ∙ tree_there w.tree_of c t b (old_other b too))
     ]
   ];
-  none_out = λ x e. elim (set_cases old.trees t x e) [
+  none_out = λ x e. elim (new_or_old old.trees t x (eq-eqb _ _ e)) [
     | inl same ↦ (c, eq-eqb _ _ (get_or-set_at old.tents c c 1 0 refl c_within), tree_here w.tree_of c t c refl ∙ sym same)
-    | inr was ↦ let d = w.none_out x was in (d.0, old_stays old.tents c d.0 c_within d.1, tree_there w.tree_of c t d.0 (old_other d.0 d.1) ∙ d.2)
+    | inr was ↦ let d = w.none_out x (eqb-true _ _ was) in (d.0, old_stays old.tents c d.0 c_within d.1, tree_there w.tree_of c t d.0 (old_other d.0 d.1) ∙ d.2)
   ];
 }
   where
@@ -261,15 +223,12 @@ count_ones g (x ∷ xs) = count-cons (tent g) x xs ∙ by (slice_index g x == 1)
     by true n v vs e is rest = rw e (let z : 1 + count_by (tent g) xs ≡ suc (ones vs) = omega arith in z)
     by false n v vs e is rest = rw e (let z : 0 + count_by (tent g) xs ≡ ones vs = omega arith in z)
 
-count_of : (size : Extent) (g : List ℕ) (line : ℕ) → line < lines_of size → slice_index (lines_ones size g) line ≡ ones (line_list size g line)
-count_of size g line lt = get_or-map-range_with_len (λ l. ones (line_list size g l)) 0 (lines_of size) line line 0 lt (omega arith)
-
 column_count : (size : Extent) (g : List ℕ) (x : ℕ) → x < size.w → tents_in_column size g x ≡ slice_index (lines_ones size g) x
 column_count size g x lt =
     count_ones g (column_places size x)
     ∙ ap ones (map-map (slice_index g) (λ y. y * size.w + x) (range_with_len 0 size.h))
     ∙ ap ones (let e : column_cells size g x ≡ line_list size g x = rw (lt-ltb x size.w lt) refl in e)
-    ∙ sym (count_of size g x (omega arith))
+    ∙ sym (ones_at size g x (omega arith))
 
 row_count : (size : Extent) (g : List ℕ) (y : ℕ) → y < size.h → tents_in_row size g y ≡ slice_index (lines_ones size g) (size.w + y)
 row_count size g y lt =
@@ -277,7 +236,7 @@ row_count size g y lt =
     ∙ ap ones (map-map (slice_index g) (λ x. y * size.w + x) (range_with_len 0 size.w))
     ∙ ap ones (let back : y ≡ size.w + y - size.w = omega arith in
     let e : row_cells size g y ≡ line_list size g (size.w + y) = rw (le-ltb (size.w + y) size.w (let z : size.w ≤ size.w + y = omega arith in z)) (ap (row_cells size g) back) in e)
-    ∙ sym (count_of size g (size.w + y) (omega arith))
+    ∙ sym (ones_at size g (size.w + y) (omega arith))
 
 pub camp_solves : (size : Extent) (order : List ℕ) (k : ℕ) (camp : Camp) → IsCamp size order k camp → IsTentSolution (tents_puzzle_of size camp) camp.tents
 unfolding tents_puzzle_of

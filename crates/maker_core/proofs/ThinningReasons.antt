@@ -3,7 +3,7 @@ use Rattle.std.proofs.Common.{◌≡◌, ℕ, suc, ◌+◌, ◌<◌, ◌≤◌, 
 use Rattle.std.specs.Prelude.{is_some, filter, All, Contains, IsPermutation}
 use Rattle.std.specs.List.{range_with_len}
 use Rattle.std.proofs.lemmas.List.{take_more, append-nil, get_or-replicate, get_or_past, length-replicate}
-use Rattle.std.proofs.lemmas.List.Elements.{All-nil, All-cons}
+use Rattle.std.proofs.lemmas.List.Elements.{All-contains, All-cons, All-nil, filter_passes}
 use Rattle.std.proofs.lemmas.List.Sorted.{Contains-permutation, IsPermutation-sym}
 use Rattle.std.proofs.lemmas.Map.Keys.{IsDistinct-IsPermutation}
 use Rattle.std.proofs.lemmas.Bool.{cases_lt}
@@ -14,7 +14,8 @@ use Rattle.maker_core.specs.declared.made.Why.{Why}
 use Rattle.maker_core.specs.Made.{TellsOne}
 use Rattle.maker_core.specs.Thinning.{Game, IsGame, has_clue, clue_places, IsOnly, IsReason, AreReasons}
 use Rattle.maker_core.specs.ThinningSteps.{IsTold, IsThinning, reasons_from}
-use Rattle.maker_core.proofs.ThinningLists.{kept_passes, passes_kept, kept_once}
+use Rattle.grid_core.proofs.DifferentNumbers.{distinct_filtered_range}
+use Rattle.maker_core.proofs.FilteredRanges.{passes_kept}
 use Rattle.maker_core.proofs.ThinningTurns.{some_of, none_of, within_itself}
 
 -- a whole list that was written through a slice of it
@@ -121,17 +122,14 @@ pub thinning_start : {A : Type 0} (game : Game A) → IsGame game → (budget : 
 thinning_start game laws budget p answer order whys only found mixed blank = record {
   within = within_itself game laws p;
   one = record { answer = answer; found = found; only = only };
-  waiting = λ place held. (kept_passes (has_clue game p) 0 (game.cells p) place (Contains-permutation _ _ place (IsPermutation-sym _ _ mixed) held)).1;
-  different = IsDistinct-IsPermutation eqb flips _ _ mixed (kept_once (has_clue game p) 0 (game.cells p));
+  waiting = λ place held. All-contains (λ c. has_clue game p c ≡ true) (clue_places game p) place (filter_passes (has_clue game p) (range_with_len 0 (game.cells p))) (Contains-permutation _ _ place (IsPermutation-sym _ _ mixed) held);
+  different = IsDistinct-IsPermutation eqb nat_eq_equiv.symm _ _ mixed (distinct_filtered_range (has_clue game p) 0 (game.cells p));
   told = λ place. by place (has_clue game p place) refl;
   room = ap length blank ∙ length-replicate (game.cells p) None;
 }
   where
-    flips : (x y : ℕ) → eqb x y ≡ eqb y x
-    flips x y = nat_eq_equiv.symm x y
-
     held_in : (place n : ℕ) → has_clue game p place ≡ true → game.clue p place ≡ Some n → Contains order place
-    held_in place n held e = Contains-permutation _ _ place mixed (passes_kept (has_clue game p) 0 (game.cells p) place (omega arith) (omega (arith, laws.clue_in p place n e)) held)
+    held_in place n held e = Contains-permutation _ _ place mixed (passes_kept (has_clue game p) (game.cells p) place (laws.clue_in p place n e) held)
 
     by : (place : ℕ) → (b : Bool) → has_clue game p place ≡ b → Contains order place ⊎ IsTold game budget p p place (get_or whys place None)
     by place true held = let n = some_of (game.clue p place) held in inl (held_in place n.0 held n.1)

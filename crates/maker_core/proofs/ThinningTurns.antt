@@ -1,9 +1,11 @@
 -- A clue is tried: what was told of other cells holds of the thinner puzzle too, since fewer clues lose no solution.
-use Rattle.std.proofs.Common.{◌≡◌, ◌≢◌, ℕ, ◌<◌, true, false, true≢false, List, ◌∷◌, Option, Some, None, length, get_or, set, drop, ◌+◌, refl, sym, ◌∙◌, ap, subst, arith, ◌⊎◌, inl, inr, add-one}
+use Rattle.std.proofs.Common.{◌≡◌, ◌≢◌, ℕ, zero, suc, ◌<◌, true, false, true≢false, List, [], ◌∷◌, Option, Some, None, length, get_or, set, drop, ◌+◌, refl, sym, ◌∙◌, ap, subst, arith, ◌⊎◌, inl, inr, add-one}
 use Rattle.std.specs.Prelude.{is_some, Contains}
 use Rattle.std.specs.List.{IsDistinct}
 use Rattle.std.proofs.lemmas.Bool.{cases_eq}
 use Rattle.std.proofs.lemmas.List.{get_or-set_other, length-set}
+use Rattle.std.proofs.lemmas.List.Elements.{Contains-append_right}
+use Rattle.std.proofs.lemmas.Option.{none-some}
 use Rattle.std.proofs.lemmas.Grind.{get_or-set_at}
 use Rattle.std.proofs.Math.Seq.{drop-cons}
 use Rattle.engine_core.specs.Puzzle.{Needs, FitsIn, needs_of}
@@ -12,7 +14,7 @@ use Rattle.maker_core.specs.Thinning.{Game, IsGame, IsThinnedFrom, HasTwo, IsRea
 use Rattle.maker_core.specs.ThinningSteps.{IsAsked, IsLeft, IsVerdict, IsTold, IsThinning}
 use Rattle.maker_core.specs.declared.made.Why.{Why}
 use Rattle.maker_core.specs.declared.made.Why.TheVariants.{Needed, Budget}
-use Rattle.maker_core.proofs.ThinningLists.{contains_next, contains_head, contains_split, head_apart}
+use Rattle.maker_core.proofs.FilteredRanges.{head_apart}
 
 pub some_of : (o : Option ℕ) → is_some o ≡ true → (n : ℕ) × (o ≡ Some n)
 some_of None e = absurd (true≢false (sym e))
@@ -22,8 +24,13 @@ pub none_of : (o : Option ℕ) → is_some o ≡ false → o ≡ None
 none_of None e = refl
 none_of (Some n) e = absurd (true≢false e)
 
-none_some : (o : Option ℕ) (n : ℕ) → o ≡ None → o ≡ Some n → ⊥
-none_some o n e f = true≢false (sym (ap is_some f) ∙ ap is_some e)
+pub contains_head : (xs : List ℕ) (x : ℕ) → Contains (x ∷ xs) x
+contains_head xs x = (0, omega arith, refl)
+
+-- an element that is not the head is in the rest
+contains_rest : (xs : List ℕ) (x q : ℕ) → q ≢ x → Contains (x ∷ xs) q → Contains xs q
+contains_rest xs x q apart (zero, below, is) = absurd (apart (sym is))
+contains_rest xs x q apart (suc k, below, is) = (k, omega arith, is)
 
 pub within_itself : {A : Type 0} (game : Game A) → IsGame game → (p : A) → IsThinnedFrom game p p
 within_itself game laws p = record { frame = laws.same_itself p; clues = λ place n e. e }
@@ -32,23 +39,23 @@ pub within_through : {A : Type 0} (game : Game A) → IsGame game → (p q r : A
 within_through game laws p q r first second =
     record { frame = laws.same_through p q r first.frame second.frame; clues = λ place n e. second.clues place n (first.clues place n e) }
 
-pub thinner : {A : Type 0} (game : Game A) → IsGame game → (p : A) (place n : ℕ) → game.clue p place ≡ Some n → IsThinnedFrom game (game.without p place) p
-thinner game laws p place n e = record { frame = laws.without_frame p place n e; clues = λ other m had. by other m had (cases_eq other place) }
+-- a clue of the puzzle without the clue of a cell is a clue of another cell
+other_clue : {A : Type 0} (game : Game A) → IsGame game → (p : A) (place other m : ℕ) → game.clue (game.without p place) other ≡ Some m
+    → (other ≢ place) × (game.clue p other ≡ Some m)
+other_clue game laws p place other m had = (apart, sym (laws.others_stay p place other apart) ∙ had)
   where
-    by : (other m : ℕ) → game.clue (game.without p place) other ≡ Some m → (other ≡ place) ⊎ (other ≢ place) → game.clue p other ≡ Some m
-    by other m had (inl same) = absurd (none_some _ m (laws.without_it p place) (ap (game.clue (game.without p place)) (sym same) ∙ had))
-    by other m had (inr apart) = sym (laws.others_stay p place other apart) ∙ had
+    apart : other ≢ place
+    apart same = none-some m (sym (laws.without_it p place) ∙ ap (game.clue (game.without p place)) (sym same) ∙ had)
+
+pub thinner : {A : Type 0} (game : Game A) → IsGame game → (p : A) (place n : ℕ) → game.clue p place ≡ Some n → IsThinnedFrom game (game.without p place) p
+thinner game laws p place n e = record { frame = laws.without_frame p place n e; clues = λ other m had. (other_clue game laws p place other m had).1 }
 
 pub without_within : {A : Type 0} (game : Game A) → IsGame game → (p q : A) (place n : ℕ) → IsThinnedFrom game p q → game.clue p place ≡ Some n
     → IsThinnedFrom game (game.without p place) (game.without q place)
 without_within game laws p q place n w e = record {
   frame = laws.same_through _ _ _ (laws.same_through _ _ _ (laws.without_frame p place n e) w.frame) (laws.same_back _ _ (laws.without_frame q place n (w.clues place n e)));
-  clues = λ other m had. by other m had (cases_eq other place);
+  clues = λ other m had. let o = other_clue game laws p place other m had in laws.others_stay q place other o.0 ∙ w.clues other m o.1;
 }
-  where
-    by : (other m : ℕ) → game.clue (game.without p place) other ≡ Some m → (other ≡ place) ⊎ (other ≢ place) → game.clue (game.without q place) other ≡ Some m
-    by other m had (inl same) = absurd (none_some _ m (laws.without_it p place) (ap (game.clue (game.without p place)) (sym same) ∙ had))
-    by other m had (inr apart) = laws.others_stay q place other apart ∙ w.clues other m (sym (laws.others_stay p place other apart) ∙ had)
 
 pub two_in : {A : Type 0} (game : Game A) → IsGame game → (p q : A) → IsThinnedFrom game p q → HasTwo (game.rules q) → HasTwo (game.rules p)
 two_in game laws p q w two = record {
@@ -133,22 +140,18 @@ thinning_turn game laws budget all p new whys place rest why now tried =
     record {
       within = within_through game laws _ _ _ (tried_within game laws budget place n.0 p new why n.1 tried) now.within;
       one = tried_one game budget place p new why now.one tried;
-      waiting = λ other held. ap is_some (tried_others game laws budget place other p new why (head_apart rest place other now.different.0 held) tried) ∙ now.waiting other (contains_next rest place other held);
+      waiting = λ other held. ap is_some (tried_others game laws budget place other p new why (head_apart rest place other now.different.0 held) tried) ∙ now.waiting other (Contains-append_right (place ∷ []) rest other held);
       different = now.different.1;
       told = λ other. at other n.0 n.1 in_room (cases_eq other place) (now.told other);
       room = length-set whys place why ∙ now.room;
     }
   where
-    at_split : (other : ℕ) → other ≢ place → (place ≡ other) ⊎ Contains rest other → Contains rest other
-    at_split other apart (inl same) = absurd (apart (sym same))
-    at_split other apart (inr held) = held
-
     at : (other n : ℕ) → game.clue p place ≡ Some n → place < length whys → (other ≡ place) ⊎ (other ≢ place)
         → Contains (place ∷ rest) other ⊎ IsTold game budget all p other (get_or whys other None)
         → Contains rest other ⊎ IsTold game budget all new other (get_or (set whys place why) other None)
     at other n e room (inl same) before =
         inr (subst (λ o. IsTold game budget all new other o) (sym (get_or-set_at whys place other why None same room)) (subst (λ x. IsTold game budget all new x why) (sym same) (tried_told game laws budget place n all p new why now.within e tried)))
-    at other n e room (inr apart) (inl held) = inl (at_split other apart (contains_split rest place other held))
+    at other n e room (inr apart) (inl held) = inl (contains_rest rest place other apart held)
     at other n e room (inr apart) (inr told) =
         inr (subst (λ o. IsTold game budget all new other o) (sym (get_or-set_other whys place other why None apart)) (told_in game laws budget all new p other _ (tried_within game laws budget place n p new why e tried) (tried_others game laws budget place other p new why apart tried) told))
 

@@ -1,9 +1,11 @@
 -- What is drawn from a stream of random words, and the stream that is left; and the fillings that a maker tries.
-use Rattle.std.specs.Prelude.{◌≡◌, ℕ, zero, suc, ◌^◌, ◌<◌, Bool, true, false, cond, List, [], ◌∷◌, ◌++◌, nat_lt, length, slice_index}
+use Rattle.std.specs.Prelude.{◌≡◌, ℕ, zero, suc, ◌^◌, ◌<◌, Bool, true, false, cond, List, [], ◌∷◌, ◌++◌, nat_lt, length, slice_index, Vec, Result, Err}
 use Rattle.std.specs.List.{range_with_len}
 use Rattle.rand_core.specs.Stream.{Call, Stream, next_u32}
 use Rattle.rand.specs.Uniform.{canon}
 use Rattle.rand.specs.Shuffle.{shuffled}
+use Rattle.maker_core.specs.declared.made.MakeFault.{MakeFault}
+use Rattle.maker_core.specs.declared.made.MakeFault.TheVariants.{Exhausted}
 
 -- each word that is asked for is below 2 ^ 32, as every generator's is
 pub record HasWords (s : Stream) : Type 0 where
@@ -37,6 +39,13 @@ AreAll v cells = (k : ℕ) → k < length cells → slice_index cells k ≡ v
 abbrev pub Making : Type 0 → Type 0
 Making A = Stream → A × Stream
 
+-- it is made of the first stream, and the second is left; so a list is
+abbrev pub IsDrawnBy : {A : Type 0} → Making A → Stream → Stream → A → Type 0
+IsDrawnBy make s left x = (x, left) ≡ make s
+
+abbrev pub AreDrawnBy : {Z : Type 0} → Making (List ℕ) → Stream → Stream → Vec ℕ Z → Type 0
+AreDrawnBy make s left list = (list.items, left) ≡ make s
+
 -- the stream that is left after k fillings
 unfoldable pub stream_after : {A : Type 0} → Making A → ℕ → Stream → Stream
 stream_after make zero s = s
@@ -64,12 +73,13 @@ pub record Tries (A : Type 0) : Type 0 where
   pub count : ℕ
   pub ends : A → Stream → Stream
 
--- none of the tries passes; the stream that is left is that after all of them, or that after the first that passes
+-- none of the tries passes
 abbrev pub AllFail : {A : Type 0} → Tries A → Stream → Type 0
 AllFail t s = NonePasses t.make t.passes s t.count
 
-abbrev pub IsAfterAll : {A : Type 0} → Tries A → Stream → Stream → Type 0
-IsAfterAll t s left = left ≡ stream_after t.make t.count s
+-- the stream that is left is that after all of them where they are exhausted, or that after the first that passes
+abbrev pub IsAfterAll : {A X : Type 0} → Tries A → Stream → Stream → Result X MakeFault → Type 0
+IsAfterAll t s left result = result ≡ Err Exhausted → left ≡ stream_after t.make t.count s
 
 abbrev pub IsAfterFirst : {A : Type 0} → Tries A → Stream → Stream → Type 0
 IsAfterFirst t s left = (k : ℕ) → IsFirstPassing t.make t.passes s t.count k

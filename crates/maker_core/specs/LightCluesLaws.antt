@@ -1,12 +1,13 @@
 -- What fewer numbers change.
-use Rattle.std.proofs.Common.{◌≡◌, ◌≢◌, ℕ, ◌+◌, ◌-◌, ◌*◌, ◌/◌, ◌%◌, ◌<◌, ◌≤◌, Bool, true, false, true≢false, not, ◌&&◌, ◌||◌, eqb, cond, Option, Some, None, List, [], ◌∷◌, ◌++◌, length, map, get_or, set, refl, sym, ◌∙◌, ap, subst, arith, inl, inr, ◌⊎◌}
-use Rattle.std.specs.Prelude.{is_some, filter, slice_index, slice_index_or, slice_set}
+use Rattle.std.proofs.Common.{◌≡◌, ◌≢◌, ℕ, ◌+◌, ◌-◌, ◌*◌, ◌/◌, ◌%◌, ◌<◌, Bool, true, false, not, ◌&&◌, ◌||◌, eqb, cond, Some, List, [], ◌∷◌, ◌++◌, length, map, get_or, set, refl, sym, ◌∙◌, ap, subst, arith, inl, inr, ◌⊎◌}
+use Rattle.std.specs.Prelude.{filter, slice_index, slice_index_or, slice_set}
 use Rattle.std.specs.List.{range_with_len}
 use Rattle.std.proofs.Math.Nat.{le_refl}
 use Rattle.std.proofs.Math.Path.{fun_ext}
 use Rattle.std.proofs.Math.ListN.{get_or-map}
 use Rattle.std.proofs.Math.Seq.{map-set_same}
 use Rattle.std.proofs.lemmas.Bool.{cases_lt, cases_eq, and_parts, and_from}
+use Rattle.std.proofs.lemmas.Option.{none-some}
 use Rattle.std.proofs.lemmas.List.{get_or-set_other, get_or-set_same, get_or_past, length-set, length-map}
 use Rattle.grid_core.specs.Extent.{Extent}
 use Rattle.grid_core.specs.Candidates.{any_below, all_below}
@@ -19,6 +20,7 @@ use Rattle.engine_core.specs.Verdict.{Solves}
 use Rattle.fields_core.specs.CountHouse.{CountHouse, houses_below}
 use Rattle.fields_core.specs.Light.{light_cells, is_white, white, bulb, clear, joined_in_row, joined_in_column, sees, sees_bulb, bulbs_beside, number_is, black_right, number_right, bulb_right, lit_right, is_lit}
 use Rattle.fields_core.specs.LightHouses.{row_run, column_run, seen_from, begins_row_run, begins_column_run, numbered, number_house, light_houses, light_rules}
+use Rattle.fields_core.proofs.LightFaultLemmas.{lit-from, lit-parts}
 use Rattle.maker_core.specs.Thinning.{IsThinnedFrom, IsGame}
 use Rattle.maker_core.specs.LightClues.{number_clue, SameLight, light_game}
 use Rattle.maker_core.specs.LightFilling.{numbered_cell, with_numbers}
@@ -58,34 +60,26 @@ lit_but_numbers size wh g =
 lit_parts : (p : Light) (g : List ℕ) → is_lit p g ≡ true → (all_below (number_right p g) (light_cells p) ≡ true) × (lit_but_numbers p.size (white p) g ≡ true)
 unfolding is_lit lit_but_numbers some_bulb row_joined column_joined black_right bulb_right lit_right sees_bulb sees joined_in_row joined_in_column
 lit_parts p g lit =
-    let a = and_parts (all_below (black_right p g) (light_cells p)) ((all_below (number_right p g) (light_cells p)) && ((all_below (bulb_right p g) (light_cells p)) && (all_below (lit_right p g) (light_cells p)))) lit in
-    let b = and_parts (all_below (number_right p g) (light_cells p)) ((all_below (bulb_right p g) (light_cells p)) && (all_below (lit_right p g) (light_cells p))) a.1 in
-    (b.0, and_from (all_below (black_right p g) (light_cells p)) ((all_below (bulb_right p g) (light_cells p)) && (all_below (lit_right p g) (light_cells p))) a.0 b.1)
+    let w = lit-parts p g lit in
+    (w.number, and_from (all_below (black_right p g) (light_cells p)) _ w.black (and_from (all_below (bulb_right p g) (light_cells p)) _ w.seen w.lit))
 
 lit_from : (p : Light) (g : List ℕ) → all_below (number_right p g) (light_cells p) ≡ true → lit_but_numbers p.size (white p) g ≡ true → is_lit p g ≡ true
 unfolding is_lit lit_but_numbers some_bulb row_joined column_joined black_right bulb_right lit_right sees_bulb sees joined_in_row joined_in_column
 lit_from p g numbers rest =
-    let a = and_parts (all_below (black_right p g) (light_cells p)) ((all_below (bulb_right p g) (light_cells p)) && (all_below (lit_right p g) (light_cells p))) rest in
-    and_from (all_below (black_right p g) (light_cells p)) ((all_below (number_right p g) (light_cells p)) && ((all_below (bulb_right p g) (light_cells p)) && (all_below (lit_right p g) (light_cells p)))) a.0 (and_from (all_below (number_right p g) (light_cells p)) ((all_below (bulb_right p g) (light_cells p)) && (all_below (lit_right p g) (light_cells p))) numbers a.1)
+    let a = and_parts (all_below (black_right p g) (light_cells p)) _ rest in
+    let b = and_parts (all_below (bulb_right p g) (light_cells p)) _ a.1 in
+    lit-from p g a.0 numbers b.0 b.1
 
 -- ---- fewer numbers
-held : Option ℕ → ℕ
-held None = 0
-held (Some n) = n
-
 pub numbered_is : (cell : LightCell) (n : ℕ) → number_clue cell ≡ Some n → cell ≡ Numbered n
-unfolding held
-numbered_is White n e = absurd (true≢false (sym (ap is_some e)))
-numbered_is Black n e = absurd (true≢false (sym (ap is_some e)))
-numbered_is (Numbered m) n e = ap Numbered (ap held e)
+numbered_is White n e = absurd (none-some n e)
+numbered_is Black n e = absurd (none-some n e)
+numbered_is (Numbered m) n e = let same : Some m ≡ Some n = e in ap Numbered cc
 
 number_stays : (a b : LightCell) (bulbs : ℕ) → ((n : ℕ) → number_clue a ≡ Some n → number_clue b ≡ Some n) → number_is b bulbs ≡ true → number_is a bulbs ≡ true
-unfolding held
 number_stays White b bulbs clues right = refl
 number_stays Black b bulbs clues right = refl
-number_stays (Numbered n) White bulbs clues right = absurd (true≢false (sym (ap is_some (clues n refl))))
-number_stays (Numbered n) Black bulbs clues right = absurd (true≢false (sym (ap is_some (clues n refl))))
-number_stays (Numbered n) (Numbered m) bulbs clues right = ap (λ k. eqb bulbs k) (sym (ap held (clues n refl))) ∙ right
+number_stays (Numbered n) b bulbs clues right = ap (λ cell. number_is cell bulbs) (sym (numbered_is b n (clues n refl))) ∙ right
 
 lit_stays : (p : Light) (cells : List LightCell) (g : List ℕ) → map is_white p.cells ≡ map is_white cells
     → ((place n : ℕ) → number_clue (slice_index_or p.cells place Black) ≡ Some n → number_clue (slice_index_or cells place Black) ≡ Some n)
@@ -137,16 +131,13 @@ without_number : Light → ℕ → Light
 without_number p place = record p { cells = set p.cells place Black }
 
 cleared : (cells : List LightCell) (place : ℕ) → slice_index_or (slice_set cells place Black) place Black ≡ Black
-cleared cells place = by (cases_lt place (length cells))
-  where
-    by : (place < length cells) ⊎ (length cells ≤ place) → slice_index_or (slice_set cells place Black) place Black ≡ Black
-    by (inl below) = get_or-set_same cells place Black Black below
-    by (inr past) = get_or_past (set cells place Black) place Black (omega (arith, past, length-set cells place Black))
+cleared cells place = elim (cases_lt place (length cells)) [
+  | inl below ↦ get_or-set_same cells place Black Black below
+  | inr past ↦ get_or_past (set cells place Black) place Black (omega (arith, past, length-set cells place Black))
+]
 
 not_white : (cell : LightCell) (n : ℕ) → number_clue cell ≡ Some n → is_white cell ≡ false
-not_white White n e = absurd (true≢false (sym (ap is_some e)))
-not_white Black n e = refl
-not_white (Numbered m) n e = refl
+not_white cell n e = ap is_white (numbered_is cell n e)
 
 same_without : (p : Light) (place n : ℕ) → number_clue (slice_index_or p.cells place Black) ≡ Some n → SameLight (without_number p place) p
 unfolding without_number
@@ -167,11 +158,10 @@ fewer_houses p place n e =
     by c (inr apart) = inl (ap (λ cell. numbered cell (filter (white (without_number p place)) (beside p.size c))) (get_or-set_other p.cells place c Black Black apart) ∙ ap (λ wh. numbered (slice_index_or p.cells c Black) (filter wh (beside p.size c))) whites)
 
 clue_in : (cells : List LightCell) (place n : ℕ) → number_clue (slice_index_or cells place Black) ≡ Some n → place < length cells
-clue_in cells place n e = by (cases_lt place (length cells))
-  where
-    by : (place < length cells) ⊎ (length cells ≤ place) → place < length cells
-    by (inl below) = below
-    by (inr past) = absurd (true≢false (sym (sym (ap (λ cell. is_some (number_clue cell)) (get_or_past cells place Black past)) ∙ ap is_some e)))
+clue_in cells place n e = elim (cases_lt place (length cells)) [
+  | inl below ↦ below
+  | inr past ↦ absurd (none-some n (sym (ap number_clue (get_or_past cells place Black past)) ∙ e))
+]
 
 same_length : (p q : Light) → map is_white p.cells ≡ map is_white q.cells → length p.cells ≡ length q.cells
 same_length p q same = sym (length-map p.cells is_white) ∙ ap length same ∙ length-map q.cells is_white

@@ -1,9 +1,10 @@
 -- What fewer givens change.
-use Rattle.std.proofs.Common.{◌≡◌, ℕ, zero, suc, ◌+◌, ◌<◌, ◌≤◌, true, true≢false, Option, Some, None, List, length, set, refl, sym, ◌∙◌, ap, subst, arith, inl, inr, ◌⊎◌}
-use Rattle.std.specs.Prelude.{is_some, slice_index, slice_set}
+use Rattle.std.proofs.Common.{◌≡◌, ℕ, zero, suc, ◌+◌, ◌<◌, ◌≤◌, true, Some, List, length, set, refl, sym, ◌∙◌, ap, subst, arith, inl, inr}
+use Rattle.std.specs.Prelude.{slice_index, slice_set}
 use Rattle.std.specs.List.{list_all}
 use Rattle.std.proofs.Math.Nat.{le_refl}
 use Rattle.std.proofs.lemmas.Bool.{cases_lt, and_parts, and_from}
+use Rattle.std.proofs.lemmas.Option.{none-some}
 use Rattle.std.proofs.lemmas.List.{get_or-set_other, get_or-set_same, get_or_past, length-set}
 use Rattle.grid_core.specs.Candidates.{all_below}
 use Rattle.grid_core.proofs.CandidateLemmas.{all_below-at, all_below-from}
@@ -27,25 +28,19 @@ resized p q same =
     ap (λ c. solo_puzzle c q.r q.x q.givens) (sym same.c) ∙ ap (λ r. solo_puzzle p.c r q.x q.givens) (sym same.r)
     ∙ ap (λ x. solo_puzzle p.c p.r x q.givens) (sym same.x)
 
-held : Option ℕ → ℕ
-held None = 0
-held (Some n) = n
-
 pub clue_is : (v n : ℕ) → given_clue v ≡ Some n → v ≡ n
-unfolding held
-clue_is zero n e = absurd (true≢false (sym (ap is_some e)))
-clue_is (suc v) n e = ap held e
+clue_is zero n e = absurd (none-some n e)
+clue_is (suc v) n e = let same : Some (suc v) ≡ Some n = e in cc
 
 pub is_clue : (v : ℕ) → 1 ≤ v → given_clue v ≡ Some v
 is_clue zero low = absurd (omega arith)
 is_clue (suc v) low = refl
 
 pub given_in : (givens : List ℕ) (place n : ℕ) → given_clue (slice_index givens place) ≡ Some n → place < length givens
-given_in givens place n e = by (cases_lt place (length givens))
-  where
-    by : (place < length givens) ⊎ (length givens ≤ place) → place < length givens
-    by (inl below) = below
-    by (inr past) = absurd (true≢false (sym (sym (ap (λ v. is_some (given_clue v)) (get_or_past givens place 0 past)) ∙ ap is_some e)))
+given_in givens place n e = elim (cases_lt place (length givens)) [
+  | inl below ↦ below
+  | inr past ↦ absurd (none-some n (sym (ap given_clue (get_or_past givens place 0 past)) ∙ e))
+]
 
 -- ---- solutions
 -- puzzles of one size have the same houses
@@ -109,11 +104,10 @@ solutions_stay p q g w s =
     record { grid = same.grid; good = test_stays p q.givens g w.clues same.good }
 
 cleared : (givens : List ℕ) (place : ℕ) → slice_index (slice_set givens place 0) place ≡ 0
-cleared givens place = by (cases_lt place (length givens))
-  where
-    by : (place < length givens) ⊎ (length givens ≤ place) → slice_index (slice_set givens place 0) place ≡ 0
-    by (inl below) = get_or-set_same givens place 0 0 below
-    by (inr past) = get_or_past (set givens place 0) place 0 (omega (arith, past, length-set givens place 0))
+cleared givens place = elim (cases_lt place (length givens)) [
+  | inl below ↦ get_or-set_same givens place 0 0 below
+  | inr past ↦ get_or_past (set givens place 0) place 0 (omega (arith, past, length-set givens place 0))
+]
 
 pub solo_is_game : IsGame solo_game
 solo_is_game = record {

@@ -1,5 +1,6 @@
 -- The filling of Solo X: a search of the puzzle whose top row is given, turned over by a draw.
-use Rattle.std.specs.Prelude.{ℕ, suc, ◌-◌, ◌*◌, true, Option, Some, None, List, ◌++◌, map, replicate}
+use Rattle.std.specs.Prelude.{ℕ, suc, ◌-◌, ◌*◌, true, Option, Some, None, List, ◌++◌, map, option_map, replicate}
+use Rattle.std.specs.Borrow.{Bor}
 use Rattle.gameid_core.specs.Puzzles.{Solo, solo_puzzle}
 use Rattle.engine_core.specs.Verdict.{Outcome, Outcome.NoGrid, Outcome.OneGrid, Outcome.TwoGrids, Outcome.OutOfBudget, verdict_of}
 use Rattle.solo_core.specs.RuleSets.{houses_rules}
@@ -22,6 +23,10 @@ first_grid (OutOfBudget first) = first
 abbrev pub flipped_by_draw : ℕ → Option (List ℕ) → Making (Option (List ℕ))
 flipped_by_draw n None s = (None, s)
 flipped_by_draw n (Some g) s = let draw = draw_below 4 s in (Some (flipped_by n draw.0 g), draw.1)
+
+-- so is one that is lent
+abbrev pub lent_flipped : ℕ → Option (Bor (List ℕ)) → Making (Option (List ℕ))
+lent_flipped n found = flipped_by_draw n (option_map (λ grid. grid.now) found)
 
 -- the numbers are shuffled, and the puzzle that has them as its top row is searched with the budget
 abbrev pub x_filling : ℕ → ℕ → ℕ → Making (Option (List ℕ))

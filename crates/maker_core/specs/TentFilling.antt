@@ -2,7 +2,7 @@
 use Rattle.std.specs.Prelude.{ℕ, zero, suc, ◌*◌, ◌/◌, Bool, not, ◌&&◌, ◌==◌, List, length, filter, nat_lt, replicate, slice_index, slice_set, if◌then◌else◌}
 use Rattle.rand_core.specs.Stream.{Stream}
 use Rattle.grid_core.specs.Candidates.{any_below}
-use Rattle.grid_core.specs.Extent.{Extent}
+use Rattle.grid_core.specs.Extent.{Extent, IsExtent}
 use Rattle.grid_core.specs.Regions.{beside}
 use Rattle.gameid_core.specs.Lines.{lines_ones}
 use Rattle.gameid_core.specs.Puzzles.{Tents}
@@ -10,7 +10,7 @@ use Rattle.fields_core.specs.Tents.{tent, touches}
 use Rattle.fields_core.specs.TentHouses.{tent_rules}
 use Rattle.fields_core.specs.TentSolutions.{IsTentSolution}
 use Rattle.maker_core.specs.declared.camp.Camp.{Camp}
-use Rattle.maker_core.specs.Draws.{Making, draw_below, filling_at, shuffled_order}
+use Rattle.maker_core.specs.Draws.{HasWords, Making, draw_below, filling_at, shuffled_order}
 use Rattle.maker_core.specs.Made.{has_one}
 
 -- no trees and no tents
@@ -70,6 +70,10 @@ tents_puzzle_of size camp = record { size = size; trees = camp.trees; counts = l
 -- the tents solve it
 abbrev pub IsSolvedCamp : Extent → Camp → Type 0
 IsSolvedCamp size camp = IsTentSolution (tents_puzzle_of size camp) camp.tents
+
+-- what holds of each filling, over any stream of words
+abbrev pub EachFilling : (Extent → Camp → Type 0) → Type 0
+EachFilling P = (size : Extent) (s : Stream) (k : ℕ) → IsExtent size → HasWords s → P size (camp_at size k s)
 
 -- a filling passes where the verdict of its puzzle is one
 abbrev pub tents_pass : Extent → ℕ → Camp → Bool

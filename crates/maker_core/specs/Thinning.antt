@@ -44,6 +44,10 @@ pub record IsThinnedFrom {A : Type 0} (game : Game A) (p q : A) : Type 0 where
   pub frame : game.same_frame p q
   pub clues : (place n : ℕ) → game.clue p place ≡ Some n → game.clue q place ≡ Some n
 
+-- each solution of a puzzle with more clues is one of the puzzle
+abbrev pub KeepsSolutions : {A : Type 0} → Game A → (A → List ℕ → Type 0) → Type 0
+KeepsSolutions {A} game solves = (p q : A) (g : List ℕ) → IsThinnedFrom game p q → solves q g → solves p g
+
 -- the grid is a solution, and no other grid is
 abbrev pub IsOnly : Puzzle → List ℕ → Type 0
 IsOnly rules answer = IsTrueOf rules (OneGrid answer)

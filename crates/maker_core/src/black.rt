@@ -2,7 +2,7 @@
 
 ghost use Rattle.std.specs.Prelude.{◌≡◌, IfOk};
 ghost use Rattle.grid_core.specs.Grids.{IsGrid};
-ghost use Rattle.maker_core.specs.Draws.{AreAll, black_cells};
+ghost use Rattle.maker_core.specs.Draws.{AreAll, IsDrawnBy, black_cells};
 
 use crate::draws::draw;
 use grid_core::Grid;
@@ -20,8 +20,7 @@ pub(crate) fn draw_black<G: Rng>(
     cells: usize,
     black: u8,
 ) -> Result<Grid, AllocError>
-    ensures drawn { IfOk result
-        (λ grid. (grid, G.stream rng.new) ≡ black_cells black cells (G.stream rng.old)) }
+    ensures drawn { IfOk result (IsDrawnBy (black_cells black cells) (G.stream rng.old) (G.stream rng.new)) }
     ensures grid { IfOk result (λ grid. IsGrid cells 2 grid) }
     ensures white { black ≡ 0 → IfOk result (AreAll 0) }
     ensures full { black ≡ 100 → IfOk result (AreAll 1) }

@@ -2,7 +2,8 @@
 
 ghost use Rattle.std.specs.Prelude.{◌≡◌, ◌<◌, IfOk, IsPermutation};
 ghost use Rattle.std.specs.List.{range_with_len};
-ghost use Rattle.maker_core.specs.Draws.{draw_below, shuffled_list, shuffled_order};
+ghost use Rattle.maker_core.specs.Draws.{AreDrawnBy, draw_below, shuffled_list, shuffled_order};
+ghost use Rattle.maker_core.specs.SoloOrders.{IsOrder};
 
 use rand::RngExt;
 use rand::seq::SliceRandom;
@@ -29,7 +30,8 @@ pub(crate) fn shuffle<G: Rng>(rng: &mut G, items: &mut Vec<usize>)
 /// The numbers below `n` in a shuffled order.
 pub(crate) fn order<G: Rng>(alloc: Global, rng: &mut G, n: usize) -> Result<Vec<usize>, AllocError>
     ensures drawn { IfOk result
-        (λ v. (v.items, G.stream rng.new) ≡ shuffled_order n (G.stream rng.old)) }
+        (AreDrawnBy (shuffled_order n) (G.stream rng.old) (G.stream rng.new)) }
+    ensures ordered { IfOk result (λ v. IsOrder n v.items) }
     ensures permutation { IfOk result (λ v. IsPermutation (range_with_len 0 n) v.items) }
 {
     let mut numbers = Vec::new(alloc);

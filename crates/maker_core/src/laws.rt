@@ -1,24 +1,18 @@
 //! What fewer clues change, and what fillings are. These calls do nothing: their contracts are the laws.
 
-ghost use Rattle.std.specs.Prelude.{◌≡◌, ◌*◌, true, List, ℕ};
-ghost use Rattle.rand_core.specs.Stream.{Stream};
-ghost use Rattle.grid_core.specs.Extent.{Extent, IsExtent};
+ghost use Rattle.std.specs.Prelude.{◌≡◌, ◌*◌, true};
 ghost use Rattle.grid_core.specs.Grids.{IsGrid};
-ghost use Rattle.gameid_core.specs.Puzzles.{Solo, Light};
 ghost use Rattle.solo_core.specs.Solutions.{IsSoloSolution};
 ghost use Rattle.fields_core.specs.Light.{is_lit};
-ghost use Rattle.maker_core.specs.Draws.{HasWords};
-ghost use Rattle.maker_core.specs.TentFilling.{IsSolvedCamp, camp_at};
-ghost use Rattle.maker_core.specs.Thinning.{IsThinnedFrom, LeavesNoIdleClue};
+ghost use Rattle.maker_core.specs.TentFilling.{EachFilling, IsSolvedCamp};
+ghost use Rattle.maker_core.specs.Thinning.{KeepsSolutions, LeavesNoIdleClue};
 ghost use Rattle.maker_core.specs.SoloClues.{solo_game};
 ghost use Rattle.maker_core.specs.LightClues.{light_game};
 
 /// Where each clue of a puzzle is a clue of another one, each solution of the other one is one of the puzzle.
 pub fn fewer_clues_keep_solutions()
-    ensures solo { (p q : Solo) (g : List ℕ) → IsThinnedFrom solo_game p q
-        → IsSoloSolution q g → IsSoloSolution p g }
-    ensures lights { (p q : Light) (g : List ℕ) → IsThinnedFrom light_game p q
-        → is_lit q g ≡ true → is_lit p g ≡ true }
+    ensures solo { KeepsSolutions solo_game IsSoloSolution }
+    ensures lights { KeepsSolutions light_game (λ p g. is_lit p g ≡ true) }
 {}
 
 /// Where each clue that was left in a puzzle is needed, the puzzle has two solutions once any of them are taken away.
@@ -29,8 +23,6 @@ pub fn needed_clues_are_not_idle()
 
 /// Each filling of Tents, over any stream of 32-bit words, is a grid of trees and tents that solves its own puzzle.
 pub fn fillings_of_tents_are_solutions()
-    ensures trees { (size : Extent) (s : Stream) (k : ℕ) → IsExtent size → HasWords s
-        → IsGrid (size.w * size.h) 2 (camp_at size k s).trees }
-    ensures solved { (size : Extent) (s : Stream) (k : ℕ) → IsExtent size → HasWords s
-        → IsSolvedCamp size (camp_at size k s) }
+    ensures trees { EachFilling (λ size camp. IsGrid (size.w * size.h) 2 camp.trees) }
+    ensures solved { EachFilling IsSolvedCamp }
 {}

@@ -3,6 +3,7 @@
 ghost use Rattle.std.specs.Prelude.{◌≡◌, ◌≤◌, ◌<◌, ◌*◌, ℕ, true, false, All, IfOk, length, replicate};
 ghost use Rattle.grid_core.specs.Grids.{IsGrid};
 ghost use Rattle.fields_core.specs.Light.{light_cells, white, is_lit};
+ghost use Rattle.maker_core.specs.Draws.{IsDrawnBy};
 ghost use Rattle.maker_core.specs.LightFilling.{lights_of, white_places, bulbs_after, with_numbers, lit_up, IsLighting};
 
 use crate::black::draw_black;
@@ -79,8 +80,7 @@ fn number_cells(puzzle: &mut LightPuzzle, grid: &Grid)
 /// Takes the white cells of a puzzle without numbers, listed by place and shuffled, in turn, and puts a bulb into each
 /// that neither holds nor sees one. The grid solves the puzzle with the numbers that it gives.
 fn light_up<G: Rng>(alloc: Global, rng: &mut G, puzzle: &LightPuzzle) -> Result<Grid, AllocError>
-    ensures drawn { IfOk result
-        (λ grid. (grid, G.stream rng.new) ≡ lit_up puzzle.now (G.stream rng.old)) }
+    ensures drawn { IfOk result (IsDrawnBy (lit_up puzzle.now) (G.stream rng.old) (G.stream rng.new)) }
     ensures grid { IfOk result (λ grid. IsGrid (light_cells puzzle.now) 2 grid) }
     ensures solved { IfOk result (λ grid. is_lit (with_numbers puzzle.now grid) grid ≡ true) }
 {

@@ -8,7 +8,7 @@ ghost use Rattle.fields_core.specs.LightHouses.{light_rules};
 ghost use Rattle.maker_core.specs.declared.made.MakeFault.TheVariants.{Exhausted, SizeRange};
 ghost use Rattle.maker_core.specs.Draws.{AllFail, IsAfterAll, IsAfterFirst};
 ghost use Rattle.maker_core.specs.LightMaking.{MakesLights, light_tries};
-ghost use Rattle.maker_core.specs.Made.{TellsOne, has_one};
+ghost use Rattle.maker_core.specs.Made.{IfYes, TellsOne, has_one};
 ghost use Rattle.maker_core.specs.Thinning.{IsOnly};
 
 use crate::light_filling::fill_lights;
@@ -38,10 +38,8 @@ fn passes(
     requires grid { IsGrid (light_cells puzzle.now) 2 answer.now }
     requires solved { is_lit puzzle.now answer.now ≡ true }
     ensures verdict { IfOk result (λ unique. unique ≡ has_one (light_rules puzzle.now) budget) }
-    ensures only { IfOk result
-        (λ unique. unique ≡ true → IsOnly (light_rules puzzle.now) answer.now) }
-    ensures found { IfOk result
-        (λ unique. unique ≡ true → TellsOne (light_rules puzzle.now) budget answer.now) }
+    ensures only { IfYes result (IsOnly (light_rules puzzle.now) answer.now) }
+    ensures found { IfYes result (TellsOne (light_rules puzzle.now) budget answer.now) }
     ensures black { ((c : ℕ) → white puzzle.now c ≡ false)
         → IfOk result (λ unique. unique ≡ true) }
 {
@@ -82,8 +80,7 @@ pub fn make_lights<G: Rng>(
     ensures no_tries { IsWide size → limits.tries ≡ 0 → result ≡ Err Exhausted }
     ensures exhausted { result ≡ Err Exhausted
         → AllFail (light_tries size black limits) (G.stream rng.old) }
-    ensures all_drawn { result ≡ Err Exhausted
-        → IsAfterAll (light_tries size black limits) (G.stream rng.old) (G.stream rng.new) }
+    ensures all_drawn { IsAfterAll (light_tries size black limits) (G.stream rng.old) (G.stream rng.new) result }
     ensures undrawn { result ≡ Err SizeRange → G.stream rng.new ≡ G.stream rng.old }
     ensures full { 1 ≤ limits.tries → black ≡ 100 → result ≢ Err Exhausted }
 {

@@ -6,7 +6,7 @@ ghost use Rattle.pattern_core.specs.LineRules.{line_rules};
 ghost use Rattle.pattern_core.specs.Solutions.{IsPatternSolution};
 ghost use Rattle.maker_core.specs.declared.made.MakeFault.TheVariants.{Exhausted, SizeRange};
 ghost use Rattle.maker_core.specs.Draws.{AreAll, AllFail, IsAfterAll, IsAfterFirst};
-ghost use Rattle.maker_core.specs.Made.{TellsOne, IsOnlySolution};
+ghost use Rattle.maker_core.specs.Made.{IfYes, TellsOne, IsOnlySolution};
 ghost use Rattle.maker_core.specs.PatternMaking.{MakesPattern, clued_by, pattern_passes, pattern_tries};
 
 use crate::black::draw_black;
@@ -42,10 +42,8 @@ fn passes(
     requires solved { IsPatternSolution puzzle.now answer.old }
     ensures verdict { IfOk result
         (λ unique. unique ≡ pattern_passes puzzle.now.size budget answer.old) }
-    ensures only { IfOk result
-        (λ unique. unique ≡ true → IsOnlySolution (IsPatternSolution puzzle.now) answer.old) }
-    ensures found { IfOk result
-        (λ unique. unique ≡ true → TellsOne (line_rules puzzle.now) budget answer.old) }
+    ensures only { IfYes result (IsOnlySolution (IsPatternSolution puzzle.now) answer.old) }
+    ensures found { IfYes result (TellsOne (line_rules puzzle.now) budget answer.old) }
     ensures plain { AreAll 0 answer.old ⊎ AreAll 1 answer.old
         → IfOk result (λ unique. unique ≡ true) }
     ensures same { answer.new ≡ answer.old }
@@ -90,8 +88,7 @@ pub fn make_pattern<G: Rng>(
     ensures no_tries { limits.tries ≡ 0 → result ≡ Err Exhausted }
     ensures exhausted { result ≡ Err Exhausted
         → AllFail (pattern_tries size black limits) (G.stream rng.old) }
-    ensures all_drawn { result ≡ Err Exhausted
-        → IsAfterAll (pattern_tries size black limits) (G.stream rng.old) (G.stream rng.new) }
+    ensures all_drawn { IsAfterAll (pattern_tries size black limits) (G.stream rng.old) (G.stream rng.new) result }
     ensures plain { 1 ≤ limits.tries → (black ≡ 0) ⊎ (black ≡ 100) → result ≢ Err Exhausted }
 {
     for _attempt in 0..limits.tries {

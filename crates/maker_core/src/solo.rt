@@ -3,7 +3,7 @@
 ghost use Rattle.std.specs.Prelude.{◌≡◌, ◌↔◌, false, IsTrue, Err, IfOk, IfSome, OnOk};
 ghost use Rattle.solo_core.specs.Solutions.{IsSoloSolution};
 ghost use Rattle.maker_core.specs.declared.made.MakeFault.TheVariants.{Exhausted, SizeRange};
-ghost use Rattle.maker_core.specs.Draws.{AllFail, IsAfterAll, IsAfterFirst};
+ghost use Rattle.maker_core.specs.Draws.{AllFail, IsAfterAll, IsAfterFirst, IsDrawnBy};
 ghost use Rattle.maker_core.specs.SoloFilling.{all_given};
 ghost use Rattle.maker_core.specs.SoloMaking.{IsSoloSize, MakesSolo, NoneFound, solo_filling, solo_tries};
 
@@ -52,8 +52,7 @@ pub fn make_solo<G: Rng>(
     ensures none_found { result ≡ Err Exhausted
         → NoneFound c r x limits.budget (G.stream rng.old) limits.tries }
     ensures plain { x ≡ false → result ≡ Err Exhausted → limits.tries ≡ 0 }
-    ensures all_drawn { result ≡ Err Exhausted
-        → IsAfterAll (solo_tries c r x limits) (G.stream rng.old) (G.stream rng.new) }
+    ensures all_drawn { IsAfterAll (solo_tries c r x limits) (G.stream rng.old) (G.stream rng.new) result }
     ensures undrawn { result ≡ Err SizeRange → G.stream rng.new ≡ G.stream rng.old }
 {
     if !is_size(c, r) {
@@ -79,8 +78,8 @@ fn fill_solo<G: Rng>(
     budget: u64,
 ) -> Result<Option<Grid>, AllocError>
     requires { IsSoloSize c r }
-    ensures filling { IfOk result (λ filling. (filling, G.stream rng.new)
-        ≡ solo_filling c r x budget (G.stream rng.old)) }
+    ensures filling { IfOk result
+        (IsDrawnBy (solo_filling c r x budget) (G.stream rng.old) (G.stream rng.new)) }
     ensures solution { IfOk result (λ filling.
         IfSome filling (λ grid. IsSoloSolution (all_given c r x grid) grid)) }
 {

@@ -4,7 +4,7 @@ ghost use Rattle.std.specs.Prelude.{◌≡◌, ◌+◌, ◌*◌, ◌<◌, ◌≤
 ghost use Rattle.grid_core.specs.Grids.{IsGrid};
 ghost use Rattle.gameid_core.specs.Head.{max_numbers};
 ghost use Rattle.solo_core.specs.Solutions.{IsSoloSolution};
-ghost use Rattle.maker_core.specs.Draws.{shuffled_order};
+ghost use Rattle.maker_core.specs.Draws.{AreDrawnBy, IsDrawnBy, shuffled_order};
 ghost use Rattle.maker_core.specs.SoloOrders.{IsOrder, IsLineOrder};
 ghost use Rattle.maker_core.specs.SoloFilling.{group_drawn, line_order as lines_of_order, rearranged, plain_filling, all_given};
 ghost use Rattle.maker_core.specs.SoloMaking.{IsSoloSize};
@@ -29,8 +29,7 @@ pub(crate) fn fill_plain<G: Rng>(
     rng: &mut G,
 ) -> Result<Grid, AllocError>
     requires { IsSoloSize c r }
-    ensures filling { IfOk result
-        (λ grid. (grid, G.stream rng.new) ≡ plain_filling c r (G.stream rng.old)) }
+    ensures filling { IfOk result (IsDrawnBy (plain_filling c r) (G.stream rng.old) (G.stream rng.new)) }
     ensures solution { IfOk result (λ grid. IsSoloSolution (all_given c r false grid) grid) }
 {
     let tall = usize::from(c);
@@ -74,7 +73,7 @@ fn line_order<G: Rng>(
     requires some { 0 < size }
     requires few { count * size ≤ max_numbers }
     ensures drawn { IfOk result
-        (λ v. (v.items, G.stream rng.new) ≡ lines_of_order count size (G.stream rng.old)) }
+        (AreDrawnBy (lines_of_order count size) (G.stream rng.old) (G.stream rng.new)) }
     ensures grouped { IfOk result (λ v. IsLineOrder count size v.items) }
 {
     let groups = order(alloc, rng, count)?;

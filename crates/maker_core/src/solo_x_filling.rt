@@ -6,7 +6,8 @@ ghost use Rattle.solo_core.specs.Solutions.{IsSoloSolution};
 ghost use Rattle.maker_core.specs.SoloOrders.{IsOrder};
 ghost use Rattle.maker_core.specs.SoloFilling.{all_given};
 ghost use Rattle.maker_core.specs.SoloMaking.{IsSoloSize};
-ghost use Rattle.maker_core.specs.SoloXFilling.{top_row_given, flipped_by_draw, x_filling};
+ghost use Rattle.maker_core.specs.SoloXFilling.{top_row_given, lent_flipped, x_filling};
+ghost use Rattle.maker_core.specs.Draws.{IsDrawnBy};
 
 use crate::draws::{draw, order};
 use crate::flip::flip;
@@ -33,8 +34,8 @@ pub(crate) fn fill_x<G: Rng>(
     budget: u64,
 ) -> Result<Option<Grid>, AllocError>
     requires { IsSoloSize c r }
-    ensures filling { IfOk result (λ filling. (filling, G.stream rng.new)
-        ≡ x_filling c r budget (G.stream rng.old)) }
+    ensures filling { IfOk result
+        (IsDrawnBy (x_filling c r budget) (G.stream rng.old) (G.stream rng.new)) }
     ensures solution { IfOk result (λ filling.
         IfSome filling (λ grid. IsSoloSolution (all_given c r true grid) grid)) }
 {
@@ -69,8 +70,8 @@ fn flip_by_draw<G: Rng>(
 ) -> Result<Option<Grid>, AllocError>
     requires few { n ≤ max_numbers }
     requires cells { IfSome found (λ grid. length grid.now ≡ n * n) }
-    ensures { IfOk result (λ flipped. (flipped, G.stream rng.new)
-        ≡ flipped_by_draw n (option_map (λ grid. grid.now) found.entry) (G.stream rng.old)) }
+    ensures { IfOk result
+        (IsDrawnBy (lent_flipped n found.entry) (G.stream rng.old) (G.stream rng.new)) }
 {
     match found {
         Some(grid) => {

@@ -2,6 +2,7 @@
 
 ghost use Rattle.std.specs.Prelude.{◌≡◌, ◌<◌, ◌*◌, ◌/◌, IfOk, OnOk, true, length};
 ghost use Rattle.grid_core.specs.Grids.{IsGrid};
+ghost use Rattle.maker_core.specs.Draws.{IsDrawnBy};
 ghost use Rattle.maker_core.specs.SoloOrders.{IsOrder};
 ghost use Rattle.maker_core.specs.TentFilling.{IsSolvedCamp, no_camp, camp_of_order, is_free, free_cells_beside, may_pitch, pitch as pitched_in, take_cell as cell_taken, tent_filling};
 ghost use Rattle.maker_core.specs.TentSteps.{IsPitched, IsTaken};
@@ -128,8 +129,7 @@ fn take_cells<G: Rng>(
 ///
 /// When memory was refused.
 pub(crate) fn fill_tents<G: Rng>(alloc: Global, rng: &mut G, size: Size) -> Result<Camp, AllocError>
-    ensures drawn { IfOk result
-        (λ camp. (camp, G.stream rng.new) ≡ tent_filling size (G.stream rng.old)) }
+    ensures drawn { IfOk result (IsDrawnBy (tent_filling size) (G.stream rng.old) (G.stream rng.new)) }
     ensures trees { IfOk result (λ camp. IsGrid (size.w * size.h) 2 camp.trees) }
     ensures tents { IfOk result (λ camp. IsGrid (size.w * size.h) 2 camp.tents) }
     ensures solved { IfOk result (IsSolvedCamp size) }

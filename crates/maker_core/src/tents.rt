@@ -5,7 +5,7 @@ ghost use Rattle.grid_core.specs.Grids.{IsGrid};
 ghost use Rattle.fields_core.specs.TentHouses.{tent_rules};
 ghost use Rattle.maker_core.specs.declared.made.MakeFault.TheVariants.{Exhausted, SizeRange};
 ghost use Rattle.maker_core.specs.Draws.{AllFail, IsAfterAll, IsAfterFirst};
-ghost use Rattle.maker_core.specs.Made.{HasOne, has_one};
+ghost use Rattle.maker_core.specs.Made.{HasOne, IfYes, has_one};
 ghost use Rattle.maker_core.specs.TentFilling.{tents_puzzle_of};
 ghost use Rattle.maker_core.specs.TentMaking.{IsTentSize, MakesTents, tents_tries};
 
@@ -41,7 +41,7 @@ fn puzzle_of(alloc: Global, size: Size, camp: &Camp) -> Result<TentsPuzzle, Allo
 /// Whether the verdict of the puzzle is one.
 fn passes(alloc: Global, puzzle: &TentsPuzzle, budget: u64) -> Result<bool, AllocError>
     ensures verdict { IfOk result (λ unique. unique ≡ has_one (tent_rules puzzle.now) budget) }
-    ensures only { IfOk result (λ unique. unique ≡ true → HasOne (tent_rules puzzle.now) budget) }
+    ensures only { IfYes result (HasOne (tent_rules puzzle.now) budget) }
 {
     let rules = TentRules::new(alloc, puzzle)?;
     is_unique(alloc, &rules, budget)
@@ -74,8 +74,7 @@ pub fn make_tents<G: Rng>(
     ensures no_tries { IsTentSize size → limits.tries ≡ 0 → result ≡ Err Exhausted }
     ensures exhausted { result ≡ Err Exhausted
         → AllFail (tents_tries size limits) (G.stream rng.old) }
-    ensures all_drawn { result ≡ Err Exhausted
-        → IsAfterAll (tents_tries size limits) (G.stream rng.old) (G.stream rng.new) }
+    ensures all_drawn { IsAfterAll (tents_tries size limits) (G.stream rng.old) (G.stream rng.new) result }
     ensures undrawn { result ≡ Err SizeRange → G.stream rng.new ≡ G.stream rng.old }
 {
     fields_core::accepted_tents_are_solutions();

@@ -3,6 +3,7 @@
 ghost use Rattle.std.specs.Prelude.{◌≡◌, ◌<◌, [], IfOk, OnOk, IsTrue, IsPermutation};
 ghost use Rattle.engine_core.specs.Puzzle.{FitsIn, needs_of};
 ghost use Rattle.maker_core.specs.Thinning.{has_clue, clue_places, shuffled_clues, stream_after_clues, IsThinnedFrom, IsOnly, HasReasons};
+ghost use Rattle.maker_core.specs.Draws.{AreDrawnBy};
 ghost use Rattle.maker_core.specs.Made.{HasOne, TellsOne};
 ghost use Rattle.maker_core.specs.ThinningSteps.{IsLeft, IsAsked, IsThinning, reasons_from};
 
@@ -74,8 +75,8 @@ fn shuffled_clues<P: Clued, G: Rng>(
     puzzle: &P,
     rng: &mut G,
 ) -> Result<Vec<usize>, AllocError>
-    ensures drawn { IfOk result (λ order. (order.items, G.stream rng.new)
-        ≡ shuffled_clues P.game puzzle.now (G.stream rng.old)) }
+    ensures drawn { IfOk result
+        (AreDrawnBy (shuffled_clues P.game puzzle.now) (G.stream rng.old) (G.stream rng.new)) }
     ensures permutation { IfOk result
         (λ order. IsPermutation (clue_places P.game puzzle.now) order.items) }
 {

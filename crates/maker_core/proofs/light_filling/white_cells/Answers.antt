@@ -1,13 +1,15 @@
-use Rattle.std.proofs.Common.{◌*◌, ◌∙◌, ap, arith}
+use Rattle.std.proofs.Common.{◌*◌, sym, ◌∙◌, ap, arith}
 use Rattle.grid_core.specs.Extent.{Extent}
-use Rattle.maker_core.proofs.LightBulbs.{white_skip, white_more, white_all}
+use Rattle.fields_core.specs.Light.{white}
+use Rattle.maker_core.proofs.FilteredRanges.{filter_kept, filter_skipped}
+use Rattle.maker_core.proofs.LightBulbs.{white_all}
 use Rattle.maker_core.proofs.light_filling.white_cells.Goals as goal
 
 pub loop-place-preserved : goal.loop-place-preserved
-loop-place-preserved c = white_more _ _ _ _ _ c.loop-place.invariant c.is_white.ensures c.if-not-is_white.false c.in_ok-push.ensures.items
+loop-place-preserved c = filter_kept (white c.args.puzzle.now) _ _ _ (sym c.is_white.ensures ∙ c.if-not-is_white.false) c.loop-place.invariant c.in_ok-push.ensures.items
 
 pub loop-place-preserved-then-not-is_white : goal.loop-place-preserved-then-not-is_white
-loop-place-preserved-then-not-is_white c = white_skip _ _ _ _ c.loop-place.invariant c.is_white.ensures c.if-not-is_white.true
+loop-place-preserved-then-not-is_white c = filter_skipped (white c.args.puzzle.now) _ _ (sym c.is_white.ensures ∙ c.if-not-is_white.true) c.loop-place.invariant
 
 pub returns : goal.returns
 returns c =

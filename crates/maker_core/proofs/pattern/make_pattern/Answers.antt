@@ -1,21 +1,27 @@
-use Rattle.std.proofs.Common.{sym, ◌∙◌, ap}
-use Rattle.grid_core.specs.Extent.{Extent}
+use Rattle.std.proofs.Common.{◌≡◌, List, ℕ, true≢false, inl, inr, refl, sym, ◌∙◌, ap}
+use Rattle.rand_core.specs.Stream.{Stream}
 use Rattle.maker_core.specs.Draws.{black_cells}
-use Rattle.maker_core.specs.PatternMaking.{clued_by, pattern_passes}
-use Rattle.maker_core.proofs.PatternMakings.{IsFirstSure-none, IsFirstSure-more}
+use Rattle.maker_core.specs.PatternMaking.{clued_by, pattern_filling, pattern_passes}
 use Rattle.maker_core.proofs.Tries.{IsTrying-none, IsTrying-more, first_passing, left_after}
+use Rattle.maker_core.proofs.pattern.make_pattern.Given as given
 use Rattle.maker_core.proofs.pattern.make_pattern.Goals as goal
+use Rattle.maker_core.proofs.pattern.make_pattern.Goals.{In_ok-passes}
+
+-- the grid is the next filling, and passes where the verdict of its puzzle is one
+drawn : (g : given.Over) (c : In_ok-passes g)
+    → ◌≡◌ {A = List ℕ × Stream} (c.in_ok-answer.answer, g.G.Rng.stream c.draw_black.new.rng) (pattern_filling c.args.size c.args.black (g.G.Rng.stream c.loop-attempt.rng))
+drawn g c = c.in_ok-answer.ensures.drawn ∙ ap (λ cells. black_cells c.args.black cells (g.G.Rng.stream c.loop-attempt.rng)) c.cells.ensures.value
+
+verdict : (g : given.Over) (c : In_ok-passes g) → pattern_passes c.args.size c.args.limits.budget c.in_ok-answer.answer ≡ c.in_ok-passes.field-0
+verdict g c = sym (c.in_ok-passes.ensures.verdict ∙ ap (λ p. pattern_passes p.size c.args.limits.budget c.in_ok-answer.answer) c.in_ok-puzzle.ensures.puzzle)
 
 pub loop-attempt-init : goal.loop-attempt-init
-loop-attempt-init g c = record { trying = IsTrying-none _ _ _; sure = IsFirstSure-none _ }
+loop-attempt-init g c = record { trying = IsTrying-none _ _ _; sure = λ e. refl }
 
 pub returns-then-branch-clause-made : goal.returns-then-branch-clause-made
 returns-then-branch-clause-made g c =
-    let w = first_passing _ _ _ _ _ _ _ _ c.loop-attempt.invariant.trying
-    (c.in_ok-answer.ensures.drawn ∙ ap (λ cells. black_cells c.args.black cells (g.G.Rng.stream c.loop-attempt.rng)) c.cells.ensures.value)
-    (ap (λ (size : Extent). pattern_passes size c.args.limits.budget c.in_ok-answer.answer) (sym (ap (λ p. p.size) c.in_ok-puzzle.ensures.puzzle))
-    ∙ sym c.in_ok-passes.ensures.verdict ∙ c.if-branch.true)
-    c.loop-attempt-test.true in
+    let z = (goal.at.returns-then-branch-clause-made g c).In_ok-passes in
+    let w = first_passing _ _ _ _ _ _ _ _ c.loop-attempt.invariant.trying (drawn g z) (verdict g z ∙ c.if-branch.true) c.loop-attempt-test.true in
     let same = c.passes.ensures.same in
     let only = c.in_ok-passes.ensures.only c.if-branch.true in
     let found = c.in_ok-passes.ensures.found c.if-branch.true in
@@ -31,18 +37,14 @@ returns-then-branch-clause-made g c =
 
 pub returns-then-branch-clause-drawn : goal.returns-then-branch-clause-drawn
 returns-then-branch-clause-drawn g c =
-    left_after _ _ _ _ _ _ _ _ c.loop-attempt.invariant.trying
-    (c.in_ok-answer.ensures.drawn ∙ ap (λ cells. black_cells c.args.black cells (g.G.Rng.stream c.loop-attempt.rng)) c.cells.ensures.value)
-    (ap (λ (size : Extent). pattern_passes size c.args.limits.budget c.in_ok-answer.answer) (sym (ap (λ p. p.size) c.in_ok-puzzle.ensures.puzzle))
-    ∙ sym c.in_ok-passes.ensures.verdict ∙ c.if-branch.true)
-    c.loop-attempt-test.true
+    let z = (goal.at.returns-then-branch-clause-drawn g c).In_ok-passes in
+    left_after _ _ _ _ _ _ _ _ c.loop-attempt.invariant.trying (drawn g z) (verdict g z ∙ c.if-branch.true) c.loop-attempt-test.true
 
 pub loop-attempt-preserved : goal.loop-attempt-preserved
-loop-attempt-preserved g c = record {
-  trying =
-      IsTrying-more _ _ _ _ _ _ _ c.loop-attempt.invariant.trying
-      (c.in_ok-answer.ensures.drawn ∙ ap (λ cells. black_cells c.args.black cells (g.G.Rng.stream c.loop-attempt.rng)) c.cells.ensures.value)
-      (ap (λ (size : Extent). pattern_passes size c.args.limits.budget c.in_ok-answer.answer) (sym (ap (λ p. p.size) c.in_ok-puzzle.ensures.puzzle))
-      ∙ sym c.in_ok-passes.ensures.verdict ∙ c.if-branch.false);
-  sure = IsFirstSure-more _ _ _ _ c.in_ok-answer.ensures.white c.in_ok-answer.ensures.full c.in_ok-passes.ensures.plain c.if-branch.false;
-}
+loop-attempt-preserved g c =
+    let z = (goal.at.loop-attempt-preserved g c).In_ok-passes in
+    let plain = c.in_ok-passes.ensures.plain in
+    record {
+      trying = IsTrying-more _ _ _ _ _ _ _ c.loop-attempt.invariant.trying (drawn g z) (verdict g z ∙ c.if-branch.false);
+      sure = λ colour. absurd (true≢false (sym (plain (elim colour [ inl e ↦ inl (c.in_ok-answer.ensures.white e) | inr e ↦ inr (c.in_ok-answer.ensures.full e) ])) ∙ c.if-branch.false));
+    }

@@ -1,7 +1,7 @@
 use Rattle.std.proofs.Common.{◌≡◌, ◌+◌, ap, arith}
 use Rattle.std.proofs.lemmas.Nat.{mul-le}
 use Rattle.std.proofs.lemmas.List.{get_or_read}
-use Rattle.maker_core.proofs.SoloOrderLemmas.{order_from_permutation, line_order_from_groups}
+use Rattle.maker_core.proofs.SoloOrderLemmas.{line_order_from_groups}
 use Rattle.maker_core.proofs.SoloDraws.{groups-none, grouped-none, groups-more, grouped-more}
 use Rattle.maker_core.proofs.solo_filling.line_order.Goals as goal
 
@@ -11,15 +11,9 @@ loop-k-init g c = record {
   grouped = grouped-none _ _ _ c.new-lines.ensures.items;
 }
 
-pub index-requires : goal.index-requires
-index-requires g c =
-    let len = (order_from_permutation c.args.count c.in_ok-groups.groups.items c.in_ok-groups.ensures.permutation).len in
-    let ok = c.in_ok-groups.groups.ok.0 in
-    omega arith
-
 pub push_group-requires : goal.push_group-requires
 push_group-requires g c =
-    let order = order_from_permutation c.args.count c.in_ok-groups.groups.items c.in_ok-groups.ensures.permutation in
+    let order = c.in_ok-groups.ensures.ordered in
     let len = order.len in
     let below = order.within c.loop-k.k (omega arith) in
     let is = get_or_read c.in_ok-groups.groups.items c.loop-k.k c.index.result.now (omega arith) c.index.ensures 0 in
@@ -29,7 +23,7 @@ push_group-requires g c =
 
 pub loop-k-preserved : goal.loop-k-preserved
 loop-k-preserved g c =
-    let len = (order_from_permutation c.args.count c.in_ok-groups.groups.items c.in_ok-groups.ensures.permutation).len in
+    let len = c.in_ok-groups.ensures.ordered.len in
     let is = get_or_read c.in_ok-groups.groups.items c.loop-k.k c.index.result.now (omega arith) c.index.ensures 0 in
     record {
       drawn = groups-more c.args.size c.loop-k.k _ _ _ _ _ _ _ c.loop-k.invariant.drawn is c.in_ok-push_group.ensures.drawn;
@@ -39,5 +33,4 @@ loop-k-preserved g c =
 pub returns-clause-grouped : goal.returns-clause-grouped
 returns-clause-grouped g c =
     let same : c.loop-k.k ≡ c.args.count = omega arith in
-    line_order_from_groups c.args.count c.args.size _ _ c.requires.some
-    (order_from_permutation c.args.count c.in_ok-groups.groups.items c.in_ok-groups.ensures.permutation) (rw same at c.loop-k.invariant.grouped)
+    line_order_from_groups c.args.count c.args.size _ _ c.requires.some c.in_ok-groups.ensures.ordered (rw same at c.loop-k.invariant.grouped)

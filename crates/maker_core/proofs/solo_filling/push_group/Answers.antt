@@ -1,18 +1,11 @@
 use Rattle.std.proofs.Common.{◌+◌, ◌*◌, ap, arith}
 use Rattle.std.proofs.lemmas.List.{get_or_read}
-use Rattle.maker_core.proofs.SoloOrderLemmas.{order_from_permutation}
 use Rattle.maker_core.proofs.SoloDraws.{line-more, lines-all, order_drawn}
 use Rattle.maker_core.proofs.solo_filling.push_group.Goals as goal
 
-pub index-requires : goal.index-requires
-index-requires g c =
-    let len = (order_from_permutation c.args.size c.in_ok-inside.inside.items c.in_ok-inside.ensures.permutation).len in
-    let ok = c.in_ok-inside.inside.ok.0 in
-    omega arith
-
 pub overflow_add-group : goal.overflow_add-group
 overflow_add-group g c =
-    let order = order_from_permutation c.args.size c.in_ok-inside.inside.items c.in_ok-inside.ensures.permutation in
+    let order = c.in_ok-inside.ensures.ordered in
     let len = order.len in
     let below = order.within c.loop-k.k (omega arith) in
     let is = get_or_read c.in_ok-inside.inside.items c.loop-k.k c.index.result.now (omega arith) c.index.ensures 0 in
@@ -21,15 +14,14 @@ overflow_add-group g c =
 
 pub loop-k-preserved : goal.loop-k-preserved
 loop-k-preserved g c =
-    let len = (order_from_permutation c.args.size c.in_ok-inside.inside.items c.in_ok-inside.ensures.permutation).len in
+    let len = c.in_ok-inside.ensures.ordered.len in
     line-more _ _ _ _ _ c.loop-k.k _ (omega arith) c.loop-k.invariant c.in_ok-push.ensures.items
     (ap (λ q. c.args.group * c.args.size + q) (get_or_read c.in_ok-inside.inside.items c.loop-k.k c.index.result.now (omega arith) c.index.ensures 0))
 
 pub returns-clause-drawn : goal.returns-clause-drawn
 returns-clause-drawn g c =
-    let len = (order_from_permutation c.args.size c.in_ok-inside.inside.items c.in_ok-inside.ensures.permutation).len in
+    let len = c.in_ok-inside.ensures.ordered.len in
     lines-all c.args.size c.args.group c.loop-k.k _ _ _ _ _ c.loop-k.invariant (omega arith) c.in_ok-inside.ensures.drawn
 
 pub returns-clause-ordered : goal.returns-clause-ordered
-returns-clause-ordered g c =
-    order_drawn c.args.size _ _ _ c.in_ok-inside.ensures.drawn (order_from_permutation c.args.size c.in_ok-inside.inside.items c.in_ok-inside.ensures.permutation)
+returns-clause-ordered g c = order_drawn c.args.size _ _ _ c.in_ok-inside.ensures.drawn c.in_ok-inside.ensures.ordered

@@ -1,6 +1,7 @@
 use Rattle.std.proofs.Common.{◌*◌, refl, arith}
 use Rattle.grid_core.specs.Grids.{IsGrid}
-use Rattle.maker_core.proofs.Switches.{grid_with, undone, solved_by, turned_other}
+use Rattle.maker_core.proofs.Switches.{undone, solved_by, turned_other}
+use Rattle.maker_core.proofs.WrittenGrids.{grid_with}
 use Rattle.maker_core.proofs.switch.is_solved_turned.Goals as goal
 
 -- the grid before the last cell is turned

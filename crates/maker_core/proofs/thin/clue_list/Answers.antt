@@ -1,6 +1,6 @@
 use Rattle.std.proofs.Common.{sym, ◌∙◌, ap}
 use Rattle.maker_core.specs.Thinning.{has_clue}
-use Rattle.maker_core.proofs.ThinningLists.{filter_kept, filter_skipped}
+use Rattle.maker_core.proofs.FilteredRanges.{filter_kept, filter_skipped}
 use Rattle.maker_core.proofs.thin.clue_list.Goals as goal
 use Rattle.maker_core.proofs.thin.clue_list.Goals.{then-has_clue+in_ok-push, else-has_clue}
 

@@ -1,7 +1,6 @@
 use Rattle.std.proofs.Common.{subst, sym, rules}
 use Rattle.engine_core.specs.Puzzle.{FitsIn, needs_of}
-use Rattle.maker_core.proofs.ThinningLists.{contains_head}
-use Rattle.maker_core.proofs.ThinningTurns.{some_of, next_turn, turn_in_room, thinning_turn, tried_fits, fits_through}
+use Rattle.maker_core.proofs.ThinningTurns.{contains_head, some_of, next_turn, turn_in_room, thinning_turn, tried_fits, fits_through}
 use Rattle.maker_core.proofs.thin.try_clues.Goals as goal
 
 pub try_clue-requires-clause-clue : goal.try_clue-requires-clause-clue

@@ -1,0 +1,20 @@
+-- What a search says of the solutions of its rules it says of the solutions of the game, where the two agree.
+use Rattle.std.proofs.Common.{ℕ, List, sym, ◌∙◌, subst}
+use Rattle.std.specs.Prelude.{IsTrue, ◌↔◌}
+use Rattle.engine_core.specs.Puzzle.{Puzzle, IsGridOf}
+use Rattle.engine_core.specs.Verdict.{Solves}
+use Rattle.maker_core.specs.Made.{HasOne, TellsOne, IsOnlySolution}
+use Rattle.maker_core.specs.Thinning.{IsOnly}
+
+module _ (rules : Puzzle) (solves : List ℕ → Type 0) (fits : (h : List ℕ) → solves h → IsGridOf rules h)
+    (accepted : (h : List ℕ) → IsGridOf rules h → (IsTrue (rules.is_solution h)) ↔ solves h) where
+  pub solution : (h : List ℕ) → solves h → Solves rules h
+  solution h s = record { grid = fits h s; good = (accepted h (fits h s)).1 s }
+
+  pub only_is : (g : List ℕ) → IsOnly rules g → IsOnlySolution solves g
+  only_is g only = ((accepted g only.0.grid).0 only.0.good, λ h s. sym (only.1 h (solution h s)))
+
+  pub one_is : (g : List ℕ) (budget : ℕ) → HasOne rules budget → solves g → IsOnlySolution solves g × TellsOne rules budget g
+  one_is g budget one good =
+      let same = one.only.1 g (solution g good) in
+      ((good, λ h s. sym (one.only.1 h (solution h s)) ∙ same), subst (TellsOne rules budget) same one.found)
