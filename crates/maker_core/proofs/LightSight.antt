@@ -62,6 +62,7 @@ sees_back p a b on seen =
       | inl row ↦ or_left _ _ (row-both p a b a row (row-self p a on))
       | inr column ↦ or_right _ _ (column-both p a b a column (column-self p a on))
     ])
+
 pub sees_itself : (p : Light) (a : ℕ) → sees p a a ≡ false
 unfolding sees
 sees_itself p a = ap (λ t. not t && (joined_in_row p a a || joined_in_column p a a)) (eq-eqb a a refl)
