@@ -16,6 +16,12 @@ use Rattle.fields_core.specs.declared.tally.Tally.{Tally}
 use Rattle.fields_core.proofs.CountTallies.{AreCounted}
 use Rattle.fields_core.proofs.PlaceLists.{count-cons}
 
+-- the bits of 0 alone
+first : (v : ℕ) → v < 2 → has_bit 1 v ≡ eqb v 0
+first zero low = refl
+first (suc zero) low = refl
+first (suc (suc v)) low = absurd (omega arith)
+
 abbrev pub read_below : ℕ → Candidates → ℕ → Candidates
 read_below cells K n c v = cond (ltb c n) (K c v) (ltb c cells && eqb v 0)
 
@@ -62,10 +68,25 @@ module _ (cells : ℕ) (K : Candidates) where
       here : (v : ℕ) → read_below cells K (n + 1) n v ≡ K n v
       here v = rw (lt-ltb n (n + 1) (omega arith)) refl
 
-      first : (v : ℕ) → v < 2 → has_bit 1 v ≡ eqb v 0
-      first zero low = refl
-      first (suc zero) low = refl
-      first (suc (suc v)) low = absurd (omega arith)
+  -- the next cell has 0 alone, as if it were not read
+  pub read-zero : (n : ℕ) → n < cells → IsWithin cells 2 K → IsBitsOf (K n) 2 1 → read_below cells K n ≡ read_below cells K (n + 1)
+  read-zero n lt within is = fun_ext λ c. fun_ext λ v. elim (cases_lt c n) [
+    | inl less ↦ rw (lt-ltb c n less, lt-ltb c (n + 1) (omega arith)) refl
+    | inr ge ↦ elim (cases_lt n c) [
+      | inl more ↦ rw (le-ltb c n ge, le-ltb c (n + 1) (omega arith)) refl
+      | inr le ↦
+          let e : c ≡ n = omega (arith, le, ge) in
+          rw (e, le-ltb n n (omega arith), lt-ltb n (n + 1) (omega arith), lt-ltb n cells lt) (zero-alone v)
+    ]
+  ]
+    where
+      zero-alone : (v : ℕ) → eqb v 0 ≡ K n v
+      zero-alone v = elim (cases_lt v 2) [
+        | inl low ↦ sym (first v low) ∙ is.same v low
+        | inr high ↦
+            rw (false_from_ne_true (K n v) (λ on. let w = (within n v on).1 in absurd (omega (arith, w, high))))
+            (false_from_ne_true (eqb v 0) (λ on. let z = eqb-true v 0 on in absurd (omega (arith, z, high))))
+      ]
 
   -- all cells are read
   pub read-whole : (n : ℕ) → cells ≤ n → IsWithin cells 2 K → read_below cells K n ≡ K

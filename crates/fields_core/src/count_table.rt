@@ -158,7 +158,7 @@ impl CountTable {
     }
 
     /// Counts the cells of each house: none where each cell has 0 alone, and then one cell after the
-    /// other has its own set.
+    /// other has its own set, if that is another.
     pub(crate) fn follow(&self, board: &Board, tallies: &mut [Tally])
         requires cells { cells_of board.now ≡ self.now.cells }
         requires values { board.now.values ≡ 2 }
@@ -168,7 +168,10 @@ impl CountTable {
     {
         tallies.fill(Tally::none());
         for place in 0..self.houses.cells() {
-            self.change(place, 1, board.bits(place), tallies);
+            let bits = board.bits(place);
+            if bits != 1 {
+                self.change(place, 1, bits, tallies);
+            }
         }
     }
 
