@@ -32,19 +32,19 @@ change-requires c = (
 pub loop-place-preserved : goal.loop-place-preserved
 loop-place-preserved c =
     let lt : c.loop-place.place < c.args.self.now.cells =
-        omega (arith, c.loop-place-test.true, c.cells-place-end.ensures, ap (λ (t : CountedHouses). t.cells) c.self.view_is) in
+    omega (arith, c.loop-place-test.true, c.cells-place-end.ensures, ap (λ (t : CountedHouses). t.cells) c.self.view_is) in
     let within = board-within c.args.board.now c.args.self.now.cells c.requires.cells c.requires.values in
     let bits = bits-are c.args.board.now c.loop-place.place c.bits-bits.result c.requires.values c.bits-bits.ensures.small c.bits-bits.ensures.same in
     elim c.if-bits-ne1.branch [
       | then-bits-ne1 w ↦ rw w.tallies-is (
-          w.change.ensures.tallied _ _ c.loop-place.invariant.0 (read-change c.args.self.now.cells (has c.args.board.now) c.loop-place.place c.bits-bits.result lt within bits),
-          w.change.ensures.as_many ∙ c.loop-place.invariant.1,
-        )
+        w.change.ensures.tallied _ _ c.loop-place.invariant.0 (read-change c.args.self.now.cells (has c.args.board.now) c.loop-place.place c.bits-bits.result lt within bits),
+        w.change.ensures.as_many ∙ c.loop-place.invariant.1,
+      )
       | else-bits-ne1 w ↦ rw w.tallies-is (
-          subst (AreTallied c.args.self.now.cells c.args.self.now.houses c.loop-place.tallies)
+        subst (AreTallied c.args.self.now.cells c.args.self.now.houses c.loop-place.tallies)
             (read-zero c.args.self.now.cells (has c.args.board.now) c.loop-place.place lt within (rw w.if-bits-ne1.false at bits)) c.loop-place.invariant.0,
-          c.loop-place.invariant.1,
-        )
+        c.loop-place.invariant.1,
+      )
     ]
 
 pub returns-clause-tallied : goal.returns-clause-tallied
