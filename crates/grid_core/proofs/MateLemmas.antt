@@ -1,17 +1,14 @@
 -- What a left's new mate does to the owners of rights.
 use Rattle.std.proofs.Common.{◌≡◌, ℕ, ◌<◌, List, [], ◌∷◌, ◌++◌, length, get_or, set, arith, inl, inr}
 use Rattle.std.specs.Prelude.{Option, Some, None}
-use Rattle.std.proofs.lemmas.Bool.{cases_eq, cases_lt}
+use Rattle.std.proofs.lemmas.Bool.{cases_eq}
 use Rattle.std.proofs.lemmas.Grind.{common_steps}
 use Rattle.std.proofs.lemmas.List.{get_or_past}
 use Rattle.grid_core.specs.Augmenting.{AreOwners, IsFree}
 
 -- a right that has an owner is one of the rights
 pub mate_in : (owners : List (Option ℕ)) (r l : ℕ) → get_or owners r None ≡ Some l → r < length owners
-mate_in owners r l h = elim (cases_lt r (length owners)) [
-  | inl low ↦ low
-  | inr high ↦ let e = get_or_past owners r None high in absurd (cc)
-]
+mate_in owners r l h = grind (arith, common_steps, get_or_past)
 
 -- the next left takes a free right
 pub AreOwners-push : (mates : List ℕ) (count right : ℕ) → length mates ≡ count

@@ -2,23 +2,22 @@
 use Rattle.std.proofs.Common.{◌≡◌, ℕ, ◌+◌, ◌<◌, ◌≤◌, Bool, true, false, true≢false, eqb, List, [], ◌∷◌, ◌++◌, length, get_or, set, take, sym, ◌∙◌, ap, arith, inl, inr, nat_cmp}
 use Rattle.std.specs.Prelude.{Contains, IsPermutation, IsSorted}
 use Rattle.std.specs.List.{IsDistinct}
-use Rattle.std.proofs.lemmas.Bool.{cases_eq, cases_lt, eqb-false, ne_eqb}
+use Rattle.std.proofs.lemmas.Bool.{cases_eq, eqb-false}
 use Rattle.std.proofs.lemmas.Cmp.{nat_eq_equiv}
-use Rattle.std.proofs.lemmas.Map.Keys.{IsDistinct-from_apart, IsDistinct-IsPermutation, apart_from_distinct, IsStrictlyIncreasing-from_distinct}
+use Rattle.std.proofs.lemmas.Map.Keys.{IsDistinct-IsPermutation, apart_from_distinct, IsStrictlyIncreasing-from_distinct}
 use Rattle.std.specs.List.Sorted.{IsStrictlyIncreasing}
+use Rattle.std.specs.Cmp.{unsigned_Decides}
+use Rattle.std.proofs.lemmas.Map.Made.{IsDistinct-from_AllPairs}
 use Rattle.std.proofs.lemmas.Grind.{common_steps, get_or-set_at}
 use Rattle.std.proofs.lemmas.List.{get_or-take, get_or_past, get_or_default, take_more_set, length-append, length-set, length-take}
 use Rattle.std.proofs.lemmas.List.Elements.{All-get_or, All-from_get_or}
 use Rattle.std.proofs.lemmas.List.Sorted.{All-permutation, Contains-permutation, IsNonDecreasingBy-from_sort}
-use Rattle.grid_core.specs.Augmenting.{ReachedView, AreReached}
+use Rattle.grid_core.specs.Augmenting.{ReachedView, AreReached, with_left}
 use Rattle.grid_core.proofs.DifferentNumbers.{apart-le}
 
 -- what is marked is one of the entries
 marked_in : (seen : List Bool) (l : ℕ) → get_or seen l false ≡ true → l < length seen
-marked_in seen l h = elim (cases_lt l (length seen)) [
-  | inl low ↦ low
-  | inr high ↦ absurd (true≢false (sym h ∙ get_or_past seen l false high))
-]
+marked_in seen l h = grind (arith, common_steps, get_or_past)
 
 -- no more lefts are reached than there is room for
 pub reached-le : (seen : List Bool) (lefts : List ℕ) → AreReached seen lefts → length lefts ≤ length seen
@@ -41,7 +40,7 @@ AreReached-push seen lefts left r inside new = record {
     is_new j h e = new (j, h, get_or_default lefts j left 0 h ∙ e)
 
 -- there is room for it behind those in the queue
-module _ (seen : List Bool) (queue parents : List ℕ) (room count left parent : ℕ) (v : ReachedView)
+module _ (seen : List Bool) (queue parents : List ℕ) (room count left : ℕ) (v : ReachedView)
     (is : ◌≡◌ {A = ReachedView} (record { room = room; lefts = take count queue; parents = take count parents }) v)
     (r : AreReached seen (take count queue)) (marks : length seen ≡ room) (fits : count ≤ length queue)
     (left_in : left < v.room) (new : Contains v.lefts left → ⊥) where
@@ -54,19 +53,23 @@ module _ (seen : List Bool) (queue parents : List ℕ) (room count left parent :
       let within = reached-le (set seen left true) (take count queue ++ left ∷ []) pushed in
       omega (arith, length-set seen left true, length-append (take count queue) (left ∷ []), length-take count queue)
 
-  module _ (queue_room : count < length queue) (parents_room : count < length parents) where
-    pub AreReached-write : AreReached (set seen left true) (take (count + 1) (set queue count left))
-    AreReached-write = rw (take_more_set queue count left queue_room) pushed
+  pub AreReached-write : count < length queue → AreReached (set seen left true) (take (count + 1) (set queue count left))
+  AreReached-write within = rw (take_more_set queue count left within) pushed
 
-    pub view-write : ◌≡◌ {A = ReachedView}
-        (record { room = room; lefts = take (count + 1) (set queue count left); parents = take (count + 1) (set parents count parent) })
-        (record v { lefts = v.lefts ++ left ∷ []; parents = v.parents ++ parent ∷ [] })
-    view-write = rw (take_more_set queue count left queue_room, take_more_set parents count parent parents_room)
-        (ap (λ (w : ReachedView). record w { lefts = w.lefts ++ left ∷ []; parents = w.parents ++ parent ∷ [] }) is)
+-- and what is seen of it then
+pub view-write : (queue parents : List ℕ) (room count left parent : ℕ) (v : ReachedView)
+    → ◌≡◌ {A = ReachedView} (record { room = room; lefts = take count queue; parents = take count parents }) v
+    → count < length queue → count < length parents
+    → ◌≡◌ {A = ReachedView}
+    (record { room = room; lefts = take (count + 1) (set queue count left); parents = take (count + 1) (set parents count parent) })
+    (with_left v left parent)
+view-write queue parents room count left parent v is queue_room parents_room =
+    rw (take_more_set queue count left queue_room, take_more_set parents count parent parents_room)
+    (ap (λ (w : ReachedView). with_left w left parent) is)
 
 -- the last left is forgotten
-module _ (seen : List Bool) (queue : List ℕ) (count last left : ℕ) (next : last + 1 ≡ count) (fits : count ≤ length queue)
-    (left_is : left ≡ get_or queue last left) (r : AreReached seen (take count queue)) where
+module _ (seen : List Bool) (queue : List ℕ) (count last left : ℕ) (left_is : left ≡ get_or queue last left)
+    (r : AreReached seen (take count queue)) (next : last + 1 ≡ count) (fits : count ≤ length queue) where
   last_is : get_or (take count queue) last 0 ≡ left
   last_is = get_or-take count queue last 0 (omega arith) ∙ sym (left_is ∙ get_or_default queue last left 0 (omega arith))
 
@@ -92,9 +95,8 @@ module _ (seen : List Bool) (queue : List ℕ) (count last left : ℕ) (next : l
 module _ (seen : List Bool) (lefts sorted : List ℕ) (r : AreReached seen lefts)
     (same : IsPermutation lefts sorted) (up : IsSorted nat_cmp sorted) where
   distinct : IsDistinct eqb sorted
-  distinct = IsDistinct-IsPermutation eqb nat_eq_equiv.symm lefts sorted same
-      (IsDistinct-from_apart eqb lefts (λ i j d a b. ne_eqb _ _ (λ e. r.apart.differ i j a b
-      (sym (get_or_default lefts i d 0 (omega arith)) ∙ e ∙ get_or_default lefts j d 0 b))))
+  distinct = IsDistinct-IsPermutation eqb nat_eq_equiv.symm lefts sorted same (IsDistinct-from_AllPairs unsigned_Decides lefts
+      (λ i j d a b e. let c = r.apart.differ i j a in grind (arith, common_steps)))
 
   pub ascending : IsStrictlyIncreasing sorted
   ascending = IsStrictlyIncreasing-from_distinct sorted (IsNonDecreasingBy-from_sort (λ x. x) sorted up) distinct

@@ -134,13 +134,9 @@ module _ (joins : ℕ → ℕ → Bool) (lefts rights : ℕ) (mates : List ℕ) 
 
   mate_held : (r : ℕ) → IsMateOfLater mates reached.lefts r → Contains later_mates r
   unfolding later_mates
-  mate_held r w = (
-    w.0 - 1,
-    (let a = w.1 in let b = w.2 in omega (arith, length-drop 1 (map (λ l. get_or mates l 0) reached.lefts), length-map reached.lefts (λ l. get_or mates l 0))),
-    get_or-drop 1 (map (λ l. get_or mates l 0) reached.lefts) (w.0 - 1) r
-        ∙ ap (λ k. get_or (map (λ l. get_or mates l 0) reached.lefts) k r) (let a = w.1 in let z : 1 + (w.0 - 1) ≡ w.0 = omega arith in z)
-        ∙ get_or-map (λ l. get_or mates l 0) reached.lefts w.0 0 r w.2 ∙ w.3,
-  )
+  mate_held r w =
+      let at = get_or-map (λ l. get_or mates l 0) reached.lefts w.0 0 r w.2 in
+      (w.0 - 1, grind (arith, common_steps), grind (arith, common_steps))
 
   joined_held : (r : ℕ) → r < rights → Any (λ l. joins l r ≡ true) reached.lefts → Contains later_mates r
   joined_held r h w = mate_held r (closed w.0 r w.2 h (subst (λ l. joins l r ≡ true) (sym w.3 ∙ get_or_default reached.lefts w.0 w.1 0 w.2) w.4))

@@ -3,6 +3,10 @@
 use Rattle.std.specs.Prelude.{◌≡◌, ℕ, ◌<◌, ◌≤◌, Bool, true, false, IsTrue, List, length, get_or, slice_index, Option, Some, None, ◌++◌, [], ◌∷◌, MatchOption, Contains}
 use Rattle.grid_core.specs.declared.augmenting.Way.{Way}
 
+-- whether a left is joined to a right
+abbrev pub Joins : Type 0
+Joins = ℕ → ℕ → Bool
+
 -- the first `count` entries of a list differ from one another
 pub record IsApart (xs : List ℕ) (count : ℕ) : Type 0 where
   pub differ : (i j : ℕ) → i < j → j < count → get_or xs i 0 ≡ get_or xs j 0 → ⊥
@@ -24,7 +28,7 @@ abbrev pub IsFree : List ℕ → ℕ → Type 0
 IsFree mates r = (l : ℕ) → l < length mates → slice_index mates l ≡ r → ⊥
 
 -- each left that has a mate is joined to it
-pub record AreJoined (joins : ℕ → ℕ → Bool) (rights : ℕ) (mates : List ℕ) : Type 0 where
+pub record AreJoined (joins : Joins) (rights : ℕ) (mates : List ℕ) : Type 0 where
   pub in_range : (l : ℕ) → l < length mates → slice_index mates l < rights
   pub joined : (l : ℕ) → l < length mates → IsTrue (joins l (slice_index mates l))
 
@@ -38,11 +42,12 @@ pub record ReachedView : Type 0 where
 -- different lefts, which are those seen
 pub record AreReached (seen : List Bool) (lefts : List ℕ) : Type 0 where
   pub apart : IsApart lefts (length lefts)
-  pub seen_each : (j : ℕ) → j < length lefts → get_or seen (slice_index lefts j) false ≡ true
+  pub seen_each : (j : ℕ) → j < length lefts
+      → get_or seen (slice_index lefts j) false ≡ true
   pub seen_only : (l : ℕ) → get_or seen l false ≡ true → Contains lefts l
 
 -- the root, the first left without a mate, and lefts whose mates are joined to their parents
-pub record IsReach (joins : ℕ → ℕ → Bool) (mates : List ℕ) (reached : ReachedView) : Type 0 where
+pub record IsReach (joins : Joins) (mates : List ℕ) (reached : ReachedView) : Type 0 where
   pub some : 0 < length reached.lefts
   pub root : slice_index reached.lefts 0 ≡ length mates
   pub paired : (j : ℕ) → 0 < j → j < length reached.lefts
@@ -55,14 +60,14 @@ pub record IsReach (joins : ℕ → ℕ → Bool) (mates : List ℕ) (reached : 
       (slice_index mates (slice_index reached.lefts j)))
 
 -- the left is joined to the right, which is free
-pub record IsFreeFor (joins : ℕ → ℕ → Bool) (rights : ℕ) (mates : List ℕ)
+pub record IsFreeFor (joins : Joins) (rights : ℕ) (mates : List ℕ)
     (left right : ℕ) : Type 0 where
   pub right_in : right < rights
   pub joined : IsTrue (joins left right)
   pub free : IsFree mates right
 
 -- no right is free for the left
-abbrev pub IsBlocked : (ℕ → ℕ → Bool) → ℕ → List ℕ → ℕ → Type 0
+abbrev pub IsBlocked : Joins → ℕ → List ℕ → ℕ → Type 0
 IsBlocked joins rights mates left = (r : ℕ) → IsFreeFor joins rights mates left r → ⊥
 
 -- a left after the first has the right for its mate
@@ -70,8 +75,8 @@ abbrev pub IsMateOfLater : List ℕ → List ℕ → ℕ → Type 0
 IsMateOfLater mates lefts r =
     (j : ℕ) × (0 < j) × (j < length lefts) × (slice_index mates (slice_index lefts j) ≡ r)
 
--- each right below `upto` that is joined to the left is free, or the mate of a left that was reached
-abbrev pub ReachesOwners : (ℕ → ℕ → Bool) → List ℕ → List ℕ → ℕ → ℕ → Type 0
+-- each right below `upto` that is joined to the left is free, or the mate of a left after the first
+abbrev pub ReachesOwners : Joins → List ℕ → List ℕ → ℕ → ℕ → Type 0
 ReachesOwners joins mates lefts left upto = (r : ℕ) → r < upto → IsTrue (joins left r)
     → (IsFree mates r → ⊥) → IsMateOfLater mates lefts r
 
@@ -81,7 +86,7 @@ pub record Extends (xs ys : List ℕ) : Type 0 where
   pub kept : (j : ℕ) → j < length xs → slice_index ys j ≡ slice_index xs j
 
 -- each right that is joined to one of the first `count` lefts is the mate of a left after the first
-abbrev pub IsClosed : (ℕ → ℕ → Bool) → ℕ → List ℕ → List ℕ → ℕ → Type 0
+abbrev pub IsClosed : Joins → ℕ → List ℕ → List ℕ → ℕ → Type 0
 IsClosed joins rights mates lefts count = (j r : ℕ) → j < count → r < rights
     → IsTrue (joins (slice_index lefts j) r) → IsMateOfLater mates lefts r
 
@@ -97,7 +102,7 @@ IsOwner mates right owner = MatchOption owner (IsFree mates right)
     (λ l. (l < length mates) × (slice_index mates l ≡ right))
 
 -- a right that is free for the left, or none is
-abbrev pub IsFreeRight : (ℕ → ℕ → Bool) → ℕ → List ℕ → ℕ → Option ℕ → Type 0
+abbrev pub IsFreeRight : Joins → ℕ → List ℕ → ℕ → Option ℕ → Type 0
 IsFreeRight joins rights mates left right =
     MatchOption right (IsBlocked joins rights mates left) (IsFreeFor joins rights mates left)
 
@@ -110,17 +115,17 @@ with_left reached left parent = record {
 }
 
 -- each right that is joined to the left at `head` is free, or the mate of a left that was reached
-abbrev pub Reaches : (ℕ → ℕ → Bool) → ℕ → MatesView → ReachedView → ℕ → Type 0
+abbrev pub Reaches : Joins → ℕ → MatesView → ReachedView → ℕ → Type 0
 Reaches joins rights mates reached head =
     ReachesOwners joins mates.mates reached.lefts (slice_index reached.lefts head) rights
 
 -- the right is free for the left at the place
-abbrev pub IsFreeAt : (ℕ → ℕ → Bool) → ℕ → MatesView → ReachedView → Way → Type 0
+abbrev pub IsFreeAt : Joins → ℕ → MatesView → ReachedView → Way → Type 0
 IsFreeAt joins rights mates reached way =
     IsFreeFor joins rights mates.mates (slice_index reached.lefts way.place) way.right
 
--- such a way, or none: then all rights that are joined to the lefts reached are mates of others of them
-abbrev pub IsWay : (ℕ → ℕ → Bool) → ℕ → MatesView → ReachedView → Option Way → Type 0
+-- such a way, or none: then each right that is joined to a left reached is the mate of another
+abbrev pub IsWay : Joins → ℕ → MatesView → ReachedView → Option Way → Type 0
 IsWay joins rights mates reached answer = MatchOption answer
     (IsClosed joins rights mates.mates reached.lefts (length reached.lefts))
     (λ way. (way.place < length reached.lefts) × IsFreeAt joins rights mates reached way)

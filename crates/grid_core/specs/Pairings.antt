@@ -4,11 +4,13 @@ use Rattle.std.specs.List.{list_any, range_with_len}
 use Rattle.std.specs.List.Sorted.{IsStrictlyIncreasing}
 
 -- each of the first `lefts` lefts has a joined right of its own, its mate
-pub record IsPairing (joins : ℕ → ℕ → Bool) (lefts rights : ℕ) (mates : List ℕ) : Type 0 where
+pub record IsPairing (joins : ℕ → ℕ → Bool) (lefts rights : ℕ)
+    (mates : List ℕ) : Type 0 where
   pub len : length mates ≡ lefts
   pub in_range : (l : ℕ) → l < lefts → slice_index mates l < rights
   pub joined : (l : ℕ) → l < lefts → IsTrue (joins l (slice_index mates l))
-  pub own : (l m : ℕ) → l < lefts → m < lefts → slice_index mates l ≡ slice_index mates m → l ≡ m
+  pub own : (l m : ℕ) → l < lefts → m < lefts
+      → slice_index mates l ≡ slice_index mates m → l ≡ m
 
 -- how many rights are joined to one of the lefts
 abbrev pub joined_count : (ℕ → ℕ → Bool) → ℕ → List ℕ → ℕ
@@ -16,7 +18,8 @@ joined_count joins rights xs =
     count_by (λ r. list_any (λ l. joins l r) xs) (range_with_len 0 rights)
 
 -- different lefts, ascending, which are more than the rights that are joined to one of them
-pub record IsShortSet (joins : ℕ → ℕ → Bool) (lefts rights : ℕ) (xs : List ℕ) : Type 0 where
+pub record IsShortSet (joins : ℕ → ℕ → Bool) (lefts rights : ℕ)
+    (xs : List ℕ) : Type 0 where
   pub ascending : IsStrictlyIncreasing xs
   pub in_range : All (λ l. l < lefts) xs
   pub fewer : joined_count joins rights xs < length xs

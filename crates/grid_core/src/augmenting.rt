@@ -12,7 +12,8 @@ use crate::reached::Reached;
 fn free_right<E: Edges>(edges: &E, mates: &Mates, left: usize) -> Option<usize>
     requires left_in { left < E.left_count edges.now }
     requires rights_fit { E.right_count edges.now ≤ mates.now.room }
-    ensures { IsFreeRight (E.joins edges.now) (E.right_count edges.now) mates.now.mates left result }
+    ensures { IsFreeRight (E.joins edges.now) (E.right_count edges.now)
+        mates.now.mates left result }
 {
     let mut from = 0;
     while let Some(right) = edges.next(left, from) {
@@ -34,7 +35,8 @@ fn reach_owners<E: Edges>(edges: &E, mates: &Mates, head: usize, reached: &mut R
     ensures room { reached.new.room ≡ reached.old.room }
     ensures reach { IsReach (E.joins edges.now) mates.now.mates reached.new }
     ensures grown { Extends reached.old.lefts reached.new.lefts }
-    ensures owners { Reaches (E.joins edges.now) (E.right_count edges.now) mates.now reached.new head }
+    ensures owners { Reaches (E.joins edges.now) (E.right_count edges.now)
+        mates.now reached.new head }
 {
     let left = reached.left(head);
     let mut from = 0;
@@ -62,7 +64,8 @@ pub(crate) fn explore<E: Edges>(edges: &E, mates: &Mates, reached: &mut Reached)
     requires rights_fit { E.right_count edges.now ≤ mates.now.room }
     ensures room { reached.new.room ≡ reached.old.room }
     ensures reach { IsReach (E.joins edges.now) mates.now.mates reached.new }
-    ensures found { IsWay (E.joins edges.now) (E.right_count edges.now) mates.now reached.new result }
+    ensures found { IsWay (E.joins edges.now) (E.right_count edges.now)
+        mates.now reached.new result }
 {
     reached.clear();
     reached.push(mates.count(), 0);
@@ -84,7 +87,8 @@ pub(crate) fn shift<E: Edges>(edges: &E, reached: &Reached, way: Way, mates: &mu
     requires root_fits { length mates.old.mates < mates.old.room }
     requires reach { IsReach (E.joins edges.now) mates.old.mates reached.now }
     requires place_in { way.place < length reached.now.lefts }
-    requires free { IsFreeAt (E.joins edges.now) (E.right_count edges.now) mates.old reached.now way }
+    requires free { IsFreeAt (E.joins edges.now) (E.right_count edges.now)
+        mates.old reached.now way }
     ensures room { mates.new.room ≡ mates.old.room }
     ensures more { length mates.new.mates ≡ length mates.old.mates + 1 }
     ensures joined { AreJoined (E.joins edges.now) (E.right_count edges.now) mates.new.mates }

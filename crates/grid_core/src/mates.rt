@@ -22,7 +22,8 @@ impl Model for Mates {
 
     ghost view = { λ m. record { room = vec_len m.owners; mates = take m.count m.mates.items } };
 
-    ghost invariant = { λ m. (m.count ≤ vec_len m.mates) × (vec_len m.mates ≡ vec_len m.owners)
+    ghost invariant = { λ m. (m.count ≤ vec_len m.mates)
+        × (vec_len m.mates ≡ vec_len m.owners)
         × AreOwners m.owners.items (take m.count m.mates.items) };
 }
 

@@ -29,7 +29,8 @@ pub trait Edges {
     fn next(&self, left: usize, from: usize) -> Option<usize>
         requires { left < left_count self.now }
         ensures { MatchOption result
-            ((r : ℕ) → from ≤ r → r < right_count self.now → IsTrue (joins self.now left r) → ⊥)
+            ((r : ℕ) → from ≤ r → r < right_count self.now
+            → IsTrue (joins self.now left r) → ⊥)
             (λ r. (from ≤ r) × (r < right_count self.now) × IsTrue (joins self.now left r)
             × ((q : ℕ) → from ≤ q → q < r → IsTrue (joins self.now left q) → ⊥)) };
 }

@@ -77,7 +77,8 @@ impl Reached {
     pub(crate) fn left(&self, place: usize) -> usize
         requires { place < length self.now.lefts }
         ensures left { result ≡ slice_index self.now.lefts place }
-        ensures first { (j : ℕ) → j < place → slice_index self.now.lefts j ≡ result → ⊥ }
+        ensures first { (j : ℕ) → j < place
+            → slice_index self.now.lefts j ≡ result → ⊥ }
     {
         self.queue[place]
     }

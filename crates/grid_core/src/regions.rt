@@ -1,5 +1,6 @@
 //! The places of the cells of a grid's rows, columns, blocks and diagonals, and of those beside a cell.
 //! Rows, columns, blocks and the cells of each are counted from 0.
+#![tactic(auto, using(crate::proofs::RegionLemmas::place_laws))]
 
 ghost use Rattle.std.specs.Prelude.{◌≡◌, ◌+◌, ◌-◌, ◌*◌, ◌<◌, ◌==◌, if◌then◌else◌, slice_index, IfSome};
 ghost use Rattle.std.specs.List.{slice_get};

@@ -11,11 +11,9 @@ invariant_of-self c =
     let old = c.self.invariant in
     let mates = ap (λ (v : MatesView). v.mates) c.self.view_is in
     let room = ap (λ (v : MatesView). v.room) c.self.view_is in
-    let fewer = c.requires.room in
     let long = ap (length {A = ℕ}) mates in
     let len : length (take i.count i.mates.items) ≡ i.count = omega (arith, length-take i.count i.mates.items) in
-    let inside : i.count < length i.mates.items = omega arith in
-    let right_in = c.requires.right_in in (
+    let inside : i.count < length i.mates.items = omega arith in (
       omega arith,
       old.1,
       rw (take_more_set i.mates.items i.count c.args.right inside)

@@ -28,8 +28,7 @@ invariant_of-self c =
     let mates = ap (λ (v : MatesView). v.mates) c.self.view_is in
     let room = ap (λ (v : MatesView). v.room) c.self.view_is in
     let old = c.self.invariant in
-    let e = entry_of i.mates.items c.args.self.now.mates i.count c.args.left c.index-old.result.now mates c.requires.left_in c.index-old.ensures in
-    let inside = c.requires.right_in in (
+    let e = entry_of i.mates.items c.args.self.now.mates i.count c.args.left c.index-old.result.now mates c.requires.left_in c.index-old.ensures in (
       old.0,
       old.1,
       rw (e.2, take-set-lt i.count i.mates.items c.args.left c.args.right e.0)

@@ -4,18 +4,10 @@ use Rattle.grid_core.proofs.reached.Reached.clear.Goals as goal
 
 pub index_mut-requires : goal.index_mut-requires
 index_mut-requires c =
-    let s = c.loop-self.self-inside in
-    let i = c.loop-self.invariant in
-    let inside = last_in s.seen.items s.queue.items s.count (s.count - 1) c.index.result.now (omega arith) (omega arith) c.index.ensures i.3 in
+    let inside = last_in _ _ _ _ _ c.index.ensures c.loop-self.invariant.3 (omega arith) (omega arith) in
     omega arith
 
 pub loop-self-preserved : goal.loop-self-preserved
 loop-self-preserved c =
-    let s = c.loop-self.self-inside in
-    let i = c.loop-self.invariant in (
-      omega arith,
-      i.1,
-      i.2,
-      AreReached-pop s.seen.items s.queue.items s.count (s.count - 1) c.index.result.now (omega arith) (omega arith) c.index.ensures i.3,
-      i.4,
-    )
+    let i = c.loop-self.invariant in
+    (omega arith, i.1, i.2, AreReached-pop _ _ _ _ _ c.index.ensures i.3 (omega arith) (omega arith), i.4)
