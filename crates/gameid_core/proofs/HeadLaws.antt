@@ -19,8 +19,8 @@ use Rattle.gameid_core.specs.Words.{begins, digits_front, after_digits, value}
 use Rattle.gameid_core.specs.Steps.{◌>>=◌}
 use Rattle.grid_core.specs.Extent.{max_side}
 use Rattle.gameid_core.specs.Head.{SizeRead, HeadRead, Sides, has_x, two_sides, side_at, sides_at, size_of, head_at, head_of, has_hash, in_range, max_id}
+use Rattle.gameid_core.specs.HeadTests.{HasNumber, GoesOn, HasTwoSides, HasSize}
 use Rattle.gameid_core.specs.SizeText.{size_text, IsSizeText, solo_size_text, IsSoloSizeText}
-use Rattle.gameid_core.proofs.Tokens.{front_turn}
 use Rattle.gameid_core.proofs.Results.{bind_ok, chosen, not_refused, only_taken, taken, ok_is, and_parts}
 use Rattle.gameid_core.proofs.Numerals.{front_numeral, own, is_lead, begins_front, decimal_leads, lead_is_digit, value_positive}
 use Rattle.gameid_core.proofs.Reading.{place}
@@ -37,30 +37,28 @@ unfolding digits_front
 front_digits [] = refl
 front_digits (b ∷ after) = grind (arith, front_digits after)
 
--- the digits in front are what is written of their value
-front_decimal : (text : List ℕ) → begins is_lead text ≡ true → value (digits_front text) < 2 ^ 64 → (decimal (value (digits_front text)) ≡ digits_front text) × (0 < value (digits_front text))
-front_decimal [] e small = absurd (false≢true e)
-front_decimal (b ∷ after) e small =
-    let t = front_turn (b ∷ after) b after refl (lead_is_digit b e) in
-    let some : 0 < length (digits_front (b ∷ after)) = rw t.0 (omega arith) in
-    let lead : get_or (digits_front (b ∷ after)) 0 0 ≡ b = rw t.0 refl in
-    let low : 49 ≤ b = leb-true _ _ (and_parts (leb 49 b) (leb b 57) e).0 in (
-      decimal-digits_value own (digits_front (b ∷ after)) (front_digits (b ∷ after)) some (λ zero. absurd (omega arith)) small,
-      rw t.0 (value_positive b (digits_front after) low),
-    )
+after_stops : (text : List ℕ) → begins is_ascii_digit (after_digits text) ≡ false
+unfolding after_digits
+after_stops [] = refl
+after_stops (b ∷ after) = grind (arith, after_stops after)
 
--- ---- a side
+pub number_in : (text : List ℕ) → begins is_lead text ≡ true → HasNumber text (digits_front text) (after_digits text)
+number_in [] e = absurd (false≢true e)
+number_in (b ∷ after) e = grind (arith, front_parts (b ∷ after), front_digits (b ∷ after), after_stops (b ∷ after))
 
-pub side_takes : (text : List ℕ) (n : ℕ) (rest : List ℕ) → n < 2 ^ 64 → side_at text ≡ Ok (n, rest) → (text ≡ decimal n ++ rest) × (0 < n)
+pub number_is : (text number rest : List ℕ) → HasNumber text number rest → (digits_front text ≡ number) × (after_digits text ≡ rest)
+number_is text number rest h = grind (arith, front_numeral number rest h.digits h.all)
+
+-- a number is what is written of its value
+number_decimal : (text number rest : List ℕ) → HasNumber text number rest → value number < 2 ^ 64 → decimal (value number) ≡ number
+number_decimal text [] rest h small = absurd (false≢true h.lead)
+number_decimal text (b ∷ ds) rest h small =
+    let low : 49 ≤ b = leb-true _ _ (and_parts (leb 49 b) (leb b 57) h.lead).0 in
+    decimal-digits_value own (b ∷ ds) h.digits (omega arith) (λ zero. absurd (omega arith)) small
+
+side_read : (text number rest : List ℕ) → HasNumber text number rest → side_at text ≡ Ok (value number, rest)
 unfolding side_at
-side_takes text n rest small e =
-    let c = only_taken (begins is_lead text) _ _ _ e in
-    let made : ℕ × List ℕ = (value (digits_front text), after_digits text) in
-    let same = ok_is made (n, rest) c.1 in
-    let n-is : value (digits_front text) ≡ n = ap (λ (x : ℕ × List ℕ). x.0) same in
-    let rest-is : after_digits text ≡ rest = ap (λ (x : ℕ × List ℕ). x.1) same in
-    let d = front_decimal text c.0 (omega arith) in
-    (sym (front_parts text) ∙ ap (λ (t : List ℕ). t ++ after_digits text) (sym d.0) ∙ ap (λ (k : ℕ). decimal k ++ after_digits text) n-is ∙ ap (λ (t : List ℕ). decimal n ++ t) rest-is, omega (arith, d.1))
+side_read text number rest h = grind (arith, number_is text number rest h)
 
 pub side_again : (n : ℕ) (rest : List ℕ) → n < 2 ^ 64 → 0 < n → begins is_ascii_digit rest ≡ false → side_at (decimal n ++ rest) ≡ Ok (n, rest)
 unfolding side_at
@@ -70,6 +68,44 @@ side_again n rest small some other = grind (arith, begins_front, decimal_leads, 
 
 abbrev one_side : ℕ → List ℕ → Sides
 one_side a rest = record { w = a; h = a; x = false; rest = rest }
+
+-- a size that the text begins with is read
+pub size_read : (game : Game) (text : List ℕ) (size : Sides) → HasSize game text size → sides_at game text ≡ taken size
+unfolding sides_at
+size_read game text size h3 = grind (arith, common_steps, side_read)
+
+goes_on : (game : Game) (after : List ℕ) → GoesOn game after (has_x game after) (cond (has_x game after) (drop 1 after) after)
+goes_on game after = grind arith
+
+x_first : (text : List ℕ) → begins (λ c. eqb c 120) text ≡ true → text ≡ 120 ∷ drop 1 text
+x_first text e = grind arith
+
+side_found : (text : List ℕ) (x : ℕ × List ℕ) → side_at text ≡ Ok x → (number : List ℕ) × HasNumber text number x.1 × (value number ≡ x.0)
+unfolding side_at
+side_found text x e = grind (arith, number_in text)
+
+one_found : (game : Game) (text : List ℕ) (a : ℕ) (rest : List ℕ) → side_at text ≡ Ok (a, rest) → begins (λ c. eqb c 120) rest ≡ false → HasSize game text (one_side a rest)
+one_found game text a rest e alone =
+    let l = side_found text (a, rest) e in
+    inl (record { side = l.0; number = l.1; alone = alone; both = (l.2, l.2); plain = refl })
+
+two_found : (game : Game) (text : List ℕ) (a b : ℕ) (rest after : List ℕ) → side_at text ≡ Ok (a, rest) → begins (λ c. eqb c 120) rest ≡ true → side_at (drop 1 rest) ≡ Ok (b, after) → HasSize game text (two_sides game a b after)
+two_found game text a b rest after e x f =
+    let l = side_found text (a, rest) e in
+    let r = side_found (drop 1 rest) (b, after) f in
+    inr (record { left = l.0; right = r.0; behind = drop 1 rest; after = after; first = subst (λ t. HasNumber text l.0 t) (x_first rest x) l.1; second = r.1; goes_on = goes_on game after; both = (l.2, r.2) })
+
+-- and what is read is such a size
+pub sides_found : (game : Game) (text : List ℕ) (size : Sides) → sides_at game text ≡ taken size → HasSize game text size
+unfolding sides_at
+sides_found game text size e =
+    let first = bind_ok (side_at text) (λ f. cond (begins (λ c. eqb c 120) f.1) (side_at (drop 1 f.1) >>= (λ g. taken (two_sides game f.0 g.0 g.1))) (taken (one_side f.0 f.1))) size e in
+    elim (chosen (begins (λ c. eqb c 120) first.0.1) _ _ _ first.2) [
+      | inl c ↦
+          let second = bind_ok (side_at (drop 1 first.0.1)) (λ g. taken (two_sides game first.0.0 g.0 g.1)) size c.1 in
+          subst (HasSize game text) (ok_is (two_sides game first.0.0 second.0.0 second.0.1) size second.2) (two_found game text first.0.0 second.0.0 first.0.1 second.0.1 first.1 c.0 second.1)
+      | inr c ↦ subst (HasSize game text) (ok_is (one_side first.0.0 first.0.1) size c.1) (one_found game text first.0.0 first.0.1 first.1 c.0)
+    ]
 
 -- a size of the game, with the 'x' of Solo X or without
 abbrev pub IsGameSize : Game → List ℕ → ℕ → ℕ → Bool → Type 0
@@ -85,46 +121,11 @@ size_of_solo front a b x s = grind arith
 pub plain_size : (game : Game) (front : List ℕ) (a b : ℕ) (x : Bool) → (game ≡ Solo → ⊥) → IsGameSize game front a b x → IsSizeText front a b
 plain_size game front a b x other s = grind arith
 
-pub x_first : (text : List ℕ) → begins (λ c. eqb c 120) text ≡ true → text ≡ 120 ∷ drop 1 text
-x_first text e = grind arith
-
-pub x_game : (game : Game) (after : List ℕ) → has_x game after ≡ true → (game ≡ Solo) × (after ≡ 120 ∷ drop 1 after)
-x_game game after e = grind arith
-
--- what the text begins with is a size of those sides
-abbrev Begins : Game → List ℕ → Sides → Type 0
-Begins game text s = (front : List ℕ) × (text ≡ front ++ s.rest) × IsGameSize game front s.w s.h s.x
-
-two_begin : (game : Game) (a b : ℕ) (after : List ℕ) → Begins game (size_text a b ++ after) (two_sides game a b after)
-two_begin game a b after =
-    elim (has_x game after) as (λ v. has_x game after ≡ v → Begins game (size_text a b ++ after) (record { w = a; h = b; x = v; rest = cond v (drop 1 after) after })) [
-      | true ↦ λ e.
-          let x = x_game game after e in
-          (size_text a b ++ 120 ∷ [], ap (λ (t : List ℕ). size_text a b ++ t) x.1 ∙ sym (append_assoc (size_text a b) (120 ∷ []) (drop 1 after)), (x.0, refl))
-      | false ↦ λ e. (size_text a b, refl, inl refl)
-    ] refl
-
-pub sides_take : (game : Game) (text : List ℕ) (s : Sides) → s.w < 2 ^ 64 → s.h < 2 ^ 64 → sides_at game text ≡ Ok s → Begins game text s
-unfolding sides_at
-sides_take game text s small_w small_h e =
-    let first = bind_ok (side_at text) (λ f. cond (begins (λ c. eqb c 120) f.1) (side_at (drop 1 f.1) >>= (λ g. taken (two_sides game f.0 g.0 g.1))) (taken (one_side f.0 f.1))) s e in
-    elim (chosen (begins (λ c. eqb c 120) first.0.1) _ _ _ first.2) [
-      | inl c ↦
-          let second = bind_ok (side_at (drop 1 first.0.1)) (λ g. taken (two_sides game first.0.0 g.0 g.1)) s c.1 in
-          let same = ok_is (two_sides game first.0.0 second.0.0 second.0.1) s second.2 in
-          let w-is : first.0.0 ≡ s.w = ap (λ (q : Sides). q.w) same in
-          let h-is : second.0.0 ≡ s.h = ap (λ (q : Sides). q.h) same in
-          let one = side_takes text first.0.0 first.0.1 (omega arith) first.1 in
-          let two = side_takes (drop 1 first.0.1) second.0.0 second.0.1 (omega arith) second.1 in
-          let whole : text ≡ size_text first.0.0 second.0.0 ++ second.0.1 =
-          one.0 ∙ ap (λ (u : List ℕ). decimal first.0.0 ++ u) (x_first first.0.1 c.0 ∙ ap (λ (u : List ℕ). 120 ∷ u) two.0) ∙ sym (append_assoc (decimal first.0.0) (120 ∷ decimal second.0.0) second.0.1) in
-          subst (λ (q : Sides). Begins game text q) same (subst (λ (t : List ℕ). Begins game t (two_sides game first.0.0 second.0.0 second.0.1)) (sym whole) (two_begin game first.0.0 second.0.0 second.0.1))
-      | inr c ↦
-          let same = ok_is (one_side first.0.0 first.0.1) s c.1 in
-          let w-is : first.0.0 ≡ s.w = ap (λ (q : Sides). q.w) same in
-          let one = side_takes text first.0.0 first.0.1 (omega arith) first.1 in
-          subst (λ (q : Sides). Begins game text q) same (decimal first.0.0, one.0, inr (refl, refl))
-    ]
+game_size : (game : Game) (text : List ℕ) (w h : ℕ) (x : Bool) (rest : List ℕ) → w < 2 ^ 64 → h < 2 ^ 64 → length rest ≤ 0 → HasSize game text (record { w = w; h = h; x = x; rest = rest }) → IsGameSize game text w h x
+game_size game text w h x (r ∷ rest) small_w small_h none s = absurd (omega arith)
+game_size game text w h x [] small_w small_h none (inl one) = grind (arith, common_steps, number_decimal text one.side [] one.number)
+game_size game text w h false [] small_w small_h none (inr two) = grind (arith, common_steps, number_decimal text two.left (120 ∷ two.behind) two.first, number_decimal two.behind two.right two.after two.second)
+game_size game text w h true [] small_w small_h none (inr two) = grind (arith, common_steps, number_decimal text two.left (120 ∷ two.behind) two.first, number_decimal two.behind two.right two.after two.second)
 
 pub sides_again : (game : Game) (front : List ℕ) (a b : ℕ) (x : Bool) → a < 2 ^ 64 → b < 2 ^ 64 → 0 < a → 0 < b → IsGameSize game front a b x → sides_at game front ≡ Ok (record { w = a; h = b; x = x; rest = [] })
 unfolding sides_at
@@ -152,18 +153,9 @@ size_take game text size e =
     let s = bind_ok (sides_at game text) (λ s. cond (ltb 0 (length s.rest)) (Err Variant) (cond (in_range game s.w s.h) (taken (sized s.w s.h s.x)) (Err SizeRange))) size e in
     let c = not_refused (ltb 0 (length s.0.rest)) _ _ _ s.2 in
     let d = only_taken (in_range game s.0.w s.0.h) _ _ _ c.1 in
-    size_is s.0 s.1 (ltb-false _ _ c.0) d.0 (ok_is (sized s.0.w s.0.h s.0.x) size d.1)
-  where
-    whole : (front rest : List ℕ) → length rest ≤ 0 → text ≡ front ++ rest → front ≡ text
-    whole front [] none e = sym (e ∙ append-nil front)
-    whole front (r ∷ rest) none e = absurd (omega arith)
-
-    size_is : (s : Sides) → sides_at game text ≡ Ok s → length s.rest ≤ 0 → in_range game s.w s.h ≡ true → sized s.w s.h s.x ≡ size → IsGameSize game text size.w size.h size.x × (in_range game size.w size.h ≡ true)
-    size_is s read none range same =
-        let small = range_small game s.w s.h range in
-        let t = sides_take game text s (omega (arith, small.a_small)) (omega (arith, small.b_small)) read in
-        let here : IsGameSize game text s.w s.h s.x = subst (λ (f : List ℕ). IsGameSize game f s.w s.h s.x) (whole t.0 s.rest none t.1) t.2 in
-        subst (λ (z : SizeRead). IsGameSize game text z.w z.h z.x × (in_range game z.w z.h ≡ true)) same (here, range)
+    let small = range_small game s.0.w s.0.h d.0 in
+    let here = game_size game text s.0.w s.0.h s.0.x s.0.rest (omega (arith, small.a_small)) (omega (arith, small.b_small)) (ltb-false _ _ c.0) (sides_found game text s.0 s.1) in
+    subst (λ (z : SizeRead). IsGameSize game text z.w z.h z.x × (in_range game z.w z.h ≡ true)) (ok_is (sized s.0.w s.0.h s.0.x) size d.1) (here, d.0)
 
 pub size_again : (game : Game) (front : List ℕ) (a b : ℕ) (x : Bool) → IsGameSize game front a b x → in_range game a b ≡ true → size_of game front ≡ Ok (sized a b x)
 unfolding size_of

@@ -3,7 +3,6 @@ use Rattle.std.proofs.Common.{◌≡◌, ◌↔◌, ℕ, ◌+◌, ◌≤◌, tru
 use Rattle.std.proofs.lemmas.Grind.{common_steps}
 use Rattle.std.specs.Prelude.{position}
 use Rattle.std.specs.List.{AllByRecursion, list_any, position_or_len}
-use Rattle.std.specs.Char.{is_ascii_digit}
 use Rattle.std.proofs.lemmas.Bool.{false≢true, eqb-true, eqb-false, eq-eqb, ne_eqb, ltb-true, ltb-false}
 use Rattle.std.proofs.lemmas.List.{take_at}
 use Rattle.gameid_core.specs.declared.fault.IdFault.{IdFault}
@@ -13,9 +12,8 @@ use Rattle.gameid_core.specs.Steps.{◌>>=◌}
 use Rattle.gameid_core.specs.Words.{begins, digits_front, after_digits, value}
 use Rattle.gameid_core.specs.Head.{SizeRead, HeadRead, Sides, has_x, two_sides, side_at, sides_at, size_of, head_at, head_of, has_hash, in_range, max_id}
 use Rattle.gameid_core.specs.HeadTests.{Lacks, Comes, HasNumber, GoesOn, HasSize, FailsSize, FailsHead, size_tests, head_tests, IsFirstFailed}
-use Rattle.gameid_core.proofs.Numerals.{front_numeral, is_lead}
-use Rattle.gameid_core.proofs.Results.{ok_is}
-use Rattle.gameid_core.proofs.HeadLaws.{front_parts, front_digits, position_at, x_first}
+use Rattle.gameid_core.proofs.Results.{ok_is, taken}
+use Rattle.gameid_core.proofs.HeadLaws.{position_at, sides_found, size_read}
 
 -- ---- the first that fails
 
@@ -24,88 +22,11 @@ abbrev IsJudged : {A : Type 0} → (IdFault → Type 0) → List IdFault → Res
 IsJudged fails tests (Ok x) = AllByRecursion (λ t. fails t → ⊥) tests
 IsJudged fails tests (Err f) = IsFirstFailed fails tests f
 
-abbrev failed : {A : Type 0} → IdFault → Result A IdFault
-failed e = Err e
-
--- ---- a number
-
-after_stops : (text : List ℕ) → begins is_ascii_digit (after_digits text) ≡ false
-unfolding after_digits
-after_stops [] = refl
-after_stops (b ∷ after) = grind (arith, after_stops after)
-
-number_in : (text : List ℕ) → begins is_lead text ≡ true → HasNumber text (digits_front text) (after_digits text)
-number_in [] e = absurd (false≢true e)
-number_in (b ∷ after) e = grind (arith, front_parts (b ∷ after), front_digits (b ∷ after), after_stops (b ∷ after))
-
-number_is : (text number rest : List ℕ) → HasNumber text number rest → (digits_front text ≡ number) × (after_digits text ≡ rest)
-number_is text number rest h = grind (arith, front_numeral number rest h.digits h.all)
-
-side_read : (text number rest : List ℕ) → HasNumber text number rest → side_at text ≡ Ok (value number, rest)
-unfolding side_at
-side_read text number rest h = grind (arith, number_is text number rest h)
-
--- what is read of a side
-abbrev IsSideRead : List ℕ → Result (ℕ × List ℕ) IdFault → Type 0
-IsSideRead text (Ok x) = (number : List ℕ) × HasNumber text number x.1 × (value number ≡ x.0)
-IsSideRead text (Err f) = (f ≡ BadSize) × ((number rest : List ℕ) → HasNumber text number rest → ⊥)
-
-side_judged : (text : List ℕ) → IsSideRead text (side_at text)
-unfolding side_at
-side_judged text = grind (arith, number_in text)
-
 -- ---- a size
 
-abbrev sides_ok : Sides → Result Sides IdFault
-sides_ok size = Ok size
-
-goes_on : (game : Game) (after : List ℕ) → GoesOn game after (has_x game after) (cond (has_x game after) (drop 1 after) after)
-goes_on game after = grind arith
-
-size_read : (game : Game) (text : List ℕ) (size : Sides) → HasSize game text size → sides_at game text ≡ sides_ok size
-unfolding sides_at
-size_read game text size h3 = grind (arith, common_steps, side_read)
-
--- what is read of both sides
-abbrev AreSidesRead : Game → List ℕ → Result Sides IdFault → Type 0
-AreSidesRead game text (Ok size) = HasSize game text size
-AreSidesRead game text (Err f) = (f ≡ BadSize) × ((size : Sides) → HasSize game text size → ⊥)
-
-sides_judged : (game : Game) (text : List ℕ) → AreSidesRead game text (sides_at game text)
-unfolding sides_at
-sides_judged game text = of_first (side_at text) (side_judged text)
-  where
-    of_second : (number rest : List ℕ) → HasNumber text number rest → begins (λ c. eqb c 120) rest ≡ true → (r : Result (ℕ × List ℕ) IdFault) → IsSideRead (drop 1 rest) r → AreSidesRead game text (r >>= (λ second. Ok (two_sides game (value number) second.0 second.1)))
-    of_second number rest h x (Ok y) s =
-        inr (record {
-          left = number;
-          right = s.0;
-          behind = drop 1 rest;
-          after = y.1;
-          first = subst (λ t. HasNumber text number t) (x_first rest x) h;
-          second = s.1;
-          goes_on = goes_on game y.1;
-          both = (refl, s.2);
-        })
-    of_second number rest h x (Err f) s = (
-      s.0,
-      λ size has. elim has [
-        | inl one ↦
-            let same : size.rest ≡ rest = sym (number_is text one.side size.rest one.number).1 ∙ (number_is text number rest h).1 in
-            absurd (false≢true (sym one.alone ∙ ap (begins (λ c. eqb c 120)) same ∙ x))
-        | inr two ↦
-            let same : 120 ∷ two.behind ≡ rest = sym (number_is text two.left (120 ∷ two.behind) two.first).1 ∙ (number_is text number rest h).1 in
-            absurd (s.1 two.right two.after (subst (λ t. HasNumber t two.right two.after) (ap (drop 1) same) two.second))
-      ],
-    )
-
-    of_first : (r : Result (ℕ × List ℕ) IdFault) → IsSideRead text r → AreSidesRead game text (r >>= (λ first. cond (begins (λ c. eqb c 120) first.1) (side_at (drop 1 first.1) >>= (λ second. Ok (two_sides game first.0 second.0 second.1))) (Ok (record { w = first.0; h = first.0; x = false; rest = first.1 }))))
-    of_first (Err f) s = (s.0, λ size has. elim has [ inl one ↦ absurd (s.1 one.side size.rest one.number) | inr two ↦ absurd (s.1 two.left (120 ∷ two.behind) two.first) ])
-    of_first (Ok x) s =
-        rw (← s.2) (elim (begins (λ c. eqb c 120) x.1) as (λ v. begins (λ c. eqb c 120) x.1 ≡ v → AreSidesRead game text (cond v (side_at (drop 1 x.1) >>= (λ second. Ok (two_sides game (value s.0) second.0 second.1))) (Ok (record { w = value s.0; h = value s.0; x = false; rest = x.1 })))) [
-          | true ↦ λ e. of_second s.0 x.1 s.1 e (side_at (drop 1 x.1)) (side_judged (drop 1 x.1))
-          | false ↦ λ e. inl (record { side = s.0; number = s.1; alone = e; both = (refl, refl); plain = refl })
-        ] refl)
+sides_fault : (game : Game) (text : List ℕ) (f : IdFault) → sides_at game text ≡ Err f → f ≡ BadSize
+unfolding sides_at side_at
+sides_fault game text f e = grind arith
 
 -- a text begins with one size at most
 size_is : (game : Game) (text : List ℕ) (size other : Sides) → HasSize game text size → HasSize game text other → size ≡ other
@@ -113,7 +34,7 @@ size_is game text size other p q = ok_is size other (sym (size_read game text si
 
 pub size_judged : (game : Game) (text : List ℕ) → IsJudged {A = SizeRead} (FailsSize game text) size_tests (size_of game text)
 unfolding size_of
-size_judged game text = of_sides (sides_at game text) (sides_judged game text)
+size_judged game text = of_sides (sides_at game text) refl
   where
     of_range : (s : Sides) → HasSize game text s → length s.rest ≤ 0 → IsJudged {A = SizeRead} (FailsSize game text) size_tests (cond (in_range game s.w s.h) (Ok (record { w = s.w; h = s.h; x = s.x })) (Err SizeRange))
     of_range s h none =
@@ -124,12 +45,12 @@ size_judged game text = of_sides (sides_at game text) (sides_judged game text)
           | false ↦ λ e. inr (some, inr (whole, inl (refl, (s, h, e))))
         ] refl
 
-    of_sides : (r : Result Sides IdFault) → AreSidesRead game text r → IsJudged {A = SizeRead} (FailsSize game text) size_tests (r >>= (λ s. cond (ltb 0 (length s.rest)) (Err Variant) (cond (in_range game s.w s.h) (Ok (record { w = s.w; h = s.h; x = s.x })) (Err SizeRange))))
-    of_sides (Err f) h = inl (sym h.0, h.1)
-    of_sides (Ok s) h =
+    of_sides : (r : Result Sides IdFault) → sides_at game text ≡ r → IsJudged {A = SizeRead} (FailsSize game text) size_tests (r >>= (λ s. cond (ltb 0 (length s.rest)) (Err Variant) (cond (in_range game s.w s.h) (Ok (record { w = s.w; h = s.h; x = s.x })) (Err SizeRange))))
+    of_sides (Err f) e = inl (sym (sides_fault game text f e), λ size has. (let bad : taken size ≡ Err f = sym (size_read game text size has) ∙ e in absurd cc))
+    of_sides (Ok s) e =
         elim (ltb 0 (length s.rest)) as (λ v. ltb 0 (length s.rest) ≡ v → IsJudged {A = SizeRead} (FailsSize game text) size_tests (cond v (Err Variant) (cond (in_range game s.w s.h) (Ok (record { w = s.w; h = s.h; x = s.x })) (Err SizeRange)))) [
-          | true ↦ λ e. inr ((λ no. no s h), inl (refl, (s, h, ltb-true _ _ e)))
-          | false ↦ λ e. of_range s h (ltb-false _ _ e)
+          | true ↦ λ more. inr ((λ no. no s (sides_found game text s e)), inl (refl, (s, sides_found game text s e, ltb-true _ _ more)))
+          | false ↦ λ none. of_range s (sides_found game text s e) (ltb-false _ _ none)
         ] refl
 
 -- ---- where a byte stands

@@ -9,6 +9,8 @@ use Rattle.gameid_core.specs.declared.light_cell.LightCell.{LightCell}
 use Rattle.gameid_core.specs.Steps.{reading, ◌>>=◌}
 use Rattle.gameid_core.specs.Cells.{fill_step, fill_end, is_letter}
 use Rattle.gameid_core.specs.LightText.{light_token, light_cells_at, LightToken, whites, black, numbered, light_token_byte, light_token_cells, IsLightToken, SpellsLight, light_of}
+use Rattle.gameid_core.specs.OneText.{HasOneReading}
+use Rattle.gameid_core.proofs.OneReading.{reading_of}
 use Rattle.gameid_core.proofs.CellsReading.{Token, cells_spelled, cells_again, filled, fill_is, fill_end_is}
 use Rattle.gameid_core.proofs.Lists.{AllByRecursion-replicate, AllByRecursion-flat_map}
 use Rattle.std.specs.Prelude.{map}
@@ -128,19 +130,7 @@ pub light_takes : (text : List ℕ) (p : Light) → light_of text ≡ Ok p → S
 unfolding light_of
 light_takes text p e =
     let r = parts_of game.LightUp text (λ head. light_cells_at (head.size.w * head.size.h) head.description (drop head.description text)) (λ head cells. record { size = extent_of head.size; cells = cells }) p e in
-    let h = r.is_head in
-    let size : SizeRead = r.head.size in
-    let d = light_take (size.w * size.h) r.head.description (drop r.head.description text) r.given r.read in
-    subst (λ (q : Light). SpellsLight text q) r.made (record {
-      short = h.short;
-      puzzle = light_lawful size.w size.h r.head.description (drop r.head.description text) r.given h.range r.read;
-      front = h.front;
-      tokens = d.tokens;
-      parts = h.parts ∙ ap (λ (x : List ℕ). h.front ++ 58 ∷ x) d.parts;
-      size = plain_size game.LightUp h.front size.w size.h size.x (λ e. absurd cc) h.size;
-      each = d.each;
-      cells = d.filled;
-    })
+    grind (arith, light_take _ _ _ _ r.read, light_lawful _ _ _ _ _ r.is_head.range r.read, plain_size)
 
 -- a wide size is in the limits of Light Up, which are those of Tents
 pub wide_range : (size : Extent) → IsWide size → in_range game.LightUp size.w size.h ≡ true
@@ -149,3 +139,8 @@ wide_range size h = grind arith
 pub light_text_again : (text : List ℕ) (p : Light) → SpellsLight text p → light_of text ≡ Ok p
 unfolding light_of
 light_text_again text p s = grind (arith, head_again game.LightUp s.front (map light_token_byte s.tokens) p.size.w p.size.h false s.size, light_again (p.size.w * p.size.h) (length s.front + 1) s.tokens s.each, after_front s.front (map light_token_byte s.tokens))
+
+pub light_reading : HasOneReading SpellsLight light_of
+light_reading = reading_of _ _ light_text_again light_takes
+
+pub ruleset fit = (cells_few, light_fits)

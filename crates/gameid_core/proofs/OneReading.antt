@@ -3,6 +3,7 @@ use Rattle.std.proofs.Common.{◌≡◌, ℕ, List, Result, Ok, Err, refl, sym, 
 use Rattle.std.proofs.Common.{arith}
 use Rattle.gameid_core.specs.declared.fault.IdFault.{IdFault}
 use Rattle.gameid_core.specs.Steps.{Gives}
+use Rattle.gameid_core.specs.OneText.{HasOneReading}
 use Rattle.gameid_core.proofs.Results.{taken, ok_is}
 
 -- what is spelled is read, and what is read is spelled
@@ -24,6 +25,9 @@ either_of {P} spells of takes text = cases (of text) refl
     cases : (r : Result P IdFault) → of text ≡ r → ((p : P) × spells text p) ⊎ ((f : IdFault) × (of text ≡ Err f))
     cases (Ok p) e = inl (p, takes text p e)
     cases (Err f) e = inr (f, e)
+
+pub reading_of : {P : Type 0} (spells : List ℕ → P → Type 0) (of : List ℕ → Result P IdFault) → Again spells of → Takes spells of → HasOneReading spells of
+reading_of spells of again takes = record { one = one_of spells of again; apart = apart_of spells of again; either = either_of spells of takes }
 
 pub only_of : {P : Type 0} (spells : List ℕ → P → Type 0) (of : List ℕ → Result P IdFault) → Again spells of → (text : List ℕ) (r : Result P IdFault) → Gives (λ p. p) r (of text) → (p : P) → spells text p → Gives (λ q. q) r (Ok p)
 only_of {P} spells of again text r gives p s = grind arith

@@ -35,3 +35,5 @@ each_of P (x ∷ xs) h = (All-head P x xs h, each_of P xs (All-tail P x xs h))
 -- trees, and the ones of the lines, are a puzzle
 pub ones_lawful : (size : Extent) (trees tents counts kept : List ℕ) → IsExtent size → 2 ≤ size.w → 2 ≤ size.h → IsGrid (size.w * size.h) 2 trees → kept ≡ trees → counts ≡ lines_ones size tents → IsTents (record { size = size; trees = kept; counts = counts })
 ones_lawful size trees tents counts kept e w h grid same is = grind (arith, each_of, length-map-range_with_len, are_ones size tents 0 (lines_of size))
+
+pub ruleset turns = (turn_one, turn_other, turns_done)

@@ -10,6 +10,8 @@ use Rattle.gameid_core.specs.Words.{begins, value, IsNumeral, words}
 use Rattle.gameid_core.specs.Steps.{reading}
 use Rattle.gameid_core.specs.Puzzles.{line_cells, used, IsPattern, IsClue, AreClues, lines_of, Pattern}
 use Rattle.gameid_core.specs.PatternText.{clue_number, clue_token, pattern_step, pattern_end, clues_text, clues_at, pattern_of, SpellsPattern}
+use Rattle.gameid_core.specs.OneText.{HasOneReading}
+use Rattle.gameid_core.proofs.OneReading.{reading_of}
 use Rattle.gameid_core.proofs.Results.{bind_ok}
 use Rattle.gameid_core.proofs.PatternReading.{first_cases, further_cases, end_is, so_far, step_cases, step_number, clues_lawful}
 use Rattle.gameid_core.proofs.Tokens.{IsWord, numeral_word, words_are, concat_words, cuts_single}
@@ -202,20 +204,11 @@ pub pattern_takes : (text : List ℕ) (p : Pattern) → pattern_of text ≡ Ok p
 unfolding pattern_of
 pattern_takes text p e =
     let r = parts_of game.Pattern text (λ head. clues_at (extent_of head.size) head.description (drop head.description text)) (λ head clues. record { size = extent_of head.size; clues = clues }) p e in
-    let h = r.is_head in
-    let size : SizeRead = r.head.size in
-    let c = clues_take (extent_of size) r.head.description (drop r.head.description text) r.given r.read in
-    subst (λ (q : Pattern). SpellsPattern text q) r.made (record {
-      short = h.short;
-      puzzle = clues_lawful (extent_of size) r.head.description (drop r.head.description text) r.given (is_extent size.w size.h h.range) r.read;
-      front = h.front;
-      numerals = c.numerals;
-      parts = h.parts ∙ ap (λ (d : List ℕ). h.front ++ 58 ∷ d) c.parts;
-      size = plain_size game.Pattern h.front size.w size.h size.x (λ e. absurd cc) h.size;
-      digits = c.digits;
-      clues = c.values;
-    })
+    grind (arith, clues_take _ _ _ _ r.read, is_extent r.head.size.w r.head.size.h r.is_head.range, clues_lawful (extent_of r.head.size) r.head.description (drop r.head.description text) r.given, plain_size)
 
 pub pattern_again : (text : List ℕ) (p : Pattern) → SpellsPattern text p → pattern_of text ≡ Ok p
 unfolding pattern_of
 pattern_again text p s = grind (arith, head_again game.Pattern s.front (clues_text s.numerals) p.size.w p.size.h false s.size (range_of p.size s.puzzle.size), clues_again p.size (length s.front + 1) s.numerals s.digits, after_front s.front (clues_text s.numerals))
+
+pub pattern_reading : HasOneReading SpellsPattern pattern_of
+pattern_reading = reading_of _ _ pattern_again pattern_takes

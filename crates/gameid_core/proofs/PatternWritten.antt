@@ -10,6 +10,8 @@ use Rattle.gameid_core.specs.SizeText.{size_text}
 use Rattle.gameid_core.specs.Puzzles.{Pattern, IsPattern, IsClue, AreClues, line_cells, used}
 use Rattle.gameid_core.specs.PatternText.{SpellsPattern, IsWrittenPattern, clue_text, pattern_text, clues_text}
 use Rattle.gameid_core.specs.Head.{max_id}
+use Rattle.gameid_core.specs.OneText.{HasOneText}
+use Rattle.gameid_core.proofs.OneReading.{one_text}
 use Rattle.gameid_core.proofs.Numerals.{decimal_plain, own, length_decimal, numeral, plain_decimal}
 
 -- ---- how long
@@ -77,9 +79,6 @@ pattern_is_written p h =
       plain = clues_are_plain p.size 0 p.clues h.size h.clues;
     }
 
-pub pattern_spelled : (p : Pattern) → IsPattern p → SpellsPattern (pattern_text p) p
-pattern_spelled p h = (pattern_is_written p h).spells
-
 clue_plain : (clue : List (List ℕ)) → AllByRecursion IsNumeral clue → AllByRecursion IsPlain clue → used (map value clue) < 2 ^ 64 → map decimal (map value clue) ≡ clue
 clue_plain [] d h small = refl
 clue_plain (num ∷ clue) d h small = rw (plain_decimal num d.0 h.0 (omega (arith, small)), clue_plain clue d.1 h.1 (omega (arith, small))) refl
@@ -94,3 +93,14 @@ pattern_form text p w =
     let are : AreClues p.size 0 (map (map value) s.numerals) = subst (λ (cs : List (List ℕ)). AreClues p.size 0 cs) (sym s.clues) s.puzzle.clues in
     let same : map (map decimal) p.clues ≡ s.numerals = ap (map (map decimal)) (sym s.clues) ∙ clues_plain p.size 0 s.numerals s.puzzle.size are s.digits w.plain in
     s.parts ∙ ap (λ (f : List ℕ). f ++ 58 ∷ clues_text s.numerals) w.both ∙ ap (λ (ns : List (List (List ℕ))). size_text p.size.w p.size.h ++ 58 ∷ clues_text ns) (sym same) ∙ ap (λ (ts : List (List ℕ)). size_text p.size.w p.size.h ++ 58 ∷ join_with_byte 47 ts) (texts_same p.clues)
+
+pub pattern_one_text : HasOneText IsPattern IsWrittenPattern pattern_text
+pattern_one_text = record { some = pattern_is_written; one = one_text _ _ pattern_form }
+
+pub pattern_spelled : (p : Pattern) → IsPattern p → SpellsPattern (pattern_text p) p
+pattern_spelled p h = (pattern_is_written p h).spells
+
+pub pattern_written_as : (p : Pattern) (text : List ℕ) → IsPattern p → text ≡ pattern_text p → IsWrittenPattern text p
+pattern_written_as p text h e = rw e (pattern_is_written p h)
+
+pub ruleset laws = (common_steps, pattern_spelled, pattern_short)

@@ -7,6 +7,8 @@ use Rattle.gameid_core.specs.declared.fault.IdFault.TheVariants.{BadByte, Number
 use Rattle.gameid_core.specs.Words.{begins, digits_front, after_digits, value, Cuts, words}
 use Rattle.gameid_core.specs.Cells.{is_letter}
 use Rattle.gameid_core.specs.SoloText.{solo_token, solo_cells_at, SoloToken, blanks, gap, given, solo_token_text, solo_token_cells, IsSoloToken, AreApart, SpellsSolo, solo_of}
+use Rattle.gameid_core.specs.OneText.{HasOneReading}
+use Rattle.gameid_core.proofs.OneReading.{reading_of}
 use Rattle.gameid_core.proofs.Tokens.{cuts_some, cuts_single, cuts_number, kind_of, not_between, words_nil, no_join, IsWord, words_are, concat_words, alone}
 use Rattle.gameid_core.proofs.Numerals.{is_lead, lead_is_digit, numeral_cuts, numeral, own, decimal_leads, value_positive}
 use Rattle.gameid_core.proofs.Results.{and_parts, chosen, not_refused, only_taken, ok_is}
@@ -90,13 +92,7 @@ SoloWord n word more = Token solo_token_text solo_token_cells (IsSoloToken n) wo
 
 letter_word : (n : ℕ) (word : List ℕ) → IsWord word → begins is_letter word ≡ true → SoloWord n word (replicate (get_or word 0 0 - 96) 0)
 letter_word n [] w e = absurd w
-letter_word n (b ∷ more) w e =
-    let p = and_parts (leb 97 b) (leb b 122) e in
-    let low : 97 ≤ b = leb-true _ _ p.0 in
-    let high : b ≤ 122 = leb-true _ _ p.1 in
-    let rest = alone b more w (no_join b (λ l h. omega arith) (λ q. omega arith) (λ q. omega arith)) in
-    let byte : b ≡ 96 + (b - 96) = omega arith in
-    record { token = blanks (b - 96); texts = ap (λ (m : List ℕ). b ∷ m) rest ∙ ap (λ (k : ℕ). k ∷ []) byte; each = (omega arith, omega arith); stands = refl }
+letter_word n (b ∷ more) w e = record { token = blanks (b - 96); texts = grind (arith, alone b more w); each = grind arith; stands = refl }
 
 gap_word : (n : ℕ) (word : List ℕ) → IsWord word → begins (λ b. eqb b 95) word ≡ true → SoloWord n word []
 gap_word n word w e = grind arith
@@ -117,17 +113,7 @@ given_word n (b ∷ more) small w e le =
 
 token_word : (n : ℕ) → n < 2 ^ 64 → (at : ℕ) (word more : List ℕ) → IsWord word → solo_token n at word ≡ Ok more → SoloWord n word more
 unfolding solo_token
-token_word n small at word more w e =
-    elim (chosen (begins is_letter word) _ _ _ e) [
-      | inl c ↦ subst (λ (m : List ℕ). SoloWord n word m) (ok_is _ _ c.1) (letter_word n word w c.0)
-      | inr c ↦ elim (chosen (begins (λ b. eqb b 95) word) _ _ _ c.1) [
-        | inl d ↦ subst (λ (m : List ℕ). SoloWord n word m) (ok_is _ _ d.1) (gap_word n word w d.0)
-        | inr d ↦
-            let f = only_taken (begins is_lead word) _ _ _ d.1 in
-            let g = not_refused (ltb n (value word)) _ _ _ f.1 in
-            subst (λ (m : List ℕ). SoloWord n word m) (ok_is _ _ g.1) (given_word n word small w f.0 (ltb-false _ _ g.0))
-      ]
-    ]
+token_word n small at word more w e = grind (arith, common_steps, letter_word n word, gap_word n word, given_word n word)
 
 -- ---- what is read is spelled
 
@@ -165,14 +151,14 @@ token_range n (blanks k) h = AllByRecursion-replicate (λ v. v ≤ n) 0 k (omega
 token_range n gap h = tt
 token_range n (given v) h = (h.1, tt)
 
-pub solo_n_small : (c r : ℕ) → in_range game.Solo c r ≡ true → c * r ≤ max_numbers
-solo_n_small c r range = grind arith
+pub n_few : (c r : ℕ) → in_range game.Solo c r ≡ true → c * r ≤ max_numbers
+n_few c r range = grind arith
 
 pub solo_lawful : (c r : ℕ) (x : Bool) (at : ℕ) (description cells : List ℕ) → in_range game.Solo c r ≡ true → solo_cells_at (c * r) at description ≡ Ok cells → IsSolo (solo_puzzle c r x cells)
 solo_lawful c r x at description cells range e =
     let p = and_parts (leb 2 c && leb 2 r) (leb (c * r) max_numbers) range in
     let q = and_parts (leb 2 c) (leb 2 r) p.0 in
-    let small = solo_n_small c r range in
+    let small = n_few c r range in
     let d = solo_take (c * r) at description cells (omega arith) e in
     let fits = AllByRecursion-flat_map (IsSoloToken (c * r)) (λ v. v ≤ c * r) solo_token_cells (token_range (c * r)) d.tokens d.each in
     record { c_low = leb-true _ _ q.0; r_low = leb-true _ _ q.1; n_high = small; cells = d.count; range = subst (λ (cs : List ℕ). AllByRecursion (λ v. v ≤ c * r) cs) d.filled fits }
@@ -214,7 +200,7 @@ solo_takes text p e =
     let r = parts_of game.Solo text (λ head. solo_cells_at (head.size.w * head.size.h) head.description (drop head.description text)) (λ head givens. solo_puzzle head.size.w head.size.h head.size.x givens) p e in
     let h = r.is_head in
     let size : SizeRead = r.head.size in
-    let small = solo_n_small size.w size.h h.range in
+    let small = n_few size.w size.h h.range in
     let d = solo_take (size.w * size.h) r.head.description (drop r.head.description text) r.given (omega arith) r.read in
     subst (λ (q : Solo). SpellsSolo text q) r.made (record {
       short = h.short;
@@ -231,3 +217,6 @@ solo_takes text p e =
 pub solo_text_again : (text : List ℕ) (p : Solo) → SpellsSolo text p → solo_of text ≡ Ok p
 unfolding solo_of
 solo_text_again text p s = grind (arith, head_again game.Solo s.front (flat_map solo_token_text s.tokens) p.c p.r p.x (size_of_solo s.front p.c p.r p.x s.size), solo_again (p.c * p.r) (length s.front + 1) s.tokens, after_front s.front (flat_map solo_token_text s.tokens))
+
+pub solo_reading : HasOneReading SpellsSolo solo_of
+solo_reading = reading_of _ _ solo_text_again solo_takes

@@ -17,9 +17,7 @@ use Rattle.gameid_core.proofs.Tokens.{front_turn, cuts_single}
 use Rattle.gameid_core.proofs.Reading.{turn_of, fault_first, place}
 use Rattle.gameid_core.proofs.Results.{bind_ok, chosen, only_taken, ok_is, and_parts}
 use Rattle.std.specs.List.{AllByRecursion}
-use Rattle.gameid_core.specs.Head.{in_range}
 use Rattle.gameid_core.specs.declared.game.Game.TheVariants as game
-use Rattle.gameid_core.proofs.LightTexts.{sized}
 use Rattle.gameid_core.proofs.Lists.{AllByRecursion-append, AllByRecursion-replicate}
 
 abbrev pub at_tents : List ℕ → List ℕ → TentsSoFar
@@ -186,6 +184,3 @@ tents_read size at description s wide e = grind (arith, common_steps, sound_read
 
 pub tents_lawful : (size : Extent) (at : ℕ) (description : List ℕ) (s : TentsSoFar) → IsWide size → tents_at size at description ≡ Ok s → IsTents (record { size = size; trees = take (cells_in size) s.places; counts = s.counts })
 tents_lawful size at description s wide e = grind (arith, tents_read size at description s wide e)
-
-pub tents_fits : (size : Extent) (w h n at : ℕ) (description places counts trees : List ℕ) → size ≡ sized w h → n ≡ size.w * size.h → trees ≡ take n places → in_range game.Tents w h ≡ true → tents_at size at description ≡ Ok (at_tents places counts) → IsTents (record { size = size; trees = trees; counts = counts })
-tents_fits size w h n at description places counts trees is count kept range e = grind (arith, tents_lawful size at description (at_tents places counts))

@@ -10,17 +10,19 @@ use Rattle.grid_core.specs.Extent.{Extent}
 use Rattle.gameid_core.specs.declared.fault.IdFault.{IdFault}
 use Rattle.gameid_core.specs.Words.{IsNumeral, begins, words, value}
 use Rattle.gameid_core.specs.Steps.{reading}
-use Rattle.gameid_core.specs.Puzzles.{AreCounts, line_cells, lines_of, Tents}
+use Rattle.gameid_core.specs.Puzzles.{AreCounts, IsTents, line_cells, lines_of, Tents}
 use Rattle.gameid_core.specs.TentsText.{TentsSoFar, TentsToken, blanks_and_tree, only_blanks, tents_token_byte, tents_token_cells, IsTentsToken, cells_in, tents_run, run_cells, tents_step, tents_end, tents_at, SpellsTents, tents_of}
+use Rattle.gameid_core.specs.OneText.{HasOneReading}
+use Rattle.gameid_core.proofs.OneReading.{reading_of}
 use Rattle.gameid_core.proofs.Tokens.{cuts_single, IsWord, words_are, concat_words, alone}
 use Rattle.gameid_core.proofs.Numerals.{joined_cuts}
 use Rattle.gameid_core.proofs.Results.{bind_ok}
 use Rattle.gameid_core.proofs.Reading.{reading_turn, reading_end}
 use Rattle.gameid_core.proofs.TentsReading.{run_token, end_is, at_tents, run_single, tree_step, count_step, count_read, step_cases, end_cases, tents_read, tents_lawful}
 use Rattle.gameid_core.specs.declared.game.Game.TheVariants as game
-use Rattle.gameid_core.specs.Head.{HeadRead, extent_of, max_id}
+use Rattle.gameid_core.specs.Head.{HeadRead, extent_of, in_range, max_id}
 use Rattle.gameid_core.proofs.HeadLaws.{parts_of, plain_size, head_again, after_front}
-use Rattle.gameid_core.proofs.LightTexts.{wide_of, wide_range}
+use Rattle.gameid_core.proofs.LightTexts.{wide_of, wide_range, sized}
 
 -- ---- what is read is spelled
 
@@ -193,36 +195,19 @@ pub tents_again : (size : Extent) (at : ℕ) (trees counts : List ℕ) (tokens :
 unfolding tents_at
 tents_again size at trees counts tokens numerals each digits count cells is len are = grind (arith, common_steps, trees_again size (at_tents (trees ++ 1 ∷ []) counts) [] trees tokens (numbers_text numerals) each count cells, numbers_again size (trees ++ 1 ∷ []) [] counts numerals digits)
 
+pub fit : (size : Extent) (w h n at : ℕ) (description places counts trees : List ℕ) → size ≡ sized w h → n ≡ size.w * size.h → trees ≡ take n places → in_range game.Tents w h ≡ true → tents_at size at description ≡ Ok (at_tents places counts) → IsTents (record { size = size; trees = trees; counts = counts })
+fit size w h n at description places counts trees is count kept range e = grind (arith, tents_lawful size at description (at_tents places counts))
+
 pub tents_takes : (text : List ℕ) (p : Tents) → tents_of text ≡ Ok p → SpellsTents text p
 unfolding tents_of
 tents_takes text p e =
     let r = parts_of game.Tents text (λ head. tents_at (extent_of head.size) head.description (drop head.description text)) (λ head s. record { size = extent_of head.size; trees = take (head.size.w * head.size.h) s.places; counts = s.counts }) p e in
-    let h = r.is_head in
-    let head : HeadRead = r.head in
-    let size : Extent = extent_of head.size in
-    let wide = wide_of head.size.w head.size.h h.range in
-    let d = tents_take size head.description (drop head.description text) r.given r.read in
-    let fits = tents_read size head.description (drop head.description text) r.given wide r.read in
-    subst (λ (q : Tents). SpellsTents text q) r.made (record {
-      short = h.short;
-      puzzle = tents_lawful size head.description (drop head.description text) r.given wide r.read;
-      front = h.front;
-      tokens = d.tokens;
-      numerals = d.numerals;
-      parts = h.parts ∙ ap (λ (x : List ℕ). h.front ++ 58 ∷ x) d.parts;
-      size = plain_size game.Tents h.front head.size.w head.size.h head.size.x (λ e. absurd cc) h.size;
-      each = d.each;
-      digits = d.digits;
-      cells = d.filled ∙ fits.cells.whole;
-      counts = d.counted;
-    })
+    let wide = wide_of r.head.size.w r.head.size.h r.is_head.range in
+    grind (arith, tents_take _ _ _ _ r.read, tents_read _ _ _ _ wide r.read, tents_lawful _ _ _ _ wide r.read, plain_size)
 
 pub tents_text_again : (text : List ℕ) (p : Tents) → SpellsTents text p → tents_of text ≡ Ok p
 unfolding tents_of
-tents_text_again text p s =
-    let h = s.puzzle in
-    let description : List ℕ = map tents_token_byte s.tokens ++ numbers_text s.numerals in
-    let whole = head_again game.Tents s.front description p.size.w p.size.h false s.size (wide_range p.size h.size) (subst (λ (t : List ℕ). length t ≤ max_id) s.parts s.short) in
-    let read = tents_again p.size (length s.front + 1) p.trees p.counts s.tokens s.numerals s.each s.digits h.cells s.cells s.counts h.lines h.range in
-    let trees : take (p.size.w * p.size.h) (p.trees ++ 1 ∷ []) ≡ p.trees = take_at p.trees (1 ∷ []) (p.size.w * p.size.h) h.cells in
-    ap tents_of s.parts ∙ rw (whole, after_front s.front description, read, trees) refl
+tents_text_again text p s = grind (arith, head_again game.Tents s.front (map tents_token_byte s.tokens ++ numbers_text s.numerals) p.size.w p.size.h false s.size, wide_range p.size, tents_again p.size (length s.front + 1) p.trees p.counts s.tokens s.numerals s.each s.digits, take_at p.trees (1 ∷ []) (p.size.w * p.size.h), after_front s.front (map tents_token_byte s.tokens ++ numbers_text s.numerals))
+
+pub tents_reading : HasOneReading SpellsTents tents_of
+tents_reading = reading_of _ _ tents_text_again tents_takes

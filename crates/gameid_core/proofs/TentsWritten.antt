@@ -5,22 +5,19 @@ use Rattle.std.proofs.lemmas.Grind.{common_steps}
 use Rattle.std.specs.Prelude.{replicate, decimal}
 use Rattle.std.specs.List.{AllByRecursion, flat_map}
 use Rattle.std.proofs.lemmas.Fmt.{digits_value-decimal, length-decimal-le}
-use Rattle.std.proofs.lemmas.List.{append-nil}
 use Rattle.grid_core.specs.Extent.{Extent, IsExtent, max_side}
 use Rattle.gameid_core.specs.Head.{max_id}
 use Rattle.gameid_core.specs.Words.{IsNumeral, IsPlain, value}
 use Rattle.gameid_core.specs.SizeText.{size_text}
 use Rattle.gameid_core.specs.Puzzles.{Tents, IsTents, AreCounts}
-use Rattle.gameid_core.specs.TentsText.{TentsToken, blanks_and_tree, only_blanks, tents_token_byte, tents_token_cells, IsTentsToken, AreTight, IsWrittenTents, tents_tokens, trees_text, tents_text}
+use Rattle.gameid_core.specs.TentsText.{TentsToken, blanks_and_tree, only_blanks, tents_token_byte, tents_token_cells, IsTentsToken, AreTight, SpellsTents, IsWrittenTents, tents_tokens, trees_text, tents_text}
+use Rattle.gameid_core.specs.OneText.{HasOneText}
+use Rattle.gameid_core.proofs.OneReading.{one_text}
 use Rattle.gameid_core.proofs.Numerals.{own, decimal_plain, numeral, length_decimal, plain_decimal}
 use Rattle.gameid_core.proofs.PatternWritten.{line_small}
-use Rattle.gameid_core.proofs.TentsTexts.{numbers_text, last_of, last_push}
+use Rattle.gameid_core.proofs.TentsTexts.{numbers_text}
 
 -- ---- one cell of the writer's loop
-
-pub tokens_end : (k : ℕ) → tents_tokens k [] ≡ blanks_and_tree k ∷ []
-unfolding tents_tokens
-tokens_end k = refl
 
 pub blank_pushed : (k k' : ℕ) (cells out : List ℕ) → (k ≡ 25 → ⊥) → k' ≡ k + 1 → out ++ trees_text k' cells ≡ out ++ trees_text k (0 ∷ cells)
 unfolding tents_tokens
@@ -75,12 +72,6 @@ record Written (k : ℕ) (cells : List ℕ) (tokens : List TentsToken) : Type 0 
   tight : AreTight tokens
   filled : flat_map tents_token_cells tokens ≡ replicate k 0 ++ (cells ++ 1 ∷ [])
 
--- '_' doesn't come first
-abbrev NoTreeFirst : List TentsToken → Type 0
-NoTreeFirst [] = Unit {0}
-NoTreeFirst (blanks_and_tree zero ∷ tokens) = ⊥
-NoTreeFirst (token ∷ tokens) = Unit {0}
-
 cells_written : (k : ℕ) (cells : List ℕ) → k ≤ 25 → AllByRecursion (λ b. b < 2) cells → Written k cells (tents_tokens k cells)
 unfolding tents_tokens
 cells_written k [] few h = grind (arith, common_steps)
@@ -127,77 +118,50 @@ tents_is_written p h =
       plain = counts_are_plain p.size 0 p.counts h.size.extent h.range;
     }
 
--- the tokens of places that end with a tree, with k blanks before them
+-- the tokens of places, with k blanks before them
 unfoldable pub tokens_of : ℕ → List ℕ → List TentsToken
-tokens_of k [] = []
+tokens_of k [] = cond (eqb k 25) (only_blanks ∷ []) []
 tokens_of k (zero ∷ places) = cond (eqb k 25) (only_blanks ∷ tokens_of 1 places) (tokens_of (k + 1) places)
 tokens_of k (suc b ∷ places) = blanks_and_tree k ∷ tokens_of 0 places
-
-of_full : (places : List ℕ) → tokens_of 25 (0 ∷ places) ≡ only_blanks ∷ tokens_of 0 (0 ∷ places)
-unfolding tokens_of
-of_full places = refl
-
-of_tree : (k : ℕ) (places : List ℕ) → tokens_of k (1 ∷ places) ≡ blanks_and_tree k ∷ tokens_of 0 places
-unfolding tokens_of
-of_tree k places = refl
-
-of_nil : (k : ℕ) → tokens_of k [] ≡ []
-unfolding tokens_of
-of_nil k = refl
-
-blank_cell : (k : ℕ) (cells : List ℕ) → tokens_of 1 (cells ++ 1 ∷ []) ≡ tents_tokens 1 cells → tokens_of (k + 1) (cells ++ 1 ∷ []) ≡ tents_tokens (k + 1) cells → tokens_of k (0 ∷ (cells ++ 1 ∷ [])) ≡ tents_tokens k (0 ∷ cells)
-unfolding tokens_of tents_tokens
-blank_cell k cells one next = grind arith
 
 -- the tree after the cells ends them
 of_cells : (k : ℕ) (cells : List ℕ) → tokens_of k (cells ++ 1 ∷ []) ≡ tents_tokens k cells
 unfolding tokens_of tents_tokens
-of_cells k [] = sym (tokens_end k)
-of_cells k (suc b ∷ cells) = grind (arith, common_steps, of_cells 0 cells)
-of_cells k (zero ∷ cells) = blank_cell k cells (of_cells 1 cells) (of_cells (k + 1) cells)
+of_cells k [] = refl
+of_cells k (zero ∷ cells) = grind (arith, of_cells 1 cells, of_cells (k + 1) cells)
+of_cells k (suc b ∷ cells) = grind (arith, of_cells 0 cells)
 
 of_run : (k j : ℕ) (places : List ℕ) → k + j ≤ 25 → tokens_of k (replicate j 0 ++ places) ≡ tokens_of (k + j) places
 unfolding tokens_of
 of_run k zero places le = grind arith
 of_run k (suc j) places le = grind (arith, nat_tests, common_steps, of_run (k + 1) j places)
 
-last_behind : (xs : List ℕ) (y : ℕ) (ys : List ℕ) → last_of (xs ++ y ∷ ys) ≡ last_of (y ∷ ys)
-unfolding last_of
-last_behind [] y ys = grind arith
-last_behind (x1 ∷ xs1) y ys = grind (arith, common_steps, last_behind xs1)
-
--- the cells of tokens that go on
-abbrev cells_of_all : List TentsToken → List ℕ
-cells_of_all tokens = flat_map tents_token_cells tokens
-
 -- tokens of the form are those of their cells
-form_tokens : (tokens : List TentsToken) → AllByRecursion IsTentsToken tokens → AreTight tokens → (0 < length tokens → last_of (cells_of_all tokens) ≡ 1) → tokens_of 0 (cells_of_all tokens) ≡ tokens
+form_tokens : (tokens : List TentsToken) → AllByRecursion IsTentsToken tokens → AreTight tokens → tokens_of 0 (flat_map tents_token_cells tokens) ≡ tokens
 unfolding tokens_of
-form_tokens [] each tight last = of_nil 0
-form_tokens (blanks_and_tree k ∷ []) each tight last = grind (arith, append-nil, of_run)
-form_tokens (blanks_and_tree k ∷ token ∷ tokens) each tight last =
-    let later : List ℕ = cells_of_all (token ∷ tokens) in
-    ap (tokens_of 0) (append_assoc (replicate k 0) (1 ∷ []) later) ∙ of_run 0 k (1 ∷ later) (omega (arith, each.0)) ∙ ap (λ (i : ℕ). tokens_of i (1 ∷ later)) (let e : 0 + k ≡ k = omega arith in e) ∙ of_tree k later
-    ∙ ap (λ (ts : List TentsToken). blanks_and_tree k ∷ ts) (form_tokens (token ∷ tokens) each.1 tight (λ some. later_last (replicate k 0 ++ 1 ∷ []) token tokens (last (omega arith))))
-  where
-    later_last : (front : List ℕ) (token : TentsToken) (tokens : List TentsToken) → last_of (front ++ cells_of_all (token ∷ tokens)) ≡ 1 → last_of (cells_of_all (token ∷ tokens)) ≡ 1
-    later_last front (blanks_and_tree zero) tokens e = sym (last_behind front 1 (cells_of_all tokens)) ∙ e
-    later_last front (blanks_and_tree (suc k)) tokens e = sym (last_behind front 0 ((replicate k 0 ++ 1 ∷ []) ++ cells_of_all tokens)) ∙ e
-    later_last front only_blanks tokens e = sym (last_behind front 0 (replicate 24 0 ++ cells_of_all tokens)) ∙ e
-form_tokens (only_blanks ∷ []) each tight last = absurd (let bad : 0 ≡ 1 = sym (last_push (replicate 24 0) 0) ∙ last (omega arith) in omega (arith, bad))
-form_tokens (only_blanks ∷ blanks_and_tree zero ∷ tokens) each tight last = absurd tight
-form_tokens (only_blanks ∷ blanks_and_tree (suc k) ∷ tokens) each tight last =
-    let later : List ℕ = (replicate k 0 ++ 1 ∷ []) ++ cells_of_all tokens in
-    of_run 0 25 (0 ∷ later) (omega arith) ∙ of_full later
-    ∙ ap (λ (ts : List TentsToken). only_blanks ∷ ts) (form_tokens (blanks_and_tree (suc k) ∷ tokens) each.1 tight (λ some. sym (last_behind (replicate 25 0) 0 later) ∙ last (omega arith)))
-form_tokens (only_blanks ∷ only_blanks ∷ tokens) each tight last =
-    let later : List ℕ = replicate 24 0 ++ cells_of_all tokens in
-    of_run 0 25 (0 ∷ later) (omega arith) ∙ of_full later
-    ∙ ap (λ (ts : List TentsToken). only_blanks ∷ ts) (form_tokens (only_blanks ∷ tokens) each.1 tight (λ some. sym (last_behind (replicate 25 0) 0 later) ∙ last (omega arith)))
+form_tokens [] each tight = refl
+form_tokens (blanks_and_tree k ∷ tokens) each tight = grind (arith, common_steps, append_assoc (replicate k 0) (1 ∷ []) (flat_map tents_token_cells tokens), of_run 0 k (1 ∷ flat_map tents_token_cells tokens), form_tokens tokens)
+form_tokens (only_blanks ∷ []) each tight = grind (arith, of_run 0 25 [])
+form_tokens (only_blanks ∷ blanks_and_tree zero ∷ tokens) each tight = absurd tight
+form_tokens (only_blanks ∷ blanks_and_tree (suc k) ∷ tokens) each tight = grind (arith, of_run 0 25 (flat_map tents_token_cells (blanks_and_tree (suc k) ∷ tokens)), form_tokens (blanks_and_tree (suc k) ∷ tokens) each.1 tight)
+form_tokens (only_blanks ∷ only_blanks ∷ tokens) each tight = grind (arith, of_run 0 25 (flat_map tents_token_cells (only_blanks ∷ tokens)), form_tokens (only_blanks ∷ tokens) each.1 tight)
 
 numbers_plain : (size : Extent) (line : ℕ) (numerals : List (List ℕ)) → IsExtent size → AreCounts size line (map value numerals) → AllByRecursion IsNumeral numerals → AllByRecursion IsPlain numerals → map decimal (map value numerals) ≡ numerals
 numbers_plain size line [] e h d plain = refl
 numbers_plain size line (num ∷ numerals) e h d plain = grind (arith, numbers_plain size (line + 1) numerals e h.1 d.1 plain.1, plain_decimal)
 
 pub tents_form : (text : List ℕ) (p : Tents) → IsWrittenTents text p → text ≡ tents_text p
-tents_form text p w = grind (arith, last_push p.trees 1, of_cells 0 p.trees, form_tokens, numbers_plain p.size 0, numbers_are p.counts)
+tents_form text p w = grind (arith, of_cells 0 p.trees, form_tokens, numbers_plain p.size 0, numbers_are p.counts)
+
+pub tents_one_text : HasOneText IsTents IsWrittenTents tents_text
+tents_one_text = record { some = tents_is_written; one = one_text _ _ tents_form }
+
+pub ruleset turns = (full_pushed, blank_pushed, counts_step, counts_done)
+
+pub tents_spelled : (p : Tents) → IsTents p → SpellsTents (tents_text p) p
+tents_spelled p h = (tents_is_written p h).spells
+
+pub tents_written_as : (p : Tents) (text : List ℕ) → IsTents p → text ≡ tents_text p → IsWrittenTents text p
+tents_written_as p text h e = rw e (tents_is_written p h)
+
+pub ruleset laws = (common_steps, tents_spelled, tents_short)

@@ -17,6 +17,9 @@ pub record Pattern : Type 0 where
   pub size : Extent
   pub clues : List (List ℕ)
 
+abbrev pub pattern_puzzle : Extent → List (List ℕ) → Pattern
+pattern_puzzle size clues = record { size = size; clues = clues }
+
 -- the cells that a clue's numbers take, each with one cell after it
 abbrev pub used : List ℕ → ℕ
 used [] = 0
@@ -86,6 +89,9 @@ pub record Tents : Type 0 where
   pub size : Extent
   pub trees : List ℕ
   pub counts : List ℕ
+
+abbrev pub tents_puzzle : Extent → List ℕ → List ℕ → Tents
+tents_puzzle size trees counts = record { size = size; trees = trees; counts = counts }
 
 -- the counts from a line on are at most their lines' cells
 abbrev pub AreCounts : Extent → ℕ → List ℕ → Type 0

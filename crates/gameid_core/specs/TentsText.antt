@@ -9,7 +9,7 @@ use Rattle.gameid_core.specs.Words.{IsNumeral, IsPlain, begins, words, value}
 use Rattle.gameid_core.specs.Steps.{◌>>=◌, reading}
 use Rattle.gameid_core.specs.Head.{extent_of, head_of, max_id}
 use Rattle.gameid_core.specs.SizeText.{size_text, IsSizeText}
-use Rattle.gameid_core.specs.Puzzles.{Tents, IsTents, line_cells, lines_of}
+use Rattle.gameid_core.specs.Puzzles.{Tents, IsTents, line_cells, lines_of, tents_puzzle}
 
 -- What a text spells ------------------------------------------------------------------------------
 
@@ -124,13 +124,7 @@ unfoldable pub tents_of : List ℕ → Result Tents IdFault
 tents_of text = do
   head ← head_of game.Tents text
   s ← tents_at (extent_of head.size) head.description (drop head.description text)
-  Ok
-      (record {
-        size = extent_of head.size;
-        trees = take
-            (head.size.w * head.size.h) s.places;
-        counts = s.counts;
-      })
+  Ok (tents_puzzle (extent_of head.size) (take (head.size.w * head.size.h) s.places) s.counts)
 
 -- The written text --------------------------------------------------------------------------------
 

@@ -64,7 +64,7 @@ fn cells(
 }
 
 /// The puzzle that the text spells, or its first fault, as reading gives it.
-#[tactic(auto, using(crate::proofs::LightTexts::cells_few), unfolding(crate::specs::LightText::light_of))]
+#[tactic(auto, using(crate::proofs::LightTexts::fit), unfolding(crate::specs::LightText::light_of))]
 fn read(alloc: Global, text: &[u8]) -> Result<LightPuzzle, IdFault>
     ensures exact { Gives (λ p. p) result (light_of text.now) }
     ensures head { (f : IdFault) → head_of Game.LightUp text.now ≡ Err f → result ≡ Err f }
@@ -88,25 +88,19 @@ fn read(alloc: Global, text: &[u8]) -> Result<LightPuzzle, IdFault>
 ///
 /// # Errors
 ///
-/// The ID's first fault: the tests of the part before the colon come first, in their order and on
-/// the whole ID, and then the first fault that is met in the description from left to right. A
-/// fault's place is the number of bytes of the ID before it. `IdFault::Memory` comes only where
-/// memory was wanted for what was read so far.
+/// The ID's first fault, as [`read_solo`](crate::read_solo) tells it.
 #[tactic(auto, using(crate::proofs::LightTexts::light_takes))]
 pub fn read_lights(alloc: Global, text: &[u8]) -> Result<LightPuzzle, IdFault>
-    // What is read is spelled so.
     ensures found { IfOk result (λ p. SpellsLight text.now p) }
-    // What is spelled so is read, unless memory runs out.
     ensures only { (p : Light) → SpellsLight text.now p → Gives (λ q. q) result (Ok p) }
-    // Which fault it is.
     ensures fault { IfErr result (λ f. Fails f (light_of text.now)) }
-    // A fault of the first six tests comes whatever memory does.
     ensures head { (f : IdFault) → head_of Game.LightUp text.now ≡ Err f → result ≡ Err f }
 {
     read(alloc, text)
 }
 
 /// Each text spells exactly one puzzle of Light Up or has exactly one fault, and never both.
+#[tactic(auto, using(crate::proofs::LightTexts::light_reading))]
 pub fn one_reading_of_lights()
     ensures { HasOneReading SpellsLight light_of }
 {}

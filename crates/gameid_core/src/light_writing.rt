@@ -45,10 +45,19 @@ fn push_cells(out: &mut String, cells: &[LightCell]) -> Result<(), AllocError>
     push_letters(out, whites)
 }
 
-/// The written ID, and what is known of the puzzle.
-fn written(alloc: Global, puzzle: &LightPuzzle) -> Result<String, AllocError>
+/// The one written ID of the puzzle, of at most `MAX_ID` bytes, which reads back to an equal
+/// puzzle. Both numbers of the size are written. In each run of white cells all letters but the
+/// last are `z`, and the last run is written too.
+///
+/// # Errors
+///
+/// When memory was refused.
+#[tactic(auto, using(crate::proofs::LightWritten::laws))]
+pub fn write_lights(alloc: Global, puzzle: &LightPuzzle) -> Result<String, AllocError>
     ensures text { IfOk result (λ text. string_bytes text ≡ light_text puzzle.now) }
-    ensures lawful { IsLight puzzle.now }
+    ensures form { IfOk result (λ text. IsWrittenLight (string_bytes text) puzzle.now) }
+    ensures read_again { IfOk result (λ text. SpellsLight (string_bytes text) puzzle.now) }
+    ensures short { IfOk result (λ text. length (string_bytes text) ≤ max_id) }
 {
     let size = puzzle.size();
     let mut out = String::new(alloc);
@@ -58,25 +67,9 @@ fn written(alloc: Global, puzzle: &LightPuzzle) -> Result<String, AllocError>
     Ok(out)
 }
 
-/// The one written ID of the puzzle, of at most `MAX_ID` bytes, which reads back to an equal
-/// puzzle. Both numbers of the size are written. In each run of white cells all letters but the
-/// last are `z`, and the last run is written too.
-///
-/// # Errors
-///
-/// When memory was refused.
-#[tactic(auto, using(crate::proofs::LightWritten::light_is_written, crate::proofs::LightWritten::light_spelled, crate::proofs::LightWritten::light_short))]
-pub fn write_lights(alloc: Global, puzzle: &LightPuzzle) -> Result<String, AllocError>
-    ensures text { IfOk result (λ text. string_bytes text ≡ light_text puzzle.now) }
-    ensures form { IfOk result (λ text. IsWrittenLight (string_bytes text) puzzle.now) }
-    ensures read_again { IfOk result (λ text. SpellsLight (string_bytes text) puzzle.now) }
-    ensures short { IfOk result (λ text. length (string_bytes text) ≤ max_id) }
-{
-    written(alloc, puzzle)
-}
-
 /// Each puzzle of Light Up has exactly one written text: the one that spells it with both numbers
 /// of the size, where each letter directly before a letter is `z`.
+#[tactic(auto, using(crate::proofs::LightWritten::light_one_text))]
 pub fn one_written_text_of_lights()
     ensures { HasOneText IsLight IsWrittenLight light_text }
 {}

@@ -9,6 +9,7 @@ use grid_core::{Grid, Size};
 use std::alloc::{AllocError, Global};
 
 /// How many of the cells are 1.
+#[tactic(auto, using(crate::proofs::OnesFit::turns))]
 fn ones_of(cells: &[u8]) -> u8
     requires { length cells.now ≤ 255 }
     ensures { result ≡ ones cells.now }

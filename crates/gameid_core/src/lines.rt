@@ -28,6 +28,7 @@ pub(crate) fn lines(size: Size) -> usize
 }
 
 /// The place of the k-th cell of a line.
+#[tactic(auto, using(crate::proofs::LineLaws::within_column))]
 fn place_of(size: Size, line: usize, k: usize) -> usize
     requires line { line < lines_of size }
     requires k { k < line_cells size line }

@@ -3,7 +3,7 @@
 ghost use Rattle.std.specs.Prelude.{◌≡◌, ◌<◌, ◌+◌, ◌*◌, ℕ, length, [], map, slice_index, slice_index_or, IfOk};
 ghost use Rattle.grid_core.specs.Grids.{IsGrid, row_cells, column_cells};
 ghost use Rattle.gameid_core.specs.BlackRuns.{runs};
-ghost use Rattle.gameid_core.specs.Puzzles.{Pattern, IsPattern, lines_of};
+ghost use Rattle.gameid_core.specs.Puzzles.{Pattern, IsPattern, lines_of, pattern_puzzle};
 
 use crate::black_runs::runs_of_lines;
 use grid_core::{Grid, Size};
@@ -19,22 +19,21 @@ pub struct PatternPuzzle {
 
 impl Model for PatternPuzzle {
     ghost use Rattle.std.specs.Prelude.{map};
-    ghost use Rattle.gameid_core.specs.Puzzles.{Pattern, IsPattern};
+    ghost use Rattle.gameid_core.specs.Puzzles.{Pattern, IsPattern, pattern_puzzle};
 
     ghost Value = { Pattern };
 
-    ghost view = { λ p. record { size = p.size; clues = map (λ clue. clue.items) p.clues.items } };
+    ghost view = { λ p. pattern_puzzle p.size (map (λ c. c.items) p.clues.items) };
 
-    ghost invariant = { λ p. IsPattern (record { size = p.size; clues = map (λ clue. clue.items) p.clues.items }) };
+    ghost invariant = { λ p. IsPattern (pattern_puzzle p.size (map (λ c. c.items) p.clues.items)) };
 }
 
 impl PatternPuzzle {
     /// The puzzle of that size whose columns from the left, and then rows from the top, have these
     /// clues.
     pub(crate) fn of_clues(size: Size, clues: Vec<Vec<u8>>) -> PatternPuzzle
-        requires { IsPattern
-            (record { size = size; clues = map (λ clue. clue.items) clues.items }) }
-        ensures { result ≡ record { size = size; clues = map (λ clue. clue.items) clues.items } }
+        requires { IsPattern (pattern_puzzle size (map (λ clue. clue.items) clues.items)) }
+        ensures { result ≡ pattern_puzzle size (map (λ clue. clue.items) clues.items) }
     {
         PatternPuzzle { size, clues }
     }

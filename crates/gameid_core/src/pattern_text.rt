@@ -46,6 +46,7 @@ fn number(
 }
 
 /// The first number of a clue, and the text after it.
+#[tactic(auto, using(crate::proofs::PatternReading::firsts))]
 fn first_number(cells: u8, line: usize, at: usize, rest: &[u8]) -> Result<(u8, &[u8]), IdFault>
     requires { 0 < length rest.now }
     ensures { TakesNumber (clue_token cells line [] at) rest.now result }
@@ -179,25 +180,19 @@ fn read(alloc: Global, text: &[u8]) -> Result<PatternPuzzle, IdFault>
 ///
 /// # Errors
 ///
-/// The ID's first fault: the tests of the part before the colon come first, in their order and on
-/// the whole ID, and then the first fault that is met in the description from left to right. A
-/// fault's place is the number of bytes of the ID before it. `IdFault::Memory` comes only where
-/// memory was wanted for what was read so far.
+/// The ID's first fault, as [`read_solo`](crate::read_solo) tells it.
 #[tactic(auto, using(crate::proofs::PatternTexts::pattern_takes))]
 pub fn read_pattern(alloc: Global, text: &[u8]) -> Result<PatternPuzzle, IdFault>
-    // What is read is spelled so.
     ensures found { IfOk result (λ p. SpellsPattern text.now p) }
-    // What is spelled so is read, unless memory runs out.
     ensures only { (p : Pattern) → SpellsPattern text.now p → Gives (λ q. q) result (Ok p) }
-    // Which fault it is.
     ensures fault { IfErr result (λ f. Fails f (pattern_of text.now)) }
-    // A fault of the first six tests comes whatever memory does.
     ensures head { (f : IdFault) → head_of Game.Pattern text.now ≡ Err f → result ≡ Err f }
 {
     read(alloc, text)
 }
 
 /// Each text spells exactly one puzzle of Pattern or has exactly one fault, and never both.
+#[tactic(auto, using(crate::proofs::PatternTexts::pattern_reading))]
 pub fn one_reading_of_pattern()
     ensures { HasOneReading SpellsPattern pattern_of }
 {}

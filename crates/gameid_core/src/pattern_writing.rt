@@ -38,10 +38,18 @@ fn push_clues(out: &mut String, puzzle: &PatternPuzzle) -> Result<(), AllocError
     Ok(())
 }
 
-/// The written ID, and what is known of the puzzle.
-fn written(alloc: Global, puzzle: &PatternPuzzle) -> Result<String, AllocError>
+/// The one written ID of the puzzle, of at most `MAX_ID` bytes, which reads back to an equal
+/// puzzle. Both numbers of the size are written, and no number has a leading zero.
+///
+/// # Errors
+///
+/// When memory was refused.
+#[tactic(auto, using(crate::proofs::PatternWritten::laws))]
+pub fn write_pattern(alloc: Global, puzzle: &PatternPuzzle) -> Result<String, AllocError>
     ensures text { IfOk result (λ text. string_bytes text ≡ pattern_text puzzle.now) }
-    ensures lawful { IsPattern puzzle.now }
+    ensures form { IfOk result (λ text. IsWrittenPattern (string_bytes text) puzzle.now) }
+    ensures read_again { IfOk result (λ text. SpellsPattern (string_bytes text) puzzle.now) }
+    ensures short { IfOk result (λ text. length (string_bytes text) ≤ max_id) }
 {
     let size = puzzle.size();
     let mut out = String::new(alloc);
@@ -51,24 +59,9 @@ fn written(alloc: Global, puzzle: &PatternPuzzle) -> Result<String, AllocError>
     Ok(out)
 }
 
-/// The one written ID of the puzzle, of at most `MAX_ID` bytes, which reads back to an equal
-/// puzzle. Both numbers of the size are written, and no number has a leading zero.
-///
-/// # Errors
-///
-/// When memory was refused.
-#[tactic(auto, using(crate::proofs::PatternWritten::pattern_is_written, crate::proofs::PatternWritten::pattern_spelled, crate::proofs::PatternWritten::pattern_short))]
-pub fn write_pattern(alloc: Global, puzzle: &PatternPuzzle) -> Result<String, AllocError>
-    ensures text { IfOk result (λ text. string_bytes text ≡ pattern_text puzzle.now) }
-    ensures form { IfOk result (λ text. IsWrittenPattern (string_bytes text) puzzle.now) }
-    ensures read_again { IfOk result (λ text. SpellsPattern (string_bytes text) puzzle.now) }
-    ensures short { IfOk result (λ text. length (string_bytes text) ≤ max_id) }
-{
-    written(alloc, puzzle)
-}
-
 /// Each puzzle of Pattern has exactly one written text: the one that spells it with both numbers of
 /// the size and no leading zeros.
+#[tactic(auto, using(crate::proofs::PatternWritten::pattern_one_text))]
 pub fn one_written_text_of_pattern()
     ensures { HasOneText IsPattern IsWrittenPattern pattern_text }
 {}

@@ -80,7 +80,7 @@ fn cells(alloc: Global, n: u8, base: usize, description: &[u8]) -> Result<Vec<u8
 }
 
 /// The puzzle that the text spells, or its first fault, as reading gives it.
-#[tactic(auto, using(crate::proofs::SoloTexts::solo_n_small), unfolding(crate::specs::SoloText::solo_of))]
+#[tactic(auto, using(crate::proofs::SoloTexts::n_few), unfolding(crate::specs::SoloText::solo_of))]
 fn read(alloc: Global, text: &[u8]) -> Result<SoloPuzzle, IdFault>
     ensures exact { Gives (λ p. p) result (solo_of text.now) }
     ensures head { (f : IdFault) → head_of Game.Solo text.now ≡ Err f → result ≡ Err f }
@@ -119,6 +119,7 @@ pub fn read_solo(alloc: Global, text: &[u8]) -> Result<SoloPuzzle, IdFault>
 }
 
 /// Each text spells exactly one puzzle of Solo or has exactly one fault, and never both.
+#[tactic(auto, using(crate::proofs::SoloTexts::solo_reading))]
 pub fn one_reading_of_solo()
     ensures { HasOneReading SpellsSolo solo_of }
 {}

@@ -51,10 +51,19 @@ fn push_cells(out: &mut String, givens: &[u8]) -> Result<(), AllocError>
     push_letters(out, blanks)
 }
 
-/// The written ID, and what is known of the puzzle.
-fn written(alloc: Global, puzzle: &SoloPuzzle) -> Result<String, AllocError>
+/// The one written ID of the puzzle, of at most `MAX_ID` bytes, which reads back to an equal
+/// puzzle. Both numbers of the size are written, and the `x` of Solo X after them. In each run of
+/// blank cells all letters but the last are `z`, and `_` stands exactly between two numbers.
+///
+/// # Errors
+///
+/// When memory was refused.
+#[tactic(auto, using(crate::proofs::SoloCanon::laws))]
+pub fn write_solo(alloc: Global, puzzle: &SoloPuzzle) -> Result<String, AllocError>
     ensures text { IfOk result (λ text. string_bytes text ≡ solo_text puzzle.now) }
-    ensures lawful { IsSolo puzzle.now }
+    ensures form { IfOk result (λ text. IsWrittenSolo (string_bytes text) puzzle.now) }
+    ensures read_again { IfOk result (λ text. SpellsSolo (string_bytes text) puzzle.now) }
+    ensures short { IfOk result (λ text. length (string_bytes text) ≤ max_id) }
 {
     let mut out = String::new(alloc);
     push_solo_size(&mut out, puzzle.c(), puzzle.r(), puzzle.x())?;
@@ -63,26 +72,10 @@ fn written(alloc: Global, puzzle: &SoloPuzzle) -> Result<String, AllocError>
     Ok(out)
 }
 
-/// The one written ID of the puzzle, of at most `MAX_ID` bytes, which reads back to an equal
-/// puzzle. Both numbers of the size are written, and the `x` of Solo X after them. In each run of
-/// blank cells all letters but the last are `z`, and `_` stands exactly between two numbers.
-///
-/// # Errors
-///
-/// When memory was refused.
-#[tactic(auto, using(crate::proofs::SoloCanon::solo_is_written, crate::proofs::SoloCanon::solo_spelled, crate::proofs::SoloCanon::solo_short))]
-pub fn write_solo(alloc: Global, puzzle: &SoloPuzzle) -> Result<String, AllocError>
-    ensures text { IfOk result (λ text. string_bytes text ≡ solo_text puzzle.now) }
-    ensures form { IfOk result (λ text. IsWrittenSolo (string_bytes text) puzzle.now) }
-    ensures read_again { IfOk result (λ text. SpellsSolo (string_bytes text) puzzle.now) }
-    ensures short { IfOk result (λ text. length (string_bytes text) ≤ max_id) }
-{
-    written(alloc, puzzle)
-}
-
 /// Each puzzle of Solo has exactly one written text: the one that spells it with both numbers of
 /// the size, where each letter directly before a letter is `z` and `_` stands only between two
 /// numbers.
+#[tactic(auto, using(crate::proofs::SoloCanon::solo_one_text))]
 pub fn one_written_text_of_solo()
     ensures { HasOneText IsSolo IsWrittenSolo solo_text }
 {}

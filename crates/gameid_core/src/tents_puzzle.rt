@@ -3,7 +3,7 @@
 ghost use Rattle.std.specs.Prelude.{◌≡◌, ◌<◌, ◌≤◌, ◌+◌, ◌*◌, ℕ, IsTrue, IfOk, length, slice_index, ◌↔◌};
 ghost use Rattle.grid_core.specs.Grids.{IsGrid, row_cells, column_cells};
 ghost use Rattle.gameid_core.specs.Lines.{ones};
-ghost use Rattle.gameid_core.specs.Puzzles.{Tents, IsTents, lines_of};
+ghost use Rattle.gameid_core.specs.Puzzles.{Tents, IsTents, lines_of, tents_puzzle};
 
 use crate::line_ones::{numbers_of, ones_of_lines};
 use grid_core::{Grid, Size};
@@ -20,21 +20,21 @@ pub struct TentsPuzzle {
 }
 
 impl Model for TentsPuzzle {
-    ghost use Rattle.gameid_core.specs.Puzzles.{Tents, IsTents};
+    ghost use Rattle.gameid_core.specs.Puzzles.{Tents, IsTents, tents_puzzle};
 
     ghost Value = { Tents };
 
-    ghost view = { λ p. record { size = p.size; trees = p.trees.items; counts = p.counts.items } };
+    ghost view = { λ p. tents_puzzle p.size p.trees.items p.counts.items };
 
-    ghost invariant = { λ p. IsTents (record { size = p.size; trees = p.trees.items; counts = p.counts.items }) };
+    ghost invariant = { λ p. IsTents (tents_puzzle p.size p.trees.items p.counts.items) };
 }
 
 impl TentsPuzzle {
     /// The puzzle of that size with these trees by place, 1 for a tree and 0 for any other cell,
     /// and these numbers of tents of the columns from the left and then of the rows from the top.
     pub(crate) fn of_lists(size: Size, trees: Vec<u8>, counts: Vec<u8>) -> TentsPuzzle
-        requires { IsTents (record { size = size; trees = trees.items; counts = counts.items }) }
-        ensures { result ≡ record { size = size; trees = trees.items; counts = counts.items } }
+        requires { IsTents (tents_puzzle size trees.items counts.items) }
+        ensures { result ≡ tents_puzzle size trees.items counts.items }
     {
         TentsPuzzle {
             size,

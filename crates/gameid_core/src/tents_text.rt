@@ -121,7 +121,7 @@ fn parts(
 }
 
 /// The puzzle that the text spells, or its first fault, as reading gives it.
-#[tactic(auto, unfolding(crate::specs::TentsText::tents_of))]
+#[tactic(auto, using(crate::proofs::TentsTexts::fit), unfolding(crate::specs::TentsText::tents_of))]
 fn read(alloc: Global, text: &[u8]) -> Result<TentsPuzzle, IdFault>
     ensures exact { Gives (λ p. p) result (tents_of text.now) }
     ensures head { (f : IdFault) → head_of Game.Tents text.now ≡ Err f → result ≡ Err f }
@@ -142,25 +142,19 @@ fn read(alloc: Global, text: &[u8]) -> Result<TentsPuzzle, IdFault>
 ///
 /// # Errors
 ///
-/// The ID's first fault: the tests of the part before the colon come first, in their order and on
-/// the whole ID, and then the first fault that is met in the description from left to right. A
-/// fault's place is the number of bytes of the ID before it. `IdFault::Memory` comes only where
-/// memory was wanted for what was read so far.
+/// The ID's first fault, as [`read_solo`](crate::read_solo) tells it.
 #[tactic(auto, using(crate::proofs::TentsTexts::tents_takes))]
 pub fn read_tents(alloc: Global, text: &[u8]) -> Result<TentsPuzzle, IdFault>
-    // What is read is spelled so.
     ensures found { IfOk result (λ p. SpellsTents text.now p) }
-    // What is spelled so is read, unless memory runs out.
     ensures only { (p : Tents) → SpellsTents text.now p → Gives (λ q. q) result (Ok p) }
-    // Which fault it is.
     ensures fault { IfErr result (λ f. Fails f (tents_of text.now)) }
-    // A fault of the first six tests comes whatever memory does.
     ensures head { (f : IdFault) → head_of Game.Tents text.now ≡ Err f → result ≡ Err f }
 {
     read(alloc, text)
 }
 
 /// Each text spells exactly one puzzle of Tents or has exactly one fault, and never both.
+#[tactic(auto, using(crate::proofs::TentsTexts::tents_reading))]
 pub fn one_reading_of_tents()
     ensures { HasOneReading SpellsTents tents_of }
 {}

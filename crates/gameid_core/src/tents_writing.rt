@@ -21,6 +21,7 @@ fn tree_byte(blanks: u8) -> u8
 }
 
 /// Counts one blank more, and writes 'z' in place of 25 where there are 26.
+#[tactic(auto, using(crate::proofs::TentsWritten::turns))]
 fn push_blank(out: &mut String, blanks: u8) -> Result<u8, AllocError>
     requires { blanks ≤ 25 }
     ensures few { IfOk result (λ k. k ≤ 25) }
@@ -54,6 +55,7 @@ fn push_trees(out: &mut String, trees: &[u8]) -> Result<(), AllocError>
 }
 
 /// Writes each line's number of tents, with ',' before it.
+#[tactic(auto, using(crate::proofs::TentsWritten::turns))]
 fn push_counts(out: &mut String, counts: &[u8]) -> Result<(), AllocError>
     ensures { OnOk result (string_bytes out.new
         ≡ string_bytes out.old ++ flat_map (λ n. 44 ∷ decimal n) counts.now) }
@@ -65,10 +67,19 @@ fn push_counts(out: &mut String, counts: &[u8]) -> Result<(), AllocError>
     Ok(())
 }
 
-/// The written ID, and what is known of the puzzle.
-fn written(alloc: Global, puzzle: &TentsPuzzle) -> Result<String, AllocError>
+/// The one written ID of the puzzle, of at most `MAX_ID` bytes, which reads back to an equal
+/// puzzle. Both numbers of the size are written, no `z` stands before `_`, and no number has a
+/// leading zero.
+///
+/// # Errors
+///
+/// When memory was refused.
+#[tactic(auto, using(crate::proofs::TentsWritten::laws))]
+pub fn write_tents(alloc: Global, puzzle: &TentsPuzzle) -> Result<String, AllocError>
     ensures text { IfOk result (λ text. string_bytes text ≡ tents_text puzzle.now) }
-    ensures lawful { IsTents puzzle.now }
+    ensures form { IfOk result (λ text. IsWrittenTents (string_bytes text) puzzle.now) }
+    ensures read_again { IfOk result (λ text. SpellsTents (string_bytes text) puzzle.now) }
+    ensures short { IfOk result (λ text. length (string_bytes text) ≤ max_id) }
 {
     let size = puzzle.size();
     let mut out = String::new(alloc);
@@ -79,25 +90,9 @@ fn written(alloc: Global, puzzle: &TentsPuzzle) -> Result<String, AllocError>
     Ok(out)
 }
 
-/// The one written ID of the puzzle, of at most `MAX_ID` bytes, which reads back to an equal
-/// puzzle. Both numbers of the size are written, no `z` stands before `_`, and no number has a
-/// leading zero.
-///
-/// # Errors
-///
-/// When memory was refused.
-#[tactic(auto, using(crate::proofs::TentsWritten::tents_is_written, crate::proofs::TentsWritten::tents_short))]
-pub fn write_tents(alloc: Global, puzzle: &TentsPuzzle) -> Result<String, AllocError>
-    ensures text { IfOk result (λ text. string_bytes text ≡ tents_text puzzle.now) }
-    ensures form { IfOk result (λ text. IsWrittenTents (string_bytes text) puzzle.now) }
-    ensures read_again { IfOk result (λ text. SpellsTents (string_bytes text) puzzle.now) }
-    ensures short { IfOk result (λ text. length (string_bytes text) ≤ max_id) }
-{
-    written(alloc, puzzle)
-}
-
 /// Each puzzle of Tents has exactly one written text: the one that spells it with both numbers of
 /// the size, no `z` directly before `_`, and no leading zeros.
+#[tactic(auto, using(crate::proofs::TentsWritten::tents_one_text))]
 pub fn one_written_text_of_tents()
     ensures { HasOneText IsTents IsWrittenTents tents_text }
 {}

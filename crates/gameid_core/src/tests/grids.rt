@@ -32,6 +32,10 @@ fn printed_of(alloc: Global, game: Game, id: &str, text: &str) -> Result<Option<
 #[test]
 fn grids_are_read_and_printed(rt: HostRuntime) -> Result<(), Fail> {
     let solo = "2x2:1b4i3_2a";
+    let whole = "1 2 3 4\n3 4 1 2\n2 1 4 3\n4 3 2 1";
+    let ended = "1 2 3 4\n3 4 1 2\n2 1 4 3\n4 3 2 1\n";
+    let five = "1 2 3 5\n3 4 1 2\n2 1 4 3\n4 3 2 1\n";
+    let zero = "1 2 03 4\n3 4 1 2\n2 1 4 3\n4 3 2 1\n";
     let lights = "3x3:aBBa1aBb";
     let tents = "3x3:aaaaa,2,0,2,2,0,2";
     for (game, id, text, want) in [
@@ -40,24 +44,9 @@ fn grids_are_read_and_printed(rt: HostRuntime) -> Result<(), Fail> {
         (Game::Pattern, "2x1:1//1", "#", "none"),
         (Game::Pattern, "2x1:1//1", "#.\n#.\n", "none"),
         (Game::Pattern, "2x1:1//1", "#.\n\n", "none"),
-        (
-            Game::Solo,
-            solo,
-            "1 2 3 4\n3 4 1 2\n2 1 4 3\n4 3 2 1",
-            "1 2 3 4\n3 4 1 2\n2 1 4 3\n4 3 2 1\n",
-        ),
-        (
-            Game::Solo,
-            solo,
-            "1 2 3 5\n3 4 1 2\n2 1 4 3\n4 3 2 1\n",
-            "none",
-        ),
-        (
-            Game::Solo,
-            solo,
-            "1 2 03 4\n3 4 1 2\n2 1 4 3\n4 3 2 1\n",
-            "none",
-        ),
+        (Game::Solo, solo, whole, ended),
+        (Game::Solo, solo, five, "none"),
+        (Game::Solo, solo, zero, "none"),
         (Game::LightUp, lights, ".##\nO1.\n#.O", ".##\nO1.\n#.O\n"),
         (Game::LightUp, lights, ".##\nO2.\n#.O", "none"),
         (Game::Tents, tents, "^T^\nT.T\n^T^", "^T^\nT.T\n^T^\n"),

@@ -68,37 +68,21 @@ fn answer_of(letter: u8, len: usize) -> Option<IdFault> {
 
 #[test]
 fn cut_ids(rt: HostRuntime) -> Result<(), Fail> {
+    let sixteen = "2x2:1_2_3_4_3_4_1_2_2_1_4_3_4_3_2_1";
+    let (y, z) = ("5x5:y,0,0,0,0,0,0,0,0,0,0", "5x5:z_,0,0,0,0,0,0,0,0,0,0");
+    let za = "13x2:za,0,0,0,0,0,0,0,0,0,0,0,0,0,0,0";
+    let over = "4x6:z,0,0,0,0,0,0,0,0,0,0";
     for (game, text, answers) in [
         (Game::Pattern, "5x1:1/1//1/1/2.2", "ccccfffffffff..b."),
-        (
-            Game::Solo,
-            "2x2:1_2_3_4_3_4_1_2_2_1_4_3_4_3_2_1",
-            "ccccfffffffffffffffffffffffffffffff.",
-        ),
+        (Game::Solo, sixteen, "ccccfffffffffffffffffffffffffffffff."),
         (Game::Solo, "2x2x:1_2_3_4l", "cccccffffffff."),
         (Game::LightUp, "2x2:2c", "ccccff."),
         (Game::LightUp, "2x2:Bc", "ccccff."),
         (Game::LightUp, "2x2:1c", "ccccff."),
-        (
-            Game::Tents,
-            "5x5:y,0,0,0,0,0,0,0,0,0,0",
-            "ccccffbfbfbfbfbfbfbfbfbfb.",
-        ),
-        (
-            Game::Tents,
-            "5x5:z_,0,0,0,0,0,0,0,0,0,0",
-            "ccccfffbfbfbfbfbfbfbfbfbfb.",
-        ),
-        (
-            Game::Tents,
-            "13x2:za,0,0,0,0,0,0,0,0,0,0,0,0,0,0,0",
-            "cccccfffbfbfbfbfbfbfbfbfbfbfbfbfbfbfb.",
-        ),
-        (
-            Game::Tents,
-            "4x6:z,0,0,0,0,0,0,0,0,0,0",
-            "ccccfmmmmmmmmmmmmmmmmmmmmm",
-        ),
+        (Game::Tents, y, "ccccffbfbfbfbfbfbfbfbfbfb."),
+        (Game::Tents, z, "ccccfffbfbfbfbfbfbfbfbfbfb."),
+        (Game::Tents, za, "cccccfffbfbfbfbfbfbfbfbfbfbfbfbfbfbfb."),
+        (Game::Tents, over, "ccccfmmmmmmmmmmmmmmmmmmmmm"),
     ] {
         let text = text.as_bytes();
         assert_eq!(rt; answers.len(), text.len() + 1);
@@ -113,6 +97,9 @@ fn cut_ids(rt: HostRuntime) -> Result<(), Fail> {
 
 #[test]
 fn read_and_written(rt: HostRuntime) -> Result<(), Fail> {
+    let (y, z) = ("5x5:y,0,0,0,0,0,0,0,0,0,0", "5x5:z_,0,0,0,0,0,0,0,0,0,0");
+    let (zeros, five) = ("5:y,00,0,0,0,0,0,0,0,0,05", "5x5:y,0,0,0,0,0,0,0,0,0,5");
+    let za = "13x2:za,0,0,0,0,0,0,0,0,0,0,0,0,0,0,13";
     for (game, text, want) in [
         (Game::Solo, "2:p", "2x2:p"),
         (Game::Solo, "2x2:__p_", "2x2:p"),
@@ -131,26 +118,10 @@ fn read_and_written(rt: HostRuntime) -> Result<(), Fail> {
         (Game::LightUp, "4x7:azB", "4x7:zaB"),
         (Game::LightUp, "3x3:aBBa1aBb", "3x3:aBBa1aBb"),
         (Game::Tents, "2x2:_c,0,1,1,0", "2x2:_c,0,1,1,0"),
-        (
-            Game::Tents,
-            "5x5:y,0,0,0,0,0,0,0,0,0,0",
-            "5x5:y,0,0,0,0,0,0,0,0,0,0",
-        ),
-        (
-            Game::Tents,
-            "5x5:z_,0,0,0,0,0,0,0,0,0,0",
-            "5x5:y,0,0,0,0,0,0,0,0,0,0",
-        ),
-        (
-            Game::Tents,
-            "5:y,00,0,0,0,0,0,0,0,0,05",
-            "5x5:y,0,0,0,0,0,0,0,0,0,5",
-        ),
-        (
-            Game::Tents,
-            "13x2:za,0,0,0,0,0,0,0,0,0,0,0,0,0,0,13",
-            "13x2:za,0,0,0,0,0,0,0,0,0,0,0,0,0,0,13",
-        ),
+        (Game::Tents, y, y),
+        (Game::Tents, z, y),
+        (Game::Tents, zeros, five),
+        (Game::Tents, za, za),
     ] {
         let written = written_again(rt.alloc(), game, text.as_bytes())?;
         assert_eq!(rt; written.as_str(), want, "{game:?} {text}");
