@@ -1,12 +1,17 @@
 -- Boards that differ in one cell alone.
-use Rattle.std.proofs.Common.{◌≡◌, ℕ, ◌+◌, ◌<◌, length, slice_index, true, sym, ◌∙◌, subst, arith}
+use Rattle.std.proofs.Common.{◌≡◌, ℕ, ◌^◌, ◌<◌, ◌≤◌, Bool, true, not, ◌&&◌, eqb, sym, ap, ◌∙◌, arith}
+use Rattle.std.proofs.Math.Path.{fun_ext}
+use Rattle.std.proofs.lemmas.Bool.{cases_eq, eq-eqb, eqb-true, ne_eqb}
+use Rattle.std.proofs.lemmas.Nat.{pow_below}
 use Rattle.grid_core.specs.Board.{Layout, has, SameShape}
-use Rattle.grid_core.specs.Candidates.{Candidates, IsInside, IsWithin, only}
+use Rattle.grid_core.specs.Candidates.{Candidates, IsInside, only, count_below}
 use Rattle.grid_core.proofs.BoardLemmas.{has-within}
-use Rattle.engine_core.specs.Puzzle.{Puzzle, IsLawful, IsBoardOf}
-use Rattle.engine_core.specs.PlaceLaws.{has_place-here}
-use Rattle.engine_core.specs.Sets.{IsBitsOf, IsChange}
-use Rattle.engine_core.proofs.ScopeLemmas.{cell_noted, scope_upto, scope-before, scope-more, cell-noted-same}
+use Rattle.grid_core.proofs.CandidateLemmas.{count_below-few}
+use Rattle.engine_core.specs.Puzzle.{Puzzle, IsBoardOf}
+use Rattle.engine_core.specs.Sets.{has_bit, IsBitsOf, IsChange}
+use Rattle.engine_core.specs.Trail.{left_by}
+use Rattle.engine_core.proofs.BitLemmas.{bits-of_power}
+use Rattle.engine_core.proofs.QueueLemmas.{within_of}
 use Rattle.std.proofs.lemmas.Grind.{common_steps}
 
 -- by the bits that boards give for a cell
@@ -14,32 +19,38 @@ pub change-of : (p : Puzzle) (b b' : Layout) (place before after : ℕ) → IsBo
     → ((c v : ℕ) → (c ≡ place → ⊥) → has b' c v ≡ has b c v) → IsChange p.cells p.values (has b) (has b') place before after
 change-of p b b' place before after of shape lt was is others = grind (arith, common_steps, has-within)
 
-pub kept-others : (K K' : Candidates) (place value c v : ℕ) → K' ≡ only K place value → (c ≡ place → ⊥) → K' c v ≡ K c v
-unfolding only
-kept-others K K' place value c v e ne = grind (arith, common_steps)
+-- ---- a cell of which less is left
+pub left-inside : (K : Candidates) (place bits : ℕ) → IsInside (left_by K place bits) K
+unfolding left_by
+left-inside K place bits = grind (arith, common_steps)
 
--- a cell that has the values of another board in place of its own
-pub noted-change : (p : Puzzle) (V K' : Candidates) (place before after : ℕ) → place < p.cells → IsBitsOf (V place) p.values before → IsBitsOf (K' place) p.values after
-    → ((v : ℕ) → K' place v ≡ true → V place v ≡ true) → ((v : ℕ) → K' place v ≡ true → v < p.values) → IsChange p.cells p.values V (cell_noted V place K') place before after
-unfolding cell_noted
-noted-change p V K' place before after lt was is inside within = grind (arith, common_steps)
+-- what `retain` says of it
+pub left-is : (K L : Candidates) (place bits : ℕ) → ((c v : ℕ) → L c v ≡ (K c v && not (eqb place c && not (has_bit bits v)))) → L ≡ left_by K place bits
+unfolding left_by
+left-is K L place bits is = fun_ext λ c. fun_ext λ v. is c v
 
--- the same for the cell at the number k of a house, after a visit
-pub scope-change : (p : Puzzle) (laws : IsLawful p) (h k : ℕ) (K K' : Candidates) (before after : ℕ) → h < p.houses → k < length (p.scope h) → IsWithin p.cells p.values K
-    → IsBitsOf (K (slice_index (p.scope h) k)) p.values before → IsBitsOf (K' (slice_index (p.scope h) k)) p.values after → IsInside K' K
-    → IsChange p.cells p.values (scope_upto p h K K' k) (scope_upto p h K K' (k + 1)) (slice_index (p.scope h) k) before after
-scope-change p laws h k K K' before after lth lt within was is inside =
-    subst (λ (L : Candidates). IsChange p.cells p.values (scope_upto p h K K' k) L (slice_index (p.scope h) k) before after) (scope-more p laws h k K K' lth lt)
-    (noted-change p (scope_upto p h K K' k) K' (slice_index (p.scope h) k) before after (laws.scope_within h _ lth (has_place-here (p.scope h) k lt))
-    (record { small = was.small; same = λ v ltv. was.same v ltv ∙ sym (scope-before p laws h k K K' v lth lt) }) is
-    (λ v on. scope-before p laws h k K K' v lth lt ∙ inside _ v on) (λ v on. (within _ v (inside _ v on)).1))
+pub left-others : (K : Candidates) (place bits c v : ℕ) → (c ≡ place → ⊥) → left_by K place bits c v ≡ K c v
+unfolding left_by
+left-others K place bits c v ne = grind (arith, common_steps)
 
--- a cell that lost nothing
-pub scope-unchanged : (p : Puzzle) (laws : IsLawful p) (h k : ℕ) (K K' : Candidates) (bits : ℕ) → h < p.houses → k < length (p.scope h) → IsWithin p.cells p.values K
-    → IsBitsOf (K (slice_index (p.scope h) k)) p.values bits → IsBitsOf (K' (slice_index (p.scope h) k)) p.values bits → scope_upto p h K K' k ≡ scope_upto p h K K' (k + 1)
-scope-unchanged p laws h k K K' bits lth lt within was is =
-    cell-noted-same (scope_upto p h K K' k) (slice_index (p.scope h) k) K' (λ v on.
-    let old = sym (scope-before p laws h k K K' v lth lt) ∙ on in
-    let ltv = (within _ v old).1 in
-    sym (is.same v ltv) ∙ (was.same v ltv ∙ old))
-    ∙ scope-more p laws h k K K' lth lt
+pub left-change : (p : Puzzle) (b b' : Layout) (place before left : ℕ) → IsBoardOf p b → place < p.cells → IsBitsOf (has b place) p.values before
+    → IsBitsOf (left_by (has b) place left place) p.values left → has b' ≡ left_by (has b) place left → IsChange p.cells p.values (has b) (has b') place before left
+left-change p b b' place before left of lt was is e = record {
+  place_in = lt;
+  before_is = was;
+  after_is = rw e is;
+  within = λ v on. (within_of p b of place v (left-inside (has b) place left place v (sym (ap (λ (L : Candidates). L place v) e) ∙ on))).1;
+  others = λ c v ne. ap (λ (L : Candidates). L c v) e ∙ left-others (has b) place left c v ne;
+}
+
+-- ---- one value alone is left
+pub left-only : (K : Candidates) (place value : ℕ) → left_by K place (2 ^ value) ≡ only K place value
+unfolding left_by only
+left-only K place value = grind (arith, common_steps, bits-of_power, cases_eq, eq-eqb, ne_eqb)
+
+pub only-bits : (K : Candidates) (place value n : ℕ) → K place value ≡ true → value < n → IsBitsOf (left_by K place (2 ^ value) place) n (2 ^ value)
+unfolding left_by
+only-bits K place value n on lt = grind (arith, common_steps, bits-of_power, cases_eq, eq-eqb, ne_eqb, pow_below)
+
+pub only-other : (set : ℕ → Bool) (value n before : ℕ) → IsBitsOf set n before → 2 ≤ count_below set n → 2 ^ value ≡ before → ⊥
+only-other set value n before was several e = grind (arith, common_steps, bits-of_power, count_below-few, eqb-true)

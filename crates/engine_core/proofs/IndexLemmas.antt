@@ -1,14 +1,14 @@
 -- Laws of the list of houses place by place.
-use Rattle.std.proofs.Common.{add-one, ◌≡◌, ℕ, zero, suc, ◌+◌, ◌-◌, ◌<◌, ◌≤◌, Bool, true, false, cond, eqb, List, [], ◌∷◌, ◌++◌, length, set, slice_index, take, Option, Some, None, refl, sym, ap, ◌∙◌, ◌||◌, inl, inr, arith}
+use Rattle.std.proofs.Common.{add-one, ◌≡◌, ℕ, zero, suc, ◌+◌, ◌-◌, ◌<◌, ◌≤◌, max, Bool, true, false, cond, eqb, List, [], ◌∷◌, ◌++◌, length, set, slice_index, take, Option, Some, None, refl, sym, ap, ◌∙◌, ◌||◌, inl, inr, arith}
 use Rattle.std.specs.Prelude.{sum_by}
 use Rattle.std.specs.List.{between}
-use Rattle.std.proofs.lemmas.Bool.{cases_eq, cases_lt, cases_Bool, true≢false, false_from_ne_true, or_right, eq-eqb, ne_eqb}
+use Rattle.std.proofs.lemmas.Bool.{cases_eq, cases_lt, cases_Bool, true≢false, false_from_ne_true, eqb-true, eq-eqb, ne_eqb}
 use Rattle.std.proofs.lemmas.List.{take_more, length-take-le, get_or-take, length-set, get_or-set_other}
 use Rattle.std.proofs.lemmas.List.Edits.{length-between, get_or-between}
 use Rattle.std.proofs.lemmas.List.Sums.{sum_by-cons}
-use Rattle.std.proofs.lemmas.Grind.{get_or-set_at}
+use Rattle.std.proofs.lemmas.Grind.{common_steps, get_or-set_at}
 use Rattle.grid_core.specs.Candidates.{count_below, sum_below}
-use Rattle.engine_core.specs.Puzzle.{has_place, IsNext}
+use Rattle.engine_core.specs.Puzzle.{has_place, longest, IsNext}
 use Rattle.engine_core.specs.PlaceLaws.{has_place-at, has_place-here}
 use Rattle.engine_core.specs.House.{AreDifferent}
 use Rattle.engine_core.specs.HousesLaws.{counted_twice, from_first}
@@ -17,11 +17,8 @@ use Rattle.engine_core.specs.HouseIndex.{scope_of, AreScopes, number_at, AreHous
 -- ---- sums and counts as they go on
 pub sum_below-more : (f : ℕ → ℕ) (m n : ℕ) → m ≤ n → sum_below f m ≤ sum_below f n
 unfolding sum_below
-sum_below-more f m zero le = let e : m ≡ 0 = omega arith in rw e (omega arith)
-sum_below-more f m (suc n) le = elim (cases_lt m (suc n)) [
-  | inl low ↦ let rest = sum_below-more f m n (omega arith) in omega arith
-  | inr high ↦ let e : m ≡ suc n = omega arith in rw e (omega arith)
-]
+sum_below-more f m zero le = grind arith
+sum_below-more f m (suc n) le = grind (arith, cases_eq m (suc n), sum_below-more f m n)
 
 sum_below-same : (f g : ℕ → ℕ) (n : ℕ) → ((k : ℕ) → k < n → f k ≡ g k) → sum_below f n ≡ sum_below g n
 unfolding sum_below
@@ -30,19 +27,13 @@ sum_below-same f g (suc n) same = rw (sum_below-same f g n (λ k lt. same k (ome
 
 pub count_below-more : (p : ℕ → Bool) (m n : ℕ) → m ≤ n → count_below p m ≤ count_below p n
 unfolding count_below
-count_below-more p m zero le = let e : m ≡ 0 = omega arith in rw e (omega arith)
-count_below-more p m (suc n) le = elim (cases_lt m (suc n)) [
-  | inl low ↦ let rest = count_below-more p m n (omega arith) in omega arith
-  | inr high ↦ let e : m ≡ suc n = omega arith in rw e (omega arith)
-]
+count_below-more p m zero le = grind arith
+count_below-more p m (suc n) le = grind (arith, cases_eq m (suc n), count_below-more p m n)
 
 -- one that passes counts for those after it
 pub counted : (p : ℕ → Bool) (k n : ℕ) → k < n → p k ≡ true → count_below p k < count_below p n
 unfolding count_below
-counted p k n lt on =
-    let more = count_below-more p (suc k) n (omega arith) in
-    let here : ◌≡◌ {A = ℕ} (cond (p k) 1 0) 1 = rw on refl in
-    omega arith
+counted p k n lt on = grind (arith, common_steps, count_below-more p (suc k) n)
 
 -- each number below the count is that of one that passes
 pub numbered : (p : ℕ → Bool) (n r : ℕ) → r < count_below p n → (k : ℕ) × (k < n) × (p k ≡ true) × (count_below p k ≡ r)
@@ -57,79 +48,53 @@ numbered p (suc n) r lt = elim (cases_lt r (count_below p n)) [
 ]
 
 -- ---- one place more of a house
-or_off : (a b : Bool) → b ≡ false → (a || b) ≡ a
-or_off true b e = refl
-or_off false b e = e
-
 has_place-last : (xs : List ℕ) (y c : ℕ) → has_place (xs ++ y ∷ []) c ≡ (has_place xs c || eqb y c)
 unfolding has_place
-has_place-last [] y c = or_off (eqb y c) false refl
-has_place-last (x ∷ xs) y c = regroup (eqb x c) _ _ _ (has_place-last xs y c)
-  where
-    regroup : (a b d e : Bool) → b ≡ (d || e) → (a || b) ≡ ((a || d) || e)
-    regroup true b d e h = refl
-    regroup false b d e h = h
+has_place-last [] y c = grind (arith, common_steps)
+has_place-last (x ∷ xs) y c = grind (arith, common_steps, has_place-last xs y c)
 
 module _ (places : List ℕ) (k : ℕ) (lt : k < length places) where
   taken-last : (c : ℕ) → has_place (take (k + 1) places) c ≡ (has_place (take k places) c || eqb (slice_index places k) c)
   taken-last c = ap (λ xs. has_place xs c) (take_more places k 0 lt) ∙ has_place-last (take k places) (slice_index places k) c
 
   pub taken-here : (c : ℕ) → c ≡ slice_index places k → has_place (take (k + 1) places) c ≡ true
-  taken-here c is = taken-last c ∙ or_right (has_place (take k places) c) (eqb (slice_index places k) c) (eq-eqb (slice_index places k) c (sym is))
+  taken-here c is = grind (arith, common_steps, taken-last c, eq-eqb)
 
   pub taken-other : (c : ℕ) → (c ≡ slice_index places k → ⊥) → has_place (take (k + 1) places) c ≡ has_place (take k places) c
-  taken-other c other = taken-last c ∙ or_off (has_place (take k places) c) (eqb (slice_index places k) c) (ne_eqb (slice_index places k) c (λ e. other (sym e)))
+  taken-other c other = grind (arith, common_steps, taken-last c, ne_eqb)
+
+  -- one of the first k places is one of the places, and not the next
+  taken-at : (c : ℕ) → has_place (take k places) c ≡ true → (j : ℕ) × (j < k) × (slice_index places j ≡ c)
+  taken-at c on =
+      let w = has_place-at (take k places) c on in
+      let below : w.0 < k = omega (arith, w.1, length-take-le k places (omega arith)) in
+      (w.0, below, sym (get_or-take k places w.0 0 below) ∙ w.2)
+
+  pub taken-in : (c : ℕ) → has_place (take k places) c ≡ true → has_place places c ≡ true
+  taken-in c on = grind (arith, common_steps, taken-at c, has_place-here)
 
   pub not_taken : AreDifferent places → (c : ℕ) → c ≡ slice_index places k → has_place (take k places) c ≡ false
-  not_taken different c is = rw is (false_from_ne_true _ (λ on.
-      let w = has_place-at (take k places) (slice_index places k) on in
-      let below : w.0 < k = let l = w.1 in let t = length-take-le k places (omega arith) in omega arith in
-      let same = different w.0 k (omega arith) lt (sym (get_or-take k places w.0 0 below) ∙ w.2) in
-      absurd (omega arith)))
-
-  -- one of the first k places is one of the places
-  pub taken-in : (c : ℕ) → has_place (take k places) c ≡ true → has_place places c ≡ true
-  taken-in c on =
-      let w = has_place-at (take k places) c on in
-      let below : w.0 < k = let l = w.1 in let t = length-take-le k places (omega arith) in omega arith in
-      rw (sym (get_or-take k places w.0 0 below) ∙ w.2) at (has_place-here places w.0 (omega arith))
+  not_taken different c is = grind (arith, common_steps, taken-at c, different, cases_Bool (has_place (take k places) c))
 
 -- the count of a place goes up where it is the k-th
 pub counted-more : (places : List ℕ) (k : ℕ) → AreDifferent places → k < length places → (counts old : List ℕ)
     → ((c : ℕ) → c < length counts → slice_index counts c ≡ slice_index old c + cond (has_place (take k places) c) 1 0)
     → (c : ℕ) → c < length counts
     → slice_index (set counts (slice_index places k) (slice_index counts (slice_index places k) + 1)) c ≡ slice_index old c + cond (has_place (take (k + 1) places) c) 1 0
-counted-more places k different lt counts old before c lc = elim (cases_eq c (slice_index places k)) [
-  | inl here ↦
-      let was : slice_index counts (slice_index places k) ≡ slice_index old (slice_index places k) + 0 = rw (← here) (before c lc ∙ ap (λ b. slice_index old c + cond b 1 0) (not_taken places k lt different c here)) in
-      get_or-set_at counts (slice_index places k) c _ 0 here (rw (← here) lc)
-      ∙ (let e : slice_index counts (slice_index places k) + 1 ≡ slice_index old (slice_index places k) + 1 = omega arith in e)
-      ∙ ap (λ d. slice_index old d + 1) (sym here) ∙ ap (λ b. slice_index old c + cond b 1 0) (sym (taken-here places k lt c here))
-  | inr other ↦ get_or-set_other counts (slice_index places k) c _ 0 other ∙ before c lc ∙ ap (λ b. slice_index old c + cond b 1 0) (sym (taken-other places k lt c other))
-]
+counted-more places k different lt counts old before c lc = grind (arith, common_steps, cases_eq c (slice_index places k), before c lc, not_taken places k lt different c, taken-here places k lt c, taken-other places k lt c)
 
 -- ---- the houses of all places are no more than the places of all houses
 lengths_sum : (scopes : List (List ℕ)) → sum_below (λ h. length (scope_of scopes h)) (length scopes) ≡ sum_by length scopes
 unfolding sum_below
 lengths_sum [] = refl
-lengths_sum (places ∷ scopes) =
-    let rest = lengths_sum scopes in
-    let shift = from_first (λ h. length (scope_of (places ∷ scopes) h)) (length scopes) in
-    let cons = sum_by-cons (length {A = ℕ}) places scopes in
-    omega arith
+lengths_sum (places ∷ scopes) = omega (arith, lengths_sum scopes, from_first (λ h. length (scope_of (places ∷ scopes) h)) (length scopes), sum_by-cons (length {A = ℕ}) places scopes)
 
 pub houses_of_places : (scopes : List (List ℕ)) (slots : ℕ) → start_at scopes slots ≤ sum_by length scopes
-houses_of_places scopes slots =
-    let twice = counted_twice (scope_of scopes) (length scopes) slots in
-    let all = lengths_sum scopes in
-    omega arith
+houses_of_places scopes slots = omega (arith, counted_twice (scope_of scopes) (length scopes) slots, lengths_sum scopes)
 
 -- ---- the ends, before a house is put
 pub scopes-wider : (cells slots : ℕ) (scopes : List (List ℕ)) → cells ≤ slots → AreScopes cells scopes → AreScopes slots scopes
-scopes-wider cells slots scopes le are h lt = record {
-  within = λ k lk. let low = (are h lt).within k lk in omega arith;
-  different = (are h lt).different;
-}
+scopes-wider cells slots scopes le are h lt = record { within = λ k lk. omega (arith, (are h lt).within k lk); different = (are h lt).different }
 
 pub counts_same : (scopes : List (List ℕ)) (counts : List ℕ) → ((c : ℕ) → c < length counts → slice_index counts c ≡ number_at scopes (length scopes) c)
     → (n : ℕ) → n ≤ length counts → sum_below (slice_index counts) n ≡ start_at scopes n
@@ -139,12 +104,7 @@ pub index-none : (scopes : List (List ℕ)) (slots : ℕ) (ends houses : List �
     → ((c : ℕ) → c < slots → slice_index ends c ≡ start_at scopes (suc c)) → length houses ≡ start_at scopes slots
     → IsIndex slots scopes (length scopes) ends houses
 unfolding sum_below
-index-none scopes slots ends houses as_many each long = record {
-  as_many = as_many;
-  begins = each;
-  long = long;
-  there = λ place h lp from lh on. absurd (omega arith);
-}
+index-none scopes slots ends houses as_many each long = record { as_many = as_many; begins = each; long = long; there = λ place h lp from lh on. absurd (omega arith) }
 
 -- the numbers before `place` are summed up
 pub record IsSummed (old : List ℕ) (place : ℕ) (counts : List ℕ) (sum : ℕ) : Type 0 where
@@ -155,23 +115,15 @@ pub record IsSummed (old : List ℕ) (place : ℕ) (counts : List ℕ) (sum : �
 
 pub summed-none : (old : List ℕ) → IsSummed old 0 old 0
 unfolding sum_below
-summed-none old = record { as_many = refl; sum_is = refl; done = λ c lt. absurd (omega arith); left = λ c _. refl }
+summed-none old = grind (arith, common_steps)
 
 module _ (old : List ℕ) (place : ℕ) (counts : List ℕ) (sum : ℕ) (lt : place < length old) (was : IsSummed old place counts sum) where
   pub summed-sum : sum + slice_index counts place ≡ sum_below (slice_index old) (suc place)
   unfolding sum_below
-  summed-sum = let s = was.sum_is in let l = was.left place (omega arith) in omega arith
+  summed-sum = omega (arith, was.sum_is, was.left place (omega arith))
 
   pub summed-more : IsSummed old (place + 1) (set counts place (sum + slice_index counts place)) (sum + slice_index counts place)
-  summed-more = record {
-    as_many = length-set counts place _ ∙ was.as_many;
-    sum_is = rw add-one summed-sum;
-    done = λ c below. elim (cases_eq c place) [
-      | inl is ↦ get_or-set_at counts place c _ 0 is (let e = was.as_many in omega arith) ∙ summed-sum ∙ ap (λ n. sum_below (slice_index old) (suc n)) (sym is)
-      | inr other ↦ get_or-set_other counts place c _ 0 other ∙ was.done c (omega arith)
-    ];
-    left = λ c le. get_or-set_other counts place c _ 0 (λ e. absurd (omega arith)) ∙ was.left c (omega arith);
-  }
+  summed-more = grind (arith, common_steps, add-one, summed-sum, cases_eq)
 
 -- a house more
 pub number_at-more : (scopes : List (List ℕ)) (h c : ℕ) → number_at scopes (h + 1) c ≡ number_at scopes h c + cond (has_place (scope_of scopes h) c) 1 0
@@ -181,13 +133,7 @@ number_at-more scopes h c = rw add-one refl
 -- ---- the rooms of different places are different
 slot-apart : (f : ℕ → ℕ) (c d r s : ℕ) → r < f c → s < f d → sum_below f c + r ≡ sum_below f d + s → c ≡ d
 unfolding sum_below
-slot-apart f c d r s lr ls e = elim (cases_lt c d) [
-  | inl low ↦ let m = sum_below-more f (suc c) d low in absurd (omega arith)
-  | inr not_low ↦ elim (cases_lt d c) [
-    | inl high ↦ let m = sum_below-more f (suc d) c high in absurd (omega arith)
-    | inr not_high ↦ omega arith
-  ]
-]
+slot-apart f c d r s lr ls e = grind (arith, sum_below-more f (suc c) d, sum_below-more f (suc d) c)
 
 module _ (slots : ℕ) (scopes : List (List ℕ)) (are : AreScopes slots scopes) (house : ℕ) (lt : house < length scopes) where
   abbrev holds : ℕ → ℕ → Bool
@@ -199,30 +145,21 @@ module _ (slots : ℕ) (scopes : List (List ℕ)) (are : AreScopes slots scopes)
   -- a house more at a place that it has
   one_more : (c : ℕ) → has_place (scope_of scopes house) c ≡ true → number_at scopes (suc house) c ≡ suc (number_at scopes house c)
   unfolding count_below
-  one_more c on = let here : ◌≡◌ {A = ℕ} (cond (has_place (scope_of scopes house) c) 1 0) 1 = rw on refl in omega arith
+  one_more c on = grind (arith, common_steps)
 
   none_more : (c : ℕ) → has_place (scope_of scopes house) c ≡ false → number_at scopes (suc house) c ≡ number_at scopes house c
   unfolding count_below
-  none_more c off = let here : ◌≡◌ {A = ℕ} (cond (has_place (scope_of scopes house) c) 1 0) 0 = rw off refl in omega arith
+  none_more c off = grind (arith, common_steps)
 
   module _ (starts houses : List ℕ) (index : IsIndex slots scopes (suc house) starts houses) where
     pub index-room : IsRoom starts (length houses) (scope_of scopes house)
     unfolding sum_below
     index-room = record {
-      some = λ c on. let b = index.begins c (within c on) in let m = one_more c on in omega arith;
-      within = λ c on.
-          let b = index.begins c (within c on) in
-          let few = count_below-more (holds c) (suc house) (length scopes) lt in
-          let next = sum_below-more (number_at scopes (length scopes)) (suc c) slots (within c on) in
-          let long = index.long in
-          omega arith;
-      apart = λ c d on_c on_d e.
-          let b = index.begins c (within c on_c) in
-          let m = one_more c on_c in
-          let b' = index.begins d (within d on_d) in
-          let m' = one_more d on_d in
-          slot-apart (number_at scopes (length scopes)) c d (number_at scopes house c) (number_at scopes house d)
-          (counted (holds c) house (length scopes) lt on_c) (counted (holds d) house (length scopes) lt on_d) (omega arith);
+      some = λ c on. omega (arith, index.begins c (within c on), one_more c on);
+      within = λ c on. omega (arith, index.begins c (within c on), index.long, count_below-more (holds c) (suc house) (length scopes) lt, sum_below-more (number_at scopes (length scopes)) (suc c) slots (within c on));
+      apart = λ c d on_c on_d e. slot-apart (number_at scopes (length scopes)) c d (number_at scopes house c) (number_at scopes house d)
+          (counted (holds c) house (length scopes) lt on_c) (counted (holds d) house (length scopes) lt on_d)
+          (omega (arith, index.begins c (within c on_c), one_more c on_c, index.begins d (within d on_d), one_more d on_d));
     }
 
     pub index-turn : (starts' houses' : List ℕ) → IsPut house (scope_of scopes house) starts houses starts' houses' → IsIndex slots scopes house starts' houses'
@@ -257,14 +194,7 @@ module _ (slots : ℕ) (scopes : List (List ℕ)) (are : AreScopes slots scopes)
 -- ---- a house is put before those of one place more
 pub put-none : (house : ℕ) (starts houses : List ℕ) → IsPut house [] starts houses starts houses
 unfolding has_place
-put-none house starts houses = record {
-  as_many = refl;
-  long = refl;
-  off = λ c _. refl;
-  on = λ c e. absurd (true≢false (sym e));
-  put = λ c e. absurd (true≢false (sym e));
-  kept = λ i _. refl;
-}
+put-none house starts houses = grind (arith, common_steps)
 
 module _ (house : ℕ) (places : List ℕ) (k : ℕ) (lt : k < length places) (different : AreDifferent places) (starts houses starts' houses' : List ℕ)
     (place_in : slice_index places k < length starts) (room : IsRoom starts (length houses) places) (was : IsPut house (take k places) starts houses starts' houses') where
@@ -327,52 +257,30 @@ module _ (house : ℕ) (places : List ℕ) (k : ℕ) (lt : k < length places) (d
 module _ (slots : ℕ) (scopes : List (List ℕ)) (starts houses : List ℕ) (index : IsIndex slots scopes 0 starts houses) (c : ℕ) (lt : suc c < slots) where
   starts_here : slice_index starts c ≡ start_at scopes c
   unfolding count_below
-  starts_here = let b = index.begins c (omega arith) in omega arith
+  starts_here = omega (arith, index.begins c (omega arith))
 
   ends_here : slice_index starts (c + 1) ≡ start_at scopes c + number_at scopes (length scopes) c
   unfolding count_below sum_below
-  ends_here = let e : c + 1 ≡ suc c = omega arith in let b = index.begins (suc c) lt in rw e (omega arith)
+  ends_here = rw add-one (omega (arith, index.begins (suc c) lt))
 
   pub ascends : slice_index starts c ≤ slice_index starts (c + 1)
-  ascends = let a = starts_here in let b = ends_here in omega arith
+  ascends = omega (arith, starts_here, ends_here)
 
   pub ends_in : slice_index starts (c + 1) ≤ length houses
   unfolding sum_below
-  ends_in = let b = ends_here in let m = sum_below-more (number_at scopes (length scopes)) (suc c) slots (omega arith) in let l = index.long in omega arith
+  ends_in = omega (arith, ends_here, index.long, sum_below-more (number_at scopes (length scopes)) (suc c) slots (omega arith))
 
   pub houses-at : AreHousesAt scopes c (between (slice_index starts c) (slice_index starts (c + 1)) houses)
-  houses-at = record {
-    as_many = let a = starts_here in let b = ends_here in let l = length-between houses (slice_index starts c) (slice_index starts (c + 1)) ends_in in omega arith;
-    each = λ h lh on.
-        let a = starts_here in
-        let b = ends_here in
-        let low = counted (λ j. has_place (scope_of scopes j) c) h (length scopes) lh on in
-        get_or-between houses (slice_index starts c) (slice_index starts (c + 1)) (number_at scopes h c) 0 (omega arith)
-        ∙ ap (λ s. slice_index houses (s + number_at scopes h c)) a ∙ index.there c h (omega arith) (omega arith) lh on;
-  }
-
-pub next-at : (scopes : List (List ℕ)) (c from : ℕ) (houses : List ℕ) (answer : Option ℕ) → AreHousesAt scopes c houses → IsFirstFrom houses from answer
-    → IsNext (λ h. has_place (scope_of scopes h) c) (length scopes) from answer
-next-at scopes c from houses None at none = λ h late lt. false_from_ne_true (has_place (scope_of scopes h) c) (λ on.
-    let low = counted (λ j. has_place (scope_of scopes j) c) h (length scopes) lt on in
-    let early = none (number_at scopes h c) (let e = at.as_many in omega arith) in
-    let is = at.each h lt on in
-    absurd (omega arith))
-next-at scopes c from houses (Some h) at (k, lt, is, late, before) =
-    let w = numbered (λ j. has_place (scope_of scopes j) c) (length scopes) k (let e = at.as_many in omega arith) in
-    let same : w.0 ≡ h = sym (at.each w.0 w.1 w.2) ∙ ap (slice_index houses) w.3 ∙ is in
-    let lh : h < length scopes = rw same at w.1 in
-    let on : has_place (scope_of scopes h) c ≡ true = rw same at w.2 in
-    let number : number_at scopes h c ≡ k = rw same at w.3 in (
-      late,
-      lh,
-      on,
-      λ j m lj. false_from_ne_true (has_place (scope_of scopes j) c) (λ on_j.
-          let low = counted (λ i. has_place (scope_of scopes i) c) j h lj on_j in
-          let early = before (number_at scopes j c) (omega arith) in
-          let at_j = at.each j (omega arith) on_j in
-          absurd (omega arith)),
-    )
+  houses-at =
+      let a = starts_here in
+      let b = ends_here in
+      record {
+        as_many = omega (arith, length-between houses (slice_index starts c) (slice_index starts (c + 1)) ends_in);
+        each = λ h lh on.
+            let low = counted (λ j. has_place (scope_of scopes j) c) h (length scopes) lh on in
+            get_or-between houses (slice_index starts c) (slice_index starts (c + 1)) (number_at scopes h c) 0 (omega arith)
+            ∙ ap (λ s. slice_index houses (s + number_at scopes h c)) a ∙ index.there c h (omega arith) (omega arith) lh on;
+      }
 
 -- a house of the list has the place, and its number among these is its place in the list
 pub nth-at : (scopes : List (List ℕ)) (c k : ℕ) (houses : List ℕ) → AreHousesAt scopes c houses → k < length houses
@@ -381,3 +289,28 @@ nth-at scopes c k houses at lt =
     let w = numbered (λ j. has_place (scope_of scopes j) c) (length scopes) k (let e = at.as_many in omega arith) in
     let same : slice_index houses k ≡ w.0 = ap (slice_index houses) (sym w.3) ∙ at.each w.0 w.1 w.2 in
     rw same (w.1, w.2, w.3)
+
+pub next-at : (scopes : List (List ℕ)) (c from : ℕ) (houses : List ℕ) (answer : Option ℕ) → AreHousesAt scopes c houses → IsFirstFrom houses from answer
+    → IsNext (λ h. has_place (scope_of scopes h) c) (length scopes) from answer
+next-at scopes c from houses None at none = λ h late lt. grind (arith, common_steps, counted (λ j. has_place (scope_of scopes j) c) h (length scopes) lt, none (number_at scopes h c), at.each h lt, at.as_many)
+next-at scopes c from houses (Some h) at (k, lt, is, late, before) =
+    let w = rw is at (nth-at scopes c k houses at lt) in
+    (late, w.0, w.1, λ j m lj. grind (arith, common_steps, counted (λ i. has_place (scope_of scopes i) c) j h lj, before (number_at scopes j c), at.each j))
+
+-- ---- where loops begin
+pub has_place-none : (c : ℕ) → has_place [] c ≡ false
+unfolding has_place
+has_place-none c = refl
+
+pub number_at-none : (scopes : List (List ℕ)) (c : ℕ) → number_at scopes 0 c ≡ 0
+unfolding count_below
+number_at-none scopes c = refl
+
+-- the longest of one scope more
+pub longest-none : (scope : ℕ → List ℕ) → longest scope 0 ≡ 0
+unfolding longest
+longest-none scope = refl
+
+pub longest-more : (scope : ℕ → List ℕ) (n : ℕ) → longest scope (n + 1) ≡ max (longest scope n) (length (scope n))
+unfolding longest
+longest-more scope n = rw add-one refl

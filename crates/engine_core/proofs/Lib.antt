@@ -29,3 +29,4 @@ pub mod SearchingLemmas
 pub mod PieceLemmas
 pub mod IndexLemmas
 pub mod KthLemmas
+pub mod LawSets

@@ -1,113 +1,109 @@
 -- A search that is under way: which marks are left, and what was counted of those before.
-use Rattle.std.proofs.Common.{◌≡◌, ℕ, suc, ◌+◌, ◌-◌, ◌<◌, max, Bool, true, false, List, [], ◌∷◌, ◌++◌, Some, None, if◌then◌else◌, refl, ap, ◌∙◌, arith}
+use Rattle.std.proofs.Common.{◌≡◌, ℕ, suc, ◌+◌, ◌-◌, ◌<◌, ◌≤◌, max, Bool, true, false, List, [], ◌∷◌, ◌++◌, length, None, refl, sym, ap, ◌∙◌, arith, append_assoc}
 use Rattle.std.proofs.lemmas.Bool.{true≢false}
+use Rattle.std.proofs.lemmas.List.{length_push}
 use Rattle.grid_core.specs.Candidates.{Candidates}
 use Rattle.engine_core.specs.Puzzle.{Puzzle}
-use Rattle.engine_core.specs.Walk.{Mark, Mark.Trial}
+use Rattle.engine_core.specs.Search.{pending}
+use Rattle.engine_core.specs.Walk.{Mark, Mark.Trial, walk}
 use Rattle.engine_core.specs.Verdict.{Outcome.TwoGrids, Outcome.OutOfBudget, outcome, tried}
-use Rattle.engine_core.specs.Counts.{IsClosedIn}
-use Rattle.engine_core.specs.Frames.{found_marks, Says, IsSearched}
+use Rattle.engine_core.specs.Counts.{deepest_of, boards_of, IsTurns}
+use Rattle.engine_core.specs.Frames.{found_marks, found_of, levels_of, pending_of, walk_of, marks_of, marks_from, board_in, Says, IsTrial, CountsClosing, IsSearched, IsWalked, searched_at}
+use Rattle.engine_core.specs.declared.judge.Grids.{Grids}
+use Rattle.engine_core.specs.declared.levels.Levels.{Levels}
 use Rattle.engine_core.specs.declared.search.Progress.{Progress}
 use Rattle.engine_core.specs.declared.search.Searched.{Searched}
+use Rattle.engine_core.specs.declared.search.Verdict.{Verdict}
 use Rattle.engine_core.specs.declared.search.Verdict.TheVariants as verdict
-use Rattle.engine_core.proofs.CountLemmas.{IsCounted, counted-first, counted-more}
+use Rattle.engine_core.proofs.CountLemmas.{turns-push, boards-push, deepest-push}
 use Rattle.std.proofs.lemmas.Grind.{common_steps}
 
--- ---- a trial, after the grids found
-outcome-trial : (b : ℕ) (two one : Bool) (f g : List ℕ) (n : ℕ) (K : Candidates) (ms : List Mark) → two ≡ false
-    → outcome (suc b) None (found_marks two one f g ++ Trial n K ∷ ms) ≡ outcome b None (found_marks two one f g ++ ms)
-unfolding outcome
-outcome-trial b true one f g n K ms going = absurd (true≢false going)
-outcome-trial b false true f g n K ms going = refl
-outcome-trial b false false f g n K ms going = refl
+-- the marks that came and those that are still to come, after so many trials from one progress to another
+pub record IsSearching (p : Puzzle) (from : Progress) (all : List Mark) (trials : ℕ) (rest : List Mark) (at : Progress) : Type 0 where
+  pub answer : outcome from.budget None all ≡ outcome (from.budget - trials) None rest
+  pub sofar : List (ℕ × Candidates)
+  pub split : tried from.budget None all ≡ sofar ++ tried (from.budget - trials) None rest
+  pub count : length sofar ≡ trials
+  pub closed : IsTurns p (boards_of sofar) (at.turns - from.turns)
+  pub grows : from.turns ≤ at.turns
+  pub deep : at.deepest ≡ max from.deepest (deepest_of sofar)
 
-tried-trial : (b : ℕ) (two one : Bool) (f g : List ℕ) (n : ℕ) (K : Candidates) (ms : List Mark) → two ≡ false
-    → tried (suc b) None (found_marks two one f g ++ Trial n K ∷ ms) ≡ (n, K) ∷ tried b None (found_marks two one f g ++ ms)
-unfolding tried
-tried-trial b true one f g n K ms going = absurd (true≢false going)
-tried-trial b false true f g n K ms going = refl
-tried-trial b false false f g n K ms going = refl
+pub searching-first : (p : Puzzle) (from : Progress) (all : List Mark) → IsSearching p from all 0 all from
+unfolding deepest_of
+searching-first p from all =
+    let e : from.budget - 0 ≡ from.budget = omega arith in
+    record { answer = rw e refl; sofar = []; split = rw e refl; count = refl; closed = omega arith; grows = omega arith; deep = omega arith }
 
--- with no budget left
-outcome-out : (two one : Bool) (f g : List ℕ) (n : ℕ) (K : Candidates) (ms : List Mark) → two ≡ false → outcome 0 None (found_marks two one f g ++ Trial n K ∷ ms) ≡ OutOfBudget (if one then Some f else None)
-unfolding outcome
-outcome-out true one f g n K ms going = absurd (true≢false going)
-outcome-out false true f g n K ms going = refl
-outcome-out false false f g n K ms going = refl
-
-tried-out : (two one : Bool) (f g : List ℕ) (n : ℕ) (K : Candidates) (ms : List Mark) → two ≡ false → tried 0 None (found_marks two one f g ++ Trial n K ∷ ms) ≡ []
-unfolding tried
-tried-out true one f g n K ms going = absurd (true≢false going)
-tried-out false true f g n K ms going = refl
-tried-out false false f g n K ms going = refl
-
--- ---- from the marks `all` to the marks `rest`
-pub record IsSearching (p : Puzzle) (budget : ℕ) (all rest : List Mark) (trials from turns first deepest : ℕ) : Type 0 where
-  pub answer : outcome budget None all ≡ outcome (budget - trials) None rest
-  pub counted : IsCounted p (tried budget None all) (tried (budget - trials) None rest) trials from turns first deepest
-
-pub searching-first : (p : Puzzle) (budget : ℕ) (all : List Mark) (turns deepest : ℕ) → IsSearching p budget all all 0 turns turns deepest deepest
-searching-first p budget all turns deepest = grind (arith, common_steps, counted-first)
-
--- a trial is made
-pub searching-trial : (p : Puzzle) (budget : ℕ) (all rest : List Mark) (trials from turns turns' first deepest deepest' : ℕ) (two one : Bool) (f g : List ℕ) (n m : ℕ) (K : Candidates) (ms ms' rest' : List Mark)
-    → IsSearching p budget all rest trials from turns first deepest → rest ≡ found_marks two one f g ++ ms → ms ≡ Trial n K ∷ ms' → two ≡ false → trials < budget
-    → IsClosedIn p K m → turns' ≡ turns + m → deepest' ≡ max deepest n → found_marks two one f g ++ ms' ≡ rest'
-    → IsSearching p budget all rest' (trials + 1) from turns' first deepest'
-searching-trial p budget all rest trials from turns turns' first deepest deepest' two one f g n m K ms ms' rest' s is trial going less closed more deeper after =
-    let left : budget - trials ≡ suc (budget - (trials + 1)) = omega arith in
-    let here : rest ≡ found_marks two one f g ++ Trial n K ∷ ms' = is ∙ ap (λ xs. found_marks two one f g ++ xs) trial in
-    record {
-      answer = s.answer ∙ (ap (λ (b : ℕ). outcome b None rest) left ∙ (ap (outcome (suc (budget - (trials + 1))) None) here ∙
-          (outcome-trial (budget - (trials + 1)) two one f g n K ms' going ∙ ap (outcome (budget - (trials + 1)) None) after)));
-      counted = counted-more p _ _ _ n K trials from turns turns' first deepest deepest' m s.counted
-          (ap (λ (b : ℕ). tried b None rest) left ∙ (ap (tried (suc (budget - (trials + 1))) None) here ∙
-          (tried-trial (budget - (trials + 1)) two one f g n K ms' going ∙ ap (λ xs. (n, K) ∷ tried (budget - (trials + 1)) None xs) after)))
-          closed more deeper;
-    }
-
--- ---- how a search ends
-ended : (p : Puzzle) (budget : ℕ) (all rest : List Mark) (from : Progress) (result : Searched) (first second : List ℕ)
-    → IsSearching p budget all rest result.trials from.turns result.turns from.deepest result.deepest
-    → Says result.verdict first second (outcome (budget - result.trials) None rest) → tried (budget - result.trials) None rest ≡ [] → IsSearched p budget all from result first second
-ended p budget all rest from result first second s says none = grind (arith, common_steps)
-
--- a trial more than the budget allows
-pub ended-out : (p : Puzzle) (budget : ℕ) (all rest : List Mark) (from : Progress) (trials turns deepest : ℕ) (two one : Bool) (f g : List ℕ) (n : ℕ) (K : Candidates) (ms ms' : List Mark)
-    → IsSearching p budget all rest trials from.turns turns from.deepest deepest → rest ≡ found_marks two one f g ++ ms → ms ≡ Trial n K ∷ ms' → two ≡ false → trials ≡ budget
-    → IsSearched p budget all from (record { verdict = verdict.GaveUp one; trials = trials; turns = turns; deepest = deepest }) f g
-ended-out p budget all rest from trials turns deepest two one f g n K ms ms' s is trial going spent =
-    let left : budget - trials ≡ 0 = omega arith in
-    let here : rest ≡ found_marks two one f g ++ Trial n K ∷ ms' = is ∙ ap (λ xs. found_marks two one f g ++ xs) trial in
-    ended p budget all rest from (record { verdict = verdict.GaveUp one; trials = trials; turns = turns; deepest = deepest }) f g s
-    (ap (λ (b : ℕ). outcome b None rest) left ∙ (ap (outcome 0 None) here ∙ outcome-out two one f g n K ms' going))
-    (ap (λ (b : ℕ). tried b None rest) left ∙ (ap (tried 0 None) here ∙ tried-out two one f g n K ms' going))
-
--- a second grid was found
-pub outcome-two : (b : ℕ) (all : List Mark) (two one : Bool) (f g : List ℕ) (ms : List Mark) → all ≡ found_marks two one f g ++ ms → two ≡ true → outcome b None all ≡ TwoGrids f g
-unfolding outcome
-outcome-two b all two one f g ms e both = ap (outcome b None) (e ∙ ap (λ t. found_marks t one f g ++ ms) both)
-
-pub tried-two : (b : ℕ) (all : List Mark) (two one : Bool) (f g : List ℕ) (ms : List Mark) → all ≡ found_marks two one f g ++ ms → two ≡ true → tried b None all ≡ []
-unfolding tried
-tried-two b all two one f g ms e both = ap (tried b None) (e ∙ ap (λ t. found_marks t one f g ++ ms) both)
-
-pub ended-two : (p : Puzzle) (budget : ℕ) (all rest : List Mark) (from : Progress) (trials turns deepest : ℕ) (two one : Bool) (f g : List ℕ) (ms : List Mark)
-    → IsSearching p budget all rest trials from.turns turns from.deepest deepest → rest ≡ found_marks two one f g ++ ms → two ≡ true
-    → IsSearched p budget all from (record { verdict = verdict.Several; trials = trials; turns = turns; deepest = deepest }) f g
-ended-two p budget all rest from trials turns deepest two one f g ms s is both =
-    ended p budget all rest from (record { verdict = verdict.Several; trials = trials; turns = turns; deepest = deepest }) f g s
-    (outcome-two (budget - trials) rest two one f g ms is both) (tried-two (budget - trials) rest two one f g ms is both)
-
--- no level is left
-pub ended-one : (p : Puzzle) (budget : ℕ) (all rest : List Mark) (from : Progress) (trials turns deepest : ℕ) (two one : Bool) (f g : List ℕ) (ms : List Mark)
-    → IsSearching p budget all rest trials from.turns turns from.deepest deepest → rest ≡ found_marks two one f g ++ ms → ms ≡ [] → two ≡ false → one ≡ true
-    → IsSearched p budget all from (record { verdict = verdict.One; trials = trials; turns = turns; deepest = deepest }) f g
+-- a trial after the grids found, with budget left and with none
+after_grids : (two one : Bool) (f g : List ℕ) (n : ℕ) (K : Candidates) (ms : List Mark) → two ≡ false
+    → ((b : ℕ) → outcome (suc b) None (found_marks two one f g ++ Trial n K ∷ ms) ≡ outcome b None (found_marks two one f g ++ ms))
+    × ((b : ℕ) → tried (suc b) None (found_marks two one f g ++ Trial n K ∷ ms) ≡ (n, K) ∷ tried b None (found_marks two one f g ++ ms))
+    × (outcome 0 None (found_marks two one f g ++ Trial n K ∷ ms) ≡ OutOfBudget (found_of one f))
+    × (tried 0 None (found_marks two one f g ++ Trial n K ∷ ms) ≡ [])
 unfolding outcome tried
-ended-one p budget all rest from trials turns deepest two one f g ms s is none going old = grind (arith, common_steps)
+after_grids true one f g n K ms going = absurd (true≢false going)
+after_grids false true f g n K ms going = (λ b. refl, λ b. refl, refl, refl)
+after_grids false false f g n K ms going = (λ b. refl, λ b. refl, refl, refl)
 
-pub ended-none : (p : Puzzle) (budget : ℕ) (all rest : List Mark) (from : Progress) (trials turns deepest : ℕ) (two one : Bool) (f g : List ℕ) (ms : List Mark)
-    → IsSearching p budget all rest trials from.turns turns from.deepest deepest → rest ≡ found_marks two one f g ++ ms → ms ≡ [] → two ≡ false → one ≡ false
-    → IsSearched p budget all from (record { verdict = verdict.None; trials = trials; turns = turns; deepest = deepest }) f g
-unfolding outcome tried
-ended-none p budget all rest from trials turns deepest two one f g ms s is none going new = grind (arith, common_steps)
+module _ {p : Puzzle} {from at : Progress} {all : List Mark} {trials : ℕ} (levels : Levels) (grids : Grids) (s : IsSearching p from all trials (marks_of p levels at grids) at) where
+  -- a trial is made
+  pub searching-trial : {now : Levels} {cell : ℕ} {at' : Progress} (to : Levels) (grids' : Grids) → IsTrial p (pending_of p levels) now cell → at.stop ≡ false
+      → trials < from.budget → CountsClosing p now at.turns at'.turns → at'.deepest ≡ max at.deepest now.depth
+      → marks_from p now at grids ≡ marks_of p to at' grids' → IsSearching p from all (trials + 1) (marks_of p to at' grids') at'
+  searching-trial {now = now} {at' = at'} to grids' t going less turned deeper after =
+      let b = from.budget - (trials + 1) in
+      let left : from.budget - trials ≡ suc b = omega arith in
+      let here = ap (λ ms. found_marks at.stop at.found grids.first grids.second ++ ms) t.marks_are in
+      let next = after_grids at.stop at.found grids.first grids.second now.depth (board_in now) (walk_of p now) going in
+      let answer = next.0 b in
+      let trial = next.1 b in
+      let rest : tried (from.budget - trials) None (marks_of p levels at grids) ≡ (now.depth, board_in now) ∷ tried b None (marks_of p to at' grids') = cc in
+      let sum : at'.turns - from.turns ≡ at.turns - from.turns + (at'.turns - at.turns) = (let a = s.grows in let c = turned.grows in omega arith) in
+      record {
+        answer = s.answer ∙ cc;
+        sofar = s.sofar ++ (now.depth, board_in now) ∷ [];
+        split = s.split ∙ ap (λ ts. s.sofar ++ ts) rest ∙ sym (append_assoc s.sofar ((now.depth, board_in now) ∷ []) _);
+        count = length_push s.sofar (now.depth, board_in now) ∙ ap (λ n. n + 1) s.count;
+        closed = rw (boards-push s.sofar now.depth (board_in now), sum) (turns-push p (boards_of s.sofar) (board_in now) _ _ s.closed turned.closed);
+        grows = let a = s.grows in let c = turned.grows in omega arith;
+        deep = let push = deepest-push s.sofar now.depth (board_in now) in let deep = s.deep in omega arith;
+      }
+
+  -- ---- how a search ends
+  ended : (v : Verdict) → Says v grids.first grids.second (outcome (from.budget - trials) None (marks_of p levels at grids))
+      → tried (from.budget - trials) None (marks_of p levels at grids) ≡ [] → IsSearched p from.budget all from (searched_at at v trials) grids.first grids.second
+  ended v says none = grind (arith, common_steps)
+
+  -- a trial more than the budget allows
+  pub ended-out : {now : Levels} {cell : ℕ} → IsTrial p (pending_of p levels) now cell → at.stop ≡ false → trials ≡ from.budget
+      → IsSearched p from.budget all from (searched_at at (verdict.GaveUp at.found) trials) grids.first grids.second
+  ended-out {now = now} t going spent =
+      let left : from.budget - trials ≡ 0 = omega arith in
+      let here = ap (λ ms. found_marks at.stop at.found grids.first grids.second ++ ms) t.marks_are in
+      let next = after_grids at.stop at.found grids.first grids.second now.depth (board_in now) (walk_of p now) going in
+      ended (verdict.GaveUp at.found) (let e = next.2 in cc) (let e = next.3 in cc)
+
+  -- a second grid was found
+  pub ended-two : at.stop ≡ true → IsSearched p from.budget all from (searched_at at verdict.Several trials) grids.first grids.second
+  unfolding outcome tried
+  ended-two both = ended verdict.Several (rw both refl) (rw both refl)
+
+  -- no level is left
+  pub ended-one : levels.depth ≡ 0 → at.stop ≡ false → at.found ≡ true → IsSearched p from.budget all from (searched_at at verdict.One trials) grids.first grids.second
+  unfolding outcome tried levels_of pending
+  ended-one none going old = ended verdict.One (rw (none, going, old) refl) (rw (none, going, old) refl)
+
+  pub ended-none : levels.depth ≡ 0 → at.stop ≡ false → at.found ≡ false → IsSearched p from.budget all from (searched_at at verdict.None trials) grids.first grids.second
+  unfolding outcome tried levels_of pending
+  ended-none none going new = ended verdict.None (rw (none, going, new) refl) (rw (none, going, new) refl)
+
+-- the search of a whole board, which was closed first
+pub walked : {p : Puzzle} {marks : List Mark} {levels : Levels} {result : Searched} {grids : Grids} (budget : ℕ) (from : Progress) → from.budget ≡ budget
+    → walk p 0 (board_in levels) ≡ marks → CountsClosing p levels 0 from.turns → from.deepest ≡ 0
+    → IsSearched p from.budget marks from result grids.first grids.second → IsWalked p budget (board_in levels) result grids
+walked budget from is same turned none s = rw (← is) (record {
+  says = rw same s.says;
+  exact = rw same s.exact;
+  turns = rw same (from.turns - 0, _, turned.closed, s.turned, let g = s.grows in omega arith);
+  deepest = rw same (let d = s.deepest in omega arith);
+})

@@ -13,69 +13,10 @@ use Rattle.engine_core.specs.PlaceLaws.{has_place-at}
 use Rattle.engine_core.specs.Filling.{has_value, strikes_by_fillings}
 use Rattle.engine_core.specs.FillingLaws.{strikes_settled, own_values_stay}
 use Rattle.engine_core.specs.House.{Decision, sets_at, strikes_at, AreDifferent}
-use Rattle.engine_core.specs.HouseLaws.{length-sets_at, sets_at-value, sets_at-small, strikes_at-some, strikes_at-in_scope, strikes_at-inside, strikes_at-place}
+use Rattle.engine_core.specs.HouseLaws.{strikes_at-in_scope, strikes_at-inside, settled_at, closed_at}
+pub use Rattle.engine_core.specs.HouseLaws.{by_fillings-settles, by_fillings-keeps}
 use Rattle.engine_core.specs.Houses.{House, house_of, no_house, Setting, by_houses, AreLeft, IsSettled, AreOwn, Keeps, IsSound, IsSetting, visits_of}
 use Rattle.std.proofs.lemmas.Grind.{common_steps}
-
--- ---- one house
-module _ (values : ℕ) (places : List ℕ) where
-  -- a value past all others is in no set
-  absent : (K : Candidates) (k v : ℕ) → k < length places → values ≤ v → has_value (get_or (sets_at values places K) k []) v ≡ false
-  absent K k v lt high = false_from_ne_true (has_value (get_or (sets_at values places K) k []) v) (λ on. let low = sets_at-small values places K k v lt on in absurd (omega arith))
-
-  -- the sets of a house are left as the board is
-  left_at : (decides : Decision) (K K' : Candidates) → AreDifferent places
-      → ((c v : ℕ) → K' c v ≡ (K c v && not (strikes_at values places decides K c v)))
-      → AreLeft decides (sets_at values places K) (sets_at values places K')
-  left_at decides K K' different left = record {
-    as_many = length-sets_at values places K' ∙ sym (length-sets_at values places K);
-    left = λ k v lt.
-        let lk : k < length places = omega (arith, length-sets_at values places K) in
-        elim (cases_lt v values) [
-          | inl low ↦ sets_at-value values places K' k v lk low ∙ left (slice_index places k) v
-              ∙ ap (λ b. K (slice_index places k) v && not b) (strikes_at-place values places decides K k v different lk)
-              ∙ ap (λ b. b && not (decides (sets_at values places K) k v)) (sym (sets_at-value values places K k v lk low))
-          | inr high ↦ absent K' k v lk high ∙ sym (and_left (has_value (get_or (sets_at values places K) k []) v) (not (decides (sets_at values places K) k v)) (absent K k v lk high))
-        ];
-  }
-
-  pub settled_at : (decides : Decision) (K K' : Candidates) → IsSettled decides → AreDifferent places
-      → ((c v : ℕ) → K' c v ≡ (K c v && not (strikes_at values places decides K c v)))
-      → (c v : ℕ) → v < values → K' c v ≡ true → strikes_at values places decides K' c v ≡ false
-  settled_at decides K K' settles different left c v low on = false_from_ne_true (strikes_at values places decides K' c v) (λ again.
-      let w = strikes_at-some values places decides K' c v again in
-      true≢false (sym w.3 ∙ settles (sets_at values places K) (sets_at values places K') w.0 v (left_at decides K K' different left)
-      (omega (arith, length-sets_at values places K, w.1)) (sets_at-value values places K' w.0 v w.1 low ∙ rw w.2 on)))
-
-  module _ (g : List ℕ) (inside : (k : ℕ) → k < length places → slice_index places k < length g) (small : (c : ℕ) → c < length g → slice_index g c < values) where
-    at_grid : (k : ℕ) → k < length places → get_or (map (slice_index g) places) k 0 ≡ slice_index g (slice_index places k)
-    at_grid k lt = get_or-map (slice_index g) places k 0 0 lt
-
-    -- the sets of a grid's own board
-    own_at : AreOwn (map (slice_index g) places) (sets_at values places (single g))
-    own_at = record {
-      as_many = length-sets_at values places (single g) ∙ sym (length-map places (slice_index g));
-      own = λ k v lt.
-          let lk : k < length places = omega (arith, length-map places (slice_index g)) in
-          let within = inside k lk in
-          let value = small (slice_index places k) within in
-          rw (at_grid k lk) (elim (cases_lt v values) [
-            | inl low ↦ sets_at-value values places (single g) k v lk low ∙ single_has (slice_index places k) v within
-            | inr high ↦ absent (single g) k v lk high ∙ sym (ne_eqb (slice_index g (slice_index places k)) v (λ e. absurd (omega arith)))
-          ]);
-    }
-      where
-        single_has : (c v : ℕ) → c < length g → single g c v ≡ eqb (slice_index g c) v
-        single_has c v lt = elim (cases_Bool (eqb (slice_index g c) v)) [
-          | inl on ↦ rw (eqb-true (slice_index g c) v on) at (single-at g c lt) ∙ sym on
-          | inr off ↦ false_from_ne_true (single g c v) (λ here. true≢false (sym (eq-eqb (slice_index g c) v (single-is g c v here).1) ∙ off)) ∙ sym off
-        ]
-
-    pub closed_at : (decides : Decision) → Keeps decides (map (slice_index g) places) → (c v : ℕ) → single g c v ≡ true → strikes_at values places decides (single g) c v ≡ false
-    closed_at decides keeps c v on = false_from_ne_true (strikes_at values places decides (single g) c v) (λ struck.
-        let w = strikes_at-some values places decides (single g) c v struck in
-        let at : get_or (map (slice_index g) places) w.0 0 ≡ v = at_grid w.0 w.1 ∙ ap (slice_index g) w.2 ∙ (single-is g c v on).1 in
-        true≢false (sym w.3 ∙ rw at at (keeps (sets_at values places (single g)) w.0 own_at (omega (arith, length-map places (slice_index g), w.1)))))
 
 -- ---- a puzzle of sound houses
 pub by_houses-lawful : (s : Setting) (houses : List House) → IsSetting s → All (IsSound s) houses
@@ -168,10 +109,3 @@ bound_enough s houses enough =
   where
     at : ℕ → ℕ
     at c = count_below (λ h. has_place (house_of houses h).places c) (length houses)
-
--- ---- what a house strikes where it goes by fillings
-pub by_fillings-settles : (holds : List ℕ → Bool) → IsSettled (strikes_by_fillings holds)
-by_fillings-settles holds old new k v a lt on = strikes_settled holds old new k v (record { as_many = a.as_many; kept = a.left }) lt on
-
-pub by_fillings-keeps : (holds : List ℕ → Bool) (filling : List ℕ) → holds filling ≡ true → Keeps (strikes_by_fillings holds) filling
-by_fillings-keeps holds filling good sets k own lt = grind (arith, common_steps, eq-eqb, own_values_stay)

@@ -41,7 +41,8 @@ IsIdle p h K = (c v : ℕ) → K c v ≡ true → p.strikes h K c v ≡ false
 
 -- at the cells of the list, each value that the first board has, the second has
 abbrev pub IsInsideAt : List ℕ → Candidates → Candidates → Type 0
-IsInsideAt scope K L = (c v : ℕ) → has_place scope c ≡ true → K c v ≡ true → L c v ≡ true
+IsInsideAt scope K L =
+    (c v : ℕ) → has_place scope c ≡ true → K c v ≡ true → L c v ≡ true
 
 -- how many visits a value lost by the cell can call for: one of each house that has the cell, but for the house
 -- just visited where it is settled
@@ -62,8 +63,8 @@ pub record IsLawful (p : Puzzle) : Type 0 where
   pub solutions_closed : (g : List ℕ) → IsGridOf p g → p.is_solution g ≡ true
       → IsClosed p (single g)
   -- a visit of a settled house leaves no value of the board for a second one
-  pub settles : p.settled ≡ true → (h : ℕ) (K : Candidates) (c v : ℕ) → h < p.houses → v < p.values
-      → after p h K c v ≡ true → p.strikes h (after p h K) c v ≡ false
+  pub settles : p.settled ≡ true → (h : ℕ) (K : Candidates) (c v : ℕ) → h < p.houses
+      → v < p.values → after p h K c v ≡ true → p.strikes h (after p h K) c v ≡ false
   -- the bound is large enough: in a queue for each house once, and each cell's houses once more for each value that the cell
   -- can lose; in sweeps for each value that the cells can lose, and one sweep more
   pub bound_of_queue : p.by_queue ≡ true
@@ -74,8 +75,10 @@ pub record IsLawful (p : Puzzle) : Type 0 where
   pub few_cells : p.cells ≤ 65536
   pub start_within : IsWithin p.cells p.values p.start
   -- a house has different places of the board
-  pub scope_within : (h c : ℕ) → h < p.houses → has_place (p.scope h) c ≡ true → c < p.cells
-  pub scope_distinct : (h j k : ℕ) → h < p.houses → j < length (p.scope h) → k < length (p.scope h)
+  pub scope_within : (h c : ℕ) → h < p.houses → has_place (p.scope h) c ≡ true
+      → c < p.cells
+  pub scope_distinct : (h j k : ℕ) → h < p.houses → j < length (p.scope h)
+      → k < length (p.scope h)
       → slice_index (p.scope h) j ≡ slice_index (p.scope h) k → j ≡ k
 
 -- what memory is taken for
@@ -118,7 +121,8 @@ pub record IsBoardOf (p : Puzzle) (b : Layout) : Type 0 where
 abbrev pub IsNext : (ℕ → Bool) → ℕ → ℕ → Option ℕ → Type 0
 IsNext p n from None = (j : ℕ) → from ≤ j → j < n → p j ≡ false
 IsNext p n from (Some k) =
-    (from ≤ k) × (k < n) × (p k ≡ true) × ((j : ℕ) → from ≤ j → j < k → p j ≡ false)
+    (from ≤ k) × (k < n) × (p k ≡ true)
+    × ((j : ℕ) → from ≤ j → j < k → p j ≡ false)
 
 -- the answer is the number below n that passes and has k before it that pass
 abbrev pub IsKth : (ℕ → Bool) → ℕ → ℕ → Option ℕ → Type 0

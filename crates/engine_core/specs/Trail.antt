@@ -1,7 +1,9 @@
 -- A board with the trail of its changes, so that it can be put back. No public contract uses these words.
-use Rattle.std.specs.Prelude.{◌≡◌, ℕ, zero, suc, ◌+◌, ◌*◌, ◌^◌, ◌<◌, ◌≤◌, nat_le, List, length, slice_index_or, if◌then◌else◌}
+use Rattle.std.specs.Prelude.{◌≡◌, ℕ, zero, suc, ◌+◌, ◌*◌, ◌^◌, ◌<◌, ◌≤◌, ◌==◌, ◌&&◌, not, nat_le, List, length, slice_index_or, if◌then◌else◌}
 use Rattle.grid_core.specs.Board.{Layout, has, SameShape}
 use Rattle.grid_core.specs.Candidates.{Candidates, IsInside, total, with_set}
+use Rattle.engine_core.specs.Puzzle.{Puzzle, after}
+use Rattle.engine_core.specs.Sets.{has_bit}
 
 -- a change: the cell, and the set that it had before, as bits
 abbrev pub change_at : List (ℕ × ℕ) → ℕ → ℕ × ℕ
@@ -10,6 +12,10 @@ change_at changes k = slice_index_or changes k (0, 0)
 -- the board with the values that the cell had before the change
 abbrev pub given_back : Candidates → ℕ × ℕ → Candidates
 given_back K change = with_set K change.0 change.1
+
+-- the board with no more in the cell than these bits have
+unfoldable pub left_by : Candidates → ℕ → ℕ → Candidates
+left_by K place bits c v = K c v && not ((place == c) && not (has_bit bits v))
 
 -- the board before the changes from the number `mark` up to n
 unfoldable pub put_back : Candidates → List (ℕ × ℕ) → ℕ → ℕ → Candidates
@@ -42,6 +48,10 @@ pub record IsFurther (from to : Trail) : Type 0 where
   pub inside : IsInside (has to.board) (has from.board)
   pub grows : from.len ≤ to.len
   pub back : (mark : ℕ) → mark ≤ from.len → back_at to mark ≡ back_at from mark
+
+-- the later board is the one after a visit of h
+abbrev pub Visits : Puzzle → ℕ → Trail → Trail → Type 0
+Visits p h from to = has to.board ≡ after p h (has from.board)
 
 -- the trail was taken back to the mark: each earlier mark gives back the same
 pub record IsBack (from to : Trail) (mark : ℕ) : Type 0 where

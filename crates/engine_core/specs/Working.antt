@@ -12,7 +12,13 @@ use Rattle.engine_core.specs.declared.work.Made.{Made}
 
 abbrev pub needs_made : Made → Needs
 needs_made m =
-    record { cells = m.cells; values = m.values; houses = m.houses; bound = m.bound; scope = m.scope }
+    record {
+      cells = m.cells;
+      values = m.values;
+      houses = m.houses;
+      bound = m.bound;
+      scope = m.scope;
+    }
 
 -- what the memory was taken for, the room for the houses that a closing visits, the marks of the houses that wait, the
 -- sets that the cells of a house had before its visit, what it kept of them, and the scratch of the rules
@@ -25,8 +31,8 @@ pub record Working (S : Type 0) : Type 0 where
   pub scratch : S
 
 -- the memory is enough for the rules, the board is one of theirs, and the scratch goes along with it
-pub record IsAlong {S : Type 0} (p : Puzzle) (counts : S → Candidates → Type 0) (work : Working S)
-    (board : Layout) : Type 0 where
+pub record IsAlong {S : Type 0} (p : Puzzle) (counts : S → Candidates → Type 0)
+    (work : Working S) (board : Layout) : Type 0 where
   pub fits : FitsIn (needs_of p) work.made
   pub board_of : IsBoardOf p board
   pub follows : counts work.scratch (has board)
@@ -39,7 +45,8 @@ pub record IsSameButWaits {S : Type 0} (from to : Working S) : Type 0 where
   pub kept : to.kept ≡ from.kept
   pub scratch : to.scratch ≡ from.scratch
 
-pub record IsWorkOf (by_queue : Bool) (made : Needs) (trace waits sets kept : List ℕ) : Type 0 where
+pub record IsWorkOf (by_queue : Bool) (made : Needs)
+    (trace waits sets kept : List ℕ) : Type 0 where
   pub trace_long : length trace ≡ (if by_queue then made.bound else 0)
   pub waits_long : length waits ≡ words_of made.houses
   pub sets_long : length sets ≡ made.scope
@@ -53,30 +60,40 @@ HasTraceRoom p trace = p.by_queue ≡ true → p.bound ≤ length trace
 abbrev pub StillFollows : {S : Type 0} → (S → Candidates → Type 0) → S → S → Type 0
 StillFollows follows from to = (K : Candidates) → follows from K → follows to K
 
+-- the scratch serves each need that it served
+abbrev pub StillServes : {S : Type 0} → (S → Needs → Type 0) → S → S → Type 0
+StillServes serves from to = (needs : Needs) → serves from needs → serves to needs
+
 -- ---- which houses wait, by what the scratch goes along with
 -- all houses were called for
-abbrev pub AllAreCalled : {S : Type 0} → Puzzle → (S → Candidates → Type 0) → S → List ℕ → List ℕ → Type 0
+abbrev pub AllAreCalled : {S : Type 0} → Puzzle → (S → Candidates → Type 0) → S
+    → List ℕ → List ℕ → Type 0
 AllAreCalled p follows scratch before now =
     (K : Candidates) → follows scratch K
     → AreCalled p K (λ j. true) (is_waiting before) (is_waiting now)
 
 -- the houses that a closing begins with were called for, and no others wait
-abbrev pub WaitsFrom : {S : Type 0} → Puzzle → (S → Candidates → Type 0) → S → Option ℕ → List ℕ → Type 0
+abbrev pub WaitsFrom : {S : Type 0} → Puzzle → (S → Candidates → Type 0) → S
+    → Option ℕ → List ℕ → Type 0
 WaitsFrom p follows scratch from now =
     (K : Candidates) → follows scratch K
     → AreCalled p K (waits_from p from) (λ j. false) (is_waiting now)
 
-abbrev pub WorkWaits : {S : Type 0} → Puzzle → (S → Candidates → Type 0) → Option ℕ → Working S → Working S → Type 0
+abbrev pub WorkWaits : {S : Type 0} → Puzzle → (S → Candidates → Type 0) → Option ℕ
+    → Working S → Working S → Type 0
 WorkWaits p follows from old new = WaitsFrom p follows old.scratch from new.waits
 
 -- the houses that have the place were called for
-abbrev pub WakesAt : {S : Type 0} → Puzzle → (S → Candidates → Type 0) → ℕ → Working S → Working S → Type 0
+abbrev pub WakesAt : {S : Type 0} → Puzzle → (S → Candidates → Type 0) → ℕ
+    → Working S → Working S → Type 0
 WakesAt p follows place old new =
     (K : Candidates) → follows old.scratch K
-    → AreCalled p K (λ j. has_place (p.scope j) place) (is_waiting old.waits) (is_waiting new.waits)
+    → AreCalled p K (λ j. has_place (p.scope j) place)
+    (is_waiting old.waits) (is_waiting new.waits)
 
 -- the houses of each cell that lost a value at the visit of h were called for
-abbrev pub WakesFor : {S : Type 0} → Puzzle → (S → Candidates → Type 0) → ℕ → Working S → Working S → Type 0
+abbrev pub WakesFor : {S : Type 0} → Puzzle → (S → Candidates → Type 0) → ℕ
+    → Working S → Working S → Type 0
 WakesFor p follows h old new =
     (K K' : Candidates) → AreRemembered p h K K' old.sets old.kept → follows old.scratch K'
     → AreCalled p K' (called_for p h K K') (is_waiting old.waits) (is_waiting new.waits)
@@ -94,15 +111,18 @@ Settles p h before now =
 
 -- ---- from a board with its trail to a later one
 -- where the visit of h struck anything, these are the sets that it found and what it kept of them
-abbrev pub Recalls : Puzzle → ℕ → Trail → Trail → Bool → List ℕ → List ℕ → Type 0
+abbrev pub Recalls : Puzzle → ℕ → Trail → Trail → Bool
+    → List ℕ → List ℕ → Type 0
 Recalls p h from to struck sets kept =
     struck ≡ true → AreRemembered p h (has from.board) (has to.board) sets kept
 
-abbrev pub IsRecalled : {S : Type 0} → Puzzle → ℕ → Trail → Trail → Bool → Working S → Type 0
+abbrev pub IsRecalled : {S : Type 0} → Puzzle → ℕ → Trail → Trail → Bool
+    → Working S → Type 0
 IsRecalled p h from to struck work = Recalls p h from to struck work.sets work.kept
 
 -- the marks after the visit of h
-abbrev pub Wakes : {S : Type 0} → Puzzle → ℕ → Trail → Trail → Working S → Working S → Type 0
+abbrev pub Wakes : {S : Type 0} → Puzzle → ℕ → Trail → Trail
+    → Working S → Working S → Type 0
 Wakes p h from to old new =
     IsWoken p h (has from.board) (has to.board) (is_waiting old.waits) (is_waiting new.waits)
 
@@ -117,7 +137,8 @@ abbrev pub AreRested : {S : Type 0} → Puzzle → Trail → Working S → Type 
 AreRested p t work = IsRested p (has t.board) (is_waiting work.waits)
 
 -- a sweep led from the first board to the later one
-abbrev pub Sweeps : {S : Type 0} → Puzzle → Trail → Trail → Working S → Bool → Bool → Type 0
+abbrev pub Sweeps : {S : Type 0} → Puzzle → Trail → Trail → Working S
+    → Bool → Bool → Type 0
 Sweeps p from to work whole dead =
     IsSweep p (has from.board) (has to.board) (is_waiting work.waits) whole dead
 

@@ -1,4 +1,5 @@
 //! Houses, and which of them have a place.
+#![tactic(auto, using(crate::proofs::LawSets::house_index_laws))]
 
 ghost use Rattle.std.specs.Prelude.{◌≡◌, ℕ, suc, ◌+◌, ◌<◌, ◌≤◌, ◌^◌, IfOk, length, sum_by, slice_index};
 ghost use Rattle.grid_core.specs.Candidates.{sum_below};

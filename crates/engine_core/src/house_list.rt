@@ -1,4 +1,5 @@
 //! Houses as lists of places, one after another.
+#![tactic(auto, using(crate::proofs::LawSets::house_list_laws))]
 
 ghost use Rattle.std.specs.Prelude.{◌≡◌, ◌+◌, ◌<◌, ◌≤◌, ◌^◌, false, ◌++◌, ◌∷◌, [], IfOk, OnOk, length, slice_index_or, sum_by};
 ghost use Rattle.std.specs.List.{between};

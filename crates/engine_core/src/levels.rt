@@ -1,8 +1,8 @@
 //! The levels of a search: a board with its trail, and a frame for each cell whose values are being tried.
 
-ghost use Rattle.std.specs.Prelude.{◌≡◌, ◌≤◌, ◌<◌, IfOk, length};
+ghost use Rattle.std.specs.Prelude.{◌≡◌, ◌-◌, ◌≤◌, ◌<◌, IfOk, length};
 ghost use Rattle.grid_core.specs.Board.{cells_of, SameShape};
-ghost use Rattle.engine_core.specs.Frames.{AreReady, IsTurn, AreAlong};
+ghost use Rattle.engine_core.specs.Frames.{AreReady, IsTurn, AreAlong, frame_at};
 
 use crate::judge::next_value;
 use crate::rules::Rules;
@@ -52,6 +52,16 @@ impl Levels {
         })
     }
 
+    /// The innermost frame.
+    fn innermost(&self) -> Frame
+        requires deep { 0 < self.now.depth }
+        requires room { self.now.depth ≤ length self.now.frames.items }
+        ensures { result ≡ frame_at self.now.frames.items (self.now.depth - 1) }
+    {
+        let frames: &[Frame] = &self.frames;
+        frames[self.depth - 1]
+    }
+
     /// Takes back what was struck since the innermost frame, and leaves its cell's next value alone: which cell, or none
     /// where that has no value left.
     pub(crate) fn next_trial<R: Rules>(&mut self, rules: &R, work: &mut Work<R>) -> Option<usize>
@@ -66,7 +76,7 @@ impl Levels {
         ensures along { AreAlong (R.puzzle rules.now) (R.follows rules.now) work.new self.new }
         ensures made { work.new.made ≡ work.old.made }
     {
-        let top = self.frames[self.depth - 1];
+        let top = self.innermost();
         work.undo(rules, &mut self.trailed, top.mark);
         match next_value(self.trailed.board(), top.cell, top.next, rules.values()) {
             None => None,

@@ -1,11 +1,9 @@
 //! A visit of a house, and which houses wait after it.
 
 ghost use Rattle.std.specs.Prelude.{◌≡◌, ◌<◌, ◌≤◌, false, length, IfSome};
-ghost use Rattle.grid_core.specs.Board.{has};
 ghost use Rattle.grid_core.specs.Candidates.{Candidates};
-ghost use Rattle.engine_core.specs.Puzzle.{after};
 ghost use Rattle.engine_core.specs.Waiting.{words_of};
-ghost use Rattle.engine_core.specs.Trail.{IsFurther};
+ghost use Rattle.engine_core.specs.Trail.{IsFurther, Visits};
 ghost use Rattle.engine_core.specs.Working.{IsAlong, AllAreCalled, WaitsFrom, Settles, Wakes, DiesIf};
 
 use crate::rules::Rules;
@@ -17,7 +15,8 @@ use crate::work::Work;
 fn mark_all<R: Rules>(rules: &R, scratch: &R::Scratch, waits: &mut [u64])
     requires waits_room { words_of (R.puzzle rules.now).houses ≤ length waits.old }
     requires follows { (K : Candidates) × R.follows rules.now scratch.now K }
-    ensures { AllAreCalled (R.puzzle rules.now) (R.follows rules.now) scratch.now waits.old waits.new }
+    ensures { AllAreCalled (R.puzzle rules.now) (R.follows rules.now) scratch.now
+        waits.old waits.new }
 {
     for house in 0..rules.houses() {
         if rules.calls(house, scratch) {
@@ -37,7 +36,8 @@ pub(crate) fn wait_from<R: Rules>(
     requires place_in { IfSome from (λ place. place < (R.puzzle rules.now).cells) }
     requires waits_room { words_of (R.puzzle rules.now).houses ≤ length waits.old }
     requires follows { (K : Candidates) × R.follows rules.now scratch.now K }
-    ensures called { WaitsFrom (R.puzzle rules.now) (R.follows rules.now) scratch.now from waits.new }
+    ensures called { WaitsFrom (R.puzzle rules.now) (R.follows rules.now) scratch.now
+        from waits.new }
 {
     waits.fill(0);
     match from {
@@ -64,9 +64,9 @@ impl<R: Rules> Work<R> {
         requires along { IsAlong (R.puzzle rules.now) (R.follows rules.now) self.old
             trailed.old.board }
         requires house_in { house < (R.puzzle rules.now).houses }
-        ensures left { has trailed.new.board
-            ≡ after (R.puzzle rules.now) house (has trailed.old.board) }
-        ensures waiting { Wakes (R.puzzle rules.now) house trailed.old trailed.new self.old self.new }
+        ensures left { Visits (R.puzzle rules.now) house trailed.old trailed.new }
+        ensures waiting { Wakes (R.puzzle rules.now) house trailed.old trailed.new
+            self.old self.new }
         ensures dead { DiesIf (R.puzzle rules.now) trailed.old trailed.new result }
         ensures further { IsFurther trailed.old trailed.new }
         ensures along { IsAlong (R.puzzle rules.now) (R.follows rules.now) self.new

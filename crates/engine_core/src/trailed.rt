@@ -1,11 +1,12 @@
 //! A board, and the trail of its changes: what each changed cell had before, so that it can be put back.
 
-ghost use Rattle.std.specs.Prelude.{◌≡◌, ◌*◌, ◌<◌, ◌≤◌, IfOk, bit_and, length, true, false};
+ghost use Rattle.std.specs.Prelude.{◌≡◌, ◌≢◌, ◌+◌, ◌*◌, ◌<◌, ◌≤◌, IfOk, bit_and, length, true, false};
 ghost use Rattle.grid_core.specs.Board.{has, cells_of, SameShape};
 ghost use Rattle.grid_core.specs.Candidates.{count_below, only};
-ghost use Rattle.engine_core.specs.Puzzle.{Needs, needs_of, IsBoardOf, after};
-ghost use Rattle.engine_core.specs.Trail.{back_at, IsFurther, IsBack};
-ghost use Rattle.engine_core.specs.Working.{Recalls};
+ghost use Rattle.engine_core.specs.Puzzle.{needs_of, IsBoardOf};
+ghost use Rattle.engine_core.specs.Sets.{IsBitsOf};
+ghost use Rattle.engine_core.specs.Trail.{back_at, left_by, IsFurther, IsBack, Visits};
+ghost use Rattle.engine_core.specs.Working.{Recalls, StillServes};
 ghost use Rattle.engine_core.specs.Keeping.{AreSetsOf};
 
 use crate::rules::Rules;
@@ -111,12 +112,13 @@ impl Trailed {
         requires follows { R.follows rules.now scratch.old (has self.old.board) }
         requires sets_room { length ((R.puzzle rules.now).scope house) ≤ length sets.old }
         requires kept_room { length ((R.puzzle rules.now).scope house) ≤ length kept.old }
-        ensures left { has self.new.board ≡ after (R.puzzle rules.now) house (has self.old.board) }
+        ensures left { Visits (R.puzzle rules.now) house self.old self.new }
         ensures unchanged { result ≡ false → has self.new.board ≡ has self.old.board }
         ensures further { IsFurther self.old self.new }
-        ensures remembered { Recalls (R.puzzle rules.now) house self.old self.new result sets.new kept.new }
+        ensures remembered { Recalls (R.puzzle rules.now) house self.old self.new result
+            sets.new kept.new }
         ensures follows { R.follows rules.now scratch.new (has self.new.board) }
-        ensures keeps { (needs : Needs) → R.serves scratch.old needs → R.serves scratch.new needs }
+        ensures keeps { StillServes R.serves scratch.old scratch.new }
     {
         let cells = rules.scope_len(house);
         self.visit_cells(
@@ -143,12 +145,13 @@ impl Trailed {
         requires follows { R.follows rules.now scratch.old (has self.old.board) }
         requires sets_room { length sets.old ≡ length ((R.puzzle rules.now).scope house) }
         requires kept_room { length kept.old ≡ length ((R.puzzle rules.now).scope house) }
-        ensures left { has self.new.board ≡ after (R.puzzle rules.now) house (has self.old.board) }
+        ensures left { Visits (R.puzzle rules.now) house self.old self.new }
         ensures unchanged { result ≡ false → has self.new.board ≡ has self.old.board }
         ensures further { IsFurther self.old self.new }
-        ensures remembered { Recalls (R.puzzle rules.now) house self.old self.new result sets.new kept.new }
+        ensures remembered { Recalls (R.puzzle rules.now) house self.old self.new result
+            sets.new kept.new }
         ensures follows { R.follows rules.now scratch.new (has self.new.board) }
-        ensures keeps { (needs : Needs) → R.serves scratch.old needs → R.serves scratch.new needs }
+        ensures keeps { StillServes R.serves scratch.old scratch.new }
     {
         remember(rules, house, &self.board, sets);
         if !rules.keep(house, sets, kept, scratch) {
@@ -156,16 +159,40 @@ impl Trailed {
         }
         let before = self.len;
         for k in 0..sets.len() {
-            let now = left_of(sets[k], kept[k]);
-            if now != sets[k] {
-                let place = rules.scope(house, k);
-                self.board.retain(place, now);
-                self.changes[self.len] = (place, sets[k]);
-                self.len += 1;
-                rules.change(place, sets[k], now, scratch);
+            let left = left_of(sets[k], kept[k]);
+            if left != sets[k] {
+                self.leave(rules, rules.scope(house, k), sets[k], left, scratch);
             }
         }
         self.len > before
+    }
+
+    /// Leaves no more than `left` of the cell's set, notes what it had, which was more, and tells the rules.
+    fn leave<R: Rules>(
+        &mut self,
+        rules: &R,
+        place: usize,
+        before: u32,
+        left: u32,
+        scratch: &mut R::Scratch,
+    )
+        requires board_of { IsBoardOf (R.puzzle rules.now) self.old.board }
+        requires follows { R.follows rules.now scratch.old (has self.old.board) }
+        requires place_in { place < (R.puzzle rules.now).cells }
+        requires before { IsBitsOf (has self.old.board place) (R.puzzle rules.now).values before }
+        requires left { IsBitsOf (left_by (has self.old.board) place left place)
+            (R.puzzle rules.now).values left }
+        requires other { left ≢ before }
+        ensures left { has self.new.board ≡ left_by (has self.old.board) place left }
+        ensures further { IsFurther self.old self.new }
+        ensures longer { self.new.len ≡ self.old.len + 1 }
+        ensures follows { R.follows rules.now scratch.new (has self.new.board) }
+        ensures keeps { StillServes R.serves scratch.old scratch.new }
+    {
+        self.board.retain(place, left);
+        self.changes[self.len] = (place, before);
+        self.len += 1;
+        rules.change(place, before, left, scratch);
     }
 
     /// Leaves that value alone in the cell, which has several, and notes what it had.
@@ -181,17 +208,15 @@ impl Trailed {
         requires place_in { place < (R.puzzle rules.now).cells }
         requires value_in { value < (R.puzzle rules.now).values }
         requires there { has self.old.board place value ≡ true }
-        requires several { 2 ≤ count_below (has self.old.board place) (R.puzzle rules.now).values }
+        requires several { 2
+            ≤ count_below (has self.old.board place) (R.puzzle rules.now).values }
         ensures left { has self.new.board ≡ only (has self.old.board) place value }
         ensures further { IsFurther self.old self.new }
         ensures follows { R.follows rules.now scratch.new (has self.new.board) }
-        ensures keeps { (needs : Needs) → R.serves scratch.old needs → R.serves scratch.new needs }
+        ensures keeps { StillServes R.serves scratch.old scratch.new }
     {
         let before = cell_bits(&self.board, place);
-        self.board.keep_only(place, value);
-        self.changes[self.len] = (place, before);
-        self.len += 1;
-        rules.change(place, before, cell_bits(&self.board, place), scratch);
+        self.leave(rules, place, before, 1 << value, scratch);
     }
 
     /// Takes the board back to the mark: each cell changed since gets its values back.
@@ -201,7 +226,7 @@ impl Trailed {
         requires marked { mark ≤ self.old.len }
         ensures back { IsBack self.old self.new mark }
         ensures follows { R.follows rules.now scratch.new (has self.new.board) }
-        ensures keeps { (needs : Needs) → R.serves scratch.old needs → R.serves scratch.new needs }
+        ensures keeps { StillServes R.serves scratch.old scratch.new }
     {
         while self.len > mark {
             self.len -= 1;

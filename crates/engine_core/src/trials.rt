@@ -1,4 +1,5 @@
 //! Which trials a search makes. This call does nothing: its contract is the law.
+#![tactic(auto, using(crate::proofs::LawSets::trials_laws))]
 
 ghost use Rattle.std.specs.Prelude.{◌≡◌, ℕ, List, None, length, take};
 ghost use Rattle.engine_core.specs.Trials.{trials_of};

@@ -4,10 +4,10 @@ ghost use Rattle.std.specs.Prelude.{◌≡◌, ℕ, ◌+◌, ◌<◌, ◌≤◌,
 ghost use Rattle.grid_core.specs.Board.{has};
 ghost use Rattle.grid_core.specs.Candidates.{Candidates, count_below, only};
 ghost use Rattle.engine_core.specs.Mode.{is_queue};
-ghost use Rattle.engine_core.specs.Puzzle.{needs_of, FitsIn, IsBoardOf, IsGridOf, IsNext, after};
+ghost use Rattle.engine_core.specs.Puzzle.{needs_of, FitsIn, IsBoardOf, IsGridOf, IsNext};
 ghost use Rattle.engine_core.specs.Queue.{but, IsAnyOf};
 ghost use Rattle.engine_core.specs.Waiting.{is_waiting};
-ghost use Rattle.engine_core.specs.Trail.{IsBack, IsFurther};
+ghost use Rattle.engine_core.specs.Trail.{IsBack, IsFurther, Visits};
 ghost use Rattle.engine_core.specs.Working.{needs_made, IsAlong, IsSameButWaits, WorkWaits, HasTraceRoom, WakesAt, Settles, IsRecalled, WakesFor, Empties, StillFollows};
 
 use crate::rules::{Rules, by_queue};
@@ -100,7 +100,8 @@ impl<R: Rules> Work<R> {
         requires fits { FitsIn (needs_of (R.puzzle rules.now)) self.old.made }
         requires place_in { IfSome from (λ place. place < (R.puzzle rules.now).cells) }
         requires follows { (K : Candidates) × R.follows rules.now self.old.scratch K }
-        ensures called { WorkWaits (R.puzzle rules.now) (R.follows rules.now) from self.old self.new }
+        ensures called { WorkWaits (R.puzzle rules.now) (R.follows rules.now) from
+            self.old self.new }
         ensures trace_room { HasTraceRoom (R.puzzle rules.now) self.new.trace }
         ensures others { IsSameButWaits self.old self.new }
     {
@@ -112,7 +113,8 @@ impl<R: Rules> Work<R> {
         requires fits { FitsIn (needs_of (R.puzzle rules.now)) self.old.made }
         requires place_in { place < (R.puzzle rules.now).cells }
         requires follows { (K : Candidates) × R.follows rules.now self.old.scratch K }
-        ensures called { WakesAt (R.puzzle rules.now) (R.follows rules.now) place self.old self.new }
+        ensures called { WakesAt (R.puzzle rules.now) (R.follows rules.now) place
+            self.old self.new }
         ensures others { IsSameButWaits self.old self.new }
     {
         rules.wake(place, &self.scratch, &mut self.waits);
@@ -144,11 +146,11 @@ impl<R: Rules> Work<R> {
         requires along { IsAlong (R.puzzle rules.now) (R.follows rules.now) self.old
             trailed.old.board }
         requires house_in { house < (R.puzzle rules.now).houses }
-        ensures left { has trailed.new.board
-            ≡ after (R.puzzle rules.now) house (has trailed.old.board) }
+        ensures left { Visits (R.puzzle rules.now) house trailed.old trailed.new }
         ensures unchanged { result ≡ false → has trailed.new.board ≡ has trailed.old.board }
         ensures further { IsFurther trailed.old trailed.new }
-        ensures remembered { IsRecalled (R.puzzle rules.now) house trailed.old trailed.new result self.new }
+        ensures remembered { IsRecalled (R.puzzle rules.now) house trailed.old trailed.new
+            result self.new }
         ensures sets_room { length ((R.puzzle rules.now).scope house) ≤ length self.new.sets }
         ensures kept_room { length ((R.puzzle rules.now).scope house) ≤ length self.new.kept }
         ensures along { IsAlong (R.puzzle rules.now) (R.follows rules.now) self.new
@@ -185,7 +187,8 @@ impl<R: Rules> Work<R> {
         requires sets_room { length ((R.puzzle rules.now).scope house) ≤ length self.old.sets }
         requires kept_room { length ((R.puzzle rules.now).scope house) ≤ length self.old.kept }
         requires follows { (K : Candidates) × R.follows rules.now self.old.scratch K }
-        ensures called { WakesFor (R.puzzle rules.now) (R.follows rules.now) house self.old self.new }
+        ensures called { WakesFor (R.puzzle rules.now) (R.follows rules.now) house
+            self.old self.new }
         ensures dead { Empties (R.puzzle rules.now) house self.old result }
         ensures others { IsSameButWaits self.old self.new }
     {
@@ -222,7 +225,8 @@ impl<R: Rules> Work<R> {
     pub(crate) fn write(&mut self, visit: usize, house: usize)
         requires { visit < length self.old.trace }
         ensures few { visit + 1 < 2 ^ 64 }
-        ensures written { self.new ≡ record self.old { trace = slice_set self.old.trace visit house } }
+        ensures written { self.new
+            ≡ record self.old { trace = slice_set self.old.trace visit house } }
     {
         self.trace[visit] = house;
     }

@@ -6,10 +6,6 @@ use Rattle.engine_core.specs.HouseIndex.{scope_of, number_at}
 use Rattle.engine_core.proofs.IndexLemmas.{number_at-more}
 use Rattle.engine_core.proofs.house_index.count_houses.Goals as goal
 
-pub loop-house-init : goal.loop-house-init
-unfolding count_below
-loop-house-init c = record { as_many = refl; counted = c.requires.none }
-
 pub count_house-requires-clause-within : goal.count_house-requires-clause-within
 count_house-requires-clause-within c = λ k lt.
     let long = c.len-house-end.ensures.len in
@@ -28,15 +24,3 @@ count_house-requires-clause-few c = λ d lt.
     let few = count_below-bound (λ h. has_place (scope_of c.args.list.now.closed h) d) c.loop-house.house in
     let low = c.len-house-end.ensures.few in
     omega arith
-
-pub loop-house-preserved : goal.loop-house-preserved
-loop-house-preserved c =
-    let l = c.loop-house in
-    let closed = c.args.list.now.closed in
-    record {
-      as_many = c.count_house.ensures.as_many ∙ l.invariant.as_many;
-      counted = λ d lt.
-          let ld : d < length l.counts = omega (arith, lt, c.count_house.ensures.as_many) in
-          c.count_house.ensures.counted d ld ∙ ap (λ n. n + cond (has_place c.places.result.now d) 1 0) (l.invariant.counted d ld)
-          ∙ ap (λ xs. number_at closed l.house d + cond (has_place xs d) 1 0) c.places.ensures ∙ sym (number_at-more closed l.house d);
-    }

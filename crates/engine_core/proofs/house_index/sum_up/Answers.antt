@@ -2,9 +2,6 @@ use Rattle.std.proofs.Common.{suc, length, slice_index, arith}
 use Rattle.engine_core.proofs.IndexLemmas.{summed-none, summed-sum, summed-more, sum_below-more}
 use Rattle.engine_core.proofs.house_index.sum_up.Goals as goal
 
-pub loop-place-init : goal.loop-place-init
-loop-place-init c = summed-none c.args.counts.now
-
 pub overflow_add-sum : goal.overflow_add-sum
 overflow_add-sum c =
     let l = c.loop-place in
@@ -12,6 +9,3 @@ overflow_add-sum c =
     let all = sum_below-more (slice_index c.args.counts.now) (suc l.place) (length c.args.counts.now) c.loop-place-test.true in
     let few = c.requires in
     omega arith
-
-pub loop-place-preserved : goal.loop-place-preserved
-loop-place-preserved c = summed-more c.args.counts.now c.loop-place.place c.loop-place.counts c.loop-place.sum c.loop-place-test.true c.loop-place.invariant

@@ -11,12 +11,6 @@ sum_up-requires c =
     let all = c.requires.few in
     omega arith
 
-pub returns-clause-ends : goal.returns-clause-ends
-returns-clause-ends c = λ d lt.
-    let as_many = c.count_houses.ensures.as_many in
-    c.sum_up.ensures.sums d (omega arith)
-    ∙ counts_same c.args.list.now.closed c.count_houses.new.counts (λ e le. c.count_houses.ensures.counted e (omega arith)) (suc d) (omega arith)
-
 pub returns-clause-all : goal.returns-clause-all
 returns-clause-all c =
     let as_many = c.count_houses.ensures.as_many in

@@ -9,9 +9,6 @@ pub write_ends-all-requires-clause-scopes : goal.write_ends-all-requires-clause-
 write_ends-all-requires-clause-scopes c =
     scopes-wider c.args.cells (length c.deref_mut.result.now) c.args.list.closed (omega (arith, c.deref_mut.ensures.len, c.in_ok-starts.ensures.len)) c.requires.scopes
 
-pub write_ends-all-requires-clause-few : goal.write_ends-all-requires-clause-few
-write_ends-all-requires-clause-few c = rw (← c.list.view_is) (few-listed c.list.inside.places.items c.list.inside.ends.items c.list.invariant)
-
 pub put_houses-requires-clause-scopes : goal.put_houses-requires-clause-scopes
 put_houses-requires-clause-scopes c =
     scopes-wider c.args.cells (length c.deref_mut-2.result.now) c.args.list.closed (omega (arith, c.deref_mut-2.ensures.len, c.in_ok-starts.ensures.len)) c.requires.scopes

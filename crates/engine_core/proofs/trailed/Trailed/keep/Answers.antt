@@ -1,35 +1,25 @@
-use Rattle.std.proofs.Common.{arith}
-use Rattle.engine_core.proofs.TrailLemmas.{IsKept, kept-room, kept-noted, trail-len}
+use Rattle.std.proofs.Common.{◌≡◌, ◌^◌, ◌*◌, ◌%◌, ◌∙◌, sym, arith}
+use Rattle.std.proofs.lemmas.Nat.{one_shl}
+use Rattle.grid_core.specs.Board.{has}
+use Rattle.engine_core.specs.Sets.{IsBitsOf}
+use Rattle.engine_core.proofs.ChangeLemmas.{left-only, only-bits, only-other}
 use Rattle.engine_core.proofs.trailed.Trailed.keep.Goals as goal
-use Rattle.engine_core.proofs.trailed.Trailed.keep.Goals.{After-cell_bits}
+use Rattle.engine_core.proofs.trailed.Trailed.keep.Goals.{After-cell_bits-before}
 
--- what the change leaves
-kept : (g : _) (c : After-cell_bits g)
-    → IsKept (g.R.Rules.puzzle c.args.rules.now) c.self.inside.board c.keep_only.new.self c.self.inside.changes.items c.self.inside.len c.args.place c.cell_bits-before.result c.cell_bits.result
-kept g c = kept-noted _ _ _ _ _ _ _ _ _ (rw (← c.self.view_is) at c.requires.board_of) c.keep_only.ensures.shape c.requires.place_in c.keep_only.ensures.left
-    (rw (← c.self.view_is) at c.requires.several) c.cell_bits-before.ensures c.cell_bits.ensures c.self.invariant
+-- the bit of the value alone
+bit : (g : _) (c : After-cell_bits-before g) → 1 * 2 ^ c.args.value % 4294967296 ≡ 2 ^ c.args.value
+bit g c = one_shl c.args.value 32 (omega (arith, (g.met.R.Rules.lawful c.args.rules.now).few_values))
 
-pub index_mut-requires : goal.index_mut-requires
-index_mut-requires g c =
-    let room = kept-room _ _ _ _ _ _ _ (rw (← c.self.view_is) at c.requires.board_of) c.keep_only.ensures.left (rw (← c.self.view_is) at c.requires.several) c.self.invariant in
-    let long = c.self.inside.changes.ok.0 in
-    omega arith
+pub leave-requires-clause-left : goal.leave-requires-clause-left
+leave-requires-clause-left g c =
+    rw (bit g (goal.at.leave-requires-clause-left g c).After-cell_bits-before) (only-bits _ c.args.place c.args.value _ c.requires.there c.requires.value_in)
 
-pub overflow_add-self : goal.overflow_add-self
-overflow_add-self g c =
-    let v = c.self.inside.changes in
-    omega (arith, trail-len _ _ _ _ _ c.self.invariant, v.ok, v.small)
+pub leave-requires-clause-other : goal.leave-requires-clause-other
+leave-requires-clause-other g c = λ e.
+    let bits : IsBitsOf (has c.args.self.now.board c.args.place) (g.R.Rules.puzzle c.args.rules.now).values c.cell_bits-before.result =
+    rw (← c.self.view_is, ← (rw (← c.self.view_is) at c.requires.board_of.same_values)) c.cell_bits-before.ensures in
+    only-other _ c.args.value _ _ bits c.requires.several (sym (bit g (goal.at.leave-requires-clause-other g c).After-cell_bits-before) ∙ e)
 
-pub change-requires : goal.change-requires
-change-requires g c = (_, _, rw (← c.self.view_is) at c.requires.follows, (kept g (goal.at.change-requires g c).After-cell_bits).change)
-
-pub invariant_of-self : goal.invariant_of-self
-invariant_of-self g c = (kept g (goal.at.invariant_of-self g c).After-cell_bits).trail
-
-pub returns-clause-further : goal.returns-clause-further
-returns-clause-further g c =
-    let kept = kept g (goal.at.returns-clause-further g c).After-cell_bits in
-    rw (← c.self.view_is) (record { shape = c.keep_only.ensures.shape; inside = kept.inside; grows = omega arith; back = λ m le. kept.back m le })
-
-pub returns-clause-follows : goal.returns-clause-follows
-returns-clause-follows g c = c.change.ensures.follows _ _ (rw (← c.self.view_is) at c.requires.follows) (kept g (goal.at.returns-clause-follows g c).After-cell_bits).change
+pub returns-clause-left : goal.returns-clause-left
+returns-clause-left g c =
+    c.leave.ensures.left ∙ rw (bit g (goal.at.returns-clause-left g c).After-cell_bits-before) (left-only _ c.args.place c.args.value)
