@@ -12,6 +12,7 @@ use Rattle.engine_core.specs.Puzzle.{has_place}
 use Rattle.engine_core.specs.PlaceLaws.{has_place-here, AreDistinct, distinct-from}
 use Rattle.engine_core.specs.House.{AreDifferent}
 use Rattle.fields_core.specs.Tents.{names_none_twice}
+use Rattle.std.proofs.lemmas.Grind.{common_steps}
 
 -- where a number stands in a list
 unfoldable pub index_of : List ℕ → ℕ → ℕ
@@ -78,11 +79,7 @@ different-map f xs differ own j k lj lk e =
     (sym (get_or-map f xs j 0 0 inj) ∙ e ∙ get_or-map f xs k 0 0 ink))
 
 pub range-distinct : (n : ℕ) → AreDistinct (range_with_len 0 n)
-range-distinct n = distinct-from (range_with_len 0 n) (λ j k lj lk e.
-    let long = length-range_with_len 0 n in
-    let a = get_or-range_with_len 0 n j 0 (omega arith) in
-    let b = get_or-range_with_len 0 n k 0 (omega arith) in
-    omega (arith, e))
+range-distinct n = grind (arith, common_steps, distinct-from, length-range_with_len, get_or-range_with_len)
 
 -- ---- n different numbers below n are all of them
 listed-below : (q n : ℕ) (xs : List ℕ) → ((i : ℕ) → i < length xs → get_or xs i 0 < n) → list_any (eqb q) xs ≡ true → q < n

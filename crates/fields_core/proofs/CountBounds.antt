@@ -11,6 +11,7 @@ use Rattle.engine_core.specs.House.{sets_at, AreDifferent}
 use Rattle.engine_core.specs.HouseLaws.{length-sets_at, sets_at-value, sets_at-small}
 use Rattle.fields_core.specs.Count.{nonzeros, counts_between, is_open}
 use Rattle.fields_core.proofs.PlaceLists.{num, num-most, count-cons, count-at}
+use Rattle.std.proofs.lemmas.Grind.{common_steps}
 
 -- how many cells must hold a one, and how many may
 abbrev pub must_of : Candidates → List ℕ → ℕ
@@ -31,18 +32,10 @@ no b e = rw e refl
 
 -- a filling has one of the values of each cell
 pub filled-at : (K : Candidates) (places f : List ℕ) → Fills (sets_at 2 places K) f → (k : ℕ) → k < length places → (get_or f k 0 < 2) × (K (slice_index places k) (get_or f k 0) ≡ true)
-filled-at K places f p k lt =
-    let on = p.each k (omega (arith, length-sets_at 2 places K)) in
-    let low = sets_at-small 2 places K k (get_or f k 0) lt on in
-    (low, sym (sets_at-value 2 places K k (get_or f k 0) lt low) ∙ on)
+filled-at K places f p k lt = grind (arith, common_steps, length-sets_at, sets_at-small, get_or, sets_at-value)
 
 filled-from : (K : Candidates) (places f : List ℕ) → length f ≡ length places → ((k : ℕ) → k < length places → (get_or f k 0 < 2) × (K (slice_index places k) (get_or f k 0) ≡ true)) → Fills (sets_at 2 places K) f
-filled-from K places f long each = record {
-  len = long ∙ sym (length-sets_at 2 places K);
-  each = λ k lt.
-      let lk : k < length places = omega (arith, length-sets_at 2 places K) in
-      sets_at-value 2 places K k (get_or f k 0) lk (each k lk).0 ∙ (each k lk).1;
-}
+filled-from K places f long each = grind (arith, common_steps, length-sets_at, sets_at-value, get_or)
 
 -- ---- how many ones
 ones-bounds : (K : Candidates) (places f : List ℕ) → Fills (sets_at 2 places K) f → (must_of K places ≤ nonzeros f) × (nonzeros f ≤ may_of K places)
@@ -126,11 +119,7 @@ module _ (K : Candidates) (places : List ℕ) (k v : ℕ) (different : AreDiffer
   own-is u e = ap (fixed cell) e ∙ own
 
   own-alone : (u : ℕ) → (u ≡ v → ⊥) → fixed cell u ≡ false
-  own-alone u ne = rw (eq-eqb cell cell refl, ne_eqb u v ne) (by (K cell u))
-    where
-      by : (b : Bool) → (b && false) ≡ false
-      by true = refl
-      by false = refl
+  own-alone u ne = grind (arith, common_steps, eq-eqb, ne_eqb)
 
   must-fixed : must_of fixed places + num (not (K cell 0)) ≡ must_of K places + v
   must-fixed =
@@ -153,18 +142,7 @@ module _ (K : Candidates) (places : List ℕ) (k v : ℕ) (different : AreDiffer
       by (suc (suc u)) l e = absurd (omega arith)
 
   full-fixed : IsFull K places → IsFull fixed places
-  full-fixed full j lj = elim (cases_eq (slice_index places j) cell) [
-    | inl here ↦ rw here (by v low refl)
-    | inr there ↦ elim (full j lj) [
-      | inl z ↦ inl (others (slice_index places j) 0 there ∙ z)
-      | inr o ↦ inr (others (slice_index places j) 1 there ∙ o)
-    ]
-  ]
-    where
-      by : (u : ℕ) → u < 2 → u ≡ v → (fixed cell 0 ≡ true) ⊎ (fixed cell 1 ≡ true)
-      by zero l e = inl (own-is 0 e)
-      by (suc zero) l e = inr (own-is 1 e)
-      by (suc (suc u)) l e = absurd (omega arith)
+  full-fixed full j lj = grind (arith, common_steps, cases_eq, slice_index, own-is)
 
   -- a filling with the value at the cell fills the fixed board, and the other way round
   fixed-filled : (f : List ℕ) → Fills (sets_at 2 places K) f → get_or f k 0 ≡ v → Fills (sets_at 2 places fixed) f

@@ -20,6 +20,7 @@ use Rattle.fields_core.specs.declared.tally.Tally.{Tally}
 use Rattle.fields_core.proofs.BelowLemmas.{any-some}
 use Rattle.fields_core.proofs.PlaceLists.{num, count-some, some-counted}
 use Rattle.fields_core.proofs.CountBounds.{IsFull, filled-at, shown-bounds, bounds-shown, open-room}
+use Rattle.std.proofs.lemmas.Grind.{common_steps}
 
 -- ---- a cell that is empty
 not-empty : (K : Candidates) (c v : ℕ) → v < 2 → K c v ≡ true → is_empty K c ≡ true → ⊥
@@ -66,12 +67,7 @@ module _ (cells : ℕ) (house : CountHouse) (K : Candidates) (t : Tally) (is : I
   struck k v = strikes_by_fillings (counts_between house.least house.most) (sets_at 2 house.places K) k v
 
   full : t.empty ≡ 0 → IsFull K house.places
-  full none k lt = by (cases_Bool (K (at k) 0)) (cases_Bool (K (at k) 1))
-    where
-      by : (K (at k) 0 ≡ true) ⊎ (K (at k) 0 ≡ false) → (K (at k) 1 ≡ true) ⊎ (K (at k) 1 ≡ false) → (K (at k) 0 ≡ true) ⊎ (K (at k) 1 ≡ true)
-      by (inl z) o = inl z
-      by (inr z) (inl o) = inr o
-      by (inr z) (inr o) = absurd (let s = count-some (is_empty K) house.places (at k) (has_place-here house.places k lt) (rw (z, o) refl) in omega (arith, tally.empty_is))
+  full none k lt = grind (arith, common_steps, cases_Bool, count-some, has_place-here)
 
   -- where there is no filling, no value is shown
   none-shown : (k v : ℕ) → k < length house.places → v < 2 → K (at k) v ≡ true → lacks_filling t (bounds_of house) ≡ true
@@ -212,9 +208,7 @@ kept-table none few most bits (suc (suc v)) small low = absurd (omega arith)
 kept-table none few most (suc (suc (suc (suc bits)))) v small low = absurd (omega arith)
 
 pub kept-bits : (t : Tally) (b : Bounds) (K : Candidates) (c bits v : ℕ) → IsBitsOf (K c) 2 bits → v < 2 → has_bit (kept_of t b bits) v ≡ (K c v && stays t b (is_open K c) v)
-kept-bits t b K c bits v is low =
-    kept-table (lacks_filling t b) (eqb t.may b.least) (eqb t.must b.most) bits v is.small low
-    ∙ ap₂ (λ on both. on && stays t b both v) (is.same v low) (all-set bits is.small ∙ ap₂ (λ z o. z && o) (is.same 0 (omega arith)) (is.same 1 (omega arith)))
+kept-bits t b K c bits v is low = grind (arith, common_steps, kept-table, all-set)
 
 -- a value that a cell has stays exactly where its bit is kept
 pub kept-strikes : (cells : ℕ) (house : CountHouse) (K : Candidates) (t : Tally) → IsHouse cells house → IsTally K house.places t → (k v bits : ℕ) → k < length house.places → v < 2

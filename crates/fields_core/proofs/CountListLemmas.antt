@@ -10,17 +10,14 @@ use Rattle.fields_core.specs.CountLists.{house_places, bounds_of, bound_of, hous
 use Rattle.fields_core.proofs.CountTallies.{AreCounted}
 use Rattle.fields_core.specs.declared.count_list.Bounds.{Bounds}
 use Rattle.fields_core.specs.declared.count_list.CountList.{CountList}
+use Rattle.std.proofs.lemmas.Grind.{common_steps}
 
 -- ---- the cells of a house that is begun
 pub begun-none : (list : CountList) → IsBegun list list []
 begun-none list = record { closed = refl; begun = sym (append-nil list.list.begun); bounds = refl }
 
 pub begun-more : (a b c : CountList) (xs ys : List ℕ) → IsBegun a b xs → IsBegun b c ys → IsBegun a c (xs ++ ys)
-begun-more a b c xs ys p q = record {
-  closed = q.closed ∙ p.closed;
-  begun = q.begun ∙ ap (λ l. l ++ ys) p.begun ∙ append_assoc a.list.begun xs ys;
-  bounds = q.bounds ∙ p.bounds;
-}
+begun-more a b c xs ys p q = grind (arith, common_steps, append_assoc)
 
 pub begun-same : (a b : CountList) (xs ys : List ℕ) → IsBegun a b xs → xs ≡ ys → IsBegun a b ys
 begun-same a b xs ys p e = rw e at p
@@ -34,18 +31,10 @@ begun-all a b xs n p ge = begun-same a b (take n xs) xs p (take_all n xs ge)
 
 -- ---- more houses
 pub added-none : (list : CountList) (houses : List CountHouse) → list.list.begun ≡ [] → houses ≡ [] → IsAdded list list houses
-added-none list houses none e = record {
-  closed = rw e (sym (append-nil list.list.closed));
-  begun = none;
-  bounds = rw e (sym (append-nil list.bounds.items));
-}
+added-none list houses none e = grind (arith, common_steps, append-nil)
 
 pub added-more : (a b c : CountList) (xs ys : List CountHouse) → IsAdded a b xs → IsAdded b c ys → IsAdded a c (xs ++ ys)
-added-more a b c xs ys p q = record {
-  closed = q.closed ∙ ap (λ l. l ++ map house_places ys) p.closed ∙ append_assoc a.list.closed (map house_places xs) (map house_places ys) ∙ ap (λ l. a.list.closed ++ l) (sym (map-append house_places xs ys));
-  begun = q.begun;
-  bounds = q.bounds ∙ ap (λ l. l ++ map bounds_of ys) p.bounds ∙ append_assoc a.bounds.items (map bounds_of xs) (map bounds_of ys) ∙ ap (λ l. a.bounds.items ++ l) (sym (map-append bounds_of xs ys));
-}
+added-more a b c xs ys p q = grind (arith, common_steps, append_assoc, map-append)
 
 pub below-none : (f : ℕ → List CountHouse) (list : CountList) → list.list.begun ≡ [] → IsAdded list list (houses_below f 0)
 unfolding houses_below
@@ -57,9 +46,7 @@ below-more f a b c n p q = rw add-one (added-more a b c (houses_below f n) (f n)
 
 pub four-added : (a b c d e : CountList) (ws xs ys zs : List CountHouse) → a.list ≡ record { closed = []; begun = [] } → a.bounds.items ≡ []
     → IsAdded a b ws → IsAdded b c xs → IsAdded c d ys → IsAdded d e zs → AreListed e (ws ++ (xs ++ (ys ++ zs)))
-four-added a b c d e ws xs ys zs none no_bounds p q r s =
-    let all = added-more a b e ws (xs ++ (ys ++ zs)) p (added-more b c e xs (ys ++ zs) q (added-more c d e ys zs r s)) in
-    record { cells = rw none at all.closed; bounds = rw no_bounds at all.bounds }
+four-added a b c d e ws xs ys zs none no_bounds p q r s = grind (arith, common_steps, added-more)
 
 -- ---- the houses with these cells and bounds
 pub bounded-map : (houses : List CountHouse) → bounded (map house_places houses) (map bounds_of houses) ≡ houses
@@ -92,11 +79,7 @@ scopes-of cells scopes bounds e are h lt =
 -- the next house that has a place
 pub next-in : (cells : ℕ) (scopes : List (List ℕ)) (bounds : List Bounds) (t : CountedHouses) (place from : ℕ) (o : Option ℕ) → length bounds ≡ length scopes → record { cells = cells; houses = bounded scopes bounds } ≡ t
     → IsNext (λ h. has_place (scope_of scopes h) place) (length scopes) from o → IsNext (λ h. has_place (count_house_of t.houses h).places place) (length t.houses) from o
-next-in cells scopes bounds t place from o long e next =
-    let same : (λ h. has_place (scope_of scopes h) place) ≡ (λ h. has_place (count_house_of (bounded scopes bounds) h).places place) = fun_ext λ h. ap (λ (x : CountHouse). has_place x.places place) (sym (bounded-at scopes bounds h long)) in
-    subst (λ (u : CountedHouses). IsNext (λ h. has_place (count_house_of u.houses h).places place) (length u.houses) from o) e
-    (subst (λ n. IsNext (λ h. has_place (count_house_of (bounded scopes bounds) h).places place) n from o) (sym (bounded-long scopes bounds long))
-    (subst (λ (p : ℕ → Bool). IsNext p (length scopes) from o) same next))
+next-in cells scopes bounds t place from o long e next = grind (arith, common_steps, fun_ext, bounded-at, bounded-long)
 
 -- and the one with so many before it
 pub kth-in : (cells : ℕ) (scopes : List (List ℕ)) (bounds : List Bounds) (t : CountedHouses) (place k : ℕ) (o : Option ℕ) → length bounds ≡ length scopes → record { cells = cells; houses = bounded scopes bounds } ≡ t

@@ -12,7 +12,7 @@ use Rattle.engine_core.proofs.IndexLemmas.{counted, numbered}
 use Rattle.engine_core.specs.Sets.{has_bit, IsChange}
 use Rattle.fields_core.specs.Count.{is_empty}
 use Rattle.fields_core.specs.CountHouse.{CountHouse, IsHouse, count_house_of, strikes_of, after_house}
-use Rattle.fields_core.specs.Tallies.{IsTally, has_strikes, moved_tally, tally_at, AreTallied}
+use Rattle.fields_core.specs.Tallies.{IsTally, has_strikes, moved_tally, CanMove, tally_at, AreTallied}
 use Rattle.fields_core.specs.CountLists.{bounds_of}
 use Rattle.fields_core.specs.declared.count_list.Bounds.{Bounds}
 use Rattle.fields_core.specs.declared.tally.Tally.{Tally}
@@ -94,13 +94,13 @@ module _ (cells : ℕ) (K L : Candidates) (place before after : ℕ) (change : I
   }
 
   module _ (on : has_place places place ≡ true) where
-    pub must-there : cond (not (has_bit before 0)) 1 0 ≤ t.must
+    must-there : cond (not (has_bit before 0)) 1 0 ≤ t.must
     must-there = let w = count-there (λ c. not (K c 0)) (λ c. not (L c 0)) place (λ c ne. ap not (other c ne 0)) places on in let a = must_before in let b = is.must_is in omega arith
 
-    pub may-there : cond (has_bit before 1) 1 0 ≤ t.may
+    may-there : cond (has_bit before 1) 1 0 ≤ t.may
     may-there = let w = count-there (λ c. K c 1) (λ c. L c 1) place (λ c ne. other c ne 1) places on in let a = may_before in let b = is.may_is in omega arith
 
-    pub empty-there : cond (eqb before 0) 1 0 ≤ t.empty
+    empty-there : cond (eqb before 0) 1 0 ≤ t.empty
     empty-there = let w = count-there (is_empty K) (is_empty L) place (λ c ne. ap₂ (λ a b. not a && not b) (other c ne 0) (other c ne 1)) places on in let a = empty_before in let b = is.empty_is in omega arith
 
     pub tally-moved : AreDistinct places → IsTally L places (moved_tally t before after)
@@ -120,14 +120,17 @@ module _ (cells : ℕ) (K L : Candidates) (place before after : ℕ) (change : I
     }
 
     -- no count passes the number of cells
-    pub moved-few : AreDistinct places → ((moved_tally t before after).must ≤ length places) × ((moved_tally t before after).may ≤ length places) × ((moved_tally t before after).empty ≤ length places)
-    moved-few different =
+    pub can-move : AreDistinct places → length places < 2 ^ 32 → CanMove t before after
+    can-move different few =
         let m = tally-moved different in
-        let a = m.must_is in let b = m.may_is in let c = m.empty_is in
-        let x = count_by-le-length (λ c. not (L c 0)) places in
-        let y = count_by-le-length (λ c. L c 1) places in
-        let z = count_by-le-length (is_empty L) places in
-        (omega arith, omega arith, omega arith)
+        record {
+          must_before = must-there;
+          may_before = may-there;
+          empty_before = empty-there;
+          few_must = omega (arith, m.must_is, count_by-le-length (λ c. not (L c 0)) places);
+          few_may = omega (arith, m.may_is, count_by-le-length (λ c. L c 1) places);
+          few_empty = omega (arith, m.empty_is, count_by-le-length (is_empty L) places);
+        }
 
 -- ---- a table of houses, and the tallies of all of them
 -- as a table of scopes has it
@@ -184,12 +187,7 @@ module _ (cells : ℕ) (scopes : List (List ℕ)) (houses : List CountHouse) (ta
   pub record IsMovable (tallies : List Tally) (k : ℕ) : Type 0 where
     pub low : slice_index listed k < length tallies
     pub same : tally_at tallies (slice_index listed k) ≡ tally_at old (slice_index listed k)
-    pub must : num (not (has_bit before 0)) ≤ (tally_at tallies (slice_index listed k)).must
-    pub may : num (has_bit before 1) ≤ (tally_at tallies (slice_index listed k)).may
-    pub empty : num (eqb before 0) ≤ (tally_at tallies (slice_index listed k)).empty
-    pub few_must : (moved_tally (tally_at tallies (slice_index listed k)) before after).must < 2 ^ 32
-    pub few_may : (moved_tally (tally_at tallies (slice_index listed k)) before after).may < 2 ^ 32
-    pub few_empty : (moved_tally (tally_at tallies (slice_index listed k)) before after).empty < 2 ^ 32
+    pub can : CanMove (tally_at tallies (slice_index listed k)) before after
 
   pub movable : (new : List Tally) (k : ℕ) → AreMovedBelow old new listed before after k → k < length listed → IsMovable new k
   movable new k m lt =
@@ -198,18 +196,11 @@ module _ (cells : ℕ) (scopes : List (List ℕ)) (houses : List CountHouse) (ta
       let low : h < length houses = let e = table.as_many in omega (arith, w.0) in
       let is = tallied.each h low in
       let on = there h w.1 in
-      let few = moved-few cells K L place before after change (count_house_of houses h).places (tally_at old h) is on (distinct h low) in
-      let most = (table.each h low).few_places in
       let same = m.kept h (λ j less e. let twice = not-twice scopes place listed at j k (omega arith) lt e in absurd (omega arith)) in
       record {
         low = let l = tallied.long in let a = m.as_many in omega arith;
         same = same;
-        must = rw same (must-there cells K L place before after change (count_house_of houses h).places (tally_at old h) is on);
-        may = rw same (may-there cells K L place before after change (count_house_of houses h).places (tally_at old h) is on);
-        empty = rw same (empty-there cells K L place before after change (count_house_of houses h).places (tally_at old h) is on);
-        few_must = rw same (omega (arith, few.0));
-        few_may = rw same (omega (arith, few.1));
-        few_empty = rw same (omega (arith, few.2));
+        can = rw same (can-move cells K L place before after change (count_house_of houses h).places (tally_at old h) is on (distinct h low) (table.each h low).few_places);
       }
 
   pub tallied-moved : (new : List Tally) → AreMovedBelow old new listed before after (length listed) → AreTallied cells houses new L

@@ -13,6 +13,7 @@ use Rattle.gameid_core.specs.declared.light_cell.LightCell.TheVariants.{White, B
 use Rattle.fields_core.specs.Light.{white}
 use Rattle.fields_core.specs.LightHouses.{begins_row_run, begins_column_run, number_house}
 use Rattle.fields_core.proofs.LightLines.{cell-at}
+use Rattle.std.proofs.lemmas.Grind.{common_steps}
 
 pub row-long : (size : Extent) (y : ℕ) → length (row_places size y) ≡ size.w
 row-long size y = length-map-range_with_len _ 0 size.w
@@ -58,13 +59,7 @@ column-edge p c w e on edge = let top : c / w ≡ 0 = div-eq_of_lt {n = c} {m = 
 
 pub column-after : (p : Light) (c w : ℕ) (b : Bool) → 0 < w → w ≡ p.size.w → true ≡ white p c → (c < w → ⊥) → b ≡ white p (c - w) → not b ≡ begins_column_run p c
 unfolding begins_column_run
-column-after p c w b some e on inner is = rw (sym on, ne_eqb (c / p.size.w) 0 (rw e at far), rw e at is) refl
-  where
-    far : c / w ≡ 0 → ⊥
-    far top =
-        let low : c < c / w * w + w = lt-div-mul-add {a = c} {b = w} some in
-        let less : c < 0 * w + w = rw top at low in
-        inner (omega arith)
+column-after p c w b some e on inner is = grind (arith, common_steps, ne_eqb, lt-div-mul-add)
 
 -- ---- the house of a cell's number
 pub number-white : (p : Light) (c : ℕ) → slice_get p.cells c ≡ Some White → number_house p c ≡ []

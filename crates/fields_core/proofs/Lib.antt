@@ -23,3 +23,4 @@ pub mod TentNumbers
 pub mod TentNext
 pub mod TentPairLemmas
 pub mod TentRuleLemmas
+pub mod LawSets

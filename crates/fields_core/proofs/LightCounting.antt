@@ -13,8 +13,7 @@ use Rattle.engine_core.specs.PlaceLaws.{has_place-here, AreDistinct, different-f
 use Rattle.gameid_core.specs.Puzzles.{Light, IsLight, IsLightCell}
 use Rattle.gameid_core.specs.declared.light_cell.LightCell.{LightCell}
 use Rattle.gameid_core.specs.declared.light_cell.LightCell.TheVariants.{White, Black, Numbered}
-use Rattle.fields_core.specs.Count.{nonzeros, counts_between}
-use Rattle.fields_core.specs.CountHouse.{CountHouse, meets, IsHouse, IsCounting}
+use Rattle.fields_core.specs.CountHouse.{CountHouse, exactly, one_at_most, one_at_least, IsCounting}
 use Rattle.fields_core.specs.Light.{light_cells, white, bulb, joined_in_row, joined_in_column, sees, sees_bulb, bulbs_beside, black_right, number_right, bulb_right, lit_right, is_lit}
 use Rattle.fields_core.specs.LightHouses.{row_run, column_run, seen_from, begins_row_run, begins_column_run, numbered, number_house, row_house, column_house, lit_house, light_houses}
 use Rattle.fields_core.proofs.LightFaultLemmas.{lit-parts}
@@ -22,12 +21,8 @@ use Rattle.fields_core.proofs.LightSight.{bulb-in, row-of, column-of}
 use Rattle.fields_core.proofs.HouseLists.{row-long, column-long}
 use Rattle.fields_core.proofs.PlaceLists.{count-some, count-one, count-filter, ones-bulbs}
 use Rattle.fields_core.proofs.StepLaws.{steps-distinct, steps-few}
-use Rattle.fields_core.proofs.LightHouseLaws.{EachOf, each-none, each-one, each-append, each-below, each-if, row-both, column-both, row-white-end, column-white-end, row-self, white-in, row-distinct, column-distinct, row-parts, column-parts}
-
--- a house of the board that each solution meets
-pub record IsMet (p : Light) (house : CountHouse) : Type 0 where
-  pub is_house : IsHouse (light_cells p) house
-  pub met : (g : List ℕ) → IsGrid (light_cells p) 2 g → is_lit p g ≡ true → meets house g ≡ true
+use Rattle.fields_core.proofs.LightHouseLaws.{IsMet, met-from, EachOf, each-none, each-one, each-append, each-below, each-if, row-both, column-both, row-white-end, column-white-end, row-self, white-in, row-distinct, column-distinct, row-parts, column-parts}
+use Rattle.std.proofs.lemmas.Grind.{common_steps}
 
 -- what is used of a puzzle
 pub record IsBoard (p : Light) : Type 0 where
@@ -36,15 +31,6 @@ pub record IsBoard (p : Light) : Type 0 where
   pub h_few : p.size.h ≤ 256
   pub long : length p.cells ≡ light_cells p
   pub number : (c n : ℕ) → get_or p.cells c Black ≡ Numbered n → n ≤ 4
-
-pub small-at : (cells : ℕ) (g : List ℕ) → IsGrid cells 2 g → (c : ℕ) → slice_index g c < 2
-small-at cells g grid c = elim (cases_lt c (length g)) [
-  | inl low ↦ grid.each_value c 0 low
-  | inr high ↦ let z = get_or_past g c 0 high in omega arith
-]
-
-pub between-from : (least most : ℕ) (f : List ℕ) → least ≤ nonzeros f → nonzeros f ≤ most → counts_between least most f ≡ true
-between-from least most f low high = and_from _ _ (le-leb least (nonzeros f) low) (le-leb (nonzeros f) most high)
 
 pub filter-few : (test : ℕ → Bool) (xs : List ℕ) → length (filter test xs) ≤ length xs
 filter-few test xs = let a = length-filter test xs in let b = count_by-le-length test xs in omega arith
@@ -72,93 +58,26 @@ no-sight p g grid good d e bd be joined = elim (cases_eq d e) [
 ]
 
 -- ---- the houses of numbers
-number-kind : (p : Light) (c : ℕ) → IsBoard p → c < light_cells p → EachOf (IsMet p) (number_house p c)
-unfolding number_right meets
+number-kind : (p : Light) (c : ℕ) → IsBoard p → c < light_cells p → EachOf (IsMet (light_cells p) (is_lit p)) (number_house p c)
+unfolding number_right
 number-kind p c board lt = by (get_or p.cells c Black) refl
   where
     places : List ℕ
     places = filter (white p) (steps p.size c 4)
 
-    by : (cell : LightCell) → get_or p.cells c Black ≡ cell → EachOf (IsMet p) (numbered cell (filter (white p) (steps p.size c 4)))
-    by White e = each-none (IsMet p)
-    by Black e = each-none (IsMet p)
-    by (Numbered n) e = each-one (IsMet p) (record { places = filter (white p) (steps p.size c 4); least = n; most = n }) (record {
-      is_house = record {
-        within = λ d on. white-in p d board.long (place-filter (white p) (steps p.size c 4) d on).1;
-        different = different-from (filter (white p) (steps p.size c 4)) (distinct-filter (white p) (steps p.size c 4) (steps-distinct p.size c 4 board.some (omega arith)));
-        few_places = let a = filter-few (white p) (steps p.size c 4) in let b = steps-few p.size c 4 in omega arith;
-        least_small = let f = board.number c n e in omega arith;
-        most_small = let f = board.number c n e in omega arith;
-      };
-      met = λ g grid good. meet g grid good;
-    })
-      where
-        right : (g : List ℕ) → IsGrid (light_cells p) 2 g → is_lit p g ≡ true → bulbs_beside p g c ≡ n
-        right g grid good = eqb-true (bulbs_beside p g c) n (rw e at (all_below-at (number_right p g) (light_cells p) c (lit-parts p g good).number lt))
-
-        meet : (g : List ℕ) → IsGrid (light_cells p) 2 g → is_lit p g ≡ true → meets (record { places = filter (white p) (steps p.size c 4); least = n; most = n }) g ≡ true
-        meet g grid good =
-            let a = ones-bulbs g (filter (white p) (steps p.size c 4)) (small-at (light_cells p) g grid) in
-            let b = count-filter (bulb g) (white p) (steps p.size c 4) (bulb-white p g grid good) in
-            let f = right g grid good in
-            between-from n n (map (slice_index g) (filter (white p) (steps p.size c 4))) (omega arith) (omega arith)
+    by : (cell : LightCell) → get_or p.cells c Black ≡ cell → EachOf (IsMet (light_cells p) (is_lit p)) (numbered cell (filter (white p) (steps p.size c 4)))
+    by White e = each-none (IsMet (light_cells p) (is_lit p))
+    by Black e = each-none (IsMet (light_cells p) (is_lit p))
+    by (Numbered n) e = each-one (IsMet (light_cells p) (is_lit p)) (exactly n (filter (white p) (steps p.size c 4))) (met-from (light_cells p) (is_lit p) (exactly n (filter (white p) (steps p.size c 4)))
+        (λ d on. white-in p d board.long (place-filter (white p) (steps p.size c 4) d on).1)
+        (distinct-filter (white p) (steps p.size c 4) (steps-distinct p.size c 4 board.some (omega arith)))
+        (let a = filter-few (white p) (steps p.size c 4) in let b = steps-few p.size c 4 in omega arith)
+        (let f = board.number c n e in omega arith) (let f = board.number c n e in omega arith) (λ g grid good.
+        let a = count-filter (bulb g) (white p) (steps p.size c 4) (bulb-white p g grid good) in
+        let b = eqb-true (bulbs_beside p g c) n (rw e at (all_below-at (number_right p g) (light_cells p) c (lit-parts p g good).number lt)) in
+        (omega arith, omega arith)))
 
 -- ---- the houses of runs
-pub row-kind : (p : Light) (c : ℕ) → IsBoard p → IsMet p (record { places = row_run p c; least = 0; most = 1 })
-unfolding row_run meets
-row-kind p c board = record {
-  is_house = record {
-    within = λ d on. white-in p d board.long (row-white-end p c d board.some (place-filter (joined_in_row p c) (row_places p.size (c / p.size.w)) d on).1);
-    different = different-from (filter (joined_in_row p c) (row_places p.size (c / p.size.w))) distinct;
-    few_places = let a = filter-few (joined_in_row p c) (row_places p.size (c / p.size.w)) in let b = row-long p.size (c / p.size.w) in let w = board.w_few in omega arith;
-    least_small = omega arith;
-    most_small = omega arith;
-  };
-  met = λ g grid good.
-      let run = filter (joined_in_row p c) (row_places p.size (c / p.size.w)) in
-      let a = ones-bulbs g run (small-at (light_cells p) g grid) in
-      let one = count-one (bulb g) run distinct (λ d e md me bd be. no-sight p g grid good d e bd be
-      (or_left _ _ (row-both p c d e (place-filter (joined_in_row p c) (row_places p.size (c / p.size.w)) d md).1 (place-filter (joined_in_row p c) (row_places p.size (c / p.size.w)) e me).1))) in
-      between-from 0 1 (map (slice_index g) run) (omega arith) (omega arith);
-}
-  where
-    distinct : AreDistinct (filter (joined_in_row p c) (row_places p.size (c / p.size.w)))
-    distinct = distinct-filter (joined_in_row p c) (row_places p.size (c / p.size.w)) (row-distinct p.size (c / p.size.w))
-
-pub column-kind : (p : Light) (c : ℕ) → IsBoard p → IsMet p (record { places = column_run p c; least = 0; most = 1 })
-unfolding column_run meets
-column-kind p c board = record {
-  is_house = record {
-    within = λ d on. white-in p d board.long (column-white-end p c d board.some (place-filter (joined_in_column p c) (column_places p.size (c % p.size.w)) d on).1);
-    different = different-from (filter (joined_in_column p c) (column_places p.size (c % p.size.w))) distinct;
-    few_places = let a = filter-few (joined_in_column p c) (column_places p.size (c % p.size.w)) in let b = column-long p.size (c % p.size.w) in let w = board.h_few in omega arith;
-    least_small = omega arith;
-    most_small = omega arith;
-  };
-  met = λ g grid good.
-      let run = filter (joined_in_column p c) (column_places p.size (c % p.size.w)) in
-      let a = ones-bulbs g run (small-at (light_cells p) g grid) in
-      let one = count-one (bulb g) run distinct (λ d e md me bd be. no-sight p g grid good d e bd be
-      (or_right _ _ (column-both p c d e (place-filter (joined_in_column p c) (column_places p.size (c % p.size.w)) d md).1 (place-filter (joined_in_column p c) (column_places p.size (c % p.size.w)) e me).1))) in
-      between-from 0 1 (map (slice_index g) run) (omega arith) (omega arith);
-}
-  where
-    distinct : AreDistinct (filter (joined_in_column p c) (column_places p.size (c % p.size.w)))
-    distinct = distinct-filter (joined_in_column p c) (column_places p.size (c % p.size.w)) (column-distinct p.size (c % p.size.w) board.some)
-
--- ---- the houses of white cells
-pub in-row-run : (p : Light) (c d : ℕ) → 0 < p.size.w → joined_in_row p c d ≡ true → has_place (row_run p c) d ≡ true
-unfolding row_run
-in-row-run p c d pos on =
-    let w = row-of p c d pos on in
-    place-kept (joined_in_row p c) (row_places p.size (c / p.size.w)) d (rw w.2 at (has_place-here (row_places p.size (c / p.size.w)) w.0 (omega (arith, w.1, row-long p.size (c / p.size.w))))) on
-
-pub in-column-run : (p : Light) (c d : ℕ) → 0 < p.size.w → d < light_cells p → joined_in_column p c d ≡ true → has_place (column_run p c) d ≡ true
-unfolding column_run
-in-column-run p c d pos lt on =
-    let w = column-of p c d pos lt on in
-    place-kept (joined_in_column p c) (column_places p.size (c % p.size.w)) d (rw w.2 at (has_place-here (column_places p.size (c % p.size.w)) w.0 (omega (arith, w.1, column-long p.size (c % p.size.w))))) on
-
 pub row-run-joined : (p : Light) (c d : ℕ) → has_place (row_run p c) d ≡ true → joined_in_row p c d ≡ true
 unfolding row_run
 row-run-joined p c d on = (place-filter (joined_in_row p c) (row_places p.size (c / p.size.w)) d on).1
@@ -183,38 +102,47 @@ column-run-distinct : (p : Light) (c : ℕ) → IsBoard p → AreDistinct (colum
 unfolding column_run
 column-run-distinct p c board = distinct-filter (joined_in_column p c) (column_places p.size (c % p.size.w)) (column-distinct p.size (c % p.size.w) board.some)
 
-lit-kind : (p : Light) (c : ℕ) → IsBoard p → c < light_cells p → white p c ≡ true → IsMet p (record { places = seen_from p c; least = 1; most = length (seen_from p c) })
-unfolding seen_from meets lit_right sees_bulb sees
-lit-kind p c board lt on = record {
-  is_house = record {
-    within = λ d m. elim (place-append (row_run p c) others d m) [
+-- cells of which each sees each hold one bulb at most
+run-kind : (p : Light) (run : List ℕ) → AreDistinct run → length run ≤ 256 → ((d : ℕ) → has_place run d ≡ true → d < light_cells p)
+    → ((d e : ℕ) → has_place run d ≡ true → has_place run e ≡ true → (joined_in_row p d e || joined_in_column p d e) ≡ true)
+    → IsMet (light_cells p) (is_lit p) (one_at_most run)
+run-kind p run distinct few within joined = met-from (light_cells p) (is_lit p) (one_at_most run) within distinct (omega arith) (omega arith) (omega arith)
+    (λ g grid good. (omega arith, count-one (bulb g) run distinct (λ d e md me bd be. no-sight p g grid good d e bd be (joined d e md me))))
+
+pub row-kind : (p : Light) (c : ℕ) → IsBoard p → IsMet (light_cells p) (is_lit p) (one_at_most (row_run p c))
+row-kind p c board = run-kind p (row_run p c) (row-run-distinct p c) (row-run-few p c board)
+    (λ d on. white-in p d board.long (row-white-end p c d board.some (row-run-joined p c d on)))
+    (λ d e md me. or_left _ _ (row-both p c d e (row-run-joined p c d md) (row-run-joined p c e me)))
+
+pub column-kind : (p : Light) (c : ℕ) → IsBoard p → IsMet (light_cells p) (is_lit p) (one_at_most (column_run p c))
+column-kind p c board = run-kind p (column_run p c) (column-run-distinct p c board) (column-run-few p c board)
+    (λ d on. white-in p d board.long (column-white-end p c d board.some (column-run-joined p c d on)))
+    (λ d e md me. or_right _ _ (column-both p c d e (column-run-joined p c d md) (column-run-joined p c e me)))
+
+-- ---- the houses of white cells
+pub in-row-run : (p : Light) (c d : ℕ) → 0 < p.size.w → joined_in_row p c d ≡ true → has_place (row_run p c) d ≡ true
+unfolding row_run
+in-row-run p c d pos on = grind (arith, common_steps, row-of, place-kept, has_place-here, row-long)
+
+pub in-column-run : (p : Light) (c d : ℕ) → 0 < p.size.w → d < light_cells p → joined_in_column p c d ≡ true → has_place (column_run p c) d ≡ true
+unfolding column_run
+in-column-run p c d pos lt on = grind (arith, common_steps, column-of, place-kept, has_place-here, column-long)
+
+lit-kind : (p : Light) (c : ℕ) → IsBoard p → c < light_cells p → white p c ≡ true → IsMet (light_cells p) (is_lit p) (one_at_least (seen_from p c))
+unfolding seen_from lit_right sees_bulb sees
+lit-kind p c board lt on = met-from (light_cells p) (is_lit p) (one_at_least (row_run p c ++ filter (λ d. not (eqb d c)) (column_run p c)))
+    (λ d m. elim (place-append (row_run p c) others d m) [
       | inl a ↦ (row-kind p c board).is_house.within d a
       | inr b ↦ (column-kind p c board).is_house.within d (place-filter (λ d. not (eqb d c)) (column_run p c) d b).0
-    ];
-    different = different-from (row_run p c ++ filter (λ d. not (eqb d c)) (column_run p c)) distinct;
-    few_places = few;
-    least_small = omega arith;
-    most_small = few;
-  };
-  met = λ g grid good.
-      let all = row_run p c ++ filter (λ d. not (eqb d c)) (column_run p c) in
-      let a = ones-bulbs g all (small-at (light_cells p) g grid) in
-      let b = count_by-le-length (bulb g) all in
-      let s = some-bulb g grid good in
-      let k = count-some (bulb g) all s.0 s.1 s.2 in
-      between-from 1 (length all) (map (slice_index g) all) (omega arith) (omega arith);
-}
+    ])
+    distinct few (omega arith) few
+    (λ g grid good. let s = some-bulb g grid good in (count-some (bulb g) _ s.0 s.1 s.2, count_by-le-length (bulb g) _))
   where
     others : List ℕ
     others = filter (λ d. not (eqb d c)) (column_run p c)
 
-    few : length (row_run p c ++ filter (λ d. not (eqb d c)) (column_run p c)) < 2 ^ 32
-    few =
-        let a = length-append (row_run p c) (filter (λ d. not (eqb d c)) (column_run p c)) in
-        let b = row-run-few p c board in
-        let f = column-run-few p c board in
-        let h = filter-few (λ d. not (eqb d c)) (column_run p c) in
-        omega arith
+    few : length (row_run p c ++ filter (λ d. not (eqb d c)) (column_run p c)) ≤ 512
+    few = grind (arith, common_steps, length-append, row-run-few, column-run-few, filter-few)
 
     -- a cell of the row and of the column is the cell itself
     apart : (d : ℕ) → has_place (row_run p c) d ≡ true → has_place (filter (λ d. not (eqb d c)) (column_run p c)) d ≡ true → ⊥
@@ -252,12 +180,12 @@ lit-kind p c board lt on = record {
       ]
     ]
 
-each-met : (p : Light) → IsBoard p → EachOf (IsMet p) (light_houses p)
+each-met : (p : Light) → IsBoard p → EachOf (IsMet (light_cells p) (is_lit p)) (light_houses p)
 unfolding light_houses
-each-met p board = each-append (IsMet p) _ _ (each-below (IsMet p) (number_house p) (light_cells p) (λ c lt. number-kind p c board lt))
-    (each-append (IsMet p) _ _ (each-below (IsMet p) (row_house p) (light_cells p) (λ c lt. each-if (IsMet p) (begins_row_run p c) _ (λ _. row-kind p c board)))
-    (each-append (IsMet p) _ _ (each-below (IsMet p) (column_house p) (light_cells p) (λ c lt. each-if (IsMet p) (begins_column_run p c) _ (λ _. column-kind p c board)))
-    (each-below (IsMet p) (lit_house p) (light_cells p) (λ c lt. each-if (IsMet p) (white p c) _ (λ on. lit-kind p c board lt on)))))
+each-met p board = each-append (IsMet (light_cells p) (is_lit p)) _ _ (each-below (IsMet (light_cells p) (is_lit p)) (number_house p) (light_cells p) (λ c lt. number-kind p c board lt))
+    (each-append (IsMet (light_cells p) (is_lit p)) _ _ (each-below (IsMet (light_cells p) (is_lit p)) (row_house p) (light_cells p) (λ c lt. each-if (IsMet (light_cells p) (is_lit p)) (begins_row_run p c) _ (λ _. row-kind p c board)))
+    (each-append (IsMet (light_cells p) (is_lit p)) _ _ (each-below (IsMet (light_cells p) (is_lit p)) (column_house p) (light_cells p) (λ c lt. each-if (IsMet (light_cells p) (is_lit p)) (begins_column_run p c) _ (λ _. column-kind p c board)))
+    (each-below (IsMet (light_cells p) (is_lit p)) (lit_house p) (light_cells p) (λ c lt. each-if (IsMet (light_cells p) (is_lit p)) (white p c) _ (λ on. lit-kind p c board lt on)))))
 
 -- ---- a puzzle's board
 number-few : (cells : List LightCell) (c n : ℕ) → AllByRecursion IsLightCell cells → get_or cells c Black ≡ Numbered n → n ≤ 4

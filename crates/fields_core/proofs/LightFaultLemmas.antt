@@ -1,5 +1,5 @@
 -- A grid without a fault is a solution, and one with a fault is not.
-use Rattle.std.proofs.Common.{◌≡◌, ℕ, Bool, true, false, List, Some, sym, ◌∙◌}
+use Rattle.std.proofs.Common.{arith, ◌≡◌, ℕ, Bool, true, false, List, Some, sym, ◌∙◌}
 use Rattle.std.proofs.lemmas.Bool.{and_from, and_parts, true≢false, false_from_ne_true}
 use Rattle.grid_core.specs.Candidates.{all_below}
 use Rattle.grid_core.proofs.CandidateLemmas.{all_below-at}
@@ -9,6 +9,7 @@ use Rattle.fields_core.specs.Light.{light_cells, black_right, number_right, bulb
 use Rattle.fields_core.specs.LightFaults.{IsLightFault}
 use Rattle.fields_core.specs.declared.light_fault.LightFault.{LightFault}
 use Rattle.fields_core.specs.declared.light_fault.LightFault.TheVariants.{Black, Number, Seen, Dark}
+use Rattle.std.proofs.lemmas.Grind.{common_steps}
 
 pub lit-from : (p : Light) (g : List ℕ) → all_below (black_right p g) (light_cells p) ≡ true → all_below (number_right p g) (light_cells p) ≡ true
     → all_below (bulb_right p g) (light_cells p) ≡ true → all_below (lit_right p g) (light_cells p) ≡ true → is_lit p g ≡ true
@@ -23,11 +24,7 @@ pub record LitParts (p : Light) (g : List ℕ) : Type 0 where
 
 pub lit-parts : (p : Light) (g : List ℕ) → is_lit p g ≡ true → LitParts p g
 unfolding is_lit
-lit-parts p g on =
-    let a = and_parts (all_below (black_right p g) (light_cells p)) _ on in
-    let b = and_parts (all_below (number_right p g) (light_cells p)) _ a.1 in
-    let c = and_parts (all_below (bulb_right p g) (light_cells p)) _ b.1 in
-    record { black = a.0; number = b.0; seen = c.0; lit = c.1 }
+lit-parts p g on = grind (arith, common_steps, and_parts)
 
 pub first-breaks : (right : ℕ → Bool) (n c : ℕ) → IsFirst right n c → all_below right n ≡ true → ⊥
 first-breaks right n c first on = true≢false (sym (all_below-at right n c on first.below) ∙ first.wrong)

@@ -1,7 +1,7 @@
 -- The houses of Light Up are houses, and each solution meets them.
-use Rattle.std.proofs.Common.{◌≡◌, ℕ, zero, suc, ◌+◌, ◌-◌, ◌*◌, ◌/◌, ◌%◌, ◌<◌, ◌≤◌, min, max, Bool, true, false, not, ◌||◌, eqb, ltb, cond, List, [], ◌∷◌, ◌++◌, length, refl, sym, ap, ◌∙◌, inl, inr, arith}
+use Rattle.std.proofs.Common.{◌≡◌, ℕ, zero, suc, ◌+◌, ◌-◌, ◌*◌, ◌/◌, ◌%◌, ◌<◌, ◌≤◌, min, max, Bool, true, false, not, ◌||◌, eqb, ltb, cond, List, [], ◌∷◌, ◌++◌, length, slice_index, map, refl, sym, ap, ◌∙◌, inl, inr, arith, le-leb}
 use Rattle.std.proofs.lemmas.Bool.{cases_Bool, cases_lt, cases_eq, or_left, or_right, or_cases, or_parts, and_from, and_parts, true≢false, false_from_ne_true, eqb-true, eq-eqb, lt-ltb, ltb-true}
-use Rattle.std.specs.List.{filter}
+use Rattle.std.specs.List.{filter, count_by}
 use Rattle.std.proofs.lemmas.List.{get_or_past}
 use Rattle.std.proofs.lemmas.List.Elements.{filter_agree}
 use Rattle.std.proofs.Math.Nat.{mul-le-mul_right}
@@ -11,12 +11,17 @@ use Rattle.grid_core.proofs.RegionLemmas.{row-at, column-at}
 use Rattle.grid_core.proofs.CandidateLemmas.{all_below-at, all_below-from}
 use Rattle.gameid_core.specs.Puzzles.{Light}
 use Rattle.gameid_core.specs.declared.light_cell.LightCell.TheVariants.{Black}
-use Rattle.engine_core.specs.PlaceLaws.{AreDistinct, distinct-from}
-use Rattle.fields_core.specs.CountHouse.{CountHouse, count_house_of, houses_below}
-use Rattle.fields_core.specs.Light.{light_cells, is_white, white, clear, joined_in_row, joined_in_column}
+use Rattle.engine_core.specs.Puzzle.{has_place}
+use Rattle.engine_core.specs.PlaceLaws.{AreDistinct, distinct-from, different-from}
+use Rattle.grid_core.specs.Grids.{IsGrid}
+use Rattle.fields_core.specs.CountHouse.{CountHouse, count_house_of, houses_below, meets, IsHouse}
+use Rattle.fields_core.specs.Count.{nonzeros}
+use Rattle.fields_core.specs.Light.{light_cells, is_white, white, bulb, clear, joined_in_row, joined_in_column}
 use Rattle.fields_core.specs.LightHouses.{row_run, begins_row_run}
 use Rattle.fields_core.proofs.HouseLists.{row-long, column-long}
 use Rattle.fields_core.proofs.TentBeside.{cell-parts}
+use Rattle.fields_core.proofs.PlaceLists.{ones-bulbs}
+use Rattle.std.proofs.lemmas.Grind.{common_steps}
 
 -- ---- what holds of each house of a list
 abbrev pub EachOf : (CountHouse → Type 0) → List CountHouse → Type 0
@@ -43,6 +48,29 @@ pub each-if : (P : CountHouse → Type 0) (b : Bool) (house : CountHouse) → (b
 each-if P true house is = each-one P house (is refl)
 each-if P false house is = each-none P
 
+-- ---- a house of the board that each solution meets
+pub record IsMet (cells : ℕ) (good : List ℕ → Bool) (house : CountHouse) : Type 0 where
+  pub is_house : IsHouse cells house
+  pub met : (g : List ℕ) → IsGrid cells 2 g → good g ≡ true → meets house g ≡ true
+
+pub small-at : (cells : ℕ) (g : List ℕ) → IsGrid cells 2 g → (c : ℕ) → slice_index g c < 2
+small-at cells g grid c = grind (arith, common_steps, cases_lt, get_or_past)
+
+-- the ones of its cells are to be counted
+pub met-from : (cells : ℕ) (good : List ℕ → Bool) (house : CountHouse) → ((c : ℕ) → has_place house.places c ≡ true → c < cells) → AreDistinct house.places
+    → length house.places ≤ 512 → house.least ≤ 512 → house.most ≤ 512
+    → ((g : List ℕ) → IsGrid cells 2 g → good g ≡ true → (house.least ≤ count_by (bulb g) house.places) × (count_by (bulb g) house.places ≤ house.most))
+    → IsMet cells good house
+unfolding meets
+met-from cells good house within distinct few least most counted = record {
+  is_house = record { within = within; different = different-from house.places distinct; few_places = omega arith; least_small = omega arith; most_small = omega arith };
+  met = λ g grid on.
+      let n = counted g grid on in
+      let same = ones-bulbs g house.places (small-at cells g grid) in
+      and_from _ _ (le-leb house.least (nonzeros (map (slice_index g) house.places)) (omega (arith, n.0)))
+      (le-leb (nonzeros (map (slice_index g) house.places)) house.most (omega (arith, n.1)));
+}
+
 -- ---- white cells and lines
 pub clear-at : (test : ℕ → Bool) (j k i : ℕ) → clear test j k ≡ true → min j k ≤ i → i ≤ max j k → test i ≡ true
 unfolding clear
@@ -53,10 +81,7 @@ clear-at test j k i on low high = elim (or_cases (ltb i (min j k)) (test i) (all
 
 pub clear-from : (test : ℕ → Bool) (j k : ℕ) → ((i : ℕ) → min j k ≤ i → i ≤ max j k → test i ≡ true) → clear test j k ≡ true
 unfolding clear
-clear-from test j k each = all_below-from (λ i. ltb i (min j k) || test i) (suc (max j k)) (λ i lt. elim (cases_lt i (min j k)) [
-  | inl low ↦ or_left (ltb i (min j k)) (test i) (lt-ltb i (min j k) low)
-  | inr high ↦ or_right (ltb i (min j k)) (test i) (each i high (omega arith))
-])
+clear-from test j k each = grind (arith, common_steps, all_below-from, cases_lt, or_left, lt-ltb, or_right)
 
 -- two that are both joined to a third are joined
 clear-both : (test : ℕ → Bool) (j k l : ℕ) → clear test j k ≡ true → clear test j l ≡ true → clear test k l ≡ true
@@ -140,43 +165,20 @@ module _ (p : Light) (c d : ℕ) (some : 0 < p.size.w) (next : c + 1 ≡ d) (bef
       back = row-both p c d c row-next (row-self p c before)
 
       same : (e : ℕ) → joined_in_row p c e ≡ joined_in_row p d e
-      same e = elim (cases_Bool (joined_in_row p c e)) [
-        | inl a ↦ a ∙ sym (row-both p c d e row-next a)
-        | inr off ↦ off ∙ sym (false_from_ne_true (joined_in_row p d e) (λ a. true≢false (sym (row-both p d c e back a) ∙ off)))
-      ]
+      same e = grind (arith, common_steps, cases_Bool, row-both, row-next, false_from_ne_true, back)
 
 pub row-run-on : (p : Light) (d : ℕ) (row : List ℕ) → 0 < p.size.w → false ≡ begins_row_run p d → ((c : ℕ) → c + 1 ≡ d → white p c ≡ true → row ≡ row_run p c) → white p d ≡ true → row ≡ row_run p d
 unfolding begins_row_run
-row-run-on p d row some off run on =
-    let w : ((eqb (d % p.size.w) 0) || not (white p (d - 1))) ≡ false = sym (rw on at off) in
-    let parts = or_parts _ _ w in
-    let inner : d % p.size.w ≡ 0 → ⊥ = λ z. true≢false (sym (eq-eqb (d % p.size.w) 0 z) ∙ parts.0) in
-    let before : white p (d - 1) ≡ true = by (white p (d - 1)) parts.1 in
-    let next : d - 1 + 1 ≡ d = by-place d inner in
-    run (d - 1) next before ∙ row-run-next p (d - 1) d some next before on inner
-  where
-    by : (b : Bool) → not b ≡ false → b ≡ true
-    by true e = refl
-    by false e = absurd (true≢false e)
-
-    by-place : (n : ℕ) → (n % p.size.w ≡ 0 → ⊥) → n - 1 + 1 ≡ n
-    by-place zero inner = absurd (inner (omega arith))
-    by-place (suc n) inner = omega arith
+row-run-on p d row some off run on = grind (arith, common_steps, or_parts, eq-eqb, row-run-next)
 
 -- a white cell lies in the grid
 pub white-in : (p : Light) (c : ℕ) → length p.cells ≡ light_cells p → white p c ≡ true → c < light_cells p
 unfolding white
-white-in p c long on = elim (cases_lt c (length p.cells)) [
-  | inl low ↦ omega arith
-  | inr high ↦ absurd (true≢false (sym on ∙ ap is_white (get_or_past p.cells c Black high)))
-]
+white-in p c long on = grind (arith, common_steps, cases_lt, get_or_past)
 
 -- ---- the places of lines and of neighbours are different
 pub row-distinct : (size : Extent) (y : ℕ) → AreDistinct (row_places size y)
-row-distinct size y = distinct-from (row_places size y) (λ j k lj lk e.
-    let long = row-long size y in
-    let f : y * size.w + j ≡ y * size.w + k = row-at size y j (omega arith) ∙ e ∙ sym (row-at size y k (omega arith)) in
-    omega arith)
+row-distinct size y = grind (arith, common_steps, distinct-from, row-long, row-at)
 
 pub column-distinct : (size : Extent) (x : ℕ) → 0 < size.w → AreDistinct (column_places size x)
 column-distinct size x pos = distinct-from (column_places size x) (λ j k lj lk e.
@@ -185,10 +187,4 @@ column-distinct size x pos = distinct-from (column_places size x) (λ j k lj lk 
     mul-inj j k size.w pos (omega arith))
   where
     mul-inj : (j k w : ℕ) → 0 < w → j * w ≡ k * w → j ≡ k
-    mul-inj j k w pos e = elim (cases_lt j k) [
-      | inl low ↦ let h : (j + 1) * w ≤ k * w = mul-le-mul_right w (omega arith) in absurd (omega arith)
-      | inr high ↦ elim (cases_lt k j) [
-        | inl low ↦ let h : (k + 1) * w ≤ j * w = mul-le-mul_right w (omega arith) in absurd (omega arith)
-        | inr same ↦ omega arith
-      ]
-    ]
+    mul-inj j k w pos e = grind (arith, common_steps, cases_lt, mul-le-mul_right)

@@ -16,6 +16,7 @@ use Rattle.fields_core.specs.declared.light_fault.LightFault.{LightFault}
 use Rattle.fields_core.proofs.LightFaultLemmas.{lit-from, lit-parts, fault-not}
 use Rattle.fields_core.proofs.LightHouseLaws.{clear-at, clear-from, row-parts, column-parts}
 use Rattle.fields_core.proofs.LightSight.{some-column}
+use Rattle.std.proofs.lemmas.Grind.{common_steps}
 
 -- ---- who sees whom
 div-under : (a b w : ℕ) → 0 < w → a ≤ b → a / w ≤ b / w
@@ -40,20 +41,7 @@ row-joined p a b on =
 
 joined-row : (p : Light) (a b : ℕ) → 0 < p.size.w → AreJoined p (light_row p) a b → joined_in_row p a b ≡ true
 unfolding joined_in_row
-joined-row p a b pos is = and_from _ _ (eq-eqb (a / p.size.w) (b / p.size.w) is.same_line)
-    (clear-from (λ x. white p (a / p.size.w * p.size.w + x)) (a % p.size.w) (b % p.size.w) (λ x low high.
-    let la = mod-lt a pos in
-    let lb = mod-lt b pos in
-    let here : a / p.size.w * p.size.w + a % p.size.w ≡ a = omega arith in
-    let there : a / p.size.w * p.size.w + b % p.size.w ≡ b = rw is.same_line (omega arith) in
-    is.all_white (a / p.size.w * p.size.w + x) (div-mul-add (a / p.size.w) p.size.w x (omega arith))
-    (places-between (a / p.size.w * p.size.w) a b x (a % p.size.w) (b % p.size.w) here there low high)))
-  where
-    places-between : (first a b x i j : ℕ) → first + i ≡ a → first + j ≡ b → min i j ≤ x → x ≤ max i j → IsFromTo a b (first + x)
-    places-between first a b x i j ea eb low high = elim (cases_lt i j) [
-      | inl up ↦ inl (omega arith, omega arith)
-      | inr down ↦ inr (omega arith, omega arith)
-    ]
+joined-row p a b pos is = grind (arith, common_steps, and_from, eq-eqb, clear-from, mod-lt, div-mul-add, cases_lt)
 
 column-joined : (p : Light) (a b : ℕ) → 0 < p.size.w → joined_in_column p a b ≡ true → AreJoined p (light_column p) a b
 column-joined p a b pos on =
@@ -80,35 +68,19 @@ joined-column p a b pos is = and_from _ _ (eq-eqb (a % p.size.w) (b % p.size.w) 
     (places-between a b (a / p.size.w) (b / p.size.w) y p.size.w (a % p.size.w) here there low high)))
   where
     places-between : (a b i j y w x : ℕ) → i * w + x ≡ a → j * w + x ≡ b → min i j ≤ y → y ≤ max i j → IsFromTo a b (y * w + x)
-    places-between a b i j y w x ea eb low high = elim (cases_lt i j) [
-      | inl up ↦ let l : i * w ≤ y * w = mul-le-mul_right w (omega arith) in let h : y * w ≤ j * w = mul-le-mul_right w (omega arith) in inl (omega arith, omega arith)
-      | inr down ↦ let l : j * w ≤ y * w = mul-le-mul_right w (omega arith) in let h : y * w ≤ i * w = mul-le-mul_right w (omega arith) in inr (omega arith, omega arith)
-    ]
+    places-between a b i j y w x ea eb low high = grind (arith, common_steps, cases_lt, mul-le-mul_right)
 
 sees-rule : (p : Light) (a b : ℕ) → 0 < p.size.w → sees p a b ≡ true → Sees p a b
 unfolding sees
-sees-rule p a b pos on =
-    let parts = and_parts (not (eqb a b)) _ on in (
-      λ e. true≢false (sym (eq-eqb a b e) ∙ not-true (eqb a b) parts.0),
-      elim (or_cases (joined_in_row p a b) (joined_in_column p a b) parts.1) [
-        | inl row ↦ inl (row-joined p a b row)
-        | inr column ↦ inr (column-joined p a b pos column)
-      ],
-    )
+sees-rule p a b pos on = grind (arith, common_steps, and_parts, eq-eqb, not-true, or_cases, row-joined, column-joined)
 
 rule-sees : (p : Light) (a b : ℕ) → 0 < p.size.w → Sees p a b → sees p a b ≡ true
 unfolding sees
-rule-sees p a b pos is = and_from _ _ (ap not (ne_eqb a b is.0)) (elim is.1 [
-  | inl row ↦ or_left (joined_in_row p a b) (joined_in_column p a b) (joined-row p a b pos row)
-  | inr column ↦ or_right (joined_in_row p a b) (joined_in_column p a b) (joined-column p a b pos column)
-])
+rule-sees p a b pos is = grind (arith, common_steps, and_from, ne_eqb, or_left, joined-row, or_right, joined-column)
 
 bulb-rule : (p : Light) (g : List ℕ) (c : ℕ) → 0 < p.size.w → sees_bulb p g c ≡ true → SeesBulb p g c
 unfolding sees_bulb
-bulb-rule p g c pos on =
-    let w = any_below-some (λ d. sees p c d && bulb g d) (light_cells p) on in
-    let parts = and_parts (sees p c w.0) (bulb g w.0) w.2 in
-    record { other = w.0; within = w.1; has_bulb = parts.1; seen = sees-rule p c w.0 pos parts.0 }
+bulb-rule p g c pos on = grind (arith, common_steps, any_below-some, and_parts, sees-rule)
 
 rule-bulb : (p : Light) (g : List ℕ) (c : ℕ) → 0 < p.size.w → SeesBulb p g c → sees_bulb p g c ≡ true
 unfolding sees_bulb
@@ -171,19 +143,10 @@ test-from-rule p g grid s = lit-from p g
     none-at (suc (suc v)) lt off = absurd (omega arith)
 
     black : (c : ℕ) → c < light_cells p → (white p c || eqb (slice_index g c) 0) ≡ true
-    black c lt = elim (cases_Bool (bulb g c)) [
-      | inl on ↦ or_left (white p c) (eqb (slice_index g c) 0) (s.none_on_black c lt on)
-      | inr off ↦ or_right (white p c) (eqb (slice_index g c) 0) (none-at (slice_index g c) (grid.each_value c 0 (let e = grid.each_cell in omega arith)) off)
-    ]
+    black c lt = grind (arith, common_steps, cases_Bool, or_left, slice_index, or_right, none-at)
 
     lit : (c : ℕ) → c < light_cells p → (not (white p c) || (bulb g c || sees_bulb p g c)) ≡ true
-    lit c lt = elim (cases_Bool (white p c)) [
-      | inl is_white ↦ or_right (not (white p c)) (bulb g c || sees_bulb p g c) (elim (s.all_lit c lt is_white) [
-        | inl here ↦ or_left (bulb g c) (sees_bulb p g c) here
-        | inr seen ↦ or_right (bulb g c) (sees_bulb p g c) (rule-bulb p g c (some-column p c lt) seen)
-      ])
-      | inr black_cell ↦ or_left (not (white p c)) (bulb g c || sees_bulb p g c) (ap not black_cell)
-    ]
+    lit c lt = grind (arith, common_steps, cases_Bool, or_right, or_left, rule-bulb, some-column)
 
 -- ---- nothing is wrong exactly with solutions
 pub none-exactly : (p : Light) (g : List ℕ) (fault : Option LightFault) → IsGrid (light_cells p) 2 g → IsLightFault p g fault → (fault ≡ None) ↔ IsLightSolution p g

@@ -11,6 +11,7 @@ use Rattle.fields_core.specs.LightHouses.{row_run, column_run}
 use Rattle.fields_core.proofs.LightSight.{bulb-in, some-column}
 use Rattle.fields_core.proofs.LightCounting.{light-board, row-kind, column-kind, in-row-run, in-column-run, row-run-joined, column-run-joined}
 use Rattle.fields_core.proofs.BelowLemmas.{any-here, any-some}
+use Rattle.std.proofs.lemmas.Grind.{common_steps}
 
 -- another cell than the place, with a bulb
 abbrev pub other_bulb : List ℕ → ℕ → ℕ → Bool
@@ -27,9 +28,7 @@ seen-there p g c d long on joined =
     (and_from _ _ (and_from _ _ (swapped c d w.0) joined) w.1)
 
 pub seen-in-row : (p : Light) (g : List ℕ) (c : ℕ) → length g ≡ light_cells p → list_any (other_bulb g c) (row_run p c) ≡ true → true ≡ sees_bulb p g c
-seen-in-row p g c long on =
-    let w = any-some (other_bulb g c) (row_run p c) on in
-    sym (seen-there p g c w.0 long w.2 (or_left (joined_in_row p c w.0) (joined_in_column p c w.0) (row-run-joined p c w.0 w.1)))
+seen-in-row p g c long on = grind (arith, common_steps, any-some, seen-there, or_left, row-run-joined)
 
 pub seen-in-column : (p : Light) (g : List ℕ) (c : ℕ) → c < light_cells p → length g ≡ light_cells p → list_any (other_bulb g c) (row_run p c) ≡ false → list_any (other_bulb g c) (column_run p c) ≡ sees_bulb p g c
 unfolding sees_bulb sees

@@ -11,6 +11,7 @@ use Rattle.grid_core.specs.Regions.{row_places, column_places, steps, step}
 use Rattle.grid_core.proofs.RegionLemmas.{row-at, column-at}
 use Rattle.gameid_core.specs.Puzzles.{Light}
 use Rattle.fields_core.specs.Light.{light_cells, bulb, joined_in_row, joined_in_column}
+use Rattle.std.proofs.lemmas.Grind.{common_steps}
 
 -- the cells of a row and of a column, by column and by row
 pub row-of : (p : Light) (c d : ℕ) → 0 < p.size.w → joined_in_row p c d ≡ true → (x : ℕ) × (x < p.size.w) × (slice_index (row_places p.size (c / p.size.w)) x ≡ d)
@@ -29,19 +30,11 @@ column-of p c d pos below on =
 
 -- a bulb stands in the grid
 pub bulb-in : (g : List ℕ) (cells d : ℕ) → length g ≡ cells → bulb g d ≡ true → d < cells
-bulb-in g cells d long on = elim (cases_lt d (length g)) [
-  | inl low ↦ omega arith
-  | inr high ↦ let one = eqb-true (slice_index g d) 1 on in let none = get_or_past g d 0 high in absurd (omega arith)
-]
+bulb-in g cells d long on = grind (arith, common_steps, cases_lt, eqb-true, slice_index, get_or_past)
 
 -- ---- bulbs beside a cell
 pub count-append : (test : ℕ → Bool) (xs ys : List ℕ) → count_by test (xs ++ ys) ≡ count_by test xs + count_by test ys
-count-append test xs ys =
-    let whole = length-filter test (xs ++ ys) in
-    let front = length-filter test xs in
-    let back = length-filter test ys in
-    let parts = ap length (filter-append test xs ys) in
-    omega (arith, length-append (filter test xs) (filter test ys))
+count-append test xs ys = grind (arith, common_steps, length-filter, filter-append, length-append)
 
 steps-none : (size : Extent) (place n : ℕ) → None ≡ step size place n → steps size place (n + 1) ≡ steps size place n
 unfolding steps
@@ -67,10 +60,7 @@ unfolding steps
 counted-start g size place = record { few = omega arith; same = refl }
 
 pub counted-none : (g : List ℕ) (size : Extent) (place n bulbs : ℕ) → IsCounted g size place n bulbs → None ≡ step size place n → IsCounted g size place (n + 1) bulbs
-counted-none g size place n bulbs before e = record {
-  few = let f = before.few in omega arith;
-  same = before.same ∙ ap (count_by (bulb g)) (sym (steps-none size place n e));
-}
+counted-none g size place n bulbs before e = grind (arith, common_steps, steps-none)
 
 pub counted-skip : (g : List ℕ) (size : Extent) (place n bulbs d v : ℕ) → IsCounted g size place n bulbs → Some d ≡ step size place n → v ≡ slice_index g d → (v ≡ 1 → ⊥) → IsCounted g size place (n + 1) bulbs
 counted-skip g size place n bulbs d v before e at no_bulb = record {
@@ -85,8 +75,4 @@ counted-more g size place n bulbs d v before e at one = record {
 }
 
 pub some-column : (p : Light) (c : ℕ) → c < light_cells p → 0 < p.size.w
-some-column p c lt = by p.size.w lt
-  where
-    by : (w : ℕ) → c < w * p.size.h → 0 < w
-    by zero h = absurd (omega arith)
-    by (suc w) h = omega arith
+some-column p c lt = grind (arith, common_steps)

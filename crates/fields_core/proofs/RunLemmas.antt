@@ -13,6 +13,7 @@ use Rattle.fields_core.specs.Light.{light_cells, white, clear, joined_in_row, jo
 use Rattle.fields_core.specs.LightHouses.{row_run, column_run}
 use Rattle.fields_core.specs.Runs.{RunsBack, RunsOn}
 use Rattle.fields_core.proofs.LightHouseLaws.{clear-at, clear-from}
+use Rattle.std.proofs.lemmas.Grind.{common_steps}
 
 -- ---- a filter over numbers one after another
 pub range-split : (s a b : ℕ) → range_with_len s (a + b) ≡ range_with_len s a ++ range_with_len (s + a) b
@@ -72,13 +73,7 @@ run-white test len at start end here back on =
     blocked i below joined (suc s) e = let low = back.low in true≢false (sym (clear-at test at i s joined (omega arith) (omega arith)) ∙ back.edge s e)
 
     inside : (i k : ℕ) → start ≤ i → i < end → min at i ≤ k → k ≤ max at i → test k ≡ true
-    inside i k above below a b = elim (cases_lt k at) [
-      | inl before ↦ back.pass k (omega arith) before
-      | inr more ↦ elim (cases_lt at k) [
-        | inl after ↦ on.pass k after (omega arith)
-        | inr same ↦ let e : k ≡ at = omega arith in ap test e ∙ here
-      ]
-    ]
+    inside i k above below a b = grind (arith, common_steps, cases_lt)
 
 -- ---- the same along two ways of numbering one line
 pub filter-map : (f : ℕ → ℕ) (test : ℕ → Bool) (xs : List ℕ) → filter test (map f xs) ≡ map f (filter (λ x. test (f x)) xs)
@@ -104,39 +99,22 @@ map-same f g [] same = refl
 map-same f g (x ∷ xs) same = rw (same x) (ap (λ l. g x ∷ l) (map-same f g xs same))
 
 pub clear-same : (s t : ℕ → Bool) (j k : ℕ) → ((i : ℕ) → s i ≡ t i) → clear s j k ≡ clear t j k
-clear-same s t j k same = same_tests (clear s j k) (clear t j k)
-    (λ on. clear-from t j k (λ i low high. sym (same i) ∙ clear-at s j k i on low high))
-    (λ on. clear-from s j k (λ i low high. same i ∙ clear-at t j k i on low high))
-  where
-    same_tests : (a b : Bool) → (a ≡ true → b ≡ true) → (b ≡ true → a ≡ true) → a ≡ b
-    same_tests true b h k = sym (h refl)
-    same_tests false true h k = k refl
-    same_tests false false h k = refl
+clear-same s t j k same = grind (arith, common_steps, clear-from, clear-at)
 
 -- the places of a run are those of a line that are joined to a cell of it
 pub line-run : (joined : ℕ → Bool) (test along_test : ℕ → Bool) (at len : ℕ) (place along : ℕ → ℕ)
     → ((i : ℕ) → along i ≡ place i) → ((i : ℕ) → along_test i ≡ test i) → ((i : ℕ) → i < len → joined (place i) ≡ clear test at i)
     → map along (filter (clear along_test at) (range_with_len 0 len)) ≡ filter joined (map place (range_with_len 0 len))
-line-run joined test along_test at len place along same_place same_test is =
-    map-same along place (filter (clear along_test at) (range_with_len 0 len)) same_place
-    ∙ ap (map place) (filter-same (clear along_test at) (λ i. joined (place i)) 0 len (λ i low high. clear-same along_test test at i same_test ∙ sym (is i (omega arith))))
-    ∙ sym (filter-map place joined (range_with_len 0 len))
+line-run joined test along_test at len place along same_place same_test is = grind (arith, common_steps, map-same, filter-same, clear-same, filter-map)
 
 -- ---- the run of a row and of a column
 row-cell-joined : (p : Light) (c x : ℕ) → x < p.size.w → joined_in_row p c (c / p.size.w * p.size.w + x) ≡ clear (λ i. white p (c / p.size.w * p.size.w + i)) (c % p.size.w) x
 unfolding joined_in_row
-row-cell-joined p c x lt =
-    let q = div-mul-add (c / p.size.w) p.size.w x lt in
-    let r = mod-mul-add (c / p.size.w) p.size.w x lt in
-    rw (q, r, eq-eqb (c / p.size.w) (c / p.size.w) refl) refl
+row-cell-joined p c x lt = grind (arith, common_steps, div-mul-add, mod-mul-add, eq-eqb)
 
 column-cell-joined : (p : Light) (c y : ℕ) → 0 < p.size.w → joined_in_column p c (y * p.size.w + c % p.size.w) ≡ clear (λ i. white p (i * p.size.w + c % p.size.w)) (c / p.size.w) y
 unfolding joined_in_column
-column-cell-joined p c y pos =
-    let lt = mod-lt c pos in
-    let q = div-mul-add y p.size.w (c % p.size.w) lt in
-    let r = mod-mul-add y p.size.w (c % p.size.w) lt in
-    rw (q, r, eq-eqb (c % p.size.w) (c % p.size.w) refl) refl
+column-cell-joined p c y pos = grind (arith, common_steps, mod-lt, div-mul-add, mod-mul-add, eq-eqb)
 
 pub row-run-is : (p : Light) (c w : ℕ) → w ≡ p.size.w
     → map (λ i. c - c % w + i * 1) (filter (clear (λ i. white p (c - c % w + i * 1)) (c % w)) (range_with_len 0 w)) ≡ row_run p c
@@ -167,13 +145,7 @@ pub run-long : (f : ℕ → ℕ) (start n : ℕ) (xs : List ℕ) → map f (rang
 run-long f start n xs e = sym (length-map-range_with_len f start n) ∙ ap length e
 
 pub run-at : (first stride start n k : ℕ) (xs : List ℕ) → map (λ i. first + i * stride) (range_with_len start n) ≡ xs → k < length xs → first + (start + k) * stride ≡ slice_index xs k
-run-at first stride start n k xs e lt =
-    let long = run-long (λ i. first + i * stride) start n xs e in
-    sym (get_or-map-range_with_len (λ i. first + i * stride) start n k (start + k) 0 (omega arith) refl) ∙ ap (λ l. slice_index l k) e
+run-at first stride start n k xs e lt = grind (arith, common_steps, run-long, get_or-map-range_with_len, slice_index)
 
 pub few-cells : (p : Light) → IsLight p → light_cells p < 2 ^ 32
-few-cells p is =
-    let w = is.size.extent.w_high in
-    let h = is.size.extent.h_high in
-    let a : p.size.w * p.size.h ≤ 256 * p.size.h = mul-le-mul_right p.size.h (omega arith) in
-    omega arith
+few-cells p is = grind (arith, common_steps, mul-le-mul_right)

@@ -7,6 +7,7 @@ use Rattle.grid_core.specs.Extent.{Extent}
 use Rattle.grid_core.specs.Regions.{steps, step, if_there}
 use Rattle.engine_core.specs.Puzzle.{has_place}
 use Rattle.engine_core.specs.PlaceLaws.{AreDistinct, place-append, distinct-append}
+use Rattle.std.proofs.lemmas.Grind.{common_steps}
 
 pub some-inj : {x y : ℕ} → Some x ≡ Some y → x ≡ y
 some-inj {x} {y} e = cc
@@ -25,47 +26,25 @@ step-up size c d e =
 
 pub step-left : (size : Extent) (c d : ℕ) → step size c 1 ≡ Some d → (d + 1 ≡ c) × (1 ≤ c % size.w)
 unfolding step
-step-left size c d e =
-    let w = step-when (leb 1 (c % size.w)) (c - 1) d e in
-    let some = leb-true 1 (c % size.w) w.0 in
-    (omega (arith, w.1), some)
+step-left size c d e = grind (arith, common_steps, step-when, leb-true)
 
 pub step-right : (size : Extent) (c d : ℕ) → step size c 2 ≡ Some d → (d ≡ c + 1) × (c % size.w + 1 < size.w)
 unfolding step
-step-right size c d e =
-    let w = step-when (ltb (c % size.w + 1) size.w) (c + 1) d e in
-    (sym w.1, ltb-true (c % size.w + 1) size.w w.0)
+step-right size c d e = grind (arith, common_steps, step-when, ltb-true)
 
 pub step-down : (size : Extent) (c d : ℕ) → step size c 3 ≡ Some d → (d ≡ c + size.w) × (c / size.w + 1 < size.h)
 unfolding step
-step-down size c d e =
-    let w = step-when (ltb (c / size.w + 1) size.h) (c + size.w) d e in
-    (sym w.1, ltb-true (c / size.w + 1) size.h w.0)
+step-down size c d e = grind (arith, common_steps, step-when, ltb-true)
 
--- two directions lead to different cells
-apart : (size : Extent) (c d k m : ℕ) → 0 < size.w → k < m → m < 4 → step size c k ≡ Some d → step size c m ≡ Some d → ⊥
-apart size c d zero zero pos lt less a b = absurd (omega arith)
-apart size c d zero (suc zero) pos lt less a b =
-    let u = step-up size c d a in
-    let v = step-left size c d b in
-    let r = mod-lt c pos in
-    absurd (omega (arith, v.0, v.1))
-apart size c d zero (suc (suc zero)) pos lt less a b = let u = step-up size c d a in let v = step-right size c d b in absurd (omega (arith, v.0))
-apart size c d zero (suc (suc (suc zero))) pos lt less a b = let u = step-up size c d a in let v = step-down size c d b in absurd (omega (arith, v.0))
-apart size c d (suc zero) (suc zero) pos lt less a b = absurd (omega arith)
-apart size c d (suc zero) (suc (suc zero)) pos lt less a b = let u = step-left size c d a in let v = step-right size c d b in absurd (omega (arith, u.0, v.0))
-apart size c d (suc zero) (suc (suc (suc zero))) pos lt less a b = let u = step-left size c d a in let v = step-down size c d b in absurd (omega (arith, u.0, v.0))
-apart size c d (suc (suc zero)) (suc (suc zero)) pos lt less a b = absurd (omega arith)
-apart size c d (suc (suc zero)) (suc (suc (suc zero))) pos lt less a b =
-    let u = step-right size c d a in
-    let v = step-down size c d b in
-    absurd (omega (arith, u.0, u.1, v.0))
-apart size c d (suc zero) zero pos lt less a b = absurd (omega arith)
-apart size c d (suc (suc k)) zero pos lt less a b = absurd (omega arith)
-apart size c d (suc (suc k)) (suc zero) pos lt less a b = absurd (omega arith)
-apart size c d (suc (suc (suc k))) (suc (suc zero)) pos lt less a b = absurd (omega arith)
-apart size c d (suc (suc (suc k))) (suc (suc (suc zero))) pos lt less a b = absurd (omega arith)
-apart size c d k (suc (suc (suc (suc m)))) pos lt less a b = absurd (omega arith)
+-- a later direction leads to a later cell
+pub ascends : (size : Extent) (c d e k m : ℕ) → 0 < size.w → k < m → m < 4 → step size c k ≡ Some d → step size c m ≡ Some e → d < e
+ascends size c d e zero (suc zero) pos lt less a b = let u = step-up size c d a in let v = step-left size c e b in let r = mod-lt c pos in omega (arith, v.0, v.1)
+ascends size c d e zero (suc (suc zero)) pos lt less a b = let u = step-up size c d a in let v = step-right size c e b in omega (arith, v.0)
+ascends size c d e zero (suc (suc (suc zero))) pos lt less a b = let u = step-up size c d a in let v = step-down size c e b in omega (arith, v.0)
+ascends size c d e (suc zero) (suc (suc zero)) pos lt less a b = let u = step-left size c d a in let v = step-right size c e b in omega (arith, u.0, v.0)
+ascends size c d e (suc zero) (suc (suc (suc zero))) pos lt less a b = let u = step-left size c d a in let v = step-down size c e b in omega (arith, u.0, v.0)
+ascends size c d e (suc (suc zero)) (suc (suc (suc zero))) pos lt less a b = let u = step-right size c d a in let v = step-down size c e b in omega (arith, u.0, u.1, v.0)
+ascends size c d e k m pos lt less a b = absurd (omega arith)
 
 there-is : (o : Option ℕ) (d : ℕ) → has_place (if_there o) d ≡ true → o ≡ Some d
 unfolding has_place
@@ -92,7 +71,7 @@ pub steps-distinct : (size : Extent) (c n : ℕ) → 0 < size.w → n ≤ 4 → 
 unfolding steps
 steps-distinct size c zero pos few = tt
 steps-distinct size c (suc n) pos few = distinct-append (steps size c n) (if_there (step size c n)) (steps-distinct size c n pos (omega arith)) (there-distinct (step size c n))
-    (λ d a b. let w = steps-some size c n d a in apart size c d w.0 n pos w.1 (omega arith) w.2 (there-is (step size c n) d b))
+    (λ d a b. let w = steps-some size c n d a in let up = ascends size c d d w.0 n pos w.1 (omega arith) w.2 (there-is (step size c n) d b) in absurd (omega arith))
 
 there-few : (o : Option ℕ) → length (if_there o) ≤ 1
 there-few None = omega arith

@@ -8,14 +8,11 @@ use Rattle.grid_core.specs.Regions.{steps, step, if_there}
 use Rattle.engine_core.specs.Puzzle.{has_place}
 use Rattle.engine_core.specs.PlaceLaws.{place-front, place-back}
 use Rattle.fields_core.proofs.StepLaws.{step-up, step-left, step-right, step-down, steps-some}
+use Rattle.std.proofs.lemmas.Grind.{common_steps}
 
 -- the row and the column of a cell
 pub cell-parts : (w q r d : ℕ) → r < w → d ≡ q * w + r → (d / w ≡ q) × (d % w ≡ r)
-cell-parts w q r d lt e =
-    let row : d / w ≡ q = ap (λ n. n / w) e ∙ div-mul-add q w r lt in
-    let whole : d ≡ d / w * w + d % w = omega arith in
-    let f : d ≡ q * w + d % w = rw row at whole in
-    (row, omega arith)
+cell-parts w q r d lt e = grind (arith, common_steps, div-mul-add)
 
 pub whole-cell : (w c : ℕ) → c ≡ c / w * w + c % w
 whole-cell w c = omega arith
@@ -31,11 +28,7 @@ pub row-in : (w h c : ℕ) → 0 < w → c < w * h → c / w < h
 row-in w h c pos lt = (div-lt_iff_lt-mul pos).1 (omega arith)
 
 pub cell-in : (w h c : ℕ) → 0 < w → c / w < h → c < w * h
-cell-in w h c pos lt =
-    let m : (c / w + 1) * w ≤ h * w = mul-le-mul_right w (omega arith) in
-    let r = mod-lt c pos in
-    let e = whole-cell w c in
-    omega arith
+cell-in w h c pos lt = grind (arith, common_steps, mul-le-mul_right, mod-lt, whole-cell)
 
 -- a step leads back by the other direction
 back : (size : Extent) (t c k : ℕ) → 0 < size.w → t < size.w * size.h → c < size.w * size.h → k < 4 → step size t k ≡ Some c → (m : ℕ) × (m < 4) × (step size c m ≡ Some t)
@@ -74,10 +67,7 @@ steps-has size c (suc n) k d lt e = elim (cases_eq k n) [
 ]
 
 pub beside-both : (size : Extent) (t c : ℕ) → 0 < size.w → t < size.w * size.h → c < size.w * size.h → has_place (steps size t 4) c ≡ true → has_place (steps size c 4) t ≡ true
-beside-both size t c pos lt lc on =
-    let w = steps-some size t 4 c on in
-    let b = back size t c w.0 pos lt lc w.1 w.2 in
-    steps-has size c 4 b.0 t b.1 b.2
+beside-both size t c pos lt lc on = grind (arith, common_steps, steps-some, back, steps-has)
 
 -- a step stays in the grid
 step-in : (size : Extent) (c d k : ℕ) → 0 < size.w → c < size.w * size.h → k < 4 → step size c k ≡ Some d → d < size.w * size.h

@@ -17,16 +17,17 @@ use Rattle.engine_core.specs.PlaceLaws.{has_place-at, has_place-here, AreDistinc
 use Rattle.engine_core.specs.Filling.{Set, has_value}
 use Rattle.engine_core.specs.FillingLaws.{filling_from_test, has_value_below}
 use Rattle.gameid_core.specs.Puzzles.{Tents, IsTents, AreCounts, line_cells}
-use Rattle.fields_core.specs.CountHouse.{CountHouse, meets, IsHouse, IsCounting}
+use Rattle.fields_core.specs.CountHouse.{CountHouse, exactly, one_at_most, one_at_least, IsCounting}
 use Rattle.fields_core.specs.Tents.{tent_cells, tree, tent, are_near, touches, tents_in_column, tents_in_row, tree_right, touch_right, column_right, row_right, names_none_twice, leaves_none_out, trees_beside, can_be_paired, is_camp}
 use Rattle.fields_core.specs.TentHouses.{column_of_tents, row_of_tents, free_beside, tree_house, square_house, tent_houses, is_bare}
 use Rattle.fields_core.proofs.HouseLists.{row-long, column-long}
-use Rattle.fields_core.proofs.PlaceLists.{count-some, count-one, ones-bulbs}
+use Rattle.fields_core.proofs.PlaceLists.{count-some, count-one}
 use Rattle.fields_core.proofs.StepLaws.{steps-distinct, steps-few}
-use Rattle.fields_core.proofs.LightHouseLaws.{EachOf, each-one, each-append, each-below, each-if, row-distinct, column-distinct}
-use Rattle.fields_core.proofs.LightCounting.{small-at, between-from, filter-few}
+use Rattle.fields_core.proofs.LightHouseLaws.{IsMet, small-at, met-from, EachOf, each-one, each-append, each-below, each-if, row-distinct, column-distinct}
+use Rattle.fields_core.proofs.LightCounting.{filter-few}
 use Rattle.fields_core.proofs.BelowLemmas.{any-here}
 use Rattle.fields_core.proofs.TentBeside.{cell-below, cell-after, cell-in, beside-both, beside-in}
+use Rattle.std.proofs.lemmas.Grind.{common_steps}
 
 -- the parts of a solution
 pub record CampParts (p : Tents) (g : List ℕ) : Type 0 where
@@ -38,12 +39,7 @@ pub record CampParts (p : Tents) (g : List ℕ) : Type 0 where
 
 pub camp-parts : (p : Tents) (g : List ℕ) → is_camp p g ≡ true → CampParts p g
 unfolding is_camp
-camp-parts p g on =
-    let a = and_parts (all_below (tree_right p g) (tent_cells p)) _ on in
-    let b = and_parts (all_below (touch_right p g) (tent_cells p)) _ a.1 in
-    let c = and_parts (all_below (column_right p g) p.size.w) _ b.1 in
-    let d = and_parts (all_below (row_right p g) p.size.h) _ c.1 in
-    record { trees = a.0; touch = b.0; columns = c.0; rows = d.0; paired = d.1 }
+camp-parts p g on = grind (arith, common_steps, and_parts)
 
 -- what is used of a puzzle
 pub record IsField (p : Tents) : Type 0 where
@@ -53,75 +49,33 @@ pub record IsField (p : Tents) : Type 0 where
   pub long : length p.trees ≡ tent_cells p
   pub number : (k : ℕ) → slice_index p.counts k ≤ 256
 
--- a house of the board that each solution meets
-pub record IsMet (p : Tents) (house : CountHouse) : Type 0 where
-  pub is_house : IsHouse (tent_cells p) house
-  pub met : (g : List ℕ) → IsGrid (tent_cells p) 2 g → is_camp p g ≡ true → meets house g ≡ true
-
 -- ---- columns and rows
 column-within : (p : Tents) (x d : ℕ) → x < p.size.w → has_place (column_places p.size x) d ≡ true → d < tent_cells p
-column-within p x d lt on =
-    let w = has_place-at (column_places p.size x) d on in
-    let k : w.0 < p.size.h = omega (arith, w.1, column-long p.size x) in
-    let e : w.0 * p.size.w + x ≡ d = column-at p.size x w.0 k ∙ w.2 in
-    let m : (w.0 + 1) * p.size.w ≤ p.size.h * p.size.w = mul-le-mul_right p.size.w (omega arith) in
-    omega arith
+column-within p x d lt on = grind (arith, common_steps, has_place-at, column-long, column-at, mul-le-mul_right)
 
 row-within : (p : Tents) (y d : ℕ) → y < p.size.h → has_place (row_places p.size y) d ≡ true → d < tent_cells p
-row-within p y d lt on =
-    let w = has_place-at (row_places p.size y) d on in
-    let k : w.0 < p.size.w = omega (arith, w.1, row-long p.size y) in
-    let e : y * p.size.w + w.0 ≡ d = row-at p.size y w.0 k ∙ w.2 in
-    let m : (y + 1) * p.size.w ≤ p.size.h * p.size.w = mul-le-mul_right p.size.w (omega arith) in
-    omega arith
+row-within p y d lt on = grind (arith, common_steps, has_place-at, row-long, row-at, mul-le-mul_right)
 
-column-kind : (p : Tents) (x : ℕ) → IsField p → x < p.size.w → IsMet p (record { places = column_places p.size x; least = slice_index p.counts x; most = slice_index p.counts x })
-unfolding meets column_right
-column-kind p x field lt = record {
-  is_house = record {
-    within = λ d on. column-within p x d lt on;
-    different = different-from (column_places p.size x) (column-distinct p.size x field.some);
-    few_places = let b = column-long p.size x in let h = field.h_few in omega arith;
-    least_small = let n = field.number x in omega arith;
-    most_small = let n = field.number x in omega arith;
-  };
-  met = λ g grid good.
-      let a = ones-bulbs g (column_places p.size x) (small-at (tent_cells p) g grid) in
-      let e = eqb-true (tents_in_column p.size g x) (slice_index p.counts x) (all_below-at (column_right p g) p.size.w x (camp-parts p g good).columns lt) in
-      between-from (slice_index p.counts x) (slice_index p.counts x) (map (slice_index g) (column_places p.size x)) (omega arith) (omega arith);
-}
+column-kind : (p : Tents) (x : ℕ) → IsField p → x < p.size.w → IsMet (tent_cells p) (is_camp p) (exactly (slice_index p.counts x) (column_places p.size x))
+unfolding column_right
+column-kind p x field lt = met-from (tent_cells p) (is_camp p) _ (λ d on. column-within p x d lt on) (column-distinct p.size x field.some)
+    (omega (arith, column-long p.size x, field.h_few)) (omega (arith, field.number x)) (omega (arith, field.number x)) (λ g grid good.
+    let e = eqb-true (tents_in_column p.size g x) (slice_index p.counts x) (all_below-at (column_right p g) p.size.w x (camp-parts p g good).columns lt) in
+    (omega arith, omega arith))
 
-row-kind : (p : Tents) (y : ℕ) → IsField p → y < p.size.h → IsMet p (record { places = row_places p.size y; least = slice_index p.counts (p.size.w + y); most = slice_index p.counts (p.size.w + y) })
-unfolding meets row_right
-row-kind p y field lt = record {
-  is_house = record {
-    within = λ d on. row-within p y d lt on;
-    different = different-from (row_places p.size y) (row-distinct p.size y);
-    few_places = let b = row-long p.size y in let h = field.w_few in omega arith;
-    least_small = let n = field.number (p.size.w + y) in omega arith;
-    most_small = let n = field.number (p.size.w + y) in omega arith;
-  };
-  met = λ g grid good.
-      let a = ones-bulbs g (row_places p.size y) (small-at (tent_cells p) g grid) in
-      let e = eqb-true (tents_in_row p.size g y) (slice_index p.counts (p.size.w + y)) (all_below-at (row_right p g) p.size.h y (camp-parts p g good).rows lt) in
-      between-from (slice_index p.counts (p.size.w + y)) (slice_index p.counts (p.size.w + y)) (map (slice_index g) (row_places p.size y)) (omega arith) (omega arith);
-}
+row-kind : (p : Tents) (y : ℕ) → IsField p → y < p.size.h → IsMet (tent_cells p) (is_camp p) (exactly (slice_index p.counts (p.size.w + y)) (row_places p.size y))
+unfolding row_right
+row-kind p y field lt = met-from (tent_cells p) (is_camp p) _ (λ d on. row-within p y d lt on) (row-distinct p.size y)
+    (omega (arith, row-long p.size y, field.w_few)) (omega (arith, field.number (p.size.w + y))) (omega (arith, field.number (p.size.w + y))) (λ g grid good.
+    let e = eqb-true (tents_in_row p.size g y) (slice_index p.counts (p.size.w + y)) (all_below-at (row_right p g) p.size.h y (camp-parts p g good).rows lt) in
+    (omega arith, omega arith))
 
 -- ---- trees and their tents
 pub tent-in : (g : List ℕ) (cells d : ℕ) → length g ≡ cells → tent g d ≡ true → d < cells
-tent-in g cells d long on = elim (cases_lt d (length g)) [
-  | inl low ↦ omega arith
-  | inr high ↦ let one = eqb-true (slice_index g d) 1 on in let none = get_or_past g d 0 high in absurd (omega arith)
-]
+tent-in g cells d long on = grind (arith, common_steps, cases_lt, eqb-true, slice_index, get_or_past)
 
 set-has : (p : Tents) (t c : ℕ) → has_value (trees_beside p t) c ≡ true → (c < tent_cells p) × (tree p c ≡ true) × (has_place (steps p.size t 4) c ≡ true)
-set-has p t c on =
-    let below = has_value_below (trees_beside p t) c on in
-    let long = length-map-range_with_len (λ d. tree p d && has_place (steps p.size t 4) d) 0 (tent_cells p) in
-    let lt : c < tent_cells p = omega arith in
-    let at = get_or-map-range_with_len (λ d. tree p d && has_place (steps p.size t 4) d) 0 (tent_cells p) c c false lt (omega arith) in
-    let w = and_parts (tree p c) (has_place (steps p.size t 4) c) (sym at ∙ on) in
-    (lt, w.0, w.1)
+set-has p t c on = grind (arith, common_steps, has_value_below, length-map-range_with_len, get_or-map-range_with_len, and_parts)
 
 -- the tents of a grid by place, and the sets of trees beside them
 unfoldable pub tents_of : Tents → List ℕ → List ℕ
@@ -189,31 +143,20 @@ tree-bare p g good c lt on = elim (or_cases (not (tree p c)) (eqb (slice_index g
   | inr none ↦ eqb-true (slice_index g c) 0 none
 ]
 
-tree-kind : (p : Tents) (c : ℕ) → IsField p → c < tent_cells p → tree p c ≡ true → IsMet p (record { places = free_beside p c; least = 1; most = length (free_beside p c) })
-unfolding meets
-tree-kind p c field lt on = record {
-  is_house = record {
-    within = λ d m. beside-in p.size c d field.some lt (place-filter (λ d. not (tree p d)) (steps p.size c 4) d m).0;
-    different = different-from (free_beside p c) (distinct-filter (λ d. not (tree p d)) (steps p.size c 4) (steps-distinct p.size c 4 field.some (omega arith)));
-    few_places = few;
-    least_small = omega arith;
-    most_small = few;
-  };
-  met = λ g grid good.
-      let a = ones-bulbs g (free_beside p c) (small-at (tent_cells p) g grid) in
-      let b = count_by-le-length (tent g) (free_beside p c) in
-      let w = tree-tent p g grid good c lt on in
-      let free : not (tree p w.0) ≡ true = ap not (false_from_ne_true (tree p w.0) (λ is. let z = tree-bare p g good w.0 w.1 is in let o = eqb-true (slice_index g w.0) 1 w.2 in absurd (omega arith))) in
-      let m = place-kept (λ d. not (tree p d)) (steps p.size c 4) w.0 (beside-both p.size w.0 c field.some w.1 lt w.3) free in
-      let k = count-some (tent g) (free_beside p c) w.0 m w.2 in
-      between-from 1 (length (free_beside p c)) (map (slice_index g) (free_beside p c)) (omega arith) (omega arith);
-}
+tree-kind : (p : Tents) (c : ℕ) → IsField p → c < tent_cells p → tree p c ≡ true → IsMet (tent_cells p) (is_camp p) (one_at_least (free_beside p c))
+tree-kind p c field lt on = met-from (tent_cells p) (is_camp p) _
+    (λ d m. beside-in p.size c d field.some lt (place-filter (λ d. not (tree p d)) (steps p.size c 4) d m).0)
+    (distinct-filter (λ d. not (tree p d)) (steps p.size c 4) (steps-distinct p.size c 4 field.some (omega arith))) few (omega arith) few (λ g grid good.
+    let w = tree-tent p g grid good c lt on in
+    let free : not (tree p w.0) ≡ true = ap not (false_from_ne_true (tree p w.0) (λ is. let z = tree-bare p g good w.0 w.1 is in let o = eqb-true (slice_index g w.0) 1 w.2 in absurd (omega arith))) in
+    let m = place-kept (λ d. not (tree p d)) (steps p.size c 4) w.0 (beside-both p.size w.0 c field.some w.1 lt w.3) free in
+    (count-some (tent g) (free_beside p c) w.0 m w.2, count_by-le-length (tent g) (free_beside p c)))
   where
-    few : length (free_beside p c) < 2 ^ 32
+    few : length (free_beside p c) ≤ 512
     few = let a = filter-few (λ d. not (tree p d)) (steps p.size c 4) in let b = steps-few p.size c 4 in omega arith
 
 -- ---- squares
-square_at : ℕ → ℕ → List ℕ
+abbrev square_at : ℕ → ℕ → List ℕ
 square_at w c = c ∷ (c + 1) ∷ (c + w) ∷ (c + w + 1) ∷ []
 
 -- a cell of a square lies in its rows and columns
@@ -224,24 +167,8 @@ record IsInSquare (w c d : ℕ) : Type 0 where
   pub column_high : d % w ≤ c % w + 1
 
 in-square : (w c d : ℕ) → c % w + 1 < w → has_place (square_at w c) d ≡ true → IsInSquare w c d
-unfolding has_place square_at
-in-square w c d lt on = elim (or_cases (eqb c d) _ on) [
-  | inl e ↦ rw (eqb-true c d e) (record { row_low = omega arith; row_high = omega arith; column_low = omega arith; column_high = omega arith })
-  | inr more ↦ elim (or_cases (eqb (c + 1) d) _ more) [
-    | inl e ↦ let v = cell-after w c lt in let f = eqb-true (c + 1) d e in let s : IsInSquare w c (c + 1) = record { row_low = omega (arith, v.0); row_high = omega (arith, v.0); column_low = omega (arith, v.1); column_high = omega (arith, v.1) } in rw f at s
-    | inr third ↦ elim (or_cases (eqb (c + w) d) _ third) [
-      | inl e ↦ let v = cell-below w c (omega arith) in let f = eqb-true (c + w) d e in let s : IsInSquare w c (c + w) = record { row_low = omega (arith, v.0); row_high = omega (arith, v.0); column_low = omega (arith, v.1); column_high = omega (arith, v.1) } in rw f at s
-      | inr fourth ↦ elim (or_cases (eqb (c + w + 1) d) false fourth) [
-        | inl e ↦
-            let v = cell-below w c (omega arith) in
-            let u = cell-after w (c + w) (let a = v.1 in omega arith) in
-            let f = eqb-true (c + w + 1) d e in
-            let s : IsInSquare w c (c + w + 1) = record { row_low = omega (arith, v.0, u.0); row_high = omega (arith, v.0, u.0); column_low = omega (arith, v.1, u.1); column_high = omega (arith, v.1, u.1) } in rw f at s
-        | inr none ↦ absurd (true≢false (sym none))
-      ]
-    ]
-  ]
-]
+unfolding has_place
+in-square w c d lt on = grind (arith, common_steps, or_cases, eqb-true, cell-after, cell-below)
 
 square-apart : (p : Tents) (g : List ℕ) → IsGrid (tent_cells p) 2 g → is_camp p g ≡ true → (c d e : ℕ) → IsInSquare p.size.w c d → IsInSquare p.size.w c e → tent g d ≡ true → tent g e ≡ true → d ≡ e
 unfolding touch_right touches
@@ -258,58 +185,31 @@ square-apart p g grid good c d e sd se td te = elim (cases_eq d e) [
 ]
 
 square-distinct : (w c : ℕ) → 1 < w → AreDistinct (square_at w c)
-unfolding square_at has_place
-square-distinct w c two = (
-  rw (ne_eqb (c + 1) c (λ e. absurd (omega arith)), ne_eqb (c + w) c (λ e. absurd (omega arith)), ne_eqb (c + w + 1) c (λ e. absurd (omega arith))) refl,
-  (
-    rw (ne_eqb (c + w) (c + 1) (λ e. absurd (omega arith)), ne_eqb (c + w + 1) (c + 1) (λ e. absurd (omega arith))) refl,
-    (rw (ne_eqb (c + w + 1) (c + w) (λ e. absurd (omega arith))) refl, (refl, tt)),
-  ),
-)
+unfolding has_place
+square-distinct w c two = grind (arith, common_steps, ne_eqb)
 
-square-few : (w c : ℕ) → length (square_at w c) < 2 ^ 32
-unfolding square_at
-square-few w c = omega arith
-
-square-kind : (p : Tents) (c : ℕ) → IsField p → c % p.size.w + 1 < p.size.w → c / p.size.w + 1 < p.size.h → IsMet p (record { places = square_at p.size.w c; least = 0; most = 1 })
-unfolding meets
-square-kind p c field right bottom = record {
-  is_house = record {
-    within = λ d on. let s = in-square p.size.w c d right on in let a = s.row_high in cell-in p.size.w p.size.h d field.some (omega arith);
-    different = different-from (square_at p.size.w c) distinct;
-    few_places = few;
-    least_small = omega arith;
-    most_small = omega arith;
-  };
-  met = λ g grid good.
-      let a = ones-bulbs g (square_at p.size.w c) (small-at (tent_cells p) g grid) in
-      let one = count-one (tent g) (square_at p.size.w c) distinct (λ d e md me td te. square-apart p g grid good c d e (in-square p.size.w c d right md) (in-square p.size.w c e right me) td te) in
-      between-from 0 1 (map (slice_index g) (square_at p.size.w c)) (omega arith) (omega arith);
-}
+square-kind : (p : Tents) (c : ℕ) → IsField p → c % p.size.w + 1 < p.size.w → c / p.size.w + 1 < p.size.h → IsMet (tent_cells p) (is_camp p) (one_at_most (square_at p.size.w c))
+square-kind p c field right bottom = met-from (tent_cells p) (is_camp p) _
+    (λ d on. let s = in-square p.size.w c d right on in let a = s.row_high in cell-in p.size.w p.size.h d field.some (omega arith))
+    distinct (omega arith) (omega arith) (omega arith) (λ g grid good. (omega arith, count-one (tent g) (square_at p.size.w c) distinct (λ d e md me td te.
+    square-apart p g grid good c d e (in-square p.size.w c d right md) (in-square p.size.w c e right me) td te)))
   where
     distinct : AreDistinct (square_at p.size.w c)
     distinct = square-distinct p.size.w c (omega arith)
 
-    few : length (square_at p.size.w c) < 2 ^ 32
-    few = square-few p.size.w c
-
 -- ---- all houses
-each-met : (p : Tents) → IsField p → EachOf (IsMet p) (tent_houses p)
-unfolding tent_houses square_at
-each-met p field = each-append (IsMet p) _ _ (each-below (IsMet p) (column_of_tents p) p.size.w (λ x lt. each-one (IsMet p) _ (column-kind p x field lt)))
-    (each-append (IsMet p) _ _ (each-below (IsMet p) (row_of_tents p) p.size.h (λ y lt. each-one (IsMet p) _ (row-kind p y field lt)))
-    (each-append (IsMet p) _ _ (each-below (IsMet p) (tree_house p) (tent_cells p) (λ c lt. each-if (IsMet p) (tree p c) _ (λ on. tree-kind p c field lt on)))
-    (each-below (IsMet p) (square_house p) (tent_cells p) (λ c lt. each-if (IsMet p) (ltb (c % p.size.w + 1) p.size.w && ltb (c / p.size.w + 1) p.size.h) _ (λ on.
+each-met : (p : Tents) → IsField p → EachOf (IsMet (tent_cells p) (is_camp p)) (tent_houses p)
+unfolding tent_houses
+each-met p field = each-append (IsMet (tent_cells p) (is_camp p)) _ _ (each-below (IsMet (tent_cells p) (is_camp p)) (column_of_tents p) p.size.w (λ x lt. each-one (IsMet (tent_cells p) (is_camp p)) _ (column-kind p x field lt)))
+    (each-append (IsMet (tent_cells p) (is_camp p)) _ _ (each-below (IsMet (tent_cells p) (is_camp p)) (row_of_tents p) p.size.h (λ y lt. each-one (IsMet (tent_cells p) (is_camp p)) _ (row-kind p y field lt)))
+    (each-append (IsMet (tent_cells p) (is_camp p)) _ _ (each-below (IsMet (tent_cells p) (is_camp p)) (tree_house p) (tent_cells p) (λ c lt. each-if (IsMet (tent_cells p) (is_camp p)) (tree p c) _ (λ on. tree-kind p c field lt on)))
+    (each-below (IsMet (tent_cells p) (is_camp p)) (square_house p) (tent_cells p) (λ c lt. each-if (IsMet (tent_cells p) (is_camp p)) (ltb (c % p.size.w + 1) p.size.w && ltb (c / p.size.w + 1) p.size.h) _ (λ on.
     let w = and_parts (ltb (c % p.size.w + 1) p.size.w) (ltb (c / p.size.w + 1) p.size.h) on in
     square-kind p c field (ltb-true (c % p.size.w + 1) p.size.w w.0) (ltb-true (c / p.size.w + 1) p.size.h w.1))))))
 
 -- ---- a puzzle's field
 line-few : (size : Extent) (line : ℕ) → size.w ≤ 256 → size.h ≤ 256 → line_cells size line ≤ 256
-line-few size line w h = by (ltb line size.w)
-  where
-    by : (b : Bool) → cond b size.h size.w ≤ 256
-    by true = h
-    by false = w
+line-few size line w h = grind (arith, common_steps)
 
 counts-few : (size : Extent) (line : ℕ) (counts : List ℕ) (k : ℕ) → size.w ≤ 256 → size.h ≤ 256 → AreCounts size line counts → slice_index counts k ≤ 256
 counts-few size line [] k w h all = omega arith

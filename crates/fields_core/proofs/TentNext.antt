@@ -11,33 +11,14 @@ use Rattle.gameid_core.specs.Puzzles.{Tents}
 use Rattle.fields_core.specs.Tents.{tent_cells, tree}
 use Rattle.fields_core.specs.TentPairs.{trees_of, tree_count, tree_beside, may_pair}
 use Rattle.fields_core.specs.TentHouses.{is_bare}
-use Rattle.fields_core.proofs.StepLaws.{some-inj, step-up, step-left, step-right, step-down, steps-some}
+use Rattle.fields_core.proofs.StepLaws.{some-inj, ascends, steps-some}
 use Rattle.fields_core.proofs.BelowLemmas.{any-here, any-none}
 use Rattle.fields_core.proofs.TentBeside.{steps-has}
 use Rattle.fields_core.proofs.TentNumbers.{passing-long, passing-at, at-passing, count-under}
-
-ascends : (size : Extent) (c d e k m : ℕ) → 2 ≤ size.w → k < m → m < 4 → step size c k ≡ Some d → step size c m ≡ Some e → d < e
-ascends size c d e zero zero wide lt less a b = absurd (omega arith)
-ascends size c d e zero (suc zero) wide lt less a b = let u = step-up size c d a in let v = step-left size c e b in omega (arith, v.0)
-ascends size c d e zero (suc (suc zero)) wide lt less a b = let u = step-up size c d a in let v = step-right size c e b in omega (arith, v.0)
-ascends size c d e zero (suc (suc (suc zero))) wide lt less a b = let u = step-up size c d a in let v = step-down size c e b in omega (arith, v.0)
-ascends size c d e (suc zero) zero wide lt less a b = absurd (omega arith)
-ascends size c d e (suc zero) (suc zero) wide lt less a b = absurd (omega arith)
-ascends size c d e (suc zero) (suc (suc zero)) wide lt less a b = let u = step-left size c d a in let v = step-right size c e b in omega (arith, u.0, v.0)
-ascends size c d e (suc zero) (suc (suc (suc zero))) wide lt less a b = let u = step-left size c d a in let v = step-down size c e b in omega (arith, u.0, v.0)
-ascends size c d e (suc (suc zero)) zero wide lt less a b = absurd (omega arith)
-ascends size c d e (suc (suc zero)) (suc zero) wide lt less a b = absurd (omega arith)
-ascends size c d e (suc (suc zero)) (suc (suc zero)) wide lt less a b = absurd (omega arith)
-ascends size c d e (suc (suc zero)) (suc (suc (suc zero))) wide lt less a b = let u = step-right size c d a in let v = step-down size c e b in omega (arith, u.0, v.0)
-ascends size c d e (suc (suc (suc k))) m wide lt less a b = absurd (omega arith)
-ascends size c d e k (suc (suc (suc (suc m)))) wide lt less a b = absurd (omega arith)
+use Rattle.std.proofs.lemmas.Grind.{common_steps}
 
 none-some : (d : ℕ) → None ≡ Some d → ⊥
-none-some d e = true≢false (ap is_none e)
-  where
-    is_none : Option ℕ → Bool
-    is_none None = true
-    is_none (Some a) = false
+none-some d e = grind (arith, common_steps)
 
 -- no tree in the first n directions has the number `from` or a later one
 pub record IsPassed (p : Tents) (c from n : ℕ) : Type 0 where
@@ -47,37 +28,16 @@ pub passed-start : (p : Tents) (c from : ℕ) → IsPassed p c from 0
 passed-start p c from = record { none = λ k d lt e on. absurd (omega arith) }
 
 pub passed-edge : (p : Tents) (c from n : ℕ) → IsPassed p c from n → None ≡ step p.size c n → IsPassed p c from (n + 1)
-passed-edge p c from n before edge = record {
-  none = λ k d lt e on. elim (cases_eq k n) [
-    | inl same ↦ absurd (none-some d (edge ∙ rw same at e))
-    | inr other ↦ before.none k d (omega arith) e on
-  ];
-}
+passed-edge p c from n before edge = grind (arith, common_steps, cases_eq, none-some)
 
 pub passed-bare : (p : Tents) (c from n other : ℕ) → IsPassed p c from n → Some other ≡ step p.size c n → tree p other ≡ false → IsPassed p c from (n + 1)
-passed-bare p c from n other before at off = record {
-  none = λ k d lt e on. elim (cases_eq k n) [
-    | inl same ↦ let s : other ≡ d = some-inj (at ∙ rw same at e) in absurd (true≢false (sym on ∙ rw s at off))
-    | inr different ↦ before.none k d (omega arith) e on
-  ];
-}
+passed-bare p c from n other before at off = grind (arith, common_steps, cases_eq, some-inj)
 
 pub passed-early : (p : Tents) (c from n other number : ℕ) → IsPassed p c from n → Some other ≡ step p.size c n → number ≡ count_below (tree p) other → number < from → IsPassed p c from (n + 1)
-passed-early p c from n other number before at is early = record {
-  none = λ k d lt e on. elim (cases_eq k n) [
-    | inl same ↦ let s : other ≡ d = some-inj (at ∙ rw same at e) in rw s at (let f : count_below (tree p) other < from = omega arith in f)
-    | inr different ↦ before.none k d (omega arith) e on
-  ];
-}
+passed-early p c from n other number before at is early = grind (arith, common_steps, cases_eq, some-inj)
 
 pub next-none : (p : Tents) (c from n : ℕ) → IsPassed p c from n → 4 ≤ n → IsNext (tree_beside p c) (tree_count p) from None
-next-none p c from n passed all = λ j ge lt. false_from_ne_true (tree_beside p c j) (λ on.
-    let w = passing-at (tree p) (tent_cells p) j (omega (arith, passing-long (tree p) (tent_cells p))) in
-    let s = steps-some p.size c 4 (slice_index (trees_of p) j) on in
-    let low = s.1 in
-    let f = passed.none s.0 (slice_index (trees_of p) j) (omega arith) s.2 w.passes in
-    let b = w.before in
-    omega arith)
+next-none p c from n passed all = grind (arith, common_steps, false_from_ne_true, passing-at, passing-long, steps-some, slice_index)
 
 pub next-found : (p : Tents) (c from n other number : ℕ) → 2 ≤ p.size.w → IsPassed p c from n → n < 4 → Some other ≡ step p.size c n → other < tent_cells p → tree p other ≡ true → number ≡ count_below (tree p) other → from ≤ number
     → IsNext (tree_beside p c) (tree_count p) from (Some number)
@@ -95,7 +55,7 @@ next-found p c from n other number wide passed lt at inside on is ge = (
         | inr late ↦ elim (cases_eq s.0 n) [
           | inl same ↦ let e : other ≡ slice_index (trees_of p) j = some-inj (at ∙ rw same at s.2) in let f = ap (count_below (tree p)) e in omega arith
           | inr after ↦
-              let up : other < slice_index (trees_of p) j = ascends p.size c other (slice_index (trees_of p) j) n s.0 wide (omega arith) s.1 (sym at) s.2 in
+              let up : other < slice_index (trees_of p) j = ascends p.size c other (slice_index (trees_of p) j) n s.0 (omega arith) (omega arith) s.1 (sym at) s.2 in
               let f = count-under (tree p) other (slice_index (trees_of p) j) up on in
               omega arith
         ]

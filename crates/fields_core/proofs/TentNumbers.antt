@@ -7,6 +7,7 @@ use Rattle.std.proofs.lemmas.List.Elements.{filter-append}
 use Rattle.grid_core.specs.Candidates.{count_below}
 use Rattle.fields_core.specs.Tents.{tent}
 use Rattle.fields_core.proofs.RunLemmas.{range-split}
+use Rattle.std.proofs.lemmas.Grind.{common_steps}
 
 -- the numbers below n that pass
 abbrev pub passing : (ℕ → Bool) → ℕ → List ℕ
@@ -18,11 +19,7 @@ passing-more test n = ap (filter test) (range-split 0 n 1) ∙ filter-append tes
 
 -- what the last number adds
 adds : (test : ℕ → Bool) (n : ℕ) → length (passing test (n + 1)) ≡ length (passing test n) + cond (test n) 1 0
-adds test n = ap length (passing-more test n) ∙ length-append (passing test n) (cond (test n) (n ∷ []) []) ∙ ap (λ k. length (passing test n) + k) (by (test n))
-  where
-    by : (b : Bool) → length (cond b (n ∷ []) []) ≡ cond b 1 0
-    by true = refl
-    by false = refl
+adds test n = grind (arith, common_steps, passing-more, length-append)
 
 pub passing-long : (test : ℕ → Bool) (n : ℕ) → length (passing test n) ≡ count_below test n
 unfolding count_below
@@ -119,7 +116,4 @@ count-keep test n k e on = let f : count_below test (suc n) ≡ count_below test
 
 pub numbers-more : (test : ℕ → Bool) (numbers : List ℕ) (n k : ℕ) → ((c : ℕ) → c < n → get_or numbers c 0 ≡ count_below test c) → k ≡ count_below test n → n < length numbers
     → (c : ℕ) → c < n + 1 → get_or (set numbers n k) c 0 ≡ count_below test c
-numbers-more test numbers n k before e lt c less = elim (cases_eq c n) [
-  | inl same ↦ rw same (get_or-set_same numbers n k 0 lt ∙ e)
-  | inr other ↦ get_or-set_other numbers n c k 0 other ∙ before c (omega arith)
-]
+numbers-more test numbers n k before e lt c less = grind (arith, common_steps, cases_eq, get_or-set_same, get_or-set_other)

@@ -23,6 +23,7 @@ use Rattle.fields_core.proofs.BelowLemmas.{index_of, index-is, place-map, none-t
 use Rattle.fields_core.proofs.TentBeside.{beside-in}
 use Rattle.fields_core.proofs.TentNumbers.{IsPassing, passing-long, passing-at, at-passing, count-under}
 use Rattle.fields_core.proofs.TentCounting.{tents_of, IsGiven, given, tent-in, in-range}
+use Rattle.std.proofs.lemmas.Grind.{common_steps}
 
 -- ---- the tents by place
 pub tents-distinct : (p : Tents) (g : List ℕ) → AreDistinct (tents_of p g)
@@ -43,9 +44,7 @@ some-columns zero h c lt = absurd (omega arith)
 some-columns (suc w) h c lt = omega arith
 
 set-of : (p : Tents) (t c : ℕ) → t < tent_cells p → tree p c ≡ true → has_place (steps p.size t 4) c ≡ true → has_value (trees_beside p t) c ≡ true
-set-of p t c inside on beside =
-    let lt = beside-in p.size t c (some-columns p.size.w p.size.h t inside) inside beside in
-    get_or-map-range_with_len (λ d. tree p d && has_place (steps p.size t 4) d) 0 (tent_cells p) c c false lt (omega arith) ∙ and_from _ _ on beside
+set-of p t c inside on beside = grind (arith, common_steps, beside-in, some-columns, get_or-map-range_with_len, and_from)
 
 pub pairs-from : (p : Tents) (g : List ℕ) (tree_of : ℕ → ℕ) → length g ≡ tent_cells p → IsPairedBy p g tree_of → can_be_paired p g ≡ true
 unfolding can_be_paired tents_of
@@ -74,13 +73,7 @@ pairs-from p g tree_of long is =
         (λ a b at_a at_b. let x = listed-tent p g a at_a in let y = listed-tent p g b at_b in is.own a b (below a x) (below b y) x y)))
 
     none_out : leaves_none_out p chosen ≡ true
-    none_out = all_below-from (λ c. not (tree p c) || has_place chosen c) (tent_cells p) each
-      where
-        each : (c : ℕ) → c < tent_cells p → (not (tree p c) || has_place chosen c) ≡ true
-        each c lt = elim (cases_Bool (tree p c)) [
-          | inl on ↦ let w = is.none_out c lt on in or_right (not (tree p c)) (has_place chosen c) (rw w.3 at (place-map tree_of (tents_of p g) w.0 (tent-listed p g w.0 long w.2)))
-          | inr off ↦ or_left (not (tree p c)) (has_place chosen c) (ap not off)
-        ]
+    none_out = grind (arith, common_steps, all_below-from, cases_Bool, or_right, place-map, tree_of, tents_of, tent-listed, or_left)
 
 -- the number of a tree, and the tree of a number
 tree-number : (p : Tents) (c : ℕ) → c < tent_cells p → tree p c ≡ true → (count_below (tree p) c < tree_count p) × (slice_index (trees_of p) (count_below (tree p) c) ≡ c)

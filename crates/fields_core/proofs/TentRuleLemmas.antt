@@ -18,6 +18,7 @@ use Rattle.fields_core.proofs.LightFaultLemmas.{first-breaks}
 use Rattle.fields_core.proofs.BelowLemmas.{index_of, index-is, distinct-none-twice}
 use Rattle.fields_core.proofs.TentCounting.{CampParts, camp-parts, tents_of, IsGiven, given, tent-in}
 use Rattle.fields_core.proofs.TentPairLemmas.{tents-distinct, tent-listed, listed-tent, pairs-from}
+use Rattle.std.proofs.lemmas.Grind.{common_steps}
 
 pub camp-from : (p : Tents) (g : List ℕ) → all_below (tree_right p g) (tent_cells p) ≡ true → all_below (touch_right p g) (tent_cells p) ≡ true
     → all_below (column_right p g) p.size.w ≡ true → all_below (row_right p g) p.size.h ≡ true → true ≡ can_be_paired p g → is_camp p g ≡ true
@@ -74,9 +75,9 @@ alone : (tent_on touched : Bool) → (tent_on ≡ true → touched ≡ false) �
 alone true touched none = ap not (none refl)
 alone false touched none = refl
 
-pub rule-from-test : (p : Tents) (g : List ℕ) → IsGrid (tent_cells p) 2 g → is_camp p g ≡ true → IsTentSolution p g
+pub solution-from-camp : (p : Tents) (g : List ℕ) → IsGrid (tent_cells p) 2 g → is_camp p g ≡ true → IsTentSolution p g
 unfolding tree_right touch_right column_right row_right
-rule-from-test p g grid on =
+solution-from-camp p g grid on =
     let parts = camp-parts p g on in
     let w = given p g parts.paired in
     record {
@@ -95,33 +96,11 @@ rule-from-test p g grid on =
       paired = gives-tree p g w.0 grid.each_cell w.1;
     }
 
-pub test-from-rule : (p : Tents) (g : List ℕ) → IsGrid (tent_cells p) 2 g → IsTentSolution p g → is_camp p g ≡ true
+pub camp-from-solution : (p : Tents) (g : List ℕ) → IsGrid (tent_cells p) 2 g → IsTentSolution p g → is_camp p g ≡ true
 unfolding tree_right touch_right column_right row_right
-test-from-rule p g grid s = camp-from p g
-    (all_below-from (tree_right p g) (tent_cells p) trees)
-    (all_below-from (touch_right p g) (tent_cells p) (λ c lt. alone (tent g c) _ (touched c lt)))
-    (all_below-from (column_right p g) p.size.w (λ x lt. eq-eqb _ _ (s.columns x lt)))
-    (all_below-from (row_right p g) p.size.h (λ y lt. eq-eqb _ _ (s.rows y lt)))
-    (sym (pairs-from p g s.tree_of grid.each_cell s.paired))
-  where
-    none-at : (v : ℕ) → v < 2 → eqb v 1 ≡ false → eqb v 0 ≡ true
-    none-at zero lt off = refl
-    none-at (suc zero) lt off = absurd (true≢false off)
-    none-at (suc (suc v)) lt off = absurd (omega arith)
-
-    trees : (c : ℕ) → c < tent_cells p → (not (tree p c) || eqb (slice_index g c) 0) ≡ true
-    trees c lt = elim (cases_Bool (tent g c)) [
-      | inl on ↦ or_left (not (tree p c)) (eqb (slice_index g c) 0) (ap not (s.none_on_trees c lt on))
-      | inr off ↦ or_right (not (tree p c)) (eqb (slice_index g c) 0) (none-at (slice_index g c) (grid.each_value c 0 (let e = grid.each_cell in omega arith)) off)
-    ]
-
-    touched : (c : ℕ) → c < tent_cells p → tent g c ≡ true → any_below (λ d. touches p.size c d && tent g d) (tent_cells p) ≡ false
-    touched c lt on = false_from_ne_true _ (λ some.
-        let w = any_below-some (λ d. touches p.size c d && tent g d) (tent_cells p) some in
-        let both = and_parts (touches p.size c w.0) (tent g w.0) w.2 in
-        true≢false (sym both.0 ∙ s.none_touch c w.0 lt w.1 on both.1))
+camp-from-solution p g grid s = grind (arith, common_steps, camp-from, all_below-from, eq-eqb, pairs-from, slice_index, cases_Bool, or_left, or_right, false_from_ne_true, any_below-some, and_parts)
 
 -- ---- nothing is wrong exactly with solutions
 pub none-exactly : (p : Tents) (g : List ℕ) (fault : Option TentFault) → IsGrid (tent_cells p) 2 g → IsTentFault p g fault → (fault ≡ None) ↔ IsTentSolution p g
-none-exactly p g None grid is = (λ _. rule-from-test p g grid is, λ _. refl)
-none-exactly p g (Some f) grid is = (λ e. cc, λ s. absurd (true≢false (sym (test-from-rule p g grid s) ∙ sym (camp-not p g f is))))
+none-exactly p g None grid is = (λ _. solution-from-camp p g grid is, λ _. refl)
+none-exactly p g (Some f) grid is = (λ e. cc, λ s. absurd (true≢false (sym (camp-from-solution p g grid s) ∙ sym (camp-not p g f is))))

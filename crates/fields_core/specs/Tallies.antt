@@ -1,5 +1,5 @@
 -- What is counted of the cells of count houses.
-use Rattle.std.specs.Prelude.{◌≡◌, ℕ, ◌+◌, ◌-◌, ◌*◌, ◌<◌, ◌≤◌, Bool, not, ◌&&◌, ◌||◌, ◌==◌, nat_lt, if◌then◌else◌, cond, List, length, slice_index_or}
+use Rattle.std.specs.Prelude.{◌≡◌, ℕ, ◌+◌, ◌-◌, ◌*◌, ◌<◌, ◌≤◌, ◌^◌, Bool, not, ◌&&◌, ◌||◌, ◌==◌, nat_lt, if◌then◌else◌, cond, List, length, slice_index_or}
 use Rattle.std.specs.List.{count_by}
 use Rattle.grid_core.specs.Candidates.{Candidates, IsWithin}
 use Rattle.engine_core.specs.Sets.{has_bit}
@@ -68,3 +68,12 @@ moved_tally t before after = record {
   may = t.may - cond (has_bit before 1) 1 0 + cond (has_bit after 1) 1 0;
   empty = t.empty - cond (before == 0) 1 0 + cond (after == 0) 1 0;
 }
+
+-- nothing is counted that was not there, and no count grows too large
+pub record CanMove (t : Tally) (before after : ℕ) : Type 0 where
+  pub must_before : cond (not (has_bit before 0)) 1 0 ≤ t.must
+  pub may_before : cond (has_bit before 1) 1 0 ≤ t.may
+  pub empty_before : cond (before == 0) 1 0 ≤ t.empty
+  pub few_must : (moved_tally t before after).must < 2 ^ 32
+  pub few_may : (moved_tally t before after).may < 2 ^ 32
+  pub few_empty : (moved_tally t before after).empty < 2 ^ 32

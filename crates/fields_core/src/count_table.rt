@@ -1,4 +1,5 @@
 //! The count houses of a puzzle: what a visit of one strikes, and where their cells are.
+#![tactic(auto, using(crate::proofs::LawSets::count_table_laws))]
 
 ghost use Rattle.std.specs.Prelude.{◌≡◌, ℕ, Bool, List, ◌<◌, ◌≤◌, ◌^◌, IfOk, length, slice_index, true, false};
 ghost use Rattle.grid_core.specs.Board.{has, cells_of, SameShape};

@@ -1,4 +1,5 @@
 //! A visit of a count house: one pass over its cells says what can be struck, and nothing is written where nothing is.
+#![tactic(auto, using(crate::proofs::LawSets::count_visit_laws))]
 
 ghost use Rattle.std.specs.Prelude.{◌≡◌, ℕ, ◌<◌, true, false, length, slice_index};
 ghost use Rattle.grid_core.specs.Board.{has, cells_of, SameShape};

@@ -1,4 +1,5 @@
 //! What the rules of a search mean and keep to. These calls do nothing: their contracts are the laws.
+#![tactic(auto, using(crate::proofs::LawSets::laws_laws))]
 
 ghost use Rattle.std.specs.Prelude.{◌↔◌, IsTrue, List, ℕ};
 ghost use Rattle.engine_core.specs.Puzzle.{IsGridOf, IsLawful};

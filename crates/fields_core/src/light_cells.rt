@@ -1,4 +1,5 @@
 //! White cells, and the lines of a puzzle of Light Up.
+#![tactic(auto, using(crate::proofs::LawSets::light_cells_laws))]
 
 ghost use Rattle.std.specs.Prelude.{◌≡◌, ◌<◌};
 ghost use Rattle.gameid_core.specs.Puzzles.{IsLight};

@@ -1,4 +1,5 @@
 //! The check of a grid of Light Up.
+#![tactic(auto, using(crate::proofs::LawSets::light_check_laws))]
 
 ghost use Rattle.std.specs.Prelude.{◌≡◌, ◌<◌, ◌↔◌, None};
 ghost use Rattle.grid_core.specs.Grids.{IsGrid};
@@ -14,6 +15,7 @@ use gameid_core::{LightCell, LightPuzzle};
 use grid_core::Grid;
 
 /// Whether no bulb stands on the cell if it is black.
+#[tactic(auto, using(crate::proofs::LawSets::light_check_laws), unfolding(crate::specs::Light::black_right))]
 fn is_black_right(puzzle: &LightPuzzle, grid: &Grid, place: usize) -> bool
     requires fits { IsGrid (light_cells puzzle.now) 2 grid.now }
     requires place_in { place < light_cells puzzle.now }
@@ -26,6 +28,7 @@ fn is_black_right(puzzle: &LightPuzzle, grid: &Grid, place: usize) -> bool
 }
 
 /// Whether the cell's number, if it has one, is that of the bulbs beside it.
+#[tactic(auto, using(crate::proofs::LawSets::light_check_laws), unfolding(crate::specs::Light::number_right))]
 fn is_number_right(puzzle: &LightPuzzle, grid: &Grid, place: usize) -> bool
     requires fits { IsGrid (light_cells puzzle.now) 2 grid.now }
     requires place_in { place < light_cells puzzle.now }
@@ -40,6 +43,7 @@ fn is_number_right(puzzle: &LightPuzzle, grid: &Grid, place: usize) -> bool
 }
 
 /// Whether the cell's bulb, if it has one, sees no other.
+#[tactic(auto, using(crate::proofs::LawSets::light_check_laws), unfolding(crate::specs::Light::bulb_right))]
 fn is_bulb_right(puzzle: &LightPuzzle, grid: &Grid, place: usize) -> bool
     requires fits { IsGrid (light_cells puzzle.now) 2 grid.now }
     requires place_in { place < light_cells puzzle.now }
@@ -52,6 +56,7 @@ fn is_bulb_right(puzzle: &LightPuzzle, grid: &Grid, place: usize) -> bool
 }
 
 /// Whether the cell, if it is white, holds a bulb or sees one.
+#[tactic(auto, using(crate::proofs::LawSets::light_check_laws), unfolding(crate::specs::Light::lit_right))]
 fn is_lit_right(puzzle: &LightPuzzle, grid: &Grid, place: usize) -> bool
     requires fits { IsGrid (light_cells puzzle.now) 2 grid.now }
     requires place_in { place < light_cells puzzle.now }

@@ -1,4 +1,5 @@
 //! The count houses of Light Up.
+#![tactic(auto, using(crate::proofs::LawSets::light_houses_laws))]
 
 ghost use Rattle.std.specs.Prelude.{◌≡◌, ℕ, ◌+◌, ◌<◌, true, [], IfOk, OnOk, filter};
 ghost use Rattle.grid_core.specs.Regions.{beside as beside_places};
@@ -15,6 +16,7 @@ use grid_core::{column_place, row_place, step};
 use std::alloc::{AllocError, Global};
 
 /// Adds the white cells beside the cell to the house that is begun.
+#[tactic(auto, using(crate::proofs::LawSets::light_houses_laws), unfolding(grid_core::specs::Regions::steps))]
 fn push_beside(houses: &mut CountList, puzzle: &LightPuzzle, place: usize) -> Result<(), AllocError>
     requires { place < light_cells puzzle.now }
     ensures { OnOk result (IsBegun houses.old houses.new
@@ -36,6 +38,7 @@ fn push_beside(houses: &mut CountList, puzzle: &LightPuzzle, place: usize) -> Re
 
 /// Adds the cell and the cells that it sees to the house that is begun: those of the run of its row,
 /// and then the others of its column.
+#[tactic(auto, using(crate::proofs::LawSets::light_houses_laws), unfolding(crate::specs::LightHouses::seen_from))]
 fn push_seen(
     houses: &mut CountList,
     puzzle: &LightPuzzle,
@@ -265,6 +268,7 @@ impl Sizes {
 }
 
 /// The houses of numbers, of runs in rows, of runs in columns and of white cells, each by place.
+#[tactic(auto, using(crate::proofs::LawSets::light_houses_laws), unfolding(crate::specs::LightHouses::light_houses))]
 pub(crate) fn houses_of_lights(alloc: Global, puzzle: &LightPuzzle) -> Result<CountList, AllocError>
     ensures { IfOk result (λ list. AreListed list (light_houses puzzle.now)) }
 {

@@ -1,4 +1,5 @@
 //! What the rules of Light Up are to a search.
+#![tactic(auto, using(crate::proofs::LawSets::light_rules_laws))]
 
 ghost use Rattle.std.specs.Prelude.{◌≡◌, ◌≤◌, true, not, refl, length, IfOk};
 ghost use Rattle.engine_core.specs.declared.mode.Mode.TheVariants.{Sweep};

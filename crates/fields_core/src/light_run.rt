@@ -1,4 +1,5 @@
 //! Runs of white cells along a row or a column.
+#![tactic(auto, using(crate::proofs::LawSets::light_run_laws))]
 
 ghost use Rattle.std.specs.Prelude.{◌≡◌, ℕ, ◌+◌, ◌*◌, ◌<◌, ◌^◌, length, map, filter, slice_index};
 ghost use Rattle.std.specs.List.{range_with_len};

@@ -1,4 +1,5 @@
 //! Which bulbs a cell sees, and how many stand beside it.
+#![tactic(auto, using(crate::proofs::LawSets::light_sight_laws))]
 
 ghost use Rattle.std.specs.Prelude.{◌≡◌, ℕ, ◌<◌, ◌&&◌, ◌==◌, not, length, slice_index};
 ghost use Rattle.std.specs.List.{list_any};

@@ -1,9 +1,9 @@
 //! How many cells of a count house have no 0, have a 1, or have neither.
+#![tactic(auto, using(crate::proofs::LawSets::tally_laws))]
 
-ghost use Rattle.std.specs.Prelude.{◌≡◌, ℕ, ◌<◌, ◌≤◌, ◌^◌, ◌==◌, not, cond, length, slice_index};
+ghost use Rattle.std.specs.Prelude.{◌≡◌, ℕ, ◌<◌, ◌^◌, cond, length, slice_index};
 ghost use Rattle.grid_core.specs.Board.{has, cells_of};
-ghost use Rattle.engine_core.specs.Sets.{has_bit as is_set};
-ghost use Rattle.fields_core.specs.Tallies.{IsTally, lacks_filling, kept_of, has_strikes, moved_tally};
+ghost use Rattle.fields_core.specs.Tallies.{IsTally, lacks_filling, kept_of, has_strikes, moved_tally, CanMove};
 
 use crate::count_list::Bounds;
 use engine_core::has_bit;
@@ -38,12 +38,7 @@ impl Tally {
 
     /// The tally after a cell of the house changed, whose sets have these bits.
     pub(crate) fn moved(self, before: u32, after: u32) -> Tally
-        requires must_before { cond (not (is_set before 0)) 1 0 ≤ self.must }
-        requires may_before { cond (is_set before 1) 1 0 ≤ self.may }
-        requires empty_before { cond (before == 0) 1 0 ≤ self.empty }
-        requires few { (moved_tally self before after).must < 2 ^ 32 }
-        requires few_may { (moved_tally self before after).may < 2 ^ 32 }
-        requires few_empty { (moved_tally self before after).empty < 2 ^ 32 }
+        requires { CanMove self before after }
         ensures { result ≡ moved_tally self before after }
     {
         Tally {

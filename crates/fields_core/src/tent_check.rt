@@ -1,4 +1,5 @@
 //! The check of a grid of Tents.
+#![tactic(auto, using(crate::proofs::LawSets::tent_check_laws))]
 
 ghost use Rattle.std.specs.Prelude.{◌≡◌, ℕ, ◌<◌, ◌↔◌, IfOk, None};
 ghost use Rattle.grid_core.specs.Grids.{IsGrid};
@@ -19,6 +20,7 @@ use grid_core::Grid;
 use std::alloc::{AllocError, Global};
 
 /// Whether no tent stands on the cell if it has a tree.
+#[tactic(auto, using(crate::proofs::LawSets::tent_check_laws), unfolding(crate::specs::Tents::tree_right))]
 fn is_tree_right(puzzle: &TentsPuzzle, grid: &Grid, place: usize) -> bool
     requires fits { IsGrid (tent_cells puzzle.now) 2 grid.now }
     requires place_in { place < tent_cells puzzle.now }
@@ -31,6 +33,7 @@ fn is_tree_right(puzzle: &TentsPuzzle, grid: &Grid, place: usize) -> bool
 }
 
 /// Whether the cell's tent, if it has one, touches no other.
+#[tactic(auto, using(crate::proofs::LawSets::tent_check_laws), unfolding(crate::specs::Tents::touch_right))]
 fn is_touch_right(puzzle: &TentsPuzzle, grid: &Grid, place: usize) -> bool
     requires fits { IsGrid (tent_cells puzzle.now) 2 grid.now }
     requires place_in { place < tent_cells puzzle.now }
@@ -75,6 +78,7 @@ fn count_row(puzzle: &TentsPuzzle, grid: &Grid, y: usize) -> usize
 }
 
 /// Whether the column has its number of tents.
+#[tactic(auto, using(crate::proofs::LawSets::tent_check_laws), unfolding(crate::specs::Tents::column_right))]
 fn is_column_right(puzzle: &TentsPuzzle, grid: &Grid, x: usize) -> bool
     requires fits { IsGrid (tent_cells puzzle.now) 2 grid.now }
     requires x_in { x < puzzle.now.size.w }
@@ -84,6 +88,7 @@ fn is_column_right(puzzle: &TentsPuzzle, grid: &Grid, x: usize) -> bool
 }
 
 /// Whether the row has its number of tents.
+#[tactic(auto, using(crate::proofs::LawSets::tent_check_laws), unfolding(crate::specs::Tents::row_right))]
 fn is_row_right(puzzle: &TentsPuzzle, grid: &Grid, y: usize) -> bool
     requires fits { IsGrid (tent_cells puzzle.now) 2 grid.now }
     requires y_in { y < puzzle.now.size.h }

@@ -1,4 +1,5 @@
 //! The count houses of Tents.
+#![tactic(auto, using(crate::proofs::LawSets::tent_houses_laws))]
 
 ghost use Rattle.std.specs.Prelude.{◌≡◌, ◌+◌, ◌<◌, ◌∷◌, [], IfOk, OnOk};
 ghost use Rattle.grid_core.specs.Regions.{row_places, column_places};
@@ -45,6 +46,7 @@ fn push_row_cells(houses: &mut CountList, puzzle: &TentsPuzzle, y: usize) -> Res
 }
 
 /// Adds the cells beside the cell that have no tree to the house that is begun.
+#[tactic(auto, using(crate::proofs::LawSets::tent_houses_laws), unfolding(grid_core::specs::Regions::steps))]
 fn push_beside(houses: &mut CountList, puzzle: &TentsPuzzle, place: usize) -> Result<(), AllocError>
     requires { place < tent_cells puzzle.now }
     ensures { OnOk result (IsBegun houses.old houses.new (free_beside puzzle.now place)) }
@@ -212,6 +214,7 @@ fn sizes(puzzle: &TentsPuzzle) -> (usize, usize) {
 }
 
 /// The houses of the columns, of the rows, of the trees and of the squares.
+#[tactic(auto, using(crate::proofs::LawSets::tent_houses_laws), unfolding(crate::specs::TentHouses::tent_houses))]
 pub(crate) fn houses_of_tents(alloc: Global, puzzle: &TentsPuzzle) -> Result<CountList, AllocError>
     ensures { IfOk result (λ list. AreListed list (tent_houses puzzle.now)) }
 {

@@ -1,4 +1,5 @@
 //! Whether the tents of a grid can be paired with the trees.
+#![tactic(auto, using(crate::proofs::LawSets::tent_pairs_laws))]
 
 ghost use Rattle.std.specs.Prelude.{◌≡◌, ℕ, ◌<◌, ◌≤◌, IfOk, take, filter, length, slice_index};
 ghost use Rattle.std.specs.List.{range_with_len};

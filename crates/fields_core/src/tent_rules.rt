@@ -1,4 +1,5 @@
 //! What the rules of Tents are to a search.
+#![tactic(auto, using(crate::proofs::LawSets::tent_rules_laws))]
 
 ghost use Rattle.std.specs.Prelude.{◌≡◌, ◌<◌, true, refl, length, IfOk};
 ghost use Rattle.std.specs.List.{list_any};

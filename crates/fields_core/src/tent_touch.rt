@@ -1,4 +1,5 @@
 //! Cells that share a side or a corner.
+#![tactic(auto, using(crate::proofs::LawSets::tent_touch_laws))]
 
 ghost use Rattle.std.specs.Prelude.{◌≡◌, ◌*◌, ◌/◌, ◌%◌, ◌<◌, ◌^◌, ◌&&◌};
 ghost use Rattle.grid_core.specs.Candidates.{any_below};
@@ -37,6 +38,7 @@ fn column_in(size: Size, place: usize) -> usize
 }
 
 /// Whether two cells share a side or a corner.
+#[tactic(auto, using(crate::proofs::LawSets::tent_touch_laws), unfolding(crate::specs::Tents::touches))]
 fn are_touching(size: Size, a: usize, b: usize) -> bool
     requires a_in { a < size.w * size.h }
     requires b_in { b < size.w * size.h }

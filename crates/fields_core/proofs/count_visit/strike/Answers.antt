@@ -1,13 +1,10 @@
 use Rattle.std.proofs.Common.{slice_index, refl, ◌∙◌, arith}
 use Rattle.grid_core.specs.Board.{has, cells_of}
 use Rattle.engine_core.specs.PlaceLaws.{has_place-here}
-use Rattle.engine_core.proofs.HouseLemmas.{striking-first, striking-more, kept-inside}
+use Rattle.engine_core.proofs.HouseLemmas.{striking-more, kept-inside}
 use Rattle.fields_core.proofs.CountFollow.{board-within, bits-are}
-use Rattle.fields_core.proofs.CountKept.{kept-first, kept-next, kept-whole}
+use Rattle.fields_core.proofs.CountKept.{kept-next, kept-whole}
 use Rattle.fields_core.proofs.count_visit.strike.Goals as goal
-
-pub loop-k-init : goal.loop-k-init
-loop-k-init c = record { left = kept-first _ _ _; striking = striking-first _; shape = record { same_values = refl; same_cells = refl } }
 
 pub bits-requires : goal.bits-requires
 bits-requires c = let w = c.requires.house.within (slice_index c.args.places.now c.loop-k.k) (has_place-here c.args.places.now c.loop-k.k (omega arith)) in omega (arith, c.loop-k.invariant.shape.same_cells)

@@ -1,14 +1,8 @@
 use Rattle.std.proofs.Common.{arith}
 use Rattle.grid_core.specs.Regions.{column_places}
 use Rattle.fields_core.proofs.HouseLists.{column-long}
-use Rattle.fields_core.proofs.TentLines.{line-start, line-skip, line-more, line-all}
+use Rattle.fields_core.proofs.TentLines.{line-more, line-all}
 use Rattle.fields_core.proofs.tent_check.count_column.Goals as goal
-
-pub loop-y-init : goal.loop-y-init
-loop-y-init c = line-start _ _
-
-pub loop-y-preserved-then-get-ne1 : goal.loop-y-preserved-then-get-ne1
-loop-y-preserved-then-get-ne1 c = line-skip c.args.grid.now (column_places c.args.puzzle.now.size c.args.x) c.loop-y.y c.loop-y.tents c.column_cell.result c.get.result c.loop-y.invariant (omega (arith, column-long c.args.puzzle.now.size c.args.x, c.rows-y-end.ensures, c.loop-y-test.true)) c.column_cell.ensures.place c.get.ensures c.if-get-ne1.true
 
 pub loop-y-preserved : goal.loop-y-preserved
 loop-y-preserved c = line-more c.args.grid.now (column_places c.args.puzzle.now.size c.args.x) c.loop-y.y c.loop-y.tents c.column_cell.result c.get.result c.loop-y.invariant (omega (arith, column-long c.args.puzzle.now.size c.args.x, c.rows-y-end.ensures, c.loop-y-test.true)) c.column_cell.ensures.place c.get.ensures c.if-get-ne1.false

@@ -1,10 +1,7 @@
-use Rattle.std.proofs.Common.{ℕ, length-set, refl, sym, ◌∙◌, arith}
+use Rattle.std.proofs.Common.{ℕ, length-set, sym, ◌∙◌, arith}
 use Rattle.fields_core.specs.Tents.{tree}
-use Rattle.fields_core.proofs.TentNumbers.{count-none, count-skip, count-keep, numbers-more}
+use Rattle.fields_core.proofs.TentNumbers.{count-skip, count-keep, numbers-more}
 use Rattle.fields_core.proofs.tent_pairs.number_trees.Goals as goal
-
-pub loop-place-init : goal.loop-place-init
-loop-place-init c = record { count = count-none _; few = omega arith; each = λ k lt. absurd (omega arith); as_long = refl }
 
 pub loop-place-preserved-then-not-is_tree : goal.loop-place-preserved-then-not-is_tree
 loop-place-preserved-then-not-is_tree c = let i = c.loop-place.invariant in let few = i.few in let long = i.as_long in

@@ -1,9 +1,6 @@
 use Rattle.std.proofs.Common.{◌*◌, sym, ◌∙◌, arith}
-use Rattle.fields_core.proofs.TentLines.{far-below, none-past, some-touched, none-below}
+use Rattle.fields_core.proofs.TentLines.{none-past, some-touched}
 use Rattle.fields_core.proofs.tent_touch.touches_tent.Goals as goal
-
-pub loop-other-init : goal.loop-other-init
-loop-other-init c = λ d lt. far-below c.args.size c.args.grid.now c.args.place c.from-reach.result d (c.from-reach.ensures ∙ c.w.ensures.value) c.requires.place_in (omega (arith, lt, c.saturating_sub-other.ensures))
 
 pub returns-then-other-place : goal.returns-then-other-place
 returns-then-other-place c =
@@ -13,6 +10,3 @@ pub returns-then-are_touching : goal.returns-then-are_touching
 returns-then-are_touching c =
     some-touched c.args.size c.args.grid.now c.args.place (c.args.size.w * c.args.size.h) c.loop-other.other c.get.result (omega (arith, c.cells-other-end.ensures.value, c.loop-other-test.true))
     (sym c.are_touching.ensures ∙ c.if-are_touching.true) c.get.ensures c.if-get-ne1.false
-
-pub returns : goal.returns
-returns c = none-below _ _ (λ k lt. c.loop-other.invariant k (omega (arith, c.cells-other-end.ensures.value, c.loop-other-test.false)))

@@ -8,23 +8,8 @@ use Rattle.fields_core.proofs.count_table.CountTable.change.Goals as goal
 pub slice_copy_out-tally : goal.slice_copy_out-tally
 slice_copy_out-tally c = (movable _ _ _ (counted-table _ _ _ c.args.self.now c.self.invariant.0 c.self.invariant.1 c.self.view_is) _ _ _ _ _ c.requires.3 c.args.tallies.now c.requires.2 c.houses_at-houses.result.now c.houses_at-houses.ensures c.loop-k.tallies c.loop-k.k c.loop-k.invariant c.loop-k-test.true).low
 
-pub moved-requires-clause-must_before : goal.moved-requires-clause-must_before
-moved-requires-clause-must_before c = (movable _ _ _ (counted-table _ _ _ c.args.self.now c.self.invariant.0 c.self.invariant.1 c.self.view_is) _ _ _ _ _ c.requires.3 c.args.tallies.now c.requires.2 c.houses_at-houses.result.now c.houses_at-houses.ensures c.loop-k.tallies c.loop-k.k c.loop-k.invariant c.loop-k-test.true).must
-
-pub moved-requires-clause-may_before : goal.moved-requires-clause-may_before
-moved-requires-clause-may_before c = (movable _ _ _ (counted-table _ _ _ c.args.self.now c.self.invariant.0 c.self.invariant.1 c.self.view_is) _ _ _ _ _ c.requires.3 c.args.tallies.now c.requires.2 c.houses_at-houses.result.now c.houses_at-houses.ensures c.loop-k.tallies c.loop-k.k c.loop-k.invariant c.loop-k-test.true).may
-
-pub moved-requires-clause-empty_before : goal.moved-requires-clause-empty_before
-moved-requires-clause-empty_before c = (movable _ _ _ (counted-table _ _ _ c.args.self.now c.self.invariant.0 c.self.invariant.1 c.self.view_is) _ _ _ _ _ c.requires.3 c.args.tallies.now c.requires.2 c.houses_at-houses.result.now c.houses_at-houses.ensures c.loop-k.tallies c.loop-k.k c.loop-k.invariant c.loop-k-test.true).empty
-
-pub moved-requires-clause-few : goal.moved-requires-clause-few
-moved-requires-clause-few c = (movable _ _ _ (counted-table _ _ _ c.args.self.now c.self.invariant.0 c.self.invariant.1 c.self.view_is) _ _ _ _ _ c.requires.3 c.args.tallies.now c.requires.2 c.houses_at-houses.result.now c.houses_at-houses.ensures c.loop-k.tallies c.loop-k.k c.loop-k.invariant c.loop-k-test.true).few_must
-
-pub moved-requires-clause-few_may : goal.moved-requires-clause-few_may
-moved-requires-clause-few_may c = (movable _ _ _ (counted-table _ _ _ c.args.self.now c.self.invariant.0 c.self.invariant.1 c.self.view_is) _ _ _ _ _ c.requires.3 c.args.tallies.now c.requires.2 c.houses_at-houses.result.now c.houses_at-houses.ensures c.loop-k.tallies c.loop-k.k c.loop-k.invariant c.loop-k-test.true).few_may
-
-pub moved-requires-clause-few_empty : goal.moved-requires-clause-few_empty
-moved-requires-clause-few_empty c = (movable _ _ _ (counted-table _ _ _ c.args.self.now c.self.invariant.0 c.self.invariant.1 c.self.view_is) _ _ _ _ _ c.requires.3 c.args.tallies.now c.requires.2 c.houses_at-houses.result.now c.houses_at-houses.ensures c.loop-k.tallies c.loop-k.k c.loop-k.invariant c.loop-k-test.true).few_empty
+pub moved-requires : goal.moved-requires
+moved-requires c = (movable _ _ _ (counted-table _ _ _ c.args.self.now c.self.invariant.0 c.self.invariant.1 c.self.view_is) _ _ _ _ _ c.requires.3 c.args.tallies.now c.requires.2 c.houses_at-houses.result.now c.houses_at-houses.ensures c.loop-k.tallies c.loop-k.k c.loop-k.invariant c.loop-k-test.true).can
 
 pub bounds-tallies-house : goal.bounds-tallies-house
 bounds-tallies-house c = (movable _ _ _ (counted-table _ _ _ c.args.self.now c.self.invariant.0 c.self.invariant.1 c.self.view_is) _ _ _ _ _ c.requires.3 c.args.tallies.now c.requires.2 c.houses_at-houses.result.now c.houses_at-houses.ensures c.loop-k.tallies c.loop-k.k c.loop-k.invariant c.loop-k-test.true).low

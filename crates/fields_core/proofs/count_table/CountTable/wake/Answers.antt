@@ -1,7 +1,7 @@
 use Rattle.std.proofs.Common.{ℕ, Bool, Some, None, slice_index, arith}
 use Rattle.engine_core.specs.Puzzle.{has_place}
 use Rattle.engine_core.specs.Waiting.{is_waiting}
-use Rattle.engine_core.proofs.CallLemmas.{upto-first, upto-marked, upto-idle, upto-all}
+use Rattle.engine_core.proofs.CallLemmas.{upto-marked, upto-idle, upto-all}
 use Rattle.engine_core.proofs.IndexLemmas.{nth-at}
 use Rattle.fields_core.specs.CountHouse.{count_house_of, table_puzzle}
 use Rattle.fields_core.proofs.CountListLemmas.{kth-in}
@@ -18,9 +18,6 @@ mark-requires c =
     let houses = c.houses_at-houses.result.now in
     let at = kth-in _ _ _ _ c.args.place c.loop-k.k (Some (slice_index houses c.loop-k.k)) c.self.invariant.0 c.self.view_is (nth-at _ c.args.place c.loop-k.k houses c.houses_at-houses.ensures c.loop-k-test.true) in
     omega (arith, at.0, c.requires.room, c.loop-k.auto.waits)
-
-pub loop-k-init : goal.loop-k-init
-loop-k-init c = λ blocked is_solution K tallied. upto-first (table_puzzle blocked is_solution c.args.self.now) K (λ j. has_place (count_house_of c.args.self.now.houses j).places c.args.place) (is_waiting c.args.waits.now)
 
 pub loop-k-preserved : goal.loop-k-preserved
 loop-k-preserved c = λ blocked is_solution K tallied.
