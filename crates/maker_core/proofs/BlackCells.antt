@@ -1,15 +1,25 @@
 -- The cells of a grid that were drawn so far are the list of draws.
-use Rattle.std.proofs.Common.{◌≡◌, ℕ, zero, suc, ◌+◌, ◌<◌, Bool, true, false, List, [], ◌∷◌, ◌++◌, refl, ◌∙◌, ap, arith, add-one, take, length, length-append, cond, get_or-set_other, inl, inr}
-use Rattle.std.specs.Prelude.{nat_lt, slice_index, slice_set, All}
+use Rattle.std.proofs.Common.{◌≡◌, ℕ, zero, suc, ◌+◌, ◌<◌, Bool, List, [], ◌∷◌, ◌++◌, refl, sym, ◌∙◌, ap, arith, add-one, take, length, length-append, cond, get_or-set_other, inl, inr}
+use Rattle.std.specs.Prelude.{nat_lt, slice_index, slice_set}
 use Rattle.std.proofs.lemmas.Grind.{common_steps}
 use Rattle.std.proofs.lemmas.Bool.{cases_eq, lt-ltb, le-ltb}
 use Rattle.std.proofs.lemmas.Grind.{get_or-set_at}
 use Rattle.std.proofs.lemmas.List.{take_more_set}
-use Rattle.std.proofs.lemmas.List.Elements.{All-append}
+use Rattle.std.proofs.lemmas.List.Elements.{All-append, All-cons, All-nil}
 use Rattle.rand_core.specs.Stream.{Stream}
 use Rattle.grid_core.specs.Grids.{IsGrid}
 use Rattle.maker_core.specs.Draws.{draw_below, black_cells}
-use Rattle.maker_core.proofs.DrawSteps.{black_cells-none, black_cells-more}
+
+-- the steps of the drawing
+black_cells-none : (black : ℕ) (s : Stream) → ◌≡◌ {A = List ℕ × Stream} ([], s) (black_cells black 0 s)
+unfolding black_cells
+black_cells-none black s = refl
+
+black_cells-more : (black k d : ℕ) (s t u : Stream) (xs : List ℕ)
+    → ◌≡◌ {A = List ℕ × Stream} (xs, t) (black_cells black k s) → ◌≡◌ {A = ℕ × Stream} (d, u) (draw_below 100 t)
+    → ◌≡◌ {A = List ℕ × Stream} (xs ++ cond (nat_lt d black) 1 0 ∷ [], u) (black_cells black (k + 1) s)
+unfolding black_cells
+black_cells-more black k d s t u xs before drawn = rw (add-one, sym before, sym drawn) refl
 
 -- the cells below `place` hold what was drawn, and the generator stands after those draws
 pub record IsDrawn (black cells place : ℕ) (s now : Stream) (grid : List ℕ) : Type 0 where
@@ -63,12 +73,7 @@ IsDrawn-all black cells s now grid all =
 
 -- one more cell, of 0 or 1
 pub bit_below : (b : Bool) → cond b 1 0 < 2
-bit_below true = omega arith
-bit_below false = omega arith
-
-All-one : (v : ℕ) → v < 2 → All (λ v. v < 2) (v ∷ [])
-All-one v lt zero d h = lt
-All-one v lt (suc k) d h = absurd (omega arith)
+bit_below b = grind arith
 
 -- so many cells are drawn, each 0 or 1
 pub black_cells-grid : (black cells : ℕ) (s : Stream) → IsGrid cells 2 (black_cells black cells s).0
@@ -80,5 +85,5 @@ black_cells-grid black (suc cells) s =
     record {
       each_cell = length-append (black_cells black cells s).0 (cond b 1 0 ∷ []) ∙ ap (λ n. n + 1) before.each_cell ∙ add-one cells;
       each_value = All-append (λ v. v < 2) (black_cells black cells s).0 (cond b 1 0 ∷ []) before.each_value
-          (All-one (cond b 1 0) (bit_below b));
+          (All-cons (λ v. v < 2) (cond b 1 0) [] (bit_below b) (All-nil (λ v. v < 2)));
     }

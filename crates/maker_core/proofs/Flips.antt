@@ -14,8 +14,7 @@ line_from-below true n k lt = omega arith
 line_from-below false n k lt = lt
 
 pub line_from-apart : (flips : Bool) (n j k : ℕ) → j < n → k < n → line_from flips n j ≡ line_from flips n k → j ≡ k
-line_from-apart true n j k lj lk e = omega arith
-line_from-apart false n j k lj lk e = e
+line_from-apart flips n j k lj lk e = grind arith
 
 -- the group of a line counted from the other end
 other_group : (count size k : ℕ) → 0 < size → k < count * size → (count * size - 1 - k) / size ≡ count - 1 - k / size
@@ -89,3 +88,6 @@ module _ (n : ℕ) (across down : Bool) where
         let at = flipped-at place within g in
         omega arith);
   }
+
+-- what the code of flips cites
+pub ruleset flip_laws = (length-flipped, flipped-at, from_below, line_from-below)

@@ -1,7 +1,5 @@
 pub mod BlackCells
-pub mod DrawSteps
 pub mod FoundAtOnce
-pub mod LightBulbs
 pub mod LightCells
 pub mod LightFilled
 pub mod LightMakings
@@ -12,26 +10,21 @@ pub mod PlainPattern
 pub mod TentCamps
 pub mod TentMakings
 pub mod TentsSolved
-mod DrawsBelow
-mod Shuffles
+pub mod Shuffles
 mod TentsFilled
 pub mod Tries
 pub mod SoloNumbers
 pub mod SoloOrderLemmas
 pub mod SoloSolution
-pub mod SoloDraws
 pub mod FullStart
 pub mod SoloFull
 pub mod Flips
 pub mod FlippedHouses
 pub mod SoloXSearch
-pub mod ThinningLemmas
 pub mod FilteredRanges
 pub mod ThinningTurns
 pub mod ThinningReasons
-pub mod PutBack
-pub mod SoloMakings
 pub mod IdleClues
 pub mod Switches
-mod WrittenGrids
+pub mod WrittenGrids
 mod OnlySolutions

@@ -1,15 +1,15 @@
 -- What is drawn for a filling of Light Up is its definition.
-use Rattle.std.proofs.Common.{◌≡◌, ℕ, ◌*◌, ◌<◌, true, List, false, inl, inr, arith, map, length, refl, sym, ap, subst, ◌∙◌}
+use Rattle.std.proofs.Common.{◌≡◌, ℕ, ◌*◌, ◌<◌, true, List, false, inl, inr, arith, map, length, refl, sym, ap, ◌∙◌}
 use Rattle.std.proofs.lemmas.List.{get_or_default, get_or-map, get_or_past, length-map}
-use Rattle.std.proofs.lemmas.Bool.{cases_lt, eq-eqb}
+use Rattle.std.proofs.lemmas.Bool.{cases_lt}
 use Rattle.std.specs.Prelude.{All, IsPermutation, slice_index, ◌==◌, if◌then◌else◌}
 use Rattle.std.specs.List.{range_with_len}
 use Rattle.gameid_core.specs.declared.light_cell.LightCell.{LightCell}
 use Rattle.rand_core.specs.Stream.{Stream}
 use Rattle.grid_core.specs.Extent.{Extent}
 use Rattle.gameid_core.specs.Puzzles.{Light}
-use Rattle.gameid_core.specs.declared.light_cell.LightCell.TheVariants.{White, Black, Numbered}
-use Rattle.fields_core.specs.Light.{light_cells, white, is_white, bulbs_beside, is_lit}
+use Rattle.gameid_core.specs.declared.light_cell.LightCell.TheVariants.{White, Black}
+use Rattle.fields_core.specs.Light.{light_cells, white, is_white, is_lit}
 use Rattle.fields_core.proofs.LightHouseLaws.{white-in}
 use Rattle.maker_core.specs.Draws.{AreAll, shuffled_list, black_cells}
 use Rattle.maker_core.specs.LightFilling.{lights_of, white_places, bulbs_after, numbered_cell, with_numbers, lit_up, Lighting, light_filling, light_puzzle_of}
@@ -24,21 +24,12 @@ pub record IsShuffled (p : Light) (items new order : List ℕ) (s t : Stream) : 
   pub lent : order ≡ new
 
 mixed_order : (p : Light) (items new order : List ℕ) (s t : Stream) → IsShuffled p items new order s t → IsPermutation (white_places p) order
-mixed_order p items new order s t w =
-    subst (λ (xs : List ℕ). IsPermutation xs order) w.listed (subst (λ (ys : List ℕ). IsPermutation items ys) (sym w.lent) w.mixed)
+mixed_order p items new order s t w = rw (w.lent, sym w.listed) w.mixed
 
 pub order_within : (p : Light) (items new order : List ℕ) (s t : Stream) → IsShuffled p items new order s t → length p.cells ≡ light_cells p → All (λ c. c < light_cells p) order
 order_within p items new order s t w long k d lt =
     let on = order_white p order (mixed_order p items new order s t w) k lt in
     rw (get_or_default order k d 0 lt) (white-in p (slice_index order k) long on)
-
-pub lit_up_is : (p : Light) (items new order g : List ℕ) (s t : Stream) → IsShuffled p items new order s t → g ≡ bulbs_after p order (length order)
-    → ◌≡◌ {A = List ℕ × Stream} (g, t) (lit_up p s)
-unfolding lit_up
-lit_up_is p items new order g s t w is =
-    ap (λ xs. (xs, t)) (is ∙ ap (λ o. bulbs_after p o (length o)) w.lent)
-    ∙ ap (λ (q : List ℕ × Stream). (bulbs_after p q.0 (length q.0), q.1)) w.drawn
-    ∙ ap (λ xs. (bulbs_after p (shuffled_list xs s).0 (length (shuffled_list xs s).0), (shuffled_list xs s).1)) w.listed
 
 pub lit_up_solved : (p : Light) (items new order g : List ℕ) (s t : Stream) → IsShuffled p items new order s t → length p.cells ≡ light_cells p → g ≡ bulbs_after p order (length order)
     → is_lit (with_numbers p g) g ≡ true
@@ -53,23 +44,18 @@ pub record IsFilled (size : Extent) (black : ℕ) (s t u : Stream) (cells bulbs 
 pub filling_is : (size : Extent) (black : ℕ) (s t u : Stream) (cells bulbs : List ℕ) (p : Light) → IsFilled size black s t u cells bulbs p
     → ◌≡◌ {A = Lighting × Stream} (record { black = cells; bulbs = bulbs }, u) (light_filling size black s)
 unfolding light_filling
-filling_is size black s t u cells bulbs p w =
-    ap (λ (q : List ℕ × Stream). (record { black = cells; bulbs = q.0 }, q.1)) (w.lit ∙ ap (λ q. lit_up q t) w.blacks)
-    ∙ ap (λ (q : List ℕ × Stream). (record { black = q.0; bulbs = (lit_up (lights_of size q.0) q.1).0 }, (lit_up (lights_of size q.0) q.1).1)) w.drawn
+filling_is size black s t u cells bulbs p w = rw (sym w.drawn, sym w.blacks, sym w.lit) refl
 
 pub puzzle_is : (size : Extent) (cells bulbs : List ℕ) (p q : Light) → p ≡ lights_of size cells → q ≡ with_numbers p bulbs
     → q ≡ light_puzzle_of size (record { black = cells; bulbs = bulbs })
 unfolding light_puzzle_of
-puzzle_is size cells bulbs p q blacks numbers = numbers ∙ ap (λ r. with_numbers r bulbs) blacks
+puzzle_is size cells bulbs p q blacks numbers = rw (sym blacks) numbers
 
 -- black cells alone
-colour_of : (v : ℕ) → v ≡ 1 → is_white (if v == 1 then Black else White) ≡ false
-colour_of v e = ap (λ b. is_white (if b then Black else White)) (eq-eqb v 1 e)
-
 black_at : (size : Extent) (cells : List ℕ) → AreAll 1 cells → (c : ℕ) → white (lights_of size cells) c ≡ false
 unfolding white lights_of
 black_at size cells all c = elim (cases_lt c (length cells)) [
-  | inl low ↦ ap is_white (get_or-map (λ v. if v == 1 then Black else White) cells c 0 Black low) ∙ colour_of (slice_index cells c) (all c low)
+  | inl low ↦ ap is_white (get_or-map (λ v. if v == 1 then Black else White) cells c 0 Black low) ∙ rw (all c low) refl
   | inr high ↦ ap is_white (get_or_past (map (λ v. if v == 1 then Black else White) cells) c Black (let l = length-map cells (λ v. if v == 1 then Black else White) in omega arith))
 ]
 
@@ -83,24 +69,16 @@ numbered_cells size cells bulbs p q is numbers = sym (ap light_cells numbers)
 
 pub none_white : (size : Extent) (cells bulbs : List ℕ) (p q : Light) → AreAll 1 cells → p ≡ lights_of size cells → q ≡ with_numbers p bulbs → length cells ≡ size.w * size.h
     → (c : ℕ) → white q c ≡ false
-none_white size cells bulbs p q all is numbers long c =
-    ap (λ r. white r c) numbers ∙ same_white p bulbs (rw is (black_long size cells long)) c ∙ ap (λ r. white r c) is ∙ black_at size cells all c
+none_white size cells bulbs p q all is numbers long c = rw numbers (same_white p bulbs (rw is (black_long size cells long)) c ∙ rw is (black_at size cells all c))
 
 -- numbers told by the same bulbs are the same
-bulbs_same : (p : Light) (g : List ℕ) (c : ℕ) → bulbs_beside (with_numbers p g) g c ≡ bulbs_beside p g c
-unfolding with_numbers
-bulbs_same p g c = refl
-
 again_at : (p : Light) (g : List ℕ) → length p.cells ≡ light_cells p → (c : ℕ) → numbered_cell p g c ≡ numbered_cell (with_numbers p g) g c
-unfolding numbered_cell
-again_at p g long c =
-    ap (λ b. if b then White else Numbered (bulbs_beside p g c)) (sym (same_white p g long c))
-    ∙ ap (λ n. if white (with_numbers p g) c then White else Numbered n) (sym (bulbs_same p g c))
+unfolding numbered_cell with_numbers
+again_at p g long c = rw (same_white p g long c) refl
 
 again : (p : Light) (g : List ℕ) → length p.cells ≡ light_cells p → with_numbers p g ≡ with_numbers (with_numbers p g) g
 unfolding with_numbers
 again p g long = ap (λ (f : ℕ → LightCell). record { size = p.size; cells = map f (range_with_len 0 (light_cells p)) }) (λ i c. again_at p g long c i)
 
 pub numbers_again : (size : Extent) (cells bulbs : List ℕ) (p q : Light) → p ≡ lights_of size cells → q ≡ with_numbers p bulbs → length cells ≡ size.w * size.h → q ≡ with_numbers q bulbs
-numbers_again size cells bulbs p q is numbers long =
-    numbers ∙ again p bulbs (rw is (black_long size cells long)) ∙ ap (λ r. with_numbers r bulbs) (sym numbers)
+numbers_again size cells bulbs p q is numbers long = rw numbers (again p bulbs (rw is (black_long size cells long)))

@@ -1,6 +1,6 @@
--- Who sees whom, whatever the numbers, and both ways.
-use Rattle.std.proofs.Common.{◌≡◌, ℕ, ◌+◌, ◌*◌, ◌/◌, ◌%◌, ◌<◌, Bool, true, false, not, ◌&&◌, List, eqb, length, get_or, map, refl, sym, ap, ◌∙◌, arith, inl, inr}
-use Rattle.std.specs.Prelude.{◌||◌, ◌==◌, if◌then◌else◌}
+-- Who sees whom, whatever the numbers, and both ways; and bulbs that are placed in turn.
+use Rattle.std.proofs.Common.{◌≡◌, ℕ, ◌+◌, ◌*◌, ◌/◌, ◌%◌, ◌<◌, Bool, true, false, not, ◌&&◌, List, eqb, length, get_or, map, refl, sym, ap, ◌∙◌, arith, inl, inr, zero, suc, replicate, add-one}
+use Rattle.std.specs.Prelude.{◌||◌, if◌then◌else◌, slice_index, slice_set, filter}
 use Rattle.std.specs.List.{range_with_len}
 use Rattle.std.proofs.lemmas.Bool.{cases_lt, and_parts, and_from, or_cases, or_left, or_right, eq-eqb}
 use Rattle.std.proofs.lemmas.Cmp.{nat_eq_equiv}
@@ -9,9 +9,12 @@ use Rattle.std.proofs.lemmas.List.FromFn.{get_or-map-range_with_len, length-map-
 use Rattle.grid_core.proofs.CandidateLemmas.{any_below-here, any_below-some}
 use Rattle.gameid_core.specs.Puzzles.{Light}
 use Rattle.gameid_core.specs.declared.light_cell.LightCell.TheVariants.{White, Black, Numbered}
-use Rattle.fields_core.specs.Light.{light_cells, is_white, white, bulb, bulbs_beside, clear, joined_in_row, joined_in_column, sees, sees_bulb}
+use Rattle.fields_core.specs.Light.{light_cells, is_white, white, bulb, bulbs_beside, joined_in_row, joined_in_column, sees, sees_bulb}
 use Rattle.fields_core.proofs.LightHouseLaws.{clear-from, row-both, row-self, column-both}
-use Rattle.maker_core.specs.LightFilling.{numbered_cell, with_numbers}
+use Rattle.maker_core.specs.LightFilling.{numbered_cell, with_numbers, with_bulb, bulbs_after, white_places}
+use Rattle.grid_core.specs.Grids.{IsGrid}
+use Rattle.maker_core.proofs.Shuffles.{if_either}
+use Rattle.maker_core.proofs.WrittenGrids.{grid_with, zeros-grid}
 
 -- ---- numbers change no colour
 pub number_at : (p : Light) (g : List ℕ) (c : ℕ) → c < light_cells p → get_or (with_numbers p g).cells c Black ≡ numbered_cell p g c
@@ -32,19 +35,13 @@ same_white p g long c = elim (cases_lt c (light_cells p)) [
 ]
 
 -- so the same cells see each other
-clear_same : (f g : ℕ → Bool) (j k : ℕ) → ((i : ℕ) → f i ≡ g i) → clear f j k ≡ clear g j k
-clear_same f g j k same = ap (λ (h : ℕ → Bool). clear h j k) (λ i x. same x i)
-
-pub same_sees : (p : Light) (g : List ℕ) → length p.cells ≡ light_cells p → (a b : ℕ) → sees (with_numbers p g) a b ≡ sees p a b
+same_sees : (p : Light) (g : List ℕ) → length p.cells ≡ light_cells p → (a b : ℕ) → sees (with_numbers p g) a b ≡ sees p a b
 unfolding sees joined_in_row joined_in_column with_numbers
-same_sees p g long a b =
-    let row : joined_in_row (with_numbers p g) a b ≡ joined_in_row p a b =
-    ap (λ t. (a / p.size.w == b / p.size.w) && t) (clear_same (λ x. white (with_numbers p g) (a / p.size.w * p.size.w + x)) (λ x. white p (a / p.size.w * p.size.w + x)) (a % p.size.w) (b % p.size.w)
-    (λ x. same_white p g long (a / p.size.w * p.size.w + x))) in
-    let column : joined_in_column (with_numbers p g) a b ≡ joined_in_column p a b =
-    ap (λ t. (a % p.size.w == b % p.size.w) && t) (clear_same (λ y. white (with_numbers p g) (y * p.size.w + a % p.size.w)) (λ y. white p (y * p.size.w + a % p.size.w)) (a / p.size.w) (b / p.size.w)
-    (λ y. same_white p g long (y * p.size.w + a % p.size.w))) in
-    ap (λ t. not (a == b) && (t || joined_in_column (with_numbers p g) a b)) row ∙ ap (λ t. not (a == b) && (joined_in_row p a b || t)) column
+same_sees p g long a b = simp (same_white p g long)
+
+pub same_seen : (p : Light) (g : List ℕ) → length p.cells ≡ light_cells p → (c : ℕ) → sees_bulb (with_numbers p g) g c ≡ sees_bulb p g c
+unfolding sees_bulb with_numbers
+same_seen p g long c = simp (same_sees p g long)
 
 -- ---- both ways
 column-self : (p : Light) (c : ℕ) → white p c ≡ true → joined_in_column p c c ≡ true
@@ -78,3 +75,36 @@ seen_bulb p g c on =
 pub bulb_seen : (p : Light) (g : List ℕ) (c d : ℕ) → d < light_cells p → sees p c d ≡ true → bulb g d ≡ true → sees_bulb p g c ≡ true
 unfolding sees_bulb
 bulb_seen p g c d lt sight on = any_below-here (λ d. sees p c d && bulb g d) (light_cells p) d lt (and_from _ _ sight on)
+
+-- ---- the white cells
+pub white_all : (p : Light) (k : ℕ) (xs : List ℕ) → xs ≡ filter (white p) (range_with_len 0 k) → k ≡ light_cells p → xs ≡ white_places p
+unfolding white_places
+white_all p k xs is all = is ∙ ap (λ n. filter (white p) (range_with_len 0 n)) all
+
+-- ---- the bulbs
+pub bulbs_after-grid : (p : Light) (order : List ℕ) (k : ℕ) → IsGrid (light_cells p) 2 (bulbs_after p order k)
+unfolding bulbs_after with_bulb
+bulbs_after-grid p order zero = zeros-grid (light_cells p)
+bulbs_after-grid p order (suc k) =
+    let before = bulbs_after-grid p order k in
+    if_either (IsGrid (light_cells p) 2) (bulb (bulbs_after p order k) (slice_index order k) || sees_bulb p (bulbs_after p order k) (slice_index order k)) _ _
+    (λ held. before) (λ none. grid_with (light_cells p) (slice_index order k) 1 _ _ (omega arith) refl before)
+
+pub bulbs_none : (p : Light) (order : List ℕ) → replicate (light_cells p) 0 ≡ bulbs_after p order 0
+unfolding bulbs_after
+bulbs_none p order = refl
+
+pub bulbs_next : (p : Light) (order : List ℕ) (k : ℕ) → bulbs_after p order (k + 1) ≡ with_bulb p (bulbs_after p order k) (slice_index order k)
+unfolding bulbs_after
+bulbs_next p order k = rw add-one refl
+
+pub with_bulb-held : (p : Light) (g : List ℕ) (c : ℕ) → (bulb g c || sees_bulb p g c) ≡ true → with_bulb p g c ≡ g
+unfolding with_bulb
+with_bulb-held p g c held = rw held refl
+
+pub with_bulb-new : (p : Light) (g : List ℕ) (c : ℕ) → (bulb g c || sees_bulb p g c) ≡ false → with_bulb p g c ≡ slice_set g c 1
+unfolding with_bulb
+with_bulb-new p g c none = rw none refl
+
+-- what the placing of bulbs cites
+pub ruleset bulb_laws = (bulbs_none, bulbs_next, bulbs_after-grid)

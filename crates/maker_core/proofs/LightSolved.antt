@@ -1,7 +1,7 @@
 -- White cells that were taken in turn, in any order, hold or see a bulb, and no bulb sees a bulb: the grid solves the
 -- puzzle with all numbers.
 use Rattle.std.proofs.Common.{◌≡◌, ℕ, zero, suc, ◌<◌, ◌≤◌, Bool, true, false, not, List, length, get_or, refl, sym, ap, ◌∙◌, arith, inl, inr, replicate}
-use Rattle.std.specs.Prelude.{◌||◌, slice_index, slice_set, if◌then◌else◌, IsPermutation}
+use Rattle.std.specs.Prelude.{◌==◌, ◌||◌, slice_index, slice_set, if◌then◌else◌, IsPermutation}
 use Rattle.std.proofs.lemmas.Bool.{cases_eq, true≢false, false_from_ne_true, and_parts, or_cases, or_left, or_right, eq-eqb}
 use Rattle.std.proofs.lemmas.Grind.{get_or-set_at}
 use Rattle.std.proofs.lemmas.List.Elements.{filter_passes, All-contains, Contains-get_or}
@@ -19,9 +19,8 @@ use Rattle.fields_core.proofs.LightHouseLaws.{white-in}
 use Rattle.fields_core.proofs.LightSight.{bulb-in}
 use Rattle.maker_core.specs.LightFilling.{white_places, with_bulb, bulbs_after, numbered_cell, with_numbers}
 use Rattle.maker_core.proofs.FilteredRanges.{passes_kept}
-use Rattle.maker_core.proofs.LightBulbs.{bulbs_after-grid, with_bulb-held, with_bulb-new}
+use Rattle.maker_core.proofs.LightSight.{bulbs_after-grid, with_bulb-held, with_bulb-new, number_at, same_white, same_seen, sees_back, sees_itself, seen_bulb, bulb_seen}
 use Rattle.maker_core.proofs.WrittenGrids.{new_or_old, no_one, old_stays}
-use Rattle.maker_core.proofs.LightSight.{number_at, same_white, same_sees, sees_back, sees_itself, seen_bulb, bulb_seen}
 
 -- the first k cells of the order hold or see a bulb, bulbs stand on white cells and none sees another
 pub record IsPlanted (p : Light) (order g : List ℕ) (k : ℕ) : Type 0 where
@@ -41,7 +40,7 @@ planted_held p order g k w held = record {
   on_white = w.on_white;
   apart = w.apart;
   lit = λ j lt. elim (cases_eq j k) [
-    | inl e ↦ ap (λ n. bulb g (slice_index order n) || sees_bulb p g (slice_index order n)) e ∙ held
+    | inl e ↦ rw e held
     | inr ne ↦ w.lit j (omega arith)
   ];
 }
@@ -64,13 +63,11 @@ planted_new p order g k c long w at on within none = record {
   ];
   apart = λ d e here there. elim (new_or_old g c d here) [
     | inl new ↦ elim (new_or_old g c e there) [
-      | inl too ↦ ap (λ x. sees p x e) new ∙ ap (sees p c) too ∙ sees_itself p c
-      | inr old ↦ ap (λ x. sees p x e) new ∙ unseen e old
+      | inl too ↦ rw (new, too) (sees_itself p c)
+      | inr old ↦ rw new (unseen e old)
     ]
     | inr old ↦ elim (new_or_old g c e there) [
-      | inl new ↦ false_from_ne_true _ (λ seen.
-          let back : sees p e d ≡ true = sees_back p d e (w.on_white d old) seen in
-          true≢false (sym back ∙ ap (λ x. sees p x d) new ∙ unseen d old))
+      | inl new ↦ rw new (false_from_ne_true _ (λ seen. true≢false (sym (sees_back p d c (w.on_white d old) seen) ∙ unseen d old)))
       | inr too ↦ w.apart d e old too
     ]
   ];
@@ -112,44 +109,31 @@ lights_solved p order g k long grid w each =
     (all_below-from (bulb_right (with_numbers p g) g) (light_cells p) alone)
     (all_below-from (lit_right (with_numbers p g) g) (light_cells p) lit)
   where
-    same_seen : (c : ℕ) → sees_bulb (with_numbers p g) g c ≡ true → sees_bulb p g c ≡ true
-    same_seen c seen =
-        let v = seen_bulb (with_numbers p g) g c seen in
-        bulb_seen p g c v.0 (bulb-in g (light_cells p) v.0 grid.each_cell v.3) (sym (same_sees p g long c v.0) ∙ v.2) v.3
-
     black : (c : ℕ) → c < light_cells p → black_right (with_numbers p g) g c ≡ true
-    black c lt = by (white p c) refl
+    black c lt = rw (same_white p g long c) (by (white p c) refl)
       where
-        by : (b : Bool) → white p c ≡ b → black_right (with_numbers p g) g c ≡ true
-        by true e = or_left _ _ (same_white p g long c ∙ e)
-        by false e = or_right _ _ (eq-eqb (slice_index g c) 0 (none (slice_index g c) refl))
-          where
-            none : (v : ℕ) → v ≡ slice_index g c → slice_index g c ≡ 0
-            none v at = let small = grid.each_value c 0 (let l = grid.each_cell in omega arith) in elim (cases_eq (slice_index g c) 1) [
-              | inl one ↦ absurd (true≢false (sym (w.on_white c (eq-eqb _ _ one)) ∙ e))
-              | inr ne ↦ omega arith
-            ]
+        by : (b : Bool) → white p c ≡ b → (b || (slice_index g c == 0)) ≡ true
+        by true e = refl
+        by false e = let small = grid.each_value c 0 (let l = grid.each_cell in omega arith) in elim (cases_eq (slice_index g c) 1) [
+          | inl one ↦ absurd (true≢false (sym (w.on_white c (eq-eqb _ _ one)) ∙ e))
+          | inr ne ↦ eq-eqb (slice_index g c) 0 (omega arith)
+        ]
 
     number : (c : ℕ) → c < light_cells p → number_right (with_numbers p g) g c ≡ true
     number c lt = number_met (get_or (with_numbers p g).cells c Black) (white p c) (bulbs_beside p g c) (number_at p g c lt)
 
     alone : (c : ℕ) → c < light_cells p → bulb_right (with_numbers p g) g c ≡ true
-    alone c lt = ap not (false_from_ne_true _ (λ both.
+    alone c lt = rw (same_seen p g long c) (ap not (false_from_ne_true _ (λ both.
         let parts = and_parts (bulb g c) _ both in
-        let v = seen_bulb p g c (same_seen c parts.1) in
-        true≢false (sym v.2 ∙ w.apart c v.0 parts.0 v.3)))
+        let v = seen_bulb p g c parts.1 in
+        true≢false (sym v.2 ∙ w.apart c v.0 parts.0 v.3))))
 
     lit : (c : ℕ) → c < light_cells p → lit_right (with_numbers p g) g c ≡ true
-    lit c lt = by (white p c) refl
+    lit c lt = rw (same_white p g long c, same_seen p g long c) (by (white p c) refl)
       where
-        by : (b : Bool) → white p c ≡ b → lit_right (with_numbers p g) g c ≡ true
-        by false e = or_left _ _ (ap not (same_white p g long c ∙ e))
-        by true e =
-            let v = each c e in
-            elim (or_cases (bulb g c) (sees_bulb p g c) (ap (λ d. bulb g d || sees_bulb p g d) (sym v.2) ∙ w.lit v.0 v.1)) [
-              | inl own ↦ or_right _ _ (or_left _ _ own)
-              | inr seen ↦ or_right _ _ (or_right _ _ (let s = seen_bulb p g c seen in bulb_seen (with_numbers p g) g c s.0 s.1 (same_sees p g long c s.0 ∙ s.2) s.3))
-            ]
+        by : (b : Bool) → white p c ≡ b → (not b || (bulb g c || sees_bulb p g c)) ≡ true
+        by false e = refl
+        by true e = let v = each c e in rw (sym v.2) (w.lit v.0 v.1)
 
 -- ---- in any order of the white cells
 pub order_white : (p : Light) (order : List ℕ) → IsPermutation (white_places p) order → (j : ℕ) → j < length order → white p (slice_index order j) ≡ true

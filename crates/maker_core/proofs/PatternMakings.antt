@@ -2,8 +2,7 @@
 use Rattle.std.proofs.Common.{◌≡◌, ℕ, ◌+◌, ◌-◌, ◌*◌, ◌<◌, List, [], length, subst, refl, sym, ap, ◌∙◌, arith, inl, inr}
 use Rattle.std.specs.Prelude.{slice_index_or, IsTrue, ◌↔◌}
 use Rattle.std.proofs.lemmas.Bool.{cases_lt, lt-ltb, le-ltb}
-use Rattle.std.proofs.lemmas.List.{same_lists, get_or_default}
-use Rattle.std.proofs.lemmas.List.FromFn.{get_or-map-range_with_len, length-map-range_with_len}
+use Rattle.std.proofs.lemmas.List.FromFn.{get_or-map-range_with_len, fill_by_all}
 use Rattle.grid_core.specs.Extent.{Extent}
 use Rattle.grid_core.specs.Grids.{IsGrid, row_cells, column_cells}
 use Rattle.gameid_core.specs.BlackRuns.{runs}
@@ -35,17 +34,8 @@ clue_at size g p has line lt = elim (cases_lt line size.w) [
 
 pub pattern_is : (size : Extent) (g : List ℕ) (p : Pattern) → length p.clues ≡ lines_of p.size → HasRuns size g p → p ≡ clued_by size g
 pattern_is size g p lines has =
-    let same = has.sized in
-    let long : length p.clues ≡ lines_of size = lines ∙ ap lines_of same in
-    let clues : p.clues ≡ lines_runs size g =
-    same_lists p.clues (lines_runs size g) (long ∙ sym (length-map-range_with_len (λ line. runs (line_list size g line)) 0 (lines_of size)))
-    (λ k d lt. at k d lt (omega arith) long) in
-    ap (λ (s : Extent). record { size = s; clues = p.clues }) same ∙ ap (λ (c : List (List ℕ)). record { size = size; clues = c }) clues
-  where
-    at : (k : ℕ) (d : List ℕ) → k < length p.clues → k < lines_of size → length p.clues ≡ lines_of size → slice_index_or p.clues k d ≡ slice_index_or (lines_runs size g) k d
-    at k d lt below long =
-        get_or_default p.clues k d [] lt ∙ clue_at size g p has k below ∙ sym (runs_at size g k below)
-        ∙ get_or_default (lines_runs size g) k [] d (let l = length-map-range_with_len (λ line. runs (line_list size g line)) 0 (lines_of size) in omega arith)
+    let clues = fill_by_all (λ line. runs (line_list size g line)) p.clues (lines_of size) [] (lines ∙ ap lines_of has.sized) (clue_at size g p has) in
+    rw (← clues, ← has.sized) refl
 
 -- that grid is a solution of it
 pub pattern_solved : (size : Extent) (g : List ℕ) (p : Pattern) → HasRuns size g p → IsGrid (size.w * size.h) 2 g → IsPatternSolution p g

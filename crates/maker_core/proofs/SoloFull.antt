@@ -1,5 +1,5 @@
 -- The puzzle that gives all cells of a grid: its search starts from that grid alone.
-use Rattle.std.proofs.Common.{◌≡◌, ℕ, suc, ◌+◌, ◌*◌, ◌<◌, ◌≤◌, Bool, eqb, ltb, List, map, length, slice_index, refl, sym, ◌∙◌, inl, inr, arith}
+use Rattle.std.proofs.Common.{◌≡◌, ℕ, suc, ◌+◌, ◌*◌, ◌<◌, ◌≤◌, Bool, eqb, ltb, List, map, length, slice_index, refl, sym, ◌∙◌, inl, inr, arith, true, Some, ap}
 use Rattle.std.proofs.lemmas.Bool.{cases_eq, and_parts, and_from, or_cases, eqb-true, eq-eqb, ltb-true, lt-ltb}
 use Rattle.std.proofs.lemmas.Grind.{same_number_lists}
 use Rattle.std.proofs.lemmas.List.{length-map, get_or-map}
@@ -9,14 +9,14 @@ use Rattle.grid_core.specs.Grids.{IsGrid}
 use Rattle.gameid_core.specs.Puzzles.{Solo, IsSolo}
 use Rattle.engine_core.specs.Verdict.{Outcome.OneGrid, Solves, IsTrueOf}
 use Rattle.solo_core.specs.Solutions.{IsSoloSolution}
-use Rattle.solo_core.specs.SolutionLaws.{test_from_rule}
+use Rattle.solo_core.specs.SolutionLaws.{test_from_rule, rule_from_test}
 use Rattle.solo_core.specs.RuleSets.{start, houses_rules}
 use Rattle.solo_core.specs.RuleLaws.{houses_lawful}
-use Rattle.maker_core.specs.Made.{TellsOne}
+use Rattle.maker_core.specs.Made.{TellsOne, is_one, IsOnlySolution}
 use Rattle.maker_core.specs.SoloFilling.{all_given}
 use Rattle.maker_core.specs.SoloClues.{solo_game}
 use Rattle.maker_core.specs.SoloCluesLaws.{clue_is, is_clue}
-use Rattle.maker_core.specs.SoloMaking.{IsSoloSize}
+use Rattle.maker_core.specs.SoloMaking.{IsSoloSize, solo_passes}
 use Rattle.maker_core.specs.Thinning.{IsThinnedFrom}
 use Rattle.maker_core.proofs.FullStart.{start_found, start_only}
 
@@ -94,3 +94,20 @@ thinned-solo c r x p g size solution w = record {
           let low = All-get_or (λ v. v < c * r) g place 0 inside solution.grid.each_value in
           omega arith
     ]
+
+-- what the writing of all givens cites
+pub ruleset full_laws = (all_given-same)
+
+-- a filling that is there passes
+pub full_passes : (c r : ℕ) (x : Bool) (g : List ℕ) (budget : ℕ) → IsSoloSize c r → IsSoloSolution (all_given c r x g) g → solo_passes c r x budget (Some g) ≡ true
+full_passes c r x g budget size solution = ap is_one (all_given-found c r x g size solution budget)
+
+pub only_by_rules : (p : Solo) (g : List ℕ) → IsSolo p → IsTrueOf (houses_rules p) (OneGrid g) → IsOnlySolution (IsSoloSolution p) g
+only_by_rules p g ok w = (
+  rule_from_test p ok g w.0.grid w.0.good,
+  λ h other. sym (w.1 h (record { grid = other.grid; good = test_from_rule p ok h other })),
+)
+
+-- a puzzle that has the sizes of the full one has its clues among the same
+pub same_given : (p : Solo) (c r : ℕ) (x : Bool) (g : List ℕ) → p.c ≡ c → p.r ≡ r → p.x ≡ x → all_given p.c p.r p.x g ≡ all_given c r x g
+same_given p c r x g columns rows diagonals = rw (columns, rows, diagonals) refl

@@ -1,24 +1,15 @@
 -- Two cells of one row, column or block of the grid before it is shuffled hold different numbers: each is a number below
 -- n, another for each cell of the line, moved on by what the line has in common, and counted round n.
-use Rattle.std.proofs.Common.{◌≡◌, ℕ, ◌+◌, ◌*◌, ◌/◌, ◌%◌, ◌<◌, sym, ap, ◌∙◌, inl, inr, arith}
-use Rattle.std.proofs.lemmas.Bool.{cases_lt}
-use Rattle.std.proofs.lemmas.Nat.{mul-le, mul-add-lt, same_from_place, div_below, mod_below, div-add-mod'}
+use Rattle.std.proofs.Common.{◌≡◌, ℕ, ◌+◌, ◌*◌, ◌/◌, ◌%◌, ◌<◌, sym, ap, ◌∙◌, arith}
+use Rattle.std.proofs.lemmas.Nat.{mul-add-lt, same_from_place, div_below, mod_below, div-add-mod'}
 use Rattle.maker_core.specs.SoloFilling.{first_number}
-
-same_from_quotients : (n k a b q u m : ℕ) → a < n → b < n → q * n + m ≡ a + k → u * n + m ≡ b + k → a ≡ b
-same_from_quotients n k a b q u m la lb e f = elim (cases_lt q u) [
-  | inl lt ↦ absurd (omega (arith, mul-le (q + 1) n u n (omega arith) (omega arith)))
-  | inr le ↦ elim (cases_lt u q) [
-    | inl gt ↦ absurd (omega (arith, mul-le (u + 1) n q n (omega arith) (omega arith)))
-    | inr ge ↦ let same : q ≡ u = omega arith in let products : q * n ≡ u * n = ap (λ z. z * n) same in omega arith
-  ]
-]
 
 -- numbers below n that are moved on alike, round n, stay apart
 pub moved_apart : (n k a b : ℕ) → a < n → b < n → (a + k) % n ≡ (b + k) % n → a ≡ b
 moved_apart n k a b la lb e =
-    same_from_quotients n k a b ((a + k) / n) ((b + k) / n) ((a + k) % n) la lb (div-add-mod' (a + k) n)
-    (ap (λ m. (b + k) / n * n + m) e ∙ div-add-mod' (b + k) n)
+    let all = div-add-mod' (a + k) n in
+    let all' = div-add-mod' (b + k) n in
+    (same_from_place ((b + k) / n) a ((a + k) / n) b n la lb (omega arith)).1
 
 -- a line is told by its group and its place in it
 pub same_line : (size y z : ℕ) → y / size ≡ z / size → y % size ≡ z % size → y ≡ z

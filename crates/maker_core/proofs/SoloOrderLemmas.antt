@@ -1,18 +1,21 @@
 -- A shuffled list of numbers is an order of them, and groups of lines that are appended in such an order, each group's lines
 -- in such an order too, are an order of the lines that keeps groups together: a line is its group's number times the size,
 -- and its place in the group.
-use Rattle.std.proofs.Common.{◌≡◌, ℕ, ◌+◌, ◌-◌, ◌*◌, ◌/◌, ◌<◌, ◌≤◌, eqb, List, ◌++◌, [], map, length, slice_index, get_or, sym, ap, ◌∙◌, inl, inr, arith, true≢false}
+use Rattle.std.proofs.Common.{◌≡◌, ℕ, ◌+◌, ◌-◌, ◌*◌, ◌/◌, ◌<◌, ◌≤◌, eqb, List, ◌++◌, [], map, length, slice_index, get_or, sym, ap, ◌∙◌, inl, inr, arith, true≢false, ◌∷◌, take, refl, add-one}
 use Rattle.std.specs.Prelude.{IsPermutation}
 use Rattle.std.specs.List.{IsDistinct, range_with_len}
 use Rattle.std.proofs.lemmas.Bool.{cases_lt, eq-eqb, ne_eqb}
 use Rattle.std.proofs.lemmas.Cmp.{nat_eq_equiv}
 use Rattle.std.proofs.lemmas.Nat.{mul-le, div_below, div-mul-add, mod_below, div-add-mod'}
-use Rattle.std.proofs.lemmas.List.{length-map, length-append, get_or-map, get_or_append_left, get_or-append_right}
+use Rattle.std.proofs.lemmas.List.{length-map, length-append, get_or-map, get_or_append_left, get_or-append_right, append_assoc, map-append, take_more, take_all}
 use Rattle.std.proofs.lemmas.List.Elements.{All-get_or, All-from_get_or}
 use Rattle.std.proofs.lemmas.List.FromFn.{length-range_with_len, get_or-range_with_len}
 use Rattle.std.proofs.lemmas.List.Sorted.{length_permutation, All-permutation}
 use Rattle.std.proofs.lemmas.Map.Keys.{IsDistinct-from_apart, IsDistinct-IsPermutation, apart_from_distinct}
 use Rattle.maker_core.specs.SoloOrders.{IsOrder, IsLineOrder}
+use Rattle.rand_core.specs.Stream.{Stream}
+use Rattle.maker_core.specs.Draws.{shuffled_order}
+use Rattle.maker_core.specs.SoloFilling.{lines_of_groups, group_added}
 
 -- the lines of the first k groups, each group's own lines beside each other
 pub record AreGrouped (size : ℕ) (groups : List ℕ) (k : ℕ) (lines : List ℕ) : Type 0 where
@@ -137,3 +140,45 @@ line_order_from_groups count size groups lines size_low outer all = record {
         let rest = mod_below (slice_index lines y) size size_low in
         let room = mul-le (slice_index lines y / size + 1) size count size (omega arith) (omega arith) in
         omega arith
+
+-- one more line of a group
+pub line-more : (f : ℕ → ℕ) (old lines new inside : List ℕ) (k x : ℕ) → k < length inside → lines ≡ old ++ map f (take k inside)
+    → new ≡ lines ++ x ∷ [] → x ≡ f (slice_index inside k) → new ≡ old ++ map f (take (k + 1) inside)
+line-more f old lines new inside k x lt before pushed is =
+    pushed ∙ ap (λ xs. xs ++ x ∷ []) before ∙ append_assoc old (map f (take k inside)) (x ∷ [])
+    ∙ ap (λ z. old ++ (map f (take k inside) ++ z ∷ [])) is
+    ∙ ap (λ xs. old ++ xs) (sym (map-append f (take k inside) (slice_index inside k ∷ [])) ∙ ap (map f) (sym (take_more inside k 0 lt)))
+
+-- all lines of a group
+pub lines-all : (size group k : ℕ) (old lines inside : List ℕ) (t : Stream) (drawn : List ℕ × Stream)
+    → lines ≡ old ++ map (λ line. group * size + line) (take k inside) → length inside ≤ k → ◌≡◌ {A = List ℕ × Stream} (inside, t) drawn
+    → ◌≡◌ {A = List ℕ × Stream} (lines, t) (group_added size group old drawn)
+lines-all size group k old lines inside t drawn done all e = rw (done, take_all k inside all, sym e) refl
+
+pub order_drawn : (n : ℕ) (xs : List ℕ) (t : Stream) (drawn : List ℕ × Stream) → ◌≡◌ {A = List ℕ × Stream} (xs, t) drawn → IsOrder n xs → IsOrder n drawn.0
+order_drawn n xs t drawn e is = rw (sym e) is
+
+-- no group yet
+pub groups-none : (size : ℕ) (groups lines : List ℕ) (s t : Stream) → lines ≡ [] → s ≡ t → ◌≡◌ {A = List ℕ × Stream} (lines, s) (lines_of_groups size groups 0 t)
+unfolding lines_of_groups
+groups-none size groups lines s t none same = rw (none, same) refl
+
+pub grouped-none : (size : ℕ) (groups lines : List ℕ) → lines ≡ [] → AreGrouped size groups 0 lines
+grouped-none size groups lines none = rw none (AreGrouped-none size groups)
+
+-- one more group
+pub groups-more : (size k group : ℕ) (groups lines new : List ℕ) (s t u : Stream)
+    → ◌≡◌ {A = List ℕ × Stream} (lines, t) (lines_of_groups size groups k s) → group ≡ slice_index groups k
+    → ◌≡◌ {A = List ℕ × Stream} (new, u) (group_added size group lines (shuffled_order size t))
+    → ◌≡◌ {A = List ℕ × Stream} (new, u) (lines_of_groups size groups (k + 1) s)
+unfolding lines_of_groups
+groups-more size k group groups lines new s t u before is added = rw (add-one, sym before, sym is) added
+
+pub grouped-more : (size k group : ℕ) (groups lines new : List ℕ) (t u : Stream) → 0 < size → AreGrouped size groups k lines → group ≡ slice_index groups k
+    → IsOrder size (shuffled_order size t).0 → ◌≡◌ {A = List ℕ × Stream} (new, u) (group_added size group lines (shuffled_order size t))
+    → AreGrouped size groups (k + 1) new
+grouped-more size k group groups lines new t u some before is inner added =
+    rw (ap (λ (q : List ℕ × Stream). q.0) added, is) (AreGrouped-more size groups k lines (shuffled_order size t).0 some before inner)
+
+-- what the drawing of lines cites
+pub ruleset draw_laws = (line-more, lines-all, order_drawn, groups-none, grouped-none)

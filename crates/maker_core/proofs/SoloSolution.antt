@@ -13,25 +13,21 @@ use Rattle.solo_core.specs.declared.solo_house.SoloHouse.TheVariants.{Row, Colum
 use Rattle.solo_core.specs.Cells.{block_of}
 use Rattle.solo_core.specs.Houses.{IsHouseOf, lies_in}
 use Rattle.solo_core.specs.Solutions.{IsSoloSolution}
-use Rattle.maker_core.specs.SoloFilling.{first_number, rearranged, all_given}
-use Rattle.maker_core.specs.SoloOrders.{IsOrder, IsLineOrder}
+use Rattle.maker_core.specs.SoloFilling.{first_number, old_number, rearranged, all_given}
+use Rattle.maker_core.specs.SoloOrders.{AreOrders}
 use Rattle.maker_core.proofs.SoloNumbers.{row_apart, column_apart, block_apart, same_line}
 
 pub rearranged-at : (c r : ℕ) (numbers rows columns : List ℕ) (place : ℕ) → place < (c * r) * (c * r)
-    → slice_index (rearranged c r numbers rows columns) place
-    ≡ slice_index numbers (first_number c r (slice_index columns (place % (c * r))) (slice_index rows (place / (c * r))))
+    → slice_index (rearranged c r numbers rows columns) place ≡ slice_index numbers (old_number c r rows columns place)
 unfolding rearranged
 rearranged-at c r numbers rows columns place lt =
-    get_or-map-range_with_len (λ place. slice_index numbers (first_number c r (slice_index columns (place % (c * r))) (slice_index rows (place / (c * r)))))
-    0 ((c * r) * (c * r)) place place 0 lt (omega arith)
+    get_or-map-range_with_len (λ k. slice_index numbers (old_number c r rows columns k)) 0 ((c * r) * (c * r)) place place 0 lt (omega arith)
 
 pub length-rearranged : (c r : ℕ) (numbers rows columns : List ℕ) → length (rearranged c r numbers rows columns) ≡ (c * r) * (c * r)
 unfolding rearranged
-length-rearranged c r numbers rows columns =
-    length-map-range_with_len (λ place. slice_index numbers (first_number c r (slice_index columns (place % (c * r))) (slice_index rows (place / (c * r))))) 0 ((c * r) * (c * r))
+length-rearranged c r numbers rows columns = length-map-range_with_len (λ k. slice_index numbers (old_number c r rows columns k)) 0 ((c * r) * (c * r))
 
-module _ (c r : ℕ) (c_low : 0 < c) (r_low : 0 < r) (numbers rows columns : List ℕ)
-    (is_numbers : IsOrder (c * r) numbers) (is_rows : IsLineOrder r c rows) (is_columns : IsLineOrder c r columns) where
+module _ (c r : ℕ) (numbers rows columns : List ℕ) (orders : AreOrders c r numbers rows columns) where
   abbrev grid : List ℕ
   grid = rearranged c r numbers rows columns
 
@@ -43,7 +39,7 @@ module _ (c r : ℕ) (c_low : 0 < c) (r_low : 0 < r) (numbers rows columns : Lis
   old_y place = slice_index rows (place / (c * r))
 
   side_some : 0 < c * r
-  side_some = mul-pos c_low r_low
+  side_some = mul-pos orders.c_some orders.r_some
 
   turned : r * c ≡ c * r
   turned = omega arith
@@ -55,47 +51,47 @@ module _ (c r : ℕ) (c_low : 0 < c) (r_low : 0 < r) (numbers rows columns : Lis
   y_below place lt = let far = div_below place (c * r) (c * r) side_some lt in omega arith
 
   pub old_x_below : (place : ℕ) → old_x place < c * r
-  old_x_below place = is_columns.order.within (place % (c * r)) (x_below place)
+  old_x_below place = orders.column_order.order.within (place % (c * r)) (x_below place)
 
   pub old_y_below : (place : ℕ) → place < (c * r) * (c * r) → old_y place < c * r
-  old_y_below place lt = let w = is_rows.order.within (place / (c * r)) (y_below place lt) in omega arith
+  old_y_below place lt = let w = orders.row_order.order.within (place / (c * r)) (y_below place lt) in omega arith
 
   same_x : (j k : ℕ) → old_x j ≡ old_x k → j % (c * r) ≡ k % (c * r)
-  same_x j k e = is_columns.order.apart (j % (c * r)) (k % (c * r)) (x_below j) (x_below k) e
+  same_x j k e = orders.column_order.order.apart (j % (c * r)) (k % (c * r)) (x_below j) (x_below k) e
 
   same_y : (j k : ℕ) → j < (c * r) * (c * r) → k < (c * r) * (c * r) → old_y j ≡ old_y k → j / (c * r) ≡ k / (c * r)
-  same_y j k lj lk e = is_rows.order.apart (j / (c * r)) (k / (c * r)) (y_below j lj) (y_below k lk) e
+  same_y j k lj lk e = orders.row_order.order.apart (j / (c * r)) (k / (c * r)) (y_below j lj) (y_below k lk) e
 
   same_first : (j k : ℕ) → j < (c * r) * (c * r) → k < (c * r) * (c * r) → slice_index grid j ≡ slice_index grid k
-      → first_number c r (old_x j) (old_y j) ≡ first_number c r (old_x k) (old_y k)
+      → old_number c r rows columns j ≡ old_number c r rows columns k
   same_first j k lj lk e =
-      is_numbers.apart (first_number c r (old_x j) (old_y j)) (first_number c r (old_x k) (old_y k)) (mod_below _ (c * r) side_some) (mod_below _ (c * r) side_some)
+      orders.number_order.apart _ _ (mod_below _ (c * r) side_some) (mod_below _ (c * r) side_some)
       (sym (rearranged-at c r numbers rows columns j lj) ∙ e ∙ rearranged-at c r numbers rows columns k lk)
 
   apart_in_row : (j k : ℕ) → j < (c * r) * (c * r) → k < (c * r) * (c * r) → slice_index grid j ≡ slice_index grid k → j / (c * r) ≡ k / (c * r) → j ≡ k
   apart_in_row j k lj lk e row =
       let old = same_first j k lj lk e ∙ ap (first_number c r (old_x k)) (ap (slice_index rows) (sym row)) in
-      let column = row_apart c r c_low r_low (old_x j) (old_x k) (old_y j) (old_x_below j) (old_x_below k) old in
+      let column = row_apart c r orders.c_some orders.r_some (old_x j) (old_x k) (old_y j) (old_x_below j) (old_x_below k) old in
       same_line (c * r) j k row (same_x j k column)
 
   apart_in_column : (j k : ℕ) → j < (c * r) * (c * r) → k < (c * r) * (c * r) → slice_index grid j ≡ slice_index grid k → j % (c * r) ≡ k % (c * r) → j ≡ k
   apart_in_column j k lj lk e column =
       let old = same_first j k lj lk e ∙ ap (λ x. first_number c r x (old_y k)) (ap (slice_index columns) (sym column)) in
-      let row = column_apart c r c_low r_low (old_x j) (old_y j) (old_y k) (old_y_below j lj) (old_y_below k lk) old in
+      let row = column_apart c r orders.c_some orders.r_some (old_x j) (old_y j) (old_y k) (old_y_below j lj) (old_y_below k lk) old in
       same_line (c * r) j k (same_y j k lj lk row) column
 
   apart_in_block : (j k : ℕ) → j < (c * r) * (c * r) → k < (c * r) * (c * r) → slice_index grid j ≡ slice_index grid k
       → j / (c * r) / c ≡ k / (c * r) / c → j % (c * r) / r ≡ k % (c * r) / r → j ≡ k
   apart_in_block j k lj lk e band stack =
       let old = same_first j k lj lk e in
-      let bands = is_rows.together (j / (c * r)) (k / (c * r)) (y_below j lj) (y_below k lk) band in
-      let stacks = is_columns.together (j % (c * r)) (k % (c * r)) (x_below j) (x_below k) stack in
-      let w = block_apart c r c_low r_low (old_x j) (old_x k) (old_y j) (old_y k) stacks bands old in
+      let bands = orders.row_order.together (j / (c * r)) (k / (c * r)) (y_below j lj) (y_below k lk) band in
+      let stacks = orders.column_order.together (j % (c * r)) (k % (c * r)) (x_below j) (x_below k) stack in
+      let w = block_apart c r orders.c_some orders.r_some (old_x j) (old_x k) (old_y j) (old_y k) stacks bands old in
       same_line (c * r) j k (same_y j k lj lk w.1) (same_x j k w.0)
 
   same_block : (j k : ℕ) → block_of (all_given c r false grid) j ≡ block_of (all_given c r false grid) k → (j / (c * r) / c ≡ k / (c * r) / c) × (j % (c * r) / r ≡ k % (c * r) / r)
   same_block j k e =
-      same_from_place (j / (c * r) / c) (j % (c * r) / r) (k / (c * r) / c) (k % (c * r) / r) c (div_below (j % (c * r)) r c r_low (x_below j)) (div_below (k % (c * r)) r c r_low (x_below k)) e
+      same_from_place (j / (c * r) / c) (j % (c * r) / r) (k / (c * r) / c) (k % (c * r) / r) c (div_below (j % (c * r)) r c orders.r_some (x_below j)) (div_below (k % (c * r)) r c orders.r_some (x_below k)) e
 
   apart_in_house : (house : SoloHouse) → IsHouseOf (all_given c r false grid) house → (j k : ℕ) → j < (c * r) * (c * r) → k < (c * r) * (c * r)
       → lies_in (all_given c r false grid) house j ≡ true → lies_in (all_given c r false grid) house k ≡ true → slice_index grid j ≡ slice_index grid k → j ≡ k
@@ -110,7 +106,7 @@ module _ (c r : ℕ) (c_low : 0 < c) (r_low : 0 < r) (numbers rows columns : Lis
     each_value = All-from_get_or (λ v. v < c * r) grid 0 (λ place lt.
         let long = length-rearranged c r numbers rows columns in
         let at = rearranged-at c r numbers rows columns place (omega arith) in
-        let low = is_numbers.within (first_number c r (old_x place) (old_y place)) (mod_below _ (c * r) side_some) in
+        let low = orders.number_order.within (old_number c r rows columns place) (mod_below _ (c * r) side_some) in
         omega arith);
   }
 
@@ -120,3 +116,6 @@ module _ (c r : ℕ) (c_low : 0 < c) (r_low : 0 < r) (numbers rows columns : Lis
     givens = λ place lt some. let long = length-rearranged c r numbers rows columns in let at = get_or-map suc grid place 0 0 (omega arith) in omega arith;
     different = λ house is j k lj lk ne a b e. ne (apart_in_house house is j k lj lk a b e);
   }
+
+-- what the writing of the grid cites
+pub ruleset solution_laws = (rearranged-at, length-rearranged, old_x_below, old_y_below)

@@ -129,7 +129,7 @@ pub x-filling-solves : (c r n : ℕ) (t u : Stream) (numbers : List ℕ) (p : So
     → p ≡ top_row_given c r numbers → q ≡ houses_rules p → IfSome found (Solves q)
     → ◌≡◌ {A = Option (List ℕ) × Stream} (filling, u) (flipped_by_draw n found t) → IfSome filling (λ g. IsSoloSolution (all_given c r true g) g)
 x-filling-solves c r n t u numbers p q found filling size order is top rules solves flipped =
-    let good : IfSome found (Solves (houses_rules (top_row_given c r numbers))) = subst (λ (z : Puzzle). IfSome found (Solves z)) (rules ∙ ap houses_rules top) solves in
-    subst (λ (f : Option (List ℕ)). IfSome f (λ g. IsSoloSolution (all_given c r true g) g))
-    (sym (ap (λ (q : Option (List ℕ) × Stream). q.0) flipped ∙ ap (λ m. (flipped_by_draw m found t).0) is))
-    (flipped-found c r numbers size order found t good)
+    rw (ap (λ (z : Option (List ℕ) × Stream). z.0) (rw is at flipped)) (flipped-found c r numbers size order found t (rw (rules, top) at solves))
+
+-- what the writing of the top row cites
+pub ruleset top_laws = (top-same)

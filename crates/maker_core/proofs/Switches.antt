@@ -14,7 +14,7 @@ use Rattle.pattern_core.specs.Solutions.{IsPatternSolution}
 use Rattle.maker_core.specs.Made.{is_one, has_one}
 use Rattle.maker_core.specs.Switch.{HasOther}
 use Rattle.maker_core.proofs.OnlySolutions.{solution}
-use Rattle.maker_core.proofs.PutBack.{set_back}
+use Rattle.maker_core.proofs.WrittenGrids.{set_back}
 
 -- one number put back, after those that were written later
 pub undone : (g h back k : List ℕ) (i u was : ℕ) → h ≡ slice_set g i u → was ≡ slice_index g i → back ≡ h → k ≡ slice_set back i was → k ≡ g

@@ -2,8 +2,7 @@
 use Rattle.std.proofs.Common.{◌≡◌, ℕ, ◌+◌, ◌-◌, ◌<◌, List, length, subst, refl, sym, ap, ◌∙◌, arith, inl, inr}
 use Rattle.std.specs.Prelude.{slice_index, IsTrue, ◌↔◌}
 use Rattle.std.proofs.lemmas.Bool.{cases_lt, lt-ltb, le-ltb}
-use Rattle.std.proofs.lemmas.Grind.{same_number_lists}
-use Rattle.std.proofs.lemmas.List.FromFn.{get_or-map-range_with_len, length-map-range_with_len}
+use Rattle.std.proofs.lemmas.List.FromFn.{get_or-map-range_with_len, fill_by_all}
 use Rattle.grid_core.specs.Extent.{Extent}
 use Rattle.grid_core.specs.Grids.{row_cells, column_cells}
 use Rattle.gameid_core.specs.Lines.{line_list, lines_ones, ones}
@@ -38,14 +37,8 @@ count_at size camp p has line lt = elim (cases_lt line size.w) [
 pub tents_is : (size : Extent) (camp : Camp) (p : Tents) → length p.counts ≡ lines_of p.size → HasParts size camp p → p ≡ tents_puzzle_of size camp
 unfolding tents_puzzle_of
 tents_is size camp p lines has =
-    let same = has.sized in
-    let long : length p.counts ≡ lines_of size = lines ∙ ap lines_of same in
-    let counts : p.counts ≡ lines_ones size camp.tents =
-    same_number_lists p.counts (lines_ones size camp.tents) (long ∙ sym (length-map-range_with_len (λ l. ones (line_list size camp.tents l)) 0 (lines_of size)))
-    (λ k lt. count_at size camp p has k (omega arith) ∙ sym (ones_at size camp.tents k (omega arith))) in
-    ap (λ (s : Extent). record { size = s; trees = p.trees; counts = p.counts }) same
-    ∙ ap (λ (xs : List ℕ). record { size = size; trees = xs; counts = p.counts }) has.trees
-    ∙ ap (λ (xs : List ℕ). record { size = size; trees = camp.trees; counts = xs }) counts
+    let counts = fill_by_all (λ line. ones (line_list size camp.tents line)) p.counts (lines_of size) 0 (lines ∙ ap lines_of has.sized) (count_at size camp p has) in
+    rw (← counts, ← has.sized, ← has.trees) refl
 
 pub tents_size : (size : Extent) (camp : Camp) (p : Tents) → p ≡ tents_puzzle_of size camp → p.size ≡ size
 unfolding tents_puzzle_of

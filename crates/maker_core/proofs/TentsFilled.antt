@@ -1,7 +1,6 @@
 -- Each filling of a making of Tents over a stream of words is a camp, which solves its puzzle.
-use Rattle.std.proofs.Common.{◌≡◌, ℕ, zero, suc, ◌*◌, ◌/◌, ◌<◌, ◌≤◌, true, not, List, length, refl, subst, add-one, inl, inr, arith}
-use Rattle.std.specs.Prelude.{◌==◌, nat_lt, slice_index}
-use Rattle.std.proofs.lemmas.Bool.{and_parts, ltb-true}
+use Rattle.std.proofs.Common.{◌≡◌, ℕ, zero, suc, ◌*◌, ◌<◌, ◌≤◌, true, List, length, refl, subst, add-one, inl, inr, arith}
+use Rattle.std.specs.Prelude.{slice_index}
 use Rattle.std.proofs.lemmas.Nat.{mul-le}
 use Rattle.rand_core.specs.Stream.{Stream}
 use Rattle.grid_core.specs.Extent.{Extent, IsExtent}
@@ -9,13 +8,12 @@ use Rattle.grid_core.specs.Grids.{IsGrid}
 use Rattle.fields_core.specs.TentSolutions.{IsTentSolution}
 use Rattle.maker_core.specs.Draws.{HasWords, draw_below, shuffled_order, stream_after}
 use Rattle.maker_core.specs.SoloOrders.{IsOrder}
-use Rattle.maker_core.specs.TentFilling.{camp_after, free_cells_beside, may_pitch, no_camp, pitch, take_cell, tent_filling, tents_puzzle_of, touches_tent}
+use Rattle.maker_core.specs.TentFilling.{camp_after, free_cells_beside, may_pitch, no_camp, pitch, take_cell, tent_filling, tents_puzzle_of}
 use Rattle.maker_core.specs.TentSteps.{IsTaken}
 use Rattle.maker_core.specs.declared.camp.Camp.{Camp}
 use Rattle.maker_core.proofs.TentCamps.{free_few, pitched_is}
 use Rattle.maker_core.proofs.TentsSolved.{IsCamp, camp_none, camp_solves, camp_step}
-use Rattle.maker_core.proofs.DrawsBelow.{IsDrawn, draw_is, if_either}
-use Rattle.maker_core.proofs.Shuffles.{IsShuffled, order_is}
+use Rattle.maker_core.proofs.Shuffles.{IsDrawn, draw_is, if_either, IsShuffled, order_is}
 
 -- a camp, and words after it
 record IsTakenBy (size : Extent) (old : Camp) (c : ℕ) (q : Camp × Stream) : Type 0 where
@@ -24,11 +22,7 @@ record IsTakenBy (size : Extent) (old : Camp) (c : ℕ) (q : Camp × Stream) : T
 
 some_free : (size : Extent) (camp : Camp) (c : ℕ) → may_pitch size camp c ≡ true → 0 < length (free_cells_beside size camp c)
 unfolding may_pitch
-some_free size camp c may =
-    let a = and_parts (nat_lt camp.pitched (size.w * size.h / 5)) _ may in
-    let b = and_parts (slice_index camp.trees c == 0) _ a.1 in
-    let d = and_parts (not (touches_tent size camp.tents c)) _ b.1 in
-    ltb-true 0 (length (free_cells_beside size camp c)) d.1
+some_free size camp c may = grind arith
 
 pitch_takes : (size : Extent) (camp : Camp) (c : ℕ) (s : Stream) → may_pitch size camp c ≡ true → HasWords s → IsTakenBy size camp c (pitch size camp c s)
 unfolding pitch

@@ -1,10 +1,10 @@
 -- Cells that were taken in turn: each tent has a tree of its own beside it, none stands on a tree, and no two touch.
-use Rattle.std.proofs.Common.{◌≡◌, ℕ, zero, suc, ◌+◌, ◌-◌, ◌*◌, ◌/◌, ◌%◌, ◌<◌, ◌≤◌, Bool, true, false, not, ◌&&◌, cond, List, [], ◌∷◌, length, map, get_or-set_other, refl, sym, ap, subst, ◌∙◌, arith, inl, inr, Some}
-use Rattle.std.specs.Prelude.{◌==◌, nat_lt, nat_le, slice_index, slice_set, count_by}
+use Rattle.std.proofs.Common.{◌≡◌, ℕ, zero, suc, ◌+◌, ◌-◌, ◌*◌, ◌/◌, ◌<◌, ◌≤◌, Bool, true, false, not, ◌&&◌, cond, List, [], ◌∷◌, length, map, get_or-set_other, refl, sym, ap, subst, ◌∙◌, arith, inl, inr, Some}
+use Rattle.std.specs.Prelude.{◌==◌, nat_lt, slice_index, slice_set, count_by, filter}
 use Rattle.std.specs.List.{range_with_len}
 use Rattle.std.proofs.lemmas.Bool.{true≢false, false_from_ne_true, and_parts, and_from, eqb-true, eq-eqb, ne_eqb, not-true, lt-ltb, le-ltb}
-use Rattle.std.proofs.lemmas.Cmp.{nat_eq_equiv}
 use Rattle.std.proofs.lemmas.Grind.{get_or-set_at}
+use Rattle.std.proofs.lemmas.List.Sums.{length-filter}
 use Rattle.std.proofs.lemmas.Simd.{map-map}
 use Rattle.grid_core.specs.Extent.{Extent}
 use Rattle.grid_core.specs.Grids.{IsGrid, row_cells, column_cells}
@@ -12,9 +12,8 @@ use Rattle.grid_core.specs.Regions.{steps, step, row_places, column_places}
 use Rattle.grid_core.proofs.CandidateLemmas.{any_below-none}
 use Rattle.gameid_core.specs.Lines.{line_list, lines_ones, ones}
 use Rattle.engine_core.specs.Puzzle.{has_place}
-use Rattle.fields_core.specs.Tents.{tent, are_near, touches, tents_in_column, tents_in_row}
+use Rattle.fields_core.specs.Tents.{tent, touches, tents_in_column, tents_in_row}
 use Rattle.fields_core.specs.TentSolutions.{IsTentSolution}
-use Rattle.fields_core.proofs.PlaceLists.{count-cons}
 use Rattle.fields_core.proofs.StepLaws.{steps-some, step-up, step-left, step-right, step-down}
 use Rattle.fields_core.proofs.TentBeside.{beside-in}
 use Rattle.fields_core.proofs.TentCounting.{tent-in}
@@ -50,19 +49,13 @@ none_itself size c w on = by (steps-some size c 4 c on)
     by (suc (suc (suc zero)), lt, e) = let u = step-down size c c e in absurd (omega (arith, u.0))
     by (suc (suc (suc (suc k))), lt, e) = absurd (omega arith)
 
-near_back : (a b : ℕ) → are_near a b ≡ true → are_near b a ≡ true
-near_back a b on = let w = and_parts (nat_le a (b + 1)) (nat_le b (a + 1)) on in and_from _ _ w.1 w.0
-
 touch_back : (size : Extent) (a b : ℕ) → touches size a b ≡ true → touches size b a ≡ true
 unfolding touches
-touch_back size a b on =
-    let w = and_parts (not (a == b)) _ on in
-    let v = and_parts (are_near (a / size.w) (b / size.w)) _ w.1 in
-    and_from _ _ (ap not (nat_eq_equiv.symm b a) ∙ w.0) (and_from _ _ (near_back (a / size.w) (b / size.w) v.0) (near_back (a % size.w) (b % size.w) v.1))
+touch_back size a b on = grind arith
 
 touch_itself : (size : Extent) (a : ℕ) → touches size a a ≡ false
 unfolding touches
-touch_itself size a = ap (λ t. not t && (are_near (a / size.w) (a / size.w) && are_near (a % size.w) (a % size.w))) (eq-eqb a a refl)
+touch_itself size a = grind arith
 
 -- ---- no cell, and a cell that is left
 pub camp_none : (size : Extent) (order : List ℕ) (camp : Camp) → camp ≡ no_camp size → IsCamp size order 0 camp
@@ -215,13 +208,16 @@ camp_step size order k c old new w ordered lt at before (inr p) =
     (camp_more size order k c p.tree old before (new_from size order k c old new w ordered lt at before p) at new.pitched))
 
 -- ---- the rules
-count_ones : (g xs : List ℕ) → count_by (tent g) xs ≡ ones (map (slice_index g) xs)
-count_ones g [] = refl
-count_ones g (x ∷ xs) = count-cons (tent g) x xs ∙ by (slice_index g x == 1) (ones (map (slice_index g) xs)) (slice_index g x) (map (slice_index g) xs) refl refl (count_ones g xs)
+filtered_ones : (g xs : List ℕ) → length (filter (tent g) xs) ≡ ones (map (slice_index g) xs)
+filtered_ones g [] = refl
+filtered_ones g (x ∷ xs) = by (slice_index g x == 1) (filter (tent g) xs) (filter (λ v. v == 1) (map (slice_index g) xs)) (slice_index g x) (filtered_ones g xs)
   where
-    by : (b : Bool) (n v : ℕ) (vs : List ℕ) → (v == 1) ≡ b → ones vs ≡ n → count_by (tent g) xs ≡ n → cond b 1 0 + count_by (tent g) xs ≡ ones (v ∷ vs)
-    by true n v vs e is rest = rw e (let z : 1 + count_by (tent g) xs ≡ suc (ones vs) = omega arith in z)
-    by false n v vs e is rest = rw e (let z : 0 + count_by (tent g) xs ≡ ones vs = omega arith in z)
+    by : (b : Bool) (ys vs : List ℕ) (v : ℕ) → length ys ≡ length vs → length (cond b (x ∷ ys) ys) ≡ length (cond b (v ∷ vs) vs)
+    by true ys vs v e = ap suc e
+    by false ys vs v e = e
+
+count_ones : (g xs : List ℕ) → count_by (tent g) xs ≡ ones (map (slice_index g) xs)
+count_ones g xs = sym (length-filter (tent g) xs) ∙ filtered_ones g xs
 
 column_count : (size : Extent) (g : List ℕ) (x : ℕ) → x < size.w → tents_in_column size g x ≡ slice_index (lines_ones size g) x
 column_count size g x lt =

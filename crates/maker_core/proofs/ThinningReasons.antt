@@ -1,6 +1,6 @@
 -- The reasons that were written are those of the clues that are left, by place.
-use Rattle.std.proofs.Common.{◌≡◌, ℕ, suc, ◌+◌, ◌<◌, ◌≤◌, Bool, true, false, eqb, cond, List, [], ◌∷◌, ◌++◌, Option, Some, None, length, get_or, map, take, replicate, refl, sym, ◌∙◌, ap, subst, arith, length-take, ◌⊎◌, inl, inr}
-use Rattle.std.specs.Prelude.{is_some, filter, All, Contains, IsPermutation}
+use Rattle.std.proofs.Common.{◌≡◌, ℕ, suc, ◌+◌, ◌<◌, ◌≤◌, Bool, true, false, eqb, List, [], ◌∷◌, ◌++◌, Option, Some, None, length, get_or, map, take, replicate, refl, add-one, sym, ◌∙◌, ap, subst, arith, length-take, ◌⊎◌, inl, inr}
+use Rattle.std.specs.Prelude.{filter, All, Contains, IsPermutation}
 use Rattle.std.specs.List.{range_with_len}
 use Rattle.std.proofs.lemmas.List.{take_more, append-nil, get_or-replicate, get_or_past, length-replicate}
 use Rattle.std.proofs.lemmas.List.Elements.{All-contains, All-cons, All-nil, filter_passes}
@@ -62,59 +62,45 @@ pub no_reason : (o : Option Why) → ((why : Why) → o ≡ Some why → ⊥) �
 no_reason None never = refl
 no_reason (Some why) never = absurd (never why refl)
 
--- what is told of each cell gives the reasons by place
-told_places : {A : Type 0} (game : Game A) (budget : ℕ) (all p : A) (whys : List (Option Why)) (a : ℕ)
-    → ((i : ℕ) → IsTold game budget all p (a + i) (get_or whys i None)) → map (λ k. k.place) (reasons_from a whys) ≡ filter (has_clue game p) (range_with_len a (length whys))
-unfolding reasons_from
-told_places game budget all p [] a told = refl
-told_places game budget all p (None ∷ whys) a told =
-    told_places game budget all p whys (suc a) (λ i. subst (λ x. IsTold game budget all p x (get_or whys i None)) (omega arith) (told (suc i)))
-    ∙ ap (λ x. filter (has_clue game p) (range_with_len x (length whys))) (omega arith)
-    ∙ ap (λ b. cond b (a ∷ filter (has_clue game p) (range_with_len (a + 1) (length whys))) (filter (has_clue game p) (range_with_len (a + 1) (length whys))))
-    (sym (ap is_some (subst (λ x. game.clue p x ≡ None) (omega arith) (told 0))))
-told_places game budget all p (Some why ∷ whys) a told =
-    ap (λ xs. a ∷ xs) (told_places game budget all p whys (suc a) (λ i. subst (λ x. IsTold game budget all p x (get_or whys i None)) (omega arith) (told (suc i)))
-    ∙ ap (λ x. filter (has_clue game p) (range_with_len x (length whys))) (omega arith))
-    ∙ ap (λ b. cond b (a ∷ filter (has_clue game p) (range_with_len (a + 1) (length whys))) (filter (has_clue game p) (range_with_len (a + 1) (length whys))))
-    (sym (subst (λ x. has_clue game p x ≡ true) (omega arith) (told 0).0))
+module _ {A : Type 0} (game : Game A) (budget : ℕ) (all p : A) where
+  -- what is told of the cells from `a` on
+  abbrev AreTold : List (Option Why) → ℕ → Type 0
+  AreTold whys a = (k i : ℕ) → k ≡ a + i → IsTold game budget all p k (get_or whys i None)
 
-told_reasons : {A : Type 0} (game : Game A) (budget : ℕ) (all p : A) (whys : List (Option Why)) (a : ℕ)
-    → ((i : ℕ) → IsTold game budget all p (a + i) (get_or whys i None)) → All (λ k. IsReason game budget all p k.place k.why) (reasons_from a whys)
-unfolding reasons_from
-told_reasons game budget all p [] a told = All-nil (λ k. IsReason game budget all p k.place k.why)
-told_reasons game budget all p (None ∷ whys) a told =
-    told_reasons game budget all p whys (suc a) (λ i. subst (λ x. IsTold game budget all p x (get_or whys i None)) (omega arith) (told (suc i)))
-told_reasons game budget all p (Some why ∷ whys) a told =
-    All-cons (λ k. IsReason game budget all p k.place k.why) _ _ (subst (λ x. IsReason game budget all p x why) (omega arith) (told 0).1)
-    (told_reasons game budget all p whys (suc a) (λ i. subst (λ x. IsTold game budget all p x (get_or whys i None)) (omega arith) (told (suc i))))
+  -- gives the reasons by place
+  told_places : (whys : List (Option Why)) (a : ℕ) → AreTold whys a → map (λ k. k.place) (reasons_from a whys) ≡ filter (has_clue game p) (range_with_len a (length whys))
+  unfolding reasons_from
+  told_places [] a told = refl
+  told_places (None ∷ whys) a told = rw (add-one, told a 0 (omega arith)) (told_places whys (suc a) (λ k i e. told k (suc i) (omega arith)))
+  told_places (Some why ∷ whys) a told =
+      rw (add-one, (told a 0 (omega arith)).0) (ap (λ xs. a ∷ xs) (told_places whys (suc a) (λ k i e. told k (suc i) (omega arith))))
+
+  told_reasons : (whys : List (Option Why)) (a : ℕ) → AreTold whys a → All (λ k. IsReason game budget all p k.place k.why) (reasons_from a whys)
+  unfolding reasons_from
+  told_reasons [] a told = All-nil (λ k. IsReason game budget all p k.place k.why)
+  told_reasons (None ∷ whys) a told = told_reasons whys (suc a) (λ k i e. told k (suc i) (omega arith))
+  told_reasons (Some why ∷ whys) a told =
+      All-cons (λ k. IsReason game budget all p k.place k.why) _ _ (told a 0 (omega arith)).1 (told_reasons whys (suc a) (λ k i e. told k (suc i) (omega arith)))
 
 -- all clues were tried
-all_told : {A : Type 0} (game : Game A) (budget : ℕ) (all p : A) (whys : List (Option Why)) → IsThinning game budget all p whys []
-    → (i : ℕ) → IsTold game budget all p (0 + i) (get_or whys i None)
-all_told game budget all p whys now i = subst (λ x. IsTold game budget all p x (get_or whys i None)) (omega arith) (by (now.told i))
-  where
-    by : Contains [] i ⊎ IsTold game budget all p i (get_or whys i None) → IsTold game budget all p i (get_or whys i None)
-    by (inl held) = absurd (omega (arith, held.1))
-    by (inr told) = told
+module _ {A : Type 0} (game : Game A) (laws : IsGame game) (budget : ℕ) (all p : A) (answer : List ℕ) (whys : List (Option Why))
+    (now : IsThinning game budget all p whys []) where
+  all_told : AreTold game budget all p whys 0
+  all_told k i e = let same : k ≡ i = omega arith in rw same (by (now.told i))
+    where
+      by : Contains [] i ⊎ IsTold game budget all p i (get_or whys i None) → IsTold game budget all p i (get_or whys i None)
+      by (inl held) = absurd (omega (arith, held.1))
+      by (inr told) = told
 
-pub reasons_left : {A : Type 0} (game : Game A) → IsGame game → (budget : ℕ) (all p : A) (answer : List ℕ) (whys : List (Option Why)) (kept : List Kept)
-    → all ≡ game.all_clues all answer → IsThinning game budget all p whys [] → kept ≡ reasons_from 0 whys → AreReasons game budget (game.all_clues p answer) p kept
-reasons_left game laws budget all p answer whys kept whole now is =
-    subst (λ x. AreReasons game budget x p kept) (whole ∙ sym (laws.same_all p all answer now.within.frame)) (subst (λ ks. AreReasons game budget all p ks) (sym is) (record {
-      places = told_places game budget all p whys 0 (all_told game budget all p whys now) ∙ ap (λ n. filter (has_clue game p) (range_with_len 0 n)) (now.room ∙ sym (laws.same_cells p all now.within.frame));
-      reasons = told_reasons game budget all p whys 0 (all_told game budget all p whys now);
-    }))
+  pub reasons_left : (kept : List Kept) → all ≡ game.all_clues all answer → kept ≡ reasons_from 0 whys → AreReasons game budget (game.all_clues p answer) p kept
+  reasons_left kept whole is = rw (laws.same_all p all answer now.within.frame, ← whole, is) (record {
+    places = told_places game budget all p whys 0 all_told ∙ ap (λ n. filter (has_clue game p) (range_with_len 0 n)) (now.room ∙ sym (laws.same_cells p all now.within.frame));
+    reasons = told_reasons game budget all p whys 0 all_told;
+  })
 
--- the one solution is still the answer
-pub only_left : {A : Type 0} (game : Game A) → IsGame game → (budget : ℕ) (all p : A) (answer : List ℕ) (whys : List (Option Why))
-    → IsOnly (game.rules all) answer → IsThinning game budget all p whys [] → IsOnly (game.rules p) answer
-only_left game laws budget all p answer whys only now =
-    subst (λ g. IsOnly (game.rules p) g) (now.one.only.1 answer (laws.solutions_stay p all answer now.within only.0)) now.one.only
-
-pub found_left : {A : Type 0} (game : Game A) → IsGame game → (budget : ℕ) (all p : A) (answer : List ℕ) (whys : List (Option Why))
-    → IsOnly (game.rules all) answer → IsThinning game budget all p whys [] → TellsOne (game.rules p) budget answer
-found_left game laws budget all p answer whys only now =
-    subst (TellsOne (game.rules p) budget) (now.one.only.1 answer (laws.solutions_stay p all answer now.within only.0)) now.one.found
+  -- the one solution is still the answer
+  pub answer_is : IsOnly (game.rules all) answer → now.one.answer ≡ answer
+  answer_is only = now.one.only.1 answer (laws.solutions_stay p all answer now.within only.0)
 
 -- before any clue is tried
 pub thinning_start : {A : Type 0} (game : Game A) → IsGame game → (budget : ℕ) (p : A) (answer order : List ℕ) (whys : List (Option Why))

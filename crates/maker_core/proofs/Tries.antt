@@ -1,70 +1,53 @@
 -- The loop over tries: so many fillings were made, and each failed.
-use Rattle.std.proofs.Common.{◌≡◌, ℕ, suc, ◌+◌, ◌<◌, ◌≤◌, Bool, true, false, refl, sym, ◌∙◌, ap, arith, add-one, inl, inr}
-use Rattle.std.proofs.lemmas.Bool.{cases_eq, cases_lt, true≢false}
+use Rattle.std.proofs.Common.{◌≡◌, ℕ, suc, ◌+◌, ◌<◌, ◌≤◌, true, false, refl, sym, ◌∙◌, ap, arith, add-one, inl, inr}
+use Rattle.std.proofs.lemmas.Bool.{cases_eq}
 use Rattle.rand_core.specs.Stream.{Stream}
-use Rattle.maker_core.specs.Draws.{Making, stream_after, filling_at, IsFirstPassing, NonePasses}
+use Rattle.maker_core.specs.Draws.{Tries, stream_after, filling_at, IsFirstPassing, AllFail}
 
 -- so many tries were made, each failed, and the generator stands where the last left it
-pub record IsTrying {A : Type 0} (make : Making A) (passes : A → Bool) (s : Stream) (done : ℕ) (now : Stream) : Type 0 where
-  pub stands : now ≡ stream_after make done s
-  pub failing : (j : ℕ) → j < done → passes (filling_at make j s) ≡ false
+pub record IsTrying {A : Type 0} (t : Tries A) (s : Stream) (done : ℕ) (now : Stream) : Type 0 where
+  pub stands : now ≡ stream_after t.make done s
+  pub failing : (j : ℕ) → j < done → t.passes (filling_at t.make j s) ≡ false
 
-module _ {A : Type 0} (make : Making A) (passes : A → Bool) (s : Stream) where
-  pub IsTrying-none : IsTrying make passes s 0 s
+-- the first filling that passes
+abbrev pub IsFirst : {A : Type 0} → Tries A → Stream → ℕ → Type 0
+IsFirst t s k = IsFirstPassing t.make t.passes s t.count k
+
+module _ {A : Type 0} (t : Tries A) (s : Stream) where
+  pub IsTrying-none : IsTrying t s 0 s
   unfolding stream_after
   IsTrying-none = record { stands = refl; failing = λ j h. absurd (omega arith) }
 
-  filling_is : (done : ℕ) (now t : Stream) (x : A) → IsTrying make passes s done now → ◌≡◌ {A = A × Stream} (x, t) (make now) → x ≡ filling_at make done s
-  filling_is done now t x p made = ap (λ q. q.0) made ∙ ap (λ u. (make u).0) p.stands
+  pub none_passes : (done : ℕ) (now : Stream) → IsTrying t s done now → t.count ≤ done → AllFail t s
+  none_passes done now p all = record { failing = λ j h. p.failing j (omega arith) }
 
-  pub IsTrying-more : (done : ℕ) (now t : Stream) (x : A) → IsTrying make passes s done now → ◌≡◌ {A = A × Stream} (x, t) (make now)
-      → passes x ≡ false → IsTrying make passes s (done + 1) t
-  unfolding stream_after
-  IsTrying-more done now t x p made fails = record {
-    stands = rw add-one (ap (λ q. q.1) made ∙ ap (λ u. (make u).1) p.stands);
-    failing = λ j h. elim (cases_eq j done) [
-      | inl e ↦ ap (λ k. passes (filling_at make k s)) e ∙ ap passes (sym (filling_is done now t x p made)) ∙ fails
-      | inr ne ↦ p.failing j (omega arith)
-    ];
-  }
+  first_once : (j k : ℕ) → IsFirst t s j → IsFirst t s k → j ≡ k
+  first_once j k a b = grind arith
 
-  first_is : (tries done : ℕ) (now t : Stream) (x : A) → IsTrying make passes s done now → ◌≡◌ {A = A × Stream} (x, t) (make now)
-      → passes x ≡ true → done < tries → IsFirstPassing make passes s tries done
-  first_is tries done now t x p made passing within =
-      record { within = within; passing = ap passes (sym (filling_is done now t x p made)) ∙ passing; failing = p.failing }
+  -- one more filling is made
+  module _ (done : ℕ) (now u : Stream) (x : A) (p : IsTrying t s done now) (made : ◌≡◌ {A = A × Stream} (x, u) (t.make now)) where
+    pub filling_is : x ≡ filling_at t.make done s
+    filling_is = ap (λ q. q.0) made ∙ ap (λ w. (t.make w).0) p.stands
 
-  pub first_passing : (tries done : ℕ) (now t : Stream) (x : A) → IsTrying make passes s done now → ◌≡◌ {A = A × Stream} (x, t) (make now)
-      → passes x ≡ true → done < tries → (k : ℕ) × IsFirstPassing make passes s tries k × (x ≡ filling_at make k s)
-  first_passing tries done now t x p made passing within = (done, first_is tries done now t x p made passing within, filling_is done now t x p made)
+    left_is : u ≡ stream_after t.make (suc done) s
+    unfolding stream_after
+    left_is = ap (λ q. q.1) made ∙ ap (λ w. (t.make w).1) p.stands
 
-  first_once : (tries j k : ℕ) → IsFirstPassing make passes s tries j → IsFirstPassing make passes s tries k → j ≡ k
-  first_once tries j k a b = elim (cases_lt j k) [
-    | inl low ↦ absurd (true≢false (sym a.passing ∙ b.failing j low))
-    | inr high ↦ elim (cases_lt k j) [
-      | inl low ↦ absurd (true≢false (sym b.passing ∙ a.failing k low))
-      | inr same ↦ omega arith
-    ]
-  ]
+    pub IsTrying-more : t.passes x ≡ false → IsTrying t s (done + 1) u
+    IsTrying-more fails = record {
+      stands = rw add-one left_is;
+      failing = λ j h. elim (cases_eq j done) [
+        | inl e ↦ ap (λ k. t.passes (filling_at t.make k s)) e ∙ ap t.passes (sym filling_is) ∙ fails
+        | inr ne ↦ p.failing j (omega arith)
+      ];
+    }
 
-  taken_is : (tries done : ℕ) (now t : Stream) (x : A) → IsTrying make passes s done now → ◌≡◌ {A = A × Stream} (x, t) (make now)
-      → passes x ≡ true → done < tries → (k : ℕ) → IsFirstPassing make passes s tries k → x ≡ filling_at make k s
-  taken_is tries done now t x p made passing within k first =
-      filling_is done now t x p made ∙ ap (λ n. filling_at make n s) (first_once tries done k (first_is tries done now t x p made passing within) first)
+    module _ (passing : t.passes x ≡ true) (within : done < t.count) where
+      pub first_passing : IsFirst t s done
+      first_passing = record { within = within; passing = ap t.passes (sym filling_is) ∙ passing; failing = p.failing }
 
-  pub left_after : (tries done : ℕ) (now t : Stream) (x : A) → IsTrying make passes s done now → ◌≡◌ {A = A × Stream} (x, t) (make now)
-      → passes x ≡ true → done < tries → (k : ℕ) → IsFirstPassing make passes s tries k → t ≡ stream_after make (suc k) s
-  unfolding stream_after
-  left_after tries done now t x p made passing within k first =
-      let same = first_once tries done k (first_is tries done now t x p made passing within) first in
-      ap (λ q. q.1) made ∙ ap (λ u. (make u).1) p.stands ∙ ap (λ n. (make (stream_after make n s)).1) same
-
-  -- the stream that is left where the first that passes was made to a puzzle
-  pub left_by : (ends : A → Stream → Stream) (tries done : ℕ) (now t left : Stream) (x : A) → IsTrying make passes s done now → ◌≡◌ {A = A × Stream} (x, t) (make now)
-      → passes x ≡ true → done < tries → left ≡ ends x t
-      → (k : ℕ) → IsFirstPassing make passes s tries k → left ≡ ends (filling_at make k s) (stream_after make (suc k) s)
-  left_by ends tries done now t left x p made passing within is k first =
-      is ∙ ap (λ y. ends y t) (taken_is tries done now t x p made passing within k first)
-      ∙ ap (ends (filling_at make k s)) (left_after tries done now t x p made passing within k first)
-
-  pub none_passes : (tries done : ℕ) (now : Stream) → IsTrying make passes s done now → tries ≤ done → NonePasses make passes s tries
-  none_passes tries done now p all = record { failing = λ j h. p.failing j (omega arith) }
+      -- the stream that is left where the first that passes was made to a puzzle
+      pub left_first : (left : Stream) → left ≡ t.ends x u → (k : ℕ) → IsFirst t s k → left ≡ t.ends (filling_at t.make k s) (stream_after t.make (suc k) s)
+      left_first left is k first =
+          is ∙ ap (λ y. t.ends y u) filling_is ∙ ap (t.ends (filling_at t.make done s)) left_is
+          ∙ ap (λ i. t.ends (filling_at t.make i s) (stream_after t.make (suc i) s)) (first_once done k first_passing first)

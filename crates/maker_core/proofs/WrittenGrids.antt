@@ -1,9 +1,9 @@
 -- Grids of 0 and 1, of which a cell is written.
-use Rattle.std.proofs.Common.{◌≡◌, ℕ, ◌<◌, true, List, length, get_or-set_other, replicate, sym, ap, ◌∙◌, arith, inl, inr, ◌⊎◌}
+use Rattle.std.proofs.Common.{◌≡◌, ℕ, ◌<◌, true, List, length, replicate, ◌∙◌, arith, inl, inr, ◌⊎◌, get_or, set, sym, ap}
 use Rattle.std.specs.Prelude.{◌==◌, slice_index, slice_set}
-use Rattle.std.proofs.lemmas.Bool.{cases_lt, cases_eq, eqb-true, eq-eqb}
-use Rattle.std.proofs.lemmas.Grind.{get_or-set_at}
-use Rattle.std.proofs.lemmas.List.{get_or-replicate, get_or_past, length-replicate, length-set}
+use Rattle.std.proofs.lemmas.Bool.{cases_lt, eqb-true}
+use Rattle.std.proofs.lemmas.Grind.{elements}
+use Rattle.std.proofs.lemmas.List.{get_or-replicate, get_or_past, length-replicate, length-set, set-set, set-get_or}
 use Rattle.std.proofs.lemmas.List.Elements.{All-replicate, All-set}
 use Rattle.grid_core.specs.Grids.{IsGrid}
 
@@ -24,13 +24,10 @@ no_one n c on =
 
 -- the cells that hold 1 when one more does: that one, and those that held it before
 pub new_or_old : (g : List ℕ) (c d : ℕ) → (slice_index (slice_set g c 1) d == 1) ≡ true → (d ≡ c) ⊎ ((slice_index g d == 1) ≡ true)
-new_or_old g c d on = elim (cases_eq d c) [
-  | inl e ↦ inl e
-  | inr ne ↦ inr (ap (λ v. v == 1) (sym (get_or-set_other g c d 1 0 ne)) ∙ on)
-]
+new_or_old g c d on = grind (arith, elements)
 
 pub old_stays : (g : List ℕ) (c d : ℕ) → c < length g → (slice_index g d == 1) ≡ true → (slice_index (slice_set g c 1) d == 1) ≡ true
-old_stays g c d lt on = elim (cases_eq d c) [
-  | inl e ↦ eq-eqb _ _ (get_or-set_at g c d 1 0 e lt)
-  | inr ne ↦ ap (λ v. v == 1) (get_or-set_other g c d 1 0 ne) ∙ on
-]
+old_stays g c d lt on = grind (arith, elements)
+
+pub set_back : {X : Type 0} (xs : List X) (i : ℕ) (gone x d : X) → get_or xs i d ≡ x → set (set xs i gone) i x ≡ xs
+set_back xs i gone x d is = set-set xs i gone x ∙ ap (set xs i) (sym is) ∙ set-get_or xs i d

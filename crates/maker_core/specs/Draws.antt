@@ -39,12 +39,13 @@ AreAll v cells = (k : ℕ) → k < length cells → slice_index cells k ≡ v
 abbrev pub Making : Type 0 → Type 0
 Making A = Stream → A × Stream
 
--- it is made of the first stream, and the second is left; so a list is
-abbrev pub IsDrawnBy : {A : Type 0} → Making A → Stream → Stream → A → Type 0
-IsDrawnBy make s left x = (x, left) ≡ make s
+-- it is made of a generator's stream, and the stream of the new generator is left; so a list is
+abbrev pub IsDrawnBy : {A G : Type 0} → Making A → (G → Stream) → G → G → A → Type 0
+IsDrawnBy make stream old new x = (x, stream new) ≡ make (stream old)
 
-abbrev pub AreDrawnBy : {Z : Type 0} → Making (List ℕ) → Stream → Stream → Vec ℕ Z → Type 0
-AreDrawnBy make s left list = (list.items, left) ≡ make s
+abbrev pub AreDrawnBy : {G Z : Type 0}
+    → Making (List ℕ) → (G → Stream) → G → G → Vec ℕ Z → Type 0
+AreDrawnBy make stream old new list = IsDrawnBy make stream old new list.items
 
 -- the stream that is left after k fillings
 unfoldable pub stream_after : {A : Type 0} → Making A → ℕ → Stream → Stream
@@ -56,13 +57,15 @@ abbrev pub filling_at : {A : Type 0} → Making A → ℕ → Stream → A
 filling_at make k s = (make (stream_after make k s)).0
 
 -- of the first so many fillings, the first that passes is the k-th
-pub record IsFirstPassing {A : Type 0} (make : Making A) (passes : A → Bool) (s : Stream) (tries k : ℕ) : Type 0 where
+pub record IsFirstPassing {A : Type 0} (make : Making A) (passes : A → Bool) (s : Stream)
+    (tries k : ℕ) : Type 0 where
   pub within : k < tries
   pub passing : passes (filling_at make k s) ≡ true
   pub failing : (j : ℕ) → j < k → passes (filling_at make j s) ≡ false
 
 -- none of the first so many fillings passes
-pub record NonePasses {A : Type 0} (make : Making A) (passes : A → Bool) (s : Stream) (tries : ℕ) : Type 0 where
+pub record NonePasses {A : Type 0} (make : Making A) (passes : A → Bool) (s : Stream)
+    (tries : ℕ) : Type 0 where
   pub failing : (j : ℕ) → j < tries → passes (filling_at make j s) ≡ false
 
 -- What a maker tries: how a filling is made of a stream, which fillings pass, how many may be made, and which stream is
@@ -77,10 +80,14 @@ pub record Tries (A : Type 0) : Type 0 where
 abbrev pub AllFail : {A : Type 0} → Tries A → Stream → Type 0
 AllFail t s = NonePasses t.make t.passes s t.count
 
--- the stream that is left is that after all of them where they are exhausted, or that after the first that passes
-abbrev pub IsAfterAll : {A X : Type 0} → Tries A → Stream → Stream → Result X MakeFault → Type 0
-IsAfterAll t s left result = result ≡ Err Exhausted → left ≡ stream_after t.make t.count s
+-- the new generator's stream is that after all of them where they are exhausted, or that after the first that passes
+abbrev pub DrawsAll : {A G X : Type 0}
+    → Tries A → (G → Stream) → G → G → Result X MakeFault → Type 0
+DrawsAll t stream old new result =
+    result ≡ Err Exhausted → stream new ≡ stream_after t.make t.count (stream old)
 
-abbrev pub IsAfterFirst : {A : Type 0} → Tries A → Stream → Stream → Type 0
-IsAfterFirst t s left = (k : ℕ) → IsFirstPassing t.make t.passes s t.count k
-    → left ≡ t.ends (filling_at t.make k s) (stream_after t.make (suc k) s)
+abbrev pub DrawsFirst : {A G : Type 0} → Tries A → (G → Stream) → G → G → Type 0
+DrawsFirst t stream old new =
+    let s = stream old in
+    (k : ℕ) → IsFirstPassing t.make t.passes s t.count k
+    → stream new ≡ t.ends (filling_at t.make k s) (stream_after t.make (suc k) s)

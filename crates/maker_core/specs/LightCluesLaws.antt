@@ -1,30 +1,28 @@
 -- What fewer numbers change.
-use Rattle.std.proofs.Common.{◌≡◌, ◌≢◌, ℕ, ◌+◌, ◌-◌, ◌*◌, ◌/◌, ◌%◌, ◌<◌, Bool, true, false, not, ◌&&◌, ◌||◌, eqb, cond, Some, List, [], ◌∷◌, ◌++◌, length, map, get_or, set, refl, sym, ◌∙◌, ap, subst, arith, inl, inr, ◌⊎◌}
-use Rattle.std.specs.Prelude.{filter, slice_index, slice_index_or, slice_set}
+use Rattle.std.proofs.Common.{◌≡◌, ◌≢◌, ℕ, ◌<◌, true, false, cond, Some, List, [], length, map, get_or, set, refl, sym, ◌∙◌, ap, subst, arith, inl, inr, ◌⊎◌}
+use Rattle.std.specs.Prelude.{filter, slice_index_or, slice_set}
 use Rattle.std.specs.List.{range_with_len}
 use Rattle.std.proofs.Math.Nat.{le_refl}
 use Rattle.std.proofs.Math.Path.{fun_ext}
 use Rattle.std.proofs.Math.ListN.{get_or-map}
 use Rattle.std.proofs.Math.Seq.{map-set_same}
-use Rattle.std.proofs.lemmas.Bool.{cases_lt, cases_eq, and_parts, and_from}
+use Rattle.std.proofs.lemmas.Bool.{cases_lt, cases_eq}
 use Rattle.std.proofs.lemmas.Option.{none-some}
 use Rattle.std.proofs.lemmas.List.{get_or-set_other, get_or-set_same, get_or_past, length-set, length-map}
 use Rattle.grid_core.specs.Extent.{Extent}
-use Rattle.grid_core.specs.Candidates.{any_below, all_below}
-use Rattle.grid_core.specs.Regions.{beside, row_places, column_places}
+use Rattle.grid_core.specs.Regions.{beside}
 use Rattle.grid_core.proofs.CandidateLemmas.{all_below-at, all_below-from}
 use Rattle.gameid_core.specs.Puzzles.{Light}
 use Rattle.gameid_core.specs.declared.light_cell.LightCell.{LightCell}
 use Rattle.gameid_core.specs.declared.light_cell.LightCell.TheVariants.{White, Black, Numbered}
 use Rattle.engine_core.specs.Verdict.{Solves}
-use Rattle.fields_core.specs.CountHouse.{CountHouse, houses_below}
-use Rattle.fields_core.specs.Light.{light_cells, is_white, white, bulb, clear, joined_in_row, joined_in_column, sees, sees_bulb, bulbs_beside, number_is, black_right, number_right, bulb_right, lit_right, is_lit}
-use Rattle.fields_core.specs.LightHouses.{row_run, column_run, seen_from, begins_row_run, begins_column_run, numbered, number_house, light_houses, light_rules}
+use Rattle.fields_core.specs.Light.{light_cells, is_white, white, joined_in_row, joined_in_column, sees, sees_bulb, bulbs_beside, number_is, black_right, number_right, bulb_right, lit_right, is_lit}
+use Rattle.fields_core.specs.LightHouses.{row_run, column_run, seen_from, begins_row_run, begins_column_run, numbered, number_house, row_house, column_house, lit_house, light_houses, light_rules}
 use Rattle.fields_core.proofs.LightFaultLemmas.{lit-from, lit-parts}
 use Rattle.maker_core.specs.Thinning.{IsThinnedFrom, IsGame}
 use Rattle.maker_core.specs.LightClues.{number_clue, SameLight, light_game}
 use Rattle.maker_core.specs.LightFilling.{numbered_cell, with_numbers}
-use Rattle.maker_core.specs.FewerHouseLaws.{IsFewer, fewer_itself, fewer_append, fewer_below, longest_of_fewer}
+use Rattle.maker_core.specs.FewerHouseLaws.{IsFewer, fewer_append, fewer_below, longest_of_fewer}
 
 with_cells : Extent → List LightCell → Light
 with_cells size cells = record { size = size; cells = cells }
@@ -42,34 +40,6 @@ white_map p c = sym (get_or-map is_white p.cells c Black)
 same_white : (p q : Light) → map is_white p.cells ≡ map is_white q.cells → white p ≡ white q
 same_white p q same = fun_ext λ c. white_map p c ∙ ap (λ whites. get_or whites c false) same ∙ sym (white_map q c)
 
-row_joined : Extent → (ℕ → Bool) → ℕ → ℕ → Bool
-row_joined size wh a b = eqb (a / size.w) (b / size.w) && clear (λ x. wh (a / size.w * size.w + x)) (a % size.w) (b % size.w)
-
-column_joined : Extent → (ℕ → Bool) → ℕ → ℕ → Bool
-column_joined size wh a b = eqb (a % size.w) (b % size.w) && clear (λ y. wh (y * size.w + a % size.w)) (a / size.w) (b / size.w)
-
-some_bulb : Extent → (ℕ → Bool) → List ℕ → ℕ → Bool
-some_bulb size wh g c = any_below (λ d. (not (eqb c d) && (row_joined size wh c d || column_joined size wh c d)) && bulb g d) (size.w * size.h)
-
-lit_but_numbers : Extent → (ℕ → Bool) → List ℕ → Bool
-lit_but_numbers size wh g =
-    all_below (λ c. wh c || eqb (slice_index g c) 0) (size.w * size.h)
-    && (all_below (λ c. not (bulb g c && some_bulb size wh g c)) (size.w * size.h)
-    && all_below (λ c. not (wh c) || (bulb g c || some_bulb size wh g c)) (size.w * size.h))
-
-lit_parts : (p : Light) (g : List ℕ) → is_lit p g ≡ true → (all_below (number_right p g) (light_cells p) ≡ true) × (lit_but_numbers p.size (white p) g ≡ true)
-unfolding is_lit lit_but_numbers some_bulb row_joined column_joined black_right bulb_right lit_right sees_bulb sees joined_in_row joined_in_column
-lit_parts p g lit =
-    let w = lit-parts p g lit in
-    (w.number, and_from (all_below (black_right p g) (light_cells p)) _ w.black (and_from (all_below (bulb_right p g) (light_cells p)) _ w.seen w.lit))
-
-lit_from : (p : Light) (g : List ℕ) → all_below (number_right p g) (light_cells p) ≡ true → lit_but_numbers p.size (white p) g ≡ true → is_lit p g ≡ true
-unfolding is_lit lit_but_numbers some_bulb row_joined column_joined black_right bulb_right lit_right sees_bulb sees joined_in_row joined_in_column
-lit_from p g numbers rest =
-    let a = and_parts (all_below (black_right p g) (light_cells p)) _ rest in
-    let b = and_parts (all_below (bulb_right p g) (light_cells p)) _ a.1 in
-    lit-from p g a.0 numbers b.0 b.1
-
 -- ---- fewer numbers
 pub numbered_is : (cell : LightCell) (n : ℕ) → number_clue cell ≡ Some n → cell ≡ Numbered n
 numbered_is White n e = absurd (none-some n e)
@@ -84,12 +54,18 @@ number_stays (Numbered n) b bulbs clues right = ap (λ cell. number_is cell bulb
 lit_stays : (p : Light) (cells : List LightCell) (g : List ℕ) → map is_white p.cells ≡ map is_white cells
     → ((place n : ℕ) → number_clue (slice_index_or p.cells place Black) ≡ Some n → number_clue (slice_index_or cells place Black) ≡ Some n)
     → is_lit (with_cells p.size cells) g ≡ true → is_lit p g ≡ true
-unfolding with_cells number_right
+unfolding with_cells number_right black_right bulb_right lit_right sees_bulb sees joined_in_row joined_in_column
 lit_stays p cells g same clues lit =
-    let parts = lit_parts (with_cells p.size cells) g lit in
-    lit_from p g
-    (all_below-from (number_right p g) (light_cells p) (λ c below. number_stays (slice_index_or p.cells c Black) (slice_index_or cells c Black) _ (clues c) (all_below-at (number_right (with_cells p.size cells) g) (light_cells p) c parts.0 below)))
-    (ap (λ wh. lit_but_numbers p.size wh g) (same_white p (with_cells p.size cells) same) ∙ parts.1)
+    let parts = lit-parts (with_cells p.size cells) g lit in
+    let q = with_cells p.size cells in
+    lit-from p g (all_below-from (black_right p g) (light_cells p) (λ c below. simp whites (all_below-at (black_right q g) (light_cells p) c parts.black below)))
+    (all_below-from (number_right p g) (light_cells p) (λ c below.
+    number_stays (slice_index_or p.cells c Black) (slice_index_or cells c Black) _ (clues c) (all_below-at (number_right q g) (light_cells p) c parts.number below)))
+    (all_below-from (bulb_right p g) (light_cells p) (λ c below. simp whites (all_below-at (bulb_right q g) (light_cells p) c parts.seen below)))
+    (all_below-from (lit_right p g) (light_cells p) (λ c below. simp whites (all_below-at (lit_right q g) (light_cells p) c parts.lit below)))
+  where
+    whites : (c : ℕ) → white p c ≡ white (with_cells p.size cells) c
+    whites c = ap (λ wh. wh c) (same_white p (with_cells p.size cells) same)
 
 -- each solution of a puzzle with more numbers is one of the puzzle
 pub lit_by_fewer : (p q : Light) (g : List ℕ) → IsThinnedFrom light_game p q → is_lit q g ≡ true → is_lit p g ≡ true
@@ -103,30 +79,6 @@ solutions_stay p q g w s = record {
 }
 
 -- ---- houses and needs
-row_run_house : Extent → (ℕ → Bool) → ℕ → List CountHouse
-row_run_house size wh c =
-    cond (wh c && (eqb (c % size.w) 0 || not (wh (c - 1)))) (record { places = filter (row_joined size wh c) (row_places size (c / size.w)); least = 0; most = 1 } ∷ []) []
-
-column_run_house : Extent → (ℕ → Bool) → ℕ → List CountHouse
-column_run_house size wh c =
-    cond (wh c && (eqb (c / size.w) 0 || not (wh (c - size.w)))) (record { places = filter (column_joined size wh c) (column_places size (c % size.w)); least = 0; most = 1 } ∷ []) []
-
-seen_places : Extent → (ℕ → Bool) → ℕ → List ℕ
-seen_places size wh c = filter (row_joined size wh c) (row_places size (c / size.w)) ++ filter (λ d. not (eqb d c)) (filter (column_joined size wh c) (column_places size (c % size.w)))
-
-seen_house : Extent → (ℕ → Bool) → ℕ → List CountHouse
-seen_house size wh c = cond (wh c) (record { places = seen_places size wh c; least = 1; most = length (seen_places size wh c) } ∷ []) []
-
-houses_but_numbers : Extent → (ℕ → Bool) → List CountHouse
-houses_but_numbers size wh =
-    houses_below (row_run_house size wh) (size.w * size.h)
-    ++ (houses_below (column_run_house size wh) (size.w * size.h)
-    ++ houses_below (seen_house size wh) (size.w * size.h))
-
-houses_are : (p : Light) → light_houses p ≡ houses_below (number_house p) (light_cells p) ++ houses_but_numbers p.size (white p)
-unfolding light_houses houses_but_numbers row_run_house column_run_house seen_house seen_places row_joined column_joined row_run column_run seen_from begins_row_run begins_column_run joined_in_row joined_in_column
-houses_are p = refl
-
 without_number : Light → ℕ → Light
 without_number p place = record p { cells = set p.cells place Black }
 
@@ -144,14 +96,24 @@ unfolding without_number
 same_without p place n e = record { size = refl; black = map-set_same is_white p.cells place Black Black (sym (not_white _ n e)) }
 
 fewer_houses : (p : Light) (place n : ℕ) → number_clue (slice_index_or p.cells place Black) ≡ Some n → IsFewer (light_houses (without_number p place)) (light_houses p)
-unfolding without_number
+unfolding without_number light_houses row_run column_run seen_from begins_row_run begins_column_run joined_in_row joined_in_column
 fewer_houses p place n e =
-    subst (λ xs. IsFewer xs (light_houses p)) (sym (houses_are (without_number p place))) (subst (λ ys. IsFewer (houses_below (number_house (without_number p place)) (light_cells p) ++ houses_but_numbers p.size (white (without_number p place))) ys) (sym (houses_are p))
-    (fewer_append _ _ _ _ (fewer_below (number_house (without_number p place)) (number_house p) (light_cells p) (λ c. by c (cases_eq c place)))
-    (subst (λ wh. IsFewer (houses_but_numbers p.size (white (without_number p place))) (houses_but_numbers p.size wh)) whites (fewer_itself _))))
+    fewer_append _ _ _ _ (fewer_below (number_house (without_number p place)) (number_house p) (light_cells p) (λ c. by c (cases_eq c place)))
+    (fewer_append _ _ _ _ (fewer_below (row_house (without_number p place)) (row_house p) (light_cells p) (λ c. inl (simp (joined_row, white_at))))
+    (fewer_append _ _ _ _ (fewer_below (column_house (without_number p place)) (column_house p) (light_cells p) (λ c. inl (simp (joined_column, white_at))))
+    (fewer_below (lit_house (without_number p place)) (lit_house p) (light_cells p) (λ c. inl (simp (joined_row, joined_column, white_at))))))
   where
     whites : white (without_number p place) ≡ white p
     whites = same_white (without_number p place) p (same_without p place n e).black
+
+    white_at : (c : ℕ) → white (without_number p place) c ≡ white p c
+    white_at c = ap (λ wh. wh c) whites
+
+    joined_row : (a : ℕ) → joined_in_row (without_number p place) a ≡ joined_in_row p a
+    joined_row a = fun_ext λ b. simp white_at
+
+    joined_column : (a : ℕ) → joined_in_column (without_number p place) a ≡ joined_in_column p a
+    joined_column a = fun_ext λ b. simp white_at
 
     by : (c : ℕ) → (c ≡ place) ⊎ (c ≢ place) → (number_house (without_number p place) c ≡ number_house p c) ⊎ (number_house (without_number p place) c ≡ [])
     by c (inl same) = inr (ap (λ cell. numbered cell (filter (white (without_number p place)) (beside p.size c))) (ap (λ k. slice_index_or (set p.cells place Black) k Black) same ∙ cleared p.cells place))

@@ -13,7 +13,8 @@ use Rattle.maker_core.specs.Made.{has_one}
 
 -- the puzzle without numbers that has these black cells: 1 for black
 unfoldable pub lights_of : Extent → List ℕ → Light
-lights_of size black = record { size = size; cells = map (λ v. if v == 1 then Black else White) black }
+lights_of size black =
+    record { size = size; cells = map (λ v. if v == 1 then Black else White) black }
 
 -- its white cells, by place
 unfoldable pub white_places : Light → List ℕ
@@ -33,7 +34,8 @@ unfoldable pub numbered_cell : Light → List ℕ → ℕ → LightCell
 numbered_cell p g c = if white p c then White else Numbered (bulbs_beside p g c)
 
 unfoldable pub with_numbers : Light → List ℕ → Light
-with_numbers p g = record { size = p.size; cells = map (numbered_cell p g) (range_with_len 0 (light_cells p)) }
+with_numbers p g =
+    record { size = p.size; cells = map (numbered_cell p g) (range_with_len 0 (light_cells p)) }
 
 -- black cells and bulbs
 pub record Lighting : Type 0 where
@@ -42,7 +44,9 @@ pub record Lighting : Type 0 where
 
 -- the white cells, listed by place and shuffled, are taken in turn
 unfoldable pub lit_up : Light → Making (List ℕ)
-lit_up p s = let shuffled = shuffled_list (white_places p) s in (bulbs_after p shuffled.0 (length shuffled.0), shuffled.1)
+lit_up p s =
+    let shuffled = shuffled_list (white_places p) s in
+    (bulbs_after p shuffled.0 (length shuffled.0), shuffled.1)
 
 -- black cells are drawn one by one; then the white cells are lit up
 unfoldable pub light_filling : Extent → ℕ → Making Lighting

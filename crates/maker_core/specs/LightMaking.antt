@@ -16,10 +16,12 @@ use Rattle.maker_core.specs.declared.made.Made.{Made}
 
 -- The first of the fillings that passes gives the solution and the black cells; the puzzle has some of its numbers and no
 -- other solution, and its own verdict says so. Each number that is left was kept for a reason.
-pub record IsLightMade (size : Extent) (black budget tries : ℕ) (s : Stream) (p : Light) (g : List ℕ) (kept : List Kept) : Type 0 where
+pub record IsLightMade (size : Extent) (black budget tries : ℕ) (s : Stream)
+    (p : Light) (g : List ℕ) (kept : List Kept) : Type 0 where
   pub k : ℕ
   pub first : IsFirstPassing (light_filling size black) (light_passes size budget) s tries k
-  pub numbers : IsThinnedFrom light_game p (light_puzzle_of size (filling_at (light_filling size black) k s))
+  pub numbers :
+      IsThinnedFrom light_game p (light_puzzle_of size (filling_at (light_filling size black) k s))
   pub filled : g ≡ (filling_at (light_filling size black) k s).bulbs
   pub size_asked : p.size ≡ size
   pub only : IsOnlySolution (IsLightSolution p) g

@@ -26,7 +26,8 @@ pattern_passes size budget g = has_one (line_rules (clued_by size g)) budget
 
 -- The first of the fillings that passes gives the solution, and its lines the clues; it is the only solution, and the
 -- verdict says so. Clues are not thinned.
-pub record IsPatternMade (size : Extent) (black budget tries : ℕ) (s : Stream) (p : Pattern) (g : List ℕ) (kept : List Kept) : Type 0 where
+pub record IsPatternMade (size : Extent) (black budget tries : ℕ) (s : Stream)
+    (p : Pattern) (g : List ℕ) (kept : List Kept) : Type 0 where
   pub k : ℕ
   pub first : IsFirstPassing (pattern_filling size black) (pattern_passes size budget) s tries k
   pub filled : g ≡ filling_at (pattern_filling size black) k s

@@ -1,7 +1,6 @@
 -- What fewer givens change.
 use Rattle.std.proofs.Common.{◌≡◌, ℕ, zero, suc, ◌+◌, ◌<◌, ◌≤◌, true, Some, List, length, set, refl, sym, ◌∙◌, ap, subst, arith, inl, inr}
 use Rattle.std.specs.Prelude.{slice_index, slice_set}
-use Rattle.std.specs.List.{list_all}
 use Rattle.std.proofs.Math.Nat.{le_refl}
 use Rattle.std.proofs.lemmas.Bool.{cases_lt, and_parts, and_from}
 use Rattle.std.proofs.lemmas.Option.{none-some}
@@ -14,9 +13,8 @@ use Rattle.solo_core.specs.RuleSets.{houses_rules}
 use Rattle.solo_core.specs.declared.solo_house.SoloHouse.{SoloHouse}
 use Rattle.solo_core.specs.declared.solo_house.SoloHouse.TheVariants.{Row, Column, Block, Diagonal}
 use Rattle.solo_core.specs.Cells.{solo_cells}
-use Rattle.solo_core.specs.Houses.{houses_of, IsHouseOf, lies_in, places_of}
-use Rattle.solo_core.specs.NoRepeat.{no_repeat}
-use Rattle.solo_core.specs.Solutions.{IsSoloSolution, given_stands, numbers_of, is_solo_solution}
+use Rattle.solo_core.specs.Houses.{IsHouseOf, lies_in}
+use Rattle.solo_core.specs.Solutions.{IsSoloSolution, given_stands, is_solo_solution}
 use Rattle.solo_core.specs.SolutionLaws.{given_from_test, test_from_given}
 use Rattle.maker_core.specs.SoloFilling.{all_given}
 use Rattle.maker_core.specs.Thinning.{IsThinnedFrom, IsGame}
@@ -56,12 +54,6 @@ lies_alike p givens (Column i) place = refl
 lies_alike p givens (Block b) place = refl
 lies_alike p givens (Diagonal d) place = refl
 
-places_alike : (p : Solo) (givens : List ℕ) (house : SoloHouse) → places_of p house ≡ places_of (solo_puzzle p.c p.r p.x givens) house
-places_alike p givens (Row y) = refl
-places_alike p givens (Column i) = refl
-places_alike p givens (Block b) = refl
-places_alike p givens (Diagonal d) = refl
-
 -- the clues of p are clues of the puzzle with these givens
 abbrev pub HasClues : Solo → List ℕ → Type 0
 HasClues p givens = (place n : ℕ) → given_clue (slice_index p.givens place) ≡ Some n → given_clue (slice_index givens place) ≡ Some n
@@ -93,10 +85,7 @@ test_stays p givens g clues on =
     and_from _ _
     (all_below-from (given_stands p g) (solo_cells p) (λ place below.
     test_from_given p g place (given_stays p givens g place clues (given_from_test q g place (all_below-at (given_stands q g) (solo_cells q) place parts.0 below)))))
-    (same_tests ∙ parts.1)
-  where
-    same_tests : list_all (λ house. no_repeat (numbers_of p g house)) (houses_of p) ≡ list_all (λ house. no_repeat (numbers_of (solo_puzzle p.c p.r p.x givens) g house)) (houses_of p)
-    same_tests = refl
+    parts.1
 
 solutions_stay : (p q : Solo) (g : List ℕ) → IsThinnedFrom solo_game p q → Solves (houses_rules q) g → Solves (houses_rules p) g
 solutions_stay p q g w s =

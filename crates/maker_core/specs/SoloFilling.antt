@@ -13,7 +13,7 @@ first_number c r x y = ((y % c) * r + y / c + x) % (c * r)
 
 -- with the lines of a group after the lines before, in that order; and in a shuffled order
 abbrev pub group_added : ℕ → ℕ → List ℕ → List ℕ × Stream → List ℕ × Stream
-group_added size group lines inside = (lines ++ map (λ line. group * size + line) inside.0, inside.1)
+group_added size group lines inside = (lines ++ map (λ k. group * size + k) inside.0, inside.1)
 
 abbrev pub group_drawn : ℕ → ℕ → List ℕ → Making (List ℕ)
 group_drawn size group lines s = group_added size group lines (shuffled_order size s)
@@ -32,10 +32,15 @@ line_order count size s =
     let groups = shuffled_order count s in
     lines_of_groups size groups.0 count groups.1
 
--- the grid, row by row, in which each number has become another, and rows and columns stand in a new order
+-- the number that comes to a place when rows and columns stand in a new order
+abbrev pub old_number : ℕ → ℕ → List ℕ → List ℕ → ℕ → ℕ
+old_number c r rows columns place =
+    first_number c r (slice_index columns (place % (c * r))) (slice_index rows (place / (c * r)))
+
+-- the grid, row by row, in which so they stand, and each number has become another
 unfoldable pub rearranged : ℕ → ℕ → List ℕ → List ℕ → List ℕ → List ℕ
 rearranged c r numbers rows columns =
-    map (λ place. slice_index numbers (first_number c r (slice_index columns (place % (c * r))) (slice_index rows (place / (c * r)))))
+    map (λ place. slice_index numbers (old_number c r rows columns place))
     (range_with_len 0 ((c * r) * (c * r)))
 
 -- the grid that is made of a stream, and the stream that is left: the numbers are shuffled first, then the r bands and

@@ -39,7 +39,8 @@ NoneFound c r x budget s tries =
 -- The first of the fillings that passes gives the solution; the puzzle is of its size, has some of its numbers as givens,
 -- and no other solution, and its own verdict says so. Each given that is left was kept for a reason: without it there are
 -- two solutions, or the search of a puzzle that has all the others, and maybe more of the filling's numbers, gave up.
-pub record IsSoloMade (c r : ℕ) (x : Bool) (budget tries : ℕ) (s : Stream) (p : Solo) (g : List ℕ) (kept : List Kept) : Type 0 where
+pub record IsSoloMade (c r : ℕ) (x : Bool) (budget tries : ℕ) (s : Stream)
+    (p : Solo) (g : List ℕ) (kept : List Kept) : Type 0 where
   pub k : ℕ
   pub first : IsFirstPassing (solo_filling c r x budget) (solo_passes c r x budget) s tries k
   pub filled : filling_at (solo_filling c r x budget) k s ≡ Some g

@@ -15,7 +15,8 @@ cell_of size g x y = slice_index g (slice_index (row_places size y) x)
 
 -- whether a black run of the row begins in the column
 unfoldable pub run_begins : Extent → List ℕ → ℕ → ℕ → Bool
-run_begins size g x y = (cell_of size g x y == 1) && ((x == 0) || not (cell_of size g (x - 1) y == 1))
+run_begins size g x y =
+    (cell_of size g x y == 1) && ((x == 0) || not (cell_of size g (x - 1) y == 1))
 
 -- the row is black from a column up to the end, and not at the end
 pub record IsRunEnd (size : Extent) (g : List ℕ) (x y end : ℕ) : Type 0 where

@@ -15,7 +15,9 @@ use Rattle.maker_core.specs.Made.{has_one}
 
 -- no trees and no tents
 unfoldable pub no_camp : Extent → Camp
-no_camp size = record { trees = replicate (size.w * size.h) 0; tents = replicate (size.w * size.h) 0; pitched = 0 }
+no_camp size =
+    let none = replicate (size.w * size.h) 0 in
+    record { trees = none; tents = none; pitched = 0 }
 
 -- the cell has neither tree nor tent
 abbrev pub is_free : Camp → ℕ → Bool
@@ -32,13 +34,18 @@ touches_tent size tents c = any_below (λ d. touches size c d && tent tents d) (
 -- fewer tents stand than a fifth of the cells, and the cell has no tree, touches no tent and has free cells beside it
 unfoldable pub may_pitch : Extent → Camp → ℕ → Bool
 may_pitch size camp c =
-    nat_lt camp.pitched (size.w * size.h / 5) && ((slice_index camp.trees c == 0) && (not (touches_tent size camp.tents c) && nat_lt 0 (length (free_cells_beside size camp c))))
+    nat_lt camp.pitched (size.w * size.h / 5)
+    && ((slice_index camp.trees c == 0)
+    && (not (touches_tent size camp.tents c)
+    && nat_lt 0 (length (free_cells_beside size camp c))))
 
 -- a tent in the cell and a tree in one of the free cells beside it, which a draw names
 unfoldable pub pitch : Extent → Camp → ℕ → Making Camp
 pitch size camp c s =
-    let draw = draw_below (length (free_cells_beside size camp c)) s in
-    (record { trees = slice_set camp.trees (slice_index (free_cells_beside size camp c) draw.0) 1; tents = slice_set camp.tents c 1; pitched = suc camp.pitched }, draw.1)
+    let free = free_cells_beside size camp c in
+    let draw = draw_below (length free) s in
+    let trees = slice_set camp.trees (slice_index free draw.0) 1 in
+    (record { trees = trees; tents = slice_set camp.tents c 1; pitched = suc camp.pitched }, draw.1)
 
 -- the cell is taken
 unfoldable pub take_cell : Extent → Camp → ℕ → Making Camp
@@ -47,7 +54,9 @@ take_cell size camp c s = if may_pitch size camp c then pitch size camp c s else
 -- the camp when the first k cells of the order were taken in turn
 unfoldable pub camp_after : Extent → List ℕ → ℕ → Making Camp
 camp_after size order zero s = (no_camp size, s)
-camp_after size order (suc k) s = let before = camp_after size order k s in take_cell size before.0 (slice_index order k) before.1
+camp_after size order (suc k) s =
+    let before = camp_after size order k s in
+    take_cell size before.0 (slice_index order k) before.1
 
 -- the camp when all of them were
 abbrev pub camp_of_order : Extent → List ℕ → Making Camp
@@ -59,13 +68,10 @@ tent_filling size s =
     let order = shuffled_order (size.w * size.h) s in
     camp_of_order size order.0 order.1
 
--- the k-th filling of a stream, from 0
-abbrev pub camp_at : Extent → ℕ → Stream → Camp
-camp_at size = filling_at (tent_filling size)
-
 -- its puzzle: the trees, and how many tents each line has
 unfoldable pub tents_puzzle_of : Extent → Camp → Tents
-tents_puzzle_of size camp = record { size = size; trees = camp.trees; counts = lines_ones size camp.tents }
+tents_puzzle_of size camp =
+    record { size = size; trees = camp.trees; counts = lines_ones size camp.tents }
 
 -- the tents solve it
 abbrev pub IsSolvedCamp : Extent → Camp → Type 0
@@ -73,7 +79,8 @@ IsSolvedCamp size camp = IsTentSolution (tents_puzzle_of size camp) camp.tents
 
 -- what holds of each filling, over any stream of words
 abbrev pub EachFilling : (Extent → Camp → Type 0) → Type 0
-EachFilling P = (size : Extent) (s : Stream) (k : ℕ) → IsExtent size → HasWords s → P size (camp_at size k s)
+EachFilling P = (size : Extent) (s : Stream) (k : ℕ)
+    → IsExtent size → HasWords s → P size (filling_at (tent_filling size) k s)
 
 -- a filling passes where the verdict of its puzzle is one
 abbrev pub tents_pass : Extent → ℕ → Camp → Bool

@@ -20,7 +20,8 @@ pub record IsTentSize (size : Extent) : Type 0 where
 
 -- The first of the fillings that passes gives the solution and the puzzle, which has no other solution, and its verdict
 -- says so. Clues are not thinned.
-pub record IsTentsMade (size : Extent) (budget tries : ℕ) (s : Stream) (p : Tents) (g : List ℕ) (kept : List Kept) : Type 0 where
+pub record IsTentsMade (size : Extent) (budget tries : ℕ) (s : Stream)
+    (p : Tents) (g : List ℕ) (kept : List Kept) : Type 0 where
   pub k : ℕ
   pub first : IsFirstPassing (tent_filling size) (tents_pass size budget) s tries k
   pub clues : p ≡ tents_puzzle_of size (filling_at (tent_filling size) k s)

@@ -46,7 +46,8 @@ pub record IsThinnedFrom {A : Type 0} (game : Game A) (p q : A) : Type 0 where
 
 -- each solution of a puzzle with more clues is one of the puzzle
 abbrev pub KeepsSolutions : {A : Type 0} → Game A → (A → List ℕ → Type 0) → Type 0
-KeepsSolutions {A} game solves = (p q : A) (g : List ℕ) → IsThinnedFrom game p q → solves q g → solves p g
+KeepsSolutions {A} game solves = (p q : A) (g : List ℕ)
+    → IsThinnedFrom game p q → solves q g → solves p g
 
 -- the grid is a solution, and no other grid is
 abbrev pub IsOnly : Puzzle → List ℕ → Type 0
@@ -67,7 +68,8 @@ pub record GivesUp (rules : Puzzle) (budget : ℕ) : Type 0 where
 
 -- the search gives up on some puzzle that hasn't the clue of the cell: one with each other clue of p and no clue but
 -- those of `all`
-pub record IsHard {A : Type 0} (game : Game A) (budget : ℕ) (all p : A) (place : ℕ) : Type 0 where
+pub record IsHard {A : Type 0} (game : Game A) (budget : ℕ) (all p : A)
+    (place : ℕ) : Type 0 where
   pub thicker : A
   pub lacks : game.clue thicker place ≡ None
   pub over : IsThinnedFrom game (game.without p place) thicker
@@ -80,7 +82,8 @@ IsReason game budget all p place Needed = HasTwo (game.rules (game.without p pla
 IsReason game budget all p place Budget = IsHard game budget all p place
 
 -- an entry for each clue of p, by place, with the reason why it was left
-pub record AreReasons {A : Type 0} (game : Game A) (budget : ℕ) (all p : A) (kept : List Kept) : Type 0 where
+pub record AreReasons {A : Type 0} (game : Game A) (budget : ℕ) (all p : A)
+    (kept : List Kept) : Type 0 where
   pub places : map (λ k. k.place) kept ≡ clue_places game p
   pub reasons : All (λ k. IsReason game budget all p k.place k.why) kept
 
@@ -93,18 +96,26 @@ HasReasons game budget answer made =
 abbrev pub LeavesNoIdleClue : {A : Type 0} → Game A → Type 0
 LeavesNoIdleClue {A} game = (budget : ℕ) (all p q : A) (kept : List Kept) (place : ℕ)
     → AreReasons game budget all p kept → All (λ k. k.why ≡ Needed) kept
-    → IsThinnedFrom game q p → has_clue game p place ≡ true → has_clue game q place ≡ false → HasTwo (game.rules q)
+    → IsThinnedFrom game q p
+    → has_clue game p place ≡ true → has_clue game q place ≡ false
+    → HasTwo (game.rules q)
 
 -- what fewer clues change: no solution is lost, and a search needs no more memory
 pub record IsGame {A : Type 0} (game : Game A) : Type 0 where
   pub same_itself : (p : A) → game.same_frame p p
   pub same_back : (p q : A) → game.same_frame p q → game.same_frame q p
-  pub same_through : (p q r : A) → game.same_frame p q → game.same_frame q r → game.same_frame p r
+  pub same_through : (p q r : A)
+      → game.same_frame p q → game.same_frame q r → game.same_frame p r
   pub clue_in : (p : A) (place n : ℕ) → game.clue p place ≡ Some n → place < game.cells p
   pub same_cells : (p q : A) → game.same_frame p q → game.cells p ≡ game.cells q
-  pub same_all : (p q : A) (g : List ℕ) → game.same_frame p q → game.all_clues p g ≡ game.all_clues q g
-  pub solutions_stay : (p q : A) (g : List ℕ) → IsThinnedFrom game p q → Solves (game.rules q) g → Solves (game.rules p) g
-  pub without_frame : (p : A) (place n : ℕ) → game.clue p place ≡ Some n → game.same_frame (game.without p place) p
+  pub same_all : (p q : A) (g : List ℕ)
+      → game.same_frame p q → game.all_clues p g ≡ game.all_clues q g
+  pub solutions_stay : (p q : A) (g : List ℕ)
+      → IsThinnedFrom game p q → Solves (game.rules q) g → Solves (game.rules p) g
+  pub without_frame : (p : A) (place n : ℕ)
+      → game.clue p place ≡ Some n → game.same_frame (game.without p place) p
   pub without_it : (p : A) (place : ℕ) → game.clue (game.without p place) place ≡ None
-  pub others_stay : (p : A) (place other : ℕ) → other ≢ place → game.clue (game.without p place) other ≡ game.clue p other
-  pub needs_less : (p : A) (place n : ℕ) → game.clue p place ≡ Some n → FitsIn (needs_of (game.rules (game.without p place))) (needs_of (game.rules p))
+  pub others_stay : (p : A) (place other : ℕ) → other ≢ place
+      → game.clue (game.without p place) other ≡ game.clue p other
+  pub needs_less : (p : A) (place n : ℕ) → game.clue p place ≡ Some n
+      → FitsIn (needs_of (game.rules (game.without p place))) (needs_of (game.rules p))

@@ -20,7 +20,7 @@ pub(crate) fn draw_black<G: Rng>(
     cells: usize,
     black: u8,
 ) -> Result<Grid, AllocError>
-    ensures drawn { IfOk result (IsDrawnBy (black_cells black cells) (G.stream rng.old) (G.stream rng.new)) }
+    ensures drawn { IfOk result (IsDrawnBy (black_cells black cells) G.stream rng.old rng.new) }
     ensures grid { IfOk result (λ grid. IsGrid cells 2 grid) }
     ensures white { black ≡ 0 → IfOk result (AreAll 0) }
     ensures full { black ≡ 100 → IfOk result (AreAll 1) }

@@ -39,8 +39,10 @@ pub(crate) trait Clued: Drop {
     /// Puts a clue that was taken away back.
     fn put_clue(&mut self, place: usize, clue: u8)
         requires range { can_be_clue self.old clue }
-        requires gone { (p : Self) × (game.clue p place ≡ Some clue) × (self.old ≡ game.without p place) }
-        ensures { (p : Self) → game.clue p place ≡ Some clue → self.old ≡ game.without p place → self.new ≡ p };
+        requires gone { (p : Self) × (game.clue p place ≡ Some clue)
+            × (self.old ≡ game.without p place) }
+        ensures { (p : Self) → game.clue p place ≡ Some clue
+            → self.old ≡ game.without p place → self.new ≡ p };
 
     /// What a search of the puzzle goes by.
     ///

@@ -12,6 +12,7 @@ use std::alloc::{AllocError, Global};
 /// # Errors
 ///
 /// When memory was refused.
+#[tactic(auto, using(crate::proofs::Flips::flip_laws, std::proofs::lemmas::Grind::same_number_lists))]
 pub(crate) fn flip(
     alloc: Global,
     n: usize,
@@ -31,6 +32,7 @@ pub(crate) fn flip(
 }
 
 /// The number that comes to a place.
+#[tactic(auto, using(crate::proofs::Flips::flip_laws))]
 fn number_at(n: usize, grid: &Grid, across: bool, down: bool, place: usize) -> u8
     requires few { n ≤ max_numbers }
     requires cells { length grid.now ≡ n * n }

@@ -1,4 +1,5 @@
 //! The clues of Light Up: the numbers of black cells.
+#![tactic(auto, using(crate::proofs::WrittenGrids::set_back, crate::specs::LightCluesLaws::numbered_is))]
 
 use crate::clued::Clued;
 use fields_core::LightRules;

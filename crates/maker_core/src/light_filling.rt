@@ -15,6 +15,7 @@ use rand_core::Rng;
 use std::alloc::{AllocError, Global};
 
 /// The puzzle without numbers that has these black cells, 1 for black.
+#[tactic(auto, using(crate::proofs::LightCells::blackened))]
 fn with_black_cells(alloc: Global, size: Size, black: &Grid) -> Result<LightPuzzle, AllocError>
     requires w_two { 2 ≤ size.w }
     requires h_two { 2 ≤ size.h }
@@ -32,6 +33,7 @@ fn with_black_cells(alloc: Global, size: Size, black: &Grid) -> Result<LightPuzz
 }
 
 /// The white cells, by place.
+#[tactic(auto, using(crate::proofs::FilteredRanges::filter_kept, crate::proofs::FilteredRanges::filter_skipped, crate::proofs::LightSight::white_all))]
 fn white_cells(alloc: Global, puzzle: &LightPuzzle) -> Result<Vec<usize>, AllocError>
     ensures { IfOk result (λ places. places.items ≡ white_places puzzle.now) }
 {
@@ -46,6 +48,7 @@ fn white_cells(alloc: Global, puzzle: &LightPuzzle) -> Result<Vec<usize>, AllocE
 }
 
 /// Takes the cells of the list in turn, and puts a bulb into each that neither holds nor sees one.
+#[tactic(auto, using(crate::proofs::LightSight::bulb_laws), unfolding(crate::specs::LightFilling::with_bulb))]
 fn place_bulbs(puzzle: &LightPuzzle, order: &[usize], grid: &mut Grid)
     requires within { All (λ c. c < light_cells puzzle.now) order.now }
     requires none { grid.old ≡ replicate (light_cells puzzle.now) 0 }
@@ -64,6 +67,7 @@ fn place_bulbs(puzzle: &LightPuzzle, order: &[usize], grid: &mut Grid)
 }
 
 /// Writes a number on every black cell: how many bulbs stand beside it.
+#[tactic(auto, using(std::proofs::lemmas::Grind::common_steps), unfolding(fields_core::specs::Light::white, crate::specs::LightFilling::numbered_cell))]
 fn number_cells(puzzle: &mut LightPuzzle, grid: &Grid)
     requires { IsGrid (light_cells puzzle.old) 2 grid.now }
     ensures { puzzle.new ≡ with_numbers puzzle.old grid.now }
@@ -79,8 +83,9 @@ fn number_cells(puzzle: &mut LightPuzzle, grid: &Grid)
 
 /// Takes the white cells of a puzzle without numbers, listed by place and shuffled, in turn, and puts a bulb into each
 /// that neither holds nor sees one. The grid solves the puzzle with the numbers that it gives.
+#[tactic(auto, unfolding(crate::specs::LightFilling::lit_up))]
 fn light_up<G: Rng>(alloc: Global, rng: &mut G, puzzle: &LightPuzzle) -> Result<Grid, AllocError>
-    ensures drawn { IfOk result (IsDrawnBy (lit_up puzzle.now) (G.stream rng.old) (G.stream rng.new)) }
+    ensures drawn { IfOk result (IsDrawnBy (lit_up puzzle.now) G.stream rng.old rng.new) }
     ensures grid { IfOk result (λ grid. IsGrid (light_cells puzzle.now) 2 grid) }
     ensures solved { IfOk result (λ grid. is_lit (with_numbers puzzle.now grid) grid ≡ true) }
 {
@@ -98,6 +103,7 @@ fn light_up<G: Rng>(alloc: Global, rng: &mut G, puzzle: &LightPuzzle) -> Result<
 /// # Errors
 ///
 /// When memory was refused.
+#[tactic(auto, using(crate::proofs::LightFilled::numbers_again, crate::proofs::LightFilled::none_white, crate::proofs::LightFilled::numbered_cells), unfolding(crate::specs::LightFilling::light_filling, crate::specs::LightFilling::light_puzzle_of))]
 pub(crate) fn fill_lights<G: Rng>(
     alloc: Global,
     rng: &mut G,

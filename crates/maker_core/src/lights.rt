@@ -6,7 +6,7 @@ ghost use Rattle.gameid_core.specs.Puzzles.{IsWide};
 ghost use Rattle.fields_core.specs.Light.{light_cells, white, is_lit};
 ghost use Rattle.fields_core.specs.LightHouses.{light_rules};
 ghost use Rattle.maker_core.specs.declared.made.MakeFault.TheVariants.{Exhausted, SizeRange};
-ghost use Rattle.maker_core.specs.Draws.{AllFail, IsAfterAll, IsAfterFirst};
+ghost use Rattle.maker_core.specs.Draws.{AllFail, DrawsAll, DrawsFirst};
 ghost use Rattle.maker_core.specs.LightMaking.{MakesLights, light_tries};
 ghost use Rattle.maker_core.specs.Made.{IfYes, TellsOne, has_one};
 ghost use Rattle.maker_core.specs.Thinning.{IsOnly};
@@ -75,12 +75,12 @@ pub fn make_lights<G: Rng>(
     requires { black ≤ 100 }
     ensures made { IfOk result (MakesLights size black limits (G.stream rng.old)) }
     ensures drawn { OnOk result
-        (IsAfterFirst (light_tries size black limits) (G.stream rng.old) (G.stream rng.new)) }
+        (DrawsFirst (light_tries size black limits) G.stream rng.old rng.new) }
     ensures size_range { (result ≡ Err SizeRange) ↔ (IsWide size → ⊥) }
     ensures no_tries { IsWide size → limits.tries ≡ 0 → result ≡ Err Exhausted }
     ensures exhausted { result ≡ Err Exhausted
         → AllFail (light_tries size black limits) (G.stream rng.old) }
-    ensures all_drawn { IsAfterAll (light_tries size black limits) (G.stream rng.old) (G.stream rng.new) result }
+    ensures all_drawn { DrawsAll (light_tries size black limits) G.stream rng.old rng.new result }
     ensures undrawn { result ≡ Err SizeRange → G.stream rng.new ≡ G.stream rng.old }
     ensures full { 1 ≤ limits.tries → black ≡ 100 → result ≢ Err Exhausted }
 {

@@ -5,7 +5,7 @@ ghost use Rattle.grid_core.specs.Grids.{IsGrid};
 ghost use Rattle.pattern_core.specs.LineRules.{line_rules};
 ghost use Rattle.pattern_core.specs.Solutions.{IsPatternSolution};
 ghost use Rattle.maker_core.specs.declared.made.MakeFault.TheVariants.{Exhausted, SizeRange};
-ghost use Rattle.maker_core.specs.Draws.{AreAll, AllFail, IsAfterAll, IsAfterFirst};
+ghost use Rattle.maker_core.specs.Draws.{AreAll, AllFail, DrawsAll, DrawsFirst};
 ghost use Rattle.maker_core.specs.Made.{IfYes, TellsOne, IsOnlySolution};
 ghost use Rattle.maker_core.specs.PatternMaking.{MakesPattern, clued_by, pattern_passes, pattern_tries};
 
@@ -20,6 +20,7 @@ use rand_core::Rng;
 use std::alloc::{AllocError, Global};
 
 /// The puzzle with all clues of the grid.
+#[tactic(auto, using(crate::proofs::PatternMakings::pattern_is, crate::proofs::PatternMakings::pattern_solved))]
 pub(crate) fn puzzle_of(alloc: Global, size: Size, grid: &Grid) -> Result<PatternPuzzle, AllocError>
     requires { IsGrid (size.w * size.h) 2 grid.now }
     ensures puzzle { IfOk result (λ p. p ≡ clued_by size grid.now) }
@@ -83,13 +84,14 @@ pub fn make_pattern<G: Rng>(
     requires { black ≤ 100 }
     ensures made { IfOk result (MakesPattern size black limits (G.stream rng.old)) }
     ensures drawn { OnOk result
-        (IsAfterFirst (pattern_tries size black limits) (G.stream rng.old) (G.stream rng.new)) }
+        (DrawsFirst (pattern_tries size black limits) G.stream rng.old rng.new) }
     ensures in_range { result ≢ Err SizeRange }
     ensures no_tries { limits.tries ≡ 0 → result ≡ Err Exhausted }
     ensures exhausted { result ≡ Err Exhausted
         → AllFail (pattern_tries size black limits) (G.stream rng.old) }
-    ensures all_drawn { IsAfterAll (pattern_tries size black limits) (G.stream rng.old) (G.stream rng.new) result }
-    ensures plain { 1 ≤ limits.tries → (black ≡ 0) ⊎ (black ≡ 100) → result ≢ Err Exhausted }
+    ensures all_drawn { DrawsAll (pattern_tries size black limits) G.stream rng.old rng.new result }
+    ensures plain { 1 ≤ limits.tries → (black ≡ 0) ⊎ (black ≡ 100)
+        → result ≢ Err Exhausted }
 {
     for _attempt in 0..limits.tries {
         let mut answer = draw_black(alloc, rng, size.cells(), black)?;

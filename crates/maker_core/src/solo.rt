@@ -3,7 +3,7 @@
 ghost use Rattle.std.specs.Prelude.{◌≡◌, ◌↔◌, false, IsTrue, Err, IfOk, IfSome, OnOk};
 ghost use Rattle.solo_core.specs.Solutions.{IsSoloSolution};
 ghost use Rattle.maker_core.specs.declared.made.MakeFault.TheVariants.{Exhausted, SizeRange};
-ghost use Rattle.maker_core.specs.Draws.{AllFail, IsAfterAll, IsAfterFirst, IsDrawnBy};
+ghost use Rattle.maker_core.specs.Draws.{AllFail, DrawsAll, DrawsFirst, IsDrawnBy};
 ghost use Rattle.maker_core.specs.SoloFilling.{all_given};
 ghost use Rattle.maker_core.specs.SoloMaking.{IsSoloSize, MakesSolo, NoneFound, solo_filling, solo_tries};
 
@@ -43,8 +43,7 @@ pub fn make_solo<G: Rng>(
     limits: Limits,
 ) -> Result<Made<SoloPuzzle>, MakeFault>
     ensures made { IfOk result (MakesSolo c r x limits (G.stream rng.old)) }
-    ensures drawn { OnOk result
-        (IsAfterFirst (solo_tries c r x limits) (G.stream rng.old) (G.stream rng.new)) }
+    ensures drawn { OnOk result (DrawsFirst (solo_tries c r x limits) G.stream rng.old rng.new) }
     ensures size_range { (result ≡ Err SizeRange) ↔ (IsSoloSize c r → ⊥) }
     ensures no_tries { IsSoloSize c r → limits.tries ≡ 0 → result ≡ Err Exhausted }
     ensures exhausted { result ≡ Err Exhausted
@@ -52,7 +51,7 @@ pub fn make_solo<G: Rng>(
     ensures none_found { result ≡ Err Exhausted
         → NoneFound c r x limits.budget (G.stream rng.old) limits.tries }
     ensures plain { x ≡ false → result ≡ Err Exhausted → limits.tries ≡ 0 }
-    ensures all_drawn { IsAfterAll (solo_tries c r x limits) (G.stream rng.old) (G.stream rng.new) result }
+    ensures all_drawn { DrawsAll (solo_tries c r x limits) G.stream rng.old rng.new result }
     ensures undrawn { result ≡ Err SizeRange → G.stream rng.new ≡ G.stream rng.old }
 {
     if !is_size(c, r) {
@@ -78,8 +77,7 @@ fn fill_solo<G: Rng>(
     budget: u64,
 ) -> Result<Option<Grid>, AllocError>
     requires { IsSoloSize c r }
-    ensures filling { IfOk result
-        (IsDrawnBy (solo_filling c r x budget) (G.stream rng.old) (G.stream rng.new)) }
+    ensures filling { IfOk result (IsDrawnBy (solo_filling c r x budget) G.stream rng.old rng.new) }
     ensures solution { IfOk result (λ filling.
         IfSome filling (λ grid. IsSoloSolution (all_given c r x grid) grid)) }
 {

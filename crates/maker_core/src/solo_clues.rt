@@ -1,4 +1,5 @@
 //! The clues of Solo: the givens.
+#![tactic(auto, using(crate::proofs::WrittenGrids::set_back, crate::specs::SoloCluesLaws::clue_is))]
 
 use crate::clued::Clued;
 use gameid_core::SoloPuzzle;

@@ -5,7 +5,7 @@ ghost use Rattle.grid_core.specs.Grids.{IsGrid};
 ghost use Rattle.gameid_core.specs.Head.{max_numbers};
 ghost use Rattle.solo_core.specs.Solutions.{IsSoloSolution};
 ghost use Rattle.maker_core.specs.Draws.{AreDrawnBy, IsDrawnBy, shuffled_order};
-ghost use Rattle.maker_core.specs.SoloOrders.{IsOrder, IsLineOrder};
+ghost use Rattle.maker_core.specs.SoloOrders.{AreOrders, IsOrder, IsLineOrder};
 ghost use Rattle.maker_core.specs.SoloFilling.{group_drawn, line_order as lines_of_order, rearranged, plain_filling, all_given};
 ghost use Rattle.maker_core.specs.SoloMaking.{IsSoloSize};
 
@@ -29,7 +29,7 @@ pub(crate) fn fill_plain<G: Rng>(
     rng: &mut G,
 ) -> Result<Grid, AllocError>
     requires { IsSoloSize c r }
-    ensures filling { IfOk result (IsDrawnBy (plain_filling c r) (G.stream rng.old) (G.stream rng.new)) }
+    ensures filling { IfOk result (IsDrawnBy (plain_filling c r) G.stream rng.old rng.new) }
     ensures solution { IfOk result (λ grid. IsSoloSolution (all_given c r false grid) grid) }
 {
     let tall = usize::from(c);
@@ -45,6 +45,7 @@ pub(crate) fn fill_plain<G: Rng>(
 /// # Errors
 ///
 /// When memory was refused.
+#[tactic(auto, using(crate::proofs::SoloFull::full_laws))]
 pub(crate) fn full_puzzle(
     alloc: Global,
     c: u8,
@@ -64,6 +65,7 @@ pub(crate) fn full_puzzle(
 }
 
 /// So many groups of so many lines in a shuffled order: the groups first, and then the lines in each.
+#[tactic(auto, using(crate::proofs::SoloOrderLemmas::draw_laws, crate::proofs::SoloOrderLemmas::line_order_from_groups))]
 fn line_order<G: Rng>(
     alloc: Global,
     count: usize,
@@ -72,8 +74,7 @@ fn line_order<G: Rng>(
 ) -> Result<Vec<usize>, AllocError>
     requires some { 0 < size }
     requires few { count * size ≤ max_numbers }
-    ensures drawn { IfOk result
-        (AreDrawnBy (lines_of_order count size) (G.stream rng.old) (G.stream rng.new)) }
+    ensures drawn { IfOk result (AreDrawnBy (lines_of_order count size) G.stream rng.old rng.new) }
     ensures grouped { IfOk result (λ v. IsLineOrder count size v.items) }
 {
     let groups = order(alloc, rng, count)?;
@@ -85,6 +86,7 @@ fn line_order<G: Rng>(
 }
 
 /// Appends the lines of a group in a shuffled order.
+#[tactic(auto, using(crate::proofs::SoloOrderLemmas::draw_laws))]
 fn push_group<G: Rng>(
     alloc: Global,
     size: usize,
@@ -93,8 +95,8 @@ fn push_group<G: Rng>(
     lines: &mut Vec<usize>,
 ) -> Result<(), AllocError>
     requires few { (group + 1) * size ≤ max_numbers }
-    ensures drawn { OnOk result ((lines.new.items, G.stream rng.new)
-        ≡ group_drawn size group lines.old.items (G.stream rng.old)) }
+    ensures drawn { OnOk result
+        (AreDrawnBy (group_drawn size group lines.old.items) G.stream rng.old rng.new lines.new) }
     ensures ordered { OnOk result (IsOrder size (shuffled_order size (G.stream rng.old)).0) }
 {
     let inside = order(alloc, rng, size)?;
@@ -105,6 +107,7 @@ fn push_group<G: Rng>(
 }
 
 /// The grid in which each number has become another, and rows and columns stand in new orders.
+#[tactic(auto, using(crate::proofs::SoloSolution::solution_laws, std::proofs::lemmas::Grind::same_number_lists))]
 fn rearrange(
     alloc: Global,
     c: usize,
@@ -113,12 +116,7 @@ fn rearrange(
     rows: &[usize],
     columns: &[usize],
 ) -> Result<Grid, AllocError>
-    requires c_some { 0 < c }
-    requires r_some { 0 < r }
-    requires few { c * r ≤ max_numbers }
-    requires numbers { IsOrder (c * r) numbers.now }
-    requires rows { IsLineOrder r c rows.now }
-    requires columns { IsLineOrder c r columns.now }
+    requires { AreOrders c r numbers.now rows.now columns.now }
     ensures grid { IfOk result (λ grid. grid ≡ rearranged c r numbers.now rows.now columns.now) }
     ensures solution { IfOk result (λ grid. IsSoloSolution (all_given c r false grid) grid) }
 {
@@ -131,6 +129,7 @@ fn rearrange(
 }
 
 /// The number in a cell of that grid.
+#[tactic(auto, using(crate::proofs::SoloSolution::solution_laws, crate::proofs::SoloNumbers::begin_below))]
 fn number_at(
     c: usize,
     r: usize,
@@ -139,12 +138,7 @@ fn number_at(
     columns: &[usize],
     place: usize,
 ) -> u8
-    requires c_some { 0 < c }
-    requires r_some { 0 < r }
-    requires few { c * r ≤ max_numbers }
-    requires numbers { IsOrder (c * r) numbers.now }
-    requires rows { IsLineOrder r c rows.now }
-    requires columns { IsLineOrder c r columns.now }
+    requires orders { AreOrders c r numbers.now rows.now columns.now }
     requires place { place < (c * r) * (c * r) }
     ensures { result ≡ slice_index (rearranged c r numbers.now rows.now columns.now) place }
 {

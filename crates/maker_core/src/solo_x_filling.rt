@@ -34,8 +34,7 @@ pub(crate) fn fill_x<G: Rng>(
     budget: u64,
 ) -> Result<Option<Grid>, AllocError>
     requires { IsSoloSize c r }
-    ensures filling { IfOk result
-        (IsDrawnBy (x_filling c r budget) (G.stream rng.old) (G.stream rng.new)) }
+    ensures filling { IfOk result (IsDrawnBy (x_filling c r budget) G.stream rng.old rng.new) }
     ensures solution { IfOk result (λ filling.
         IfSome filling (λ grid. IsSoloSolution (all_given c r true grid) grid)) }
 {
@@ -49,6 +48,7 @@ pub(crate) fn fill_x<G: Rng>(
 }
 
 /// The puzzle whose top row has these numbers, each below the number of columns, and which has no other given.
+#[tactic(auto, using(crate::proofs::SoloXSearch::top_laws))]
 fn top_row_puzzle(alloc: Global, c: u8, r: u8, numbers: &[usize]) -> Result<SoloPuzzle, AllocError>
     requires size { IsSoloSize c r }
     requires numbers { IsOrder (c * r) numbers.now }
@@ -71,7 +71,7 @@ fn flip_by_draw<G: Rng>(
     requires few { n ≤ max_numbers }
     requires cells { IfSome found (λ grid. length grid.now ≡ n * n) }
     ensures { IfOk result
-        (IsDrawnBy (lent_flipped n found.entry) (G.stream rng.old) (G.stream rng.new)) }
+        (IsDrawnBy (lent_flipped n found.entry) G.stream rng.old rng.new) }
 {
     match found {
         Some(grid) => {

@@ -24,6 +24,7 @@ fn is_free(camp: &Camp, place: usize) -> bool
 }
 
 /// The cells beside the place that have neither tree nor tent: up, left, right, down.
+#[tactic(auto, unfolding(grid_core::specs::Regions::steps))]
 fn free_cells(
     alloc: Global,
     size: Size,
@@ -50,6 +51,7 @@ fn free_cells(
 }
 
 /// Puts a tent into the cell and a tree into the one of the free cells beside it that a draw names.
+#[tactic(auto, using(crate::proofs::TentCamps::free_few, crate::proofs::TentCamps::free_in, crate::proofs::TentCamps::pitched_is), unfolding(crate::specs::TentFilling::pitch, crate::specs::TentFilling::may_pitch))]
 fn pitch<G: Rng>(rng: &mut G, size: Size, camp: &mut Camp, place: usize, free: &[usize])
     requires trees { length camp.old.trees ≡ size.w * size.h }
     requires tents { length camp.old.tents ≡ size.w * size.h }
@@ -57,7 +59,7 @@ fn pitch<G: Rng>(rng: &mut G, size: Size, camp: &mut Camp, place: usize, free: &
     requires free { free.now ≡ free_cells_beside size camp.old place }
     requires some { 0 < length free.now }
     requires may { may_pitch size camp.old place ≡ true }
-    ensures drawn { (camp.new, G.stream rng.new) ≡ pitched_in size camp.old place (G.stream rng.old) }
+    ensures drawn { IsDrawnBy (pitched_in size camp.old place) G.stream rng.old rng.new camp.new }
     ensures pitched { IsPitched size camp.old place camp.new }
 {
     let _cells = size.cells();
@@ -69,6 +71,7 @@ fn pitch<G: Rng>(rng: &mut G, size: Size, camp: &mut Camp, place: usize, free: &
 
 /// Takes a cell: it becomes a tent while fewer than a fifth of the cells are tents, if it has no tree, touches no tent and
 /// has a free cell beside it.
+#[tactic(auto, unfolding(crate::specs::TentFilling::take_cell, crate::specs::TentFilling::may_pitch, crate::specs::TentFilling::touches_tent))]
 fn take_cell<G: Rng>(
     alloc: Global,
     rng: &mut G,
@@ -80,7 +83,7 @@ fn take_cell<G: Rng>(
     requires tents { IsGrid (size.w * size.h) 2 camp.old.tents }
     requires place { place < size.w * size.h }
     ensures drawn { OnOk result
-        ((camp.new, G.stream rng.new) ≡ cell_taken size camp.old place (G.stream rng.old)) }
+        (IsDrawnBy (cell_taken size camp.old place) G.stream rng.old rng.new camp.new) }
     ensures taken { OnOk result (IsTaken size camp.old place camp.new) }
 {
     if camp.pitched >= size.cells() / 5 {
@@ -111,7 +114,7 @@ fn take_cells<G: Rng>(
     requires order { IsOrder (size.w * size.h) order.now }
     requires none { camp.old ≡ no_camp size }
     ensures drawn { OnOk result
-        ((camp.new, G.stream rng.new) ≡ camp_of_order size order.now (G.stream rng.old)) }
+        (IsDrawnBy (camp_of_order size order.now) G.stream rng.old rng.new camp.new) }
     ensures trees { OnOk result (IsGrid (size.w * size.h) 2 camp.new.trees) }
     ensures tents { OnOk result (IsGrid (size.w * size.h) 2 camp.new.tents) }
     ensures solved { OnOk result (IsSolvedCamp size camp.new) }
@@ -128,8 +131,9 @@ fn take_cells<G: Rng>(
 /// # Errors
 ///
 /// When memory was refused.
+#[tactic(auto, using(crate::proofs::TentCamps::no_camp_is))]
 pub(crate) fn fill_tents<G: Rng>(alloc: Global, rng: &mut G, size: Size) -> Result<Camp, AllocError>
-    ensures drawn { IfOk result (IsDrawnBy (tent_filling size) (G.stream rng.old) (G.stream rng.new)) }
+    ensures drawn { IfOk result (IsDrawnBy (tent_filling size) G.stream rng.old rng.new) }
     ensures trees { IfOk result (λ camp. IsGrid (size.w * size.h) 2 camp.trees) }
     ensures tents { IfOk result (λ camp. IsGrid (size.w * size.h) 2 camp.tents) }
     ensures solved { IfOk result (IsSolvedCamp size) }

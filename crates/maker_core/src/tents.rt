@@ -4,7 +4,7 @@ ghost use Rattle.std.specs.Prelude.{◌≡◌, ◌↔◌, ◌*◌, IsTrue, Err, 
 ghost use Rattle.grid_core.specs.Grids.{IsGrid};
 ghost use Rattle.fields_core.specs.TentHouses.{tent_rules};
 ghost use Rattle.maker_core.specs.declared.made.MakeFault.TheVariants.{Exhausted, SizeRange};
-ghost use Rattle.maker_core.specs.Draws.{AllFail, IsAfterAll, IsAfterFirst};
+ghost use Rattle.maker_core.specs.Draws.{AllFail, DrawsAll, DrawsFirst};
 ghost use Rattle.maker_core.specs.Made.{HasOne, IfYes, has_one};
 ghost use Rattle.maker_core.specs.TentFilling.{tents_puzzle_of};
 ghost use Rattle.maker_core.specs.TentMaking.{IsTentSize, MakesTents, tents_tries};
@@ -27,6 +27,7 @@ fn is_tent_size(size: Size) -> bool
 }
 
 /// The puzzle of a camp: its trees, and how many tents each line has.
+#[tactic(auto, using(crate::proofs::TentMakings::tents_is))]
 fn puzzle_of(alloc: Global, size: Size, camp: &Camp) -> Result<TentsPuzzle, AllocError>
     requires size { IsTentSize size }
     requires trees { IsGrid (size.w * size.h) 2 camp.now.trees }
@@ -68,13 +69,12 @@ pub fn make_tents<G: Rng>(
     limits: Limits,
 ) -> Result<Made<TentsPuzzle>, MakeFault>
     ensures made { IfOk result (MakesTents size limits (G.stream rng.old)) }
-    ensures drawn { OnOk result
-        (IsAfterFirst (tents_tries size limits) (G.stream rng.old) (G.stream rng.new)) }
+    ensures drawn { OnOk result (DrawsFirst (tents_tries size limits) G.stream rng.old rng.new) }
     ensures size_range { (result ≡ Err SizeRange) ↔ (IsTentSize size → ⊥) }
     ensures no_tries { IsTentSize size → limits.tries ≡ 0 → result ≡ Err Exhausted }
     ensures exhausted { result ≡ Err Exhausted
         → AllFail (tents_tries size limits) (G.stream rng.old) }
-    ensures all_drawn { IsAfterAll (tents_tries size limits) (G.stream rng.old) (G.stream rng.new) result }
+    ensures all_drawn { DrawsAll (tents_tries size limits) G.stream rng.old rng.new result }
     ensures undrawn { result ≡ Err SizeRange → G.stream rng.new ≡ G.stream rng.old }
 {
     fields_core::accepted_tents_are_solutions();

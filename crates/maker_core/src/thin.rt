@@ -57,6 +57,7 @@ where
 }
 
 /// The cells that have a clue, by place.
+#[tactic(auto, using(crate::proofs::FilteredRanges::filter_kept, crate::proofs::FilteredRanges::filter_skipped))]
 fn clue_list<P: Clued>(alloc: Global, puzzle: &P) -> Result<Vec<usize>, AllocError>
     ensures { IfOk result (λ places. places.items ≡ clue_places P.game puzzle.now) }
 {
@@ -76,7 +77,7 @@ fn shuffled_clues<P: Clued, G: Rng>(
     rng: &mut G,
 ) -> Result<Vec<usize>, AllocError>
     ensures drawn { IfOk result
-        (AreDrawnBy (shuffled_clues P.game puzzle.now) (G.stream rng.old) (G.stream rng.new)) }
+        (AreDrawnBy (shuffled_clues P.game puzzle.now) G.stream rng.old rng.new) }
     ensures permutation { IfOk result
         (λ order. IsPermutation (clue_places P.game puzzle.now) order.items) }
 {
@@ -138,6 +139,7 @@ where
 }
 
 /// The reasons that were written, by place.
+#[tactic(auto, unfolding(crate::specs::ThinningSteps::reasons_from))]
 fn reasons(alloc: Global, whys: &[Option<Why>]) -> Result<Vec<Kept>, AllocError>
     ensures { IfOk result (λ kept. kept.items ≡ reasons_from 0 whys.now) }
 {

@@ -5,28 +5,26 @@ ghost use Rattle.grid_core.specs.Grids.{IsGrid};
 ghost use Rattle.gameid_core.specs.Puzzles.{solo_n};
 ghost use Rattle.solo_core.specs.Cells.{solo_cells};
 
-use crate::made::{Limits, Made, MakeFault, Why};
+use crate::made::{Made, MakeFault, Why};
 use crate::solo::make_solo;
 use crate::solo_filling::{fill_plain, full_puzzle};
+use crate::tests::{fault, generator, limits};
 use engine_core::{Store, Verdict};
 use gameid_core::SoloPuzzle;
 use grid_core::Grid;
-use rand_chacha::ChaCha8Rng;
-use rand_core::SeedableRng;
 use solo_core::{SoloHouses, check_solo};
 use std::test::Fail;
 
 #[test]
 fn a_filling_of_two_by_three_blocks_is_a_solution(rt: HostRuntime) -> Result<(), Fail> {
-    let mut rng = ChaCha8Rng::from_seed([7; 32]);
-    let grid = fill_plain(rt.alloc(), 2, 3, &mut rng)?;
+    let grid = fill_plain(rt.alloc(), 2, 3, &mut generator())?;
     let puzzle = full_puzzle(rt.alloc(), 2, 3, false, &grid)?;
     assert_eq!(rt; grid.len(), 36);
     assert_eq!(rt; check_solo(&puzzle, &grid), None);
     Ok(())
 }
 
-/// What is made of the generator that the program has for seed 1.
+/// What is made of the generator.
 fn made(
     rt: &HostRuntime,
     c: u8,
@@ -35,12 +33,10 @@ fn made(
     budget: u64,
     tries: u32,
 ) -> Result<Made<SoloPuzzle>, MakeFault>
-    ensures { IfOk result (λ made. IsGrid (solo_cells made.puzzle) (solo_n made.puzzle) made.answer) }
+    ensures { IfOk result (λ made.
+        IsGrid (solo_cells made.puzzle) (solo_n made.puzzle) made.answer) }
 {
-    let mut key = [0; 32];
-    key[0] = 1;
-    let mut rng = ChaCha8Rng::from_seed(key);
-    make_solo(rt.alloc(), c, r, x, &mut rng, Limits { budget, tries })
+    make_solo(rt.alloc(), c, r, x, &mut generator(), limits(budget, tries))
 }
 
 /// Whether each given that was left, of some and not all cells, was left for this reason.
@@ -90,15 +86,6 @@ fn solo_x_has_numbers_once_on_its_diagonals(rt: HostRuntime) -> Result<(), Fail>
     assert_eq!(rt; store.solve(&rules, 100_000), Verdict::One);
     assert!(rt; is_same(store.first(), &made.answer));
     Ok(())
-}
-
-/// Why nothing was made. Want of memory is handed up.
-fn fault(made: Result<Made<SoloPuzzle>, MakeFault>) -> Result<Option<MakeFault>, MakeFault> {
-    match made {
-        Ok(_made) => Ok(None),
-        Err(MakeFault::Memory) => Err(MakeFault::Memory),
-        Err(fault) => Ok(Some(fault)),
-    }
 }
 
 #[test]

@@ -27,9 +27,3 @@ pub returns-clause-grid : goal.returns-clause-grid
 returns-clause-grid g c =
     let drawn = returns-clause-drawn g c in
     subst (IsGrid c.args.cells 2) (sym (ap (λ (q : List ℕ × Stream). q.0) drawn)) (black_cells-grid c.args.black c.args.cells (g.G.Rng.stream c.args.rng.now))
-
-pub returns-clause-white : goal.returns-clause-white
-returns-clause-white g c e k lt = let l = c.loop-place.invariant.long in c.loop-place.invariant.white e k (omega arith)
-
-pub returns-clause-full : goal.returns-clause-full
-returns-clause-full g c e k lt = let l = c.loop-place.invariant.long in c.loop-place.invariant.full e k (omega arith)

@@ -1,23 +1,13 @@
-use Rattle.std.proofs.Common.{◌*◌, ◌∙◌, ap, arith, refl, rules}
+use Rattle.std.proofs.Common.{◌*◌, ◌∙◌, ap, arith, rules}
 use Rattle.grid_core.specs.Extent.{Extent}
-use Rattle.maker_core.proofs.LightCells.{white_left, numbered_here, numbered_all, bulbs_few}
+use Rattle.maker_core.proofs.LightCells.{numbered_all, bulbs_few}
 use Rattle.maker_core.proofs.light_filling.number_cells.Goals as goal
-
-pub loop-place-preserved-then-is_white : goal.loop-place-preserved-then-is_white
-loop-place-preserved-then-is_white c =
-    let cells = c.cells-place-end.ensures.value ∙ ap (λ (s : Extent). s.w * s.h) c.size.ensures.value in
-    white_left _ _ _ _ _ _ c.loop-place.invariant (omega arith) c.is_white.ensures c.if-is_white.true
 
 pub overflow_cast-bulbs : goal.overflow_cast-bulbs
 overflow_cast-bulbs c = let few = bulbs_few c.loop-place.puzzle c.args.grid.now c.loop-place.place in let is = c.count_beside-bulbs.ensures in search rules
 
 pub set_cell-requires-clause-cell : goal.set_cell-requires-clause-cell
 set_cell-requires-clause-cell c = let few = bulbs_few c.loop-place.puzzle c.args.grid.now c.loop-place.place in let is = c.count_beside-bulbs.ensures in omega arith
-
-pub loop-place-preserved : goal.loop-place-preserved
-loop-place-preserved c =
-    let cells = c.cells-place-end.ensures.value ∙ ap (λ (s : Extent). s.w * s.h) c.size.ensures.value in
-    numbered_here _ _ _ _ _ _ _ _ _ c.loop-place.invariant refl (omega arith) c.is_white.ensures c.if-is_white.false c.count_beside-bulbs.ensures refl c.set_cell.ensures
 
 pub returns : goal.returns
 returns c =

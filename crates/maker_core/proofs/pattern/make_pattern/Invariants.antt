@@ -1,10 +1,10 @@
 use Rattle.std.proofs.Common.{◌≡◌, ◌⊎◌}
-use Rattle.maker_core.specs.PatternMaking.{pattern_filling, pattern_passes}
+use Rattle.maker_core.specs.PatternMaking.{pattern_tries}
 use Rattle.maker_core.proofs.Tries.{IsTrying}
 use Rattle.maker_core.proofs.pattern.make_pattern.Given as goal
 
 abbrev pub invariant-loop-attempt : goal.invariant-loop-attempt
 invariant-loop-attempt g l = record {
-  trying : IsTrying (pattern_filling l.fn.size l.fn.black) (pattern_passes l.fn.size l.fn.limits.budget) (g.G.Rng.stream l.fn.rng) l._attempt (g.G.Rng.stream l.rng);
+  trying : IsTrying (pattern_tries l.fn.size l.fn.black l.fn.limits) (g.G.Rng.stream l.fn.rng) l._attempt (g.G.Rng.stream l.rng);
   sure : (l.fn.black ≡ 0) ⊎ (l.fn.black ≡ 100) → l._attempt ≡ 0;
 }

@@ -4,10 +4,6 @@ use Rattle.maker_core.specs.TentFilling.{is_free}
 use Rattle.maker_core.proofs.TentCamps.{free_all}
 use Rattle.maker_core.proofs.tent_filling.free_cells.Goals as goal
 
-pub loop-direction-init : goal.loop-direction-init
-unfolding Rattle.grid_core.specs.Regions.steps
-loop-direction-init c = c.new-places.ensures.items
-
 pub loop-direction-preserved-in-None : goal.loop-direction-preserved-in-None
 loop-direction-preserved-in-None c = c.loop-direction.invariant ∙ step-none (is_free c.args.camp.now) c.args.size c.args.place c.loop-direction.direction c.in-None.ensures.cell
 

@@ -1,12 +1,7 @@
 use Rattle.std.proofs.Common.{◌∙◌, ap}
-use Rattle.maker_core.specs.ThinningSteps.{reasons_from}
 use Rattle.maker_core.proofs.ThinningReasons.{reason_kept, reason_skipped, no_reason}
 use Rattle.maker_core.proofs.thin.reasons.Goals as goal
 use Rattle.maker_core.proofs.thin.reasons.Goals.{in-Some+in_ok-push, in_default}
-
-pub loop-place-init : goal.loop-place-init
-unfolding reasons_from
-loop-place-init c = c.new-kept.ensures.items
 
 pub loop-place-preserved : goal.loop-place-preserved
 loop-place-preserved c = elim c.match-whys-place.branch [

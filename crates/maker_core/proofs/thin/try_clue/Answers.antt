@@ -2,7 +2,7 @@ use Rattle.std.proofs.Common.{◌∙◌, ap, subst}
 use Rattle.maker_core.specs.ThinningSteps.{IsVerdict}
 use Rattle.maker_core.proofs.thin.try_clue.Goals as goal
 use Rattle.maker_core.proofs.thin.try_clue.Goals.{in-Several, in-GaveUp}
-use Rattle.maker_core.proofs.ThinningLemmas.{needed, gave_up}
+use Rattle.maker_core.proofs.ThinningTurns.{needed, gave_up}
 
 pub returns-clause-asked : goal.returns-clause-asked
 returns-clause-asked g c =
