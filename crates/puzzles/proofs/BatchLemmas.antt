@@ -1,16 +1,19 @@
--- The steps of a batch.
-use Rattle.std.proofs.Common.{◌≡◌, ◌∙◌, ◌==◌, ◌<◌, ◌+◌, ◌++◌, ℕ, true, false, List, [], ◌∷◌, length, ap, ap₂, sym, refl, subst, arith, if◌then◌else◌, append-nil, append_assoc, inr, max, Result, Ok, Err, IfErr, take, drop, get_or}
+-- The steps of a batch, and the chunks of its input.
+use Rattle.std.proofs.Common.{◌≡◌, ◌∙◌, ◌==◌, ◌<◌, ◌+◌, ◌++◌, ℕ, true, false, List, [], ◌∷◌, length, ap, ap₂, sym, refl, subst, arith, if◌then◌else◌, append-nil, append_assoc, inr, max, Result, Ok, Err, IfErr, take, drop, get_or, ◌≤◌, ◌⊎◌, Bool, inl, true≢false}
 use Rattle.std.proofs.lemmas.List.{take-append-drop, take_more}
 use Rattle.std.specs.List.{All, slice_split}
 use Rattle.std.proofs.lemmas.List.Splits.{slice_split_at, slice_split_none, length-slice_split}
 use Rattle.std.proofs.lemmas.List.Elements.{All-push, All-nil}
 use Rattle.std.specs.Str.Lines.{lines, lines_of_parts, strip_carriage_return}
-use Rattle.puzzles.specs.Answers.{Answer, BeginsAnswer, PutBegun, Text}
+use Rattle.puzzles.specs.Answers.{Answer, BeginsAnswer, PutBegun, Text, Begins, IsInput}
 use Rattle.puzzles.specs.Each.{AllowsEach, Answered, Begun, HasAnswers, Stopped, both, silence}
-use Rattle.puzzles.specs.Batches.{Batched}
-use Rattle.puzzles.specs.LineStates.{Holds}
-use Rattle.puzzles.specs.Statuses.{code_of}
+use Rattle.puzzles.specs.Batches.{Batched, Holds}
+use Rattle.puzzles.specs.Texts.{Given}
+use Rattle.puzzles.specs.Replies.{code_of}
 use Rattle.puzzles.specs.declared.batch.Batch.{Batch}
+use Rattle.puzzles.specs.Runs.{Ran}
+use Rattle.puzzles.specs.declared.ends.Sink as sinks
+use Rattle.puzzles.specs.declared.ends.Source as sources
 
 parts_at : (p : Text) (parts : List Text) → 0 < length parts → lines_of_parts (p ∷ parts) ≡ strip_carriage_return p ∷ lines_of_parts parts
 parts_at p [] h = absurd (omega arith)
@@ -182,3 +185,80 @@ one_further seen chunk i h = append_assoc seen (take i chunk) (get_or chunk i 0 
 pub to_the_end : (seen chunk : Text) (i : ℕ) → i < length chunk → ((seen ++ take i chunk) ++ get_or chunk i 0 ∷ []) ++ drop (i + 1) chunk ≡ seen ++ chunk
 to_the_end seen chunk i h = ap (λ t. t ++ drop (i + 1) chunk) (one_further seen chunk i h) ∙ append_assoc seen (take (i + 1) chunk) (drop (i + 1) chunk)
     ∙ ap (λ t. seen ++ t) (take-append-drop (i + 1) chunk)
+
+module _ {I : Type 0} (gives : I → Text → I → Type 0) (gives_both : (s t u : I) (a b : Text) → gives s a t → gives t b u → gives s (a ++ b) u) where
+  pub given_more : (from i j : I) (given chunk : Text) (P Q : Text → Type 0) → given ≡ chunk → Given gives from i P → gives i given j → ((seen : Text) → P seen → Q (seen ++ chunk))
+      → Given gives from j Q
+  given_more from i j given chunk P Q same t more step = record {
+    seen = t.seen ++ chunk;
+    gave = gives_both from i j t.seen chunk t.gave (subst (λ (c : Text). gives i c j) same more);
+    is = step t.seen t.is;
+  }
+
+  pub given_no_more : (from i j : I) (P : Text → Type 0) → Given gives from i P → gives i [] j → Given gives from j P
+  given_no_more from i j P t more =
+      record { seen = t.seen; gave = subst (λ (c : Text). gives from c j) (append-nil t.seen) (gives_both from i j t.seen [] t.gave more); is = t.is }
+
+  -- no more was written
+  pub stopped_here : {S : Type 0} (takes : S → Text → S → Type 0) (nothing : (s : S) → takes s [] s) (both : (s t u : S) (a b : Text) → takes s a t → takes t b u → takes s (a ++ b) u)
+      (allows : Text → Answer → Type 0) → HasAnswers allows → (from i : I) (start o : S) (batch : Batch)
+      → Given gives from i (λ seen. Batched takes allows start batch seen o) → Given gives from i (λ seen. Stopped takes allows start seen o)
+  stopped_here takes nothing both allows answers from i start o batch t = record {
+    seen = t.seen;
+    gave = t.gave;
+    is = subst (λ (c : Text). Stopped takes allows start c o) (append-nil t.seen) (step_stopped allows takes nothing both answers start o batch t.seen [] t.is);
+  }
+
+-- what was read begins the input
+begins_input : (ended : Bool) (read input : Text) → IsInput ended read input → Begins read input
+begins_input true read input is = ([], is ∙ sym (append-nil read))
+begins_input false read input is = is
+
+same_input : (ended : Bool) (read input : Text) → ended ≡ true → IsInput ended read input → read ≡ input
+same_input true read input end is = sym is
+same_input false read input end is = absurd (true≢false (sym end))
+
+module _ {I S : Type 0} (source : sources.Ghosts I) (sink : sinks.Ghosts S) (takes_both : (s t u : S) (a b : Text) → sink.takes s a t → sink.takes t b u → sink.takes s (a ++ b) u)
+    (allows : Text → Answer → Type 0) where
+  pub ran_stopped : (i j : I) (o p : S) (status : ℕ) → 5 ≤ status → Given source.gives i j (λ seen. Stopped sink.takes allows o seen p) → Ran source sink (λ input. AllowsEach allows (lines input)) i j o p status
+  ran_stopped i j o p status high s = record {
+    read = s.seen;
+    written = s.is.written;
+    gave = s.gave;
+    took = s.is.took;
+    leaves = record {
+      begun = λ input is.
+          let more = begins_input (source.has_ended j) s.seen input is in
+          subst (λ (t : Text). BeginsAnswer (AllowsEach allows (lines t)) s.is.written) (sym more.1) (s.is.begun more.0);
+      whole = λ low. absurd (omega arith);
+    };
+  }
+
+  pub ran_begun : (i j : I) (o p : S) (seen : Text) (status : ℕ) → 5 ≤ status → source.has_ended j ≡ true → source.gives i seen j → Begun sink.takes allows o seen p → Ran source sink (λ input. AllowsEach allows (lines input)) i j o p status
+  ran_begun i j o p seen status high ended gave s = record {
+    read = seen;
+    written = s.written;
+    gave = gave;
+    took = s.took;
+    leaves = record {
+      begun = λ input is. subst (λ (t : Text). BeginsAnswer (AllowsEach allows (lines t)) s.written) (same_input (source.has_ended j) seen input ended is) s.begun;
+      whole = λ low. absurd (omega arith);
+    };
+  }
+
+  -- all was answered, and the finishing took nothing more
+  pub ran_answered : (i j : I) (o p q : S) (seen : Text) (told status : ℕ) → (status ≡ told) ⊎ (status ≡ 6) → source.has_ended j ≡ true → source.gives i seen j → Answered sink.takes allows o told seen p → sink.takes p [] q
+      → Ran source sink (λ input. AllowsEach allows (lines input)) i j o q status
+  ran_answered i j o p q seen told status is_told ended gave s more = record {
+    read = seen;
+    written = s.written;
+    gave = gave;
+    took = subst (λ (t : Text). sink.takes o t q) (append-nil s.written) (takes_both o p q s.written [] s.took more);
+    leaves = record {
+      begun = λ input is. inr (_, subst (λ (t : Text). AllowsEach allows (lines t) (record { text = s.written; status = told })) (same_input (source.has_ended j) seen input ended is) s.whole, ([], sym (append-nil s.written)));
+      whole = λ low input is. elim is_told [
+        | inl same ↦ subst (λ (n : ℕ). AllowsEach allows (lines input) (record { text = s.written; status = n })) (sym same) (subst (λ (t : Text). AllowsEach allows (lines t) (record { text = s.written; status = told })) (same_input (source.has_ended j) seen input ended is) s.whole)
+        | inr broken ↦ absurd (omega arith)
+      ];
+    };
+  }

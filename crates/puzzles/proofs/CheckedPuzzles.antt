@@ -1,17 +1,21 @@
--- What the checks of grids rest on, for a puzzle of each game.
-use Rattle.std.proofs.Common.{◌≡◌, ◌≢◌, ◌∙◌, ◌*◌, ◌<◌, ℕ, true, List, Option, Some, None, zero, suc, [], ◌∷◌, length, get_or, slice_index, refl, sym, ap, subst, arith, inl, inr, true≢false}
+-- What the checks of grids rest on, for a puzzle of each game: an input has one answer of `check`, and the printed form of
+-- a solution is told to be correct.
+use Rattle.std.proofs.Common.{◌≡◌, ◌<◌, ◌≤◌, ◌∷◌, ◌⊎◌, ℕ, List, zero, suc, [], length, refl, sym, ap, ap₂, subst, arith, inl, inr, ◌≢◌, ◌∙◌, ◌*◌, true, Option, Some, None, get_or, slice_index, true≢false, codes}
+use Rattle.std.specs.Prelude.{All, option_map, ◌↔◌, ◌++◌}
+use Rattle.std.proofs.lemmas.Bool.{cases_eq, cases_lt, eq-eqb}
 use Rattle.std.specs.List.{slice_get}
-use Rattle.std.proofs.lemmas.Bool.{cases_lt, eq-eqb}
 use Rattle.std.proofs.lemmas.List.{get_or_past}
-use Rattle.std.specs.Prelude.{option_map}
-use Rattle.grid_core.specs.Extent.{Extent, max_side}
 use Rattle.grid_core.specs.Grids.{IsGrid}
-use Rattle.gameid_core.specs.GridReading.{IsAsShown, hides_nothing, light_hides, tent_hides}
+use Rattle.grid_core.specs.Extent.{Extent, max_side}
+use Rattle.gameid_core.specs.GridReading.{IsAsShown, hides_nothing, light_hides, tent_hides, IsPrinted}
 use Rattle.gameid_core.specs.GridTexts.{grid_text, pattern_cell, solo_cell, solo_extent, light_cell, tents_cell}
 use Rattle.gameid_core.specs.Head.{max_numbers}
 use Rattle.gameid_core.specs.Puzzles.{IsLight, IsPattern, IsSolo, IsTents, Light, Pattern, Solo, Tents, solo_n}
 use Rattle.gameid_core.specs.declared.light_cell.LightCell.{LightCell}
 use Rattle.gameid_core.specs.declared.light_cell.LightCell.TheVariants.{White, Black, Numbered}
+use Rattle.gameid_core.specs.declared.game.Game.TheVariants as game
+use Rattle.pattern_core.specs.Faults.{IsCheck}
+use Rattle.solo_core.specs.Faults.{IsFirstFault}
 use Rattle.fields_core.specs.Light.{is_white, light_cells, white}
 use Rattle.fields_core.specs.LightFaults.{IsLightFault}
 use Rattle.fields_core.specs.LightSolutions.{IsLightSolution}
@@ -19,17 +23,113 @@ use Rattle.fields_core.specs.TentFaults.{IsTentFault}
 use Rattle.fields_core.specs.TentSolutions.{IsTentSolution}
 use Rattle.fields_core.proofs.LightRuleLemmas as light
 use Rattle.fields_core.proofs.TentRuleLemmas as tents
-use Rattle.pattern_core.specs.Faults.{IsCheck}
-use Rattle.solo_core.specs.Faults.{IsFirstFault}
-use Rattle.gameid_core.specs.declared.game.Game.TheVariants as game
 use Rattle.puzzles.specs.Answers.{Answer, Text}
-use Rattle.puzzles.specs.CheckAnswers.{IsFaultTold, checked, pattern_fault, solo_fault, light_fault, tent_fault}
+use Rattle.puzzles.specs.CheckAnswers.{IsFaultTold, checked, pattern_fault, solo_fault, light_fault, tent_fault, IsInputOf, without_returns}
 use Rattle.puzzles.specs.Games.{Playing, played}
-use Rattle.puzzles.proofs.CellsOnce.{light_once, pattern_once, solo_once, tents_once}
+use Rattle.puzzles.specs.Allowed.{ChecksGrid}
+use Rattle.puzzles.specs.Replies.{refused}
+use Rattle.puzzles.specs.Texts.{text_limit}
+use Rattle.puzzles.proofs.PrintedGrids.{light_once, pattern_once, solo_once, tents_once, CellOnce, IsGridText, grid_is_text, light_cell_text, pattern_cell_text, solo_cell_text, tents_cell_text, printed_once, plain_kept}
 use Rattle.puzzles.proofs.FaultsOnce.{light_alone, light_some, pattern_alone, pattern_some, solo_alone, solo_some, tent_alone, tent_some}
-use Rattle.puzzles.proofs.GridSearch.{Decided, decided_number}
-use Rattle.puzzles.proofs.PrintedOnce.{CellOnce}
-use Rattle.puzzles.proofs.PrintedTexts.{IsGridText, grid_is_text, light_cell_text, pattern_cell_text, solo_cell_text, tents_cell_text}
+use Rattle.puzzles.proofs.Readings.{AreSame}
+
+-- so it is, or not
+abbrev pub Decided : Type 0 → Type 0
+Decided A = A ⊎ (A → ⊥)
+
+pub decided_either : (A B : Type 0) → Decided A → Decided B → Decided (A ⊎ B)
+decided_either A B (inl a) b = inl (inl a)
+decided_either A B (inr never) (inl b) = inl (inr b)
+decided_either A B (inr never) (inr none) = inr (λ h. neither h)
+  where
+    neither : A ⊎ B → ⊥
+    neither (inl a) = never a
+    neither (inr b) = none b
+
+pub decided_number : (a b : ℕ) → Decided (a ≡ b)
+decided_number a b = cases_eq a b
+
+pub decided_text : (a b : List ℕ) → Decided (a ≡ b)
+decided_text [] [] = inl refl
+decided_text [] (y ∷ b) = inr (λ e. absurd (omega (arith, ap (λ (t : List ℕ). length t) e)))
+decided_text (x ∷ a) [] = inr (λ e. absurd (omega (arith, ap (λ (t : List ℕ). length t) e)))
+decided_text (x ∷ a) (y ∷ b) = elim (cases_eq x y) [
+  | inl same ↦ elim (decided_text a b) [
+    | inl rest ↦ inl (ap₂ (λ (n : ℕ) (t : List ℕ). n ∷ t) same rest)
+    | inr other ↦ inr (λ e. other (let rest : a ≡ b = cc in rest))
+  ]
+  | inr other ↦ inr (λ e. other (let same : x ≡ y = cc in same))
+]
+
+pub decided_below : (n : ℕ) (P : ℕ → Type 0) → ((k : ℕ) → Decided (P k)) → Decided ((k : ℕ) → k < n → P k)
+decided_below zero P each = inl (λ k lt. absurd (omega arith))
+decided_below (suc n) P each = elim (decided_below n P each) [
+  | inl all ↦ elim (each n) [
+    | inl last ↦ inl (λ k lt. elim (cases_eq k n) [ inl is ↦ subst P (sym is) last | inr other ↦ all k (omega arith) ])
+    | inr never ↦ inr (λ all. never (all n (omega arith)))
+  ]
+  | inr never ↦ inr (λ all. never (λ k lt. all k (omega arith)))
+]
+
+-- ---- grids by their first number and the others
+cons_all : (values v : ℕ) (tail : List ℕ) → v < values → All (λ n. n < values) tail → All (λ n. n < values) (v ∷ tail)
+cons_all values v tail small all zero d lt = small
+cons_all values v tail small all (suc k) d lt = all k d (omega arith)
+
+cons_grid : (cells values v : ℕ) (tail : List ℕ) → v < values → IsGrid cells values tail → IsGrid (suc cells) values (v ∷ tail)
+cons_grid cells values v tail small grid = record { each_cell = ap suc grid.each_cell; each_value = cons_all values v tail small grid.each_value }
+
+head_below : (cells values v : ℕ) (tail : List ℕ) → IsGrid cells values (v ∷ tail) → v < values
+head_below cells values v tail grid = grid.each_value 0 0 (omega arith)
+
+empty_is : (values : ℕ) (g : List ℕ) → IsGrid 0 values g → [] ≡ g
+empty_is values [] grid = refl
+empty_is values (v ∷ tail) grid = absurd (let l = grid.each_cell in omega arith)
+
+-- one that is found, or none
+abbrev pub Search : ℕ → ℕ → (List ℕ → Type 0) → Type 0
+Search cells values P = ((g : List ℕ) × IsGrid cells values g × P g) ⊎ ((g : List ℕ) → IsGrid cells values g → P g → ⊥)
+
+-- none whose first number is below m
+abbrev NoneUnder : ℕ → ℕ → (List ℕ → Type 0) → ℕ → Type 0
+NoneUnder cells values P m = (v : ℕ) (tail : List ℕ) → v < m → IsGrid cells values (v ∷ tail) → P (v ∷ tail) → ⊥
+
+pub grid_found : (cells values : ℕ) (P : List ℕ → Type 0) → ((g : List ℕ) → IsGrid cells values g → Decided (P g)) → Search cells values P
+grid_found zero values P decide = elim (decide [] empty) [
+  | inl wanted ↦ inl ([], empty, wanted)
+  | inr never ↦ inr (λ g grid p. never (subst P (sym (empty_is values g grid)) p))
+]
+  where
+    empty : IsGrid 0 values []
+    empty = record { each_cell = refl; each_value = λ k d lt. absurd (omega arith) }
+grid_found (suc cells) values P decide = elim (under (λ Q decided. grid_found cells values Q decided) values (omega arith)) [
+  | inl found ↦ inl found
+  | inr none ↦ inr (λ g grid p. first none g grid p)
+]
+  where
+    tail_grid : (v : ℕ) (tail : List ℕ) → IsGrid (suc cells) values (v ∷ tail) → IsGrid cells values tail
+    tail_grid v tail grid = record {
+      each_cell = let l = grid.each_cell in omega arith;
+      each_value = λ k d lt. grid.each_value (suc k) d (omega arith);
+    }
+
+    -- of those whose first number is below m
+    under : ((Q : List ℕ → Type 0) → ((g : List ℕ) → IsGrid cells values g → Decided (Q g)) → Search cells values Q) → (m : ℕ) → m ≤ values → ((g : List ℕ) × IsGrid (suc cells) values g × P g) ⊎ NoneUnder (suc cells) values P m
+    under find zero low = inr (λ v tail lt. absurd (omega arith))
+    under find (suc m) low = elim (find (λ tail. P (m ∷ tail)) (λ tail grid. decide (m ∷ tail) (cons_grid cells values m tail (omega arith) grid))) [
+      | inl found ↦ inl (m ∷ found.0, cons_grid cells values m found.0 (omega arith) found.1, found.2)
+      | inr none ↦ elim (under find m (omega arith)) [
+        | inl found ↦ inl found
+        | inr before ↦ inr (λ v tail lt grid p. elim (cases_eq v m) [
+          | inl same ↦ none tail (tail_grid v tail grid) (subst (λ (n : ℕ). P (n ∷ tail)) same p)
+          | inr other ↦ before v tail (omega arith) grid p
+        ])
+      ]
+    ]
+
+    first : NoneUnder (suc cells) values P values → (g : List ℕ) → IsGrid (suc cells) values g → P g → ⊥
+    first none [] grid p = absurd (let l = grid.each_cell in omega arith)
+    first none (v ∷ tail) grid p = none v tail (head_below (suc cells) values v tail grid) grid p
 
 pub record CheckedPuzzle {P : Type 0} (play : Playing P) (p : P) : Type 0 where
   -- a printed grid tells its numbers, and may be read
@@ -144,3 +244,84 @@ tents_checked p ok = record {
   right = λ g s. told_right (IsTentFault p g) (tent_fault p) (tents.test-from-rule p g s.grid s);
   shown = λ g s. record { grid = s.grid; hidden = tent_hidden p g s };
 }
+
+module _ {P : Type 0} (play : Playing P) (p : P) (game : CheckedPuzzle play p) where
+  abbrev printed : List ℕ → Text
+  printed g = grid_text (play.cell_text p g) (play.extent p)
+
+  abbrev Given : Text → List ℕ → Type 0
+  Given = IsInputOf (play.hides p) (play.value_count p) (play.extent p) (play.cell_text p)
+
+  -- ---- there is an answer
+  hidden_decided : (g : List ℕ) → Decided ((place : ℕ) → play.hides p place → slice_index g place ≡ 0)
+  hidden_decided g = elim (decided_below (length g) (λ place. play.hides p place → slice_index g place ≡ 0) each) [
+    | inl all ↦ inl (λ place hidden. elim (cases_lt place (length g)) [
+      | inl within ↦ all place within hidden
+      | inr past ↦ get_or_past g place 0 past
+    ])
+    | inr never ↦ inr (λ all. never (λ place lt. all place))
+  ]
+    where
+      each : (place : ℕ) → Decided (play.hides p place → slice_index g place ≡ 0)
+      each place = elim (game.decides place) [
+        | inr shown ↦ inl (λ hidden. absurd (shown hidden))
+        | inl hidden ↦ elim (decided_number (slice_index g place) 0) [
+          | inl none ↦ inl (λ _. none)
+          | inr other ↦ inr (λ none. other (none hidden))
+        ]
+      ]
+
+  input_decided : (input : Text) (g : List ℕ) → IsGrid ((play.extent p).w * (play.extent p).h) (play.value_count p) g → Decided (Given input g)
+  input_decided input g grid = elim (cases_lt text_limit (length input)) [
+    | inl over ↦ inr (λ given. let small = given.small in absurd (omega arith))
+    | inr small ↦ elim (hidden_decided g) [
+      | inr never ↦ inr (λ given. never given.shown.hidden)
+      | inl hidden ↦ elim (form (without_returns input)) [
+        | inr never ↦ inr (λ given. never given.printed)
+        | inl printed ↦ inl (record { small = small; shown = record { grid = grid; hidden = hidden }; printed = printed })
+      ]
+    ]
+  ]
+    where
+      form : (text : Text) → Decided (IsPrinted text (printed g))
+      form text = decided_either (text ≡ printed g) (text ++ codes "\n" ≡ printed g) (decided_text text (printed g)) (decided_text (text ++ codes "\n") (printed g))
+
+  input_once : (input : Text) (g h : List ℕ) → Given input g → Given input h → g ≡ h
+  input_once input g h a b = printed_once (play.hides p) (play.value_count p) (play.extent p) (play.cell_text p) game.once g h a.shown b.shown (without_returns input) a.printed b.printed
+
+  pub check_some : (input : Text) → (a : Answer) × ChecksGrid play p input a
+  check_some input = elim (grid_found ((play.extent p).w * (play.extent p).h) (play.value_count p) (Given input) (input_decided input)) [
+    | inl found ↦
+        let said = game.some found.0 found.1 in (
+          said.0,
+          inl (record {
+            grid = found.0;
+            given = found.2;
+            only = λ other given. input_once input found.0 other found.2 given;
+            told = said.1;
+          }),
+        )
+    | inr none ↦ (refused (codes "grid"), inr (record { none = λ g given. none g given.shown.grid given; told = refl }))
+  ]
+
+  -- ---- and no other
+  pub check_same : (input : Text) → AreSame (ChecksGrid play p input)
+  check_same input a b (inl x) (inl y) = game.alone y.grid a b (subst (λ g. play.game.told p g a) (x.only y.grid y.given) x.told) y.told
+  check_same input a b (inl x) (inr y) = absurd (y.none x.grid x.given)
+  check_same input a b (inr x) (inl y) = absurd (x.none y.grid y.given)
+  check_same input a b (inr x) (inr y) = x.told ∙ sym y.told
+
+  -- ---- a solution's printed form is correct, and nothing else is said of it
+  pub correct_grid : (g : List ℕ) → play.game.solves p g → (said : Answer) → ChecksGrid play p (printed g) said ↔ (said ≡ checked None)
+  correct_grid g solution said = (
+    λ allowed. check_same (printed g) said (checked None) allowed correct,
+    λ same. subst (ChecksGrid play p (printed g)) (sym same) correct,
+  )
+    where
+      given : Given (printed g) g
+      given =
+          let shown = game.shown g solution in
+          record { small = (game.text g shown).small; shown = shown; printed = inl (plain_kept (printed g) (game.text g shown).plain) }
+
+      correct : ChecksGrid play p (printed g) (checked None)
+      correct = inl (record { grid = g; given = given; only = λ other also. input_once (printed g) g other given also; told = game.right g solution })

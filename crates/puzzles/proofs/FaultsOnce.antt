@@ -1,5 +1,5 @@
 -- Each grid has one answer of a check: the first rule that it breaks, or that it breaks none.
-use Rattle.std.proofs.Common.{◌≡◌, ◌∙◌, ◌+◌, ◌-◌, ◌*◌, ◌<◌, ◌⊎◌, ℕ, Bool, true, false, List, Option, Some, None, zero, suc, length, get_or, refl, sym, ap, subst, arith, inl, inr, true≢false}
+use Rattle.std.proofs.Common.{◌≡◌, ◌∙◌, ◌+◌, ◌-◌, ◌*◌, ◌<◌, ◌⊎◌, ℕ, Bool, true, false, List, [], ◌∷◌, Option, Some, None, zero, suc, length, get_or, refl, sym, ap, subst, arith, inl, inr, true≢false}
 use Rattle.std.proofs.lemmas.Bool.{and_from, cases_lt}
 use Rattle.std.proofs.lemmas.List.{get_or_default}
 use Rattle.grid_core.specs.Candidates.{all_below}
@@ -20,11 +20,11 @@ use Rattle.fields_core.proofs.TentCounting.{camp-parts}
 use Rattle.fields_core.proofs.TentRuleLemmas.{camp-from}
 use Rattle.pattern_core.specs.Faults.{IsCheck, IsFirstWrongLine}
 use Rattle.pattern_core.specs.LineLaws.{has_runs-from, has_runs-is, line_of_solution, solution_from_lines}
-use Rattle.pattern_core.specs.Lines.{clue_of, has_runs, line_numbers}
+use Rattle.pattern_core.specs.Lines.{HasClue, clue_of, has_runs, line_numbers}
 use Rattle.pattern_core.specs.declared.fault.PatternFault.{PatternFault}
 use Rattle.pattern_core.specs.declared.fault.PatternFault.TheVariants as pattern
 use Rattle.solo_core.specs.Cells.{solo_cells}
-use Rattle.solo_core.specs.Faults.{AllStand, IsFirstFault, Repeats, RepeatsFirst, fault_of}
+use Rattle.solo_core.specs.Faults.{AllStand, Stands, IsFirstFault, Repeats, RepeatsFirst, fault_of}
 use Rattle.solo_core.specs.Houses.{houses_of}
 use Rattle.solo_core.specs.NoRepeat.{no_repeat}
 use Rattle.solo_core.specs.SolutionLaws.{given_from_test, test_from_given, test_from_rule}
@@ -46,132 +46,110 @@ first_of right (suc n) = by (first_of right n).0 (first_of right n).1 (right n) 
     by None all true is = (None, and_from (all_below right n) (right n) all is)
     by None all false is = (Some n, record { below = omega arith; wrong = is; before = λ d lt. all_below-at right n d all lt })
 
-same_first : (right : ℕ → Bool) (n : ℕ) (a b : Option ℕ) → IsFirstWrong right n a → IsFirstWrong right n b → a ≡ b
-same_first right n None None x y = refl
-same_first right n None (Some d) x y = absurd (first-breaks right n d y x)
-same_first right n (Some c) None x y = absurd (first-breaks right n c x y)
-same_first right n (Some c) (Some d) x y = elim (cases_lt c d) [
-  | inl low ↦ absurd (true≢false (sym (y.before c low) ∙ x.wrong))
-  | inr high ↦ elim (cases_lt d c) [
-    | inl low ↦ absurd (true≢false (sym (x.before d low) ∙ y.wrong))
-    | inr also ↦ let same : c ≡ d = omega arith in ap Some same
-  ]
+-- the least number of a kind is one alone
+pub least_once : (right wrong : ℕ → Type 0) → ((n : ℕ) → right n → wrong n → ⊥) → (j k : ℕ) → wrong j → wrong k → ((i : ℕ) → i < j → right i)
+    → ((i : ℕ) → i < k → right i) → j ≡ k
+least_once right wrong apart j k x y before below = elim (cases_lt j k) [
+  | inl low ↦ absurd (apart j (below j low) x)
+  | inr high ↦ elim (cases_lt k j) [ inl low ↦ absurd (apart k (before k low) y) | inr also ↦ omega arith ]
 ]
 
--- ---- Light Up: by the first failures of four tests
-light_by : Option ℕ → Option ℕ → Option ℕ → Option ℕ → Option LightFault
-light_by (Some c) number seen dark = Some (light.Black c)
-light_by None (Some c) seen dark = Some (light.Number c)
-light_by None None (Some c) dark = Some (light.Seen c)
-light_by None None None (Some c) = Some (light.Dark c)
-light_by None None None None = None
+first_once : (right : ℕ → Bool) (n c d : ℕ) → IsFirst right n c → IsFirst right n d → c ≡ d
+first_once right n c d x y =
+    least_once (λ k. right k ≡ true) (λ k. right k ≡ false) (λ k on off. true≢false (sym on ∙ off)) c d x.wrong y.wrong x.before y.before
+
+-- ---- tests that are made in turn: the first failure of the first one that fails is told, and else the end
+record Test (F : Type 0) : Type 0 where
+  right : ℕ → Bool
+  count : ℕ
+  fault : ℕ → F
+
+abbrev IsFirstOf : {F : Type 0} → List (Test F) → Option F → Option F → Type 0
+IsFirstOf [] end o = o ≡ end
+IsFirstOf (t ∷ rest) end o = ((c : ℕ) × (o ≡ Some (t.fault c)) × IsFirst t.right t.count c) ⊎ ((all_below t.right t.count ≡ true) × IsFirstOf rest end o)
+
+some_of : {F : Type 0} (tests : List (Test F)) (end : Option F) → (o : Option F) × IsFirstOf tests end o
+some_of [] end = (end, refl)
+some_of {F = F} (t ∷ rest) end = by (first_of t.right t.count) (some_of rest end)
+  where
+    by : (o : Option ℕ) × IsFirstWrong t.right t.count o → (o : Option F) × IsFirstOf rest end o → (o : Option F) × IsFirstOf (t ∷ rest) end o
+    by (Some c, first) later = (Some (t.fault c), inl (c, refl, first))
+    by (None, all) later = (later.0, inr (all, later.1))
+
+once_of : {F : Type 0} (tests : List (Test F)) (end a b : Option F) → IsFirstOf tests end a → IsFirstOf tests end b → a ≡ b
+once_of [] end a b x y = x ∙ sym y
+once_of (t ∷ rest) end a b (inl x) (inl y) = x.1 ∙ ap (λ (c : ℕ). Some (t.fault c)) (first_once t.right t.count x.0 y.0 x.2 y.2) ∙ sym y.1
+once_of (t ∷ rest) end a b (inl x) (inr y) = absurd (first-breaks t.right t.count x.0 x.2 y.0)
+once_of (t ∷ rest) end a b (inr x) (inl y) = absurd (first-breaks t.right t.count y.0 y.2 x.0)
+once_of (t ∷ rest) end a b (inr x) (inr y) = once_of rest end a b x.1 y.1
 
 module _ (p : Light) (g : List ℕ) where
-  pub light_some : (fault : Option LightFault) × IsLightFault p g fault
-  light_some = by (first_of (black_right p g) (light_cells p)) (first_of (number_right p g) (light_cells p)) (first_of (bulb_right p g) (light_cells p))
-      (first_of (lit_right p g) (light_cells p))
-    where
-      by : (o : Option ℕ) × IsFirstWrong (black_right p g) (light_cells p) o → (o : Option ℕ) × IsFirstWrong (number_right p g) (light_cells p) o
-          → (o : Option ℕ) × IsFirstWrong (bulb_right p g) (light_cells p) o → (o : Option ℕ) × IsFirstWrong (lit_right p g) (light_cells p) o
-          → (fault : Option LightFault) × IsLightFault p g fault
-      by (Some c, first) number seen dark = (Some (light.Black c), first)
-      by (None, a) (Some c, first) seen dark = (Some (light.Number c), (a, first))
-      by (None, a) (None, b) (Some c, first) dark = (Some (light.Seen c), (a, b, first))
-      by (None, a) (None, b) (None, s) (Some c, first) = (Some (light.Dark c), (a, b, s, first))
-      by (None, a) (None, b) (None, s) (None, d) = (None, lit-from p g a b s d)
+  abbrev light_tests : List (Test LightFault)
+  light_tests = record { right = black_right p g; count = light_cells p; fault = light.Black }
+      ∷ record { right = number_right p g; count = light_cells p; fault = light.Number }
+      ∷ record { right = bulb_right p g; count = light_cells p; fault = light.Seen }
+      ∷ record { right = lit_right p g; count = light_cells p; fault = light.Dark } ∷ []
 
-  light_is : (fault : Option LightFault) → IsLightFault p g fault → (a b s d : Option ℕ) → IsFirstWrong (black_right p g) (light_cells p) a
-      → IsFirstWrong (number_right p g) (light_cells p) b → IsFirstWrong (bulb_right p g) (light_cells p) s → IsFirstWrong (lit_right p g) (light_cells p) d
-      → light_by a b s d ≡ fault
-  unfolding light_by
-  light_is (Some (light.Black c)) is a b s d x y z w = ap (λ (o : Option ℕ). light_by o b s d) (same_first (black_right p g) (light_cells p) a (Some c) x is)
-  light_is (Some (light.Number c)) is a b s d x y z w = ap (λ (o : Option ℕ). light_by o b s d) (same_first (black_right p g) (light_cells p) a None x is.0)
-      ∙ ap (λ (o : Option ℕ). light_by None o s d) (same_first (number_right p g) (light_cells p) b (Some c) y is.1)
-  light_is (Some (light.Seen c)) is a b s d x y z w = ap (λ (o : Option ℕ). light_by o b s d) (same_first (black_right p g) (light_cells p) a None x is.0)
-      ∙ ap (λ (o : Option ℕ). light_by None o s d) (same_first (number_right p g) (light_cells p) b None y is.1)
-      ∙ ap (λ (o : Option ℕ). light_by None None o d) (same_first (bulb_right p g) (light_cells p) s (Some c) z is.2)
-  light_is (Some (light.Dark c)) is a b s d x y z w = ap (λ (o : Option ℕ). light_by o b s d) (same_first (black_right p g) (light_cells p) a None x is.0)
-      ∙ ap (λ (o : Option ℕ). light_by None o s d) (same_first (number_right p g) (light_cells p) b None y is.1)
-      ∙ ap (λ (o : Option ℕ). light_by None None o d) (same_first (bulb_right p g) (light_cells p) s None z is.2)
-      ∙ ap (λ (o : Option ℕ). light_by None None None o) (same_first (lit_right p g) (light_cells p) d (Some c) w is.3)
-  light_is None is a b s d x y z w =
-      let parts = lit-parts p g is in
-      ap (λ (o : Option ℕ). light_by o b s d) (same_first (black_right p g) (light_cells p) a None x parts.black)
-      ∙ ap (λ (o : Option ℕ). light_by None o s d) (same_first (number_right p g) (light_cells p) b None y parts.number)
-      ∙ ap (λ (o : Option ℕ). light_by None None o d) (same_first (bulb_right p g) (light_cells p) s None z parts.seen)
-      ∙ ap (λ (o : Option ℕ). light_by None None None o) (same_first (lit_right p g) (light_cells p) d None w parts.lit)
+  light_to : (o : Option LightFault) → IsLightFault p g o → IsFirstOf light_tests None o
+  light_to (Some (light.Black c)) is = inl (c, refl, is)
+  light_to (Some (light.Number c)) is = inr (is.0, inl (c, refl, is.1))
+  light_to (Some (light.Seen c)) is = inr (is.0, inr (is.1, inl (c, refl, is.2)))
+  light_to (Some (light.Dark c)) is = inr (is.0, inr (is.1, inr (is.2, inl (c, refl, is.3))))
+  light_to None is = let parts = lit-parts p g is in inr (parts.black, inr (parts.number, inr (parts.seen, inr (parts.lit, refl))))
+
+  light_from : (o : Option LightFault) → IsFirstOf light_tests None o → IsLightFault p g o
+  light_from o (inl x) = subst (IsLightFault p g) (sym x.1) x.2
+  light_from o (inr (a, inl x)) = subst (IsLightFault p g) (sym x.1) (a, x.2)
+  light_from o (inr (a, inr (b, inl x))) = subst (IsLightFault p g) (sym x.1) (a, b, x.2)
+  light_from o (inr (a, inr (b, inr (s, inl x)))) = subst (IsLightFault p g) (sym x.1) (a, b, s, x.2)
+  light_from o (inr (a, inr (b, inr (s, inr (d, e))))) = subst (IsLightFault p g) (sym e) (lit-from p g a b s d)
+
+  pub light_some : (fault : Option LightFault) × IsLightFault p g fault
+  light_some = let one = some_of light_tests None in (one.0, light_from one.0 one.1)
 
   pub light_alone : (a b : Option LightFault) → IsLightFault p g a → IsLightFault p g b → a ≡ b
-  light_alone a b x y =
-      let black = first_of (black_right p g) (light_cells p) in
-      let number = first_of (number_right p g) (light_cells p) in
-      let seen = first_of (bulb_right p g) (light_cells p) in
-      let dark = first_of (lit_right p g) (light_cells p) in
-      sym (light_is a x black.0 number.0 seen.0 dark.0 black.1 number.1 seen.1 dark.1) ∙ light_is b y black.0 number.0 seen.0 dark.0 black.1 number.1 seen.1 dark.1
+  light_alone a b x y = once_of light_tests None a b (light_to a x) (light_to b y)
 
--- ---- Tents: by the first failures of four tests, and whether tents and trees can be paired
-tent_by : Option ℕ → Option ℕ → Option ℕ → Option ℕ → Bool → Option TentFault
-tent_by (Some c) touch column row paired = Some (tent.Tree c)
-tent_by None (Some c) column row paired = Some (tent.Touch c)
-tent_by None None (Some x) row paired = Some (tent.Column x)
-tent_by None None None (Some y) paired = Some (tent.Row y)
-tent_by None None None None false = Some tent.Match
-tent_by None None None None true = None
+-- in Tents the end is whether tents and trees can be paired
+tent_end : Bool → Option TentFault
+tent_end true = None
+tent_end false = Some tent.Match
 
 module _ (p : Tents) (g : List ℕ) where
-  pub tent_some : (fault : Option TentFault) × IsTentFault p g fault
-  tent_some = by (first_of (tree_right p g) (tent_cells p)) (first_of (touch_right p g) (tent_cells p)) (first_of (column_right p g) p.size.w)
-      (first_of (row_right p g) p.size.h) (can_be_paired p g) refl
-    where
-      by : (o : Option ℕ) × IsFirstWrong (tree_right p g) (tent_cells p) o → (o : Option ℕ) × IsFirstWrong (touch_right p g) (tent_cells p) o
-          → (o : Option ℕ) × IsFirstWrong (column_right p g) p.size.w o → (o : Option ℕ) × IsFirstWrong (row_right p g) p.size.h o
-          → (b : Bool) → can_be_paired p g ≡ b → (fault : Option TentFault) × IsTentFault p g fault
-      by (Some c, first) touch column row b is = (Some (tent.Tree c), first)
-      by (None, a) (Some c, first) column row b is = (Some (tent.Touch c), (a, first))
-      by (None, a) (None, t) (Some x, first) row b is = (Some (tent.Column x), (a, t, first))
-      by (None, a) (None, t) (None, c) (Some y, first) b is = (Some (tent.Row y), (a, t, c, first))
-      by (None, a) (None, t) (None, c) (None, r) false is = (Some tent.Match, (a, t, c, r, is))
-      by (None, a) (None, t) (None, c) (None, r) true is = (None, camp-from p g a t c r (sym is))
+  abbrev tent_tests : List (Test TentFault)
+  tent_tests = record { right = tree_right p g; count = tent_cells p; fault = tent.Tree }
+      ∷ record { right = touch_right p g; count = tent_cells p; fault = tent.Touch }
+      ∷ record { right = column_right p g; count = p.size.w; fault = tent.Column }
+      ∷ record { right = row_right p g; count = p.size.h; fault = tent.Row } ∷ []
 
-  tent_is : (fault : Option TentFault) → IsTentFault p g fault → (a t c r : Option ℕ) → IsFirstWrong (tree_right p g) (tent_cells p) a
-      → IsFirstWrong (touch_right p g) (tent_cells p) t → IsFirstWrong (column_right p g) p.size.w c → IsFirstWrong (row_right p g) p.size.h r
-      → tent_by a t c r (can_be_paired p g) ≡ fault
-  unfolding tent_by
-  tent_is (Some (tent.Tree k)) is a t c r x y z w = ap (λ (o : Option ℕ). tent_by o t c r (can_be_paired p g)) (same_first (tree_right p g) (tent_cells p) a (Some k) x is)
-  tent_is (Some (tent.Touch k)) is a t c r x y z w = ap (λ (o : Option ℕ). tent_by o t c r (can_be_paired p g)) (same_first (tree_right p g) (tent_cells p) a None x is.0)
-      ∙ ap (λ (o : Option ℕ). tent_by None o c r (can_be_paired p g)) (same_first (touch_right p g) (tent_cells p) t (Some k) y is.1)
-  tent_is (Some (tent.Column k)) is a t c r x y z w = before a t x y is.0 is.1 c r
-      ∙ ap (λ (o : Option ℕ). tent_by None None o r (can_be_paired p g)) (same_first (column_right p g) p.size.w c (Some k) z is.2)
-    where
-      before : (a t : Option ℕ) → IsFirstWrong (tree_right p g) (tent_cells p) a → IsFirstWrong (touch_right p g) (tent_cells p) t
-          → all_below (tree_right p g) (tent_cells p) ≡ true → all_below (touch_right p g) (tent_cells p) ≡ true → (c r : Option ℕ)
-          → tent_by a t c r (can_be_paired p g) ≡ tent_by None None c r (can_be_paired p g)
-      before a t x y trees touches c r = ap (λ (o : Option ℕ). tent_by o t c r (can_be_paired p g)) (same_first (tree_right p g) (tent_cells p) a None x trees)
-          ∙ ap (λ (o : Option ℕ). tent_by None o c r (can_be_paired p g)) (same_first (touch_right p g) (tent_cells p) t None y touches)
-  tent_is (Some (tent.Row k)) is a t c r x y z w = ap (λ (o : Option ℕ). tent_by o t c r (can_be_paired p g)) (same_first (tree_right p g) (tent_cells p) a None x is.0)
-      ∙ ap (λ (o : Option ℕ). tent_by None o c r (can_be_paired p g)) (same_first (touch_right p g) (tent_cells p) t None y is.1)
-      ∙ ap (λ (o : Option ℕ). tent_by None None o r (can_be_paired p g)) (same_first (column_right p g) p.size.w c None z is.2)
-      ∙ ap (λ (o : Option ℕ). tent_by None None None o (can_be_paired p g)) (same_first (row_right p g) p.size.h r (Some k) w is.3)
-  tent_is (Some tent.Match) is a t c r x y z w = ap (λ (o : Option ℕ). tent_by o t c r (can_be_paired p g)) (same_first (tree_right p g) (tent_cells p) a None x is.0)
-      ∙ ap (λ (o : Option ℕ). tent_by None o c r (can_be_paired p g)) (same_first (touch_right p g) (tent_cells p) t None y is.1)
-      ∙ ap (λ (o : Option ℕ). tent_by None None o r (can_be_paired p g)) (same_first (column_right p g) p.size.w c None z is.2)
-      ∙ ap (λ (o : Option ℕ). tent_by None None None o (can_be_paired p g)) (same_first (row_right p g) p.size.h r None w is.3)
-      ∙ ap (tent_by None None None None) is.4
-  tent_is None is a t c r x y z w =
+  tent_to : (o : Option TentFault) → IsTentFault p g o → IsFirstOf tent_tests (tent_end (can_be_paired p g)) o
+  unfolding tent_end
+  tent_to (Some (tent.Tree k)) is = inl (k, refl, is)
+  tent_to (Some (tent.Touch k)) is = inr (is.0, inl (k, refl, is.1))
+  tent_to (Some (tent.Column k)) is = inr (is.0, inr (is.1, inl (k, refl, is.2)))
+  tent_to (Some (tent.Row k)) is = inr (is.0, inr (is.1, inr (is.2, inl (k, refl, is.3))))
+  tent_to (Some tent.Match) is = inr (is.0, inr (is.1, inr (is.2, inr (is.3, sym (ap tent_end is.4)))))
+  tent_to None is =
       let parts = camp-parts p g is in
-      ap (λ (o : Option ℕ). tent_by o t c r (can_be_paired p g)) (same_first (tree_right p g) (tent_cells p) a None x parts.trees)
-      ∙ ap (λ (o : Option ℕ). tent_by None o c r (can_be_paired p g)) (same_first (touch_right p g) (tent_cells p) t None y parts.touch)
-      ∙ ap (λ (o : Option ℕ). tent_by None None o r (can_be_paired p g)) (same_first (column_right p g) p.size.w c None z parts.columns)
-      ∙ ap (λ (o : Option ℕ). tent_by None None None o (can_be_paired p g)) (same_first (row_right p g) p.size.h r None w parts.rows)
-      ∙ ap (tent_by None None None None) parts.paired
+      inr (parts.trees, inr (parts.touch, inr (parts.columns, inr (parts.rows, sym (ap tent_end parts.paired)))))
+
+  tent_from : (o : Option TentFault) → IsFirstOf tent_tests (tent_end (can_be_paired p g)) o → IsTentFault p g o
+  unfolding tent_end
+  tent_from o (inl x) = subst (IsTentFault p g) (sym x.1) x.2
+  tent_from o (inr (a, inl x)) = subst (IsTentFault p g) (sym x.1) (a, x.2)
+  tent_from o (inr (a, inr (t, inl x))) = subst (IsTentFault p g) (sym x.1) (a, t, x.2)
+  tent_from o (inr (a, inr (t, inr (c, inl x)))) = subst (IsTentFault p g) (sym x.1) (a, t, c, x.2)
+  tent_from o (inr (a, inr (t, inr (c, inr (r, e))))) = subst (IsTentFault p g) (sym e) (by (can_be_paired p g) refl)
+    where
+      by : (b : Bool) → can_be_paired p g ≡ b → IsTentFault p g (tent_end b)
+      by true is = camp-from p g a t c r (sym is)
+      by false is = (a, t, c, r, is)
+
+  pub tent_some : (fault : Option TentFault) × IsTentFault p g fault
+  tent_some = let one = some_of tent_tests (tent_end (can_be_paired p g)) in (one.0, tent_from one.0 one.1)
 
   pub tent_alone : (a b : Option TentFault) → IsTentFault p g a → IsTentFault p g b → a ≡ b
-  tent_alone a b x y =
-      let trees = first_of (tree_right p g) (tent_cells p) in
-      let touch = first_of (touch_right p g) (tent_cells p) in
-      let columns = first_of (column_right p g) p.size.w in
-      let rows = first_of (row_right p g) p.size.h in
-      sym (tent_is a x trees.0 touch.0 columns.0 rows.0 trees.1 touch.1 columns.1 rows.1) ∙ tent_is b y trees.0 touch.0 columns.0 rows.0 trees.1 touch.1 columns.1 rows.1
+  tent_alone a b x y = once_of tent_tests (tent_end (can_be_paired p g)) a b (tent_to a x) (tent_to b y)
 
 -- ---- Pattern: by the first line whose runs are not its clue
 module _ (p : Pattern) (g : List ℕ) where
@@ -204,10 +182,7 @@ module _ (p : Pattern) (g : List ℕ) where
       ]
 
   wrong_once : (k l : ℕ) → IsFirstWrongLine p g k → IsFirstWrongLine p g l → k ≡ l
-  wrong_once k l a b = elim (cases_lt k l) [
-    | inl low ↦ absurd (a.wrong (b.before k low))
-    | inr high ↦ elim (cases_lt l k) [ inl low ↦ absurd (b.wrong (a.before l low)) | inr also ↦ omega arith ]
-  ]
+  wrong_once k l a b = least_once (HasClue p g) (λ n. HasClue p g n → ⊥) (λ n has never. never has) k l a.wrong b.wrong a.before b.before
 
   pub pattern_alone : (a b : Option PatternFault) → IsCheck p g a → IsCheck p g b → a ≡ b
   pattern_alone None None a b = refl
@@ -263,10 +238,7 @@ module _ (p : Solo) (ok : IsSolo p) (g : List ℕ) where
       )
 
   given_once : (x y : ℕ) → IsFirstFault p g (Some (solo.Given x)) → IsFirstFault p g (Some (solo.Given y)) → x ≡ y
-  given_once x y a b = elim (cases_lt x y) [
-    | inl low ↦ absurd (a.1 (b.2 x low))
-    | inr high ↦ elim (cases_lt y x) [ inl low ↦ absurd (b.1 (a.2 y low)) | inr also ↦ omega arith ]
-  ]
+  given_once x y a b = least_once (Stands p g) (λ q. Stands p g q → ⊥) (λ q stands never. never stands) x y a.1 b.1 a.2 b.2
 
   -- the first house that repeats a number is one alone
   before_it : (house other : SoloHouse) (a : RepeatsFirst p g house) (b : RepeatsFirst p g other) → a.0 < b.0 → ⊥

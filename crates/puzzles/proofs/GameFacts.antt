@@ -1,25 +1,223 @@
--- What the laws rest on, for each game.
-use Rattle.std.proofs.Common.{◌≡◌, ℕ, List}
-use Rattle.engine_core.specs.Verdict.{Outcome.OneGrid, verdict_of}
+-- What the laws rest on, for each game; and what is told of an ID beside its verdict: a grid that is told passes, what is
+-- handed out is solved, and an input that is correct is a solution.
+use Rattle.std.proofs.Common.{◌≡◌, ◌≢◌, ◌∙◌, ℕ, List, Result, sym, ap, subst, arith, inl, inr, Some, None, Ok, Err, true, refl, drop, ◌∷◌, Bool, false, [], if◌then◌else◌}
+use Rattle.std.specs.Prelude.{◌↔◌, is_ok, ◌≤◌}
+use Rattle.gameid_core.specs.declared.fault.IdFault.{IdFault}
+use Rattle.gameid_core.specs.GridTexts.{grid_text}
 use Rattle.gameid_core.specs.Head.{SizeRead}
+use Rattle.gameid_core.specs.GridReading.{IsPrinted}
 use Rattle.gameid_core.specs.declared.game.Game.{Game}
 use Rattle.gameid_core.specs.declared.game.Game.TheVariants as game
 use Rattle.gameid_core.proofs.LightWritten.{light_is_written}
 use Rattle.gameid_core.proofs.PatternWritten.{pattern_is_written}
 use Rattle.gameid_core.proofs.SoloCanon.{solo_is_written}
 use Rattle.gameid_core.proofs.TentsWritten.{tents_is_written}
+use Rattle.engine_core.specs.Verdict.{Outcome.OneGrid, verdict_of, Solves, Outcome, Outcome.NoGrid, Outcome.TwoGrids, Outcome.OutOfBudget, trials_in}
+use Rattle.engine_core.specs.Puzzle.{Puzzle}
+use Rattle.engine_core.specs.Stored.{is_settled}
+use Rattle.engine_core.specs.Walk.{walk}
 use Rattle.maker_core.specs.Made.{IsOnlySolution}
+use Rattle.maker_core.specs.Thinning.{HasTwo}
 use Rattle.maker_core.specs.declared.made.Kept.{Kept}
 use Rattle.puzzles.specs.Answers.{Answer, Text}
 use Rattle.puzzles.specs.Games.{Playing, played}
-use Rattle.puzzles.specs.LawsOfAnswers.{HasOneAnswer}
-use Rattle.puzzles.specs.Makings.{Wanted, exhausted_answer}
-use Rattle.puzzles.specs.Solving.{AllowsSolve}
-use Rattle.puzzles.proofs.CheckedPuzzles.{CheckedPuzzle, light_checked, pattern_checked, solo_checked, tents_checked}
-use Rattle.puzzles.proofs.OneAnswer.{id_once}
-use Rattle.puzzles.proofs.Readings.{Reading, light_reading, pattern_reading, solo_reading, tents_reading}
-use Rattle.puzzles.proofs.RightGrades.{EachSearched}
-use Rattle.puzzles.proofs.SearchedPuzzles.{SearchedPuzzle, crossings_searched, light_searched, pattern_searched, singles_searched, solo_searched, solved_once, tents_searched}
+use Rattle.puzzles.specs.Makings.{exhausted_answer, Wanted}
+use Rattle.puzzles.specs.Replies.{one_answer, IsRight, verdict_answer, refused}
+use Rattle.puzzles.specs.Allowed.{IsSolved, SolvesId, ChecksGrid, ChecksId, GradesId, AllowsSolve}
+use Rattle.puzzles.specs.CheckAnswers.{checked as correct_or, without_returns}
+use Rattle.puzzles.specs.LawsOfCommands.{ArePassed, HasOneAnswer}
+use Rattle.puzzles.specs.Grades.{HasOneSolution, IsRightGrade, Settling, grade_by, listed_grade, searched_grade}
+use Rattle.puzzles.specs.declared.grade.Telling.{Telling}
+use Rattle.puzzles.specs.declared.grade.Grade.TheVariants.{ByRules}
+use Rattle.puzzles.proofs.GradedAlike.{status_one, told_status, graded_one, settled_found}
+use Rattle.puzzles.proofs.Readings.{Reading, id_once, light_reading, pattern_reading, solo_reading, tents_reading}
+use Rattle.puzzles.proofs.CheckedPuzzles.{correct_grid, CheckedPuzzle, light_checked, pattern_checked, solo_checked, tents_checked}
+use Rattle.puzzles.proofs.PrintedGrids.{printed_once}
+use Rattle.puzzles.proofs.SearchedPuzzles.{SearchedPuzzle, found_with_enough, verdict_right, crossings_searched, light_searched, pattern_searched, singles_searched, solo_searched, solved_once, tents_searched}
+
+same_status : (a b : Answer) → a ≡ b → a.status ≡ b.status
+same_status a b e = ap (λ (c : Answer). c.status) e
+
+pub none_made : (answer : Answer) (wanted : Type 0) → answer ≡ exhausted_answer → answer.status ≡ 0 → wanted
+none_made answer wanted told fine = absurd (omega (arith, fine, ap (λ (a : Answer). a.status) told))
+
+module _ {P : Type 0} (play : Playing P) (reading : Reading play.game.reading play.game.spells) where
+  -- the verdict is one, of that grid
+  pub found_alone : (id : Text) (p : P) (budget : ℕ) (g : List ℕ) (said : Answer) → play.game.spells id p → verdict_of (play.game.rules p) budget ≡ OneGrid g
+      → IsOnlySolution (play.game.solves p) g
+      → SolvesId play budget id said ↔ (said ≡ one_answer (grid_text (play.cell_text p g) (play.extent p)))
+  found_alone id p budget g said s verdict only = (allowed, allows)
+    where
+      allowed : SolvesId play budget id said → said ≡ one_answer (grid_text (play.cell_text p g) (play.extent p))
+      allowed (inl refusal) = absurd (reading.apart id p refusal.fault s refusal.first)
+      allowed (inr answered) =
+          let mine = subst (λ q. IsSolved (play.game.solves q) (play.game.rules q) (play.cell_text q) (play.extent q) budget said) (reading.one id answered.puzzle p answered.spelled s) answered.allowed in
+          mine.told ∙ ap (verdict_answer (λ h. grid_text (play.cell_text p h) (play.extent p))) verdict
+
+      allows : said ≡ one_answer (grid_text (play.cell_text p g) (play.extent p)) → SolvesId play budget id said
+      allows is = inr (record {
+        puzzle = p;
+        spelled = s;
+        allowed = record {
+          right = subst (IsRight (play.game.solves p)) (sym verdict) (only.0, λ h other. sym (only.1 h other));
+          told = is ∙ sym (ap (verdict_answer (λ h. grid_text (play.cell_text p h) (play.extent p))) verdict);
+        };
+      })
+
+  -- with two solutions no verdict is one
+  pub never_one : (id : Text) (p : P) (any : ℕ) (said : Answer) → play.game.spells id p → HasTwo (play.game.rules p)
+      → ((g : List ℕ) → Solves (play.game.rules p) g → play.game.solves p g)
+      → SolvesId play any id said → said.status ≢ 0
+  never_one id p any said s two accepted (inl refusal) fine = reading.apart id p refusal.fault s refusal.first
+  never_one id p any said s two accepted (inr answered) fine =
+      let mine = subst (λ q. IsSolved (play.game.solves q) (play.game.rules q) (play.cell_text q) (play.extent q) any said) (reading.one id answered.puzzle p answered.spelled s) answered.allowed in
+      let found = status_one (verdict_of (play.game.rules p) any) (sym (ap (λ (a : Answer). a.status) mine.told ∙ told_status (λ h. grid_text (play.cell_text p h) (play.extent p)) (verdict_of (play.game.rules p) any)) ∙ fine) in
+      let alone = subst (IsRight (play.game.solves p)) found.1 mine.right in
+      two.differ (sym (alone.1 two.first (accepted two.first two.first_solves)) ∙ alone.1 two.second (accepted two.second two.second_solves))
+
+-- what is spelled is read
+pub spelled_read : {P : Type 0} (of : Text → Result P IdFault) (spells : Text → P → Type 0) → Reading of spells → (id : Text) (p : P) → spells id p → is_ok (of id) ≡ true
+spelled_read {P} of spells reading id p s = by (of id) refl
+  where
+    by : (r : Result P IdFault) → of id ≡ r → is_ok r ≡ true
+    by (Ok q) is = refl
+    by (Err f) is = absurd (reading.apart id p f s is)
+
+module _ {P : Type 0} (play : Playing P) (reading : Reading play.game.reading play.game.spells)
+    (game : (id : Text) (p : P) → play.game.spells id p → CheckedPuzzle play p) where
+  abbrev printed : P → List ℕ → Text
+  printed p g = grid_text (play.cell_text p g) (play.extent p)
+
+  pub passes_as : (id : Text) (p : P) → play.game.spells id p → (g : List ℕ) → play.game.solves p g → (said : Answer)
+      → ChecksId play id (printed p g) said ↔ (said ≡ correct_or None)
+  passes_as id p s g solution said = (allowed, λ same. inr (record { puzzle = p; spelled = s; allowed = correct.1 same }))
+    where
+      correct : ChecksGrid play p (printed p g) said ↔ (said ≡ correct_or None)
+      correct = correct_grid play p (game id p s) g solution said
+
+      allowed : ChecksId play id (printed p g) said → said ≡ correct_or None
+      allowed (inl x) = absurd (reading.apart id p x.fault s x.first)
+      allowed (inr x) = correct.0 (subst (λ q. ChecksGrid play q (printed p g) said) (reading.one id x.puzzle p x.spelled s) x.allowed)
+
+  -- neither one grid is told nor two
+  other_status : (id : Text) (solved said : Answer) → solved ≡ said → said.status ≢ 0 → said.status ≢ 3 → ArePassed (ChecksId play id) solved
+  other_status id solved said told none nor = record {
+    one = λ e. absurd (none (sym (same_status _ _ told) ∙ e));
+    several = λ e. absurd (nor (sym (same_status _ _ told) ∙ e));
+  }
+
+  pub passed : (id : Text) (budget : ℕ) (solved : Answer) → SolvesId play budget id solved → ArePassed (ChecksId play id) solved
+  passed id budget solved (inl x) = other_status id solved _ x.told (omega arith) (omega arith)
+  passed id budget solved (inr x) = by (verdict_of (play.game.rules x.puzzle) budget) x.allowed.right x.allowed.told
+    where
+      differ : (g h : List ℕ) → play.game.solves x.puzzle g → play.game.solves x.puzzle h → (g ≢ h) → printed x.puzzle g ≢ printed x.puzzle h
+      differ g h a b other same =
+          let checked = game id x.puzzle x.spelled in
+          other (printed_once (play.hides x.puzzle) (play.value_count x.puzzle) (play.extent x.puzzle) (play.cell_text x.puzzle) checked.once g h (checked.shown g a) (checked.shown h b)
+          (printed x.puzzle g) (inl refl) (inl same))
+
+      by : (o : Outcome) → IsRight (play.game.solves x.puzzle) o → solved ≡ verdict_answer (printed x.puzzle) o → ArePassed (ChecksId play id) solved
+      by NoGrid right told = other_status id solved _ told (omega arith) (omega arith)
+      by (OneGrid g) right told = record {
+        one = λ e. (printed x.puzzle g, told, passes_as id x.puzzle x.spelled g right.0);
+        several = λ e. absurd (let s = same_status _ _ told in omega (arith, e, s));
+      }
+      by (TwoGrids g h) right told = record {
+        one = λ e. absurd (let s = same_status _ _ told in omega (arith, e, s));
+        several = λ e. (
+          printed x.puzzle g,
+          printed x.puzzle h,
+          told,
+          differ g h right.0 right.1 right.2,
+          passes_as id x.puzzle x.spelled g right.0,
+          passes_as id x.puzzle x.spelled h right.1,
+        );
+      }
+      by (OutOfBudget None) right told = other_status id solved _ told (omega arith) (omega arith)
+      by (OutOfBudget (Some g)) right told = other_status id solved _ told (omega arith) (omega arith)
+
+-- what is said of an ID where an input is correct
+pub record GoesWithCorrect (input : Text) (solved : Answer) : Type 0 where
+  pub some : solved.status ≢ 1
+  pub that : (grid : Text) → solved ≡ one_answer grid → IsPrinted (without_returns input) grid
+
+abbrev pub GoesWith : Text → Answer → Answer → Type 0
+GoesWith input given solved = given.status ≡ 0 → GoesWithCorrect input solved
+
+pub refusals_go : (input first second : Text) → GoesWith input (refused first) (refused second)
+refusals_go input first second e = absurd (omega (arith, e))
+
+same_grid : (a b : Text) → one_answer a ≡ one_answer b → a ≡ b
+same_grid a b e = ap (λ (c : Answer). drop 4 c.text) e
+
+module _ (solves : List ℕ → Type 0) (printed : List ℕ → Text) (input : Text) (g : List ℕ) (solution : solves g)
+    (form : IsPrinted (without_returns input) (printed g)) (solved : Answer) where
+  -- neither none is told nor one
+  other_told : (said : Answer) → solved ≡ said → said.status ≢ 1 → said.status ≢ 0 → GoesWithCorrect input solved
+  other_told said told none nor = record {
+    some = λ e. none (sym (same_status _ _ told) ∙ e);
+    that = λ grid is. absurd (nor (same_status _ _ (sym told ∙ is)));
+  }
+
+  by_verdict : (o : Outcome) → IsRight solves o → solved ≡ verdict_answer printed o → GoesWithCorrect input solved
+  by_verdict NoGrid right told = absurd (right g solution)
+  by_verdict (OneGrid f) right told = record {
+    some = λ e. let s = same_status _ _ told in absurd (omega (arith, e, s));
+    that = λ grid is. subst (IsPrinted (without_returns input)) (ap printed (sym (right.1 g solution)) ∙ same_grid (printed f) grid (sym told ∙ is)) form;
+  }
+  by_verdict (TwoGrids f h) right told = other_told _ told (omega arith) (omega arith)
+  by_verdict (OutOfBudget None) right told = other_told _ told (omega arith) (omega arith)
+  by_verdict (OutOfBudget (Some f)) right told = other_told _ told (omega arith) (omega arith)
+
+-- the answers to a puzzle
+pub goes_with : {P : Type 0} (play : Playing P) (p : P) (budget : ℕ) (input : Text) (given solved : Answer) → CheckedPuzzle play p → ChecksGrid play p input given
+    → IsSolved (play.game.solves p) (play.game.rules p) (play.cell_text p) (play.extent p) budget solved → GoesWith input given solved
+goes_with play p budget input given solved checked (inr none) s fine = absurd (let e = same_status _ _ none.told in omega (arith, fine, e))
+goes_with play p budget input given solved checked (inl here) s fine =
+    by_verdict (play.game.solves p) (λ g. grid_text (play.cell_text p g) (play.extent p)) input here.grid (checked.sound here.grid given here.given.shown.grid here.told fine)
+    here.given.printed solved (verdict_of (play.game.rules p) budget) s.right s.told
+
+right_by_verdict : (solves : List ℕ → Type 0) (trials : ℕ) (o : Outcome) → IsRight solves o → IsRightGrade solves (grade_by trials o)
+right_by_verdict solves trials NoGrid right = right
+right_by_verdict solves trials (OneGrid g) right = (g, right.0, right.1)
+right_by_verdict solves trials (TwoGrids g h) right = (g, h, right.0, right.1, right.2)
+right_by_verdict solves trials (OutOfBudget found) right = tt
+
+pub settled_one : (rules : Puzzle) (solves : List ℕ → Type 0) → SearchedPuzzle rules solves → is_settled rules ≡ true → HasOneSolution solves
+settled_one rules solves searched settled =
+    let right = subst (IsRight solves) (settled_found rules searched.lawful settled 0) (verdict_right rules solves searched 0) in
+    (_, right.0, right.1)
+
+-- so are those of each rule set
+abbrev pub EachSearched : (List ℕ → Type 0) → List Settling → Type 0
+EachSearched solves [] = Unit {0}
+EachSearched solves (first ∷ rest) = SearchedPuzzle first.rules solves × EachSearched solves rest
+
+pub listed_right : (solves : List ℕ → Type 0) (sets : List Settling) (search : Puzzle) (budget : ℕ) → EachSearched solves sets → SearchedPuzzle search solves
+    → IsRightGrade solves (listed_grade sets search budget)
+unfolding searched_grade
+listed_right solves [] search budget each searched =
+    right_by_verdict solves (trials_in (walk search 0 search.start)) (verdict_of search budget) (verdict_right search solves searched budget)
+listed_right solves (first ∷ rest) search budget each searched = by (is_settled first.rules) refl (listed_right solves rest search budget each.1 searched)
+  where
+    by : (b : Bool) → is_settled first.rules ≡ b → IsRightGrade solves (listed_grade rest search budget) → IsRightGrade solves (if b then ByRules first.set else listed_grade rest search budget)
+    by true settled later = settled_one first.rules solves each.0 settled
+    by false unsettled later = later
+
+-- with enough budget a search tells the one solution of a puzzle whose grade names a rule set or a search
+pub with_enough : {P : Type 0} (play : Playing P) (reading : Reading play.game.reading play.game.spells)
+    → ((id : Text) (p : P) → play.game.spells id p → SearchedPuzzle (play.game.rules p) (play.game.solves p))
+    → (telling : Telling) (id : Text) (graded : Answer) → GradesId play.game telling id graded → graded.status ≡ 0
+    → (enough : ℕ) × (grid : Text) × ((budget : ℕ) → enough ≤ budget → (said : Answer) → SolvesId play budget id said ↔ (said ≡ one_answer grid))
+with_enough play reading searched telling id graded (inl refusal) fine = absurd (omega (arith, fine, ap (λ (a : Answer). a.status) refusal.told))
+with_enough play reading searched telling id graded (inr answered) fine =
+    let p = answered.puzzle in
+    let one = graded_one (play.game.solves p) _ answered.allowed.right (sym answered.allowed.told.status ∙ fine) in (
+      trials_in (walk (play.game.rules p) 0 (play.game.rules p).start),
+      grid_text (play.cell_text p one.0) (play.extent p),
+      λ budget room said. found_alone play reading id p budget one.0 said answered.spelled
+          (found_with_enough (play.game.rules p) (play.game.solves p) (searched id p answered.spelled) one budget room) (one.1, λ h other. sym (one.2 h other)),
+    )
 
 pub record GameFacts {P : Type 0} (play : Playing P) : Type 0 where
   -- a text spells one puzzle or has one fault, and what is written for a puzzle spells it

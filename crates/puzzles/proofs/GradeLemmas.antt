@@ -1,20 +1,30 @@
--- From what a search and a closing ensure to the grade: a walk that ends at one grid was gone through whole, and the walk
--- from a full closure finds its grid alone.
-use Rattle.std.proofs.Common.{◌≡◌, ◌∙◌, ℕ, zero, suc, Bool, true, false, ◌==◌, List, [], ◌∷◌, Option, Some, None, refl, sym, ap, subst, inl, inr, arith}
+-- What grades mean of the games' own solutions, and how their texts and traces are told.
+use Rattle.std.proofs.Common.{length, ◌≡◌, ◌∙◌, ℕ, zero, suc, Bool, true, false, ◌==◌, List, [], ◌∷◌, Option, Some, None, refl, sym, ap, subst, inl, inr, arith, if◌then◌else◌, ◌++◌, ◌≤◌, append_assoc, append-nil, codes, true≢false, map, length-append}
 use Rattle.std.specs.Prelude.{◌↔◌}
 use Rattle.std.proofs.lemmas.Bool.{and_parts, ne_eqb, eqb-true}
+use Rattle.std.proofs.lemmas.List.{length-map}
 use Rattle.grid_core.specs.Candidates.{Candidates, all_below, any_below, is_dead, is_full, count_below, grid_of}
+use Rattle.gameid_core.specs.Puzzles.{Solo}
 use Rattle.engine_core.specs.Puzzle.{Puzzle}
 use Rattle.engine_core.specs.Closing.{closure}
 use Rattle.engine_core.specs.Stored.{is_settled}
 use Rattle.engine_core.specs.Walk.{Mark, Mark.Trial, Mark.Found, IsFound, walk, walk_closed}
 use Rattle.engine_core.specs.Verdict.{Outcome, Outcome.OneGrid, Solves, outcome, verdict_of, spent, trials_in}
-use Rattle.puzzles.specs.Grades.{HasOneSolution, IsGradeOf, IsRightGrade, TellsGrade, grade_by, searched_grade}
-use Rattle.puzzles.specs.Answers.{Text}
+use Rattle.solo_core.specs.Houses.{houses_of}
+use Rattle.solo_core.specs.Scopes.{crossing_scopes, scopes_of}
+use Rattle.solo_core.specs.declared.solo_scope.SoloScope.TheVariants.{House}
+use Rattle.puzzles.specs.Grades.{HasOneSolution, IsGradeOf, IsRightGrade, TellsGrade, grade_by, searched_grade, Settling, last_tried, listed_grade, only_set, grade_status, grade_text}
+use Rattle.puzzles.specs.Answers.{Text, Answer, Delivers}
 use Rattle.puzzles.specs.Stops.{Tells}
-use Rattle.puzzles.proofs.StopLemmas.{tells_as}
 use Rattle.puzzles.specs.declared.grade.Grade.{Grade}
 use Rattle.puzzles.specs.declared.grade.Grade.TheVariants.{ByRules, BySearch, NoSolution, SeveralSolutions, GaveUp}
+use Rattle.puzzles.specs.Games.{GameOf}
+use Rattle.puzzles.specs.Allowed.{IsGradeBy}
+use Rattle.puzzles.specs.Traces.{IsTrace}
+use Rattle.puzzles.specs.declared.grade.RuleSet.{RuleSet}
+use Rattle.puzzles.specs.declared.grade.Telling.{Telling}
+use Rattle.puzzles.specs.TracePieces.{BeginsTrace, PutsTrace}
+use Rattle.puzzles.proofs.RunLemmas.{tells_as}
 
 -- where one grid is found, all trials of the walk were made
 pub spent_whole : (budget : ℕ) (found : Option (List ℕ)) (marks : List Mark) (g : List ℕ) → outcome budget found marks ≡ OneGrid g
@@ -82,3 +92,129 @@ pub rightly : {S : Type 0} (takes : S → Text → S → Type 0) (solves : List 
     → grade ≡ is → IsRightGrade solves grade → Tells takes (TellsGrade grade traced tells) s t status → Tells takes (IsGradeOf solves is traced tells) s t status
 rightly takes solves grade is traced tells s t status e right told = subst (λ (x : Grade). Tells takes (IsGradeOf solves x traced tells) s t status) e
     (tells_as takes (TellsGrade grade traced tells) (IsGradeOf solves grade traced tells) s t status (λ a t. record { right = right; told = t }) told)
+
+-- the grids that rules accept are the solutions, and a grade is right of both
+pub right_by : (p q : Puzzle) (solves : List ℕ → Type 0) (grade : Grade) → q ≡ p → ((g : List ℕ) → Solves p g ↔ solves g)
+    → IsRightGrade (Solves q) grade → IsRightGrade solves grade
+right_by p q solves grade e same right = right_as (Solves p) solves grade same (subst (λ (r : Puzzle). IsRightGrade (Solves r) grade) e right)
+
+pub accepted_by : (p q : Puzzle) (solves : List ℕ → Type 0) → q ≡ p → ((g : List ℕ) → Solves p g ↔ solves g) → (g : List ℕ) → Solves q g ↔ solves g
+accepted_by p q solves e same = subst (λ (r : Puzzle). (g : List ℕ) → Solves r g ↔ solves g) (sym e) same
+
+-- the last rules in the list were tried last, whether they settle the puzzle or not
+pub last_of_one : (before : Puzzle) (set : RuleSet) (rules : Puzzle) → rules ≡ last_tried before (only_set set rules)
+last_of_one before set rules = by (is_settled rules)
+  where
+    by : (b : Bool) → rules ≡ (if b then rules else rules)
+    by true = refl
+    by false = refl
+
+-- lines that tell a closing in one way tell it in another
+trace_as : (traced : Bool) (some all : Text → Type 0) (lines : Text) → (some lines → all lines) → IsTrace traced some lines → IsTrace traced all lines
+trace_as true some all lines more h = more h
+trace_as false some all lines more h = h
+
+pub told_as : {S : Type 0} (takes : S → Text → S → Type 0) (grade : Grade) (traced : Bool) (some all : Text → Type 0) (s t : S) (status : ℕ) → ((lines : Text) → some lines → all lines)
+    → Tells takes (TellsGrade grade traced some) s t status → Tells takes (TellsGrade grade traced all) s t status
+told_as takes grade traced some all s t status more told = tells_as takes (TellsGrade grade traced some) (TellsGrade grade traced all) s t status
+    (λ a h. record { lines = h.lines; trace = trace_as traced some all h.lines (more h.lines) h.trace; text = h.text; status = h.status }) told
+
+module _ {P : Type 0} (game : GameOf P) (p : P) (telling : Telling) {S : Type 0} (takes : S → Text → S → Type 0) (s t : S) (status : ℕ) where
+  -- what is told of a list of rule sets
+  abbrev pub TellsBy : List Settling → Type 0
+  TellsBy sets = Tells takes (IsGradeBy game p sets telling) s t status
+
+  -- the last in the list
+  pub told_last : (grade : Grade) (set : RuleSet) (rules : Puzzle) → grade ≡ listed_grade (only_set set rules) (game.rules p) telling.budget
+      → IsRightGrade (game.solves p) grade → Tells takes (TellsGrade grade telling.traced (game.tells p rules)) s t status → TellsBy (only_set set rules)
+  told_last grade set rules e right told = rightly takes (game.solves p) grade (listed_grade (only_set set rules) (game.rules p) telling.budget) telling.traced
+      (game.tells p (last_tried (game.rules p) (only_set set rules))) s t status e right
+      (subst (λ (r : Puzzle). Tells takes (TellsGrade grade telling.traced (game.tells p r)) s t status) (last_of_one (game.rules p) set rules) told)
+
+  -- the first in the list settles the puzzle
+  pub told_first : (q : Puzzle) (set : RuleSet) (rules : Puzzle) (rest : List Settling) → q ≡ rules → is_settled q ≡ true
+      → ((g : List ℕ) → Solves rules g ↔ game.solves p g) → HasOneSolution (Solves q) → Tells takes (TellsGrade (ByRules set) telling.traced (game.tells p q)) s t status
+      → TellsBy (record { set = set; rules = rules } ∷ rest)
+  told_first q set rules rest e settled same one told =
+      let is : is_settled rules ≡ true = ap is_settled (sym e) ∙ settled in
+      rightly takes (game.solves p) (ByRules set) (listed_grade (record { set = set; rules = rules } ∷ rest) (game.rules p) telling.budget) telling.traced
+      (game.tells p (last_tried (game.rules p) (record { set = set; rules = rules } ∷ rest))) s t status
+      (ap (λ (b : Bool). if b then ByRules set else listed_grade rest (game.rules p) telling.budget) (sym is))
+      (right_by rules q (game.solves p) (ByRules set) e same one)
+      (subst (λ (b : Bool). Tells takes (TellsGrade (ByRules set) telling.traced (game.tells p (if b then rules else last_tried rules rest))) s t status) (sym is)
+      (subst (λ (r : Puzzle). Tells takes (TellsGrade (ByRules set) telling.traced (game.tells p r)) s t status) e told))
+
+  -- the first of two or more in the list doesn't
+  pub told_later : (q : Puzzle) (set : RuleSet) (rules : Puzzle) (next : Settling) (rest : List Settling) → q ≡ rules → is_settled q ≡ false
+      → TellsBy (next ∷ rest) → TellsBy (record { set = set; rules = rules } ∷ next ∷ rest)
+  told_later q set rules next rest e unsettled told = subst
+      (λ (b : Bool). Tells takes (IsGradeOf (game.solves p) (if b then ByRules set else listed_grade (next ∷ rest) (game.rules p) telling.budget) telling.traced
+      (game.tells p (if b then rules else last_tried rules (next ∷ rest)))) s t status)
+      (sym unsettled ∙ ap is_settled e) told
+
+  -- rules that were made for a puzzle are its own
+  pub told_by : (q r : Puzzle) (set : RuleSet) → q ≡ r → TellsBy (only_set set q) → TellsBy (only_set set r)
+  told_by q r set e told = subst (λ (x : Puzzle). TellsBy (only_set set x)) e told
+
+module _ {S : Type 0} (takes : S → Text → S → Type 0) (nothing : (s : S) → takes s [] s) (both : (s t u : S) (a b : Text) → takes s a t → takes t b u → takes s (a ++ b) u)
+    (grade : Grade) (traced : Bool) (tells : Text → Type 0) where
+  -- the rest was delivered
+  pub told_whole : (s t u : S) (line rest : Text) (a : Answer) (status : ℕ) → line ≡ grade_text grade ++ codes "\n" → PutsTrace takes traced tells s line rest t
+      → Delivers takes t a u status → a.text ≡ rest → a.status ≡ grade_status grade → Tells takes (TellsGrade grade traced tells) s u status
+  told_whole s t u line rest a status is p d same ends = record {
+    written = p.put.done ++ d.written;
+    took = both s t u p.put.done d.written p.put.took d.took;
+    begun = inr (
+      record { text = line ++ p.lines; status = grade_status grade },
+      record { lines = p.lines; trace = p.trace; text = ap (λ (l : Text). l ++ p.lines) is; status = refl },
+      (
+        d.begun.0,
+        p.put.split ∙ ap (λ (l : Text). p.put.done ++ l) (sym same ∙ d.begun.1) ∙ sym (append_assoc p.put.done d.written d.begun.0),
+      ),
+    );
+    whole = λ small. record {
+      lines = p.lines;
+      trace = p.trace;
+      text = ap (λ (l : Text). p.put.done ++ l) ((d.whole small).0 ∙ same) ∙ sym p.put.split ∙ ap (λ (l : Text). l ++ p.lines) is;
+      status = (d.whole small).1 ∙ ends;
+    };
+  }
+
+  -- a beginning was put
+  pub told_begun : (s u : S) (line : Text) (status : ℕ) → line ≡ grade_text grade ++ codes "\n" → BeginsTrace takes traced tells s line u → 5 ≤ status
+      → Tells takes (TellsGrade grade traced tells) s u status
+  told_begun s u line status is p high = record {
+    written = p.begun.done;
+    took = p.begun.took;
+    begun = inr (
+      record { text = line ++ p.lines; status = grade_status grade },
+      record { lines = p.lines; trace = p.trace; text = ap (λ (l : Text). l ++ p.lines) is; status = refl },
+      p.begun.begun,
+    );
+    whole = λ small. absurd (omega arith);
+  }
+
+  -- nothing was put before
+  pub nothing_put : (s : S) (line text lines : Text) → IsTrace traced tells lines → text ≡ line ++ lines → PutsTrace takes traced tells s line text s
+  nothing_put s line text lines trace added = record { lines = lines; trace = trace; put = record { done = []; took = nothing s; split = sym added } }
+
+-- a trace was asked for
+pub is_traced : (traced : Bool) (tells : Text → Type 0) (lines : Text) → traced ≡ true → tells lines → IsTrace traced tells lines
+is_traced true tells lines e told = told
+is_traced false tells lines e told = absurd (true≢false (sym e))
+
+-- no trace was asked for
+pub untraced : {S : Type 0} (takes : S → Text → S → Type 0) (traced : Bool) (tells : Text → Type 0) (s : S) (text : Text) → takes s [] s → traced ≡ false
+    → PutsTrace takes traced tells s text text s
+untraced takes traced tells s text nothing is = record { lines = []; trace = none traced is; put = record { done = []; took = nothing; split = append-nil text } }
+  where
+    none : (b : Bool) → b ≡ false → IsTrace b tells []
+    none true e = absurd (true≢false e)
+    none false e = refl
+
+-- the houses come first among what has a name
+pub houses_named : (p : Solo) → length (houses_of p) ≤ length (scopes_of p)
+houses_named p = omega (arith, length-append (map House (houses_of p)) (crossing_scopes p), length-map (houses_of p) House)
+
+pub named : (p : Solo) (q rules : Puzzle) → q ≡ rules → rules.houses ≤ length (scopes_of p) → q.houses ≤ length (scopes_of p)
+named p q rules e few = subst (λ (r : Puzzle). r.houses ≤ length (scopes_of p)) (sym e) few

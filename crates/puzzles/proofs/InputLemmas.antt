@@ -1,98 +1,189 @@
--- The chunks of an input.
-use Rattle.std.proofs.Common.{◌≡◌, ◌∙◌, ◌≤◌, ◌⊎◌, ◌++◌, ℕ, Bool, true, false, [], sym, subst, append-nil, arith, inl, inr, true≢false}
-use Rattle.std.specs.Str.Lines.{lines}
-use Rattle.puzzles.specs.Runs.{Ran}
-use Rattle.puzzles.specs.Answers.{Answer, Begins, BeginsAnswer, IsInput, Text}
-use Rattle.puzzles.specs.Each.{AllowsEach, Answered, Begun, HasAnswers, Stopped}
-use Rattle.puzzles.specs.Batches.{Batched, StoppedUpTo, TakenUpTo}
-use Rattle.puzzles.specs.declared.batch.Batch.{Batch}
-use Rattle.puzzles.specs.declared.ends.Sink as sinks
-use Rattle.puzzles.specs.declared.ends.Source as sources
-use Rattle.puzzles.proofs.BatchLemmas.{step_stopped}
+-- The bytes that a line's state stands for, and a text that is copied without its returns: what is copied, and the rest
+-- without its returns, is always the whole without them.
+use Rattle.std.proofs.Common.{◌≡◌, ◌∙◌, ◌==◌, ◌<◌, ◌≤◌, ◌-◌, ◌+◌, ◌++◌, ℕ, Bool, true, false, List, [], ◌∷◌, length, take, drop, ap, sym, refl, subst, inl, inr, arith, slice_index, if◌then◌else◌, append-nil, length-drop, eq-eqb, true≢false, ◌&&◌, append_assoc}
+use Rattle.std.proofs.lemmas.List.{take-append-drop, take-append-le, drop-append-le, length-append}
+use Rattle.std.proofs.lemmas.Bool.{cases_lt, ne_eqb, eqb-true}
+use Rattle.std.proofs.lemmas.Grind.{common_steps}
+use Rattle.std.specs.Str.Lines.{strip_carriage_return}
+use Rattle.puzzles.specs.declared.batch.lines.Tail.TheVariants.{Nothing, Return, More}
+use Rattle.puzzles.specs.declared.batch.lines.Line.{Line}
+use Rattle.puzzles.specs.Batches.{HoldsUpTo, next_tail, tail_of}
+use Rattle.puzzles.specs.Answers.{Text}
+use Rattle.puzzles.specs.CheckAnswers.{begins_with_line_end, without_returns}
 
-module _ {I S : Type 0} (gives : I → Text → I → Type 0) (gives_both : (s t u : I) (a b : Text) → gives s a t → gives t b u → gives s (a ++ b) u)
-    (takes : S → Text → S → Type 0) (takes_nothing : (s : S) → takes s [] s) (takes_both : (s t u : S) (a b : Text) → takes s a t → takes t b u → takes s (a ++ b) u)
-    (allows : Text → Answer → Type 0) where
-  pub taken_more : (from i j : I) (start o p : S) (batch next : Batch) (given chunk : Text) → given ≡ chunk → TakenUpTo gives takes allows from start batch i o → gives i given j
-      → ((s : S) (seen : Text) → Batched takes allows s batch seen o → Batched takes allows s next (seen ++ chunk) p) → TakenUpTo gives takes allows from start next j p
-  taken_more from i j start o p batch next given chunk same t more step = record {
-    seen = t.seen ++ chunk;
-    gave = gives_both from i j t.seen chunk t.gave (subst (λ (c : Text). gives i c j) same more);
-    batched = step start t.seen t.batched;
-  }
+-- one byte more after those that are kept
+tail_of-append : (d : List ℕ) (b : ℕ) → tail_of (d ++ b ∷ []) ≡ next_tail (tail_of d) b
+tail_of-append [] b = refl
+tail_of-append (x ∷ []) b = go (x == 13)
+  where
+    go : (t : Bool) → More ≡ next_tail (if t then Return else More) b
+    go true = refl
+    go false = refl
+tail_of-append (x ∷ y ∷ d) b = refl
 
-  pub stopped_in : (from i j : I) (start o p : S) (batch : Batch) (given chunk : Text) → given ≡ chunk → TakenUpTo gives takes allows from start batch i o → gives i given j
-      → ((s : S) (seen : Text) → Batched takes allows s batch seen o → Stopped takes allows s (seen ++ chunk) p) → StoppedUpTo gives takes allows from start j p
-  stopped_in from i j start o p batch given chunk same t more step = record {
-    seen = t.seen ++ chunk;
-    gave = gives_both from i j t.seen chunk t.gave (subst (λ (c : Text). gives i c j) same more);
-    stopped = step start t.seen t.batched;
-  }
+module _ (n : ℕ) where
+  short : (piece : List ℕ) → length (take n piece) < n → length piece < n
+  short piece h = grind (arith, common_steps)
 
-  pub taken_no_more : (from i j : I) (start o : S) (batch : Batch) → TakenUpTo gives takes allows from start batch i o → gives i [] j → TakenUpTo gives takes allows from start batch j o
-  taken_no_more from i j start o batch t more = record {
-    seen = t.seen;
-    gave = subst (λ (c : Text). gives from c j) (append-nil t.seen) (gives_both from i j t.seen [] t.gave more);
-    batched = t.batched;
-  }
+  whole : (piece : List ℕ) → length piece ≤ n → take n piece ≡ piece
+  whole piece h = grind (arith, common_steps)
 
-  pub stopped_here : HasAnswers allows → (from i : I) (start o : S) (batch : Batch) → TakenUpTo gives takes allows from start batch i o → StoppedUpTo gives takes allows from start i o
-  stopped_here answers from i start o batch t = record {
-    seen = t.seen;
-    gave = t.gave;
-    stopped = subst (λ (c : Text). Stopped takes allows start c o) (append-nil t.seen) (step_stopped allows takes takes_nothing takes_both answers start o batch t.seen [] t.batched);
-  }
+  none_left : (piece : List ℕ) → length piece ≤ n → drop n piece ≡ []
+  none_left piece h = grind (arith, common_steps)
 
--- what was read begins the input
-begins_input : (ended : Bool) (read input : Text) → IsInput ended read input → Begins read input
-begins_input true read input is = ([], is ∙ sym (append-nil read))
-begins_input false read input is = is
+  long : (piece : List ℕ) → n ≤ length (take n piece) → n ≤ length piece
+  long piece h = grind (arith, common_steps)
 
-same_input : (ended : Bool) (read input : Text) → ended ≡ true → IsInput ended read input → read ≡ input
-same_input true read input end is = sym is
-same_input false read input end is = absurd (true≢false (sym end))
+  full : (piece : List ℕ) → n ≤ length piece → n ≤ length (take n piece)
+  full piece h = grind (arith, common_steps)
 
-module _ {I S : Type 0} (source : sources.Ghosts I) (sink : sinks.Ghosts S) (takes_both : (s t u : S) (a b : Text) → sink.takes s a t → sink.takes t b u → sink.takes s (a ++ b) u)
-    (allows : Text → Answer → Type 0) where
-  pub ran_stopped : (i j : I) (o p : S) (status : ℕ) → 5 ≤ status → StoppedUpTo source.gives sink.takes allows i o j p → Ran source sink (λ input. AllowsEach allows (lines input)) i j o p status
-  ran_stopped i j o p status high s = record {
-    read = s.seen;
-    written = s.stopped.written;
-    gave = s.gave;
-    took = s.stopped.took;
-    leaves = record {
-      begun = λ input is.
-          let more = begins_input (source.has_ended j) s.seen input is in
-          subst (λ (t : Text). BeginsAnswer (AllowsEach allows (lines t)) s.stopped.written) (sym more.1) (s.stopped.begun more.0);
-      whole = λ low. absurd (omega arith);
-    };
-  }
+-- a line of which so many bytes at most are kept
+module _ (most : ℕ) where
+  -- it is empty where nothing of it is kept
+  pub line_empty : 0 < most → (line : Line) (piece : List ℕ) → HoldsUpTo most line piece → (length line.kept.items == 0) ≡ (length piece == 0)
+  line_empty some line piece h = elim (cases_lt (length piece) most) [
+    | inl low ↦ ap (λ l. length l == 0) (h.kept ∙ whole most piece (omega arith))
+    | inr high ↦
+        let long_kept : most ≤ length line.kept.items = subst (λ l. most ≤ length l) (sym h.kept) (full most piece (omega arith)) in
+        ne_eqb (length line.kept.items) 0 (λ z. absurd (omega arith)) ∙ sym (ne_eqb (length piece) 0 (λ z. absurd (omega arith)))
+  ]
 
-  pub ran_begun : (i j : I) (o p : S) (seen : Text) (status : ℕ) → 5 ≤ status → source.has_ended j ≡ true → source.gives i seen j → Begun sink.takes allows o seen p → Ran source sink (λ input. AllowsEach allows (lines input)) i j o p status
-  ran_begun i j o p seen status high ended gave s = record {
-    read = seen;
-    written = s.written;
-    gave = gave;
-    took = s.took;
-    leaves = record {
-      begun = λ input is. subst (λ (t : Text). BeginsAnswer (AllowsEach allows (lines t)) s.written) (same_input (source.has_ended j) seen input ended is) s.begun;
-      whole = λ low. absurd (omega arith);
-    };
-  }
+  -- a byte that is kept
+  pub holds_kept : (old new : Line) (b : ℕ) (piece : List ℕ) → HoldsUpTo most old piece → length old.kept.items < most
+      → new.kept.items ≡ old.kept.items ++ b ∷ [] → new.tail ≡ old.tail → HoldsUpTo most new (piece ++ b ∷ [])
+  holds_kept old new b piece h room kept tail =
+      let low : length (take most piece) < most = subst (λ l. length l < most) h.kept room in
+      let few : length piece < most = short most piece low in
+      let few_more : length (piece ++ b ∷ []) ≤ most = rw length-append (omega arith) in
+      let few_le : length piece ≤ most = omega arith in
+      record {
+        kept = kept ∙ ap (λ l. l ++ b ∷ []) (h.kept ∙ whole most piece few_le) ∙ sym (whole most (piece ++ b ∷ []) few_more);
+        tail = tail ∙ h.tail ∙ ap tail_of (none_left most piece few_le ∙ sym (none_left most (piece ++ b ∷ []) few_more));
+      }
 
-  -- all was answered, and the finishing took nothing more
-  pub ran_answered : (i j : I) (o p q : S) (seen : Text) (told status : ℕ) → (status ≡ told) ⊎ (status ≡ 6) → source.has_ended j ≡ true → source.gives i seen j → Answered sink.takes allows o told seen p → sink.takes p [] q
-      → Ran source sink (λ input. AllowsEach allows (lines input)) i j o q status
-  ran_answered i j o p q seen told status is_told ended gave s more = record {
-    read = seen;
-    written = s.written;
-    gave = gave;
-    took = subst (λ (t : Text). sink.takes o t q) (append-nil s.written) (takes_both o p q s.written [] s.took more);
-    leaves = record {
-      begun = λ input is. inr (_, subst (λ (t : Text). AllowsEach allows (lines t) (record { text = s.written; status = told })) (same_input (source.has_ended j) seen input ended is) s.whole, ([], sym (append-nil s.written)));
-      whole = λ low input is. elim is_told [
-        | inl same ↦ subst (λ (n : ℕ). AllowsEach allows (lines input) (record { text = s.written; status = n })) (sym same) (subst (λ (t : Text). AllowsEach allows (lines t) (record { text = s.written; status = told })) (same_input (source.has_ended j) seen input ended is) s.whole)
-        | inr broken ↦ absurd (omega arith)
-      ];
-    };
-  }
+  -- a byte after those that are kept
+  pub holds_more : (old new : Line) (b : ℕ) (piece : List ℕ) → HoldsUpTo most old piece → most ≤ length old.kept.items
+      → new.kept.items ≡ old.kept.items → new.tail ≡ next_tail old.tail b → HoldsUpTo most new (piece ++ b ∷ [])
+  holds_more old new b piece h full kept tail =
+      let high : most ≤ length (take most piece) = subst (λ l. most ≤ length l) h.kept full in
+      let many : most ≤ length piece = long most piece high in
+      record {
+        kept = kept ∙ h.kept ∙ sym (take-append-le most piece (b ∷ []) many);
+        tail = tail ∙ ap (λ t. next_tail t b) h.tail ∙ sym (tail_of-append (drop most piece) b) ∙ ap tail_of (sym (drop-append-le most piece (b ∷ []) many));
+      }
+
+-- what each tail says of the bytes
+no_tail : (d : List ℕ) → tail_of d ≡ Nothing → d ≡ []
+no_tail [] e = refl
+no_tail (x ∷ []) e = go (x == 13) e
+  where
+    go : (t : Bool) → (if t then Return else More) ≡ Nothing → x ∷ [] ≡ []
+    go true f = cc
+    go false f = cc
+no_tail (x ∷ y ∷ d) e = cc
+
+return_tail : (d : List ℕ) → tail_of d ≡ Return → d ≡ 13 ∷ []
+return_tail [] e = cc
+return_tail (x ∷ []) e = go (x == 13) refl
+  where
+    go : (t : Bool) → (x == 13) ≡ t → x ∷ [] ≡ 13 ∷ []
+    go true f = ap (λ y. y ∷ []) (eqb-true x 13 f)
+    go false f = let bad : More ≡ Return = ap (λ t. if t then Return else More) (sym f) ∙ e in cc
+return_tail (x ∷ y ∷ d) e = cc
+
+last_is : (l : List ℕ) (x : ℕ) → slice_index (l ++ x ∷ []) (length (l ++ x ∷ []) - 1) ≡ x
+last_is l x = grind (arith, common_steps)
+
+front_is : (l : List ℕ) (x : ℕ) → take (length (l ++ x ∷ []) - 1) (l ++ x ∷ []) ≡ l
+front_is l x = grind (arith, common_steps)
+
+abbrev stripped_by : Bool → List ℕ → List ℕ
+stripped_by t l = if t then take (length l - 1) l else l
+
+strip_returned : (l : List ℕ) → strip_carriage_return (l ++ 13 ∷ []) ≡ l
+strip_returned l = ap (λ y. stripped_by (y == 13) (l ++ 13 ∷ [])) (last_is l 13) ∙ front_is l 13
+
+strip_other : (l : List ℕ) (x : ℕ) → (x ≡ 13 → ⊥) → strip_carriage_return (l ++ x ∷ []) ≡ l ++ x ∷ []
+strip_other l x h = ap (λ y. stripped_by (y == 13) (l ++ x ∷ [])) (last_is l x) ∙ ap (λ t. stripped_by t (l ++ x ∷ [])) (ne_eqb x 13 h)
+
+strip_length : (l : List ℕ) → length l ≤ length (strip_carriage_return l) + 1
+strip_length l = go (slice_index l (length l - 1) == 13)
+  where
+    go : (t : Bool) → length l ≤ length (stripped_by t l) + 1
+    go true = grind (arith, common_steps)
+    go false = omega arith
+
+take_full : (n : ℕ) (piece : List ℕ) → 0 < length (drop n piece) → length (take n piece) ≡ n
+take_full n piece h = grind (arith, common_steps)
+
+-- what is known of such a line at its end
+module _ (most : ℕ) where
+  -- a line that a newline ends, by what its state says
+  pub line_whole : (line : Line) (piece : List ℕ) → HoldsUpTo most line piece → line.tail ≡ Nothing → line.kept.items ≡ piece
+  line_whole line piece h e = h.kept ∙ sym (append-nil (take most piece)) ∙ ap (λ d. take most piece ++ d) (sym (no_tail (drop most piece) (sym h.tail ∙ e)))
+      ∙ take-append-drop most piece
+
+  pub line_returned : (line : Line) (piece : List ℕ) → HoldsUpTo most line piece → line.tail ≡ Return → line.kept.items ≡ strip_carriage_return piece
+  line_returned line piece h e =
+      let split : piece ≡ take most piece ++ 13 ∷ [] = sym (take-append-drop most piece) ∙ ap (λ d. take most piece ++ d) (return_tail (drop most piece) (sym h.tail ∙ e)) in
+      h.kept ∙ sym (strip_returned (take most piece)) ∙ ap strip_carriage_return (sym split)
+
+  more_by : (a d : List ℕ) → tail_of d ≡ More → length a ≡ most → most < length (strip_carriage_return (a ++ d))
+  more_by a [] e full = cc
+  more_by a (x ∷ []) e full = go (x == 13) refl
+    where
+      go : (t : Bool) → (x == 13) ≡ t → most < length (strip_carriage_return (a ++ x ∷ []))
+      go true f = let bad : Return ≡ More = ap (λ t. if t then Return else More) (sym f) ∙ e in cc
+      go false f =
+          let other : x ≡ 13 → ⊥ = λ is. true≢false (sym (eq-eqb x 13 is) ∙ f) in
+          let long : most < length (a ++ x ∷ []) = simp length-append (omega arith) in
+          subst (λ l. most < length l) (sym (strip_other a x other)) long
+  more_by a (x ∷ y ∷ d) e full =
+      let at_least = strip_length (a ++ x ∷ y ∷ d) in
+      let many : most + 2 ≤ length (a ++ x ∷ y ∷ d) = simp length-append (omega arith) in
+      omega arith
+
+  some_left : (d : List ℕ) → tail_of d ≡ More → 0 < length d
+  some_left [] e = cc
+  some_left (x ∷ d) e = omega arith
+
+  pub line_over : (line : Line) (piece : List ℕ) → HoldsUpTo most line piece → line.tail ≡ More → most < length (strip_carriage_return piece)
+  line_over line piece h e =
+      let more : tail_of (drop most piece) ≡ More = sym h.tail ∙ e in
+      let full = take_full most piece (some_left (drop most piece) more) in
+      subst (λ l. most < length (strip_carriage_return l)) (take-append-drop most piece) (more_by (take most piece) (drop most piece) more full)
+
+  left_over : (d : List ℕ) → (tail_of d ≡ Nothing → ⊥) → 0 < length d
+  left_over [] h = absurd (h refl)
+  left_over (x ∷ d) h = omega arith
+
+  pub last_over : (line : Line) (piece : List ℕ) → HoldsUpTo most line piece → (line.tail ≡ Nothing → ⊥) → most < length piece
+  last_over line piece h e =
+      let left = left_over (drop most piece) (λ is. e (h.tail ∙ is)) in
+      let total = length-drop most piece in
+      omega arith
+
+choice : (b : Bool) (byte : ℕ) (more : Text) → (byte == 13) && begins_with_line_end more ≡ b
+    → without_returns (byte ∷ more) ≡ (if b then without_returns more else byte ∷ without_returns more)
+unfolding without_returns
+choice b byte more e = ap (λ (t : Bool). if t then without_returns more else byte ∷ without_returns more) e
+
+pub byte_kept : (kept new rest more whole : Text) (byte : ℕ) (drops : Bool)
+    → kept ++ without_returns rest ≡ without_returns whole → rest ≡ byte ∷ more
+    → drops ≡ ((byte == 13) && begins_with_line_end more) → drops ≡ false → new ≡ kept ++ (byte ∷ [])
+    → new ++ without_returns more ≡ without_returns whole
+byte_kept kept new rest more whole byte drops so_far is means no_drop copied =
+    ap (λ (t : Text). t ++ without_returns more) copied ∙ append_assoc kept (byte ∷ []) (without_returns more)
+    ∙ ap (λ (t : Text). kept ++ t) (sym (choice false byte more (sym means ∙ no_drop))) ∙ ap (λ (t : Text). kept ++ without_returns t) (sym is) ∙ so_far
+
+pub byte_dropped : (kept rest more whole : Text) (byte : ℕ) (drops : Bool)
+    → kept ++ without_returns rest ≡ without_returns whole → rest ≡ byte ∷ more
+    → drops ≡ ((byte == 13) && begins_with_line_end more) → drops ≡ true
+    → kept ++ without_returns more ≡ without_returns whole
+byte_dropped kept rest more whole byte drops so_far is means drop =
+    ap (λ (t : Text). kept ++ t) (sym (choice true byte more (sym means ∙ drop))) ∙ ap (λ (t : Text). kept ++ without_returns t) (sym is) ∙ so_far
+
+pub all_copied : (kept rest whole : Text) → kept ++ without_returns rest ≡ without_returns whole → length rest ≡ 0 → kept ≡ without_returns whole
+unfolding without_returns
+all_copied kept [] whole so_far end = sym (append-nil kept) ∙ so_far
+all_copied kept (x ∷ rest) whole so_far end = absurd (omega arith)

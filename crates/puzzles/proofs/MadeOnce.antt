@@ -1,14 +1,15 @@
 -- How many answers a making without thinning allows: one, since the first filling that passes is one alone.
-use Rattle.std.proofs.Common.{◌≡◌, ◌∙◌, ◌*◌, ◌≤◌, ◌⊎◌, ◌&&◌, ℕ, Bool, true, not, List, [], Option, Some, None, Result, Ok, Err, refl, sym, ap, ap₂, subst, arith, inl, inr, true≢false}
+use Rattle.std.proofs.Common.{ℕ, ◌/◌, ◌%◌, ◌^◌, ◌<◌, List, arith, ◌≡◌, ◌∙◌, ◌*◌, ◌≤◌, ◌⊎◌, ◌&&◌, Bool, true, false, not, [], Option, Some, None, Result, Ok, Err, refl, sym, ap, ap₂, subst, inl, inr, true≢false}
+use Rattle.std.proofs.lemmas.Nat.{mod_below}
 use Rattle.std.specs.Prelude.{nat_le, if◌then◌else◌}
-use Rattle.std.proofs.lemmas.Bool.{and_parts, cases_lt, leb-true, not-false, not-true}
+use Rattle.std.proofs.lemmas.Bool.{and_parts, leb-true, not-false, not-true}
+use Rattle.rand_core.specs.Steps.{state_after, steps_u32, stream_of}
 use Rattle.rand_core.specs.Stream.{Stream}
-use Rattle.engine_core.specs.Verdict.{Outcome, Outcome.OneGrid, IsTrueOf, verdict_of}
-use Rattle.engine_core.proofs.VerdictLemmas.{outcome-true}
-use Rattle.fields_core.specs.Firsts.{IsFirstWrong}
-use Rattle.fields_core.specs.TentHouses.{tent_rules}
-use Rattle.fields_core.specs.TentSolutions.{IsTentSolution}
-use Rattle.fields_core.proofs.TentRuleLemmas as tents
+use Rattle.rand_chacha.specs.Block.{block_word}
+use Rattle.rand_chacha.specs.ChaCha.{ChaCha, next_word, of_seed}
+use Rattle.grid_core.specs.Extent.{Extent, IsExtent, max_side}
+use Rattle.grid_core.specs.Grids.{IsGrid}
+use Rattle.grid_core.proofs.CandidateLemmas.{all_below-at}
 use Rattle.gameid_core.specs.BlackRuns.{runs}
 use Rattle.gameid_core.specs.GridTexts.{grid_text, pattern_cell, tents_cell}
 use Rattle.gameid_core.specs.Head.{SizeRead, extent_of, in_range, size_of}
@@ -26,9 +27,16 @@ use Rattle.gameid_core.proofs.PatternWritten.{pattern_is_written}
 use Rattle.gameid_core.proofs.Results.{bind_ok, chosen, ok_is, taken}
 use Rattle.gameid_core.proofs.RunsFit.{runs_lawful}
 use Rattle.gameid_core.proofs.TentsWritten.{tents_is_written}
-use Rattle.grid_core.specs.Extent.{Extent, IsExtent, max_side}
-use Rattle.grid_core.specs.Grids.{IsGrid}
-use Rattle.grid_core.proofs.CandidateLemmas.{all_below-at}
+use Rattle.engine_core.specs.Puzzle.{IsLawful, Puzzle}
+use Rattle.engine_core.specs.Verdict.{Outcome, Outcome.OneGrid, IsTrueOf, verdict_of}
+use Rattle.engine_core.proofs.VerdictLemmas.{outcome-true}
+use Rattle.pattern_core.specs.LineLaws.{is_solution-from, is_solution-is, line_rules-lawful}
+use Rattle.pattern_core.specs.LineRules.{line_rules}
+use Rattle.pattern_core.specs.Solutions.{IsPatternSolution}
+use Rattle.fields_core.specs.Firsts.{IsFirstWrong}
+use Rattle.fields_core.specs.TentHouses.{tent_rules}
+use Rattle.fields_core.specs.TentSolutions.{IsTentSolution}
+use Rattle.fields_core.proofs.TentRuleLemmas as tents
 use Rattle.maker_core.specs.Draws.{HasWords, IsFirstPassing, Making, NonePasses, filling_at, stream_after}
 use Rattle.maker_core.specs.Made.{HasOne, IsOnlySolution, TellsOne, is_one}
 use Rattle.maker_core.specs.PatternMaking.{IsPatternMade, clued_by, pattern_filling, pattern_passes}
@@ -37,19 +45,26 @@ use Rattle.maker_core.specs.TentFilling.{tent_filling, tents_pass, tents_puzzle_
 use Rattle.maker_core.proofs.BlackCells.{black_cells-grid}
 use Rattle.maker_core.proofs.PatternMakings.{pattern_only, pattern_solved}
 use Rattle.maker_core.proofs.TentMakings.{tents_only, tents_size}
-use Rattle.pattern_core.specs.LineLaws.{is_solution-from, is_solution-is, line_rules-lawful}
-use Rattle.pattern_core.specs.LineRules.{line_rules}
-use Rattle.pattern_core.specs.Solutions.{IsPatternSolution}
+use Rattle.puzzles.specs.Seeds.{seed_key, seed_stream}
 use Rattle.puzzles.specs.Answers.{Answer, Text}
 use Rattle.puzzles.specs.Games.{Playing, played}
-use Rattle.puzzles.specs.Making.{AllowsMade, AllowsOfSize, MakesOf, wanted}
-use Rattle.puzzles.specs.Makings.{AllowsMaking, Wanted, exhausted_answer, made_answer, size_to_make}
-use Rattle.puzzles.specs.Refusals.{fault_text, refused}
-use Rattle.puzzles.specs.Seeds.{seed_stream}
-use Rattle.puzzles.proofs.FaultsOnce.{first_of}
-use Rattle.puzzles.proofs.OneAnswer.{AreSame}
-use Rattle.puzzles.proofs.SearchedPuzzles.{SearchedPuzzle, tents_searched}
-use Rattle.puzzles.proofs.SeedWords.{seed_words}
+use Rattle.puzzles.specs.Allowed.{AllowsMade, AllowsOfSize, MakesOf, wanted}
+use Rattle.puzzles.specs.Makings.{IsExhausted, Wanted, exhausted_answer, made_answer, size_to_make}
+use Rattle.puzzles.specs.LawsOfCommands.{HasOneAnswer}
+use Rattle.puzzles.proofs.FaultsOnce.{first_of, least_once}
+use Rattle.puzzles.proofs.Readings.{Reading, id_once}
+use Rattle.puzzles.proofs.SearchedPuzzles.{tents_searched}
+
+block_below : (n : ℕ) (key : List ℕ) (counter nonce k : ℕ) → block_word n key counter nonce k < 2 ^ 32
+unfolding block_word
+block_below n key counter nonce k = mod_below _ (2 ^ 32) (omega arith)
+
+step_below : (n : ℕ) (g : ChaCha) → (next_word n g).0 < 2 ^ 32
+step_below n g = block_below n g.key (g.word_pos / 16) g.stream (g.word_pos % 16)
+
+pub seed_words : (seed : ℕ) → HasWords (seed_stream seed)
+unfolding stream_of
+seed_words seed = record { below = λ calls. step_below 4 (state_after (steps_u32 (next_word 4)) calls (of_seed (seed_key seed))) }
 
 -- ---- the first filling that passes
 module _ {A : Type 0} (make : Making A) (passes : A → Bool) (s : Stream) (tries : ℕ) where
@@ -68,88 +83,65 @@ module _ {A : Type 0} (make : Making A) (passes : A → Bool) (s : Stream) (trie
       by (None, all) = inr (record { failing = λ j lt. not-true (passes (filling_at make j s)) (all_below-at (λ j. not (passes (filling_at make j s))) tries j all lt) })
 
   pub first_once : (j k : ℕ) → IsFirstPassing make passes s tries j → IsFirstPassing make passes s tries k → j ≡ k
-  first_once j k a b = elim (cases_lt j k) [
-    | inl low ↦ absurd (true≢false (sym a.passing ∙ b.failing j low))
-    | inr high ↦ elim (cases_lt k j) [ inl low ↦ absurd (true≢false (sym b.passing ∙ a.failing k low)) | inr also ↦ omega arith ]
-  ]
+  first_once j k a b = least_once (λ n. passes (filling_at make n s) ≡ false) (λ n. passes (filling_at make n s) ≡ true) (λ n off on. true≢false (sym on ∙ off)) j k
+      a.passing b.passing a.failing b.failing
 
   pub first_not_none : (k : ℕ) → IsFirstPassing make passes s tries k → NonePasses make passes s tries → ⊥
   first_not_none k a none = true≢false (sym a.passing ∙ none.failing k a.within)
 
--- ---- the size of a making is one alone
-pub making_same : (reading : Result SizeRead IdFault) (allows : SizeRead → Answer → Type 0) → ((size : SizeRead) → AreSame (allows size)) → AreSame (AllowsMaking reading allows)
-making_same reading allows same a b (inl x) (inl y) = x.told ∙ ap (λ (f : IdFault). refused (fault_text f)) (faults x.fault y.fault (sym x.first ∙ y.first)) ∙ sym y.told
-  where
-    faults : (f h : IdFault) → ◌≡◌ {A = Result SizeRead IdFault} (Err f) (Err h) → f ≡ h
-    faults f h e = cc
-making_same reading allows same a b (inl x) (inr y) = absurd (apart (sym x.first ∙ y.read))
-  where
-    apart : ◌≡◌ {A = Result SizeRead IdFault} (Err x.fault) (Ok y.size) → ⊥
-    apart e = cc
-making_same reading allows same a b (inr x) (inl y) = absurd (apart (sym y.first ∙ x.read))
-  where
-    apart : ◌≡◌ {A = Result SizeRead IdFault} (Err y.fault) (Ok x.size) → ⊥
-    apart e = cc
-making_same reading allows same a b (inr x) (inr y) = same x.size a b x.allowed (subst (λ (s : SizeRead). allows s b) (sizes y.size x.size (sym y.read ∙ x.read)) y.allowed)
-  where
-    sizes : (s t : SizeRead) → ◌≡◌ {A = Result SizeRead IdFault} (Ok s) (Ok t) → s ≡ t
-    sizes s t e = cc
+  -- so one answer is allowed, where what is handed out is of the first filling that passes
+  pub making_once : (handed : Answer → Type 0) (told : A → Answer)
+      → ((a : Answer) → handed a → (k : ℕ) × IsFirstPassing make passes s tries k × (a ≡ told (filling_at make k s)))
+      → ((k : ℕ) → IsFirstPassing make passes s tries k → handed (told (filling_at make k s)))
+      → HasOneAnswer (λ a. handed a ⊎ IsExhausted make passes s tries a)
+  making_once handed told of by = elim first_or_none [
+    | inl first ↦ record { answer = told (filling_at make first.0 s); allowed = inl (by first.0 first.1); only = some first.0 first.1 }
+    | inr none ↦ record { answer = exhausted_answer; allowed = inr (record { none = none; told = refl }); only = exhausted none }
+  ]
+    where
+      some : (k : ℕ) → IsFirstPassing make passes s tries k → (other : Answer) → handed other ⊎ IsExhausted make passes s tries other → told (filling_at make k s) ≡ other
+      some k first other (inl h) = let x = of other h in ap (λ (n : ℕ). told (filling_at make n s)) (first_once k x.0 first x.1) ∙ sym x.2
+      some k first other (inr none) = absurd (first_not_none k first none.none)
 
--- a text that is a size has an answer where that has, and any other its fault
-some_made : {P : Type 0} (play : Playing P) (w : Wanted) (text : Text) → ((read : SizeRead) → play.game.sizes text ≡ Ok read → (a : Answer) × AllowsOfSize play w read a)
-    → (a : Answer) × MakesOf play w text a
-some_made play w text each = by (play.game.sizes text) refl
+      exhausted : NonePasses make passes s tries → (other : Answer) → handed other ⊎ IsExhausted make passes s tries other → exhausted_answer ≡ other
+      exhausted none other (inl h) = let x = of other h in absurd (first_not_none x.0 x.1 none)
+      exhausted none other (inr also) = sym also.told
+
+-- a text is one size, or has one fault
+size_reading : (sizes : Text → Result SizeRead IdFault) → Reading sizes (λ text size. sizes text ≡ Ok size)
+size_reading sizes = record { one = λ text p q a b. cc; apart = λ text p f a b. cc; either = λ text. by text (sizes text) refl }
   where
-    by : (r : Result SizeRead IdFault) → play.game.sizes text ≡ r → (a : Answer) × MakesOf play w text a
-    by (Err f) is = (refused (fault_text f), inl (record { fault = f; first = is; told = refl }))
-    by (Ok read) is = let one = each read is in (one.0, inr (record { size = read; read = is; allowed = one.1 }))
+    by : (text : Text) (r : Result SizeRead IdFault) → sizes text ≡ r → ((size : SizeRead) × (sizes text ≡ Ok size)) ⊎ ((f : IdFault) × (sizes text ≡ Err f))
+    by text (Ok size) is = inl (size, is)
+    by text (Err f) is = inr (f, is)
 
--- a puzzle of which no clue was thinned is handed out
-handed_out : {P : Type 0} (play : Playing P) (w : Wanted) (read : SizeRead) (p : P) (g : List ℕ) → play.game.makes read w p g []
-    → play.game.spells (play.game.written p) p → (a : Answer) × AllowsOfSize play w read a
-handed_out play w read p g made spelled = (_, inl (record { puzzle = p; solution = g; kept = []; made = made; spelled = spelled; told = refl }))
+made_once : {P : Type 0} (play : Playing P) (w : Wanted) (text : Text) → ((read : SizeRead) → play.game.sizes text ≡ Ok read → HasOneAnswer (AllowsOfSize play w read))
+    → HasOneAnswer (MakesOf play w text)
+made_once play w text each = id_once play.game.sizes (λ text size. play.game.sizes text ≡ Ok size) (size_reading play.game.sizes) text (AllowsOfSize play w) each
 
-pub made_pattern_same : (text : Text) (seed budget tries black : ℕ) → AreSame (AllowsMade game.Pattern text seed budget tries black)
-made_pattern_same text seed budget tries black = making_same (size_to_make game.Pattern text) (AllowsOfSize (played game.Pattern) (wanted seed budget tries black)) same
-  where
-    same : (read : SizeRead) → AreSame (AllowsOfSize (played game.Pattern) (wanted seed budget tries black) read)
-    same read a b (inl x) (inl y) =
-        let size : Extent = extent_of read in
-        let make : Making (List ℕ) = pattern_filling size black in
-        let k = first_once make (pattern_passes size budget) (seed_stream seed) tries x.made.k y.made.k x.made.first y.made.first in
-        let g : x.solution ≡ y.solution = x.made.filled ∙ ap (λ (n : ℕ). filling_at make n (seed_stream seed)) k ∙ sym y.made.filled in
-        let p : x.puzzle ≡ y.puzzle = x.made.clues ∙ ap (clued_by size) g ∙ sym y.made.clues in
-        x.told ∙ ap₂ (λ (q : Pattern) (f : List ℕ). made_answer (pattern_text q) (grid_text (pattern_cell q f) q.size)) p g ∙ sym y.told
-    same read a b (inl x) (inr y) = absurd (first_not_none (pattern_filling (extent_of read) black) (pattern_passes (extent_of read) budget) (seed_stream seed) tries x.made.k x.made.first y.none)
-    same read a b (inr x) (inl y) = absurd (first_not_none (pattern_filling (extent_of read) black) (pattern_passes (extent_of read) budget) (seed_stream seed) tries y.made.k y.made.first x.none)
-    same read a b (inr x) (inr y) = x.told ∙ sym y.told
+abbrev handed_answer : {P : Type 0} → Playing P → P → List ℕ → Answer
+handed_answer play p g = made_answer (play.game.written p) (grid_text (play.cell_text p g) (play.extent p))
 
-pub made_tents_same : (text : Text) (seed budget tries black : ℕ) → AreSame (AllowsMade game.Tents text seed budget tries black)
-made_tents_same text seed budget tries black = making_same (size_to_make game.Tents text) (AllowsOfSize (played game.Tents) (wanted seed budget tries black)) same
-  where
-    same : (read : SizeRead) → AreSame (AllowsOfSize (played game.Tents) (wanted seed budget tries black) read)
-    same read a b (inl x) (inl y) =
-        let size : Extent = extent_of read in
-        let k = first_once (tent_filling size) (tents_pass size budget) (seed_stream seed) tries x.made.k y.made.k x.made.first y.made.first in
-        let g : x.solution ≡ y.solution = x.made.filled ∙ ap (λ (n : ℕ). (filling_at (tent_filling size) n (seed_stream seed)).tents) k ∙ sym y.made.filled in
-        let p : x.puzzle ≡ y.puzzle = x.made.clues ∙ ap (λ (n : ℕ). tents_puzzle_of size (filling_at (tent_filling size) n (seed_stream seed))) k ∙ sym y.made.clues in
-        x.told ∙ ap₂ (λ (q : Tents) (f : List ℕ). made_answer (tents_text q) (grid_text (tents_cell q f) q.size)) p g ∙ sym y.told
-    same read a b (inl x) (inr y) = absurd (first_not_none (tent_filling (extent_of read)) (tents_pass (extent_of read) budget) (seed_stream seed) tries x.made.k x.made.first y.none)
-    same read a b (inr x) (inl y) = absurd (first_not_none (tent_filling (extent_of read)) (tents_pass (extent_of read) budget) (seed_stream seed) tries y.made.k y.made.first x.none)
-    same read a b (inr x) (inr y) = x.told ∙ sym y.told
-
--- ---- a filling of Pattern that passes is the one solution of its puzzle
+-- ---- what a search finds
 one_found : (o : Outcome) → is_one o ≡ true → (g : List ℕ) × (o ≡ OneGrid g)
 one_found (OneGrid g) e = (g, refl)
 one_found o e = absurd (true≢false (sym e))
 
-is_extent : (w h : ℕ) → in_range game.Pattern w h ≡ true → IsExtent (record { w = w; h = h })
-is_extent w h e =
-    let a = and_parts (nat_le 1 w && nat_le 1 h && nat_le w max_side) (nat_le h max_side) e in
-    let b = and_parts (nat_le 1 w && nat_le 1 h) (nat_le w max_side) a.0 in
-    let c = and_parts (nat_le 1 w) (nat_le 1 h) b.0 in
-    record { w_low = leb-true _ _ c.0; w_high = leb-true _ _ b.1; h_low = leb-true _ _ c.1; h_high = leb-true _ _ a.1 }
+has_one : (rules : Puzzle) → IsLawful rules → (budget : ℕ) → is_one (verdict_of rules budget) ≡ true → HasOne rules budget
+has_one rules laws budget one =
+    let found = one_found (verdict_of rules budget) one in
+    record { answer = found.0; found = found.1; only = subst (IsTrueOf rules) found.1 (outcome-true rules laws budget) }
 
+is_extent : (least w h : ℕ) → 1 ≤ least → (nat_le least w && nat_le least h && nat_le w max_side && nat_le h max_side) ≡ true → IsExtent (record { w = w; h = h })
+is_extent least w h low e =
+    let a = and_parts (nat_le least w && nat_le least h && nat_le w max_side) (nat_le h max_side) e in
+    let b = and_parts (nat_le least w && nat_le least h) (nat_le w max_side) a.0 in
+    let c = and_parts (nat_le least w) (nat_le least h) b.0 in
+    let wide = leb-true _ _ c.0 in
+    let high = leb-true _ _ c.1 in
+    record { w_low = omega arith; w_high = leb-true _ _ b.1; h_low = omega arith; h_high = leb-true _ _ a.1 }
+
+-- ---- a filling of Pattern that passes is the one solution of its puzzle
 module _ (size : Extent) (extent : IsExtent size) (black budget tries : ℕ) (s : Stream) where
   abbrev grid_of : ℕ → List ℕ
   grid_of k = filling_at (pattern_filling size black) k s
@@ -171,31 +163,27 @@ module _ (size : Extent) (extent : IsExtent size) (black budget tries : ℕ) (s 
           (record { sized = refl; columns = λ x lt. at_column runs [] size (grid_of k) x lt; rows = λ y lt. at_row runs [] size (grid_of k) y lt })
           (black_cells-grid black (size.w * size.h) (stream_after (pattern_filling size black) k s))
 
-      has : HasOne (line_rules (clued_by size (grid_of k))) budget
-      has =
-          let found = one_found (verdict_of (line_rules (clued_by size (grid_of k))) budget) first.passing in
-          record {
-            answer = found.0;
-            found = found.1;
-            only = subst (IsTrueOf (line_rules (clued_by size (grid_of k)))) found.1
-                (outcome-true (line_rules (clued_by size (grid_of k))) (line_rules-lawful (clued_by size (grid_of k)) extent) budget);
-          }
-
       only : IsOnlySolution (IsPatternSolution (clued_by size (grid_of k))) (grid_of k) × TellsOne (line_rules (clued_by size (grid_of k))) budget (grid_of k)
-      only = pattern_only (clued_by size (grid_of k)) (grid_of k) (λ q h grid. (is_solution-is q h grid, is_solution-from q h)) budget has solved
+      only = pattern_only (clued_by size (grid_of k)) (grid_of k) (λ q h grid. (is_solution-is q h grid, is_solution-from q h)) budget
+          (has_one (line_rules (clued_by size (grid_of k))) (line_rules-lawful (clued_by size (grid_of k)) extent) budget first.passing) solved
 
-pub made_pattern_some : (text : Text) (seed budget tries black : ℕ) → (a : Answer) × AllowsMade game.Pattern text seed budget tries black a
-made_pattern_some text seed budget tries black = some_made (played game.Pattern) (wanted seed budget tries black) text (λ read is.
+pub made_pattern : (text : Text) (seed budget tries black : ℕ) → HasOneAnswer (AllowsMade game.Pattern text seed budget tries black)
+made_pattern text seed budget tries black = made_once (played game.Pattern) (wanted seed budget tries black) text (λ read is.
     let size : Extent = extent_of read in
-    let extent = is_extent read.w read.h (size_take game.Pattern text read is).1 in
-    elim (first_or_none (pattern_filling size black) (pattern_passes size budget) (seed_stream seed) tries) [
-      | inr none ↦ (exhausted_answer, inr (record { none = none; told = refl }))
-      | inl first ↦
-          let g : List ℕ = filling_at (pattern_filling size black) first.0 (seed_stream seed) in
-          let p : Pattern = clued_by size g in
-          handed_out (played game.Pattern) (wanted seed budget tries black) read p g (pattern_made size extent black budget tries (seed_stream seed) first.0 first.1)
-          (pattern_is_written p (runs_lawful size g (lines_runs size g) extent refl)).spells
-    ])
+    let s = seed_stream seed in
+    let extent = is_extent 1 read.w read.h (omega arith) (size_take game.Pattern text read is).1 in
+    making_once (pattern_filling size black) (pattern_passes size budget) s tries _ (λ g. handed_answer (played game.Pattern) (clued_by size g) g)
+    (λ a h. (h.made.k, h.made.first, h.told ∙ ap₂ (handed_answer (played game.Pattern)) (h.made.clues ∙ ap (clued_by size) h.made.filled) h.made.filled))
+    (λ k first.
+    let g : List ℕ = filling_at (pattern_filling size black) k s in
+    record {
+      puzzle = clued_by size g;
+      solution = g;
+      kept = [];
+      made = pattern_made size extent black budget tries s k first;
+      spelled = (pattern_is_written (clued_by size g) (runs_lawful size g (lines_runs size g) extent refl)).spells;
+      told = refl;
+    }))
 
 -- ---- a filling of Tents that passes is the one solution of its puzzle
 record IsTentsExtent (size : Extent) : Type 0 where
@@ -209,21 +197,12 @@ tents_extent text read e =
     let large = chosen (nat_le 4 sized.0.w && nat_le 4 sized.0.h) (taken sized.0) (Err SizeRange) (taken read) sized.2 in
     elim large [
       | inl four ↦ subst (λ (s : SizeRead). IsTentsExtent (extent_of s)) (ok_is sized.0 read four.1) (record {
-        extent = wide sized.0.w sized.0.h (size_take game.Tents text sized.0 sized.1).1;
+        extent = is_extent 2 sized.0.w sized.0.h (omega arith) (size_take game.Tents text sized.0 sized.1).1;
         w_four = leb-true _ _ (and_parts (nat_le 4 sized.0.w) (nat_le 4 sized.0.h) four.0).0;
         h_four = leb-true _ _ (and_parts (nat_le 4 sized.0.w) (nat_le 4 sized.0.h) four.0).1;
       })
       | inr small ↦ absurd (let bad : Err SizeRange ≡ taken read = small.1 in cc)
     ]
-  where
-    wide : (w h : ℕ) → in_range game.Tents w h ≡ true → IsExtent (record { w = w; h = h })
-    wide w h e =
-        let a = and_parts (nat_le 2 w && nat_le 2 h && nat_le w max_side) (nat_le h max_side) e in
-        let b = and_parts (nat_le 2 w && nat_le 2 h) (nat_le w max_side) a.0 in
-        let c = and_parts (nat_le 2 w) (nat_le 2 h) b.0 in
-        let w_two = leb-true _ _ c.0 in
-        let h_two = leb-true _ _ c.1 in
-        record { w_low = omega arith; w_high = leb-true _ _ b.1; h_low = omega arith; h_high = leb-true _ _ a.1 }
 
 -- what fillings of Tents are; `maker_core` keeps the name of their type to itself
 abbrev MadeBy : {A : Type 0} → (Extent → Making A) → Type 0
@@ -268,32 +247,25 @@ module _ (filled : AreFilled) (size : Extent) (large : IsTentsExtent size) (budg
     unthinned = refl;
   }
     where
-      searched : SearchedPuzzle (tent_rules (camp_puzzle k)) (IsTentSolution (camp_puzzle k))
-      searched = tents_searched (camp_puzzle k) (camp_lawful k)
-
-      has : HasOne (tent_rules (camp_puzzle k)) budget
-      has =
-          let found = one_found (verdict_of (tent_rules (camp_puzzle k)) budget) first.passing in
-          record {
-            answer = found.0;
-            found = found.1;
-            only = subst (IsTrueOf (tent_rules (camp_puzzle k))) found.1 (outcome-true (tent_rules (camp_puzzle k)) searched.lawful budget);
-          }
-
       only : IsOnlySolution (IsTentSolution (camp_puzzle k)) (camp_of k).tents × TellsOne (tent_rules (camp_puzzle k)) budget (camp_of k).tents
       only = tents_only size (camp_of k) (camp_puzzle k) refl (filled.solved size s k large.extent words)
-          (λ q h grid. (tents.rule-from-test q h grid, tents.test-from-rule q h grid)) budget has
+          (λ q h grid. (tents.rule-from-test q h grid, tents.test-from-rule q h grid)) budget
+          (has_one (tent_rules (camp_puzzle k)) (tents_searched (camp_puzzle k) (camp_lawful k)).lawful budget first.passing)
 
-pub made_tents_some : AreFilled → (text : Text) (seed budget tries black : ℕ) → (a : Answer) × AllowsMade game.Tents text seed budget tries black a
-made_tents_some filled text seed budget tries black = some_made (played game.Tents) (wanted seed budget tries black) text (λ read is.
+pub made_tents : AreFilled → (text : Text) (seed budget tries black : ℕ) → HasOneAnswer (AllowsMade game.Tents text seed budget tries black)
+made_tents filled text seed budget tries black = made_once (played game.Tents) (wanted seed budget tries black) text (λ read is.
     let size : Extent = extent_of read in
+    let s = seed_stream seed in
     let large = tents_extent text read is in
-    elim (first_or_none (tent_filling size) (tents_pass size budget) (seed_stream seed) tries) [
-      | inr none ↦ (exhausted_answer, inr (record { none = none; told = refl }))
-      | inl first ↦
-          let camp : Camp = filling_at (tent_filling size) first.0 (seed_stream seed) in
-          let p : Tents = tents_puzzle_of size camp in
-          handed_out (played game.Tents) (wanted seed budget tries black) read p camp.tents
-          (tents_made filled size large budget tries (seed_stream seed) (seed_words seed) first.0 first.1)
-          (tents_is_written p (camp_lawful filled size large budget tries (seed_stream seed) (seed_words seed) first.0)).spells
-    ])
+    making_once (tent_filling size) (tents_pass size budget) s tries _ (λ camp. handed_answer (played game.Tents) (tents_puzzle_of size camp) camp.tents)
+    (λ a h. (h.made.k, h.made.first, h.told ∙ ap₂ (handed_answer (played game.Tents)) h.made.clues h.made.filled))
+    (λ k first.
+    let camp : Camp = filling_at (tent_filling size) k s in
+    record {
+      puzzle = tents_puzzle_of size camp;
+      solution = camp.tents;
+      kept = [];
+      made = tents_made filled size large budget tries s (seed_words seed) k first;
+      spelled = (tents_is_written (tents_puzzle_of size camp) (camp_lawful filled size large budget tries s (seed_words seed) k)).spells;
+      told = refl;
+    }))

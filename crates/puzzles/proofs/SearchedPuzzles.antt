@@ -1,10 +1,20 @@
 -- What the searches rest on, for a puzzle of each game, and what follows for their verdicts.
-use Rattle.std.proofs.Common.{◌≡◌, ◌∙◌, ◌≤◌, ◌∷◌, ℕ, zero, suc, List, [], Option, Some, None, refl, sym, ap, arith}
+use Rattle.std.proofs.Common.{◌≡◌, ℕ, List, Some, None, ◌∙◌, ◌≤◌, ◌∷◌, zero, suc, [], Option, refl, sym, ap, arith}
 use Rattle.std.specs.Prelude.{◌↔◌}
-use Rattle.engine_core.specs.Puzzle.{IsLawful, Puzzle}
-use Rattle.engine_core.specs.Verdict.{Outcome, Outcome.NoGrid, Outcome.OneGrid, Outcome.TwoGrids, Outcome.OutOfBudget, Solves, outcome, trials_in, verdict_of}
+use Rattle.grid_core.specs.Extent.{Extent}
+use Rattle.gameid_core.specs.GridTexts.{grid_text}
+use Rattle.gameid_core.specs.Puzzles.{IsLight, IsPattern, IsSolo, IsTents, Light, Pattern, Solo, Tents}
+use Rattle.engine_core.specs.Puzzle.{Puzzle, IsLawful}
+use Rattle.engine_core.specs.Verdict.{Outcome, Outcome.NoGrid, Outcome.OneGrid, Outcome.TwoGrids, Outcome.OutOfBudget, verdict_of, IsTrueOf, Solves, outcome, trials_in}
 use Rattle.engine_core.specs.Walk.{Mark, Mark.Found, Mark.Trial, walk}
 use Rattle.engine_core.proofs.VerdictLemmas.{outcome-true}
+use Rattle.pattern_core.specs.LineLaws.{is_solution-from, is_solution-is, line_rules-lawful}
+use Rattle.pattern_core.specs.LineRules.{line_rules}
+use Rattle.pattern_core.specs.Solutions.{IsPatternSolution}
+use Rattle.solo_core.specs.RuleLaws.{crossings_lawful, houses_lawful, singles_lawful}
+use Rattle.solo_core.specs.RuleSets.{crossings_rules, houses_rules, singles_rules}
+use Rattle.solo_core.specs.SolutionLaws.{rule_from_test, test_from_rule}
+use Rattle.solo_core.specs.Solutions.{IsSoloSolution}
 use Rattle.fields_core.specs.LightHouses.{light_rules}
 use Rattle.fields_core.specs.LightLaws.{light-lawful}
 use Rattle.fields_core.specs.LightSolutions.{IsLightSolution}
@@ -15,22 +25,29 @@ use Rattle.fields_core.proofs.LightCounting.{light-counting}
 use Rattle.fields_core.proofs.LightRuleLemmas as light
 use Rattle.fields_core.proofs.TentCounting.{tent-counting}
 use Rattle.fields_core.proofs.TentRuleLemmas as tents
-use Rattle.gameid_core.specs.GridTexts.{grid_text}
-use Rattle.gameid_core.specs.Puzzles.{IsLight, IsPattern, IsSolo, IsTents, Light, Pattern, Solo, Tents}
-use Rattle.grid_core.specs.Extent.{Extent}
-use Rattle.pattern_core.specs.LineLaws.{is_solution-from, is_solution-is, line_rules-lawful}
-use Rattle.pattern_core.specs.LineRules.{line_rules}
-use Rattle.pattern_core.specs.Solutions.{IsPatternSolution}
-use Rattle.solo_core.specs.RuleLaws.{crossings_lawful, houses_lawful, singles_lawful}
-use Rattle.solo_core.specs.RuleSets.{crossings_rules, houses_rules, singles_rules}
-use Rattle.solo_core.specs.SolutionLaws.{rule_from_test, test_from_rule}
-use Rattle.solo_core.specs.Solutions.{IsSoloSolution}
-use Rattle.puzzles.specs.Answers.{Text}
+use Rattle.puzzles.specs.Answers.{Answer, Text}
+use Rattle.puzzles.specs.Allowed.{IsSolved}
+use Rattle.puzzles.specs.Replies.{IsRight, verdict_answer}
 use Rattle.puzzles.specs.Grades.{HasOneSolution}
-use Rattle.puzzles.specs.LawsOfAnswers.{HasOneAnswer}
-use Rattle.puzzles.specs.Solving.{IsSolved}
-use Rattle.puzzles.specs.Verdicts.{IsRight, verdict_answer}
-use Rattle.puzzles.proofs.AnswerLemmas.{right_of}
+use Rattle.puzzles.specs.LawsOfCommands.{HasOneAnswer}
+
+-- what is true of the grids that the rules accept is right of the solutions, where these are the same
+pub right_of : (p : Puzzle) (solves : List ℕ → Type 0) (o : Outcome) → ((g : List ℕ) → Solves p g ↔ solves g) → IsTrueOf p o → IsRight solves o
+right_of p solves NoGrid same h = λ g s. h g ((same g).1 s)
+right_of p solves (OneGrid g) same h = ((same g).0 h.0, λ k s. h.1 k ((same k).1 s))
+right_of p solves (TwoGrids g k) same h = ((same g).0 h.0, (same k).0 h.1, h.2)
+right_of p solves (OutOfBudget None) same h = tt
+right_of p solves (OutOfBudget (Some g)) same h = (same g).0 h
+
+module _ {P : Type 0} (solves : P → List ℕ → Type 0) (rules : P → Puzzle) (cell : P → List ℕ → ℕ → Text) (size : P → Extent) (budget : ℕ) where
+  -- a search by the rules of a puzzle tells what is allowed
+  pub solved_of : (p : P) (q : Puzzle) (a : Answer) → q ≡ rules p → ((g : List ℕ) → Solves (rules p) g ↔ solves p g)
+      → a ≡ verdict_answer (λ g. grid_text (cell p g) (size p)) (verdict_of q budget) → IsTrueOf q (verdict_of q budget)
+      → IsSolved (solves p) (rules p) (cell p) (size p) budget a
+  solved_of p q a same accepted told right = record {
+    right = right_of (rules p) (solves p) _ accepted (rw same at right);
+    told = rw same at told;
+  }
 
 -- the rules are lawful, and accept the solutions
 pub record SearchedPuzzle (rules : Puzzle) (solves : List ℕ → Type 0) : Type 0 where

@@ -1,15 +1,46 @@
--- A batch, between two bytes of its input. No contract of a run uses these words.
-use Rattle.std.specs.Prelude.{◌≡◌, ◌==◌, ◌++◌, false}
+-- What is kept of a line that is being read, and a batch, between two bytes of its input. No
+-- contract of a run uses these words.
+use Rattle.std.specs.Borrow.{Bor}
+use Rattle.std.specs.Prelude.{◌≡◌, ◌==◌, ◌<◌, ℕ, List, Option, MatchOption, [], ◌∷◌, length, take, drop, if◌then◌else◌, ◌++◌, false}
 use Rattle.std.specs.List.{All}
 use Rattle.std.specs.Str.Lines.{lines}
+use Rattle.gameid_core.specs.Head.{max_id}
+use Rattle.puzzles.specs.declared.batch.lines.Tail.{Tail}
+use Rattle.puzzles.specs.declared.batch.lines.Tail.TheVariants.{Nothing, Return, More}
+use Rattle.puzzles.specs.declared.batch.lines.Line.{Line}
 use Rattle.puzzles.specs.Answers.{Answer, Text}
 use Rattle.puzzles.specs.Each.{AllowsEach, Answered, Begun, HasAnswers, Stopped, both}
-use Rattle.puzzles.specs.LineStates.{Holds}
-use Rattle.puzzles.specs.Statuses.{code_of}
-use Rattle.puzzles.specs.Solving.{AllowsSolve}
+use Rattle.puzzles.specs.Texts.{Given}
+use Rattle.puzzles.specs.Replies.{code_of}
+use Rattle.puzzles.specs.Allowed.{AllowsSolve}
 use Rattle.puzzles.specs.declared.answers.status.Status.{Status}
 use Rattle.puzzles.specs.declared.batch.Batch.{Batch}
 use Rattle.puzzles.specs.declared.solve.Task.{Task}
+
+-- what the bytes after those that are kept come to
+abbrev pub tail_of : List ℕ → Tail
+tail_of [] = Nothing
+tail_of (x ∷ []) = if x == 13 then Return else More
+tail_of (x ∷ y ∷ rest) = More
+
+-- the same with one more byte
+abbrev pub next_tail : Tail → ℕ → Tail
+next_tail Nothing byte = if byte == 13 then Return else More
+next_tail _ byte = More
+
+-- the state stands for these bytes, all that came since the last line, of which no more than so
+-- many are kept
+pub record HoldsUpTo (most : ℕ) (line : Line) (piece : List ℕ) : Type 0 where
+  pub kept : line.kept.items ≡ take most piece
+  pub tail : line.tail ≡ tail_of (drop most piece)
+
+-- no more than the bytes of an ID are kept
+abbrev pub Holds : Line → List ℕ → Type 0
+Holds line piece = HoldsUpTo max_id line piece
+
+-- the line is there with these bytes, or they are too many for an ID
+abbrev pub IsLine : Option (Bor (List ℕ)) → List ℕ → Type 0
+IsLine line bytes = MatchOption line (max_id < length bytes) (λ l. l.now ≡ bytes)
 
 -- what is allowed to a line of the task
 abbrev pub AllowsTask : Task → Text → Answer → Type 0
@@ -56,28 +87,14 @@ module _ {S : Type 0} (takes : S → Text → S → Type 0) (task : Task) where
       → Batched takes (AllowsTask task) start batch seen now
       → Begun takes (AllowsTask task) start seen new
 
--- The bytes that the source gave between two moments were taken.
-pub record TakenUpTo {I S : Type 0} (gives : I → Text → I → Type 0) (takes : S → Text → S → Type 0)
-    (allows : Text → Answer → Type 0) (from : I) (start : S) (batch : Batch) (to : I)
-    (now : S) : Type 0 where
-  pub seen : Text
-  pub gave : gives from seen to
-  pub batched : Batched takes allows start batch seen now
-
--- The bytes that the source gave between two moments were taken so far as what was written says.
-pub record StoppedUpTo {I S : Type 0} (gives : I → Text → I → Type 0)
-    (takes : S → Text → S → Type 0) (allows : Text → Answer → Type 0) (from : I) (start : S)
-    (to : I) (now : S) : Type 0 where
-  pub seen : Text
-  pub gave : gives from seen to
-  pub stopped : Stopped takes allows start seen now
-
+-- The bytes that the source gave between two moments were taken, of a task; or so far as what was
+-- written says, where its lines have answers.
 module _ {I S : Type 0} (gives : I → Text → I → Type 0) (takes : S → Text → S → Type 0)
     (task : Task) where
-  -- the same of a task, whose lines have answers
   abbrev pub TakesTask : I → S → Batch → I → S → Type 0
-  TakesTask = TakenUpTo gives takes (AllowsTask task)
+  TakesTask from start batch to now =
+      Given gives from to (λ seen. Batched takes (AllowsTask task) start batch seen now)
 
   abbrev pub StopsReading : I → S → I → S → Type 0
   StopsReading from start to now = HasAnswers (AllowsTask task)
-      → StoppedUpTo gives takes (AllowsTask task) from start to now
+      → Given gives from to (λ seen. Stopped takes (AllowsTask task) start seen now)

@@ -1,7 +1,9 @@
--- What `check` answers to an input, given a puzzle.
-use Rattle.std.specs.Prelude.{◌≡◌, ◌≤◌, ◌⊎◌, ◌++◌, ◌/◌, ◌%◌, ℕ, List, Option, Some, None, length, codes, decimal, option_map}
-use Rattle.gameid_core.specs.Puzzles.{Pattern, Solo, Light, Tents, solo_n}
+-- What `check` takes for a grid, and what it answers to an input, given a puzzle.
+use Rattle.std.specs.Prelude.{◌∷◌, ◌==◌, ◌&&◌, [], Bool, false, if◌then◌else◌, ◌≡◌, ◌≤◌, ◌⊎◌, ◌++◌, ◌/◌, ◌%◌, ℕ, List, Option, Some, None, length, codes, decimal, option_map}
 use Rattle.grid_core.specs.Extent.{Extent}
+use Rattle.gameid_core.specs.Puzzles.{Pattern, Solo, Light, Tents, solo_n}
+use Rattle.gameid_core.specs.GridReading.{IsPrinted, IsAsShown}
+use Rattle.gameid_core.specs.GridTexts.{grid_text}
 use Rattle.pattern_core.specs.Faults.{IsCheck}
 use Rattle.pattern_core.specs.declared.fault.PatternFault.{PatternFault}
 use Rattle.pattern_core.specs.declared.fault.PatternFault.TheVariants as pattern
@@ -14,13 +16,21 @@ use Rattle.fields_core.specs.declared.light_fault.LightFault.TheVariants as ligh
 use Rattle.fields_core.specs.TentFaults.{IsTentFault}
 use Rattle.fields_core.specs.declared.tent_fault.TentFault.{TentFault}
 use Rattle.fields_core.specs.declared.tent_fault.TentFault.TheVariants as tent
-use Rattle.puzzles.specs.Answers.{Answer, Text}
-use Rattle.gameid_core.specs.GridReading.{IsPrinted}
-use Rattle.puzzles.specs.Checks.{without_returns}
-use Rattle.gameid_core.specs.GridReading.{IsAsShown}
-use Rattle.gameid_core.specs.GridTexts.{grid_text}
-use Rattle.puzzles.specs.Refusals.{refused}
+use Rattle.puzzles.specs.Answers.{Text, Answer}
+use Rattle.puzzles.specs.Replies.{refused}
 use Rattle.puzzles.specs.Texts.{text_limit}
+
+-- a line end, byte 10, comes first
+abbrev pub begins_with_line_end : Text → Bool
+begins_with_line_end [] = false
+begins_with_line_end (byte ∷ rest) = byte == 10
+
+-- the text without each carriage return, byte 13, that stands directly before a line end
+unfoldable pub without_returns : Text → Text
+without_returns [] = []
+without_returns (byte ∷ rest) =
+    if (byte == 13) && begins_with_line_end rest then without_returns rest
+    else byte ∷ without_returns rest
 
 -- nothing is wrong; or this is
 abbrev pub checked : Option Text → Answer

@@ -11,7 +11,6 @@ use Rattle.maker_core.specs.Draws.{Making, NonePasses}
 use Rattle.maker_core.specs.SoloMaking.{NoneFound}
 use Rattle.maker_core.specs.declared.made.Kept.{Kept}
 use Rattle.puzzles.specs.Answers.{Answer, Text}
-use Rattle.puzzles.specs.Refusals.{refused, fault_text}
 
 -- What a puzzle is made by: the words of the seed's generator, the trials of each verdict, the
 -- fillings that may be made, and the percentage of black cells.
@@ -35,23 +34,6 @@ size_to_make game.Tents text =
     size_of game.Tents text >>= (λ size.
     if nat_le 4 size.w && nat_le 4 size.h then Ok size else Err SizeRange)
 size_to_make game text = size_of game text
-
--- the first fault of the size is told
-pub record IsSizeRefused (reading : Result SizeRead IdFault) (answer : Answer) : Type 0 where
-  pub fault : IdFault
-  pub first : reading ≡ Err fault
-  pub told : answer ≡ refused (fault_text fault)
-
--- the size was read, and this is allowed for it
-pub record IsOfSize (reading : Result SizeRead IdFault) (allows : SizeRead → Type 0) : Type 0 where
-  pub size : SizeRead
-  pub read : reading ≡ Ok size
-  pub allowed : allows size
-
--- what is allowed for a size that was read: its fault, or what is made of it
-abbrev pub AllowsMaking : Result SizeRead IdFault → (SizeRead → Answer → Type 0) → Answer → Type 0
-AllowsMaking reading allows answer =
-    IsSizeRefused reading answer ⊎ IsOfSize reading (λ size. allows size answer)
 
 -- a puzzle is told that was made with that solution and with what is known of each clue that was
 -- left; its ID spells it

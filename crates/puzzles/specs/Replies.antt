@@ -1,10 +1,50 @@
--- What a clause reads of a reply, and the answers of `solve`, given how their grids are printed.
-use Rattle.std.specs.Prelude.{◌++◌, List, ℕ, codes, string_bytes}
+-- What is said: the statuses of answers, what is said of a refusal, and the answers of `solve`,
+-- given how their grids are printed.
+use Rattle.std.specs.Prelude.{ℕ, ◌≡◌, ◌++◌, [], Result, Err, codes, decimal, List, string_bytes, ◌≢◌, Some, None, ⊤}
+use Rattle.gameid_core.specs.declared.fault.IdFault.{IdFault}
+use Rattle.gameid_core.specs.declared.fault.IdFault.TheVariants.{TooLong, SeedId, NoColon, BadSize, Variant, SizeRange, BadByte, NumberRange, LineTooFull, TooFew, TooMany, Memory}
 use Rattle.gameid_core.specs.GridTexts.{grid_text}
 use Rattle.gameid_core.specs.declared.printed.Printed as printed
+use Rattle.engine_core.specs.Puzzle.{Puzzle}
+use Rattle.engine_core.specs.Verdict.{Outcome, Outcome.NoGrid, Outcome.OneGrid, Outcome.TwoGrids, Outcome.OutOfBudget, verdict_of}
+use Rattle.puzzles.specs.declared.answers.status.Status.{Status}
+use Rattle.puzzles.specs.declared.answers.status.Status.TheVariants.{Fine, Wrong, Refused, Several, GaveUp}
 use Rattle.puzzles.specs.Answers.{Answer, Text}
-use Rattle.puzzles.specs.Statuses.{code_of}
 use Rattle.puzzles.specs.declared.answers.reply.Reply.{Reply}
+
+abbrev pub code_of : Status → ℕ
+code_of Fine = 0
+code_of Wrong = 1
+code_of Refused = 2
+code_of Several = 3
+code_of GaveUp = 4
+
+abbrev pub refused : Text → Answer
+refused cause = record { text = codes "refused: " ++ cause ++ codes "\n"; status = 2 }
+
+abbrev pub refused_words : Answer
+refused_words = refused (codes "words")
+
+-- Want of memory is no fault of a text, and nothing is said of it.
+abbrev pub fault_text : IdFault → Text
+fault_text TooLong = codes "too long"
+fault_text SeedId = codes "seed id"
+fault_text NoColon = codes "no colon"
+fault_text BadSize = codes "bad size"
+fault_text Variant = codes "variant"
+fault_text SizeRange = codes "size range"
+fault_text (BadByte place) = codes "bad byte at " ++ decimal place
+fault_text (NumberRange place) = codes "number range at " ++ decimal place
+fault_text (LineTooFull line) = codes "line " ++ decimal line ++ codes " too full"
+fault_text TooFew = codes "too few"
+fault_text TooMany = codes "too many"
+fault_text Memory = []
+
+-- the ID has that first fault, and it is told
+pub record IsRefused {P : Type 0} (reading : Result P IdFault) (answer : Answer) : Type 0 where
+  pub fault : IdFault
+  pub first : reading ≡ Err fault
+  pub told : answer ≡ refused (fault_text fault)
 
 abbrev pub answer_in : Reply → Answer
 answer_in r = record { text = string_bytes r.text; status = code_of r.status }
@@ -29,3 +69,25 @@ grid_of printing p g = grid_text (printing.cell_text p g) (printing.extent p)
 
 abbrev pub two_grids : {P : Type 0} → printed.Ghosts P → P → List ℕ → List ℕ → Answer
 two_grids printing p g h = several_answer (grid_of printing p g) (grid_of printing p h)
+
+-- no grid is a solution; this one is and no other; both are, and they differ; nothing, or that this
+-- one is
+abbrev pub IsRight : (List ℕ → Type 0) → Outcome → Type 0
+IsRight solves NoGrid = (g : List ℕ) → solves g → ⊥
+IsRight solves (OneGrid g) = solves g × ((h : List ℕ) → solves h → g ≡ h)
+IsRight solves (TwoGrids g h) = solves g × solves h × (g ≢ h)
+IsRight solves (OutOfBudget None) = ⊤
+IsRight solves (OutOfBudget (Some g)) = solves g
+
+-- the verdict with its grids, printed so
+abbrev pub verdict_answer : (List ℕ → Text) → Outcome → Answer
+verdict_answer printed NoGrid = none_answer
+verdict_answer printed (OneGrid g) = one_answer (printed g)
+verdict_answer printed (TwoGrids g h) = several_answer (printed g) (printed h)
+verdict_answer printed (OutOfBudget None) = gave_up_answer []
+verdict_answer printed (OutOfBudget (Some g)) = gave_up_answer (printed g)
+
+-- the same by the walk of the rules with the budget
+abbrev pub verdict_told : {P : Type 0} → printed.Ghosts P → P → Puzzle → ℕ → Answer
+verdict_told printing p rules budget =
+    verdict_answer (grid_of printing p) (verdict_of rules budget)

@@ -1,14 +1,30 @@
--- What the words ask for.
-use Rattle.std.specs.Prelude.{false, ℕ, Bool, List, Option, Some, None, String, codes, if◌then◌else◌, map, option_and_then, option_map, string_bytes}
+-- What the words ask for, and numbers in words.
+use Rattle.std.specs.Prelude.{◌&&◌, ℕ, Bool, List, Option, Some, None, if◌then◌else◌, nat_lt, nat_le, length, false, String, codes, map, option_and_then, option_map, string_bytes}
+use Rattle.std.specs.List.{list_all}
+use Rattle.std.specs.Char.{digit_value}
+use Rattle.std.specs.Str.Parse.{digits_value}
 use Rattle.std.specs.Str.{bytes_eq}
 use Rattle.std.specs.Option.{option_map_or}
 use Rattle.clap.specs.Walk.{Row, Text, first_of}
-use Rattle.puzzles.specs.CommandLine.{parsed}
-use Rattle.puzzles.specs.Numbers.{number_of, number_or}
 use Rattle.gameid_core.specs.declared.game.Game.{Game}
 use Rattle.gameid_core.specs.declared.game.Game.TheVariants.{Solo, Pattern, LightUp, Tents}
+use Rattle.puzzles.specs.CommandLine.{parsed}
 use Rattle.puzzles.specs.declared.words.Request.{Request}
 use Rattle.puzzles.specs.declared.words.Request.TheVariants as request
+
+-- one decimal digit or more, and nothing else
+abbrev pub is_number : List ℕ → Bool
+is_number text = nat_lt 0 (length text) && list_all (λ d. nat_lt (digit_value d) 10) text
+
+-- the number that the text writes, up to a limit
+unfoldable pub number_of : ℕ → List ℕ → Option ℕ
+number_of most text = if is_number text && nat_le (digits_value 10 text) most
+    then Some (digits_value 10 text) else None
+
+-- the same, or a number that stands in its place where there is no text
+abbrev pub number_or : ℕ → ℕ → Option (List ℕ) → Option ℕ
+number_or otherwise most None = Some otherwise
+number_or otherwise most (Some text) = number_of most text
 
 -- a request, apart from where its texts lie in memory
 pub data Asked : Type 0 where

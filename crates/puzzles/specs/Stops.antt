@@ -3,7 +3,7 @@
 use Rattle.std.specs.Prelude.{◌≡◌, ◌<◌, ◌≤◌, ℕ, Bool, true, false, Result, Ok, Err}
 use Rattle.puzzles.specs.Answers.{Answer, BeginsAnswer, Text}
 use Rattle.puzzles.specs.Runs.{IsBroken, Ran}
-use Rattle.puzzles.specs.Statuses.{code_of}
+use Rattle.puzzles.specs.Replies.{code_of}
 use Rattle.puzzles.specs.declared.answers.status.Status.{Status}
 use Rattle.puzzles.specs.declared.answers.status.Stop.{Stop}
 use Rattle.puzzles.specs.declared.answers.status.Stop.TheVariants.{Memory, Broken}

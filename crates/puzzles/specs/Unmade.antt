@@ -1,13 +1,15 @@
 -- What a maker made, or why it made no puzzle. No contract of a run uses these words.
-use Rattle.std.specs.Prelude.{◌≡◌, ⊤, ℕ, List, Err}
+use Rattle.std.specs.Prelude.{◌≡◌, ⊤, ℕ, List, Result, Ok, Err}
+use Rattle.gameid_core.specs.Head.{SizeRead}
+use Rattle.gameid_core.specs.declared.fault.IdFault.{IdFault}
 use Rattle.gameid_core.specs.declared.fault.IdFault.TheVariants.{SizeRange}
 use Rattle.maker_core.specs.declared.made.Kept.{Kept}
 use Rattle.maker_core.specs.declared.made.MakeFault.{MakeFault}
 use Rattle.maker_core.specs.declared.made.MakeFault.TheVariants as fault
 use Rattle.puzzles.specs.Answers.{Text}
 use Rattle.puzzles.specs.Games.{GameOf}
-use Rattle.puzzles.specs.Making.{wanted}
-use Rattle.puzzles.specs.Makings.{IsOfSize, Wanted, exhausted_answer}
+use Rattle.puzzles.specs.Allowed.{wanted}
+use Rattle.puzzles.specs.Makings.{Wanted, exhausted_answer}
 use Rattle.puzzles.specs.declared.generate.Recipe.{Recipe}
 use Rattle.puzzles.specs.declared.generate.makable.Unmade.{Unmade}
 use Rattle.puzzles.specs.declared.generate.makable.Unmade.TheVariants.{Size, Exhausted, Memory}
@@ -19,6 +21,12 @@ abbrev pub unmade_by : MakeFault → Unmade
 unmade_by fault.SizeRange = Size SizeRange
 unmade_by fault.Exhausted = Exhausted
 unmade_by fault.Memory = Memory
+
+-- the size was read, and this is allowed for it
+pub record IsOfSize (reading : Result SizeRead IdFault) (allows : SizeRead → Type 0) : Type 0 where
+  pub size : SizeRead
+  pub read : reading ≡ Ok size
+  pub allowed : allows size
 
 -- of the size that the text is that puzzle is made, with that solution and those clues left
 abbrev pub IsMade : {P : Type 0} → GameOf P → Recipe → Text → P → List ℕ → List Kept → Type 0

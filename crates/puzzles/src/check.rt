@@ -1,7 +1,7 @@
 //! `check`: the grid that the input gives, against a puzzle.
 ghost use Rattle.std.specs.Prelude.{true, is_ok, IfOk};
 ghost use Rattle.puzzles.specs.Answers.{Text};
-ghost use Rattle.puzzles.specs.Checking.{AllowsCheck, ChecksGrid, ChecksId, is_read};
+ghost use Rattle.puzzles.specs.Allowed.{AllowsCheck, ChecksGrid, ChecksId, is_read};
 ghost use Rattle.puzzles.specs.Replies.{answer_in};
 ghost use Rattle.puzzles.specs.Texts.{IsText};
 ghost use Rattle.puzzles.specs.Runs.{AreNew};

@@ -2,7 +2,7 @@
 ghost use Rattle.std.specs.Prelude.{◌≡◌, IfOk, string_bytes};
 ghost use Rattle.puzzles.specs.Answers.{IsGridFor};
 ghost use Rattle.puzzles.specs.Games.{played};
-ghost use Rattle.puzzles.specs.Making.{MakesOf};
+ghost use Rattle.puzzles.specs.Allowed.{MakesOf};
 ghost use Rattle.puzzles.specs.Makings.{made_answer, exhausted_answer};
 ghost use Rattle.puzzles.specs.Unmade.{wanted_in};
 ghost use Rattle.puzzles.specs.Replies.{answer_in, grid_of};
@@ -11,7 +11,7 @@ pub mod makable;
 pub mod percent;
 pub mod seed;
 
-use crate::answers::reply::{Reply, id_refused};
+use crate::answers::reply::{Reply, id_refused, words_reply};
 use crate::answers::status::Status;
 use crate::generate::makable::{Makable, Unmade};
 use crate::generate::percent::Percent;
@@ -46,9 +46,7 @@ fn made_reply<P: Printed>(mut text: String, puzzle: &P, grid: &Grid) -> Result<R
 fn exhausted_reply(alloc: Global) -> Result<Reply, AllocError>
     ensures { IfOk result (λ r. answer_in r ≡ exhausted_answer) }
 {
-    let text = String::from_str(alloc, "exhausted\n")?;
-    let status = Status::GaveUp;
-    Ok(Reply { text, status })
+    words_reply(String::new(alloc), "exhausted\n", Status::GaveUp)
 }
 
 /// The answer to a size of which a puzzle is to be made.
@@ -71,10 +69,6 @@ fn generate_one<P: Makable + Drop>(
 }
 
 /// The answer to a size of the game of which a puzzle is to be made.
-///
-/// # Errors
-///
-/// When memory was refused.
 pub fn generated(
     alloc: Global,
     game: Game,

@@ -1,9 +1,5 @@
 //! What ties the commands to one another. These calls do nothing: their contracts are the laws.
-ghost use Rattle.puzzles.specs.LawsOfAnswers.{FixedRequestsHaveOneAnswer};
-ghost use Rattle.puzzles.specs.LawsOfChecks.{CorrectGridsAreSolutions, CorrectGridsAreTheOneTold, SolvedGridsPass};
-ghost use Rattle.puzzles.specs.LawsOfGrades.{GradedPuzzlesHaveOne, GradesGoWithVerdicts, RuleSetsNeedNoTrial};
-ghost use Rattle.puzzles.specs.LawsOfMakings.{LightsNeedTheirClues, MadePuzzlesAreSolved, SoloNeedsItsClues};
-ghost use Rattle.puzzles.specs.LawsOfIds.{RewritingKeepsChecking, RewritingKeepsGrading, RewritingKeepsPuzzles, RewritingKeepsSolving};
+ghost use Rattle.puzzles.specs.LawsOfCommands.{FixedRequestsHaveOneAnswer, CorrectGridsAreSolutions, CorrectGridsAreTheOneTold, SolvedGridsPass, GradedPuzzlesHaveOne, GradesGoWithVerdicts, RuleSetsNeedNoTrial, LightsNeedTheirClues, MadePuzzlesAreSolved, SoloNeedsItsClues, RewritingKeepsChecking, RewritingKeepsGrading, RewritingKeepsPuzzles, RewritingKeepsSolving};
 
 /// A `solve`, a `check`, a `grade` without a trace, a `generate` of Pattern or Tents and words that
 /// are refused have exactly one answer that is allowed, on each input.

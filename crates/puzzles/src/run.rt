@@ -1,14 +1,14 @@
 //! One run of the program.
 ghost use Rattle.std.specs.Prelude.{◌≡◌, ◌<◌, ◌≤◌, true, false, option_map, IfOk};
 ghost use Rattle.puzzles.specs.Answers.{BeginsAnswer, Text, answer_with};
-ghost use Rattle.puzzles.specs.Outputs.{Allows, is_put_whole, reads_input};
+ghost use Rattle.puzzles.specs.Allowed.{Allows, is_put_whole, reads_input};
 ghost use Rattle.puzzles.specs.Replies.{answer_in};
 ghost use Rattle.puzzles.specs.Requests.{asked_in, request_of};
 ghost use Rattle.puzzles.specs.Runs.{AreNew, IsBroken, Ran};
 ghost use Rattle.puzzles.specs.Stops.{LeavesEnds, Runs};
 
-use crate::answers::reply::{Reply, words_refused};
-use crate::answers::status::{Ended, NO_MEMORY};
+use crate::answers::reply::{Reply, words_reply};
+use crate::answers::status::{Ended, NO_MEMORY, Status};
 use crate::batch::solve_lines;
 use crate::check::check_id;
 use crate::ends::output::deliver;
@@ -44,7 +44,7 @@ fn reply_to(alloc: Global, request: Option<Request<'_>>) -> Result<Reply, AllocE
             size.as_bytes(),
             recipe,
         ),
-        _ => words_refused(alloc),
+        _ => words_reply(String::new(alloc), "refused: words\n", Status::Refused),
     }
 }
 

@@ -3,15 +3,13 @@ ghost use Rattle.std.specs.Prelude.{◌≡◌, ◌<◌, ◌*◌, List, ℕ, None
 ghost use Rattle.engine_core.specs.Puzzle.{FitsIn, needs_of};
 ghost use Rattle.engine_core.specs.Verdict.{IsTrueOf, verdict_of};
 ghost use Rattle.puzzles.specs.Each.{HasAnswers};
-ghost use Rattle.puzzles.specs.Solving.{AllowsSolve, SolvesId};
-ghost use Rattle.puzzles.specs.Replies.{answer_in};
-ghost use Rattle.puzzles.specs.Verdicts.{verdict_told};
+ghost use Rattle.puzzles.specs.Allowed.{AllowsSolve, SolvesId};
+ghost use Rattle.puzzles.specs.Replies.{answer_in, verdict_told};
 
 pub mod solvable;
 
-use crate::answers::reply::{
-    Reply, gave_up_reply, gave_up_with_reply, id_refused_in, none_reply, one_reply, several_reply,
-};
+use crate::answers::reply::{Reply, grid_reply, id_refused_in, several_reply, words_reply};
+use crate::answers::status::Status;
 use crate::solve::solvable::Solvable;
 use engine_core::{Rules, Store, Verdict};
 use fields_core::{LightRules, TentRules};
@@ -76,16 +74,22 @@ fn searched<P: Printed, R: Rules>(
         (λ r. IsTrueOf (R.puzzle rules.now) (verdict_of (R.puzzle rules.now) budget)) }
 {
     match store.solve(rules, budget) {
-        Verdict::None => none_reply(text),
-        Verdict::One => one_reply(text, puzzle, store.first().unwrap()),
+        Verdict::None => words_reply(text, "none\n", Status::Wrong),
+        Verdict::One => { grid_reply(text, "one\n", Status::Fine, puzzle, store.first().unwrap()) }
         Verdict::Several => {
             let first = store.first().unwrap();
             several_reply(text, puzzle, first, store.second().unwrap())
         }
         Verdict::GaveUp { found: true } => {
-            gave_up_with_reply(text, puzzle, store.first().unwrap())
+            grid_reply(
+                text,
+                "gave up\n",
+                Status::GaveUp,
+                puzzle,
+                store.first().unwrap(),
+            )
         }
-        Verdict::GaveUp { found: false } => gave_up_reply(text),
+        Verdict::GaveUp { found: false } => words_reply(text, "gave up\n", Status::GaveUp),
     }
 }
 
@@ -126,10 +130,6 @@ impl Stores {
     /// The answer to an ID that is to be solved: its first fault, or the verdict with its grids, in
     /// the memory of `text`, of which nothing else stays. The search works in the memory of the
     /// stores where that is enough, and in new memory where not, which is left there for the next.
-    ///
-    /// # Errors
-    ///
-    /// When memory was refused.
     pub fn solve_id(
         &mut self,
         alloc: Global,

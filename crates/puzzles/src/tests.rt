@@ -1,14 +1,13 @@
 //! Runs over examples, and the program beside slow tests of its own.
 
 mod all_grids;
-mod batches;
-mod checks;
 mod commands;
-mod diagonals;
+mod cuts;
 mod fakes;
 mod grades;
-mod hostile;
 mod makings;
+mod rows;
 mod runs;
 mod seen;
 mod spent;
+mod words;

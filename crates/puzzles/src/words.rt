@@ -1,12 +1,11 @@
 //! What the words of a command line ask for.
-ghost use Rattle.puzzles.specs.Numbers.{number_of, number_or};
+ghost use Rattle.puzzles.specs.Requests.{number_of, number_or, asked_in, game_of, game_in, budget_in, solve_in, check_in, trace_in, grade_in, seed_in, tries_in, black_in, generate_in, asked_by, asked_of};
 ghost use Rattle.std.specs.Prelude.{◌≡◌, ◌≤◌, IfSome, IfOk, option_and_then, option_map, map, string_bytes, false};
 ghost use Rattle.clap.specs.Walk.{rule_of, first_of, rows_of};
 ghost use Rattle.clap.specs.Simple.{app_of, subcommand_rows_of};
 ghost use Rattle.clap.specs.Matches.{found_of};
 ghost use Rattle.clap.specs.declared.builder.command.Command.TheViews.{out-Command as fields_of};
 ghost use Rattle.puzzles.specs.CommandLine.{required_word, optional_word, text_option, flag, solve_app, check_app, grade_app, generate_needs_app, generate_app, bare_app, puzzles_app, parsed};
-ghost use Rattle.puzzles.specs.Requests.{asked_in, game_of, game_in, budget_in, solve_in, check_in, trace_in, grade_in, seed_in, tries_in, black_in, generate_in, asked_by, asked_of};
 
 use crate::generate::Recipe;
 use crate::generate::percent::Percent;
@@ -344,10 +343,6 @@ fn request_in<'a>(matches: &ArgMatches<'a>) -> Option<Request<'a>>
 
 /// What the words ask for, or nothing where they are refused. The words are those after the
 /// program's name.
-///
-/// # Errors
-///
-/// When memory was refused.
 pub fn read_words<'a>(alloc: Global, words: &'a [String]) -> Result<Option<Request<'a>>, AllocError>
     ensures { IfOk result
         (λ r. option_map asked_in r ≡ asked_of (map string_bytes words.entry.now)) }

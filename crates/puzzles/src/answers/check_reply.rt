@@ -1,45 +1,28 @@
 //! The answers of `check`.
 ghost use Rattle.std.specs.Prelude.{◌≡◌, ◌≤◌, ◌++◌, Some, None, IfOk, OnOk, codes, decimal, string_bytes};
 ghost use Rattle.puzzles.specs.CheckAnswers.{checked, place_text};
-ghost use Rattle.puzzles.specs.Refusals.{refused};
-ghost use Rattle.puzzles.specs.Replies.{answer_in};
+ghost use Rattle.puzzles.specs.Replies.{refused, answer_in};
 
 use crate::answers::decimal::push_number;
-use crate::answers::reply::Reply;
+use crate::answers::reply::{Reply, words_reply};
 use crate::answers::status::Status;
 use std::alloc::{AllocError, Global};
 
 /// The answer to an input that is no grid of the puzzle.
-///
-/// # Errors
-///
-/// When memory was refused.
 pub fn grid_refused(alloc: Global) -> Result<Reply, AllocError>
     ensures { IfOk result (λ r. answer_in r ≡ refused (codes "grid")) }
 {
-    let text = String::from_str(alloc, "refused: grid\n")?;
-    let status = Status::Refused;
-    Ok(Reply { text, status })
+    words_reply(String::new(alloc), "refused: grid\n", Status::Refused)
 }
 
 /// The answer to a solution.
-///
-/// # Errors
-///
-/// When memory was refused.
 pub fn correct_reply(alloc: Global) -> Result<Reply, AllocError>
     ensures { IfOk result (λ r. answer_in r ≡ checked None) }
 {
-    let text = String::from_str(alloc, "correct\n")?;
-    let status = Status::Fine;
-    Ok(Reply { text, status })
+    words_reply(String::new(alloc), "correct\n", Status::Fine)
 }
 
 /// The answer to a grid that breaks a rule of the whole.
-///
-/// # Errors
-///
-/// When memory was refused.
 pub fn wrong_reply(alloc: Global, rule: &str) -> Result<Reply, AllocError>
     ensures { IfOk result (λ r. answer_in r ≡ checked (Some rule.now)) }
 {
@@ -52,10 +35,6 @@ pub fn wrong_reply(alloc: Global, rule: &str) -> Result<Reply, AllocError>
 
 /// The answer to a grid that breaks a rule in a row, column, block or diagonal. The kind has a
 /// space at its end.
-///
-/// # Errors
-///
-/// When memory was refused.
 pub fn wrong_line_reply(alloc: Global, kind: &str, line: usize) -> Result<Reply, AllocError>
     ensures { IfOk result (λ r. answer_in r ≡ checked (Some (kind.now ++ decimal line))) }
 {
@@ -69,10 +48,6 @@ pub fn wrong_line_reply(alloc: Global, kind: &str, line: usize) -> Result<Reply,
 
 /// The answer to a grid that breaks a rule at a place of so many columns: the place's column, a
 /// comma and its row. The kind has a space at its end.
-///
-/// # Errors
-///
-/// When memory was refused.
 pub fn wrong_place_reply(
     alloc: Global,
     kind: &str,

@@ -1,9 +1,8 @@
 //! A text with the status that goes with it.
 ghost use Rattle.std.specs.Prelude.{◌≡◌, ◌*◌, [], ◌≢◌, ◌++◌, ◌<◌, IfOk, OnOk, codes, decimal, string_bytes};
 ghost use Rattle.gameid_core.specs.declared.fault.IdFault.TheVariants.{Memory};
-ghost use Rattle.puzzles.specs.Answers.{IsGridFor};
-ghost use Rattle.puzzles.specs.Refusals.{refused, refused_words, fault_text};
-ghost use Rattle.puzzles.specs.Replies.{answer_in, none_answer, one_answer, two_grids, gave_up_answer, grid_of};
+ghost use Rattle.puzzles.specs.Answers.{IsGridFor, answer_with};
+ghost use Rattle.puzzles.specs.Replies.{answer_in, code_of, fault_text, grid_of, refused, two_grids};
 
 use crate::answers::decimal::push_number;
 use crate::answers::status::Status;
@@ -18,26 +17,30 @@ pub struct Reply {
     pub status: Status,
 }
 
-/// The answer to words that ask for nothing.
-///
-/// # Errors
-///
-/// When memory was refused.
-pub fn words_refused(alloc: Global) -> Result<Reply, AllocError>
-    ensures { IfOk result (λ r. answer_in r ≡ refused_words) }
-{
-    let text = String::from_str(alloc, "refused: words\n")?;
-    let status = Status::Refused;
-    Ok(Reply { text, status })
-}
-
-/// A text of these words, in the memory of another one, of which nothing stays.
-fn begun(mut text: String, words: &str) -> Result<String, AllocError>
-    ensures { IfOk result (λ t. string_bytes t ≡ words.now) }
+/// The answer of these words alone, in the memory of a text, of which nothing stays.
+pub fn words_reply(mut text: String, words: &str, status: Status) -> Result<Reply, AllocError>
+    ensures { IfOk result (λ r. answer_in r ≡ answer_with words.now (code_of status)) }
 {
     text.clear();
     text.push_str(words)?;
-    Ok(text)
+    Ok(Reply { text, status })
+}
+
+/// The answer of these words and a grid, in the memory of a text.
+pub fn grid_reply<P: Printed>(
+    text: String,
+    words: &str,
+    status: Status,
+    puzzle: &P,
+    grid: &Grid,
+) -> Result<Reply, AllocError>
+    requires { IsGridFor (P.extent puzzle.now) (P.value_count puzzle.now) grid.now }
+    ensures { IfOk result (λ r. answer_in r
+        ≡ answer_with (words.now ++ grid_of P.Printed puzzle.now grid.now) (code_of status)) }
+{
+    let mut reply = words_reply(text, words, status)?;
+    push_grid(&mut reply.text, puzzle, grid)?;
+    Ok(reply)
 }
 
 /// Adds words to a text, and then a number in decimal.
@@ -73,10 +76,6 @@ fn push_fault(text: &mut String, fault: IdFault) -> Result<(), AllocError>
 }
 
 /// The answer to an ID with that first fault.
-///
-/// # Errors
-///
-/// When memory was refused.
 pub fn id_refused(alloc: Global, fault: IdFault) -> Result<Reply, AllocError>
     ensures { IfOk result (λ r. answer_in r ≡ refused (fault_text fault)) }
 {
@@ -84,54 +83,16 @@ pub fn id_refused(alloc: Global, fault: IdFault) -> Result<Reply, AllocError>
 }
 
 /// The answer to an ID with that first fault, in the memory of a text.
-///
-/// # Errors
-///
-/// When memory was refused.
 pub fn id_refused_in(text: String, fault: IdFault) -> Result<Reply, AllocError>
     ensures { IfOk result (λ r. answer_in r ≡ refused (fault_text fault)) }
 {
-    let mut text = begun(text, "refused: ")?;
-    push_fault(&mut text, fault)?;
-    text.push_str("\n")?;
-    let status = Status::Refused;
-    Ok(Reply { text, status })
-}
-
-/// The answer where no grid is a solution, in the memory of a text.
-///
-/// # Errors
-///
-/// When memory was refused.
-pub fn none_reply(text: String) -> Result<Reply, AllocError>
-    ensures { IfOk result (λ r. answer_in r ≡ none_answer) }
-{
-    let text = begun(text, "none\n")?;
-    let status = Status::Wrong;
-    Ok(Reply { text, status })
-}
-
-/// The answer where this grid is the one solution, in the memory of a text.
-///
-/// # Errors
-///
-/// When memory was refused.
-pub fn one_reply<P: Printed>(text: String, puzzle: &P, grid: &Grid) -> Result<Reply, AllocError>
-    requires { IsGridFor (P.extent puzzle.now) (P.value_count puzzle.now) grid.now }
-    ensures { IfOk result
-        (λ r. answer_in r ≡ one_answer (grid_of P.Printed puzzle.now grid.now)) }
-{
-    let mut text = begun(text, "one\n")?;
-    push_grid(&mut text, puzzle, grid)?;
-    let status = Status::Fine;
-    Ok(Reply { text, status })
+    let mut reply = words_reply(text, "refused: ", Status::Refused)?;
+    push_fault(&mut reply.text, fault)?;
+    reply.text.push_str("\n")?;
+    Ok(reply)
 }
 
 /// The answer where these two grids are solutions, in the memory of a text.
-///
-/// # Errors
-///
-/// When memory was refused.
 pub fn several_reply<P: Printed>(
     text: String,
     puzzle: &P,
@@ -143,43 +104,8 @@ pub fn several_reply<P: Printed>(
     ensures { IfOk result
         (λ r. answer_in r ≡ two_grids P.Printed puzzle.now first.now second.now) }
 {
-    let mut text = begun(text, "several\n")?;
-    push_grid(&mut text, puzzle, first)?;
-    text.push_str("\n")?;
-    push_grid(&mut text, puzzle, second)?;
-    let status = Status::Several;
-    Ok(Reply { text, status })
-}
-
-/// The answer of a search that gave up and had found nothing, in the memory of a text.
-///
-/// # Errors
-///
-/// When memory was refused.
-pub fn gave_up_reply(text: String) -> Result<Reply, AllocError>
-    ensures { IfOk result (λ r. answer_in r ≡ gave_up_answer []) }
-{
-    let text = begun(text, "gave up\n")?;
-    let status = Status::GaveUp;
-    Ok(Reply { text, status })
-}
-
-/// The answer of a search that gave up and had found this grid, in the memory of a text.
-///
-/// # Errors
-///
-/// When memory was refused.
-pub fn gave_up_with_reply<P: Printed>(
-    text: String,
-    puzzle: &P,
-    grid: &Grid,
-) -> Result<Reply, AllocError>
-    requires { IsGridFor (P.extent puzzle.now) (P.value_count puzzle.now) grid.now }
-    ensures { IfOk result
-        (λ r. answer_in r ≡ gave_up_answer (grid_of P.Printed puzzle.now grid.now)) }
-{
-    let mut text = begun(text, "gave up\n")?;
-    push_grid(&mut text, puzzle, grid)?;
-    let status = Status::GaveUp;
-    Ok(Reply { text, status })
+    let mut reply = grid_reply(text, "several\n", Status::Several, puzzle, first)?;
+    reply.text.push_str("\n")?;
+    push_grid(&mut reply.text, puzzle, second)?;
+    Ok(reply)
 }

@@ -1,6 +1,6 @@
 //! How a run ends: the status of its answer, or why it stopped before that was whole.
 ghost use Rattle.std.specs.Prelude.{◌≡◌, max};
-ghost use Rattle.puzzles.specs.Statuses.{code_of};
+ghost use Rattle.puzzles.specs.Replies.{code_of};
 ghost use Rattle.puzzles.specs.Stops.{status_of};
 ghost use Rattle.puzzles.specs.declared.answers.status.Stop.TheVariants.{Memory};
 
@@ -62,7 +62,8 @@ pub enum Stop {
     Broken,
 }
 
-/// How a step of a run ends: with the status of its answer, or before that was whole.
+/// How a step of a run ends: with the status of its answer, or before that was whole. A beginning of
+/// its text was put then, or nothing.
 pub type Ended = Result<Status, Stop>;
 
 impl Stop {

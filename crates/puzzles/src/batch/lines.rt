@@ -2,7 +2,7 @@
 ghost use Rattle.std.specs.Prelude.{◌≡◌, ◌<◌, ◌≤◌, ◌++◌, ◌∷◌, [], List, ℕ, OnOk, MatchOption, ◌==◌, length};
 ghost use Rattle.std.specs.Str.Lines.{strip_carriage_return};
 ghost use Rattle.gameid_core.specs.Head.{max_id};
-ghost use Rattle.puzzles.specs.LineStates.{IsLine, Holds, next_tail};
+ghost use Rattle.puzzles.specs.Batches.{IsLine, Holds, next_tail};
 
 use gameid_core::MAX_ID;
 use std::alloc::{AllocError, Global};
@@ -55,10 +55,6 @@ impl Line {
     }
 
     /// Takes one more byte of the line, which is kept where fewer than `MAX_ID` are.
-    ///
-    /// # Errors
-    ///
-    /// When memory was refused.
     pub fn push(&mut self, byte: u8) -> Result<(), AllocError>
         ensures { OnOk result ((piece : List ℕ) → Holds self.old piece
             → Holds self.new (piece ++ byte ∷ [])) }

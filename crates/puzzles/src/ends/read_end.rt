@@ -1,7 +1,7 @@
 //! A source over a reader.
 ghost use Rattle.std.specs.Prelude.{◌≡◌, false};
-ghost use Rattle.puzzles.specs.ReadEndLaws.{gave_nothing, gave_both};
-ghost use Rattle.puzzles.specs.ReadEnds.{Gave, reader_of, read_count, read_has_failed, read_has_ended};
+ghost use Rattle.puzzles.specs.StdEndLaws.{gave_nothing, gave_both};
+ghost use Rattle.puzzles.specs.StdEnds.{Gave, reader_of, read_count, read_has_failed, read_has_ended};
 
 use crate::ends::Source;
 use std::io::Read;

@@ -1,7 +1,7 @@
 //! An input that is read whole.
 ghost use Rattle.std.specs.Prelude.{◌≡◌, ◌++◌, ◌==◌, ◌&&◌, [], List, ℕ, true, false, IfOk, IfErr, OnOk};
-ghost use Rattle.puzzles.specs.Checks.{begins_with_line_end, without_returns};
-ghost use Rattle.puzzles.specs.Texts.{IsKept, IsText, KeptUpTo, ReadWhole};
+ghost use Rattle.puzzles.specs.CheckAnswers.{begins_with_line_end, without_returns};
+ghost use Rattle.puzzles.specs.Texts.{Given, IsKept, IsText};
 ghost use Rattle.puzzles.specs.Stops.{StopsWith};
 ghost use Rattle.puzzles.specs.Runs.{IsUnread};
 
@@ -45,7 +45,7 @@ fn take_whole<I: Source>(kept: &mut Kept, input: &mut I) -> Result<(), Stop>
     requires unread { IsUnread I.Source input.old }
     requires empty { IsKept kept.old [] }
     ensures fine { OnOk result ((I.has_failed input.new ≡ false) × (I.has_ended input.new ≡ true)) }
-    ensures taken { OnOk result (KeptUpTo I.gives input.old kept.new input.new) }
+    ensures taken { OnOk result (Given I.gives input.old input.new (IsKept kept.new)) }
     ensures read { (seen : List ℕ) × I.gives input.old seen input.new }
     ensures left { IfErr result (λ e. StopsWith I.Source e input.new false) }
 {
@@ -69,7 +69,7 @@ fn take_whole<I: Source>(kept: &mut Kept, input: &mut I) -> Result<(), Stop>
 pub fn read_whole<I: Source>(alloc: Global, input: &mut I) -> Result<Option<Vec<u8>>, Stop>
     requires { IsUnread I.Source input.old }
     ensures fine { OnOk result ((I.has_failed input.new ≡ false) × (I.has_ended input.new ≡ true)) }
-    ensures whole { IfOk result (λ text. ReadWhole I.gives input.old text input.new) }
+    ensures whole { IfOk result (λ text. Given I.gives input.old input.new (IsText text)) }
     ensures read { (seen : List ℕ) × I.gives input.old seen input.new }
     ensures left { IfErr result (λ e. StopsWith I.Source e input.new false) }
 {
@@ -89,10 +89,6 @@ fn is_dropped(byte: u8, rest: &[u8]) -> bool
 }
 
 /// The text without each carriage return that stands directly before a line end.
-///
-/// # Errors
-///
-/// When memory was refused.
 pub fn without_returns(alloc: Global, text: &[u8]) -> Result<Vec<u8>, AllocError>
     ensures { IfOk result (λ v. v.items ≡ without_returns text.now) }
 {

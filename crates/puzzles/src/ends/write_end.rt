@@ -1,7 +1,7 @@
 //! A sink over a writer.
 ghost use Rattle.std.specs.Prelude.{◌≡◌, false};
-ghost use Rattle.puzzles.specs.WriteEndLaws.{took_nothing, took_both};
-ghost use Rattle.puzzles.specs.WriteEnds.{Took, writer_of, write_has_failed, write_is_flushed};
+ghost use Rattle.puzzles.specs.StdEndLaws.{took_nothing, took_both};
+ghost use Rattle.puzzles.specs.StdEnds.{Took, writer_of, write_has_failed, write_is_flushed};
 
 use crate::ends::Sink;
 use std::io::Write;

@@ -1,6 +1,6 @@
 //! The grade of a puzzle of Solo: by three rule sets in turn, and else by a search.
 ghost use Rattle.std.specs.Prelude.{◌≡◌, false};
-ghost use Rattle.puzzles.specs.Grading.{IsGradedAfterSingles};
+ghost use Rattle.puzzles.specs.Allowed.{IsGradedAfterSingles};
 ghost use Rattle.puzzles.specs.Stops.{LeavesSink, Told};
 
 use crate::answers::status::Ended;

@@ -3,7 +3,7 @@ ghost use Rattle.std.specs.Prelude.{◌≡◌, ◌↔◌, List, ℕ, true, IfOk}
 ghost use Rattle.engine_core.specs.Puzzle.{needs_of, FitsIn};
 ghost use Rattle.engine_core.specs.Stored.{is_settled};
 ghost use Rattle.engine_core.specs.Verdict.{Solves};
-ghost use Rattle.puzzles.specs.Grading.{grade_after};
+ghost use Rattle.puzzles.specs.Allowed.{grade_after};
 ghost use Rattle.puzzles.specs.Grades.{HasOneSolution, IsRightGrade, searched_grade};
 
 use crate::grade::{Attempt, Grade};

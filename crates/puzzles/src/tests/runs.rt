@@ -1,344 +1,319 @@
-//! Whole runs. What they are to write follows from the rules and the formats by hand.
-use crate::ends::Source;
-use crate::ends::read_end::ReadEnd;
-use crate::run::run_on_bytes;
-use crate::tests::fakes::{Chunks, Endless, Slow, texts};
-use crate::tests::seen;
-use crate::words::{Request, read_words};
-use std::alloc::{AllocError, Global};
+//! Whole runs. What they are to write follows from the rules and the formats by hand. A line of a
+//! table is a run, as `Row::read` says.
+use crate::tests::rows::Row;
 use std::test::Fail;
 
-/// The words of the run that the program's stored run has too, and what it writes.
-const SOLVED: [&str; 3] = ["solve", "pattern", "5x1:1/1//1/1/2.2"];
+/// IDs that are solved or refused, with a budget or without one.
+const SOLVES: &str = "\
+solve pattern 5x1:1/1//1/1/2.2 > 0 one|##.##|
+solve pattern 3x3:2/2/2/1.1/3/1 > 0 one|#.#|###|.#.|
+solve pattern 1x1:/ > 0 one|.|
+solve pattern 1x1:01/1 > 0 one|#|
+solve pattern 1:1/1 > 0 one|#|
+solve pattern 2x1:1/1/1 > 1 none|
+solve pattern 2x2:1/1/1/1 > 3 several|.#|#.||#.|.#|
+solve pattern 3x2:1/2/1/2/2 > 3 several|.##|##.||##.|.##|
+solve pattern 2x3:3/1.1/2/1/2 > 0 one|##|#.|##|
+solve pattern 3x1:1/1/1/2.1 > 2 refused: line 3 too full|
+solve pattern 2x1:1/1/1.1/ > 2 refused: line 2 too full|
+solve pattern 2x2:1/1/1 > 2 refused: too few|
+solve pattern 2x2:1/1/1/1/ > 2 refused: too many|
+solve pattern 2x2:1./1/1/1 > 2 refused: bad byte at 5|
+solve pattern 1x1:0/ > 2 refused: number range at 4|
+solve pattern 2x2:1/1/1/1,# > 2 refused: bad byte at 11|
+solve pattern 3x3#12 > 2 refused: seed id|
+solve pattern 2x2 > 2 refused: no colon|
+solve pattern 02x2:p > 2 refused: bad size|
+solve pattern 2x2k:p > 2 refused: variant|
+solve pattern 121x1:p > 2 refused: size range|
+solve pattern '' > 2 refused: no colon|
+solve solo 2x2:1_2_3_4_3_4_1_2_2_1_4_3_4_3_2_1 > 0 one|1 2 3 4|3 4 1 2|2 1 4 3|4 3 2 1|
+solve solo 2x2:1b4i3_2a > 0 one|1 2 3 4|3 4 1 2|2 1 4 3|4 3 2 1|
+solve solo 2x2:p > 3 several|1 2 3 4|3 4 1 2|2 1 4 3|4 3 2 1||1 2 3 4|3 4 1 2|2 3 4 1|4 1 2 3|
+solve solo 2x2:__p_ > 3 several|1 2 3 4|3 4 1 2|2 1 4 3|4 3 2 1||1 2 3 4|3 4 1 2|2 3 4 1|4 1 2 3|
+solve solo 2x2:hh > 3 several|1 2 3 4|3 4 1 2|2 1 4 3|4 3 2 1||1 2 3 4|3 4 1 2|2 3 4 1|4 1 2 3|
+solve solo 2:p > 3 several|1 2 3 4|3 4 1 2|2 1 4 3|4 3 2 1||1 2 3 4|3 4 1 2|2 3 4 1|4 1 2 3|
+solve solo 2x2:1_1n > 1 none|
+solve solo 2x2:5o > 2 refused: number range at 4|
+solve solo 2x2:o > 2 refused: too few|
+solve solo 2x2:q > 2 refused: too many|
+solve solo 2x2:0o > 2 refused: bad byte at 4|
+solve solo 2x2: > 2 refused: too few|
+solve solo 3x3#12 > 2 refused: seed id|
+solve solo 2x2 > 2 refused: no colon|
+solve solo 02x2:p > 2 refused: bad size|
+solve solo 2x:p > 2 refused: bad size|
+solve solo 2x2k:p > 2 refused: variant|
+solve solo 9j:p > 2 refused: variant|
+solve solo 1x4:p > 2 refused: size range|
+solve solo 6x6:p > 2 refused: size range|
+solve lightup 2x2:2c --budget 0 > 0 one|2O|O.|
+solve lightup 2x2:2c --budget 18446744073709551615 > 0 one|2O|O.|
+solve lightup 2x2:Bc --budget 0 > 4 gave up|
+solve lightup 2x2:Bc --budget 100000 > 3 several|#.|.O||#O|O.|
+solve lightup 2x2:Bc --budget 18446744073709551615 > 3 several|#.|.O||#O|O.|
+solve lightup 2x2:1c --budget 2 > 1 none|
+solve lightup 2x2:1c --budget 18446744073709551615 > 1 none|
+solve lightup 2x2:1c --budget 1 > 4 gave up|
+solve lightup 2x2:1c --budget 0 > 4 gave up|
+solve lightup 2x2:BBBB --budget 0 > 0 one|##|##|
+solve lightup 2x2:1BBB --budget 0 > 1 none|
+solve lightup 3x3:aBBa1aBb --budget 100000 > 0 one|.##|O1.|#.O|
+solve lightup 3x3:aBBa1aBb --budget 4 > 0 one|.##|O1.|#.O|
+solve lightup 3x3:aBBa1aBb --budget 3 > 4 gave up|.##|O1.|#.O|
+solve lightup 3x3:aBBa1aBb --budget 1 > 4 gave up|.##|O1.|#.O|
+solve lightup 3x3:aBBa1aBb --budget 0 > 4 gave up|
+solve lightup 2x2:5c --budget 0 > 2 refused: bad byte at 4|
+solve lightup 2x2:2d --budget 0 > 2 refused: too many|
+solve lightup 1x2:b --budget 0 > 2 refused: size range|
+solve tents 5x3:aiaa,1,0,2,0,0,2,0,1 --budget 0 > 1 none|
+solve tents 2x2:_c,0,1,1,0 --budget 0 > 0 one|T^|..|
+solve tents 4x6:z,0,0,0,0,0,0,0,0,0,0 --budget 0 > 2 refused: too many|
+solve tents 2x2:d,0,0,0,0 --budget 0 > 0 one|..|..|
+solve pattern 2x2:1/1/1/1 --budget 2 > 3 several|.#|#.||#.|.#|
+solve pattern 2x2:1/1/1/1 --budget 18446744073709551615 > 3 several|.#|#.||#.|.#|
+solve pattern 2x2:1/1/1/1 --budget 0002 > 3 several|.#|#.||#.|.#|
+solve pattern 2x2:1/1/1/1 --budget 1 > 4 gave up|.#|#.|
+solve pattern 2x2:1/1/1/1 --budget 0 > 4 gave up|
+solve pattern 5x1:1/1//1/1/2.2 --budget 0 > 0 one|##.##|
+solve solo 2x2:1_1n --budget 0 > 1 none|
+solve solo 2x2:1_2_3_4_3_4_1_2_2_1_4_3_4_3_2_1 --budget 0 > 0 one|1 2 3 4|3 4 1 2|2 1 4 3|4 3 2 1|
+solve solo 2x2:p --budget 7 > 4 gave up|1 2 3 4|3 4 1 2|2 1 4 3|4 3 2 1|
+solve pattern 1x1:/ --budget x > 2 refused: words|
+solve pattern 1x1:/ --budget '' > 2 refused: words|
+solve pattern 1x1:/ --budget +5 > 2 refused: words|
+solve pattern 1x1:/ --budget 18446744073709551616 > 2 refused: words|
+solve solo 2x2:p --budget=8 \
+    > 3 several|1 2 3 4|3 4 1 2|2 1 4 3|4 3 2 1||1 2 3 4|3 4 1 2|2 3 4 1|4 1 2 3|
+solve solo 2x2x:1_2_3_4l --budget 100000 \
+    > 3 several|1 2 3 4|3 4 1 2|4 3 2 1|2 1 4 3||1 2 3 4|4 3 2 1|2 1 4 3|3 4 1 2|
+solve solo 2x2x:1_2_3_4l --budget 2 \
+    > 3 several|1 2 3 4|3 4 1 2|4 3 2 1|2 1 4 3||1 2 3 4|4 3 2 1|2 1 4 3|3 4 1 2|
+solve solo 2x2x:1_2_3_4l --budget 1 > 4 gave up|1 2 3 4|3 4 1 2|4 3 2 1|2 1 4 3|
+solve solo 2x2x:1_2_3_4l --budget 0 > 4 gave up|
+solve solo 2x2x:p --budget 100000 \
+    > 3 several|1 2 3 4|3 4 1 2|4 3 2 1|2 1 4 3||1 2 3 4|4 3 2 1|2 1 4 3|3 4 1 2|
+solve solo 2x2x:p --budget 5 \
+    > 3 several|1 2 3 4|3 4 1 2|4 3 2 1|2 1 4 3||1 2 3 4|4 3 2 1|2 1 4 3|3 4 1 2|
+solve solo 2x2x:p --budget 4 > 4 gave up|1 2 3 4|3 4 1 2|4 3 2 1|2 1 4 3|
+solve solo 2x2x:1_2_3_4_3k --budget 0 > 0 one|1 2 3 4|3 4 1 2|4 3 2 1|2 1 4 3|
+solve solo 2x2x:1d1j --budget 100000 > 1 none|
+solve solo 2x2xx:p --budget 0 > 2 refused: variant|
+solve solo 2x2xj:p --budget 0 > 2 refused: variant|
+solve solo 2x2kx:p --budget 0 > 2 refused: variant|
+solve solo 9x:p --budget 0 > 2 refused: bad size|
+solve solo 2xx2:p --budget 0 > 2 refused: bad size|
+solve solo 2x2x: --budget 0 > 2 refused: too few|
+solve solo 6x6x:p --budget 0 > 2 refused: size range|
+solve tents 2x2:_c,0,1,1,0 > 0 one|T^|..|
+";
 
-const ANSWER: &[u8] = b"one\n##.##\n";
+/// The beginnings of two IDs.
+const CUT: &str = "\
+solve pattern 5 > 2 refused: no colon|
+solve pattern 5x > 2 refused: no colon|
+solve pattern 5x1 > 2 refused: no colon|
+solve pattern 5x1: > 2 refused: too few|
+solve pattern 5x1:1 > 2 refused: too few|
+solve pattern 5x1:1/ > 2 refused: too few|
+solve pattern 5x1:1/1 > 2 refused: too few|
+solve pattern 5x1:1/1/ > 2 refused: too few|
+solve pattern 5x1:1/1// > 2 refused: too few|
+solve pattern 5x1:1/1//1 > 2 refused: too few|
+solve pattern 5x1:1/1//1/ > 2 refused: too few|
+solve pattern 5x1:1/1//1/1 > 2 refused: too few|
+solve pattern 5x1:1/1//1/1/ > 1 none|
+solve pattern 5x1:1/1//1/1/2 > 1 none|
+solve pattern 5x1:1/1//1/1/2. > 2 refused: bad byte at 14|
+solve solo '' > 2 refused: no colon|
+solve solo 2 > 2 refused: no colon|
+solve solo 2x > 2 refused: no colon|
+solve solo 2x2x > 2 refused: no colon|
+solve solo 2x2x: > 2 refused: too few|
+solve solo 2x2x:1 > 2 refused: too few|
+solve solo 2x2x:1_ > 2 refused: too few|
+solve solo 2x2x:1_2 > 2 refused: too few|
+solve solo 2x2x:1_2_ > 2 refused: too few|
+solve solo 2x2x:1_2_3 > 2 refused: too few|
+solve solo 2x2x:1_2_3_ > 2 refused: too few|
+solve solo 2x2x:1_2_3_4 > 2 refused: too few|
+solve solo 2x2x:1_2_3_4l \
+    > 3 several|1 2 3 4|3 4 1 2|4 3 2 1|2 1 4 3||1 2 3 4|4 3 2 1|2 1 4 3|3 4 1 2|
+";
 
-/// Solo 2x2 with all of a solution given.
-const GIVEN: &str = "2x2:1_2_3_4_3_4_1_2_2_1_4_3_4_3_2_1";
+/// Long IDs: the most is 65,536 bytes.
+const LONG: &str = "\
+solve solo 2x2:{10000}z > 2 refused: too many|
+solve solo 2x2:{16000}9 > 2 refused: number range at 4|
+solve solo {16000}9x2:p > 2 refused: size range|
+solve solo 2x2:{65531}_p \
+    > 3 several|1 2 3 4|3 4 1 2|2 1 4 3|4 3 2 1||1 2 3 4|3 4 1 2|2 3 4 1|4 1 2 3|
+solve solo 2x2:{65532}_p > 2 refused: too long|
+solve pattern 1x1:{16000}01/1 > 0 one|#|
+solve pattern 1x1:{16000}9/1 > 2 refused: line 0 too full|
+";
 
-/// The first two solutions of Solo 2x2 without givens, by trials of the lowest numbers first.
-const TWO_SOLOS: &str =
-    "several\n1 2 3 4\n3 4 1 2\n2 1 4 3\n4 3 2 1\n\n1 2 3 4\n3 4 1 2\n2 3 4 1\n4 1 2 3\n";
+/// Lines of the input, which are IDs.
+const LINES: &str = "\
+solve pattern <  > 0
+solve pattern < | > 2 refused: no colon|
+solve pattern < 1x1:/|1x1:/\r\r| > 2 one|.|refused: bad byte at 5|
+solve pattern < 1x1:/\r > 2 refused: bad byte at 5|
+solve pattern < 2x2:1/1/1/1|2x2:2/2/2/2|2x1:1/1/1|2x2:1/1/1/1| \
+    > 3 several|.#|#.||#.|.#|one|##|##|none|several|.#|#.||#.|.#|
+solve solo < 2x2:1_1n|2x2:5o| > 2 none|refused: number range at 4|
+solve lightup < 2x2:1BBB|2x2:2c|2x2:2c| > 1 none|one|2O|O.|one|2O|O.|
+solve tents < 2x2:_c,0,1,1,0|2x2:_c,0,1,1,0 > 0 one|T^|..|one|T^|..|
+solve pattern < 1x1:/||2x1:1/1/1 > 2 one|.|refused: no colon|none|
+solve pattern < 1x1:/||2x1:1/1/1| > 2 one|.|refused: no colon|none|
+solve pattern < 1x1:/\r|\r|2x1:1/1/1 > 2 one|.|refused: no colon|none|
+solve pattern < 1x1:/\r|\r|2x1:1/1/1\r| > 2 one|.|refused: no colon|none|
+solve pattern < {16385}_|1x1:/| > 2 refused: no colon|one|.|
+solve pattern < {65537}_|1x1:/| > 2 refused: too long|one|.|
+solve pattern < {65536}_\r\r|1x1:/| > 2 refused: too long|one|.|
+solve pattern < {69536}_\r|1x1:/ > 2 refused: too long|one|.|
+solve pattern < {65536}_\r|1x1:/| > 2 refused: no colon|one|.|
+solve pattern < {65536}_|1x1:/| > 2 refused: no colon|one|.|
+solve pattern < {65536}_\r > 2 refused: too long|
+solve pattern < {65536}_ > 2 refused: no colon|
+";
 
-/// Whether a run that reads no input writes this text, and has this status.
-fn tells(alloc: Global, words: &[&str], text: &str, status: u8) -> Result<bool, AllocError> {
-    seen::tells(alloc, words, b"unread", text, status)
-}
+/// Grids that are solutions or none, and inputs that are no grids.
+const CHECKS: &str = "\
+check solo 2x3:zj < 1 2 3 4 5 6|3 4 5 6 1 2|5 6 1 2 3 4|2 3 4 5 6 1|4 5 6 1 2 3|6 1 2 3 4 5| \
+    > 1 wrong: block 0|
+check solo 2x3:zj < 1 2 3 4 5 6|4 5 6 1 2 3|2 3 1 5 6 4|5 6 4 2 3 1|3 1 2 6 4 5|6 4 5 3 1 2| \
+    > 0 correct|
+check solo 2x2:2o < 1 2 3 4|3 4 1 2|2 1 4 3|4 3 2 1| > 1 wrong: given 0,0|
+check solo 2x2:i3f < 1 2 3 4|3 4 1 2|2 1 4 3|4 3 2 1| > 1 wrong: given 1,2|
+check solo 2x2:p < 1 2 3 4|3 4 1 2|2 1 4 3|1 2 4 3| > 1 wrong: column 0|
+check solo 2x2:p < 1 2 3 4|3 4 1 2|2 2 4 3|1 2 4 3| > 1 wrong: row 2|
+check pattern 2x1:1//1 < #. > 0 correct|
+check pattern 2x1:1//1 < .# > 1 wrong: column 0|
+check pattern 2x1:1/1/1 < ## > 1 wrong: row 0|
+check lightup 2x2:2c < 2O|O. > 0 correct|
+check lightup 2x2:2c < 2O|.. > 1 wrong: number 0,0|
+check lightup 2x2:2c < 2O|OO > 1 wrong: seen 1,0|
+check lightup 2x2:Bc < #.|.. > 1 wrong: dark 1,0|
+check tents 2x2:_c,0,1,1,0 < T^|.. > 0 correct|
+check tents 2x2:_c,0,1,1,0 < T^|^. > 1 wrong: touch 1,0|
+check tents 2x2:_c,0,1,1,0 < T.|^. > 1 wrong: column 0|
+check tents 5x3:aiaa,1,0,2,0,0,2,0,1 < ^T^..|.....|.T^T.| > 1 wrong: match|
+check pattern 2x1:1//1 < #.| > 0 correct|
+check pattern 2x1:1//1 < #.\r| > 0 correct|
+check pattern 2x1:1//1 < #.\r > 2 refused: grid|
+check pattern 2x1:1//1 < #\r. > 2 refused: grid|
+check pattern 2x1:1//1 < #.\r\r| > 2 refused: grid|
+check pattern 2x1:1//1 < # > 2 refused: grid|
+check pattern 2x1:1//1 <  > 2 refused: grid|
+check pattern 2x1:1//1 < |#. > 2 refused: grid|
+check pattern 2x1:1//1 < #.|| > 2 refused: grid|
+check pattern 2x1:1//1 < #.|#.| > 2 refused: grid|
+check pattern 2x1:1//1 < #.  > 2 refused: grid|
+check pattern 2x1:1//1 < #x > 2 refused: grid|
+check pattern 2x1:1//1 < #.. > 2 refused: grid|
+check solo 2x2:p < 1 2 3 4|3 4 1 2|2 1 4 3|4 3 2 5| > 2 refused: grid|
+check solo 2x2:p < 1 2 3 4|3 4 1 2|2 1 4 3|4 3 2 0| > 2 refused: grid|
+check solo 2x2:p < 1 2 3 4|3 4 1 2|2 1 4 3|4 3 2 01| > 2 refused: grid|
+check solo 2x2:p < 1 2 3 4|3 4 1 2|2 1 4 3|4 3 2  1| > 2 refused: grid|
+check solo 2x2:p < 1 2 3 4|3 4 1 2|2 1 4 3|4 3 2 1 | > 2 refused: grid|
+check solo 2x2:p < 1 2 3 4|3 4 1 2|2 1 4 3|4 3 2| > 2 refused: grid|
+check solo 2x2:p < 1 2 3 4 3 4 1 2 2 1 4 3 4 3 2 1| > 2 refused: grid|
+check lightup 2x2:2c < 1O|O. > 2 refused: grid|
+check lightup 2x2:2c < OO|O. > 2 refused: grid|
+check lightup 2x2:Bc < .O|.. > 2 refused: grid|
+check lightup 2x2:Bc < ##|.. > 2 refused: grid|
+check tents 2x2:_c,0,1,1,0 < ^^|.. > 2 refused: grid|
+check tents 2x2:_c,0,1,1,0 < TT|.. > 2 refused: grid|
+check solo 2x2x:p < 1 2 3 4|3 4 1 2|2 1 4 3|4 3 2 1| > 1 wrong: diagonal 0|
+check solo 2x2x:p < 1 2 3 4|3 4 1 2|4 3 2 1|2 1 4 3| > 0 correct|
+check solo 2x3x:zj < 2 5 6 4 1 3|4 1 3 6 2 5|5 2 4 3 6 1|6 3 1 5 4 2|1 6 5 2 3 4|3 4 2 1 5 6| \
+    > 1 wrong: diagonal 1|
+check solo 2x3:zj < 2 5 6 4 1 3|4 1 3 6 2 5|5 2 4 3 6 1|6 3 1 5 4 2|1 6 5 2 3 4|3 4 2 1 5 6| \
+    > 0 correct|
+check pattern 5x1:1/1//1/1/2.2 < ##.##| > 0 correct|
+check pattern 5x1:1/1//1/1/2.2 < ##.## > 0 correct|
+check pattern 2x2:1/1/1/1 < .#|#.| > 0 correct|
+check pattern 2x2:1/1/1/1 < #.\r|.#\r| > 0 correct|
+check tents 2x2:_c,0,1,1,0 < T^|..| > 0 correct|
+";
+
+/// Checks of IDs that are refused, which leave the input unread.
+const UNREAD: &str = "\
+check solo 2x2:5o > 2 refused: number range at 4|
+check pattern 2x2:1/1/1 > 2 refused: too few|
+check lightup 2x2 > 2 refused: no colon|
+check tents 2x2#1 > 2 refused: seed id|
+";
+
+/// Grades without a trace.
+pub const GRADES: &str = "\
+grade pattern 5x1:1/1//1/1/2.2 --budget 0 > 0 lines|
+grade solo 2x2:1_2_3_4_3_4_1_2_2_1_4_3_4_3_2_1 --budget 0 > 0 singles|
+grade solo 2x3:5c3c4d1a3g6a6a4c5_2c --budget 0 > 0 houses|
+grade solo 2x2x:1_2_3_4_3k --budget 0 > 0 singles|
+grade lightup 2x2:2c --budget 0 > 0 local|
+grade tents 2x2:_c,0,1,1,0 --budget 0 > 0 local|
+grade pattern 2x2:1/1/1/1 --budget 100000 > 3 several|
+grade pattern 2x2:1/1/1/1 --budget 1 > 4 gave up|
+grade pattern 2x1:1/1/1 --budget 0 > 1 none|
+grade tents 5x3:aiaa,1,0,2,0,0,2,0,1 --budget 100000 > 1 none|
+grade lightup 3x3:aBBa1aBb --budget 100000 > 0 search 4|
+grade lightup 3x3:aBBa1aBb --budget 4 > 0 search 4|
+grade lightup 3x3:aBBa1aBb --budget 3 > 4 gave up|
+grade solo 2x2:p --budget 100000 > 3 several|
+grade solo 2x2:1_1n --budget 0 > 1 none|
+grade solo 2x2:q --budget 0 > 2 refused: too many|
+grade tents 3x3 --budget 0 > 2 refused: no colon|
+";
+
+/// Puzzles that are made of each seed, and what is not made.
+const MAKINGS: &str = "\
+generate pattern 2x2 --seed 1 --black 100 > 0 2x2:2/2/2/2|##|##|
+generate pattern 2x2 --seed 1 --black 0 > 0 2x2:///|..|..|
+generate lightup 2x2 --seed 1 --black 100 > 0 2x2:BBBB|##|##|
+generate lightup 2x2 --seed 1 --black 0 > 4 exhausted|
+generate solo 2x2 --seed 1 --tries 0 > 4 exhausted|
+generate solo 2x2x --seed 1 --budget 0 > 4 exhausted|
+generate solo 6x6x --seed 1 > 2 refused: size range|
+generate solo 2x2x: --seed 1 > 2 refused: variant|
+generate tents 3x3 --seed 1 > 2 refused: size range|
+generate tents 4x4 --seed 1 --black 5 > 2 refused: words|
+generate solo 6x6 --seed 1 > 2 refused: size range|
+generate pattern 2x --seed 1 > 2 refused: bad size|
+generate lightup 7x7d --seed 1 > 2 refused: variant|
+";
+
+/// Words that ask for nothing.
+const REFUSED: &str = "\
+--help > 2 refused: words|
+-h > 2 refused: words|
+help > 2 refused: words|
+--version > 2 refused: words|
+solve > 2 refused: words|
+solve chess 1x1:/ > 2 refused: words|
+solve Pattern 1x1:/ > 2 refused: words|
+solve pattern 1x1:/ 1x1:/ > 2 refused: words|
+solve pattern 1x1:/ --budget > 2 refused: words|
+solve pattern 1x1:/ --budget 5 --budget 5 > 2 refused: words|
+solve pattern 1x1:/ --tries 5 > 2 refused: words|
+solve pattern --help > 2 refused: words|
+check pattern > 2 refused: words|
+grade pattern > 2 refused: words|
+generate pattern 1x1 > 2 refused: words|
+pattern solve 1x1:/ > 2 refused: words|
+ > 2 refused: words|
+";
 
 #[test]
-fn patterns_are_solved(rt: HostRuntime) -> Result<(), Fail> {
-    for (id, text, status) in [
-        ("5x1:1/1//1/1/2.2", "one\n##.##\n", 0),
-        ("3x3:2/2/2/1.1/3/1", "one\n#.#\n###\n.#.\n", 0),
-        ("1x1:/", "one\n.\n", 0),
-        ("1x1:01/1", "one\n#\n", 0),
-        ("1:1/1", "one\n#\n", 0),
-        ("2x1:1/1/1", "none\n", 1),
-        ("2x2:1/1/1/1", "several\n.#\n#.\n\n#.\n.#\n", 3),
-        ("3x2:1/2/1/2/2", "several\n.##\n##.\n\n##.\n.##\n", 3),
-        ("2x3:3/1.1/2/1/2", "one\n##\n#.\n##\n", 0),
-        ("3x1:1/1/1/2.1", "refused: line 3 too full\n", 2),
-        ("2x1:1/1/1.1/", "refused: line 2 too full\n", 2),
-        ("2x2:1/1/1", "refused: too few\n", 2),
-        ("2x2:1/1/1/1/", "refused: too many\n", 2),
-        ("2x2:1./1/1/1", "refused: bad byte at 5\n", 2),
-        ("1x1:0/", "refused: number range at 4\n", 2),
-        ("2x2:1/1/1/1,#", "refused: bad byte at 11\n", 2),
-        ("3x3#12", "refused: seed id\n", 2),
-        ("2x2", "refused: no colon\n", 2),
-        ("02x2:p", "refused: bad size\n", 2),
-        ("2x2k:p", "refused: variant\n", 2),
-        ("121x1:p", "refused: size range\n", 2),
-        ("", "refused: no colon\n", 2),
+fn runs_tell_what_is_allowed(rt: HostRuntime) -> Result<(), Fail> {
+    for table in [
+        SOLVES, CUT, LONG, LINES, CHECKS, UNREAD, GRADES, MAKINGS, REFUSED,
     ] {
-        assert!(rt;
-            tells(rt.alloc(), &["solve", "pattern", id], text, status)?,
-            "{id}"
-        );
-    }
-    Ok(())
-}
-
-#[test]
-fn solos_are_solved(rt: HostRuntime) -> Result<(), Fail> {
-    for (id, text, status) in [
-        (GIVEN, "one\n1 2 3 4\n3 4 1 2\n2 1 4 3\n4 3 2 1\n", 0),
-        (
-            "2x2:1b4i3_2a",
-            "one\n1 2 3 4\n3 4 1 2\n2 1 4 3\n4 3 2 1\n",
-            0,
-        ),
-        ("2x2:p", TWO_SOLOS, 3),
-        ("2x2:__p_", TWO_SOLOS, 3),
-        ("2x2:hh", TWO_SOLOS, 3),
-        ("2:p", TWO_SOLOS, 3),
-        ("2x2:1_1n", "none\n", 1),
-        ("2x2:5o", "refused: number range at 4\n", 2),
-        ("2x2:o", "refused: too few\n", 2),
-        ("2x2:q", "refused: too many\n", 2),
-        ("2x2:0o", "refused: bad byte at 4\n", 2),
-        ("2x2:", "refused: too few\n", 2),
-        ("3x3#12", "refused: seed id\n", 2),
-        ("2x2", "refused: no colon\n", 2),
-        ("02x2:p", "refused: bad size\n", 2),
-        ("2x:p", "refused: bad size\n", 2),
-        ("2x2k:p", "refused: variant\n", 2),
-        ("9j:p", "refused: variant\n", 2),
-        ("1x4:p", "refused: size range\n", 2),
-        ("6x6:p", "refused: size range\n", 2),
-    ] {
-        assert!(rt;
-            tells(rt.alloc(), &["solve", "solo", id], text, status)?,
-            "{id}"
-        );
-    }
-    Ok(())
-}
-
-#[test]
-fn lights_are_solved(rt: HostRuntime) -> Result<(), Fail> {
-    for (id, budget, text, status) in [
-        ("2x2:2c", "0", "one\n2O\nO.\n", 0),
-        ("2x2:2c", MOST, "one\n2O\nO.\n", 0),
-        ("2x2:Bc", "0", "gave up\n", 4),
-        ("2x2:Bc", "100000", "several\n#.\n.O\n\n#O\nO.\n", 3),
-        ("2x2:Bc", MOST, "several\n#.\n.O\n\n#O\nO.\n", 3),
-        ("2x2:1c", "2", "none\n", 1),
-        ("2x2:1c", MOST, "none\n", 1),
-        ("2x2:1c", "1", "gave up\n", 4),
-        ("2x2:1c", "0", "gave up\n", 4),
-        ("2x2:BBBB", "0", "one\n##\n##\n", 0),
-        ("2x2:1BBB", "0", "none\n", 1),
-        ("3x3:aBBa1aBb", "100000", "one\n.##\nO1.\n#.O\n", 0),
-        ("3x3:aBBa1aBb", "4", "one\n.##\nO1.\n#.O\n", 0),
-        ("3x3:aBBa1aBb", "3", "gave up\n.##\nO1.\n#.O\n", 4),
-        ("3x3:aBBa1aBb", "1", "gave up\n.##\nO1.\n#.O\n", 4),
-        ("3x3:aBBa1aBb", "0", "gave up\n", 4),
-        ("2x2:5c", "0", "refused: bad byte at 4\n", 2),
-        ("2x2:2d", "0", "refused: too many\n", 2),
-        ("1x2:b", "0", "refused: size range\n", 2),
-    ] {
-        let words = ["solve", "lightup", id, "--budget", budget];
-        assert!(rt;
-            tells(rt.alloc(), &words, text, status)?,
-            "{id} with {budget}"
-        );
-    }
-    Ok(())
-}
-
-#[test]
-fn tents_are_solved(rt: HostRuntime) -> Result<(), Fail> {
-    for (id, text, status) in [
-        ("5x3:aiaa,1,0,2,0,0,2,0,1", "none\n", 1),
-        ("2x2:_c,0,1,1,0", "one\nT^\n..\n", 0),
-        ("4x6:z,0,0,0,0,0,0,0,0,0,0", "refused: too many\n", 2),
-        ("2x2:d,0,0,0,0", "one\n..\n..\n", 0),
-    ] {
-        let words = ["solve", "tents", id, "--budget", "0"];
-        assert!(rt; tells(rt.alloc(), &words, text, status)?, "{id}");
-    }
-    Ok(())
-}
-
-const CORNERS: &str = "several\n.#\n#.\n\n#.\n.#\n";
-
-const MOST: &str = "18446744073709551615";
-
-const BUDGETS: [(&str, &str, &str, &str, u8); 13] = [
-    ("pattern", "2x2:1/1/1/1", "2", CORNERS, 3),
-    ("pattern", "2x2:1/1/1/1", MOST, CORNERS, 3),
-    ("pattern", "2x2:1/1/1/1", "0002", CORNERS, 3),
-    ("pattern", "2x2:1/1/1/1", "1", "gave up\n.#\n#.\n", 4),
-    ("pattern", "2x2:1/1/1/1", "0", "gave up\n", 4),
-    ("pattern", "5x1:1/1//1/1/2.2", "0", "one\n##.##\n", 0),
-    ("solo", "2x2:1_1n", "0", "none\n", 1),
-    (
-        "solo",
-        GIVEN,
-        "0",
-        "one\n1 2 3 4\n3 4 1 2\n2 1 4 3\n4 3 2 1\n",
-        0,
-    ),
-    (
-        "solo",
-        "2x2:p",
-        "7",
-        "gave up\n1 2 3 4\n3 4 1 2\n2 1 4 3\n4 3 2 1\n",
-        4,
-    ),
-    ("pattern", "1x1:/", "x", "refused: words\n", 2),
-    ("pattern", "1x1:/", "", "refused: words\n", 2),
-    ("pattern", "1x1:/", "+5", "refused: words\n", 2),
-    (
-        "pattern",
-        "1x1:/",
-        "18446744073709551616",
-        "refused: words\n",
-        2,
-    ),
-];
-
-#[test]
-fn a_budget_is_kept(rt: HostRuntime) -> Result<(), Fail> {
-    for (game, id, budget, text, status) in BUDGETS {
-        let words = ["solve", game, id, "--budget", budget];
-        assert!(rt;
-            tells(rt.alloc(), &words, text, status)?,
-            "{id} with {budget}"
-        );
-    }
-    let words = ["solve", "solo", "2x2:p", "--budget=8"];
-    assert!(rt; tells(rt.alloc(), &words, TWO_SOLOS, 3)?);
-    Ok(())
-}
-
-#[test]
-fn other_words_are_refused(rt: HostRuntime) -> Result<(), Fail> {
-    let rows: [&[&str]; 18] = [
-        &[],
-        &["--help"],
-        &["-h"],
-        &["help"],
-        &["--version"],
-        &["solve"],
-        &["solve", "chess", "1x1:/"],
-        &["solve", "Pattern", "1x1:/"],
-        &["solve", "pattern", "1x1:/", "1x1:/"],
-        &["solve", "pattern", "1x1:/", "--budget"],
-        &[
-            "solve", "pattern", "1x1:/", "--budget", "5", "--budget", "5",
-        ],
-        &["solve", "pattern", "1x1:/", "--tries", "5"],
-        &["solve", "pattern", "--help"],
-        &["check", "pattern"],
-        &["grade", "pattern"],
-        &["generate", "pattern", "1x1"],
-        &["generate", "tents", "4x4", "--seed", "1", "--black", "5"],
-        &["pattern", "solve", "1x1:/"],
-    ];
-    for (k, words) in rows.iter().enumerate() {
-        assert!(rt; tells(rt.alloc(), words, "refused: words\n", 2)?, "row {k}");
-    }
-    Ok(())
-}
-
-/// The numbers of words that ask for a puzzle to be made.
-fn numbers_to_make(alloc: Global, words: &[&str]) -> Result<Option<[u64; 4]>, AllocError> {
-    let words = texts(alloc, words)?;
-    Ok(match read_words(alloc, words.as_slice())? {
-        Some(
-            Request::Generate {
-                size: "4x5",
-                recipe,
-                ..
-            },
-        ) => {
-            let limits = recipe.limits;
-            let black = recipe.black.value;
-            Some([
-                recipe.seed,
-                limits.budget,
-                limits.tries as u64,
-                black as u64,
-            ])
+        for line in table.lines() {
+            let row = Row::read(rt.alloc(), line)?;
+            assert!(rt; row.is_told(rt.alloc()), "{line}");
         }
-        _ => None,
-    })
-}
-
-#[test]
-fn numbers_are_read(rt: HostRuntime) -> Result<(), Fail> {
-    let most = "18446744073709551615";
-    for (game, seed, option, value, numbers) in [
-        ("pattern", "1", "--budget", "7", Some([1, 7, 1_000, 50])),
-        ("lightup", "007", "--tries", "00", Some([7, 100_000, 0, 20])),
-        (
-            "solo",
-            most,
-            "--tries",
-            "4294967295",
-            Some([u64::MAX, 100_000, 4_294_967_295, 0]),
-        ),
-        ("tents", "0", "--tries", "4294967296", None),
-        (
-            "pattern",
-            "0",
-            "--black",
-            "100",
-            Some([0, 100_000, 1_000, 100]),
-        ),
-        ("lightup", "0", "--black", "0", Some([0, 100_000, 1_000, 0])),
-        ("lightup", "0", "--black", "101", None),
-        ("tents", "0", "--black", "5", None),
-        ("solo", "0", "--black", "0", None),
-        ("pattern", "18446744073709551616", "--tries", "1", None),
-    ] {
-        let words = ["generate", game, "4x5", "--seed", seed, option, value];
-        let found = numbers_to_make(rt.alloc(), &words)?;
-        assert_eq!(rt; found, numbers, "{game} with {option} {value}");
     }
     Ok(())
-}
-
-#[test]
-fn a_failing_writer_keeps_a_beginning(rt: HostRuntime) -> Result<(), Fail> {
-    for fails_at in 0..11u32 {
-        let writer = Slow::new(rt.alloc(), 1, fails_at, true);
-        let seen = seen::observe(rt.alloc(), &SOLVED, Endless::new(b'#'), writer)?;
-        let is_fine = fails_at == 0;
-        assert_eq!(rt; seen.sink_failed, !is_fine);
-        assert_eq!(rt; seen.status, if is_fine { 0 } else { 6 });
-        assert_eq!(rt; seen.writer.flushes, if is_fine { 1 } else { 0 });
-        let count = if is_fine { 10 } else { fails_at as usize - 1 };
-        assert!(rt; count <= ANSWER.len());
-        assert_eq!(rt; seen.writer.taken.as_slice(), &ANSWER[..count]);
-        assert_eq!(rt; seen.fetches, 0);
-        assert_eq!(rt; seen.reader.calls, 0);
-    }
-    Ok(())
-}
-
-#[test]
-fn a_failing_end_is_told(rt: HostRuntime) -> Result<(), Fail> {
-    // No byte is taken, and then no flush works.
-    for (most, calls, written) in [(0, 1, b"".as_slice()), (4_096, 1, ANSWER)] {
-        let writer = Slow::new(rt.alloc(), most, 0, false);
-        let seen = seen::observe(rt.alloc(), &SOLVED, b"unread".as_slice(), writer)?;
-        assert_eq!(rt; seen.status, 6);
-        assert!(rt; seen.sink_failed);
-        assert_eq!(rt; seen.writer.calls, calls);
-        assert_eq!(rt; seen.writer.taken.as_slice(), written);
-    }
-    Ok(())
-}
-
-#[test]
-fn a_source_gives_its_bytes(rt: HostRuntime) {
-    let mut source = ReadEnd::new(Chunks::new(b"abcde", 2, 0));
-    let mut buffer = [0u8; 4];
-    for (k, count) in [2, 2, 1, 0].iter().enumerate() {
-        assert!(rt; !source.ended() && !source.failed() && source.calls() < 4);
-        assert_eq!(rt; source.fetch(&mut buffer), Some(*count), "call {k}");
-        assert_eq!(rt; source.calls() as usize, k + 1);
-    }
-    assert!(rt; source.ended());
-    assert!(rt; !source.failed());
-    let mut failing = ReadEnd::new(Chunks::new(b"abcde", 2, 1));
-    assert_eq!(rt; failing.fetch(&mut buffer), None);
-    assert!(rt; failing.failed());
-    assert!(rt; !failing.ended());
-    assert_eq!(rt; failing.into_inner().calls, 1);
-}
-
-/// Under `rt try --test --fail-alloc N` the N-th growth of this run may be refused.
-#[test]
-fn want_of_memory_leaves_a_beginning(rt: HostRuntime) {
-    let Ok(words) = texts(rt.alloc(), &SOLVED) else {
-        return;
-    };
-    let (taken, status) = run_on_bytes(rt.alloc(), words.as_slice(), b"unread");
-    assert!(rt; status == 0 || status == 5);
-    assert!(rt; ANSWER.starts_with(taken.as_slice()));
-    assert_eq!(rt; taken.len() == ANSWER.len(), status == 0);
 }

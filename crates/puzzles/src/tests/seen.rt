@@ -7,22 +7,10 @@ use crate::tests::fakes::{Slow, texts};
 use std::alloc::{AllocError, Global};
 use std::io::Read;
 
-/// What a run over bytes writes, and its status.
-pub fn outcome(alloc: Global, words: &[&str], input: &[u8]) -> Result<(Vec<u8>, u8), AllocError> {
+/// What a run writes, and its status.
+pub fn outcome(alloc: Global, words: &[&str]) -> Result<(Vec<u8>, u8), AllocError> {
     let words = texts(alloc, words)?;
-    Ok(run_on_bytes(alloc, words.as_slice(), input))
-}
-
-/// Whether a run over bytes writes this text, and has this status.
-pub fn tells(
-    alloc: Global,
-    words: &[&str],
-    input: &[u8],
-    text: &str,
-    status: u8,
-) -> Result<bool, AllocError> {
-    let (taken, found) = outcome(alloc, words, input)?;
-    Ok(taken.as_slice() == text.as_bytes() && found == status)
+    Ok(run_on_bytes(alloc, words.as_slice(), b"unread"))
 }
 
 /// What a run did, and the ends as it left them.
@@ -40,15 +28,14 @@ pub struct Seen<R> {
 /// A run over this reader and this writer.
 pub fn observe<R: Read + Drop>(
     alloc: Global,
-    words: &[&str],
+    words: &[String],
     reader: R,
     writer: Slow,
-) -> Result<Seen<R>, AllocError> {
-    let words = texts(alloc, words)?;
+) -> Seen<R> {
     let mut source = ReadEnd::new(reader);
     let mut sink = WriteEnd::new(writer);
-    let status = run(alloc, words.as_slice(), &mut source, &mut sink);
-    Ok(Seen {
+    let status = run(alloc, words, &mut source, &mut sink);
+    Seen {
         status,
         fetches: source.calls(),
         source_failed: source.failed(),
@@ -56,5 +43,5 @@ pub fn observe<R: Read + Drop>(
         sink_failed: sink.failed(),
         reader: source.into_inner(),
         writer: sink.into_inner(),
-    })
+    }
 }

@@ -31,43 +31,20 @@ fn pattern_rules(alloc: Global, id: &[u8]) -> Result<PatternLines, Fail> {
     Ok(PatternLines::new(alloc, &read_pattern(alloc, id)?)?)
 }
 
-/// The counts of searches of a puzzle of Pattern.
-fn pattern_counts(alloc: Global, id: &[u8], budgets: &[u64]) -> Result<Vec<(u64, usize)>, Fail> {
-    Ok(counts(alloc, &pattern_rules(alloc, id)?, budgets)?)
-}
-
-/// The counts of searches of a puzzle of Solo.
-fn solo_counts(alloc: Global, id: &[u8], budgets: &[u64]) -> Result<Vec<(u64, usize)>, Fail> {
-    let rules = SoloHouses::new(alloc, &read_solo(alloc, id)?)?;
-    Ok(counts(alloc, &rules, budgets)?)
-}
-
-/// The counts of searches of a puzzle of Light Up.
-fn light_counts(alloc: Global, id: &[u8], budgets: &[u64]) -> Result<Vec<(u64, usize)>, Fail> {
-    let rules = LightRules::new(alloc, &read_lights(alloc, id)?)?;
-    Ok(counts(alloc, &rules, budgets)?)
-}
-
 #[test]
-fn trials_of_pattern_are_counted(rt: HostRuntime) -> Result<(), Fail> {
-    let found = pattern_counts(rt.alloc(), b"2x2:1/1/1/1", &[2, 1, 0, u64::MAX])?;
+fn trials_are_counted(rt: HostRuntime) -> Result<(), Fail> {
+    let alloc = rt.alloc();
+    let lines = pattern_rules(alloc, b"2x2:1/1/1/1")?;
+    let found = counts(alloc, &lines, &[2, 1, 0, u64::MAX])?;
     assert_eq!(rt;
         found.as_slice(),
         [(2, 1), (1, 1), (0, 0), (2, 1)].as_slice()
     );
-    Ok(())
-}
-
-#[test]
-fn trials_of_solo_are_counted(rt: HostRuntime) -> Result<(), Fail> {
-    let found = solo_counts(rt.alloc(), b"2x2:p", &[8, 7])?;
+    let houses = SoloHouses::new(alloc, &read_solo(alloc, b"2x2:p")?)?;
+    let found = counts(alloc, &houses, &[8, 7])?;
     assert_eq!(rt; found.as_slice(), [(8, 7), (7, 7)].as_slice());
-    Ok(())
-}
-
-#[test]
-fn trials_of_light_up_are_counted(rt: HostRuntime) -> Result<(), Fail> {
-    let found = light_counts(rt.alloc(), b"3x3:aBBa1aBb", &[4, 3, 1, 0])?;
+    let local = LightRules::new(alloc, &read_lights(alloc, b"3x3:aBBa1aBb")?)?;
+    let found = counts(alloc, &local, &[4, 3, 1, 0])?;
     assert_eq!(rt;
         found.as_slice(),
         [(4, 2), (3, 2), (1, 1), (0, 0)].as_slice()
@@ -101,18 +78,8 @@ fn stores_have_their_sizes(rt: HostRuntime) -> Result<(), Fail> {
     assert_eq!(rt; before, sizes);
     assert_eq!(rt; verdict, Verdict::Several);
     assert_eq!(rt; after, sizes);
-    Ok(())
-}
-
-/// Whether a store for one puzzle of Pattern is enough for another.
-fn is_enough(alloc: Global, id: &[u8], other: &[u8]) -> Result<bool, Fail> {
-    let store = Store::new(alloc, &pattern_rules(alloc, id)?)?;
-    Ok(store.fits(&pattern_rules(alloc, other)?))
-}
-
-#[test]
-fn a_store_fits_puzzles_of_its_size(rt: HostRuntime) -> Result<(), Fail> {
-    assert!(rt; is_enough(rt.alloc(), b"2x2:1/1/1/1", b"2x2:2/2/2/2")?);
-    assert!(rt; !is_enough(rt.alloc(), b"2x2:1/1/1/1", b"2x3:////")?);
+    let store = Store::new(rt.alloc(), &pattern_rules(rt.alloc(), b"2x2:1/1/1/1")?)?;
+    assert!(rt; store.fits(&pattern_rules(rt.alloc(), b"2x2:2/2/2/2")?));
+    assert!(rt; !store.fits(&pattern_rules(rt.alloc(), b"2x3:////")?));
     Ok(())
 }

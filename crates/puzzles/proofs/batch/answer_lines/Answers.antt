@@ -1,8 +1,8 @@
 use Rattle.std.proofs.Common.{inl, inr, refl}
 use Rattle.puzzles.specs.Batches.{AllowsTask}
-use Rattle.puzzles.proofs.InputLemmas.{ran_answered, ran_begun, ran_stopped}
-use Rattle.puzzles.proofs.StopLemmas.{is_late}
-use Rattle.puzzles.specs.Statuses.{code_of}
+use Rattle.puzzles.proofs.BatchLemmas.{ran_answered, ran_begun, ran_stopped}
+use Rattle.puzzles.proofs.RunLemmas.{is_late}
+use Rattle.puzzles.specs.Replies.{code_of}
 use Rattle.puzzles.proofs.batch.answer_lines.Goals as goal
 
 pub returns-in_err-take_input-clause-ran : goal.returns-in_err-take_input-clause-ran
@@ -14,16 +14,16 @@ returns-in_err-answer_last-clause-ran g c =
     let t = c.in_ok-take_input.ensures.taken in
     ran_begun g.I.Source g.O.Sink g.met.O.Sink.takes_both (AllowsTask c.args.task)
     _ _ _ _ t.seen _ (is_late _ _ c.from_residual-in_err-answer_last.ensures)
-    c.in_ok-take_input.ensures.ended t.gave (c.in_err-answer_last.ensures.begun (c.each_text_has_an_answer.ensures c.args.task.game c.args.task.budget) c.args.output.now t.seen t.batched)
+    c.in_ok-take_input.ensures.ended t.gave (c.in_err-answer_last.ensures.begun (c.each_text_has_an_answer.ensures c.args.task.game c.args.task.budget) c.args.output.now t.seen t.is)
 
 pub returns-then-finish-clause-ran : goal.returns-then-finish-clause-ran
 returns-then-finish-clause-ran g c =
     let t = c.in_ok-take_input.ensures.taken in
     ran_answered g.I.Source g.O.Sink g.met.O.Sink.takes_both (AllowsTask c.args.task)
-    _ _ _ _ _ t.seen (code_of c.answer_last.new.self.status) _ (inl refl) c.in_ok-take_input.ensures.ended t.gave (c.in_ok-answer_last.ensures.whole c.args.output.now t.seen t.batched) c.if-finish.ensures.bytes
+    _ _ _ _ _ t.seen (code_of c.answer_last.new.self.status) _ (inl refl) c.in_ok-take_input.ensures.ended t.gave (c.in_ok-answer_last.ensures.whole c.args.output.now t.seen t.is) c.if-finish.ensures.bytes
 
 pub returns-else-finish-clause-ran : goal.returns-else-finish-clause-ran
 returns-else-finish-clause-ran g c =
     let t = c.in_ok-take_input.ensures.taken in
     ran_answered g.I.Source g.O.Sink g.met.O.Sink.takes_both (AllowsTask c.args.task)
-    _ _ _ _ _ t.seen (code_of c.answer_last.new.self.status) _ (inr refl) c.in_ok-take_input.ensures.ended t.gave (c.in_ok-answer_last.ensures.whole c.args.output.now t.seen t.batched) c.if-finish.ensures.bytes
+    _ _ _ _ _ t.seen (code_of c.answer_last.new.self.status) _ (inr refl) c.in_ok-take_input.ensures.ended t.gave (c.in_ok-answer_last.ensures.whole c.args.output.now t.seen t.is) c.if-finish.ensures.bytes

@@ -5,7 +5,7 @@ use Rattle.gameid_core.specs.declared.game.Game.{Game}
 use Rattle.gameid_core.specs.declared.game.Game.TheVariants.{Solo, Pattern, LightUp, Tents}
 use Rattle.puzzles.specs.Answers.{Text}
 use Rattle.puzzles.specs.Games.{played}
-use Rattle.puzzles.proofs.IdLemmas.{too_long_id}
+use Rattle.puzzles.proofs.Readings.{too_long_id}
 use Rattle.puzzles.proofs.batch.line_reply.Goals as goal
 
 pub returns-in-None : goal.returns-in-None

@@ -1,5 +1,4 @@
-use Rattle.puzzles.proofs.RunLemmas.{ran_unwritten}
-use Rattle.puzzles.proofs.StopLemmas.{is_late}
+use Rattle.puzzles.proofs.RunLemmas.{ran_unwritten, is_late}
 use Rattle.puzzles.proofs.check.check_input.Goals as goal
 
 pub returns-in_err-text-clause-ran : goal.returns-in_err-text-clause-ran

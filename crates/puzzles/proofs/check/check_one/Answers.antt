@@ -1,6 +1,6 @@
 use Rattle.std.proofs.Common.{rules, arith, ◌≢◌}
 use Rattle.gameid_core.specs.declared.fault.IdFault.TheVariants.{Memory}
-use Rattle.puzzles.proofs.IdLemmas.{refused_id}
+use Rattle.puzzles.proofs.Readings.{refused_id}
 use Rattle.puzzles.proofs.RunLemmas.{ran_by_reply, ran_nothing}
 use Rattle.puzzles.proofs.check.check_one.Goals as goal
 

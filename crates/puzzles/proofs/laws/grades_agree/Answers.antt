@@ -13,15 +13,12 @@ use Rattle.solo_core.specs.RuleSets.{crossings_rules, houses_rules, singles_rule
 use Rattle.puzzles.specs.Answers.{Answer, Text}
 use Rattle.puzzles.specs.Games.{played, puzzle_of}
 use Rattle.puzzles.specs.Grades.{listed_grade, only_set, solo_sets}
-use Rattle.puzzles.specs.Grading.{AllowsGrade}
-use Rattle.puzzles.specs.LawsOfGrades.{GoesAlong, IsOneWithEnough, NamesRules}
-use Rattle.puzzles.specs.Solving.{AllowsSolve}
+use Rattle.puzzles.specs.Allowed.{AllowsGrade, AllowsSolve}
+use Rattle.puzzles.specs.LawsOfCommands.{GoesAlong, IsOneWithEnough, NamesRules}
 use Rattle.puzzles.specs.declared.grade.RuleSet.TheVariants.{Singles, Houses, Crossings, Lines, Local}
-use Rattle.puzzles.proofs.GameFacts.{facts}
-use Rattle.puzzles.proofs.GradedAlike.{both_answers, goes_along, is_within, named_alike, own_named, refusals_along, refusals_apart, status_alike, weaker_named}
-use Rattle.puzzles.proofs.RightGrades.{with_enough}
+use Rattle.puzzles.proofs.GameFacts.{facts, with_enough}
+use Rattle.puzzles.proofs.GradedAlike.{both_answers, goes_along, is_within, named_alike, own_named, refusals_along, refusals_apart, status_alike, weaker_named, settled_by_stronger}
 use Rattle.puzzles.proofs.SearchedPuzzles.{solo_searched, singles_searched}
-use Rattle.puzzles.proofs.SettledLemmas.{settled_by_stronger}
 use Rattle.puzzles.proofs.laws.grades_agree.Goals as goal
 
 -- what singles strike, houses strike

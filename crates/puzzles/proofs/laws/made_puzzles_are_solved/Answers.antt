@@ -1,4 +1,4 @@
-use Rattle.std.proofs.Common.{◌≡◌, ℕ, inl, inr}
+use Rattle.std.proofs.Common.{◌≡◌, ℕ, ap, arith, inl, inr}
 use Rattle.std.proofs.lemmas.List.Elements.{All-contains}
 use Rattle.gameid_core.specs.declared.game.Game.{Game}
 use Rattle.gameid_core.specs.declared.game.Game.TheVariants.{Solo, LightUp}
@@ -12,32 +12,30 @@ use Rattle.maker_core.specs.SoloFilling.{all_given}
 use Rattle.maker_core.specs.Thinning.{IsReason}
 use Rattle.puzzles.specs.Answers.{Answer, Text}
 use Rattle.puzzles.specs.Games.{played}
-use Rattle.puzzles.specs.LawsOfMakings.{IsSolvedAsMade}
-use Rattle.puzzles.specs.Making.{AllowsMade, AllowsOfSize, wanted}
-use Rattle.puzzles.proofs.GameFacts.{facts}
-use Rattle.puzzles.proofs.PassingGrids.{passes_as, spelled_read}
-use Rattle.puzzles.proofs.SolvedAsMade.{of_size, none_made, found_alone, never_one}
+use Rattle.puzzles.specs.LawsOfCommands.{IsSolvedAsMade}
+use Rattle.puzzles.specs.Allowed.{AllowsMade, wanted}
+use Rattle.puzzles.proofs.GameFacts.{facts, passes_as, spelled_read, none_made, found_alone, never_one}
 use Rattle.puzzles.proofs.laws.made_puzzles_are_solved.Goals as goal
 
 by : (game : Game) (size : Text) (seed budget tries black : ℕ) (answer : Answer)
     → AllowsMade game size seed budget tries black answer → answer.status ≡ 0 → IsSolvedAsMade game budget answer
-by game size seed budget tries black answer allowed fine =
-    let play = played game in
-    let known = facts game in
-    of_size _ (AllowsOfSize play (wanted seed budget tries black)) answer allowed fine (IsSolvedAsMade game budget answer) (λ read made. elim made [
-      | inl handed ↦
-          let p = handed.puzzle in
-          let alone = known.made read (wanted seed budget tries black) p handed.solution handed.kept handed.made in
-          record {
-            id = play.game.written p;
-            grid = grid_text (play.cell_text p handed.solution) (play.extent p);
-            told = handed.told;
-            solved = λ said. found_alone play known.reading (play.game.written p) p budget handed.solution said handed.spelled alone.0 alone.1;
-            read = spelled_read play.game.reading play.game.spells known.reading (play.game.written p) p handed.spelled;
-            passes = λ said. passes_as play known.reading known.checked (play.game.written p) p handed.spelled handed.solution alone.1.0 said;
-          }
-      | inr none ↦ none_made answer (IsSolvedAsMade game budget answer) (known.unmade read (wanted seed budget tries black) answer none) fine
-    ])
+by game size seed budget tries black answer (inl refusal) fine = absurd (omega (arith, fine, ap (λ (a : Answer). a.status) refusal.told))
+by game size seed budget tries black answer (inr sized) fine = elim sized.allowed [
+  | inl handed ↦
+      let play = played game in
+      let known = facts game in
+      let p = handed.puzzle in
+      let alone = known.made sized.puzzle (wanted seed budget tries black) p handed.solution handed.kept handed.made in
+      record {
+        id = play.game.written p;
+        grid = grid_text (play.cell_text p handed.solution) (play.extent p);
+        told = handed.told;
+        solved = λ said. found_alone play known.reading (play.game.written p) p budget handed.solution said handed.spelled alone.0 alone.1;
+        read = spelled_read play.game.reading play.game.spells known.reading (play.game.written p) p handed.spelled;
+        passes = λ said. passes_as play known.reading known.checked (play.game.written p) p handed.spelled handed.solution alone.1.0 said;
+      }
+  | inr none ↦ none_made answer (IsSolvedAsMade game budget answer) ((facts game).unmade sized.puzzle (wanted seed budget tries black) answer none) fine
+]
 
 pub returns-clause-solved : goal.returns-clause-solved
 returns-clause-solved c = by

@@ -3,19 +3,15 @@ use Rattle.std.specs.Str.Lines.{lines}
 use Rattle.gameid_core.specs.declared.game.Game.{Game}
 use Rattle.gameid_core.specs.declared.game.Game.TheVariants.{Solo, Pattern, LightUp, Tents}
 use Rattle.puzzles.specs.Answers.{Text}
-use Rattle.puzzles.specs.Checking.{AllowsCheck}
+use Rattle.puzzles.specs.Allowed.{AllowsCheck, AllowsGrade, Allows, AllowsSolve}
 use Rattle.puzzles.specs.Games.{played}
-use Rattle.puzzles.specs.Grading.{AllowsGrade}
-use Rattle.puzzles.specs.LawsOfAnswers.{HasOneAnswer, is_fixed}
-use Rattle.puzzles.specs.Outputs.{Allows}
-use Rattle.puzzles.specs.Refusals.{refused_words}
+use Rattle.puzzles.specs.LawsOfCommands.{HasOneAnswer, is_fixed}
+use Rattle.puzzles.specs.Replies.{refused_words}
 use Rattle.puzzles.specs.Requests.{Asked, solve, check, grade, generate}
-use Rattle.puzzles.specs.Solving.{AllowsSolve}
-use Rattle.puzzles.proofs.CheckedOnce.{check_same, check_some}
-use Rattle.puzzles.proofs.GameFacts.{facts, solving}
-use Rattle.puzzles.proofs.MadeOnce.{AreFilled, made_pattern_same, made_pattern_some, made_tents_same, made_tents_some}
-use Rattle.puzzles.proofs.OneAnswer.{each_once, grade_once, id_once, one_of_same, told_once}
-use Rattle.puzzles.proofs.RightGrades.{listed_right}
+use Rattle.puzzles.proofs.CheckedPuzzles.{check_same, check_some}
+use Rattle.puzzles.proofs.GameFacts.{facts, solving, listed_right}
+use Rattle.puzzles.proofs.MadeOnce.{AreFilled, made_pattern, made_tents}
+use Rattle.puzzles.proofs.Readings.{each_once, grade_once, id_once, one_of_same, told_once}
 use Rattle.puzzles.proofs.laws.one_answer.Goals as goal
 
 checking : (game : Game) (id input : Text) → HasOneAnswer (AllowsCheck game id input)
@@ -44,7 +40,7 @@ returns c = record { fixed = by }
     by (Some (check game id)) input fixed = checking game id input
     by (Some (grade game id budget false)) input fixed = grading game id budget
     by (Some (grade game id budget true)) input fixed = absurd (true≢false (sym fixed))
-    by (Some (generate Pattern size seed budget tries black)) input fixed = one_of_same _ (made_pattern_some size seed budget tries black) (made_pattern_same size seed budget tries black)
+    by (Some (generate Pattern size seed budget tries black)) input fixed = made_pattern size seed budget tries black
     by (Some (generate Solo size seed budget tries black)) input fixed = absurd (true≢false (sym fixed))
     by (Some (generate LightUp size seed budget tries black)) input fixed = absurd (true≢false (sym fixed))
-    by (Some (generate Tents size seed budget tries black)) input fixed = one_of_same _ (made_tents_some filled size seed budget tries black) (made_tents_same size seed budget tries black)
+    by (Some (generate Tents size seed budget tries black)) input fixed = made_tents filled size seed budget tries black

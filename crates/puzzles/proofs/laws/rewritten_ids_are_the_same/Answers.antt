@@ -2,10 +2,10 @@ use Rattle.std.specs.Prelude.{◌↔◌}
 use Rattle.gameid_core.specs.declared.game.Game.{Game}
 use Rattle.puzzles.specs.Answers.{Answer, Text}
 use Rattle.puzzles.specs.Games.{played, puzzle_of}
-use Rattle.puzzles.specs.IdAnswers.{AnswersId}
-use Rattle.puzzles.specs.LawsOfIds.{Rewrites}
+use Rattle.puzzles.specs.Allowed.{AnswersId}
+use Rattle.puzzles.specs.LawsOfCommands.{Rewrites}
 use Rattle.puzzles.proofs.GameFacts.{facts}
-use Rattle.puzzles.proofs.RewrittenIds.{answered_alike, spelled_alike}
+use Rattle.puzzles.proofs.Readings.{answered_alike, spelled_alike}
 use Rattle.puzzles.proofs.laws.rewritten_ids_are_the_same.Goals as goal
 
 alike : (game : Game) (id other : Text) → Rewrites game id other → (allows : puzzle_of game → Answer → Type 0) (answer : Answer)

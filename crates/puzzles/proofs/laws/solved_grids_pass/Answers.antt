@@ -1,13 +1,10 @@
 use Rattle.std.proofs.Common.{ℕ}
 use Rattle.gameid_core.specs.declared.game.Game.{Game}
 use Rattle.puzzles.specs.Answers.{Answer, Text}
-use Rattle.puzzles.specs.Checking.{AllowsCheck}
+use Rattle.puzzles.specs.Allowed.{AllowsCheck, AllowsSolve}
 use Rattle.puzzles.specs.Games.{played}
-use Rattle.puzzles.specs.Solving.{AllowsSolve}
-use Rattle.puzzles.proofs.CorrectGrids.{GoesWith, goes_with, refusals_go}
-use Rattle.puzzles.proofs.GameFacts.{facts}
+use Rattle.puzzles.proofs.GameFacts.{GoesWith, goes_with, refusals_go, passed, facts}
 use Rattle.puzzles.proofs.GradedAlike.{both_answers}
-use Rattle.puzzles.proofs.PassingGrids.{passed}
 use Rattle.puzzles.proofs.laws.solved_grids_pass.Goals as goal
 
 goes : (game : Game) (id input : Text) (budget : ℕ) (given solved : Answer)

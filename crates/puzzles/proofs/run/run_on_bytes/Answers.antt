@@ -1,7 +1,7 @@
 use Rattle.std.proofs.Common.{rules, ◌≡◌, ◌∙◌, ◌++◌, List, [], ℕ, ap, map, string_bytes, subst, sym, Vec, Global}
 use Rattle.puzzles.specs.Requests.{asked_of}
 use Rattle.puzzles.specs.Answers.{BeginsAnswer}
-use Rattle.puzzles.specs.Outputs.{Allows}
+use Rattle.puzzles.specs.Allowed.{Allows}
 use Rattle.puzzles.proofs.RunLemmas.{input_known}
 use Rattle.puzzles.proofs.run.run_on_bytes.Goals as goal
 

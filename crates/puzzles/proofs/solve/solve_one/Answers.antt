@@ -1,6 +1,6 @@
 use Rattle.std.proofs.Common.{◌∙◌, ap, inr}
 use Rattle.engine_core.specs.Puzzle.{Puzzle}
-use Rattle.puzzles.proofs.AnswerLemmas.{solved_of}
+use Rattle.puzzles.proofs.SearchedPuzzles.{solved_of}
 use Rattle.puzzles.proofs.solve.solve_one.Goals as goal
 
 pub returns-in_ok-reply-in-Ok : goal.returns-in_ok-reply-in-Ok
@@ -12,9 +12,3 @@ returns-in_ok-reply-in-Ok g c =
       allowed = solved_of g.P.Played.game.solves g.P.Played.game.rules g.P.Printed.cell_text g.P.Printed.extent c.args.budget c.in-Ok.puzzle _ _
           (c.requires.means _ ∙ c.in_ok-rules-in-Ok.ensures.made) c.in_ok-rules-in-Ok.ensures.solutions told.told told.right;
     })
-
-pub searched-requires-clause-cells : goal.searched-requires-clause-cells
-searched-requires-clause-cells g c = ap (λ (r : Puzzle). r.cells) (c.requires.means _ ∙ c.in_ok-rules-in-Ok.ensures.made) ∙ c.in_ok-rules-in-Ok.ensures.cells
-
-pub searched-requires-clause-values : goal.searched-requires-clause-values
-searched-requires-clause-values g c = ap (λ (r : Puzzle). r.values) (c.requires.means _ ∙ c.in_ok-rules-in-Ok.ensures.made) ∙ c.in_ok-rules-in-Ok.ensures.values

@@ -1,5 +1,5 @@
 use Rattle.std.proofs.Common.{◌∙◌, sym}
-use Rattle.puzzles.proofs.ParsedLemmas.{parsed_ok, parsed_err}
+use Rattle.puzzles.proofs.WordLemmas.{parsed_ok, parsed_err}
 use Rattle.puzzles.proofs.words.matches_of.Goals as goal
 
 pub returns-in-Ok : goal.returns-in-Ok

@@ -1,5 +1,5 @@
 use Rattle.std.proofs.Common.{sym, inl, inr, rules, arith}
-use Rattle.puzzles.proofs.NumberLemmas.{number-none, number-read, number-high, number-failed}
+use Rattle.puzzles.proofs.WordLemmas.{number-none, number-read, number-high, number-failed}
 use Rattle.puzzles.proofs.words.number.Goals.{then-is_empty-via-then-is_empty, then-is_empty-via-else-is_empty+then-bytes-eq43}
 use Rattle.puzzles.proofs.words.number.Goals as goal
 

@@ -1,5 +1,5 @@
 use Rattle.std.proofs.Common.{refl, inl, inr}
-use Rattle.puzzles.proofs.PutLemmas.{delivers_all}
+use Rattle.puzzles.proofs.RunLemmas.{delivers_all}
 use Rattle.puzzles.proofs.ends.output.deliver.Goals as goal
 
 pub returns-then-finish-clause-delivers : goal.returns-then-finish-clause-delivers

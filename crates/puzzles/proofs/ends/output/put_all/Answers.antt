@@ -1,5 +1,5 @@
 use Rattle.std.proofs.Common.{refl}
-use Rattle.puzzles.proofs.PutLemmas.{put_more, put_failed}
+use Rattle.puzzles.proofs.RunLemmas.{put_more, put_failed}
 use Rattle.puzzles.proofs.ends.output.put_all.Goals as goal
 
 pub loop-rest-preserved : goal.loop-rest-preserved

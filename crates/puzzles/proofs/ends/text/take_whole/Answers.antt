@@ -1,16 +1,10 @@
-use Rattle.std.proofs.Common.{◌++◌, List, ℕ, [], append-nil, sym, subst, take}
-use Rattle.puzzles.specs.Texts.{IsKept}
+use Rattle.std.proofs.Common.{ℕ, subst, take}
+use Rattle.puzzles.proofs.BatchLemmas.{given_no_more}
 use Rattle.puzzles.proofs.ends.text.take_whole.Goals as goal
 
 pub returns-in-Some-eq0-clause-taken : goal.returns-in-Some-eq0-clause-taken
-returns-in-Some-eq0-clause-taken g c =
-    let k = c.loop-turn.invariant.kept in
-    let nothing = subst (λ (n : ℕ). g.I.Source.gives c.loop-turn.input (take n c.fetch.new.buffer) c.fetch.new.self) c.in-Some-eq0.field-0-test c.in-Some-eq0.ensures.bytes in
-    record {
-      seen = k.seen ++ [];
-      gave = g.met.I.Source.gives_both _ _ _ k.seen [] k.gave nothing;
-      is = subst (λ (t : List ℕ). IsKept c.loop-turn.kept t) (sym (append-nil k.seen)) k.is;
-    }
+returns-in-Some-eq0-clause-taken g c = given_no_more g.I.Source.gives g.met.I.Source.gives_both _ _ _ _ c.loop-turn.invariant.kept
+    (subst (λ (n : ℕ). g.I.Source.gives c.loop-turn.input (take n c.fetch.new.buffer) c.fetch.new.self) c.in-Some-eq0.field-0-test c.in-Some-eq0.ensures.bytes)
 
 pub returns-in-Some-eq0-clause-read : goal.returns-in-Some-eq0-clause-read
 returns-in-Some-eq0-clause-read g c =

@@ -1,10 +1,10 @@
 use Rattle.std.proofs.Common.{◌≡◌, length, false}
-use Rattle.puzzles.specs.Texts.{KeptUpTo}
+use Rattle.puzzles.specs.Texts.{Given, IsKept}
 use Rattle.puzzles.proofs.ends.text.take_whole.Given as goal
 
 abbrev pub invariant-loop-turn : goal.invariant-loop-turn
 invariant-loop-turn g l = record {
-  kept : KeptUpTo g.I.Source.gives l.fn.input l.kept l.input;
+  kept : Given g.I.Source.gives l.fn.input l.input (IsKept l.kept);
   calls : g.I.Source.call_count l.input ≡ l._turn;
   input_fine : g.I.Source.has_failed l.input ≡ false;
   input_open : g.I.Source.has_ended l.input ≡ false;

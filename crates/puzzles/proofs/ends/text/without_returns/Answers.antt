@@ -1,4 +1,4 @@
-use Rattle.puzzles.proofs.Returns.{byte_kept, byte_dropped, all_copied}
+use Rattle.puzzles.proofs.InputLemmas.{byte_kept, byte_dropped, all_copied}
 use Rattle.puzzles.proofs.ends.text.without_returns.Goals as goal
 
 pub loop-byte-preserved-in_ok-push : goal.loop-byte-preserved-in_ok-push

@@ -1,5 +1,5 @@
 use Rattle.std.proofs.Common.{◌≡◌, ◌++◌, length}
-use Rattle.puzzles.specs.Checks.{without_returns}
+use Rattle.puzzles.specs.CheckAnswers.{without_returns}
 use Rattle.puzzles.proofs.ends.text.without_returns.Given as goal
 
 abbrev pub invariant-loop-byte : goal.invariant-loop-byte

@@ -1,6 +1,6 @@
 use Rattle.std.proofs.Common.{rules}
-use Rattle.puzzles.proofs.GameLemmas.{told_last}
-use Rattle.puzzles.proofs.StopLemmas.{tells_nothing}
+use Rattle.puzzles.proofs.GradeLemmas.{told_last}
+use Rattle.puzzles.proofs.RunLemmas.{tells_nothing}
 use Rattle.puzzles.proofs.grade.Attempt.tell_by_visits.Goals as goal
 
 pub returns-clause-told : goal.returns-clause-told

@@ -1,7 +1,7 @@
 use Rattle.std.proofs.Common.{refl, rules, string_bytes}
 use Rattle.puzzles.specs.TracePieces.{PutsTrace}
 use Rattle.puzzles.specs.Traces.{TellsSweeps}
-use Rattle.puzzles.proofs.ToldLemmas.{is_traced, nothing_put, told_whole, untraced}
+use Rattle.puzzles.proofs.GradeLemmas.{is_traced, nothing_put, told_whole, untraced}
 use Rattle.puzzles.proofs.grade.Attempt.tell_with_sweeps.Goals as goal
 use Rattle.puzzles.proofs.grade.Attempt.tell_with_sweeps.Goals.{then-self+in_ok-push_sweeps, else-self}
 

@@ -1,9 +1,8 @@
 use Rattle.std.proofs.Common.{◌≤◌, refl, rules, string_bytes, ℕ}
 use Rattle.puzzles.specs.TracePieces.{PutsTrace}
 use Rattle.puzzles.specs.Traces.{TellsVisits, visits_text}
-use Rattle.puzzles.proofs.GameLemmas.{told_as}
-use Rattle.puzzles.proofs.StopLemmas.{status_is, late}
-use Rattle.puzzles.proofs.ToldLemmas.{is_traced, told_begun, told_whole, untraced}
+use Rattle.puzzles.proofs.GradeLemmas.{told_as, is_traced, told_begun, told_whole, untraced}
+use Rattle.puzzles.proofs.RunLemmas.{status_is, late}
 use Rattle.puzzles.proofs.grade.Attempt.tell_with_visits.Goals as goal
 use Rattle.puzzles.proofs.grade.Attempt.tell_with_visits.Goals.{then-self+in_ok-put_visits, else-self}
 

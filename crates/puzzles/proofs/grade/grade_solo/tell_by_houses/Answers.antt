@@ -5,10 +5,9 @@ use Rattle.solo_core.specs.Solutions.{IsSoloSolution}
 use Rattle.puzzles.specs.Games.{played}
 use Rattle.puzzles.specs.Grades.{only_set}
 use Rattle.puzzles.specs.declared.grade.RuleSet.TheVariants.{Crossings, Houses}
-use Rattle.puzzles.proofs.GameLemmas.{accepted_by, told_by, told_first, told_later}
+use Rattle.puzzles.proofs.GradeLemmas.{accepted_by, told_by, told_first, told_later, houses_named, named}
 use Rattle.puzzles.proofs.SearchedPuzzles.{crossings_searched, solo_searched}
-use Rattle.puzzles.proofs.SoloNames.{houses_named, named}
-use Rattle.puzzles.proofs.StopLemmas.{is_late, left_alone, tells_nothing}
+use Rattle.puzzles.proofs.RunLemmas.{is_late, left_alone, tells_nothing}
 use Rattle.puzzles.proofs.grade.grade_solo.tell_by_houses.Goals as goal
 
 pub returns-in_err-store-clause-told : goal.returns-in_err-store-clause-told

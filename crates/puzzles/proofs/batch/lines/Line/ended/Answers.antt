@@ -1,6 +1,6 @@
 use Rattle.std.proofs.Common.{◌∙◌, ap}
 use Rattle.std.specs.Str.Lines.{strip_carriage_return}
-use Rattle.puzzles.proofs.LineLemmas.{line_whole, line_returned, line_over}
+use Rattle.puzzles.proofs.InputLemmas.{line_whole, line_returned, line_over}
 use Rattle.puzzles.proofs.batch.lines.Line.ended.Goals as goal
 
 pub returns-in-Nothing : goal.returns-in-Nothing

@@ -1,5 +1,5 @@
 use Rattle.std.proofs.Common.{◌≡◌, ◌∙◌, ◌==◌, ap, arith, length, vec_len}
-use Rattle.puzzles.proofs.LineLemmas.{line_empty}
+use Rattle.puzzles.proofs.InputLemmas.{line_empty}
 use Rattle.puzzles.proofs.batch.lines.Line.is_empty.Goals as goal
 
 pub returns : goal.returns

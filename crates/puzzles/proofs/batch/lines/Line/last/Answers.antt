@@ -1,5 +1,5 @@
 use Rattle.std.proofs.Common.{◌∙◌}
-use Rattle.puzzles.proofs.LineLemmas.{line_whole, last_over}
+use Rattle.puzzles.proofs.InputLemmas.{line_whole, last_over}
 use Rattle.puzzles.proofs.batch.lines.Line.last.Goals as goal
 
 pub returns-in-Nothing : goal.returns-in-Nothing

@@ -1,5 +1,5 @@
 use Rattle.std.proofs.Common.{refl, rules}
-use Rattle.puzzles.proofs.LineLemmas.{holds_kept, holds_more}
+use Rattle.puzzles.proofs.InputLemmas.{holds_kept, holds_more}
 use Rattle.puzzles.proofs.batch.lines.Line.push.Goals as goal
 
 pub returns-in_ok-push : goal.returns-in_ok-push

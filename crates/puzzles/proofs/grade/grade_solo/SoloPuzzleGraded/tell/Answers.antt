@@ -4,10 +4,9 @@ use Rattle.solo_core.specs.RuleSets.{crossings_rules, singles_rules}
 use Rattle.puzzles.specs.Games.{played}
 use Rattle.puzzles.specs.Grades.{after_singles, only_set}
 use Rattle.puzzles.specs.declared.grade.RuleSet.TheVariants.{Crossings, Singles}
-use Rattle.puzzles.proofs.GameLemmas.{told_first, told_later}
+use Rattle.puzzles.proofs.GradeLemmas.{told_first, told_later, houses_named, named}
 use Rattle.puzzles.proofs.SearchedPuzzles.{singles_searched}
-use Rattle.puzzles.proofs.SoloNames.{houses_named, named}
-use Rattle.puzzles.proofs.StopLemmas.{tells_nothing}
+use Rattle.puzzles.proofs.RunLemmas.{tells_nothing}
 use Rattle.puzzles.proofs.grade.grade_solo.SoloPuzzleGraded.tell.Goals as goal
 
 pub returns-in_err-store-clause-told : goal.returns-in_err-store-clause-told

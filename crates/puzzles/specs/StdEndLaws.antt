@@ -1,7 +1,10 @@
--- What an end over a reader gave at one time and at the next: nothing, and both together.
-use Rattle.std.proofs.Common.{◌≡◌, ℕ, Bool, true, false, List, [], ◌∷◌, ◌++◌, Option, Some, None, refl, ap, sym, ◌∙◌, append_assoc, true≢false}
+-- What an end over a reader gave, or one over a writer took, at one time and at the next: nothing,
+-- and both together.
+use Rattle.std.proofs.Common.{◌≡◌, ℕ, Bool, true, false, List, [], ◌∷◌, ◌++◌, Option, Some, None, refl, ap, sym, ◌∙◌, append_assoc, true≢false, append-nil}
+use Rattle.std.specs.Io.KnownBytes.{Appends}
 use Rattle.puzzles.specs.declared.ends.read_end.ReadEnd.{ReadEnd}
-use Rattle.puzzles.specs.ReadEnds.{GaveBetween, Gave}
+use Rattle.puzzles.specs.StdEnds.{GaveBetween, Gave, Took}
+use Rattle.puzzles.specs.declared.ends.write_end.WriteEnd.{WriteEnd}
 
 between_nothing : (known : Option (List ℕ)) (ended : Bool) → GaveBetween known ended [] known ended
 between_nothing None ended = tt
@@ -33,3 +36,24 @@ pub gave_both : {R : Type 0} (remaining : R → Option (List ℕ)) (s t u : Read
     → Gave remaining s a t → Gave remaining t b u → Gave remaining s (a ++ b) u
 gave_both remaining s t u a b h k = between_both (remaining s.reader) (remaining t.reader)
     (remaining u.reader) s.ended t.ended u.ended a b h k
+
+appends_nothing : (known : Option (List ℕ)) → Appends known known []
+appends_nothing None = tt
+appends_nothing (Some xs) = sym (append-nil xs)
+
+appends_both : (s t u : Option (List ℕ)) (a b : List ℕ) → Appends s t a → Appends t u b
+    → Appends s u (a ++ b)
+appends_both None t u a b h k = tt
+appends_both (Some xs) None u a b h k = absurd h
+appends_both (Some xs) (Some ys) None a b h k = absurd k
+appends_both (Some xs) (Some ys) (Some zs) a b h k =
+    k ∙ ap (λ l. l ++ b) h ∙ append_assoc xs a b
+
+pub took_nothing : {W : Type 0} (contents : W → Option (List ℕ)) (s : WriteEnd W)
+    → Took contents s [] s
+took_nothing contents s = appends_nothing (contents s.writer)
+
+pub took_both : {W : Type 0} (contents : W → Option (List ℕ)) (s t u : WriteEnd W) (a b : List ℕ)
+    → Took contents s a t → Took contents t b u → Took contents s (a ++ b) u
+took_both contents s t u a b h k =
+    appends_both (contents s.writer) (contents t.writer) (contents u.writer) a b h k

@@ -1,0 +1,163 @@
+//! Runs over readers and writers that cut, fail or never end. What they are to write follows from
+//! the rules and the formats by hand.
+use crate::ends::Source;
+use crate::ends::read_end::ReadEnd;
+use crate::run::run_on_bytes;
+use crate::tests::fakes::{Chunks, Endless, Slow, texts};
+use crate::tests::rows::Row;
+use crate::tests::seen::observe;
+use std::test::Fail;
+
+/// Three lines, without a line end after the last.
+const LINES: &str = "solve pattern < 1x1:/||2x1:1/1/1 > 2 one|.|refused: no colon|none|";
+
+/// A grid of Solo with six numbers.
+const RIGHT: &str = "check solo 2x3:zj \
+    < 1 2 3 4 5 6|4 5 6 1 2 3|2 3 1 5 6 4|5 6 4 2 3 1|3 1 2 6 4 5|6 4 5 3 1 2| > 0 correct|";
+
+/// An ID that is solved; the program's stored run has these words too.
+const SOLVED: &str = "solve pattern 5x1:1/1//1/1/2.2 > 0 one|##.##|";
+
+#[test]
+fn inputs_are_read_to_their_ends(rt: HostRuntime) -> Result<(), Fail> {
+    for (line, most, reads, writes) in [
+        (LINES, 1, 17, 3),
+        (LINES, 4_096, 2, 3),
+        (RIGHT, 1, 73, 1),
+        (RIGHT, 2, 37, 1),
+        (RIGHT, 3, 25, 1),
+        (RIGHT, 4_096, 2, 1),
+        (
+            "check solo 2x3:zj < {16384}| > 2 refused: grid|",
+            4_096,
+            5,
+            1,
+        ),
+        (
+            "check solo 2x3:zj < {16385}| > 2 refused: grid|",
+            4_096,
+            6,
+            1,
+        ),
+        (
+            "check solo 2x3:zj < {100000}| > 2 refused: grid|",
+            4_096,
+            26,
+            1,
+        ),
+    ] {
+        let row = Row::read(rt.alloc(), line)?;
+        let seen = row.read_by(rt.alloc(), most, 0);
+        assert_eq!(rt; seen.writer.taken.as_slice(), row.text.as_bytes(), "{line}");
+        assert_eq!(rt; seen.status, row.status, "{line}");
+        assert_eq!(rt; seen.reader.calls, reads, "{line} by {most}");
+        assert_eq!(rt; seen.writer.calls, writes, "{line}");
+    }
+    Ok(())
+}
+
+#[test]
+fn a_failing_reader_leaves_a_beginning(rt: HostRuntime) -> Result<(), Fail> {
+    for (line, first, last, written) in [
+        (LINES, 1, 6, ""),
+        (LINES, 7, 7, "one\n.\n"),
+        (LINES, 8, 17, "one\n.\nrefused: no colon\n"),
+        (RIGHT, 1, 1, ""),
+        (RIGHT, 7, 7, ""),
+        ("check pattern 2x1:1//1 < #. > 6", 1, 1, ""),
+    ] {
+        for fails_at in first..last + 1 {
+            let row = Row::read(rt.alloc(), line)?;
+            let seen = row.read_by(rt.alloc(), 1, fails_at);
+            assert_eq!(rt; seen.status, 6, "{line} at {fails_at}");
+            assert!(rt; seen.source_failed && !seen.source_ended && !seen.sink_failed);
+            assert_eq!(rt; seen.reader.calls, fails_at, "{line}");
+            assert_eq!(rt; seen.writer.taken.as_slice(), written.as_bytes(), "{line}");
+        }
+    }
+    Ok(())
+}
+
+#[test]
+fn a_failing_writer_leaves_a_beginning(rt: HostRuntime) -> Result<(), Fail> {
+    // A writer that takes so many bytes a call, fails at one call or at none, and at a flush or not.
+    for (line, most, fails_at, flush_works, written, calls, reads) in [
+        (LINES, 4_096, 1, true, "", 1, 6),
+        (LINES, 4_096, 2, true, "one\n.\n", 2, 7),
+        (LINES, 4_096, 3, true, "one\n.\nrefused: no colon\n", 3, 17),
+        (SOLVED, 1, 1, true, "", 1, 0),
+        (SOLVED, 1, 2, true, "o", 2, 0),
+        (SOLVED, 1, 3, true, "on", 3, 0),
+        (SOLVED, 1, 4, true, "one", 4, 0),
+        (SOLVED, 1, 5, true, "one\n", 5, 0),
+        (SOLVED, 1, 6, true, "one\n#", 6, 0),
+        (SOLVED, 1, 7, true, "one\n##", 7, 0),
+        (SOLVED, 1, 8, true, "one\n##.", 8, 0),
+        (SOLVED, 1, 9, true, "one\n##.#", 9, 0),
+        (SOLVED, 1, 10, true, "one\n##.##", 10, 0),
+        (SOLVED, 0, 0, true, "", 1, 0),
+        (SOLVED, 4_096, 0, false, "one\n##.##\n", 1, 0),
+        (SOLVED, 1, 0, false, "one\n##.##\n", 10, 0),
+    ] {
+        let row = Row::read(rt.alloc(), line)?;
+        let writer = Slow::new(rt.alloc(), most, fails_at, flush_works);
+        let seen = row.run(rt.alloc(), 1, 0, writer);
+        assert_eq!(rt; seen.status, 6, "{line} at {fails_at}");
+        assert!(rt; seen.sink_failed, "{line} at {fails_at}");
+        assert_eq!(rt; seen.writer.taken.as_slice(), written.as_bytes(), "{line}");
+        assert_eq!(rt; seen.writer.calls, calls, "{line} at {fails_at}");
+        assert_eq!(rt;
+            seen.writer.flushes > 0,
+            !flush_works,
+            "{line} at {fails_at}"
+        );
+        assert_eq!(rt; seen.reader.calls, reads, "{line} at {fails_at}");
+    }
+    Ok(())
+}
+
+#[test]
+fn an_endless_reader_is_given_up(rt: HostRuntime) -> Result<(), Fail> {
+    for words in [&["solve", "pattern"][..], &["check", "pattern", "2x1:1//1"]] {
+        let writer = Slow::new(rt.alloc(), 4_096, 0, true);
+        let words = texts(rt.alloc(), words)?;
+        let seen = observe(rt.alloc(), &words, Endless::new(b'#'), writer);
+        assert_eq!(rt; seen.status, 6);
+        assert!(rt; !seen.source_failed && !seen.source_ended && !seen.sink_failed);
+        assert_eq!(rt; seen.fetches, 1_048_576);
+        assert_eq!(rt; seen.reader.calls, 1_048_576);
+        assert_eq!(rt; seen.writer.calls, 0);
+    }
+    Ok(())
+}
+
+#[test]
+fn a_source_gives_its_bytes(rt: HostRuntime) {
+    let mut source = ReadEnd::new(Chunks::new(b"abcde", 2, 0));
+    let mut buffer = [0u8; 4];
+    for (k, count) in [2, 2, 1, 0].iter().enumerate() {
+        assert!(rt; !source.ended() && !source.failed() && source.calls() < 4);
+        assert_eq!(rt; source.fetch(&mut buffer), Some(*count), "call {k}");
+        assert_eq!(rt; source.calls() as usize, k + 1);
+    }
+    assert!(rt; source.ended());
+    assert!(rt; !source.failed());
+    let mut failing = ReadEnd::new(Chunks::new(b"abcde", 2, 1));
+    assert_eq!(rt; failing.fetch(&mut buffer), None);
+    assert!(rt; failing.failed());
+    assert!(rt; !failing.ended());
+    assert_eq!(rt; failing.into_inner().calls, 1);
+}
+
+/// Under `rt try --test --fail-alloc N` the N-th growth of this run may be refused.
+#[test]
+fn want_of_memory_leaves_a_beginning(rt: HostRuntime) {
+    let Ok(words) = texts(rt.alloc(), &["solve", "pattern", "5x1:1/1//1/1/2.2"]) else {
+        return;
+    };
+    let answer = b"one\n##.##\n".as_slice();
+    let (taken, status) = run_on_bytes(rt.alloc(), words.as_slice(), b"unread");
+    assert!(rt; status == 0 || status == 5);
+    assert!(rt; answer.starts_with(taken.as_slice()));
+    assert_eq!(rt; taken.len() == answer.len(), status == 0);
+}
