@@ -191,8 +191,11 @@ square-distinct w c two = grind (arith, common_steps, ne_eqb)
 square-kind : (p : Tents) (c : ℕ) → IsField p → c % p.size.w + 1 < p.size.w → c / p.size.w + 1 < p.size.h → IsMet (tent_cells p) (is_camp p) (one_at_most (square_at p.size.w c))
 square-kind p c field right bottom = met-from (tent_cells p) (is_camp p) _
     (λ d on. let s = in-square p.size.w c d right on in let a = s.row_high in cell-in p.size.w p.size.h d field.some (omega arith))
-    distinct (omega arith) (omega arith) (omega arith) (λ g grid good. (omega arith, count-one (tent g) (square_at p.size.w c) distinct (λ d e md me td te.
-    square-apart p g grid good c d e (in-square p.size.w c d right md) (in-square p.size.w c e right me) td te)))
+    distinct (omega arith) (omega arith) (omega arith) (λ g grid good. (
+      omega arith,
+      count-one (tent g) (square_at p.size.w c) distinct (λ d e md me td te.
+          square-apart p g grid good c d e (in-square p.size.w c d right md) (in-square p.size.w c e right me) td te),
+    ))
   where
     distinct : AreDistinct (square_at p.size.w c)
     distinct = square-distinct p.size.w c (omega arith)
