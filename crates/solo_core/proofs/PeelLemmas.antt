@@ -11,7 +11,7 @@ use Rattle.solo_core.specs.Deciding.{has_in, is_struck}
 use Rattle.solo_core.specs.NoRepeat.{no_repeat}
 use Rattle.solo_core.specs.Peeled.{IsPeeled, IsAlone, AreAlone, AreCounts, IsSingleSet, IsDropped}
 use Rattle.solo_core.proofs.PairedFillings.{shown_by_pairing, pairing_of_filling}
-use Rattle.solo_core.proofs.Turned.{none_missed}
+use Rattle.solo_core.specs.NoRepeatLaws.{none_missed}
 use Rattle.solo_core.proofs.Marks.{none_in_zero}
 
 pub and_true : (b : Bool) → b ≡ (b && true)

@@ -1,8 +1,8 @@
 -- Laws of crossings: what they strike from larger sets they strike from smaller ones, from a block and a line of n
 -- different numbers they strike nothing, and a second visit strikes nothing more.
-use Rattle.std.proofs.Common.{◌≡◌, ℕ, ◌+◌, ◌-◌, ◌<◌, ◌≤◌, Bool, true, false, not, ◌&&◌, true≢false, eqb, List, [], map, length, get_or, slice_index, refl, sym, ap, ◌∙◌, inl, inr, arith, length-append}
+use Rattle.std.proofs.Common.{◌≡◌, ℕ, ◌+◌, ◌-◌, ◌<◌, ◌≤◌, Bool, true, false, not, ◌&&◌, true≢false, List, [], map, length, get_or, slice_index, refl, sym, ap, ◌∙◌, inl, inr, arith, length-append}
 use Rattle.std.specs.List.{filter}
-use Rattle.std.proofs.lemmas.Bool.{cases_Bool, cases_lt, cases_order, and_parts, and_from, or_cases, or_left, or_right, eqb-true, eq-eqb, not-true, not_from_false, false_from_ne_true, ltb-true, leb-true, lt-ltb, le-leb}
+use Rattle.std.proofs.lemmas.Bool.{cases_Bool, cases_lt, and_parts, and_from, or_cases, or_left, or_right, eq-eqb, not-true, not_from_false, false_from_ne_true, ltb-true, leb-true, lt-ltb, le-leb}
 use Rattle.std.proofs.lemmas.List.{get_or-map, length-map, get_or_append_left, get_or-append_right}
 use Rattle.grid_core.proofs.CandidateLemmas.{any_below-here, any_below-some}
 use Rattle.engine_core.specs.Puzzle.{has_place}
@@ -11,8 +11,7 @@ use Rattle.engine_core.specs.Filling.{Set, has_value}
 use Rattle.engine_core.specs.House.{IsMonotone, AreDifferent}
 use Rattle.engine_core.specs.Houses.{IsSettled, Keeps}
 use Rattle.solo_core.specs.NoRepeat.{no_repeat}
-use Rattle.solo_core.specs.NoRepeatLaws.{different_from_no_repeat}
-use Rattle.solo_core.specs.SinglesLaws.{none_missing}
+use Rattle.solo_core.specs.NoRepeatLaws.{own_from_no_repeat, none_missing}
 use Rattle.solo_core.specs.Crossing.{has_in_part, strikes_by_crossing, crossing_places, in_block_alone, in_line_alone}
 
 -- ---- parts
@@ -96,23 +95,17 @@ module _ (n : ℕ) (g : List ℕ) (small : (c : ℕ) → c < length g → slice_
       let len = length-map places (slice_index g) in
       let lj = j.1 in
       let lk = k.1 in
-      let at_j = at_place j.0 lj ∙ ap (slice_index g) j.2 in
-      let at_k = at_place k.0 lk ∙ ap (slice_index g) k.2 in
-      elim (cases_order j.0 k.0) [
-        | inl e ↦ sym j.2 ∙ ap (slice_index places) e ∙ k.2
-        | inr more ↦ elim more [
-          | inl low ↦ absurd (different_from_no_repeat (map (slice_index g) places) holds j.0 k.0 low (omega arith) (at_j ∙ same ∙ sym at_k))
-          | inr high ↦ absurd (different_from_no_repeat (map (slice_index g) places) holds k.0 j.0 high (omega arith) (at_k ∙ sym same ∙ sym at_j))
-        ]
-      ]
+      let e = own_from_no_repeat (map (slice_index g) places) holds j.0 k.0 (omega arith) (omega arith)
+      (at_place j.0 lj ∙ ap (slice_index g) j.2 ∙ same ∙ sym (at_place k.0 lk ∙ ap (slice_index g) k.2)) in
+      sym j.2 ∙ ap (slice_index places) e ∙ k.2
 
   -- and each number below n somewhere
   pub some_place : (v : ℕ) → v < n → (c : ℕ) × (has_place places c ≡ true) × (slice_index g c ≡ v)
   some_place v lt =
-      let w = any_below-some (λ k. eqb (get_or (map (slice_index g) places) k 0) v) n (none_missing n (map (slice_index g) places) (length-map places (slice_index g) ∙ long) holds
-      (λ k lk. let l : k < length places = omega arith in rw (at_place k l) (small (slice_index places k) (inside k l))) v lt) in
+      let w = none_missing n (map (slice_index g) places) (length-map places (slice_index g) ∙ long) holds
+      (λ k lk. let l : k < length places = omega arith in rw (at_place k l) (small (slice_index places k) (inside k l))) v lt in
       let l : w.0 < length places = let a = w.1 in omega arith in
-      (slice_index places w.0, has_place-here places w.0 l, sym (at_place w.0 l) ∙ eqb-true (get_or (map (slice_index g) places) w.0 0) v w.2)
+      (slice_index places w.0, has_place-here places w.0 l, sym (at_place w.0 l) ∙ w.2)
 
 -- ---- a crossing of a block and a line
 module _ (block line : List ℕ) where

@@ -1,17 +1,15 @@
 -- Laws of singles: what they strike from larger sets they strike from smaller ones, and from a solution's own values
 -- they strike nothing.
-use Rattle.std.proofs.Common.{◌≡◌, ℕ, zero, suc, ◌<◌, Bool, true, false, not, ◌&&◌, ◌||◌, true≢false, eqb, List, [], ◌∷◌, length, get_or, refl, sym, ◌∙◌, ap, arith, ◌⊎◌, inl, inr}
-use Rattle.std.proofs.lemmas.Bool.{cases_Bool, cases_lt, cases_eq, and_parts, and_from, or_cases, or_left, or_right, eqb-true, eq-eqb, ne_eqb, not-true, false_from_ne_true}
+use Rattle.std.proofs.Common.{◌≡◌, ℕ, ◌<◌, Bool, true, false, not, ◌&&◌, ◌||◌, true≢false, eqb, List, [], length, get_or, refl, sym, ◌∙◌, ap, arith, inl, inr}
+use Rattle.std.proofs.lemmas.Bool.{cases_Bool, cases_lt, cases_eq, and_parts, and_from, or_left, or_right, eqb-true, eq-eqb, ne_eqb, not-true, false_from_ne_true}
 use Rattle.std.proofs.lemmas.List.{get_or_past}
-use Rattle.grid_core.specs.Augmenting.{IsApart}
 use Rattle.grid_core.specs.Candidates.{any_below}
 use Rattle.grid_core.proofs.CandidateLemmas.{any_below-here, any_below-some, any_below-none}
-use Rattle.grid_core.proofs.DifferentNumbers.{apart-le}
 use Rattle.engine_core.specs.Filling.{Set, has_value}
 use Rattle.engine_core.specs.Houses.{Keeps}
 use Rattle.engine_core.specs.House.{IsMonotone}
 use Rattle.solo_core.specs.NoRepeat.{no_repeat}
-use Rattle.solo_core.specs.NoRepeatLaws.{different_from_no_repeat}
+use Rattle.solo_core.specs.NoRepeatLaws.{own_from_no_repeat, none_missing}
 use Rattle.solo_core.specs.Singles.{Has, has_other, is_elsewhere, taken_elsewhere, needed_for_other, has_empty_cell, has_lost_value, strikes_where, has_at, strikes_by_singles}
 
 none_below : (test : ℕ → Bool) (n : ℕ) → ((k : ℕ) → k < n → test k ≡ true → ⊥) → any_below test n ≡ false
@@ -20,38 +18,19 @@ none_below test n none = false_from_ne_true (any_below test n) (λ on. let w = a
 fails_below : (test : ℕ → Bool) (n : ℕ) → any_below test n ≡ false → (k : ℕ) → k < n → test k ≡ true → ⊥
 fails_below test n off k lt on = true≢false (sym on ∙ any_below-none test n off k lt)
 
--- the four cases
-module _ (cells values : ℕ) (at : Has) (place value : ℕ) where
-  pub by_taken : taken_elsewhere cells values at place value ≡ true → strikes_where cells values at place value ≡ true
-  unfolding strikes_where
-  by_taken h = or_left (taken_elsewhere cells values at place value) (needed_for_other cells values at place value || (has_empty_cell cells values at || has_lost_value cells values at)) h
+-- ---- a strike has one of four causes
+or_four : (P : Type 0) (a b c d : Bool) → (a ≡ true → P) → (b ≡ true → P) → (c ≡ true → P) → (d ≡ true → P) → (a || (b || (c || d))) ≡ true → P
+or_four P true b c d f g h i on = f refl
+or_four P false true c d f g h i on = g refl
+or_four P false false true d f g h i on = h refl
+or_four P false false false d f g h i on = i on
 
-  pub by_needed : needed_for_other cells values at place value ≡ true → strikes_where cells values at place value ≡ true
-  unfolding strikes_where
-  by_needed h = or_right (taken_elsewhere cells values at place value) (needed_for_other cells values at place value || (has_empty_cell cells values at || has_lost_value cells values at))
-      (or_left (needed_for_other cells values at place value) (has_empty_cell cells values at || has_lost_value cells values at) h)
-
-  pub by_empty : has_empty_cell cells values at ≡ true → strikes_where cells values at place value ≡ true
-  unfolding strikes_where
-  by_empty h = or_right (taken_elsewhere cells values at place value) (needed_for_other cells values at place value || (has_empty_cell cells values at || has_lost_value cells values at))
-      (or_right (needed_for_other cells values at place value) (has_empty_cell cells values at || has_lost_value cells values at) (or_left (has_empty_cell cells values at) (has_lost_value cells values at) h))
-
-  pub by_lost : has_lost_value cells values at ≡ true → strikes_where cells values at place value ≡ true
-  unfolding strikes_where
-  by_lost h = or_right (taken_elsewhere cells values at place value) (needed_for_other cells values at place value || (has_empty_cell cells values at || has_lost_value cells values at))
-      (or_right (needed_for_other cells values at place value) (has_empty_cell cells values at || has_lost_value cells values at) (or_right (has_empty_cell cells values at) (has_lost_value cells values at) h))
-
-  pub four_cases : strikes_where cells values at place value ≡ true
-      → (taken_elsewhere cells values at place value ≡ true) ⊎ ((needed_for_other cells values at place value ≡ true)
-      ⊎ ((has_empty_cell cells values at ≡ true) ⊎ (has_lost_value cells values at ≡ true)))
-  unfolding strikes_where
-  four_cases h = elim (or_cases (taken_elsewhere cells values at place value) (needed_for_other cells values at place value || (has_empty_cell cells values at || has_lost_value cells values at)) h) [
-    | inl a ↦ inl a
-    | inr b ↦ elim (or_cases (needed_for_other cells values at place value) (has_empty_cell cells values at || has_lost_value cells values at) b) [
-      | inl a ↦ inr (inl a)
-      | inr d ↦ inr (inr (or_cases (has_empty_cell cells values at) (has_lost_value cells values at) d))
-    ]
-  ]
+or_stays : (a b c d a' b' c' d' : Bool) → (a ≡ true → (a' || c') ≡ true) → (b ≡ true → (b' || d') ≡ true) → (c ≡ true → c' ≡ true) → (d ≡ true → d' ≡ true)
+    → (a || (b || (c || d))) ≡ true → (a' || (b' || (c' || d'))) ≡ true
+or_stays a b c d true b' c' d' f g h i on = refl
+or_stays a b c d false true c' d' f g h i on = refl
+or_stays a b c d false false true d' f g h i on = refl
+or_stays a b c d false false false d' f g h i on = or_four (d' ≡ true) a b c d (λ e. absurd (true≢false (sym (f e)))) g (λ e. absurd (true≢false (sym (h e)))) i on
 
 -- ---- smaller sets
 module _ (cells values : ℕ) (at at' : Has) (down : (k v : ℕ) → at' k v ≡ true → at k v ≡ true) where
@@ -61,24 +40,18 @@ module _ (cells values : ℕ) (at at' : Has) (down : (k v : ℕ) → at' k v ≡
       any_below-here (λ j. not (any_below (at' j) values)) cells w.0 w.1
       (ap not (none_below (at' w.0) values (λ v b e. fails_below (at w.0) values (not-true (any_below (at w.0) values) w.2) v b (down w.0 v e))))
 
-  lost_stays : has_lost_value cells values at ≡ true → has_lost_value cells values at' ≡ true
-  lost_stays h =
-      let w = any_below-some (λ v. not (any_below (λ j. at j v) cells)) values h in
-      any_below-here (λ v. not (any_below (λ j. at' j v) cells)) values w.0 w.1
-      (ap not (none_below (λ j. at' j w.0) cells (λ j b e. fails_below (λ k. at k w.0) cells (not-true (any_below (λ k. at k w.0) cells) w.2) j b (down j w.0 e))))
-
   -- a cell that has only the value has at most the value in smaller sets: it has it, or is empty
   taken_stays : (place value : ℕ) → taken_elsewhere cells values at place value ≡ true
-      → (taken_elsewhere cells values at' place value ≡ true) ⊎ (has_empty_cell cells values at' ≡ true)
+      → (taken_elsewhere cells values at' place value || has_empty_cell cells values at') ≡ true
   taken_stays place value h = by (any_below-some (λ j. not (eqb j place) && (at j value && not (has_other values at j value))) cells h)
     where
       by : (j : ℕ) × (j < cells) × ((not (eqb j place) && (at j value && not (has_other values at j value))) ≡ true)
-          → (taken_elsewhere cells values at' place value ≡ true) ⊎ (has_empty_cell cells values at' ≡ true)
+          → (taken_elsewhere cells values at' place value || has_empty_cell cells values at') ≡ true
       by (j, j_in, passes) = elim (cases_Bool (at' j value)) [
-        | inl has ↦ inl (any_below-here (λ k. not (eqb k place) && (at' k value && not (has_other values at' k value))) cells j j_in
+        | inl has ↦ or_left (taken_elsewhere cells values at' place value) (has_empty_cell cells values at') (any_below-here (λ k. not (eqb k place) && (at' k value && not (has_other values at' k value))) cells j j_in
             (and_from (not (eqb j place)) (at' j value && not (has_other values at' j value)) parts.0 (and_from (at' j value) (not (has_other values at' j value)) has
             (ap not (none_below (λ w. not (eqb w value) && at' j w) values (λ w b e. let both = and_parts (not (eqb w value)) (at' j w) e in no_other w b both.0 both.1))))))
-        | inr lacks ↦ inr (any_below-here (λ k. not (any_below (at' k) values)) cells j j_in
+        | inr lacks ↦ or_right (taken_elsewhere cells values at' place value) (has_empty_cell cells values at') (any_below-here (λ k. not (any_below (at' k) values)) cells j j_in
             (ap not (none_below (at' j) values (λ w b e. no_value w b e lacks))))
       ]
         where
@@ -97,44 +70,15 @@ module _ (cells values : ℕ) (at at' : Has) (down : (k v : ℕ) → at' k v ≡
             | inr differs ↦ no_other w b (ap not (ne_eqb w value differs)) e
           ]
 
-  -- the only place of another value is it in smaller sets too, or the value has no place there
-  needed_stays : (place value : ℕ) → needed_for_other cells values at place value ≡ true
-      → (needed_for_other cells values at' place value ≡ true) ⊎ (has_lost_value cells values at' ≡ true)
-  needed_stays place value h = by (any_below-some (λ w. not (eqb w value) && (at place w && not (is_elsewhere cells at place w))) values h)
-    where
-      by : (w : ℕ) × (w < values) × ((not (eqb w value) && (at place w && not (is_elsewhere cells at place w))) ≡ true)
-          → (needed_for_other cells values at' place value ≡ true) ⊎ (has_lost_value cells values at' ≡ true)
-      by (w, w_in, passes) = elim (cases_Bool (at' place w)) [
-        | inl has ↦ inl (any_below-here (λ u. not (eqb u value) && (at' place u && not (is_elsewhere cells at' place u))) values w w_in
-            (and_from (not (eqb w value)) (at' place w && not (is_elsewhere cells at' place w)) parts.0 (and_from (at' place w) (not (is_elsewhere cells at' place w)) has
-            (ap not (none_below (λ j. not (eqb j place) && at' j w) cells (λ j b e. let both = and_parts (not (eqb j place)) (at' j w) e in no_elsewhere j b both.0 both.1))))))
-        | inr lacks ↦ inr (any_below-here (λ u. not (any_below (λ j. at' j u) cells)) values w w_in
-            (ap not (none_below (λ j. at' j w) cells (λ j b e. no_place j b e lacks))))
-      ]
-        where
-          parts : (not (eqb w value) ≡ true) × ((at place w && not (is_elsewhere cells at place w)) ≡ true)
-          parts = and_parts (not (eqb w value)) (at place w && not (is_elsewhere cells at place w)) passes
-
-          alone : is_elsewhere cells at place w ≡ false
-          alone = not-true (is_elsewhere cells at place w) (and_parts (at place w) (not (is_elsewhere cells at place w)) parts.1).1
-
-          no_elsewhere : (j : ℕ) → j < cells → not (eqb j place) ≡ true → at' j w ≡ true → ⊥
-          no_elsewhere j b ne e = fails_below (λ k. not (eqb k place) && at k w) cells alone j b (and_from (not (eqb j place)) (at j w) ne (down j w e))
-
-          no_place : (j : ℕ) → j < cells → at' j w ≡ true → at' place w ≡ false → ⊥
-          no_place j b e lacks = elim (cases_eq j place) [
-            | inl same ↦ true≢false (sym e ∙ ap (λ k. at' k w) same ∙ lacks)
-            | inr differs ↦ no_elsewhere j b (ap not (ne_eqb j place differs)) e
-          ]
-
-  pub strikes_stay : (place value : ℕ) → strikes_where cells values at place value ≡ true → strikes_where cells values at' place value ≡ true
-  strikes_stay place value h = elim (four_cases cells values at place value h) [
-    | inl a ↦ elim (taken_stays place value a) [ inl b ↦ by_taken cells values at' place value b | inr b ↦ by_empty cells values at' place value b ]
-    | inr more ↦ elim more [
-      | inl a ↦ elim (needed_stays place value a) [ inl b ↦ by_needed cells values at' place value b | inr b ↦ by_lost cells values at' place value b ]
-      | inr rest ↦ elim rest [ inl a ↦ by_empty cells values at' place value (empty_stays a) | inr a ↦ by_lost cells values at' place value (lost_stays a) ]
-    ]
-  ]
+-- values are to cells as cells are to values: the only place of a value is a cell's only value, and a lost value an empty cell
+pub strikes_stay : (cells values : ℕ) (at at' : Has) → ((k v : ℕ) → at' k v ≡ true → at k v ≡ true) → (place value : ℕ)
+    → strikes_where cells values at place value ≡ true → strikes_where cells values at' place value ≡ true
+unfolding strikes_where
+strikes_stay cells values at at' down place value = or_stays
+    (taken_elsewhere cells values at place value) (needed_for_other cells values at place value) (has_empty_cell cells values at) (has_lost_value cells values at)
+    (taken_elsewhere cells values at' place value) (needed_for_other cells values at' place value) (has_empty_cell cells values at') (has_lost_value cells values at')
+    (taken_stays cells values at at' down place value) (taken_stays values cells (λ w j. at j w) (λ w j. at' j w) (λ w j. down j w) value place)
+    (empty_stays cells values at at' down) (empty_stays values cells (λ w j. at j w) (λ w j. at' j w) (λ w j. down j w))
 
 pub singles-monotone : (values : ℕ) → IsMonotone (strikes_by_singles values)
 singles-monotone values smaller larger k v inside on =
@@ -146,52 +90,21 @@ singles-monotone values smaller larger k v inside on =
       | inr high ↦ absurd (true≢false (sym e ∙ ap (λ (s : Set). has_value s w) (get_or_past smaller j [] high) ∙ get_or_past [] w false (omega arith)))
     ]
 
--- ---- n different values below n leave none out
-module _ (n : ℕ) (f : List ℕ) (long : length f ≡ n) (holds : no_repeat f ≡ true) (small : (k : ℕ) → k < n → get_or f k 0 < n) where
-  pub none_missing : (w : ℕ) → w < n → any_below (λ k. eqb (get_or f k 0) w) n ≡ true
-  none_missing w lt = elim (cases_Bool (any_below (λ k. eqb (get_or f k 0) w) n)) [
-    | inl on ↦ on
-    | inr off ↦
-        let few = apart-le (w ∷ f) (suc n) n (omega arith) (apart off) below in
-        absurd (omega arith)
-  ]
-    where
-      missing : any_below (λ k. eqb (get_or f k 0) w) n ≡ false → (k : ℕ) → k < n → get_or f k 0 ≡ w → ⊥
-      missing off k lk e = fails_below (λ k. eqb (get_or f k 0) w) n off k lk (eq-eqb (get_or f k 0) w e)
-
-      differ : any_below (λ k. eqb (get_or f k 0) w) n ≡ false → (i j : ℕ) → i < j → j < suc n → get_or (w ∷ f) i 0 ≡ get_or (w ∷ f) j 0 → ⊥
-      differ off i zero low within same = absurd (omega arith)
-      differ off zero (suc j) low within same = missing off j (omega arith) (sym same)
-      differ off (suc i) (suc j) low within same = different_from_no_repeat f holds i j (omega arith) (omega arith) same
-
-      apart : any_below (λ k. eqb (get_or f k 0) w) n ≡ false → IsApart (w ∷ f) (suc n)
-      apart off = record { differ = differ off }
-
-      below : (j : ℕ) → j < suc n → get_or (w ∷ f) j 0 < n
-      below zero lj = lt
-      below (suc j) lj = small j (omega arith)
-
 -- from cells that have one value each, all different, nothing is struck of what they have
 module _ (n : ℕ) (f : List ℕ) (long : length f ≡ n) (holds : no_repeat f ≡ true) (small : (k : ℕ) → k < n → get_or f k 0 < n)
     (at : Has) (own : (k : ℕ) → k < n → at k (get_or f k 0) ≡ true) (only : (k v : ℕ) → k < n → at k v ≡ true → v ≡ get_or f k 0) where
   pub own_stays : (k v : ℕ) → k < n → v ≡ get_or f k 0 → strikes_where n n at k v ≡ false
-  own_stays k v lk e = false_from_ne_true (strikes_where n n at k v) (λ on. elim (four_cases n n at k v on) [
-    | inl a ↦ taken a
-    | inr more ↦ elim more [ inl a ↦ needed a | inr rest ↦ elim rest [ inl a ↦ empty a | inr a ↦ lost a ] ]
-  ])
+  unfolding strikes_where
+  own_stays k v lk e = false_from_ne_true (strikes_where n n at k v)
+      (or_four ⊥ (taken_elsewhere n n at k v) (needed_for_other n n at k v) (has_empty_cell n n at) (has_lost_value n n at) taken needed empty lost)
     where
-      same : (j : ℕ) → j < n → get_or f j 0 ≡ get_or f k 0 → (j ≡ k → ⊥) → ⊥
-      same j lj is ne = elim (cases_lt j k) [
-        | inl low ↦ different_from_no_repeat f holds j k low (omega arith) is
-        | inr high ↦ different_from_no_repeat f holds k j (omega arith) (omega arith) (sym is)
-      ]
-
       taken : taken_elsewhere n n at k v ≡ true → ⊥
       taken a =
           let w = any_below-some (λ j. not (eqb j k) && (at j v && not (has_other n at j v))) n a in
           let parts = and_parts (not (eqb w.0 k)) (at w.0 v && not (has_other n at w.0 v)) w.2 in
           let has = (and_parts (at w.0 v) (not (has_other n at w.0 v)) parts.1).0 in
-          same w.0 w.1 (sym (only w.0 v w.1 has) ∙ e) (λ z. true≢false (sym (eq-eqb w.0 k z) ∙ not-true (eqb w.0 k) parts.0))
+          let z = own_from_no_repeat f holds w.0 k (omega (arith, w.1)) (omega arith) (sym (only w.0 v w.1 has) ∙ e) in
+          true≢false (sym (eq-eqb w.0 k z) ∙ not-true (eqb w.0 k) parts.0)
 
       needed : needed_for_other n n at k v ≡ true → ⊥
       needed a =
@@ -208,9 +121,9 @@ module _ (n : ℕ) (f : List ℕ) (long : length f ≡ n) (holds : no_repeat f �
       lost : has_lost_value n n at ≡ true → ⊥
       lost a =
           let w = any_below-some (λ u. not (any_below (λ j. at j u) n)) n a in
-          let u = any_below-some (λ j. eqb (get_or f j 0) w.0) n (none_missing n f long holds small w.0 w.1) in
+          let u = none_missing n f long holds small w.0 w.1 in
           fails_below (λ j. at j w.0) n (not-true (any_below (λ j. at j w.0) n) w.2) u.0 u.1
-          (ap (at u.0) (sym (eqb-true (get_or f u.0 0) w.0 u.2)) ∙ own u.0 u.1)
+          (ap (at u.0) (sym u.2) ∙ own u.0 u.1)
 
 -- cells that have n different numbers below n alone lose none
 pub singles-keeps : (n : ℕ) (f : List ℕ) → length f ≡ n → no_repeat f ≡ true → ((k : ℕ) → k < n → get_or f k 0 < n) → Keeps (strikes_by_singles n) f

@@ -1,7 +1,7 @@
 -- Laws of solutions: the test of a grid, house by house, is the rule.
 use Rattle.std.proofs.Common.{◌≡◌, ℕ, ◌+◌, ◌<◌, ◌≤◌, Bool, true, eqb, List, map, get_or, slice_index, sym, ap, ◌∙◌, inl, inr, arith}
 use Rattle.std.specs.List.{list_all}
-use Rattle.std.proofs.lemmas.Bool.{cases_eq, cases_order, eq-eqb, eqb-true, or_cases, or_left, or_right, and_parts, and_from}
+use Rattle.std.proofs.lemmas.Bool.{cases_eq, eq-eqb, eqb-true, or_cases, or_left, or_right, and_parts, and_from}
 use Rattle.std.proofs.lemmas.List.{get_or-map, length-map}
 use Rattle.grid_core.specs.Candidates.{all_below}
 use Rattle.grid_core.specs.Grids.{IsGrid}
@@ -13,7 +13,7 @@ use Rattle.solo_core.specs.Cells.{solo_cells}
 use Rattle.solo_core.specs.Houses.{houses_of, IsHouseOf, lies_in, places_of}
 use Rattle.solo_core.specs.HouseLaws.{Lists, lists_house, all_houses, each_house}
 use Rattle.solo_core.specs.NoRepeat.{no_repeat}
-use Rattle.solo_core.specs.NoRepeatLaws.{different_from_no_repeat, no_repeat_from_different}
+use Rattle.solo_core.specs.NoRepeatLaws.{own_from_no_repeat, no_repeat_from_different}
 use Rattle.solo_core.specs.Solutions.{IsSoloSolution, given_stands, numbers_of, is_solo_solution}
 
 -- ---- a given stands
@@ -40,13 +40,8 @@ module _ (places : List ℕ) (n cells : ℕ) (lies : ℕ → Bool) (l : Lists pl
       let lm = l.index_in k lk in
       let long = length-map places (slice_index g) in
       let len = l.len in
-      elim (cases_order (l.index j) (l.index k)) [
-        | inl e ↦ ne (sym (l.covers j lj on_j) ∙ ap (slice_index places) e ∙ l.covers k lk on_k)
-        | inr more ↦ elim more [
-          | inl low ↦ different_from_no_repeat (map (slice_index g) places) holds (l.index j) (l.index k) low (omega arith) (at j lj on_j ∙ same ∙ sym (at k lk on_k))
-          | inr high ↦ different_from_no_repeat (map (slice_index g) places) holds (l.index k) (l.index j) high (omega arith) (at k lk on_k ∙ sym same ∙ sym (at j lj on_j))
-        ]
-      ]
+      let e = own_from_no_repeat (map (slice_index g) places) holds (l.index j) (l.index k) (omega arith) (omega arith) (at j lj on_j ∙ same ∙ sym (at k lk on_k)) in
+      ne (sym (l.covers j lj on_j) ∙ ap (slice_index places) e ∙ l.covers k lk on_k)
     where
       at : (c : ℕ) → c < cells → lies c ≡ true → get_or (map (slice_index g) places) (l.index c) 0 ≡ slice_index g c
       at c lc on =
