@@ -1,23 +1,25 @@
--- Lists of crossings, as places are added.
-use Rattle.std.proofs.Common.{◌≡◌, ℕ, ◌+◌, ◌<◌, ◌≤◌, Bool, true, false, not, ◌||◌, eqb, List, [], ◌∷◌, ◌++◌, map, length, slice_index, take, refl, sym, ap, ◌∙◌, append_assoc, inl, inr, subst, ltb, leb, ◌&&◌, arith}
-use Rattle.std.specs.List.{filter, range_with_len}
+-- Crossings, as their places are added.
+use Rattle.std.proofs.Common.{◌≡◌, ℕ, ◌+◌, ◌<◌, ◌≤◌, Bool, true, false, not, ◌||◌, eqb, List, [], ◌∷◌, ◌++◌, length, get_or, slice_index, take, refl, sym, ap, ◌∙◌, append_assoc, inl, inr, subst, ltb, leb, ◌&&◌, arith}
+use Rattle.std.specs.List.{filter}
 use Rattle.std.proofs.lemmas.Bool.{cases_Bool, cases_eq, cases_lt, lt-ltb, le-ltb, true≢false, false_from_ne_true, eq-eqb, ne_eqb}
-use Rattle.std.proofs.lemmas.List.{take_more, map-append, append-nil}
+use Rattle.std.proofs.lemmas.List.{take_more, get_or-map, length-map, append-nil}
 use Rattle.std.proofs.Math.Seq.{take-length}
 use Rattle.std.proofs.lemmas.List.Elements.{filter-append}
-use Rattle.std.proofs.lemmas.List.FromFn.{map-range_with_len_more}
 use Rattle.engine_core.specs.Puzzle.{has_place}
 use Rattle.engine_core.specs.HouseList.{Listed}
-use Rattle.engine_core.specs.Houses.{House}
+use Rattle.engine_core.specs.Houses.{House, house_of, no_house}
+use Rattle.gameid_core.specs.Puzzles.{Solo}
+use Rattle.solo_core.specs.declared.solo_house.SoloHouse.{SoloHouse}
+use Rattle.solo_core.specs.declared.solo_scope.SoloScope.TheVariants.{Crossing}
+use Rattle.solo_core.specs.RuleSets.{crossing_of, crossings_of, house_at}
+use Rattle.solo_core.specs.Scopes.{crossing_scopes, IsCrossingAt}
+use Rattle.solo_core.proofs.ScopeLemmas.{crossing-named, crossings-length, scopes-length}
 use Rattle.engine_core.specs.Sets.{has_bit}
 use Rattle.engine_core.specs.House.{IsDecided}
 use Rattle.std.proofs.Math.Path.{fun_ext}
 use Rattle.solo_core.specs.Crossing.{strikes_by_crossing, in_block_alone, in_line_alone, crossing}
 use Rattle.solo_core.specs.HouseLaws.{Lists, listed-has}
 use Rattle.solo_core.specs.Work.{all_places}
-
-pub begun-done : (old new : Listed) (closed : List (List ℕ)) (places : List ℕ) (k : ℕ) → length places ≡ k → new ≡ record { closed = closed; begun = take k places } → new ≡ record { closed = closed; begun = places }
-begun-done old new closed places k long was = was ∙ rw (← long, take-length places) refl
 
 -- one place of a line is tested
 module _ (test : ℕ → Bool) (old : Listed) (places : List ℕ) where
@@ -85,17 +87,18 @@ decided_at n bits block line sets kept long bit decided =
     subst (λ (part : ℕ → Bool). IsDecided n (strikes_by_crossing part (in_line_alone block)) sets kept) (same_part n bits block line long bit)
     (subst (λ m. IsDecided n (strikes_by_crossing (λ k. ltb k n && not (has_bit bits k)) (λ k. leb m k)) sets kept) (sym long) decided)
 
--- one crossing more
-pub crossings-more : (old new : Listed) (closed : List (List ℕ)) (f : ℕ → House) (m : ℕ) (places : List ℕ) → places ≡ (f m).places
-    → old ≡ record { closed = closed ++ all_places (map f (range_with_len 0 m)); begun = [] } → new ≡ record { closed = old.closed ++ places ∷ []; begun = [] }
-    → new ≡ record { closed = closed ++ all_places (map f (range_with_len 0 (m + 1))); begun = [] }
-crossings-more old new closed f m places is was e = e ∙ rw (was, more, is, append_assoc) refl
-  where
-    more : all_places (map f (range_with_len 0 (m + 1))) ≡ all_places (map f (range_with_len 0 m)) ++ (f m).places ∷ []
-    more = ap all_places (map-range_with_len_more f 0 m m (omega arith)) ∙ map-append (λ (house : House). house.places) (map f (range_with_len 0 m)) (f m ∷ [])
+-- the crossing with a number
+pub crossing-is : (p : Solo) (m block : ℕ) (line : SoloHouse) → m < length (crossings_of p) → IsCrossingAt p m block line → crossing_of p block line ≡ house_of (crossings_of p) m
+crossing-is p m block line lt is =
+    let inside : m < length (crossing_scopes p) = omega (arith, lt, crossings-length p, scopes-length p) in
+    ap (house_at p) (is (Crossing block line)) ∙ sym (crossing-named p m (Crossing block line) inside)
 
-pub crossings-none : (old : Listed) (f : ℕ → House) → old.begun ≡ [] → old ≡ record { closed = old.closed ++ all_places (map f (range_with_len 0 0)); begun = [] }
-crossings-none old f e = rw (append-nil, ← e) refl
+pub crossing-listed : (p : Solo) (m block : ℕ) (line : SoloHouse) → m < length (crossings_of p) → IsCrossingAt p m block line → (crossing_of p block line).places ≡ get_or (all_places (crossings_of p)) m []
+crossing-listed p m block line lt is =
+    ap (λ (house : House). house.places) (crossing-is p m block line lt is) ∙ sym (get_or-map (λ (house : House). house.places) (crossings_of p) m no_house [] lt)
+
+pub crossings-listed : (p : Solo) → length (all_places (crossings_of p)) ≡ length (crossings_of p)
+crossings-listed p = length-map (crossings_of p) (λ (house : House). house.places)
 
 -- a test of places is that of their list
 pub listed-same : (places : List ℕ) (n cells : ℕ) (lies : ℕ → Bool) → Lists places n cells lies → (place : ℕ) → place < cells → lies place ≡ has_place places place

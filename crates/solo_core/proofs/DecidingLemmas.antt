@@ -1,5 +1,5 @@
 -- Houses that decide alike, and tables of scopes.
-use Rattle.std.proofs.Common.{◌≡◌, ℕ, zero, suc, ◌<◌, Bool, List, [], ◌∷◌, map, length, get_or, slice_index, ◌+◌, ◌*◌, ◌≤◌, refl, sym, ap, ◌∙◌, arith, ◌++◌, append_assoc}
+use Rattle.std.proofs.Common.{◌≡◌, ℕ, zero, suc, ◌<◌, Bool, List, [], ◌∷◌, map, length, get_or, slice_index, ◌+◌, ◌*◌, ◌≤◌, refl, sym, ap, ◌∙◌, arith, ◌++◌}
 use Rattle.std.specs.Prelude.{All, sum_by, Option}
 use Rattle.std.proofs.Math.Path.{fun_ext}
 use Rattle.std.proofs.lemmas.List.Sums.{sum_by-cons}
@@ -17,12 +17,11 @@ use Rattle.solo_core.specs.declared.solo_house.SoloHouse.{SoloHouse}
 use Rattle.solo_core.specs.declared.solo_house.SoloHouse.TheVariants.{Row}
 use Rattle.solo_core.specs.Houses.{houses_of, places_of}
 use Rattle.solo_core.specs.HouseLaws.{lists_house, all_houses}
-use Rattle.solo_core.specs.RuleSets.{deciding, filled_houses, setting_of, rules_of, row_crossing, column_crossing, crossings_of}
+use Rattle.solo_core.specs.RuleSets.{deciding, filled_houses, setting_of, rules_of, crossings_of}
 use Rattle.solo_core.specs.Cells.{solo_cells}
 use Rattle.solo_core.specs.NoRepeat.{no_repeat}
 use Rattle.solo_core.specs.Work.{all_places, table_of}
 use Rattle.engine_core.specs.Filling.{strikes_by_fillings}
-use Rattle.std.specs.List.{range_with_len}
 use Rattle.engine_core.specs.HouseList.{Listed}
 
 pub scopes-deciding : (decides : Decision) (p : Solo) (houses : List SoloHouse)
@@ -114,20 +113,9 @@ pub listed-deciding : (decides : Decision) (p : Solo) (first second : Listed) �
 listed-deciding decides p first second none e =
     ap (λ (list : Listed). list.closed) e ∙ ap (λ (list : Listed). list.closed ++ map (places_of p) (houses_of p)) none ∙ scopes-deciding decides p (houses_of p)
 
-pub listed-crossings : (p : Solo) (none first second third : Listed) → none ≡ record { closed = []; begun = [] }
-    → first ≡ record { closed = none.closed ++ map (places_of p) (houses_of p); begun = [] }
-    → second ≡ record { closed = first.closed ++ all_places (map (row_crossing p) (range_with_len 0 (solo_n p * p.c))); begun = [] }
-    → third ≡ record { closed = second.closed ++ all_places (map (column_crossing p) (range_with_len 0 (solo_n p * p.r))); begun = [] }
-    → third.closed ≡ all_places (filled_houses p ++ crossings_of p)
-listed-crossings p none first second third z a b c =
-    ap (λ (list : Listed). list.closed) c ∙ ap (λ (list : Listed). list.closed ++ all_places columns) b
-    ∙ ap (λ xs. (xs ++ all_places rows) ++ all_places columns) (listed-deciding (strikes_by_fillings no_repeat) p none first z a)
-    ∙ append_assoc (all_places (filled_houses p)) (all_places rows) (all_places columns)
-    ∙ ap (λ xs. all_places (filled_houses p) ++ xs) (sym (map-append (λ (house : House). house.places) rows columns))
-    ∙ sym (map-append (λ (house : House). house.places) (filled_houses p) (rows ++ columns))
-  where
-    rows : List House
-    rows = map (row_crossing p) (range_with_len 0 (solo_n p * p.c))
-
-    columns : List House
-    columns = map (column_crossing p) (range_with_len 0 (solo_n p * p.r))
+pub listed-crossings : (p : Solo) (none first second : Listed) → none ≡ record { closed = []; begun = [] }
+    → first ≡ record { closed = none.closed ++ map (places_of p) (houses_of p); begun = [] } → second ≡ record { closed = first.closed ++ all_places (crossings_of p); begun = [] }
+    → second.closed ≡ all_places (filled_houses p ++ crossings_of p)
+listed-crossings p none first second z a b =
+    ap (λ (list : Listed). list.closed) b ∙ ap (λ xs. xs ++ all_places (crossings_of p)) (listed-deciding (strikes_by_fillings no_repeat) p none first z a)
+    ∙ sym (map-append (λ (house : House). house.places) (filled_houses p) (crossings_of p))

@@ -1,15 +1,14 @@
 -- The houses by their numbers, and lists of their places.
 use Rattle.std.proofs.Common.{◌≡◌, ℕ, zero, suc, ◌+◌, ◌-◌, ◌*◌, ◌<◌, ◌≤◌, Bool, true, false, List, [], ◌∷◌, ◌++◌, map, length, get_or, slice_index, take, if◌then◌else◌, refl, sym, ap, ◌∙◌, arith, append-nil, append_assoc}
 use Rattle.std.specs.List.{range_with_len}
-use Rattle.std.proofs.lemmas.List.{get_or_append_left, get_or-append_right, take_more, map-append}
+use Rattle.std.proofs.lemmas.List.{get_or_append_left, get_or-append_right, get_or-map, length-map, take_more}
 use Rattle.std.proofs.Math.Seq.{take-length}
 use Rattle.std.proofs.lemmas.List.FromFn.{get_or-map-range_with_len, length-map-range_with_len}
 use Rattle.gameid_core.specs.Puzzles.{Solo, solo_n}
 use Rattle.engine_core.specs.HouseList.{Listed}
 use Rattle.solo_core.specs.declared.solo_house.SoloHouse.{SoloHouse}
 use Rattle.solo_core.specs.declared.solo_house.SoloHouse.TheVariants.{Row, Column, Block, Diagonal}
-use Rattle.solo_core.specs.Houses.{houses_of, IsHouseOf, places_of}
-use Rattle.solo_core.specs.HouseLaws.{all_houses}
+use Rattle.solo_core.specs.Houses.{houses_of, house_places, places_of}
 use Rattle.solo_core.specs.BoundLaws.{house_count, count_x, count_plain}
 
 module _ (p : Solo) where
@@ -52,9 +51,6 @@ module _ (p : Solo) where
       at true (suc (suc k)) d lt = absurd (omega arith)
       at false k d lt = absurd (omega arith)
 
-  pub house_is : (h : ℕ) (house : SoloHouse) → h < length (houses_of p) → house ≡ get_or (houses_of p) h house → IsHouseOf p house
-  house_is h house lt e = rw (sym e) at (all_houses p h house lt)
-
 -- ---- lists of places
 pub begun-none : (old : Listed) (places : List ℕ) → old.begun ≡ [] → old ≡ record { closed = old.closed; begun = take 0 places }
 begun-none old places e = rw (← e) refl
@@ -64,25 +60,25 @@ pub begun-more : (old new : Listed) (closed : List (List ℕ)) (places : List �
     → new ≡ record { closed = closed; begun = take (k + 1) places }
 begun-more old new closed places k place lt is was e = e ∙ rw (was, is, take_more places k 0 lt) refl
 
-pub begun-all : (old new : Listed) (closed : List (List ℕ)) (places : List ℕ) (k : ℕ) → length places ≡ k
-    → old ≡ record { closed = closed; begun = take k places } → new ≡ record { closed = old.closed ++ old.begun ∷ []; begun = [] }
-    → new ≡ record { closed = closed ++ places ∷ []; begun = [] }
-begun-all old new closed places k long was e = e ∙ rw (was, ← long, take-length places) refl
+pub begun-done : (new : Listed) (closed : List (List ℕ)) (places : List ℕ) (k : ℕ) → length places ≡ k → new ≡ record { closed = closed; begun = take k places } → new ≡ record { closed = closed; begun = places }
+begun-done new closed places k long was = was ∙ rw (← long, take-length places) refl
 
-module _ (p : Solo) where
-  pub listed-none : (old : Listed) → old.begun ≡ [] → old ≡ record { closed = old.closed ++ map (places_of p) (take 0 (houses_of p)); begun = [] }
-  listed-none old e = rw (append-nil, ← e) refl
+pub listed-none : (old : Listed) (all : List (List ℕ)) → old.begun ≡ [] → old ≡ record { closed = old.closed ++ take 0 all; begun = [] }
+listed-none old all e = rw (append-nil, ← e) refl
 
-  pub listed-more : (old new : Listed) (closed : List (List ℕ)) (k : ℕ) (house : SoloHouse) → k < length (houses_of p) → house ≡ get_or (houses_of p) k house
-      → old ≡ record { closed = closed ++ map (places_of p) (take k (houses_of p)); begun = [] }
-      → new ≡ record { closed = old.closed ++ places_of p house ∷ []; begun = [] }
-      → new ≡ record { closed = closed ++ map (places_of p) (take (k + 1) (houses_of p)); begun = [] }
-  listed-more old new closed k house lt is was e =
-      e ∙ rw (was, take_more (houses_of p) k house lt, ← is, map-append (places_of p) (take k (houses_of p)) (house ∷ []), append_assoc) refl
+pub listed-more : (old new : Listed) (closed all : List (List ℕ)) (k : ℕ) (places : List ℕ) → k < length all → places ≡ get_or all k []
+    → old ≡ record { closed = closed ++ take k all; begun = [] } → new ≡ record { closed = old.closed ++ places ∷ []; begun = [] }
+    → new ≡ record { closed = closed ++ take (k + 1) all; begun = [] }
+listed-more old new closed all k places lt is was e = e ∙ rw (was, is, take_more all k [] lt, append_assoc) refl
 
-  pub listed-all : (list : Listed) (closed : List (List ℕ)) (k : ℕ) → length (houses_of p) ≡ k → list ≡ record { closed = closed ++ map (places_of p) (take k (houses_of p)); begun = [] }
-      → list ≡ record { closed = closed ++ map (places_of p) (houses_of p); begun = [] }
-  listed-all list closed k long was = was ∙ rw (← long, take-length (houses_of p)) refl
+pub listed-all : (list : Listed) (closed all : List (List ℕ)) (k : ℕ) → length all ≡ k → list ≡ record { closed = closed ++ take k all; begun = [] } → list ≡ record { closed = closed ++ all; begun = [] }
+listed-all list closed all k long was = was ∙ rw (← long, take-length all) refl
+
+pub places-length : (p : Solo) → length (house_places p) ≡ length (houses_of p)
+places-length p = length-map (houses_of p) (places_of p)
+
+pub places-at : (p : Solo) (k : ℕ) (house : SoloHouse) → k < length (houses_of p) → house ≡ get_or (houses_of p) k house → places_of p house ≡ get_or (house_places p) k []
+places-at p k house lt is = ap (places_of p) is ∙ sym (get_or-map (places_of p) (houses_of p) k house [] lt)
 
 -- the houses by their numbers, and what the list gets of them
-pub ruleset house_laws = (row_at, column_at, block_at, diagonal_at, house_is, count_x, count_plain, listed-none, listed-more, listed-all)
+pub ruleset house_laws = (row_at, column_at, block_at, diagonal_at, count_x, count_plain, begun-none, begun-more, begun-done, listed-none, listed-more, listed-all, places-length, places-at)

@@ -1,9 +1,9 @@
 -- The lemmas by which the functions of a file are proved.
 use Rattle.solo_core.specs.SolutionLaws.{test_from_rule, rule_from_test}
 use Rattle.solo_core.proofs.RepeatLemmas.{no_test, first_fault, solved, len_of, number_at, seen_none, seen_more, seen_again, seen_all, first_house, fine_more}
-use Rattle.solo_core.proofs.HouseLemmas.{house_is, begun-more}
+use Rattle.solo_core.proofs.HouseLemmas.{listed-none, listed-more, listed-all}
 use Rattle.solo_core.specs.HouseLaws.{lists_house, listed-has}
-use Rattle.solo_core.proofs.CrossedLemmas.{decided_at, begun-done, crossings-more, rest-out, rest-in, rest-all, shared-below, shared-above, listed-same}
+use Rattle.solo_core.proofs.CrossedLemmas.{decided_at, crossing-is, crossing-listed, crossings-listed, rest-out, rest-in, rest-all, shared-below, shared-above, listed-same}
 use Rattle.solo_core.proofs.ScopeLemmas.{crossing-named, crossings-length, scopes-length, first_at, crossings-counted, house-named, scope-named, column_in, first-at, second-at, row_in, crossing-after, all-length, filled-length}
 use Rattle.solo_core.specs.BoundLaws.{house_count, bound_is}
 use Rattle.solo_core.proofs.SinglesInHouses.{singles_in_houses}
@@ -18,9 +18,9 @@ use Rattle.solo_core.proofs.Marks.{over_alone}
 use Rattle.solo_core.proofs.StartLemmas.{started, started-none, started-all, started-blank, started-given, started-there}
 use Rattle.solo_core.proofs.TurningLemmas.{after-root, before-root, in_ends, after-step, before-step}
 
-pub ruleset check_laws = (test_from_rule, no_test, first_fault, solved, len_of, number_at, seen_none, seen_more, seen_again, seen_all, house_is, first_house, fine_more)
+pub ruleset check_laws = (test_from_rule, no_test, first_fault, solved, len_of, number_at, seen_none, seen_more, seen_again, seen_all, first_house, fine_more)
 
-pub ruleset crossings_laws = (lists_house, decided_at, crossing-named, crossings-length, scopes-length, begun-more, begun-done, crossings-more, rest-out, rest-in, rest-all, shared-below, shared-above, listed-same)
+pub ruleset crossings_laws = (lists_house, decided_at, crossing-is, crossing-listed, crossings-listed, crossings-length, scopes-length, listed-none, listed-more, listed-all, rest-out, rest-in, rest-all, shared-below, shared-above, listed-same)
 
 pub ruleset laws_laws = (rule_from_test, test_from_rule, house_count, bound_is, first_at, lists_house, listed-has, singles_in_houses, houses_lawful, singles_lawful, crossings_lawful, length-deciding, crossings-counted, house-named, scope-named)
 

@@ -2,7 +2,7 @@
 use Rattle.std.proofs.Common.{◌≡◌, ℕ, ◌+◌, ◌-◌, ◌*◌, ◌/◌, ◌%◌, ◌<◌, ◌≤◌, List, ◌++◌, map, length, get_or, sym, ap, ◌∙◌, inl, inr, length-append, arith}
 use Rattle.std.specs.List.{range_with_len}
 use Rattle.std.proofs.lemmas.Bool.{cases_lt}
-use Rattle.std.proofs.lemmas.Nat.{div_below, mod_below, mul-add-lt}
+use Rattle.std.proofs.lemmas.Nat.{div_below, mod_below, mul-add-lt, mul-le}
 use Rattle.std.proofs.lemmas.List.{get_or-map, length-map, get_or_append_left, get_or-append_right}
 use Rattle.std.proofs.lemmas.List.FromFn.{get_or-map-range_with_len, length-map-range_with_len}
 use Rattle.gameid_core.specs.Puzzles.{Solo, IsSolo, solo_n}
@@ -114,3 +114,18 @@ module _ (p : Solo) where
         sym (later_at (filled_houses p) (crossings_of p) (length (houses_of p)) h filled-length high)
         ∙ crossing-named p (h - length (houses_of p)) d (omega (arith, all-length, lt, high)) ∙ ap (house_at p) (sym (crossing-after h d high))
   ]
+
+-- ---- room for all of them
+pub crossings-count : (p : Solo) → solo_n p * (p.c + p.r) ≡ length (crossings_of p)
+crossings-count p = omega (arith, crossings-length p)
+
+pub few_in_houses : (houses n : ℕ) → houses ≤ 95 → n ≤ 31 → houses * n ≤ 3000
+few_in_houses houses n few high = omega (arith, mul-le houses n 95 31 few high)
+
+pub few_crossings : (n lines : ℕ) → n ≤ 31 → lines ≤ 510 → n * lines ≤ 16000
+few_crossings n lines high few = omega (arith, mul-le n lines 31 510 high few)
+
+pub few_in_crossings : (crossings n : ℕ) → crossings ≤ 16000 → n ≤ 31 → crossings * (2 * n) ≤ 1000000
+few_in_crossings crossings n few high = omega (arith, mul-le crossings (2 * n) 16000 62 few (omega arith))
+
+pub ruleset room_laws = (crossings-count, few_in_houses, few_crossings, few_in_crossings)

@@ -1,35 +1,24 @@
 //! The crossings of a puzzle: each block with each row and each column that it meets.
 #![tactic(auto, using(crate::proofs::LawSets::crossings_laws))]
 
-ghost use Rattle.std.specs.Prelude.{◌≡◌, ℕ, ◌*◌, ◌<◌, ◌&&◌, ◌||◌, ◌==◌, [], OnOk, length};
+ghost use Rattle.std.specs.Prelude.{◌≡◌, ℕ, ◌<◌, ◌&&◌, ◌||◌, ◌==◌, [], OnOk, length};
 ghost use Rattle.gameid_core.specs.Puzzles.{solo_n};
 ghost use Rattle.engine_core.specs.Sets.{has_bit as is_set};
 ghost use Rattle.engine_core.specs.Houses.{house_of};
 ghost use Rattle.solo_core.specs.declared.solo_house.SoloHouse.TheVariants.{Block};
 ghost use Rattle.solo_core.specs.Houses.{IsHouseOf, places_of};
-ghost use Rattle.solo_core.specs.RuleSets.{crossing_of, row_crossings, column_crossings, crossings_of, rest_of_line, AreShared};
-ghost use Rattle.solo_core.specs.Work.{all_places, HasAdded, HasBegun, HasClosed, Begins, IsKeptBy};
+ghost use Rattle.solo_core.specs.RuleSets.{crossing_of, crossings_of, rest_of_line, AreShared};
+ghost use Rattle.solo_core.specs.Work.{all_places, HasAdded, HasBegun, HasClosed, IsKeptBy};
 
 use crate::bits::with_bit;
 use crate::keep_crossing::keep_crossing;
-use crate::places::{lies, place};
-use crate::scopes::{column_crossing, crossing_at, row_crossing};
+use crate::places::{lies, place, push_places};
+use crate::rooms::crossings;
+use crate::scopes::crossing_at;
 use crate::solo_house::SoloHouse;
 use engine_core::HouseList;
 use gameid_core::SoloPuzzle;
 use std::alloc::AllocError;
-
-/// Begins a list with the block's places.
-fn push_block(list: &mut HouseList, puzzle: &SoloPuzzle, block: usize) -> Result<(), AllocError>
-    requires block_in { block < solo_n puzzle.now }
-    requires closed { list.old.begun ≡ [] }
-    ensures { OnOk result (Begins (places_of puzzle.now (Block block)) list.old list.new) }
-{
-    for k in 0..usize::from(puzzle.n()) {
-        list.push(place(puzzle, SoloHouse::Block(block), k))?;
-    }
-    Ok(())
-}
 
 /// Adds the line's places outside the block.
 fn push_rest(
@@ -64,31 +53,19 @@ fn push_crossing(
     requires closed { list.old.begun ≡ [] }
     ensures { OnOk result (HasClosed (crossing_of puzzle.now block line).places list.old list.new) }
 {
-    push_block(list, puzzle, block)?;
+    push_places(list, puzzle, SoloHouse::Block(block))?;
     push_rest(list, puzzle, block, line)?;
     list.close()?;
     Ok(())
 }
 
-/// Adds each block with each row that it meets.
-pub(crate) fn push_rows(list: &mut HouseList, puzzle: &SoloPuzzle) -> Result<(), AllocError>
+/// Adds each crossing.
+pub(crate) fn push_crossings(list: &mut HouseList, puzzle: &SoloPuzzle) -> Result<(), AllocError>
     requires closed { list.old.begun ≡ [] }
-    ensures { OnOk result (HasAdded (all_places (row_crossings puzzle.now)) list.old list.new) }
+    ensures { OnOk result (HasAdded (all_places (crossings_of puzzle.now)) list.old list.new) }
 {
-    for m in 0..usize::from(puzzle.n()) * usize::from(puzzle.c()) {
-        let (block, line) = row_crossing(puzzle, m);
-        push_crossing(list, puzzle, block, line)?;
-    }
-    Ok(())
-}
-
-/// Adds each block with each column that it meets.
-pub(crate) fn push_columns(list: &mut HouseList, puzzle: &SoloPuzzle) -> Result<(), AllocError>
-    requires closed { list.old.begun ≡ [] }
-    ensures { OnOk result (HasAdded (all_places (column_crossings puzzle.now)) list.old list.new) }
-{
-    for m in 0..usize::from(puzzle.n()) * usize::from(puzzle.r()) {
-        let (block, line) = column_crossing(puzzle, m);
+    for number in 0..crossings(puzzle) {
+        let (block, line) = crossing_at(puzzle, number);
         push_crossing(list, puzzle, block, line)?;
     }
     Ok(())
@@ -116,21 +93,6 @@ fn with_bit_if(bits: u32, value: usize, on: bool) -> u32
     if on { with_bit(bits, value) } else { bits }
 }
 
-/// Decides what is kept of the sets of the crossing of a block and a line.
-fn keep_at(puzzle: &SoloPuzzle, block: usize, line: SoloHouse, sets: &[u32], kept: &mut [u32])
-    requires block_in { block < solo_n puzzle.now }
-    requires line_of { IsHouseOf puzzle.now line }
-    requires as_many { length kept.old ≡ length sets.now }
-    ensures { IsKeptBy puzzle.now (crossing_of puzzle.now block line) sets.now kept.new }
-{
-    keep_crossing(
-        usize::from(puzzle.n()),
-        shared(puzzle, block, line),
-        sets,
-        kept,
-    );
-}
-
 /// Decides what is kept of the sets of the crossing with the number.
 pub(crate) fn keep_crossed(puzzle: &SoloPuzzle, number: usize, sets: &[u32], kept: &mut [u32])
     requires number_in { number < length (crossings_of puzzle.now) }
@@ -138,5 +100,10 @@ pub(crate) fn keep_crossed(puzzle: &SoloPuzzle, number: usize, sets: &[u32], kep
     ensures { IsKeptBy puzzle.now (house_of (crossings_of puzzle.now) number) sets.now kept.new }
 {
     let (block, line) = crossing_at(puzzle, number);
-    keep_at(puzzle, block, line, sets, kept);
+    keep_crossing(
+        usize::from(puzzle.n()),
+        shared(puzzle, block, line),
+        sets,
+        kept,
+    );
 }

@@ -6,7 +6,7 @@ ghost use Rattle.gameid_core.specs.Puzzles.{IsSolo, solo_n};
 ghost use Rattle.solo_core.specs.declared.solo_house.SoloHouse.{SoloHouse};
 ghost use Rattle.solo_core.specs.Cells.{solo_cells};
 ghost use Rattle.solo_core.specs.Houses.{houses_of, house_places, IsHouseOf, lies_in, places_of};
-ghost use Rattle.solo_core.specs.Work.{HasAdded, HasClosed};
+ghost use Rattle.solo_core.specs.Work.{HasAdded, Begins};
 
 use crate::solo_house::SoloHouse;
 use engine_core::HouseList;
@@ -36,7 +36,8 @@ pub(crate) fn houses(puzzle: &SoloPuzzle) -> usize
 /// The house with the number.
 pub(crate) fn house(puzzle: &SoloPuzzle, number: usize) -> SoloHouse
     requires { number < length (houses_of puzzle.now) }
-    ensures { (other : SoloHouse) → result ≡ slice_index_or (houses_of puzzle.now) number other }
+    ensures house_of { IsHouseOf puzzle.now result }
+    ensures at { (other : SoloHouse) → result ≡ slice_index_or (houses_of puzzle.now) number other }
 {
     let n = usize::from(puzzle.n());
     if number < n {
@@ -85,16 +86,19 @@ pub(crate) fn lies(puzzle: &SoloPuzzle, house: SoloHouse, place: usize) -> bool
     }
 }
 
-/// Adds the places of a house to the list.
-fn push_house(list: &mut HouseList, puzzle: &SoloPuzzle, house: SoloHouse) -> Result<(), AllocError>
+/// Begins a list with the places of the house.
+pub(crate) fn push_places(
+    list: &mut HouseList,
+    puzzle: &SoloPuzzle,
+    house: SoloHouse,
+) -> Result<(), AllocError>
     requires house_of { IsHouseOf puzzle.now house }
     requires closed { list.old.begun ≡ [] }
-    ensures { OnOk result (HasClosed (places_of puzzle.now house) list.old list.new) }
+    ensures { OnOk result (Begins (places_of puzzle.now house) list.old list.new) }
 {
     for k in 0..usize::from(puzzle.n()) {
         list.push(place(puzzle, house, k))?;
     }
-    list.close()?;
     Ok(())
 }
 
@@ -105,7 +109,8 @@ pub(crate) fn push_houses(list: &mut HouseList, puzzle: &SoloPuzzle) -> Result<(
         (HasAdded (house_places puzzle.now) list.old list.new) }
 {
     for number in 0..houses(puzzle) {
-        push_house(list, puzzle, house(puzzle, number))?;
+        push_places(list, puzzle, house(puzzle, number))?;
+        list.close()?;
     }
     Ok(())
 }

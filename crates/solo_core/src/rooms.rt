@@ -1,6 +1,8 @@
 //! How much room the lists of houses and of crossings take.
+#![tactic(auto, using(crate::proofs::ScopeLemmas::room_laws))]
 
-ghost use Rattle.std.specs.Prelude.{◌≤◌};
+ghost use Rattle.std.specs.Prelude.{◌≡◌, ◌≤◌, length};
+ghost use Rattle.solo_core.specs.RuleSets.{crossings_of};
 
 use crate::places::houses;
 use gameid_core::SoloPuzzle;
@@ -14,7 +16,8 @@ pub(crate) fn cells_of_houses(puzzle: &SoloPuzzle) -> usize
 
 /// How many crossings there are.
 pub(crate) fn crossings(puzzle: &SoloPuzzle) -> usize
-    ensures { result ≤ 16000 }
+    ensures count { result ≡ length (crossings_of puzzle.now) }
+    ensures few { result ≤ 16000 }
 {
     usize::from(puzzle.n()) * (usize::from(puzzle.c()) + usize::from(puzzle.r()))
 }

@@ -44,7 +44,7 @@ pub(crate) fn crossing_at(puzzle: &SoloPuzzle, number: usize) -> (usize, SoloHou
 }
 
 /// The block and the row of a crossing, by its number among those.
-pub(crate) fn row_crossing(puzzle: &SoloPuzzle, m: usize) -> (usize, SoloHouse)
+fn row_crossing(puzzle: &SoloPuzzle, m: usize) -> (usize, SoloHouse)
     requires { m < solo_n puzzle.now * puzzle.now.c }
     ensures scope { Crossing result.0 result.1 ≡ row_scope puzzle.now m }
     ensures block_in { result.0 < solo_n puzzle.now }
@@ -56,7 +56,7 @@ pub(crate) fn row_crossing(puzzle: &SoloPuzzle, m: usize) -> (usize, SoloHouse)
 }
 
 /// The block and the column of a crossing, by its number among those.
-pub(crate) fn column_crossing(puzzle: &SoloPuzzle, m: usize) -> (usize, SoloHouse)
+fn column_crossing(puzzle: &SoloPuzzle, m: usize) -> (usize, SoloHouse)
     requires { m < solo_n puzzle.now * puzzle.now.r }
     ensures scope { Crossing result.0 result.1 ≡ column_scope puzzle.now m }
     ensures block_in { result.0 < solo_n puzzle.now }

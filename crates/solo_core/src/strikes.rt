@@ -7,7 +7,7 @@ ghost use Rattle.engine_core.specs.Houses.{House, IsSound, house_of, visits_of};
 ghost use Rattle.solo_core.specs.RuleSets.{setting_of};
 ghost use Rattle.solo_core.specs.Work.{all_places, IsKeptBy};
 
-use crate::crossings::{keep_crossed, push_columns, push_rows};
+use crate::crossings::{keep_crossed, push_crossings};
 use crate::keep_houses::keep_houses;
 use crate::keep_singles::keep_singles;
 use crate::places::{houses, push_houses};
@@ -179,8 +179,7 @@ impl Strikes for Crossings {
         let places = cells_of_houses(puzzle) + cells_of_crossings(puzzle);
         let mut list = HouseList::new(alloc, count, places)?;
         push_houses(&mut list, puzzle)?;
-        push_rows(&mut list, puzzle)?;
-        push_columns(&mut list, puzzle)?;
+        push_crossings(&mut list, puzzle)?;
         Ok(list)
     }
 
