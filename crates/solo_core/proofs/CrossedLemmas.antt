@@ -99,10 +99,3 @@ crossing-listed p m block line lt is =
 
 pub crossings-listed : (p : Solo) → length (all_places (crossings_of p)) ≡ length (crossings_of p)
 crossings-listed p = length-map (crossings_of p) (λ (house : House). house.places)
-
--- a test of places is that of their list
-pub listed-same : (places : List ℕ) (n cells : ℕ) (lies : ℕ → Bool) → Lists places n cells lies → (place : ℕ) → place < cells → lies place ≡ has_place places place
-listed-same places n cells lies l place lt = elim (cases_Bool (lies place)) [
-  | inl on ↦ on ∙ sym ((listed-has places n cells lies l place lt).1 on)
-  | inr off ↦ off ∙ sym (false_from_ne_true (has_place places place) (λ has. true≢false (sym ((listed-has places n cells lies l place lt).0 has) ∙ off)))
-]

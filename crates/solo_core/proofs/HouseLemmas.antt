@@ -11,45 +11,19 @@ use Rattle.solo_core.specs.declared.solo_house.SoloHouse.TheVariants.{Row, Colum
 use Rattle.solo_core.specs.Houses.{houses_of, house_places, places_of}
 use Rattle.solo_core.specs.BoundLaws.{house_count, count_x, count_plain}
 
-module _ (p : Solo) where
-  abbrev n : ℕ
-  n = solo_n p
+-- ---- a list that begins with the values of a function
+module _ {X : Type 0} (f : ℕ → X) (n : ℕ) (rest : List X) (h : ℕ) (d : X) where
+  pub part_first : h < n → get_or (map f (range_with_len 0 n) ++ rest) h d ≡ f h
+  part_first lt = get_or_append_left (map f (range_with_len 0 n)) rest d h (omega (arith, length-map-range_with_len f 0 n)) ∙ get_or-map-range_with_len f 0 n h h d lt (omega arith)
 
-  abbrev part : (ℕ → SoloHouse) → List SoloHouse
-  part f = map f (range_with_len 0 (solo_n p))
+  pub part_later : n ≤ h → get_or (map f (range_with_len 0 n) ++ rest) h d ≡ get_or rest (h - n) d
+  part_later le = get_or-append_right (map f (range_with_len 0 n)) rest n h d (length-map-range_with_len f 0 n) le
 
-  long : (f : ℕ → SoloHouse) → length (part f) ≡ solo_n p
-  long f = length-map-range_with_len f 0 (solo_n p)
-
-  pub row_at : (h : ℕ) (d : SoloHouse) → h < solo_n p → Row h ≡ get_or (houses_of p) h d
-  row_at h d lt = sym (get_or_append_left (part Row) _ d h (let e = long Row in omega arith) ∙ get_or-map-range_with_len Row 0 (solo_n p) h h d lt (omega arith))
-
-  pub column_at : (h : ℕ) (d : SoloHouse) → solo_n p ≤ h → h < 2 * solo_n p → Column (h - solo_n p) ≡ get_or (houses_of p) h d
-  column_at h d low lt = sym (get_or-append_right (part Row) _ (solo_n p) h d (long Row) low
-      ∙ get_or_append_left (part Column) _ d (h - solo_n p) (let e = long Column in omega arith) ∙ get_or-map-range_with_len Column 0 (solo_n p) (h - solo_n p) (h - solo_n p) d (omega arith) (omega arith))
-
-  pub block_at : (h : ℕ) (d : SoloHouse) → 2 * solo_n p ≤ h → h < 3 * solo_n p → Block (h - 2 * solo_n p) ≡ get_or (houses_of p) h d
-  block_at h d low lt =
-      let e : h - solo_n p - solo_n p ≡ h - 2 * solo_n p = omega arith in
-      sym (get_or-append_right (part Row) _ (solo_n p) h d (long Row) (omega arith)
-      ∙ get_or-append_right (part Column) _ (solo_n p) (h - solo_n p) d (long Column) (omega arith)
-      ∙ get_or_append_left (part Block) _ d (h - solo_n p - solo_n p) (let l = long Block in omega arith)
-      ∙ get_or-map-range_with_len Block 0 (solo_n p) (h - solo_n p - solo_n p) (h - solo_n p - solo_n p) d (omega arith) (omega arith) ∙ ap Block e)
-
-  pub diagonal_at : (h : ℕ) (d : SoloHouse) → 3 * solo_n p ≤ h → h < length (houses_of p) → Diagonal (h - 3 * solo_n p) ≡ get_or (houses_of p) h d
-  diagonal_at h d low lt =
-      let count = house_count p in
-      let e : h - solo_n p - solo_n p - solo_n p ≡ h - 3 * solo_n p = omega arith in
-      sym (get_or-append_right (part Row) _ (solo_n p) h d (long Row) (omega arith)
-      ∙ get_or-append_right (part Column) _ (solo_n p) (h - solo_n p) d (long Column) (omega arith)
-      ∙ get_or-append_right (part Block) _ (solo_n p) (h - solo_n p - solo_n p) d (long Block) (omega arith)
-      ∙ at p.x (h - solo_n p - solo_n p - solo_n p) d (omega arith) ∙ ap Diagonal e)
-    where
-      at : (x : Bool) (k : ℕ) (d : SoloHouse) → k < (if x then 2 else 0) → get_or (if x then Diagonal 0 ∷ Diagonal 1 ∷ [] else []) k d ≡ Diagonal k
-      at true zero d lt = refl
-      at true (suc zero) d lt = refl
-      at true (suc (suc k)) d lt = absurd (omega arith)
-      at false k d lt = absurd (omega arith)
+pub diagonal_at : (x : Bool) (k : ℕ) (d : SoloHouse) → k < (if x then 2 else 0) → get_or (if x then Diagonal 0 ∷ Diagonal 1 ∷ [] else []) k d ≡ Diagonal k
+diagonal_at true zero d lt = refl
+diagonal_at true (suc zero) d lt = refl
+diagonal_at true (suc (suc k)) d lt = absurd (omega arith)
+diagonal_at false k d lt = absurd (omega arith)
 
 -- ---- lists of places
 pub begun-none : (old : Listed) (places : List ℕ) → old.begun ≡ [] → old ≡ record { closed = old.closed; begun = take 0 places }
@@ -81,4 +55,4 @@ pub places-at : (p : Solo) (k : ℕ) (house : SoloHouse) → k < length (houses_
 places-at p k house lt is = ap (places_of p) is ∙ sym (get_or-map (places_of p) (houses_of p) k house [] lt)
 
 -- the houses by their numbers, and what the list gets of them
-pub ruleset house_laws = (row_at, column_at, block_at, diagonal_at, count_x, count_plain, begun-none, begun-more, begun-done, listed-none, listed-more, listed-all, places-length, places-at)
+pub ruleset house_laws = (part_first, part_later, diagonal_at, house_count, count_x, count_plain, begun-none, begun-more, begun-done, listed-none, listed-more, listed-all, places-length, places-at)

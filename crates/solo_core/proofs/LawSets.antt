@@ -2,9 +2,9 @@
 use Rattle.solo_core.specs.SolutionLaws.{test_from_rule, rule_from_test}
 use Rattle.solo_core.proofs.RepeatLemmas.{no_test, first_fault, solved, len_of, number_at, seen_none, seen_more, seen_again, seen_all, first_house, fine_more}
 use Rattle.solo_core.proofs.HouseLemmas.{listed-none, listed-more, listed-all}
-use Rattle.solo_core.specs.HouseLaws.{lists_house, listed-has}
-use Rattle.solo_core.proofs.CrossedLemmas.{decided_at, crossing-is, crossing-listed, crossings-listed, rest-out, rest-in, rest-all, shared-below, shared-above, listed-same}
-use Rattle.solo_core.proofs.ScopeLemmas.{crossing-named, crossings-length, scopes-length, first_at, crossings-counted, house-named, scope-named, column_in, first-at, second-at, row_in, crossing-after, all-length, filled-length}
+use Rattle.solo_core.specs.HouseLaws.{lists_house, listed-has, listed-same, row_in, column_in}
+use Rattle.solo_core.proofs.CrossedLemmas.{decided_at, crossing-is, crossing-listed, crossings-listed, rest-out, rest-in, rest-all, shared-below, shared-above}
+use Rattle.solo_core.proofs.ScopeLemmas.{crossing-named, crossings-length, scopes-length, first_at, crossings-counted, house-named, scope-named, first-at, second-at, crossing-after, all-length, filled-length}
 use Rattle.solo_core.specs.BoundLaws.{house_count, bound_is}
 use Rattle.solo_core.proofs.SinglesInHouses.{singles_in_houses}
 use Rattle.solo_core.specs.RuleLaws.{houses_lawful, singles_lawful, crossings_lawful}

@@ -17,44 +17,21 @@ use Rattle.solo_core.specs.NoRepeat.{no_repeat}
 use Rattle.solo_core.specs.RuleSets.{filled_houses, row_crossing, column_crossing, crossings_of, house_at}
 use Rattle.solo_core.specs.Scopes.{row_scope, column_scope, crossing_scopes, scopes_of}
 use Rattle.solo_core.proofs.DecidingLemmas.{deciding-at, length-deciding}
-
--- ---- a block and a line of the puzzle
-module _ (p : Solo) (ok : IsSolo p) where
-  pub row_in : (m : ℕ) → m < solo_n p * p.c → (m / p.c < solo_n p) × (m / p.c / p.c * p.c + m % p.c < solo_n p)
-  row_in m lt =
-      let low = ok.c_low in
-      let pos : 0 < p.c = omega arith in
-      let b = div_below m p.c (solo_n p) pos lt in
-      let w = mul-add-lt (m / p.c / p.c) p.c (m % p.c) p.r (div_below (m / p.c) p.c p.r pos (omega arith)) (mod_below m p.c pos) in
-      (b, omega arith)
-
-  pub column_in : (m : ℕ) → m < solo_n p * p.r → (m / p.r < solo_n p) × (m / p.r % p.c * p.r + m % p.r < solo_n p)
-  column_in m lt =
-      let low = ok.c_low in
-      let low_r = ok.r_low in
-      let pos : 0 < p.c = omega arith in
-      let pos_r : 0 < p.r = omega arith in
-      let b = div_below m p.r (solo_n p) pos_r lt in
-      let w = mul-add-lt (m / p.r % p.c) p.r (m % p.r) p.c (mod_below (m / p.r) p.c pos) (mod_below m p.r pos_r) in
-      (b, omega arith)
+use Rattle.solo_core.proofs.HouseLemmas.{part_first, part_later}
 
 -- ---- the crossings by their numbers
 module _ {X : Type 0} (first second : ℕ → X) (n m : ℕ) where
   abbrev both : List X
   both = map first (range_with_len 0 n) ++ map second (range_with_len 0 m)
 
-  long : length (map first (range_with_len 0 n)) ≡ n
-  long = length-map-range_with_len first 0 n
-
   pub both-length : length both ≡ n + m
-  both-length = omega (arith, length-append (map first (range_with_len 0 n)) (map second (range_with_len 0 m)), long, length-map-range_with_len second 0 m)
+  both-length = simp (length-append, length-map-range_with_len)
 
   pub first-at : (k : ℕ) (d : X) → k < n → first k ≡ get_or both k d
-  first-at k d lt = sym (get_or_append_left (map first (range_with_len 0 n)) _ d k (omega (arith, long)) ∙ get_or-map-range_with_len first 0 n k k d lt (omega arith))
+  first-at k d lt = sym (part_first first n (map second (range_with_len 0 m)) k d lt)
 
   pub second-at : (k : ℕ) (d : X) → n ≤ k → k - n < m → second (k - n) ≡ get_or both k d
-  second-at k d le lt = sym (get_or-append_right (map first (range_with_len 0 n)) (map second (range_with_len 0 m)) n k d long le
-      ∙ get_or-map-range_with_len second 0 m (k - n) (k - n) d lt (omega arith))
+  second-at k d le lt = sym (part_later first n (map second (range_with_len 0 m)) k d le ∙ get_or-map-range_with_len second 0 m (k - n) (k - n) d lt (omega arith))
 
 module _ (p : Solo) where
   pub crossings-length : length (crossings_of p) ≡ solo_n p * p.c + solo_n p * p.r

@@ -1,37 +1,36 @@
--- The bounds of closings as numbers: 3n + 3n^3 in plain Solo, and with two houses more in Solo X.
-use Rattle.std.proofs.Common.{◌≡◌, ℕ, suc, ◌+◌, ◌*◌, ◌^◌, ◌<◌, ◌≤◌, Bool, true, false, List, [], ◌∷◌, ◌++◌, map, length, get_or, if◌then◌else◌, refl, ap, ◌∙◌, arith, length-append}
+-- The bounds of closings as numbers: 3n + 3n^3 in plain Solo, with two houses more in Solo X, and with crossings what these add.
+use Rattle.std.proofs.Common.{◌≡◌, ℕ, zero, suc, ◌+◌, ◌-◌, ◌*◌, ◌/◌, ◌%◌, ◌^◌, ◌<◌, ◌≤◌, Bool, true, false, not, cond, eqb, List, [], ◌∷◌, ◌++◌, map, length, get_or, if◌then◌else◌, refl, sym, ap, ◌∙◌, inl, inr, add-one, arith, length-append}
 use Rattle.std.specs.Prelude.{All, sum_by}
-use Rattle.std.specs.List.{range_with_len}
-use Rattle.std.proofs.lemmas.Nat.{mul-le}
+use Rattle.std.specs.List.{range_with_len, filter}
+use Rattle.std.proofs.lemmas.Bool.{cases_eq, eq-eqb, ne_eqb}
+use Rattle.std.proofs.lemmas.Nat.{div-mul-add, mod-mul-add, div_below, mod_below, mul-le, mul-add-lt, div-add-mod'}
 use Rattle.std.proofs.lemmas.List.{length-map}
-use Rattle.std.proofs.lemmas.List.Sums.{sum_by-cons}
+use Rattle.std.proofs.lemmas.List.Sums.{sum_by-cons, sum_by-append}
 use Rattle.std.proofs.lemmas.List.Elements.{All-map}
-use Rattle.std.proofs.lemmas.List.FromFn.{length-map-range_with_len}
+use Rattle.std.proofs.lemmas.List.FromFn.{length-map-range_with_len, filter_of_map_range_with_len_more}
+use Rattle.grid_core.specs.Candidates.{count_below}
+use Rattle.grid_core.proofs.CandidateLemmas.{count_below-same, count_below-none}
 use Rattle.gameid_core.specs.Puzzles.{Solo, IsSolo, solo_n}
+use Rattle.engine_core.specs.Puzzle.{has_place}
+use Rattle.engine_core.specs.Filling.{strikes_by_fillings}
 use Rattle.engine_core.specs.House.{Decision}
 use Rattle.engine_core.specs.Houses.{House, visits_of}
 use Rattle.solo_core.specs.declared.solo_house.SoloHouse.{SoloHouse}
 use Rattle.solo_core.specs.declared.solo_house.SoloHouse.TheVariants.{Row, Column, Block, Diagonal}
-use Rattle.solo_core.specs.Houses.{houses_of, places_of}
-use Rattle.solo_core.specs.HouseLaws.{lists_house, all_houses}
-use Rattle.solo_core.specs.RuleSets.{deciding}
+use Rattle.solo_core.specs.Cells.{solo_cells, block_of}
+use Rattle.solo_core.specs.Crossing.{crossing_places}
+use Rattle.solo_core.specs.Houses.{houses_of, lies_in, places_of}
+use Rattle.solo_core.specs.HouseLaws.{lists_house, listed-same, all_houses, each_value, row_in, column_in}
+use Rattle.solo_core.specs.NoRepeat.{no_repeat}
+use Rattle.solo_core.specs.RuleSets.{deciding, crossings_rules, row_crossing, column_crossing, crossings_of}
 
 -- how many houses the puzzle has
 pub house_count : (p : Solo) → length (houses_of p) ≡ 3 * solo_n p + (if p.x then 2 else 0)
-house_count p = omega (arith, length-append (part Row) (part Column ++ (part Block ++ diagonals p.x)), length-append (part Column) (part Block ++ diagonals p.x), length-append (part Block) (diagonals p.x), long Row, long Column, long Block, few p.x)
+house_count p = simp (length-append, length-map-range_with_len) (few p.x)
   where
-    part : (ℕ → SoloHouse) → List SoloHouse
-    part f = map f (range_with_len 0 (solo_n p))
-
-    diagonals : Bool → List SoloHouse
-    diagonals x = if x then Diagonal 0 ∷ Diagonal 1 ∷ [] else []
-
-    long : (f : ℕ → SoloHouse) → length (part f) ≡ solo_n p
-    long f = length-map-range_with_len f 0 (solo_n p)
-
-    few : (x : Bool) → length (diagonals x) ≡ (if x then 2 else 0)
-    few true = refl
-    few false = refl
+    few : (x : Bool) → solo_n p + (solo_n p + (solo_n p + length (if x then Diagonal 0 ∷ Diagonal 1 ∷ [] else []))) ≡ 3 * solo_n p + (if x then 2 else 0)
+    few true = omega arith
+    few false = omega arith
 
 pub sum_same : {X : Type 0} (f : X → ℕ) (m : ℕ) (xs : List X) → All (λ y. f y ≡ m) xs → sum_by f xs ≡ length xs * m
 sum_same f m [] all = omega arith
@@ -75,3 +74,130 @@ count_x p is = house_count p ∙ ap (λ b. 3 * solo_n p + (if b then 2 else 0)) 
 
 pub count_plain : (p : Solo) → p.x ≡ false → length (houses_of p) ≡ 3 * solo_n p
 count_plain p is = let e = house_count p ∙ ap (λ b. 3 * solo_n p + (if b then 2 else 0)) is in omega arith
+
+-- ---- counting
+filter_count : (test : ℕ → Bool) (f : ℕ → ℕ) (n : ℕ) → length (filter test (map f (range_with_len 0 n))) ≡ count_below (λ k. test (f k)) n
+unfolding count_below
+filter_count test f zero = refl
+filter_count test f (suc n) =
+    ap length (rw add-one at (filter_of_map_range_with_len_more test f 0 n n (omega arith))) ∙ length-append (filter test (map f (range_with_len 0 n))) (cond (test (f n)) (f n ∷ []) [])
+    ∙ rw (filter_count test f n) (ap (λ m. count_below (λ k. test (f k)) n + m) (last (test (f n))))
+  where
+    last : (b : Bool) → length (cond b (f n ∷ []) []) ≡ cond b 1 0
+    last true = refl
+    last false = refl
+
+count_split : (p : ℕ → Bool) (a b : ℕ) → count_below p (a + b) ≡ count_below p a + count_below (λ k. p (a + k)) b
+unfolding count_below
+count_split p a zero = let e : a + 0 ≡ a = omega arith in rw e (omega arith)
+count_split p a (suc b) = let e : a + suc b ≡ suc (a + b) = omega arith in let rest = count_split p a b in rw e (omega arith)
+
+count_all : (p : ℕ → Bool) (n : ℕ) → ((k : ℕ) → k < n → p k ≡ true) → count_below p n ≡ n
+unfolding count_below
+count_all p zero each = refl
+count_all p (suc n) each = let rest = count_all p n (λ k lt. each k (omega arith)) in rw (each n (omega arith)) (omega arith)
+
+-- of n numbers in parts of r each, all but those of the q-th
+count_other : (r q n : ℕ) → 0 < r → q * r + r ≤ n → count_below (λ k. not (eqb (k / r) q)) n ≡ n - r
+count_other r q n pos fits =
+    let whole : n ≡ q * r + r + (n - (q * r + r)) = omega arith in
+    let outer = count_split (λ k. not (eqb (k / r) q)) (q * r + r) (n - (q * r + r)) in
+    let inner = count_split (λ k. not (eqb (k / r) q)) (q * r) r in
+    let before = count_all (λ k. not (eqb (k / r) q)) (q * r) (λ k lt. ap not (ne_eqb (k / r) q (λ e. let low = div_below k r q pos lt in absurd (omega arith)))) in
+    let here = count_below-none (λ k. not (eqb ((q * r + k) / r) q)) r (λ k lt. ap not (eq-eqb ((q * r + k) / r) q (div-mul-add q r k lt))) in
+    let after = count_all (λ k. not (eqb ((q * r + r + k) / r) q)) (n - (q * r + r)) (λ k lt. ap not (ne_eqb ((q * r + r + k) / r) q (λ e. past k e))) in
+    rw whole (omega arith)
+  where
+    past : (k : ℕ) → (q * r + r + k) / r ≡ q → ⊥
+    past k e = let sum = div-add-mod' (q * r + r + k) r in let low = mod_below (q * r + r + k) r pos in let same = ap (λ z. z * r) e in absurd (omega arith)
+
+same_test : (a b c d : ℕ) → (a ≡ b → c ≡ d) → (c ≡ d → a ≡ b) → eqb a b ≡ eqb c d
+same_test a b c d there back = elim (cases_eq a b) [
+  | inl e ↦ eq-eqb a b e ∙ sym (eq-eqb c d (there e))
+  | inr ne ↦ ne_eqb a b ne ∙ sym (ne_eqb c d (λ e. ne (back e)))
+]
+
+-- ---- the cells of a line that are in a block
+module _ (p : Solo) (ok : IsSolo p) (b : ℕ) (b_in : b < solo_n p) where
+  abbrev block : List ℕ
+  block = places_of p (Block b)
+
+  -- where the q-th part of the line's r cells is the block's
+  crossed : (f : ℕ → ℕ) (r q : ℕ) → 0 < r → q * r + r ≤ solo_n p → ((k : ℕ) → k < solo_n p → f k < solo_cells p) → ((k : ℕ) → k < solo_n p → eqb (block_of p (f k)) b ≡ eqb (k / r) q)
+      → length (crossing_places block (map f (range_with_len 0 (solo_n p)))) ≡ solo_n p + (solo_n p - r)
+  crossed f r q pos fits inside cut =
+      let split = length-append block (filter (λ place. not (has_place block place)) (map f (range_with_len 0 (solo_n p)))) in
+      let long = (lists_house p ok (Block b) b_in).len in
+      let count = filter_count (λ place. not (has_place block place)) f (solo_n p) in
+      let tests = count_below-same (λ k. not (has_place block (f k))) (λ k. not (eqb (k / r) q)) (solo_n p)
+      (λ k lt. ap not (sym (listed-same block (solo_n p) (solo_cells p) (lies_in p (Block b)) (lists_house p ok (Block b) b_in) (f k) (inside k lt)) ∙ cut k lt)) in
+      let few = count_other r q (solo_n p) pos fits in
+      omega arith
+
+  -- a block of the same band as the row has the row's cells of its own stack, and so with a column
+  row_cells : (y : ℕ) → y < solo_n p → y / p.c ≡ b / p.c → length (crossing_places block (places_of p (Row y))) ≡ solo_n p + (solo_n p - p.r)
+  row_cells y y_in same =
+      let c_low = ok.c_low in
+      let r_low = ok.r_low in
+      let low = mod_below b p.c (omega arith) in
+      let fits = mul-le (b % p.c + 1) p.r p.c p.r (omega arith) (omega arith) in
+      let whole = div-add-mod' b p.c in
+      crossed (λ x. y * solo_n p + x) p.r (b % p.c) (omega arith) (omega arith) (λ x lt. mul-add-lt y (solo_n p) x (solo_n p) y_in lt) (λ x lt. rw (div-mul-add y (solo_n p) x lt, mod-mul-add y (solo_n p) x lt, same)
+      (same_test (b / p.c * p.c + x / p.r) b (x / p.r) (b % p.c) (λ z. omega arith) (λ z. omega arith)))
+
+  column_cells : (x : ℕ) → x < solo_n p → x / p.r ≡ b % p.c → length (crossing_places block (places_of p (Column x))) ≡ solo_n p + (solo_n p - p.c)
+  column_cells x x_in same =
+      let c_low = ok.c_low in
+      let low = mod_below b p.c (omega arith) in
+      let high = div_below b p.c p.r (omega arith) (omega (arith, b_in)) in
+      let fits = mul-le (b / p.c + 1) p.c p.r p.c (omega arith) (omega arith) in
+      let whole = div-add-mod' b p.c in
+      crossed (λ y. y * solo_n p + x) p.c (b / p.c) (omega arith) (omega arith) (λ y lt. mul-add-lt y (solo_n p) x (solo_n p) lt x_in) (λ y lt. rw (div-mul-add y (solo_n p) x x_in, mod-mul-add y (solo_n p) x x_in, same)
+      (same_test (y / p.c * p.c + b % p.c) b (y / p.c) (b / p.c) (λ z. sym (div-mul-add (y / p.c) p.c (b % p.c) low) ∙ ap (λ k. k / p.c) z) (λ z. ap (λ k. k * p.c + b % p.c) z ∙ whole)))
+
+-- ---- the bound with crossings
+sum_alike : (n : ℕ) (f : ℕ → House) (k len : ℕ) → ((m : ℕ) → m < k → length (f m).places ≡ len) → sum_by (visits_of n) (map f (range_with_len 0 k)) ≡ k * (1 + len * n)
+sum_alike n f k len each = sum_same (visits_of n) (1 + len * n) (map f (range_with_len 0 k)) (each_value (λ house. visits_of n house ≡ 1 + len * n) f k (λ m lt. ap (λ l. 1 + l * n) (each m lt)))
+    ∙ ap (λ l. l * (1 + len * n)) (length-map-range_with_len f 0 k)
+
+pub crossings_bound : (p : Solo) → IsSolo p
+    → sum_by (visits_of (solo_n p)) (crossings_of p) ≡ solo_n p * p.c * (1 + (solo_n p + (solo_n p - p.r)) * solo_n p) + solo_n p * p.r * (1 + (solo_n p + (solo_n p - p.c)) * solo_n p)
+crossings_bound p ok =
+    let c_low = ok.c_low in
+    let r_low = ok.r_low in
+    let rows = sum_alike (solo_n p) (row_crossing p) (solo_n p * p.c) (solo_n p + (solo_n p - p.r)) (λ m lt. let w = row_in p ok m lt in
+    row_cells p ok (m / p.c) w.0 (m / p.c / p.c * p.c + m % p.c) w.1 (div-mul-add (m / p.c / p.c) p.c (m % p.c) (mod_below m p.c (omega arith)))) in
+    let columns = sum_alike (solo_n p) (column_crossing p) (solo_n p * p.r) (solo_n p + (solo_n p - p.c)) (λ m lt. let w = column_in p ok m lt in
+    column_cells p ok (m / p.r) w.0 (m / p.r % p.c * p.r + m % p.r) w.1 (div-mul-add (m / p.r % p.c) p.r (m % p.r) (mod_below m p.r (omega arith)))) in
+    sum_by-append (visits_of (solo_n p)) (map (row_crossing p) (range_with_len 0 (solo_n p * p.c))) (map (column_crossing p) (range_with_len 0 (solo_n p * p.r))) ∙ rw (rows, columns) refl
+
+pub crossings_rules-bound : (p : Solo) → IsSolo p → (crossings_rules p).bound ≡ length (houses_of p) + length (houses_of p) * (solo_n p * solo_n p)
+    + (solo_n p * p.c * (1 + (2 * solo_n p - p.r) * solo_n p) + solo_n p * p.r * (1 + (2 * solo_n p - p.c) * solo_n p))
+crossings_rules-bound p ok =
+    let a = bound_is (strikes_by_fillings no_repeat) p ok in
+    let b = crossings_bound p ok in
+    let c_low = ok.c_low in
+    let r_low = ok.r_low in
+    let r_in = mul-le 1 p.r p.c p.r (omega arith) (omega arith) in
+    let c_in = mul-le p.c 1 p.c p.r (omega arith) (omega arith) in
+    let e : solo_n p + (solo_n p - p.r) ≡ 2 * solo_n p - p.r = omega arith in
+    let f : solo_n p + (solo_n p - p.c) ≡ 2 * solo_n p - p.c = omega arith in
+    sum_by-append (visits_of (solo_n p)) (deciding (strikes_by_fillings no_repeat) p) (crossings_of p) ∙ rw (a, b, e, f) refl
+
+pub few_crossings : (p : Solo) → IsSolo p → sum_by (visits_of (solo_n p)) (deciding (strikes_by_fillings no_repeat) p ++ crossings_of p) < 2 ^ 32
+few_crossings p ok =
+    let all = sum_by-append (visits_of (solo_n p)) (deciding (strikes_by_fillings no_repeat) p) (crossings_of p) in
+    let lines = few_lines (strikes_by_fillings no_repeat) p ok in
+    let crossed = crossings_bound p ok in
+    let high = ok.n_high in
+    let c_low = ok.c_low in
+    let r_low = ok.r_low in
+    let c_in = mul-le p.c 1 p.c p.r (omega arith) (omega arith) in
+    let r_in = mul-le 1 p.r p.c p.r (omega arith) (omega arith) in
+    let many_c = mul-le (solo_n p) p.c 31 31 high (omega arith) in
+    let many_r = mul-le (solo_n p) p.r 31 31 high (omega arith) in
+    let long_r = mul-le (solo_n p + (solo_n p - p.r)) (solo_n p) 62 31 (omega arith) high in
+    let long_c = mul-le (solo_n p + (solo_n p - p.c)) (solo_n p) 62 31 (omega arith) high in
+    let rows = mul-le (solo_n p * p.c) (1 + (solo_n p + (solo_n p - p.r)) * solo_n p) 961 1923 (omega arith) (omega arith) in
+    let columns = mul-le (solo_n p * p.r) (1 + (solo_n p + (solo_n p - p.c)) * solo_n p) 961 1923 (omega arith) (omega arith) in
+    omega arith

@@ -4,7 +4,7 @@ use Rattle.std.specs.Prelude.{All, ◌↔◌, IsTrue}
 use Rattle.engine_core.specs.Puzzle.{has_place}
 use Rattle.engine_core.specs.PlaceLaws.{has_place-at, has_place-here}
 use Rattle.std.specs.List.{range_with_len}
-use Rattle.std.proofs.lemmas.Bool.{cases_lt, cases_Bool, eq-eqb, eqb-true}
+use Rattle.std.proofs.lemmas.Bool.{cases_lt, cases_Bool, eq-eqb, eqb-true, true≢false, false_from_ne_true}
 use Rattle.std.proofs.lemmas.Nat.{mul-add-lt, mul-le, div-mul-add, mod-mul-add, div_below, mod_below, div-add-mod'}
 use Rattle.std.proofs.lemmas.List.Elements.{All-append, All-nil, All-cons}
 use Rattle.std.proofs.lemmas.List.FromFn.{get_or-map-range_with_len, length-map-range_with_len}
@@ -200,3 +200,30 @@ module _ (places : List ℕ) (n cells : ℕ) (lies : ℕ → Bool) (l : Lists pl
     λ has. let w = has_place-at places place has in let l_in : w.0 < n = let a = w.1 in let e = l.len in omega arith in rw w.2 at (l.lies_at w.0 l_in),
     λ on. rw (l.covers place lt on) at (has_place-here places (l.index place) (let e = l.len in let i = l.index_in place lt in omega arith)),
   )
+
+-- a test of places is that of their list
+pub listed-same : (places : List ℕ) (n cells : ℕ) (lies : ℕ → Bool) → Lists places n cells lies → (place : ℕ) → place < cells → lies place ≡ has_place places place
+listed-same places n cells lies l place lt = elim (cases_Bool (lies place)) [
+  | inl on ↦ on ∙ sym ((listed-has places n cells lies l place lt).1 on)
+  | inr off ↦ off ∙ sym (false_from_ne_true (has_place places place) (λ has. true≢false (sym ((listed-has places n cells lies l place lt).0 has) ∙ off)))
+]
+
+-- ---- a block and a line of the puzzle
+module _ (p : Solo) (ok : IsSolo p) where
+  pub row_in : (m : ℕ) → m < solo_n p * p.c → (m / p.c < solo_n p) × (m / p.c / p.c * p.c + m % p.c < solo_n p)
+  row_in m lt =
+      let low = ok.c_low in
+      let pos : 0 < p.c = omega arith in
+      let b = div_below m p.c (solo_n p) pos lt in
+      let w = mul-add-lt (m / p.c / p.c) p.c (m % p.c) p.r (div_below (m / p.c) p.c p.r pos (omega arith)) (mod_below m p.c pos) in
+      (b, omega arith)
+
+  pub column_in : (m : ℕ) → m < solo_n p * p.r → (m / p.r < solo_n p) × (m / p.r % p.c * p.r + m % p.r < solo_n p)
+  column_in m lt =
+      let low = ok.c_low in
+      let low_r = ok.r_low in
+      let pos : 0 < p.c = omega arith in
+      let pos_r : 0 < p.r = omega arith in
+      let b = div_below m p.r (solo_n p) pos_r lt in
+      let w = mul-add-lt (m / p.r % p.c) p.r (m % p.r) p.c (mod_below (m / p.r) p.c pos) (mod_below m p.r pos_r) in
+      (b, omega arith)

@@ -14,7 +14,6 @@ pub mod RuleSets
 pub mod RuleLaws
 pub mod Meanings
 pub mod BoundLaws
-pub mod CrossingBounds
 pub mod Faults
 pub mod Bits
 pub mod Deciding

@@ -22,7 +22,7 @@ use Rattle.solo_core.specs.Cells.{solo_cells}
 use Rattle.solo_core.specs.RuleSets.{start, deciding, row_crossing, column_crossing, crossings_of, setting_of, rules_of, singles_rules, houses_rules, crossings_rules}
 use Rattle.solo_core.specs.Houses.{houses_of, IsHouseOf, lies_in, places_of}
 use Rattle.solo_core.specs.Solutions.{numbers_of, is_solo_solution}
-use Rattle.solo_core.specs.HouseLaws.{Lists, lists_house, listed-within, listed-different, some_numbers, each_value, all_houses}
+use Rattle.solo_core.specs.HouseLaws.{Lists, lists_house, listed-within, listed-different, some_numbers, each_value, all_houses, row_in, column_in}
 use Rattle.solo_core.specs.SolutionLaws.{rule_from_test, house_of_solution}
 use Rattle.solo_core.specs.NoRepeat.{no_repeat}
 use Rattle.solo_core.specs.Singles.{strikes_by_singles}
@@ -118,20 +118,8 @@ module _ (p : Solo) (ok : IsSolo p) where
 
   each_crossing : (all : List House) → All (IsSound (setting_of true p all)) (crossings_of p)
   each_crossing all = All-append (IsSound (setting_of true p all)) (map (row_crossing p) (range_with_len 0 (solo_n p * p.c))) (map (column_crossing p) (range_with_len 0 (solo_n p * p.r)))
-      (each_value (IsSound (setting_of true p all)) (row_crossing p) (solo_n p * p.c) (λ m lt.
-      let b_in : m / p.c < solo_n p = div_below m p.c (solo_n p) c_pos lt in
-      crossing_is_sound all (m / p.c) (Row (m / p.c / p.c * p.c + m % p.c)) b_in
-      (let w = mul-add-lt (m / p.c / p.c) p.c (m % p.c) p.r (div_below (m / p.c) p.c p.r c_pos (omega arith)) (mod_below m p.c c_pos) in omega arith)))
-      (each_value (IsSound (setting_of true p all)) (column_crossing p) (solo_n p * p.r) (λ m lt.
-      let b_in : m / p.r < solo_n p = div_below m p.r (solo_n p) r_pos lt in
-      crossing_is_sound all (m / p.r) (Column (m / p.r % p.c * p.r + m % p.r)) b_in
-      (let w = mul-add-lt (m / p.r % p.c) p.r (m % p.r) p.c (mod_below (m / p.r) p.c c_pos) (mod_below m p.r r_pos) in omega arith)))
-    where
-      c_pos : 0 < p.c
-      c_pos = let low = ok.c_low in omega arith
-
-      r_pos : 0 < p.r
-      r_pos = let low = ok.r_low in omega arith
+      (each_value (IsSound (setting_of true p all)) (row_crossing p) (solo_n p * p.c) (λ m lt. let w = row_in p ok m lt in crossing_is_sound all (m / p.c) (Row (m / p.c / p.c * p.c + m % p.c)) w.0 w.1))
+      (each_value (IsSound (setting_of true p all)) (column_crossing p) (solo_n p * p.r) (λ m lt. let w = column_in p ok m lt in crossing_is_sound all (m / p.r) (Column (m / p.r % p.c * p.r + m % p.r)) w.0 w.1))
 
   -- ---- the three rule sets
   by_fillings : (all : List House) → All (IsSound (setting_of true p all)) (deciding (strikes_by_fillings no_repeat) p)

@@ -156,7 +156,7 @@ impl Strikes for Fillings {
 
 impl Strikes for Crossings {
     ghost use Rattle.std.specs.Prelude.{◌++◌};
-    ghost use Rattle.solo_core.specs.CrossingBounds.{few_crossings};
+    ghost use Rattle.solo_core.specs.BoundLaws.{few_crossings};
     ghost use Rattle.solo_core.specs.RuleLaws.{crossings_sound};
     ghost use Rattle.solo_core.specs.RuleSets.{filled_houses, crossings_of};
 
