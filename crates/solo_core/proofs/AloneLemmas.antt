@@ -21,8 +21,7 @@ decided_by_all n sets all = record {
 }
   where
     by : (b struck : Bool) → (b ≡ true → struck ≡ false) → b ≡ (b && not struck)
-    by true struck shown = rw (shown refl) refl
-    by false struck shown = refl
+    by b struck shown = grind arith
 
 -- the last number below n that passes
 pub last : ℕ → (ℕ → Bool) → ℕ
@@ -46,15 +45,11 @@ unfolding last
 last-below zero passes some = absurd (omega arith)
 last-below (suc n) passes some = by (passes n) (λ m. last-below n passes m)
   where
-    above : (n : ℕ) → (n ≡ 0 → ⊥) → 0 < n
-    above zero some = absurd (some refl)
-    above (suc n) some = omega arith
-
     by : (b : Bool) → (0 < n → last n passes < n) → cond b n (last n passes) < suc n
     by true below = omega arith
     by false below = elim (cases_eq n 0) [
       | inl e ↦ rw e (omega arith)
-      | inr ne ↦ let lt = below (above n ne) in omega arith
+      | inr ne ↦ let lt = below (omega arith) in omega arith
     ]
 
 -- cells that are alone, and others with a choice of different values

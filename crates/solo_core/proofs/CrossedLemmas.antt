@@ -1,7 +1,8 @@
 -- Crossings, as their places are added.
 use Rattle.std.proofs.Common.{◌≡◌, ℕ, ◌+◌, ◌<◌, ◌≤◌, Bool, true, false, not, ◌||◌, eqb, List, [], ◌∷◌, ◌++◌, length, get_or, slice_index, take, refl, sym, ap, ◌∙◌, append_assoc, inl, inr, subst, ltb, leb, ◌&&◌, arith}
 use Rattle.std.specs.List.{filter}
-use Rattle.std.proofs.lemmas.Bool.{cases_Bool, cases_eq, cases_lt, lt-ltb, le-ltb, true≢false, false_from_ne_true, eq-eqb, ne_eqb}
+use Rattle.std.proofs.lemmas.Bool.{cases_lt, lt-ltb, le-ltb}
+use Rattle.std.proofs.lemmas.Bool.Decides.{nat_tests}
 use Rattle.std.proofs.lemmas.List.{take_more, get_or-map, length-map, append-nil}
 use Rattle.std.proofs.Math.Seq.{take-length}
 use Rattle.std.proofs.lemmas.List.Elements.{filter-append}
@@ -18,7 +19,6 @@ use Rattle.engine_core.specs.Sets.{has_bit}
 use Rattle.engine_core.specs.House.{IsDecided}
 use Rattle.std.proofs.Math.Path.{fun_ext}
 use Rattle.solo_core.specs.Crossing.{strikes_by_crossing, in_block_alone, in_line_alone, crossing}
-use Rattle.solo_core.specs.HouseLaws.{Lists, listed-has}
 use Rattle.solo_core.specs.Work.{all_places}
 
 -- one place of a line is tested
@@ -48,30 +48,11 @@ module _ (test : ℕ → Bool) (old : Listed) (places : List ℕ) where
 -- one bit more of what is shared
 module _ (bits new is : ℕ → Bool) (k : ℕ) (on : Bool) (bit : (v : ℕ) → new v ≡ (bits v || (on && eqb v k))) (on_is : on ≡ is k)
     (below : (j : ℕ) → j < k → bits j ≡ is j) (above : (j : ℕ) → k ≤ j → bits j ≡ false) where
-  other : (j : ℕ) → (j ≡ k → ⊥) → new j ≡ bits j
-  other j ne = bit j ∙ rw (ne_eqb j k ne) (off (bits j) on)
-    where
-      off : (a b : Bool) → (a || (b && false)) ≡ a
-      off true true = refl
-      off true false = refl
-      off false true = refl
-      off false false = refl
-
-  here : new k ≡ is k
-  here = bit k ∙ rw (above k (omega arith), eq-eqb k k refl) (same on) ∙ on_is
-    where
-      same : (b : Bool) → (false || (b && true)) ≡ b
-      same true = refl
-      same false = refl
-
   pub shared-below : (j : ℕ) → j < k + 1 → new j ≡ is j
-  shared-below j lt = elim (cases_eq j k) [
-    | inl e ↦ ap new e ∙ here ∙ ap is (sym e)
-    | inr ne ↦ other j ne ∙ below j (omega arith)
-  ]
+  shared-below j lt = let b = bit j in let under = below j in let none = above j in grind (arith, nat_tests)
 
   pub shared-above : (j : ℕ) → k + 1 ≤ j → new j ≡ false
-  shared-above j le = other j (λ e. absurd (omega arith)) ∙ above j (omega arith)
+  shared-above j le = let b = bit j in let none = above j in grind (arith, nat_tests)
 
 -- the block outside the line, by a number and bits
 pub same_part : (n bits : ℕ) (block line : List ℕ) → length block ≡ n → ((k : ℕ) → k < n → has_bit bits k ≡ has_place line (slice_index block k))

@@ -14,10 +14,6 @@ use Rattle.solo_core.proofs.PairedFillings.{shown_by_pairing, pairing_of_filling
 use Rattle.solo_core.specs.NoRepeatLaws.{none_missed}
 use Rattle.solo_core.proofs.Marks.{none_in_zero}
 
-pub and_true : (b : Bool) → b ≡ (b && true)
-and_true true = refl
-and_true false = refl
-
 -- ---- what is peeled
 pub pairing_peeled : (n : ℕ) (old new mates : List ℕ) → IsPeeled n old new → IsPairing (has_in old) (length old) n mates → IsPairing (has_in new) (length new) n mates
 pairing_peeled n old new mates e p = rw e.as_many (record {

@@ -27,10 +27,7 @@ or_four P false false false d f g h i on = i on
 
 or_stays : (a b c d a' b' c' d' : Bool) → (a ≡ true → (a' || c') ≡ true) → (b ≡ true → (b' || d') ≡ true) → (c ≡ true → c' ≡ true) → (d ≡ true → d' ≡ true)
     → (a || (b || (c || d))) ≡ true → (a' || (b' || (c' || d'))) ≡ true
-or_stays a b c d true b' c' d' f g h i on = refl
-or_stays a b c d false true c' d' f g h i on = refl
-or_stays a b c d false false true d' f g h i on = refl
-or_stays a b c d false false false d' f g h i on = or_four (d' ≡ true) a b c d (λ e. absurd (true≢false (sym (f e)))) g (λ e. absurd (true≢false (sym (h e)))) i on
+or_stays a b c d a' b' c' d' f g h i on = grind arith
 
 -- ---- smaller sets
 module _ (cells values : ℕ) (at at' : Has) (down : (k v : ℕ) → at' k v ≡ true → at k v ≡ true) where

@@ -1,11 +1,10 @@
-use Rattle.std.proofs.Common.{ℕ, zero, suc, ◌≡◌, ◌<◌, eqb, false, true≢false, refl, sym, ◌∙◌, slice_index, arith}
-use Rattle.std.proofs.lemmas.Bool.{eq-eqb}
+use Rattle.std.proofs.Common.{ℕ, ◌≡◌, ◌<◌, eqb, false, sym, ◌∙◌, slice_index, arith}
+use Rattle.std.proofs.lemmas.Bool.Decides.{nat_tests}
 use Rattle.solo_core.proofs.TurningLemmas.{after-root, before-root, in_ends}
 use Rattle.solo_core.proofs.turning.lie_on_rounds.Goals as goal
 
 some_of : (n : ℕ) → eqb n 0 ≡ false → 0 < n
-some_of zero off = absurd (true≢false (sym (eq-eqb 0 0 refl) ∙ off))
-some_of (suc n) off = omega arith
+some_of n off = grind (arith, nat_tests)
 
 pub loop-turn-init : goal.loop-turn-init
 loop-turn-init c =
