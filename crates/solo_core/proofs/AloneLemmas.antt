@@ -1,7 +1,8 @@
 -- A house whose cells are alone, but for some that have a choice of different values.
-use Rattle.std.proofs.Common.{◌≡◌, ℕ, zero, suc, ◌<◌, Bool, true, false, not, ◌&&◌, cond, List, length, slice_index, map, refl, sym, ap, ◌∙◌, inl, inr, arith}
+use Rattle.std.proofs.Common.{◌≡◌, ℕ, zero, suc, ◌<◌, Bool, true, false, cond, List, length, slice_index, map, refl, sym, ap, ◌∙◌, inl, inr, arith}
 use Rattle.std.specs.List.{range_with_len}
 use Rattle.std.proofs.lemmas.Bool.{cases_Bool, cases_eq, true≢false}
+use Rattle.std.proofs.lemmas.Bool.Decides.{nat_tests}
 use Rattle.std.proofs.lemmas.List.FromFn.{get_or-map-range_with_len, length-map-range_with_len}
 use Rattle.engine_core.specs.Filling.{strikes_by_fillings}
 use Rattle.engine_core.specs.House.{IsDecided}
@@ -15,13 +16,7 @@ use Rattle.solo_core.proofs.PairedFillings.{shown_by_pairing}
 -- where no value is struck, the sets are kept
 pub decided_by_all : (n : ℕ) (sets : List ℕ) → ((k v : ℕ) → k < length sets → v < n → has_in sets k v ≡ true → is_struck n sets k v ≡ false)
     → IsDecided n (strikes_by_fillings no_repeat) sets sets
-decided_by_all n sets all = record {
-  as_many = refl;
-  bits = λ k v lk lv. by (has_in sets k v) (is_struck n sets k v) (λ on. all k v lk lv on);
-}
-  where
-    by : (b struck : Bool) → (b ≡ true → struck ≡ false) → b ≡ (b && not struck)
-    by b struck shown = grind arith
+decided_by_all n sets all = record { as_many = refl; bits = λ k v lk lv. let shown = all k v lk lv in grind arith }
 
 -- the last number below n that passes
 pub last : ℕ → (ℕ → Bool) → ℕ
@@ -31,26 +26,13 @@ last (suc n) passes = cond (passes n) n (last n passes)
 pub last-passes : (n : ℕ) (passes : ℕ → Bool) (v : ℕ) → v < n → passes v ≡ true → passes (last n passes) ≡ true
 unfolding last
 last-passes zero passes v lt on = absurd (omega arith)
-last-passes (suc n) passes v lt on = by (passes n) refl (λ low. last-passes n passes v low on)
-  where
-    by : (b : Bool) → passes n ≡ b → (v < n → passes (last n passes) ≡ true) → passes (cond b n (last n passes)) ≡ true
-    by true e below = e
-    by false e below = elim (cases_eq v n) [
-      | inl same ↦ absurd (true≢false (sym on ∙ ap passes same ∙ e))
-      | inr ne ↦ below (omega arith)
-    ]
+last-passes (suc n) passes v lt on = let below = last-passes n passes v in grind (arith, nat_tests)
 
 pub last-below : (n : ℕ) (passes : ℕ → Bool) → 0 < n → last n passes < n
 unfolding last
 last-below zero passes some = absurd (omega arith)
-last-below (suc n) passes some = by (passes n) (λ m. last-below n passes m)
-  where
-    by : (b : Bool) → (0 < n → last n passes < n) → cond b n (last n passes) < suc n
-    by true below = omega arith
-    by false below = elim (cases_eq n 0) [
-      | inl e ↦ rw e (omega arith)
-      | inr ne ↦ let lt = below (omega arith) in omega arith
-    ]
+last-below (suc zero) passes some = grind (arith, nat_tests)
+last-below (suc (suc n)) passes some = let below = last-below (suc n) passes (omega arith) in grind (arith, nat_tests)
 
 -- cells that are alone, and others with a choice of different values
 module _ (n : ℕ) (sets : List ℕ) (cells : ℕ) (alone : AreAlone n sets cells) (choice : ℕ → ℕ)

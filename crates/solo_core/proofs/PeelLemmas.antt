@@ -1,6 +1,8 @@
 -- Striking the value of a cell that has one alone from the other cells takes no filling away.
-use Rattle.std.proofs.Common.{◌≡◌, ℕ, ◌+◌, ◌<◌, ◌≤◌, ◌⊎◌, Bool, true, false, not, ◌&&◌, ◌||◌, eqb, List, map, length, slice_index, refl, sym, ap, ◌∙◌, inl, inr, arith}
-use Rattle.std.proofs.lemmas.Bool.{cases_Bool, cases_eq, cases_lt, and_from, eq-eqb, eqb-true, or_cases, or_left, or_right, true≢false, false_from_ne_true}
+use Rattle.std.proofs.Common.{◌≡◌, ℕ, ◌+◌, ◌<◌, ◌⊎◌, Bool, true, false, not, ◌&&◌, ◌||◌, eqb, List, map, length, slice_index, refl, sym, ap, ◌∙◌, inl, inr, arith}
+use Rattle.std.proofs.lemmas.Bool.{cases_Bool, cases_eq, eq-eqb, eqb-true, true≢false, false_from_ne_true}
+use Rattle.std.proofs.lemmas.Bool.Decides.{nat_tests}
+use Rattle.std.proofs.Math.Bool.{and-false}
 use Rattle.engine_core.specs.Filling.{strikes_by_fillings}
 use Rattle.engine_core.specs.FillingLaws.{shown_from_test}
 use Rattle.engine_core.specs.House.{IsDecided}
@@ -70,34 +72,18 @@ pub counts-more : (sets : List ℕ) (first some single shared some' single' shar
     → ((v : ℕ) → has_bit shared' v ≡ (has_bit shared v || (has_bit some v && has_in sets first v)))
     → AreCounts sets (first + 1) some' single' shared'
 counts-more sets first some single shared some' single' shared' c a b d = record {
-  has = λ j v lj on. a v ∙ elim (cases_eq j first) [
-    | inl e ↦ or_right (has_bit some v) (has_in sets first v) (ap (λ (j : ℕ). has_in sets j v) (sym e) ∙ on)
-    | inr ne ↦ or_left (has_bit some v) (has_in sets first v) (c.has j v (omega arith) on)
-  ];
+  has = λ j v lj on. let e = a v in let h = c.has j v in grind (arith, nat_tests);
   singles = λ v on. elim (b v on) [
     | inl was ↦ let w = c.singles v was in (w.0, omega (arith, w.1), w.2)
     | inr new ↦ (first, omega arith, new)
   ];
-  shares = λ j k v lt lk on_j on_k. d v ∙ elim (cases_eq k first) [
-    | inl e ↦ or_right (has_bit shared v) (has_bit some v && has_in sets first v)
-        (and_from (has_bit some v) (has_in sets first v) (c.has j v (omega arith) on_j) (ap (λ (j : ℕ). has_in sets j v) (sym e) ∙ on_k))
-    | inr ne ↦ or_left (has_bit shared v) (has_bit some v && has_in sets first v) (c.shares j k v lt (omega arith) on_j on_k)
-  ];
+  shares = λ j k v lt lk on_j on_k. let e = d v in let h = c.has j v in let s = c.shares j k v lt in grind (arith, nat_tests);
 }
 
 -- what is dropped, no pairing has: each value has a cell, and a cell with one value alone has it
 module _ (n : ℕ) (old : List ℕ) (square : length old ≡ n) (some single shared : ℕ) (c : AreCounts old (length old) some single shared) where
   shares : (j k v : ℕ) → j < length old → k < length old → (j ≡ k → ⊥) → has_in old j v ≡ true → has_in old k v ≡ true → has_bit shared v ≡ true
-  shares j k v lj lk ne on_j on_k = elim (cases_lt j k) [
-    | inl low ↦ c.shares j k v low lk on_j on_k
-    | inr high ↦ c.shares k j v (by high) lj on_k on_j
-  ]
-    where
-      by : k ≤ j → k < j
-      by high = elim (cases_eq j k) [
-        | inl e ↦ absurd (ne e)
-        | inr apart ↦ omega arith
-      ]
+  shares j k v lj lk ne on_j on_k = let a = c.shares j k v in let b = c.shares k j v in grind arith
 
   not_dropped : (mates : List ℕ) → IsPairing (has_in old) (length old) n mates → (k : ℕ) → k < length old
       → IsDropped n single shared (slice_index old k) (slice_index mates k) → ⊥
@@ -142,9 +128,9 @@ module _ (n : ℕ) (old : List ℕ) (square : length old ≡ n) (some single sha
       }
 
 pub alone-more : (n : ℕ) (sets : List ℕ) (cells more cell : ℕ) → AreAlone n sets cells → IsAlone n sets cell → ((k : ℕ) → has_bit more k ≡ (has_bit cells k || eqb k cell)) → AreAlone n sets more
-alone-more n sets cells more cell alone a bit k lk on = elim (or_cases (has_bit cells k) (eqb k cell) (sym (bit k) ∙ on)) [
-  | inl was ↦ alone k lk was
-  | inr here ↦ rw (sym (eqb-true k cell here)) at a
+alone-more n sets cells more cell alone a bit k lk on = elim (cases_eq k cell) [
+  | inl e ↦ rw e a
+  | inr ne ↦ alone k lk (let b = bit k in grind (arith, nat_tests))
 ]
 
 -- ---- what is decided of the peeled sets is decided of the sets
@@ -163,14 +149,10 @@ decided_by_peeled n sets peeled kept e d = record {
         let has : has_in peeled k v ≡ true = rw w.1.has_it at (e.keeps w.0 p k lk) in
         let shown : is_struck n peeled k v ≡ false = rw w.1.has_it at (shown_by_pairing peeled n w.0 q k) in
         rw (has, shown, e.inside k v lk has, is) refl
-    same k v lk true is = rw is (nothing (has_in peeled k v) (is_struck n peeled k v) refl ∙ sym (none (has_in sets k v)))
+    same k v lk true is = rw is (nothing (has_in peeled k v) (is_struck n peeled k v) refl ∙ sym (and-false (has_in sets k v)))
       where
-        none : (b : Bool) → (b && false) ≡ false
-        none true = refl
-        none false = refl
-
         nothing : (has struck : Bool) → is_struck n peeled k v ≡ struck → (has && not struck) ≡ false
-        nothing has true other = none has
+        nothing has true other = and-false has
         nothing has false other =
             let w = shown_from_test no_repeat (map (set_of_bits n) peeled) k v other in
             let p = pairing_whole n sets peeled w.0 e (pairing_of_filling peeled n k v w.0 w.1) in

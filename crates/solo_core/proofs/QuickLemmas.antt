@@ -1,6 +1,7 @@
 -- A pairing goes on by a cell with a free value, or with the value of another cell that has a free one.
 use Rattle.std.proofs.Common.{◌≡◌, ℕ, ◌+◌, ◌<◌, true, false, true≢false, eqb, cond, List, length, slice_index, refl, sym, ap, ◌∙◌, inl, inr, arith}
 use Rattle.std.proofs.lemmas.Bool.{cases_eq, eq-eqb, ne_eqb, false_from_ne_true}
+use Rattle.std.proofs.lemmas.Bool.Decides.{nat_tests}
 use Rattle.engine_core.specs.Sets.{has_bit}
 use Rattle.solo_core.specs.Deciding.{has_in}
 use Rattle.solo_core.specs.Peeled.{IsPaired}
@@ -31,28 +32,10 @@ module _ (n : ℕ) (sets rest : List ℕ) where
       → new k < n → has_in sets (slice_index rest k) (new k) ≡ true → ((l : ℕ) → l < k → mate l ≡ new k → ⊥)
       → ((v : ℕ) → has_bit left v ≡ true → has_bit free v ≡ true) → has_bit left (new k) ≡ false → IsBegun n sets rest (k + 1) new left
   given k mate new free left b same low has apart inside off = record {
-    in_range = λ l lt. elim (cases_eq l k) [
-      | inl e ↦ rw e low
-      | inr ne ↦ rw (same l (omega arith)) (b.in_range l (omega arith))
-    ];
-    joined = λ l lt. elim (cases_eq l k) [
-      | inl e ↦ rw e has
-      | inr ne ↦ rw (same l (omega arith)) (b.joined l (omega arith))
-    ];
-    own = λ l m lt lm is. elim (cases_eq l k) [
-      | inl e ↦ elim (cases_eq m k) [
-        | inl d ↦ omega arith
-        | inr nd ↦ absurd (apart m (omega arith) (sym (same m (omega arith)) ∙ sym is ∙ ap new e))
-      ]
-      | inr ne ↦ elim (cases_eq m k) [
-        | inl d ↦ absurd (apart l (omega arith) (sym (same l (omega arith)) ∙ is ∙ ap new d))
-        | inr nd ↦ b.own l m (omega arith) (omega arith) (sym (same l (omega arith)) ∙ is ∙ same m (omega arith))
-      ]
-    ];
-    taken = λ l lt. elim (cases_eq l k) [
-      | inl e ↦ rw e off
-      | inr ne ↦ false_from_ne_true (has_bit left (new l)) (λ on. true≢false (sym (inside (new l) on) ∙ ap (has_bit free) (same l (omega arith)) ∙ b.taken l (omega arith)))
-    ];
+    in_range = λ l lt. let s = same l in let r = b.in_range l in grind arith;
+    joined = λ l lt. let s = same l in let r = b.joined l in grind arith;
+    own = λ l m lt lm is. let s = same l in let t = same m in let x = apart l in let y = apart m in let o = b.own l m in grind arith;
+    taken = λ l lt. let s = same l in let t = b.taken l in let i = inside (new l) in grind (arith, nat_tests);
   }
 
   pub goes_on_free : (k : ℕ) (mate new : ℕ → ℕ) (free value : ℕ) → IsBegun n sets rest k mate free → ((l : ℕ) → l < k → new l ≡ mate l) → new k ≡ value
@@ -83,35 +66,14 @@ module _ (n : ℕ) (sets rest : List ℕ) where
 
     begun : (left : ℕ) → ((v : ℕ) → has_bit left v ≡ true → has_bit free v ≡ true) → has_bit left value ≡ false → IsBegun n sets rest k changed left
     begun left inside off = record {
-      in_range = λ l lt. elim (cases_eq l j) [
-        | inl e ↦ rw (e, changed-here) low
-        | inr ne ↦ rw (changed-other l ne) (b.in_range l lt)
-      ];
-      joined = λ l lt. elim (cases_eq l j) [
-        | inl e ↦ rw (e, changed-here) has
-        | inr ne ↦ rw (changed-other l ne) (b.joined l lt)
-      ];
-      own = λ l m lt lm is. elim (cases_eq l j) [
-        | inl e ↦ elim (cases_eq m j) [
-          | inl d ↦ e ∙ sym d
-          | inr nd ↦ absurd (no_free m lm (sym (changed-other m nd) ∙ sym is ∙ ap changed e ∙ changed-here))
-        ]
-        | inr ne ↦ elim (cases_eq m j) [
-          | inl d ↦ absurd (no_free l lt (sym (changed-other l ne) ∙ is ∙ ap changed d ∙ changed-here))
-          | inr nd ↦ b.own l m lt lm (sym (changed-other l ne) ∙ is ∙ changed-other m nd)
-        ]
-      ];
-      taken = λ l lt. elim (cases_eq l j) [
-        | inl e ↦ rw (e, changed-here) off
-        | inr ne ↦ false_from_ne_true (has_bit left (changed l)) (λ on. true≢false (sym (inside (changed l) on) ∙ ap (has_bit free) (changed-other l ne) ∙ b.taken l lt))
-      ];
+      in_range = λ l lt. let e = changed-other l in let h = changed-here in let r = b.in_range l in grind (arith, nat_tests);
+      joined = λ l lt. let e = changed-other l in let h = changed-here in let r = b.joined l in grind (arith, nat_tests);
+      own = λ l m lt lm is. let e = changed-other l in let f = changed-other m in let h = changed-here in let x = no_free l in let y = no_free m in let o = b.own l m in grind (arith, nat_tests);
+      taken = λ l lt. let e = changed-other l in let h = changed-here in let t = b.taken l in let i = inside (changed l) in grind (arith, nat_tests);
     }
 
     apart : (l : ℕ) → l < k → changed l ≡ mate j → ⊥
-    apart l lt e = elim (cases_eq l j) [
-      | inl same ↦ no_free j lj (sym e ∙ ap changed same ∙ changed-here)
-      | inr ne ↦ ne (b.own l j lt lj (sym (changed-other l ne) ∙ e))
-    ]
+    apart l lt e = let c = changed-other l in let h = changed-here in let x = no_free j lj in let o = b.own l j lt lj in grind arith
 
     pub goes_on_swapped : (new : ℕ → ℕ) → new k ≡ mate j → new j ≡ value → ((l : ℕ) → l < k → (l ≡ j → ⊥) → new l ≡ mate l)
         → has_in sets (slice_index rest k) (mate j) ≡ true → GoesOn n sets rest k new free value

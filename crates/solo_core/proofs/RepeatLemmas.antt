@@ -1,7 +1,8 @@
 -- What a house that holds a number twice says of the grid, and what a house that does not rules out.
 use Rattle.std.proofs.Common.{◌≡◌, ℕ, suc, ◌+◌, ◌<◌, ◌≤◌, true, false, not, ◌||◌, eqb, List, [], ◌∷◌, length, get_or, slice_index, Some, sym, ap, ◌∙◌, inl, inr, arith}
 use Rattle.std.specs.List.{list_any}
-use Rattle.std.proofs.lemmas.Bool.{cases_eq, and_cases, or_cases, or_left, or_right, eqb-true, eq-eqb, true≢false, not-false, false_from_ne_true}
+use Rattle.std.proofs.lemmas.Bool.{cases_eq, and_cases, or_cases, eqb-true, true≢false, not-false, false_from_ne_true}
+use Rattle.std.proofs.lemmas.Bool.Decides.{nat_tests}
 use Rattle.std.proofs.lemmas.List.{get_or-map, length-map, get_or_default}
 use Rattle.engine_core.specs.Sets.{has_bit}
 use Rattle.engine_core.proofs.BitLemmas.{bits-of_zero}
@@ -65,14 +66,8 @@ module _ (xs : List ℕ) (k seen number : ℕ) (h : HasSeen xs k seen) (is : num
       | inl before ↦ let w = h.shown v before in (w.0, omega (arith, w.1), w.2)
       | inr here ↦ (k, omega arith, sym (eqb-true v number here ∙ is))
     ];
-    noted = λ i lt. each (get_or xs i 0) ∙ elim (cases_eq i k) [
-      | inl e ↦ or_right (has_bit seen (get_or xs i 0)) (eqb (get_or xs i 0) number) (eq-eqb (get_or xs i 0) number (ap (λ j. get_or xs j 0) e ∙ sym is))
-      | inr ne ↦ or_left (has_bit seen (get_or xs i 0)) (eqb (get_or xs i 0) number) (h.noted i (omega arith))
-    ];
-    different = λ i j low below same. elim (cases_eq j k) [
-      | inl e ↦ true≢false (sym (h.noted i (omega arith)) ∙ ap (has_bit seen) (same ∙ ap (λ m. get_or xs m 0) e ∙ sym is) ∙ off)
-      | inr ne ↦ h.different i j low (omega arith) same
-    ];
+    noted = λ i lt. let e = each (get_or xs i 0) in let n = h.noted i in grind (arith, nat_tests);
+    different = λ i j low below same. let n = h.noted i in let d = h.different i j low in grind (arith, nat_tests);
   }
 
   pub seen_again : k < length xs → has_bit seen number ≡ true → false ≡ no_repeat xs
@@ -149,6 +144,6 @@ pub fine_more : (p : Solo) (g : List ℕ) (k : ℕ) (house : SoloHouse) → k < 
     → ((h : ℕ) (d : SoloHouse) → h < k → no_repeat (numbers_of p g (get_or (houses_of p) h d)) ≡ true)
     → (h : ℕ) (d : SoloHouse) → h < k + 1 → no_repeat (numbers_of p g (get_or (houses_of p) h d)) ≡ true
 fine_more p g k house lt is holds below h d lh = elim (cases_eq h k) [
-  | inl e ↦ ap (λ z. no_repeat (numbers_of p g z)) (ap (λ i. get_or (houses_of p) i d) e ∙ get_or_default (houses_of p) k d house lt ∙ sym is) ∙ holds
+  | inl e ↦ rw (e, get_or_default (houses_of p) k d house lt, ← is) holds
   | inr ne ↦ below h d (omega arith)
 ]

@@ -2,7 +2,7 @@
 -- different numbers they strike nothing, and a second visit strikes nothing more.
 use Rattle.std.proofs.Common.{◌≡◌, ℕ, ◌+◌, ◌-◌, ◌<◌, ◌≤◌, Bool, true, false, not, ◌&&◌, true≢false, List, [], map, length, get_or, slice_index, refl, sym, ap, ◌∙◌, inl, inr, arith, length-append}
 use Rattle.std.specs.List.{filter}
-use Rattle.std.proofs.lemmas.Bool.{cases_Bool, cases_lt, and_parts, and_from, or_cases, or_left, or_right, eq-eqb, not-true, not_from_false, false_from_ne_true, ltb-true, leb-true, lt-ltb, le-leb}
+use Rattle.std.proofs.lemmas.Bool.{cases_lt, and_parts, and_from, or_cases, or_left, or_right, eq-eqb, not-true, not_from_false, false_from_ne_true, ltb-true, leb-true, lt-ltb, le-leb}
 use Rattle.std.proofs.lemmas.List.{get_or-map, length-map, get_or_append_left, get_or-append_right}
 use Rattle.grid_core.proofs.CandidateLemmas.{any_below-here, any_below-some}
 use Rattle.engine_core.specs.Puzzle.{has_place}
@@ -29,8 +29,8 @@ module _ (block line : ℕ → Bool) where
   two_cases : (P : Type 0) (sets : List Set) (k v : ℕ) → (line k ≡ true → has_in_part block sets v ≡ false → P) → (block k ≡ true → has_in_part line sets v ≡ false → P)
       → strikes_by_crossing block line sets k v ≡ true → P
   two_cases P sets k v a b on = elim (or_cases (line k && not (has_in_part block sets v)) (block k && not (has_in_part line sets v)) on) [
-    | inl l ↦ let w = and_parts (line k) (not (has_in_part block sets v)) l in a w.0 (not-true (has_in_part block sets v) w.1)
-    | inr r ↦ let w = and_parts (block k) (not (has_in_part line sets v)) r in b w.0 (not-true (has_in_part line sets v) w.1)
+    | inl l ↦ a (grind arith) (grind arith)
+    | inr r ↦ b (grind arith) (grind arith)
   ]
 
   pub crossing-monotone : IsMonotone (strikes_by_crossing block line)
@@ -68,10 +68,7 @@ module _ (block line : ℕ → Bool) where
           (w.0, not-true (strikes_by_crossing block line old k v) w.1)
 
       unstruck : (mine other : ℕ → Bool) → mine k ≡ true → ((mine k && not (has_in_part other old v)) ≡ true → strikes_by_crossing block line old k v ≡ true) → has_in_part other old v ≡ true
-      unstruck mine other here struck = elim (cases_Bool (has_in_part other old v)) [
-        | inl has ↦ has
-        | inr none ↦ absurd (true≢false (sym (struck (and_from (mine k) (not (has_in_part other old v)) here (not_from_false (has_in_part other old v) none))) ∙ was.1))
-      ]
+      unstruck mine other here struck = let w = was.1 in grind arith
 
       gone : (part : ℕ → Bool) → has_in_part part old v ≡ true → has_in_part block old v ≡ true → has_in_part line old v ≡ true → has_in_part part new v ≡ false → ⊥
       gone part had in_block in_line none =

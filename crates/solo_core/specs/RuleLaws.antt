@@ -1,8 +1,9 @@
 -- The laws that every rule set keeps to, for the rule sets of Solo.
-use Rattle.std.proofs.Common.{◌≡◌, ℕ, ◌+◌, ◌*◌, ◌/◌, ◌%◌, ◌<◌, Bool, true, false, eqb, ltb, inl, inr, ap, List, ◌++◌, map, length, get_or, slice_index, sym, ◌∙◌, arith}
+use Rattle.std.proofs.Common.{◌≡◌, ℕ, ◌+◌, ◌*◌, ◌/◌, ◌%◌, ◌<◌, Bool, true, false, ltb, List, ◌++◌, map, length, get_or, slice_index, sym, ◌∙◌, arith}
 use Rattle.std.specs.Prelude.{All}
 use Rattle.std.specs.List.{range_with_len}
-use Rattle.std.proofs.lemmas.Bool.{cases_eq, and_parts, and_from, or_left, or_right, eq-eqb, lt-ltb, ltb-true, true≢false}
+use Rattle.std.proofs.lemmas.Bool.{and_parts, ltb-true, true≢false}
+use Rattle.std.proofs.lemmas.Bool.Decides.{nat_tests}
 use Rattle.std.proofs.lemmas.Nat.{mul-le}
 use Rattle.std.proofs.lemmas.List.{get_or-map, length-map}
 use Rattle.std.proofs.lemmas.List.Elements.{All-append, All-map}
@@ -39,12 +40,8 @@ module _ (p : Solo) (ok : IsSolo p) where
       let w = single-is g c v here in
       let lt : c < solo_cells p = let e = grid.each_cell in omega arith in
       let small : slice_index g c < solo_n p = grid.each_value c 0 w.0 in
-      and_from (ltb c (solo_cells p)) _ (lt-ltb c (solo_cells p) lt)
-      (and_from (ltb v (solo_n p)) _ (lt-ltb v (solo_n p) (let e = w.1 in omega arith)) (elim (cases_eq (slice_index p.givens c) 0) [
-        | inl blank ↦ or_left (eqb (slice_index p.givens c) 0) (eqb (v + 1) (slice_index p.givens c)) (eq-eqb (slice_index p.givens c) 0 blank)
-        | inr given ↦ or_right (eqb (slice_index p.givens c) 0) (eqb (v + 1) (slice_index p.givens c))
-            (eq-eqb (v + 1) (slice_index p.givens c) (ap (λ u. u + 1) (sym w.1) ∙ (rule_from_test p ok g grid on).givens c lt (omega arith)))
-      ]))
+      let given = (rule_from_test p ok g grid on).givens c lt in
+      grind (arith, nat_tests, w.1)
 
   within_start : IsWithin (solo_cells p) (solo_n p) (start p)
   unfolding start

@@ -1,7 +1,8 @@
 -- Laws of solutions: the test of a grid, house by house, is the rule.
-use Rattle.std.proofs.Common.{◌≡◌, ℕ, ◌+◌, ◌<◌, ◌≤◌, Bool, true, eqb, List, map, get_or, slice_index, sym, ap, ◌∙◌, inl, inr, arith}
+use Rattle.std.proofs.Common.{◌≡◌, ℕ, ◌+◌, ◌<◌, ◌≤◌, Bool, true, List, map, get_or, slice_index, sym, ap, ◌∙◌, arith}
 use Rattle.std.specs.List.{list_all}
-use Rattle.std.proofs.lemmas.Bool.{cases_eq, eq-eqb, eqb-true, or_cases, or_left, or_right, and_parts, and_from}
+use Rattle.std.proofs.lemmas.Bool.{and_parts, and_from}
+use Rattle.std.proofs.lemmas.Bool.Decides.{nat_tests}
 use Rattle.std.proofs.lemmas.List.{get_or-map, length-map}
 use Rattle.grid_core.specs.Candidates.{all_below}
 use Rattle.grid_core.specs.Grids.{IsGrid}
@@ -18,17 +19,10 @@ use Rattle.solo_core.specs.Solutions.{IsSoloSolution, given_stands, numbers_of, 
 
 -- ---- a given stands
 pub given_from_test : (p : Solo) (g : List ℕ) (place : ℕ) → given_stands p g place ≡ true → 1 ≤ slice_index p.givens place → slice_index g place + 1 ≡ slice_index p.givens place
-given_from_test p g place on some = elim (or_cases (eqb (slice_index p.givens place) 0) (eqb (slice_index g place + 1) (slice_index p.givens place)) on) [
-  | inl blank ↦ let e = eqb-true (slice_index p.givens place) 0 blank in absurd (omega arith)
-  | inr same ↦ eqb-true (slice_index g place + 1) (slice_index p.givens place) same
-]
+given_from_test p g place on some = grind (arith, nat_tests)
 
 pub test_from_given : (p : Solo) (g : List ℕ) (place : ℕ) → (1 ≤ slice_index p.givens place → slice_index g place + 1 ≡ slice_index p.givens place) → given_stands p g place ≡ true
-test_from_given p g place stands = elim (cases_eq (slice_index p.givens place) 0) [
-  | inl blank ↦ or_left (eqb (slice_index p.givens place) 0) (eqb (slice_index g place + 1) (slice_index p.givens place)) (eq-eqb (slice_index p.givens place) 0 blank)
-  | inr some ↦ or_right (eqb (slice_index p.givens place) 0) (eqb (slice_index g place + 1) (slice_index p.givens place))
-      (eq-eqb (slice_index g place + 1) (slice_index p.givens place) (stands (omega arith)))
-]
+test_from_given p g place stands = grind (arith, nat_tests)
 
 -- ---- the numbers of a list of places
 module _ (places : List ℕ) (n cells : ℕ) (lies : ℕ → Bool) (l : Lists places n cells lies) where

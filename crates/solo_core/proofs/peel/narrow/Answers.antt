@@ -1,12 +1,11 @@
-use Rattle.std.proofs.Common.{◌≡◌, ℕ, Bool, true, false, not, ◌&&◌, true≢false, refl, sym, ap, ◌∙◌, bit_and, inr}
+use Rattle.std.proofs.Common.{◌≡◌, ℕ, Bool, true, false, not, ◌&&◌, true≢false, arith, sym, ap, ◌∙◌, bit_and, inr}
 use Rattle.std.proofs.lemmas.Bool.{and_parts, not-true}
 use Rattle.engine_core.specs.Sets.{has_bit}
 use Rattle.engine_core.proofs.BitLemmas.{bits-both}
 use Rattle.solo_core.proofs.peel.narrow.Goals as goal
 
 left_out : (a b d : Bool) → a ≡ true → b ≡ true → (a && (b && not d)) ≡ false → d ≡ true
-left_out a b true on all off = refl
-left_out a b false on all off = absurd (true≢false (sym (rw (on, all) refl) ∙ off))
+left_out a b d on all off = grind arith
 
 -- a bit of the set that is among all bits outside another
 in_both : (set all out rest w : ℕ) → ((v : ℕ) → has_bit rest v ≡ (has_bit all v && not (has_bit out v))) → has_bit (bit_and set rest) w ≡ true

@@ -22,10 +22,7 @@ loop-k-preserved c =
           (λ v. c.with-narrowed.ensures.some v ∙ ap (λ (b : ℕ). has_bit c.loop-k.narrowed.some v || has_bit b v) (sym here))
           (λ v on. rw here (c.with-narrowed.ensures.single v on))
           (λ v. c.with-narrowed.ensures.shared v ∙ ap (λ (b : ℕ). has_bit c.loop-k.narrowed.shared v || (has_bit c.loop-k.narrowed.some v && has_bit b v)) (sym here));
-      inside = λ j v lj on. elim (cases_eq j k) [
-        | inl e ↦ ap (λ (b : ℕ). has_bit b v) (ap old e ∙ sym was) ∙ c.narrow-set.ensures.inside v (ap (λ (b : ℕ). has_bit b v) (sym here ∙ ap (slice_index new) (sym e)) ∙ on)
-        | inr ne ↦ i.inside j v (omega arith) (ap (λ (b : ℕ). has_bit b v) (sym (there j ne)) ∙ on)
-      ];
+      inside = λ j v lj on. let t = there j in let h = i.inside j v in let g = c.narrow-set.ensures.inside v in grind arith;
       dropped = λ j v lj lv on off. elim (cases_eq j k) [
         | inl e ↦ rw (e, sym was) (c.narrow-set.ensures.dropped v lv (ap (λ (b : ℕ). has_bit b v) (was ∙ ap old (sym e)) ∙ on) (ap (λ (b : ℕ). has_bit b v) (sym here ∙ ap (slice_index new) (sym e)) ∙ off))
         | inr ne ↦ i.dropped j v (omega arith) lv on (ap (λ (b : ℕ). has_bit b v) (sym (there j ne)) ∙ off)
