@@ -1,7 +1,7 @@
 -- A house whose cells are alone, but for some that have a choice of different values.
 use Rattle.std.proofs.Common.{◌≡◌, ℕ, zero, suc, ◌<◌, Bool, true, false, cond, List, length, slice_index, map, refl, sym, ap, ◌∙◌, inl, inr, arith}
 use Rattle.std.specs.List.{range_with_len}
-use Rattle.std.proofs.lemmas.Bool.{cases_Bool, cases_eq, true≢false}
+use Rattle.std.proofs.lemmas.Bool.{cases_Bool, true≢false}
 use Rattle.std.proofs.lemmas.Bool.Decides.{nat_tests}
 use Rattle.std.proofs.lemmas.List.FromFn.{get_or-map-range_with_len, length-map-range_with_len}
 use Rattle.engine_core.specs.Filling.{strikes_by_fillings}
@@ -34,6 +34,22 @@ last-below zero passes some = absurd (omega arith)
 last-below (suc zero) passes some = grind (arith, nat_tests)
 last-below (suc (suc n)) passes some = let below = last-below (suc n) passes (omega arith) in grind (arith, nat_tests)
 
+-- a choice of values that the cells have, different but for cells that are alone, is a pairing
+pub pairing_from : (n : ℕ) (sets : List ℕ) (cells : ℕ) → AreAlone n sets cells → (mates : List ℕ) → length mates ≡ length sets
+    → ((k : ℕ) → k < length sets → (slice_index mates k < n) × (has_in sets k (slice_index mates k) ≡ true))
+    → ((k m : ℕ) → k < length sets → m < length sets → has_bit cells k ≡ false → has_bit cells m ≡ false → slice_index mates k ≡ slice_index mates m → k ≡ m)
+    → IsPairing (has_in sets) (length sets) n mates
+pairing_from n sets cells alone mates long fits different = record { len = long; in_range = λ k lk. (fits k lk).0; joined = λ k lk. (fits k lk).1; own = own }
+  where
+    -- a cell that is alone has no value of another
+    apart : (k m : ℕ) → k < length sets → m < length sets → has_bit cells k ≡ true → (m ≡ k → ⊥) → slice_index mates k ≡ slice_index mates m → ⊥
+    apart k m lk lm on ne same =
+        let a = alone k lk on in
+        true≢false (sym (fits m lm).1 ∙ ap (has_in sets m) (sym same ∙ a.only (slice_index mates k) (fits k lk).1) ∙ a.apart m lm ne)
+
+    own : (k m : ℕ) → k < length sets → m < length sets → slice_index mates k ≡ slice_index mates m → k ≡ m
+    own k m lk lm same = let a = apart k m lk lm in let b = apart m k lm lk in let d = different k m lk lm in grind arith
+
 -- cells that are alone, and others with a choice of different values
 module _ (n : ℕ) (sets : List ℕ) (cells : ℕ) (alone : AreAlone n sets cells) (choice : ℕ → ℕ)
     (fits : (k : ℕ) → k < length sets → has_bit cells k ≡ false → (choice k < n) × (has_in sets k (choice k) ≡ true))
@@ -57,11 +73,6 @@ module _ (n : ℕ) (sets : List ℕ) (cells : ℕ) (alone : AreAlone n sets cell
     | inr off ↦ rw (put-other k off) (fits k lk off)
   ]
 
-  apart : (k m : ℕ) → k < length sets → m < length sets → has_bit cells k ≡ true → (m ≡ k → ⊥) → put k ≡ put m → ⊥
-  apart k m lk lm on ne same =
-      let a = alone k lk on in
-      true≢false (sym (put-fits m lm).1 ∙ ap (has_in sets m) (sym same ∙ put-alone k a.value lk on a.has) ∙ a.apart m lm ne)
-
   pub mates : List ℕ
   mates = map put (range_with_len 0 (length sets))
 
@@ -71,24 +82,8 @@ module _ (n : ℕ) (sets : List ℕ) (cells : ℕ) (alone : AreAlone n sets cell
 
   pub pairing : IsPairing (has_in sets) (length sets) n mates
   unfolding mates
-  pairing = record {
-    len = length-map-range_with_len put 0 (length sets);
-    in_range = λ k lk. rw (mates-at k lk) (put-fits k lk).0;
-    joined = λ k lk. rw (mates-at k lk) (put-fits k lk).1;
-    own = λ k m lk lm same. own k m lk lm (sym (mates-at k lk) ∙ same ∙ mates-at m lm);
-  }
-    where
-      own : (k m : ℕ) → k < length sets → m < length sets → put k ≡ put m → k ≡ m
-      own k m lk lm same = elim (cases_eq k m) [
-        | inl e ↦ e
-        | inr ne ↦ elim (cases_Bool (has_bit cells k)) [
-          | inl on ↦ absurd (apart k m lk lm on (λ e. ne (sym e)) same)
-          | inr off ↦ elim (cases_Bool (has_bit cells m)) [
-            | inl on ↦ absurd (apart m k lm lk on ne (sym same))
-            | inr off_m ↦ different k m lk lm off off_m (sym (put-other k off) ∙ same ∙ put-other m off_m)
-          ]
-        ]
-      ]
+  pairing = pairing_from n sets cells alone mates (length-map-range_with_len put 0 (length sets)) (λ k lk. rw (mates-at k lk) (put-fits k lk))
+      (λ k m lk lm off off_m same. different k m lk lm off off_m (sym (mates-at k lk ∙ put-other k off) ∙ same ∙ mates-at m lm ∙ put-other m off_m))
 
   pub shown_by_choice : (k v : ℕ) → k < length sets → put k ≡ v → is_struck n sets k v ≡ false
   shown_by_choice k v lk is = rw (mates-at k lk ∙ is) at (shown_by_pairing sets n mates pairing k)

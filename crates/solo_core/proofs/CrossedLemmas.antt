@@ -29,9 +29,6 @@ module _ (test : ℕ → Bool) (old : Listed) (places : List ℕ) where
   more : (k : ℕ) → k < length places → filter test (take (k + 1) places) ≡ filter test (take k places) ++ filter test (slice_index places k ∷ [])
   more k lt = ap (filter test) (take_more places k 0 lt) ∙ filter-append test (take k places) (slice_index places k ∷ [])
 
-  pub rest-none : IsRest 0 old
-  rest-none = rw append-nil refl
-
   pub rest-out : (k : ℕ) (list : Listed) → k < length places → test (slice_index places k) ≡ false → IsRest k list → IsRest (k + 1) list
   rest-out k list lt off was = was ∙ rw (more k lt, out) refl
     where

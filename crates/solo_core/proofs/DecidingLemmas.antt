@@ -55,15 +55,15 @@ scopes-fit settled p houses sound h lt =
     rw (scope-at houses h) (record { within = s.within; different = s.different })
 
 -- ---- what the table says of the rules
-pub scopes-next : (houses : List House) (place from : ℕ) (answer : Option ℕ)
-    → IsNext (λ h. has_place (scope_of (all_places houses) h) place) (length (all_places houses)) from answer
+pub scopes-next : (p : Solo) (houses : List House) (table : Table) → table ≡ table_of p houses → (place from : ℕ) (answer : Option ℕ)
+    → IsNext (λ h. has_place (scope_of table.scopes h) place) (length table.scopes) from answer
     → IsNext (λ h. has_place (house_of houses h).places place) (length houses) from answer
-scopes-next houses place from answer next = rw (fun_ext (λ h. ap (λ xs. has_place xs place) (scope-at houses h)), length-map houses (λ (house : House). house.places)) at next
+scopes-next p houses table listed place from answer next = rw (listed, fun_ext (λ h. ap (λ xs. has_place xs place) (scope-at houses h)), length-map houses (λ (house : House). house.places)) at next
 
-pub scopes-kth : (houses : List House) (place k : ℕ) (answer : Option ℕ)
-    → IsKth (λ h. has_place (scope_of (all_places houses) h) place) (length (all_places houses)) k answer
+pub scopes-kth : (p : Solo) (houses : List House) (table : Table) → table ≡ table_of p houses → (place k : ℕ) (answer : Option ℕ)
+    → IsKth (λ h. has_place (scope_of table.scopes h) place) (length table.scopes) k answer
     → IsKth (λ h. has_place (house_of houses h).places place) (length houses) k answer
-scopes-kth houses place k answer next = rw (fun_ext (λ h. ap (λ xs. has_place xs place) (scope-at houses h)), length-map houses (λ (house : House). house.places)) at next
+scopes-kth p houses table listed place k answer next = rw (listed, fun_ext (λ h. ap (λ xs. has_place xs place) (scope-at houses h)), length-map houses (λ (house : House). house.places)) at next
 
 bound-from-table : (values : ℕ) (houses : List House) → length (all_places houses) + sum_by length (all_places houses) * values ≡ sum_by (visits_of values) houses
 bound-from-table values [] = omega arith
@@ -100,9 +100,11 @@ left_by_visit settled p houses h old new places sets kept board is bits same dec
     decided
     (rw is at left)
 
-pub house-in : (settled : Bool) (p : Solo) (houses : List House) (h : ℕ) (places : List ℕ) → All (IsSound (setting_of settled p houses)) houses → h < length houses
-    → places ≡ (house_of houses h).places → (k : ℕ) → k < length places → slice_index places k < solo_cells p
-house-in settled p houses h places sound lt is k lk = rw is ((sound h no_house lt).within k (rw is at lk))
+pub listed-in : (settled : Bool) (p : Solo) (houses : List House) (table : Table) (h cells : ℕ) (places : List ℕ) → All (IsSound (setting_of settled p houses)) houses → table ≡ table_of p houses → h < length houses
+    → places ≡ scope_of table.scopes h → cells ≡ solo_cells p → (k : ℕ) → k < length places → slice_index places k < cells
+listed-in settled p houses table h cells places sound listed lt is same k lk =
+    let e = is ∙ table-places p houses table h listed in
+    rw (same, e) ((sound h no_house lt).within k (rw e at lk))
 
 -- ---- crossings after the houses
 pub length-deciding : (decides : Decision) (p : Solo) → length (deciding decides p) ≡ length (houses_of p)

@@ -1,7 +1,7 @@
 -- The values of the cells that are alone and the pairing of the rest make a pairing of the house.
 use Rattle.std.proofs.Common.{◌≡◌, ℕ, ◌+◌, ◌<◌, Bool, true, false, not, List, [], ◌∷◌, ◌++◌, cond, length, slice_index, sym, ap, ◌∙◌, inl, inr, arith, append-nil}
 use Rattle.std.specs.List.{range_with_len, filter}
-use Rattle.std.proofs.lemmas.Bool.{cases_Bool, cases_eq, true≢false, not-true, not_from_false}
+use Rattle.std.proofs.lemmas.Bool.{cases_Bool, true≢false, not-true, not_from_false}
 use Rattle.std.proofs.lemmas.List.{map-id}
 use Rattle.std.proofs.lemmas.List.FromFn.{map-range_with_len_more, length-range_with_len, get_or-range_with_len}
 use Rattle.std.proofs.lemmas.List.Elements.{filter-append}
@@ -13,6 +13,7 @@ use Rattle.grid_core.specs.Pairings.{IsPairing, IsShortSet}
 use Rattle.grid_core.proofs.ShortSets.{no_choice}
 use Rattle.solo_core.specs.Deciding.{has_in}
 use Rattle.solo_core.specs.Peeled.{AreAlone, rest_of}
+use Rattle.solo_core.proofs.AloneLemmas.{pairing_from}
 
 -- ---- the rest, cell by cell
 range_more : (k : ℕ) → range_with_len 0 (k + 1) ≡ range_with_len 0 k ++ k ∷ []
@@ -95,27 +96,8 @@ module _ (n : ℕ) (sets : List ℕ) (cells : ℕ) (alone : AreAlone n sets cell
         by : (i : ℕ) × (i < length others) × (slice_index others i ≡ k) → (slice_index mates k < n) × (has_in sets k (slice_index mates k) ≡ true)
         by (i, li, is) = rw (sym (ap (slice_index mates) is) ∙ at_rest i li) (p.in_range i li, rw is at (p.joined i li))
 
-    -- a cell that is alone has no value of another
-    apart : (k m : ℕ) (lk : k < length sets) (on : has_bit cells k ≡ true) → m < length sets → (m ≡ k → ⊥) → slice_index mates k ≡ slice_index mates m → ⊥
-    apart k m lk on lm ne same =
-        true≢false (sym (fits m lm).1 ∙ ap (has_in sets m) (sym same ∙ alone-mate k lk on) ∙ (alone k lk on).apart m lm ne)
-
     pub whole_pairing : IsPairing (has_in sets) (length sets) n mates
-    whole_pairing = record {
-      len = as_many;
-      in_range = λ k lk. (fits k lk).0;
-      joined = λ k lk. (fits k lk).1;
-      own = λ k m lk lm same. elim (cases_eq k m) [
-        | inl e ↦ e
-        | inr ne ↦ elim (cases_Bool (has_bit cells k)) [
-          | inl on ↦ absurd (apart k m lk on lm (λ e. ne (sym e)) same)
-          | inr off ↦ elim (cases_Bool (has_bit cells m)) [
-            | inl on ↦ absurd (apart m k lm on lk ne (sym same))
-            | inr off_m ↦ by (rest-has (length sets) cells k lk off) (rest-has (length sets) cells m lm off_m) same
-          ]
-        ]
-      ];
-    }
+    whole_pairing = pairing_from n sets cells alone mates as_many fits (λ k m lk lm off off_m. by (rest-has (length sets) cells k lk off) (rest-has (length sets) cells m lm off_m))
       where
         by : {k m : ℕ} → (i : ℕ) × (i < length others) × (slice_index others i ≡ k) → (j : ℕ) × (j < length others) × (slice_index others j ≡ m) → slice_index mates k ≡ slice_index mates m → k ≡ m
         by (i, li, is) (j, lj, is_m) same =

@@ -1,10 +1,9 @@
 -- A pairing goes on by a cell with a free value, or with the value of another cell that has a free one.
-use Rattle.std.proofs.Common.{◌≡◌, ℕ, ◌+◌, ◌<◌, true, false, true≢false, eqb, cond, List, length, slice_index, refl, sym, ap, ◌∙◌, inl, inr, arith}
+use Rattle.std.proofs.Common.{◌≡◌, ℕ, ◌+◌, ◌<◌, true, false, true≢false, eqb, cond, List, slice_index, refl, sym, ap, ◌∙◌, inl, inr, arith}
 use Rattle.std.proofs.lemmas.Bool.{cases_eq, eq-eqb, ne_eqb, false_from_ne_true}
 use Rattle.std.proofs.lemmas.Bool.Decides.{nat_tests}
 use Rattle.engine_core.specs.Sets.{has_bit}
 use Rattle.solo_core.specs.Deciding.{has_in}
-use Rattle.solo_core.specs.Peeled.{IsPaired}
 use Rattle.solo_core.specs.Quick.{IsBegun, GoesOn}
 
 module _ (n : ℕ) (sets rest : List ℕ) where
@@ -14,17 +13,6 @@ module _ (n : ℕ) (sets rest : List ℕ) where
     joined = λ l lt. absurd (omega arith);
     own = λ l m lt lm same. absurd (omega arith);
     taken = λ l lt. absurd (omega arith);
-  }
-
-  pub begun-all : (mates : List ℕ) (free : ℕ) → length mates ≡ length rest → IsBegun n sets rest (length rest) (slice_index mates) free → IsPaired n sets rest mates
-  begun-all mates free len b = record { len = len; in_range = b.in_range; joined = b.joined; own = b.own }
-
-  pub paired-same : (mates new : List ℕ) → IsPaired n sets rest mates → length new ≡ length rest → ((i : ℕ) → i < length rest → slice_index new i ≡ slice_index mates i) → IsPaired n sets rest new
-  paired-same mates new p len same = record {
-    len = len;
-    in_range = λ l lt. rw (same l lt) (p.in_range l lt);
-    joined = λ l lt. rw (same l lt) (p.joined l lt);
-    own = λ l m lt lm is. p.own l m lt lm (sym (same l lt) ∙ is ∙ same m lm);
   }
 
   -- one more cell with a value that no other has

@@ -1,10 +1,11 @@
 -- Where each value of the paired cells leads to a root and back, each of them can stand in each cell that has it.
 use Rattle.std.proofs.Common.{◌≡◌, ℕ, ◌<◌, ◌⊎◌, Bool, true, false, not, bit_and, ◌&&◌, ◌||◌, eqb, List, [], ◌∷◌, ◌++◌, length, slice_index, refl, sym, ap, ◌∙◌, inl, inr, arith}
 use Rattle.std.proofs.lemmas.Bool.{cases_Bool, and_parts, or_cases, eqb-true, eq-eqb}
+use Rattle.std.proofs.lemmas.Bool.Decides.{nat_tests}
 use Rattle.engine_core.specs.Filling.{strikes_by_fillings}
 use Rattle.engine_core.specs.House.{IsDecided}
 use Rattle.engine_core.specs.Sets.{has_bit}
-use Rattle.engine_core.proofs.BitLemmas.{bits-both}
+use Rattle.engine_core.proofs.BitLemmas.{bits-both, bits-of_zero}
 use Rattle.grid_core.specs.Pairings.{IsPairing}
 use Rattle.solo_core.specs.Deciding.{has_in}
 use Rattle.solo_core.specs.NoRepeat.{no_repeat}
@@ -15,23 +16,16 @@ use Rattle.solo_core.proofs.AloneLemmas.{decided_by_all, last, last-passes, last
 use Rattle.solo_core.proofs.MateLemmas.{rest-has, rest-in, rest-different}
 use Rattle.solo_core.proofs.Turned.{shown_by_way}
 use Rattle.solo_core.proofs.WayLemmas.{way_on}
-use Rattle.solo_core.proofs.Marks.{none_in_zero}
 
 -- ---- steps
 module _ (n : ℕ) (sets rest mates : List ℕ) where
   pub after-root : (root bits : ℕ) → ((v : ℕ) → has_bit bits v ≡ (has_bit 0 v || eqb v root)) → ComesAfter n sets rest mates root bits
   unfolding IsWay
-  after-root root bits is v lv on leads f = elim (or_cases (has_bit 0 v) (eqb v root) (sym (is v) ∙ on)) [
-    | inl none ↦ absurd (none_in_zero v none)
-    | inr here ↦ ([], sym (eqb-true v root here))
-  ]
+  after-root root bits is v lv on leads f = let e = is v in ([], grind (arith, nat_tests, bits-of_zero))
 
   pub before-root : (root bits : ℕ) → root < n → ((v : ℕ) → has_bit bits v ≡ (has_bit 0 v || eqb v root)) → ComesBefore n sets rest mates root bits
   unfolding IsWay
-  before-root root bits low is v on = elim (or_cases (has_bit 0 v) (eqb v root) (sym (is v) ∙ on)) [
-    | inl none ↦ absurd (none_in_zero v none)
-    | inr here ↦ let e = eqb-true v root here in (omega (arith, e), λ leads f. ([], e))
-  ]
+  before-root root bits low is v on = let e = is v in (grind (arith, nat_tests, bits-of_zero), λ leads f. ([], grind (arith, nat_tests, bits-of_zero)))
 
   module _ (root i : ℕ) (li : i < length rest) (small : slice_index mates i < n) where
     pub after-step : (after more : ℕ) → ComesAfter n sets rest mates root after
@@ -63,11 +57,7 @@ module _ (n : ℕ) (sets rest mates : List ℕ) where
 -- a bit of all that is not outside both is in both
 pub in_ends : (all after before : ℕ) (rest : ℕ) (v : ℕ) → has_bit rest v ≡ (has_bit all v && not (has_bit (bit_and after before) v)) → has_bit all v ≡ true → (has_bit rest v ≡ true → ⊥)
     → (has_bit after v ≡ true) × (has_bit before v ≡ true)
-in_ends all after before rest v is on none = and_parts (has_bit after v) (has_bit before v) (sym (bits-both after before v) ∙ by (has_bit (bit_and after before) v) refl)
-  where
-    by : (b : Bool) → has_bit (bit_and after before) v ≡ b → has_bit (bit_and after before) v ≡ true
-    by true e = e
-    by false e = absurd (none (is ∙ rw (on, e) refl))
+in_ends all after before rest v is on none = (grind (arith, nat_tests, bits-both), grind (arith, nat_tests, bits-both))
 
 -- ---- the house
 module _ (n : ℕ) (sets : List ℕ) (square : length sets ≡ n) (cells : ℕ) (alone : AreAlone n sets cells) (mates : List ℕ) (p : IsPaired n sets (rest_of (length sets) cells) mates) where

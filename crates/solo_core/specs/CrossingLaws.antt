@@ -6,7 +6,7 @@ use Rattle.std.proofs.lemmas.Bool.{cases_lt, and_parts, and_from, or_cases, or_l
 use Rattle.std.proofs.lemmas.List.{get_or-map, length-map, get_or_append_left, get_or-append_right}
 use Rattle.grid_core.proofs.CandidateLemmas.{any_below-here, any_below-some}
 use Rattle.engine_core.specs.Puzzle.{has_place}
-use Rattle.engine_core.specs.PlaceLaws.{has_place-at, has_place-here, place-filter, place-kept, different-filter}
+use Rattle.engine_core.specs.PlaceLaws.{has_place-at, has_place-here, place-filter, place-kept, different-filter, different-from, distinct-from, distinct-append}
 use Rattle.engine_core.specs.Filling.{Set, has_value}
 use Rattle.engine_core.specs.House.{IsMonotone, AreDifferent}
 use Rattle.engine_core.specs.Houses.{IsSettled, Keeps}
@@ -134,19 +134,8 @@ module _ (block line : List ℕ) where
   ]
 
   pub crossing-different : AreDifferent block → AreDifferent line → AreDifferent (crossing_places block line)
-  crossing-different in_block in_line j k lj lk e = elim (cases_lt j (length block)) [
-    | inl low_j ↦ elim (cases_lt k (length block)) [
-      | inl low_k ↦ in_block j k low_j low_k (sym (at_block j low_j) ∙ e ∙ at_block k low_k)
-      | inr high_k ↦ absurd (true≢false (sym (rw (sym (at_block j low_j) ∙ e) at (has_place-here block j low_j)) ∙ (rest_is k high_k lk).1))
-    ]
-    | inr high_j ↦ elim (cases_lt k (length block)) [
-      | inl low_k ↦ absurd (true≢false (sym (rw (sym (at_block k low_k) ∙ sym e) at (has_place-here block k low_k)) ∙ (rest_is j high_j lj).1))
-      | inr high_k ↦
-          let len = long in
-          let same = different-filter (λ c. not (has_place block c)) line in_line (j - length block) (k - length block) (omega arith) (omega arith) (sym (at_rest j high_j) ∙ e ∙ at_rest k high_k) in
-          omega arith
-    ]
-  ]
+  crossing-different in_block in_line = different-from (crossing_places block line) (distinct-append block rest (distinct-from block in_block) (distinct-from rest (different-filter (λ c. not (has_place block c)) line in_line))
+      (λ d here there. true≢false (sym here ∙ not-true (has_place block d) (place-filter (λ c. not (has_place block c)) line d there).1)))
 
   -- where both have n different cells and no number twice, each number of the one is one of the other
   module _ (n : ℕ) (g : List ℕ) (small : (c : ℕ) → c < length g → slice_index g c < n) (block_long : length block ≡ n) (line_long : length line ≡ n)

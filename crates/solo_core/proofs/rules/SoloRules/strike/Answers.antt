@@ -1,24 +1,16 @@
 use Rattle.std.proofs.Common.{◌≡◌, ℕ, ◌∙◌, ap, length, arith, length-take}
 use Rattle.engine_core.specs.Houses.{house_of}
 use Rattle.engine_core.specs.HouseLaws.{bits-of_values, sets-of_values}
-use Rattle.solo_core.proofs.DecidingLemmas.{house-in, left_by_visit, table-places}
+use Rattle.solo_core.proofs.DecidingLemmas.{listed-in, left_by_visit, table-places}
 use Rattle.solo_core.proofs.rules.SoloRules.strike.Goals as goal
 
 pub gather-requires-clause-places_in : goal.gather-requires-clause-places_in
-gather-requires-clause-places_in g c = λ k lt.
-    let p = c.args.self.now.puzzle in
-    let is = c.places-places.ensures ∙ table-places p (g.S.Strikes.houses p) c.args.self.now.table c.args.house c.args.self.now.listed in
-    let w = house-in g.S.Strikes.SETTLED p (g.S.Strikes.houses p) c.args.house _ (g.met.S.Strikes.sound p c.args.self.now.is_solo) c.requires.house_in is k lt in
-    let e = c.requires.board_of.same_cells in
-    omega arith
+gather-requires-clause-places_in g c = let p = c.args.self.now.puzzle in
+    listed-in g.S.Strikes.SETTLED p (g.S.Strikes.houses p) c.args.self.now.table c.args.house _ _ (g.met.S.Strikes.sound p c.args.self.now.is_solo) c.args.self.now.listed c.requires.house_in c.places-places.ensures c.requires.board_of.same_cells
 
 pub apply-requires-clause-places_in : goal.apply-requires-clause-places_in
-apply-requires-clause-places_in g c = λ k lt.
-    let p = c.args.self.now.puzzle in
-    let is = c.places-places.ensures ∙ table-places p (g.S.Strikes.houses p) c.args.self.now.table c.args.house c.args.self.now.listed in
-    let w = house-in g.S.Strikes.SETTLED p (g.S.Strikes.houses p) c.args.house _ (g.met.S.Strikes.sound p c.args.self.now.is_solo) c.requires.house_in is k lt in
-    let e = c.requires.board_of.same_cells in
-    omega arith
+apply-requires-clause-places_in g c = let p = c.args.self.now.puzzle in
+    listed-in g.S.Strikes.SETTLED p (g.S.Strikes.houses p) c.args.self.now.table c.args.house _ _ (g.met.S.Strikes.sound p c.args.self.now.is_solo) c.args.self.now.listed c.requires.house_in c.places-places.ensures c.requires.board_of.same_cells
 
 pub returns-clause-left : goal.returns-clause-left
 returns-clause-left g c =
