@@ -1,6 +1,6 @@
 -- A pairing goes on by a cell with a free value, or with the value of another cell that has a free one.
-use Rattle.std.proofs.Common.{◌≡◌, ℕ, ◌+◌, ◌<◌, true, false, true≢false, eqb, cond, List, slice_index, refl, sym, ap, ◌∙◌, inl, inr, arith}
-use Rattle.std.proofs.lemmas.Bool.{cases_eq, eq-eqb, ne_eqb, false_from_ne_true}
+use Rattle.std.proofs.Common.{◌≡◌, ℕ, ◌+◌, ◌<◌, true, false, true≢false, eqb, cond, List, slice_index, sym, ap, ◌∙◌, arith}
+use Rattle.std.proofs.lemmas.Bool.{false_from_ne_true}
 use Rattle.std.proofs.lemmas.Bool.Decides.{nat_tests}
 use Rattle.engine_core.specs.Sets.{has_bit}
 use Rattle.solo_core.specs.Deciding.{has_in}
@@ -41,37 +41,29 @@ module _ (n : ℕ) (sets rest : List ℕ) where
     changed : ℕ → ℕ
     changed l = cond (eqb l j) value (mate l)
 
-    changed-here : changed j ≡ value
-    unfolding changed
-    changed-here = rw (eq-eqb j j refl) refl
-
-    changed-other : (l : ℕ) → (l ≡ j → ⊥) → changed l ≡ mate l
-    unfolding changed
-    changed-other l ne = rw (ne_eqb l j ne) refl
-
     no_free : (l : ℕ) → l < k → mate l ≡ value → ⊥
     no_free l lt e = true≢false (sym unused ∙ ap (has_bit free) (sym e) ∙ b.taken l lt)
 
     begun : (left : ℕ) → ((v : ℕ) → has_bit left v ≡ true → has_bit free v ≡ true) → has_bit left value ≡ false → IsBegun n sets rest k changed left
+    unfolding changed
     begun left inside off = record {
-      in_range = λ l lt. let e = changed-other l in let h = changed-here in let r = b.in_range l in grind (arith, nat_tests);
-      joined = λ l lt. let e = changed-other l in let h = changed-here in let r = b.joined l in grind (arith, nat_tests);
-      own = λ l m lt lm is. let e = changed-other l in let f = changed-other m in let h = changed-here in let x = no_free l in let y = no_free m in let o = b.own l m in grind (arith, nat_tests);
-      taken = λ l lt. let e = changed-other l in let h = changed-here in let t = b.taken l in let i = inside (changed l) in grind (arith, nat_tests);
+      in_range = λ l lt. let r = b.in_range l in grind (arith, nat_tests);
+      joined = λ l lt. let r = b.joined l in grind (arith, nat_tests);
+      own = λ l m lt lm is. let x = no_free l in let y = no_free m in let o = b.own l m in grind (arith, nat_tests);
+      taken = λ l lt. let t = b.taken l in let i = inside (changed l) in grind (arith, nat_tests);
     }
 
     apart : (l : ℕ) → l < k → changed l ≡ mate j → ⊥
-    apart l lt e = let c = changed-other l in let h = changed-here in let x = no_free j lj in let o = b.own l j lt lj in grind arith
+    unfolding changed
+    apart l lt e = let x = no_free j lj in let o = b.own l j lt lj in grind (arith, nat_tests)
 
     pub goes_on_swapped : (new : ℕ → ℕ) → new k ≡ mate j → new j ≡ value → ((l : ℕ) → l < k → (l ≡ j → ⊥) → new l ≡ mate l)
         → has_in sets (slice_index rest k) (mate j) ≡ true → GoesOn n sets rest k new free value
+    unfolding changed
     goes_on_swapped new last here other there = (
       low,
       λ left inside off.
-          given k changed new left left (begun left inside off) (λ l lt. elim (cases_eq l j) [
-            | inl e ↦ ap new e ∙ here ∙ sym (ap changed e ∙ changed-here)
-            | inr ne ↦ other l lt ne ∙ sym (changed-other l ne)
-          ])
+          given k changed new left left (begun left inside off) (λ l lt. let o = other l lt in grind (arith, nat_tests))
           (rw last (b.in_range j lj)) (rw last there) (λ l lt e. apart l lt (e ∙ last)) (λ v on. on)
           (rw last (false_from_ne_true (has_bit left (mate j)) (λ on. true≢false (sym (inside (mate j) on) ∙ b.taken j lj)))),
     )

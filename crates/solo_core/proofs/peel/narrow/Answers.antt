@@ -1,5 +1,4 @@
 use Rattle.std.proofs.Common.{◌≡◌, ℕ, Bool, true, false, not, ◌&&◌, true≢false, arith, sym, ap, ◌∙◌, bit_and, inr}
-use Rattle.std.proofs.lemmas.Bool.{and_parts, not-true}
 use Rattle.engine_core.specs.Sets.{has_bit}
 use Rattle.engine_core.proofs.BitLemmas.{bits-both}
 use Rattle.solo_core.proofs.peel.narrow.Goals as goal
@@ -10,10 +9,7 @@ left_out a b d on all off = grind arith
 -- a bit of the set that is among all bits outside another
 in_both : (set all out rest w : ℕ) → ((v : ℕ) → has_bit rest v ≡ (has_bit all v && not (has_bit out v))) → has_bit (bit_and set rest) w ≡ true
     → (has_bit set w ≡ true) × (has_bit all w ≡ true) × (has_bit out w ≡ false)
-in_both set all out rest w bits on =
-    let both = and_parts (has_bit set w) (has_bit rest w) (sym (bits-both set rest w) ∙ on) in
-    let parts = and_parts (has_bit all w) (not (has_bit out w)) (sym (bits w) ∙ both.1) in
-    (both.0, parts.0, not-true (has_bit out w) parts.1)
+in_both set all out rest w bits on = let b = bits w in (grind (arith, bits-both), grind (arith, bits-both), grind (arith, bits-both))
 
 pub returns-then-has_any-2-clause-dropped : goal.returns-then-has_any-2-clause-dropped
 returns-then-has_any-2-clause-dropped c = λ v lv on off.
