@@ -1,8 +1,7 @@
 -- Striking the value of a cell that has one alone from the other cells takes no filling away.
 use Rattle.std.proofs.Common.{◌≡◌, ℕ, ◌+◌, ◌<◌, ◌⊎◌, Bool, true, false, not, ◌&&◌, ◌||◌, eqb, List, map, length, slice_index, refl, sym, ap, ◌∙◌, inl, inr, arith}
-use Rattle.std.proofs.lemmas.Bool.{cases_Bool, cases_eq, eq-eqb, eqb-true, true≢false, false_from_ne_true}
+use Rattle.std.proofs.lemmas.Bool.{cases_eq, eq-eqb, eqb-true, true≢false, false_from_ne_true, true_from_ne_false}
 use Rattle.std.proofs.lemmas.Bool.Decides.{nat_tests}
-use Rattle.std.proofs.Math.Bool.{and-false}
 use Rattle.engine_core.specs.Filling.{strikes_by_fillings}
 use Rattle.engine_core.specs.FillingLaws.{shown_from_test}
 use Rattle.engine_core.specs.House.{IsDecided}
@@ -88,16 +87,15 @@ module _ (n : ℕ) (old : List ℕ) (square : length old ≡ n) (some single sha
   not_dropped : (mates : List ℕ) → IsPairing (has_in old) (length old) n mates → (k : ℕ) → k < length old
       → IsDropped n single shared (slice_index old k) (slice_index mates k) → ⊥
   not_dropped mates p k lk (w, lw, has, ne, inl lone) =
-      none_missed n (slice_index mates) (λ x lx. p.in_range x (omega arith)) (λ x y lx ly same. p.own x y (omega arith) (omega arith) same) w lw (λ x lx is. elim (cases_eq x k) [
-        | inl e ↦ ne (sym is ∙ ap (slice_index mates) e)
-        | inr nk ↦ true≢false (sym (shares x k w (omega arith) lk nk (sym (ap (has_in old x) is) ∙ p.joined x (omega arith)) has) ∙ lone)
-      ])
+      none_missed n (slice_index mates) (λ x lx. p.in_range x (omega arith)) (λ x y lx ly same. p.own x y (omega arith) (omega arith) same) w lw
+      (λ x lx is. let s = shares x k w (omega arith) lk in let j = p.joined x (omega arith) in grind arith)
   not_dropped mates p k lk (w, lw, has, ne, inr on) =
       let j = c.singles (slice_index mates k) on in
-      elim (cases_eq j.0 k) [
-        | inl e ↦ ne (eqb-true w (slice_index mates k) (sym (j.2 w) ∙ ap (λ i. has_in old i w) e ∙ has))
-        | inr nj ↦ nj (p.own j.0 k j.1 lk (eqb-true (slice_index mates j.0) (slice_index mates k) (sym (j.2 (slice_index mates j.0)) ∙ p.joined j.0 j.1)))
-      ]
+      let own = p.own j.0 k j.1 lk in
+      let a = j.2 w in
+      let b = j.2 (slice_index mates j.0) in
+      let has_mate = p.joined j.0 j.1 in
+      grind (arith, nat_tests)
 
   pub peeled-step : (new : List ℕ) → length new ≡ length old
       → ((k v : ℕ) → k < length old → has_in new k v ≡ true → has_in old k v ≡ true)
@@ -106,10 +104,7 @@ module _ (n : ℕ) (old : List ℕ) (square : length old ≡ n) (some single sha
   peeled-step new as_many inside dropped = record {
     as_many = as_many;
     inside = inside;
-    keeps = λ mates p k lk. elim (cases_Bool (has_in new k (slice_index mates k))) [
-      | inl on ↦ on
-      | inr off ↦ absurd (not_dropped mates p k lk (dropped k (slice_index mates k) lk (p.in_range k lk) (p.joined k lk) off))
-    ];
+    keeps = λ mates p k lk. true_from_ne_false (has_in new k (slice_index mates k)) (λ off. not_dropped mates p k lk (dropped k (slice_index mates k) lk (p.in_range k lk) (p.joined k lk) off));
   }
 
   -- a cell with a value that some cell has alone, and that no two have
@@ -149,11 +144,9 @@ decided_by_peeled n sets peeled kept e d = record {
         let has : has_in peeled k v ≡ true = rw w.1.has_it at (e.keeps w.0 p k lk) in
         let shown : is_struck n peeled k v ≡ false = rw w.1.has_it at (shown_by_pairing peeled n w.0 q k) in
         rw (has, shown, e.inside k v lk has, is) refl
-    same k v lk true is = rw is (nothing (has_in peeled k v) (is_struck n peeled k v) refl ∙ sym (and-false (has_in sets k v)))
-      where
-        nothing : (has struck : Bool) → is_struck n peeled k v ≡ struck → (has && not struck) ≡ false
-        nothing has true other = and-false has
-        nothing has false other =
-            let w = shown_from_test no_repeat (map (set_of_bits n) peeled) k v other in
-            let p = pairing_whole n sets peeled w.0 e (pairing_of_filling peeled n k v w.0 w.1) in
-            absurd (true≢false (sym is ∙ rw w.1.has_it at (shown_by_pairing sets n w.0 p k)))
+    same k v lk true is =
+        let shown : is_struck n peeled k v ≡ false → ⊥ = λ other.
+        let w = shown_from_test no_repeat (map (set_of_bits n) peeled) k v other in
+        let p = pairing_whole n sets peeled w.0 e (pairing_of_filling peeled n k v w.0 w.1) in
+        true≢false (sym is ∙ rw w.1.has_it at (shown_by_pairing sets n w.0 p k)) in
+        grind arith

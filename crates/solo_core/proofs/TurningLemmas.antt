@@ -10,7 +10,7 @@ use Rattle.grid_core.specs.Pairings.{IsPairing}
 use Rattle.solo_core.specs.Deciding.{has_in}
 use Rattle.solo_core.specs.NoRepeat.{no_repeat}
 use Rattle.solo_core.specs.Peeled.{AreAlone, IsPaired, rest_of}
-use Rattle.solo_core.specs.Turning.{LeadsByMates, Leads, ComesAfter, ComesBefore, LiesOnRounds}
+use Rattle.solo_core.specs.Turning.{LeadsByMates, ComesAfter, ComesBefore, LiesOnRounds}
 use Rattle.solo_core.specs.Ways.{IsWay}
 use Rattle.solo_core.proofs.AloneLemmas.{decided_by_all, last, last-passes, last-below, put-alone, put-other, shown_by_choice, mates as whole_mates, mates-at, pairing}
 use Rattle.solo_core.proofs.MateLemmas.{rest-has, rest-in, rest-different}
@@ -46,13 +46,12 @@ module _ (n : ℕ) (sets rest mates : List ℕ) where
         ⊎ ((v ≡ slice_index mates i) × ((w : ℕ) × (has_in sets (slice_index rest i) w ≡ true) × (has_bit before w ≡ true))))
         → ComesBefore n sets rest mates root more
     unfolding IsWay
-    before-step before more c bits v on = by (bits v on)
-      where
-        by : (has_bit before v ≡ true) ⊎ ((v ≡ slice_index mates i) × ((w : ℕ) × (has_in sets (slice_index rest i) w ≡ true) × (has_bit before w ≡ true)))
-            → (v < n) × Leads n sets rest mates v root
-        by (inl was) = c v was
-        by (inr (e, over)) =
-            (omega (arith, e), λ leads f. let x = (c over.0 over.2).1 leads f in (over.0 ∷ x.0, (ap (λ u. leads u over.0) e ∙ f i over.0 li ∙ over.1, (c over.0 over.2).0, x.1)))
+    before-step before more c bits v on = elim (bits v on) [
+      | inl was ↦ c v was
+      | inr w ↦
+          let over = w.1 in
+          (omega (arith, w.0), λ leads f. let x = (c over.0 over.2).1 leads f in (over.0 ∷ x.0, (ap (λ u. leads u over.0) w.0 ∙ f i over.0 li ∙ over.1, (c over.0 over.2).0, x.1)))
+    ]
 
 -- a bit of all that is not outside both is in both
 pub in_ends : (all after before : ℕ) (rest : ℕ) (v : ℕ) → has_bit rest v ≡ (has_bit all v && not (has_bit (bit_and after before) v)) → has_bit all v ≡ true → (has_bit rest v ≡ true → ⊥)

@@ -1,7 +1,8 @@
 -- Laws of singles: what they strike from larger sets they strike from smaller ones, and from a solution's own values
 -- they strike nothing.
 use Rattle.std.proofs.Common.{◌≡◌, ℕ, ◌<◌, Bool, true, false, not, ◌&&◌, ◌||◌, true≢false, eqb, List, [], length, get_or, refl, sym, ◌∙◌, ap, arith, inl, inr}
-use Rattle.std.proofs.lemmas.Bool.{cases_Bool, cases_lt, cases_eq, and_parts, and_from, or_left, or_right, eqb-true, eq-eqb, ne_eqb, not-true, false_from_ne_true}
+use Rattle.std.proofs.lemmas.Bool.{cases_Bool, cases_lt, and_parts, and_from, or_left, or_right, eqb-true, eq-eqb, not-true, false_from_ne_true}
+use Rattle.std.proofs.lemmas.Bool.Decides.{nat_tests}
 use Rattle.std.proofs.lemmas.List.{get_or_past}
 use Rattle.grid_core.specs.Candidates.{any_below}
 use Rattle.grid_core.proofs.CandidateLemmas.{any_below-here, any_below-some, any_below-none}
@@ -40,32 +41,19 @@ module _ (cells values : ℕ) (at at' : Has) (down : (k v : ℕ) → at' k v ≡
   -- a cell that has only the value has at most the value in smaller sets: it has it, or is empty
   taken_stays : (place value : ℕ) → taken_elsewhere cells values at place value ≡ true
       → (taken_elsewhere cells values at' place value || has_empty_cell cells values at') ≡ true
-  taken_stays place value h = by (any_below-some (λ j. not (eqb j place) && (at j value && not (has_other values at j value))) cells h)
-    where
-      by : (j : ℕ) × (j < cells) × ((not (eqb j place) && (at j value && not (has_other values at j value))) ≡ true)
-          → (taken_elsewhere cells values at' place value || has_empty_cell cells values at') ≡ true
-      by (j, j_in, passes) = elim (cases_Bool (at' j value)) [
-        | inl has ↦ or_left (taken_elsewhere cells values at' place value) (has_empty_cell cells values at') (any_below-here (λ k. not (eqb k place) && (at' k value && not (has_other values at' k value))) cells j j_in
-            (and_from (not (eqb j place)) (at' j value && not (has_other values at' j value)) parts.0 (and_from (at' j value) (not (has_other values at' j value)) has
-            (ap not (none_below (λ w. not (eqb w value) && at' j w) values (λ w b e. let both = and_parts (not (eqb w value)) (at' j w) e in no_other w b both.0 both.1))))))
-        | inr lacks ↦ or_right (taken_elsewhere cells values at' place value) (has_empty_cell cells values at') (any_below-here (λ k. not (any_below (at' k) values)) cells j j_in
-            (ap not (none_below (at' j) values (λ w b e. no_value w b e lacks))))
+  taken_stays place value h =
+      let w = any_below-some (λ j. not (eqb j place) && (at j value && not (has_other values at j value))) cells h in
+      let alone : has_other values at w.0 value ≡ false = grind (arith, w.2) in
+      let no_other : (u : ℕ) → u < values → not (eqb u value) ≡ true → at' w.0 u ≡ true → ⊥ = λ u b ne e.
+      fails_below (λ u. not (eqb u value) && at w.0 u) values alone u b (and_from (not (eqb u value)) (at w.0 u) ne (down w.0 u e)) in
+      elim (cases_Bool (at' w.0 value)) [
+        | inl has ↦
+            let none : has_other values at' w.0 value ≡ false = none_below (λ u. not (eqb u value) && at' w.0 u) values (λ u b e. no_other u b (grind arith) (grind arith)) in
+            or_left (taken_elsewhere cells values at' place value) (has_empty_cell cells values at')
+            (any_below-here (λ k. not (eqb k place) && (at' k value && not (has_other values at' k value))) cells w.0 w.1 (grind (arith, w.2)))
+        | inr lacks ↦ or_right (taken_elsewhere cells values at' place value) (has_empty_cell cells values at')
+            (any_below-here (λ k. not (any_below (at' k) values)) cells w.0 w.1 (ap not (none_below (at' w.0) values (λ u b e. no_other u b (grind (arith, nat_tests)) e))))
       ]
-        where
-          parts : (not (eqb j place) ≡ true) × ((at j value && not (has_other values at j value)) ≡ true)
-          parts = and_parts (not (eqb j place)) (at j value && not (has_other values at j value)) passes
-
-          alone : has_other values at j value ≡ false
-          alone = not-true (has_other values at j value) (and_parts (at j value) (not (has_other values at j value)) parts.1).1
-
-          no_other : (w : ℕ) → w < values → not (eqb w value) ≡ true → at' j w ≡ true → ⊥
-          no_other w b ne e = fails_below (λ u. not (eqb u value) && at j u) values alone w b (and_from (not (eqb w value)) (at j w) ne (down j w e))
-
-          no_value : (w : ℕ) → w < values → at' j w ≡ true → at' j value ≡ false → ⊥
-          no_value w b e lacks = elim (cases_eq w value) [
-            | inl same ↦ true≢false (sym e ∙ ap (at' j) same ∙ lacks)
-            | inr differs ↦ no_other w b (ap not (ne_eqb w value differs)) e
-          ]
 
 -- values are to cells as cells are to values: the only place of a value is a cell's only value, and a lost value an empty cell
 pub strikes_stay : (cells values : ℕ) (at at' : Has) → ((k v : ℕ) → at' k v ≡ true → at k v ≡ true) → (place value : ℕ)
