@@ -1,7 +1,7 @@
 -- Laws of singles: what they strike from larger sets they strike from smaller ones, and from a solution's own values
 -- they strike nothing.
 use Rattle.std.proofs.Common.{◌≡◌, ℕ, ◌<◌, Bool, true, false, not, ◌&&◌, ◌||◌, true≢false, eqb, List, [], length, get_or, refl, sym, ◌∙◌, ap, arith, inl, inr}
-use Rattle.std.proofs.lemmas.Bool.{cases_Bool, cases_lt, and_parts, and_from, or_left, or_right, eqb-true, eq-eqb, not-true, false_from_ne_true}
+use Rattle.std.proofs.lemmas.Bool.{cases_Bool, cases_lt, and_from, or_left, or_right, eqb-true, eq-eqb, not-true, false_from_ne_true}
 use Rattle.std.proofs.lemmas.Bool.Decides.{nat_tests}
 use Rattle.std.proofs.lemmas.List.{get_or_past}
 use Rattle.grid_core.specs.Candidates.{any_below}
@@ -86,17 +86,14 @@ module _ (n : ℕ) (f : List ℕ) (long : length f ≡ n) (holds : no_repeat f �
       taken : taken_elsewhere n n at k v ≡ true → ⊥
       taken a =
           let w = any_below-some (λ j. not (eqb j k) && (at j v && not (has_other n at j v))) n a in
-          let parts = and_parts (not (eqb w.0 k)) (at w.0 v && not (has_other n at w.0 v)) w.2 in
-          let has = (and_parts (at w.0 v) (not (has_other n at w.0 v)) parts.1).0 in
-          let z = own_from_no_repeat f holds w.0 k (omega (arith, w.1)) (omega arith) (sym (only w.0 v w.1 has) ∙ e) in
-          true≢false (sym (eq-eqb w.0 k z) ∙ not-true (eqb w.0 k) parts.0)
+          let z = own_from_no_repeat f holds w.0 k (omega (arith, w.1)) (omega arith) (sym (only w.0 v w.1 (grind (arith, w.2))) ∙ e) in
+          grind (arith, nat_tests, w.2)
 
       needed : needed_for_other n n at k v ≡ true → ⊥
       needed a =
           let w = any_below-some (λ u. not (eqb u v) && (at k u && not (is_elsewhere n at k u))) n a in
-          let parts = and_parts (not (eqb w.0 v)) (at k w.0 && not (is_elsewhere n at k w.0)) w.2 in
-          let has = (and_parts (at k w.0) (not (is_elsewhere n at k w.0)) parts.1).0 in
-          true≢false (sym (eq-eqb w.0 v (only k w.0 lk has ∙ sym e)) ∙ not-true (eqb w.0 v) parts.0)
+          let z = only k w.0 lk (grind (arith, w.2)) in
+          grind (arith, nat_tests, w.2)
 
       empty : has_empty_cell n n at ≡ true → ⊥
       empty a =

@@ -1,8 +1,6 @@
-use Rattle.std.proofs.Common.{ℕ, slice_index, slice_set, refl, sym, ap, ◌∙◌, arith}
-use Rattle.std.proofs.lemmas.Bool.{and_parts}
+use Rattle.std.proofs.Common.{slice_index, slice_set, refl, arith}
 use Rattle.std.proofs.lemmas.List.{get_or-set_other}
 use Rattle.std.proofs.lemmas.Grind.{get_or-set_at}
-use Rattle.engine_core.specs.Sets.{has_bit}
 use Rattle.engine_core.proofs.BitLemmas.{bits-both}
 use Rattle.solo_core.proofs.QuickLemmas.{goes_on_free}
 use Rattle.solo_core.proofs.quick.give.Goals as goal
@@ -13,7 +11,6 @@ returns-in-Some-clause-on c =
     let mates = c.args.mates.now in
     let v = c.in-Some.value in
     let at = c.in-Some.ensures in
-    let both = and_parts (has_bit c.set.result v) (has_bit c.args.free v) (sym (bits-both c.set.result c.args.free v) ∙ at.2) in
     goes_on_free c.args.joined.now.values c.args.joined.now.sets.now c.args.joined.now.rest.now k (slice_index mates) (slice_index (slice_set mates k v)) c.args.free v c.requires.begun
     (λ l lt. get_or-set_other mates k l v 0 (λ e. absurd (omega arith))) (get_or-set_at mates k k v 0 refl (omega arith)) (omega (arith, at.1))
-    (ap (λ (s : ℕ). has_bit s v) (sym c.set.ensures) ∙ both.0) both.1
+    (grind (arith, bits-both, at.2)) (grind (arith, bits-both, at.2))

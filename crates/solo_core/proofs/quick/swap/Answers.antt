@@ -1,5 +1,4 @@
 use Rattle.std.proofs.Common.{◌≡◌, ℕ, List, length, slice_index, slice_set, refl, sym, ap, ◌∙◌, subst, arith}
-use Rattle.std.proofs.lemmas.Bool.{and_parts}
 use Rattle.std.proofs.lemmas.List.{get_or-set_other, length-set}
 use Rattle.std.proofs.lemmas.Grind.{get_or-set_at}
 use Rattle.engine_core.specs.Sets.{has_bit}
@@ -18,11 +17,10 @@ returns-in-Some-clause-on c =
     let j = c.loop-j.j in
     let v = c.in-Some.value in
     let at = c.in-Some.ensures in
-    let both = and_parts (has_bit c.set.result v) (has_bit c.args.free v) (sym (bits-both c.set.result c.args.free v) ∙ at.2) in
     let b = subst (λ (xs : List ℕ). IsBegun n sets rest k (slice_index xs) c.args.free) (sym c.loop-j.invariant) c.requires.begun in
     let first = slice_set mates k (slice_index mates j) in
     let long : length first ≡ length mates = length-set mates k (slice_index mates j) in
-    goes_on_swapped n sets rest k (slice_index mates) c.args.free v j b (omega arith) (omega (arith, at.1)) (ap (λ (s : ℕ). has_bit s v) (sym c.set.ensures) ∙ both.0) both.1
+    goes_on_swapped n sets rest k (slice_index mates) c.args.free v j b (omega arith) (omega (arith, at.1)) (grind (arith, bits-both, at.2)) (grind (arith, bits-both, at.2))
     (slice_index (slice_set first j v))
     (get_or-set_other first j k v 0 (λ e. absurd (omega arith)) ∙ get_or-set_at mates k k (slice_index mates j) 0 refl (omega arith))
     (get_or-set_at first j j v 0 refl (omega (arith, long)))
