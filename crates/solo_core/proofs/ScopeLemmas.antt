@@ -1,22 +1,21 @@
 -- Which house, and which crossing, a number names.
-use Rattle.std.proofs.Common.{◌≡◌, ℕ, ◌+◌, ◌-◌, ◌*◌, ◌<◌, ◌≤◌, List, ◌++◌, map, length, get_or, sym, ap, ◌∙◌, inl, inr, length-append, arith}
+use Rattle.std.proofs.Common.{◌≡◌, ℕ, ◌+◌, ◌-◌, ◌*◌, ◌<◌, ◌≤◌, List, ◌++◌, map, length, get_or, refl, sym, ap, ◌∙◌, length-append, arith}
 use Rattle.std.specs.List.{range_with_len}
-use Rattle.std.proofs.lemmas.Bool.{cases_lt}
 use Rattle.std.proofs.lemmas.Nat.{mul-le}
-use Rattle.std.proofs.lemmas.List.{get_or-map, length-map, get_or_append_left, get_or-append_right}
+use Rattle.std.proofs.lemmas.Simd.{map-map}
+use Rattle.std.proofs.lemmas.List.{get_or-map, length-map, map-append, get_or_append_left, get_or-append_right}
 use Rattle.std.proofs.lemmas.List.FromFn.{get_or-map-range_with_len, length-map-range_with_len}
 use Rattle.gameid_core.specs.Puzzles.{Solo, solo_n}
 use Rattle.engine_core.specs.Houses.{House, house_of, no_house}
 use Rattle.engine_core.specs.Filling.{strikes_by_fillings}
 use Rattle.solo_core.specs.declared.solo_house.SoloHouse.{SoloHouse}
-use Rattle.solo_core.specs.declared.solo_house.SoloHouse.TheVariants.{Row}
 use Rattle.solo_core.specs.declared.solo_scope.SoloScope.{SoloScope}
 use Rattle.solo_core.specs.declared.solo_scope.SoloScope.TheVariants as scope
 use Rattle.solo_core.specs.Houses.{houses_of}
 use Rattle.solo_core.specs.NoRepeat.{no_repeat}
 use Rattle.solo_core.specs.RuleSets.{filled_houses, row_crossing, column_crossing, crossings_of, house_at}
 use Rattle.solo_core.specs.Scopes.{row_scope, column_scope, crossing_scopes, scopes_of}
-use Rattle.solo_core.proofs.DecidingLemmas.{deciding-at, length-deciding}
+use Rattle.solo_core.proofs.DecidingLemmas.{length-deciding}
 use Rattle.solo_core.proofs.HouseLemmas.{part_first, part_later}
 
 -- ---- the crossings by their numbers
@@ -34,29 +33,23 @@ module _ {X : Type 0} (first second : ℕ → X) (n m : ℕ) where
   second-at k d le lt = sym (part_later first n (map second (range_with_len 0 m)) k d le ∙ get_or-map-range_with_len second 0 m (k - n) (k - n) d lt (omega arith))
 
 module _ (p : Solo) where
-  pub crossings-length : length (crossings_of p) ≡ solo_n p * p.c + solo_n p * p.r
-  crossings-length = both-length (row_crossing p) (column_crossing p) (solo_n p * p.c) (solo_n p * p.r)
+  -- the crossings are those of the scopes
+  crossings-named : map (house_at p) (crossing_scopes p) ≡ crossings_of p
+  crossings-named = map-append (house_at p) (map (row_scope p) (range_with_len 0 (solo_n p * p.c))) (map (column_scope p) (range_with_len 0 (solo_n p * p.r)))
+      ∙ rw (map-map (house_at p) (row_scope p), map-map (house_at p) (column_scope p)) refl
 
   pub scopes-length : length (crossing_scopes p) ≡ solo_n p * p.c + solo_n p * p.r
   scopes-length = both-length (row_scope p) (column_scope p) (solo_n p * p.c) (solo_n p * p.r)
 
-  -- the crossing with a number is that of the scope with the number
+  pub crossings-length : length (crossings_of p) ≡ solo_n p * p.c + solo_n p * p.r
+  crossings-length = both-length (row_crossing p) (column_crossing p) (solo_n p * p.c) (solo_n p * p.r)
+
   pub crossing-named : (m : ℕ) (d : SoloScope) → m < length (crossing_scopes p) → house_of (crossings_of p) m ≡ house_at p (get_or (crossing_scopes p) m d)
-  crossing-named m d lt = elim (cases_lt m (solo_n p * p.c)) [
-    | inl low ↦ sym (first-at (row_crossing p) (column_crossing p) (solo_n p * p.c) (solo_n p * p.r) m no_house low)
-        ∙ ap (house_at p) (first-at (row_scope p) (column_scope p) (solo_n p * p.c) (solo_n p * p.r) m d low)
-    | inr high ↦
-        let rest : m - solo_n p * p.c < solo_n p * p.r = omega (arith, scopes-length, lt, high) in
-        sym (second-at (row_crossing p) (column_crossing p) (solo_n p * p.c) (solo_n p * p.r) m no_house high rest)
-        ∙ ap (house_at p) (second-at (row_scope p) (column_scope p) (solo_n p * p.c) (solo_n p * p.r) m d high rest)
-  ]
+  crossing-named m d lt = ap (λ xs. house_of xs m) (sym crossings-named) ∙ get_or-map (house_at p) (crossing_scopes p) m d no_house lt
 
 -- ---- houses and then others
 pub first_at : (some more : List House) (h : ℕ) → h < length some → house_of some h ≡ house_of (some ++ more) h
 first_at some more h lt = sym (get_or_append_left some more no_house h lt)
-
-pub later_at : (some more : List House) (n h : ℕ) → length some ≡ n → n ≤ h → house_of more (h - n) ≡ house_of (some ++ more) h
-later_at some more n h long le = sym (get_or-append_right some more n h no_house long le)
 
 -- ---- all scopes by their numbers
 module _ (p : Solo) where
@@ -78,19 +71,14 @@ module _ (p : Solo) where
   pub crossing-after : (h : ℕ) (d : SoloScope) → length (houses_of p) ≤ h → get_or (scopes_of p) h d ≡ get_or (crossing_scopes p) (h - length (houses_of p)) d
   crossing-after h d le = get_or-append_right names (crossing_scopes p) (length (houses_of p)) h d names-length le
 
+  all-named : map (house_at p) (scopes_of p) ≡ filled_houses p ++ crossings_of p
+  all-named = map-append (house_at p) names (crossing_scopes p) ∙ rw (map-map (house_at p) scope.House, crossings-named p) refl
+
   pub crossings-counted : length (filled_houses p ++ crossings_of p) ≡ length (scopes_of p)
-  crossings-counted = omega (arith, length-append (filled_houses p) (crossings_of p), filled-length, crossings-length p, all-length, scopes-length p)
+  crossings-counted = ap length (sym all-named) ∙ length-map (scopes_of p) (house_at p)
 
   pub scope-named : (h : ℕ) (d : SoloScope) → h < length (scopes_of p) → house_of (filled_houses p ++ crossings_of p) h ≡ house_at p (get_or (scopes_of p) h d)
-  scope-named h d lt = elim (cases_lt h (length (houses_of p))) [
-    | inl low ↦
-        let inside : h < length (filled_houses p) = omega (arith, filled-length) in
-        sym (first_at (filled_houses p) (crossings_of p) h inside) ∙ deciding-at (strikes_by_fillings no_repeat) p h inside
-        ∙ ap (house_at p) (sym (house-named h d (Row 0) low))
-    | inr high ↦
-        sym (later_at (filled_houses p) (crossings_of p) (length (houses_of p)) h filled-length high)
-        ∙ crossing-named p (h - length (houses_of p)) d (omega (arith, all-length, lt, high)) ∙ ap (house_at p) (sym (crossing-after h d high))
-  ]
+  scope-named h d lt = ap (λ xs. house_of xs h) (sym all-named) ∙ get_or-map (house_at p) (scopes_of p) h d no_house lt
 
 -- ---- room for all of them
 pub crossings-count : (p : Solo) → solo_n p * (p.c + p.r) ≡ length (crossings_of p)

@@ -9,6 +9,7 @@ use Rattle.std.proofs.lemmas.Nat.{mul-add-lt, mul-le, div-mul-add, mod-mul-add, 
 use Rattle.std.proofs.lemmas.List.Elements.{All-append, All-nil, All-cons}
 use Rattle.std.proofs.lemmas.List.FromFn.{get_or-map-range_with_len, length-map-range_with_len}
 use Rattle.grid_core.specs.Regions.{block_places}
+use Rattle.grid_core.proofs.RegionLemmas.{block-within}
 use Rattle.gameid_core.specs.Puzzles.{Solo, IsSolo, solo_n}
 use Rattle.engine_core.specs.House.{AreDifferent}
 use Rattle.engine_core.specs.Every.{of_first, of_rest, of_value}
@@ -79,17 +80,11 @@ module _ (c r b : ℕ) (c_pos : 0 < c) (r_pos : 0 < r) (b_in : b < c * r) where
   turned : c * r ≡ r * c
   turned = omega arith
 
-  band : b / c < r
-  band = div_below b c r c_pos (rw turned at b_in)
-
   fits : (a z : ℕ) → a < c → z < r → a * r + z < c * r
   fits a z p q = rw turned (mul-add-lt a r z c p q)
 
   x_in : (k : ℕ) → x_of k < c * r
   x_in k = fits (b % c) (k % r) (mod_below b c c_pos) (mod_below k r r_pos)
-
-  y_in : (k : ℕ) → k < c * r → y_of k < c * r
-  y_in k l = mul-add-lt (b / c) c (k / r) r band (tall k l)
 
   here : (k : ℕ) → k < c * r → ((y_of k * (c * r) + x_of k) / (c * r) ≡ y_of k) × ((y_of k * (c * r) + x_of k) % (c * r) ≡ x_of k)
   here k l = (div-mul-add (y_of k) (c * r) (x_of k) (x_in k), mod-mul-add (y_of k) (c * r) (x_of k) (x_in k))
@@ -132,7 +127,7 @@ module _ (c r b : ℕ) (c_pos : 0 < c) (r_pos : 0 < r) (b_in : b < c * r) where
 
   block_lists : Lists (block_places c r b) (c * r) ((c * r) * (c * r)) (λ place. eqb (block_at place) b)
   block_lists = by_function (λ k. ((b / c) * c + k / r) * (c * r) + ((b % c) * r + k % r)) index_at (c * r) ((c * r) * (c * r)) (λ place. eqb (block_at place) b)
-      (λ k l. mul-add-lt (y_of k) (c * r) (x_of k) (c * r) (y_in k l) (x_in k))
+      (λ k l. block-within c r b k b_in l)
       (λ k l. eq-eqb (block_at (y_of k * (c * r) + x_of k)) b (in_block k l))
       (λ k l. at_index k l)
       (λ place l. index_below place)

@@ -55,7 +55,7 @@ module _ (cells values : ℕ) (at at' : Has) (down : (k v : ℕ) → at' k v ≡
             (any_below-here (λ k. not (any_below (at' k) values)) cells w.0 w.1 (ap not (none_below (at' w.0) values (λ u b e. no_other u b (grind (arith, nat_tests)) e))))
       ]
 
--- values are to cells as cells are to values: the only place of a value is a cell's only value, and a lost value an empty cell
+-- values are to cells as cells are to values: a value's only place is a cell's only value, a lost value an empty cell
 pub strikes_stay : (cells values : ℕ) (at at' : Has) → ((k v : ℕ) → at' k v ≡ true → at k v ≡ true) → (place value : ℕ)
     → strikes_where cells values at place value ≡ true → strikes_where cells values at' place value ≡ true
 unfolding strikes_where
