@@ -37,8 +37,8 @@ Repeats p g house =
 -- it is the first house that holds a number twice
 abbrev pub RepeatsFirst : Solo → List ℕ → SoloHouse → Type 0
 RepeatsFirst p g house =
-    (h : ℕ) × (h < length (houses_of p)) × (house ≡ slice_index_or (houses_of p) h house) × Repeats p g house
-    × ((i : ℕ) → i < h → Repeats p g (slice_index_or (houses_of p) i house) → ⊥)
+    (h : ℕ) × (h < length (houses_of p)) × (house ≡ slice_index_or (houses_of p) h house)
+    × Repeats p g house × ((i : ℕ) → i < h → Repeats p g (slice_index_or (houses_of p) i house) → ⊥)
 
 -- no rule is broken; or this one is, and none before it: the givens come first, by place, and then the houses
 abbrev pub IsFirstFault : Solo → List ℕ → Option SoloFault → Type 0

@@ -10,8 +10,8 @@ use Rattle.solo_core.specs.Deciding.{has_in}
 pub record IsPeeled (n : ℕ) (old new : List ℕ) : Type 0 where
   pub as_many : length new ≡ length old
   pub inside : (k v : ℕ) → k < length old → has_in new k v ≡ true → has_in old k v ≡ true
-  pub keeps : (mates : List ℕ) → IsPairing (has_in old) (length old) n mates → (k : ℕ) → k < length old
-      → has_in new k (slice_index mates k) ≡ true
+  pub keeps : (mates : List ℕ) → IsPairing (has_in old) (length old) n mates
+      → (k : ℕ) → k < length old → has_in new k (slice_index mates k) ≡ true
 
 -- the cell has one value, which no other cell has
 pub record IsAlone (n : ℕ) (sets : List ℕ) (cell : ℕ) : Type 0 where
