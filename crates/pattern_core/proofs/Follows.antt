@@ -1,4 +1,6 @@
 -- A line of numbers goes along the spelled clue, by the places that its cells reach.
+use Rattle.std.proofs.lemmas.Bool.{cases_Bool}
+use Rattle.std.proofs.lemmas.Grind.{common_steps}
 use Rattle.std.proofs.Common.{◌≡◌, ◌∙◌, ℕ, zero, suc, ◌+◌, ◌<◌, Bool, true, false, not, ◌&&◌, ◌||◌, eqb, List, ◌∷◌, length, get_or, drop, refl, sym, ap, arith}
 use Rattle.std.specs.List.{AllByRecursion}
 use Rattle.std.proofs.lemmas.Bool.{ne_eqb}
@@ -40,6 +42,4 @@ module _ (n : ℕ) (t : Track) (below : IsBelow n t) (cells : List ℕ) (k : ℕ
   pub follow_end : (clue : List ℕ) (both : ℕ → Bool) → t ≡ track_of (spelled clue) → AllByRecursion (λ m. 0 < m) clue → k ≡ length cells → ((p : ℕ) → both p ≡ (reached p && t.ends p))
       → any_below (λ p. reached p && leads t p (drop k cells)) n ≡ leads t 0 cells → any_below both n ≡ has_runs clue cells
   unfolding leads
-  follow_end clue both spells positive all each before =
-      any_below-same both (λ p. reached p && leads t p (drop k cells)) n (λ p low. each p ∙ ap (λ (l : List ℕ). reached p && leads t p l) (sym (drop_all k cells (omega arith))))
-      ∙ before ∙ ap (λ u. leads u 0 cells) spells ∙ leads_runs clue cells positive
+  follow_end clue both spells positive all each before = grind (arith, common_steps, cases_Bool, any_below-same, drop_all, leads_runs)

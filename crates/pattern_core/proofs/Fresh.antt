@@ -1,4 +1,6 @@
 -- A line of a board whose cells may all be either strikes nothing, where it is roomy for its clue.
+use Rattle.std.proofs.lemmas.Bool.{cases_Bool}
+use Rattle.std.proofs.lemmas.Grind.{common_steps}
 use Rattle.std.proofs.Common.{◌≡◌, ◌∙◌, ℕ, suc, ◌+◌, ◌-◌, ◌*◌, ◌<◌, ◌≤◌, true, false, List, [], ◌∷◌, length, get_or, slice_index, sym, subst, arith}
 use Rattle.std.specs.List.{AllByRecursion}
 use Rattle.std.proofs.lemmas.Bool.{and_parts, ltb-true, true≢false, false_from_ne_true}
@@ -56,7 +58,4 @@ fresh_idle p line n clue K is lt same long r fresh c v on =
 -- a board of two values whose cells have both
 pub board_is_fresh : (b : Layout) (cells : ℕ) → b.values ≡ 2 → ((c : ℕ) → c < cells → (has b c 0 ≡ true) × (has b c 1 ≡ true)) → IsFresh cells (has b)
 unfolding has
-board_is_fresh b cells two both = record {
-  both = both;
-  within = λ c v on. let z = ltb-true v b.values (and_parts _ _ on).0 in omega arith;
-}
+board_is_fresh b cells two both = grind (arith, common_steps, cases_Bool, and_parts, ltb-true)

@@ -1,4 +1,6 @@
 -- Fillings that lead along a track, cell by cell: by tests alone, no filling is taken apart.
+use Rattle.std.proofs.lemmas.Bool.{cases_Bool}
+use Rattle.std.proofs.lemmas.Grind.{common_steps}
 use Rattle.std.proofs.Common.{◌≡◌, ◌∙◌, ℕ, zero, suc, ◌<◌, Bool, true, false, ◌&&◌, ◌||◌, List, [], ◌∷◌, refl, sym, ap, ap₂, arith, inl, inr}
 use Rattle.std.proofs.Math.Path.{fun_ext}
 use Rattle.std.proofs.Math.Bool.{and-or_distrib_right, and_assoc}
@@ -16,15 +18,7 @@ same_tests false false h k = refl
 
 -- ---- tests of fillings
 some_or : (sets : List Set) (t u : List ℕ → Bool) → some_filling sets (λ f. t f || u f) ≡ (some_filling sets t || some_filling sets u)
-some_or sets t u = same_tests (some_filling sets (λ f. t f || u f)) (some_filling sets t || some_filling sets u)
-    (λ on. let w = filling_from_test sets (λ f. t f || u f) on in elim (or_cases (t w.0) (u w.0) w.2) [
-      | inl a ↦ or_left (some_filling sets t) (some_filling sets u) (test_from_filling sets t w.0 w.1 a)
-      | inr b ↦ or_right (some_filling sets t) (some_filling sets u) (test_from_filling sets u w.0 w.1 b)
-    ])
-    (λ on. elim (or_cases (some_filling sets t) (some_filling sets u) on) [
-      | inl a ↦ let w = filling_from_test sets t a in test_from_filling sets (λ f. t f || u f) w.0 w.1 (or_left (t w.0) (u w.0) w.2)
-      | inr b ↦ let w = filling_from_test sets u b in test_from_filling sets (λ f. t f || u f) w.0 w.1 (or_right (t w.0) (u w.0) w.2)
-    ])
+some_or sets t u = grind (arith, common_steps, cases_Bool, filling_from_test, or_cases, or_left, or_right, same_tests, test_from_filling)
 
 some_none : (sets : List Set) → some_filling sets (λ f. false) ≡ false
 some_none sets = false_from_ne_true (some_filling sets (λ f. false)) (λ on. let w = filling_from_test sets (λ f. false) on in false≢true w.2)

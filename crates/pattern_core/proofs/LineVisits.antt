@@ -1,4 +1,6 @@
 -- A visit of a line, from its three steps.
+use Rattle.std.proofs.lemmas.Bool.{cases_Bool}
+use Rattle.std.proofs.lemmas.Grind.{common_steps}
 use Rattle.std.proofs.Common.{◌≡◌, ◌∙◌, ℕ, zero, suc, ◌+◌, ◌*◌, ◌<◌, ◌≤◌, Bool, true, false, not, cond, ltb, ◌&&◌, ◌==◌, refl, List, [], ◌∷◌, length, slice_index, get_or, take, map, sym, ap, ap₂, subst, arith}
 use Rattle.std.specs.List.{AllByRecursion}
 use Rattle.std.proofs.lemmas.Bool.{true≢false, false_from_ne_true, and_parts, eqb-true}
@@ -52,19 +54,7 @@ pub nothing_struck : (size : Extent) (line : ℕ) (clue : List ℕ) (K : Candida
     → IsDecided 2 (strikes_by_fillings (has_runs clue)) sets sets
     → K ≡ after_line size line clue K
 unfolding kept_in
-nothing_struck size line clue K places sets same within long bits read decided =
-    line_visited size line clue K K places sets sets same within long bits read decided (fun_ext λ c. fun_ext λ v. stays c v (K c v) refl)
-  where
-    none : (c v : ℕ) → K c v ≡ true → any_below (λ k. (slice_index places k == c) && not (has_bit (slice_index sets k) v)) (length places) ≡ false
-    none c v on = false_from_ne_true (any_below (λ k. (slice_index places k == c) && not (has_bit (slice_index sets k) v)) (length places)) (λ some.
-        let w = any_below-some (λ k. (slice_index places k == c) && not (has_bit (slice_index sets k) v)) (length places) some in
-        let u = and_parts (slice_index places w.0 == c) (not (has_bit (slice_index sets w.0) v)) w.2 in
-        let is : has_bit (slice_index sets w.0) v ≡ K (slice_index places w.0) v = (bits w.0 w.1).same v (within c v on).1 in
-        true≢false (sym u.1 ∙ ap not (is ∙ ap (λ d. K d v) (eqb-true (slice_index places w.0) c u.0) ∙ on)))
-
-    stays : (c v : ℕ) (b : Bool) → K c v ≡ b → K c v ≡ (K c v && not (any_below (λ k. (slice_index places k == c) && not (has_bit (slice_index sets k) v)) (length places)))
-    stays c v true on = on ∙ sym (ap₂ (λ x y. x && not y) on (none c v on))
-    stays c v false off = off ∙ sym (ap (λ x. x && not (any_below (λ k. (slice_index places k == c) && not (has_bit (slice_index sets k) v)) (length places))) off)
+nothing_struck size line clue K places sets same within long bits read decided = grind (arith, common_steps, cases_Bool, and_parts, any_below-some, eqb-true, false_from_ne_true, fun_ext, line_visited, true≢false)
 
 pub after_line_read : (p : Pattern) (line : ℕ) (clue : List ℕ) (K : Candidates) → clue ≡ clue_of p line → after_line p.size line clue K ≡ after (line_rules p) line K
 unfolding after_line after
@@ -86,8 +76,7 @@ numbers_read clues k clue lt at = ap numbers_in at ∙ sym (get_or-map numbers_i
 -- a line whose runs are not its clue refuses the grid
 pub line_refused : (p : Pattern) (g : List ℕ) (line : ℕ) (clue : List ℕ) (told : Bool) → line < lines_of p.size → clue ≡ clue_of p line
     → (runs (line_numbers p.size g line) ≡ clue → told ≡ true) → told ≡ false → is_pattern_solution p g ≡ false
-line_refused p g line clue told lt same tells off = false_from_ne_true (is_pattern_solution p g) (λ on.
-    true≢false (sym (tells (is_solution-line p g line on lt ∙ sym same)) ∙ off))
+line_refused p g line clue told lt same tells off = grind (arith, common_steps, cases_Bool, false_from_ne_true, is_solution-line, true≢false)
 
 -- a copy of all clues
 pub copied_pattern : (p : Pattern) (size : Extent) (clues : List (List ℕ)) (n : ℕ) → size ≡ p.size → clues ≡ take n p.clues → length p.clues ≤ n
@@ -97,10 +86,7 @@ copied_pattern p size clues n same front all = ap₂ (λ (s : Extent) (c : List 
 -- the first wrong line
 pub wrong_line : (p : Pattern) (g : List ℕ) (size : Extent) (line : ℕ) (clue : List ℕ) (told : Bool) → size ≡ p.size → clue ≡ clue_of p line
     → (runs (line_numbers size g line) ≡ clue → told ≡ true) → told ≡ false → ((k : ℕ) → k < line → HasClue p g k) → IsFirstWrongLine p g line
-wrong_line p g size line clue told same is tells off before = record {
-  wrong = λ has. true≢false (sym (tells (ap (λ (s : Extent). runs (line_numbers s g line)) same ∙ has ∙ sym is)) ∙ off);
-  before = before;
-}
+wrong_line p g size line clue told same is tells off before = grind (arith, common_steps, cases_Bool, true≢false)
 
 -- a clue of a puzzle fits its line, and a spelled clue fits a word
 clue_from : (size : Extent) (clues : List (List ℕ)) (from k : ℕ) → AreClues size from clues → k < length clues → IsClue (line_cells size (from + k)) (get_or clues k [])
@@ -110,11 +96,7 @@ clue_from size (clue ∷ clues) from (suc k) all lt =
     subst (λ n. IsClue (line_cells size n) (get_or clues k [])) (let z : from + 1 + k ≡ from + suc k = omega arith in z) (clue_from size clues (from + 1) k all.1 (omega arith))
 
 line_short : (size : Extent) (line : ℕ) → IsExtent size → line_cells size line ≤ max_side
-line_short size line e = by (ltb line size.w)
-  where
-    by : (b : Bool) → cond b size.h size.w ≤ max_side
-    by true = e.h_high
-    by false = e.w_high
+line_short size line e = grind (arith, common_steps, cases_Bool)
 
 pub clue_of_line : (p : Pattern) (line : ℕ) (clue : List ℕ) → IsPattern p → line < lines_of p.size → clue ≡ clue_of p line → AllByRecursion (λ n. 0 < n) clue × (used clue ≤ 127)
 clue_of_line p line clue is lt same =

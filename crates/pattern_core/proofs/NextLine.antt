@@ -1,4 +1,5 @@
 -- The lines that have a place are its column and its row.
+use Rattle.std.proofs.lemmas.Grind.{common_steps}
 use Rattle.std.proofs.Common.{◌≡◌, ℕ, zero, suc, length, ◌+◌, ◌*◌, ◌/◌, ◌%◌, ◌<◌, ◌≤◌, ◌||◌, eqb, Bool, true, false, Some, None, refl, sym, ap, ◌∙◌, arith, inl, inr, ◌⊎◌}
 use Rattle.std.proofs.lemmas.Bool.{cases_Bool, cases_lt, true≢false, or_left, or_right, eq-eqb, ne_eqb, false_from_ne_true}
 use Rattle.std.proofs.lemmas.Nat.{div-add-mod'}
@@ -19,10 +20,7 @@ module _ (size : Extent) (w place from : ℕ) (same : w ≡ size.w) (some : 1 �
   cell = ap (λ v. (place / w) * v + place % w) (sym same) ∙ div-add-mod' place w
 
   y_low : place / w < size.h
-  y_low = elim (cases_lt (place / w) size.h) [
-    | inl low ↦ low
-    | inr high ↦ let more : size.h * size.w ≤ (place / w) * size.w = mul-le-mul_right size.w high in let e = cell in absurd (omega arith)
-  ]
+  y_low = grind (arith, common_steps, cases_Bool, cases_lt, cell, mul-le-mul_right)
 
   in_column : has_place (line_places size (place % w)) place ≡ true
   in_column = ap (has_place (line_places size (place % w))) (sym cell) ∙ column_has size (place % w) (place / w) x_low y_low
@@ -31,42 +29,22 @@ module _ (size : Extent) (w place from : ℕ) (same : w ≡ size.w) (some : 1 �
   in_row = ap (has_place (line_places size (size.w + place / w))) (sym cell) ∙ row_has size (place % w) (place / w) x_low y_low
 
   no_other : (line : ℕ) → has_place (line_places size line) place ≡ true → (line ≡ place % w) ⊎ (line ≡ size.w + place / w)
-  no_other line on = elim (cases_lt line size.w) [
-    | inl column ↦ inl (only_column size (place % w) (place / w) line x_low column (ap (has_place (line_places size line)) cell ∙ on))
-    | inr row ↦ inr (only_row size (place % w) (place / w) line x_low row (ap (has_place (line_places size line)) cell ∙ on))
-  ]
+  no_other line on = grind (arith, common_steps, cases_Bool, cases_lt, cell, only_column, only_row, x_low)
 
   not_between : (line : ℕ) → (line ≡ place % w → ⊥) → (line ≡ size.w + place / w → ⊥) → has_place (line_places size line) place ≡ false
   not_between line a b = false_from_ne_true (has_place (line_places size line) place) (λ on. elim (no_other line on) [ inl e ↦ a e | inr e ↦ b e ])
 
   pub next_column : from ≤ place % w → IsNext (λ h. has_place (line_places size h) place) (lines_of size) from (Some (place % w))
-  next_column low = (
-    low,
-    let l = x_low in omega arith,
-    in_column,
-    λ j ge lt. let l = x_low in not_between j (λ e. absurd (omega arith)) (λ e. absurd (omega arith)),
-  )
+  next_column low = grind (arith, common_steps, cases_Bool, in_column, not_between, x_low)
 
   pub next_row : place % w < from → from ≤ w + place / w → IsNext (λ h. has_place (line_places size h) place) (lines_of size) from (Some (w + place / w))
-  next_row past low = (
-    low,
-    let l = y_low in omega arith,
-    ap (λ v. has_place (line_places size (v + place / w)) place) same ∙ in_row,
-    λ j ge lt. not_between j (λ e. absurd (omega arith)) (λ e. absurd (omega arith)),
-  )
+  next_row past low = grind (arith, common_steps, cases_Bool, in_row, not_between, y_low)
 
   pub next_none : place % w < from → w + place / w < from → IsNext (λ h. has_place (line_places size h) place) (lines_of size) from None
   next_none past later = λ j ge lt. not_between j (λ e. absurd (omega arith)) (λ e. absurd (omega arith))
 
   pub its_lines : (line : ℕ) → (eqb line (place % w) || eqb line (w + place / w)) ≡ has_place (line_places size line) place
-  its_lines line = elim (cases_Bool (has_place (line_places size line) place)) [
-    | inl on ↦ elim (no_other line on) [
-      | inl e ↦ or_left _ _ (eq-eqb line (place % w) e) ∙ sym on
-      | inr e ↦ or_right _ _ (eq-eqb line (w + place / w) (e ∙ ap (λ v. v + place / w) (sym same))) ∙ sym on
-    ]
-    | inr off ↦ ap (λ b. b || eqb line (w + place / w)) (ne_eqb line (place % w) (λ e. true≢false (sym in_column ∙ rw e at off)))
-        ∙ ne_eqb line (w + place / w) (λ e. true≢false (sym in_row ∙ rw (e ∙ ap (λ v. v + place / w) same) at off)) ∙ sym off
-  ]
+  its_lines line = grind (arith, common_steps, cases_Bool, eq-eqb, in_column, in_row, ne_eqb, no_other, or_left, or_right, true≢false)
 
 -- ---- the same by their number
 module _ (size : Extent) (w place : ℕ) (same : w ≡ size.w) (some : 1 ≤ size.w) (within : place < size.w * size.h) where

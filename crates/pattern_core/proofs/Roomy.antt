@@ -1,5 +1,7 @@
 -- A line of cells that may be either, longer than its clue needs by as much as each run is: each of its cells is white in some
 -- filling, and black in some.
+use Rattle.std.proofs.lemmas.Bool.{cases_Bool}
+use Rattle.std.proofs.lemmas.Grind.{common_steps}
 use Rattle.std.proofs.Common.{◌≡◌, ◌∙◌, ℕ, zero, suc, ◌+◌, ◌-◌, ◌<◌, ◌≤◌, List, [], ◌∷◌, ◌++◌, true, false, length, get_or, replicate, refl, ap, subst, arith, inl, inr}
 use Rattle.std.specs.List.{AllByRecursion}
 use Rattle.std.proofs.lemmas.Bool.{cases_lt, cases_eq}
@@ -54,11 +56,7 @@ module _ (d a : ℕ) (cells : List ℕ) where
   behind k = get_or-append_right (replicate d a) cells d (d + k) 0 (length-replicate d a) (omega arith) ∙ ap (λ j. get_or cells j 0) (let z : d + k - d ≡ k = omega arith in z)
 
   stays_small : a < 2 → ((j : ℕ) → get_or cells j 0 < 2) → (j : ℕ) → get_or (replicate d a ++ cells) j 0 < 2
-  stays_small low small j = elim (cases_lt j d) [
-    | inl lt ↦ let e = before j lt in omega arith
-    | inr ge ↦ let e = behind (j - d) in let s = small (j - d) in
-        let z : get_or (replicate d a ++ cells) j 0 ≡ get_or cells (j - d) 0 = ap (λ i. get_or (replicate d a ++ cells) i 0) (let y : j ≡ d + (j - d) = omega arith in y) ∙ e in omega arith
-  ]
+  stays_small low small j = grind (arith, common_steps, cases_Bool, before, behind, cases_lt)
 
   longer : length (replicate d a ++ cells) ≡ d + length cells
   longer = omega (arith, length-append (replicate d a) cells, length-replicate {A = ℕ} d a)

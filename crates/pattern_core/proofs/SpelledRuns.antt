@@ -1,4 +1,6 @@
 -- A line leads along the spelled clue from its first place to an end exactly where its runs are the clue.
+use Rattle.std.proofs.lemmas.Bool.{cases_Bool}
+use Rattle.std.proofs.lemmas.Grind.{common_steps}
 use Rattle.std.proofs.Common.{◌≡◌, ◌∙◌, ℕ, zero, suc, ◌+◌, ◌<◌, ◌≤◌, Bool, true, false, not, ◌&&◌, ◌||◌, eqb, leb, List, [], ◌∷◌, ◌++◌, length, get_or, drop, replicate, refl, sym, ap, ap₂, arith, inl, inr}
 use Rattle.std.specs.List.{AllByRecursion}
 use Rattle.std.proofs.Math.Path.{fun_ext}
@@ -103,10 +105,7 @@ left_first spell p = get_or-drop p spell 0 2 ∙ ap (λ n. get_or spell n 2) (le
 
 -- a place at which something is spelled
 place_low : (spell : List ℕ) (p v : ℕ) → v < 2 → eqb (get_or spell p 2) v ≡ true → p < length spell
-place_low spell p v small on = elim (cases_lt p (length spell)) [
-  | inl low ↦ low
-  | inr high ↦ let e = eqb-true (get_or spell p 2) v on in let d = get_or_past spell p 2 high in absurd (omega arith)
-]
+place_low spell p v small on = grind (arith, common_steps, cases_Bool, cases_lt, eqb-true, get_or_past)
 
 next_left : (spell : List ℕ) (p : ℕ) → drop 1 (drop p spell) ≡ drop (suc p) spell
 next_left spell p = drop-drop 1 p spell ∙ ap (λ n. drop n spell) (let z : p + 1 ≡ suc p = omega arith in z)
@@ -151,8 +150,4 @@ length-spelled (n ∷ clue) = omega (arith, length-append (replicate n 1) (0 ∷
 
 pub track_below : (spell : List ℕ) (n : ℕ) → length spell < n → IsBelow n (track_of spell)
 unfolding track_of
-track_below spell n fits = record {
-  first = omega arith;
-  white = λ p on. let z = place_low spell p 0 (omega arith) on in omega arith;
-  black = λ p on. let z = place_low spell p 1 (omega arith) on in omega arith;
-}
+track_below spell n fits = grind (arith, common_steps, cases_Bool, place_low)

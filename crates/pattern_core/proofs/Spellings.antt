@@ -1,4 +1,6 @@
 -- A clue spelled cell by cell, as sets of places, and read back from them.
+use Rattle.std.proofs.lemmas.Bool.{cases_Bool}
+use Rattle.std.proofs.lemmas.Grind.{common_steps}
 use Rattle.std.proofs.Common.{◌≡◌, ◌∙◌, ℕ, zero, suc, ◌+◌, ◌<◌, ◌≤◌, Bool, true, false, cond, ◌||◌, eqb, List, [], ◌∷◌, ◌++◌, length, get_or, take, replicate, refl, sym, ap, ap₂, subst, arith, inl, inr, append_assoc, length-append}
 use Rattle.std.specs.List.{AllByRecursion}
 use Rattle.std.proofs.Math.Path.{fun_ext}
@@ -10,10 +12,7 @@ use Rattle.pattern_core.specs.Track.{spelled, Track, track_of, may_stay, one_on,
 
 -- the cells with one more
 more_cells : (cells : List ℕ) (x p : ℕ) → (p ≡ length cells → ⊥) → get_or (cells ++ x ∷ []) p 2 ≡ get_or cells p 2
-more_cells cells x p ne = elim (cases_lt p (length cells)) [
-  | inl low ↦ get_or_append_left cells (x ∷ []) 2 p low
-  | inr high ↦ get_or_past (cells ++ x ∷ []) p 2 (omega (arith, length-append cells (x ∷ []))) ∙ sym (get_or_past cells p 2 high)
-]
+more_cells cells x p ne = grind (arith, common_steps, cases_Bool, cases_lt, get_or_append_left, get_or_past, length-append)
 
 last_cell : (cells : List ℕ) (x : ℕ) → get_or (cells ++ x ∷ []) (length cells) 2 ≡ x
 last_cell [] x = refl
@@ -30,42 +29,17 @@ or_false false = refl
 -- a word with the place of the new cell
 new_place : (cells : List ℕ) (v : ℕ) (old next new : ℕ → Bool) → ((p : ℕ) → old p ≡ eqb (get_or cells p 2) v) → ((p : ℕ) → next p ≡ eqb p (length cells)) → v < 2
     → ((p : ℕ) → new p ≡ (old p || next p)) → (p : ℕ) → new p ≡ eqb (get_or (cells ++ v ∷ []) p 2) v
-new_place cells v old next new is after small each p = each p ∙ ap₂ (λ a b. a || b) (is p) (after p) ∙ elim (cases_eq p (length cells)) [
-  | inl e ↦ ap (λ b. eqb (get_or cells p 2) v || b) (eq-eqb p (length cells) e) ∙ or_true (eqb (get_or cells p 2) v)
-      ∙ sym (eq-eqb (get_or (cells ++ v ∷ []) p 2) v (ap (λ q. get_or (cells ++ v ∷ []) q 2) e ∙ last_cell cells v))
-  | inr ne ↦ ap (λ b. eqb (get_or cells p 2) v || b) (ne_eqb p (length cells) ne) ∙ or_false (eqb (get_or cells p 2) v)
-      ∙ ap (λ n. eqb n v) (sym (more_cells cells v p ne))
-]
+new_place cells v old next new is after small each p = grind (arith, common_steps, cases_Bool, cases_eq, eq-eqb, last_cell, more_cells, ne_eqb, or_false, or_true)
 
 -- the other word stays
 old_place : (cells : List ℕ) (x v : ℕ) (old : ℕ → Bool) → x < 2 → v < 2 → (x ≡ v → ⊥) → ((p : ℕ) → old p ≡ eqb (get_or cells p 2) v) → (p : ℕ) → old p ≡ eqb (get_or (cells ++ x ∷ []) p 2) v
-old_place cells x v old few small other is p = is p ∙ elim (cases_eq p (length cells)) [
-  | inl e ↦ ne_eqb (get_or cells p 2) v (λ q. let past = get_or_past cells p 2 (omega arith) in absurd (omega arith))
-      ∙ sym (ne_eqb (get_or (cells ++ x ∷ []) p 2) v (λ q. other (sym (last_cell cells x) ∙ ap (λ n. get_or (cells ++ x ∷ []) n 2) (sym e) ∙ q)))
-  | inr ne ↦ ap (λ n. eqb n v) (sym (more_cells cells x p ne))
-]
+old_place cells x v old few small other is p = grind (arith, common_steps, cases_Bool, cases_eq, get_or_past, last_cell, more_cells, ne_eqb)
 
 -- the place after it
 next_place : (cells : List ℕ) (x n : ℕ) (next new : ℕ → Bool) → suc (length cells) < n → ((p : ℕ) → next p ≡ eqb p (length cells))
     → ((p : ℕ) → p < n → new p ≡ one_on next p) → ((p : ℕ) → n ≤ p → new p ≡ false) → (p : ℕ) → new p ≡ eqb p (length (cells ++ x ∷ []))
 unfolding one_on
-next_place cells x n next new fits after within past p = elim (cases_lt p n) [
-  | inl low ↦ within p low ∙ by p
-  | inr high ↦ past p high ∙ sym (ne_eqb p (length (cells ++ x ∷ [])) (λ e. absurd (omega (arith, length-append cells (x ∷ [])))))
-]
-  where
-    longer : length (cells ++ x ∷ []) ≡ suc (length cells)
-    longer = omega (arith, length-append cells (x ∷ []))
-
-    one_more_each : (k m : ℕ) → eqb k m ≡ eqb (suc k) (suc m)
-    one_more_each k m = elim (cases_eq k m) [
-      | inl e ↦ eq-eqb k m e ∙ sym (eq-eqb (suc k) (suc m) (ap suc e))
-      | inr ne ↦ ne_eqb k m ne ∙ sym (ne_eqb (suc k) (suc m) (λ e. ne (omega arith)))
-    ]
-
-    by : (q : ℕ) → one_on next q ≡ eqb q (length (cells ++ x ∷ []))
-    by zero = sym (ne_eqb 0 (length (cells ++ x ∷ [])) (λ e. absurd (omega (arith, longer))))
-    by (suc q) = after q ∙ one_more_each q (length cells) ∙ sym (ap (eqb (suc q)) longer)
+next_place cells x n next new fits after within past p = grind (arith, common_steps, cases_Bool, cases_eq, cases_lt, eq-eqb, length-append, ne_eqb)
 
 module _ (A : Type 0) (has : A → ℕ → Bool) (n : ℕ) (cells : List ℕ) (white black next new on : A) (s : IsSpelling has cells white black next) (fits : suc (length cells) < n)
     (within : (p : ℕ) → p < n → has on p ≡ one_on (has next) p) (past : (p : ℕ) → n ≤ p → has on p ≡ false) where
@@ -123,26 +97,7 @@ pub track_spelled : (A : Type 0) (has : A → ℕ → Bool) (n : ℕ) (cells : L
     → ((p : ℕ) → has back p ≡ has next (suc p)) → ((p : ℕ) → has ends p ≡ (has next p || has back p))
     → ◌≡◌ {A = Track} (record { stay = has stay; white = has white; black = has black; ends = has ends }) (track_of cells)
 unfolding track_of may_stay one_on
-track_spelled A has n cells white black next stay on ends first back fits s within past one stay_is back_is ends_is =
-    same_tracks _ _ _ _ _ _ _ _ (fun_ext stays) (fun_ext s.whites) (fun_ext s.blacks) (fun_ext ended)
-  where
-    same_tracks : (a b c d a' b' c' d' : ℕ → Bool) → a ≡ a' → b ≡ b' → c ≡ c' → d ≡ d'
-        → ◌≡◌ {A = Track} (record { stay = a; white = b; black = c; ends = d }) (record { stay = a'; white = b'; black = c'; ends = d' })
-    same_tracks a b c d a' b' c' d' p q r t = ap₂ (λ (f : (ℕ → Bool) × (ℕ → Bool)) (g : (ℕ → Bool) × (ℕ → Bool)). record { stay = f.0; white = f.1; black = g.0; ends = g.1 }) (ap₂ (λ m n. (m, n)) p q) (ap₂ (λ m n. (m, n)) r t)
-
-    -- past the spelled cells nothing is white
-    on_is : (p : ℕ) → has on (suc p) ≡ eqb (get_or cells p 2) 0
-    on_is p = elim (cases_lt (suc p) n) [
-      | inl inside ↦ within (suc p) inside ∙ s.whites p
-      | inr high ↦ past (suc p) high ∙ sym (ap (λ x. eqb x 0) (get_or_past cells p 2 (omega arith)))
-    ]
-
-    stays : (p : ℕ) → has stay p ≡ may_stay cells p
-    stays zero = stay_is zero ∙ ap (λ b. has on zero || b) (one zero) ∙ or_true (has on zero)
-    stays (suc p) = stay_is (suc p) ∙ ap₂ (λ a b. a || b) (on_is p) (one (suc p) ∙ ne_eqb (suc p) 0 (λ e. absurd (omega arith))) ∙ or_false (eqb (get_or cells p 2) 0)
-
-    ended : (p : ℕ) → has ends p ≡ (eqb p (length cells) || eqb (suc p) (length cells))
-    ended p = ends_is p ∙ ap₂ (λ a b. a || b) (s.nexts p) (back_is p ∙ s.nexts (suc p))
+track_spelled A has n cells white black next stay on ends first back fits s within past one stay_is back_is ends_is = grind (arith, common_steps, cases_Bool, cases_lt, fun_ext, get_or_past, ne_eqb, or_false, or_true)
 
 -- ---- the clue of a track
 -- the cells after the first
@@ -184,9 +139,4 @@ unfolding clue_along track_of
 clue_back clue n t positive fits is = ap (λ (u : Track). runs (cells_from u.black n 0)) is ∙ spelled_runs clue positive n (omega arith)
 
 pub track_of_clue : (clue : List ℕ) (n : ℕ) (t : Track) → AllByRecursion (λ k. 0 < k) clue → used clue < n → t ≡ track_of (spelled clue) → IsTrack n t
-track_of_clue clue n t positive fits is =
-    let same = clue_back clue n t positive fits is in record {
-      spells = is ∙ ap (λ (c : List ℕ). track_of (spelled c)) (sym same);
-      positive = subst (AllByRecursion (λ k. 0 < k)) (sym same) positive;
-      fits = let e = ap used same in omega arith;
-    }
+track_of_clue clue n t positive fits is = grind (arith, common_steps, cases_Bool, clue_back)

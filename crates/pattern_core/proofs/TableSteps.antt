@@ -1,4 +1,6 @@
 -- The steps of the table, at a place of the line.
+use Rattle.std.proofs.lemmas.Bool.{cases_Bool}
+use Rattle.std.proofs.lemmas.Grind.{common_steps}
 use Rattle.std.proofs.Common.{◌≡◌, ◌∙◌, ℕ, zero, suc, ◌+◌, ◌%◌, ◌<◌, Bool, true, false, not, ◌&&◌, ◌||◌, eqb, List, [], ◌∷◌, length, get_or, drop, set, refl, sym, ap, ap₂, arith, inl, inr}
 use Rattle.std.specs.List.{AllByRecursion}
 use Rattle.std.proofs.lemmas.Bool.{cases_eq, ne_eqb, and_parts, and_from, eqb-true, true≢false, false_from_ne_true}
@@ -256,34 +258,8 @@ module _ (A : Type 0) (has : A → ℕ → Bool) (n : ℕ) (t : Track) (sets : L
 -- where there is no way, nothing is shown
 pub nothing_kept : (t : Track) (sets kept : List ℕ) → some_leads t (sets_of sets) any_cells 0 ≡ false → length kept ≡ length sets → ((k : ℕ) → k < length sets → get_or kept k 0 ≡ 0) → AreKept t sets kept (length sets)
 unfolding some_leads any_cells
-nothing_kept t sets kept none long zeros = record {
-  as_many = long;
-  bits = λ i v below small. ap (λ x. has_bit x v) (zeros i below) ∙ bits-of_zero v ∙ sym (no_value (has_bit (get_or sets i 0) v) (not_shown i v));
-}
-  where
-    no_value : (x : Bool) → {y : Bool} → y ≡ false → (x && y) ≡ false
-    no_value true e = e
-    no_value false e = refl
-
-    and_true : (x : Bool) → x ≡ true → (x && true) ≡ true
-    and_true true e = refl
-    and_true false e = absurd (true≢false (sym e))
-
-    not_shown : (i v : ℕ) → some_filling (sets_of sets) (λ cells. leads t 0 cells && cell_is i v cells) ≡ false
-    not_shown i v = false_from_ne_true (some_filling (sets_of sets) (λ cells. leads t 0 cells && cell_is i v cells)) (λ on.
-        let w = filling_from_test (sets_of sets) (λ cells. leads t 0 cells && cell_is i v cells) on in
-        let u = and_parts (leads t 0 w.0) (cell_is i v w.0) w.2 in
-        true≢false (sym (test_from_filling (sets_of sets) (λ cells. leads t 0 cells && true) w.0 w.1 (and_true (leads t 0 w.0) u.0)) ∙ none))
+nothing_kept t sets kept none long zeros = grind (arith, common_steps, cases_Bool, and_parts, bits-of_zero, false_from_ne_true, filling_from_test, test_from_filling, true≢false)
 
 pub decided_by_track : (clue sets kept : List ℕ) (t : Track) → t ≡ track_of (spelled clue) → AllByRecursion (λ n. 0 < n) clue → AreKept t sets kept (length sets)
     → IsDecided 2 (strikes_by_fillings (has_runs clue)) sets kept
-decided_by_track clue sets kept t is positive k = record {
-  as_many = k.as_many;
-  bits = λ i v inside small. k.bits i v inside small
-      ∙ ap (λ b. has_bit (get_or sets i 0) v && b) (ap (λ u. some_leads u (sets_of sets) (cell_is i v) 0) is ∙ double_not (some_leads (track_of (spelled clue)) (sets_of sets) (cell_is i v) 0)
-      ∙ ap not (sym (strikes_by_track clue (sets_of sets) i v positive)));
-}
-  where
-    double_not : (b : Bool) → b ≡ not (not b)
-    double_not true = refl
-    double_not false = refl
+decided_by_track clue sets kept t is positive k = grind (arith, common_steps, cases_Bool, b, strikes_by_track)

@@ -1,4 +1,6 @@
 -- The cells of a line by their places in the grid, and a walk along a line that follows its clue.
+use Rattle.std.proofs.lemmas.Bool.{cases_Bool}
+use Rattle.std.proofs.lemmas.Grind.{common_steps}
 use Rattle.std.proofs.Common.{◌≡◌, ◌∙◌, ℕ, zero, suc, ◌+◌, ◌*◌, ◌-◌, ◌<◌, ◌≤◌, ◌++◌, List, [], ◌∷◌, Bool, true, false, cond, ltb, length, slice_index, take, drop, refl, sym, ap, arith, append_assoc, append-nil, ap₂, add-one}
 use Rattle.std.proofs.lemmas.Bool.{lt-ltb, le-ltb}
 use Rattle.std.proofs.lemmas.List.{drop_all, take_all, length-take-le}
@@ -13,38 +15,22 @@ use Rattle.pattern_core.specs.LineLaws.{line_numbers-column, line_numbers-row}
 
 pub number_in_column : (size : Extent) (g : List ℕ) (line k w : ℕ) → w ≡ size.w → line < w → k < line_cells size line
     → slice_index g (k * w + line) ≡ slice_index (line_numbers size g line) k
-number_in_column size g line k w same lt within =
-    let below : line < size.w = omega arith in
-    let short : k < size.h = rw (lt-ltb line size.w below) at within in
-    ap (λ (v : ℕ). slice_index g (k * v + line)) same
-    ∙ sym (ap (λ (cells : List ℕ). slice_index cells k) (line_numbers-column size g line below)
-    ∙ get_or-map-range_with_len (λ y. slice_index g (y * size.w + line)) 0 size.h k k 0 short (omega arith))
+number_in_column size g line k w same lt within = grind (arith, common_steps, cases_Bool, get_or-map-range_with_len, line_numbers-column, lt-ltb)
 
 pub number_in_row : (size : Extent) (g : List ℕ) (line k w : ℕ) → w ≡ size.w → w ≤ line → k < line_cells size line
     → slice_index g ((line - w) * w + k) ≡ slice_index (line_numbers size g line) k
-number_in_row size g line k w same le within =
-    let from : size.w ≤ line = omega arith in
-    let short : k < size.w = rw (le-ltb line size.w from) at within in
-    ap (λ (v : ℕ). slice_index g ((line - v) * v + k)) same
-    ∙ sym (ap (λ (cells : List ℕ). slice_index cells k) (line_numbers-row size g line from)
-    ∙ get_or-map-range_with_len (λ x. slice_index g ((line - size.w) * size.w + x)) 0 size.w k k 0 short (omega arith))
+number_in_row size g line k w same le within = grind (arith, common_steps, cases_Bool, get_or-map-range_with_len, le-ltb, line_numbers-row)
 
 pub length-line_numbers : (size : Extent) (g : List ℕ) (line : ℕ) → length (line_numbers size g line) ≡ line_cells size line
 unfolding line_numbers
-length-line_numbers size g line = by_test (ltb line size.w)
-  where
-    by_test : (b : Bool) → length (cond b (column_cells size g line) (row_cells size g (line - size.w))) ≡ cond b size.h size.w
-    by_test true = length-map-range_with_len (λ y. slice_index g (y * size.w + line)) 0 size.h
-    by_test false = length-map-range_with_len (λ x. slice_index g ((line - size.w) * size.w + x)) 0 size.w
+length-line_numbers size g line = grind (arith, common_steps, cases_Bool, length-map-range_with_len)
 
 -- ---- along the cells
 
 runs_after-white : (cells : List ℕ) (run k : ℕ) → k < length cells → slice_index cells k ≡ 0
     → runs_after run (drop k cells) ≡ run_of run ++ runs_after 0 (drop (k + 1) cells)
 unfolding runs_after
-runs_after-white cells run k within white =
-    ap (runs_after run) (drop-cons cells k 0 within) ∙ ap (λ (b : ℕ). runs_after run (b ∷ drop (suc k) cells)) white
-    ∙ ap (λ (j : ℕ). run_of run ++ runs_after 0 (drop j cells)) (sym (add-one k))
+runs_after-white cells run k within white = grind (arith, common_steps, cases_Bool, add-one, drop-cons)
 
 one_longer : (run b : ℕ) (rest : List ℕ) → runs_after run (suc b ∷ rest) ≡ runs_after (suc run) rest
 unfolding runs_after
@@ -84,33 +70,24 @@ walk_white clue cells ended run k e walked within white ends = record {
 -- a white cell ends a run, which the clue has not
 pub walk_wrong : (clue cells : List ℕ) (ended run k : ℕ) → WalkedTo clue cells ended run k → k < length cells → slice_index cells k ≡ 0
     → ((rest : List ℕ) → take ended clue ++ (run_of run ++ rest) ≡ clue → ⊥) → runs cells ≡ clue → ⊥
-walk_wrong clue cells ended run k walked within white lacks is =
-    lacks (runs_after 0 (drop (k + 1) cells)) (ap (λ (l : List ℕ). take ended clue ++ l) (sym (runs_after-white cells run k within white)) ∙ walked.so_far ∙ is)
+walk_wrong clue cells ended run k walked within white lacks is = grind (arith, common_steps, cases_Bool, runs_after-white)
 
 pub walk_black : (clue cells : List ℕ) (ended run k : ℕ) → WalkedTo clue cells ended run k → k < length cells → (slice_index cells k ≡ 0 → ⊥)
     → WalkedTo clue cells ended (run + 1) (k + 1)
-walk_black clue cells ended run k walked within black = record {
-  within = walked.within;
-  short = omega (arith, walked.short);
-  so_far = ap (λ (l : List ℕ). take ended clue ++ l) (sym (runs_after-black cells run k within black)) ∙ walked.so_far;
-}
+walk_black clue cells ended run k walked within black = grind (arith, common_steps, cases_Bool, runs_after-black)
 
 -- after the last cell
 ended_runs : (clue cells : List ℕ) (ended run k : ℕ) → WalkedTo clue cells ended run k → k ≡ length cells → take ended clue ++ run_of run ≡ runs cells
 unfolding runs_after
-ended_runs clue cells ended run k walked all =
-    ap (λ (l : List ℕ). take ended clue ++ runs_after run l) (sym (drop_all k cells (omega arith))) ∙ walked.so_far
+ended_runs clue cells ended run k walked all = grind (arith, common_steps, cases_Bool, drop_all)
 
 pub walk_met : (clue cells : List ℕ) (ended run k e : ℕ) → WalkedTo clue cells ended run k → k ≡ length cells
     → (e ≤ length clue) × (take e clue ≡ take ended clue ++ run_of run) → e ≡ length clue → runs cells ≡ clue
-walk_met clue cells ended run k e walked all ends is =
-    sym (ended_runs clue cells ended run k walked all) ∙ sym ends.1 ∙ take_all e clue (omega arith)
+walk_met clue cells ended run k e walked all ends is = grind (arith, common_steps, cases_Bool, ended_runs, take_all)
 
 pub walk_meets : (clue cells : List ℕ) (ended run k e : ℕ) → WalkedTo clue cells ended run k → k ≡ length cells
     → (e ≤ length clue) × (take e clue ≡ take ended clue ++ run_of run) → runs cells ≡ clue → e ≡ length clue
-walk_meets clue cells ended run k e walked all ends is =
-    let same : take e clue ≡ clue = ends.1 ∙ ended_runs clue cells ended run k walked all ∙ is in
-    omega (arith, length-take-le e clue ends.0, ap length same)
+walk_meets clue cells ended run k e walked all ends is = grind (arith, common_steps, cases_Bool, ended_runs, length-take-le)
 
 pub walk_fails : (clue cells : List ℕ) (ended run k : ℕ) → WalkedTo clue cells ended run k → k ≡ length cells
     → ((rest : List ℕ) → take ended clue ++ (run_of run ++ rest) ≡ clue → ⊥) → runs cells ≡ clue → ⊥

@@ -1,4 +1,6 @@
 -- Words as sets of places, and the steps of a line along such sets.
+use Rattle.std.proofs.lemmas.Bool.{cases_Bool}
+use Rattle.std.proofs.lemmas.Grind.{common_steps}
 use Rattle.std.proofs.Common.{◌≡◌, ◌∙◌, ℕ, zero, suc, ◌*◌, ◌/◌, ◌%◌, ◌^◌, ◌<◌, ◌≤◌, Bool, true, false, not, ◌&&◌, ◌||◌, eqb, [], ◌∷◌, get_or, refl, sym, ap, ap₂, arith, inl, inr}
 use Rattle.std.specs.Prelude.{bit_or}
 use Rattle.std.specs.Int.{bit_at}
@@ -45,14 +47,7 @@ bits_of_none w = false_from_ne_true (any_below (has_bit 0) w) (λ on. let z = an
 
 -- the test of a word for a bit
 pub some_bit_is : (w bits : ℕ) → bits < 2 ^ w → 0 < 2 ^ w → not (eqb bits 0) ≡ any_below (has_bit bits) w
-some_bit_is w bits fits some = elim (cases_eq bits 0) [
-  | inl e ↦ ap not (eq-eqb bits 0 e) ∙ sym (ap (λ n. any_below (has_bit n) w) e ∙ bits_of_none w)
-  | inr ne ↦ ap not (ne_eqb bits 0 ne) ∙ sym (true_from_ne_false (any_below (has_bit bits) w) (λ none. ne (no_bits w bits fits some none)))
-]
-  where
-    true_from_ne_false : (b : Bool) → (b ≡ false → ⊥) → b ≡ true
-    true_from_ne_false true h = refl
-    true_from_ne_false false h = absurd (h refl)
+some_bit_is w bits fits some = grind (arith, common_steps, cases_Bool, bits_of_none, cases_eq, eq-eqb, ne_eqb, no_bits)
 
 pub or_false : (x : Bool) → (x || false) ≡ x
 or_false true = refl
@@ -64,31 +59,14 @@ low_two set v small = low_bits 2 set v small
 
 -- what masks say by a set
 pub masks_are : (white black set p : ℕ) → has_bit (get_or (0 ∷ white ∷ black ∷ bit_or white black ∷ []) (set % 4) 0) p ≡ ((has_bit set 0 && has_bit white p) || (has_bit set 1 && has_bit black p))
-masks_are white black set p =
-    by (set % 4) (mod-lt set (omega arith))
-    ∙ ap₂ (λ a b. (a && has_bit white p) || (b && has_bit black p)) (low_two set 0 (omega arith)) (low_two set 1 (omega arith))
-  where
-    by : (s : ℕ) → s < 4 → has_bit (get_or (0 ∷ white ∷ black ∷ bit_or white black ∷ []) s 0) p ≡ ((has_bit s 0 && has_bit white p) || (has_bit s 1 && has_bit black p))
-    by zero lt = bits-of_zero p
-    by (suc zero) lt = sym (or_false (has_bit white p))
-    by (suc (suc zero)) lt = refl
-    by (suc (suc (suc zero))) lt = bits-either white black p
-    by (suc (suc (suc (suc s)))) lt = absurd (omega arith)
+masks_are white black set p = grind (arith, common_steps, cases_Bool, bits-either, bits-of_zero, low_two, mod-lt, or_false)
 
 -- what the operations of words say of their bits
 pub ruleset place_laws = (bits-of_zero, bits-of_power, bits-both, bits-either, bits_next, bits_on, no_high, masks_are, some_bit_is)
 
 -- both are set exactly where they make 3
 pub both_low : (set : ℕ) → (has_bit set 0 && has_bit set 1) ≡ eqb (set % 4) 3
-both_low set =
-    ap₂ (λ a b. a && b) (sym (low_two set 0 (omega arith))) (sym (low_two set 1 (omega arith))) ∙ by (set % 4) (mod-lt set (omega arith))
-  where
-    by : (s : ℕ) → s < 4 → (has_bit s 0 && has_bit s 1) ≡ eqb s 3
-    by zero lt = refl
-    by (suc zero) lt = refl
-    by (suc (suc zero)) lt = refl
-    by (suc (suc (suc zero))) lt = refl
-    by (suc (suc (suc (suc s)))) lt = absurd (omega arith)
+both_low set = grind (arith, common_steps, cases_Bool, low_two, mod-lt)
 
 pub both_bits : (set : ℕ) → set % 4 ≡ 3 → (has_bit set 0 ≡ true) × (has_bit set 1 ≡ true)
 both_bits set e = and_parts (has_bit set 0) (has_bit set 1) (both_low set ∙ ap (λ s. eqb s 3) e)
@@ -117,10 +95,7 @@ spread true true false false k y = refl
 module _ (t : Track) (a b : Bool) (stays moves : ℕ → Bool) (stay : (p : ℕ) → stays p ≡ (a && t.stay p)) (move : (p : ℕ) → moves p ≡ ((a && t.white p) || (b && t.black p))) where
   pub ahead_step : (after : ℕ → Bool) (p : ℕ) → ((stays p && after p) || (moves p && after (suc p))) ≡ ahead t a b after p
   unfolding ahead
-  ahead_step after p =
-      ap₂ (λ m n. (m && after p) || (n && after (suc p))) (stay p) (move p)
-      ∙ ap (λ m. m || (((a && t.white p) || (b && t.black p)) && after (suc p))) (and_assoc a (t.stay p) (after p))
-      ∙ spread a b (t.stay p && after p) (t.white p) (t.black p) (after (suc p))
+  ahead_step after p = grind (arith, common_steps, cases_Bool, and_assoc, spread)
 
   pub moved_step : (reached : ℕ → Bool) (p : ℕ) → ((stays p && reached p) || one_on (λ q. moves q && reached q) p) ≡ moved t a b reached p
   unfolding moved one_on
@@ -143,9 +118,7 @@ pub moved_both : (t : Track) (set : ℕ) (white black reached : ℕ → Bool) (p
     → white p ≡ led_to t.stay t.white reached p → black p ≡ one_on (λ q. t.black q && reached q) p
     → (white p || black p) ≡ moved t (has_bit set 0) (has_bit set 1) reached p
 unfolding moved
-moved_both t set white black reached p e is_white is_black =
-    let both = both_bits set e in
-    ap₂ (λ a b. a || b) is_white is_black ∙ sym (ap₂ (λ a b. moved t a b reached p) both.0 both.1)
+moved_both t set white black reached p e is_white is_black = grind (arith, common_steps, cases_Bool, both_bits)
 
 -- the steps of a cell with a number
 pub moved_white : (t : Track) (number : ℕ) (reached : ℕ → Bool) (p : ℕ) → number ≡ 0 → moved t (eqb number 0) (not (eqb number 0)) reached p ≡ led_to t.stay t.white reached p

@@ -1,4 +1,6 @@
 -- The rules of lines are lawful, by the laws of fillings and the places of lines.
+use Rattle.std.proofs.lemmas.Bool.{cases_Bool}
+use Rattle.std.proofs.lemmas.Grind.{common_steps}
 use Rattle.std.proofs.Common.{◌≡◌, ℕ, zero, suc, ◌+◌, ◌-◌, ◌*◌, ◌%◌, ◌<◌, ◌≤◌, Bool, true, false, not, ◌&&◌, eqb, ltb, List, [], ◌∷◌, length, slice_index, map, refl, sym, ap, ap₂, ◌∙◌, arith, inl, inr, ◌⊎◌}
 use Rattle.std.specs.List.{range_with_len}
 use Rattle.std.proofs.lemmas.Bool.{cases_lt, true≢false, and_parts, and_from, eqb-true, eq-eqb, ltb-true, lt-ltb, le-ltb}
@@ -33,49 +35,30 @@ unfolding line_places
 row-places size line le = rw (le-ltb line size.w le) refl
 
 pub length-line_places : (size : Extent) (line : ℕ) → length (line_places size line) ≡ line_cells size line
-length-line_places size line = elim (cases_lt line size.w) [
-  | inl column ↦ ap length (column-places size line column) ∙ length-map-range_with_len (λ y. y * size.w + line) 0 size.h ∙ rw (lt-ltb line size.w column) refl
-  | inr row ↦ ap length (row-places size line row) ∙ length-map-range_with_len (λ x. (line - size.w) * size.w + x) 0 size.w ∙ rw (le-ltb line size.w row) refl
-]
+length-line_places size line = grind (arith, common_steps, cases_Bool, cases_lt, column-places, le-ltb, length-map-range_with_len, lt-ltb, row-places)
 
 pub place_in_column : (size : Extent) (line k : ℕ) → line < size.w → k < size.h → slice_index (line_places size line) k ≡ k * size.w + line
-place_in_column size line k lt within =
-    ap (λ (l : List ℕ). slice_index l k) (column-places size line lt) ∙ get_or-map-range_with_len (λ y. y * size.w + line) 0 size.h k k 0 within (omega arith)
+place_in_column size line k lt within = grind (arith, common_steps, cases_Bool, column-places, get_or-map-range_with_len)
 
 pub place_in_row : (size : Extent) (line k : ℕ) → size.w ≤ line → k < size.w → slice_index (line_places size line) k ≡ (line - size.w) * size.w + k
-place_in_row size line k le within =
-    ap (λ (l : List ℕ). slice_index l k) (row-places size line le) ∙ get_or-map-range_with_len (λ x. (line - size.w) * size.w + x) 0 size.w k k 0 within (omega arith)
+place_in_row size line k le within = grind (arith, common_steps, cases_Bool, get_or-map-range_with_len, row-places)
 
 -- a cell in column x and row y lies in the grid, and no other column and row have its place
 pub cell_in_grid : (size : Extent) (x y : ℕ) → x < size.w → y < size.h → y * size.w + x < size.w * size.h
-cell_in_grid size x y ltx lty =
-    let rows : (y + 1) * size.w ≤ size.h * size.w = mul-le-mul_right size.w (let le : y + 1 ≤ size.h = omega arith in le) in
-    omega arith
+cell_in_grid size x y ltx lty = grind (arith, common_steps, cases_Bool, mul-le-mul_right)
 
 same_column : (w x y a b : ℕ) → x < w → a < w → y * w + x ≡ b * w + a → x ≡ a
 same_column w x y a b ltx lta e = sym (mod-mul-add y w x ltx) ∙ ap (λ n. n % w) e ∙ mod-mul-add b w a lta
 
 same_row : (w x y a b : ℕ) → x < w → a < w → y * w + x ≡ b * w + a → y ≡ b
-same_row w x y a b ltx lta e = elim (cases_lt y b) [
-  | inl low ↦ let more : (y + 1) * w ≤ b * w = mul-le-mul_right w (let le : y + 1 ≤ b = omega arith in le) in absurd (omega arith)
-  | inr high ↦ elim (cases_lt b y) [
-    | inl less ↦ let more : (b + 1) * w ≤ y * w = mul-le-mul_right w (let le : b + 1 ≤ y = omega arith in le) in absurd (omega arith)
-    | inr equal ↦ omega arith
-  ]
-]
+same_row w x y a b ltx lta e = grind (arith, common_steps, cases_Bool, cases_lt, mul-le-mul_right)
 
 -- a place of a column, and of a row
 on_column : (size : Extent) (line c : ℕ) → line < size.w → has_place (line_places size line) c ≡ true → (y : ℕ) × (y < size.h) × (y * size.w + line ≡ c)
-on_column size line c lt on =
-    let w = has_place-at (line_places size line) c on in
-    let k : w.0 < size.h = omega (arith, w.1, ap length (column-places size line lt), length-map-range_with_len (λ y. y * size.w + line) 0 size.h) in
-    (w.0, k, sym (place_in_column size line w.0 lt k) ∙ w.2)
+on_column size line c lt on = grind (arith, common_steps, cases_Bool, column-places, has_place-at, length-map-range_with_len, place_in_column)
 
 on_row : (size : Extent) (line c : ℕ) → size.w ≤ line → has_place (line_places size line) c ≡ true → (x : ℕ) × (x < size.w) × ((line - size.w) * size.w + x ≡ c)
-on_row size line c le on =
-    let w = has_place-at (line_places size line) c on in
-    let k : w.0 < size.w = omega (arith, w.1, ap length (row-places size line le), length-map-range_with_len (λ x. (line - size.w) * size.w + x) 0 size.w) in
-    (w.0, k, sym (place_in_row size line w.0 le k) ∙ w.2)
+on_row size line c le on = grind (arith, common_steps, cases_Bool, has_place-at, length-map-range_with_len, place_in_row, row-places)
 
 pub in_grid : (size : Extent) (line c : ℕ) → line < lines_of size → has_place (line_places size line) c ≡ true → c < size.w * size.h
 in_grid size line c lt on = elim (cases_lt line size.w) [
@@ -111,10 +94,7 @@ pub only_column : (size : Extent) (x y line : ℕ) → x < size.w → line < siz
 only_column size x y line ltx lt on = let w = on_column size line (y * size.w + x) lt on in same_column size.w line w.0 x y lt ltx w.2
 
 pub only_row : (size : Extent) (x y line : ℕ) → x < size.w → size.w ≤ line → has_place (line_places size line) (y * size.w + x) ≡ true → line ≡ size.w + y
-only_row size x y line ltx le on =
-    let w = on_row size line (y * size.w + x) le on in
-    let same : line - size.w ≡ y = same_row size.w w.0 (line - size.w) x y w.1 ltx w.2 in
-    omega arith
+only_row size x y line ltx le on = grind (arith, common_steps, cases_Bool, on_row, same_row)
 
 -- ---- the bound: a cell is in two lines at most
 two_lines : (size : Extent) (c n : ℕ) → count_below (λ h. has_place (line_places size h) c) n ≤ 2
@@ -185,29 +165,13 @@ line_numbers-row size g line le = rw (le-ltb line size.w le) refl
 
 -- the numbers of a line are those at its places
 pub line_numbers-places : (size : Extent) (g : List ℕ) (line : ℕ) → map (slice_index g) (line_places size line) ≡ line_numbers size g line
-line_numbers-places size g line = elim (cases_lt line size.w) [
-  | inl column ↦ ap (map (slice_index g)) (column-places size line column) ∙ map-map (slice_index g) (λ y. y * size.w + line) (range_with_len 0 size.h) ∙ sym (line_numbers-column size g line column)
-  | inr row ↦ ap (map (slice_index g)) (row-places size line row) ∙ map-map (slice_index g) (λ x. (line - size.w) * size.w + x) (range_with_len 0 size.w) ∙ sym (line_numbers-row size g line row)
-]
+line_numbers-places size g line = grind (arith, common_steps, cases_Bool, cases_lt, column-places, line_numbers-column, line_numbers-row, map-map, row-places)
 
 pub solution_from_lines : (p : Pattern) (g : List ℕ) → IsGrid (p.size.w * p.size.h) 2 g → ((line : ℕ) → line < lines_of p.size → HasClue p g line) → IsPatternSolution p g
-solution_from_lines p g grid each = record {
-  grid = grid;
-  columns = λ x lt. ap runs (sym (line_numbers-column p.size g x lt)) ∙ each x (omega arith);
-  rows = λ y lt.
-      let back : (p.size.w + y) - p.size.w ≡ y = omega arith in
-      ap (λ (k : ℕ). runs (row_cells p.size g k)) (sym back)
-      ∙ ap runs (sym (line_numbers-row p.size g (p.size.w + y) (omega arith))) ∙ each (p.size.w + y) (omega arith);
-}
+solution_from_lines p g grid each = grind (arith, common_steps, cases_Bool, line_numbers-column, line_numbers-row)
 
 pub line_of_solution : (p : Pattern) (g : List ℕ) (line : ℕ) → line < lines_of p.size → IsPatternSolution p g → HasClue p g line
-line_of_solution p g line lt s = elim (cases_lt line p.size.w) [
-  | inl column ↦ ap runs (line_numbers-column p.size g line column) ∙ s.columns line column
-  | inr row ↦
-      let on : p.size.w + (line - p.size.w) ≡ line = omega arith in
-      ap runs (line_numbers-row p.size g line row) ∙ s.rows (line - p.size.w) (omega arith)
-      ∙ ap (λ (k : ℕ). clue_of p k) on
-]
+line_of_solution p g line lt s = grind (arith, common_steps, cases_Bool, cases_lt, line_numbers-column, line_numbers-row)
 
 -- the test of a grid is met by the solutions alone
 pub is_solution-line : (p : Pattern) (g : List ℕ) (line : ℕ) → is_pattern_solution p g ≡ true → line < lines_of p.size → HasClue p g line
@@ -217,8 +181,7 @@ is_solution-line p g line on lt =
 
 pub is_solution-each : (p : Pattern) (g : List ℕ) → ((line : ℕ) → line < lines_of p.size → HasClue p g line) → is_pattern_solution p g ≡ true
 unfolding is_pattern_solution
-is_solution-each p g each =
-    all_below-from (λ h. has_runs (clue_of p h) (line_numbers p.size g h)) (lines_of p.size) (λ h lt. has_runs-from (clue_of p h) (line_numbers p.size g h) (each h lt))
+is_solution-each p g each = grind (arith, common_steps, cases_Bool, all_below-from, has_runs-from)
 
 pub is_solution-is : (p : Pattern) (g : List ℕ) → IsGrid (p.size.w * p.size.h) 2 g → is_pattern_solution p g ≡ true → IsPatternSolution p g
 is_solution-is p g grid on = solution_from_lines p g grid (λ line lt. is_solution-line p g line on lt)
@@ -239,10 +202,7 @@ unfolding all_of
 all-within cells values c v on = let w = and_parts _ _ on in (ltb-true c cells w.0, ltb-true v values w.1)
 
 pub few_cells : (size : Extent) → IsExtent size → size.w * size.h ≤ 65536
-few_cells size e =
-    let rows : size.w * size.h ≤ max_side * size.h = mul-le-mul_right size.h e.w_high in
-    let columns : size.h * max_side ≤ max_side * max_side = mul-le-mul_right max_side e.h_high in
-    omega arith
+few_cells size e = grind (arith, common_steps, cases_Bool, mul-le-mul_right)
 
 pub line_rules-lawful : (p : Pattern) → IsExtent p.size → IsLawful (line_rules p)
 unfolding after
