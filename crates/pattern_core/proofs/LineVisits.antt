@@ -1,20 +1,20 @@
 -- A visit of a line, from its three steps.
 use Rattle.std.proofs.lemmas.Bool.{cases_Bool}
 use Rattle.std.proofs.lemmas.Grind.{common_steps}
-use Rattle.std.proofs.Common.{◌≡◌, ◌∙◌, ℕ, zero, suc, ◌+◌, ◌*◌, ◌<◌, ◌≤◌, Bool, true, false, not, cond, ltb, ◌&&◌, ◌==◌, refl, List, [], ◌∷◌, length, slice_index, get_or, take, map, sym, ap, ap₂, subst, arith}
+use Rattle.std.proofs.Common.{◌≡◌, ◌∙◌, ℕ, zero, suc, ◌+◌, ◌*◌, ◌<◌, ◌≤◌, Bool, true, false, refl, List, [], ◌∷◌, length, slice_index, get_or, take, map, sym, ap, ap₂, subst, arith}
 use Rattle.std.specs.List.{AllByRecursion}
 use Rattle.std.proofs.lemmas.Bool.{true≢false, false_from_ne_true, and_parts, eqb-true}
 use Rattle.std.proofs.lemmas.List.{get_or_default, get_or-map, length-map, take_all}
 use Rattle.std.proofs.Math.Path.{fun_ext}
 use Rattle.grid_core.specs.Extent.{Extent, IsExtent, max_side}
-use Rattle.grid_core.specs.Candidates.{Candidates, IsWithin, any_below}
+use Rattle.grid_core.specs.Candidates.{Candidates, IsWithin}
 use Rattle.grid_core.proofs.CandidateLemmas.{any_below-some}
 use Rattle.gameid_core.specs.Puzzles.{Pattern, IsPattern, IsClue, AreClues, line_cells, lines_of, used}
 use Rattle.gameid_core.specs.BlackRuns.{runs}
 use Rattle.engine_core.specs.PlaceLaws.{has_place-here}
 use Rattle.engine_core.specs.Puzzle.{after}
 use Rattle.engine_core.specs.Filling.{strikes_by_fillings}
-use Rattle.engine_core.specs.Sets.{has_bit, set_of_bits, IsBitsOf}
+use Rattle.engine_core.specs.Sets.{set_of_bits, IsBitsOf}
 use Rattle.engine_core.specs.House.{sets_at, IsDecided, kept_in}
 use Rattle.engine_core.specs.HouseLaws.{visited, kept-decided}
 use Rattle.engine_core.specs.Keeping.{AreSetsOf, IsKept}

@@ -1,13 +1,12 @@
 -- The cells of a line by their places in the grid, and a walk along a line that follows its clue.
 use Rattle.std.proofs.lemmas.Bool.{cases_Bool}
 use Rattle.std.proofs.lemmas.Grind.{common_steps}
-use Rattle.std.proofs.Common.{◌≡◌, ◌∙◌, ℕ, zero, suc, ◌+◌, ◌*◌, ◌-◌, ◌<◌, ◌≤◌, ◌++◌, List, [], ◌∷◌, Bool, true, false, cond, ltb, length, slice_index, take, drop, refl, sym, ap, arith, append_assoc, append-nil, ap₂, add-one}
+use Rattle.std.proofs.Common.{◌≡◌, ◌∙◌, ℕ, zero, suc, ◌+◌, ◌*◌, ◌-◌, ◌<◌, ◌≤◌, ◌++◌, List, [], ◌∷◌, length, slice_index, take, drop, refl, sym, ap, arith, append_assoc, append-nil, ap₂, add-one}
 use Rattle.std.proofs.lemmas.Bool.{lt-ltb, le-ltb}
 use Rattle.std.proofs.lemmas.List.{drop_all, take_all, length-take-le}
 use Rattle.std.proofs.Math.Seq.{drop-cons}
 use Rattle.std.proofs.lemmas.List.FromFn.{get_or-map-range_with_len, length-map-range_with_len}
 use Rattle.grid_core.specs.Extent.{Extent}
-use Rattle.grid_core.specs.Grids.{row_cells, column_cells}
 use Rattle.gameid_core.specs.BlackRuns.{run_of, runs_after, runs}
 use Rattle.gameid_core.specs.Puzzles.{line_cells}
 use Rattle.pattern_core.specs.Lines.{line_numbers}

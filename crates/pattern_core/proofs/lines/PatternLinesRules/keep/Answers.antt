@@ -1,6 +1,5 @@
-use Rattle.std.proofs.Common.{◌≡◌, ◌∙◌, ◌<◌, sym, ap, arith, length}
+use Rattle.std.proofs.Common.{◌∙◌, ◌<◌, ap, arith, length}
 use Rattle.gameid_core.specs.Puzzles.{lines_of}
-use Rattle.pattern_core.specs.LineClues.{numbers_in}
 use Rattle.pattern_core.specs.LineRules.{Ruled}
 use Rattle.pattern_core.specs.Lines.{LineWork, clue_of, line_places}
 use Rattle.engine_core.proofs.StoreLemmas.{scope_le-longest}

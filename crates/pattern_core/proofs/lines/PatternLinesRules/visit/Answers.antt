@@ -1,8 +1,7 @@
-use Rattle.std.proofs.Common.{◌∙◌, ◌<◌, sym, ap, arith, length}
+use Rattle.std.proofs.Common.{◌∙◌, ◌<◌, ap, arith, length}
 use Rattle.grid_core.specs.Board.{has}
 use Rattle.gameid_core.specs.Puzzles.{lines_of}
 use Rattle.engine_core.specs.Puzzle.{after}
-use Rattle.pattern_core.specs.LineClues.{numbers_in}
 use Rattle.pattern_core.specs.LineRules.{Ruled, line_rules}
 use Rattle.pattern_core.specs.Lines.{LineWork}
 use Rattle.pattern_core.proofs.NextLine.{line_in_room}
