@@ -30,9 +30,7 @@ pub record IsSearching (p : Puzzle) (from : Progress) (all : List Mark) (trials 
 
 pub searching-first : (p : Puzzle) (from : Progress) (all : List Mark) → IsSearching p from all 0 all from
 unfolding deepest_of
-searching-first p from all =
-    let e : from.budget - 0 ≡ from.budget = omega arith in
-    record { answer = rw e refl; sofar = []; split = rw e refl; count = refl; closed = omega arith; grows = omega arith; deep = omega arith }
+searching-first p from all = grind (arith, common_steps)
 
 -- a trial after the grids found, with budget left and with none
 after_grids : (two one : Bool) (f g : List ℕ) (n : ℕ) (K : Candidates) (ms : List Mark) → two ≡ false
@@ -101,9 +99,4 @@ module _ {p : Puzzle} {from at : Progress} {all : List Mark} {trials : ℕ} (lev
 pub walked : {p : Puzzle} {marks : List Mark} {levels : Levels} {result : Searched} {grids : Grids} (budget : ℕ) (from : Progress) → from.budget ≡ budget
     → walk p 0 (board_in levels) ≡ marks → CountsClosing p levels 0 from.turns → from.deepest ≡ 0
     → IsSearched p from.budget marks from result grids.first grids.second → IsWalked p budget (board_in levels) result grids
-walked budget from is same turned none s = rw (← is) (record {
-  says = rw same s.says;
-  exact = rw same s.exact;
-  turns = rw same (from.turns - 0, _, turned.closed, s.turned, let g = s.grows in omega arith);
-  deepest = rw same (let d = s.deepest in omega arith);
-})
+walked budget from is same turned none s = grind (arith, common_steps)
