@@ -30,23 +30,7 @@ pub upto-first : (p : Puzzle) (K : Candidates) (test waits : ℕ → Bool) → A
 upto-first p K test waits = called-none p K _ waits (λ j lt. and_right (test j) _ (le-ltb (count_below test j) 0 (omega arith)))
 
 upto-next : (test : ℕ → Bool) (n k j : ℕ) → test n ≡ true → count_below test n ≡ k → (asked_upto test k j || eqb j n) ≡ asked_upto test (k + 1) j
-upto-next test n k j on number = elim (cases_eq j n) [
-  | inl e ↦ or_right (asked_upto test k j) (eqb j n) (eq-eqb j n e) ∙ sym (rw e (and_from (test n) _ on (lt-ltb (count_below test n) (k + 1) (omega arith))))
-  | inr ne ↦ ap (λ b. asked_upto test k j || b) (ne_eqb j n ne) ∙ or-none (asked_upto test k j) ∙ by (test j) refl ne
-]
-  where
-    or-none : (b : Bool) → (b || false) ≡ b
-    or-none b = grind (arith, common_steps)
-
-    apart : test j ≡ true → (j ≡ n → ⊥) → count_below test j ≡ k → ⊥
-    apart here ne same = grind (arith, common_steps, cases_lt, counted)
-
-    by : (b : Bool) → test j ≡ b → (j ≡ n → ⊥) → asked_upto test k j ≡ asked_upto test (k + 1) j
-    by false e ne = and_left (test j) _ e ∙ sym (and_left (test j) _ e)
-    by true e ne = ap (λ b. test j && b) (elim (cases_lt (count_below test j) k) [
-      | inl low ↦ lt-ltb (count_below test j) k low ∙ sym (lt-ltb (count_below test j) (k + 1) (omega arith))
-      | inr high ↦ le-ltb (count_below test j) k high ∙ sym (le-ltb (count_below test j) (k + 1) (let a = apart e ne in omega (arith, a)))
-    ])
+upto-next test n k j on number = grind (arith, common_steps, and_from, and_left, cases_eq, cases_lt, counted, eq-eqb, le-ltb, lt-ltb, ne_eqb, or_right)
 
 -- the next one is marked
 pub upto-marked : (p : Puzzle) (K : Candidates) (test before now after : ℕ → Bool) (n k : ℕ) → test n ≡ true → count_below test n ≡ k → ((j : ℕ) → after j ≡ (now j || eqb j n))

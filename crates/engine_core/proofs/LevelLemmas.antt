@@ -66,8 +66,7 @@ ready-push p t frames n cell m ready lt is opened = grind (arith, common_steps, 
 -- ---- the innermost frame
 levels-top : (t : Trail) (frames : List Frame) (n : ℕ) → 0 < n → levels_of t frames n ≡ level_at t (frame_at frames (n - 1)) ∷ levels_of t frames (n - 1)
 unfolding levels_of
-levels-top t frames zero lt = absurd (omega arith)
-levels-top t frames (suc n) lt = let e : suc n - 1 ≡ n = omega arith in rw e refl
+levels-top t frames x2 lt = grind (arith, common_steps)
 
 levels-retried : (t : Trail) (frames : List Frame) (n next : ℕ) → 0 < n → n - 1 < length frames → (frame_at frames (n - 1)).mark ≡ t.len
     → levels_of t (set frames (n - 1) (record { cell = (frame_at frames (n - 1)).cell; next = next; mark = (frame_at frames (n - 1)).mark })) n

@@ -21,8 +21,7 @@ unfolding after
 after-outside p laws h K c v lt out on = grind (arith, common_steps, and_from, false_from_ne_true, not_from_false, true≢false)
 
 left_false : (x y : Bool) → (x && y) ≡ false → y ≡ true → x ≡ false
-left_false true y e f = absurd (true≢false (sym f ∙ e))
-left_false false y e f = refl
+left_false x0 y e f = grind (arith, common_steps, true≢false)
 
 same_from_counts : (p : Puzzle) (h : ℕ) (K : Candidates) (k : ℕ) → not (eqb (counts_of p h K k) (counts_of p h (after p h K) k)) ≡ false → count_below (K (slice_index (p.scope h) k)) p.values ≡ count_below (after p h K (slice_index (p.scope h) k)) p.values
 unfolding counts_of
@@ -183,8 +182,7 @@ unfolding any_below
 any_below-more p n = rw add-one refl
 
 or_false : (x : Bool) → (x || false) ≡ x
-or_false true = refl
-or_false false = refl
+or_false x0 = grind (arith, common_steps)
 
 pub unwoken : (x : Bool) → x ≡ (x || false)
 unwoken x = sym (or_false x)

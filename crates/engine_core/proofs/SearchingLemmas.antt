@@ -39,9 +39,7 @@ after_grids : (two one : Bool) (f g : List ℕ) (n : ℕ) (K : Candidates) (ms :
     × (outcome 0 None (found_marks two one f g ++ Trial n K ∷ ms) ≡ OutOfBudget (found_of one f))
     × (tried 0 None (found_marks two one f g ++ Trial n K ∷ ms) ≡ [])
 unfolding outcome tried
-after_grids true one f g n K ms going = absurd (true≢false going)
-after_grids false true f g n K ms going = (λ b. refl, λ b. refl, refl, refl)
-after_grids false false f g n K ms going = (λ b. refl, λ b. refl, refl, refl)
+after_grids x0 x1 f g n x5 ms going = grind (arith, common_steps, true≢false)
 
 module _ {p : Puzzle} {from at : Progress} {all : List Mark} {trials : ℕ} (levels : Levels) (grids : Grids) (s : IsSearching p from all trials (marks_of p levels at grids) at) where
   -- a trial is made

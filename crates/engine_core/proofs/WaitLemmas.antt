@@ -10,6 +10,7 @@ use Rattle.engine_core.specs.Sets.{has_bit}
 use Rattle.engine_core.specs.Puzzle.{IsNext}
 use Rattle.engine_core.specs.Queue.{but}
 use Rattle.engine_core.specs.Waiting.{is_waiting}
+use Rattle.std.proofs.lemmas.Grind.{common_steps}
 
 -- ---- a house's word and bit
 same_house : (j h : ℕ) → j / 64 ≡ h / 64 → j % 64 ≡ h % 64 → j ≡ h
@@ -29,12 +30,10 @@ unfolding is_waiting
 word-is waits w j e = ap (λ (k : ℕ). has_bit (get_or waits k 0) (j % 64)) e
 
 or_false : (x : Bool) → x ≡ (x || false)
-or_false true = refl
-or_false false = refl
+or_false x0 = grind (arith, common_steps)
 
 and_true : (x : Bool) → x ≡ (x && true)
-and_true true = refl
-and_true false = refl
+and_true x0 = grind (arith, common_steps)
 
 pub waiting-mark : (waits : List ℕ) (h j : ℕ) → h / 64 < length waits
     → is_waiting (set waits (h / 64) (bit_or (get_or waits (h / 64) 0) (1 * 2 ^ (h % 64) % 18446744073709551616))) j ≡ (is_waiting waits j || eqb j h)
