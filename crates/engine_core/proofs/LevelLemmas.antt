@@ -141,11 +141,6 @@ module _ {p : Puzzle} {t t1 : Trail} {frames : List Frame} {n : ℕ} (ready : Is
         best : IsFewest p.cells p.values (has t1.board) top.cell
         best = open-cell p _ (n - 1) open-back
 
--- no frame is left
-pub pending-none : (p : Puzzle) (t : Trail) (frames : List Frame) (n : ℕ) → n ≡ 0 → pending_in p t frames n ≡ []
-unfolding levels_of pending
-pending-none p t frames n e = rw e refl
-
 -- under no frame nothing else is pending
 pub walk-alone : (p : Puzzle) (K : Candidates) (t : Trail) (frames : List Frame) → walk p 0 K ++ pending_in p t frames 0 ≡ walk p 0 K
 unfolding levels_of pending

@@ -17,9 +17,6 @@ pub record IsUpto (p : Puzzle) (h k : ℕ) (K L : Candidates) : Type 0 where
   pub done : (j v : ℕ) → j < k → L (slice_index (p.scope h) j) v ≡ after p h K (slice_index (p.scope h) j) v
   pub rest : (c v : ℕ) → ((j : ℕ) → j < k → slice_index (p.scope h) j ≢ c) → L c v ≡ K c v
 
-pub upto-none : (p : Puzzle) (h : ℕ) (K : Candidates) → IsUpto p h 0 K K
-upto-none p h K = grind (arith, common_steps)
-
 -- the next cell is as before
 pub upto-next : (p : Puzzle) (laws : IsLawful p) (h k : ℕ) (K L : Candidates) → h < p.houses → k < length (p.scope h) → IsUpto p h k K L
     → L (slice_index (p.scope h) k) ≡ K (slice_index (p.scope h) k)
