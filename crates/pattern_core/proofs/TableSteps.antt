@@ -262,4 +262,4 @@ nothing_kept t sets kept none long zeros = grind (arith, common_steps, cases_Boo
 
 pub decided_by_track : (clue sets kept : List ℕ) (t : Track) → t ≡ track_of (spelled clue) → AllByRecursion (λ n. 0 < n) clue → AreKept t sets kept (length sets)
     → IsDecided 2 (strikes_by_fillings (has_runs clue)) sets kept
-decided_by_track clue sets kept t is positive k = grind (arith, common_steps, cases_Bool, b, strikes_by_track)
+decided_by_track clue sets kept t is positive k = grind (arith, common_steps, cases_Bool, strikes_by_track)
