@@ -5,10 +5,11 @@ use crate::switch::has_switch;
 use grid_core::{Grid, Size};
 use std::test::Fail;
 
-/// Whether the puzzle of a grid of 3 by 3 has a solution close by. The grid is told row by row, black cells as 1.
-fn has_other(rt: &HostRuntime, cells: [u8; 9]) -> Result<bool, Fail> {
+/// Whether the puzzle of a grid of 3 by 3 has a solution close by, and whether the grid is left as it was. The grid is
+/// told row by row, black cells as 1.
+fn switches(rt: &HostRuntime, cells: [u8; 9]) -> Result<(bool, bool), Fail> {
     let Some(size) = Size::new(3, 3) else {
-        return Ok(false);
+        return Ok((false, false));
     };
     let mut grid = Grid::new(rt.alloc(), 9)?;
     for place in 0..9 {
@@ -17,24 +18,29 @@ fn has_other(rt: &HostRuntime, cells: [u8; 9]) -> Result<bool, Fail> {
         }
     }
     if !grid.fits(size.cells(), 2) {
-        return Ok(false);
+        return Ok((false, false));
     }
     let puzzle = puzzle_of(rt.alloc(), size, &grid)?;
     if !grid.fits(puzzle.size().cells(), 2) {
-        return Ok(false);
+        return Ok((false, false));
     }
-    Ok(has_switch(&puzzle, &mut grid))
+    let found = has_switch(&puzzle, &mut grid);
+    let mut same = true;
+    for place in 0..9 {
+        same &= place < grid.len() && grid.get(place) == cells[place];
+    }
+    Ok((found, same))
 }
 
 #[test]
 fn cells_that_may_change_columns_are_found(rt: HostRuntime) -> Result<(), Fail> {
-    assert!(rt; has_other(&rt, [1, 0, 0, 0, 1, 0, 0, 0, 0])?);
-    assert!(rt; has_other(&rt, [0, 0, 0, 0, 0, 1, 0, 1, 0])?);
+    assert_eq!(rt; switches(&rt, [1, 0, 0, 0, 1, 0, 0, 0, 0])?, (true, true));
+    assert_eq!(rt; switches(&rt, [0, 0, 0, 0, 0, 1, 0, 1, 0])?, (true, true));
     // cells that change places may stand apart
-    assert!(rt; has_other(&rt, [1, 1, 0, 0, 1, 1, 0, 0, 0])?);
+    assert_eq!(rt; switches(&rt, [1, 1, 0, 0, 1, 1, 0, 0, 0])?, (true, true));
     // grids with one solution
-    assert!(rt; !has_other(&rt, [0, 0, 0, 0, 0, 0, 0, 0, 0])?);
-    assert!(rt; !has_other(&rt, [1, 1, 1, 1, 1, 1, 1, 1, 1])?);
-    assert!(rt; !has_other(&rt, [1, 0, 1, 0, 1, 0, 1, 0, 1])?);
+    assert_eq!(rt; switches(&rt, [0, 0, 0, 0, 0, 0, 0, 0, 0])?, (false, true));
+    assert_eq!(rt; switches(&rt, [1, 1, 1, 1, 1, 1, 1, 1, 1])?, (false, true));
+    assert_eq!(rt; switches(&rt, [1, 0, 1, 0, 1, 0, 1, 0, 1])?, (false, true));
     Ok(())
 }
