@@ -30,12 +30,14 @@ fn a_grid_of_one_colour_is_made_of_pattern(rt: HostRuntime) -> Result<(), Fail> 
 #[test]
 fn a_grid_of_black_cells_is_made_of_light_up(rt: HostRuntime) -> Result<(), Fail> {
     let size = Size::new(2, 2).expect(&rt, "a size");
-    let made = make_lights(rt.alloc(), size, 100, &mut generator(), limits(0, 1))?;
-    assert_eq!(rt;
-        write_lights(rt.alloc(), &made.puzzle)?.as_str(),
-        "2x2:BBBB"
-    );
-    assert!(rt; made.kept.is_empty());
+    for budget in [0, 1_000] {
+        let made = make_lights(rt.alloc(), size, 100, &mut generator(), limits(budget, 1))?;
+        assert_eq!(rt;
+            write_lights(rt.alloc(), &made.puzzle)?.as_str(),
+            "2x2:BBBB"
+        );
+        assert!(rt; made.kept.is_empty());
+    }
     let white = make_lights(rt.alloc(), size, 0, &mut generator(), limits(1_000, 2));
     assert_eq!(rt; fault(white)?, Some(MakeFault::Exhausted));
     let none = make_lights(rt.alloc(), size, 100, &mut generator(), limits(1_000, 0));
