@@ -249,7 +249,7 @@ module _ (filled : AreFilled) (size : Extent) (large : IsTentsExtent size) (budg
     where
       only : IsOnlySolution (IsTentSolution (camp_puzzle k)) (camp_of k).tents × TellsOne (tent_rules (camp_puzzle k)) budget (camp_of k).tents
       only = tents_only size (camp_of k) (camp_puzzle k) refl (filled.solved size s k large.extent words)
-          (λ q h grid. (tents.rule-from-test q h grid, tents.test-from-rule q h grid)) budget
+          (λ q h grid. (tents.solution-from-camp q h grid, tents.camp-from-solution q h grid)) budget
           (has_one (tent_rules (camp_puzzle k)) (tents_searched (camp_puzzle k) (camp_lawful k)).lawful budget first.passing)
 
 pub made_tents : AreFilled → (text : Text) (seed budget tries black : ℕ) → HasOneAnswer (AllowsMade game.Tents text seed budget tries black)

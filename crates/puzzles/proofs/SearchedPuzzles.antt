@@ -87,7 +87,7 @@ light_searched p ok = record {
 pub tents_searched : (p : Tents) → IsTents p → SearchedPuzzle (tent_rules p) (IsTentSolution p)
 tents_searched p ok = record {
   lawful = tent-lawful (record { tents = p; counting = tent-counting p ok });
-  accepted = λ g. (λ s. tents.rule-from-test p g s.grid s.good, λ s. record { grid = s.grid; good = tents.test-from-rule p g s.grid s });
+  accepted = λ g. (λ s. tents.solution-from-camp p g s.grid s.good, λ s. record { grid = s.grid; good = tents.camp-from-solution p g s.grid s });
 }
 
 -- a search with a trial for each of the walk doesn't give up
