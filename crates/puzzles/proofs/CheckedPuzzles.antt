@@ -46,9 +46,6 @@ decided_either A B (inr never) (inr none) = inr (λ h. neither h)
     neither (inl a) = never a
     neither (inr b) = none b
 
-pub decided_number : (a b : ℕ) → Decided (a ≡ b)
-decided_number a b = cases_eq a b
-
 pub decided_text : (a b : List ℕ) → Decided (a ≡ b)
 decided_text [] [] = inl refl
 decided_text [] (y ∷ b) = inr (λ e. absurd (omega (arith, ap (λ (t : List ℕ). length t) e)))
@@ -78,9 +75,6 @@ cons_all values v tail small all (suc k) d lt = all k d (omega arith)
 
 cons_grid : (cells values v : ℕ) (tail : List ℕ) → v < values → IsGrid cells values tail → IsGrid (suc cells) values (v ∷ tail)
 cons_grid cells values v tail small grid = record { each_cell = ap suc grid.each_cell; each_value = cons_all values v tail small grid.each_value }
-
-head_below : (cells values v : ℕ) (tail : List ℕ) → IsGrid cells values (v ∷ tail) → v < values
-head_below cells values v tail grid = grid.each_value 0 0 (omega arith)
 
 empty_is : (values : ℕ) (g : List ℕ) → IsGrid 0 values g → [] ≡ g
 empty_is values [] grid = refl
@@ -129,7 +123,7 @@ grid_found (suc cells) values P decide = elim (under (λ Q decided. grid_found c
 
     first : NoneUnder (suc cells) values P values → (g : List ℕ) → IsGrid (suc cells) values g → P g → ⊥
     first none [] grid p = absurd (let l = grid.each_cell in omega arith)
-    first none (v ∷ tail) grid p = none v tail (head_below (suc cells) values v tail grid) grid p
+    first none (v ∷ tail) grid p = none v tail (grid.each_value 0 0 (omega arith)) grid p
 
 pub record CheckedPuzzle {P : Type 0} (play : Playing P) (p : P) : Type 0 where
   -- a printed grid tells its numbers, and may be read
@@ -237,7 +231,7 @@ pub tents_checked : (p : Tents) → IsTents p → CheckedPuzzle (played game.Ten
 tents_checked p ok = record {
   once = tents_once p;
   text = λ g shown. grid_is_text (tents_cell p g) p.size 1 (λ place lt. tents_cell_text p g place) max_side ok.size.extent.w_high ok.size.extent.h_high (omega arith);
-  decides = λ place. decided_number (slice_index p.trees place) 1;
+  decides = λ place. cases_eq (slice_index p.trees place) 1;
   some = λ g grid. told_some (IsTentFault p g) (tent_fault p) (tent_some p g);
   alone = λ g. told_alone (IsTentFault p g) (tent_fault p) (tent_alone p g);
   sound = λ g a grid told fine. (tents.none-exactly p g None grid (told_sound (IsTentFault p g) (tent_fault p) a told fine)).0 refl;
@@ -265,7 +259,7 @@ module _ {P : Type 0} (play : Playing P) (p : P) (game : CheckedPuzzle play p) w
       each : (place : ℕ) → Decided (play.hides p place → slice_index g place ≡ 0)
       each place = elim (game.decides place) [
         | inr shown ↦ inl (λ hidden. absurd (shown hidden))
-        | inl hidden ↦ elim (decided_number (slice_index g place) 0) [
+        | inl hidden ↦ elim (cases_eq (slice_index g place) 0) [
           | inl none ↦ inl (λ _. none)
           | inr other ↦ inr (λ none. other (none hidden))
         ]

@@ -65,7 +65,8 @@ fn check_one<P: Checked + Drop, I: Source, O: Sink>(
     requires { AreNew I.Source O.Sink input.old output.old }
     ensures ran { Runs I.Source O.Sink (ChecksId P.Played id.now)
         input.old input.new output.old output.new result }
-    ensures left { LeavesEnds I.Source O.Sink (is_ok (P.game.reading id.now)) input.new output.new result }
+    ensures left { LeavesEnds I.Source O.Sink (is_ok (P.game.reading id.now))
+        input.new output.new result }
 {
     match P::read_id(alloc, id) {
         Ok(puzzle) => check_input(alloc, &puzzle, input, output),

@@ -69,6 +69,10 @@ fn generate_one<P: Makable + Drop>(
 }
 
 /// The answer to a size of the game of which a puzzle is to be made.
+///
+/// # Errors
+///
+/// When memory was refused.
 pub fn generated(
     alloc: Global,
     game: Game,

@@ -134,6 +134,11 @@ fn refuse<O: Sink>(alloc: Global, fault: IdFault, output: &mut O) -> Ended
 
 impl Attempt {
     /// Tells a grade, and where a trace is asked for the visits of a closing by these rules.
+    ///
+    /// # Errors
+    ///
+    /// When memory was refused, or the sink failed. A beginning of the text was put then, or
+    /// nothing.
     pub fn tell_with_visits<R: Rules, P: Named, O: Sink>(
         self,
         grade: Grade,
@@ -185,6 +190,11 @@ impl Attempt {
 
     /// Tells the grade of a puzzle by these rules, the last in the list, and else by a search. They
     /// are closed by visits.
+    ///
+    /// # Errors
+    ///
+    /// When memory was refused, or the sink failed. A beginning of the text was put then, or
+    /// nothing.
     pub fn tell_by_visits<P: Solvable + Named, R: Rules, O: Sink>(
         self,
         puzzle: &P,
@@ -236,6 +246,11 @@ impl Attempt {
 /// A puzzle that can be graded.
 pub trait Graded: Solvable {
     /// Tells the grade, and where one is asked for a trace, and gives the status of the run.
+    ///
+    /// # Errors
+    ///
+    /// When memory was refused, or the sink failed. A beginning of the text was put then, or
+    /// nothing.
     fn tell<O: Sink>(&self, alloc: Global, wanted: Telling, output: &mut O) -> Ended
         requires { O.has_failed output.old ≡ false }
         ensures told { Told O.takes
@@ -293,6 +308,10 @@ fn grade_one<P: Graded + Drop, O: Sink>(
 /// board gives the solution, and else what a search with the budget says. Where a trace is asked
 /// for, the closing by the last rule set that was tried follows, in pieces, so that it is never
 /// held whole. It gives the status.
+///
+/// # Errors
+///
+/// When memory was refused, or the sink failed. A beginning of the text was put then, or nothing.
 pub fn grade_id<O: Sink>(
     alloc: Global,
     game: Game,

@@ -5,6 +5,10 @@ use itoa::Buffer;
 use std::alloc::AllocError;
 
 /// Adds a number to a text, in decimal, which is at most 20 digits.
+///
+/// # Errors
+///
+/// When memory was refused.
 pub fn push_number(text: &mut String, number: usize) -> Result<(), AllocError>
     ensures number { OnOk result (string_bytes text.new ≡ string_bytes text.old ++ decimal number) }
     ensures short { OnOk result (string_len text.new ≤ string_len text.old + 20) }

@@ -62,8 +62,7 @@ pub enum Stop {
     Broken,
 }
 
-/// How a step of a run ends: with the status of its answer, or before that was whole. A beginning of
-/// its text was put then, or nothing.
+/// How a step of a run ends: with the status of its answer, or before that was whole.
 pub type Ended = Result<Status, Stop>;
 
 impl Stop {

@@ -27,6 +27,10 @@ pub trait Named: Played {
     ghost name_of: { Self → ℕ → Text };
 
     /// Adds the name under the number, in the order of the puzzle's rule sets.
+    ///
+    /// # Errors
+    ///
+    /// When memory was refused.
     fn push_name(&self, number: usize, text: &mut String) -> Result<(), AllocError>
         requires { number < named self.now }
         ensures name { OnOk result

@@ -30,6 +30,10 @@ fn push_visit<P: Named>(puzzle: &P, number: usize, text: &mut String) -> Result<
 }
 
 /// Adds the line of a closing by sweeps to a text.
+///
+/// # Errors
+///
+/// When memory was refused.
 pub fn push_sweeps(text: &mut String, sweeps: usize) -> Result<(), AllocError>
     ensures { OnOk result (string_bytes text.new ≡ string_bytes text.old ++ sweeps_text sweeps) }
 {
@@ -76,8 +80,8 @@ pub fn put_visits<P: Named, O: Sink>(
     requires named { (k : ℕ) → k < length visits.now
         → slice_index visits.now k < P.named puzzle.now }
     requires not_failed { O.has_failed output.old ≡ false }
-    ensures ok { OnOk result
-        (VisitsPut O.takes (P.name_of puzzle.now) visits.now output.old text.old text.new output.new) }
+    ensures ok { OnOk result (VisitsPut O.takes (P.name_of puzzle.now) visits.now
+        output.old text.old text.new output.new) }
     ensures fine { OnOk result (O.has_failed output.new ≡ false) }
     ensures err { OnErr result
         (VisitsBegun O.takes (P.name_of puzzle.now) visits.now output.old text.old output.new) }

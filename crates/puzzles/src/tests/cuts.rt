@@ -11,6 +11,14 @@ use std::test::Fail;
 /// Three lines, without a line end after the last.
 const LINES: &str = "solve pattern < 1x1:/||2x1:1/1/1 > 2 one|.|refused: no colon|none|";
 
+/// The same lines with other line ends.
+const ENDED: [&str; 4] = [
+    LINES,
+    "solve pattern < 1x1:/||2x1:1/1/1| > 2 one|.|refused: no colon|none|",
+    "solve pattern < 1x1:/\r|\r|2x1:1/1/1 > 2 one|.|refused: no colon|none|",
+    "solve pattern < 1x1:/\r|\r|2x1:1/1/1\r| > 2 one|.|refused: no colon|none|",
+];
+
 /// A grid of Solo with six numbers.
 const RIGHT: &str = "check solo 2x3:zj \
     < 1 2 3 4 5 6|4 5 6 1 2 3|2 3 1 5 6 4|5 6 4 2 3 1|3 1 2 6 4 5|6 4 5 3 1 2| > 0 correct|";
@@ -57,6 +65,20 @@ fn inputs_are_read_to_their_ends(rt: HostRuntime) -> Result<(), Fail> {
 }
 
 #[test]
+fn each_answer_goes_out_in_one_piece(rt: HostRuntime) -> Result<(), Fail> {
+    for line in ENDED {
+        for most in [1, 2, 3, 4_096] {
+            let row = Row::read(rt.alloc(), line)?;
+            let seen = row.read_by(rt.alloc(), most, 0);
+            assert_eq!(rt; seen.writer.taken.as_slice(), row.text.as_bytes(), "{line}");
+            assert_eq!(rt; (seen.status, seen.writer.flushes), (2, 1), "{line}");
+            assert_eq!(rt; seen.writer.calls, 3, "{line} by {most}");
+        }
+    }
+    Ok(())
+}
+
+#[test]
 fn a_failing_reader_leaves_a_beginning(rt: HostRuntime) -> Result<(), Fail> {
     for (line, first, last, written) in [
         (LINES, 1, 6, ""),
@@ -73,6 +95,7 @@ fn a_failing_reader_leaves_a_beginning(rt: HostRuntime) -> Result<(), Fail> {
             assert!(rt; seen.source_failed && !seen.source_ended && !seen.sink_failed);
             assert_eq!(rt; seen.reader.calls, fails_at, "{line}");
             assert_eq!(rt; seen.writer.taken.as_slice(), written.as_bytes(), "{line}");
+            assert_eq!(rt; seen.writer.calls == 0, written.is_empty(), "{line}");
         }
     }
     Ok(())
@@ -80,7 +103,7 @@ fn a_failing_reader_leaves_a_beginning(rt: HostRuntime) -> Result<(), Fail> {
 
 #[test]
 fn a_failing_writer_leaves_a_beginning(rt: HostRuntime) -> Result<(), Fail> {
-    // A writer that takes so many bytes a call, fails at one call or at none, and at a flush or not.
+    // The writer takes so many bytes a call. It fails at a call or at none, and at a flush or not.
     for (line, most, fails_at, flush_works, written, calls, reads) in [
         (LINES, 4_096, 1, true, "", 1, 6),
         (LINES, 4_096, 2, true, "one\n.\n", 2, 7),
@@ -95,7 +118,7 @@ fn a_failing_writer_leaves_a_beginning(rt: HostRuntime) -> Result<(), Fail> {
         (SOLVED, 1, 8, true, "one\n##.", 8, 0),
         (SOLVED, 1, 9, true, "one\n##.#", 9, 0),
         (SOLVED, 1, 10, true, "one\n##.##", 10, 0),
-        (SOLVED, 0, 0, true, "", 1, 0),
+        (SOLVED, 0, 0, false, "", 1, 0),
         (SOLVED, 4_096, 0, false, "one\n##.##\n", 1, 0),
         (SOLVED, 1, 0, false, "one\n##.##\n", 10, 0),
     ] {
@@ -108,10 +131,11 @@ fn a_failing_writer_leaves_a_beginning(rt: HostRuntime) -> Result<(), Fail> {
         assert_eq!(rt; seen.writer.calls, calls, "{line} at {fails_at}");
         assert_eq!(rt;
             seen.writer.flushes > 0,
-            !flush_works,
+            written.len() == row.text.len(),
             "{line} at {fails_at}"
         );
         assert_eq!(rt; seen.reader.calls, reads, "{line} at {fails_at}");
+        assert_eq!(rt; seen.fetches, reads, "{line} at {fails_at}");
     }
     Ok(())
 }

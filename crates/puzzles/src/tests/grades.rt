@@ -40,35 +40,27 @@ fn grades_with_traces_begin_alike(rt: HostRuntime) -> Result<(), Fail> {
 }
 
 /// The crossings of Solo 2x2, in the order of their numbers.
-const CROSSINGS: [&str; 16] = [
-    "block 0 row 0",
-    "block 0 row 1",
-    "block 1 row 0",
-    "block 1 row 1",
-    "block 2 row 2",
-    "block 2 row 3",
-    "block 3 row 2",
-    "block 3 row 3",
-    "block 0 column 0",
-    "block 0 column 1",
-    "block 1 column 2",
-    "block 1 column 3",
-    "block 2 column 0",
-    "block 2 column 1",
-    "block 3 column 2",
-    "block 3 column 3",
-];
+const CROSSINGS: &str = "\
+block 0 row 0|block 0 row 1|block 1 row 0|block 1 row 1|\
+block 2 row 2|block 2 row 3|block 3 row 2|block 3 row 3|\
+block 0 column 0|block 0 column 1|block 1 column 2|block 1 column 3|\
+block 2 column 0|block 2 column 1|block 3 column 2|block 3 column 3";
 
 /// The number of what a line names: a house, where the houses of these kinds follow one another, or
 /// a crossing of Solo 2x2, where those come after so many houses.
 fn number_in(line: &str, kinds: &[&str], per_kind: usize, houses: usize) -> Option<usize> {
-    if let Some(crossing) = CROSSINGS.iter().position(|name| *name == line) {
+    if let Some(crossing) = CROSSINGS.split('|').position(|name| name == line) {
         return houses.checked_add(crossing);
     }
-    let (kind, number) = line.split_once(' ')?;
-    let number = number.parse::<usize>().ok()?;
+    let (kind, digit) = line.split_once(' ')?;
+    let number = digit.parse::<usize>().ok()?;
     let before = kinds.iter().position(|k| *k == kind)?;
-    before.checked_mul(per_kind)?.checked_add(number)
+    let house = before.checked_mul(per_kind)?.checked_add(number)?;
+    if digit.len() == 1 && number < per_kind && house < houses {
+        Some(house)
+    } else {
+        None
+    }
 }
 
 /// The start board after visits of these houses.
@@ -109,7 +101,10 @@ fn closes<R: Rules>(
     visits: &[usize],
     is_full: bool,
 ) -> Result<bool, AllocError> {
-    Ok(is_closed_by(alloc, rules, visits)? && is_closed_by(alloc, rules, &[])? == is_full)
+    let houses = rules.houses();
+    let are_houses = visits.iter().all(|visit| *visit < houses);
+    let is_closed = is_closed_by(alloc, rules, visits)?;
+    Ok(are_houses && is_closed && is_closed_by(alloc, rules, &[])? == is_full)
 }
 
 /// What a grade with a trace tells after this line.
@@ -147,8 +142,8 @@ fn traces_of_pattern_close_their_boards(rt: HostRuntime) -> Result<(), Fail> {
         let lines = traced(alloc, ["pattern", id, budget, grade])?;
         let puzzle = read_pattern(alloc, id.as_bytes())?;
         let columns = usize::from(puzzle.size().w());
-        let visits = visits_in(alloc, &lines, &["column", "row"], columns, 0)?;
         let rules = PatternLines::new(alloc, &puzzle)?;
+        let visits = visits_in(alloc, &lines, &["column", "row"], columns, rules.houses())?;
         assert!(rt;
             closes(alloc, &rules, &visits, false)?,
             "{id} with {budget}"
@@ -157,33 +152,48 @@ fn traces_of_pattern_close_their_boards(rt: HostRuntime) -> Result<(), Fail> {
     Ok(())
 }
 
+/// IDs of Solo with their grades, how many houses of a kind there are, and how many houses.
+const SOLOS: [(&str, &str, usize, usize); 6] = [
+    (LATIN, "singles", 4, 12),
+    ("2x2x:1_2_3_4_3k", "singles", 4, 14),
+    (PAIRED, "houses", 6, 18),
+    ("2x2:1o", "gave up", 4, 12),
+    ("2x2:1_1n", "none", 4, 12),
+    ("2x2x:1o", "gave up", 4, 14),
+];
+
+/// Whether the visits that are told of a puzzle of Solo close its board, by the rules of its grade.
+fn solo_closes(
+    alloc: Global,
+    id: &str,
+    grade: &str,
+    per_kind: usize,
+    houses: usize,
+) -> Result<bool, Fail> {
+    let lines = traced(alloc, ["solo", id, "0", grade])?;
+    let kinds = ["row", "column", "block", "diagonal"];
+    let visits = visits_in(alloc, &lines, &kinds, per_kind, houses)?;
+    let puzzle = read_solo(alloc, id.as_bytes())?;
+    let fine = match grade {
+        "singles" => closes(
+            alloc,
+            &SoloSingles::new(alloc, &puzzle)?,
+            &visits,
+            id == LATIN,
+        )?,
+        "houses" => closes(alloc, &SoloHouses::new(alloc, &puzzle)?, &visits, false)?,
+        _ => closes(alloc, &SoloCrossings::new(alloc, &puzzle)?, &visits, false)?,
+    };
+    Ok(fine)
+}
+
 #[test]
 fn traces_of_solo_close_their_boards(rt: HostRuntime) -> Result<(), Fail> {
-    let alloc = rt.alloc();
-    // How many houses of a kind there are, and how many houses.
-    for (id, grade, per_kind, houses) in [
-        (LATIN, "singles", 4, 12),
-        ("2x2x:1_2_3_4_3k", "singles", 4, 14),
-        (PAIRED, "houses", 6, 18),
-        ("2x2:1o", "gave up", 4, 12),
-        ("2x2:1_1n", "none", 4, 12),
-        ("2x2x:1o", "gave up", 4, 14),
-    ] {
-        let lines = traced(alloc, ["solo", id, "0", grade])?;
-        let kinds = ["row", "column", "block", "diagonal"];
-        let visits = visits_in(alloc, &lines, &kinds, per_kind, houses)?;
-        let puzzle = read_solo(alloc, id.as_bytes())?;
-        let fine = match grade {
-            "singles" => closes(
-                alloc,
-                &SoloSingles::new(alloc, &puzzle)?,
-                &visits,
-                id == LATIN,
-            )?,
-            "houses" => closes(alloc, &SoloHouses::new(alloc, &puzzle)?, &visits, false)?,
-            _ => closes(alloc, &SoloCrossings::new(alloc, &puzzle)?, &visits, false)?,
-        };
-        assert!(rt; fine, "{id}");
+    for (id, grade, per_kind, houses) in SOLOS {
+        assert!(rt;
+            solo_closes(rt.alloc(), id, grade, per_kind, houses)?,
+            "{id}"
+        );
     }
     Ok(())
 }

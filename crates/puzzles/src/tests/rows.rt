@@ -1,6 +1,6 @@
 //! Runs as lines of a table: the words, then ` < ` and the input where it is read, then ` > `, the
-//! status and what is written. A `|` is a line end, `{N}c` is `c` so many times, once in a text, and
-//! `''` is an empty word.
+//! status and what is written. A `|` is a line end, and `''` is an empty word. `{N}c` is `c` N
+//! times, once in a text.
 use crate::run::run_on_bytes;
 use crate::tests::fakes::{Chunks, Slow};
 use crate::tests::seen::{Seen, observe};
@@ -76,14 +76,15 @@ impl Row {
         self.run(alloc, most, fails_at, Slow::new(alloc, 1_000_000, 0, true))
     }
 
-    /// Whether the run writes its text, sends it once, has its status, and reads its input or leaves
-    /// it unread, whatever the pieces of both.
+    /// Whether the run writes its text, sends it once and has its status, whatever the pieces of
+    /// input and text. It reads its input or leaves it unread.
     pub fn is_told(&self, alloc: Global) -> bool {
         for most in [1, 2, 3, 4_096] {
             let seen = self.run(alloc, most, 0, Slow::new(alloc, most, 0, true));
             let is_told = seen.writer.taken.as_slice() == self.text.as_bytes();
-            let is_sent = seen.writer.flushes == 1 && seen.status == self.status;
-            if !(is_told && is_sent && (seen.reader.calls > 0) == self.is_read) {
+            let is_sent = seen.writer.flushes == 1 && !seen.sink_failed;
+            let is_asked = (seen.fetches > 0) == self.is_read && seen.reader.calls == seen.fetches;
+            if !(is_told && is_sent && is_asked && seen.status == self.status) {
                 return false;
             }
         }

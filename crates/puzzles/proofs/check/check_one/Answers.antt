@@ -1,11 +1,11 @@
 use Rattle.std.proofs.Common.{rules, arith, ◌≢◌}
 use Rattle.gameid_core.specs.declared.fault.IdFault.TheVariants.{Memory}
 use Rattle.puzzles.proofs.Readings.{refused_id}
-use Rattle.puzzles.proofs.RunLemmas.{ran_by_reply, ran_nothing}
+use Rattle.puzzles.proofs.RunLemmas.{ran_by_reply, ran_unwritten}
 use Rattle.puzzles.proofs.check.check_one.Goals as goal
 
 pub returns-in-Err-Memory-clause-ran : goal.returns-in-Err-Memory-clause-ran
-returns-in-Err-Memory-clause-ran g c = ran_nothing g.I.Source g.O.Sink _ _ _ _ (omega arith) (g.met.I.Source.gives_nothing c.args.input.now) (g.met.O.Sink.takes_nothing c.args.output.now)
+returns-in-Err-Memory-clause-ran g c = ran_unwritten g.I.Source g.O.Sink _ _ _ _ _ _ (omega arith) (g.met.I.Source.gives_nothing c.args.input.now) (g.met.O.Sink.takes_nothing c.args.output.now)
 
 pub returns-in_ok-reply-in-Err-clause-ran : goal.returns-in_ok-reply-in-Err-clause-ran
 returns-in_ok-reply-in-Err-clause-ran g c =

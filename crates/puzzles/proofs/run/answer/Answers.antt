@@ -1,15 +1,15 @@
 use Rattle.std.proofs.Common.{◌≡◌, ◌∙◌, Option, Some, ap, sym, subst, map, option_map, string_bytes}
 use Rattle.puzzles.specs.Allowed.{Allows}
 use Rattle.puzzles.specs.Requests.{Asked, check, grade, asked_in, asked_of}
-use Rattle.puzzles.proofs.RunLemmas.{ran_more, ran_by_reply, ran_by_telling, ran_nothing, is_late}
+use Rattle.puzzles.proofs.RunLemmas.{ran_more, ran_by_reply, ran_by_telling, ran_unwritten, is_late}
 use Rattle.puzzles.proofs.run.answer.Goals as goal
 
 pub returns-in_err-request-clause-ran : goal.returns-in_err-request-clause-ran
-returns-in_err-request-clause-ran g c = ran_nothing g.I.Source g.O.Sink _ _ _ _
+returns-in_err-request-clause-ran g c = ran_unwritten g.I.Source g.O.Sink _ _ _ _ _ _
     (is_late _ _ c.from_residual.ensures) (g.met.I.Source.gives_nothing c.args.input.now) (g.met.O.Sink.takes_nothing c.args.output.now)
 
 pub returns-in_err-reply-clause-ran : goal.returns-in_err-reply-clause-ran
-returns-in_err-reply-clause-ran g c = ran_nothing g.I.Source g.O.Sink _ _ _ _
+returns-in_err-reply-clause-ran g c = ran_unwritten g.I.Source g.O.Sink _ _ _ _ _ _
     (is_late _ _ c.from_residual-in_err-reply.ensures) (g.met.I.Source.gives_nothing c.args.input.now) (g.met.O.Sink.takes_nothing c.args.output.now)
 
 pub returns-clause-ran : goal.returns-clause-ran
