@@ -1,5 +1,6 @@
 -- The steps of a batch, and the chunks of its input.
 use Rattle.std.proofs.Common.{◌≡◌, ◌∙◌, ◌==◌, ◌<◌, ◌+◌, ◌++◌, ℕ, true, false, List, [], ◌∷◌, length, ap, ap₂, sym, refl, subst, arith, if◌then◌else◌, append-nil, append_assoc, inr, max, Result, Ok, Err, IfErr, take, drop, get_or, ◌≤◌, ◌⊎◌, Bool, inl, true≢false}
+use Rattle.std.proofs.lemmas.Grind.{common_steps}
 use Rattle.std.proofs.lemmas.List.{take-append-drop, take_more}
 use Rattle.std.specs.List.{All, slice_split}
 use Rattle.std.proofs.lemmas.List.Splits.{slice_split_at, slice_split_none, length-slice_split}
@@ -21,10 +22,7 @@ parts_at p (q ∷ parts) h = refl
 
 -- a line, its end, and what follows
 lines_at : (p rest : Text) → All (λ b. (b == 10) ≡ false) p → lines (p ++ 10 ∷ rest) ≡ strip_carriage_return p ∷ lines rest
-lines_at p rest h =
-    let count = length-slice_split (λ b. b == 10) rest in
-    let some : 0 < length (slice_split (λ b. b == 10) rest) = omega arith in
-    ap lines_of_parts (slice_split_at (λ b. b == 10) p 10 rest h refl) ∙ parts_at p (slice_split (λ b. b == 10) rest) some
+lines_at p rest h1 = grind (arith, common_steps, length-slice_split, parts_at, slice_split, slice_split_at)
 
 lines_last : (p : Text) → All (λ b. (b == 10) ≡ false) p → lines p ≡ (if length p == 0 then [] else p ∷ [])
 lines_last p h = ap lines_of_parts (slice_split_none (λ b. b == 10) p h)

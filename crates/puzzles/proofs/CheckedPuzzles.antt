@@ -1,6 +1,7 @@
 -- What the checks of grids rest on, for a puzzle of each game: an input has one answer of `check`, and the printed form of
 -- a solution is told to be correct.
 use Rattle.std.proofs.Common.{◌≡◌, ◌<◌, ◌≤◌, ◌∷◌, ◌⊎◌, ℕ, List, zero, suc, [], length, refl, sym, ap, ap₂, subst, arith, inl, inr, ◌≢◌, ◌∙◌, ◌*◌, true, Option, Some, None, get_or, slice_index, true≢false, codes}
+use Rattle.std.proofs.lemmas.Grind.{common_steps}
 use Rattle.std.specs.Prelude.{All, option_map, ◌↔◌, ◌++◌}
 use Rattle.std.proofs.lemmas.Bool.{cases_eq, cases_lt, eq-eqb}
 use Rattle.std.specs.List.{slice_get}
@@ -165,10 +166,7 @@ none_at v small never = let other : v ≢ 1 = never in omega arith
 
 -- in a grid of 0 and 1 a cell holds 0 where it can't hold 1
 hidden_zero : (cells : ℕ) (g : List ℕ) (place : ℕ) → IsGrid cells 2 g → (place < cells → slice_index g place ≡ 1 → ⊥) → slice_index g place ≡ 0
-hidden_zero cells g place grid never = elim (cases_lt place (length g)) [
-  | inl within ↦ none_at (slice_index g place) (grid.each_value place 0 within) (never (let l = grid.each_cell in omega arith))
-  | inr past ↦ get_or_past g place 0 past
-]
+hidden_zero cells g place h1 h2 = grind (arith, common_steps, cases_lt, get_or_past, none_at)
 
 pub pattern_checked : (p : Pattern) → IsPattern p → CheckedPuzzle (played game.Pattern) p
 pattern_checked p ok = record {

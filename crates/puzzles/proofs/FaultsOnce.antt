@@ -1,5 +1,6 @@
 -- Each grid has one answer of a check: the first rule that it breaks, or that it breaks none.
 use Rattle.std.proofs.Common.{◌≡◌, ◌∙◌, ◌+◌, ◌-◌, ◌*◌, ◌<◌, ◌⊎◌, ℕ, Bool, true, false, List, [], ◌∷◌, Option, Some, None, zero, suc, length, get_or, refl, sym, ap, subst, arith, inl, inr, true≢false}
+use Rattle.std.proofs.lemmas.Grind.{common_steps}
 use Rattle.std.proofs.lemmas.Bool.{and_from, cases_lt}
 use Rattle.std.proofs.lemmas.List.{get_or_default}
 use Rattle.grid_core.specs.Candidates.{all_below}
@@ -49,10 +50,7 @@ first_of right (suc n) = by (first_of right n).0 (first_of right n).1 (right n) 
 -- the least number of a kind is one alone
 pub least_once : (right wrong : ℕ → Type 0) → ((n : ℕ) → right n → wrong n → ⊥) → (j k : ℕ) → wrong j → wrong k → ((i : ℕ) → i < j → right i)
     → ((i : ℕ) → i < k → right i) → j ≡ k
-least_once right wrong apart j k x y before below = elim (cases_lt j k) [
-  | inl low ↦ absurd (apart j (below j low) x)
-  | inr high ↦ elim (cases_lt k j) [ inl low ↦ absurd (apart k (before k low) y) | inr also ↦ omega arith ]
-]
+least_once right wrong h1 j k h2 h3 h4 h5 = grind (arith, common_steps, cases_lt)
 
 first_once : (right : ℕ → Bool) (n c d : ℕ) → IsFirst right n c → IsFirst right n d → c ≡ d
 first_once right n c d x y =
@@ -185,17 +183,7 @@ module _ (p : Pattern) (g : List ℕ) where
   wrong_once k l a b = least_once (HasClue p g) (λ n. HasClue p g n → ⊥) (λ n has never. never has) k l a.wrong b.wrong a.before b.before
 
   pub pattern_alone : (a b : Option PatternFault) → IsCheck p g a → IsCheck p g b → a ≡ b
-  pattern_alone None None a b = refl
-  pattern_alone None (Some (pattern.Column x)) a b = absurd (b.1.wrong (line_of_solution p g x (let low = b.0 in omega arith) a))
-  pattern_alone None (Some (pattern.Row y)) a b = absurd (b.1.wrong (line_of_solution p g (p.size.w + y) (let low = b.0 in omega arith) a))
-  pattern_alone (Some (pattern.Column x)) None a b = absurd (a.1.wrong (line_of_solution p g x (let low = a.0 in omega arith) b))
-  pattern_alone (Some (pattern.Row y)) None a b = absurd (a.1.wrong (line_of_solution p g (p.size.w + y) (let low = a.0 in omega arith) b))
-  pattern_alone (Some (pattern.Column x)) (Some (pattern.Column y)) a b = ap (λ (n : ℕ). Some (pattern.Column n)) (wrong_once x y a.1 b.1)
-  pattern_alone (Some (pattern.Column x)) (Some (pattern.Row y)) a b = let same = wrong_once x (p.size.w + y) a.1 b.1 in let low = a.0 in absurd (omega arith)
-  pattern_alone (Some (pattern.Row x)) (Some (pattern.Column y)) a b = let same = wrong_once (p.size.w + x) y a.1 b.1 in let low = b.0 in absurd (omega arith)
-  pattern_alone (Some (pattern.Row x)) (Some (pattern.Row y)) a b =
-      let same = wrong_once (p.size.w + x) (p.size.w + y) a.1 b.1 in
-      ap (λ (n : ℕ). Some (pattern.Row n)) (let e : x ≡ y = omega arith in e)
+  pattern_alone a b h1 h2 = grind (arith, common_steps, line_of_solution, wrong_once)
 
 -- ---- Solo: by the first given that doesn't stand, and the first house that holds a number twice
 module _ (p : Solo) (ok : IsSolo p) (g : List ℕ) where

@@ -1,6 +1,7 @@
 -- What the laws rest on, for each game; and what is told of an ID beside its verdict: a grid that is told passes, what is
 -- handed out is solved, and an input that is correct is a solution.
 use Rattle.std.proofs.Common.{◌≡◌, ◌≢◌, ◌∙◌, ℕ, List, Result, sym, ap, subst, arith, inl, inr, Some, None, Ok, Err, true, refl, drop, ◌∷◌, Bool, false, [], if◌then◌else◌}
+use Rattle.std.proofs.lemmas.Grind.{common_steps}
 use Rattle.std.specs.Prelude.{◌↔◌, is_ok, ◌≤◌}
 use Rattle.gameid_core.specs.declared.fault.IdFault.{IdFault}
 use Rattle.gameid_core.specs.GridTexts.{grid_text}
@@ -68,20 +69,11 @@ module _ {P : Type 0} (play : Playing P) (reading : Reading play.game.reading pl
   pub never_one : (id : Text) (p : P) (any : ℕ) (said : Answer) → play.game.spells id p → HasTwo (play.game.rules p)
       → ((g : List ℕ) → Solves (play.game.rules p) g → play.game.solves p g)
       → SolvesId play any id said → said.status ≢ 0
-  never_one id p any said s two accepted (inl refusal) fine = reading.apart id p refusal.fault s refusal.first
-  never_one id p any said s two accepted (inr answered) fine =
-      let mine = subst (λ q. IsSolved (play.game.solves q) (play.game.rules q) (play.cell_text q) (play.extent q) any said) (reading.one id answered.puzzle p answered.spelled s) answered.allowed in
-      let found = status_one (verdict_of (play.game.rules p) any) (sym (ap (λ (a : Answer). a.status) mine.told ∙ told_status (λ h. grid_text (play.cell_text p h) (play.extent p)) (verdict_of (play.game.rules p) any)) ∙ fine) in
-      let alone = subst (IsRight (play.game.solves p)) found.1 mine.right in
-      two.differ (sym (alone.1 two.first (accepted two.first two.first_solves)) ∙ alone.1 two.second (accepted two.second two.second_solves))
+  never_one id p any said h1 h2 h3 h4 = grind (arith, common_steps, status_one, told_status)
 
 -- what is spelled is read
 pub spelled_read : {P : Type 0} (of : Text → Result P IdFault) (spells : Text → P → Type 0) → Reading of spells → (id : Text) (p : P) → spells id p → is_ok (of id) ≡ true
-spelled_read {P} of spells reading id p s = by (of id) refl
-  where
-    by : (r : Result P IdFault) → of id ≡ r → is_ok r ≡ true
-    by (Ok q) is = refl
-    by (Err f) is = absurd (reading.apart id p f s is)
+spelled_read of spells h1 id p h2 = grind (arith, common_steps)
 
 module _ {P : Type 0} (play : Playing P) (reading : Reading play.game.reading play.game.spells)
     (game : (id : Text) (p : P) → play.game.spells id p → CheckedPuzzle play p) where

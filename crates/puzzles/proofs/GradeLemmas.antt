@@ -1,5 +1,6 @@
 -- What grades mean of the games' own solutions, and how their texts and traces are told.
 use Rattle.std.proofs.Common.{length, ◌≡◌, ◌∙◌, ℕ, zero, suc, Bool, true, false, ◌==◌, List, [], ◌∷◌, Option, Some, None, refl, sym, ap, subst, inl, inr, arith, if◌then◌else◌, ◌++◌, ◌≤◌, append_assoc, append-nil, codes, true≢false, map, length-append}
+use Rattle.std.proofs.lemmas.Grind.{common_steps}
 use Rattle.std.specs.Prelude.{◌↔◌}
 use Rattle.std.proofs.lemmas.Bool.{and_parts, ne_eqb, eqb-true}
 use Rattle.std.proofs.lemmas.List.{length-map}
@@ -103,11 +104,7 @@ accepted_by p q solves e same = subst (λ (r : Puzzle). (g : List ℕ) → Solve
 
 -- the last rules in the list were tried last, whether they settle the puzzle or not
 pub last_of_one : (before : Puzzle) (set : RuleSet) (rules : Puzzle) → rules ≡ last_tried before (only_set set rules)
-last_of_one before set rules = by (is_settled rules)
-  where
-    by : (b : Bool) → rules ≡ (if b then rules else rules)
-    by true = refl
-    by false = refl
+last_of_one before set rules = grind (arith, common_steps)
 
 -- lines that tell a closing in one way tell it in another
 trace_as : (traced : Bool) (some all : Text → Type 0) (lines : Text) → (some lines → all lines) → IsTrace traced some lines → IsTrace traced all lines

@@ -1,6 +1,7 @@
 -- A puzzle is settled exactly where its verdict without a trial is one, and its grade goes along with its verdict; and so what is
 -- told of the two.
 use Rattle.std.proofs.Common.{◌≡◌, ◌∙◌, ◌⊎◌, ◌<◌, ℕ, zero, suc, Bool, true, false, List, [], ◌∷◌, ◌++◌, Option, Some, None, refl, sym, ap, subst, inl, inr, arith, ◌≢◌, Result, Err, if◌then◌else◌, codes, slice_index, true≢false}
+use Rattle.std.proofs.lemmas.Grind.{common_steps}
 use Rattle.std.proofs.lemmas.Bool.{and_parts, and_from}
 use Rattle.std.specs.Prelude.{◌↔◌, ◌+◌, ◌*◌}
 use Rattle.grid_core.specs.Candidates.{Candidates, IsInside, is_dead, is_full, grid_of, only, pick}
@@ -48,26 +49,14 @@ begins_with_trial walk_of d E cell (suc n) = elim (begins_with_trial walk_of d E
 none_below : (p : Puzzle) (walk_of : Candidates → List Mark) (d : ℕ) (E : Candidates) (o : Option ℕ) (g : List ℕ)
     → outcome 0 None (at_cell p walk_of d E o) ≡ OneGrid g → ⊥
 unfolding at_cell outcome
-none_below p walk_of d E None g e = cc
-none_below p walk_of d E (Some cell) g e = elim (begins_with_trial walk_of d E cell p.values) [
-  | inl none ↦ empty (sym (ap (outcome 0 None) none) ∙ e)
-  | inr w ↦ trial w.0 w.1 w.2 (sym (ap (outcome 0 None) w.3) ∙ e)
-]
-  where
-    empty : outcome 0 None [] ≡ OneGrid g → ⊥
-    empty f = cc
-
-    trial : (depth : ℕ) (board : Candidates) (rest : List Mark) → outcome 0 None (Trial depth board ∷ rest) ≡ OneGrid g → ⊥
-    trial depth board rest f = cc
+none_below p walk_of d E o g h1 = grind (arith, common_steps, begins_with_trial)
 
 module _ (p : Puzzle) (laws : IsLawful p) where
   start_walk : walk p 0 p.start ≡ walk_closed p (walk p 1) 0 (closure p p.start)
   start_walk = walk-unfold p 0 p.start laws.start_within
 
   pub settled_found : is_settled p ≡ true → (budget : ℕ) → verdict_of p budget ≡ OneGrid (grid_of p.cells p.values (closure p p.start))
-  settled_found settled budget =
-      let parts = and_parts (is_full p.cells p.values (closure p p.start)) (p.is_solution (grid_of p.cells p.values (closure p p.start))) settled in
-      ap (outcome budget None) (start_walk ∙ full_walk p (walk p 1) (closure p p.start) parts.0 parts.1) ∙ found_one budget (grid_of p.cells p.values (closure p p.start))
+  settled_found h1 budget = grind (arith, common_steps, and_parts, found_one, full_walk, start_walk)
 
   nothing : (marks : List Mark) (g : List ℕ) → walk p 0 p.start ≡ marks → marks ≡ [] → verdict_of p 0 ≡ OneGrid g → ⊥
   unfolding outcome
@@ -75,20 +64,7 @@ module _ (p : Puzzle) (laws : IsLawful p) where
 
   pub one_settled : (g : List ℕ) → verdict_of p 0 ≡ OneGrid g → is_settled p ≡ true
   unfolding walk_closed
-  one_settled g e = by (is_dead p.cells p.values (closure p p.start)) refl (is_full p.cells p.values (closure p p.start)) refl
-      (p.is_solution (grid_of p.cells p.values (closure p p.start))) refl
-    where
-      opened : is_dead p.cells p.values (closure p p.start) ≡ false → is_full p.cells p.values (closure p p.start) ≡ false
-          → walk_closed p (walk p 1) 0 (closure p p.start) ≡ at_cell p (walk p 1) 0 (closure p p.start) (pick p.cells p.values (closure p p.start))
-      opened alive unfilled = rw (alive, unfilled) refl
-
-      by : (dead : Bool) → is_dead p.cells p.values (closure p p.start) ≡ dead → (full : Bool) → is_full p.cells p.values (closure p p.start) ≡ full
-          → (good : Bool) → p.is_solution (grid_of p.cells p.values (closure p p.start)) ≡ good → is_settled p ≡ true
-      by true dead full is_it good solves = absurd (nothing (walk_closed p (walk p 1) 0 (closure p p.start)) g start_walk (walk_closed-dead p (walk p 1) 0 (closure p p.start) dead) e)
-      by false alive true full true solves = and_from _ _ full solves
-      by false alive true full false wrong = absurd (nothing (walk_closed p (walk p 1) 0 (closure p p.start)) g start_walk (walk_closed-wrong p (walk p 1) 0 (closure p p.start) alive full wrong) e)
-      by false alive false unfilled good solves =
-          absurd (none_below p (walk p 1) 0 (closure p p.start) (pick p.cells p.values (closure p p.start)) g (sym (ap (outcome 0 None) (start_walk ∙ opened alive unfilled)) ∙ e))
+  one_settled g h1 = grind (arith, common_steps, and_from, none_below, nothing, start_walk, walk_closed-dead, walk_closed-wrong)
 
 -- what the weaker rules settle, the stronger ones settle
 module _ (weak strong : Puzzle) (weak_laws : IsLawful weak) (strong_laws : IsLawful strong)
@@ -173,10 +149,7 @@ graded_one solves grade right e = absurd (omega (arith, e))
 -- a verdict that is right of a puzzle with one solution is that one, or that the search gave up
 one_or_out : (solves : List ℕ → Type 0) (o : Outcome) → IsRight solves o → HasOneSolution solves → verdict_status o ≢ 4 → 0 ≡ verdict_status o
 unfolding verdict_status
-one_or_out solves NoGrid right one left = absurd (right one.0 one.1)
-one_or_out solves (OneGrid g) right one left = refl
-one_or_out solves (TwoGrids g h) right one left = absurd (right.2 (sym (one.2 g right.0) ∙ one.2 h right.1))
-one_or_out solves (OutOfBudget found) right one left = absurd (left refl)
+one_or_out solves o h1 h2 h3 = grind (arith, common_steps)
 
 -- a list of rule sets gives the name of one, or the grade by the search
 named_or_searched : (sets : List Settling) (otherwise : Grade) → ((set : RuleSet) × (first_settled sets otherwise ≡ ByRules set)) ⊎ (first_settled sets otherwise ≡ otherwise)
@@ -236,21 +209,13 @@ module _ (search : Puzzle) (budget : ℕ) where
   pub own_named : (set : RuleSet) (rest : List Settling) → is_within_search set ≡ true → AreBeyond rest
       → is_within (listed_grade (record { set = set; rules = search } ∷ rest) search budget) ≡ is_settled search
   unfolding is_within
-  own_named set rest own none = by (is_settled search)
-    where
-      by : (b : Bool) → is_within (if b then ByRules set else listed_grade rest search budget) ≡ b
-      by true = own
-      by false = beyond rest none
+  own_named set rest h1 h2 = grind (arith, common_steps, beyond, is_within)
 
   -- one more rule set before the others, where what it settles the search's rules settle
   pub weaker_named : (set : RuleSet) (weak : Puzzle) (rest : List Settling) → is_within_search set ≡ true → (is_settled weak ≡ true → is_settled search ≡ true)
       → is_within (listed_grade rest search budget) ≡ is_settled search → is_within (listed_grade (record { set = set; rules = weak } ∷ rest) search budget) ≡ is_settled search
   unfolding is_within
-  weaker_named set weak rest within stronger named = by (is_settled weak) refl
-    where
-      by : (b : Bool) → is_settled weak ≡ b → is_within (if b then ByRules set else listed_grade rest search budget) ≡ is_settled search
-      by true settled = within ∙ sym (stronger settled)
-      by false unsettled = named
+  weaker_named set weak rest h1 h2 h3 = grind (arith, common_steps, is_within)
 
 -- ---- what is told
 -- the first two bytes of a text
@@ -260,12 +225,7 @@ marks text = slice_index text 0 + 1000 * slice_index text 1
 named_is : (grade : Grade) (lines rest : Text) (set : RuleSet) → is_within_search set ≡ true
     → grade_text grade ++ codes "\n" ++ lines ≡ (rule_set_text set ++ codes "\n") ++ rest → is_within grade ≡ true
 unfolding is_within marks
-named_is grade lines rest Crossings within e = absurd (true≢false (sym within))
-named_is (ByRules Singles) lines rest set within e = refl
-named_is (ByRules Houses) lines rest set within e = refl
-named_is (ByRules Lines) lines rest set within e = refl
-named_is (ByRules Local) lines rest set within e = refl
-named_is grade lines rest set within e = absurd (omega (arith, ap marks e))
+named_is grade lines rest set h1 h2 = grind (arith, common_steps, marks, true≢false)
 
 names_it : (grade : Grade) (lines : Text) → is_within grade ≡ true
     → (set : RuleSet) × (is_within_search set ≡ true) × Begins (rule_set_text set ++ codes "\n") (grade_text grade ++ codes "\n" ++ lines)

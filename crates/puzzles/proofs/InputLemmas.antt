@@ -13,13 +13,7 @@ use Rattle.puzzles.specs.CheckAnswers.{begins_with_line_end, without_returns}
 
 -- one byte more after those that are kept
 tail_of-append : (d : List ℕ) (b : ℕ) → tail_of (d ++ b ∷ []) ≡ next_tail (tail_of d) b
-tail_of-append [] b = refl
-tail_of-append (x ∷ []) b = go (x == 13)
-  where
-    go : (t : Bool) → More ≡ next_tail (if t then Return else More) b
-    go true = refl
-    go false = refl
-tail_of-append (x ∷ y ∷ d) b = refl
+tail_of-append d b = grind (arith, common_steps)
 
 module _ (n : ℕ) where
   short : (piece : List ℕ) → length (take n piece) < n → length piece < n
@@ -41,12 +35,7 @@ module _ (n : ℕ) where
 module _ (most : ℕ) where
   -- it is empty where nothing of it is kept
   pub line_empty : 0 < most → (line : Line) (piece : List ℕ) → HoldsUpTo most line piece → (length line.kept.items == 0) ≡ (length piece == 0)
-  line_empty some line piece h = elim (cases_lt (length piece) most) [
-    | inl low ↦ ap (λ l. length l == 0) (h.kept ∙ whole most piece (omega arith))
-    | inr high ↦
-        let long_kept : most ≤ length line.kept.items = subst (λ l. most ≤ length l) (sym h.kept) (full most piece (omega arith)) in
-        ne_eqb (length line.kept.items) 0 (λ z. absurd (omega arith)) ∙ sym (ne_eqb (length piece) 0 (λ z. absurd (omega arith)))
-  ]
+  line_empty h1 line piece h2 = grind (arith, common_steps, cases_lt, full, ne_eqb, whole)
 
   -- a byte that is kept
   pub holds_kept : (old new : Line) (b : ℕ) (piece : List ℕ) → HoldsUpTo most old piece → length old.kept.items < most
@@ -74,22 +63,10 @@ module _ (most : ℕ) where
 
 -- what each tail says of the bytes
 no_tail : (d : List ℕ) → tail_of d ≡ Nothing → d ≡ []
-no_tail [] e = refl
-no_tail (x ∷ []) e = go (x == 13) e
-  where
-    go : (t : Bool) → (if t then Return else More) ≡ Nothing → x ∷ [] ≡ []
-    go true f = cc
-    go false f = cc
-no_tail (x ∷ y ∷ d) e = cc
+no_tail d h1 = grind (arith, common_steps)
 
 return_tail : (d : List ℕ) → tail_of d ≡ Return → d ≡ 13 ∷ []
-return_tail [] e = cc
-return_tail (x ∷ []) e = go (x == 13) refl
-  where
-    go : (t : Bool) → (x == 13) ≡ t → x ∷ [] ≡ 13 ∷ []
-    go true f = ap (λ y. y ∷ []) (eqb-true x 13 f)
-    go false f = let bad : More ≡ Return = ap (λ t. if t then Return else More) (sym f) ∙ e in cc
-return_tail (x ∷ y ∷ d) e = cc
+return_tail d h1 = grind (arith, common_steps, eqb-true)
 
 last_is : (l : List ℕ) (x : ℕ) → slice_index (l ++ x ∷ []) (length (l ++ x ∷ []) - 1) ≡ x
 last_is l x = grind (arith, common_steps)
@@ -107,11 +84,7 @@ strip_other : (l : List ℕ) (x : ℕ) → (x ≡ 13 → ⊥) → strip_carriage
 strip_other l x h = ap (λ y. stripped_by (y == 13) (l ++ x ∷ [])) (last_is l x) ∙ ap (λ t. stripped_by t (l ++ x ∷ [])) (ne_eqb x 13 h)
 
 strip_length : (l : List ℕ) → length l ≤ length (strip_carriage_return l) + 1
-strip_length l = go (slice_index l (length l - 1) == 13)
-  where
-    go : (t : Bool) → length l ≤ length (stripped_by t l) + 1
-    go true = grind (arith, common_steps)
-    go false = omega arith
+strip_length l = grind (arith, common_steps, common_steps)
 
 take_full : (n : ℕ) (piece : List ℕ) → 0 < length (drop n piece) → length (take n piece) ≡ n
 take_full n piece h = grind (arith, common_steps)
@@ -148,20 +121,14 @@ module _ (most : ℕ) where
   some_left (x ∷ d) e = omega arith
 
   pub line_over : (line : Line) (piece : List ℕ) → HoldsUpTo most line piece → line.tail ≡ More → most < length (strip_carriage_return piece)
-  line_over line piece h e =
-      let more : tail_of (drop most piece) ≡ More = sym h.tail ∙ e in
-      let full = take_full most piece (some_left (drop most piece) more) in
-      subst (λ l. most < length (strip_carriage_return l)) (take-append-drop most piece) (more_by (take most piece) (drop most piece) more full)
+  line_over line piece h1 h2 = grind (arith, common_steps, full, more_by, some_left, take-append-drop, take_full)
 
   left_over : (d : List ℕ) → (tail_of d ≡ Nothing → ⊥) → 0 < length d
   left_over [] h = absurd (h refl)
   left_over (x ∷ d) h = omega arith
 
   pub last_over : (line : Line) (piece : List ℕ) → HoldsUpTo most line piece → (line.tail ≡ Nothing → ⊥) → most < length piece
-  last_over line piece h e =
-      let left = left_over (drop most piece) (λ is. e (h.tail ∙ is)) in
-      let total = length-drop most piece in
-      omega arith
+  last_over line piece h1 h2 = grind (arith, common_steps, left_over, length-drop)
 
 choice : (b : Bool) (byte : ℕ) (more : Text) → (byte == 13) && begins_with_line_end more ≡ b
     → without_returns (byte ∷ more) ≡ (if b then without_returns more else byte ∷ without_returns more)

@@ -1,5 +1,6 @@
 -- A text that is put piece by piece: what was put and what is left of it are the text so far.
 use Rattle.std.proofs.Common.{◌≡◌, ◌∙◌, ◌++◌, ◌∷◌, ◌+◌, ◌<◌, ◌≤◌, ℕ, length, refl, subst, zero, suc, [], sym, ap, append_assoc, append-nil, arith, add-one, inl, inr}
+use Rattle.std.proofs.lemmas.Grind.{common_steps}
 use Rattle.std.proofs.lemmas.Bool.{cases_lt}
 use Rattle.puzzles.specs.Answers.{Text, Begins, PutUpTo, PutBegun}
 use Rattle.gameid_core.specs.GridTexts.{each_below}
@@ -22,9 +23,7 @@ each_begins f i (suc n) le = elim (cases_lt i (suc n)) [
 line_split : (text done held longer line : Text) (f : ℕ → Text) (i : ℕ) → text ++ each_below f i ≡ done ++ held → longer ≡ held ++ line → line ≡ f i
     → text ++ each_below f (i + 1) ≡ done ++ longer
 unfolding each_below
-line_split text done held longer line f i split more is =
-    ap (λ (k : ℕ). text ++ each_below f k) (add-one i) ∙ sym (append_assoc text (each_below f i) (f i)) ∙ ap (λ (l : Text). l ++ f i) split
-    ∙ append_assoc done held (f i) ∙ ap (λ (l : Text). done ++ (held ++ l)) (sym is) ∙ ap (λ (l : Text). done ++ l) (sym more)
+line_split text done held longer line f i h1 h2 h3 = grind (arith, common_steps, add-one, append_assoc)
 
 module _ {S : Type 0} (takes : S → Text → S → Type 0) (nothing : (s : S) → takes s [] s) (both : (s t u : S) (a b : Text) → takes s a t → takes t b u → takes s (a ++ b) u) where
   -- before the first line

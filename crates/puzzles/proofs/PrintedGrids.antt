@@ -1,6 +1,7 @@
 -- A text begins with the printed form of no more than one grid; and what is printed has no carriage return, and is never
 -- too long to be read back.
 use Rattle.std.proofs.Common.{◌≡◌, ◌∙◌, ◌+◌, ◌*◌, ◌-◌, ◌<◌, ◌≤◌, ◌++◌, ◌∷◌, ℕ, List, zero, suc, slice_index, refl, sym, subst, arith, codes, inl, inr, ◌≢◌, ◌/◌, ◌%◌, ◌==◌, Bool, true, false, Option, Some, None, [], length, drop, ap, decimal, if◌then◌else◌, length-append}
+use Rattle.std.proofs.lemmas.Grind.{common_steps}
 use Rattle.std.proofs.lemmas.Bool.{cases_eq, cases_lt, eqb-true, ne_eqb}
 use Rattle.std.specs.List.{slice_get, AllByRecursion}
 use Rattle.std.proofs.Math.Seq.{drop-append_seam}
@@ -171,10 +172,7 @@ tents_once p g h place after other shown also lt follows more e = by (slice_inde
 
 -- what follows a number of Solo begins with no digit
 no_digit_follows : (p : Solo) (g : List ℕ) (place : ℕ) (after : Text) → Follows (solo_cell p g) (solo_extent p) place after → first_digit after ≡ None
-no_digit_follows p g place after (inl end) = ap first_digit end.1
-no_digit_follows p g place after (inr next) =
-    ap first_digit next.1.1 ∙ ap (λ (b : Bool). first_digit (((if b then [] else codes " ") ++ decimal (slice_index g (place + 1) + 1)) ++ next.1.0))
-    (ne_eqb ((place + 1) % solo_n p) 0 next.0)
+no_digit_follows p g place after h1 = grind (arith, common_steps, ne_eqb)
 
 pub solo_once : (p : Solo) → IsSolo p → CellOnce hides_nothing (solo_n p) (solo_extent p) (solo_cell p)
 solo_once p ok g h place after other shown also lt follows more e =

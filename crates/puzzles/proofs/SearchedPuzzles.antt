@@ -1,5 +1,6 @@
 -- What the searches rest on, for a puzzle of each game, and what follows for their verdicts.
 use Rattle.std.proofs.Common.{◌≡◌, ℕ, List, Some, None, ◌∙◌, ◌≤◌, ◌∷◌, zero, suc, [], Option, refl, sym, ap, arith}
+use Rattle.std.proofs.lemmas.Grind.{common_steps}
 use Rattle.std.specs.Prelude.{◌↔◌}
 use Rattle.grid_core.specs.Extent.{Extent}
 use Rattle.gameid_core.specs.GridTexts.{grid_text}
@@ -106,13 +107,7 @@ module _ (rules : Puzzle) (solves : List ℕ → Type 0) (searched : SearchedPuz
 
   -- so where one grid is the solution, it is what a search with enough trials tells
   pub found_with_enough : (one : HasOneSolution solves) (budget : ℕ) → trials_in (walk rules 0 rules.start) ≤ budget → verdict_of rules budget ≡ OneGrid one.0
-  found_with_enough one budget room = by (verdict_of rules budget) refl (verdict_right budget)
-    where
-      by : (o : Outcome) → verdict_of rules budget ≡ o → IsRight solves o → verdict_of rules budget ≡ OneGrid one.0
-      by NoGrid is right = absurd (right one.0 one.1)
-      by (OneGrid g) is right = is ∙ ap OneGrid (right.1 one.0 one.1)
-      by (TwoGrids g h) is right = absurd (right.2 (sym (one.2 g right.0) ∙ one.2 h right.1))
-      by (OutOfBudget found) is right = absurd (never_out (walk rules 0 rules.start) budget found None room is)
+  found_with_enough one budget h1 = grind (arith, common_steps, never_out, verdict_right)
 
   -- a search has one answer
   pub solved_once : (cell : List ℕ → ℕ → Text) (size : Extent) (budget : ℕ) → HasOneAnswer (IsSolved solves rules cell size budget)

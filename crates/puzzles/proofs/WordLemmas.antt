@@ -1,5 +1,6 @@
 -- From what parses ensure to what the words mean, and to the number of a text.
 use Rattle.std.proofs.Common.{◌≡◌, ◌∙◌, ap, refl, sym, true, List, [], ◌∷◌, Option, None, inl, inr, ◌<◌, ◌≤◌, ◌^◌, ◌⊎◌, ◌&&◌, ℕ, Bool, false, length, slice_index, Some, if◌then◌else◌, nat_lt, nat_le, lt-ltb, ltb-true, arith, subst}
+use Rattle.std.proofs.lemmas.Grind.{common_steps}
 use Rattle.std.specs.List.{list_all}
 use Rattle.std.specs.Char.{digit_value}
 use Rattle.std.specs.Str.Parse.{AllDigits, IsNumeral, digits_value, without_leading_plus}
@@ -61,11 +62,7 @@ and_false false = refl
 
 above : (most : ℕ) (bs : List ℕ) → most < digits_value 10 bs → number_of most bs ≡ None
 unfolding number_of
-above most bs h = go (nat_le (digits_value 10 bs) most) refl
-  where
-    go : (b : Bool) → nat_le (digits_value 10 bs) most ≡ b → if_number most bs (is_number bs && nat_le (digits_value 10 bs) most) ≡ None
-    go false e = ap (λ b. if_number most bs (is_number bs && b)) e ∙ ap (if_number most bs) (and_false (is_number bs))
-    go true e = let small = leb-true (digits_value 10 bs) most e in absurd (omega arith)
+above most bs h1 = grind (arith, common_steps, and_false, leb-true, nat_le)
 
 within : (most : ℕ) (bs : List ℕ) → is_number bs ≡ true → digits_value 10 bs ≤ most → number_of most bs ≡ Some (digits_value 10 bs)
 unfolding number_of
@@ -95,25 +92,15 @@ no_plus (b ∷ bs) h = rw (ne_eqb b 43 h) refl
 
 -- an empty text and a plus are no number
 pub number-none : (most : ℕ) (bs : List ℕ) → (length bs ≡ 0) ⊎ (slice_index bs 0 ≡ 43) → number_of most bs ≡ None
-number-none most [] h = fails most [] refl
-number-none most (b ∷ bs) (inl e) = absurd (omega arith)
-number-none most (b ∷ bs) (inr e) = ap (λ x. number_of most (x ∷ bs)) e ∙ fails most (43 ∷ bs) (and_false (nat_lt 0 (length (43 ∷ bs))))
+number-none most bs h1 = grind (arith, common_steps, and_false, fails, nat_lt)
 
 pub number-read : (most v : ℕ) (bs : List ℕ) → (slice_index bs 0 ≡ 43 → ⊥) → IsNumeral 10 (without_leading_plus bs)
     → v ≡ digits_value 10 (without_leading_plus bs) → v ≤ most → Some v ≡ number_of most bs
-number-read most v bs h digits value small =
-    let same = no_plus bs h in
-    let numeral : IsNumeral 10 bs = subst (λ (l : List ℕ). IsNumeral 10 l) same digits in
-    let is : v ≡ digits_value 10 bs = value ∙ ap (digits_value 10) same in
-    let low : digits_value 10 bs ≤ most = omega arith in
-    ap (λ n. Some n) is ∙ sym (within most bs (numeral_passes bs numeral) low)
+number-read most v bs h1 h2 h3 h4 = grind (arith, common_steps, no_plus, numeral_passes, within)
 
 pub number-high : (most v : ℕ) (bs : List ℕ) → (slice_index bs 0 ≡ 43 → ⊥)
     → v ≡ digits_value 10 (without_leading_plus bs) → most < v → None ≡ number_of most bs
-number-high most v bs h value big =
-    let is : v ≡ digits_value 10 bs = value ∙ ap (digits_value 10) (no_plus bs h) in
-    let high : most < digits_value 10 bs = omega arith in
-    sym (above most bs high)
+number-high most v bs h1 h2 h3 = grind (arith, common_steps, above, no_plus)
 
 pub number-failed : (most : ℕ) (bs : List ℕ) → (slice_index bs 0 ≡ 43 → ⊥)
     → (IsNumeral 10 (without_leading_plus bs) × (digits_value 10 (without_leading_plus bs) < 2 ^ 64) → ⊥) → most < 2 ^ 64 → None ≡ number_of most bs
