@@ -7,7 +7,7 @@ use Rattle.engine_core.specs.ClosingList.{IsDead, IsClosing}
 use Rattle.engine_core.specs.declared.mode.Closing.{Closing}
 use Rattle.engine_core.specs.declared.mode.Closing.TheVariants.{Dead}
 use Rattle.engine_core.specs.Queue.{IsEnded}
-use Rattle.engine_core.specs.declared.levels.Levels.{Levels}
+use Rattle.engine_core.specs.declared.search.levels.Levels.{Levels}
 use Rattle.engine_core.specs.Frames.{board_in, CountsClosing}
 use Rattle.engine_core.proofs.CountLemmas.{closed-in}
 use Rattle.std.proofs.lemmas.Grind.{common_steps}

@@ -11,8 +11,8 @@ use Rattle.engine_core.specs.Walk.{IsFewest, Mark.Trial, walk}
 use Rattle.engine_core.specs.Search.{Level, pending}
 use Rattle.engine_core.specs.Trail.{Trail, back_at, IsFurther, IsBack}
 use Rattle.engine_core.specs.Frames.{level_at, frame_at, levels_of, IsOpen, IsReady, IsTrial, pending_in}
-use Rattle.engine_core.specs.declared.levels.Frame.{Frame}
-use Rattle.engine_core.specs.declared.levels.Levels.{Levels}
+use Rattle.engine_core.specs.declared.search.levels.Frame.{Frame}
+use Rattle.engine_core.specs.declared.search.levels.Levels.{Levels}
 use Rattle.engine_core.proofs.QueueLemmas.{closed-but_only}
 use Rattle.engine_core.proofs.SearchLemmas.{pending-pop, pending-trial}
 use Rattle.engine_core.proofs.TrailLemmas.{put_back-none}

@@ -9,12 +9,12 @@ use Rattle.engine_core.specs.Walk.{Mark, Mark.Trial, walk}
 use Rattle.engine_core.specs.Verdict.{Outcome.TwoGrids, Outcome.OutOfBudget, outcome, tried}
 use Rattle.engine_core.specs.Counts.{deepest_of, boards_of, IsTurns}
 use Rattle.engine_core.specs.Frames.{found_marks, found_of, levels_of, pending_of, walk_of, marks_of, marks_from, board_in, Says, IsTrial, CountsClosing, IsSearched, IsWalked, searched_at}
-use Rattle.engine_core.specs.declared.judge.Grids.{Grids}
-use Rattle.engine_core.specs.declared.levels.Levels.{Levels}
-use Rattle.engine_core.specs.declared.search.Progress.{Progress}
-use Rattle.engine_core.specs.declared.search.Searched.{Searched}
-use Rattle.engine_core.specs.declared.search.Verdict.{Verdict}
-use Rattle.engine_core.specs.declared.search.Verdict.TheVariants as verdict
+use Rattle.engine_core.specs.declared.search.judge.Grids.{Grids}
+use Rattle.engine_core.specs.declared.search.levels.Levels.{Levels}
+use Rattle.engine_core.specs.declared.search.walk.Progress.{Progress}
+use Rattle.engine_core.specs.declared.search.walk.Searched.{Searched}
+use Rattle.engine_core.specs.declared.search.walk.Verdict.{Verdict}
+use Rattle.engine_core.specs.declared.search.walk.Verdict.TheVariants as verdict
 use Rattle.engine_core.proofs.CountLemmas.{turns-push, boards-push, deepest-push}
 use Rattle.std.proofs.lemmas.Grind.{common_steps}
 

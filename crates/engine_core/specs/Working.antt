@@ -8,7 +8,7 @@ use Rattle.engine_core.specs.Queue.{AreRemembered, IsRested, IsWoken, IsSweep, I
 use Rattle.engine_core.specs.Trail.{Trail}
 use Rattle.engine_core.specs.Waiting.{words_of, is_waiting, AreCalled}
 use Rattle.engine_core.specs.declared.mode.Closed.{Closed}
-use Rattle.engine_core.specs.declared.work.Made.{Made}
+use Rattle.engine_core.specs.declared.closing.work.Made.{Made}
 
 abbrev pub needs_made : Made → Needs
 needs_made m =

@@ -1,29 +1,18 @@
 //! Boards closed and searched, for any lawful rules.
 #![tactic(auto)]
 
-mod close;
-mod house;
-mod house_index;
-mod house_list;
-mod judge;
+mod closing;
+mod houses;
 mod laws;
-mod levels;
 mod mode;
-mod queue;
 mod rules;
 mod search;
-mod sets;
-mod step;
 mod store;
-mod sweep;
-mod trailed;
-mod trials;
-mod waits;
-mod work;
 
-pub use house::{apply, gather, has_bit};
-pub use house_index::Houses;
-pub use house_list::HouseList;
+pub use closing::waits::mark;
+pub use houses::list::HouseList;
+pub use houses::table::Houses;
+pub use houses::visit::{apply, gather, has_bit};
 pub use laws::{
     closure_is_largest, picks_the_lowest_of_the_fewest, sound_houses_are_lawful,
     struck_where_no_filling_has_it, verdict_goes_by_counts, verdict_is_true,
@@ -31,10 +20,9 @@ pub use laws::{
 };
 pub use mode::{Closing, Mode};
 pub use rules::Rules;
-pub use search::Verdict;
+pub use search::trials::trials_made_are_the_first;
+pub use search::walk::Verdict;
 pub use store::{Sizes, Store};
-pub use trials::trials_made_are_the_first;
-pub use waits::mark;
 
 #[cfg(test)]
 mod tests;

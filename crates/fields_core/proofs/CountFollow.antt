@@ -12,7 +12,7 @@ use Rattle.engine_core.specs.Sets.{has_bit, IsBitsOf, IsChange}
 use Rattle.fields_core.specs.Count.{is_empty}
 use Rattle.fields_core.specs.CountHouse.{CountHouse, IsHouse, count_house_of}
 use Rattle.fields_core.specs.Tallies.{IsTally, tally_at, AreTallied}
-use Rattle.fields_core.specs.declared.tally.Tally.{Tally}
+use Rattle.fields_core.specs.declared.count.tally.Tally.{Tally}
 use Rattle.fields_core.proofs.CountTallies.{AreCounted}
 use Rattle.fields_core.proofs.PlaceLists.{count-cons}
 use Rattle.std.proofs.lemmas.Grind.{common_steps}

@@ -15,8 +15,8 @@ use Rattle.fields_core.specs.Count.{counts_between, is_open, is_empty}
 use Rattle.fields_core.specs.CountHouse.{CountHouse, IsHouse, after_house, strikes_of}
 use Rattle.fields_core.specs.CountLists.{bounds_of}
 use Rattle.fields_core.specs.Tallies.{IsTally, lacks_filling, has_strikes, stays, kept_of}
-use Rattle.fields_core.specs.declared.count_list.Bounds.{Bounds}
-use Rattle.fields_core.specs.declared.tally.Tally.{Tally}
+use Rattle.fields_core.specs.declared.count.list.Bounds.{Bounds}
+use Rattle.fields_core.specs.declared.count.tally.Tally.{Tally}
 use Rattle.fields_core.proofs.BelowLemmas.{any-some}
 use Rattle.fields_core.proofs.PlaceLists.{num, count-some, some-counted}
 use Rattle.fields_core.proofs.CountBounds.{IsFull, filled-at, shown-bounds, bounds-shown, open-room}

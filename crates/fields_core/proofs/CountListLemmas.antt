@@ -8,8 +8,8 @@ use Rattle.engine_core.specs.PlaceLaws.{has_place-here}
 use Rattle.fields_core.specs.CountHouse.{CountHouse, CountedHouses, IsHouse, AreHouses, count_house_of, houses_below}
 use Rattle.fields_core.specs.CountLists.{house_places, bounds_of, bound_of, house_with, bounded, AreListed, IsBegun, IsAdded}
 use Rattle.fields_core.proofs.CountTallies.{AreCounted}
-use Rattle.fields_core.specs.declared.count_list.Bounds.{Bounds}
-use Rattle.fields_core.specs.declared.count_list.CountList.{CountList}
+use Rattle.fields_core.specs.declared.count.list.Bounds.{Bounds}
+use Rattle.fields_core.specs.declared.count.list.CountList.{CountList}
 use Rattle.std.proofs.lemmas.Grind.{common_steps}
 
 -- ---- the cells of a house that is begun

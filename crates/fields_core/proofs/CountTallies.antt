@@ -14,8 +14,8 @@ use Rattle.fields_core.specs.Count.{is_empty}
 use Rattle.fields_core.specs.CountHouse.{CountHouse, IsHouse, count_house_of, strikes_of, after_house}
 use Rattle.fields_core.specs.Tallies.{IsTally, has_strikes, moved_tally, CanMove, tally_at, AreTallied}
 use Rattle.fields_core.specs.CountLists.{bounds_of}
-use Rattle.fields_core.specs.declared.count_list.Bounds.{Bounds}
-use Rattle.fields_core.specs.declared.tally.Tally.{Tally}
+use Rattle.fields_core.specs.declared.count.list.Bounds.{Bounds}
+use Rattle.fields_core.specs.declared.count.tally.Tally.{Tally}
 use Rattle.fields_core.proofs.PlaceLists.{num, num-most, count-off, count-at, count-there}
 use Rattle.fields_core.proofs.CountKept.{after-idle}
 

@@ -9,7 +9,7 @@ use Rattle.std.proofs.lemmas.List.FromFn.{length-map-range_with_len}
 use Rattle.grid_core.specs.Extent.{Extent}
 use Rattle.grid_core.specs.Regions.{row_places, column_places, steps, step}
 use Rattle.gameid_core.specs.Puzzles.{Light}
-use Rattle.gameid_core.specs.declared.light_cell.LightCell.TheVariants.{White, Black}
+use Rattle.gameid_core.specs.declared.light_up.cell.LightCell.TheVariants.{White, Black}
 use Rattle.fields_core.specs.Light.{white}
 use Rattle.fields_core.specs.LightHouses.{begins_row_run, begins_column_run, number_house}
 use Rattle.fields_core.proofs.LightLines.{cell-at}

@@ -7,8 +7,8 @@ use Rattle.gameid_core.specs.Puzzles.{Light}
 use Rattle.fields_core.specs.Firsts.{IsFirst}
 use Rattle.fields_core.specs.Light.{light_cells, black_right, number_right, bulb_right, lit_right, is_lit}
 use Rattle.fields_core.specs.LightFaults.{IsLightFault}
-use Rattle.fields_core.specs.declared.light_fault.LightFault.{LightFault}
-use Rattle.fields_core.specs.declared.light_fault.LightFault.TheVariants.{Black, Number, Seen, Dark}
+use Rattle.fields_core.specs.declared.light_up.fault.LightFault.{LightFault}
+use Rattle.fields_core.specs.declared.light_up.fault.LightFault.TheVariants.{Black, Number, Seen, Dark}
 use Rattle.std.proofs.lemmas.Grind.{common_steps}
 
 pub lit-from : (p : Light) (g : List ℕ) → all_below (black_right p g) (light_cells p) ≡ true → all_below (number_right p g) (light_cells p) ≡ true

@@ -10,7 +10,7 @@ use Rattle.grid_core.specs.Regions.{row_places, column_places}
 use Rattle.grid_core.proofs.RegionLemmas.{row-at, column-at}
 use Rattle.grid_core.proofs.CandidateLemmas.{all_below-at, all_below-from}
 use Rattle.gameid_core.specs.Puzzles.{Light}
-use Rattle.gameid_core.specs.declared.light_cell.LightCell.TheVariants.{Black}
+use Rattle.gameid_core.specs.declared.light_up.cell.LightCell.TheVariants.{Black}
 use Rattle.engine_core.specs.Puzzle.{has_place}
 use Rattle.engine_core.specs.PlaceLaws.{AreDistinct, distinct-from, different-from}
 use Rattle.grid_core.specs.Grids.{IsGrid}

@@ -3,8 +3,8 @@ use Rattle.std.proofs.Common.{◌≡◌, ℕ, get_or, Some, sym, ap, ◌∙◌}
 use Rattle.std.specs.List.{slice_get}
 use Rattle.std.proofs.lemmas.Option.{slice_get-get_or, slice_get_within}
 use Rattle.gameid_core.specs.Puzzles.{Light}
-use Rattle.gameid_core.specs.declared.light_cell.LightCell.{LightCell}
-use Rattle.gameid_core.specs.declared.light_cell.LightCell.TheVariants.{Black}
+use Rattle.gameid_core.specs.declared.light_up.cell.LightCell.{LightCell}
+use Rattle.gameid_core.specs.declared.light_up.cell.LightCell.TheVariants.{Black}
 use Rattle.fields_core.specs.Light.{is_white, white}
 
 some-inj : {A : Type 0} {x y : A} → Some x ≡ Some y → x ≡ y

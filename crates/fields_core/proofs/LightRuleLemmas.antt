@@ -7,12 +7,12 @@ use Rattle.std.proofs.Math.Nat.{mul-le-mul_right, mod-lt, div-mul-le_self}
 use Rattle.grid_core.specs.Grids.{IsGrid}
 use Rattle.grid_core.proofs.CandidateLemmas.{all_below-at, all_below-from, any_below-here, any_below-some}
 use Rattle.gameid_core.specs.Puzzles.{Light}
-use Rattle.gameid_core.specs.declared.light_cell.LightCell.{LightCell}
-use Rattle.gameid_core.specs.declared.light_cell.LightCell.TheVariants.{White, Black, Numbered}
+use Rattle.gameid_core.specs.declared.light_up.cell.LightCell.{LightCell}
+use Rattle.gameid_core.specs.declared.light_up.cell.LightCell.TheVariants.{White, Black, Numbered}
 use Rattle.fields_core.specs.Light.{light_cells, white, bulb, bulbs_beside, number_is, joined_in_row, joined_in_column, sees, sees_bulb, black_right, number_right, bulb_right, lit_right, is_lit}
 use Rattle.fields_core.specs.LightSolutions.{light_row, light_column, IsFromTo, AreJoined, Sees, SeesBulb, IsLightSolution}
 use Rattle.fields_core.specs.LightFaults.{IsLightFault}
-use Rattle.fields_core.specs.declared.light_fault.LightFault.{LightFault}
+use Rattle.fields_core.specs.declared.light_up.fault.LightFault.{LightFault}
 use Rattle.fields_core.proofs.LightFaultLemmas.{lit-from, lit-parts, fault-not}
 use Rattle.fields_core.proofs.LightHouseLaws.{clear-at, clear-from, row-parts, column-parts}
 use Rattle.fields_core.proofs.LightSight.{some-column}

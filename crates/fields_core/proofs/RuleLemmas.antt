@@ -9,7 +9,7 @@ use Rattle.std.proofs.lemmas.List.{append-nil, take_all, drop_all}
 use Rattle.engine_core.specs.Puzzle.{after}
 use Rattle.engine_core.specs.Sets.{IsChange}
 use Rattle.fields_core.specs.Tallies.{AreTallied}
-use Rattle.fields_core.specs.declared.tally.Tally.{Tally}
+use Rattle.fields_core.specs.declared.count.tally.Tally.{Tally}
 use Rattle.gameid_core.specs.Puzzles.{Light}
 use Rattle.fields_core.specs.CountHouse.{CountHouse, CountedHouses, count_house_of, start_of, after_house, count_puzzle}
 use Rattle.fields_core.specs.CountLaws.{after-house}

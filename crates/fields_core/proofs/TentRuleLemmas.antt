@@ -12,8 +12,8 @@ use Rattle.fields_core.specs.TentHouses.{tent_houses}
 use Rattle.fields_core.specs.TentSolutions.{IsPairedBy, IsTentSolution}
 use Rattle.fields_core.specs.TentFaults.{IsTentFault}
 use Rattle.fields_core.specs.Ruled.{tent_table}
-use Rattle.fields_core.specs.declared.tent_fault.TentFault.{TentFault}
-use Rattle.fields_core.specs.declared.tent_fault.TentFault.TheVariants.{Tree, Touch, Column, Row, Match}
+use Rattle.fields_core.specs.declared.tents.fault.TentFault.{TentFault}
+use Rattle.fields_core.specs.declared.tents.fault.TentFault.TheVariants.{Tree, Touch, Column, Row, Match}
 use Rattle.fields_core.proofs.LightFaultLemmas.{first-breaks}
 use Rattle.fields_core.proofs.BelowLemmas.{index_of, index-is, distinct-none-twice}
 use Rattle.fields_core.proofs.TentCounting.{CampParts, camp-parts, tents_of, IsGiven, given, tent-in}

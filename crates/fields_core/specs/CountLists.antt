@@ -1,8 +1,8 @@
 -- Lists of count houses, as they are made.
 use Rattle.std.specs.Prelude.{◌≡◌, ℕ, List, [], ◌∷◌, ◌++◌, map, slice_index_or}
 use Rattle.fields_core.specs.CountHouse.{CountHouse}
-use Rattle.fields_core.specs.declared.count_list.Bounds.{Bounds}
-use Rattle.fields_core.specs.declared.count_list.CountList.{CountList}
+use Rattle.fields_core.specs.declared.count.list.Bounds.{Bounds}
+use Rattle.fields_core.specs.declared.count.list.CountList.{CountList}
 
 -- the cells of a house, and its bounds
 abbrev pub house_places : CountHouse → List ℕ

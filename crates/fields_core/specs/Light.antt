@@ -4,8 +4,8 @@ use Rattle.std.specs.Prelude.{ℕ, suc, min, max, ◌+◌, ◌*◌, ◌/◌, ◌
 use Rattle.grid_core.specs.Regions.{beside}
 use Rattle.grid_core.specs.Candidates.{any_below, all_below}
 use Rattle.gameid_core.specs.Puzzles.{Light}
-use Rattle.gameid_core.specs.declared.light_cell.LightCell.{LightCell}
-use Rattle.gameid_core.specs.declared.light_cell.LightCell.TheVariants.{White, Black, Numbered}
+use Rattle.gameid_core.specs.declared.light_up.cell.LightCell.{LightCell}
+use Rattle.gameid_core.specs.declared.light_up.cell.LightCell.TheVariants.{White, Black, Numbered}
 
 abbrev pub light_cells : Light → ℕ
 light_cells p = p.size.w * p.size.h

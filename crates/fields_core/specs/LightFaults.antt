@@ -4,8 +4,8 @@ use Rattle.grid_core.specs.Candidates.{all_below}
 use Rattle.gameid_core.specs.Puzzles.{Light}
 use Rattle.fields_core.specs.Firsts.{IsFirst}
 use Rattle.fields_core.specs.Light.{light_cells, black_right, number_right, bulb_right, lit_right, is_lit}
-use Rattle.fields_core.specs.declared.light_fault.LightFault.{LightFault}
-use Rattle.fields_core.specs.declared.light_fault.LightFault.TheVariants.{Black, Number, Seen, Dark}
+use Rattle.fields_core.specs.declared.light_up.fault.LightFault.{LightFault}
+use Rattle.fields_core.specs.declared.light_up.fault.LightFault.TheVariants.{Black, Number, Seen, Dark}
 
 -- nothing, where the grid is a solution; else the first broken rule, the rules before it being kept
 abbrev pub IsLightFault : Light → List ℕ → Option LightFault → Type 0

@@ -4,7 +4,7 @@
 use Rattle.std.specs.Prelude.{◌≡◌, ◌≢◌, ℕ, ◌/◌, ◌%◌, ◌<◌, ◌≤◌, ◌⊎◌, true, List, slice_index_or}
 use Rattle.grid_core.specs.Grids.{IsGrid}
 use Rattle.gameid_core.specs.Puzzles.{Light}
-use Rattle.gameid_core.specs.declared.light_cell.LightCell.TheVariants.{Black, Numbered}
+use Rattle.gameid_core.specs.declared.light_up.cell.LightCell.TheVariants.{Black, Numbered}
 use Rattle.fields_core.specs.Light.{light_cells, white, bulb, bulbs_beside}
 
 -- the row and the column of a cell

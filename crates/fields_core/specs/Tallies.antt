@@ -5,8 +5,8 @@ use Rattle.grid_core.specs.Candidates.{Candidates, IsWithin}
 use Rattle.engine_core.specs.Sets.{has_bit}
 use Rattle.fields_core.specs.Count.{is_empty}
 use Rattle.fields_core.specs.CountHouse.{CountHouse, CountedHouses, count_house_of}
-use Rattle.fields_core.specs.declared.count_list.Bounds.{Bounds}
-use Rattle.fields_core.specs.declared.tally.Tally.{Tally}
+use Rattle.fields_core.specs.declared.count.list.Bounds.{Bounds}
+use Rattle.fields_core.specs.declared.count.tally.Tally.{Tally}
 
 -- how many of the cells have no 0, how many have a 1, and how many have neither
 pub record IsTally (K : Candidates) (places : List ℕ) (tally : Tally) : Type 0 where

@@ -4,8 +4,8 @@ use Rattle.grid_core.specs.Candidates.{all_below}
 use Rattle.gameid_core.specs.Puzzles.{Tents}
 use Rattle.fields_core.specs.Firsts.{IsFirst}
 use Rattle.fields_core.specs.Tents.{tent_cells, tree_right, touch_right, column_right, row_right, can_be_paired, is_camp}
-use Rattle.fields_core.specs.declared.tent_fault.TentFault.{TentFault}
-use Rattle.fields_core.specs.declared.tent_fault.TentFault.TheVariants.{Tree, Touch, Column, Row, Match}
+use Rattle.fields_core.specs.declared.tents.fault.TentFault.{TentFault}
+use Rattle.fields_core.specs.declared.tents.fault.TentFault.TheVariants.{Tree, Touch, Column, Row, Match}
 
 -- nothing, where the grid is a solution; else the first broken rule, the rules before it being kept
 abbrev pub IsTentFault : Tents → List ℕ → Option TentFault → Type 0

@@ -6,7 +6,7 @@ use Rattle.fields_core.specs.Tents.{tent_cells, is_camp}
 use Rattle.fields_core.specs.TentHouses.{tent_houses, is_bare, tent_rules}
 use Rattle.fields_core.specs.Ruled.{RuledTents}
 use Rattle.fields_core.specs.TentScratches.{ServesTents}
-use Rattle.fields_core.specs.declared.tent_rules.TentWork.{TentWork}
+use Rattle.fields_core.specs.declared.tents.rules.TentWork.{TentWork}
 
 pub tent-lawful : (r : RuledTents) → IsLawful (tent_rules r.tents)
 tent-lawful r =

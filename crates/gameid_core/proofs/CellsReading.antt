@@ -3,8 +3,8 @@ use Rattle.std.proofs.Common.{◌≡◌, ℕ, Bool, ◌+◌, ◌≤◌, true, eq
 use Rattle.std.proofs.lemmas.Grind.{common_steps}
 use Rattle.std.specs.List.{AllByRecursion, flat_map}
 use Rattle.std.proofs.lemmas.Bool.{le-ltb}
-use Rattle.gameid_core.specs.declared.fault.IdFault.{IdFault}
-use Rattle.gameid_core.specs.declared.fault.IdFault.TheVariants.{TooMany, TooFew}
+use Rattle.gameid_core.specs.declared.id.fault.IdFault.{IdFault}
+use Rattle.gameid_core.specs.declared.id.fault.IdFault.TheVariants.{TooMany, TooFew}
 use Rattle.gameid_core.specs.Words.{words, Cuts}
 use Rattle.gameid_core.specs.Steps.{reading, ◌>>=◌}
 use Rattle.gameid_core.specs.Cells.{fill_step, fill_end}

@@ -19,7 +19,7 @@ use Rattle.gameid_core.proofs.Reading.{reading_turn, reading_end}
 use Rattle.gameid_core.proofs.Numerals.{numeral_cuts, joined_cuts}
 use Rattle.gameid_core.specs.Head.{SizeRead, extent_of, in_range}
 use Rattle.gameid_core.proofs.HeadLaws.{parts_of, plain_size, head_again, after_front}
-use Rattle.gameid_core.specs.declared.game.Game.TheVariants as game
+use Rattle.gameid_core.specs.declared.id.game.Game.TheVariants as game
 
 -- ---- texts of numerals
 

@@ -4,8 +4,8 @@ use Rattle.std.proofs.lemmas.Grind.{common_steps}
 use Rattle.std.specs.Prelude.{IsTrue, ◌↔◌}
 use Rattle.std.proofs.lemmas.Fmt.{decimal_digit}
 use Rattle.gameid_core.specs.Puzzles.{IsLightCell}
-use Rattle.gameid_core.specs.declared.light_cell.LightCell.{LightCell}
-use Rattle.gameid_core.specs.declared.light_cell.LightCell.TheVariants.{White}
+use Rattle.gameid_core.specs.declared.light_up.cell.LightCell.{LightCell}
+use Rattle.gameid_core.specs.declared.light_up.cell.LightCell.TheVariants.{White}
 use Rattle.grid_core.specs.Extent.{Extent}
 use Rattle.gameid_core.specs.GridReading.{IsAsShown}
 use Rattle.gameid_core.specs.GridTexts.{light_mark}

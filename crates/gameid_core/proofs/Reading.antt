@@ -2,7 +2,7 @@
 use Rattle.std.proofs.Common.{◌≡◌, ℕ, ◌+◌, ◌-◌, ◌<◌, ◌≤◌, true, List, ◌∷◌, length, Result, Ok, Err, refl, ap, ◌∙◌, arith, [], ◌↔◌, ◌⊎◌, ◌++◌, sym, inl, inr, length-append}
 use Rattle.std.proofs.lemmas.Grind.{common_steps}
 use Rattle.std.proofs.lemmas.Bool.{false≢true}
-use Rattle.gameid_core.specs.declared.fault.IdFault.{IdFault}
+use Rattle.gameid_core.specs.declared.id.fault.IdFault.{IdFault}
 use Rattle.gameid_core.specs.Words.{begins, words, Cuts}
 use Rattle.gameid_core.specs.Steps.{reading, Fails, ◌>>=◌}
 use Rattle.std.specs.List.{concat}

@@ -1,7 +1,7 @@
 -- Answers of steps that may be refused, and which way a test went.
 use Rattle.std.proofs.Common.{◌≡◌, Bool, true, false, cond, Result, Ok, Err, ◌⊎◌, ◌&&◌}
 use Rattle.std.proofs.Common.{arith}
-use Rattle.gameid_core.specs.declared.fault.IdFault.{IdFault}
+use Rattle.gameid_core.specs.declared.id.fault.IdFault.{IdFault}
 use Rattle.gameid_core.specs.Steps.{◌>>=◌}
 
 -- the value of a step that was not refused

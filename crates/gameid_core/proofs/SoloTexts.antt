@@ -3,7 +3,7 @@ use Rattle.std.proofs.Common.{◌≡◌, ℕ, ◌-◌, ◌<◌, ◌≤◌, true,
 use Rattle.std.proofs.lemmas.Grind.{common_steps}
 use Rattle.std.specs.Prelude.{replicate, decimal}
 use Rattle.std.proofs.lemmas.Bool.{ne_eqb, false≢true, le-ltb, lt-ltb, leb-true, ltb-false}
-use Rattle.gameid_core.specs.declared.fault.IdFault.TheVariants.{BadByte, NumberRange}
+use Rattle.gameid_core.specs.declared.id.fault.IdFault.TheVariants.{BadByte, NumberRange}
 use Rattle.gameid_core.specs.Words.{begins, digits_front, after_digits, value, Cuts, words}
 use Rattle.gameid_core.specs.Cells.{is_letter}
 use Rattle.gameid_core.specs.SoloText.{solo_token, solo_cells_at, SoloToken, blanks, gap, given, solo_token_text, solo_token_cells, IsSoloToken, AreApart, SpellsSolo, solo_of}
@@ -17,7 +17,7 @@ use Rattle.gameid_core.specs.Head.{in_range, max_numbers, SizeRead}
 use Rattle.gameid_core.specs.Puzzles.{IsSolo, solo_puzzle, Solo}
 use Rattle.gameid_core.proofs.CellsReading.{Token, cells_spelled, cells_again}
 use Rattle.gameid_core.proofs.Lists.{AllByRecursion-replicate, AllByRecursion-flat_map}
-use Rattle.gameid_core.specs.declared.game.Game.TheVariants as game
+use Rattle.gameid_core.specs.declared.id.game.Game.TheVariants as game
 use Rattle.std.specs.Str.{all_ascii_digits}
 use Rattle.std.specs.Char.{is_ascii_digit}
 use Rattle.std.proofs.lemmas.Fmt.{decimal-digits_value, digits_value-decimal}

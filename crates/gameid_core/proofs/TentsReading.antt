@@ -7,8 +7,8 @@ use Rattle.std.specs.Char.{is_ascii_digit}
 use Rattle.std.proofs.lemmas.Bool.{ne_eqb, false≢true, eqb-true, lt-ltb, leb-true}
 use Rattle.std.proofs.lemmas.List.{length-replicate}
 use Rattle.grid_core.specs.Extent.{Extent}
-use Rattle.gameid_core.specs.declared.fault.IdFault.{IdFault}
-use Rattle.gameid_core.specs.declared.fault.IdFault.TheVariants.{BadByte, TooMany, TooFew}
+use Rattle.gameid_core.specs.declared.id.fault.IdFault.{IdFault}
+use Rattle.gameid_core.specs.declared.id.fault.IdFault.TheVariants.{BadByte, TooMany, TooFew}
 use Rattle.gameid_core.specs.Words.{begins, joins, words, digits_front, value, Cuts}
 use Rattle.gameid_core.specs.Steps.{reading, ◌>>=◌}
 use Rattle.gameid_core.specs.Puzzles.{line_cells, lines_of, IsWide, IsTents, AreCounts}
@@ -17,7 +17,7 @@ use Rattle.gameid_core.proofs.Tokens.{front_turn, cuts_single}
 use Rattle.gameid_core.proofs.Reading.{turn_of, fault_first, place}
 use Rattle.gameid_core.proofs.Results.{bind_ok, chosen, only_taken, ok_is, and_parts}
 use Rattle.std.specs.List.{AllByRecursion}
-use Rattle.gameid_core.specs.declared.game.Game.TheVariants as game
+use Rattle.gameid_core.specs.declared.id.game.Game.TheVariants as game
 use Rattle.gameid_core.proofs.Lists.{AllByRecursion-append, AllByRecursion-replicate}
 
 abbrev pub at_tents : List ℕ → List ℕ → TentsSoFar

@@ -7,7 +7,7 @@ use Rattle.std.specs.Char.{is_ascii_digit}
 use Rattle.std.proofs.lemmas.Bool.{le-ltb}
 use Rattle.std.proofs.lemmas.List.{append-nil, take_at}
 use Rattle.grid_core.specs.Extent.{Extent}
-use Rattle.gameid_core.specs.declared.fault.IdFault.{IdFault}
+use Rattle.gameid_core.specs.declared.id.fault.IdFault.{IdFault}
 use Rattle.gameid_core.specs.Words.{IsNumeral, begins, words, value}
 use Rattle.gameid_core.specs.Steps.{reading}
 use Rattle.gameid_core.specs.Puzzles.{AreCounts, IsTents, line_cells, lines_of, Tents}
@@ -19,7 +19,7 @@ use Rattle.gameid_core.proofs.Numerals.{joined_cuts}
 use Rattle.gameid_core.proofs.Results.{bind_ok}
 use Rattle.gameid_core.proofs.Reading.{reading_turn, reading_end}
 use Rattle.gameid_core.proofs.TentsReading.{run_token, end_is, at_tents, run_single, tree_step, count_step, count_read, step_cases, end_cases, tents_read, tents_lawful}
-use Rattle.gameid_core.specs.declared.game.Game.TheVariants as game
+use Rattle.gameid_core.specs.declared.id.game.Game.TheVariants as game
 use Rattle.gameid_core.specs.Head.{HeadRead, extent_of, in_range, max_id}
 use Rattle.gameid_core.proofs.HeadLaws.{parts_of, plain_size, head_again, after_front}
 use Rattle.gameid_core.proofs.LightTexts.{wide_of, wide_range, sized}

@@ -2,7 +2,7 @@
 use Rattle.std.specs.Prelude.{◌-◌, [], ◌∷◌, if◌then◌else◌, ◌≡◌, ◌<◌, ◌+◌, ◌*◌, ◌%◌, ◌++◌, ◌⊎◌, ℕ, List, Option, Some, None, codes, slice_index, slice_get, ◌≢◌}
 use Rattle.std.specs.Char.{is_ascii_digit}
 use Rattle.gameid_core.specs.Puzzles.{Light, Tents}
-use Rattle.gameid_core.specs.declared.light_cell.LightCell.TheVariants.{White}
+use Rattle.gameid_core.specs.declared.light_up.cell.LightCell.TheVariants.{White}
 use Rattle.grid_core.specs.Extent.{Extent}
 use Rattle.grid_core.specs.Grids.{IsGrid}
 

@@ -2,8 +2,8 @@
 use Rattle.std.specs.Prelude.{◌+◌, ◌*◌, ◌%◌, ◌++◌, ◌==◌, ℕ, zero, suc, List, [], Option, Some, None, codes, decimal, if◌then◌else◌, slice_index, slice_get}
 use Rattle.grid_core.specs.Extent.{Extent}
 use Rattle.gameid_core.specs.Puzzles.{Solo, Pattern, Light, Tents, solo_n}
-use Rattle.gameid_core.specs.declared.light_cell.LightCell.{LightCell}
-use Rattle.gameid_core.specs.declared.light_cell.LightCell.TheVariants.{White, Black, Numbered}
+use Rattle.gameid_core.specs.declared.light_up.cell.LightCell.{LightCell}
+use Rattle.gameid_core.specs.declared.light_up.cell.LightCell.TheVariants.{White, Black, Numbered}
 
 -- the texts of 0, 1, .., n - 1, one after the other
 unfoldable pub each_below : (ℕ → List ℕ) → ℕ → List ℕ

@@ -3,11 +3,11 @@ use Rattle.std.specs.Prelude.{◌≡◌, ℕ, ◌+◌, ◌*◌, min, Bool, false
 use Rattle.std.specs.Borrow.{Bor}
 use Rattle.std.specs.List.{list_any}
 use Rattle.grid_core.specs.Extent.{Extent, max_side}
-use Rattle.gameid_core.specs.declared.fault.IdFault.{IdFault}
-use Rattle.gameid_core.specs.declared.fault.IdFault.TheVariants.{TooLong, SeedId, NoColon, BadSize, Variant, SizeRange}
-use Rattle.gameid_core.specs.declared.game.Game.{Game}
-use Rattle.gameid_core.specs.declared.game.Game.TheVariants.{Solo, Pattern, LightUp, Tents}
-use Rattle.gameid_core.specs.declared.head.SidesRead.{SidesRead}
+use Rattle.gameid_core.specs.declared.id.fault.IdFault.{IdFault}
+use Rattle.gameid_core.specs.declared.id.fault.IdFault.TheVariants.{TooLong, SeedId, NoColon, BadSize, Variant, SizeRange}
+use Rattle.gameid_core.specs.declared.id.game.Game.{Game}
+use Rattle.gameid_core.specs.declared.id.game.Game.TheVariants.{Solo, Pattern, LightUp, Tents}
+use Rattle.gameid_core.specs.declared.id.head.SidesRead.{SidesRead}
 use Rattle.gameid_core.specs.Steps.{◌>>=◌}
 use Rattle.gameid_core.specs.Words.{begins, digits_front, after_digits, value}
 

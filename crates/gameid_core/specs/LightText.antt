@@ -1,11 +1,11 @@
 -- Game IDs of Light Up: what a text spells, its first fault, and the one written text.
 use Rattle.std.specs.Prelude.{◌≡◌, ℕ, ◌+◌, ◌-◌, ◌*◌, ◌≤◌, ◌&&◌, List, [], ◌∷◌, ◌++◌, map, drop, length, replicate, slice_index, Result, Ok, Err, nat_le, ◌==◌, if◌then◌else◌}
 use Rattle.std.specs.List.{AllByRecursion, flat_map}
-use Rattle.gameid_core.specs.declared.fault.IdFault.{IdFault}
-use Rattle.gameid_core.specs.declared.fault.IdFault.TheVariants.{BadByte}
-use Rattle.gameid_core.specs.declared.game.Game.TheVariants as game
-use Rattle.gameid_core.specs.declared.light_cell.LightCell.{LightCell}
-use Rattle.gameid_core.specs.declared.light_cell.LightCell.TheVariants.{White, Black, Numbered}
+use Rattle.gameid_core.specs.declared.id.fault.IdFault.{IdFault}
+use Rattle.gameid_core.specs.declared.id.fault.IdFault.TheVariants.{BadByte}
+use Rattle.gameid_core.specs.declared.id.game.Game.TheVariants as game
+use Rattle.gameid_core.specs.declared.light_up.cell.LightCell.{LightCell}
+use Rattle.gameid_core.specs.declared.light_up.cell.LightCell.TheVariants.{White, Black, Numbered}
 use Rattle.gameid_core.specs.Words.{begins}
 use Rattle.gameid_core.specs.Steps.{◌>>=◌, reading}
 use Rattle.gameid_core.specs.Head.{extent_of, head_of, max_id}

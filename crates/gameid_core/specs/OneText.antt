@@ -1,6 +1,6 @@
 -- One puzzle for a text, and one text for a puzzle.
 use Rattle.std.specs.Prelude.{◌≡◌, ◌⊎◌, ℕ, List, Result, Err}
-use Rattle.gameid_core.specs.declared.fault.IdFault.{IdFault}
+use Rattle.gameid_core.specs.declared.id.fault.IdFault.{IdFault}
 
 -- each text spells exactly one puzzle or has exactly one fault, and never both
 pub record HasOneReading {P : Type 0} (spells : List ℕ → P → Type 0)

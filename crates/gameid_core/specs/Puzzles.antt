@@ -2,8 +2,8 @@
 use Rattle.std.specs.Prelude.{◌≡◌, ℕ, Bool, ◌+◌, ◌*◌, ◌<◌, ◌≤◌, List, [], ◌∷◌, length, nat_lt, if◌then◌else◌}
 use Rattle.std.specs.List.{AllByRecursion}
 use Rattle.grid_core.specs.Extent.{Extent, IsExtent}
-use Rattle.gameid_core.specs.declared.light_cell.LightCell.{LightCell}
-use Rattle.gameid_core.specs.declared.light_cell.LightCell.TheVariants.{White, Black, Numbered}
+use Rattle.gameid_core.specs.declared.light_up.cell.LightCell.{LightCell}
+use Rattle.gameid_core.specs.declared.light_up.cell.LightCell.TheVariants.{White, Black, Numbered}
 use Rattle.gameid_core.specs.Head.{max_numbers}
 
 -- the cells of a line: columns first, then rows

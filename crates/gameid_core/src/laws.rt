@@ -9,9 +9,9 @@ ghost use Rattle.gameid_core.specs.PatternText.{pattern_of};
 ghost use Rattle.gameid_core.specs.SoloText.{solo_of};
 ghost use Rattle.gameid_core.specs.TentsText.{tents_of};
 ghost use Rattle.gameid_core.specs.Words.{words};
-ghost use Rattle.gameid_core.specs.declared.fault.IdFault.{IdFault};
-ghost use Rattle.gameid_core.specs.declared.fault.IdFault.TheVariants.{TooLong};
-ghost use Rattle.gameid_core.specs.declared.game.Game.{Game};
+ghost use Rattle.gameid_core.specs.declared.id.fault.IdFault.{IdFault};
+ghost use Rattle.gameid_core.specs.declared.id.fault.IdFault.TheVariants.{TooLong};
+ghost use Rattle.gameid_core.specs.declared.id.game.Game.{Game};
 
 /// A text of more bytes than an ID may have is too long, whatever they are.
 #[tactic(auto, using(crate::proofs::HeadLaws::head_too_long), unfolding(crate::specs::PatternText::pattern_of, crate::specs::SoloText::solo_of, crate::specs::LightText::light_of, crate::specs::TentsText::tents_of))]

@@ -6,8 +6,8 @@ use Rattle.std.proofs.lemmas.Bool.{eqb-true, eq-eqb}
 use Rattle.std.proofs.lemmas.Nat.{mul-add-lt, div_below, mod_below, same_from_place}
 use Rattle.std.proofs.lemmas.List.{get_or-map}
 use Rattle.gameid_core.specs.Puzzles.{Solo, solo_n, solo_puzzle}
-use Rattle.solo_core.specs.declared.solo_house.SoloHouse.{SoloHouse}
-use Rattle.solo_core.specs.declared.solo_house.SoloHouse.TheVariants.{Row, Column, Block, Diagonal}
+use Rattle.solo_core.specs.declared.houses.house.SoloHouse.{SoloHouse}
+use Rattle.solo_core.specs.declared.houses.house.SoloHouse.TheVariants.{Row, Column, Block, Diagonal}
 use Rattle.solo_core.specs.Cells.{solo_cells, row_of, column_of, block_of}
 use Rattle.solo_core.specs.Houses.{IsHouseOf, lies_in}
 use Rattle.solo_core.specs.Solutions.{IsSoloSolution}

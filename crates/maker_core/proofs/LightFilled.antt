@@ -4,11 +4,11 @@ use Rattle.std.proofs.lemmas.List.{get_or_default, get_or-map, get_or_past, leng
 use Rattle.std.proofs.lemmas.Bool.{cases_lt}
 use Rattle.std.specs.Prelude.{All, IsPermutation, slice_index, ◌==◌, if◌then◌else◌}
 use Rattle.std.specs.List.{range_with_len}
-use Rattle.gameid_core.specs.declared.light_cell.LightCell.{LightCell}
+use Rattle.gameid_core.specs.declared.light_up.cell.LightCell.{LightCell}
 use Rattle.rand_core.specs.Stream.{Stream}
 use Rattle.grid_core.specs.Extent.{Extent}
 use Rattle.gameid_core.specs.Puzzles.{Light}
-use Rattle.gameid_core.specs.declared.light_cell.LightCell.TheVariants.{White, Black}
+use Rattle.gameid_core.specs.declared.light_up.cell.LightCell.TheVariants.{White, Black}
 use Rattle.fields_core.specs.Light.{light_cells, white, is_white, is_lit}
 use Rattle.fields_core.proofs.LightHouseLaws.{white-in}
 use Rattle.maker_core.specs.Draws.{AreAll, shuffled_list, black_cells}

@@ -8,7 +8,7 @@ use Rattle.std.proofs.lemmas.List.{get_or_past}
 use Rattle.std.proofs.lemmas.List.FromFn.{get_or-map-range_with_len, length-map-range_with_len}
 use Rattle.grid_core.proofs.CandidateLemmas.{any_below-here, any_below-some}
 use Rattle.gameid_core.specs.Puzzles.{Light}
-use Rattle.gameid_core.specs.declared.light_cell.LightCell.TheVariants.{White, Black, Numbered}
+use Rattle.gameid_core.specs.declared.light_up.cell.LightCell.TheVariants.{White, Black, Numbered}
 use Rattle.fields_core.specs.Light.{light_cells, is_white, white, bulb, bulbs_beside, joined_in_row, joined_in_column, sees, sees_bulb}
 use Rattle.fields_core.proofs.LightHouseLaws.{clear-from, row-both, row-self, column-both}
 use Rattle.maker_core.specs.LightFilling.{numbered_cell, with_numbers, with_bulb, bulbs_after, white_places}

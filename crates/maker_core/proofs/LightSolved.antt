@@ -11,8 +11,8 @@ use Rattle.std.proofs.lemmas.List.{get_or_default}
 use Rattle.grid_core.proofs.CandidateLemmas.{all_below-from}
 use Rattle.grid_core.specs.Grids.{IsGrid}
 use Rattle.gameid_core.specs.Puzzles.{Light}
-use Rattle.gameid_core.specs.declared.light_cell.LightCell.{LightCell}
-use Rattle.gameid_core.specs.declared.light_cell.LightCell.TheVariants.{White, Black, Numbered}
+use Rattle.gameid_core.specs.declared.light_up.cell.LightCell.{LightCell}
+use Rattle.gameid_core.specs.declared.light_up.cell.LightCell.TheVariants.{White, Black, Numbered}
 use Rattle.fields_core.specs.Light.{light_cells, white, bulb, bulbs_beside, number_is, sees, sees_bulb, black_right, number_right, bulb_right, lit_right, is_lit}
 use Rattle.fields_core.proofs.LightFaultLemmas.{lit-from}
 use Rattle.fields_core.proofs.LightHouseLaws.{white-in}

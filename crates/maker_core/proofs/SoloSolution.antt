@@ -8,8 +8,8 @@ use Rattle.std.proofs.lemmas.List.{get_or-map}
 use Rattle.std.proofs.lemmas.List.Elements.{All-from_get_or}
 use Rattle.std.proofs.lemmas.List.FromFn.{length-map-range_with_len, get_or-map-range_with_len}
 use Rattle.grid_core.specs.Grids.{IsGrid}
-use Rattle.solo_core.specs.declared.solo_house.SoloHouse.{SoloHouse}
-use Rattle.solo_core.specs.declared.solo_house.SoloHouse.TheVariants.{Row, Column, Block, Diagonal}
+use Rattle.solo_core.specs.declared.houses.house.SoloHouse.{SoloHouse}
+use Rattle.solo_core.specs.declared.houses.house.SoloHouse.TheVariants.{Row, Column, Block, Diagonal}
 use Rattle.solo_core.specs.Cells.{block_of}
 use Rattle.solo_core.specs.Houses.{IsHouseOf, lies_in}
 use Rattle.solo_core.specs.Solutions.{IsSoloSolution}

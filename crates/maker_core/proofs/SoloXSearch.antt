@@ -11,8 +11,8 @@ use Rattle.gameid_core.specs.Puzzles.{Solo, IsSolo, solo_puzzle}
 use Rattle.engine_core.specs.Puzzle.{Puzzle}
 use Rattle.engine_core.specs.Verdict.{Outcome, Outcome.NoGrid, Outcome.OneGrid, Outcome.TwoGrids, Outcome.OutOfBudget, verdict_of, Solves, IsTrueOf}
 use Rattle.engine_core.specs.Stored.{IsAnswer}
-use Rattle.engine_core.specs.declared.search.Verdict.{Verdict}
-use Rattle.engine_core.specs.declared.search.Verdict.TheVariants as verdict
+use Rattle.engine_core.specs.declared.search.walk.Verdict.{Verdict}
+use Rattle.engine_core.specs.declared.search.walk.Verdict.TheVariants as verdict
 use Rattle.solo_core.specs.RuleSets.{houses_rules}
 use Rattle.solo_core.specs.Solutions.{IsSoloSolution}
 use Rattle.solo_core.specs.SolutionLaws.{rule_from_test}

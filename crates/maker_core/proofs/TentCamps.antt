@@ -9,7 +9,7 @@ use Rattle.engine_core.specs.PlaceLaws.{has_place-here, place-filter}
 use Rattle.fields_core.proofs.TentBeside.{beside-in}
 use Rattle.fields_core.proofs.LightCounting.{filter-few}
 use Rattle.fields_core.proofs.StepLaws.{steps-few}
-use Rattle.maker_core.specs.declared.camp.Camp.{Camp}
+use Rattle.maker_core.specs.declared.tents.camp.Camp.{Camp}
 use Rattle.maker_core.specs.Draws.{shuffled_order}
 use Rattle.maker_core.specs.TentFilling.{no_camp, is_free, free_cells_beside, may_pitch, take_cell, camp_after, tent_filling}
 use Rattle.maker_core.specs.TentSteps.{IsPitched}

@@ -10,7 +10,7 @@ use Rattle.gameid_core.specs.Puzzles.{Tents, lines_of}
 use Rattle.engine_core.specs.Puzzle.{IsGridOf}
 use Rattle.fields_core.specs.TentHouses.{tent_rules}
 use Rattle.fields_core.specs.TentSolutions.{IsTentSolution}
-use Rattle.maker_core.specs.declared.camp.Camp.{Camp}
+use Rattle.maker_core.specs.declared.tents.camp.Camp.{Camp}
 use Rattle.maker_core.specs.Made.{HasOne, TellsOne, IsOnlySolution}
 use Rattle.maker_core.specs.TentFilling.{tents_puzzle_of}
 use Rattle.maker_core.proofs.OnlySolutions.{one_is}

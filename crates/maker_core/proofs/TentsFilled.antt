@@ -10,7 +10,7 @@ use Rattle.maker_core.specs.Draws.{HasWords, draw_below, shuffled_order, stream_
 use Rattle.maker_core.specs.SoloOrders.{IsOrder}
 use Rattle.maker_core.specs.TentFilling.{camp_after, free_cells_beside, may_pitch, no_camp, pitch, take_cell, tent_filling, tents_puzzle_of}
 use Rattle.maker_core.specs.TentSteps.{IsTaken}
-use Rattle.maker_core.specs.declared.camp.Camp.{Camp}
+use Rattle.maker_core.specs.declared.tents.camp.Camp.{Camp}
 use Rattle.maker_core.proofs.TentCamps.{free_few, pitched_is}
 use Rattle.maker_core.proofs.TentsSolved.{IsCamp, camp_none, camp_solves, camp_step}
 use Rattle.maker_core.proofs.Shuffles.{IsDrawn, draw_is, if_either, IsShuffled, order_is}

@@ -17,7 +17,7 @@ use Rattle.fields_core.specs.TentSolutions.{IsTentSolution}
 use Rattle.fields_core.proofs.StepLaws.{steps-some, step-up, step-left, step-right, step-down}
 use Rattle.fields_core.proofs.TentBeside.{beside-in}
 use Rattle.fields_core.proofs.TentCounting.{tent-in}
-use Rattle.maker_core.specs.declared.camp.Camp.{Camp}
+use Rattle.maker_core.specs.declared.tents.camp.Camp.{Camp}
 use Rattle.maker_core.specs.SoloOrders.{IsOrder}
 use Rattle.maker_core.specs.TentFilling.{no_camp, touches_tent, may_pitch, tents_puzzle_of}
 use Rattle.maker_core.specs.TentSteps.{IsPitched, IsTaken}

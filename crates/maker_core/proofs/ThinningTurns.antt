@@ -1,6 +1,6 @@
 -- A clue is tried: it stays for a reason that the verdict tells, and what was told of other cells holds of the thinner puzzle
 -- too, since fewer clues lose no solution.
-use Rattle.engine_core.specs.declared.search.Verdict.TheVariants as verdict
+use Rattle.engine_core.specs.declared.search.walk.Verdict.TheVariants as verdict
 use Rattle.std.proofs.Common.{◌≡◌, ℕ, List, Option, None, Bool, sym, subst, ◌≢◌, zero, suc, ◌<◌, true, false, true≢false, [], ◌∷◌, Some, length, get_or, set, drop, ◌+◌, refl, ◌∙◌, ap, arith, ◌⊎◌, inl, inr, add-one}
 use Rattle.engine_core.specs.Puzzle.{Puzzle, Needs, FitsIn, needs_of}
 use Rattle.engine_core.specs.Verdict.{Outcome, outcome, IsTrueOf}

@@ -13,8 +13,8 @@ use Rattle.grid_core.specs.Extent.{Extent}
 use Rattle.grid_core.specs.Regions.{beside}
 use Rattle.grid_core.proofs.CandidateLemmas.{all_below-at, all_below-from}
 use Rattle.gameid_core.specs.Puzzles.{Light}
-use Rattle.gameid_core.specs.declared.light_cell.LightCell.{LightCell}
-use Rattle.gameid_core.specs.declared.light_cell.LightCell.TheVariants.{White, Black, Numbered}
+use Rattle.gameid_core.specs.declared.light_up.cell.LightCell.{LightCell}
+use Rattle.gameid_core.specs.declared.light_up.cell.LightCell.TheVariants.{White, Black, Numbered}
 use Rattle.engine_core.specs.Verdict.{Solves}
 use Rattle.fields_core.specs.Light.{light_cells, is_white, white, joined_in_row, joined_in_column, sees, sees_bulb, bulbs_beside, number_is, black_right, number_right, bulb_right, lit_right, is_lit}
 use Rattle.fields_core.specs.LightHouses.{row_run, column_run, seen_from, begins_row_run, begins_column_run, numbered, number_house, row_house, column_house, lit_house, light_houses, light_rules}

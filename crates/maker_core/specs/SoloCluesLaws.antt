@@ -10,8 +10,8 @@ use Rattle.grid_core.proofs.CandidateLemmas.{all_below-at, all_below-from}
 use Rattle.gameid_core.specs.Puzzles.{Solo, solo_puzzle}
 use Rattle.engine_core.specs.Verdict.{Solves}
 use Rattle.solo_core.specs.RuleSets.{houses_rules}
-use Rattle.solo_core.specs.declared.solo_house.SoloHouse.{SoloHouse}
-use Rattle.solo_core.specs.declared.solo_house.SoloHouse.TheVariants.{Row, Column, Block, Diagonal}
+use Rattle.solo_core.specs.declared.houses.house.SoloHouse.{SoloHouse}
+use Rattle.solo_core.specs.declared.houses.house.SoloHouse.TheVariants.{Row, Column, Block, Diagonal}
 use Rattle.solo_core.specs.Cells.{solo_cells}
 use Rattle.solo_core.specs.Houses.{IsHouseOf, lies_in}
 use Rattle.solo_core.specs.Solutions.{IsSoloSolution, given_stands, is_solo_solution}

@@ -9,7 +9,7 @@ use Rattle.gameid_core.specs.Puzzles.{Tents}
 use Rattle.fields_core.specs.Tents.{tent, touches}
 use Rattle.fields_core.specs.TentHouses.{tent_rules}
 use Rattle.fields_core.specs.TentSolutions.{IsTentSolution}
-use Rattle.maker_core.specs.declared.camp.Camp.{Camp}
+use Rattle.maker_core.specs.declared.tents.camp.Camp.{Camp}
 use Rattle.maker_core.specs.Draws.{HasWords, Making, draw_below, filling_at, shuffled_order}
 use Rattle.maker_core.specs.Made.{has_one}
 

@@ -2,7 +2,7 @@
 use Rattle.std.specs.Prelude.{◌≡◌, ℕ, true, slice_set, ◌⊎◌}
 use Rattle.grid_core.specs.Extent.{Extent}
 use Rattle.engine_core.specs.Puzzle.{has_place}
-use Rattle.maker_core.specs.declared.camp.Camp.{Camp}
+use Rattle.maker_core.specs.declared.tents.camp.Camp.{Camp}
 use Rattle.maker_core.specs.TentFilling.{may_pitch, free_cells_beside}
 
 -- a tent in the cell and a tree in a free cell beside it

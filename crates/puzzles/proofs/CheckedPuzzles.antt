@@ -12,9 +12,9 @@ use Rattle.gameid_core.specs.GridReading.{IsAsShown, hides_nothing, light_hides,
 use Rattle.gameid_core.specs.GridTexts.{grid_text, pattern_cell, solo_cell, solo_extent, light_cell, tents_cell}
 use Rattle.gameid_core.specs.Head.{max_numbers}
 use Rattle.gameid_core.specs.Puzzles.{IsLight, IsPattern, IsSolo, IsTents, Light, Pattern, Solo, Tents, solo_n}
-use Rattle.gameid_core.specs.declared.light_cell.LightCell.{LightCell}
-use Rattle.gameid_core.specs.declared.light_cell.LightCell.TheVariants.{White, Black, Numbered}
-use Rattle.gameid_core.specs.declared.game.Game.TheVariants as game
+use Rattle.gameid_core.specs.declared.light_up.cell.LightCell.{LightCell}
+use Rattle.gameid_core.specs.declared.light_up.cell.LightCell.TheVariants.{White, Black, Numbered}
+use Rattle.gameid_core.specs.declared.id.game.Game.TheVariants as game
 use Rattle.pattern_core.specs.Faults.{IsCheck}
 use Rattle.solo_core.specs.Faults.{IsFirstFault}
 use Rattle.fields_core.specs.Light.{is_white, light_cells, white}

@@ -12,10 +12,10 @@ use Rattle.fields_core.specs.Light.{light_cells, black_right, number_right, bulb
 use Rattle.fields_core.specs.LightFaults.{IsLightFault}
 use Rattle.fields_core.specs.TentFaults.{IsTentFault}
 use Rattle.fields_core.specs.Tents.{tent_cells, tree_right, touch_right, column_right, row_right, can_be_paired}
-use Rattle.fields_core.specs.declared.light_fault.LightFault.{LightFault}
-use Rattle.fields_core.specs.declared.light_fault.LightFault.TheVariants as light
-use Rattle.fields_core.specs.declared.tent_fault.TentFault.{TentFault}
-use Rattle.fields_core.specs.declared.tent_fault.TentFault.TheVariants as tent
+use Rattle.fields_core.specs.declared.light_up.fault.LightFault.{LightFault}
+use Rattle.fields_core.specs.declared.light_up.fault.LightFault.TheVariants as light
+use Rattle.fields_core.specs.declared.tents.fault.TentFault.{TentFault}
+use Rattle.fields_core.specs.declared.tents.fault.TentFault.TheVariants as tent
 use Rattle.fields_core.proofs.LightFaultLemmas.{first-breaks, lit-from, lit-parts}
 use Rattle.fields_core.proofs.TentCounting.{camp-parts}
 use Rattle.fields_core.proofs.TentRuleLemmas.{camp-from}
@@ -32,8 +32,8 @@ use Rattle.solo_core.specs.SolutionLaws.{given_from_test, test_from_given, test_
 use Rattle.solo_core.specs.Solutions.{given_stands, numbers_of as numbers_in}
 use Rattle.solo_core.specs.declared.fault.SoloFault.{SoloFault}
 use Rattle.solo_core.specs.declared.fault.SoloFault.TheVariants as solo
-use Rattle.solo_core.specs.declared.solo_house.SoloHouse.{SoloHouse}
-use Rattle.solo_core.specs.declared.solo_house.SoloHouse.TheVariants.{Row, Column, Block, Diagonal}
+use Rattle.solo_core.specs.declared.houses.house.SoloHouse.{SoloHouse}
+use Rattle.solo_core.specs.declared.houses.house.SoloHouse.TheVariants.{Row, Column, Block, Diagonal}
 use Rattle.solo_core.proofs.RepeatLemmas.{first_fault, first_house, no_test, solved}
 
 -- ---- the first number at which a test fails

@@ -3,12 +3,12 @@
 use Rattle.std.proofs.Common.{◌≡◌, ◌≢◌, ◌∙◌, ℕ, List, Result, sym, ap, subst, arith, inl, inr, Some, None, Ok, Err, true, refl, drop, ◌∷◌, Bool, false, [], if◌then◌else◌}
 use Rattle.std.proofs.lemmas.Grind.{common_steps}
 use Rattle.std.specs.Prelude.{◌↔◌, is_ok, ◌≤◌}
-use Rattle.gameid_core.specs.declared.fault.IdFault.{IdFault}
+use Rattle.gameid_core.specs.declared.id.fault.IdFault.{IdFault}
 use Rattle.gameid_core.specs.GridTexts.{grid_text}
 use Rattle.gameid_core.specs.Head.{SizeRead}
 use Rattle.gameid_core.specs.GridReading.{IsPrinted}
-use Rattle.gameid_core.specs.declared.game.Game.{Game}
-use Rattle.gameid_core.specs.declared.game.Game.TheVariants as game
+use Rattle.gameid_core.specs.declared.id.game.Game.{Game}
+use Rattle.gameid_core.specs.declared.id.game.Game.TheVariants as game
 use Rattle.gameid_core.proofs.LightWritten.{light_is_written}
 use Rattle.gameid_core.proofs.PatternWritten.{pattern_is_written}
 use Rattle.gameid_core.proofs.SoloCanon.{solo_is_written}

@@ -13,7 +13,7 @@ use Rattle.engine_core.specs.Walk.{Mark, Mark.Trial, Mark.Found, IsFound, walk, 
 use Rattle.engine_core.specs.Verdict.{Outcome, Outcome.OneGrid, Solves, outcome, verdict_of, spent, trials_in}
 use Rattle.solo_core.specs.Houses.{houses_of}
 use Rattle.solo_core.specs.Scopes.{crossing_scopes, scopes_of}
-use Rattle.solo_core.specs.declared.solo_scope.SoloScope.TheVariants.{House}
+use Rattle.solo_core.specs.declared.houses.scope.SoloScope.TheVariants.{House}
 use Rattle.puzzles.specs.Grades.{HasOneSolution, IsGradeOf, IsRightGrade, TellsGrade, grade_by, searched_grade, Settling, last_tried, listed_grade, only_set, grade_status, grade_text}
 use Rattle.puzzles.specs.Answers.{Text, Answer, Delivers}
 use Rattle.puzzles.specs.Stops.{Tells}

@@ -7,7 +7,7 @@ use Rattle.std.specs.Prelude.{◌↔◌, ◌+◌, ◌*◌}
 use Rattle.grid_core.specs.Candidates.{Candidates, IsInside, is_dead, is_full, grid_of, only, pick}
 use Rattle.grid_core.proofs.CandidateLemmas.{count_below-one, least_below-passes}
 use Rattle.grid_core.proofs.GridLemmas.{is_full-count, grid_of-at}
-use Rattle.gameid_core.specs.declared.fault.IdFault.{IdFault}
+use Rattle.gameid_core.specs.declared.id.fault.IdFault.{IdFault}
 use Rattle.engine_core.specs.Puzzle.{Puzzle, IsLawful, IsClosed}
 use Rattle.engine_core.specs.Closing.{closure}
 use Rattle.engine_core.specs.Stored.{is_settled}

@@ -17,9 +17,9 @@ use Rattle.gameid_core.specs.Lines.{lines_ones, lines_runs}
 use Rattle.gameid_core.specs.PatternText.{pattern_text}
 use Rattle.gameid_core.specs.Puzzles.{IsTents, Pattern, Tents}
 use Rattle.gameid_core.specs.TentsText.{tents_text}
-use Rattle.gameid_core.specs.declared.fault.IdFault.{IdFault}
-use Rattle.gameid_core.specs.declared.fault.IdFault.TheVariants.{SizeRange}
-use Rattle.gameid_core.specs.declared.game.Game.TheVariants as game
+use Rattle.gameid_core.specs.declared.id.fault.IdFault.{IdFault}
+use Rattle.gameid_core.specs.declared.id.fault.IdFault.TheVariants.{SizeRange}
+use Rattle.gameid_core.specs.declared.id.game.Game.TheVariants as game
 use Rattle.gameid_core.proofs.HeadLaws.{size_take}
 use Rattle.gameid_core.proofs.LineLaws.{at_column, at_row}
 use Rattle.gameid_core.proofs.OnesFit.{ones_lawful}

@@ -13,8 +13,8 @@ use Rattle.gameid_core.specs.GridTexts.{grid_text, row_text, pattern_cell, solo_
 use Rattle.gameid_core.proofs.PrintedGrids.{begins_with_form, same_grid}
 use Rattle.gameid_core.proofs.PrintedRows.{Left, LeftOf, after_cell, all_left, all_rows_left, cell_follows, in_grid, next_row, none_left, row_first}
 use Rattle.gameid_core.specs.Puzzles.{IsSolo, Light, Pattern, Solo, Tents, solo_n, IsLight, IsLightCell}
-use Rattle.gameid_core.specs.declared.light_cell.LightCell.{LightCell}
-use Rattle.gameid_core.specs.declared.light_cell.LightCell.TheVariants.{White, Black, Numbered}
+use Rattle.gameid_core.specs.declared.light_up.cell.LightCell.{LightCell}
+use Rattle.gameid_core.specs.declared.light_up.cell.LightCell.TheVariants.{White, Black, Numbered}
 use Rattle.gameid_core.proofs.PrintedCells.{number_fits}
 use Rattle.gameid_core.proofs.PrintedNumbers.{Number, not_empty, number_of}
 use Rattle.puzzles.specs.Answers.{Text}

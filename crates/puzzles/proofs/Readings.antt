@@ -5,16 +5,16 @@ use Rattle.gameid_core.specs.LightText.{SpellsLight, light_of}
 use Rattle.gameid_core.specs.PatternText.{SpellsPattern, pattern_of}
 use Rattle.gameid_core.specs.SoloText.{SpellsSolo, solo_of}
 use Rattle.gameid_core.specs.TentsText.{SpellsTents, tents_of}
-use Rattle.gameid_core.specs.declared.fault.IdFault.{IdFault}
+use Rattle.gameid_core.specs.declared.id.fault.IdFault.{IdFault}
 use Rattle.gameid_core.proofs.LightTexts.{light_takes, light_text_again}
 use Rattle.gameid_core.proofs.OneReading.{Again, Takes, apart_of, either_of, one_of}
 use Rattle.gameid_core.proofs.PatternTexts.{pattern_again, pattern_takes}
 use Rattle.gameid_core.proofs.SoloTexts.{solo_takes, solo_text_again}
 use Rattle.gameid_core.proofs.TentsTexts.{tents_takes, tents_text_again}
 use Rattle.gameid_core.specs.Head.{max_id}
-use Rattle.gameid_core.specs.declared.game.Game.{Game}
+use Rattle.gameid_core.specs.declared.id.game.Game.{Game}
 use Rattle.gameid_core.specs.Steps.{Fails}
-use Rattle.gameid_core.specs.declared.fault.IdFault.TheVariants.{Memory, TooLong}
+use Rattle.gameid_core.specs.declared.id.fault.IdFault.TheVariants.{Memory, TooLong}
 use Rattle.puzzles.specs.Answers.{Text, Answer}
 use Rattle.puzzles.specs.Games.{played}
 use Rattle.puzzles.specs.Allowed.{AllowsId, AllowsSolve}

@@ -11,11 +11,11 @@ use Rattle.solo_core.specs.Faults.{IsFirstFault}
 use Rattle.solo_core.specs.declared.fault.SoloFault.{SoloFault}
 use Rattle.solo_core.specs.declared.fault.SoloFault.TheVariants as solo
 use Rattle.fields_core.specs.LightFaults.{IsLightFault}
-use Rattle.fields_core.specs.declared.light_fault.LightFault.{LightFault}
-use Rattle.fields_core.specs.declared.light_fault.LightFault.TheVariants as light
+use Rattle.fields_core.specs.declared.light_up.fault.LightFault.{LightFault}
+use Rattle.fields_core.specs.declared.light_up.fault.LightFault.TheVariants as light
 use Rattle.fields_core.specs.TentFaults.{IsTentFault}
-use Rattle.fields_core.specs.declared.tent_fault.TentFault.{TentFault}
-use Rattle.fields_core.specs.declared.tent_fault.TentFault.TheVariants as tent
+use Rattle.fields_core.specs.declared.tents.fault.TentFault.{TentFault}
+use Rattle.fields_core.specs.declared.tents.fault.TentFault.TheVariants as tent
 use Rattle.puzzles.specs.Answers.{Text, Answer}
 use Rattle.puzzles.specs.Replies.{refused}
 use Rattle.puzzles.specs.Texts.{text_limit}

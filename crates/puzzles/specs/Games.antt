@@ -4,9 +4,9 @@ use Rattle.grid_core.specs.Extent.{Extent}
 use Rattle.engine_core.specs.Puzzle.{Puzzle}
 use Rattle.gameid_core.specs.Head.{SizeRead, extent_of}
 use Rattle.gameid_core.specs.Puzzles.{Pattern, Solo, Light, Tents, solo_n}
-use Rattle.gameid_core.specs.declared.fault.IdFault.{IdFault}
-use Rattle.gameid_core.specs.declared.game.Game.{Game}
-use Rattle.gameid_core.specs.declared.game.Game.TheVariants as game
+use Rattle.gameid_core.specs.declared.id.fault.IdFault.{IdFault}
+use Rattle.gameid_core.specs.declared.id.game.Game.{Game}
+use Rattle.gameid_core.specs.declared.id.game.Game.TheVariants as game
 use Rattle.gameid_core.specs.LightText.{SpellsLight, light_of, light_text}
 use Rattle.gameid_core.specs.TentsText.{SpellsTents, tents_of, tents_text}
 use Rattle.gameid_core.specs.SoloText.{SpellsSolo, solo_of, solo_text}

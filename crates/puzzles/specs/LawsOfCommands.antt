@@ -3,9 +3,9 @@
 use Rattle.std.specs.Prelude.{◌≡◌, ◌↔◌, ℕ, Bool, Some, ◌≢◌, None, ◌≤◌, ◌++◌, true, false, codes, List, Contains, Option}
 use Rattle.rand_core.specs.Stream.{Stream}
 use Rattle.grid_core.specs.Extent.{Extent}
-use Rattle.gameid_core.specs.declared.game.Game.{Game}
+use Rattle.gameid_core.specs.declared.id.game.Game.{Game}
 use Rattle.gameid_core.specs.GridReading.{IsPrinted}
-use Rattle.gameid_core.specs.declared.game.Game.TheVariants as game
+use Rattle.gameid_core.specs.declared.id.game.Game.TheVariants as game
 use Rattle.gameid_core.specs.LightText.{SpellsLight}
 use Rattle.gameid_core.specs.Puzzles.{Light, Solo}
 use Rattle.gameid_core.specs.SoloText.{SpellsSolo}

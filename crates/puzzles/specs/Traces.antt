@@ -6,10 +6,10 @@ use Rattle.gameid_core.specs.Puzzles.{Pattern, Solo}
 use Rattle.puzzles.specs.Answers.{Text}
 use Rattle.gameid_core.specs.GridTexts.{each_below}
 use Rattle.solo_core.specs.Scopes.{scopes_of}
-use Rattle.solo_core.specs.declared.solo_house.SoloHouse.{SoloHouse}
-use Rattle.solo_core.specs.declared.solo_house.SoloHouse.TheVariants.{Row, Column, Block, Diagonal}
-use Rattle.solo_core.specs.declared.solo_scope.SoloScope.{SoloScope}
-use Rattle.solo_core.specs.declared.solo_scope.SoloScope.TheVariants.{House, Crossing}
+use Rattle.solo_core.specs.declared.houses.house.SoloHouse.{SoloHouse}
+use Rattle.solo_core.specs.declared.houses.house.SoloHouse.TheVariants.{Row, Column, Block, Diagonal}
+use Rattle.solo_core.specs.declared.houses.scope.SoloScope.{SoloScope}
+use Rattle.solo_core.specs.declared.houses.scope.SoloScope.TheVariants.{House, Crossing}
 
 abbrev pub house_text : SoloHouse → Text
 house_text (Row y) = codes "row " ++ decimal y

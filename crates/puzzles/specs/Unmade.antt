@@ -1,8 +1,8 @@
 -- What a maker made, or why it made no puzzle. No contract of a run uses these words.
 use Rattle.std.specs.Prelude.{◌≡◌, ⊤, ℕ, List, Result, Ok, Err}
 use Rattle.gameid_core.specs.Head.{SizeRead}
-use Rattle.gameid_core.specs.declared.fault.IdFault.{IdFault}
-use Rattle.gameid_core.specs.declared.fault.IdFault.TheVariants.{SizeRange}
+use Rattle.gameid_core.specs.declared.id.fault.IdFault.{IdFault}
+use Rattle.gameid_core.specs.declared.id.fault.IdFault.TheVariants.{SizeRange}
 use Rattle.maker_core.specs.declared.made.Kept.{Kept}
 use Rattle.maker_core.specs.declared.made.MakeFault.{MakeFault}
 use Rattle.maker_core.specs.declared.made.MakeFault.TheVariants as fault

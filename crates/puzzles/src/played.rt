@@ -1,8 +1,8 @@
 //! Puzzles of the games that are played: how their IDs are read and written.
 ghost use Rattle.std.specs.Prelude.{◌≡◌, Err, IfOk, IfErr, string_bytes};
 ghost use Rattle.gameid_core.specs.Steps.{Fails};
-ghost use Rattle.gameid_core.specs.declared.fault.IdFault.{IdFault};
-ghost use Rattle.gameid_core.specs.declared.game.Game.TheVariants.{LightUp, Pattern, Solo, Tents};
+ghost use Rattle.gameid_core.specs.declared.id.fault.IdFault.{IdFault};
+ghost use Rattle.gameid_core.specs.declared.id.game.Game.TheVariants.{LightUp, Pattern, Solo, Tents};
 ghost use Rattle.puzzles.specs.Games.{GameOf, played};
 
 use gameid_core::{

@@ -10,8 +10,8 @@ use Rattle.engine_core.specs.Puzzle.{has_place}
 use Rattle.engine_core.specs.HouseList.{Listed}
 use Rattle.engine_core.specs.Houses.{House, house_of, no_house}
 use Rattle.gameid_core.specs.Puzzles.{Solo}
-use Rattle.solo_core.specs.declared.solo_house.SoloHouse.{SoloHouse}
-use Rattle.solo_core.specs.declared.solo_scope.SoloScope.TheVariants.{Crossing}
+use Rattle.solo_core.specs.declared.houses.house.SoloHouse.{SoloHouse}
+use Rattle.solo_core.specs.declared.houses.scope.SoloScope.TheVariants.{Crossing}
 use Rattle.solo_core.specs.RuleSets.{crossing_of, crossings_of, house_at}
 use Rattle.solo_core.specs.Scopes.{crossing_scopes, IsCrossingAt}
 use Rattle.solo_core.proofs.ScopeLemmas.{crossing-named, crossings-length, scopes-length}

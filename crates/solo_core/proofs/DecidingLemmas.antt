@@ -13,8 +13,8 @@ use Rattle.gameid_core.specs.Puzzles.{Solo, IsSolo, solo_n}
 use Rattle.engine_core.specs.House.{Decision, sets_at, kept_in, IsDecided}
 use Rattle.engine_core.specs.Houses.{House, house_of, no_house, IsSound, visits_of}
 use Rattle.engine_core.specs.HouseIndex.{Table, scope_of, AreScopes}
-use Rattle.solo_core.specs.declared.solo_house.SoloHouse.{SoloHouse}
-use Rattle.solo_core.specs.declared.solo_house.SoloHouse.TheVariants.{Row}
+use Rattle.solo_core.specs.declared.houses.house.SoloHouse.{SoloHouse}
+use Rattle.solo_core.specs.declared.houses.house.SoloHouse.TheVariants.{Row}
 use Rattle.solo_core.specs.Houses.{houses_of, places_of}
 use Rattle.solo_core.specs.HouseLaws.{lists_house, all_houses}
 use Rattle.solo_core.specs.RuleSets.{deciding, filled_houses, setting_of, rules_of, crossings_of}

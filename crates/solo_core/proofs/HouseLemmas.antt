@@ -6,8 +6,8 @@ use Rattle.std.proofs.Math.Seq.{take-length}
 use Rattle.std.proofs.lemmas.List.FromFn.{get_or-map-range_with_len, length-map-range_with_len}
 use Rattle.gameid_core.specs.Puzzles.{Solo}
 use Rattle.engine_core.specs.HouseList.{Listed}
-use Rattle.solo_core.specs.declared.solo_house.SoloHouse.{SoloHouse}
-use Rattle.solo_core.specs.declared.solo_house.SoloHouse.TheVariants.{Diagonal}
+use Rattle.solo_core.specs.declared.houses.house.SoloHouse.{SoloHouse}
+use Rattle.solo_core.specs.declared.houses.house.SoloHouse.TheVariants.{Diagonal}
 use Rattle.solo_core.specs.Houses.{houses_of, house_places, places_of}
 use Rattle.solo_core.specs.BoundLaws.{house_count, count_x, count_plain}
 

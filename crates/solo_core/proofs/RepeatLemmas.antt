@@ -9,8 +9,8 @@ use Rattle.engine_core.proofs.BitLemmas.{bits-of_zero}
 use Rattle.grid_core.specs.Grids.{IsGrid}
 use Rattle.grid_core.proofs.ShortSets.{contains_from_member}
 use Rattle.gameid_core.specs.Puzzles.{Solo, IsSolo, solo_n}
-use Rattle.solo_core.specs.declared.solo_house.SoloHouse.{SoloHouse}
-use Rattle.solo_core.specs.declared.solo_house.SoloHouse.TheVariants.{Row, Column, Block, Diagonal}
+use Rattle.solo_core.specs.declared.houses.house.SoloHouse.{SoloHouse}
+use Rattle.solo_core.specs.declared.houses.house.SoloHouse.TheVariants.{Row, Column, Block, Diagonal}
 use Rattle.solo_core.specs.declared.fault.SoloFault.{SoloFault}
 use Rattle.solo_core.specs.declared.fault.SoloFault.TheVariants.{Given, Row as BadRow, Column as BadColumn, Block as BadBlock, Diagonal as BadDiagonal}
 use Rattle.solo_core.specs.Cells.{solo_cells}

@@ -8,9 +8,9 @@ use Rattle.std.proofs.lemmas.List.FromFn.{get_or-map-range_with_len, length-map-
 use Rattle.gameid_core.specs.Puzzles.{Solo, solo_n}
 use Rattle.engine_core.specs.Houses.{House, house_of, no_house}
 use Rattle.engine_core.specs.Filling.{strikes_by_fillings}
-use Rattle.solo_core.specs.declared.solo_house.SoloHouse.{SoloHouse}
-use Rattle.solo_core.specs.declared.solo_scope.SoloScope.{SoloScope}
-use Rattle.solo_core.specs.declared.solo_scope.SoloScope.TheVariants as scope
+use Rattle.solo_core.specs.declared.houses.house.SoloHouse.{SoloHouse}
+use Rattle.solo_core.specs.declared.houses.scope.SoloScope.{SoloScope}
+use Rattle.solo_core.specs.declared.houses.scope.SoloScope.TheVariants as scope
 use Rattle.solo_core.specs.Houses.{houses_of}
 use Rattle.solo_core.specs.NoRepeat.{no_repeat}
 use Rattle.solo_core.specs.RuleSets.{filled_houses, row_crossing, column_crossing, crossings_of, house_at}

@@ -7,7 +7,7 @@ use Rattle.engine_core.specs.Filling.{Set, IsShown, strikes_by_fillings}
 use Rattle.engine_core.specs.FillingLaws.{shown_from_test}
 use Rattle.engine_core.specs.House.{sets_at, strikes_at}
 use Rattle.engine_core.specs.HouseLaws.{length-sets_at, sets_at-small, strikes_at-some, strikes_at-here}
-use Rattle.solo_core.specs.declared.solo_house.SoloHouse.TheVariants.{Row}
+use Rattle.solo_core.specs.declared.houses.house.SoloHouse.TheVariants.{Row}
 use Rattle.solo_core.specs.HouseLaws.{lists_house, all_houses}
 use Rattle.solo_core.specs.Houses.{houses_of, places_of}
 use Rattle.solo_core.specs.NoRepeat.{no_repeat}

@@ -13,8 +13,8 @@ use Rattle.grid_core.proofs.RegionLemmas.{block-within}
 use Rattle.gameid_core.specs.Puzzles.{Solo, IsSolo, solo_n}
 use Rattle.engine_core.specs.House.{AreDifferent}
 use Rattle.engine_core.specs.Every.{of_first, of_rest, of_value}
-use Rattle.solo_core.specs.declared.solo_house.SoloHouse.{SoloHouse}
-use Rattle.solo_core.specs.declared.solo_house.SoloHouse.TheVariants.{Row, Column, Block, Diagonal}
+use Rattle.solo_core.specs.declared.houses.house.SoloHouse.{SoloHouse}
+use Rattle.solo_core.specs.declared.houses.house.SoloHouse.TheVariants.{Row, Column, Block, Diagonal}
 use Rattle.solo_core.specs.Cells.{solo_cells}
 use Rattle.solo_core.specs.Houses.{houses_of, IsHouseOf, lies_in, places_of}
 

@@ -4,8 +4,8 @@ use Rattle.std.specs.Prelude.{◌≡◌, ℕ, ◌-◌, ◌<◌, Bool, true, ◌=
 use Rattle.std.specs.List.{range_with_len}
 use Rattle.grid_core.specs.Regions.{row_places, column_places, block_places, diagonal_places}
 use Rattle.gameid_core.specs.Puzzles.{Solo, solo_n}
-use Rattle.solo_core.specs.declared.solo_house.SoloHouse.{SoloHouse}
-use Rattle.solo_core.specs.declared.solo_house.SoloHouse.TheVariants.{Row, Column, Block, Diagonal}
+use Rattle.solo_core.specs.declared.houses.house.SoloHouse.{SoloHouse}
+use Rattle.solo_core.specs.declared.houses.house.SoloHouse.TheVariants.{Row, Column, Block, Diagonal}
 use Rattle.solo_core.specs.Cells.{square, row_of, column_of, block_of}
 
 -- in the order of their numbers

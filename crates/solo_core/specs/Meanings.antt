@@ -5,9 +5,9 @@ use Rattle.grid_core.specs.Grids.{IsGrid}
 use Rattle.gameid_core.specs.Puzzles.{Solo, solo_n}
 use Rattle.engine_core.specs.Puzzle.{Puzzle, has_place}
 use Rattle.engine_core.specs.Houses.{house_of}
-use Rattle.solo_core.specs.declared.solo_house.SoloHouse.{SoloHouse}
-use Rattle.solo_core.specs.declared.solo_scope.SoloScope.{SoloScope}
-use Rattle.solo_core.specs.declared.solo_scope.SoloScope.TheVariants.{House}
+use Rattle.solo_core.specs.declared.houses.house.SoloHouse.{SoloHouse}
+use Rattle.solo_core.specs.declared.houses.scope.SoloScope.{SoloScope}
+use Rattle.solo_core.specs.declared.houses.scope.SoloScope.TheVariants.{House}
 use Rattle.solo_core.specs.Cells.{solo_cells}
 use Rattle.solo_core.specs.Houses.{houses_of, lies_in, places_of}
 use Rattle.solo_core.specs.RuleSets.{filled_houses, crossings_of, house_at}

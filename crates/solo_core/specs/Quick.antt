@@ -3,7 +3,7 @@ use Rattle.std.specs.Prelude.{◌≡◌, ℕ, ◌+◌, ◌<◌, true, false, Lis
 use Rattle.engine_core.specs.Sets.{has_bit}
 use Rattle.solo_core.specs.Deciding.{has_in}
 use Rattle.solo_core.specs.Peeled.{IsPaired}
-use Rattle.solo_core.specs.declared.joined.Joined.{Joined}
+use Rattle.solo_core.specs.declared.visits.joined.Joined.{Joined}
 
 -- each of the first cells has a value of its own, which isn't free
 pub record IsBegun (n : ℕ) (sets rest : List ℕ) (first : ℕ) (mate : ℕ → ℕ) (free : ℕ) : Type 0 where

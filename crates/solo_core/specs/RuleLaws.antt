@@ -17,8 +17,8 @@ use Rattle.engine_core.specs.House.{Decision, IsMonotone}
 use Rattle.engine_core.specs.HouseLaws.{by_fillings-monotone}
 use Rattle.engine_core.specs.Houses.{House, IsSettled, Keeps, IsSound, IsSetting}
 use Rattle.engine_core.specs.HousesLaws.{by_houses-lawful, bound_enough, by_fillings-settles, by_fillings-keeps}
-use Rattle.solo_core.specs.declared.solo_house.SoloHouse.{SoloHouse}
-use Rattle.solo_core.specs.declared.solo_house.SoloHouse.TheVariants.{Row, Column, Block}
+use Rattle.solo_core.specs.declared.houses.house.SoloHouse.{SoloHouse}
+use Rattle.solo_core.specs.declared.houses.house.SoloHouse.TheVariants.{Row, Column, Block}
 use Rattle.solo_core.specs.Cells.{solo_cells}
 use Rattle.solo_core.specs.RuleSets.{start, deciding, row_crossing, column_crossing, crossings_of, setting_of, rules_of, singles_rules, houses_rules, crossings_rules}
 use Rattle.solo_core.specs.Houses.{houses_of, IsHouseOf, lies_in, places_of}

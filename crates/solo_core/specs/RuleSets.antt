@@ -9,10 +9,10 @@ use Rattle.engine_core.specs.Filling.{strikes_by_fillings}
 use Rattle.engine_core.specs.House.{Decision}
 use Rattle.engine_core.specs.Sets.{has_bit}
 use Rattle.engine_core.specs.Houses.{House, Setting, by_houses, visits_of}
-use Rattle.solo_core.specs.declared.solo_house.SoloHouse.{SoloHouse}
-use Rattle.solo_core.specs.declared.solo_house.SoloHouse.TheVariants.{Block}
-use Rattle.solo_core.specs.declared.solo_scope.SoloScope.{SoloScope}
-use Rattle.solo_core.specs.declared.solo_scope.SoloScope.TheVariants as scope
+use Rattle.solo_core.specs.declared.houses.house.SoloHouse.{SoloHouse}
+use Rattle.solo_core.specs.declared.houses.house.SoloHouse.TheVariants.{Block}
+use Rattle.solo_core.specs.declared.houses.scope.SoloScope.{SoloScope}
+use Rattle.solo_core.specs.declared.houses.scope.SoloScope.TheVariants as scope
 use Rattle.solo_core.specs.Cells.{solo_cells}
 use Rattle.solo_core.specs.Crossing.{crossing, outside}
 use Rattle.solo_core.specs.Houses.{houses_of, places_of}

@@ -2,10 +2,10 @@
 use Rattle.std.specs.Prelude.{◌≡◌, ℕ, ◌+◌, ◌*◌, ◌/◌, ◌%◌, List, ◌++◌, map, slice_index_or}
 use Rattle.std.specs.List.{range_with_len}
 use Rattle.gameid_core.specs.Puzzles.{Solo, solo_n}
-use Rattle.solo_core.specs.declared.solo_house.SoloHouse.{SoloHouse}
-use Rattle.solo_core.specs.declared.solo_house.SoloHouse.TheVariants.{Row, Column}
-use Rattle.solo_core.specs.declared.solo_scope.SoloScope.{SoloScope}
-use Rattle.solo_core.specs.declared.solo_scope.SoloScope.TheVariants.{House, Crossing}
+use Rattle.solo_core.specs.declared.houses.house.SoloHouse.{SoloHouse}
+use Rattle.solo_core.specs.declared.houses.house.SoloHouse.TheVariants.{Row, Column}
+use Rattle.solo_core.specs.declared.houses.scope.SoloScope.{SoloScope}
+use Rattle.solo_core.specs.declared.houses.scope.SoloScope.TheVariants.{House, Crossing}
 use Rattle.solo_core.specs.Houses.{houses_of}
 
 -- by number: the crossings of each block with each of the c rows that it meets, and with each of the r columns

@@ -9,7 +9,7 @@ use Rattle.grid_core.specs.Grids.{IsGrid}
 use Rattle.grid_core.proofs.CandidateLemmas.{all_below-at, all_below-from}
 use Rattle.gameid_core.specs.Puzzles.{Solo, IsSolo, solo_n}
 use Rattle.engine_core.specs.Every.{test_each, each_test}
-use Rattle.solo_core.specs.declared.solo_house.SoloHouse.{SoloHouse}
+use Rattle.solo_core.specs.declared.houses.house.SoloHouse.{SoloHouse}
 use Rattle.solo_core.specs.Cells.{solo_cells}
 use Rattle.solo_core.specs.Houses.{houses_of, IsHouseOf, lies_in, places_of}
 use Rattle.solo_core.specs.HouseLaws.{Lists, lists_house, all_houses, each_house}

@@ -10,10 +10,10 @@ ghost use Rattle.solo_core.specs.Solutions.{numbers_of, is_solo_solution};
 ghost use Rattle.solo_core.specs.NoRepeat.{no_repeat};
 ghost use Rattle.solo_core.specs.Faults.{IsFirstFallen, IsFirstRepeating, IsFirstFault, fault_of as fault_of_house};
 
-use crate::bits::with_bit;
 use crate::fault::SoloFault;
-use crate::places::{cells, house, houses, place};
-use crate::solo_house::SoloHouse;
+use crate::houses::house::SoloHouse;
+use crate::houses::places::{cells, house, houses, place};
+use crate::visits::bits::with_bit;
 use engine_core::has_bit;
 use gameid_core::SoloPuzzle;
 use grid_core::Grid;

@@ -4,7 +4,7 @@
 ghost use Rattle.std.specs.Prelude.{◌≡◌, ◌+◌, ◌*◌, length, if◌then◌else◌};
 ghost use Rattle.gameid_core.specs.Puzzles.{Solo, IsSolo, solo_n};
 ghost use Rattle.engine_core.specs.Puzzle.{IsLawful};
-ghost use Rattle.solo_core.specs.declared.solo_house.SoloHouse.{SoloHouse};
+ghost use Rattle.solo_core.specs.declared.houses.house.SoloHouse.{SoloHouse};
 ghost use Rattle.solo_core.specs.Houses.{houses_of, IsHouseOf};
 ghost use Rattle.solo_core.specs.Meanings.{AcceptsSolutions, StrikesAsMuch, ListsItsPlaces, HousesComeFirst, AreNamedByScopes, house_visits, all_visits};
 ghost use Rattle.solo_core.specs.RuleSets.{houses_rules, singles_rules, crossings_rules};

@@ -11,7 +11,7 @@ ghost use Rattle.solo_core.specs.RuleSets.{rules_of, rules_by};
 ghost use Rattle.solo_core.specs.Work.{table_of, HasRoom};
 
 use crate::check::accepts;
-use crate::places::cells;
+use crate::houses::places::cells;
 use crate::start::write_start;
 use crate::strikes::{Crossings, Fillings, Singles, Strikes};
 use engine_core::{Houses, Mode, Rules, apply, gather};

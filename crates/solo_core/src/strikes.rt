@@ -7,11 +7,11 @@ ghost use Rattle.engine_core.specs.Houses.{House, IsSound, house_of, visits_of};
 ghost use Rattle.solo_core.specs.RuleSets.{setting_of};
 ghost use Rattle.solo_core.specs.Work.{all_places, IsKeptBy};
 
-use crate::crossings::{keep_crossed, push_crossings};
-use crate::keep_houses::keep_houses;
-use crate::keep_singles::keep_singles;
-use crate::places::{houses, push_houses};
-use crate::rooms::{cells_of_crossings, cells_of_houses, crossings};
+use crate::houses::crossings::{keep_crossed, push_crossings};
+use crate::houses::places::{houses, push_houses};
+use crate::houses::rooms::{cells_of_crossings, cells_of_houses, crossings};
+use crate::visits::houses::keep_houses;
+use crate::visits::singles::keep_singles;
 use engine_core::HouseList;
 use gameid_core::SoloPuzzle;
 use grid_core::Pairing;

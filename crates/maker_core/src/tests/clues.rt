@@ -1,6 +1,6 @@
 //! Clues taken away and put back, and searches of the thinner puzzles.
 
-use crate::clued::Clued;
+use crate::thinning::clued::Clued;
 use engine_core::{Rules, Store, Verdict};
 use gameid_core::{LightCell, LightPuzzle, read_solo};
 use grid_core::Size;

@@ -1,9 +1,9 @@
 //! Worked examples of Pattern, Light Up and Tents.
 
-use crate::lights::make_lights;
+use crate::light_up::maker::make_lights;
 use crate::made::MakeFault;
-use crate::pattern::make_pattern;
-use crate::tents::make_tents;
+use crate::pattern::maker::make_pattern;
+use crate::tents::maker::make_tents;
 use crate::tests::{fault, generator, limits};
 use gameid_core::{write_lights, write_pattern};
 use grid_core::Size;

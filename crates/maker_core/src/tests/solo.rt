@@ -6,8 +6,8 @@ ghost use Rattle.gameid_core.specs.Puzzles.{solo_n};
 ghost use Rattle.solo_core.specs.Cells.{solo_cells};
 
 use crate::made::{Made, MakeFault, Why};
-use crate::solo::make_solo;
-use crate::solo_filling::{fill_plain, full_puzzle};
+use crate::solo::filling::{fill_plain, full_puzzle};
+use crate::solo::maker::make_solo;
 use crate::tests::{fault, generator, limits};
 use engine_core::{Store, Verdict};
 use gameid_core::SoloPuzzle;

@@ -1,7 +1,7 @@
 //! A second solution close to a grid of Pattern.
 
-use crate::pattern::puzzle_of;
-use crate::switch::has_switch;
+use crate::pattern::maker::puzzle_of;
+use crate::pattern::switch::has_switch;
 use grid_core::{Grid, Size};
 use std::test::Fail;
 

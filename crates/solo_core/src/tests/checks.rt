@@ -1,6 +1,6 @@
 //! Worked examples of the check of a grid.
 
-use crate::places::cells;
+use crate::houses::places::cells;
 use crate::{SoloFault, check_solo};
 use gameid_core::{read_grid, read_solo};
 use std::test::Fail;

@@ -1,8 +1,8 @@
 use Rattle.std.proofs.Common.{◌≡◌, ◌<◌, length, Err}
 use Rattle.gameid_core.specs.Head.{max_id}
-use Rattle.gameid_core.specs.declared.fault.IdFault.TheVariants.{TooLong}
-use Rattle.gameid_core.specs.declared.game.Game.{Game}
-use Rattle.gameid_core.specs.declared.game.Game.TheVariants.{Solo, Pattern, LightUp, Tents}
+use Rattle.gameid_core.specs.declared.id.fault.IdFault.TheVariants.{TooLong}
+use Rattle.gameid_core.specs.declared.id.game.Game.{Game}
+use Rattle.gameid_core.specs.declared.id.game.Game.TheVariants.{Solo, Pattern, LightUp, Tents}
 use Rattle.puzzles.specs.Answers.{Text}
 use Rattle.puzzles.specs.Games.{played}
 use Rattle.puzzles.proofs.Readings.{too_long_id}

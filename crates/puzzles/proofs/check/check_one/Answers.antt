@@ -1,5 +1,5 @@
 use Rattle.std.proofs.Common.{rules, arith, ◌≢◌}
-use Rattle.gameid_core.specs.declared.fault.IdFault.TheVariants.{Memory}
+use Rattle.gameid_core.specs.declared.id.fault.IdFault.TheVariants.{Memory}
 use Rattle.puzzles.proofs.Readings.{refused_id}
 use Rattle.puzzles.proofs.RunLemmas.{ran_by_reply, ran_unwritten}
 use Rattle.puzzles.proofs.check.check_one.Goals as goal

@@ -2,8 +2,8 @@ use Rattle.std.proofs.Common.{◌≡◌, ◌∙◌, ◌∷◌, ◌<◌, ℕ, Boo
 use Rattle.std.specs.Prelude.{◌↔◌}
 use Rattle.std.proofs.lemmas.Bool.{false_from_ne_true, true≢false}
 use Rattle.grid_core.specs.Candidates.{Candidates}
-use Rattle.gameid_core.specs.declared.game.Game.{Game}
-use Rattle.gameid_core.specs.declared.game.Game.TheVariants as game
+use Rattle.gameid_core.specs.declared.id.game.Game.{Game}
+use Rattle.gameid_core.specs.declared.id.game.Game.TheVariants as game
 use Rattle.gameid_core.specs.Puzzles.{IsSolo, Solo}
 use Rattle.engine_core.specs.Stored.{is_settled}
 use Rattle.fields_core.specs.LightHouses.{light_rules}

@@ -1,7 +1,7 @@
 use Rattle.std.proofs.Common.{◌≡◌, ℕ, ap, arith, inl, inr}
 use Rattle.std.proofs.lemmas.List.Elements.{All-contains}
-use Rattle.gameid_core.specs.declared.game.Game.{Game}
-use Rattle.gameid_core.specs.declared.game.Game.TheVariants.{Solo, LightUp}
+use Rattle.gameid_core.specs.declared.id.game.Game.{Game}
+use Rattle.gameid_core.specs.declared.id.game.Game.TheVariants.{Solo, LightUp}
 use Rattle.gameid_core.specs.GridTexts.{grid_text}
 use Rattle.fields_core.proofs.LightRuleLemmas.{rule-from-test}
 use Rattle.solo_core.specs.SolutionLaws.{rule_from_test}

@@ -1,7 +1,7 @@
 use Rattle.std.proofs.Common.{◌≡◌, ℕ, true, false, Option, Some, None, sym, true≢false}
 use Rattle.std.specs.Str.Lines.{lines}
-use Rattle.gameid_core.specs.declared.game.Game.{Game}
-use Rattle.gameid_core.specs.declared.game.Game.TheVariants.{Solo, Pattern, LightUp, Tents}
+use Rattle.gameid_core.specs.declared.id.game.Game.{Game}
+use Rattle.gameid_core.specs.declared.id.game.Game.TheVariants.{Solo, Pattern, LightUp, Tents}
 use Rattle.puzzles.specs.Answers.{Text}
 use Rattle.puzzles.specs.Allowed.{AllowsCheck, AllowsGrade, Allows, AllowsSolve}
 use Rattle.puzzles.specs.Games.{played}

@@ -1,5 +1,5 @@
 use Rattle.std.specs.Prelude.{◌↔◌}
-use Rattle.gameid_core.specs.declared.game.Game.{Game}
+use Rattle.gameid_core.specs.declared.id.game.Game.{Game}
 use Rattle.puzzles.specs.Answers.{Answer, Text}
 use Rattle.puzzles.specs.Games.{played, puzzle_of}
 use Rattle.puzzles.specs.Allowed.{AnswersId}

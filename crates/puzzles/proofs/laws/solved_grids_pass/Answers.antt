@@ -1,5 +1,5 @@
 use Rattle.std.proofs.Common.{ℕ}
-use Rattle.gameid_core.specs.declared.game.Game.{Game}
+use Rattle.gameid_core.specs.declared.id.game.Game.{Game}
 use Rattle.puzzles.specs.Answers.{Answer, Text}
 use Rattle.puzzles.specs.Allowed.{AllowsCheck, AllowsSolve}
 use Rattle.puzzles.specs.Games.{played}

@@ -1,5 +1,5 @@
 use Rattle.std.proofs.Common.{arith, refl, rules, sym}
-use Rattle.gameid_core.specs.declared.game.Game.TheVariants.{Solo}
+use Rattle.gameid_core.specs.declared.id.game.Game.TheVariants.{Solo}
 use Rattle.solo_core.specs.RuleSets.{crossings_rules, singles_rules}
 use Rattle.puzzles.specs.Games.{played}
 use Rattle.puzzles.specs.Grades.{after_singles, only_set}

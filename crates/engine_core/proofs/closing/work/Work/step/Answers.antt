@@ -1,0 +1,28 @@
+use Rattle.std.proofs.Common.{sym, ap, ◌∙◌, ◌||◌}
+use Rattle.grid_core.specs.Board.{has}
+use Rattle.grid_core.specs.Candidates.{is_dead}
+use Rattle.engine_core.specs.Waiting.{is_waiting}
+use Rattle.engine_core.proofs.QueueLemmas.{emptied-dead}
+use Rattle.engine_core.proofs.CallLemmas.{woken-by, woken-unstruck}
+use Rattle.engine_core.proofs.closing.work.Work.step.Goals as goal
+
+pub returns-then-not-visit-clause-waiting : goal.returns-then-not-visit-clause-waiting
+returns-then-not-visit-clause-waiting g c =
+    woken-unstruck (g.R.Rules.puzzle c.args.rules.now) c.args.house (has c.args.trailed.now.board) (has c.visit.new.trailed.board) (is_waiting c.args.self.now.waits) (is_waiting c.visit.new.self.waits)
+    (c.visit.ensures.unchanged c.if-not-visit.true) (rw c.visit.ensures.waits c.unmark.ensures.waits)
+
+pub returns-clause-waiting : goal.returns-clause-waiting
+returns-clause-waiting g c =
+    let p = g.R.Rules.puzzle c.args.rules.now in
+    let K = has c.args.trailed.now.board in
+    let K' = has c.visit.new.trailed.board in
+    woken-by p c.args.house K K' (is_waiting c.args.self.now.waits) (is_waiting c.unmark.new.self.waits) (is_waiting c.wake-dead.new.self.waits) (is_waiting c.settle.new.self.waits) c.unmark.ensures.waits
+    (rw c.visit.ensures.waits at (c.wake-dead.ensures.called K K' (c.visit.ensures.remembered c.if-not-visit.false) c.visit.ensures.along.follows)) c.settle.ensures.waits
+
+pub returns-clause-dead : goal.returns-clause-dead
+returns-clause-dead g c =
+    let p = g.R.Rules.puzzle c.args.rules.now in
+    let K = has c.args.trailed.now.board in
+    let K' = has c.visit.new.trailed.board in
+    emptied-dead p (g.met.R.Rules.lawful c.args.rules.now) c.args.house K K' c.requires.house_in c.visit.ensures.left
+    ∙ ap (λ b. is_dead p.cells p.values K || b) (sym (c.wake-dead.ensures.dead K K' (c.visit.ensures.remembered c.if-not-visit.false)))

@@ -1,0 +1,11 @@
+use Rattle.std.proofs.Common.{add-one, refl, rules}
+use Rattle.engine_core.specs.Puzzle.{longest}
+use Rattle.engine_core.proofs.closing.work.longest_scope.Goals as goal
+
+pub loop-house-init : goal.loop-house-init
+unfolding longest
+loop-house-init g c = refl
+
+pub loop-house-preserved : goal.loop-house-preserved
+unfolding longest
+loop-house-preserved g c = rw add-one (search rules)

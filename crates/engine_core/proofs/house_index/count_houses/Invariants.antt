@@ -1,9 +1,0 @@
-use Rattle.std.proofs.Common.{◌≡◌, ℕ, ◌<◌, length, slice_index}
-use Rattle.engine_core.specs.HouseIndex.{number_at}
-use Rattle.engine_core.proofs.house_index.count_houses.Given as goal
-
-abbrev pub invariant-loop-house : goal.invariant-loop-house
-invariant-loop-house l = record {
-  as_many : length l.counts ≡ length l.fn.counts;
-  counted : (c : ℕ) → c < length l.counts → slice_index l.counts c ≡ number_at l.list.closed l.house c;
-}

@@ -1,6 +1,0 @@
-use Rattle.std.proofs.Common.{take}
-use Rattle.engine_core.specs.HouseIndex.{IsPut}
-use Rattle.engine_core.proofs.house_index.put_house.Given as goal
-
-abbrev pub invariant-loop-k : goal.invariant-loop-k
-invariant-loop-k l = IsPut l.house (take l.k l.places) l.fn.starts l.fn.houses l.starts l.houses

@@ -1,6 +1,0 @@
-use Rattle.std.proofs.Common.{◌-◌, length}
-use Rattle.engine_core.specs.HouseIndex.{IsIndex}
-use Rattle.engine_core.proofs.house_index.put_houses.Given as goal
-
-abbrev pub invariant-loop-after : goal.invariant-loop-after
-invariant-loop-after l = IsIndex (length l.fn.starts) l.list.closed (length l.list.closed - l.after) l.starts l.houses

@@ -1,0 +1,7 @@
+use Rattle.std.proofs.Common.{◌≡◌}
+use Rattle.engine_core.specs.Puzzle.{longest}
+use Rattle.engine_core.specs.HouseIndex.{scope_of}
+use Rattle.engine_core.proofs.houses.table.Houses.longest.Given as goal
+
+abbrev pub invariant-loop-house : goal.invariant-loop-house
+invariant-loop-house l = l.most ≡ longest (scope_of l.self.scopes) l.house

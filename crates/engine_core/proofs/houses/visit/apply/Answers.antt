@@ -1,0 +1,24 @@
+use Rattle.std.proofs.Common.{refl, ◌∙◌}
+use Rattle.grid_core.specs.Board.{has}
+use Rattle.engine_core.proofs.HouseLemmas.{striking-first, striking-more, kept-first, kept-more, kept-inside}
+use Rattle.engine_core.proofs.houses.visit.apply.Goals as goal
+
+pub loop-k-init : goal.loop-k-init
+loop-k-init c = record {
+  left = kept-first c.args.places.now c.args.kept.now (has c.args.board.now);
+  striking = striking-first (has c.args.board.now);
+  shape = record { same_values = refl; same_cells = refl };
+}
+
+pub loop-k-preserved : goal.loop-k-preserved
+loop-k-preserved c =
+    let i = c.loop-k.invariant in
+    let e = c.retain-struck.ensures in
+    let K = has c.args.board.now in
+    let K' = has c.loop-k.board in
+    let K'' = has c.retain-struck.new.self in
+    record {
+      left = kept-more c.args.places.now c.args.kept.now c.loop-k.k K K' K'' i.left e.left;
+      striking = striking-more K K' K'' c.loop-k.struck c.retain-struck.result i.striking (kept-inside K' K'' _ _ e.left) e.same (λ on. let w = e.lost on in (_, w.0, w.1, w.2));
+      shape = record { same_values = e.shape.same_values ∙ i.shape.same_values; same_cells = e.shape.same_cells ∙ i.shape.same_cells };
+    }

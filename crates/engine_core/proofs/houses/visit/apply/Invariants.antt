@@ -1,0 +1,12 @@
+use Rattle.std.proofs.Common.{◌≡◌}
+use Rattle.grid_core.specs.Board.{has, SameShape}
+use Rattle.engine_core.specs.House.{kept_in}
+use Rattle.engine_core.proofs.HouseLemmas.{IsStriking}
+use Rattle.engine_core.proofs.houses.visit.apply.Given as goal
+
+abbrev pub invariant-loop-k : goal.invariant-loop-k
+invariant-loop-k l = record {
+  left : has l.board ≡ kept_in l.places l.kept l.k (has l.fn.board);
+  striking : IsStriking (has l.fn.board) (has l.board) l.struck;
+  shape : SameShape l.fn.board l.board;
+}

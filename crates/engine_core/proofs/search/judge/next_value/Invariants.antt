@@ -1,0 +1,6 @@
+use Rattle.std.proofs.Common.{◌≡◌, ℕ, ◌<◌, ◌≤◌, false}
+use Rattle.grid_core.specs.Board.{has}
+use Rattle.engine_core.proofs.search.judge.next_value.Given as goal
+
+abbrev pub invariant-loop-value : goal.invariant-loop-value
+invariant-loop-value l = (j : ℕ) → l.from ≤ j → j < l.value → has l.board l.place j ≡ false

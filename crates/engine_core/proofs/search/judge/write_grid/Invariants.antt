@@ -1,0 +1,10 @@
+use Rattle.std.proofs.Common.{◌≡◌, length, take}
+use Rattle.grid_core.specs.Board.{has}
+use Rattle.grid_core.specs.Candidates.{grid_of}
+use Rattle.engine_core.proofs.search.judge.write_grid.Given as goal
+
+abbrev pub invariant-loop-cell : goal.invariant-loop-cell
+invariant-loop-cell l = record {
+  long : length l.grid ≡ l.cells;
+  same : take l.cell l.grid ≡ grid_of l.cell l.values (has l.board);
+}

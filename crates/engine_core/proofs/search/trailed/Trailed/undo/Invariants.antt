@@ -1,0 +1,20 @@
+use Rattle.std.proofs.Common.{◌≡◌, ℕ, ◌≤◌}
+use Rattle.grid_core.specs.Board.{has, cells_of, SameShape}
+use Rattle.engine_core.specs.Puzzle.{Needs}
+use Rattle.engine_core.specs.Trail.{put_back, back_at, IsTrail}
+use Rattle.engine_core.proofs.search.trailed.Trailed.undo.Given as goal
+
+abbrev pub invariant-loop-self : goal.invariant-loop-self
+invariant-loop-self g l =
+    let b = l.self-inside.board in
+    record {
+      low : l.mark ≤ l.self-inside.len;
+      trail : IsTrail (cells_of b) b.values (has b) l.self-inside.changes.items l.self-inside.len;
+      back : (m : ℕ) → m ≤ l.mark → put_back (has b) l.self-inside.changes.items m l.self-inside.len ≡ back_at l.fn.self m;
+      shape : SameShape l.fn.self.board b;
+      follows : g.R.Rules.follows l.rules l.scratch (has b);
+      keeps : (needs : Needs) → g.R.Rules.serves l.fn.scratch needs → g.R.Rules.serves l.scratch needs;
+    }
+
+abbrev pub decreases-loop-self : goal.decreases-loop-self
+decreases-loop-self g l = l.self-inside.len

@@ -1,0 +1,53 @@
+use Rattle.std.proofs.Common.{◌+◌, arith, ◌∙◌, refl, sym}
+use Rattle.std.proofs.lemmas.Grind.{common_steps}
+use Rattle.grid_core.specs.Candidates.{pick}
+use Rattle.engine_core.specs.Frames.{marks_of}
+use Rattle.engine_core.proofs.SearchingLemmas.{IsSearching, searching-first, searching-trial, ended-out, ended-two, ended-one, ended-none}
+use Rattle.engine_core.proofs.search.walk.search.Goals as goal
+use Rattle.engine_core.proofs.search.walk.search.Goals.{After-descend-at, then-values-eq2, else-values-eq2}
+
+-- the trial that was made
+made : (g : _) (c : After-descend-at g)
+    → IsSearching (g.R.Rules.puzzle c.args.rules.now) c.args.from (marks_of (g.R.Rules.puzzle c.args.rules.now) c.args.levels.now c.args.from c.args.grids.now)
+    (c.loop-levels.trials + 1) (marks_of (g.R.Rules.puzzle c.args.rules.now) c.descend-at.new.levels c.descend-at.result c.descend-at.new.grids) c.descend-at.result
+made g c =
+    let l = c.loop-levels in
+    let d = c.descend-at.ensures in
+    searching-trial l.levels l.grids l.invariant.searching c.descend-at.new.levels c.descend-at.new.grids c.in-Some.ensures.turn l.invariant.going
+    (let few = l.invariant.trials in omega (arith, c.if-trials-from.false)) d.turned (d.deepest ∙ c.max.ensures) d.marks
+
+pub loop-levels-init : goal.loop-levels-init
+loop-levels-init g c = let first = searching-first (g.R.Rules.puzzle c.args.rules.now) c.args.from (marks_of (g.R.Rules.puzzle c.args.rules.now) c.args.levels.now c.args.from c.args.grids.now) in grind (arith, common_steps, first)
+
+pub loop-levels-preserved : goal.loop-levels-preserved
+loop-levels-preserved g c =
+    let t = c.descend-at.ensures.turned in
+    let deep = c.in-Some.ensures.turn.deep in
+    let made = made g (goal.at.loop-levels-preserved g c).After-descend-at in
+    grind (arith, common_steps, made)
+
+pub returns-then-trials-from-clause-searched : goal.returns-then-trials-from-clause-searched
+returns-then-trials-from-clause-searched g c =
+    let l = c.loop-levels in
+    rw c.ended.ensures (ended-out l.levels l.grids l.invariant.searching c.in-Some.ensures.turn l.invariant.going c.if-trials-from.true)
+
+pub returns-then-at-clause-searched : goal.returns-then-at-clause-searched
+returns-then-at-clause-searched g c =
+    rw c.ended-then-at.ensures (ended-two c.descend-at.new.levels c.descend-at.new.grids (made g (goal.at.returns-then-at-clause-searched g c).After-descend-at) c.if-at.true)
+
+pub returns-then-at-2-clause-searched : goal.returns-then-at-2-clause-searched
+returns-then-at-2-clause-searched g c =
+    let l = c.loop-levels in
+    rw c.ended-then-at-2.ensures (ended-one l.levels l.grids l.invariant.searching (omega arith) l.invariant.going c.if-at-2.true)
+
+pub returns-clause-searched : goal.returns-clause-searched
+returns-clause-searched g c =
+    let l = c.loop-levels in
+    rw c.ended-2.ensures (ended-none l.levels l.grids l.invariant.searching (omega arith) l.invariant.going c.if-at-2.false)
+
+pub descend-at-requires-clause-none : goal.descend-at-requires-clause-none
+unfolding pick
+descend-at-requires-clause-none g c = elim c.if-values-eq2.branch [
+  | then-values-eq2 w ↦ rw w.at-is (c.in-Some.ensures.turn.none_before (sym c.values.ensures ∙ w.if-values-eq2.true))
+  | else-values-eq2 w ↦ rw w.at-is refl
+]

@@ -1,8 +1,0 @@
-use Rattle.std.proofs.Common.{◌&&◌, ltb, true}
-use Rattle.grid_core.specs.Candidates.{Candidates}
-use Rattle.engine_core.specs.Waiting.{is_waiting, AreCalled}
-use Rattle.engine_core.proofs.step.mark_all.Given as goal
-
-abbrev pub invariant-loop-house : goal.invariant-loop-house
-invariant-loop-house g l =
-    (K : Candidates) → g.R.Rules.follows l.rules l.scratch K → AreCalled (g.R.Rules.puzzle l.rules) K (λ j. ltb j l.house && true) (is_waiting l.fn.waits) (is_waiting l.waits)

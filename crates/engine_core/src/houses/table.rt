@@ -1,0 +1,237 @@
+//! Houses, and which of them have a place.
+#![tactic(auto, using(crate::proofs::LawSets::house_index_laws))]
+
+ghost use Rattle.std.specs.Prelude.{◌≡◌, ℕ, suc, ◌+◌, ◌<◌, ◌≤◌, ◌^◌, IfOk, length, sum_by, slice_index};
+ghost use Rattle.grid_core.specs.Candidates.{sum_below};
+ghost use Rattle.engine_core.specs.Puzzle.{has_place, IsNext, IsKth, longest};
+ghost use Rattle.engine_core.specs.House.{AreDifferent};
+ghost use Rattle.engine_core.specs.HouseIndex.{AreScopes, scope_of, start_at, AreHousesAt, IsIndex, IsRoom, IsPut, IsFirstFrom, AreAt, counted_on, number_in, IsUnfilled, houses_from, sum_to};
+
+use crate::houses::list::{HouseList, part};
+use std::alloc::{AllocError, Global};
+use std::marker::Model;
+
+/// Adds one to the count of each of the places.
+fn count_house(counts: &mut [u32], places: &[u32])
+    requires within { (k : ℕ) → k < length places.now
+        → slice_index places.now k < length counts.old }
+    requires different { AreDifferent places.now }
+    requires few { (c : ℕ) → c < length counts.old → slice_index counts.old c + 1 < 2 ^ 32 }
+    ensures as_many { length counts.new ≡ length counts.old }
+    ensures counted { AreAt (length counts.old) (counted_on counts.old places.now) counts.new }
+{
+    for k in 0..places.len() {
+        counts[places[k] as usize] += 1;
+    }
+}
+
+/// Counts for each place the houses that have it.
+fn count_houses(counts: &mut [u32], list: &HouseList)
+    requires scopes { AreScopes (length counts.old) list.now.closed }
+    requires none { (c : ℕ) → c < length counts.old → slice_index counts.old c ≡ 0 }
+    ensures as_many { length counts.new ≡ length counts.old }
+    ensures counted { AreAt (length counts.old) (number_in list.now.closed) counts.new }
+{
+    for house in 0..list.len() {
+        count_house(counts, list.places(house));
+    }
+}
+
+/// Writes in place of each number its sum with those before it, and gives the sum of all.
+fn sum_up(counts: &mut [u32]) -> u32
+    requires { sum_below (slice_index counts.old) (length counts.old) < 2 ^ 32 }
+    ensures as_many { length counts.new ≡ length counts.old }
+    ensures sums { AreAt (length counts.old) (sum_to counts.old) counts.new }
+    ensures all { result ≡ sum_below (slice_index counts.old) (length counts.old) }
+{
+    let mut sum = 0u32;
+    for place in 0..counts.len() {
+        sum += counts[place];
+        counts[place] = sum;
+    }
+    sum
+}
+
+/// Writes for each place where its houses end in the list of all, and gives the length of that list.
+fn write_ends(ends: &mut [u32], list: &HouseList) -> u32
+    requires scopes { AreScopes (length ends.old) list.now.closed }
+    requires few { sum_by length list.now.closed < 2 ^ 32 }
+    requires none { (c : ℕ) → c < length ends.old → slice_index ends.old c ≡ 0 }
+    ensures as_many { length ends.new ≡ length ends.old }
+    ensures ends { AreAt (length ends.old) (λ c. start_at list.now.closed (suc c)) ends.new }
+    ensures all { result ≡ start_at list.now.closed (length ends.old) }
+{
+    count_houses(ends, list);
+    sum_up(ends)
+}
+
+/// Puts the house before those that stand already at each of its places.
+fn put_house(starts: &mut [u32], houses: &mut [u32], house: u32, places: &[u32])
+    requires within { (k : ℕ) → k < length places.now
+        → slice_index places.now k < length starts.old }
+    requires different { AreDifferent places.now }
+    requires room { IsRoom starts.old (length houses.old) places.now }
+    ensures { IsPut house places.now starts.old houses.old starts.new houses.new }
+{
+    for k in 0..places.len() {
+        let place = places[k] as usize;
+        let start = starts[place] - 1;
+        starts[place] = start;
+        houses[start as usize] = house;
+    }
+}
+
+/// Puts all houses, from the last on, each before those that stand already at its places.
+fn put_houses(starts: &mut [u32], houses: &mut [u32], list: &HouseList)
+    requires scopes { AreScopes (length starts.old) list.now.closed }
+    requires none { IsUnfilled list.now.closed starts.old houses.old }
+    ensures { IsIndex (length starts.old) list.now.closed 0 starts.new houses.new }
+{
+    for after in 0..list.len() {
+        let house = list.len() - 1 - after;
+        put_house(starts, houses, house as u32, list.places(house));
+    }
+}
+
+/// The houses from where those of a place start to where those of the next place do.
+fn houses_of<'a>(starts: &[u32], houses: &'a [u32], place: usize) -> &'a [u32]
+    requires place_in { place + 1 < length starts.now }
+    requires ascending { slice_index starts.now place ≤ slice_index starts.now (place + 1) }
+    requires within { slice_index starts.now (place + 1) ≤ length houses.now }
+    ensures { result.now ≡ houses_from starts.now houses.now place }
+{
+    let from = starts[place] as usize;
+    let end = starts[place + 1] as usize;
+    part(houses, from, end)
+}
+
+/// The first of the houses that is `from` or later.
+fn first_from(houses: &[u32], from: usize) -> Option<usize>
+    ensures { IsFirstFrom houses.now from result }
+{
+    for k in 0..houses.len() {
+        let house = houses[k] as usize;
+        if house >= from {
+            return Some(house);
+        }
+    }
+    None
+}
+
+/// The houses of a board of `cells` cells, and for each place those that have it: these stand in one list, place by
+/// place, in four bytes each. `starts` says for each place where its houses start.
+#[derive(Drop)]
+pub struct Houses {
+    cells: usize,
+    list: HouseList,
+    starts: Vec<u32>,
+    houses: Vec<u32>,
+}
+
+impl Model for Houses {
+    ghost use Rattle.std.specs.Prelude.{◌+◌};
+    ghost use Rattle.engine_core.specs.HouseIndex.{Table, IsIndex};
+
+    ghost Value = { Table };
+
+    ghost view = { λ t. record { cells = t.cells; scopes = t.list.closed } };
+
+    ghost invariant = { λ t. IsIndex (t.cells + 1) t.list.closed 0 t.starts.items t.houses.items };
+}
+
+impl Houses {
+    /// The table of the lists that are closed.
+    ///
+    /// # Errors
+    ///
+    /// When memory was refused.
+    pub fn of(alloc: Global, cells: usize, list: HouseList) -> Result<Houses, AllocError>
+        requires cells { cells < 2 ^ 32 }
+        requires scopes { AreScopes cells list.closed }
+        ensures { IfOk result (λ table. table ≡ record { cells = cells; scopes = list.closed }) }
+    {
+        let mut starts = vec![in alloc; 0u32; cells + 1]?;
+        let all = write_ends(&mut starts, &list);
+        let mut houses = vec![in alloc; 0u32; all as usize]?;
+        put_houses(&mut starts, &mut houses, &list);
+        Ok(Houses {
+            cells,
+            list,
+            starts,
+            houses,
+        })
+    }
+
+    /// How many cells the board has.
+    pub fn cells(&self) -> usize
+        ensures { result ≡ self.now.cells }
+    {
+        self.cells
+    }
+
+    /// How many houses there are: fewer than 2^32.
+    pub fn len(&self) -> usize
+        ensures len { result ≡ length self.now.scopes }
+        ensures few { result < 2 ^ 32 }
+    {
+        self.list.len()
+    }
+
+    /// The places of a house.
+    pub fn places(&self, house: usize) -> &[u32]
+        requires { house < length self.now.scopes }
+        ensures { result.now ≡ scope_of self.now.scopes house }
+    {
+        self.list.places(house)
+    }
+
+    /// The houses that have the place, ascending.
+    pub fn houses_at(&self, place: usize) -> &[u32]
+        requires { place < self.now.cells }
+        ensures { AreHousesAt self.now.scopes place result.now }
+    {
+        houses_of(&self.starts, &self.houses, place)
+    }
+
+    /// The least house at or after `from` that has the place.
+    pub fn next_at(&self, place: usize, from: usize) -> Option<usize>
+        requires { place < self.now.cells }
+        ensures { IsNext (λ h. has_place (scope_of self.now.scopes h) place)
+            (length self.now.scopes) from result }
+    {
+        first_from(self.houses_at(place), from)
+    }
+
+    /// The house that has the place and has `k` such houses before it.
+    pub fn nth_at(&self, place: usize, k: usize) -> Option<usize>
+        requires { place < self.now.cells }
+        ensures { IsKth (λ h. has_place (scope_of self.now.scopes h) place)
+            (length self.now.scopes) k result }
+    {
+        let houses = self.houses_at(place);
+        if k < houses.len() {
+            Some(houses[k] as usize)
+        } else {
+            None
+        }
+    }
+
+    /// The cells of all houses together: fewer than 2^32.
+    pub fn total(&self) -> usize
+        ensures total { result ≡ sum_by length self.now.scopes }
+        ensures few { result < 2 ^ 32 }
+    {
+        self.list.total()
+    }
+
+    /// The cells of the longest house.
+    pub fn longest(&self) -> usize
+        ensures { result ≡ longest (scope_of self.now.scopes) (length self.now.scopes) }
+    {
+        let mut most = 0;
+        for house in 0..self.len() {
+            most = most.max(self.places(house).len());
+        }
+        most
+    }
+}

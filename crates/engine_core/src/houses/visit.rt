@@ -1,0 +1,53 @@
+//! A visit of a house in three steps: `gather` reads the sets of its cells, the rules decide what is kept of them, and
+//! `apply` strikes the rest. All strikes of a visit are decided before the first is made.
+
+ghost use Rattle.std.specs.Prelude.{◌≡◌, ℕ, ◌<◌, ◌==◌, true, false, map, length, slice_index};
+ghost use Rattle.grid_core.specs.Board.{has, cells_of, SameShape};
+ghost use Rattle.engine_core.specs.Closing.{HasStruck};
+ghost use Rattle.engine_core.specs.Sets.{has_bit as is_set, set_of_bits, IsBitsOf};
+ghost use Rattle.engine_core.specs.House.{sets_at, kept_in};
+
+use crate::houses::sets::cell_bits;
+use grid_core::Board;
+
+/// Reads the set of each of the places into `sets`: bit `v` of the `k`-th says whether the `k`-th place has the value
+/// `v`.
+pub fn gather(board: &Board, places: &[u32], sets: &mut [u32])
+    requires places_in { (k : ℕ) → k < length places.now
+        → slice_index places.now k < cells_of board.now }
+    requires as_many { length sets.old ≡ length places.now }
+    ensures bits { (k : ℕ) → k < length places.now
+        → IsBitsOf (has board.now (slice_index places.now k)) board.now.values
+        (slice_index sets.new k) }
+    ensures sets { map (set_of_bits board.now.values) sets.new
+        ≡ sets_at board.now.values places.now (has board.now) }
+{
+    for k in 0..places.len() {
+        sets[k] = cell_bits(board, places[k] as usize);
+    }
+}
+
+/// Strikes from each of the places the values whose bit isn't set in `kept`, and says whether that was anything.
+pub fn apply(board: &mut Board, places: &[u32], kept: &[u32]) -> bool
+    requires places_in { (k : ℕ) → k < length places.now
+        → slice_index places.now k < cells_of board.old }
+    requires as_many { length kept.now ≡ length places.now }
+    ensures left { has board.new ≡ kept_in places.now kept.now (length places.now) (has board.old) }
+    ensures shape { SameShape board.old board.new }
+    ensures unchanged { result ≡ false → has board.new ≡ has board.old }
+    ensures changed { result ≡ true → HasStruck (has board.old) (has board.new) }
+{
+    let mut struck = false;
+    for k in 0..places.len() {
+        struck |= board.retain(places[k] as usize, kept[k]);
+    }
+    struck
+}
+
+/// Whether a set of values has the value: bit `value` of it.
+pub fn has_bit(bits: u32, value: u8) -> bool
+    requires { value < 32 }
+    ensures { result ≡ is_set bits value }
+{
+    (bits >> value) & 1 == 1
+}

@@ -1,6 +1,0 @@
-use Rattle.std.proofs.Common.{◌≡◌, ℕ, ◌+◌, ◌*◌, ◌<◌, true}
-use Rattle.fields_core.specs.Light.{white}
-use Rattle.fields_core.proofs.light_run.run_end.Given as goal
-
-abbrev pub invariant-loop-after : goal.invariant-loop-after
-invariant-loop-after l = (i : ℕ) → l.at < i → i < l.after → white l.puzzle (l.first + i * l.stride) ≡ true

@@ -1,0 +1,8 @@
+use Rattle.std.specs.List.{filter}
+use Rattle.grid_core.specs.Regions.{steps}
+use Rattle.fields_core.specs.CountLists.{IsBegun}
+use Rattle.fields_core.specs.Light.{white}
+use Rattle.fields_core.proofs.light_up.houses.push_beside.Given as goal
+
+abbrev pub invariant-loop-direction : goal.invariant-loop-direction
+invariant-loop-direction l = IsBegun l.fn.houses l.houses (filter (white l.puzzle) (steps l.puzzle.size l.place l.direction))

@@ -1,5 +1,0 @@
-use Rattle.fields_core.proofs.TentNext.{IsPassed}
-use Rattle.fields_core.proofs.tent_pairs.next_tree.Given as goal
-
-abbrev pub invariant-loop-direction : goal.invariant-loop-direction
-invariant-loop-direction l = IsPassed l.puzzle l.place l.from l.direction

@@ -1,0 +1,9 @@
+use Rattle.std.proofs.Common.{not}
+use Rattle.std.specs.List.{filter}
+use Rattle.grid_core.specs.Regions.{steps}
+use Rattle.fields_core.specs.CountLists.{IsBegun}
+use Rattle.fields_core.specs.Tents.{tree}
+use Rattle.fields_core.proofs.tents.houses.push_beside.Given as goal
+
+abbrev pub invariant-loop-direction : goal.invariant-loop-direction
+invariant-loop-direction l = IsBegun l.fn.houses l.houses (filter (λ d. not (tree l.puzzle d)) (steps l.puzzle.size l.place l.direction))

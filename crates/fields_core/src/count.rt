@@ -1,0 +1,6 @@
+//! Houses that count the ones of their cells.
+
+pub(crate) mod list;
+pub(crate) mod table;
+pub(crate) mod tally;
+pub(crate) mod visit;

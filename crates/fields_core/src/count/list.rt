@@ -1,0 +1,74 @@
+//! Count houses one after another, before they are a table.
+
+ghost use Rattle.std.specs.Prelude.{◌≡◌, ◌<◌, ◌^◌, ◌∷◌, [], IfOk, OnOk, length};
+ghost use Rattle.fields_core.specs.CountLists.{IsBegun, IsHouseClosed};
+
+use crate::light_up::run::Run;
+use engine_core::HouseList;
+use std::alloc::{AllocError, Global};
+
+/// The fewest and the most ones that the cells of a house may hold together.
+#[derive(Clone, Copy)]
+pub(crate) struct Bounds {
+    pub least: u32,
+    pub most: u32,
+}
+
+/// The cells of count houses and their bounds, and the cells of a house that is begun.
+#[derive(Drop)]
+pub(crate) struct CountList {
+    pub list: HouseList,
+    pub bounds: Vec<Bounds>,
+}
+
+impl CountList {
+    /// No house, with room for so many houses of so many cells together. More can be added: they take more memory.
+    pub(crate) fn new(alloc: Global, houses: usize, cells: usize) -> Result<CountList, AllocError>
+        ensures none { IfOk result (λ list. list.list ≡ record { closed = []; begun = [] }) }
+        ensures no_bounds { IfOk result (λ list. list.bounds.items ≡ []) }
+    {
+        Ok(CountList {
+            list: HouseList::new(alloc, houses, cells)?,
+            bounds: Vec::with_capacity(alloc, houses)?,
+        })
+    }
+
+    /// Adds a cell to the house that is begun.
+    pub(crate) fn push(&mut self, place: usize) -> Result<(), AllocError>
+        requires { place < 2 ^ 32 }
+        ensures { OnOk result (IsBegun self.old self.new (place ∷ [])) }
+    {
+        self.list.push(place)?;
+        Ok(())
+    }
+
+    /// Adds the cells of a run to the house that is begun.
+    pub(crate) fn push_run(&mut self, run: &Run) -> Result<(), AllocError>
+        ensures { OnOk result (IsBegun self.old self.new run.now) }
+    {
+        for k in 0..run.len() {
+            self.list.push(run.place(k))?;
+        }
+        Ok(())
+    }
+
+    /// Ends the house that is begun: it holds so many ones.
+    pub(crate) fn close(&mut self, least: u32, most: u32) -> Result<(), AllocError>
+        ensures { OnOk result (IsHouseClosed self.old self.new least most) }
+    {
+        self.list.close()?;
+        self.bounds.push(Bounds { least, most })?;
+        Ok(())
+    }
+
+    /// Ends the house that is begun: it holds a one, and each of its cells may.
+    pub(crate) fn close_some(&mut self) -> Result<(), AllocError>
+        ensures { OnOk result (IsHouseClosed self.old self.new 1 (length self.old.list.begun)) }
+    {
+        let before = self.list.total();
+        self.list.close()?;
+        let most = (self.list.total() - before) as u32;
+        self.bounds.push(Bounds { least: 1, most })?;
+        Ok(())
+    }
+}

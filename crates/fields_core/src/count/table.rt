@@ -1,0 +1,236 @@
+//! The count houses of a puzzle: what a visit of one strikes, and where their cells are.
+#![tactic(auto, using(crate::proofs::LawSets::count_table_laws))]
+
+ghost use Rattle.std.specs.Prelude.{◌≡◌, ℕ, Bool, List, ◌<◌, ◌≤◌, ◌^◌, IfOk, length, slice_index, true, false};
+ghost use Rattle.grid_core.specs.Board.{has, cells_of, SameShape};
+ghost use Rattle.grid_core.specs.Candidates.{Candidates};
+ghost use Rattle.engine_core.specs.Puzzle.{IsNext, IsKth, has_place};
+ghost use Rattle.engine_core.specs.Closing.{HasStruck};
+ghost use Rattle.engine_core.specs.Sets.{IsChange};
+ghost use Rattle.engine_core.specs.Keeping.{AreSetsOf, IsKept};
+ghost use Rattle.engine_core.specs.Waiting.{words_of, is_waiting, AreCalled};
+ghost use Rattle.fields_core.specs.CountHouse.{CountedHouses, AreHouses, count_house_of, strikes_of, after_house, table_puzzle};
+ghost use Rattle.fields_core.specs.Tallies.{AreTalliesOf};
+ghost use Rattle.fields_core.specs.CountLists.{bounded, bound_of};
+
+use crate::count::list::{Bounds, CountList};
+use crate::count::tally::Tally;
+use crate::count::visit::{keep_cells, visit_house};
+use engine_core::{Houses, mark};
+use grid_core::Board;
+use std::alloc::{AllocError, Global};
+use std::marker::Model;
+
+/// The count houses of a board, and for each place those that have it.
+#[derive(Drop)]
+pub struct CountTable {
+    houses: Houses,
+    bounds: Vec<Bounds>,
+}
+
+impl Model for CountTable {
+    ghost use Rattle.std.specs.Prelude.{◌≡◌, length};
+    ghost use Rattle.fields_core.specs.CountHouse.{CountedHouses, AreHouses};
+    ghost use Rattle.fields_core.specs.CountLists.{bounded};
+
+    ghost Value = { CountedHouses };
+
+    ghost view = { λ t. record {
+      cells = t.houses.cells;
+      houses = bounded t.houses.scopes t.bounds.items;
+    } };
+
+    ghost invariant = { λ t. (length t.bounds.items ≡ length t.houses.scopes)
+        × AreHouses t.houses.cells (bounded t.houses.scopes t.bounds.items) };
+}
+
+impl CountTable {
+    /// The table of these houses.
+    pub(crate) fn of(alloc: Global, cells: usize, list: CountList) -> Result<CountTable, AllocError>
+        requires cells { cells < 2 ^ 32 }
+        requires as_many { length list.bounds.items ≡ length list.list.closed }
+        requires houses { AreHouses cells (bounded list.list.closed list.bounds.items) }
+        ensures { IfOk result (λ table. table ≡
+            record { cells = cells; houses = bounded list.list.closed list.bounds.items }) }
+    {
+        Ok(CountTable {
+            houses: Houses::of(alloc, cells, list.list)?,
+            bounds: list.bounds,
+        })
+    }
+
+    /// How many houses there are.
+    pub(crate) fn len(&self) -> usize
+        ensures { result ≡ length self.now.houses }
+    {
+        self.houses.len()
+    }
+
+    /// The places of a house.
+    fn places(&self, house: usize) -> &[u32]
+        requires { house < length self.now.houses }
+        ensures { result.now ≡ (count_house_of self.now.houses house).places }
+    {
+        self.houses.places(house)
+    }
+
+    /// How many cells the house has.
+    pub(crate) fn scope_len(&self, house: usize) -> usize
+        requires { house < length self.now.houses }
+        ensures { result ≡ length (count_house_of self.now.houses house).places }
+    {
+        self.places(house).len()
+    }
+
+    /// The house's `k`-th cell.
+    pub(crate) fn scope(&self, house: usize, k: usize) -> usize
+        requires house_in { house < length self.now.houses }
+        requires k_in { k < length (count_house_of self.now.houses house).places }
+        ensures { result ≡ slice_index (count_house_of self.now.houses house).places k }
+    {
+        let places = self.places(house);
+        places[k] as usize
+    }
+
+    /// The least house at or after `from` that has the place.
+    pub(crate) fn house_at(&self, place: usize, from: usize) -> Option<usize>
+        requires { place < self.now.cells }
+        ensures { IsNext (λ h. has_place (count_house_of self.now.houses h).places place)
+            (length self.now.houses) from result }
+    {
+        self.houses.next_at(place, from)
+    }
+
+    /// The house that has the place and has `k` such houses before it.
+    pub(crate) fn house_of(&self, place: usize, k: usize) -> Option<usize>
+        requires { place < self.now.cells }
+        ensures { IsKth (λ h. has_place (count_house_of self.now.houses h).places place)
+            (length self.now.houses) k result }
+    {
+        self.houses.nth_at(place, k)
+    }
+
+    /// Strikes what the house strikes, and says whether that was anything.
+    pub(crate) fn visit(&self, house: usize, board: &mut Board) -> bool
+        requires house_in { house < length self.now.houses }
+        requires cells { cells_of board.old ≡ self.now.cells }
+        requires values { board.old.values ≡ 2 }
+        ensures left { has board.new ≡ after_house (count_house_of self.now.houses house)
+            (has board.old) }
+        ensures shape { SameShape board.old board.new }
+        ensures unchanged { result ≡ false → has board.new ≡ has board.old }
+        ensures changed { result ≡ true → HasStruck (has board.old) (has board.new) }
+    {
+        let bounds = bounds_at(&self.bounds, house);
+        visit_house(board, self.houses.places(house), bounds)
+    }
+
+    /// Decides by what was counted what a visit of the house keeps of the sets of its cells, and says whether anything
+    /// may be struck.
+    pub(crate) fn keep(
+        &self,
+        house: usize,
+        sets: &[u32],
+        kept: &mut [u32],
+        tallies: &[Tally],
+    ) -> bool
+        requires house_in { house < length self.now.houses }
+        requires as_many { length kept.old ≡ length sets.now }
+        requires tallied { (K : Candidates) × AreTalliesOf self.now tallies.now K }
+        ensures { (blocked : ℕ → Bool) (is_solution : List ℕ → Bool) (K : Candidates)
+            → AreSetsOf (table_puzzle blocked is_solution self.now) house K sets.now
+            → AreTalliesOf self.now tallies.now K
+            → IsKept (table_puzzle blocked is_solution self.now) house K result kept.new }
+    {
+        let tally = tallies[house];
+        let bounds = bounds_at(&self.bounds, house);
+        if !tally.calls(bounds) {
+            return false;
+        }
+        keep_cells(sets, kept, bounds, tally);
+        true
+    }
+
+    /// Room for the tallies of the houses.
+    pub(crate) fn tallies(&self, alloc: Global) -> Result<Vec<Tally>, AllocError>
+        ensures { IfOk result (λ tallies. length tallies.items ≡ length self.now.houses) }
+    {
+        vec![in alloc; Tally::none(); self.len()]
+    }
+
+    /// Counts the cells of each house: none where each cell has 0 alone, and then one cell after the
+    /// other has its own set, if that is another.
+    pub(crate) fn follow(&self, board: &Board, tallies: &mut [Tally])
+        requires cells { cells_of board.now ≡ self.now.cells }
+        requires values { board.now.values ≡ 2 }
+        requires long { length self.now.houses ≤ length tallies.old }
+        ensures tallied { AreTalliesOf self.now tallies.new (has board.now) }
+        ensures as_many { length tallies.new ≡ length tallies.old }
+    {
+        tallies.fill(Tally::none());
+        for place in 0..self.houses.cells() {
+            let bits = board.bits(place);
+            if bits != 1 {
+                self.change(place, 1, bits, tallies);
+            }
+        }
+    }
+
+    /// Counts anew where a cell changed, whose sets have these bits.
+    pub(crate) fn change(&self, place: usize, before: u32, after: u32, tallies: &mut [Tally])
+        requires { (K : Candidates) × (L : Candidates)
+            × AreTalliesOf self.now tallies.old K
+            × IsChange self.now.cells 2 K L place before after }
+        ensures tallied { (K L : Candidates) → AreTalliesOf self.now tallies.old K
+            → IsChange self.now.cells 2 K L place before after
+            → AreTalliesOf self.now tallies.new L }
+        ensures as_many { length tallies.new ≡ length tallies.old }
+    {
+        let houses = self.houses.houses_at(place);
+        for k in 0..houses.len() {
+            let house = houses[k] as usize;
+            let tally = tallies[house];
+            tallies[house] = tally.moved(before, after);
+        }
+    }
+
+    /// Whether the house may strike anything, by what was counted.
+    pub(crate) fn calls(&self, house: usize, tallies: &[Tally]) -> bool
+        requires house_in { house < length self.now.houses }
+        requires tallied { (K : Candidates) × AreTalliesOf self.now tallies.now K }
+        ensures { result ≡ false → (K : Candidates) → AreTalliesOf self.now tallies.now K
+            → (c v : ℕ) → K c v ≡ true
+            → strikes_of (count_house_of self.now.houses house) K c v ≡ false }
+    {
+        let tally = tallies[house];
+        tally.calls(bounds_at(&self.bounds, house))
+    }
+
+    /// Marks the houses that have the place, but for those that strike nothing, by what was counted.
+    pub(crate) fn wake(&self, place: usize, tallies: &[Tally], waits: &mut [u64])
+        requires place_in { place < self.now.cells }
+        requires room { words_of (length self.now.houses) ≤ length waits.old }
+        requires tallied { (K : Candidates) × AreTalliesOf self.now tallies.now K }
+        ensures { (blocked : ℕ → Bool) (is_solution : List ℕ → Bool) (K : Candidates)
+            → AreTalliesOf self.now tallies.now K
+            → AreCalled (table_puzzle blocked is_solution self.now) K
+            (λ j. has_place (count_house_of self.now.houses j).places place)
+            (is_waiting waits.old) (is_waiting waits.new) }
+    {
+        let houses = self.houses.houses_at(place);
+        for k in 0..houses.len() {
+            let house = houses[k] as usize;
+            if self.calls(house, tallies) {
+                mark(waits, house);
+            }
+        }
+    }
+}
+
+/// The bounds of a house.
+fn bounds_at(bounds: &[Bounds], house: usize) -> Bounds
+    requires { house < length bounds.now }
+    ensures { result ≡ bound_of bounds.now house }
+{
+    bounds[house]
+}

@@ -1,0 +1,9 @@
+//! Light Up: its houses, its rules and its check.
+
+pub(crate) mod cells;
+pub(crate) mod check;
+pub(crate) mod fault;
+pub(crate) mod houses;
+pub(crate) mod rules;
+pub(crate) mod run;
+pub(crate) mod sight;

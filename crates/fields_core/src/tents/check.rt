@@ -1,0 +1,202 @@
+//! The check of a grid of Tents.
+#![tactic(auto, using(crate::proofs::LawSets::tent_check_laws))]
+
+ghost use Rattle.std.specs.Prelude.{◌≡◌, ℕ, ◌<◌, ◌↔◌, IfOk, None};
+ghost use Rattle.grid_core.specs.Grids.{IsGrid};
+ghost use Rattle.fields_core.specs.Firsts.{IsFirstWrong};
+ghost use Rattle.fields_core.specs.TentFaults.{IsTentFault};
+ghost use Rattle.fields_core.specs.TentScratches.{HasRoom};
+ghost use Rattle.fields_core.specs.TentSolutions.{IsTentSolution};
+ghost use Rattle.fields_core.specs.Tents.{tent_cells, tents_in_column, tents_in_row, tree_right, touch_right, column_right, row_right};
+
+use crate::tents::cells::{
+    cells, column_cell, column_number, columns, is_tree, row_cell, row_number, rows,
+};
+use crate::tents::fault::TentFault;
+use crate::tents::pairs::{TentScratch, are_paired};
+use crate::tents::touch::touches_tent;
+use gameid_core::TentsPuzzle;
+use grid_core::Grid;
+use std::alloc::{AllocError, Global};
+
+/// Whether no tent stands on the cell if it has a tree.
+#[tactic(auto, using(crate::proofs::LawSets::tent_check_laws), unfolding(crate::specs::Tents::tree_right))]
+fn is_tree_right(puzzle: &TentsPuzzle, grid: &Grid, place: usize) -> bool
+    requires fits { IsGrid (tent_cells puzzle.now) 2 grid.now }
+    requires place_in { place < tent_cells puzzle.now }
+    ensures { result ≡ tree_right puzzle.now grid.now place }
+{
+    if !is_tree(puzzle, place) {
+        return true;
+    }
+    grid.get(place) == 0
+}
+
+/// Whether the cell's tent, if it has one, touches no other.
+#[tactic(auto, using(crate::proofs::LawSets::tent_check_laws), unfolding(crate::specs::Tents::touch_right))]
+fn is_touch_right(puzzle: &TentsPuzzle, grid: &Grid, place: usize) -> bool
+    requires fits { IsGrid (tent_cells puzzle.now) 2 grid.now }
+    requires place_in { place < tent_cells puzzle.now }
+    ensures { result ≡ touch_right puzzle.now grid.now place }
+{
+    if grid.get(place) != 1 {
+        return true;
+    }
+    !touches_tent(puzzle.size(), grid, place)
+}
+
+/// How many tents stand in the column.
+fn count_column(puzzle: &TentsPuzzle, grid: &Grid, x: usize) -> usize
+    requires fits { IsGrid (tent_cells puzzle.now) 2 grid.now }
+    requires x_in { x < puzzle.now.size.w }
+    ensures { result ≡ tents_in_column puzzle.now.size grid.now x }
+{
+    let mut tents = 0;
+    for y in 0..rows(puzzle) {
+        if grid.get(column_cell(puzzle, x, y)) != 1 {
+            continue;
+        }
+        tents += 1;
+    }
+    tents
+}
+
+/// How many tents stand in the row.
+fn count_row(puzzle: &TentsPuzzle, grid: &Grid, y: usize) -> usize
+    requires fits { IsGrid (tent_cells puzzle.now) 2 grid.now }
+    requires y_in { y < puzzle.now.size.h }
+    ensures { result ≡ tents_in_row puzzle.now.size grid.now y }
+{
+    let mut tents = 0;
+    for x in 0..columns(puzzle) {
+        if grid.get(row_cell(puzzle, y, x)) != 1 {
+            continue;
+        }
+        tents += 1;
+    }
+    tents
+}
+
+/// Whether the column has its number of tents.
+#[tactic(auto, using(crate::proofs::LawSets::tent_check_laws), unfolding(crate::specs::Tents::column_right))]
+fn is_column_right(puzzle: &TentsPuzzle, grid: &Grid, x: usize) -> bool
+    requires fits { IsGrid (tent_cells puzzle.now) 2 grid.now }
+    requires x_in { x < puzzle.now.size.w }
+    ensures { result ≡ column_right puzzle.now grid.now x }
+{
+    count_column(puzzle, grid, x) == usize::from(column_number(puzzle, x))
+}
+
+/// Whether the row has its number of tents.
+#[tactic(auto, using(crate::proofs::LawSets::tent_check_laws), unfolding(crate::specs::Tents::row_right))]
+fn is_row_right(puzzle: &TentsPuzzle, grid: &Grid, y: usize) -> bool
+    requires fits { IsGrid (tent_cells puzzle.now) 2 grid.now }
+    requires y_in { y < puzzle.now.size.h }
+    ensures { result ≡ row_right puzzle.now grid.now y }
+{
+    count_row(puzzle, grid, y) == usize::from(row_number(puzzle, y))
+}
+
+/// The first tree with a tent on it.
+fn first_tree(puzzle: &TentsPuzzle, grid: &Grid) -> Option<usize>
+    requires { IsGrid (tent_cells puzzle.now) 2 grid.now }
+    ensures { IsFirstWrong (tree_right puzzle.now grid.now) (tent_cells puzzle.now) result }
+{
+    for place in 0..cells(puzzle) {
+        if !is_tree_right(puzzle, grid, place) {
+            return Some(place);
+        }
+    }
+    None
+}
+
+/// The first tent that touches another.
+fn first_touch(puzzle: &TentsPuzzle, grid: &Grid) -> Option<usize>
+    requires { IsGrid (tent_cells puzzle.now) 2 grid.now }
+    ensures { IsFirstWrong (touch_right puzzle.now grid.now) (tent_cells puzzle.now) result }
+{
+    for place in 0..cells(puzzle) {
+        if !is_touch_right(puzzle, grid, place) {
+            return Some(place);
+        }
+    }
+    None
+}
+
+/// The first column without its number of tents.
+fn first_column(puzzle: &TentsPuzzle, grid: &Grid) -> Option<usize>
+    requires { IsGrid (tent_cells puzzle.now) 2 grid.now }
+    ensures { IsFirstWrong (column_right puzzle.now grid.now) puzzle.now.size.w result }
+{
+    for x in 0..columns(puzzle) {
+        if !is_column_right(puzzle, grid, x) {
+            return Some(x);
+        }
+    }
+    None
+}
+
+/// The first row without its number of tents.
+fn first_row(puzzle: &TentsPuzzle, grid: &Grid) -> Option<usize>
+    requires { IsGrid (tent_cells puzzle.now) 2 grid.now }
+    ensures { IsFirstWrong (row_right puzzle.now grid.now) puzzle.now.size.h result }
+{
+    for y in 0..rows(puzzle) {
+        if !is_row_right(puzzle, grid, y) {
+            return Some(y);
+        }
+    }
+    None
+}
+
+/// What is wrong with a grid of Tents.
+pub(crate) fn find_fault(
+    puzzle: &TentsPuzzle,
+    grid: &Grid,
+    scratch: &mut TentScratch,
+) -> Option<TentFault>
+    requires fits { IsGrid (tent_cells puzzle.now) 2 grid.now }
+    requires room { HasRoom scratch.old (tent_cells puzzle.now) }
+    ensures fault { IsTentFault puzzle.now grid.now result }
+    ensures room { (n : ℕ) → HasRoom scratch.old n → HasRoom scratch.new n }
+{
+    if let Some(place) = first_tree(puzzle, grid) {
+        return Some(TentFault::Tree(place));
+    }
+    if let Some(place) = first_touch(puzzle, grid) {
+        return Some(TentFault::Touch(place));
+    }
+    if let Some(x) = first_column(puzzle, grid) {
+        return Some(TentFault::Column(x));
+    }
+    if let Some(y) = first_row(puzzle, grid) {
+        return Some(TentFault::Row(y));
+    }
+    if are_paired(puzzle, grid, scratch) {
+        return None;
+    }
+    Some(TentFault::Match)
+}
+
+/// What is wrong with a grid of Tents, 1 at a tent and 0 elsewhere: the first broken rule, in the order of
+/// `TentFault`, at the lowest place, column or row. `None` means that the grid is a solution: no tent stands on a
+/// tree, no two tents touch at a side or a corner, each column and row has its number of tents, and the tents can be
+/// paired one to one with the trees so that each tent is beside its own tree (the rules of Tents in the manual of
+/// Simon Tatham's Portable Puzzle Collection).
+///
+/// # Errors
+///
+/// When memory was refused.
+pub fn check_tents(
+    alloc: Global,
+    puzzle: &TentsPuzzle,
+    grid: &Grid,
+) -> Result<Option<TentFault>, AllocError>
+    requires fits { IsGrid (tent_cells puzzle.now) 2 grid.now }
+    ensures fault { IfOk result (λ fault. IsTentFault puzzle.now grid.now fault) }
+    ensures solution { IfOk result (λ fault. (fault ≡ None) ↔ IsTentSolution puzzle.now grid.now) }
+{
+    let mut scratch = TentScratch::new(alloc, cells(puzzle))?;
+    let fault = find_fault(puzzle, grid, &mut scratch);
+    Ok(fault)
+}

@@ -1,0 +1,228 @@
+//! The count houses of Tents.
+#![tactic(auto, using(crate::proofs::LawSets::tent_houses_laws))]
+
+ghost use Rattle.std.specs.Prelude.{◌≡◌, ◌+◌, ◌<◌, ◌∷◌, [], IfOk, OnOk};
+ghost use Rattle.grid_core.specs.Regions.{row_places, column_places};
+ghost use Rattle.fields_core.specs.CountHouse.{houses_below};
+ghost use Rattle.fields_core.specs.CountLists.{IsBegun, IsAdded, AreListed};
+ghost use Rattle.fields_core.specs.Tents.{tent_cells};
+ghost use Rattle.fields_core.specs.TentHouses.{column_of_tents, row_of_tents, free_beside, tree_house, square_house, tent_houses};
+
+use crate::count::list::CountList;
+use crate::tents::cells::{
+    cells, column_cell, column_number, column_of, columns, is_tree, row_cell, row_number, row_of,
+    rows,
+};
+use gameid_core::TentsPuzzle;
+use grid_core::step;
+use std::alloc::{AllocError, Global};
+
+/// Adds the cells of a column, from the top, to the house that is begun.
+fn push_column_cells(
+    houses: &mut CountList,
+    puzzle: &TentsPuzzle,
+    x: usize,
+) -> Result<(), AllocError>
+    requires { x < puzzle.now.size.w }
+    ensures { OnOk result (IsBegun houses.old houses.new (column_places puzzle.now.size x)) }
+{
+    let _cells = puzzle.size().cells();
+    for y in 0..rows(puzzle) {
+        houses.push(column_cell(puzzle, x, y))?;
+    }
+    Ok(())
+}
+
+/// Adds the cells of a row, from the left, to the house that is begun.
+fn push_row_cells(houses: &mut CountList, puzzle: &TentsPuzzle, y: usize) -> Result<(), AllocError>
+    requires { y < puzzle.now.size.h }
+    ensures { OnOk result (IsBegun houses.old houses.new (row_places puzzle.now.size y)) }
+{
+    let _cells = puzzle.size().cells();
+    for x in 0..columns(puzzle) {
+        houses.push(row_cell(puzzle, y, x))?;
+    }
+    Ok(())
+}
+
+/// Adds the cells beside the cell that have no tree to the house that is begun.
+#[tactic(auto, using(crate::proofs::LawSets::tent_houses_laws), unfolding(grid_core::specs::Regions::steps))]
+fn push_beside(houses: &mut CountList, puzzle: &TentsPuzzle, place: usize) -> Result<(), AllocError>
+    requires { place < tent_cells puzzle.now }
+    ensures { OnOk result (IsBegun houses.old houses.new (free_beside puzzle.now place)) }
+{
+    let size = puzzle.size();
+    for direction in 0..4 {
+        let other = match step(size, place, direction) {
+            Some(other) => other,
+            None => continue,
+        };
+        if is_tree(puzzle, other) {
+            continue;
+        }
+        houses.push(other)?;
+    }
+    Ok(())
+}
+
+/// Adds the four cells of the square of 2 by 2 cells whose top left cell is the place to the house that is begun.
+fn push_square_cells(
+    houses: &mut CountList,
+    puzzle: &TentsPuzzle,
+    place: usize,
+) -> Result<(), AllocError>
+    requires { place < tent_cells puzzle.now }
+    ensures { OnOk result (IsBegun houses.old houses.new
+        (place ∷ (place + 1)
+        ∷ (place + puzzle.now.size.w) ∷ (place + puzzle.now.size.w + 1) ∷ [])) }
+{
+    let w = usize::from(puzzle.size().w());
+    let _cells = puzzle.size().cells();
+    houses.push(place)?;
+    houses.push(place + 1)?;
+    houses.push(place + w)?;
+    houses.push(place + w + 1)?;
+    Ok(())
+}
+
+/// Adds the house of a column.
+fn push_column(houses: &mut CountList, puzzle: &TentsPuzzle, x: usize) -> Result<(), AllocError>
+    requires x_in { x < puzzle.now.size.w }
+    requires none_begun { houses.old.list.begun ≡ [] }
+    ensures { OnOk result (IsAdded houses.old houses.new (column_of_tents puzzle.now x)) }
+{
+    push_column_cells(houses, puzzle, x)?;
+    let tents = u32::from(column_number(puzzle, x));
+    houses.close(tents, tents)?;
+    Ok(())
+}
+
+/// Adds the house of a row.
+fn push_row(houses: &mut CountList, puzzle: &TentsPuzzle, y: usize) -> Result<(), AllocError>
+    requires y_in { y < puzzle.now.size.h }
+    requires none_begun { houses.old.list.begun ≡ [] }
+    ensures { OnOk result (IsAdded houses.old houses.new (row_of_tents puzzle.now y)) }
+{
+    push_row_cells(houses, puzzle, y)?;
+    let tents = u32::from(row_number(puzzle, y));
+    houses.close(tents, tents)?;
+    Ok(())
+}
+
+/// Adds the house of a tree, if one stands on the cell.
+fn push_tree(houses: &mut CountList, puzzle: &TentsPuzzle, place: usize) -> Result<(), AllocError>
+    requires place_in { place < tent_cells puzzle.now }
+    requires none_begun { houses.old.list.begun ≡ [] }
+    ensures { OnOk result (IsAdded houses.old houses.new (tree_house puzzle.now place)) }
+{
+    if !is_tree(puzzle, place) {
+        return Ok(());
+    }
+    push_beside(houses, puzzle, place)?;
+    houses.close_some()?;
+    Ok(())
+}
+
+/// Adds the house of the square whose top left cell is the place, if there is one.
+fn push_square(houses: &mut CountList, puzzle: &TentsPuzzle, place: usize) -> Result<(), AllocError>
+    requires place_in { place < tent_cells puzzle.now }
+    requires none_begun { houses.old.list.begun ≡ [] }
+    ensures { OnOk result (IsAdded houses.old houses.new (square_house puzzle.now place)) }
+{
+    if column_of(puzzle, place) + 1 >= columns(puzzle) {
+        return Ok(());
+    }
+    if row_of(puzzle, place) + 1 >= rows(puzzle) {
+        return Ok(());
+    }
+    push_square_cells(houses, puzzle, place)?;
+    houses.close(0, 1)?;
+    Ok(())
+}
+
+/// Adds the houses of the columns.
+fn push_columns(houses: &mut CountList, puzzle: &TentsPuzzle) -> Result<(), AllocError>
+    requires { houses.old.list.begun ≡ [] }
+    ensures { OnOk result (IsAdded houses.old houses.new
+        (houses_below (column_of_tents puzzle.now) puzzle.now.size.w)) }
+{
+    for x in 0..columns(puzzle) {
+        push_column(houses, puzzle, x)?;
+    }
+    Ok(())
+}
+
+/// Adds the houses of the rows.
+fn push_rows(houses: &mut CountList, puzzle: &TentsPuzzle) -> Result<(), AllocError>
+    requires { houses.old.list.begun ≡ [] }
+    ensures { OnOk result (IsAdded houses.old houses.new
+        (houses_below (row_of_tents puzzle.now) puzzle.now.size.h)) }
+{
+    for y in 0..rows(puzzle) {
+        push_row(houses, puzzle, y)?;
+    }
+    Ok(())
+}
+
+/// Adds the houses of the trees, by place.
+fn push_trees(houses: &mut CountList, puzzle: &TentsPuzzle) -> Result<(), AllocError>
+    requires { houses.old.list.begun ≡ [] }
+    ensures { OnOk result (IsAdded houses.old houses.new
+        (houses_below (tree_house puzzle.now) (tent_cells puzzle.now))) }
+{
+    for place in 0..cells(puzzle) {
+        push_tree(houses, puzzle, place)?;
+    }
+    Ok(())
+}
+
+/// Adds the houses of the squares, by place.
+fn push_squares(houses: &mut CountList, puzzle: &TentsPuzzle) -> Result<(), AllocError>
+    requires { houses.old.list.begun ≡ [] }
+    ensures { OnOk result (IsAdded houses.old houses.new
+        (houses_below (square_house puzzle.now) (tent_cells puzzle.now))) }
+{
+    for place in 0..cells(puzzle) {
+        push_square(houses, puzzle, place)?;
+    }
+    Ok(())
+}
+
+/// How many trees there are.
+fn count_trees(puzzle: &TentsPuzzle) -> usize {
+    let mut trees = 0usize;
+    for place in 0..cells(puzzle) {
+        if is_tree(puzzle, place) {
+            trees = trees.saturating_add(1);
+        }
+    }
+    trees
+}
+
+/// How many houses there are, and how many cells they have together, or somewhat more.
+fn sizes(puzzle: &TentsPuzzle) -> (usize, usize) {
+    let lines = columns(puzzle).saturating_add(rows(puzzle));
+    let trees = count_trees(puzzle);
+    let all = cells(puzzle);
+    let houses = lines.saturating_add(trees).saturating_add(all);
+    (
+        houses,
+        trees
+            .saturating_mul(4)
+            .saturating_add(all.saturating_mul(6)),
+    )
+}
+
+/// The houses of the columns, of the rows, of the trees and of the squares.
+#[tactic(auto, using(crate::proofs::LawSets::tent_houses_laws), unfolding(crate::specs::TentHouses::tent_houses))]
+pub(crate) fn houses_of_tents(alloc: Global, puzzle: &TentsPuzzle) -> Result<CountList, AllocError>
+    ensures { IfOk result (λ list. AreListed list (tent_houses puzzle.now)) }
+{
+    let (count, cells) = sizes(puzzle);
+    let mut houses = CountList::new(alloc, count, cells)?;
+    push_columns(&mut houses, puzzle)?;
+    push_rows(&mut houses, puzzle)?;
+    push_trees(&mut houses, puzzle)?;
+    push_squares(&mut houses, puzzle)?;
+    Ok(houses)
+}

@@ -1,0 +1,180 @@
+//! Whether the tents of a grid can be paired with the trees.
+#![tactic(auto, using(crate::proofs::LawSets::tent_pairs_laws))]
+
+ghost use Rattle.std.specs.Prelude.{◌≡◌, ℕ, ◌<◌, ◌≤◌, IfOk, take, filter, length, slice_index};
+ghost use Rattle.std.specs.List.{range_with_len};
+ghost use Rattle.grid_core.specs.Grids.{IsGrid};
+ghost use Rattle.grid_core.specs.Candidates.{count_below};
+ghost use Rattle.engine_core.specs.Puzzle.{IsNext};
+ghost use Rattle.fields_core.specs.Tents.{tent_cells, tent, tree, can_be_paired};
+ghost use Rattle.fields_core.specs.TentPairs.{tree_beside, tree_count, may_pair, AreNumbered, AreIn};
+ghost use Rattle.fields_core.specs.TentScratches.{HasRoom};
+
+use crate::tents::cells::{cells, is_tree};
+use gameid_core::TentsPuzzle;
+use grid_core::{Edges, Grid, Paired, Pairing, step};
+use std::alloc::{AllocError, Global};
+
+/// What tents are paired with trees in: room for a pairing, for the places of the tents, and for a number of each cell.
+#[derive(Drop)]
+pub struct TentScratch {
+    pub(crate) pairing: Pairing,
+    pub(crate) tents: Vec<usize>,
+    pub(crate) numbers: Vec<usize>,
+}
+
+impl TentScratch {
+    /// Room for grids of so many cells.
+    pub(crate) fn new(alloc: Global, cells: usize) -> Result<TentScratch, AllocError>
+        ensures { IfOk result (λ scratch. HasRoom scratch cells) }
+    {
+        Ok(TentScratch {
+            pairing: Pairing::new(alloc, cells)?,
+            tents: vec![in alloc; 0; cells]?,
+            numbers: vec![in alloc; 0; cells]?,
+        })
+    }
+}
+
+/// The tents of a grid, by place, and the trees of the puzzle, by place. A tent is joined to the trees beside it.
+#[derive(Drop)]
+struct TentEdges<'a> {
+    puzzle: &'a TentsPuzzle,
+    tents: &'a [usize],
+    numbers: &'a [usize],
+    trees: usize,
+    ghost within: { AreIn puzzle.now tents.now },
+    ghost numbered: { AreNumbered puzzle.now numbers.now },
+    ghost all_trees: { trees ≡ tree_count puzzle.now },
+}
+
+impl Edges for TentEdges<'_> {
+    ghost left_count = { λ e. length e.tents.now };
+
+    ghost right_count = { λ e. tree_count e.puzzle.now };
+
+    ghost joins = { λ e. may_pair e.puzzle.now e.tents.now };
+
+    fn lefts(&self) -> usize {
+        self.tents.len()
+    }
+
+    fn rights(&self) -> usize {
+        self.trees
+    }
+
+    fn next(&self, left: usize, from: usize) -> Option<usize> {
+        next_tree(self.puzzle, self.numbers, self.tents[left], from)
+    }
+}
+
+/// The least number at or after `from` of a tree beside the cell.
+fn next_tree(puzzle: &TentsPuzzle, numbers: &[usize], place: usize, from: usize) -> Option<usize>
+    requires place_in { place < tent_cells puzzle.now }
+    requires numbered { AreNumbered puzzle.now numbers.now }
+    ensures { IsNext (tree_beside puzzle.now place) (tree_count puzzle.now) from result }
+{
+    let size = puzzle.size();
+    for direction in 0..4 {
+        let other = match step(size, place, direction) {
+            Some(other) => other,
+            None => continue,
+        };
+        if !is_tree(puzzle, other) {
+            continue;
+        }
+        if numbers[other] >= from {
+            return Some(numbers[other]);
+        }
+    }
+    None
+}
+
+/// Writes the places of the tents, and says how many there are.
+fn list_tents(puzzle: &TentsPuzzle, grid: &Grid, tents: &mut [usize]) -> usize
+    requires fits { IsGrid (tent_cells puzzle.now) 2 grid.now }
+    requires room { tent_cells puzzle.now ≤ length tents.old }
+    ensures listed { take result tents.new
+        ≡ filter (tent grid.now) (range_with_len 0 (tent_cells puzzle.now)) }
+    ensures few { result ≤ tent_cells puzzle.now }
+    ensures as_long { length tents.new ≡ length tents.old }
+{
+    let mut count = 0;
+    for place in 0..cells(puzzle) {
+        if grid.get(place) != 1 {
+            continue;
+        }
+        tents[count] = place;
+        count += 1;
+    }
+    count
+}
+
+/// Writes for each cell how many trees stand before it, and says how many there are.
+fn number_trees(puzzle: &TentsPuzzle, numbers: &mut [usize]) -> usize
+    requires { tent_cells puzzle.now ≤ length numbers.old }
+    ensures count { result ≡ tree_count puzzle.now }
+    ensures numbered { AreNumbered puzzle.now numbers.new }
+    ensures as_long { length numbers.new ≡ length numbers.old }
+    ensures few { result ≤ tent_cells puzzle.now }
+{
+    let mut trees = 0;
+    for place in 0..cells(puzzle) {
+        numbers[place] = trees;
+        if !is_tree(puzzle, place) {
+            continue;
+        }
+        trees += 1;
+    }
+    trees
+}
+
+/// Whether the tents can be paired one to one with the trees, by this pairing, list of tents and numbers of trees.
+fn pair(
+    puzzle: &TentsPuzzle,
+    grid: &Grid,
+    pairing: &mut Pairing,
+    tents: &mut [usize],
+    numbers: &mut [usize],
+) -> bool
+    requires fits { IsGrid (tent_cells puzzle.now) 2 grid.now }
+    requires room { tent_cells puzzle.now ≤ pairing.old.room }
+    requires tents_room { tent_cells puzzle.now ≤ length tents.old }
+    requires numbers_room { tent_cells puzzle.now ≤ length numbers.old }
+    ensures paired { result ≡ can_be_paired puzzle.now grid.now }
+    ensures room { pairing.new.room ≡ pairing.old.room }
+    ensures tents_room { length tents.new ≡ length tents.old }
+    ensures numbers_room { length numbers.new ≡ length numbers.old }
+{
+    let count = list_tents(puzzle, grid, tents);
+    let trees = number_trees(puzzle, numbers);
+    if count != trees {
+        return false;
+    }
+    let edges = TentEdges {
+        puzzle,
+        tents: &tents[..count],
+        numbers,
+        trees,
+    };
+    match pairing.run(&edges) {
+        Paired::All => true,
+        Paired::Short => false,
+    }
+}
+
+/// Whether the tents can be paired one to one with the trees so that each tent is beside its own tree.
+pub(crate) fn are_paired(puzzle: &TentsPuzzle, grid: &Grid, scratch: &mut TentScratch) -> bool
+    requires fits { IsGrid (tent_cells puzzle.now) 2 grid.now }
+    requires room { HasRoom scratch.old (tent_cells puzzle.now) }
+    ensures paired { result ≡ can_be_paired puzzle.now grid.now }
+    ensures room { (n : ℕ) → HasRoom scratch.old n → HasRoom scratch.new n }
+{
+    pair(
+        puzzle,
+        grid,
+        &mut scratch.pairing,
+        &mut scratch.tents,
+        &mut scratch.numbers,
+    )
+}

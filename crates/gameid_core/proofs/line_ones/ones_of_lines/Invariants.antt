@@ -1,7 +1,0 @@
-use Rattle.std.proofs.Common.{◌≡◌}
-use Rattle.gameid_core.specs.Lines.{ones}
-use Rattle.gameid_core.proofs.LineLaws.{lines_front}
-use Rattle.gameid_core.proofs.line_ones.ones_of_lines.Given as goal
-
-abbrev pub invariant-loop-line : goal.invariant-loop-line
-invariant-loop-line l = l.counts.items ≡ lines_front ones l.size l.grid l.line

@@ -1,7 +1,0 @@
-use Rattle.gameid_core.proofs.Reading.{exactly}
-use Rattle.gameid_core.specs.TentsText.{tents_at}
-use Rattle.gameid_core.proofs.tents_text.first_fault_of_tents.Goals as goal
-
-pub returns : goal.returns
-unfolding tents_at
-returns c = λ size at description f. exactly _ _ at _ _ f

@@ -1,0 +1,102 @@
+//! Puzzles whose printed grids can be read, and how each game reads a cell.
+ghost use Rattle.std.specs.Prelude.{◌≡◌, ◌*◌, ◌<◌, ◌≤◌, ◌==◌, ◌++◌, ◌∷◌, [], ℕ, List, Some, None, IfSome, if◌then◌else◌, length, slice_index};
+ghost use Rattle.gameid_core.specs.GridReading.{IsAsShown, Follows, hides_nothing, light_hides, tent_hides};
+
+use crate::grids::printed::Printed;
+use crate::light_up::cell::LightCell;
+use crate::light_up::puzzle::LightPuzzle;
+use crate::pattern::puzzle::PatternPuzzle;
+use crate::solo::puzzle::SoloPuzzle;
+use crate::tents::puzzle::TentsPuzzle;
+use crate::text::digits::read_number;
+
+/// A puzzle whose printed grids can be read.
+pub trait Readable: Printed {
+    // What is printed at the place shows nothing of the number there.
+    ghost hides: { Self → ℕ → Type 0 };
+
+    /// The number at a place and how many bytes are printed of it, where the text begins with that.
+    /// What is printed of a grid is always read back; the numbers of another text are any that a
+    /// grid may hold there.
+    fn read_cell(&self, text: &[u8], place: usize) -> Option<(u8, usize)>
+        requires place { place < (Self.extent self.now).w * (Self.extent self.now).h }
+        ensures range { IfSome result (λ r. r.0 < Self.value_count self.now) }
+        ensures hidden { IfSome result (λ r. hides self.now place → r.0 ≡ 0) }
+        ensures within { IfSome result (λ r. r.1 ≤ length text.now) }
+        ensures read { (g : List ℕ) (after : List ℕ)
+            → IsAsShown (hides self.now) (Self.value_count self.now) (Self.extent self.now) g
+            → Follows (Self.cell_text self.now g) (Self.extent self.now) place after
+            → text.now ≡ Self.cell_text self.now g place ++ after
+            → result ≡ Some (slice_index g place, length (Self.cell_text self.now g place)) };
+}
+
+/// Whether the text begins with the mark, as 1 or 0, and the one byte that says so.
+fn read_mark(text: &[u8], mark: u8) -> Option<(u8, usize)>
+    ensures range { IfSome result (λ r. r.0 < 2) }
+    ensures within { IfSome result (λ r. r.1 ≤ length text.now) }
+    ensures none { text.now ≡ [] → result ≡ None }
+    ensures read { (byte : ℕ) (after : List ℕ) → text.now ≡ byte ∷ after
+        → result ≡ Some ((if byte == mark then 1 else 0), 1) }
+{
+    let first = *text.first()?;
+    Some((u8::from(first == mark), 1))
+}
+
+/// A byte that shows nothing of the number at its place, which is 0.
+fn read_hidden(text: &[u8]) -> Option<(u8, usize)>
+    ensures zero { IfSome result (λ r. r.0 ≡ 0) }
+    ensures within { IfSome result (λ r. r.1 ≤ length text.now) }
+    ensures none { text.now ≡ [] → result ≡ None }
+    ensures read { 1 ≤ length text.now → result ≡ Some (0, 1) }
+{
+    if text.is_empty() { None } else { Some((0, 1)) }
+}
+
+impl Readable for PatternPuzzle {
+    ghost hides = { λ p. hides_nothing };
+
+    fn read_cell(&self, text: &[u8], _place: usize) -> Option<(u8, usize)> {
+        read_mark(text, b'#')
+    }
+}
+
+impl Readable for SoloPuzzle {
+    ghost hides = { λ p. hides_nothing };
+
+    fn read_cell(&self, text: &[u8], place: usize) -> Option<(u8, usize)> {
+        let spaces = usize::from(place % usize::from(self.n()) != 0);
+        if spaces > text.len() {
+            return None;
+        }
+        let (number, digits) = read_number(&text[spaces..])?;
+        if number == 0 || number > self.n() {
+            return None;
+        }
+        Some((number - 1, spaces + digits))
+    }
+}
+
+impl Readable for LightPuzzle {
+    ghost hides = { light_hides };
+
+    fn read_cell(&self, text: &[u8], place: usize) -> Option<(u8, usize)> {
+        let _size = self.size();
+        match self.cell(place) {
+            LightCell::White => read_mark(text, b'O'),
+            _ => read_hidden(text),
+        }
+    }
+}
+
+impl Readable for TentsPuzzle {
+    ghost hides = { tent_hides };
+
+    fn read_cell(&self, text: &[u8], place: usize) -> Option<(u8, usize)> {
+        let _size = self.size();
+        if self.tree(place) {
+            read_hidden(text)
+        } else {
+            read_mark(text, b'^')
+        }
+    }
+}

@@ -1,0 +1,105 @@
+//! Grids read from what is printed of them.
+ghost use Rattle.std.specs.Prelude.{◌≡◌, ◌+◌, ◌*◌, ◌<◌, ◌≤◌, ◌++◌, ◌⊎◌, ◌↔◌, IsTrue, ℕ, List, Some, IfOk, IfSome, MatchOption, length, slice_index};
+ghost use Rattle.gameid_core.specs.GridReading.{IsAsShown, IsReadOf, FitUpTo, AgreeUpTo, IsPrinted};
+ghost use Rattle.gameid_core.specs.GridTexts.{row_text, grid_text};
+
+use crate::grids::readable::Readable;
+use crate::grids::writer::push_grid;
+use grid_core::Grid;
+use std::alloc::{AllocError, Global};
+
+/// Reads a row into the grid: what stands after its line end, or nothing where no row of the puzzle
+/// stands there.
+fn read_row<'a, P: Readable>(
+    puzzle: &P,
+    grid: &mut Grid,
+    y: usize,
+    text: &'a [u8],
+) -> Option<&'a [u8]>
+    requires cells { length grid.old ≡ (P.extent puzzle.now).w * (P.extent puzzle.now).h }
+    requires row { y < (P.extent puzzle.now).h }
+    ensures cells { length grid.new ≡ length grid.old }
+    ensures fit { IfSome result
+        (λ rest. FitUpTo (P.hides puzzle.now) (P.value_count puzzle.now) grid.old
+        (y * (P.extent puzzle.now).w)
+        → FitUpTo (P.hides puzzle.now) (P.value_count puzzle.now) grid.new
+        ((y + 1) * (P.extent puzzle.now).w)) }
+    ensures read { (g : List ℕ) (more : List ℕ)
+        → IsAsShown (P.hides puzzle.now) (P.value_count puzzle.now) (P.extent puzzle.now) g
+        → text.now ≡ row_text (P.cell_text puzzle.now g) (P.extent puzzle.now) y ++ more
+        → AgreeUpTo grid.old g (y * (P.extent puzzle.now).w)
+        → MatchOption result ⊥ (λ rest. rest.now ≡ more)
+        × AgreeUpTo grid.new g ((y + 1) * (P.extent puzzle.now).w) }
+{
+    let w = puzzle.columns();
+    let mut rest = text;
+    for x in 0..w {
+        let (value, count) = puzzle.read_cell(rest, y * w + x)?;
+        grid.set(y * w + x, value);
+        rest = &rest[count..];
+    }
+    let (byte, more) = rest.split_first()?;
+    if *byte == b'\n' { Some(more) } else { None }
+}
+
+/// The only grid of the puzzle whose printed form the text may begin with.
+fn candidate<P: Readable>(
+    alloc: Global,
+    puzzle: &P,
+    text: &[u8],
+) -> Result<Option<Grid>, AllocError>
+    ensures shown { IfOk result (λ found. IfSome found
+        (λ g. IsAsShown (P.hides puzzle.now) (P.value_count puzzle.now) (P.extent puzzle.now) g)) }
+    ensures read { IfOk result (λ found. (g : List ℕ) (more : List ℕ)
+        → IsAsShown (P.hides puzzle.now) (P.value_count puzzle.now) (P.extent puzzle.now) g
+        → text.now ≡ grid_text (P.cell_text puzzle.now g) (P.extent puzzle.now) ++ more
+        → found ≡ Some g) }
+{
+    let mut grid = Grid::new(alloc, puzzle.columns() * puzzle.rows())?;
+    let mut rest = text;
+    for y in 0..puzzle.rows() {
+        match read_row(puzzle, &mut grid, y, rest) {
+            Some(more) => rest = more,
+            None => return Ok(None),
+        }
+    }
+    Ok(Some(grid))
+}
+
+/// Whether the printed form is one of the two texts.
+fn is_either(first: &[u8], second: &[u8], printed: &[u8]) -> bool
+    ensures { IsTrue result ↔ ((first.now ≡ printed.now) ⊎ (second.now ≡ printed.now)) }
+{
+    first == printed || second == printed
+}
+
+/// The one grid of the puzzle whose printed form the text is, with or without the last line end;
+/// nothing where the text is no grid's. The grid has a number for each cell, by place, and 0 where
+/// nothing is shown of the number.
+///
+/// # Errors
+///
+/// When memory was refused.
+pub fn read_grid<P: Readable>(
+    alloc: Global,
+    puzzle: &P,
+    mut text: Vec<u8>,
+) -> Result<Option<Grid>, AllocError>
+    ensures { IfOk result
+        (λ found. IsReadOf (P.hides puzzle.now) (P.value_count puzzle.now) (P.extent puzzle.now)
+        (λ g. IsPrinted text.items
+        (grid_text (P.cell_text puzzle.now g) (P.extent puzzle.now))) found) }
+{
+    let length = text.len();
+    text.push(b'\n')?;
+    let Some(grid) = candidate(alloc, puzzle, &text)? else {
+        return Ok(None);
+    };
+    let mut printed = String::new(alloc);
+    push_grid(&mut printed, puzzle, &grid)?;
+    if is_either(&text[..length], &text, printed.as_bytes()) {
+        Ok(Some(grid))
+    } else {
+        Ok(None)
+    }
+}

@@ -1,0 +1,6 @@
+//! Light Up: its puzzles, and its game IDs.
+
+pub(crate) mod cell;
+pub(crate) mod puzzle;
+pub(crate) mod reader;
+pub(crate) mod writer;

@@ -1,0 +1,104 @@
+//! The puzzles of Pattern.
+
+ghost use Rattle.std.specs.Prelude.{◌≡◌, ◌<◌, ◌+◌, ◌*◌, ℕ, length, [], map, slice_index, slice_index_or, IfOk};
+ghost use Rattle.grid_core.specs.Grids.{IsGrid, row_cells, column_cells};
+ghost use Rattle.gameid_core.specs.BlackRuns.{runs};
+ghost use Rattle.gameid_core.specs.Puzzles.{Pattern, IsPattern, lines_of, pattern_puzzle};
+
+use crate::lines::black_runs::runs_of_lines;
+use grid_core::{Grid, Size};
+use std::alloc::{AllocError, Global};
+use std::marker::Model;
+
+/// The size of a grid, and a clue for each of its columns and rows.
+#[derive(Debug, Drop)]
+pub struct PatternPuzzle {
+    size: Size,
+    clues: Vec<Vec<u8>>,
+}
+
+impl Model for PatternPuzzle {
+    ghost use Rattle.std.specs.Prelude.{map};
+    ghost use Rattle.gameid_core.specs.Puzzles.{Pattern, IsPattern, pattern_puzzle};
+
+    ghost Value = { Pattern };
+
+    ghost view = { λ p. pattern_puzzle p.size (map (λ c. c.items) p.clues.items) };
+
+    ghost invariant = { λ p. IsPattern (pattern_puzzle p.size (map (λ c. c.items) p.clues.items)) };
+}
+
+impl PatternPuzzle {
+    /// The puzzle of that size whose columns from the left, and then rows from the top, have these
+    /// clues.
+    pub(crate) fn of_clues(size: Size, clues: Vec<Vec<u8>>) -> PatternPuzzle
+        requires { IsPattern (pattern_puzzle size (map (λ clue. clue.items) clues.items)) }
+        ensures { result ≡ pattern_puzzle size (map (λ clue. clue.items) clues.items) }
+    {
+        PatternPuzzle { size, clues }
+    }
+
+    /// The puzzle of that size whose clues are the runs of the grid's lines: the clue of each
+    /// column is its runs downwards, and the clue of each row its runs rightwards. The grid has 0
+    /// for white and 1 for black.
+    ///
+    /// # Errors
+    ///
+    /// When memory was refused.
+    pub fn of_grid(alloc: Global, size: Size, grid: &Grid) -> Result<PatternPuzzle, AllocError>
+        requires { IsGrid (size.w * size.h) 2 grid.now }
+        ensures size { IfOk result (λ p. p.size ≡ size) }
+        ensures columns { IfOk result (λ p. (x : ℕ) → x < size.w
+            → slice_index_or p.clues x [] ≡ runs (column_cells size grid.now x)) }
+        ensures rows { IfOk result (λ p. (y : ℕ) → y < size.h
+            → slice_index_or p.clues (size.w + y) [] ≡ runs (row_cells size grid.now y)) }
+    {
+        let clues = runs_of_lines(alloc, size, grid)?;
+        Ok(PatternPuzzle { size, clues })
+    }
+
+    /// The size of the grid.
+    pub fn size(&self) -> Size
+        ensures value { result ≡ self.now.size }
+        ensures lawful { IsPattern self.now }
+    {
+        self.size
+    }
+
+    /// How many numbers a line's clue has. Lines are the columns from the left, and then the rows
+    /// from the top.
+    pub fn clue_len(&self, line: usize) -> usize
+        requires { line < lines_of self.now.size }
+        ensures value { result ≡ length (slice_index_or self.now.clues line []) }
+        ensures lawful { IsPattern self.now }
+    {
+        self.clues[line].len()
+    }
+
+    /// The k-th number of a line's clue, from 0: the length of the k-th black run, downwards or
+    /// rightwards.
+    pub fn clue(&self, line: usize, k: usize) -> u8
+        requires line { line < lines_of self.now.size }
+        requires number { k < length (slice_index_or self.now.clues line []) }
+        ensures { result ≡ slice_index (slice_index_or self.now.clues line []) k }
+    {
+        self.clues[line][k]
+    }
+
+    /// How many lines there are.
+    pub(crate) fn lines(&self) -> usize
+        ensures value { result ≡ length self.now.clues }
+        ensures lawful { IsPattern self.now }
+    {
+        self.clues.len()
+    }
+
+    /// A line's clue: the lengths of its black runs, downwards or rightwards. Lines are the columns
+    /// from the left, and then the rows from the top.
+    pub fn line(&self, line: usize) -> &[u8]
+        requires { line < length self.now.clues }
+        ensures { result.now ≡ slice_index_or self.now.clues line [] }
+    {
+        &self.clues[line]
+    }
+}

@@ -1,0 +1,206 @@
+//! Game IDs of Pattern.
+
+ghost use Rattle.std.specs.Prelude.{◌≡◌, ◌↔◌, ℕ, ◌<◌, ◌≤◌, ◌+◌, ◌^◌, [], ◌∷◌, length, map, IfOk, IfErr, Ok, Err, List, ◌⊎◌};
+ghost use Rattle.gameid_core.specs.Steps.{Gives, Fails};
+ghost use Rattle.gameid_core.specs.Head.{head_of};
+ghost use Rattle.gameid_core.specs.declared.id.fault.IdFault.{IdFault};
+ghost use Rattle.gameid_core.specs.Puzzles.{used as used_cells};
+ghost use Rattle.gameid_core.specs.Puzzles.{Pattern};
+ghost use Rattle.gameid_core.specs.PatternText.{SpellsPattern, pattern_of, GivesNumber, clue_number, clue_token, clues_at, pattern_step, pattern_end, nothing_yet};
+ghost use Rattle.gameid_core.specs.Words.{digits_front, after_digits, words};
+ghost use Rattle.gameid_core.specs.FirstFault.{FirstFault};
+ghost use Rattle.gameid_core.specs.OneText.{HasOneReading};
+ghost use Rattle.gameid_core.specs.FirstTokens.{TakesNumber};
+ghost use Rattle.grid_core.specs.Extent.{Extent};
+
+use crate::id::fault::IdFault;
+use crate::id::game::Game;
+use crate::id::head::read_head;
+use crate::lines::places::{cells_of, lines};
+use crate::pattern::puzzle::PatternPuzzle;
+use crate::text::number::{first_of, leading_number, starts_with_digit};
+use grid_core::Size;
+use std::alloc::Global;
+
+/// The number of a clue, whose digits stand in front of the text, and the text after it.
+#[tactic(auto, unfolding(crate::specs::PatternText::clue_number))]
+fn number(
+    cells: u8,
+    line: usize,
+    before: u32,
+    at: usize,
+    digits: &[u8],
+) -> Result<(u8, &[u8]), IdFault>
+    requires { before ≤ 1000 }
+    ensures { GivesNumber (clue_number cells line before at (digits_front digits.now))
+        (after_digits digits.now) result }
+{
+    let (number, rest) = leading_number(digits);
+    if number == 0 {
+        return Err(IdFault::NumberRange(at));
+    }
+    if before + number > u32::from(cells) {
+        return Err(IdFault::LineTooFull(line));
+    }
+    Ok((number as u8, rest))
+}
+
+/// The first number of a clue, and the text after it.
+#[tactic(auto, using(crate::proofs::PatternReading::firsts))]
+fn first_number(cells: u8, line: usize, at: usize, rest: &[u8]) -> Result<(u8, &[u8]), IdFault>
+    requires { 0 < length rest.now }
+    ensures { TakesNumber (clue_token cells line [] at) rest.now result }
+{
+    if starts_with_digit(rest) {
+        number(cells, line, 0, at, rest)
+    } else {
+        Err(IdFault::BadByte(at))
+    }
+}
+
+/// A line's clue as far as it is read, and the cells that its numbers use, with a gap behind each.
+#[derive(Drop)]
+struct ClueSoFar<'a> {
+    cells: u8,
+    line: usize,
+    numbers: &'a [u8],
+    before: u32,
+}
+
+/// A further number of a clue, and the text after it.
+fn further_number<'a>(
+    clue: &ClueSoFar<'_>,
+    at: usize,
+    first: u8,
+    after: &'a [u8],
+) -> Result<(u8, &'a [u8]), IdFault>
+    requires some { 0 < length clue.now.numbers.now }
+    requires used { clue.now.before ≡ used_cells clue.now.numbers.now }
+    requires small { clue.now.before ≤ 1000 }
+    requires place { at < 2 ^ 32 }
+    ensures { TakesNumber (clue_token clue.now.cells clue.now.line clue.now.numbers.now at)
+        (first ∷ after.now) result }
+{
+    if first != b'.' {
+        return Err(IdFault::BadByte(at));
+    }
+    if !starts_with_digit(after) {
+        return Err(IdFault::BadByte(at));
+    }
+    number(clue.cells, clue.line, clue.before, at + 1, after)
+}
+
+/// The number that comes next in a clue, and the text after it.
+fn next_number<'a>(
+    clue: &ClueSoFar<'_>,
+    at: usize,
+    first: u8,
+    after: &'a [u8],
+    rest: &'a [u8],
+) -> Result<(u8, &'a [u8]), IdFault>
+    requires text { rest.now ≡ first ∷ after.now }
+    requires used { clue.now.before ≡ used_cells clue.now.numbers.now }
+    requires small { clue.now.before ≤ 1000 }
+    requires place { at < 2 ^ 32 }
+    ensures { TakesNumber (clue_token clue.now.cells clue.now.line clue.now.numbers.now at)
+        rest.now result }
+{
+    if clue.numbers.is_empty() {
+        first_number(clue.cells, clue.line, at, rest)
+    } else {
+        further_number(clue, at, first, after)
+    }
+}
+
+/// The clues of a description, which begins at that place of the ID.
+fn clues(
+    alloc: Global,
+    size: Size,
+    base: usize,
+    description: &[u8],
+) -> Result<Vec<Vec<u8>>, IdFault>
+    requires { base + length description.now < 2 ^ 32 }
+    ensures { Gives (λ v. map (λ clue. clue.items) v.items) result
+        (clues_at size base description.now) }
+{
+    let lines = lines(size);
+    let mut clues = Vec::with_capacity(alloc, lines)?;
+    let mut clue = Vec::new(alloc);
+    let mut before = 0;
+    let mut rest = description;
+    while let Some((first, after)) = first_of(rest) {
+        let line = clues.len();
+        if first == b'/' {
+            if line + 1 == lines {
+                return Err(IdFault::TooMany);
+            }
+            clues.push(clue)?;
+            clue = Vec::new(alloc);
+            before = 0;
+            rest = after;
+        } else {
+            let at = base + (description.len() - rest.len());
+            let cells = cells_of(size, line);
+            let so_far = ClueSoFar {
+                cells,
+                line,
+                numbers: &clue,
+                before,
+            };
+            let (number, after) = next_number(&so_far, at, first, after, rest)?;
+            clue.push(number)?;
+            before += u32::from(number) + 1;
+            rest = after;
+        }
+    }
+    if clues.len() + 1 != lines {
+        return Err(IdFault::TooFew);
+    }
+    clues.push(clue)?;
+    Ok(clues)
+}
+
+/// The puzzle that the text spells, or its first fault, as reading gives it.
+#[tactic(auto, unfolding(crate::specs::PatternText::pattern_of))]
+fn read(alloc: Global, text: &[u8]) -> Result<PatternPuzzle, IdFault>
+    ensures exact { Gives (λ p. p) result (pattern_of text.now) }
+    ensures head { (f : IdFault) → head_of Game.Pattern text.now ≡ Err f → result ≡ Err f }
+{
+    let head = read_head(Game::Pattern, text)?;
+    let size = Size::new(head.w, head.h).unwrap();
+    let clues = clues(alloc, size, head.description, &text[head.description..])?;
+    Ok(PatternPuzzle::of_clues(size, clues))
+}
+
+/// The puzzle that the ID spells.
+///
+/// The description is the one that Pattern of Simon Tatham's Portable Puzzle Collection writes: a
+/// clue for each column from the left and then for each row from the top, with `/` between two
+/// clues; a clue is empty, or the lengths of the line's black runs with `.` between two of them.
+///
+/// # Errors
+///
+/// The ID's first fault, as [`read_solo`](crate::read_solo) tells it.
+#[tactic(auto, using(crate::proofs::PatternTexts::pattern_takes))]
+pub fn read_pattern(alloc: Global, text: &[u8]) -> Result<PatternPuzzle, IdFault>
+    ensures found { IfOk result (λ p. SpellsPattern text.now p) }
+    ensures only { (p : Pattern) → SpellsPattern text.now p → Gives (λ q. q) result (Ok p) }
+    ensures fault { IfErr result (λ f. Fails f (pattern_of text.now)) }
+    ensures head { (f : IdFault) → head_of Game.Pattern text.now ≡ Err f → result ≡ Err f }
+{
+    read(alloc, text)
+}
+
+/// Each text spells exactly one puzzle of Pattern or has exactly one fault, and never both.
+#[tactic(auto, using(crate::proofs::PatternTexts::pattern_reading))]
+pub fn one_reading_of_pattern()
+    ensures { HasOneReading SpellsPattern pattern_of }
+{}
+
+/// The fault of a description of Pattern is that of its first token with one, or of its end, after
+/// tokens without fault.
+pub fn first_fault_of_pattern()
+    ensures { (size : Extent) (at : ℕ) (description : List ℕ) (f : IdFault)
+        → (clues_at size at description ≡ Err f)
+        ↔ FirstFault (pattern_step size) (pattern_end size) at nothing_yet (words description) f }
+{}

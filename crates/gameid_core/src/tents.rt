@@ -1,0 +1,5 @@
+//! Tents: its puzzles, and its game IDs.
+
+pub(crate) mod puzzle;
+pub(crate) mod reader;
+pub(crate) mod writer;

@@ -1,0 +1,6 @@
+use Rattle.maker_core.specs.LightFilling.{numbered_cell}
+use Rattle.maker_core.proofs.LightCells.{IsRewritten, old_cell}
+use Rattle.maker_core.proofs.light_up.filling.number_cells.Given as goal
+
+abbrev pub invariant-loop-place : goal.invariant-loop-place
+invariant-loop-place l = IsRewritten l.fn.puzzle.size (numbered_cell l.fn.puzzle l.fn.grid) (old_cell l.fn.puzzle) l.place l.puzzle

@@ -1,0 +1,9 @@
+use Rattle.std.proofs.Common.{◌≡◌, ℕ, ◌<◌, length, slice_index}
+use Rattle.maker_core.specs.Flips.{flipped}
+use Rattle.maker_core.proofs.solo.flip.flip.Given as goal
+
+abbrev pub invariant-loop-place : goal.invariant-loop-place
+invariant-loop-place l = record {
+  long : length l.turned ≡ length l.grid;
+  same : (k : ℕ) → k < l.place → slice_index l.turned k ≡ slice_index (flipped l.n l.across l.down l.grid) k;
+}

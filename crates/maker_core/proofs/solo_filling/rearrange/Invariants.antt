@@ -1,9 +1,0 @@
-use Rattle.std.proofs.Common.{◌≡◌, ◌*◌, ℕ, ◌<◌, length, slice_index}
-use Rattle.maker_core.specs.SoloFilling.{rearranged}
-use Rattle.maker_core.proofs.solo_filling.rearrange.Given as goal
-
-abbrev pub invariant-loop-place : goal.invariant-loop-place
-invariant-loop-place l = record {
-  long : length l.grid ≡ (l.c * l.r) * (l.c * l.r);
-  same : (k : ℕ) → k < l.place → slice_index l.grid k ≡ slice_index (rearranged l.c l.r l.numbers l.rows l.columns) k;
-}

@@ -1,5 +1,0 @@
-use Rattle.maker_core.proofs.TentCamps.{filled}
-use Rattle.maker_core.proofs.tent_filling.fill_tents.Goals as goal
-
-pub returns-clause-drawn : goal.returns-clause-drawn
-returns-clause-drawn g c = filled c.args.size _ _ _ _ _ _ _ c.cells-cells.ensures.value c.in_ok-places.ensures.drawn c.deref.ensures.value c.in_ok-take_cells.ensures.drawn

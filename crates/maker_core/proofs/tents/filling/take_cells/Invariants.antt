@@ -1,0 +1,12 @@
+use Rattle.std.proofs.Common.{◌≡◌}
+use Rattle.rand_core.specs.Stream.{Stream}
+use Rattle.maker_core.specs.declared.tents.camp.Camp.{Camp}
+use Rattle.maker_core.specs.TentFilling.{camp_after}
+use Rattle.maker_core.proofs.TentsSolved.{IsCamp}
+use Rattle.maker_core.proofs.tents.filling.take_cells.Given as goal
+
+abbrev pub invariant-loop-k : goal.invariant-loop-k
+invariant-loop-k g l = record {
+  drawn : ◌≡◌ {A = Camp × Stream} (l.camp, g.G.Rng.stream l.rng) (camp_after l.fn.size l.fn.order l.k (g.G.Rng.stream l.fn.rng));
+  camp : IsCamp l.fn.size l.fn.order l.k l.camp;
+}

@@ -1,8 +1,0 @@
-use Rattle.std.proofs.Common.{◌≡◌}
-use Rattle.std.specs.Prelude.{filter}
-use Rattle.std.specs.List.{range_with_len}
-use Rattle.maker_core.specs.Thinning.{has_clue}
-use Rattle.maker_core.proofs.thin.clue_list.Given as goal
-
-abbrev pub invariant-loop-place : goal.invariant-loop-place
-invariant-loop-place g l = l.places.items ≡ filter (has_clue g.P.Clued.game l.puzzle) (range_with_len 0 l.place)

@@ -1,0 +1,6 @@
+use Rattle.std.proofs.Common.{◌≡◌, take}
+use Rattle.maker_core.specs.ThinningSteps.{reasons_from}
+use Rattle.maker_core.proofs.thinning.thin.reasons.Given as goal
+
+abbrev pub invariant-loop-place : goal.invariant-loop-place
+invariant-loop-place l = l.kept.items ≡ reasons_from 0 (take l.place l.whys)

@@ -1,0 +1,5 @@
+//! Making puzzles of Light Up.
+
+pub(crate) mod clues;
+pub(crate) mod filling;
+pub(crate) mod maker;

@@ -1,0 +1,50 @@
+//! The clues of Light Up: the numbers of black cells.
+#![tactic(auto, using(crate::proofs::WrittenGrids::set_back, crate::specs::LightCluesLaws::numbered_is))]
+
+use crate::thinning::clued::Clued;
+use fields_core::LightRules;
+use gameid_core::{LightCell, LightPuzzle};
+use std::alloc::{AllocError, Global};
+
+impl Clued for LightPuzzle {
+    ghost use Rattle.std.specs.Prelude.{◌≤◌};
+    ghost use Rattle.fields_core.specs.LightHouses.{light_rules};
+    ghost use Rattle.maker_core.specs.LightClues.{light_game};
+    ghost use Rattle.maker_core.specs.LightCluesLaws.{light_is_game};
+
+    type Search = LightRules;
+
+    ghost game = { light_game };
+
+    ghost meaning = { λ search. light_rules search.light };
+
+    ghost can_be_clue = { λ p n. n ≤ 4 };
+
+    ghost lawful = { light_is_game };
+
+    fn cells(&self) -> usize {
+        self.size().cells()
+    }
+
+    fn has_clue(&self, place: usize) -> bool {
+        matches!(self.cell(place), LightCell::Numbered(_))
+    }
+
+    fn take_clue(&mut self, place: usize) -> u8 {
+        match self.cell(place) {
+            LightCell::Numbered(clue) => {
+                self.set_cell(place, LightCell::Black);
+                clue
+            }
+            LightCell::White | LightCell::Black => unreachable!(),
+        }
+    }
+
+    fn put_clue(&mut self, place: usize, clue: u8) {
+        self.set_cell(place, LightCell::Numbered(clue));
+    }
+
+    fn search(&self, alloc: Global) -> Result<LightRules, AllocError> {
+        LightRules::new(alloc, self)
+    }
+}

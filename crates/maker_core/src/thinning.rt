@@ -1,0 +1,5 @@
+//! Taking clues away while one solution is left.
+
+pub(crate) mod clued;
+pub(crate) mod thin;
+pub(crate) mod unique;

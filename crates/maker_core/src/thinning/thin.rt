@@ -1,0 +1,153 @@
+//! Taking clues away while the puzzle keeps its one solution.
+
+ghost use Rattle.std.specs.Prelude.{◌≡◌, ◌<◌, [], IfOk, OnOk, IsTrue, IsPermutation};
+ghost use Rattle.engine_core.specs.Puzzle.{FitsIn, needs_of};
+ghost use Rattle.maker_core.specs.Thinning.{has_clue, clue_places, shuffled_clues, stream_after_clues, IsThinnedFrom, IsOnly, HasReasons};
+ghost use Rattle.maker_core.specs.Draws.{AreDrawnBy};
+ghost use Rattle.maker_core.specs.Made.{HasOne, TellsOne};
+ghost use Rattle.maker_core.specs.ThinningSteps.{IsLeft, IsAsked, IsThinning, reasons_from};
+
+use crate::draws::shuffle;
+use crate::made::{Kept, Made, Why};
+use crate::thinning::clued::Clued;
+use engine_core::{Rules, Store, Verdict};
+use grid_core::Grid;
+use rand_core::Rng;
+use std::alloc::{AllocError, Global};
+
+/// Takes the clues of a puzzle with all clues away, one after the other in an order that is drawn, and leaves those
+/// without which the search finds more solutions than the answer or gives up.
+///
+/// # Errors
+///
+/// When memory was refused.
+pub(crate) fn thin<P: Clued, G: Rng>(
+    alloc: Global,
+    puzzle: P,
+    answer: Grid,
+    rng: &mut G,
+    budget: u64,
+) -> Result<Made<P>, AllocError>
+where
+    P::Search: Rules,
+    requires means { (rules : P.Search) → P.Search.puzzle rules ≡ P.meaning rules }
+    requires all { puzzle ≡ P.game.all_clues puzzle answer }
+    requires only { IsOnly (P.game.rules puzzle) answer }
+    requires found { TellsOne (P.game.rules puzzle) budget answer }
+    ensures drawn { OnOk result
+        (G.stream rng.new ≡ stream_after_clues P.game puzzle (G.stream rng.old)) }
+    ensures answer { IfOk result (λ made. made.answer ≡ answer) }
+    ensures within { IfOk result (λ made. IsThinnedFrom P.game made.puzzle puzzle) }
+    ensures only { IfOk result (λ made. IsOnly (P.game.rules made.puzzle) answer) }
+    ensures found { IfOk result (λ made. TellsOne (P.game.rules made.puzzle) budget answer) }
+    ensures reasons { IfOk result (HasReasons P.game budget answer) }
+{
+    let mut puzzle = puzzle;
+    let rules = puzzle.search(alloc)?;
+    let mut store = Store::new(alloc, &rules)?;
+    let order = shuffled_clues(alloc, &puzzle, rng)?;
+    let mut whys = vec![in alloc; None; puzzle.cells()]?;
+    try_clues(alloc, &mut puzzle, &mut store, &order, &mut whys, budget)?;
+    let kept = reasons(alloc, &whys)?;
+    Ok(Made {
+        puzzle,
+        answer,
+        kept,
+    })
+}
+
+/// The cells that have a clue, by place.
+#[tactic(auto, using(crate::proofs::FilteredRanges::filter_kept, crate::proofs::FilteredRanges::filter_skipped))]
+fn clue_list<P: Clued>(alloc: Global, puzzle: &P) -> Result<Vec<usize>, AllocError>
+    ensures { IfOk result (λ places. places.items ≡ clue_places P.game puzzle.now) }
+{
+    let mut places = Vec::new(alloc);
+    for place in 0..puzzle.cells() {
+        if puzzle.has_clue(place) {
+            places.push(place)?;
+        }
+    }
+    Ok(places)
+}
+
+/// The cells that have a clue, in an order that is drawn.
+fn shuffled_clues<P: Clued, G: Rng>(
+    alloc: Global,
+    puzzle: &P,
+    rng: &mut G,
+) -> Result<Vec<usize>, AllocError>
+    ensures drawn { IfOk result
+        (AreDrawnBy (shuffled_clues P.game puzzle.now) G.stream rng.old rng.new) }
+    ensures permutation { IfOk result
+        (λ order. IsPermutation (clue_places P.game puzzle.now) order.items) }
+{
+    let mut order = clue_list(alloc, puzzle)?;
+    shuffle(rng, &mut order);
+    Ok(order)
+}
+
+/// Tries each clue of the list once, and writes at its cell why it stays, if it does.
+fn try_clues<P: Clued>(
+    alloc: Global,
+    puzzle: &mut P,
+    store: &mut Store<P::Search>,
+    order: &[usize],
+    whys: &mut [Option<Why>],
+    budget: u64,
+) -> Result<(), AllocError>
+where
+    P::Search: Rules,
+    requires means { (rules : P.Search) → P.Search.puzzle rules ≡ P.meaning rules }
+    requires fits { FitsIn (needs_of (P.game.rules puzzle.old)) store.old.made }
+    requires start { IsThinning P.game budget puzzle.old puzzle.old whys.old order.now }
+    ensures { OnOk result (IsThinning P.game budget puzzle.old puzzle.new whys.new []) }
+{
+    for &place in order {
+        whys[place] = try_clue(alloc, puzzle, store, place, budget)?;
+    }
+    Ok(())
+}
+
+/// Takes a clue away for good where the puzzle without it has one solution still; else leaves it and says why.
+fn try_clue<P: Clued>(
+    alloc: Global,
+    puzzle: &mut P,
+    store: &mut Store<P::Search>,
+    place: usize,
+    budget: u64,
+) -> Result<Option<Why>, AllocError>
+where
+    P::Search: Rules,
+    requires means { (rules : P.Search) → P.Search.puzzle rules ≡ P.meaning rules }
+    requires clue { IsTrue (has_clue P.game puzzle.old place) }
+    requires one { HasOne (P.game.rules puzzle.old) budget }
+    requires fits { FitsIn (needs_of (P.game.rules puzzle.old)) store.old.made }
+    ensures left { IfOk result (λ why. IsLeft P.game place puzzle.old puzzle.new why) }
+    ensures asked { IfOk result (λ why. IsAsked P.game budget place puzzle.old why) }
+    ensures made { store.new.made ≡ store.old.made }
+{
+    let clue = puzzle.take_clue(place);
+    let rules = puzzle.search(alloc)?;
+    let why = match store.solve(&rules, budget) {
+        Verdict::One => return Ok(None),
+        Verdict::Several => Why::Needed,
+        Verdict::GaveUp { .. } => Why::Budget,
+        Verdict::None => unreachable!(),
+    };
+    puzzle.put_clue(place, clue);
+    Ok(Some(why))
+}
+
+/// The reasons that were written, by place.
+#[tactic(auto, unfolding(crate::specs::ThinningSteps::reasons_from))]
+fn reasons(alloc: Global, whys: &[Option<Why>]) -> Result<Vec<Kept>, AllocError>
+    ensures { IfOk result (λ kept. kept.items ≡ reasons_from 0 whys.now) }
+{
+    let mut kept = Vec::new(alloc);
+    for place in 0..whys.len() {
+        if let Some(why) = whys[place] {
+            kept.push(Kept { place, why })?;
+        }
+    }
+    Ok(kept)
+}

@@ -1,9 +1,0 @@
-use Rattle.std.proofs.Common.{not}
-use Rattle.engine_core.specs.Puzzle.{has_place}
-use Rattle.solo_core.specs.declared.solo_house.SoloHouse.TheVariants.{Block}
-use Rattle.solo_core.specs.Houses.{places_of}
-use Rattle.solo_core.proofs.CrossedLemmas.{IsRest}
-use Rattle.solo_core.proofs.crossings.push_rest.Given as goal
-
-abbrev pub invariant-loop-k : goal.invariant-loop-k
-invariant-loop-k l = IsRest (λ c. not (has_place (places_of l.puzzle (Block l.block)) c)) l.fn.list (places_of l.puzzle l.line) l.k l.list

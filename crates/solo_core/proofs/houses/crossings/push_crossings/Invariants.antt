@@ -1,0 +1,7 @@
+use Rattle.std.proofs.Common.{◌≡◌, ◌++◌, [], take}
+use Rattle.solo_core.specs.RuleSets.{crossings_of}
+use Rattle.solo_core.specs.Work.{all_places}
+use Rattle.solo_core.proofs.houses.crossings.push_crossings.Given as goal
+
+abbrev pub invariant-loop-number : goal.invariant-loop-number
+invariant-loop-number l = l.list ≡ record { closed = l.fn.list.closed ++ take l.number (all_places (crossings_of l.puzzle)); begun = [] }

@@ -1,0 +1,11 @@
+use Rattle.std.proofs.Common.{◌≡◌, ℕ, ◌<◌, ◌≤◌, false, slice_index}
+use Rattle.engine_core.specs.Sets.{has_bit}
+use Rattle.solo_core.specs.declared.houses.house.SoloHouse.TheVariants.{Block}
+use Rattle.solo_core.specs.Houses.{lies_in, places_of}
+use Rattle.solo_core.proofs.houses.crossings.shared.Given as goal
+
+abbrev pub invariant-loop-k : goal.invariant-loop-k
+invariant-loop-k l = record {
+  below : (j : ℕ) → j < l.k → has_bit l.bits j ≡ lies_in l.puzzle l.line (slice_index (places_of l.puzzle (Block l.block)) j);
+  above : (j : ℕ) → l.k ≤ j → has_bit l.bits j ≡ false;
+}

@@ -1,0 +1,11 @@
+use Rattle.std.proofs.Common.{arith}
+use Rattle.solo_core.specs.Houses.{house_places}
+use Rattle.solo_core.proofs.HouseLemmas.{listed-more, places-at, places-length}
+use Rattle.solo_core.proofs.houses.places.push_houses.Goals as goal
+
+pub loop-number-preserved : goal.loop-number-preserved
+loop-number-preserved c =
+    let p = c.args.puzzle.now in
+    let e = c.houses-number-end.ensures.value in
+    listed-more c.loop-number.list c.close.new.self _ (house_places p) c.loop-number.number _ (omega (arith, places-length p)) (places-at p c.loop-number.number c.house.result (omega arith) (c.house.ensures.at c.house.result))
+    c.loop-number.invariant (rw c.in_ok-push_places.ensures at c.in_ok-close.ensures)

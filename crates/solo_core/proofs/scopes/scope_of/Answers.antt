@@ -1,7 +1,0 @@
-use Rattle.std.proofs.Common.{◌∙◌, sym, ap, arith}
-use Rattle.solo_core.specs.declared.solo_scope.SoloScope.TheVariants as scope
-use Rattle.solo_core.proofs.ScopeLemmas.{house-named}
-use Rattle.solo_core.proofs.scopes.scope_of.Goals as goal
-
-pub returns-then-number-count : goal.returns-then-number-count
-returns-then-number-count c = λ other. ap scope.House (c.house.ensures.at c.house.result) ∙ sym (house-named c.args.puzzle.now c.args.number other c.house.result (omega arith))

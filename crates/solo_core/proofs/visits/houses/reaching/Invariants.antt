@@ -1,0 +1,14 @@
+use Rattle.std.proofs.Common.{◌≤◌, ◌-◌}
+use Rattle.engine_core.specs.Sets.{has_bit}
+use Rattle.solo_core.specs.Deciding.{has_in}
+use Rattle.solo_core.proofs.KeptBits.{AreKept}
+use Rattle.solo_core.proofs.visits.houses.reaching.Given as goal
+
+abbrev pub invariant-loop-value : goal.invariant-loop-value
+invariant-loop-value l = record {
+  within : l.from ≤ l.values;
+  kept : AreKept (has_bit l.kept) (has_bit l.set) (λ v. has_in l.reach v l.own) l.from;
+}
+
+abbrev pub decreases-loop-value : goal.decreases-loop-value
+decreases-loop-value l = l.values - l.from

@@ -1,0 +1,9 @@
+use Rattle.std.proofs.Common.{◌≡◌, length, slice_index}
+use Rattle.solo_core.specs.Quick.{IsBegun}
+use Rattle.solo_core.proofs.visits.quick.pair_quickly.Given as goal
+
+abbrev pub invariant-loop-i : goal.invariant-loop-i
+invariant-loop-i l = record {
+  as_many : length l.mates ≡ length l.fn.mates;
+  begun : IsBegun l.joined.values l.joined.sets.now l.joined.rest.now l.i (slice_index l.mates) l.free;
+}

@@ -1,0 +1,28 @@
+use Rattle.std.proofs.Common.{◌≡◌, ℕ, List, length, slice_index, slice_set, refl, sym, ap, ◌∙◌, subst, arith}
+use Rattle.std.proofs.lemmas.List.{get_or-set_other, length-set}
+use Rattle.std.proofs.lemmas.Grind.{get_or-set_at}
+use Rattle.engine_core.specs.Sets.{has_bit}
+use Rattle.engine_core.proofs.BitLemmas.{bits-both}
+use Rattle.solo_core.specs.Quick.{IsBegun}
+use Rattle.solo_core.proofs.QuickLemmas.{goes_on_swapped}
+use Rattle.solo_core.proofs.visits.quick.swap.Goals as goal
+
+pub returns-in-Some-clause-on : goal.returns-in-Some-clause-on
+returns-in-Some-clause-on c =
+    let n = c.args.joined.now.values in
+    let sets = c.args.joined.now.sets.now in
+    let rest = c.args.joined.now.rest.now in
+    let mates = c.loop-j.mates in
+    let k = c.args.i in
+    let j = c.loop-j.j in
+    let v = c.in-Some.value in
+    let at = c.in-Some.ensures in
+    let b = subst (λ (xs : List ℕ). IsBegun n sets rest k (slice_index xs) c.args.free) (sym c.loop-j.invariant) c.requires.begun in
+    let first = slice_set mates k (slice_index mates j) in
+    let long : length first ≡ length mates = length-set mates k (slice_index mates j) in
+    goes_on_swapped n sets rest k (slice_index mates) c.args.free v j b (omega arith) (omega (arith, at.1)) (grind (arith, bits-both, at.2)) (grind (arith, bits-both, at.2))
+    (slice_index (slice_set first j v))
+    (get_or-set_other first j k v 0 (λ e. absurd (omega arith)) ∙ get_or-set_at mates k k (slice_index mates j) 0 refl (omega arith))
+    (get_or-set_at first j j v 0 refl (omega (arith, long)))
+    (λ l lt ne. get_or-set_other first j l v 0 ne ∙ get_or-set_other mates k l (slice_index mates j) 0 (λ e. absurd (omega arith)))
+    (ap (λ (s : ℕ). has_bit s (slice_index mates j)) (sym c.set-set.ensures) ∙ sym c.has_bit.ensures ∙ c.if-not-has_bit.false)

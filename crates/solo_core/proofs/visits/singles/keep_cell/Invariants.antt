@@ -1,0 +1,10 @@
+use Rattle.std.proofs.Common.{◌≡◌, ℕ, ◌<◌, ◌≤◌, false}
+use Rattle.engine_core.specs.Sets.{has_bit}
+use Rattle.solo_core.specs.Singles.{stays_in}
+use Rattle.solo_core.proofs.visits.singles.keep_cell.Given as goal
+
+abbrev pub invariant-loop-value : goal.invariant-loop-value
+invariant-loop-value l = record {
+  below : (v : ℕ) → v < l.value → has_bit l.kept v ≡ stays_in l.values l.sets l.place v;
+  above : (v : ℕ) → l.value ≤ v → has_bit l.kept v ≡ false;
+}

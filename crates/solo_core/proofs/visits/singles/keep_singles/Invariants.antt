@@ -1,0 +1,10 @@
+use Rattle.std.proofs.Common.{◌≡◌, ℕ, ◌<◌, length, slice_index}
+use Rattle.engine_core.specs.Sets.{has_bit}
+use Rattle.solo_core.specs.Singles.{stays_in}
+use Rattle.solo_core.proofs.visits.singles.keep_singles.Given as goal
+
+abbrev pub invariant-loop-place : goal.invariant-loop-place
+invariant-loop-place l = record {
+  as_many : length l.kept ≡ length l.sets;
+  bits : (k v : ℕ) → k < l.place → v < l.values → has_bit (slice_index l.kept k) v ≡ stays_in l.values l.sets k v;
+}

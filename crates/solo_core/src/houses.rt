@@ -1,0 +1,8 @@
+//! The houses of a puzzle and its crossings: their names, and their places.
+
+pub(crate) mod crossings;
+pub(crate) mod house;
+pub(crate) mod places;
+pub(crate) mod rooms;
+pub(crate) mod scope;
+pub(crate) mod scopes;

@@ -1,0 +1,109 @@
+//! The crossings of a puzzle: each block with each row and each column that it meets.
+#![tactic(auto, using(crate::proofs::LawSets::crossings_laws))]
+
+ghost use Rattle.std.specs.Prelude.{◌≡◌, ℕ, ◌<◌, ◌&&◌, ◌||◌, ◌==◌, [], OnOk, length};
+ghost use Rattle.gameid_core.specs.Puzzles.{solo_n};
+ghost use Rattle.engine_core.specs.Sets.{has_bit as is_set};
+ghost use Rattle.engine_core.specs.Houses.{house_of};
+ghost use Rattle.solo_core.specs.declared.houses.house.SoloHouse.TheVariants.{Block};
+ghost use Rattle.solo_core.specs.Houses.{IsHouseOf, places_of};
+ghost use Rattle.solo_core.specs.RuleSets.{crossing_of, crossings_of, rest_of_line, AreShared};
+ghost use Rattle.solo_core.specs.Work.{all_places, HasAdded, HasBegun, HasClosed, IsKeptBy};
+
+use crate::houses::house::SoloHouse;
+use crate::houses::places::{lies, place, push_places};
+use crate::houses::rooms::crossings;
+use crate::houses::scopes::crossing_at;
+use crate::visits::bits::with_bit;
+use crate::visits::crossing::keep_crossing;
+use engine_core::HouseList;
+use gameid_core::SoloPuzzle;
+use std::alloc::AllocError;
+
+/// Adds the line's places outside the block.
+fn push_rest(
+    list: &mut HouseList,
+    puzzle: &SoloPuzzle,
+    block: usize,
+    line: SoloHouse,
+) -> Result<(), AllocError>
+    requires block_in { block < solo_n puzzle.now }
+    requires line_of { IsHouseOf puzzle.now line }
+    ensures { OnOk result (HasBegun (rest_of_line puzzle.now block line) list.old list.new) }
+{
+    for k in 0..usize::from(puzzle.n()) {
+        let other = place(puzzle, line, k);
+        if lies(puzzle, SoloHouse::Block(block), other) {
+            continue;
+        }
+        list.push(other)?;
+    }
+    Ok(())
+}
+
+/// Adds a crossing.
+fn push_crossing(
+    list: &mut HouseList,
+    puzzle: &SoloPuzzle,
+    block: usize,
+    line: SoloHouse,
+) -> Result<(), AllocError>
+    requires block_in { block < solo_n puzzle.now }
+    requires line_of { IsHouseOf puzzle.now line }
+    requires closed { list.old.begun ≡ [] }
+    ensures { OnOk result (HasClosed (crossing_of puzzle.now block line).places list.old list.new) }
+{
+    push_places(list, puzzle, SoloHouse::Block(block))?;
+    push_rest(list, puzzle, block, line)?;
+    list.close()?;
+    Ok(())
+}
+
+/// Adds each crossing.
+pub(crate) fn push_crossings(list: &mut HouseList, puzzle: &SoloPuzzle) -> Result<(), AllocError>
+    requires closed { list.old.begun ≡ [] }
+    ensures { OnOk result (HasAdded (all_places (crossings_of puzzle.now)) list.old list.new) }
+{
+    for number in 0..crossings(puzzle) {
+        let (block, line) = crossing_at(puzzle, number);
+        push_crossing(list, puzzle, block, line)?;
+    }
+    Ok(())
+}
+
+/// Which of the block's cells are the line's too: bit `k` says it of the `k`-th.
+fn shared(puzzle: &SoloPuzzle, block: usize, line: SoloHouse) -> u32
+    requires block_in { block < solo_n puzzle.now }
+    requires line_of { IsHouseOf puzzle.now line }
+    ensures { AreShared puzzle.now block line result }
+{
+    let mut bits = 0;
+    for k in 0..usize::from(puzzle.n()) {
+        let there = lies(puzzle, line, place(puzzle, SoloHouse::Block(block), k));
+        bits = with_bit_if(bits, k, there);
+    }
+    bits
+}
+
+/// The bits with bit `value` set too, where `on`.
+fn with_bit_if(bits: u32, value: usize, on: bool) -> u32
+    requires { value < 32 }
+    ensures { (v : ℕ) → is_set result v ≡ (is_set bits v || (on && (v == value))) }
+{
+    if on { with_bit(bits, value) } else { bits }
+}
+
+/// Decides what is kept of the sets of the crossing with the number.
+pub(crate) fn keep_crossed(puzzle: &SoloPuzzle, number: usize, sets: &[u32], kept: &mut [u32])
+    requires number_in { number < length (crossings_of puzzle.now) }
+    requires as_many { length kept.old ≡ length sets.now }
+    ensures { IsKeptBy puzzle.now (house_of (crossings_of puzzle.now) number) sets.now kept.new }
+{
+    let (block, line) = crossing_at(puzzle, number);
+    keep_crossing(
+        usize::from(puzzle.n()),
+        shared(puzzle, block, line),
+        sets,
+        kept,
+    );
+}

@@ -1,0 +1,116 @@
+//! The houses of a puzzle, their places, and the list of both.
+#![tactic(auto, using(crate::proofs::HouseLemmas::house_laws))]
+
+ghost use Rattle.std.specs.Prelude.{◌≡◌, ◌<◌, ◌≤◌, [], OnOk, length, slice_index, slice_index_or};
+ghost use Rattle.gameid_core.specs.Puzzles.{IsSolo, solo_n};
+ghost use Rattle.solo_core.specs.declared.houses.house.SoloHouse.{SoloHouse};
+ghost use Rattle.solo_core.specs.Cells.{solo_cells};
+ghost use Rattle.solo_core.specs.Houses.{houses_of, house_places, IsHouseOf, lies_in, places_of};
+ghost use Rattle.solo_core.specs.Work.{HasAdded, Begins};
+
+use crate::houses::house::SoloHouse;
+use engine_core::HouseList;
+use gameid_core::SoloPuzzle;
+use grid_core::{Size, block_place, column_place, diagonal_place, row_place};
+use std::alloc::AllocError;
+
+/// How many cells the grid has.
+pub(crate) fn cells(puzzle: &SoloPuzzle) -> usize
+    ensures value { result ≡ solo_cells puzzle.now }
+    ensures lawful { IsSolo puzzle.now }
+{
+    let n = usize::from(puzzle.n());
+    n * n
+}
+
+/// How many houses there are.
+pub(crate) fn houses(puzzle: &SoloPuzzle) -> usize
+    ensures value { result ≡ length (houses_of puzzle.now) }
+    ensures few { result ≤ 95 }
+    ensures lawful { IsSolo puzzle.now }
+{
+    let n = usize::from(puzzle.n());
+    if puzzle.x() { 3 * n + 2 } else { 3 * n }
+}
+
+/// The house with the number.
+pub(crate) fn house(puzzle: &SoloPuzzle, number: usize) -> SoloHouse
+    requires { number < length (houses_of puzzle.now) }
+    ensures house_of { IsHouseOf puzzle.now result }
+    ensures at { (other : SoloHouse) → result ≡ slice_index_or (houses_of puzzle.now) number other }
+{
+    let n = usize::from(puzzle.n());
+    if number < n {
+        return SoloHouse::Row(number);
+    }
+    if number < 2 * n {
+        return SoloHouse::Column(number - n);
+    }
+    if number < 3 * n {
+        return SoloHouse::Block(number - 2 * n);
+    }
+    SoloHouse::Diagonal(number - 3 * n)
+}
+
+/// The place of the house's `k`-th cell.
+pub(crate) fn place(puzzle: &SoloPuzzle, house: SoloHouse, k: usize) -> usize
+    requires house_of { IsHouseOf puzzle.now house }
+    requires k_in { k < solo_n puzzle.now }
+    ensures place { result ≡ slice_index (places_of puzzle.now house) k }
+    ensures within { result < solo_cells puzzle.now }
+{
+    let n = puzzle.n();
+    let size = Size::new(n, n).unwrap();
+    match house {
+        SoloHouse::Row(y) => row_place(size, y, k),
+        SoloHouse::Column(i) => column_place(size, i, k),
+        SoloHouse::Block(b) => block_place(puzzle.c(), puzzle.r(), b, k),
+        SoloHouse::Diagonal(d) => diagonal_place(n, d, k),
+    }
+}
+
+/// Whether the place lies in the house.
+pub(crate) fn lies(puzzle: &SoloPuzzle, house: SoloHouse, place: usize) -> bool
+    requires { place < solo_cells puzzle.now }
+    ensures { result ≡ lies_in puzzle.now house place }
+{
+    let n = usize::from(puzzle.n());
+    let c = usize::from(puzzle.c());
+    let r = usize::from(puzzle.r());
+    match house {
+        SoloHouse::Row(y) => place / n == y,
+        SoloHouse::Column(i) => place % n == i,
+        SoloHouse::Block(b) => place / n / c * c + place % n / r == b,
+        SoloHouse::Diagonal(0) => place % n == place / n,
+        SoloHouse::Diagonal(_) => place % n == n - 1 - place / n,
+    }
+}
+
+/// Begins a list with the places of the house.
+pub(crate) fn push_places(
+    list: &mut HouseList,
+    puzzle: &SoloPuzzle,
+    house: SoloHouse,
+) -> Result<(), AllocError>
+    requires house_of { IsHouseOf puzzle.now house }
+    requires closed { list.old.begun ≡ [] }
+    ensures { OnOk result (Begins (places_of puzzle.now house) list.old list.new) }
+{
+    for k in 0..usize::from(puzzle.n()) {
+        list.push(place(puzzle, house, k))?;
+    }
+    Ok(())
+}
+
+/// Adds the places of each house.
+pub(crate) fn push_houses(list: &mut HouseList, puzzle: &SoloPuzzle) -> Result<(), AllocError>
+    requires closed { list.old.begun ≡ [] }
+    ensures { OnOk result
+        (HasAdded (house_places puzzle.now) list.old list.new) }
+{
+    for number in 0..houses(puzzle) {
+        push_places(list, puzzle, house(puzzle, number))?;
+        list.close()?;
+    }
+    Ok(())
+}

@@ -1,0 +1,69 @@
+//! What the numbers of a rule set's houses name.
+#![tactic(auto, using(crate::proofs::LawSets::scopes_laws))]
+
+ghost use Rattle.std.specs.Prelude.{◌≡◌, ◌*◌, ◌<◌, length, slice_index_or};
+ghost use Rattle.gameid_core.specs.Puzzles.{solo_n};
+ghost use Rattle.solo_core.specs.declared.houses.scope.SoloScope.{SoloScope};
+ghost use Rattle.solo_core.specs.declared.houses.scope.SoloScope.TheVariants.{Crossing};
+ghost use Rattle.solo_core.specs.Houses.{IsHouseOf};
+ghost use Rattle.solo_core.specs.Scopes.{scopes_of, crossing_scopes, row_scope, column_scope, IsCrossingAt};
+
+use crate::houses::house::SoloHouse;
+use crate::houses::places::{house, houses};
+use crate::houses::scope::SoloScope;
+use gameid_core::SoloPuzzle;
+
+/// What `SoloCrossings` visits under the number: the rows from the top, the columns from the left, the blocks, in Solo X
+/// both diagonals; then each block with each row that it meets, and each block with each column that it meets, in order.
+/// `SoloSingles` and `SoloHouses` visit the houses under the same numbers, and no crossings.
+pub fn scope_of(puzzle: &SoloPuzzle, number: usize) -> SoloScope
+    requires { number < length (scopes_of puzzle.now) }
+    ensures { (other : SoloScope) → result ≡ slice_index_or (scopes_of puzzle.now) number other }
+{
+    let count = houses(puzzle);
+    if number < count {
+        return SoloScope::House(house(puzzle, number));
+    }
+    let (block, line) = crossing_at(puzzle, number - count);
+    SoloScope::Crossing { block, line }
+}
+
+/// The block and the line of the crossing with the number.
+pub(crate) fn crossing_at(puzzle: &SoloPuzzle, number: usize) -> (usize, SoloHouse)
+    requires { number < length (crossing_scopes puzzle.now) }
+    ensures scope { IsCrossingAt puzzle.now number result.0 result.1 }
+    ensures block_in { result.0 < solo_n puzzle.now }
+    ensures line_of { IsHouseOf puzzle.now result.1 }
+{
+    let rows = usize::from(puzzle.n()) * usize::from(puzzle.c());
+    if number < rows {
+        row_crossing(puzzle, number)
+    } else {
+        column_crossing(puzzle, number - rows)
+    }
+}
+
+/// The block and the row of a crossing, by its number among those.
+fn row_crossing(puzzle: &SoloPuzzle, m: usize) -> (usize, SoloHouse)
+    requires { m < solo_n puzzle.now * puzzle.now.c }
+    ensures scope { Crossing result.0 result.1 ≡ row_scope puzzle.now m }
+    ensures block_in { result.0 < solo_n puzzle.now }
+    ensures line_of { IsHouseOf puzzle.now result.1 }
+{
+    let c = usize::from(puzzle.c());
+    let block = m / c;
+    (block, SoloHouse::Row(block / c * c + m % c))
+}
+
+/// The block and the column of a crossing, by its number among those.
+fn column_crossing(puzzle: &SoloPuzzle, m: usize) -> (usize, SoloHouse)
+    requires { m < solo_n puzzle.now * puzzle.now.r }
+    ensures scope { Crossing result.0 result.1 ≡ column_scope puzzle.now m }
+    ensures block_in { result.0 < solo_n puzzle.now }
+    ensures line_of { IsHouseOf puzzle.now result.1 }
+{
+    let c = usize::from(puzzle.c());
+    let r = usize::from(puzzle.r());
+    let block = m / r;
+    (block, SoloHouse::Column(block % c * r + m % r))
+}

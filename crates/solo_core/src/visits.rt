@@ -1,0 +1,12 @@
+//! What visits of houses and of crossings keep.
+
+pub(crate) mod bits;
+pub(crate) mod crossing;
+pub(crate) mod houses;
+pub(crate) mod joined;
+pub(crate) mod mates;
+pub(crate) mod peel;
+pub(crate) mod quick;
+pub(crate) mod reach;
+pub(crate) mod singles;
+pub(crate) mod turning;

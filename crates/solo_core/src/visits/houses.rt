@@ -1,0 +1,136 @@
+//! What a visit of a house keeps: the values that fillings without repeat have.
+
+ghost use Rattle.std.specs.Prelude.{◌≡◌, ℕ, ◌<◌, ◌≤◌, ◌&&◌, length};
+ghost use Rattle.engine_core.specs.Filling.{strikes_by_fillings};
+ghost use Rattle.engine_core.specs.Sets.{has_bit as is_set};
+ghost use Rattle.engine_core.specs.House.{IsDecided};
+ghost use Rattle.grid_core.specs.Pairings.{IsPairing};
+ghost use Rattle.solo_core.specs.NoRepeat.{no_repeat};
+ghost use Rattle.solo_core.specs.Deciding.{has_in};
+ghost use Rattle.solo_core.specs.Peeled.{AreAlone, IsRest, IsPaired, HasSetOfCell, KeepsReaching};
+
+use crate::visits::bits::{all_below, next_bit, with_bit};
+use crate::visits::mates::{MANY, pair_rest, rest_of, write_mates};
+use crate::visits::peel::peel;
+use crate::visits::reach::close_reach;
+use crate::visits::singles::clear;
+use crate::visits::turning::lie_on_rounds;
+use engine_core::has_bit;
+use grid_core::{Paired, Pairing};
+
+/// Decides what is kept of the sets of a house: bit `v` of the `k`-th stays exactly where some filling without repeat
+/// has the value `v` in the `k`-th cell.
+///
+/// The values of cells that have one alone are struck from the others first. One filling of the rest is found by a
+/// pairing. Another one has the value `v` in a cell exactly where one can go from `v` back to the cell's value in the
+/// first filling, each time to a value that the cell of the last could have instead: the cells on the way change their
+/// values in turn.
+pub(crate) fn keep_houses(values: u8, sets: &[u32], kept: &mut [u32], pairing: &mut Pairing)
+    requires few { values ≤ 31 }
+    requires square { length sets.now ≡ values }
+    requires as_many { length kept.old ≡ length sets.now }
+    requires room { values ≤ pairing.old.room }
+    ensures decided { IsDecided values (strikes_by_fillings no_repeat) sets.now kept.new }
+    ensures room { pairing.new.room ≡ pairing.old.room }
+{
+    kept.copy_from_slice(sets);
+    let alone = peel(values, kept);
+    keep_peeled(values, alone, kept, pairing);
+}
+
+/// Decides what is kept of a house in which the cells with these bits are alone.
+fn keep_peeled(values: u8, alone: u32, kept: &mut [u32], pairing: &mut Pairing)
+    requires few { values ≤ 31 }
+    requires square { length kept.old ≡ values }
+    requires alone { AreAlone values kept.old alone }
+    requires room { values ≤ pairing.old.room }
+    ensures decided { IsDecided values (strikes_by_fillings no_repeat) kept.old kept.new }
+    ensures room { pairing.new.room ≡ pairing.old.room }
+{
+    if alone == all_below(values) {
+        return;
+    }
+    let rest = rest_of(kept.len(), alone);
+    keep_rest(values, &rest, kept, pairing);
+}
+
+/// Decides what is kept of a house in which all cells but these are alone.
+fn keep_rest(values: u8, rest: &[u8], kept: &mut [u32], pairing: &mut Pairing)
+    requires few { values ≤ 31 }
+    requires square { length kept.old ≡ values }
+    requires alone { IsRest values kept.old rest.now }
+    requires room { values ≤ pairing.old.room }
+    requires rest_few { length rest.now ≤ values }
+    ensures decided { IsDecided values (strikes_by_fillings no_repeat) kept.old kept.new }
+    ensures room { pairing.new.room ≡ pairing.old.room }
+{
+    let mut paired_space = [0u8; MANY];
+    let paired = &mut paired_space[..rest.len()];
+    match pair_rest(values, kept, rest, pairing, paired) {
+        Paired::Short => clear(kept),
+        Paired::All if lie_on_rounds(values, kept, rest, paired) => {}
+        Paired::All => keep_paired(values, rest, paired, kept),
+    }
+}
+
+/// Decides what is kept of a house in which these cells are paired, and the others are alone.
+fn keep_paired(values: u8, rest: &[u8], paired: &[u8], kept: &mut [u32])
+    requires few { values ≤ 31 }
+    requires square { length kept.old ≡ values }
+    requires alone { IsRest values kept.old rest.now }
+    requires paired { IsPaired values kept.old rest.now paired.now }
+    ensures decided { IsDecided values (strikes_by_fillings no_repeat) kept.old kept.new }
+{
+    let mut mate_space = [0u8; MANY];
+    let mates = &mut mate_space[..kept.len()];
+    write_mates(values, kept, rest, paired, mates);
+    let mut reach_space = [0u32; MANY];
+    let reach = &mut reach_space[..kept.len()];
+    write_own_sets(kept, mates, reach);
+    close_reach(reach);
+    keep_reached(values, mates, reach, kept);
+}
+
+/// Writes for each value the set of the cell that has it.
+fn write_own_sets(sets: &[u32], mates: &[u8], reach: &mut [u32])
+    requires as_many { length reach.old ≡ length sets.now }
+    requires paired { IsPairing (has_in sets.now) (length sets.now) (length sets.now) mates.now }
+    ensures as_many { length reach.new ≡ length sets.now }
+    ensures own { HasSetOfCell sets.now mates.now reach.new }
+{
+    for cell in 0..sets.len() {
+        reach[usize::from(mates[cell])] = sets[cell];
+    }
+}
+
+/// Keeps of each set the values that reach the cell's own.
+fn keep_reached(values: u8, mates: &[u8], reach: &[u32], kept: &mut [u32])
+    requires few { values ≤ 31 }
+    requires square { length kept.old ≡ values }
+    requires reached { length reach.now ≡ values }
+    requires paired { IsPairing (has_in kept.old) (length kept.old) (length kept.old) mates.now }
+    ensures as_many { length kept.new ≡ length kept.old }
+    ensures bits { KeepsReaching values mates.now reach.now kept.old kept.new }
+{
+    for cell in 0..kept.len() {
+        kept[cell] = reaching(values, kept[cell], usize::from(mates[cell]), reach);
+    }
+}
+
+/// The values of the set that reach the value `own`.
+fn reaching(values: u8, set: u32, own: usize, reach: &[u32]) -> u32
+    requires few { values ≤ 31 }
+    requires reached { length reach.now ≡ values }
+    requires own_in { own < values }
+    ensures { (v : ℕ) → v < values → is_set result v ≡ (is_set set v && has_in reach.now v own) }
+{
+    let mut kept = 0u32;
+    let mut from = 0;
+    while let Some(value) = next_bit(set, from, usize::from(values)) {
+        if has_bit(reach[value], own as u8) {
+            kept = with_bit(kept, value);
+        }
+        from = value + 1;
+    }
+    kept
+}

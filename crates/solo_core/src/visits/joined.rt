@@ -1,0 +1,47 @@
+//! The cells of a house and their values as two sides to be paired.
+
+ghost use Rattle.std.specs.Prelude.{◌≡◌, ℕ, ◌<◌, ◌≤◌, length, slice_index};
+ghost use Rattle.solo_core.specs.Deciding.{has_in};
+
+use crate::visits::bits::next_bit;
+use grid_core::Edges;
+
+/// Some cells of a house as lefts and the values as rights: each of these cells is joined to the values of its set.
+#[derive(Drop)]
+pub(crate) struct Joined<'a> {
+    pub(crate) sets: &'a [u32],
+    pub(crate) rest: &'a [u8],
+    pub(crate) values: u8,
+    ghost few: { values ≤ 31 },
+    ghost rest_in: { (i : ℕ) → i < length rest.now → slice_index rest.now i < length sets.now },
+}
+
+impl Joined<'_> {
+    /// The set of a cell.
+    pub(crate) fn set(&self, left: usize) -> u32
+        requires { left < length self.now.rest.now }
+        ensures { result ≡ slice_index self.now.sets.now (slice_index self.now.rest.now left) }
+    {
+        self.sets[usize::from(self.rest[left])]
+    }
+}
+
+impl Edges for Joined<'_> {
+    ghost left_count = { λ e. length e.rest.now };
+
+    ghost right_count = { λ e. e.values };
+
+    ghost joins = { λ e l r. has_in e.sets.now (slice_index e.rest.now l) r };
+
+    fn lefts(&self) -> usize {
+        self.rest.len()
+    }
+
+    fn rights(&self) -> usize {
+        usize::from(self.values)
+    }
+
+    fn next(&self, left: usize, from: usize) -> Option<usize> {
+        next_bit(self.set(left), from, usize::from(self.values))
+    }
+}

@@ -1,0 +1,124 @@
+//! Which cell of a house has which value in one filling without repeat.
+#![tactic(auto, using(crate::proofs::LawSets::mates_laws))]
+
+ghost use Rattle.std.specs.Prelude.{◌≡◌, ℕ, ◌<◌, ◌≤◌, true, length, slice_index};
+ghost use Rattle.engine_core.specs.House.{AreDifferent};
+ghost use Rattle.engine_core.specs.Sets.{has_bit as is_set};
+ghost use Rattle.grid_core.specs.Pairings.{IsPairing};
+ghost use Rattle.solo_core.specs.Deciding.{has_in};
+ghost use Rattle.solo_core.specs.Peeled.{IsRest, IsPaired, IsShort, HasMate, GotMates, KeepMates, AgreeBelow, rest_of as rest_cells};
+
+use crate::visits::bits::next_bit;
+use crate::visits::joined::Joined;
+use crate::visits::quick::pair_quickly;
+use arrayvec::ArrayVec;
+use engine_core::has_bit;
+use grid_core::{Paired, Pairing};
+
+/// More cells than a house has.
+pub(crate) const MANY: usize = 32;
+
+/// The cells whose bit is not set.
+pub(crate) fn rest_of(len: usize, alone: u32) -> ArrayVec<u8, MANY>
+    requires { len ≤ 31 }
+    ensures rest { result.items ≡ rest_cells len alone }
+    ensures few { length result.items ≤ len }
+{
+    let mut rest = ArrayVec::new();
+    for cell in 0..len {
+        if has_bit(alone, cell as u8) {
+            continue;
+        }
+        rest.push(cell as u8);
+    }
+    rest
+}
+
+/// Pairs these cells with values.
+pub(crate) fn pair_rest(
+    values: u8,
+    sets: &[u32],
+    rest: &[u8],
+    pairing: &mut Pairing,
+    paired: &mut [u8],
+) -> Paired
+    requires few { values ≤ 31 }
+    requires rest_in { (i : ℕ) → i < length rest.now → slice_index rest.now i < length sets.now }
+    requires lefts { length rest.now ≤ pairing.old.room }
+    requires rights { values ≤ pairing.old.room }
+    requires paired_room { length paired.old ≡ length rest.now }
+    ensures room { pairing.new.room ≡ pairing.old.room }
+    ensures all { result ≡ Paired.All → IsPaired values sets.now rest.now paired.new }
+    ensures short { result ≡ Paired.Short → IsShort values sets.now rest.now pairing.new.short }
+{
+    let joined = Joined { sets, rest, values };
+    if pair_quickly(&joined, paired) {
+        return Paired::All;
+    }
+    let found = pairing.run(&joined);
+    if let Paired::All = found {
+        copy_mates(values, pairing, paired);
+    }
+    found
+}
+
+/// Writes the mates of a pairing.
+fn copy_mates(values: u8, pairing: &Pairing, paired: &mut [u8])
+    requires as_many { length pairing.now.mates ≡ length paired.old }
+    requires small { (i : ℕ) → i < length paired.old → slice_index pairing.now.mates i < values }
+    ensures as_many { length paired.new ≡ length paired.old }
+    ensures same { AgreeBelow (length paired.old) paired.new pairing.now.mates }
+{
+    for i in 0..paired.len() {
+        paired[i] = pairing.mate(i) as u8;
+    }
+}
+
+/// Writes for each cell its value: its own, where it is alone, and else the one that it is paired with.
+pub(crate) fn write_mates(values: u8, sets: &[u32], rest: &[u8], paired: &[u8], mates: &mut [u8])
+    requires few { values ≤ 31 }
+    requires as_many { length mates.old ≡ length sets.now }
+    requires alone { IsRest values sets.now rest.now }
+    requires paired { IsPaired values sets.now rest.now paired.now }
+    ensures { IsPairing (has_in sets.now) (length sets.now) values mates.new }
+{
+    write_own(values, sets, mates);
+    write_rest(rest, paired, mates);
+}
+
+/// Writes for each cell the least value of its set.
+fn write_own(values: u8, sets: &[u32], mates: &mut [u8])
+    requires few { values ≤ 31 }
+    requires as_many { length mates.old ≡ length sets.now }
+    ensures as_many { length mates.new ≡ length sets.now }
+    ensures own { HasMate values sets.now mates.new }
+{
+    for cell in 0..sets.len() {
+        mates[cell] = lowest(values, sets[cell]);
+    }
+}
+
+/// The least value of the set, where it has one.
+fn lowest(values: u8, set: u32) -> u8
+    requires { values ≤ 31 }
+    ensures { (v : ℕ) → v < values → is_set set v ≡ true → is_set set result ≡ true }
+{
+    match next_bit(set, 0, usize::from(values)) {
+        None => 0,
+        Some(value) => value as u8,
+    }
+}
+
+/// Writes for each of these cells the value that it is paired with.
+fn write_rest(rest: &[u8], paired: &[u8], mates: &mut [u8])
+    requires rest_in { (i : ℕ) → i < length rest.now → slice_index rest.now i < length mates.old }
+    requires different { AreDifferent rest.now }
+    requires as_many { length paired.now ≡ length rest.now }
+    ensures as_many { length mates.new ≡ length mates.old }
+    ensures paired { GotMates rest.now paired.now mates.new }
+    ensures others { KeepMates rest.now mates.old mates.new }
+{
+    for i in 0..rest.len() {
+        mates[usize::from(rest[i])] = paired[i];
+    }
+}

@@ -1,0 +1,99 @@
+//! Whether a pairing of the cells of a house can be turned to each value that they have.
+#![tactic(auto, using(crate::proofs::LawSets::turning_laws))]
+
+ghost use Rattle.std.specs.Prelude.{◌≡◌, ℕ, ◌<◌, ◌≤◌, true, length, slice_index};
+ghost use Rattle.solo_core.specs.Bits.{HasMore, HasBefore};
+ghost use Rattle.solo_core.specs.Turning.{HasValuesOf, StaysAfter, StaysBefore, LiesOnRounds};
+
+use crate::visits::bits::{has_any, with_bit, with_more, without};
+
+/// Values that a first one leads to, and values that lead to it.
+#[derive(Clone, Copy)]
+struct Ends {
+    after: u32,
+    before: u32,
+}
+
+/// Whether each value of these cells, paired so, leads to the first one's mate and back, as far as that is found soon.
+pub(crate) fn lie_on_rounds(values: u8, sets: &[u32], rest: &[u8], mates: &[u8]) -> bool
+    requires few { values ≤ 31 }
+    requires rest_in { (i : ℕ) → i < length rest.now → slice_index rest.now i < length sets.now }
+    requires as_many { length mates.now ≡ length rest.now }
+    requires small { (i : ℕ) → i < length rest.now → slice_index mates.now i < values }
+    ensures { result ≡ true → LiesOnRounds values sets.now rest.now mates.now }
+{
+    if rest.is_empty() {
+        return false;
+    }
+    let all = values_of(sets, rest);
+    let root = with_bit(0, usize::from(mates[0]));
+    let mut ends = Ends {
+        after: root,
+        before: root,
+    };
+    for _turn in 0..rest.len() {
+        let more = spread(values, sets, rest, mates, ends);
+        if !has_any(without(all, more.after & more.before)) {
+            return true;
+        }
+        if more.after == ends.after && more.before == ends.before {
+            return false;
+        }
+        ends = more;
+    }
+    false
+}
+
+/// The values that some of the cells has.
+fn values_of(sets: &[u32], rest: &[u8]) -> u32
+    requires rest_in { (i : ℕ) → i < length rest.now → slice_index rest.now i < length sets.now }
+    ensures { HasValuesOf sets.now rest.now result }
+{
+    let mut all = 0u32;
+    for i in 0..rest.len() {
+        all |= sets[usize::from(rest[i])];
+    }
+    all
+}
+
+/// Goes on by one step of each cell, one after another.
+fn spread(values: u8, sets: &[u32], rest: &[u8], mates: &[u8], ends: Ends) -> Ends
+    requires few { values ≤ 31 }
+    requires rest_in { (i : ℕ) → i < length rest.now → slice_index rest.now i < length sets.now }
+    requires as_many { length mates.now ≡ length rest.now }
+    requires small { (i : ℕ) → i < length rest.now → slice_index mates.now i < values }
+    ensures after { StaysAfter values sets.now rest.now mates.now ends.after result.after }
+    ensures before { StaysBefore values sets.now rest.now mates.now ends.before result.before }
+{
+    let mut more = ends;
+    for i in 0..rest.len() {
+        more = more.over(usize::from(mates[i]), sets[usize::from(rest[i])]);
+    }
+    more
+}
+
+impl Ends {
+    /// Goes on over a value that leads to these.
+    fn over(self, value: usize, next: u32) -> Ends
+        requires { value < 32 }
+        ensures after { HasMore self.after value next result.after }
+        ensures before { HasBefore self.before value next result.before }
+    {
+        Ends {
+            after: with_more(self.after, value as u8, next),
+            before: with_bit_over(self.before, value, next),
+        }
+    }
+}
+
+/// The bits with bit `value` set too, where some bit of `next` is among them.
+fn with_bit_over(bits: u32, value: usize, next: u32) -> u32
+    requires { value < 32 }
+    ensures { HasBefore bits value next result }
+{
+    if has_any(next & bits) {
+        with_bit(bits, value)
+    } else {
+        bits
+    }
+}
