@@ -36,17 +36,19 @@ added-none list houses none e = grind (arith, common_steps, append-nil)
 pub added-more : (a b c : CountList) (xs ys : List CountHouse) → IsAdded a b xs → IsAdded b c ys → IsAdded a c (xs ++ ys)
 added-more a b c xs ys p q = grind (arith, common_steps, append_assoc, map-append)
 
-pub below-none : (f : ℕ → List CountHouse) (list : CountList) → list.list.begun ≡ [] → IsAdded list list (houses_below f 0)
+pub below-none : (f : ℕ → List CountHouse) → houses_below f 0 ≡ []
 unfolding houses_below
-below-none f list none = added-none list [] none refl
+below-none f = refl
 
-pub below-more : (f : ℕ → List CountHouse) (a b c : CountList) (n : ℕ) → IsAdded a b (houses_below f n) → IsAdded b c (f n) → IsAdded a c (houses_below f (n + 1))
+pub below-more : (f : ℕ → List CountHouse) (n : ℕ) → houses_below f (n + 1) ≡ houses_below f n ++ f n
 unfolding houses_below
-below-more f a b c n p q = rw add-one (added-more a b c (houses_below f n) (f n) p q)
+below-more f n = rw add-one refl
 
-pub four-added : (a b c d e : CountList) (ws xs ys zs : List CountHouse) → a.list ≡ record { closed = []; begun = [] } → a.bounds.items ≡ []
-    → IsAdded a b ws → IsAdded b c xs → IsAdded c d ys → IsAdded d e zs → AreListed e (ws ++ (xs ++ (ys ++ zs)))
-four-added a b c d e ws xs ys zs none no_bounds p q r s = grind (arith, common_steps, added-more)
+-- houses of four kinds, each of the numbers below some number
+pub four-added : (a b c d e : CountList) (f g h k : ℕ → List CountHouse) (i j l m i' j' l' m' : ℕ) → a.list ≡ record { closed = []; begun = [] } → a.bounds.items ≡ []
+    → IsAdded a b (houses_below f i) → IsAdded b c (houses_below g j) → IsAdded c d (houses_below h l) → IsAdded d e (houses_below k m) → i ≡ i' → j ≡ j' → l ≡ l' → m ≡ m'
+    → AreListed e (houses_below f i' ++ (houses_below g j' ++ (houses_below h l' ++ houses_below k m')))
+four-added a b c d e f g h k i j l m i' j' l' m' none no_bounds p q r s same_i same_j same_l same_m = grind (arith, common_steps, append_assoc, map-append)
 
 -- ---- the houses with these cells and bounds
 pub bounded-map : (houses : List CountHouse) → bounded (map house_places houses) (map bounds_of houses) ≡ houses

@@ -2,11 +2,11 @@
 use Rattle.engine_core.proofs.CallLemmas.{upto-first}
 use Rattle.engine_core.proofs.HouseLemmas.{striking-first}
 use Rattle.fields_core.proofs.CountKept.{kept-first}
-use Rattle.fields_core.proofs.CountListLemmas.{as-many, begun-more, begun-none, begun-same, bounded-listed, four-added}
+use Rattle.fields_core.proofs.CountListLemmas.{as-many, begun-more, begun-none, begun-same, below-more, below-none, bounded-listed}
 use Rattle.fields_core.proofs.CountTallies.{tallied-first, tallied-more, tallied-whole}
 use Rattle.fields_core.proofs.HouseLists.{column-after, column-black, column-edge, column-long, row-after, row-black, row-edge, row-long, step-keep, step-none, step-skip}
 use Rattle.fields_core.proofs.LightCounting.{light-counting}
-use Rattle.fields_core.proofs.LightFaultLemmas.{fault-not}
+use Rattle.fields_core.proofs.LightFaultLemmas.{fault-not, lit-from}
 use Rattle.fields_core.proofs.LightLines.{cell-at, white-at}
 use Rattle.fields_core.proofs.LightRuleLemmas.{rule-from-test, test-from-rule}
 use Rattle.fields_core.proofs.LightSeen.{column-run-in, row-run-in, seen-in-row}
@@ -21,19 +21,21 @@ use Rattle.fields_core.proofs.TentPairLemmas.{count-is, listed-tents, others-unp
 use Rattle.fields_core.proofs.TentRuleLemmas.{camp-from, camp-from-solution, camp-not, solution-from-camp, tent-table}
 use Rattle.grid_core.proofs.CandidateLemmas.{all_below-from}
 use Rattle.std.proofs.lemmas.Bool.{eq-eqb, ne_eqb}
-use Rattle.std.proofs.lemmas.List.{take_all}
+use Rattle.std.proofs.lemmas.List.{append-nil, append_assoc, map-append, take_all}
 
 pub ruleset count_table_laws = (upto-first)
 
 pub ruleset count_visit_laws = (striking-first, kept-first)
 
+pub ruleset house_list_laws = (below-none, below-more, append_assoc, append-nil, map-append)
+
 pub ruleset laws_laws = (rule-from-test, test-from-rule, solution-from-camp, camp-from-solution)
 
 pub ruleset light_cells_laws = (white-at)
 
-pub ruleset light_check_laws = (all_below-from, ne_eqb, eq-eqb, cell-at)
+pub ruleset light_check_laws = (lit-from, all_below-from, ne_eqb, eq-eqb, cell-at)
 
-pub ruleset light_houses_laws = (column-black, column-edge, column-after, some-column, row-black, row-edge, row-after, four-added, begun-none, begun-same, step-none, step-skip, begun-more, step-keep, take_all)
+pub ruleset light_houses_laws = (column-black, column-edge, column-after, some-column, row-black, row-edge, row-after, begun-none, begun-same, step-none, step-skip, begun-more, step-keep, take_all)
 
 pub ruleset light_rules_laws = (light-counting, as-many, bounded-listed, fault-not, light-houses, after-is, start-all)
 
@@ -45,7 +47,7 @@ pub ruleset tally_laws = (tallied-first, tallied-more, tallied-whole)
 
 pub ruleset tent_check_laws = (line-start, column-long, line-skip, row-long, camp-from, all_below-from, ne_eqb, eq-eqb)
 
-pub ruleset tent_houses_laws = (four-added, begun-none, begun-same, step-none, step-skip, begun-more, step-keep)
+pub ruleset tent_houses_laws = (begun-none, begun-same, step-none, step-skip, begun-more, step-keep)
 
 pub ruleset tent_pairs_laws = (next-joined, listed-skip, listed-all, passed-start, passed-edge, passed-bare, passed-early, next-none, count-none, others-unpaired, listed-tents, count-is, whole-pairs, short-unpaired)
 

@@ -3,7 +3,6 @@
 
 ghost use Rattle.std.specs.Prelude.{◌≡◌, ◌<◌, ◌↔◌, None};
 ghost use Rattle.grid_core.specs.Grids.{IsGrid};
-ghost use Rattle.fields_core.specs.Firsts.{IsFirstWrong};
 ghost use Rattle.fields_core.specs.Light.{light_cells, black_right, number_right, bulb_right, lit_right};
 ghost use Rattle.fields_core.specs.LightFaults.{IsLightFault};
 ghost use Rattle.fields_core.specs.LightSolutions.{IsLightSolution};
@@ -71,53 +70,29 @@ fn is_lit_right(puzzle: &LightPuzzle, grid: &Grid, place: usize) -> bool
     sees_a_bulb(puzzle, grid, place)
 }
 
-/// The first black cell with a bulb.
-fn first_black(puzzle: &LightPuzzle, grid: &Grid) -> Option<usize>
+/// What is wrong with a grid of Light Up.
+pub(crate) fn find_fault(puzzle: &LightPuzzle, grid: &Grid) -> Option<LightFault>
     requires { IsGrid (light_cells puzzle.now) 2 grid.now }
-    ensures { IsFirstWrong (black_right puzzle.now grid.now) (light_cells puzzle.now) result }
+    ensures { IsLightFault puzzle.now grid.now result }
 {
     for place in 0..cells(puzzle) {
         if !is_black_right(puzzle, grid, place) {
-            return Some(place);
+            return Some(LightFault::Black(place));
         }
     }
-    None
-}
-
-/// The first cell with a wrong number.
-fn first_number(puzzle: &LightPuzzle, grid: &Grid) -> Option<usize>
-    requires { IsGrid (light_cells puzzle.now) 2 grid.now }
-    ensures { IsFirstWrong (number_right puzzle.now grid.now) (light_cells puzzle.now) result }
-{
     for place in 0..cells(puzzle) {
         if !is_number_right(puzzle, grid, place) {
-            return Some(place);
+            return Some(LightFault::Number(place));
         }
     }
-    None
-}
-
-/// The first bulb that sees another.
-fn first_seen(puzzle: &LightPuzzle, grid: &Grid) -> Option<usize>
-    requires { IsGrid (light_cells puzzle.now) 2 grid.now }
-    ensures { IsFirstWrong (bulb_right puzzle.now grid.now) (light_cells puzzle.now) result }
-{
     for place in 0..cells(puzzle) {
         if !is_bulb_right(puzzle, grid, place) {
-            return Some(place);
+            return Some(LightFault::Seen(place));
         }
     }
-    None
-}
-
-/// The first white cell that neither holds a bulb nor sees one.
-fn first_dark(puzzle: &LightPuzzle, grid: &Grid) -> Option<usize>
-    requires { IsGrid (light_cells puzzle.now) 2 grid.now }
-    ensures { IsFirstWrong (lit_right puzzle.now grid.now) (light_cells puzzle.now) result }
-{
     for place in 0..cells(puzzle) {
         if !is_lit_right(puzzle, grid, place) {
-            return Some(place);
+            return Some(LightFault::Dark(place));
         }
     }
     None
@@ -133,17 +108,5 @@ pub fn check_lights(puzzle: &LightPuzzle, grid: &Grid) -> Option<LightFault>
     ensures fault { IsLightFault puzzle.now grid.now result }
     ensures solution { (result ≡ None) ↔ IsLightSolution puzzle.now grid.now }
 {
-    if let Some(place) = first_black(puzzle, grid) {
-        return Some(LightFault::Black(place));
-    }
-    if let Some(place) = first_number(puzzle, grid) {
-        return Some(LightFault::Number(place));
-    }
-    if let Some(place) = first_seen(puzzle, grid) {
-        return Some(LightFault::Seen(place));
-    }
-    if let Some(place) = first_dark(puzzle, grid) {
-        return Some(LightFault::Dark(place));
-    }
-    None
+    find_fault(puzzle, grid)
 }

@@ -24,9 +24,8 @@ fn push_beside(houses: &mut CountList, puzzle: &LightPuzzle, place: usize) -> Re
 {
     let size = puzzle.size();
     for direction in 0..4 {
-        let other = match step(size, place, direction) {
-            Some(other) => other,
-            None => continue,
+        let Some(other) = step(size, place, direction) else {
+            continue;
         };
         if !is_white(puzzle, other) {
             continue;
@@ -170,56 +169,6 @@ fn push_lit(
     Ok(())
 }
 
-/// Adds the houses of the cells with numbers, by place.
-fn push_numbers(houses: &mut CountList, puzzle: &LightPuzzle) -> Result<(), AllocError>
-    requires { houses.old.list.begun ≡ [] }
-    ensures { OnOk result (IsAdded houses.old houses.new
-        (houses_below (number_house puzzle.now) (light_cells puzzle.now))) }
-{
-    for place in 0..cells(puzzle) {
-        push_number(houses, puzzle, place)?;
-    }
-    Ok(())
-}
-
-/// Adds the houses of the runs of the rows, by the places at which they begin.
-fn push_rows(houses: &mut CountList, puzzle: &LightPuzzle) -> Result<(), AllocError>
-    requires { houses.old.list.begun ≡ [] }
-    ensures { OnOk result (IsAdded houses.old houses.new
-        (houses_below (row_house puzzle.now) (light_cells puzzle.now))) }
-{
-    for place in 0..cells(puzzle) {
-        push_row(houses, puzzle, place)?;
-    }
-    Ok(())
-}
-
-/// Adds the houses of the runs of the columns, by the places at which they begin.
-fn push_columns(houses: &mut CountList, puzzle: &LightPuzzle) -> Result<(), AllocError>
-    requires { houses.old.list.begun ≡ [] }
-    ensures { OnOk result (IsAdded houses.old houses.new
-        (houses_below (column_house puzzle.now) (light_cells puzzle.now))) }
-{
-    for place in 0..cells(puzzle) {
-        push_column(houses, puzzle, place)?;
-    }
-    Ok(())
-}
-
-/// Adds the houses of the white cells, by place.
-fn push_lits(houses: &mut CountList, puzzle: &LightPuzzle) -> Result<(), AllocError>
-    requires { houses.old.list.begun ≡ [] }
-    ensures { OnOk result (IsAdded houses.old houses.new
-        (houses_below (lit_house puzzle.now) (light_cells puzzle.now))) }
-{
-    let mut row = Run::none();
-    for place in 0..cells(puzzle) {
-        row = row_after(puzzle, row, place);
-        push_lit(houses, puzzle, &row, place)?;
-    }
-    Ok(())
-}
-
 /// How many houses there are, and how many cells they have together, or somewhat more.
 #[derive(Clone, Copy)]
 struct Sizes {
@@ -268,15 +217,25 @@ impl Sizes {
 }
 
 /// The houses of numbers, of runs in rows, of runs in columns and of white cells, each by place.
-#[tactic(auto, using(crate::proofs::LawSets::light_houses_laws), unfolding(crate::specs::LightHouses::light_houses))]
+#[tactic(auto, using(crate::proofs::LawSets::house_list_laws))]
 pub(crate) fn houses_of_lights(alloc: Global, puzzle: &LightPuzzle) -> Result<CountList, AllocError>
     ensures { IfOk result (λ list. AreListed list (light_houses puzzle.now)) }
 {
     let sizes = Sizes::of(puzzle);
     let mut houses = CountList::new(alloc, sizes.houses, sizes.cells)?;
-    push_numbers(&mut houses, puzzle)?;
-    push_rows(&mut houses, puzzle)?;
-    push_columns(&mut houses, puzzle)?;
-    push_lits(&mut houses, puzzle)?;
+    for place in 0..cells(puzzle) {
+        push_number(&mut houses, puzzle, place)?;
+    }
+    for place in 0..cells(puzzle) {
+        push_row(&mut houses, puzzle, place)?;
+    }
+    for place in 0..cells(puzzle) {
+        push_column(&mut houses, puzzle, place)?;
+    }
+    let mut row = Run::none();
+    for place in 0..cells(puzzle) {
+        row = row_after(puzzle, row, place);
+        push_lit(&mut houses, puzzle, &row, place)?;
+    }
     Ok(houses)
 }

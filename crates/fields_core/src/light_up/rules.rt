@@ -12,7 +12,7 @@ ghost use Rattle.fields_core.specs.Ruled.{IsLightCounting};
 use crate::count::table::CountTable;
 use crate::count::tally::Tally;
 use crate::light_up::cells::{cells, is_white};
-use crate::light_up::check::check_lights;
+use crate::light_up::check::find_fault;
 use crate::light_up::houses::houses_of_lights;
 use engine_core::{Mode, Rules};
 use gameid_core::LightPuzzle;
@@ -170,7 +170,7 @@ impl Rules for LightRules {
     }
 
     fn accept(&self, _tallies: &mut Vec<Tally>, grid: &Grid) -> bool {
-        match check_lights(&self.puzzle, grid) {
+        match find_fault(&self.puzzle, grid) {
             None => true,
             Some(_) => false,
         }

@@ -47,9 +47,8 @@ pub fn count_beside(puzzle: &LightPuzzle, grid: &Grid, place: usize) -> usize
     let size = puzzle.size();
     let mut bulbs = 0;
     for direction in 0..4 {
-        let other = match step(size, place, direction) {
-            Some(other) => other,
-            None => continue,
+        let Some(other) = step(size, place, direction) else {
+            continue;
         };
         if grid.get(other) != 1 {
             continue;

@@ -3,7 +3,6 @@
 
 ghost use Rattle.std.specs.Prelude.{◌≡◌, ℕ, ◌<◌, ◌↔◌, IfOk, None};
 ghost use Rattle.grid_core.specs.Grids.{IsGrid};
-ghost use Rattle.fields_core.specs.Firsts.{IsFirstWrong};
 ghost use Rattle.fields_core.specs.TentFaults.{IsTentFault};
 ghost use Rattle.fields_core.specs.TentScratches.{HasRoom};
 ghost use Rattle.fields_core.specs.TentSolutions.{IsTentSolution};
@@ -97,58 +96,6 @@ fn is_row_right(puzzle: &TentsPuzzle, grid: &Grid, y: usize) -> bool
     count_row(puzzle, grid, y) == usize::from(row_number(puzzle, y))
 }
 
-/// The first tree with a tent on it.
-fn first_tree(puzzle: &TentsPuzzle, grid: &Grid) -> Option<usize>
-    requires { IsGrid (tent_cells puzzle.now) 2 grid.now }
-    ensures { IsFirstWrong (tree_right puzzle.now grid.now) (tent_cells puzzle.now) result }
-{
-    for place in 0..cells(puzzle) {
-        if !is_tree_right(puzzle, grid, place) {
-            return Some(place);
-        }
-    }
-    None
-}
-
-/// The first tent that touches another.
-fn first_touch(puzzle: &TentsPuzzle, grid: &Grid) -> Option<usize>
-    requires { IsGrid (tent_cells puzzle.now) 2 grid.now }
-    ensures { IsFirstWrong (touch_right puzzle.now grid.now) (tent_cells puzzle.now) result }
-{
-    for place in 0..cells(puzzle) {
-        if !is_touch_right(puzzle, grid, place) {
-            return Some(place);
-        }
-    }
-    None
-}
-
-/// The first column without its number of tents.
-fn first_column(puzzle: &TentsPuzzle, grid: &Grid) -> Option<usize>
-    requires { IsGrid (tent_cells puzzle.now) 2 grid.now }
-    ensures { IsFirstWrong (column_right puzzle.now grid.now) puzzle.now.size.w result }
-{
-    for x in 0..columns(puzzle) {
-        if !is_column_right(puzzle, grid, x) {
-            return Some(x);
-        }
-    }
-    None
-}
-
-/// The first row without its number of tents.
-fn first_row(puzzle: &TentsPuzzle, grid: &Grid) -> Option<usize>
-    requires { IsGrid (tent_cells puzzle.now) 2 grid.now }
-    ensures { IsFirstWrong (row_right puzzle.now grid.now) puzzle.now.size.h result }
-{
-    for y in 0..rows(puzzle) {
-        if !is_row_right(puzzle, grid, y) {
-            return Some(y);
-        }
-    }
-    None
-}
-
 /// What is wrong with a grid of Tents.
 pub(crate) fn find_fault(
     puzzle: &TentsPuzzle,
@@ -160,17 +107,25 @@ pub(crate) fn find_fault(
     ensures fault { IsTentFault puzzle.now grid.now result }
     ensures room { (n : ℕ) → HasRoom scratch.old n → HasRoom scratch.new n }
 {
-    if let Some(place) = first_tree(puzzle, grid) {
-        return Some(TentFault::Tree(place));
+    for place in 0..cells(puzzle) {
+        if !is_tree_right(puzzle, grid, place) {
+            return Some(TentFault::Tree(place));
+        }
     }
-    if let Some(place) = first_touch(puzzle, grid) {
-        return Some(TentFault::Touch(place));
+    for place in 0..cells(puzzle) {
+        if !is_touch_right(puzzle, grid, place) {
+            return Some(TentFault::Touch(place));
+        }
     }
-    if let Some(x) = first_column(puzzle, grid) {
-        return Some(TentFault::Column(x));
+    for x in 0..columns(puzzle) {
+        if !is_column_right(puzzle, grid, x) {
+            return Some(TentFault::Column(x));
+        }
     }
-    if let Some(y) = first_row(puzzle, grid) {
-        return Some(TentFault::Row(y));
+    for y in 0..rows(puzzle) {
+        if !is_row_right(puzzle, grid, y) {
+            return Some(TentFault::Row(y));
+        }
     }
     if are_paired(puzzle, grid, scratch) {
         return None;

@@ -53,9 +53,8 @@ fn push_beside(houses: &mut CountList, puzzle: &TentsPuzzle, place: usize) -> Re
 {
     let size = puzzle.size();
     for direction in 0..4 {
-        let other = match step(size, place, direction) {
-            Some(other) => other,
-            None => continue,
+        let Some(other) = step(size, place, direction) else {
+            continue;
         };
         if is_tree(puzzle, other) {
             continue;
@@ -140,89 +139,39 @@ fn push_square(houses: &mut CountList, puzzle: &TentsPuzzle, place: usize) -> Re
     Ok(())
 }
 
-/// Adds the houses of the columns.
-fn push_columns(houses: &mut CountList, puzzle: &TentsPuzzle) -> Result<(), AllocError>
-    requires { houses.old.list.begun ≡ [] }
-    ensures { OnOk result (IsAdded houses.old houses.new
-        (houses_below (column_of_tents puzzle.now) puzzle.now.size.w)) }
-{
-    for x in 0..columns(puzzle) {
-        push_column(houses, puzzle, x)?;
-    }
-    Ok(())
-}
-
-/// Adds the houses of the rows.
-fn push_rows(houses: &mut CountList, puzzle: &TentsPuzzle) -> Result<(), AllocError>
-    requires { houses.old.list.begun ≡ [] }
-    ensures { OnOk result (IsAdded houses.old houses.new
-        (houses_below (row_of_tents puzzle.now) puzzle.now.size.h)) }
-{
-    for y in 0..rows(puzzle) {
-        push_row(houses, puzzle, y)?;
-    }
-    Ok(())
-}
-
-/// Adds the houses of the trees, by place.
-fn push_trees(houses: &mut CountList, puzzle: &TentsPuzzle) -> Result<(), AllocError>
-    requires { houses.old.list.begun ≡ [] }
-    ensures { OnOk result (IsAdded houses.old houses.new
-        (houses_below (tree_house puzzle.now) (tent_cells puzzle.now))) }
-{
-    for place in 0..cells(puzzle) {
-        push_tree(houses, puzzle, place)?;
-    }
-    Ok(())
-}
-
-/// Adds the houses of the squares, by place.
-fn push_squares(houses: &mut CountList, puzzle: &TentsPuzzle) -> Result<(), AllocError>
-    requires { houses.old.list.begun ≡ [] }
-    ensures { OnOk result (IsAdded houses.old houses.new
-        (houses_below (square_house puzzle.now) (tent_cells puzzle.now))) }
-{
-    for place in 0..cells(puzzle) {
-        push_square(houses, puzzle, place)?;
-    }
-    Ok(())
-}
-
-/// How many trees there are.
-fn count_trees(puzzle: &TentsPuzzle) -> usize {
+/// How many houses there are, and how many cells they have together, or somewhat more.
+fn sizes(puzzle: &TentsPuzzle) -> (usize, usize) {
+    let all = cells(puzzle);
     let mut trees = 0usize;
-    for place in 0..cells(puzzle) {
+    for place in 0..all {
         if is_tree(puzzle, place) {
             trees = trees.saturating_add(1);
         }
     }
-    trees
-}
-
-/// How many houses there are, and how many cells they have together, or somewhat more.
-fn sizes(puzzle: &TentsPuzzle) -> (usize, usize) {
     let lines = columns(puzzle).saturating_add(rows(puzzle));
-    let trees = count_trees(puzzle);
-    let all = cells(puzzle);
     let houses = lines.saturating_add(trees).saturating_add(all);
-    (
-        houses,
-        trees
-            .saturating_mul(4)
-            .saturating_add(all.saturating_mul(6)),
-    )
+    let room = trees.saturating_mul(4);
+    (houses, room.saturating_add(all.saturating_mul(6)))
 }
 
 /// The houses of the columns, of the rows, of the trees and of the squares.
-#[tactic(auto, using(crate::proofs::LawSets::tent_houses_laws), unfolding(crate::specs::TentHouses::tent_houses))]
+#[tactic(auto, using(crate::proofs::LawSets::house_list_laws))]
 pub(crate) fn houses_of_tents(alloc: Global, puzzle: &TentsPuzzle) -> Result<CountList, AllocError>
     ensures { IfOk result (λ list. AreListed list (tent_houses puzzle.now)) }
 {
-    let (count, cells) = sizes(puzzle);
-    let mut houses = CountList::new(alloc, count, cells)?;
-    push_columns(&mut houses, puzzle)?;
-    push_rows(&mut houses, puzzle)?;
-    push_trees(&mut houses, puzzle)?;
-    push_squares(&mut houses, puzzle)?;
+    let (count, room) = sizes(puzzle);
+    let mut houses = CountList::new(alloc, count, room)?;
+    for x in 0..columns(puzzle) {
+        push_column(&mut houses, puzzle, x)?;
+    }
+    for y in 0..rows(puzzle) {
+        push_row(&mut houses, puzzle, y)?;
+    }
+    for place in 0..cells(puzzle) {
+        push_tree(&mut houses, puzzle, place)?;
+    }
+    for place in 0..cells(puzzle) {
+        push_square(&mut houses, puzzle, place)?;
+    }
     Ok(houses)
 }

@@ -76,9 +76,8 @@ fn next_tree(puzzle: &TentsPuzzle, numbers: &[usize], place: usize, from: usize)
 {
     let size = puzzle.size();
     for direction in 0..4 {
-        let other = match step(size, place, direction) {
-            Some(other) => other,
-            None => continue,
+        let Some(other) = step(size, place, direction) else {
+            continue;
         };
         if !is_tree(puzzle, other) {
             continue;

@@ -75,9 +75,8 @@ fn is_beside_a_tree(puzzle: &TentsPuzzle, place: usize) -> bool
 {
     let size = puzzle.size();
     for direction in 0..4 {
-        let other = match step(size, place, direction) {
-            Some(other) => other,
-            None => continue,
+        let Some(other) = step(size, place, direction) else {
+            continue;
         };
         if is_tree(puzzle, other) {
             return true;

@@ -1,0 +1,15 @@
+use Rattle.std.proofs.Common.{◌≡◌, ℕ, ◌<◌, true}
+use Rattle.fields_core.specs.Tents.{tree_right, touch_right, column_right, row_right}
+use Rattle.fields_core.proofs.tents.check.find_fault.Given as goal
+
+abbrev pub invariant-loop-place : goal.invariant-loop-place
+invariant-loop-place l = (c : ℕ) → c < l.place → tree_right l.puzzle l.grid c ≡ true
+
+abbrev pub invariant-loop-place-2 : goal.invariant-loop-place-2
+invariant-loop-place-2 l = (c : ℕ) → c < l.place → touch_right l.puzzle l.grid c ≡ true
+
+abbrev pub invariant-loop-x : goal.invariant-loop-x
+invariant-loop-x l = (c : ℕ) → c < l.x → column_right l.puzzle l.grid c ≡ true
+
+abbrev pub invariant-loop-y : goal.invariant-loop-y
+invariant-loop-y l = (c : ℕ) → c < l.y → row_right l.puzzle l.grid c ≡ true
