@@ -14,7 +14,7 @@ use Rattle.fields_core.specs.CountHouse.{CountHouse, IsHouse, count_house_of}
 use Rattle.fields_core.specs.Tallies.{IsTally, tally_at, AreTallied}
 use Rattle.fields_core.specs.declared.count.tally.Tally.{Tally}
 use Rattle.fields_core.proofs.CountTallies.{AreCounted}
-use Rattle.fields_core.proofs.PlaceLists.{count-cons}
+use Rattle.fields_core.proofs.PlaceLists.{count-none}
 use Rattle.std.proofs.lemmas.Grind.{common_steps}
 
 -- the bits of 0 alone
@@ -26,20 +26,13 @@ first (suc (suc v)) low = absurd (omega arith)
 abbrev pub read_below : ℕ → Candidates → ℕ → Candidates
 read_below cells K n c v = cond (ltb c n) (K c v) (ltb c cells && eqb v 0)
 
-none-pass : (test : ℕ → Bool) (xs : List ℕ) → ((c : ℕ) → has_place xs c ≡ true → test c ≡ false) → 0 ≡ count_by test xs
-unfolding has_place
-none-pass test [] none = refl
-none-pass test (x ∷ xs) none =
-    none-pass test xs (λ c on. none c (rw on (or-true (eqb x c))))
-    ∙ sym (count-cons test x xs ∙ (let off = none x (rw (eq-eqb x x refl) refl) in rw off (let z : 0 + count_by test xs ≡ count_by test xs = omega arith in z)))
-
 -- no cell is read: no house counts any
 module _ (cells : ℕ) (K : Candidates) where
   unread : (c v : ℕ) → c < cells → read_below cells K 0 c v ≡ eqb v 0
   unread c v lt = rw (le-ltb c 0 (omega arith), lt-ltb c cells lt) refl
 
   unread-tally : (house : CountHouse) → IsHouse cells house → IsTally (read_below cells K 0) house.places (record { must = 0; may = 0; empty = 0 })
-  unread-tally house is = grind (arith, common_steps, none-pass)
+  unread-tally house is = grind (arith, common_steps, count-none)
 
   pub unread-tallied : (scopes : List (List ℕ)) (houses : List CountHouse) (tallies : List Tally) → AreCounted cells scopes houses → length houses ≤ length tallies
       → ((h : ℕ) → h < length tallies → tally_at tallies h ≡ record { must = 0; may = 0; empty = 0 }) → AreTallied cells houses tallies (read_below cells K 0)

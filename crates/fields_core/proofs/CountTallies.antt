@@ -1,5 +1,5 @@
 -- What is counted of the cells of count houses.
-use Rattle.std.proofs.Common.{◌≡◌, ℕ, zero, suc, ◌+◌, ◌<◌, ◌≤◌, ◌^◌, Bool, true, false, not, ◌&&◌, eqb, cond, List, length, slice_index, set, take, refl, sym, ◌∙◌, ap, ap₂, subst, inl, inr, arith}
+use Rattle.std.proofs.Common.{◌≡◌, ℕ, zero, suc, ◌+◌, ◌-◌, ◌<◌, ◌≤◌, ◌^◌, Bool, true, false, not, ◌&&◌, eqb, cond, List, length, slice_index, set, take, refl, sym, ◌∙◌, ap, ap₂, subst, inl, inr, arith}
 use Rattle.std.specs.List.{count_by}
 use Rattle.std.proofs.lemmas.Bool.{cases_Bool, cases_eq, true≢false, false≢true}
 use Rattle.std.proofs.lemmas.List.{take_all, length-set, get_or-set_same, get_or-set_other}
@@ -64,6 +64,14 @@ none-set (suc (suc zero)) lt = refl
 none-set (suc (suc (suc zero))) lt = refl
 none-set (suc (suc (suc (suc bits)))) lt = absurd (omega arith)
 
+-- one count after a cell changed
+one-moved : (p q : ℕ → Bool) (place : ℕ) → ((c : ℕ) → (c ≡ place → ⊥) → q c ≡ p c) → (places : List ℕ) → has_place places place ≡ true → AreDistinct places
+    → (n a b : ℕ) → n ≡ count_by p places → a ≡ num (p place) → b ≡ num (q place) → (a ≤ n) × (n - a + b ≡ count_by q places)
+one-moved p q place others places on different n a b is before after =
+    let there = count-there p place places on in
+    let moved = count-at p q place others places different on in
+    (omega arith, omega arith)
+
 module _ (cells : ℕ) (K L : Candidates) (place before after : ℕ) (change : IsChange cells 2 K L place before after) (places : List ℕ) (t : Tally) (is : IsTally K places t) where
   must_before : num (not (has_bit before 0)) ≡ num (not (K place 0))
   must_before = ap (λ b. num (not b)) (change.before_is.same 0 (omega arith))
@@ -93,44 +101,29 @@ module _ (cells : ℕ) (K L : Candidates) (place before after : ℕ) (change : I
     empty_is = is.empty_is ∙ sym (count-off (is_empty K) (is_empty L) place (λ c ne. ap₂ (λ a b. not a && not b) (other c ne 0) (other c ne 1)) places off);
   }
 
-  module _ (on : has_place places place ≡ true) where
-    must-there : cond (not (has_bit before 0)) 1 0 ≤ t.must
-    must-there = let w = count-there (λ c. not (K c 0)) (λ c. not (L c 0)) place (λ c ne. ap not (other c ne 0)) places on in let a = must_before in let b = is.must_is in omega arith
+  module _ (on : has_place places place ≡ true) (different : AreDistinct places) where
+    must_moved : (num (not (has_bit before 0)) ≤ t.must) × ((moved_tally t before after).must ≡ count_by (λ c. not (L c 0)) places)
+    must_moved = one-moved (λ c. not (K c 0)) (λ c. not (L c 0)) place (λ c ne. ap not (other c ne 0)) places on different t.must _ _ is.must_is must_before must_after
 
-    may-there : cond (has_bit before 1) 1 0 ≤ t.may
-    may-there = let w = count-there (λ c. K c 1) (λ c. L c 1) place (λ c ne. other c ne 1) places on in let a = may_before in let b = is.may_is in omega arith
+    may_moved : (num (has_bit before 1) ≤ t.may) × ((moved_tally t before after).may ≡ count_by (λ c. L c 1) places)
+    may_moved = one-moved (λ c. K c 1) (λ c. L c 1) place (λ c ne. other c ne 1) places on different t.may _ _ is.may_is may_before may_after
 
-    empty-there : cond (eqb before 0) 1 0 ≤ t.empty
-    empty-there = let w = count-there (is_empty K) (is_empty L) place (λ c ne. ap₂ (λ a b. not a && not b) (other c ne 0) (other c ne 1)) places on in let a = empty_before in let b = is.empty_is in omega arith
+    empty_moved : (num (eqb before 0) ≤ t.empty) × ((moved_tally t before after).empty ≡ count_by (is_empty L) places)
+    empty_moved = one-moved (is_empty K) (is_empty L) place (λ c ne. ap₂ (λ a b. not a && not b) (other c ne 0) (other c ne 1)) places on different t.empty _ _ is.empty_is empty_before empty_after
 
-    pub tally-moved : AreDistinct places → IsTally L places (moved_tally t before after)
-    tally-moved different = record {
-      must_is =
-          let w = count-at (λ c. not (K c 0)) (λ c. not (L c 0)) place (λ c ne. ap not (other c ne 0)) places different on in
-          let a = must_before in let b = must_after in let c = is.must_is in let d = must-there in
-          omega arith;
-      may_is =
-          let w = count-at (λ c. K c 1) (λ c. L c 1) place (λ c ne. other c ne 1) places different on in
-          let a = may_before in let b = may_after in let c = is.may_is in let d = may-there in
-          omega arith;
-      empty_is =
-          let w = count-at (is_empty K) (is_empty L) place (λ c ne. ap₂ (λ x y. not x && not y) (other c ne 0) (other c ne 1)) places different on in
-          let a = empty_before in let b = empty_after in let c = is.empty_is in let d = empty-there in
-          omega arith;
-    }
+    pub tally-moved : IsTally L places (moved_tally t before after)
+    tally-moved = record { must_is = must_moved.1; may_is = may_moved.1; empty_is = empty_moved.1 }
 
     -- no count passes the number of cells
-    pub can-move : AreDistinct places → length places < 2 ^ 32 → CanMove t before after
-    can-move different few =
-        let m = tally-moved different in
-        record {
-          must_before = must-there;
-          may_before = may-there;
-          empty_before = empty-there;
-          few_must = omega (arith, m.must_is, count_by-le-length (λ c. not (L c 0)) places);
-          few_may = omega (arith, m.may_is, count_by-le-length (λ c. L c 1) places);
-          few_empty = omega (arith, m.empty_is, count_by-le-length (is_empty L) places);
-        }
+    pub can-move : length places < 2 ^ 32 → CanMove t before after
+    can-move few = record {
+      must_before = must_moved.0;
+      may_before = may_moved.0;
+      empty_before = empty_moved.0;
+      few_must = omega (arith, must_moved.1, count_by-le-length (λ c. not (L c 0)) places);
+      few_may = omega (arith, may_moved.1, count_by-le-length (λ c. L c 1) places);
+      few_empty = omega (arith, empty_moved.1, count_by-le-length (is_empty L) places);
+    }
 
 -- ---- a table of houses, and the tallies of all of them
 -- as a table of scopes has it

@@ -1,7 +1,7 @@
 -- The run around a cell of a line is what has only white cells between it and the cell.
-use Rattle.std.proofs.Common.{◌≡◌, ℕ, zero, suc, ◌+◌, ◌-◌, ◌*◌, ◌/◌, ◌%◌, ◌<◌, ◌≤◌, ◌^◌, min, max, Bool, true, false, cond, List, [], ◌∷◌, ◌++◌, length, slice_index, map, refl, sym, ap, ◌∙◌, subst, inl, inr, arith}
+use Rattle.std.proofs.Common.{◌≡◌, ℕ, zero, suc, ◌+◌, ◌-◌, ◌*◌, ◌/◌, ◌%◌, ◌<◌, ◌≤◌, ◌^◌, min, max, Bool, true, false, cond, List, [], ◌∷◌, ◌++◌, length, slice_index, map, refl, sym, ap, ◌∙◌, inl, inr, add-one, arith}
 use Rattle.std.specs.List.{filter, range_with_len}
-use Rattle.std.proofs.lemmas.Bool.{cases_lt, true≢false, false_from_ne_true, eq-eqb}
+use Rattle.std.proofs.lemmas.Bool.{cases_Bool, cases_lt, true≢false, false_from_ne_true, eq-eqb}
 use Rattle.std.proofs.lemmas.Nat.{div-mul-add, mod-mul-add}
 use Rattle.std.proofs.lemmas.List.FromFn.{length-map-range_with_len, get_or-map-range_with_len}
 use Rattle.std.proofs.Math.Nat.{mod-lt, mul-le-mul_right}
@@ -23,35 +23,40 @@ range-split s (suc a) b =
     let z : s + 1 + a ≡ s + suc a = omega arith in
     rw y (ap (λ l. s ∷ l) (range-split (s + 1) a b ∙ ap (λ n. range_with_len (s + 1) a ++ range_with_len n b) z))
 
-range-none : (test : ℕ → Bool) (s n : ℕ) → ((i : ℕ) → s ≤ i → i < s + n → test i ≡ false) → filter test (range_with_len s n) ≡ []
-range-none test s zero none = refl
-range-none test s (suc n) none = rw (none s (omega arith) (omega arith)) (range-none test (s + 1) n (λ i low high. none i (omega arith) (omega arith)))
+-- the numbers below n that pass
+abbrev pub passing : (ℕ → Bool) → ℕ → List ℕ
+passing test n = filter test (range_with_len 0 n)
 
-range-all : (test : ℕ → Bool) (s n : ℕ) → ((i : ℕ) → s ≤ i → i < s + n → test i ≡ true) → filter test (range_with_len s n) ≡ range_with_len s n
-range-all test s zero all = refl
-range-all test s (suc n) all = rw (all s (omega arith) (omega arith)) (ap (λ l. s ∷ l) (range-all test (s + 1) n (λ i low high. all i (omega arith) (omega arith))))
+pub passing-more : (test : ℕ → Bool) (n : ℕ) → passing test (n + 1) ≡ passing test n ++ cond (test n) (n ∷ []) []
+passing-more test n = ap (filter test) (range-split 0 n 1) ∙ filter-append test (range_with_len 0 n) (range_with_len (0 + n) 1)
+    ∙ (let z : 0 + n ≡ n = omega arith in ap (λ k. passing test n ++ filter test (range_with_len k 1)) z)
 
-filter-range : (test : ℕ → Bool) (len start end : ℕ) → start ≤ end → end ≤ len → ((i : ℕ) → i < start → test i ≡ false) → ((i : ℕ) → start ≤ i → i < end → test i ≡ true)
-    → ((i : ℕ) → end ≤ i → i < len → test i ≡ false) → filter test (range_with_len 0 len) ≡ range_with_len start (end - start)
-filter-range test len start end low high before inside after =
-    let e : start + (end - start + (len - end)) ≡ len = omega arith in
-    let z : 0 + start ≡ start = omega arith in
-    let y : start + (end - start) ≡ end = omega arith in
-    ap (λ n. filter test (range_with_len 0 n)) (sym e)
-    ∙ ap (filter test) (range-split 0 start (end - start + (len - end)))
-    ∙ filter-append test (range_with_len 0 start) (range_with_len (0 + start) (end - start + (len - end)))
-    ∙ ap (λ l. l ++ filter test (range_with_len (0 + start) (end - start + (len - end)))) (range-none test 0 start (λ i a b. before i (omega arith)))
-    ∙ ap (λ n. filter test (range_with_len n (end - start + (len - end)))) z
-    ∙ ap (filter test) (range-split start (end - start) (len - end))
-    ∙ filter-append test (range_with_len start (end - start)) (range_with_len (start + (end - start)) (len - end))
-    ∙ ap (λ l. l ++ filter test (range_with_len (start + (end - start)) (len - end))) (range-all test start (end - start) (λ i a b. inside i a (omega arith)))
-    ∙ ap (λ l. range_with_len start (end - start) ++ l) (range-none test (start + (end - start)) (len - end) (λ i a b. after i (omega arith) (omega arith)))
-    ∙ append-nil (range_with_len start (end - start))
+pub passing-suc : (test : ℕ → Bool) (n : ℕ) → passing test (suc n) ≡ passing test n ++ cond (test n) (n ∷ []) []
+passing-suc test n = ap (passing test) (sym (add-one n)) ∙ passing-more test n
+
+-- they are those from start to the one before end
+passing-range : (test : ℕ → Bool) (start end n : ℕ) → start ≤ end → ((i : ℕ) → i < start → test i ≡ false) → ((i : ℕ) → start ≤ i → i < end → test i ≡ true)
+    → ((i : ℕ) → end ≤ i → i < n → test i ≡ false) → passing test n ≡ range_with_len start (min n end - start)
+passing-range test start end zero low before inside past = let z : min 0 end - start ≡ 0 = omega arith in rw z refl
+passing-range test start end (suc n) low before inside past =
+    passing-suc test n ∙ ap (λ l. l ++ cond (test n) (n ∷ []) []) (passing-range test start end n low before inside (λ i a b. past i a (omega arith))) ∙ next
+  where
+    next : range_with_len start (min n end - start) ++ cond (test n) (n ∷ []) [] ≡ range_with_len start (min (suc n) end - start)
+    next = elim (cases_lt n start) [
+      | inl early ↦ let z : min (suc n) end - start ≡ min n end - start = omega arith in rw (before n early, z) (append-nil _)
+      | inr on ↦ elim (cases_lt n end) [
+        | inl there ↦
+            let z : min (suc n) end - start ≡ min n end - start + 1 = omega arith in
+            let y : start + (min n end - start) ≡ n = omega arith in
+            rw (inside n on there, z, range-split start (min n end - start) 1, y) refl
+        | inr late ↦ let z : min (suc n) end - start ≡ min n end - start = omega arith in rw (past n late (omega arith), z) (append-nil _)
+      ]
+    ]
 
 -- ---- the run around a number
 pub run-black : (test : ℕ → Bool) (len at : ℕ) → test at ≡ false → filter (clear test at) (range_with_len 0 len) ≡ []
-run-black test len at off = range-none (clear test at) 0 len (λ i low high. false_from_ne_true (clear test at i) (λ on.
-    true≢false (sym (clear-at test at i at on (omega arith) (omega arith)) ∙ off)))
+run-black test len at off = let z : min len 0 - 0 ≡ 0 = omega arith in rw z at (passing-range (clear test at) 0 0 len (omega arith) (λ i low. absurd (omega arith)) (λ i a b. absurd (omega arith))
+    (λ i a b. false_from_ne_true (clear test at i) (λ on. true≢false (sym (clear-at test at i at on (omega arith) (omega arith)) ∙ off))))
 
 pub run-white : (test : ℕ → Bool) (len at start end : ℕ) → test at ≡ true → RunsBack test at start → RunsOn test len at end
     → filter (clear test at) (range_with_len 0 len) ≡ range_with_len start (end - start)
@@ -59,17 +64,13 @@ run-white test len at start end here back on =
     let low = back.low in
     let past = on.past in
     let high = on.high in
-    filter-range (clear test at) len start end (omega arith) high
-    (λ i below. elim (cases_lt i start) [
-      | inl a ↦ false_from_ne_true (clear test at i) (λ joined. blocked i below joined start refl)
-      | inr b ↦ absurd (omega arith)
-    ])
+    let z : min len end ≡ end = omega arith in
+    rw z at (passing-range (clear test at) start end len (omega arith) (λ i below. false_from_ne_true (clear test at i) (λ joined. blocked i below joined start refl))
     (λ i above below. clear-from test at i (λ k a b. inside i k above below a b))
-    (λ i above below. false_from_ne_true (clear test at i) (λ joined.
-    true≢false (sym (clear-at test at i end joined (omega arith) (omega arith)) ∙ on.edge (omega arith))))
+    (λ i above below. false_from_ne_true (clear test at i) (λ joined. true≢false (sym (clear-at test at i end joined (omega arith) (omega arith)) ∙ on.edge (omega arith)))))
   where
     blocked : (i : ℕ) → i < start → clear test at i ≡ true → (s : ℕ) → s ≡ start → ⊥
-    blocked i below joined zero e = absurd (omega arith)
+    blocked i below joined zero e = omega arith
     blocked i below joined (suc s) e = let low = back.low in true≢false (sym (clear-at test at i s joined (omega arith) (omega arith)) ∙ back.edge s e)
 
     inside : (i k : ℕ) → start ≤ i → i < end → min at i ≤ k → k ≤ max at i → test k ≡ true
@@ -78,21 +79,11 @@ run-white test len at start end here back on =
 -- ---- the same along two ways of numbering one line
 pub filter-map : (f : ℕ → ℕ) (test : ℕ → Bool) (xs : List ℕ) → filter test (map f xs) ≡ map f (filter (λ x. test (f x)) xs)
 filter-map f test [] = refl
-filter-map f test (x ∷ xs) = by (test (f x)) (filter-map f test xs)
-  where
-    by : (b : Bool) → filter test (map f xs) ≡ map f (filter (λ y. test (f y)) xs) → cond b (f x ∷ filter test (map f xs)) (filter test (map f xs)) ≡ map f (cond b (x ∷ filter (λ y. test (f y)) xs) (filter (λ y. test (f y)) xs))
-    by true e = ap (λ l. f x ∷ l) e
-    by false e = e
+filter-map f test (x ∷ xs) = elim (cases_Bool (test (f x))) [ inl on ↦ rw on (ap (λ l. f x ∷ l) (filter-map f test xs)) | inr off ↦ rw off (filter-map f test xs) ]
 
 pub filter-same : (s t : ℕ → Bool) (a n : ℕ) → ((i : ℕ) → a ≤ i → i < a + n → s i ≡ t i) → filter s (range_with_len a n) ≡ filter t (range_with_len a n)
 filter-same s t a zero same = refl
-filter-same s t a (suc n) same =
-    rw (same a (omega arith) (omega arith)) (by (t a) (filter-same s t (a + 1) n (λ i low high. same i (omega arith) (omega arith))))
-  where
-    by : (b : Bool) → filter s (range_with_len (a + 1) n) ≡ filter t (range_with_len (a + 1) n)
-        → cond b (a ∷ filter s (range_with_len (a + 1) n)) (filter s (range_with_len (a + 1) n)) ≡ cond b (a ∷ filter t (range_with_len (a + 1) n)) (filter t (range_with_len (a + 1) n))
-    by true e = ap (λ l. a ∷ l) e
-    by false e = e
+filter-same s t a (suc n) same = rw (same a (omega arith) (omega arith), filter-same s t (a + 1) n (λ i low high. same i (omega arith) (omega arith))) refl
 
 pub map-same : (f g : ℕ → ℕ) (xs : List ℕ) → ((i : ℕ) → f i ≡ g i) → map f xs ≡ map g xs
 map-same f g [] same = refl
@@ -119,9 +110,7 @@ column-cell-joined p c y pos = grind (arith, common_steps, mod-lt, div-mul-add, 
 pub row-run-is : (p : Light) (c w : ℕ) → w ≡ p.size.w
     → map (λ i. c - c % w + i * 1) (filter (clear (λ i. white p (c - c % w + i * 1)) (c % w)) (range_with_len 0 w)) ≡ row_run p c
 unfolding row_run
-row-run-is p c w e = subst (λ n. map (λ i. c - c % n + i * 1) (filter (clear (λ i. white p (c - c % n + i * 1)) (c % n)) (range_with_len 0 n))
-    ≡ filter (joined_in_row p c) (row_places p.size (c / p.size.w))) (sym e)
-    (line-run (joined_in_row p c) (λ i. white p (c / p.size.w * p.size.w + i)) (λ i. white p (c - c % p.size.w + i * 1)) (c % p.size.w) p.size.w
+row-run-is p c w e = rw e (line-run (joined_in_row p c) (λ i. white p (c / p.size.w * p.size.w + i)) (λ i. white p (c - c % p.size.w + i * 1)) (c % p.size.w) p.size.w
     (λ x. c / p.size.w * p.size.w + x) (λ i. c - c % p.size.w + i * 1) same (λ i. ap (white p) (same i)) (λ i lt. row-cell-joined p c i lt))
   where
     same : (i : ℕ) → c - c % p.size.w + i * 1 ≡ c / p.size.w * p.size.w + i
@@ -130,12 +119,8 @@ row-run-is p c w e = subst (λ n. map (λ i. c - c % n + i * 1) (filter (clear (
 pub column-run-is : (p : Light) (c w h : ℕ) → 0 < p.size.w → w ≡ p.size.w → h ≡ p.size.h
     → map (λ i. c % w + i * w) (filter (clear (λ i. white p (c % w + i * w)) (c / w)) (range_with_len 0 h)) ≡ column_run p c
 unfolding column_run
-column-run-is p c w h pos e f = subst (λ n. map (λ i. c % n + i * n) (filter (clear (λ i. white p (c % n + i * n)) (c / n)) (range_with_len 0 h))
-    ≡ filter (joined_in_column p c) (column_places p.size (c % p.size.w))) (sym e)
-    (subst (λ n. map (λ i. c % p.size.w + i * p.size.w) (filter (clear (λ i. white p (c % p.size.w + i * p.size.w)) (c / p.size.w)) (range_with_len 0 n))
-    ≡ filter (joined_in_column p c) (column_places p.size (c % p.size.w))) (sym f)
-    (line-run (joined_in_column p c) (λ i. white p (i * p.size.w + c % p.size.w)) (λ i. white p (c % p.size.w + i * p.size.w)) (c / p.size.w) p.size.h
-    (λ y. y * p.size.w + c % p.size.w) (λ i. c % p.size.w + i * p.size.w) same (λ i. ap (white p) (same i)) (λ i lt. column-cell-joined p c i pos)))
+column-run-is p c w h pos e f = rw (e, f) (line-run (joined_in_column p c) (λ i. white p (i * p.size.w + c % p.size.w)) (λ i. white p (c % p.size.w + i * p.size.w)) (c / p.size.w) p.size.h
+    (λ y. y * p.size.w + c % p.size.w) (λ i. c % p.size.w + i * p.size.w) same (λ i. ap (white p) (same i)) (λ i lt. column-cell-joined p c i pos))
   where
     same : (i : ℕ) → c % p.size.w + i * p.size.w ≡ i * p.size.w + c % p.size.w
     same i = omega arith

@@ -7,6 +7,7 @@ use Rattle.grid_core.specs.Candidates.{count_below}
 use Rattle.grid_core.specs.Extent.{Extent}
 use Rattle.grid_core.specs.Regions.{steps, step}
 use Rattle.engine_core.specs.Puzzle.{IsNext}
+use Rattle.engine_core.proofs.IndexLemmas.{counted}
 use Rattle.gameid_core.specs.Puzzles.{Tents}
 use Rattle.fields_core.specs.Tents.{tent_cells, tree}
 use Rattle.fields_core.specs.TentPairs.{trees_of, tree_count, tree_beside, may_pair}
@@ -14,7 +15,7 @@ use Rattle.fields_core.specs.TentHouses.{is_bare}
 use Rattle.fields_core.proofs.StepLaws.{some-inj, ascends, steps-some}
 use Rattle.fields_core.proofs.BelowLemmas.{any-here, any-none}
 use Rattle.fields_core.proofs.TentBeside.{steps-has}
-use Rattle.fields_core.proofs.TentNumbers.{passing-long, passing-at, at-passing, count-under}
+use Rattle.fields_core.proofs.TentNumbers.{passing-long, passing-at, at-passing}
 use Rattle.std.proofs.lemmas.Grind.{common_steps}
 
 none-some : (d : ℕ) → None ≡ Some d → ⊥
@@ -43,10 +44,10 @@ pub next-found : (p : Tents) (c from n other number : ℕ) → 2 ≤ p.size.w �
     → IsNext (tree_beside p c) (tree_count p) from (Some number)
 next-found p c from n other number wide passed lt at inside on is ge = (
   ge,
-  let u = count-under (tree p) other (tent_cells p) inside on in omega arith,
+  let u = counted (tree p) other (tent_cells p) inside on in omega arith,
   rw (is, at-passing (tree p) (tent_cells p) other inside on) (steps-has p.size c 4 n other lt (sym at)),
   λ j from_j less. false_from_ne_true (tree_beside p c j) (λ near.
-      let u = count-under (tree p) other (tent_cells p) inside on in
+      let u = counted (tree p) other (tent_cells p) inside on in
       let w = passing-at (tree p) (tent_cells p) j (omega (arith, passing-long (tree p) (tent_cells p))) in
       let s = steps-some p.size c 4 (slice_index (trees_of p) j) near in
       let b = w.before in
@@ -56,7 +57,7 @@ next-found p c from n other number wide passed lt at inside on is ge = (
           | inl same ↦ let e : other ≡ slice_index (trees_of p) j = some-inj (at ∙ rw same at s.2) in let f = ap (count_below (tree p)) e in omega arith
           | inr after ↦
               let up : other < slice_index (trees_of p) j = ascends p.size c other (slice_index (trees_of p) j) n s.0 (omega arith) (omega arith) s.1 (sym at) s.2 in
-              let f = count-under (tree p) other (slice_index (trees_of p) j) up on in
+              let f = counted (tree p) other (slice_index (trees_of p) j) up on in
               omega arith
         ]
       ]),

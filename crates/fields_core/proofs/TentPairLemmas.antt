@@ -15,13 +15,14 @@ use Rattle.engine_core.specs.PlaceLaws.{has_place-here, AreDistinct, different-f
 use Rattle.engine_core.specs.Filling.{has_value, Fills}
 use Rattle.engine_core.specs.FillingLaws.{test_from_filling}
 use Rattle.engine_core.specs.House.{AreDifferent}
+use Rattle.engine_core.proofs.IndexLemmas.{counted}
 use Rattle.gameid_core.specs.Puzzles.{Tents}
 use Rattle.fields_core.specs.Tents.{tent_cells, tree, tent, names_none_twice, leaves_none_out, trees_beside, can_be_paired}
 use Rattle.fields_core.specs.TentPairs.{trees_of, tree_count, may_pair, AreIn}
 use Rattle.fields_core.specs.TentSolutions.{IsPairedBy}
-use Rattle.fields_core.proofs.BelowLemmas.{index_of, index-is, place-map, none-twice-from, distinct-none-twice, different-map, range-distinct, each-named}
+use Rattle.fields_core.proofs.BelowLemmas.{index_of, index-is, place-map, none-twice-from, distinct-none-twice, different-map, range-distinct, few-below, each-named}
 use Rattle.fields_core.proofs.TentBeside.{beside-in}
-use Rattle.fields_core.proofs.TentNumbers.{IsPassing, passing-long, passing-at, at-passing, count-under}
+use Rattle.fields_core.proofs.TentNumbers.{IsPassing, passing-long, passing-at, at-passing}
 use Rattle.fields_core.proofs.TentCounting.{tents_of, IsGiven, given, tent-in, in-range}
 use Rattle.std.proofs.lemmas.Grind.{common_steps}
 
@@ -77,7 +78,7 @@ pairs-from p g tree_of long is =
 
 -- the number of a tree, and the tree of a number
 tree-number : (p : Tents) (c : ℕ) → c < tent_cells p → tree p c ≡ true → (count_below (tree p) c < tree_count p) × (slice_index (trees_of p) (count_below (tree p) c) ≡ c)
-tree-number p c lt on = (count-under (tree p) c (tent_cells p) lt on, at-passing (tree p) (tent_cells p) c lt on)
+tree-number p c lt on = (counted (tree p) c (tent_cells p) lt on, at-passing (tree p) (tent_cells p) c lt on)
 
 number-tree : (p : Tents) (r : ℕ) → r < tree_count p → IsPassing (tree p) (tent_cells p) r
 number-tree p r lt = passing-at (tree p) (tent_cells p) r (omega (arith, passing-long (tree p) (tent_cells p)))
@@ -130,13 +131,6 @@ module _ (p : Tents) (g mates : List ℕ) (long : length g ≡ tent_cells p) (wh
   whole-pairs = pairs-from p g tree_of long each-paired
 
 -- ---- a pairing is a choice of a tree for each tent
--- different numbers below m are m at most
-few-below : (f : ℕ → ℕ) (n m : ℕ) → ((l : ℕ) → l < n → f l < m) → ((l k : ℕ) → l < n → k < n → f l ≡ f k → l ≡ k) → n ≤ m
-few-below f n m below own = elim (cases_lt m n) [
-  | inl more ↦ let w = each-named f n m (λ l lt. let b = below l lt in omega arith) own more in let b = below w.0 w.1 in let e = w.2 in absurd (omega arith)
-  | inr few ↦ few
-]
-
 module _ (p : Tents) (g chosen : List ℕ) (is : IsGiven p g chosen) where
   chosen-different : AreDifferent chosen
   chosen-different = different-from chosen (distinct-none-twice chosen is.none_twice)

@@ -1,6 +1,6 @@
 use Rattle.std.proofs.Common.{◌≡◌, ◌≤◌, length, take}
 use Rattle.fields_core.specs.Tents.{tent}
-use Rattle.fields_core.proofs.TentNumbers.{passing}
+use Rattle.fields_core.proofs.RunLemmas.{passing}
 use Rattle.fields_core.proofs.tents.pairs.list_tents.Given as goal
 
 abbrev pub invariant-loop-place : goal.invariant-loop-place
