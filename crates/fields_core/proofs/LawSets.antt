@@ -4,7 +4,7 @@ use Rattle.engine_core.proofs.HouseLemmas.{striking-first}
 use Rattle.fields_core.proofs.CountKept.{kept-first}
 use Rattle.fields_core.proofs.CountListLemmas.{as-many, begun-more, begun-none, begun-same, below-more, below-none, bounded-listed}
 use Rattle.fields_core.proofs.CountTallies.{tallied-first, tallied-more, tallied-whole}
-use Rattle.fields_core.proofs.HouseLists.{column-after, column-black, column-edge, column-long, row-after, row-black, row-edge, row-long, step-keep, step-none, step-skip}
+use Rattle.fields_core.proofs.HouseLists.{column-after, column-black, column-edge, row-after, row-black, row-edge, step-keep, step-none, step-skip}
 use Rattle.fields_core.proofs.LightCounting.{light-counting}
 use Rattle.fields_core.proofs.LightFaultLemmas.{fault-not, lit-from}
 use Rattle.fields_core.proofs.LightLines.{cell-at, white-at}
@@ -12,15 +12,16 @@ use Rattle.fields_core.proofs.LightRuleLemmas.{rule-from-test, test-from-rule}
 use Rattle.fields_core.proofs.LightSeen.{column-run-in, row-run-in, seen-in-row}
 use Rattle.fields_core.proofs.LightSight.{some-column}
 use Rattle.fields_core.proofs.RuleLemmas.{after-is, light-houses, same-shape, start-all, start-blocked}
-use Rattle.fields_core.proofs.RunLemmas.{few-cells, run-black, run-long, run-white}
+use Rattle.fields_core.proofs.RunLemmas.{column-made, few-cells, row-made, run-black, run-long, run-white}
 use Rattle.fields_core.proofs.TentCounting.{tent-counting}
-use Rattle.fields_core.proofs.TentLines.{far-below, line-skip, line-start, none-below, touch-columns, touch-rows}
+use Rattle.fields_core.proofs.TentLines.{far-below, line-all, line-more, line-skip, line-start, none-below, touch-columns, touch-rows}
 use Rattle.fields_core.proofs.TentNext.{barred-alone, barred-tree, next-joined, next-none, passed-bare, passed-early, passed-edge, passed-start, tree-found, treeless-all}
 use Rattle.fields_core.proofs.TentNumbers.{count-none, listed-all, listed-skip}
 use Rattle.fields_core.proofs.TentPairLemmas.{count-is, listed-tents, others-unpaired, short-unpaired, whole-pairs}
 use Rattle.fields_core.proofs.TentRuleLemmas.{camp-from, camp-from-solution, camp-not, solution-from-camp, tent-table}
 use Rattle.grid_core.proofs.CandidateLemmas.{all_below-from}
 use Rattle.std.proofs.lemmas.Bool.{eq-eqb, ne_eqb}
+use Rattle.std.proofs.Math.Nat.{mul-le-mul_right}
 use Rattle.std.proofs.lemmas.List.{append-nil, append_assoc, map-append, take_all}
 
 pub ruleset count_table_laws = (upto-first)
@@ -43,9 +44,11 @@ pub ruleset light_run_laws = (run-long, few-cells, run-black, run-white)
 
 pub ruleset light_sight_laws = (row-run-in, seen-in-row, column-run-in)
 
+pub ruleset run_laws = (run-long, row-made, column-made, mul-le-mul_right)
+
 pub ruleset tally_laws = (tallied-first, tallied-more, tallied-whole)
 
-pub ruleset tent_check_laws = (line-start, column-long, line-skip, row-long, camp-from, all_below-from, ne_eqb, eq-eqb)
+pub ruleset tent_check_laws = (line-start, line-skip, line-more, line-all, camp-from, all_below-from, ne_eqb, eq-eqb)
 
 pub ruleset tent_houses_laws = (begun-none, begun-same, step-none, step-skip, begun-more, step-keep)
 

@@ -6,12 +6,15 @@ use Rattle.std.proofs.lemmas.Nat.{div-mul-add, mod-mul-add}
 use Rattle.std.proofs.lemmas.List.FromFn.{length-map-range_with_len, get_or-map-range_with_len}
 use Rattle.std.proofs.Math.Nat.{mod-lt, mul-le-mul_right}
 use Rattle.grid_core.specs.Regions.{row_places, column_places}
+use Rattle.grid_core.specs.Extent.{Extent}
 use Rattle.gameid_core.specs.Puzzles.{Light, IsLight}
 use Rattle.std.proofs.lemmas.List.{append-nil}
 use Rattle.std.proofs.lemmas.List.Elements.{filter-append}
 use Rattle.fields_core.specs.Light.{light_cells, white, clear, joined_in_row, joined_in_column}
 use Rattle.fields_core.specs.LightHouses.{row_run, column_run}
 use Rattle.fields_core.specs.Runs.{RunsBack, RunsOn}
+use Rattle.grid_core.proofs.RegionLemmas.{row-at, column-at}
+use Rattle.fields_core.proofs.HouseLists.{row-long, column-long}
 use Rattle.fields_core.proofs.LightHouseLaws.{clear-at, clear-from}
 use Rattle.std.proofs.lemmas.Grind.{common_steps}
 
@@ -131,6 +134,19 @@ run-long f start n xs e = sym (length-map-range_with_len f start n) ∙ ap lengt
 
 pub run-at : (first stride start n k : ℕ) (xs : List ℕ) → map (λ i. first + i * stride) (range_with_len start n) ≡ xs → k < length xs → first + (start + k) * stride ≡ slice_index xs k
 run-at first stride start n k xs e lt = grind (arith, common_steps, run-long, get_or-map-range_with_len, slice_index)
+
+-- the cells of a row and of a column
+pub row-made : (size : Extent) (y w : ℕ) → w ≡ size.w → map (λ i. y * w + i * 1) (range_with_len 0 (w - 0)) ≡ row_places size y
+row-made size y w e = let z : size.w - 0 ≡ size.w = omega arith in rw (e, z) (map-same (λ i. y * size.w + i * 1) (λ x. y * size.w + x) (range_with_len 0 size.w) (λ i. omega arith))
+
+pub column-made : (size : Extent) (x w h : ℕ) → w ≡ size.w → h ≡ size.h → map (λ i. x + i * w) (range_with_len 0 (h - 0)) ≡ column_places size x
+column-made size x w h e f = let z : size.h - 0 ≡ size.h = omega arith in rw (e, f, z) (map-same (λ i. x + i * size.w) (λ y. y * size.w + x) (range_with_len 0 size.h) (λ i. omega arith))
+
+pub row-cell : (size : Extent) (y k : ℕ) → y < size.h → k < length (row_places size y) → slice_index (row_places size y) k < size.w * size.h
+row-cell size y k lt low = grind (arith, common_steps, row-long, row-at, mul-le-mul_right)
+
+pub column-cell : (size : Extent) (x k : ℕ) → x < size.w → k < length (column_places size x) → slice_index (column_places size x) k < size.w * size.h
+column-cell size x k lt low = grind (arith, common_steps, column-long, column-at, mul-le-mul_right)
 
 pub few-cells : (p : Light) → IsLight p → light_cells p < 2 ^ 32
 few-cells p is = grind (arith, common_steps, mul-le-mul_right)

@@ -3,7 +3,7 @@
 ghost use Rattle.std.specs.Prelude.{◌≡◌, ◌<◌, ◌^◌, ◌∷◌, [], IfOk, OnOk, length};
 ghost use Rattle.fields_core.specs.CountLists.{IsBegun, IsHouseClosed};
 
-use crate::light_up::run::Run;
+use crate::count::run::Run;
 use engine_core::HouseList;
 use std::alloc::{AllocError, Global};
 

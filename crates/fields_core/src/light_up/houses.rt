@@ -9,8 +9,9 @@ ghost use Rattle.fields_core.specs.Light.{light_cells, white};
 ghost use Rattle.fields_core.specs.LightHouses.{row_run, seen_from, begins_row_run, begins_column_run, number_house, row_house, column_house, lit_house, light_houses};
 
 use crate::count::list::CountList;
+use crate::count::run::Run;
 use crate::light_up::cells::{cells, columns, is_white, rows};
-use crate::light_up::run::{Run, run_in_column, run_in_row};
+use crate::light_up::run::{run_in_column, run_in_row};
 use gameid_core::{LightCell, LightPuzzle};
 use grid_core::{column_place, row_place, step};
 use std::alloc::{AllocError, Global};
@@ -232,7 +233,7 @@ pub(crate) fn houses_of_lights(alloc: Global, puzzle: &LightPuzzle) -> Result<Co
     for place in 0..cells(puzzle) {
         push_column(&mut houses, puzzle, place)?;
     }
-    let mut row = Run::none();
+    let mut row = Run::of(0, 0, 0, 0);
     for place in 0..cells(puzzle) {
         row = row_after(puzzle, row, place);
         push_lit(&mut houses, puzzle, &row, place)?;

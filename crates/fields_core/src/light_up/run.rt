@@ -1,74 +1,15 @@
 //! Runs of white cells along a row or a column.
 #![tactic(auto, using(crate::proofs::LawSets::light_run_laws))]
 
-ghost use Rattle.std.specs.Prelude.{◌≡◌, ℕ, ◌+◌, ◌*◌, ◌<◌, ◌^◌, length, map, filter, slice_index};
+ghost use Rattle.std.specs.Prelude.{◌≡◌, ℕ, ◌+◌, ◌*◌, ◌<◌, map, filter};
 ghost use Rattle.std.specs.List.{range_with_len};
 ghost use Rattle.fields_core.specs.Light.{light_cells, white, clear};
 ghost use Rattle.fields_core.specs.LightHouses.{row_run, column_run};
 ghost use Rattle.fields_core.specs.Runs.{RunsBack, RunsOn};
 
+use crate::count::run::{Run, along};
 use crate::light_up::cells::{columns, is_white, rows};
 use gameid_core::LightPuzzle;
-use std::marker::Model;
-
-/// Cells of a row or of a column, one after another. The cell of number `i` along the line is `first + i * stride`, and
-/// the run has those from `start` to the one before `end`.
-#[derive(Drop)]
-pub(crate) struct Run {
-    first: usize,
-    stride: usize,
-    start: usize,
-    end: usize,
-}
-
-impl Model for Run {
-    ghost use Rattle.std.specs.Prelude.{ℕ, ◌+◌, ◌-◌, ◌*◌, ◌<◌, ◌≤◌, ◌^◌, List, map};
-    ghost use Rattle.std.specs.List.{range_with_len};
-
-    ghost Value = { List ℕ };
-
-    ghost view = { λ r.
-        map (λ i. r.first + i * r.stride) (range_with_len r.start (r.end - r.start)) };
-
-    ghost invariant = { λ r. (r.start ≤ r.end)
-        × ((i : ℕ) → r.start ≤ i → i < r.end → r.first + i * r.stride < 2 ^ 32) };
-}
-
-impl Run {
-    /// The run of no cell.
-    pub(crate) fn none() -> Run {
-        Run {
-            first: 0,
-            stride: 0,
-            start: 0,
-            end: 0,
-        }
-    }
-
-    /// How many cells it has.
-    pub(crate) fn len(&self) -> usize
-        ensures { result ≡ length self.now }
-    {
-        self.end - self.start
-    }
-
-    /// The place of its `k`-th cell.
-    pub(crate) fn place(&self, k: usize) -> usize
-        requires { k < length self.now }
-        ensures place { result ≡ slice_index self.now k }
-        ensures small { result < 2 ^ 32 }
-    {
-        along(self.first, self.stride, self.start + k)
-    }
-}
-
-/// The place of the cell of number `i` along a line.
-fn along(first: usize, stride: usize, i: usize) -> usize
-    requires { first + i * stride < 2 ^ 32 }
-    ensures { result ≡ first + i * stride }
-{
-    first + i * stride
-}
 
 /// Where the run of white cells begins that ends before the cell of number `at` along a line.
 fn run_start(puzzle: &LightPuzzle, first: usize, stride: usize, at: usize) -> usize
@@ -109,19 +50,10 @@ fn run_along(puzzle: &LightPuzzle, first: usize, stride: usize, len: usize, at: 
 {
     let _size = puzzle.size();
     if !is_white(puzzle, along(first, stride, at)) {
-        return Run {
-            first,
-            stride,
-            start: 0,
-            end: 0,
-        };
+        return Run::of(first, stride, 0, 0);
     }
-    Run {
-        first,
-        stride,
-        start: run_start(puzzle, first, stride, at),
-        end: run_end(puzzle, first, stride, len, at),
-    }
+    let start = run_start(puzzle, first, stride, at);
+    Run::of(first, stride, start, run_end(puzzle, first, stride, len, at))
 }
 
 /// The run of white cells of the row that the cell is in, from the left.

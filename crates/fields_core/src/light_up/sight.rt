@@ -6,7 +6,8 @@ ghost use Rattle.std.specs.List.{list_any};
 ghost use Rattle.grid_core.specs.Grids.{IsGrid};
 ghost use Rattle.fields_core.specs.Light.{light_cells, bulb, sees_bulb, bulbs_beside};
 
-use crate::light_up::run::{Run, run_in_column, run_in_row};
+use crate::count::run::Run;
+use crate::light_up::run::{run_in_column, run_in_row};
 use gameid_core::LightPuzzle;
 use grid_core::{Grid, step};
 

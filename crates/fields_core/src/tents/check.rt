@@ -1,16 +1,15 @@
 //! The check of a grid of Tents.
 #![tactic(auto, using(crate::proofs::LawSets::tent_check_laws))]
 
-ghost use Rattle.std.specs.Prelude.{◌≡◌, ℕ, ◌<◌, ◌↔◌, IfOk, None};
+ghost use Rattle.std.specs.Prelude.{◌≡◌, ℕ, ◌<◌, ◌↔◌, IfOk, None, count_by, length, slice_index};
 ghost use Rattle.grid_core.specs.Grids.{IsGrid};
 ghost use Rattle.fields_core.specs.TentFaults.{IsTentFault};
 ghost use Rattle.fields_core.specs.TentScratches.{HasRoom};
 ghost use Rattle.fields_core.specs.TentSolutions.{IsTentSolution};
-ghost use Rattle.fields_core.specs.Tents.{tent_cells, tents_in_column, tents_in_row, tree_right, touch_right, column_right, row_right};
+ghost use Rattle.fields_core.specs.Tents.{tent_cells, tent, tree_right, touch_right, column_right, row_right};
 
-use crate::tents::cells::{
-    cells, column_cell, column_number, columns, is_tree, row_cell, row_number, rows,
-};
+use crate::count::run::Run;
+use crate::tents::cells::{cells, column_number, columns, is_tree, row_number, rows};
 use crate::tents::fault::TentFault;
 use crate::tents::pairs::{TentScratch, are_paired};
 use crate::tents::touch::touches_tent;
@@ -44,31 +43,14 @@ fn is_touch_right(puzzle: &TentsPuzzle, grid: &Grid, place: usize) -> bool
     !touches_tent(puzzle.size(), grid, place)
 }
 
-/// How many tents stand in the column.
-fn count_column(puzzle: &TentsPuzzle, grid: &Grid, x: usize) -> usize
-    requires fits { IsGrid (tent_cells puzzle.now) 2 grid.now }
-    requires x_in { x < puzzle.now.size.w }
-    ensures { result ≡ tents_in_column puzzle.now.size grid.now x }
+/// How many tents stand in the run.
+fn count_tents(grid: &Grid, run: &Run) -> usize
+    requires { (k : ℕ) → k < length run.now → slice_index run.now k < length grid.now }
+    ensures { result ≡ count_by (tent grid.now) run.now }
 {
     let mut tents = 0;
-    for y in 0..rows(puzzle) {
-        if grid.get(column_cell(puzzle, x, y)) != 1 {
-            continue;
-        }
-        tents += 1;
-    }
-    tents
-}
-
-/// How many tents stand in the row.
-fn count_row(puzzle: &TentsPuzzle, grid: &Grid, y: usize) -> usize
-    requires fits { IsGrid (tent_cells puzzle.now) 2 grid.now }
-    requires y_in { y < puzzle.now.size.h }
-    ensures { result ≡ tents_in_row puzzle.now.size grid.now y }
-{
-    let mut tents = 0;
-    for x in 0..columns(puzzle) {
-        if grid.get(row_cell(puzzle, y, x)) != 1 {
+    for k in 0..run.len() {
+        if grid.get(run.place(k)) != 1 {
             continue;
         }
         tents += 1;
@@ -83,7 +65,8 @@ fn is_column_right(puzzle: &TentsPuzzle, grid: &Grid, x: usize) -> bool
     requires x_in { x < puzzle.now.size.w }
     ensures { result ≡ column_right puzzle.now grid.now x }
 {
-    count_column(puzzle, grid, x) == usize::from(column_number(puzzle, x))
+    let tents = count_tents(grid, &Run::column(puzzle.size(), x));
+    tents == usize::from(column_number(puzzle, x))
 }
 
 /// Whether the row has its number of tents.
@@ -93,7 +76,8 @@ fn is_row_right(puzzle: &TentsPuzzle, grid: &Grid, y: usize) -> bool
     requires y_in { y < puzzle.now.size.h }
     ensures { result ≡ row_right puzzle.now grid.now y }
 {
-    count_row(puzzle, grid, y) == usize::from(row_number(puzzle, y))
+    let tents = count_tents(grid, &Run::row(puzzle.size(), y));
+    tents == usize::from(row_number(puzzle, y))
 }
 
 /// What is wrong with a grid of Tents.

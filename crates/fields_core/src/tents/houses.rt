@@ -2,48 +2,18 @@
 #![tactic(auto, using(crate::proofs::LawSets::tent_houses_laws))]
 
 ghost use Rattle.std.specs.Prelude.{◌≡◌, ◌+◌, ◌<◌, ◌∷◌, [], IfOk, OnOk};
-ghost use Rattle.grid_core.specs.Regions.{row_places, column_places};
 ghost use Rattle.fields_core.specs.CountHouse.{houses_below};
 ghost use Rattle.fields_core.specs.CountLists.{IsBegun, IsAdded, AreListed};
 ghost use Rattle.fields_core.specs.Tents.{tent_cells};
 ghost use Rattle.fields_core.specs.TentHouses.{column_of_tents, row_of_tents, free_beside, tree_house, square_house, tent_houses};
 
 use crate::count::list::CountList;
-use crate::tents::cells::{
-    cells, column_cell, column_number, column_of, columns, is_tree, row_cell, row_number, row_of,
-    rows,
-};
+use crate::count::run::Run;
+use crate::tents::cells::{cells, column_number, columns, is_tree, row_number, rows};
+use crate::tents::touch::{column_in, row_in};
 use gameid_core::TentsPuzzle;
 use grid_core::step;
 use std::alloc::{AllocError, Global};
-
-/// Adds the cells of a column, from the top, to the house that is begun.
-fn push_column_cells(
-    houses: &mut CountList,
-    puzzle: &TentsPuzzle,
-    x: usize,
-) -> Result<(), AllocError>
-    requires { x < puzzle.now.size.w }
-    ensures { OnOk result (IsBegun houses.old houses.new (column_places puzzle.now.size x)) }
-{
-    let _cells = puzzle.size().cells();
-    for y in 0..rows(puzzle) {
-        houses.push(column_cell(puzzle, x, y))?;
-    }
-    Ok(())
-}
-
-/// Adds the cells of a row, from the left, to the house that is begun.
-fn push_row_cells(houses: &mut CountList, puzzle: &TentsPuzzle, y: usize) -> Result<(), AllocError>
-    requires { y < puzzle.now.size.h }
-    ensures { OnOk result (IsBegun houses.old houses.new (row_places puzzle.now.size y)) }
-{
-    let _cells = puzzle.size().cells();
-    for x in 0..columns(puzzle) {
-        houses.push(row_cell(puzzle, y, x))?;
-    }
-    Ok(())
-}
 
 /// Adds the cells beside the cell that have no tree to the house that is begun.
 #[tactic(auto, using(crate::proofs::LawSets::tent_houses_laws), unfolding(grid_core::specs::Regions::steps))]
@@ -90,7 +60,7 @@ fn push_column(houses: &mut CountList, puzzle: &TentsPuzzle, x: usize) -> Result
     requires none_begun { houses.old.list.begun ≡ [] }
     ensures { OnOk result (IsAdded houses.old houses.new (column_of_tents puzzle.now x)) }
 {
-    push_column_cells(houses, puzzle, x)?;
+    houses.push_run(&Run::column(puzzle.size(), x))?;
     let tents = u32::from(column_number(puzzle, x));
     houses.close(tents, tents)?;
     Ok(())
@@ -102,7 +72,7 @@ fn push_row(houses: &mut CountList, puzzle: &TentsPuzzle, y: usize) -> Result<()
     requires none_begun { houses.old.list.begun ≡ [] }
     ensures { OnOk result (IsAdded houses.old houses.new (row_of_tents puzzle.now y)) }
 {
-    push_row_cells(houses, puzzle, y)?;
+    houses.push_run(&Run::row(puzzle.size(), y))?;
     let tents = u32::from(row_number(puzzle, y));
     houses.close(tents, tents)?;
     Ok(())
@@ -128,10 +98,10 @@ fn push_square(houses: &mut CountList, puzzle: &TentsPuzzle, place: usize) -> Re
     requires none_begun { houses.old.list.begun ≡ [] }
     ensures { OnOk result (IsAdded houses.old houses.new (square_house puzzle.now place)) }
 {
-    if column_of(puzzle, place) + 1 >= columns(puzzle) {
+    if column_in(puzzle.size(), place) + 1 >= columns(puzzle) {
         return Ok(());
     }
-    if row_of(puzzle, place) + 1 >= rows(puzzle) {
+    if row_in(puzzle.size(), place) + 1 >= rows(puzzle) {
         return Ok(());
     }
     push_square_cells(houses, puzzle, place)?;

@@ -18,7 +18,7 @@ fn are_close(a: usize, b: usize) -> bool
 }
 
 /// The row of a cell.
-fn row_in(size: Size, place: usize) -> usize
+pub(crate) fn row_in(size: Size, place: usize) -> usize
     requires { place < size.w * size.h }
     ensures row { result ≡ place / size.w }
     ensures small { result < 2 ^ 32 }
@@ -28,7 +28,7 @@ fn row_in(size: Size, place: usize) -> usize
 }
 
 /// The column of a cell.
-fn column_in(size: Size, place: usize) -> usize
+pub(crate) fn column_in(size: Size, place: usize) -> usize
     requires { place < size.w * size.h }
     ensures column { result ≡ place % size.w }
     ensures small { result < 2 ^ 32 }
