@@ -165,14 +165,7 @@ module _ (K : Candidates) (places : List ℕ) (k v : ℕ) (different : AreDiffer
 
   pub shown-bounds : (least most : ℕ) → IsShown (counts_between least most) (sets_at 2 places K) k v
       → (least ≤ most) × (least + num (K cell 1) ≤ may_of K places + v) × (must_of K places + v ≤ most + num (not (K cell 0)))
-  shown-bounds least most (f, s) =
-      let b = ones-bounds fixed places f (fixed-filled f s.fills s.has_it) in
-      let p = and_parts (leb least (nonzeros f)) (leb (nonzeros f) most) s.holds_true in
-      let low = leb-true least (nonzeros f) p.0 in
-      let high = leb-true (nonzeros f) most p.1 in
-      let m = must-fixed in
-      let n = may-fixed in
-      (omega arith, omega (arith, b.1), omega (arith, b.0))
+  shown-bounds least most (f, s) = grind (arith, common_steps, ones-bounds, fixed-filled, and_parts, leb-true, must-fixed, may-fixed)
 
   pub bounds-shown : (least most : ℕ) → IsFull K places → least ≤ most → least + num (K cell 1) ≤ may_of K places + v → must_of K places + v ≤ most + num (not (K cell 0))
       → IsShown (counts_between least most) (sets_at 2 places K) k v

@@ -24,40 +24,22 @@ use Rattle.std.proofs.lemmas.Grind.{common_steps}
 
 -- ---- a cell that is empty
 not-empty : (K : Candidates) (c v : ℕ) → v < 2 → K c v ≡ true → is_empty K c ≡ true → ⊥
-not-empty K c zero low on none = true≢false (sym none ∙ rw on refl)
-not-empty K c (suc zero) low on none = true≢false (sym none ∙ rw on (and-false (not (K c 0))))
-not-empty K c (suc (suc v)) low on none = absurd (omega arith)
+not-empty K c v low on none = grind (arith, common_steps, cases_eq v 0, and_parts)
 
 by-value : (K : Candidates) (c v : ℕ) → v < 2 → K c v ≡ true → cond (eqb v 0) (K c 0) (K c 1) ≡ true
-by-value K c zero low on = on
-by-value K c (suc zero) low on = on
-by-value K c (suc (suc v)) low on = absurd (omega arith)
+by-value K c v low on = grind (arith, common_steps, cases_eq v 0, ne_eqb)
 
 within-values : (v : ℕ) (zero_on one_on : Bool) → v < 2 → cond (eqb v 0) zero_on one_on ≡ true → (v ≤ num one_on) × (num (not zero_on) ≤ v)
-within-values zero z o low on = (omega arith, rw on (omega arith))
-within-values (suc zero) true o low on = (rw on (omega arith), omega arith)
-within-values (suc zero) false o low on = (rw on (omega arith), omega arith)
-within-values (suc (suc v)) z o low on = absurd (omega arith)
+within-values v zero_on one_on low on = grind (arith, common_steps, cases_eq v 0, ne_eqb, cases_Bool zero_on, cases_Bool one_on)
 
 -- there is room for a value that a cell has, unless it has both and the value's bound is reached
 room : (least most must may v : ℕ) (zero_on one_on : Bool) → v < 2 → cond (eqb v 0) zero_on one_on ≡ true → least ≤ may → must ≤ most
     → ((zero_on && one_on) && (((eqb v 1) && (eqb must most)) || ((eqb v 0) && (eqb may least)))) ≡ false
     → (least + num one_on ≤ may + v) × (must + v ≤ most + num (not zero_on))
-room least most must may zero true true low on few many off = (let ne : may ≡ least → ⊥ = λ e. true≢false (sym (eq-eqb may least e) ∙ off) in omega (arith, ne), omega arith)
-room least most must may zero true false low on few many off = (omega arith, omega arith)
-room least most must may zero false o low on few many off = absurd (true≢false (sym on))
-room least most must may (suc zero) true true low on few many off =
-    (omega arith, let ne : must ≡ most → ⊥ = λ e. true≢false (sym (rw (eq-eqb must most e) refl) ∙ off) in omega (arith, ne))
-room least most must may (suc zero) false true low on few many off = (omega arith, omega arith)
-room least most must may (suc zero) z false low on few many off = absurd (true≢false (sym on))
-room least most must may (suc (suc v)) z o low on few many off = absurd (omega arith)
+room least most must may v zero_on one_on low on few many off = grind (arith, common_steps, cases_Bool zero_on, cases_Bool one_on, cases_eq v 0, eq-eqb, ne_eqb)
 
 neither : (k a b : Bool) → (k && not ((a && false) || (b && false))) ≡ k
-neither true true true = refl
-neither true true false = refl
-neither true false true = refl
-neither true false false = refl
-neither false a b = refl
+neither k a b = grind (arith, common_steps)
 
 module _ (cells : ℕ) (house : CountHouse) (K : Candidates) (t : Tally) (is : IsHouse cells house) (tally : IsTally K house.places t) where
   abbrev at : ℕ → ℕ
@@ -196,14 +178,8 @@ kept-table true few most bits (suc zero) small low = sym (and-false (has_bit bit
 kept-table false few most zero v small low = sym (and-true (has_bit 0 v))
 kept-table false few most (suc zero) v small low = sym (and-true (has_bit 1 v))
 kept-table false few most (suc (suc zero)) v small low = sym (and-true (has_bit 2 v))
-kept-table false true true (suc (suc (suc zero))) zero small low = refl
-kept-table false true false (suc (suc (suc zero))) zero small low = refl
-kept-table false false true (suc (suc (suc zero))) zero small low = refl
-kept-table false false false (suc (suc (suc zero))) zero small low = refl
-kept-table false true true (suc (suc (suc zero))) (suc zero) small low = refl
-kept-table false true false (suc (suc (suc zero))) (suc zero) small low = refl
-kept-table false false true (suc (suc (suc zero))) (suc zero) small low = refl
-kept-table false false false (suc (suc (suc zero))) (suc zero) small low = refl
+kept-table false few most (suc (suc (suc zero))) zero small low = grind (arith, common_steps, cases_Bool few, cases_Bool most)
+kept-table false few most (suc (suc (suc zero))) (suc zero) small low = grind (arith, common_steps, cases_Bool few, cases_Bool most)
 kept-table none few most bits (suc (suc v)) small low = absurd (omega arith)
 kept-table none few most (suc (suc (suc (suc bits)))) v small low = absurd (omega arith)
 

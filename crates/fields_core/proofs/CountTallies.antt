@@ -1,4 +1,5 @@
 -- What is counted of the cells of count houses.
+use Rattle.std.proofs.lemmas.Grind.{common_steps}
 use Rattle.std.proofs.Common.{◌≡◌, ℕ, zero, suc, ◌+◌, ◌-◌, ◌<◌, ◌≤◌, ◌^◌, Bool, true, false, not, ◌&&◌, eqb, cond, List, length, slice_index, set, take, refl, sym, ◌∙◌, ap, ap₂, subst, inl, inr, arith}
 use Rattle.std.specs.List.{count_by}
 use Rattle.std.proofs.lemmas.Bool.{cases_Bool, cases_eq, true≢false, false≢true}
@@ -37,24 +38,11 @@ count-next test xs n lt = sum_by_more (λ c. cond (test c) 1 0) xs n 0 lt
 pub tallied-more : (K : Candidates) (places : List ℕ) (n must may empty : ℕ) (zero_on one_on : Bool) (a b e : ℕ) → IsTalliedBelow K places n must may empty → n < length places
     → zero_on ≡ K (slice_index places n) 0 → one_on ≡ K (slice_index places n) 1 → a ≡ cond (not zero_on) 1 0 → b ≡ cond one_on 1 0 → e ≡ cond (not zero_on && not one_on) 1 0
     → IsTalliedBelow K places (n + 1) (must + a) (may + b) (empty + e)
-tallied-more K places n must may empty zero_on one_on a b e t lt z o ea eb ee = record {
-  must_is = ap₂ (λ x y. x + y) t.must_is (ea ∙ ap (λ p. cond (not p) 1 0) z) ∙ sym (count-next (λ c. not (K c 0)) places n lt);
-  may_is = ap₂ (λ x y. x + y) t.may_is (eb ∙ ap (λ p. cond p 1 0) o) ∙ sym (count-next (λ c. K c 1) places n lt);
-  empty_is = ap₂ (λ x y. x + y) t.empty_is (ee ∙ ap₂ (λ p q. cond (not p && not q) 1 0) z o) ∙ sym (count-next (is_empty K) places n lt);
-  few_must = let f = t.few_must in let m = num-most (not zero_on) in omega arith;
-  few_may = let f = t.few_may in let m = num-most one_on in omega arith;
-  few_empty = let f = t.few_empty in let m = num-most (not zero_on && not one_on) in omega arith;
-}
+tallied-more K places n must may empty zero_on one_on a b e t lt z o ea eb ee = grind (arith, common_steps, count-next, num-most)
 
 pub tallied-whole : (K : Candidates) (places : List ℕ) (n must may empty : ℕ) → IsTalliedBelow K places n must may empty → length places ≤ n
     → IsTally K places (record { must = must; may = may; empty = empty })
-tallied-whole K places n must may empty t ge =
-    let e = take_all n places ge in
-    record {
-      must_is = t.must_is ∙ ap (count_by (λ c. not (K c 0))) e;
-      may_is = t.may_is ∙ ap (count_by (λ c. K c 1)) e;
-      empty_is = t.empty_is ∙ ap (count_by (is_empty K)) e;
-    }
+tallied-whole K places n must may empty t ge = grind (arith, common_steps)
 
 -- no bit of two is set
 none-set : (bits : ℕ) → bits < 4 → eqb bits 0 ≡ (not (has_bit bits 0) && not (has_bit bits 1))
@@ -67,10 +55,7 @@ none-set (suc (suc (suc (suc bits)))) lt = absurd (omega arith)
 -- one count after a cell changed
 one-moved : (p q : ℕ → Bool) (place : ℕ) → ((c : ℕ) → (c ≡ place → ⊥) → q c ≡ p c) → (places : List ℕ) → has_place places place ≡ true → AreDistinct places
     → (n a b : ℕ) → n ≡ count_by p places → a ≡ num (p place) → b ≡ num (q place) → (a ≤ n) × (n - a + b ≡ count_by q places)
-one-moved p q place others places on different n a b is before after =
-    let there = count-there p place places on in
-    let moved = count-at p q place others places different on in
-    (omega arith, omega arith)
+one-moved p q place others places on different n a b is before after = grind (arith, common_steps, count-there, count-at)
 
 module _ (cells : ℕ) (K L : Candidates) (place before after : ℕ) (change : IsChange cells 2 K L place before after) (places : List ℕ) (t : Tally) (is : IsTally K places t) where
   must_before : num (not (has_bit before 0)) ≡ num (not (K place 0))
@@ -95,11 +80,7 @@ module _ (cells : ℕ) (K L : Candidates) (place before after : ℕ) (change : I
   other c ne v = change.others c v ne
 
   pub tally-kept : has_place places place ≡ false → IsTally L places t
-  tally-kept off = record {
-    must_is = is.must_is ∙ sym (count-off (λ c. not (K c 0)) (λ c. not (L c 0)) place (λ c ne. ap not (other c ne 0)) places off);
-    may_is = is.may_is ∙ sym (count-off (λ c. K c 1) (λ c. L c 1) place (λ c ne. other c ne 1) places off);
-    empty_is = is.empty_is ∙ sym (count-off (is_empty K) (is_empty L) place (λ c ne. ap₂ (λ a b. not a && not b) (other c ne 0) (other c ne 1)) places off);
-  }
+  tally-kept off = grind (arith, common_steps, count-off)
 
   module _ (on : has_place places place ≡ true) (different : AreDistinct places) where
     must_moved : (num (not (has_bit before 0)) ≤ t.must) × ((moved_tally t before after).must ≡ count_by (λ c. not (L c 0)) places)

@@ -28,13 +28,11 @@ step-none test size place n e = rw (add-one, ← e) (ap (filter test) (sym (appe
 
 pub step-skip : (test : ℕ → Bool) (size : Extent) (place n x : ℕ) → Some x ≡ step size place n → false ≡ test x → filter test (steps size place n) ≡ filter test (steps size place (n + 1))
 unfolding steps
-step-skip test size place n x e off =
-    rw (add-one, ← e) (sym (filter-append test (steps size place n) (x ∷ []) ∙ ap (λ l. filter test (steps size place n) ++ l) (cond-false (test x) _ _ (sym off)) ∙ append-nil (filter test (steps size place n))))
+step-skip test size place n x e off = grind (arith, common_steps, add-one, filter-append, cond-false, append-nil)
 
 pub step-keep : (test : ℕ → Bool) (size : Extent) (place n x : ℕ) → Some x ≡ step size place n → true ≡ test x → filter test (steps size place n) ++ x ∷ [] ≡ filter test (steps size place (n + 1))
 unfolding steps
-step-keep test size place n x e on =
-    rw (add-one, ← e) (sym (filter-append test (steps size place n) (x ∷ []) ∙ ap (λ l. filter test (steps size place n) ++ l) (cond-true (test x) _ _ (sym on))))
+step-keep test size place n x e on = grind (arith, common_steps, add-one, filter-append, cond-true)
 
 -- ---- where a run begins
 pub row-black : (p : Light) (c : ℕ) → false ≡ white p c → false ≡ begins_row_run p c

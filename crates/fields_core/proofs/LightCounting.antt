@@ -194,13 +194,7 @@ number-few (cell ∷ cells) zero n all e = rw e at all.0
 number-few (cell ∷ cells) (suc c) n all e = number-few cells c n all.1 e
 
 pub light-board : (p : Light) → IsLight p → IsBoard p
-light-board p is = record {
-  some = let s = is.size.w_two in omega arith;
-  w_few = let s = is.size.extent.w_high in omega arith;
-  h_few = let s = is.size.extent.h_high in omega arith;
-  long = is.count;
-  number = λ c n e. number-few p.cells c n is.each e;
-}
+light-board p is = grind (arith, common_steps, number-few)
 
 pub light-counting : (p : Light) → IsLight p → IsCounting (light_cells p) (λ c. not (white p c)) (light_houses p) (is_lit p)
 unfolding black_right

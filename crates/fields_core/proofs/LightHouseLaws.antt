@@ -62,14 +62,7 @@ pub met-from : (cells : ℕ) (good : List ℕ → Bool) (house : CountHouse) →
     → ((g : List ℕ) → IsGrid cells 2 g → good g ≡ true → (house.least ≤ count_by (bulb g) house.places) × (count_by (bulb g) house.places ≤ house.most))
     → IsMet cells good house
 unfolding meets
-met-from cells good house within distinct few least most counted = record {
-  is_house = record { within = within; different = different-from house.places distinct; few_places = omega arith; least_small = omega arith; most_small = omega arith };
-  met = λ g grid on.
-      let n = counted g grid on in
-      let same = ones-bulbs g house.places (small-at cells g grid) in
-      and_from _ _ (le-leb house.least (nonzeros (map (slice_index g) house.places)) (omega (arith, n.0)))
-      (le-leb (nonzeros (map (slice_index g) house.places)) house.most (omega (arith, n.1)));
-}
+met-from cells good house within distinct few least most counted = grind (arith, common_steps, different-from, ones-bulbs, small-at, and_from, le-leb)
 
 -- ---- white cells and lines
 pub clear-at : (test : ℕ → Bool) (j k i : ℕ) → clear test j k ≡ true → min j k ≤ i → i ≤ max j k → test i ≡ true
@@ -138,8 +131,7 @@ column-white-end p c d pos on =
 -- a white cell is joined to itself
 pub row-self : (p : Light) (c : ℕ) → white p c ≡ true → joined_in_row p c c ≡ true
 unfolding joined_in_row
-row-self p c on = and_from _ _ (eq-eqb (c / p.size.w) (c / p.size.w) refl) (clear-from _ (c % p.size.w) (c % p.size.w) (λ i low high.
-    let e : c / p.size.w * p.size.w + i ≡ c = omega arith in rw e on))
+row-self p c on = grind (arith, common_steps, and_from, eq-eqb, clear-from)
 
 -- the run of a row goes on at a white cell, unless one begins there
 module _ (p : Light) (c d : ℕ) (some : 0 < p.size.w) (next : c + 1 ≡ d) (before : white p c ≡ true) (on : white p d ≡ true) (inner : d % p.size.w ≡ 0 → ⊥) where

@@ -77,9 +77,4 @@ count-there p place xs on = elim (cases_Bool (p place)) [ inl is ↦ rw is (coun
 -- the ones of a grid's cells are its bulbs
 pub ones-bulbs : (g : List ℕ) (xs : List ℕ) → ((c : ℕ) → slice_index g c < 2) → nonzeros (map (slice_index g) xs) ≡ count_by (bulb g) xs
 ones-bulbs g [] small = refl
-ones-bulbs g (x ∷ xs) small = omega (arith, by (slice_index g x) (map (slice_index g) xs) (small x), count-cons (bulb g) x xs, ones-bulbs g xs small)
-  where
-    by : (v : ℕ) (vs : List ℕ) → v < 2 → nonzeros (v ∷ vs) ≡ num (eqb v 1) + nonzeros vs
-    by zero vs lt = omega arith
-    by (suc zero) vs lt = omega arith
-    by (suc (suc v)) vs lt = absurd (omega arith)
+ones-bulbs g (x ∷ xs) small = grind (arith, common_steps, count-cons, ones-bulbs g xs small)

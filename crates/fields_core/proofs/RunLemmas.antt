@@ -31,8 +31,7 @@ abbrev pub passing : (ℕ → Bool) → ℕ → List ℕ
 passing test n = filter test (range_with_len 0 n)
 
 pub passing-more : (test : ℕ → Bool) (n : ℕ) → passing test (n + 1) ≡ passing test n ++ cond (test n) (n ∷ []) []
-passing-more test n = ap (filter test) (range-split 0 n 1) ∙ filter-append test (range_with_len 0 n) (range_with_len (0 + n) 1)
-    ∙ (let z : 0 + n ≡ n = omega arith in ap (λ k. passing test n ++ filter test (range_with_len k 1)) z)
+passing-more test n = grind (arith, common_steps, range-split, filter-append)
 
 pub passing-suc : (test : ℕ → Bool) (n : ℕ) → passing test (suc n) ≡ passing test n ++ cond (test n) (n ∷ []) []
 passing-suc test n = ap (passing test) (sym (add-one n)) ∙ passing-more test n

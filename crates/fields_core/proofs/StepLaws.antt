@@ -48,11 +48,8 @@ ascends size c d e k m pos lt less a b = absurd (omega arith)
 
 there-is : (o : Option ℕ) (d : ℕ) → has_place (if_there o) d ≡ true → o ≡ Some d
 unfolding has_place
-there-is None d on = absurd (true≢false (sym on))
-there-is (Some x) d on = elim (or_cases (eqb x d) false on) [
-  | inl here ↦ ap Some (eqb-true x d here)
-  | inr more ↦ absurd (true≢false (sym more))
-]
+there-is None d on = grind (arith, common_steps, true≢false)
+there-is (Some x) d on = grind (arith, common_steps, or_cases, eqb-true, true≢false)
 
 pub steps-some : (size : Extent) (c n d : ℕ) → has_place (steps size c n) d ≡ true → (k : ℕ) × (k < n) × (step size c k ≡ Some d)
 unfolding steps has_place
@@ -79,9 +76,5 @@ there-few (Some x) = omega arith
 
 pub steps-few : (size : Extent) (c n : ℕ) → length (steps size c n) ≤ n
 unfolding steps
-steps-few size c zero = omega arith
-steps-few size c (suc n) =
-    let a = steps-few size c n in
-    let b = there-few (step size c n) in
-    let e = length-append (steps size c n) (if_there (step size c n)) in
-    omega arith
+steps-few size c zero = grind (arith, common_steps)
+steps-few size c (suc n) = grind (arith, common_steps, there-few, length-append, steps-few size c n)

@@ -220,13 +220,7 @@ counts-few size line (n ∷ counts) zero w h all = let f = line-few size line w 
 counts-few size line (n ∷ counts) (suc k) w h all = counts-few size (line + 1) counts k w h all.1
 
 pub tent-field : (p : Tents) → IsTents p → IsField p
-tent-field p is = record {
-  some = let s = is.size.w_two in omega arith;
-  w_few = let s = is.size.extent.w_high in omega arith;
-  h_few = let s = is.size.extent.h_high in omega arith;
-  long = is.cells;
-  number = λ k. counts-few p.size 0 p.counts k (let s = is.size.extent.w_high in omega arith) (let s = is.size.extent.h_high in omega arith) is.range;
-}
+tent-field p is = grind (arith, common_steps, counts-few)
 
 pub tent-counting : (p : Tents) → IsTents p → IsCounting (tent_cells p) (is_bare p) (tent_houses p) (is_camp p)
 unfolding is_bare

@@ -13,10 +13,7 @@ use Rattle.std.proofs.lemmas.Grind.{common_steps}
 pub passing-long : (test : ℕ → Bool) (n : ℕ) → length (passing test n) ≡ count_below test n
 unfolding count_below
 passing-long test zero = refl
-passing-long test (suc n) = ap length (passing-suc test n) ∙ length-append (passing test n) (cond (test n) (n ∷ []) []) ∙ elim (cases_Bool (test n)) [
-  | inl on ↦ rw on (omega (arith, passing-long test n))
-  | inr off ↦ rw off (omega (arith, passing-long test n))
-]
+passing-long test (suc n) = grind (arith, common_steps, passing-suc, length-append, cases_Bool, passing-long test n)
 
 -- the number of a place of the list
 pub at-passing : (test : ℕ → Bool) (n c : ℕ) → c < n → test c ≡ true → slice_index (passing test n) (count_below test c) ≡ c
