@@ -99,13 +99,6 @@ pub house-in : (cells : ℕ) (scopes : List (List ℕ)) (bounds : List Bounds) (
     → house_with (scope_of scopes h) (bound_of bounds h) ≡ count_house_of t.houses h
 house-in cells scopes bounds t h long e = sym (bounded-at scopes bounds h long) ∙ ap (λ (u : CountedHouses). count_house_of u.houses h) e
 
-pub house-met : (cells b : ℕ) (scopes : List (List ℕ)) (bounds : List Bounds) (t : CountedHouses) (h : ℕ) (places : List ℕ) (bound : Bounds) → length bounds ≡ length scopes → AreHouses cells (bounded scopes bounds)
-    → record { cells = cells; houses = bounded scopes bounds } ≡ t → h < length t.houses → b ≡ t.cells → places ≡ scope_of scopes h → bound ≡ bound_of bounds h → IsHouse b (house_with places bound)
-house-met cells b scopes bounds t h places bound long are e lt eb ep eq =
-    let is = subst (IsHouse cells) (bounded-at scopes bounds h long) (are h (omega (arith, bounded-long scopes bounds long, houses-long cells scopes bounds t long e))) in
-    subst (λ n. IsHouse n (house_with places bound)) (ap (λ (u : CountedHouses). u.cells) e ∙ sym eb)
-    (subst (λ (x : CountHouse). IsHouse cells x) (ap₂ house_with (sym ep) (sym eq)) is)
-
 -- what a table of scopes with bounds has
 pub counted-table : (cells : ℕ) (scopes : List (List ℕ)) (bounds : List Bounds) (t : CountedHouses) → length bounds ≡ length scopes → AreHouses cells (bounded scopes bounds) → record { cells = cells; houses = bounded scopes bounds } ≡ t → AreCounted t.cells scopes t.houses
 counted-table cells scopes bounds t long are e = record {

@@ -9,9 +9,9 @@ ghost use Rattle.engine_core.specs.Closing.{HasStruck};
 ghost use Rattle.engine_core.specs.Sets.{IsChange};
 ghost use Rattle.engine_core.specs.Keeping.{AreSetsOf, IsKept};
 ghost use Rattle.engine_core.specs.Waiting.{words_of, is_waiting, AreCalled};
-ghost use Rattle.fields_core.specs.CountHouse.{CountedHouses, AreHouses, count_house_of, strikes_of, after_house, table_puzzle};
+ghost use Rattle.fields_core.specs.CountHouse.{CountedHouses, IsHouse, AreHouses, count_house_of, strikes_of, after_house, table_puzzle};
 ghost use Rattle.fields_core.specs.Tallies.{AreTalliesOf};
-ghost use Rattle.fields_core.specs.CountLists.{bounded, bound_of};
+ghost use Rattle.fields_core.specs.CountLists.{bounded, bounds_of};
 
 use crate::count::list::{Bounds, CountList};
 use crate::count::tally::Tally;
@@ -74,6 +74,15 @@ impl CountTable {
         self.houses.places(house)
     }
 
+    /// The bounds of a house.
+    fn house_bounds(&self, house: usize) -> Bounds
+        requires { house < length self.now.houses }
+        ensures bounds { result ≡ bounds_of (count_house_of self.now.houses house) }
+        ensures lawful { IsHouse self.now.cells (count_house_of self.now.houses house) }
+    {
+        self.bounds[house]
+    }
+
     /// How many cells the house has.
     pub(crate) fn scope_len(&self, house: usize) -> usize
         requires { house < length self.now.houses }
@@ -121,8 +130,7 @@ impl CountTable {
         ensures unchanged { result ≡ false → has board.new ≡ has board.old }
         ensures changed { result ≡ true → HasStruck (has board.old) (has board.new) }
     {
-        let bounds = bounds_at(&self.bounds, house);
-        visit_house(board, self.houses.places(house), bounds)
+        visit_house(board, self.places(house), self.house_bounds(house))
     }
 
     /// Decides by what was counted what a visit of the house keeps of the sets of its cells, and says whether anything
@@ -142,12 +150,10 @@ impl CountTable {
             → AreTalliesOf self.now tallies.now K
             → IsKept (table_puzzle blocked is_solution self.now) house K result kept.new }
     {
-        let tally = tallies[house];
-        let bounds = bounds_at(&self.bounds, house);
-        if !tally.calls(bounds) {
+        if !self.calls(house, tallies) {
             return false;
         }
-        keep_cells(sets, kept, bounds, tally);
+        keep_cells(sets, kept, self.house_bounds(house), tallies[house]);
         true
     }
 
@@ -202,8 +208,7 @@ impl CountTable {
             → (c v : ℕ) → K c v ≡ true
             → strikes_of (count_house_of self.now.houses house) K c v ≡ false }
     {
-        let tally = tallies[house];
-        tally.calls(bounds_at(&self.bounds, house))
+        tallies[house].calls(self.house_bounds(house))
     }
 
     /// Marks the houses that have the place, but for those that strike nothing, by what was counted.
@@ -225,12 +230,4 @@ impl CountTable {
             }
         }
     }
-}
-
-/// The bounds of a house.
-fn bounds_at(bounds: &[Bounds], house: usize) -> Bounds
-    requires { house < length bounds.now }
-    ensures { result ≡ bound_of bounds.now house }
-{
-    bounds[house]
 }
