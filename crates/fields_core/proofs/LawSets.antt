@@ -10,7 +10,7 @@ use Rattle.fields_core.proofs.LightFaultLemmas.{fault-not, lit-from}
 use Rattle.fields_core.proofs.LightLines.{cell-at, white-at}
 use Rattle.fields_core.proofs.LightRuleLemmas.{rule-from-test, test-from-rule}
 use Rattle.fields_core.proofs.LightSeen.{column-run-in, row-run-in, seen-in-row}
-use Rattle.fields_core.proofs.LightSight.{some-column}
+use Rattle.fields_core.proofs.LightSight.{count-bulb, count-dark, count-edge, count-start, some-column}
 use Rattle.fields_core.proofs.RuleLemmas.{after-is, light-houses, same-shape, start-all, start-blocked}
 use Rattle.fields_core.proofs.RunLemmas.{column-made, few-cells, row-made, run-black, run-long, run-white}
 use Rattle.fields_core.proofs.TentCounting.{tent-counting}
@@ -42,7 +42,7 @@ pub ruleset light_rules_laws = (light-counting, as-many, bounded-listed, fault-n
 
 pub ruleset light_run_laws = (run-long, few-cells, run-black, run-white)
 
-pub ruleset light_sight_laws = (row-run-in, seen-in-row, column-run-in)
+pub ruleset light_sight_laws = (count-start, count-edge, count-dark, count-bulb, row-run-in, seen-in-row, column-run-in)
 
 pub ruleset run_laws = (run-long, row-made, column-made, mul-le-mul_right)
 

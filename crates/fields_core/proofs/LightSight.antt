@@ -35,43 +35,24 @@ bulb-in g cells d long on = grind (arith, common_steps, cases_lt, eqb-true, slic
 pub count-append : (test : ℕ → Bool) (xs ys : List ℕ) → count_by test (xs ++ ys) ≡ count_by test xs + count_by test ys
 count-append test xs ys = sum_by-append (λ c. cond (test c) 1 0) xs ys
 
-steps-none : (size : Extent) (place n : ℕ) → None ≡ step size place n → steps size place (n + 1) ≡ steps size place n
+-- how many of no steps pass, and of one step more
+pub count-start : (test : ℕ → Bool) (size : Extent) (place : ℕ) → count_by test (steps size place 0) ≡ 0
 unfolding steps
-steps-none size place n e = rw (add-one, ← e) (append-nil (steps size place n))
+count-start test size place = refl
 
-steps-some : (size : Extent) (place n d : ℕ) → Some d ≡ step size place n → steps size place (n + 1) ≡ steps size place n ++ d ∷ []
+pub count-edge : (test : ℕ → Bool) (size : Extent) (place n : ℕ) → None ≡ step size place n → count_by test (steps size place (n + 1)) ≡ count_by test (steps size place n)
 unfolding steps
-steps-some size place n d e = rw (add-one, ← e) refl
+count-edge test size place n e = rw (add-one n, ← e) (ap (count_by test) (append-nil (steps size place n)))
 
-count-one : (g : List ℕ) (d v : ℕ) → v ≡ slice_index g d → v ≡ 1 → count_by (bulb g) (d ∷ []) ≡ 1
-count-one g d v at one = rw (eq-eqb (slice_index g d) 1 (sym at ∙ one)) refl
-
-count-none : (g : List ℕ) (d v : ℕ) → v ≡ slice_index g d → (v ≡ 1 → ⊥) → count_by (bulb g) (d ∷ []) ≡ 0
-count-none g d v at no_bulb = rw (ne_eqb (slice_index g d) 1 (λ h. no_bulb (at ∙ h))) refl
-
--- so many of the first steps lead to a bulb
-pub record IsCounted (g : List ℕ) (size : Extent) (place n bulbs : ℕ) : Type 0 where
-  pub few : bulbs ≤ n
-  pub same : bulbs ≡ count_by (bulb g) (steps size place n)
-
-pub counted-start : (g : List ℕ) (size : Extent) (place : ℕ) → IsCounted g size place 0 0
+pub count-dark : (g : List ℕ) (size : Extent) (place n d : ℕ) → Some d ≡ step size place n → (slice_index g d ≡ 1 → ⊥)
+    → count_by (bulb g) (steps size place (n + 1)) ≡ count_by (bulb g) (steps size place n)
 unfolding steps
-counted-start g size place = record { few = omega arith; same = refl }
+count-dark g size place n d e dark = rw (add-one n, ← e) (rw (ne_eqb (slice_index g d) 1 dark) at (count-append (bulb g) (steps size place n) (d ∷ [])) ∙ omega arith)
 
-pub counted-none : (g : List ℕ) (size : Extent) (place n bulbs : ℕ) → IsCounted g size place n bulbs → None ≡ step size place n → IsCounted g size place (n + 1) bulbs
-counted-none g size place n bulbs before e = grind (arith, common_steps, steps-none)
-
-pub counted-skip : (g : List ℕ) (size : Extent) (place n bulbs d v : ℕ) → IsCounted g size place n bulbs → Some d ≡ step size place n → v ≡ slice_index g d → (v ≡ 1 → ⊥) → IsCounted g size place (n + 1) bulbs
-counted-skip g size place n bulbs d v before e at no_bulb = record {
-  few = let f = before.few in omega arith;
-  same = let s = before.same in let both = count-append (bulb g) (steps size place n) (d ∷ []) in let c = count-none g d v at no_bulb in let w = ap (count_by (bulb g)) (steps-some size place n d e) in omega arith;
-}
-
-pub counted-more : (g : List ℕ) (size : Extent) (place n bulbs d v : ℕ) → IsCounted g size place n bulbs → Some d ≡ step size place n → v ≡ slice_index g d → v ≡ 1 → IsCounted g size place (n + 1) (bulbs + 1)
-counted-more g size place n bulbs d v before e at one = record {
-  few = let f = before.few in omega arith;
-  same = let s = before.same in let both = count-append (bulb g) (steps size place n) (d ∷ []) in let c = count-one g d v at one in let w = ap (count_by (bulb g)) (steps-some size place n d e) in omega arith;
-}
+pub count-bulb : (g : List ℕ) (size : Extent) (place n d : ℕ) → Some d ≡ step size place n → slice_index g d ≡ 1
+    → count_by (bulb g) (steps size place (n + 1)) ≡ count_by (bulb g) (steps size place n) + 1
+unfolding steps
+count-bulb g size place n d e on = rw (add-one n, ← e) (rw (eq-eqb (slice_index g d) 1 on) at (count-append (bulb g) (steps size place n) (d ∷ [])) ∙ omega arith)
 
 pub some-column : (p : Light) (c : ℕ) → c < light_cells p → 0 < p.size.w
 some-column p c lt = grind (arith, common_steps)

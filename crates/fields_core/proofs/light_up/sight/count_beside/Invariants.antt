@@ -1,5 +1,10 @@
-use Rattle.fields_core.proofs.LightSight.{IsCounted}
+use Rattle.std.proofs.Common.{◌≡◌, ◌≤◌, count_by}
+use Rattle.grid_core.specs.Regions.{steps}
+use Rattle.fields_core.specs.Light.{bulb}
 use Rattle.fields_core.proofs.light_up.sight.count_beside.Given as goal
 
 abbrev pub invariant-loop-direction : goal.invariant-loop-direction
-invariant-loop-direction l = IsCounted l.grid l.puzzle.size l.place l.direction l.bulbs
+invariant-loop-direction l = record {
+  few : l.bulbs ≤ l.direction;
+  same : l.bulbs ≡ count_by (bulb l.grid) (steps l.puzzle.size l.place l.direction);
+}
