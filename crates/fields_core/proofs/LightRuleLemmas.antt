@@ -96,14 +96,10 @@ rule-number Black bulbs is = refl
 rule-number (Numbered n) bulbs is = eq-eqb bulbs n (is n refl)
 
 alone : (on seen : Bool) → (on ≡ true → seen ≡ true → ⊥) → not (on && seen) ≡ true
-alone true true none = absurd (none refl refl)
-alone true false none = refl
-alone false seen none = refl
+alone on seen none = grind (arith, common_steps, cases_Bool on, cases_Bool seen)
 
 not-alone : (on seen : Bool) → not (on && seen) ≡ true → on ≡ true → seen ≡ true → ⊥
-not-alone true true right a b = true≢false (sym right)
-not-alone true false right a b = true≢false (sym b)
-not-alone false seen right a b = true≢false (sym a)
+not-alone on seen right a b = grind (arith, common_steps)
 
 pub rule-from-test : (p : Light) (g : List ℕ) → IsGrid (light_cells p) 2 g → is_lit p g ≡ true → IsLightSolution p g
 unfolding black_right number_right bulb_right lit_right

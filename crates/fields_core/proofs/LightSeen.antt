@@ -1,7 +1,7 @@
 -- A cell sees a bulb exactly if another cell of its two runs has one.
 use Rattle.std.proofs.Common.{◌≡◌, ℕ, ◌<◌, Bool, true, false, not, ◌&&◌, ◌||◌, eqb, List, slice_index, length, refl, sym, ap, subst, ◌∙◌, inl, inr, arith}
 use Rattle.std.specs.List.{list_any}
-use Rattle.std.proofs.lemmas.Bool.{or_left, or_right, or_cases, and_from, and_parts, eq-eqb, ne_eqb, not-true, true≢false}
+use Rattle.std.proofs.lemmas.Bool.{cases_Bool, or_left, or_right, or_cases, and_from, and_parts, eq-eqb, ne_eqb, not-true, true≢false}
 use Rattle.grid_core.proofs.CandidateLemmas.{any_below-here, any_below-some}
 use Rattle.engine_core.specs.Puzzle.{has_place}
 use Rattle.engine_core.specs.PlaceLaws.{has_place-here}
@@ -47,9 +47,7 @@ seen-in-column p g c lt long none = same (list_any (other_bulb g c) (column_run 
     ])
   where
     same : (a b : Bool) → (a ≡ true → b ≡ true) → (b ≡ true → a ≡ true) → a ≡ b
-    same true b h k = sym (h refl)
-    same false true h k = k refl
-    same false false h k = refl
+    same a b there back = grind (arith, common_steps, cases_Bool a, cases_Bool b)
 
 -- ---- the cells of a run lie in the grid
 pub row-run-in : (p : Light) (g : List ℕ) (c : ℕ) (run : List ℕ) → run ≡ row_run p c → IsLight p → length g ≡ light_cells p → (k : ℕ) → k < length run → slice_index run k < length g

@@ -56,7 +56,7 @@ touch-columns size a b ra rb ca cb rows columns other ea eb fa fb is near at = g
 pub none-below : (test : ℕ → Bool) (n : ℕ) → ((k : ℕ) → k < n → test k ≡ false) → false ≡ any_below test n
 none-below test n none = sym (false_from_ne_true (any_below test n) (λ on. let w = any_below-some test n on in true≢false (sym w.2 ∙ none w.0 w.1)))
 
-some-wide : (size : Extent) (a : ℕ) → a < size.w * size.h → 0 < size.w
+pub some-wide : (size : Extent) (a : ℕ) → a < size.w * size.h → 0 < size.w
 some-wide size a lt = grind (arith, common_steps)
 
 pub far-below : (size : Extent) (g : List ℕ) (a w d : ℕ) → w ≡ size.w → a < size.w * size.h → d < a - (w + 1) → (touches size a d && tent g d) ≡ false

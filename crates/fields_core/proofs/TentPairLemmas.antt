@@ -22,6 +22,7 @@ use Rattle.fields_core.specs.TentPairs.{trees_of, tree_count, may_pair, AreIn}
 use Rattle.fields_core.specs.TentSolutions.{IsPairedBy}
 use Rattle.fields_core.proofs.BelowLemmas.{index_of, index-is, place-map, none-twice-from, distinct-none-twice, different-map, range-distinct, few-below, each-named}
 use Rattle.fields_core.proofs.TentBeside.{beside-in}
+use Rattle.fields_core.proofs.TentLines.{some-wide}
 use Rattle.fields_core.proofs.TentNumbers.{IsPassing, passing-long, passing-at, at-passing}
 use Rattle.fields_core.proofs.TentCounting.{tents_of, IsGiven, given, tent-in, in-range}
 use Rattle.std.proofs.lemmas.Grind.{common_steps}
@@ -40,12 +41,8 @@ unfolding tents_of
 listed-tent p g c on = (place-filter (tent g) (range_with_len 0 (tent_cells p)) c on).1
 
 -- ---- a whole pairing of the cells pairs tents and trees
-some-columns : (w h c : ℕ) → c < w * h → 0 < w
-some-columns zero h c lt = absurd (omega arith)
-some-columns (suc w) h c lt = omega arith
-
 set-of : (p : Tents) (t c : ℕ) → t < tent_cells p → tree p c ≡ true → has_place (steps p.size t 4) c ≡ true → has_value (trees_beside p t) c ≡ true
-set-of p t c inside on beside = grind (arith, common_steps, beside-in, some-columns, get_or-map-range_with_len, and_from)
+set-of p t c inside on beside = grind (arith, common_steps, beside-in, some-wide, get_or-map-range_with_len, and_from)
 
 pub pairs-from : (p : Tents) (g : List ℕ) (tree_of : ℕ → ℕ) → length g ≡ tent_cells p → IsPairedBy p g tree_of → can_be_paired p g ≡ true
 unfolding can_be_paired tents_of

@@ -68,12 +68,10 @@ gives-tree p g chosen long is = record {
     stands c on = index-is (tents_of p g) c (tent-listed p g c long on)
 
 no-two : (touch : Bool) (tent_on : Bool) → (touch && tent_on) ≡ false → tent_on ≡ true → touch ≡ false
-no-two false tent_on off on = refl
-no-two true tent_on off on = absurd (true≢false (sym on ∙ off))
+no-two touch tent_on off on = grind (arith, common_steps)
 
 alone : (tent_on touched : Bool) → (tent_on ≡ true → touched ≡ false) → not (tent_on && touched) ≡ true
-alone true touched none = ap not (none refl)
-alone false touched none = refl
+alone tent_on touched none = grind (arith, common_steps, cases_Bool tent_on)
 
 pub solution-from-camp : (p : Tents) (g : List ℕ) → IsGrid (tent_cells p) 2 g → is_camp p g ≡ true → IsTentSolution p g
 unfolding tree_right touch_right column_right row_right

@@ -20,10 +20,7 @@ fn is_black_right(puzzle: &LightPuzzle, grid: &Grid, place: usize) -> bool
     requires place_in { place < light_cells puzzle.now }
     ensures { result ≡ black_right puzzle.now grid.now place }
 {
-    if is_white(puzzle, place) {
-        return true;
-    }
-    grid.get(place) == 0
+    is_white(puzzle, place) || grid.get(place) == 0
 }
 
 /// Whether the cell's number, if it has one, is that of the bulbs beside it.
@@ -48,10 +45,7 @@ fn is_bulb_right(puzzle: &LightPuzzle, grid: &Grid, place: usize) -> bool
     requires place_in { place < light_cells puzzle.now }
     ensures { result ≡ bulb_right puzzle.now grid.now place }
 {
-    if grid.get(place) != 1 {
-        return true;
-    }
-    !sees_a_bulb(puzzle, grid, place)
+    grid.get(place) != 1 || !sees_a_bulb(puzzle, grid, place)
 }
 
 /// Whether the cell, if it is white, holds a bulb or sees one.
@@ -61,13 +55,7 @@ fn is_lit_right(puzzle: &LightPuzzle, grid: &Grid, place: usize) -> bool
     requires place_in { place < light_cells puzzle.now }
     ensures { result ≡ lit_right puzzle.now grid.now place }
 {
-    if !is_white(puzzle, place) {
-        return true;
-    }
-    if grid.get(place) == 1 {
-        return true;
-    }
-    sees_a_bulb(puzzle, grid, place)
+    !is_white(puzzle, place) || grid.get(place) == 1 || sees_a_bulb(puzzle, grid, place)
 }
 
 /// What is wrong with a grid of Light Up.

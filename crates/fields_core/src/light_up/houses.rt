@@ -67,13 +67,7 @@ fn begins_in_row(puzzle: &LightPuzzle, place: usize) -> bool
     ensures { result ≡ begins_row_run puzzle.now place }
 {
     let w = columns(puzzle);
-    if !is_white(puzzle, place) {
-        return false;
-    }
-    if place % w == 0 {
-        return true;
-    }
-    !is_white(puzzle, place - 1)
+    is_white(puzzle, place) && (place % w == 0 || !is_white(puzzle, place - 1))
 }
 
 /// Whether a run of white cells of a column begins at the cell.
@@ -82,13 +76,7 @@ fn begins_in_column(puzzle: &LightPuzzle, place: usize) -> bool
     ensures { result ≡ begins_column_run puzzle.now place }
 {
     let w = columns(puzzle);
-    if !is_white(puzzle, place) {
-        return false;
-    }
-    if place < w {
-        return true;
-    }
-    !is_white(puzzle, place - w)
+    is_white(puzzle, place) && (place < w || !is_white(puzzle, place - w))
 }
 
 /// Adds the house of a cell with a number.

@@ -33,10 +33,8 @@ pub fn sees_a_bulb(puzzle: &LightPuzzle, grid: &Grid, place: usize) -> bool
     ensures { result ≡ sees_bulb puzzle.now grid.now place }
 {
     let _size = puzzle.size();
-    if has_other_bulb(grid, &run_in_row(puzzle, place), place) {
-        return true;
-    }
-    has_other_bulb(grid, &run_in_column(puzzle, place), place)
+    has_other_bulb(grid, &run_in_row(puzzle, place), place)
+        || has_other_bulb(grid, &run_in_column(puzzle, place), place)
 }
 
 /// How many bulbs stand beside the cell, in cells that share a side with it. The grid has 1 at a bulb and 0 elsewhere.

@@ -24,10 +24,7 @@ fn is_tree_right(puzzle: &TentsPuzzle, grid: &Grid, place: usize) -> bool
     requires place_in { place < tent_cells puzzle.now }
     ensures { result ≡ tree_right puzzle.now grid.now place }
 {
-    if !is_tree(puzzle, place) {
-        return true;
-    }
-    grid.get(place) == 0
+    !is_tree(puzzle, place) || grid.get(place) == 0
 }
 
 /// Whether the cell's tent, if it has one, touches no other.
@@ -37,10 +34,7 @@ fn is_touch_right(puzzle: &TentsPuzzle, grid: &Grid, place: usize) -> bool
     requires place_in { place < tent_cells puzzle.now }
     ensures { result ≡ touch_right puzzle.now grid.now place }
 {
-    if grid.get(place) != 1 {
-        return true;
-    }
-    !touches_tent(puzzle.size(), grid, place)
+    grid.get(place) != 1 || !touches_tent(puzzle.size(), grid, place)
 }
 
 /// How many tents stand in the run.

@@ -90,10 +90,7 @@ fn is_barred(puzzle: &TentsPuzzle, place: usize) -> bool
     requires { place < tent_cells puzzle.now }
     ensures { result ≡ is_bare puzzle.now place }
 {
-    if is_tree(puzzle, place) {
-        return true;
-    }
-    !is_beside_a_tree(puzzle, place)
+    is_tree(puzzle, place) || !is_beside_a_tree(puzzle, place)
 }
 
 /// Writes the board that a search starts from: a tree, and a cell with no tree beside it, has only 0, and all other

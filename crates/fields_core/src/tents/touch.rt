@@ -44,13 +44,9 @@ fn are_touching(size: Size, a: usize, b: usize) -> bool
     requires b_in { b < size.w * size.h }
     ensures { result ≡ touches size a b }
 {
-    if a == b {
-        return false;
-    }
-    if !are_close(row_in(size, a), row_in(size, b)) {
-        return false;
-    }
-    are_close(column_in(size, a), column_in(size, b))
+    a != b
+        && are_close(row_in(size, a), row_in(size, b))
+        && are_close(column_in(size, a), column_in(size, b))
 }
 
 /// Whether the cell shares a side or a corner with another cell that has a tent. The grid has 1 at a tent and 0 elsewhere.
