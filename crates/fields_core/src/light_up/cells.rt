@@ -37,7 +37,8 @@ pub(crate) fn rows(puzzle: &LightPuzzle) -> usize
 
 /// The number of cells.
 pub(crate) fn cells(puzzle: &LightPuzzle) -> usize
-    ensures { result ≡ light_cells puzzle.now }
+    ensures value { result ≡ light_cells puzzle.now }
+    ensures lawful { IsLight puzzle.now }
 {
     puzzle.size().cells()
 }

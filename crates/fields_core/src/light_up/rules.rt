@@ -48,7 +48,6 @@ impl LightRules {
     pub fn new(alloc: Global, puzzle: &LightPuzzle) -> Result<LightRules, AllocError>
         ensures { IfOk result (λ rules. rules.light ≡ puzzle.now) }
     {
-        let _size = puzzle.size();
         let houses = houses_of_lights(alloc, puzzle)?;
         Ok(LightRules {
             puzzle: puzzle.copy(alloc)?,

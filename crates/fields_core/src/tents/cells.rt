@@ -1,6 +1,7 @@
 //! Trees and lines of a puzzle of Tents.
 
 ghost use Rattle.std.specs.Prelude.{◌≡◌, ◌+◌, ◌<◌, slice_index};
+ghost use Rattle.gameid_core.specs.Puzzles.{IsTents};
 ghost use Rattle.fields_core.specs.Tents.{tent_cells, tree};
 
 use gameid_core::TentsPuzzle;
@@ -21,7 +22,8 @@ pub(crate) fn rows(puzzle: &TentsPuzzle) -> usize
 
 /// The number of cells.
 pub(crate) fn cells(puzzle: &TentsPuzzle) -> usize
-    ensures { result ≡ tent_cells puzzle.now }
+    ensures value { result ≡ tent_cells puzzle.now }
+    ensures lawful { IsTents puzzle.now }
 {
     puzzle.size().cells()
 }
@@ -49,6 +51,5 @@ pub(crate) fn row_number(puzzle: &TentsPuzzle, y: usize) -> u8
     ensures { result ≡ slice_index puzzle.now.counts (puzzle.now.size.w + y) }
 {
     let w = usize::from(puzzle.size().w());
-    let _h = puzzle.size().h();
     puzzle.count(w + y)
 }

@@ -59,7 +59,6 @@ impl TentRules {
     pub fn new(alloc: Global, puzzle: &TentsPuzzle) -> Result<TentRules, AllocError>
         ensures { IfOk result (λ rules. rules.tents ≡ puzzle.now) }
     {
-        let _size = puzzle.size();
         let houses = houses_of_tents(alloc, puzzle)?;
         Ok(TentRules {
             puzzle: puzzle.copy(alloc)?,

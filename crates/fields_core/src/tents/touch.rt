@@ -23,7 +23,6 @@ pub(crate) fn row_in(size: Size, place: usize) -> usize
     ensures row { result ≡ place / size.w }
     ensures small { result < 2 ^ 32 }
 {
-    let _cells = size.cells();
     place / usize::from(size.w())
 }
 
@@ -33,7 +32,6 @@ pub(crate) fn column_in(size: Size, place: usize) -> usize
     ensures column { result ≡ place % size.w }
     ensures small { result < 2 ^ 32 }
 {
-    let _cells = size.cells();
     place % usize::from(size.w())
 }
 
@@ -56,8 +54,8 @@ pub fn touches_tent(size: Size, grid: &Grid, place: usize) -> bool
     ensures { result ≡ any_below (λ d. touches size place d && tent grid.now d) (size.w * size.h) }
 {
     let reach = usize::from(size.w()) + 1;
-    let _cells = size.cells();
-    for other in place.saturating_sub(reach)..size.cells() {
+    let cells = size.cells();
+    for other in place.saturating_sub(reach)..cells {
         if other > place + reach {
             return false;
         }
