@@ -84,7 +84,8 @@ with_next f n c l = cond (ltb l n) (f l) c
 pub each-named : (f : ℕ → ℕ) (n c : ℕ) → ((l : ℕ) → l < n → f l < n) → ((l m : ℕ) → l < n → m < n → f l ≡ f m → l ≡ m) → c < n → (l : ℕ) × (l < n) × (f l ≡ c)
 each-named f n c below own lt = elim (cases_Bool (any_below (λ l. eqb (f l) c) n)) [
   | inl on ↦ let w = any_below-some (λ l. eqb (f l) c) n on in (w.0, w.1, eqb-true (f w.0) c w.2)
-  | inr off ↦ absurd (let few = few-below (with_next f n c) (n + 1) n inside (apart (λ l low e. true≢false (sym (eq-eqb (f l) c e) ∙ any_below-none (λ l. eqb (f l) c) n off l low))) in omega arith)
+  | inr off ↦ absurd (let few = few-below (with_next f n c) (n + 1) n inside
+      (apart (λ l low e. true≢false (sym (eq-eqb (f l) c e) ∙ any_below-none (λ l. eqb (f l) c) n off l low))) in omega arith)
 ]
   where
     inside : (l : ℕ) → l < n + 1 → with_next f n c l < n

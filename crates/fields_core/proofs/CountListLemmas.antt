@@ -33,9 +33,6 @@ begun-all a b xs n p ge = begun-same a b (take n xs) xs p (take_all n xs ge)
 pub added-none : (list : CountList) (houses : List CountHouse) → list.list.begun ≡ [] → houses ≡ [] → IsAdded list list houses
 added-none list houses none e = grind (arith, common_steps, append-nil)
 
-pub added-more : (a b c : CountList) (xs ys : List CountHouse) → IsAdded a b xs → IsAdded b c ys → IsAdded a c (xs ++ ys)
-added-more a b c xs ys p q = grind (arith, common_steps, append_assoc, map-append)
-
 pub below-none : (f : ℕ → List CountHouse) → houses_below f 0 ≡ []
 unfolding houses_below
 below-none f = refl
@@ -45,10 +42,12 @@ unfolding houses_below
 below-more f n = rw add-one refl
 
 -- houses of four kinds, each of the numbers below some number
-pub four-added : (a b c d e : CountList) (f g h k : ℕ → List CountHouse) (i j l m i' j' l' m' : ℕ) → a.list ≡ record { closed = []; begun = [] } → a.bounds.items ≡ []
-    → IsAdded a b (houses_below f i) → IsAdded b c (houses_below g j) → IsAdded c d (houses_below h l) → IsAdded d e (houses_below k m) → i ≡ i' → j ≡ j' → l ≡ l' → m ≡ m'
+pub four-added : {a b c d e : CountList} (f g h k : ℕ → List CountHouse) {i j l m i' j' l' m' : ℕ}
+    → a.list ≡ record { closed = []; begun = [] } → a.bounds.items ≡ []
+    → IsAdded a b (houses_below f i) → IsAdded b c (houses_below g j) → IsAdded c d (houses_below h l) → IsAdded d e (houses_below k m)
+    → i ≡ i' → j ≡ j' → l ≡ l' → m ≡ m'
     → AreListed e (houses_below f i' ++ (houses_below g j' ++ (houses_below h l' ++ houses_below k m')))
-four-added a b c d e f g h k i j l m i' j' l' m' none no_bounds p q r s same_i same_j same_l same_m = grind (arith, common_steps, append_assoc, map-append)
+four-added {a} {b} {c} {d} {e} f g h k {i} {j} {l} {m} {i'} {j'} {l'} {m'} none no_bounds p q r s same_i same_j same_l same_m = grind (arith, common_steps, append_assoc, map-append)
 
 -- ---- the houses with these cells and bounds
 pub bounded-map : (houses : List CountHouse) → bounded (map house_places houses) (map bounds_of houses) ≡ houses

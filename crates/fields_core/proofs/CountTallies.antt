@@ -84,13 +84,16 @@ module _ (cells : ℕ) (K L : Candidates) (place before after : ℕ) (change : I
 
   module _ (on : has_place places place ≡ true) (different : AreDistinct places) where
     must_moved : (num (not (has_bit before 0)) ≤ t.must) × ((moved_tally t before after).must ≡ count_by (λ c. not (L c 0)) places)
-    must_moved = one-moved (λ c. not (K c 0)) (λ c. not (L c 0)) place (λ c ne. ap not (other c ne 0)) places on different t.must _ _ is.must_is must_before must_after
+    must_moved = one-moved (λ c. not (K c 0)) (λ c. not (L c 0)) place (λ c ne. ap not (other c ne 0))
+        places on different t.must _ _ is.must_is must_before must_after
 
     may_moved : (num (has_bit before 1) ≤ t.may) × ((moved_tally t before after).may ≡ count_by (λ c. L c 1) places)
-    may_moved = one-moved (λ c. K c 1) (λ c. L c 1) place (λ c ne. other c ne 1) places on different t.may _ _ is.may_is may_before may_after
+    may_moved = one-moved (λ c. K c 1) (λ c. L c 1) place (λ c ne. other c ne 1)
+        places on different t.may _ _ is.may_is may_before may_after
 
     empty_moved : (num (eqb before 0) ≤ t.empty) × ((moved_tally t before after).empty ≡ count_by (is_empty L) places)
-    empty_moved = one-moved (is_empty K) (is_empty L) place (λ c ne. ap₂ (λ a b. not a && not b) (other c ne 0) (other c ne 1)) places on different t.empty _ _ is.empty_is empty_before empty_after
+    empty_moved = one-moved (is_empty K) (is_empty L) place (λ c ne. ap₂ (λ a b. not a && not b) (other c ne 0) (other c ne 1))
+        places on different t.empty _ _ is.empty_is empty_before empty_after
 
     pub tally-moved : IsTally L places (moved_tally t before after)
     tally-moved = record { must_is = must_moved.1; may_is = may_moved.1; empty_is = empty_moved.1 }

@@ -40,19 +40,22 @@ pub count-start : (test : ℕ → Bool) (size : Extent) (place : ℕ) → count_
 unfolding steps
 count-start test size place = refl
 
-pub count-edge : (test : ℕ → Bool) (size : Extent) (place n : ℕ) → None ≡ step size place n → count_by test (steps size place (n + 1)) ≡ count_by test (steps size place n)
+pub count-edge : (test : ℕ → Bool) (size : Extent) (place n : ℕ) → None ≡ step size place n
+    → count_by test (steps size place (n + 1)) ≡ count_by test (steps size place n)
 unfolding steps
 count-edge test size place n e = rw (add-one n, ← e) (ap (count_by test) (append-nil (steps size place n)))
 
 pub count-dark : (g : List ℕ) (size : Extent) (place n d : ℕ) → Some d ≡ step size place n → (slice_index g d ≡ 1 → ⊥)
     → count_by (bulb g) (steps size place (n + 1)) ≡ count_by (bulb g) (steps size place n)
 unfolding steps
-count-dark g size place n d e dark = rw (add-one n, ← e) (rw (ne_eqb (slice_index g d) 1 dark) at (count-append (bulb g) (steps size place n) (d ∷ [])) ∙ omega arith)
+count-dark g size place n d e dark = rw (add-one n, ← e)
+    (rw (ne_eqb (slice_index g d) 1 dark) at (count-append (bulb g) (steps size place n) (d ∷ [])) ∙ omega arith)
 
 pub count-bulb : (g : List ℕ) (size : Extent) (place n d : ℕ) → Some d ≡ step size place n → slice_index g d ≡ 1
     → count_by (bulb g) (steps size place (n + 1)) ≡ count_by (bulb g) (steps size place n) + 1
 unfolding steps
-count-bulb g size place n d e on = rw (add-one n, ← e) (rw (eq-eqb (slice_index g d) 1 on) at (count-append (bulb g) (steps size place n) (d ∷ [])) ∙ omega arith)
+count-bulb g size place n d e on = rw (add-one n, ← e)
+    (rw (eq-eqb (slice_index g d) 1 on) at (count-append (bulb g) (steps size place n) (d ∷ [])) ∙ omega arith)
 
 pub some-column : (p : Light) (c : ℕ) → c < light_cells p → 0 < p.size.w
 some-column p c lt = grind (arith, common_steps)

@@ -57,7 +57,9 @@ passing-range test start end (suc n) low before inside past =
 
 -- ---- the run around a number
 pub run-black : (test : ℕ → Bool) (len at : ℕ) → test at ≡ false → filter (clear test at) (range_with_len 0 len) ≡ []
-run-black test len at off = let z : min len 0 - 0 ≡ 0 = omega arith in rw z at (passing-range (clear test at) 0 0 len (omega arith) (λ i low. absurd (omega arith)) (λ i a b. absurd (omega arith))
+run-black test len at off =
+    let z : min len 0 - 0 ≡ 0 = omega arith in
+    rw z at (passing-range (clear test at) 0 0 len (omega arith) (λ i low. absurd (omega arith)) (λ i a b. absurd (omega arith))
     (λ i a b. false_from_ne_true (clear test at i) (λ on. true≢false (sym (clear-at test at i at on (omega arith) (omega arith)) ∙ off))))
 
 pub run-white : (test : ℕ → Bool) (len at start end : ℕ) → test at ≡ true → RunsBack test at start → RunsOn test len at end
@@ -67,9 +69,11 @@ run-white test len at start end here back on =
     let past = on.past in
     let high = on.high in
     let z : min len end ≡ end = omega arith in
-    rw z at (passing-range (clear test at) start end len (omega arith) (λ i below. false_from_ne_true (clear test at i) (λ joined. blocked i below joined start refl))
+    rw z at (passing-range (clear test at) start end len (omega arith)
+    (λ i below. false_from_ne_true (clear test at i) (λ joined. blocked i below joined start refl))
     (λ i above below. clear-from test at i (λ k a b. inside i k above below a b))
-    (λ i above below. false_from_ne_true (clear test at i) (λ joined. true≢false (sym (clear-at test at i end joined (omega arith) (omega arith)) ∙ on.edge (omega arith)))))
+    (λ i above below. false_from_ne_true (clear test at i) (λ joined.
+    true≢false (sym (clear-at test at i end joined (omega arith) (omega arith)) ∙ on.edge (omega arith)))))
   where
     blocked : (i : ℕ) → i < start → clear test at i ≡ true → (s : ℕ) → s ≡ start → ⊥
     blocked i below joined zero e = omega arith
@@ -81,7 +85,10 @@ run-white test len at start end here back on =
 -- ---- the same along two ways of numbering one line
 pub filter-map : (f : ℕ → ℕ) (test : ℕ → Bool) (xs : List ℕ) → filter test (map f xs) ≡ map f (filter (λ x. test (f x)) xs)
 filter-map f test [] = refl
-filter-map f test (x ∷ xs) = elim (cases_Bool (test (f x))) [ inl on ↦ rw on (ap (λ l. f x ∷ l) (filter-map f test xs)) | inr off ↦ rw off (filter-map f test xs) ]
+filter-map f test (x ∷ xs) = elim (cases_Bool (test (f x))) [
+  | inl on ↦ rw on (ap (λ l. f x ∷ l) (filter-map f test xs))
+  | inr off ↦ rw off (filter-map f test xs)
+]
 
 pub filter-same : (s t : ℕ → Bool) (a n : ℕ) → ((i : ℕ) → a ≤ i → i < a + n → s i ≡ t i) → filter s (range_with_len a n) ≡ filter t (range_with_len a n)
 filter-same s t a zero same = refl
@@ -112,7 +119,8 @@ column-cell-joined p c y pos = grind (arith, common_steps, mod-lt, div-mul-add, 
 pub row-run-is : (p : Light) (c w : ℕ) → w ≡ p.size.w
     → map (λ i. c - c % w + i * 1) (filter (clear (λ i. white p (c - c % w + i * 1)) (c % w)) (range_with_len 0 w)) ≡ row_run p c
 unfolding row_run
-row-run-is p c w e = rw e (line-run (joined_in_row p c) (λ i. white p (c / p.size.w * p.size.w + i)) (λ i. white p (c - c % p.size.w + i * 1)) (c % p.size.w) p.size.w
+row-run-is p c w e = rw e
+    (line-run (joined_in_row p c) (λ i. white p (c / p.size.w * p.size.w + i)) (λ i. white p (c - c % p.size.w + i * 1)) (c % p.size.w) p.size.w
     (λ x. c / p.size.w * p.size.w + x) (λ i. c - c % p.size.w + i * 1) same (λ i. ap (white p) (same i)) (λ i lt. row-cell-joined p c i lt))
   where
     same : (i : ℕ) → c - c % p.size.w + i * 1 ≡ c / p.size.w * p.size.w + i
@@ -121,7 +129,8 @@ row-run-is p c w e = rw e (line-run (joined_in_row p c) (λ i. white p (c / p.si
 pub column-run-is : (p : Light) (c w h : ℕ) → 0 < p.size.w → w ≡ p.size.w → h ≡ p.size.h
     → map (λ i. c % w + i * w) (filter (clear (λ i. white p (c % w + i * w)) (c / w)) (range_with_len 0 h)) ≡ column_run p c
 unfolding column_run
-column-run-is p c w h pos e f = rw (e, f) (line-run (joined_in_column p c) (λ i. white p (i * p.size.w + c % p.size.w)) (λ i. white p (c % p.size.w + i * p.size.w)) (c / p.size.w) p.size.h
+column-run-is p c w h pos e f = rw (e, f)
+    (line-run (joined_in_column p c) (λ i. white p (i * p.size.w + c % p.size.w)) (λ i. white p (c % p.size.w + i * p.size.w)) (c / p.size.w) p.size.h
     (λ y. y * p.size.w + c % p.size.w) (λ i. c % p.size.w + i * p.size.w) same (λ i. ap (white p) (same i)) (λ i lt. column-cell-joined p c i pos))
   where
     same : (i : ℕ) → c % p.size.w + i * p.size.w ≡ i * p.size.w + c % p.size.w
@@ -136,10 +145,14 @@ run-at first stride start n k xs e lt = grind (arith, common_steps, run-long, ge
 
 -- the cells of a row and of a column
 pub row-made : (size : Extent) (y w : ℕ) → w ≡ size.w → map (λ i. y * w + i * 1) (range_with_len 0 (w - 0)) ≡ row_places size y
-row-made size y w e = let z : size.w - 0 ≡ size.w = omega arith in rw (e, z) (map-same (λ i. y * size.w + i * 1) (λ x. y * size.w + x) (range_with_len 0 size.w) (λ i. omega arith))
+row-made size y w e =
+    let z : size.w - 0 ≡ size.w = omega arith in
+    rw (e, z) (map-same (λ i. y * size.w + i * 1) (λ x. y * size.w + x) (range_with_len 0 size.w) (λ i. omega arith))
 
 pub column-made : (size : Extent) (x w h : ℕ) → w ≡ size.w → h ≡ size.h → map (λ i. x + i * w) (range_with_len 0 (h - 0)) ≡ column_places size x
-column-made size x w h e f = let z : size.h - 0 ≡ size.h = omega arith in rw (e, f, z) (map-same (λ i. x + i * size.w) (λ y. y * size.w + x) (range_with_len 0 size.h) (λ i. omega arith))
+column-made size x w h e f =
+    let z : size.h - 0 ≡ size.h = omega arith in
+    rw (e, f, z) (map-same (λ i. x + i * size.w) (λ y. y * size.w + x) (range_with_len 0 size.h) (λ i. omega arith))
 
 pub row-cell : (size : Extent) (y k : ℕ) → y < size.h → k < length (row_places size y) → slice_index (row_places size y) k < size.w * size.h
 row-cell size y k lt low = grind (arith, common_steps, row-long, row-at, mul-le-mul_right)

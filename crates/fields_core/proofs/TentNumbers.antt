@@ -19,7 +19,8 @@ passing-long test (suc n) = grind (arith, common_steps, passing-suc, length-appe
 pub at-passing : (test : ℕ → Bool) (n c : ℕ) → c < n → test c ≡ true → slice_index (passing test n) (count_below test c) ≡ c
 at-passing test zero c lt on = absurd (omega arith)
 at-passing test (suc n) c lt on = ap (λ l. slice_index l (count_below test c)) (passing-suc test n) ∙ elim (cases_lt c n) [
-  | inl low ↦ get_or_append_left (passing test n) (cond (test n) (n ∷ []) []) 0 (count_below test c) (omega (arith, counted test c n low on, passing-long test n)) ∙ at-passing test n c low on
+  | inl low ↦ get_or_append_left (passing test n) (cond (test n) (n ∷ []) []) 0 (count_below test c)
+      (omega (arith, counted test c n low on, passing-long test n)) ∙ at-passing test n c low on
   | inr high ↦
       let same : c ≡ n = omega arith in
       rw (same, rw same at on) (get_or-append_right (passing test n) (n ∷ []) (count_below test n) (count_below test n) 0 (passing-long test n) (omega arith)

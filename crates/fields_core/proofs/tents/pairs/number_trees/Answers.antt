@@ -8,7 +8,8 @@ loop-place-preserved-then-not-is_tree c = let i = c.loop-place.invariant in let 
     record {
       count = count-skip (tree c.args.puzzle.now) c.loop-place.place c.loop-place.trees i.count (sym c.is_tree.ensures ∙ c.if-not-is_tree.true);
       few = omega arith;
-      each = numbers-more (tree c.args.puzzle.now) c.loop-place.numbers c.loop-place.place c.loop-place.trees i.each i.count (omega (arith, c.requires, c.cells-place-end.ensures.value));
+      each = numbers-more (tree c.args.puzzle.now) c.loop-place.numbers c.loop-place.place c.loop-place.trees i.each i.count
+          (omega (arith, c.requires, c.cells-place-end.ensures.value));
       as_long = omega (arith, length-set {A = ℕ});
     }
 
@@ -17,6 +18,7 @@ loop-place-preserved c = let i = c.loop-place.invariant in let few = i.few in le
     record {
       count = count-keep (tree c.args.puzzle.now) c.loop-place.place c.loop-place.trees i.count (sym c.is_tree.ensures ∙ c.if-not-is_tree.false);
       few = omega arith;
-      each = numbers-more (tree c.args.puzzle.now) c.loop-place.numbers c.loop-place.place c.loop-place.trees i.each i.count (omega (arith, c.requires, c.cells-place-end.ensures.value));
+      each = numbers-more (tree c.args.puzzle.now) c.loop-place.numbers c.loop-place.place c.loop-place.trees i.each i.count
+          (omega (arith, c.requires, c.cells-place-end.ensures.value));
       as_long = omega (arith, length-set {A = ℕ});
     }

@@ -8,5 +8,6 @@ returns-then-other-place c =
 
 pub returns-then-are_touching : goal.returns-then-are_touching
 returns-then-are_touching c =
-    some-touched c.args.size c.args.grid.now c.args.place (c.args.size.w * c.args.size.h) c.loop-other.other c.get.result (omega (arith, c.cells-cells.ensures.value, c.loop-other-test.true))
+    some-touched c.args.size c.args.grid.now c.args.place (c.args.size.w * c.args.size.h) c.loop-other.other c.get.result
+    (omega (arith, c.cells-cells.ensures.value, c.loop-other-test.true))
     (sym c.are_touching.ensures ∙ c.if-are_touching.true) c.get.ensures c.if-get-ne1.false

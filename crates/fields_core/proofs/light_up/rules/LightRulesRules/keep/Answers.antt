@@ -6,4 +6,5 @@ use Rattle.fields_core.proofs.light_up.rules.LightRulesRules.keep.Goals as goal
 pub returns-clause-kept : goal.returns-clause-kept
 returns-clause-kept c = λ K.
     let p = c.args.self.now.light in
-    rw (c.self.invariant ∙ ap (λ (r : RuledLight). light_table r.light) c.self.view_is, c.deref.ensures.value) at (c.keep.ensures (λ d. not (white p d)) (is_lit p) K)
+    rw (c.self.invariant ∙ ap (λ (r : RuledLight). light_table r.light) c.self.view_is, c.deref.ensures.value) at
+        (c.keep.ensures (λ d. not (white p d)) (is_lit p) K)

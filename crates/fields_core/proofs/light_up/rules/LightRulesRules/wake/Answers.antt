@@ -6,4 +6,7 @@ use Rattle.fields_core.proofs.light_up.rules.LightRulesRules.wake.Goals as goal
 pub returns : goal.returns
 returns c =
     let p = c.args.self.now.light in
-    record { called = λ K. rw (c.self.invariant ∙ ap (λ (r : RuledLight). light_table r.light) c.self.view_is, c.deref.ensures.value) at (c.wake.ensures (λ d. not (white p d)) (is_lit p) K) }
+    record {
+      called = λ K. rw (c.self.invariant ∙ ap (λ (r : RuledLight). light_table r.light) c.self.view_is, c.deref.ensures.value) at
+          (c.wake.ensures (λ d. not (white p d)) (is_lit p) K);
+    }

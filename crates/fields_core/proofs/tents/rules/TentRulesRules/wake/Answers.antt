@@ -7,4 +7,7 @@ use Rattle.fields_core.proofs.tents.rules.TentRulesRules.wake.Goals as goal
 pub returns : goal.returns
 returns c =
     let p = c.args.self.now.tents in
-    record { called = λ K. rw (c.self.invariant ∙ ap (λ (r : RuledTents). tent_table r.tents) c.self.view_is, c.deref.ensures.value) at (c.wake.ensures (is_bare p) (is_camp p) K) }
+    record {
+      called = λ K. rw (c.self.invariant ∙ ap (λ (r : RuledTents). tent_table r.tents) c.self.view_is, c.deref.ensures.value) at
+          (c.wake.ensures (is_bare p) (is_camp p) K);
+    }
