@@ -1,5 +1,5 @@
 -- Lists of different numbers: a number's place in one, and a choice of different numbers below n names each of them.
-use Rattle.std.proofs.Common.{◌≡◌, ℕ, suc, ◌+◌, ◌<◌, ◌≤◌, Bool, true, false, not, ◌||◌, eqb, ltb, cond, List, [], ◌∷◌, length, get_or, slice_index, map, refl, sym, ap, ◌∙◌, inl, inr, arith}
+use Rattle.std.proofs.Common.{◌≡◌, ℕ, ◌+◌, ◌<◌, ◌≤◌, Bool, true, false, not, eqb, ltb, cond, List, [], ◌∷◌, length, get_or, slice_index, map, refl, sym, ap, ◌∙◌, inl, inr, arith}
 use Rattle.std.specs.List.{list_any, range_with_len}
 use Rattle.std.proofs.lemmas.Bool.{cases_Bool, cases_lt, or_left, or_right, or_cases, and_from, and_parts, true≢false, eqb-true, eq-eqb, lt-ltb, le-ltb, not-true}
 use Rattle.std.proofs.lemmas.List.{get_or-map, length-map}

@@ -1,5 +1,5 @@
 -- Which numbers of ones the fillings of a house's cells have, and what that says of a value of a cell.
-use Rattle.std.proofs.Common.{◌≡◌, ℕ, zero, suc, ◌+◌, ◌-◌, ◌<◌, ◌≤◌, max, Bool, true, false, not, true≢false, ◌&&◌, ◌||◌, leb, eqb, List, [], ◌∷◌, length, get_or, slice_index, refl, sym, ◌∙◌, ap, arith, ◌⊎◌, inl, inr, le-leb, leb-true}
+use Rattle.std.proofs.Common.{◌≡◌, ℕ, zero, suc, ◌+◌, ◌-◌, ◌<◌, ◌≤◌, max, Bool, true, false, not, true≢false, ◌&&◌, ◌||◌, eqb, List, [], ◌∷◌, length, get_or, slice_index, refl, sym, ◌∙◌, ap, arith, ◌⊎◌, inl, inr, le-leb, leb-true}
 use Rattle.std.specs.List.{count_by}
 use Rattle.std.proofs.Math.Bool.{and-true}
 use Rattle.std.proofs.lemmas.Bool.{cases_Bool, cases_eq, cases_lt, and_parts, and_from, eq-eqb, ne_eqb}

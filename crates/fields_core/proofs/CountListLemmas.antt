@@ -1,5 +1,5 @@
 -- Lists of count houses, as they are made.
-use Rattle.std.proofs.Common.{◌≡◌, ℕ, zero, suc, ◌+◌, ◌<◌, ◌≤◌, List, [], ◌∷◌, ◌++◌, length, map, slice_index, Bool, Option, take, refl, sym, ap, ap₂, subst, ◌∙◌, arith, add-one}
+use Rattle.std.proofs.Common.{◌≡◌, ℕ, zero, suc, ◌+◌, ◌<◌, ◌≤◌, List, [], ◌∷◌, ◌++◌, length, map, slice_index, Bool, Option, take, refl, sym, ap, subst, ◌∙◌, arith, add-one}
 use Rattle.std.proofs.lemmas.List.{append-nil, append_assoc, length-map, map-append, take_more, take_all}
 use Rattle.std.proofs.Math.Path.{fun_ext}
 use Rattle.engine_core.specs.Puzzle.{has_place, IsNext, IsKth}

@@ -1,25 +1,25 @@
 -- The count houses of Light Up keep to what every rule set of count houses keeps to.
-use Rattle.std.proofs.Common.{◌≡◌, ℕ, zero, suc, ◌+◌, ◌*◌, ◌/◌, ◌%◌, ◌^◌, ◌<◌, ◌≤◌, Bool, true, not, ◌&&◌, ◌||◌, eqb, List, [], ◌∷◌, ◌++◌, length, get_or, slice_index, map, refl, sym, ap, ◌∙◌, inl, inr, arith, le-leb}
+use Rattle.std.proofs.Common.{◌≡◌, ℕ, zero, suc, ◌+◌, ◌*◌, ◌/◌, ◌%◌, ◌<◌, ◌≤◌, Bool, true, not, ◌&&◌, ◌||◌, eqb, List, [], ◌∷◌, ◌++◌, length, get_or, slice_index, refl, sym, ap, ◌∙◌, inl, inr, arith}
 use Rattle.std.specs.List.{filter, AllByRecursion}
-use Rattle.std.proofs.lemmas.Bool.{cases_eq, cases_lt, or_left, or_right, or_cases, and_from, and_parts, true≢false, eqb-true, eq-eqb, ne_eqb, not-true}
-use Rattle.std.proofs.lemmas.List.{get_or_past, length-append}
+use Rattle.std.proofs.lemmas.Bool.{cases_eq, or_left, or_right, or_cases, and_from, and_parts, true≢false, eqb-true, eq-eqb, ne_eqb, not-true}
+use Rattle.std.proofs.lemmas.List.{length-append}
 use Rattle.std.proofs.lemmas.List.Sums.{count_by-le-length, length-filter}
 use Rattle.std.proofs.Math.Nat.{mul-le-mul_right}
 use Rattle.grid_core.specs.Grids.{IsGrid}
 use Rattle.grid_core.specs.Regions.{row_places, column_places, steps}
 use Rattle.grid_core.proofs.CandidateLemmas.{all_below-at, any_below-here, any_below-some}
 use Rattle.engine_core.specs.Puzzle.{has_place}
-use Rattle.engine_core.specs.PlaceLaws.{has_place-here, AreDistinct, different-from, place-filter, place-kept, place-append, place-front, place-back, distinct-filter, distinct-append}
+use Rattle.engine_core.specs.PlaceLaws.{has_place-here, AreDistinct, place-filter, place-kept, place-append, place-front, place-back, distinct-filter, distinct-append}
 use Rattle.gameid_core.specs.Puzzles.{Light, IsLight, IsLightCell}
 use Rattle.gameid_core.specs.declared.light_up.cell.LightCell.{LightCell}
 use Rattle.gameid_core.specs.declared.light_up.cell.LightCell.TheVariants.{White, Black, Numbered}
-use Rattle.fields_core.specs.CountHouse.{CountHouse, exactly, one_at_most, one_at_least, IsCounting}
+use Rattle.fields_core.specs.CountHouse.{exactly, one_at_most, one_at_least, IsCounting}
 use Rattle.fields_core.specs.Light.{light_cells, white, bulb, joined_in_row, joined_in_column, sees, sees_bulb, bulbs_beside, black_right, number_right, bulb_right, lit_right, is_lit}
 use Rattle.fields_core.specs.LightHouses.{row_run, column_run, seen_from, begins_row_run, begins_column_run, numbered, number_house, row_house, column_house, lit_house, light_houses}
 use Rattle.fields_core.proofs.LightFaultLemmas.{lit-parts}
 use Rattle.fields_core.proofs.LightSight.{bulb-in, row-of, column-of}
 use Rattle.fields_core.proofs.HouseLists.{row-long, column-long}
-use Rattle.fields_core.proofs.PlaceLists.{count-some, count-one, count-filter, ones-bulbs}
+use Rattle.fields_core.proofs.PlaceLists.{count-some, count-one, count-filter}
 use Rattle.fields_core.proofs.StepLaws.{steps-distinct, steps-few}
 use Rattle.fields_core.proofs.LightHouseLaws.{IsMet, met-from, EachOf, each-none, each-one, each-append, each-below, each-if, row-both, column-both, row-white-end, column-white-end, row-self, white-in, row-distinct, column-distinct, row-parts, column-parts}
 use Rattle.std.proofs.lemmas.Grind.{common_steps}

@@ -1,6 +1,6 @@
 -- The houses of Light Up are houses, and each solution meets them.
-use Rattle.std.proofs.Common.{◌≡◌, ℕ, zero, suc, ◌+◌, ◌-◌, ◌*◌, ◌/◌, ◌%◌, ◌<◌, ◌≤◌, min, max, Bool, true, false, not, ◌||◌, eqb, ltb, cond, List, [], ◌∷◌, ◌++◌, length, slice_index, map, refl, sym, ap, ◌∙◌, inl, inr, arith, le-leb}
-use Rattle.std.proofs.lemmas.Bool.{cases_Bool, cases_lt, cases_eq, or_left, or_right, or_cases, or_parts, and_from, and_parts, true≢false, false_from_ne_true, eqb-true, eq-eqb, lt-ltb, ltb-true}
+use Rattle.std.proofs.Common.{◌≡◌, ℕ, zero, suc, ◌+◌, ◌-◌, ◌*◌, ◌/◌, ◌%◌, ◌<◌, ◌≤◌, min, max, Bool, true, false, ◌||◌, eqb, ltb, cond, List, [], ◌∷◌, ◌++◌, length, slice_index, refl, sym, ap, ◌∙◌, inl, inr, arith, le-leb}
+use Rattle.std.proofs.lemmas.Bool.{cases_Bool, cases_lt, cases_eq, or_left, or_right, or_cases, or_parts, and_from, and_parts, false_from_ne_true, eqb-true, eq-eqb, lt-ltb, ltb-true}
 use Rattle.std.specs.List.{filter, count_by}
 use Rattle.std.proofs.lemmas.List.{get_or_past}
 use Rattle.std.proofs.lemmas.List.Elements.{filter_agree}
@@ -10,13 +10,11 @@ use Rattle.grid_core.specs.Regions.{row_places, column_places}
 use Rattle.grid_core.proofs.RegionLemmas.{row-at, column-at}
 use Rattle.grid_core.proofs.CandidateLemmas.{all_below-at, all_below-from}
 use Rattle.gameid_core.specs.Puzzles.{Light}
-use Rattle.gameid_core.specs.declared.light_up.cell.LightCell.TheVariants.{Black}
 use Rattle.engine_core.specs.Puzzle.{has_place}
 use Rattle.engine_core.specs.PlaceLaws.{AreDistinct, distinct-from, different-from}
 use Rattle.grid_core.specs.Grids.{IsGrid}
 use Rattle.fields_core.specs.CountHouse.{CountHouse, count_house_of, houses_below, meets, IsHouse}
-use Rattle.fields_core.specs.Count.{nonzeros}
-use Rattle.fields_core.specs.Light.{light_cells, is_white, white, bulb, clear, joined_in_row, joined_in_column}
+use Rattle.fields_core.specs.Light.{light_cells, white, bulb, clear, joined_in_row, joined_in_column}
 use Rattle.fields_core.specs.LightHouses.{row_run, begins_row_run}
 use Rattle.fields_core.proofs.HouseLists.{row-long, column-long}
 use Rattle.fields_core.proofs.TentBeside.{cell-parts}

@@ -1,5 +1,5 @@
 -- A cell sees a bulb exactly if another cell of its two runs has one.
-use Rattle.std.proofs.Common.{◌≡◌, ℕ, ◌<◌, Bool, true, false, not, ◌&&◌, ◌||◌, eqb, List, slice_index, length, refl, sym, ap, subst, ◌∙◌, inl, inr, arith}
+use Rattle.std.proofs.Common.{◌≡◌, ℕ, ◌<◌, Bool, true, false, not, ◌&&◌, ◌||◌, eqb, List, slice_index, length, sym, ap, subst, ◌∙◌, inl, inr, arith}
 use Rattle.std.specs.List.{list_any}
 use Rattle.std.proofs.lemmas.Bool.{cases_Bool, or_left, or_right, or_cases, and_from, and_parts, eq-eqb, ne_eqb, not-true, true≢false}
 use Rattle.grid_core.proofs.CandidateLemmas.{any_below-here, any_below-some}

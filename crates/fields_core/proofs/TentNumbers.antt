@@ -1,9 +1,7 @@
 -- Numbers below n that pass a test, by how many pass before them.
-use Rattle.std.proofs.Common.{◌≡◌, ℕ, zero, suc, ◌+◌, ◌-◌, ◌<◌, ◌≤◌, Bool, true, false, cond, List, [], ◌∷◌, ◌++◌, length, get_or, slice_index, take, set, refl, sym, ap, ◌∙◌, inl, inr, add-one, arith}
-use Rattle.std.specs.List.{filter, range_with_len}
+use Rattle.std.proofs.Common.{◌≡◌, ℕ, zero, suc, ◌+◌, ◌-◌, ◌<◌, Bool, true, false, cond, List, [], ◌∷◌, ◌++◌, length, get_or, slice_index, take, set, refl, sym, ap, ◌∙◌, inl, inr, add-one, arith}
 use Rattle.std.proofs.lemmas.Bool.{cases_Bool, cases_eq, cases_lt, ne_eqb, eq-eqb}
 use Rattle.std.proofs.lemmas.List.{append-nil, length-append, take_more_set, get_or-set_same, get_or-set_other, get_or_append_left, get_or-append_right}
-use Rattle.std.proofs.lemmas.List.Elements.{filter-append}
 use Rattle.grid_core.specs.Candidates.{count_below}
 use Rattle.engine_core.proofs.IndexLemmas.{counted, numbered}
 use Rattle.fields_core.specs.Tents.{tent}
@@ -24,7 +22,7 @@ at-passing test (suc n) c lt on = ap (λ l. slice_index l (count_below test c)) 
   | inr high ↦
       let same : c ≡ n = omega arith in
       rw (same, rw same at on) (get_or-append_right (passing test n) (n ∷ []) (count_below test n) (count_below test n) 0 (passing-long test n) (omega arith)
-          ∙ (let z : count_below test n - count_below test n ≡ 0 = omega arith in rw z refl))
+      ∙ (let z : count_below test n - count_below test n ≡ 0 = omega arith in rw z refl))
 ]
 
 pub record IsPassing (test : ℕ → Bool) (n r : ℕ) : Type 0 where

@@ -1,8 +1,8 @@
 -- A grid of Tents without a fault is a solution, and one with a fault is not; and the rules' own table.
-use Rattle.std.proofs.Common.{◌≡◌, ℕ, zero, suc, ◌+◌, ◌<◌, Bool, true, false, not, ◌&&◌, ◌||◌, eqb, List, length, slice_index, Option, Some, None, ◌↔◌, refl, sym, ap, ◌∙◌, inl, inr, arith}
+use Rattle.std.proofs.Common.{◌≡◌, ℕ, ◌+◌, ◌<◌, Bool, true, false, not, ◌&&◌, eqb, List, length, slice_index, Option, Some, None, ◌↔◌, refl, sym, ap, ◌∙◌, inl, inr, arith}
 use Rattle.std.proofs.lemmas.Bool.{cases_Bool, or_left, or_right, or_cases, and_from, and_parts, true≢false, false_from_ne_true, eqb-true, eq-eqb, not-true}
 use Rattle.grid_core.specs.Grids.{IsGrid}
-use Rattle.grid_core.specs.Candidates.{any_below, all_below}
+use Rattle.grid_core.specs.Candidates.{all_below}
 use Rattle.grid_core.proofs.CandidateLemmas.{all_below-at, all_below-from, any_below-some, any_below-none}
 use Rattle.engine_core.specs.PlaceLaws.{has_place-here, different-from}
 use Rattle.gameid_core.specs.Puzzles.{Tents}

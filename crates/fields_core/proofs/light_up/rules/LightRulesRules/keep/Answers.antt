@@ -7,4 +7,4 @@ pub returns-clause-kept : goal.returns-clause-kept
 returns-clause-kept c = λ K.
     let p = c.args.self.now.light in
     rw (c.self.invariant ∙ ap (λ (r : RuledLight). light_table r.light) c.self.view_is, c.deref.ensures.value) at
-        (c.keep.ensures (λ d. not (white p d)) (is_lit p) K)
+    (c.keep.ensures (λ d. not (white p d)) (is_lit p) K)

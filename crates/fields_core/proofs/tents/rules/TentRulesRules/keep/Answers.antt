@@ -8,4 +8,4 @@ pub returns-clause-kept : goal.returns-clause-kept
 returns-clause-kept c = λ K.
     let p = c.args.self.now.tents in
     rw (c.self.invariant ∙ ap (λ (r : RuledTents). tent_table r.tents) c.self.view_is, c.deref.ensures.value) at
-        (c.keep.ensures (is_bare p) (is_camp p) K)
+    (c.keep.ensures (is_bare p) (is_camp p) K)
