@@ -3,7 +3,6 @@
 
 ghost use Rattle.std.specs.Prelude.{◌≡◌, ℕ, ◌+◌, ◌<◌, true, [], IfOk, OnOk, filter};
 ghost use Rattle.grid_core.specs.Regions.{beside as beside_places};
-ghost use Rattle.fields_core.specs.CountHouse.{houses_below};
 ghost use Rattle.fields_core.specs.CountLists.{IsBegun, IsAdded, AreListed};
 ghost use Rattle.fields_core.specs.Light.{light_cells, white};
 ghost use Rattle.fields_core.specs.LightHouses.{row_run, seen_from, begins_row_run, begins_column_run, number_house, row_house, column_house, lit_house, light_houses};

@@ -53,12 +53,8 @@ fn run_along(puzzle: &LightPuzzle, first: usize, stride: usize, len: usize, at: 
         return Run::of(first, stride, 0, 0);
     }
     let start = run_start(puzzle, first, stride, at);
-    Run::of(
-        first,
-        stride,
-        start,
-        run_end(puzzle, first, stride, len, at),
-    )
+    let end = run_end(puzzle, first, stride, len, at);
+    Run::of(first, stride, start, end)
 }
 
 /// The run of white cells of the row that the cell is in, from the left.

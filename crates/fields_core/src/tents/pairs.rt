@@ -1,12 +1,11 @@
 //! Whether the tents of a grid can be paired with the trees.
 #![tactic(auto, using(crate::proofs::LawSets::tent_pairs_laws))]
 
-ghost use Rattle.std.specs.Prelude.{◌≡◌, ℕ, ◌<◌, ◌≤◌, IfOk, take, filter, length, slice_index};
+ghost use Rattle.std.specs.Prelude.{◌≡◌, ℕ, ◌<◌, ◌≤◌, IfOk, take, filter, length};
 ghost use Rattle.std.specs.List.{range_with_len};
 ghost use Rattle.grid_core.specs.Grids.{IsGrid};
-ghost use Rattle.grid_core.specs.Candidates.{count_below};
 ghost use Rattle.engine_core.specs.Puzzle.{IsNext};
-ghost use Rattle.fields_core.specs.Tents.{tent_cells, tent, tree, can_be_paired};
+ghost use Rattle.fields_core.specs.Tents.{tent_cells, tent, can_be_paired};
 ghost use Rattle.fields_core.specs.TentPairs.{tree_beside, tree_count, may_pair, AreNumbered, AreIn};
 ghost use Rattle.fields_core.specs.TentScratches.{HasRoom};
 
