@@ -14,7 +14,6 @@ use Rattle.solo_core.specs.declared.houses.house.SoloHouse.{SoloHouse}
 use Rattle.solo_core.specs.declared.houses.scope.SoloScope.TheVariants.{Crossing}
 use Rattle.solo_core.specs.RuleSets.{crossing_of, crossings_of, house_at}
 use Rattle.solo_core.specs.Scopes.{crossing_scopes, IsCrossingAt}
-use Rattle.solo_core.proofs.ScopeLemmas.{crossing-named, crossings-length, scopes-length}
 use Rattle.engine_core.specs.Sets.{has_bit}
 use Rattle.engine_core.specs.House.{IsDecided}
 use Rattle.std.proofs.Math.Path.{fun_ext}
@@ -68,8 +67,7 @@ decided_at n bits block line sets kept long bit decided =
 -- the crossing with a number
 pub crossing-is : (p : Solo) (m block : ℕ) (line : SoloHouse) → m < length (crossings_of p) → IsCrossingAt p m block line → crossing_of p block line ≡ house_of (crossings_of p) m
 crossing-is p m block line lt is =
-    let inside : m < length (crossing_scopes p) = omega (arith, lt, crossings-length p, scopes-length p) in
-    ap (house_at p) (is (Crossing block line)) ∙ sym (crossing-named p m (Crossing block line) inside)
+    ap (house_at p) (is (Crossing block line)) ∙ sym (get_or-map (house_at p) (crossing_scopes p) m (Crossing block line) no_house (omega (arith, lt, length-map (crossing_scopes p) (house_at p))))
 
 pub crossing-listed : (p : Solo) (m block : ℕ) (line : SoloHouse) → m < length (crossings_of p) → IsCrossingAt p m block line → (crossing_of p block line).places ≡ get_or (all_places (crossings_of p)) m []
 crossing-listed p m block line lt is =

@@ -1,43 +1,44 @@
 -- Houses that decide alike, and tables of scopes.
-use Rattle.std.proofs.Common.{◌≡◌, ℕ, zero, suc, ◌<◌, Bool, List, [], ◌∷◌, map, length, get_or, slice_index, ◌+◌, ◌*◌, ◌≤◌, refl, sym, ap, ◌∙◌, arith, ◌++◌}
-use Rattle.std.specs.Prelude.{All, sum_by, Option}
+use Rattle.std.proofs.Common.{◌≡◌, ℕ, zero, suc, ◌<◌, Bool, List, [], ◌∷◌, map, length, get_or, slice_index, ◌+◌, ◌*◌, refl, sym, ap, ◌∙◌, arith, ◌++◌}
+use Rattle.std.specs.Prelude.{All, sum_by}
 use Rattle.std.proofs.Math.Path.{fun_ext}
 use Rattle.std.proofs.lemmas.List.Sums.{sum_by-cons}
 use Rattle.grid_core.specs.Board.{Layout, has}
 use Rattle.grid_core.proofs.BoardLemmas.{has-within}
-use Rattle.engine_core.specs.Puzzle.{IsBoardOf, after, has_place, IsNext, IsKth}
+use Rattle.engine_core.specs.Puzzle.{IsBoardOf, after, has_place}
 use Rattle.engine_core.specs.Sets.{set_of_bits, IsBitsOf}
 use Rattle.engine_core.specs.HouseLaws.{visited-after}
+use Rattle.std.proofs.lemmas.Simd.{map-map}
 use Rattle.std.proofs.lemmas.List.{get_or-map, length-map, map-append}
 use Rattle.gameid_core.specs.Puzzles.{Solo, IsSolo, solo_n}
 use Rattle.engine_core.specs.House.{Decision, sets_at, kept_in, IsDecided}
 use Rattle.engine_core.specs.Houses.{House, house_of, no_house, IsSound, visits_of}
 use Rattle.engine_core.specs.HouseIndex.{Table, scope_of, AreScopes}
-use Rattle.solo_core.specs.declared.houses.house.SoloHouse.{SoloHouse}
 use Rattle.solo_core.specs.declared.houses.house.SoloHouse.TheVariants.{Row}
 use Rattle.solo_core.specs.Houses.{houses_of, places_of}
 use Rattle.solo_core.specs.HouseLaws.{lists_house, all_houses}
-use Rattle.solo_core.specs.RuleSets.{deciding, filled_houses, setting_of, rules_of, crossings_of}
+use Rattle.solo_core.specs.RuleSets.{deciding, house_by, filled_houses, setting_of, rules_of, crossings_of}
 use Rattle.solo_core.specs.Cells.{solo_cells}
 use Rattle.solo_core.specs.NoRepeat.{no_repeat}
 use Rattle.solo_core.specs.Work.{all_places, table_of}
 use Rattle.engine_core.specs.Filling.{strikes_by_fillings}
 use Rattle.engine_core.specs.HouseList.{Listed}
 
-pub scopes-deciding : (decides : Decision) (p : Solo) (houses : List SoloHouse)
-    → map (places_of p) houses ≡ map (λ (house : House). house.places) (map (λ house. record { places = places_of p house; decides = decides }) houses)
-scopes-deciding decides p [] = refl
-scopes-deciding decides p (house ∷ houses) = ap (λ rest. places_of p house ∷ rest) (scopes-deciding decides p houses)
+pub length-deciding : (decides : Decision) (p : Solo) → length (deciding decides p) ≡ length (houses_of p)
+length-deciding decides p = length-map (houses_of p) (house_by decides p)
 
 module _ (decides : Decision) (p : Solo) (h : ℕ) (lt : h < length (deciding decides p)) where
-  pub deciding-at : house_of (deciding decides p) h ≡ record { places = places_of p (get_or (houses_of p) h (Row 0)); decides = decides }
-  deciding-at = get_or-map (λ house. record { places = places_of p house; decides = decides }) (houses_of p) h (Row 0) no_house (omega (arith, lt, length-map {B = House} (houses_of p) (λ (house : SoloHouse). record { places = places_of p house; decides = decides })))
+  inside : h < length (houses_of p)
+  inside = omega (arith, lt, length-deciding decides p)
+
+  pub deciding-at : house_of (deciding decides p) h ≡ house_by decides p (get_or (houses_of p) h (Row 0))
+  deciding-at = get_or-map (house_by decides p) (houses_of p) h (Row 0) no_house inside
 
   pub decides-at : decides ≡ (house_of (deciding decides p) h).decides
   decides-at = sym (ap (λ (house : House). house.decides) deciding-at)
 
   pub long-at : IsSolo p → length (house_of (deciding decides p) h).places ≡ solo_n p
-  long-at ok = ap (λ (house : House). length house.places) deciding-at ∙ (lists_house p ok (get_or (houses_of p) h (Row 0)) (all_houses p h (Row 0) (omega (arith, lt, length-map {B = House} (houses_of p) (λ (house : SoloHouse). record { places = places_of p house; decides = decides }))))).len
+  long-at ok = ap (λ (house : House). length house.places) deciding-at ∙ (lists_house p ok (get_or (houses_of p) h (Row 0)) (all_houses p h (Row 0) inside)).len
 
 -- ---- a table of the houses' places
 scope-at : (houses : List House) (h : ℕ) → scope_of (all_places houses) h ≡ (house_of houses h).places
@@ -54,18 +55,12 @@ scopes-fit settled p houses sound h lt =
     let s = sound h no_house lh in
     rw (scope-at houses h) (record { within = s.within; different = s.different })
 
--- ---- what the table says of the rules
-pub scopes-next : (p : Solo) (houses : List House) (table : Table) → table ≡ table_of p houses → (place from : ℕ) (answer : Option ℕ)
-    → IsNext (λ h. has_place (scope_of table.scopes h) place) (length table.scopes) from answer
-    → IsNext (λ h. has_place (house_of houses h).places place) (length houses) from answer
-scopes-next p houses table listed place from answer next = rw (listed, fun_ext (λ h. ap (λ xs. has_place xs place) (scope-at houses h)), length-map houses (λ (house : House). house.places)) at next
+-- what the table says of a place, the houses say of it
+pub scopes-say : (p : Solo) (houses : List House) (table : Table) → table ≡ table_of p houses → (place : ℕ) (says : (ℕ → Bool) → ℕ → Type 0)
+    → says (λ h. has_place (scope_of table.scopes h) place) (length table.scopes) → says (λ h. has_place (house_of houses h).places place) (length houses)
+scopes-say p houses table listed place says said = rw (listed, fun_ext (λ h. ap (λ xs. has_place xs place) (scope-at houses h)), length-map houses (λ (house : House). house.places)) at said
 
-pub scopes-kth : (p : Solo) (houses : List House) (table : Table) → table ≡ table_of p houses → (place k : ℕ) (answer : Option ℕ)
-    → IsKth (λ h. has_place (scope_of table.scopes h) place) (length table.scopes) k answer
-    → IsKth (λ h. has_place (house_of houses h).places place) (length houses) k answer
-scopes-kth p houses table listed place k answer next = rw (listed, fun_ext (λ h. ap (λ xs. has_place xs place) (scope-at houses h)), length-map houses (λ (house : House). house.places)) at next
-
-bound-from-table : (values : ℕ) (houses : List House) → length (all_places houses) + sum_by length (all_places houses) * values ≡ sum_by (visits_of values) houses
+pub bound-from-table : (values : ℕ) (houses : List House) → sum_by length (all_places houses) * values + length (all_places houses) ≡ sum_by (visits_of values) houses
 bound-from-table values [] = omega arith
 bound-from-table values (house ∷ houses) =
     let rest = bound-from-table values houses in
@@ -73,12 +68,6 @@ bound-from-table values (house ∷ houses) =
     let b = sum_by-cons (visits_of values) house houses in
     let c = ap (λ n. n * values) a in
     omega arith
-
-pub turned-bound : (values : ℕ) (houses : List House) → sum_by length (all_places houses) * values + length (all_places houses) ≡ sum_by (visits_of values) houses
-turned-bound values houses = let e = bound-from-table values houses in omega arith
-
-pub part-of-bound : (values : ℕ) (houses : List House) → sum_by length (all_places houses) * values ≤ sum_by (visits_of values) houses
-part-of-bound values houses = let e = bound-from-table values houses in omega arith
 
 -- a visit: the sets are read, what is kept of them is decided, and the rest is struck
 pub left_by_visit : (settled : Bool) (p : Solo) (houses : List House) (h : ℕ) (old new : Layout) (places sets kept : List ℕ)
@@ -107,13 +96,10 @@ listed-in settled p houses table h cells places sound listed lt is same k lk =
     rw (same, e) ((sound h no_house lt).within k (rw e at lk))
 
 -- ---- crossings after the houses
-pub length-deciding : (decides : Decision) (p : Solo) → length (deciding decides p) ≡ length (houses_of p)
-length-deciding decides p = length-map {B = House} (houses_of p) (λ (house : SoloHouse). record { places = places_of p house; decides = decides })
-
 pub listed-deciding : (decides : Decision) (p : Solo) (first second : Listed) → first ≡ record { closed = []; begun = [] }
     → second ≡ record { closed = first.closed ++ map (places_of p) (houses_of p); begun = [] } → second.closed ≡ all_places (deciding decides p)
 listed-deciding decides p first second none e =
-    ap (λ (list : Listed). list.closed) e ∙ ap (λ (list : Listed). list.closed ++ map (places_of p) (houses_of p)) none ∙ scopes-deciding decides p (houses_of p)
+    ap (λ (list : Listed). list.closed) e ∙ ap (λ (list : Listed). list.closed ++ map (places_of p) (houses_of p)) none ∙ sym (map-map (λ (house : House). house.places) (house_by decides p) (houses_of p))
 
 pub listed-crossings : (p : Solo) (none first second : Listed) → none ≡ record { closed = []; begun = [] }
     → first ≡ record { closed = none.closed ++ map (places_of p) (houses_of p); begun = [] } → second ≡ record { closed = first.closed ++ all_places (crossings_of p); begun = [] }

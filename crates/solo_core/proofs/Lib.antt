@@ -10,7 +10,6 @@ pub mod StartLemmas
 pub mod AnyLemmas
 pub mod SinglesLemmas
 mod PeelLemmas
-mod AloneLemmas
 mod TurningLemmas
 mod QuickLemmas
 mod MateLemmas

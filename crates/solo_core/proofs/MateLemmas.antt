@@ -1,31 +1,37 @@
--- The values of the cells that are alone and the pairing of the rest make a pairing of the house.
-use Rattle.std.proofs.Common.{◌≡◌, ℕ, ◌+◌, ◌<◌, Bool, true, false, not, List, [], ◌∷◌, ◌++◌, cond, length, slice_index, sym, ap, ◌∙◌, inl, inr, arith, append-nil}
+-- The values of the cells that are alone and a pairing of the rest make a pairing of the house.
+use Rattle.std.proofs.Common.{◌≡◌, ℕ, zero, suc, ◌+◌, ◌<◌, Bool, true, false, not, eqb, List, [], ◌∷◌, ◌++◌, cond, map, length, slice_index, refl, sym, ap, ◌∙◌, inl, inr, arith, append-nil}
 use Rattle.std.specs.List.{range_with_len, filter}
-use Rattle.std.proofs.lemmas.Bool.{cases_Bool, true≢false, not-true, not_from_false}
+use Rattle.std.proofs.lemmas.Bool.{cases_Bool, true≢false, not-true, not_from_false, eqb-true, eq-eqb}
 use Rattle.std.proofs.lemmas.List.{map-id}
-use Rattle.std.proofs.lemmas.List.FromFn.{map-range_with_len_more, length-range_with_len, get_or-range_with_len}
+use Rattle.std.proofs.lemmas.List.FromFn.{map-range_with_len_more, length-range_with_len, get_or-range_with_len, get_or-map-range_with_len, length-map-range_with_len}
 use Rattle.std.proofs.lemmas.List.Elements.{filter-append}
 use Rattle.engine_core.specs.House.{AreDifferent}
 use Rattle.engine_core.specs.PlaceLaws.{has_place-at, has_place-here, place-filter, place-kept, different-filter}
 use Rattle.engine_core.specs.Puzzle.{has_place}
 use Rattle.engine_core.specs.Sets.{has_bit}
-use Rattle.grid_core.specs.Pairings.{IsPairing, IsShortSet}
+use Rattle.grid_core.specs.Pairings.{IsPairing}
 use Rattle.grid_core.proofs.ShortSets.{no_choice}
 use Rattle.solo_core.specs.Deciding.{has_in}
-use Rattle.solo_core.specs.Peeled.{AreAlone, rest_of}
-use Rattle.solo_core.proofs.AloneLemmas.{pairing_from}
+use Rattle.solo_core.specs.Peeled.{AreAlone, IsPaired, IsShort, rest_of}
+use Rattle.std.proofs.lemmas.Bool.Decides.{nat_tests}
+use Rattle.engine_core.specs.Filling.{strikes_by_fillings}
+use Rattle.engine_core.specs.House.{IsDecided}
+use Rattle.solo_core.specs.Deciding.{is_struck}
+use Rattle.solo_core.specs.NoRepeat.{no_repeat}
+use Rattle.solo_core.proofs.PairedFillings.{shown_by_pairing}
 
 -- ---- the rest, cell by cell
 range_more : (k : ℕ) → range_with_len 0 (k + 1) ≡ range_with_len 0 k ++ k ∷ []
 range_more k = sym (map-id (range_with_len 0 (k + 1))) ∙ map-range_with_len_more (λ j. j) 0 k k (omega arith) ∙ ap (λ xs. xs ++ k ∷ []) (map-id (range_with_len 0 k))
 
+rest-next : (k cells : ℕ) → rest_of (k + 1) cells ≡ rest_of k cells ++ cond (not (has_bit cells k)) (k ∷ []) []
+rest-next k cells = ap (filter (λ j. not (has_bit cells j))) (range_more k) ∙ filter-append (λ j. not (has_bit cells j)) (range_with_len 0 k) (k ∷ [])
+
 pub rest-more : (k cells : ℕ) (rest : List ℕ) → rest ≡ rest_of k cells → has_bit cells k ≡ false → rest ++ k ∷ [] ≡ rest_of (k + 1) cells
-rest-more k cells rest e off = rw e (sym (ap (filter (λ j. not (has_bit cells j))) (range_more k) ∙ filter-append (λ j. not (has_bit cells j)) (range_with_len 0 k) (k ∷ [])
-    ∙ ap (λ b. rest_of k cells ++ cond (not b) (k ∷ []) []) off))
+rest-more k cells rest e off = rw e (sym (rest-next k cells ∙ ap (λ b. rest_of k cells ++ cond (not b) (k ∷ []) []) off))
 
 pub rest-same : (k cells : ℕ) (rest : List ℕ) → rest ≡ rest_of k cells → has_bit cells k ≡ true → rest ≡ rest_of (k + 1) cells
-rest-same k cells rest e on = e ∙ sym (ap (filter (λ j. not (has_bit cells j))) (range_more k) ∙ filter-append (λ j. not (has_bit cells j)) (range_with_len 0 k) (k ∷ [])
-    ∙ ap (λ b. rest_of k cells ++ cond (not b) (k ∷ []) []) on ∙ append-nil (rest_of k cells))
+rest-same k cells rest e on = e ∙ sym (rest-next k cells ∙ ap (λ b. rest_of k cells ++ cond (not b) (k ∷ []) []) on ∙ append-nil (rest_of k cells))
 
 -- ---- which cells are in the rest
 module _ (n cells : ℕ) where
@@ -59,13 +65,14 @@ pub rest-apart : (n cells : ℕ) (rest : List ℕ) → rest ≡ rest_of n cells 
 rest-apart n cells rest e = rw e (rest-different n cells)
 
 -- where the rest has no pairing, the house has none
-pub no_pairing : (n cells : ℕ) (sets rest xs mates : List ℕ) → rest ≡ rest_of (length sets) cells → IsShortSet (λ l r. has_in sets (slice_index rest l) r) (length rest) n xs
-    → IsPairing (has_in sets) (length sets) n mates → ⊥
-no_pairing n cells sets rest xs mates e short p = no_choice (λ l r. has_in sets (slice_index rest l) r) (length rest) n xs short (λ l. slice_index mates (slice_index rest l))
-    (λ l lt. p.in_range (slice_index rest l) (rest-within (length sets) cells rest e l lt))
-    (λ l lt. p.joined (slice_index rest l) (rest-within (length sets) cells rest e l lt))
-    (λ l m ll lm same. rest-apart (length sets) cells rest e l m ll lm
-    (p.own (slice_index rest l) (slice_index rest m) (rest-within (length sets) cells rest e l ll) (rest-within (length sets) cells rest e m lm) same))
+pub no_pairing : (n cells : ℕ) (sets xs mates : List ℕ) → IsShort n sets (rest_of (length sets) cells) xs → IsPairing (has_in sets) (length sets) n mates → ⊥
+no_pairing n cells sets xs mates short p = no_choice (λ l r. has_in sets (slice_index (rest_of (length sets) cells) l) r) (length (rest_of (length sets) cells)) n xs short (λ l. slice_index mates (slice_index (rest_of (length sets) cells) l))
+    (λ l lt. p.in_range (slice_index (rest_of (length sets) cells) l) (inside l lt))
+    (λ l lt. p.joined (slice_index (rest_of (length sets) cells) l) (inside l lt))
+    (λ l m ll lm same. rest-different (length sets) cells l m ll lm (p.own (slice_index (rest_of (length sets) cells) l) (slice_index (rest_of (length sets) cells) m) (inside l ll) (inside m lm) same))
+  where
+    inside : (l : ℕ) → l < length (rest_of (length sets) cells) → slice_index (rest_of (length sets) cells) l < length sets
+    inside l lt = (rest-in (length sets) cells l lt).0
 
 -- ---- the pairing of the house
 module _ (n : ℕ) (sets : List ℕ) (cells : ℕ) (alone : AreAlone n sets cells) where
@@ -96,20 +103,95 @@ module _ (n : ℕ) (sets : List ℕ) (cells : ℕ) (alone : AreAlone n sets cell
         by : (i : ℕ) × (i < length others) × (slice_index others i ≡ k) → (slice_index mates k < n) × (has_in sets k (slice_index mates k) ≡ true)
         by (i, li, is) = rw (sym (ap (slice_index mates) is) ∙ at_rest i li) (p.in_range i li, rw is at (p.joined i li))
 
-    pub whole_pairing : IsPairing (has_in sets) (length sets) n mates
-    whole_pairing = pairing_from n sets cells alone mates as_many fits (λ k m lk lm off off_m. by (rest-has (length sets) cells k lk off) (rest-has (length sets) cells m lm off_m))
-      where
-        by : {k m : ℕ} → (i : ℕ) × (i < length others) × (slice_index others i ≡ k) → (j : ℕ) × (j < length others) × (slice_index others j ≡ m) → slice_index mates k ≡ slice_index mates m → k ≡ m
-        by (i, li, is) (j, lj, is_m) same =
-            let e : i ≡ j = p.own i j li lj (sym (at_rest i li) ∙ ap (slice_index mates) is ∙ same ∙ sym (ap (slice_index mates) is_m) ∙ at_rest j lj) in
-            sym is ∙ ap (slice_index others) e ∙ is_m
+    -- a cell that is alone has no value of another
+    apart : (k m : ℕ) → k < length sets → m < length sets → has_bit cells k ≡ true → (m ≡ k → ⊥) → slice_index mates k ≡ slice_index mates m → ⊥
+    apart k m lk lm on ne same = true≢false (sym (fits m lm).1 ∙ ap (has_in sets m) (sym same ∙ alone-mate k lk on) ∙ (alone k lk on).apart m lm ne)
 
-pub house_pairing : (n cells : ℕ) (sets rest paired first mates : List ℕ) → rest ≡ rest_of (length sets) cells → AreAlone n sets cells
-    → IsPairing (λ l r. has_in sets (slice_index rest l) r) (length rest) n paired
-    → ((k v : ℕ) → k < length sets → v < n → has_in sets k v ≡ true → has_in sets k (slice_index first k) ≡ true)
-    → length mates ≡ length sets
-    → ((i : ℕ) → i < length rest → slice_index mates (slice_index rest i) ≡ slice_index paired i)
-    → ((k : ℕ) → ((i : ℕ) → i < length rest → slice_index rest i ≡ k → ⊥) → slice_index mates k ≡ slice_index first k)
-    → IsPairing (has_in sets) (length sets) n mates
-house_pairing n cells sets rest paired first mates e alone p own as_many at_rest at_other =
-    whole_pairing n sets cells alone paired first mates (rw e at p) own as_many (rw e at at_rest) (rw e at at_other)
+    different : {k m : ℕ} → (i : ℕ) × (i < length others) × (slice_index others i ≡ k) → (j : ℕ) × (j < length others) × (slice_index others j ≡ m) → slice_index mates k ≡ slice_index mates m → k ≡ m
+    different (i, li, is) (j, lj, is_m) same =
+        let e : i ≡ j = p.own i j li lj (sym (at_rest i li) ∙ ap (slice_index mates) is ∙ same ∙ sym (ap (slice_index mates) is_m) ∙ at_rest j lj) in
+        sym is ∙ ap (slice_index others) e ∙ is_m
+
+    pub whole_pairing : IsPairing (has_in sets) (length sets) n mates
+    whole_pairing = record { len = as_many; in_range = λ k lk. (fits k lk).0; joined = λ k lk. (fits k lk).1; own = own_mate }
+      where
+        own_mate : (k m : ℕ) → k < length sets → m < length sets → slice_index mates k ≡ slice_index mates m → k ≡ m
+        own_mate k m lk lm same =
+            let a = apart k m lk lm in
+            let b = apart m k lm lk in
+            let d : has_bit cells k ≡ false → has_bit cells m ≡ false → k ≡ m = λ off off_m. different (rest-has (length sets) cells k lk off) (rest-has (length sets) cells m lm off_m) same in
+            grind arith
+
+-- the last number below n that passes
+pub last : ℕ → (ℕ → Bool) → ℕ
+last zero passes = 0
+last (suc n) passes = cond (passes n) n (last n passes)
+
+pub last-passes : (n : ℕ) (passes : ℕ → Bool) (v : ℕ) → v < n → passes v ≡ true → passes (last n passes) ≡ true
+unfolding last
+last-passes zero passes v lt on = absurd (omega arith)
+last-passes (suc n) passes v lt on = let below = last-passes n passes v in grind (arith, nat_tests)
+
+pub last-below : (n : ℕ) (passes : ℕ → Bool) → 0 < n → last n passes < n
+unfolding last
+last-below zero passes some = absurd (omega arith)
+last-below (suc zero) passes some = grind (arith, nat_tests)
+last-below (suc (suc n)) passes some = let below = last-below (suc n) passes (omega arith) in grind (arith, nat_tests)
+
+-- ---- where the rest is paired, some pairing of the house pairs it so
+module _ (n : ℕ) (sets : List ℕ) (cells : ℕ) (alone : AreAlone n sets cells) (paired : List ℕ) (p : IsPaired n sets (rest_of (length sets) cells) paired) where
+  -- the place of a cell in the rest
+  at : ℕ → ℕ
+  at k = last (length (rest_of (length sets) cells)) (λ i. eqb (slice_index (rest_of (length sets) cells) i) k)
+
+  mate : ℕ → ℕ
+  mate k = cond (has_bit cells k) (last n (has_in sets k)) (slice_index paired (at k))
+
+  pub house_mates : List ℕ
+  house_mates = map mate (range_with_len 0 (length sets))
+
+  mates-at : (k : ℕ) → k < length sets → slice_index house_mates k ≡ mate k
+  unfolding house_mates
+  mates-at k lk = get_or-map-range_with_len mate 0 (length sets) k k 0 lk (omega arith)
+
+  pub mates-rest : (i : ℕ) → i < length (rest_of (length sets) cells) → slice_index house_mates (slice_index (rest_of (length sets) cells) i) ≡ slice_index paired i
+  unfolding mate at
+  mates-rest i li =
+      let k = slice_index (rest_of (length sets) cells) i in
+      let r = rest-in (length sets) cells i li in
+      let passes : ℕ → Bool = λ j. eqb (slice_index (rest_of (length sets) cells) j) k in
+      let low = last-below (length (rest_of (length sets) cells)) passes (omega arith) in
+      let same = eqb-true _ k (last-passes (length (rest_of (length sets) cells)) passes i li (eq-eqb k k refl)) in
+      mates-at k r.0 ∙ rw r.1 (ap (slice_index paired) (rest-different (length sets) cells (at k) i low li same))
+
+  pub house_pairing : IsPairing (has_in sets) (length sets) n house_mates
+  unfolding house_mates mate
+  house_pairing = whole_pairing n sets cells alone paired house_mates house_mates p own (length-map-range_with_len mate 0 (length sets)) mates-rest (λ k out. refl)
+    where
+      own : (k v : ℕ) → k < length sets → v < n → has_in sets k v ≡ true → has_in sets k (slice_index house_mates k) ≡ true
+      own k v lk lv has = elim (cases_Bool (has_bit cells k)) [
+        | inl on ↦ rw (mates-at k lk, on) (last-passes n (has_in sets k) v lv has)
+        | inr off ↦ let w = rest-has (length sets) cells k lk off in rw (sym (ap (slice_index house_mates) w.2) ∙ mates-rest w.0 w.1) (rw w.2 at (p.joined w.0 w.1))
+      ]
+
+  -- it shows the value of a cell that is alone
+  pub shown_alone : (k v : ℕ) → k < length sets → has_bit cells k ≡ true → has_in sets k v ≡ true → is_struck n sets k v ≡ false
+  shown_alone k v lk on has =
+      let a = alone k lk on in
+      rw (a.only (slice_index house_mates k) (house_pairing.joined k lk) ∙ sym (a.only v has)) at (shown_by_pairing sets n house_mates house_pairing k)
+
+-- where no value is struck, the sets are kept
+pub decided_by_all : (n : ℕ) (sets : List ℕ) → ((k v : ℕ) → k < length sets → v < n → has_in sets k v ≡ true → is_struck n sets k v ≡ false)
+    → IsDecided n (strikes_by_fillings no_repeat) sets sets
+decided_by_all n sets all = record { as_many = refl; bits = λ k v lk lv. let shown = all k v lk lv in grind arith }
+
+-- where all are alone, nothing more is struck
+pub decided_alone : (n : ℕ) (sets : List ℕ) (cells : ℕ) → AreAlone n sets cells → ((k : ℕ) → k < length sets → has_bit cells k ≡ true)
+    → IsDecided n (strikes_by_fillings no_repeat) sets sets
+decided_alone n sets cells alone all = decided_by_all n sets (λ k v lk lv has. shown_alone n sets cells alone (rest_of (length sets) cells) paired k v lk (all k lk) has)
+  where
+    none : (i : ℕ) → i < length (rest_of (length sets) cells) → ⊥
+    none i li = let r = rest-in (length sets) cells i li in true≢false (sym (all (slice_index (rest_of (length sets) cells) i) r.0) ∙ r.1)
+
+    paired : IsPaired n sets (rest_of (length sets) cells) (rest_of (length sets) cells)
+    paired = record { len = refl; in_range = λ i li. absurd (none i li); joined = λ i li. absurd (none i li); own = λ i j li lj same. absurd (none i li) }

@@ -13,7 +13,7 @@ use Rattle.solo_core.specs.declared.houses.scope.SoloScope.{SoloScope}
 use Rattle.solo_core.specs.declared.houses.scope.SoloScope.TheVariants as scope
 use Rattle.solo_core.specs.Houses.{houses_of}
 use Rattle.solo_core.specs.NoRepeat.{no_repeat}
-use Rattle.solo_core.specs.RuleSets.{filled_houses, row_crossing, column_crossing, crossings_of, house_at}
+use Rattle.solo_core.specs.RuleSets.{filled_houses, crossings_of, house_at}
 use Rattle.solo_core.specs.Scopes.{row_scope, column_scope, crossing_scopes, scopes_of}
 use Rattle.solo_core.proofs.DecidingLemmas.{length-deciding}
 use Rattle.solo_core.proofs.HouseLemmas.{part_first, part_later}
@@ -33,19 +33,11 @@ module _ {X : Type 0} (first second : ℕ → X) (n m : ℕ) where
   second-at k d le lt = sym (part_later first n (map second (range_with_len 0 m)) k d le ∙ get_or-map-range_with_len second 0 m (k - n) (k - n) d lt (omega arith))
 
 module _ (p : Solo) where
-  -- the crossings are those of the scopes
-  crossings-named : map (house_at p) (crossing_scopes p) ≡ crossings_of p
-  crossings-named = map-append (house_at p) (map (row_scope p) (range_with_len 0 (solo_n p * p.c))) (map (column_scope p) (range_with_len 0 (solo_n p * p.r)))
-      ∙ rw (map-map (house_at p) (row_scope p), map-map (house_at p) (column_scope p)) refl
-
   pub scopes-length : length (crossing_scopes p) ≡ solo_n p * p.c + solo_n p * p.r
   scopes-length = both-length (row_scope p) (column_scope p) (solo_n p * p.c) (solo_n p * p.r)
 
   pub crossings-length : length (crossings_of p) ≡ solo_n p * p.c + solo_n p * p.r
-  crossings-length = both-length (row_crossing p) (column_crossing p) (solo_n p * p.c) (solo_n p * p.r)
-
-  pub crossing-named : (m : ℕ) (d : SoloScope) → m < length (crossing_scopes p) → house_of (crossings_of p) m ≡ house_at p (get_or (crossing_scopes p) m d)
-  crossing-named m d lt = ap (λ xs. house_of xs m) (sym crossings-named) ∙ get_or-map (house_at p) (crossing_scopes p) m d no_house lt
+  crossings-length = length-map (crossing_scopes p) (house_at p) ∙ scopes-length
 
 -- ---- houses and then others
 pub first_at : (some more : List House) (h : ℕ) → h < length some → house_of some h ≡ house_of (some ++ more) h
@@ -72,7 +64,7 @@ module _ (p : Solo) where
   crossing-after h d le = get_or-append_right names (crossing_scopes p) (length (houses_of p)) h d names-length le
 
   all-named : map (house_at p) (scopes_of p) ≡ filled_houses p ++ crossings_of p
-  all-named = map-append (house_at p) names (crossing_scopes p) ∙ rw (map-map (house_at p) scope.House, crossings-named p) refl
+  all-named = map-append (house_at p) names (crossing_scopes p) ∙ rw (map-map (house_at p) scope.House) refl
 
   pub crossings-counted : length (filled_houses p ++ crossings_of p) ≡ length (scopes_of p)
   crossings-counted = ap length (sym all-named) ∙ length-map (scopes_of p) (house_at p)

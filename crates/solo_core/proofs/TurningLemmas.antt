@@ -12,8 +12,7 @@ use Rattle.solo_core.specs.NoRepeat.{no_repeat}
 use Rattle.solo_core.specs.Peeled.{AreAlone, IsPaired, rest_of}
 use Rattle.solo_core.specs.Turning.{LeadsByMates, ComesAfter, ComesBefore, LiesOnRounds}
 use Rattle.solo_core.specs.Ways.{IsWay}
-use Rattle.solo_core.proofs.AloneLemmas.{decided_by_all, last, last-passes, last-below, put-alone, put-other, shown_by_choice, mates as whole_mates, mates-at, pairing}
-use Rattle.solo_core.proofs.MateLemmas.{rest-has, rest-in, rest-different}
+use Rattle.solo_core.proofs.MateLemmas.{rest-has, rest-in, last, last-passes, last-below, house_mates, house_pairing, mates-rest, shown_alone, decided_by_all}
 use Rattle.solo_core.proofs.Turned.{shown_by_way}
 use Rattle.solo_core.proofs.WayLemmas.{way_on}
 
@@ -59,44 +58,17 @@ pub in_ends : (all after before : ℕ) (rest : ℕ) (v : ℕ) → has_bit rest v
 in_ends all after before rest v is on none = (grind (arith, nat_tests, bits-both), grind (arith, nat_tests, bits-both))
 
 -- ---- the house
-module _ (n : ℕ) (sets : List ℕ) (square : length sets ≡ n) (cells : ℕ) (alone : AreAlone n sets cells) (mates : List ℕ) (p : IsPaired n sets (rest_of (length sets) cells) mates) where
+module _ (n : ℕ) (sets : List ℕ) (square : length sets ≡ n) (cells : ℕ) (alone : AreAlone n sets cells) (paired : List ℕ) (p : IsPaired n sets (rest_of (length sets) cells) paired) where
   abbrev rest : List ℕ
   rest = rest_of (length sets) cells
 
-  -- the place of a cell in the rest
-  at : ℕ → ℕ
-  at k = last (length rest) (λ i. eqb (slice_index rest i) k)
-
-  at-is : (k : ℕ) → k < length sets → has_bit cells k ≡ false → (at k < length rest) × (slice_index rest (at k) ≡ k)
-  unfolding at
-  at-is k lk off =
-      let w = rest-has (length sets) cells k lk off in (
-        last-below (length rest) (λ i. eqb (slice_index rest i) k) (omega (arith, w.1)),
-        eqb-true (slice_index rest (at k)) k (last-passes (length rest) (λ i. eqb (slice_index rest i) k) w.0 w.1 (eq-eqb (slice_index rest w.0) k w.2)),
-      )
-
-  choice : ℕ → ℕ
-  choice k = slice_index mates (at k)
-
-  fits : (k : ℕ) → k < length sets → has_bit cells k ≡ false → (choice k < n) × (has_in sets k (choice k) ≡ true)
-  unfolding choice
-  fits k lk off =
-      let a = at-is k lk off in
-      (p.in_range (at k) a.0, ap (λ (x : ℕ). has_in sets x (slice_index mates (at k))) (sym a.1) ∙ p.joined (at k) a.0)
-
-  different : (k m : ℕ) → k < length sets → m < length sets → has_bit cells k ≡ false → has_bit cells m ≡ false → choice k ≡ choice m → k ≡ m
-  unfolding choice
-  different k m lk lm off off_m same =
-      let a = at-is k lk off in
-      let b = at-is m lm off_m in
-      sym a.1 ∙ ap (slice_index rest) (p.own (at k) (at m) a.0 b.0 same) ∙ b.1
-
   abbrev whole : List ℕ
-  whole = whole_mates n sets cells alone choice fits different
+  whole = house_mates n sets cells alone paired p
 
-  whole_pairing : IsPairing (has_in sets) (length sets) n whole
-  whole_pairing = pairing n sets cells alone choice fits different
+  whole_is : IsPairing (has_in sets) (length sets) n whole
+  whole_is = house_pairing n sets cells alone paired p
 
+  -- the cell whose mate it is has the value
   leads : ℕ → ℕ → Bool
   leads u v = has_in sets (last n (λ x. eqb (slice_index whole x) u)) v
 
@@ -106,27 +78,18 @@ module _ (n : ℕ) (sets : List ℕ) (square : length sets ≡ n) (cells : ℕ) 
       let passes : ℕ → Bool = λ y. eqb (slice_index whole y) (slice_index whole x) in
       let low = last-below n passes (omega arith) in
       let same = eqb-true (slice_index whole (last n passes)) (slice_index whole x) (last-passes n passes x lx (eq-eqb (slice_index whole x) (slice_index whole x) refl)) in
-      ap (λ (y : ℕ). has_in sets y v) (whole_pairing.own (last n passes) x (omega arith) (omega arith) same)
+      ap (λ (y : ℕ). has_in sets y v) (whole_is.own (last n passes) x (omega arith) (omega arith) same)
 
-  whole-at : (k : ℕ) → k < length sets → has_bit cells k ≡ false → slice_index whole k ≡ slice_index mates (at k)
-  unfolding choice
-  whole-at k lk off = mates-at n sets cells alone choice fits different k lk ∙ put-other n sets cells alone choice fits different k off
+  by_mates : LeadsByMates sets rest paired leads
+  by_mates i v li = ap (λ (u : ℕ). leads u v) (sym (mates-rest n sets cells alone paired p i li)) ∙ follow (slice_index rest i) v (omega (arith, (rest-in (length sets) cells i li).0, square))
 
-  by_mates : LeadsByMates sets rest mates leads
-  by_mates i v li =
-      let r = rest-in (length sets) cells i li in
-      let a = at-is (slice_index rest i) r.0 r.1 in
-      let same : slice_index mates i ≡ slice_index whole (slice_index rest i) =
-      sym (whole-at (slice_index rest i) r.0 r.1 ∙ ap (slice_index mates) (rest-different (length sets) cells (at (slice_index rest i)) i a.0 li a.1)) in
-      ap (λ (u : ℕ). leads u v) same ∙ follow (slice_index rest i) v (omega (arith, r.0, square))
-
-  pub decided_by_rounds : LiesOnRounds n sets rest mates → IsDecided n (strikes_by_fillings no_repeat) sets sets
+  pub decided_by_rounds : LiesOnRounds n sets rest paired → IsDecided n (strikes_by_fillings no_repeat) sets sets
   decided_by_rounds (root, r) = decided_by_all n sets (λ k v lk lv has. elim (cases_Bool (has_bit cells k)) [
-    | inl on ↦ shown_by_choice n sets cells alone choice fits different k v lk (put-alone n sets cells alone choice fits different k v lk on has)
+    | inl on ↦ shown_alone n sets cells alone paired p k v lk on has
     | inr off ↦
-        let a = at-is k lk off in
-        let there = (r (at k) v a.0 lv (ap (λ (x : ℕ). has_in sets x v) a.1 ∙ has)).1 leads by_mates in
-        let back = (r (at k) (slice_index mates (at k)) a.0 (p.in_range (at k) a.0) (p.joined (at k) a.0)).0 leads by_mates in
-        shown_by_way n sets whole square whole_pairing leads follow k v (omega arith) lv has (there.0 ++ back.0)
-        (way_on leads n v root (slice_index whole k) there.0 back.0 there.1 (rw (whole-at k lk off) back.1))
+        let w = rest-has (length sets) cells k lk off in
+        let there = (r w.0 v w.1 lv (ap (λ (x : ℕ). has_in sets x v) w.2 ∙ has)).1 leads by_mates in
+        let back = (r w.0 (slice_index paired w.0) w.1 (p.in_range w.0 w.1) (p.joined w.0 w.1)).0 leads by_mates in
+        shown_by_way n sets whole square whole_is leads follow k v (omega arith) lv has (there.0 ++ back.0)
+        (way_on leads n v root (slice_index whole k) there.0 back.0 there.1 (rw (sym (ap (slice_index whole) w.2) ∙ mates-rest n sets cells alone paired p w.0 w.1) back.1))
   ])

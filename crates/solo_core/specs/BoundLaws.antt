@@ -1,16 +1,16 @@
 -- The bounds of closings as numbers: 3n + 3n^3 in plain Solo, with two houses more in Solo X, and with crossings what these add.
-use Rattle.std.proofs.Common.{◌≡◌, ℕ, zero, suc, ◌+◌, ◌-◌, ◌*◌, ◌/◌, ◌%◌, ◌^◌, ◌<◌, ◌≤◌, Bool, true, false, not, cond, eqb, List, [], ◌∷◌, ◌++◌, map, length, get_or, if◌then◌else◌, refl, sym, ap, ◌∙◌, add-one, arith, length-append}
+use Rattle.std.proofs.Common.{◌≡◌, ℕ, zero, suc, ◌+◌, ◌-◌, ◌*◌, ◌/◌, ◌%◌, ◌^◌, ◌<◌, ◌≤◌, Bool, true, false, not, cond, eqb, List, [], ◌∷◌, ◌++◌, map, length, get_or, if◌then◌else◌, refl, sym, ap, ◌∙◌, min, inl, inr, add-one, arith, length-append}
 use Rattle.std.specs.Prelude.{All, sum_by}
 use Rattle.std.specs.List.{range_with_len, filter}
-use Rattle.std.proofs.lemmas.Bool.{eq-eqb, ne_eqb}
+use Rattle.std.proofs.lemmas.Bool.{cases_order, eq-eqb, ne_eqb}
 use Rattle.std.proofs.lemmas.Bool.Decides.{nat_tests}
 use Rattle.std.proofs.lemmas.Nat.{div-mul-add, mod-mul-add, div_below, mod_below, mul-le, mul-add-lt, div-add-mod'}
-use Rattle.std.proofs.lemmas.List.{length-map}
+use Rattle.std.proofs.lemmas.List.{length-map, map-append}
 use Rattle.std.proofs.lemmas.List.Sums.{sum_by-cons, sum_by-append}
 use Rattle.std.proofs.lemmas.List.Elements.{All-map}
 use Rattle.std.proofs.lemmas.List.FromFn.{length-map-range_with_len, filter_of_map_range_with_len_more}
 use Rattle.grid_core.specs.Candidates.{count_below}
-use Rattle.grid_core.proofs.CandidateLemmas.{count_below-same, count_below-none}
+use Rattle.grid_core.proofs.CandidateLemmas.{count_below-same}
 use Rattle.gameid_core.specs.Puzzles.{Solo, IsSolo, solo_n}
 use Rattle.engine_core.specs.Puzzle.{has_place}
 use Rattle.engine_core.specs.Filling.{strikes_by_fillings}
@@ -23,7 +23,9 @@ use Rattle.solo_core.specs.Crossing.{crossing_places}
 use Rattle.solo_core.specs.Houses.{houses_of, lies_in, places_of}
 use Rattle.solo_core.specs.HouseLaws.{lists_house, listed-same, all_houses, each_value, row_in, column_in}
 use Rattle.solo_core.specs.NoRepeat.{no_repeat}
-use Rattle.solo_core.specs.RuleSets.{deciding, crossings_rules, row_crossing, column_crossing, crossings_of}
+use Rattle.solo_core.specs.RuleSets.{deciding, house_by, house_at, crossings_rules, crossings_of}
+use Rattle.solo_core.specs.declared.houses.scope.SoloScope.{SoloScope}
+use Rattle.solo_core.specs.Scopes.{row_scope, column_scope}
 
 -- how many houses the puzzle has
 pub house_count : (p : Solo) → length (houses_of p) ≡ 3 * solo_n p + (if p.x then 2 else 0)
@@ -45,13 +47,10 @@ sum_same f m (y ∷ ys) all =
 pub bound_is : (decides : Decision) (p : Solo) → IsSolo p
     → sum_by (visits_of (solo_n p)) (deciding decides p) ≡ length (houses_of p) + length (houses_of p) * (solo_n p * solo_n p)
 bound_is decides p ok =
-    let same = sum_same (visits_of (solo_n p)) (1 + solo_n p * solo_n p) (deciding decides p) (All-map (λ house. visits_of (solo_n p) house ≡ 1 + solo_n p * solo_n p) house (houses_of p)
+    let same = sum_same (visits_of (solo_n p)) (1 + solo_n p * solo_n p) (deciding decides p) (All-map (λ house. visits_of (solo_n p) house ≡ 1 + solo_n p * solo_n p) (house_by decides p) (houses_of p)
     (λ k d lt. ap (λ n. 1 + n * solo_n p) ((lists_house p ok (get_or (houses_of p) k d) (all_houses p k d lt)).len))) in
-    let long = length-map (houses_of p) house in
+    let long = length-map (houses_of p) (house_by decides p) in
     same ∙ rw long (omega arith)
-  where
-    house : SoloHouse → House
-    house h = record { places = places_of p h; decides = decides }
 
 pub few_lines : (decides : Decision) (p : Solo) → IsSolo p → sum_by (visits_of (solo_n p)) (deciding decides p) ≤ 95 + 95 * 961
 few_lines decides p ok =
@@ -88,29 +87,19 @@ filter_count test f (suc n) =
     last true = refl
     last false = refl
 
-count_split : (p : ℕ → Bool) (a b : ℕ) → count_below p (a + b) ≡ count_below p a + count_below (λ k. p (a + k)) b
+-- of the first m numbers, in parts of r each, all but those of the q-th
+count_other : (r q m : ℕ) → 0 < r → count_below (λ k. not (eqb (k / r) q)) m ≡ min m (q * r) + (m - (q * r + r))
 unfolding count_below
-count_split p a zero = let e : a + 0 ≡ a = omega arith in rw e (omega arith)
-count_split p a (suc b) = let e : a + suc b ≡ suc (a + b) = omega arith in let rest = count_split p a b in rw e (omega arith)
-
-count_all : (p : ℕ → Bool) (n : ℕ) → ((k : ℕ) → k < n → p k ≡ true) → count_below p n ≡ n
-unfolding count_below
-count_all p zero each = refl
-count_all p (suc n) each = let rest = count_all p n (λ k lt. each k (omega arith)) in rw (each n (omega arith)) (omega arith)
-
--- of n numbers in parts of r each, all but those of the q-th
-count_other : (r q n : ℕ) → 0 < r → q * r + r ≤ n → count_below (λ k. not (eqb (k / r) q)) n ≡ n - r
-count_other r q n pos fits =
-    let whole : n ≡ q * r + r + (n - (q * r + r)) = omega arith in
-    let outer = count_split (λ k. not (eqb (k / r) q)) (q * r + r) (n - (q * r + r)) in
-    let inner = count_split (λ k. not (eqb (k / r) q)) (q * r) r in
-    let before = count_all (λ k. not (eqb (k / r) q)) (q * r) (λ k lt. ap not (ne_eqb (k / r) q (λ e. let low = div_below k r q pos lt in absurd (omega arith)))) in
-    let here = count_below-none (λ k. not (eqb ((q * r + k) / r) q)) r (λ k lt. ap not (eq-eqb ((q * r + k) / r) q (div-mul-add q r k lt))) in
-    let after = count_all (λ k. not (eqb ((q * r + r + k) / r) q)) (n - (q * r + r)) (λ k lt. ap not (ne_eqb ((q * r + r + k) / r) q (λ e. past k e))) in
-    rw whole (omega arith)
-  where
-    past : (k : ℕ) → (q * r + r + k) / r ≡ q → ⊥
-    past k e = let sum = div-add-mod' (q * r + r + k) r in let low = mod_below (q * r + r + k) r pos in let same = ap (λ z. z * r) e in absurd (omega arith)
+count_other r q zero pos = omega arith
+count_other r q (suc m) pos =
+    let rest = count_other r q m pos in
+    let whole = div-add-mod' m r in
+    let low = mod_below m r pos in
+    elim (cases_order (m / r) q) [
+      | inl e ↦ let same = ap (λ z. z * r) e in rw (eq-eqb (m / r) q e) (omega arith)
+      | inr (inl less) ↦ let most = mul-le (m / r + 1) r q r (omega arith) (omega arith) in rw (ne_eqb (m / r) q (λ e. omega arith)) (omega arith)
+      | inr (inr more) ↦ let most = mul-le (q + 1) r (m / r) r (omega arith) (omega arith) in rw (ne_eqb (m / r) q (λ e. omega arith)) (omega arith)
+    ]
 
 same_test : (a b c d : ℕ) → (a ≡ b → c ≡ d) → (c ≡ d → a ≡ b) → eqb a b ≡ eqb c d
 same_test a b c d there back = grind (arith, nat_tests)
@@ -129,7 +118,7 @@ module _ (p : Solo) (ok : IsSolo p) (b : ℕ) (b_in : b < solo_n p) where
       let count = filter_count (λ place. not (has_place block place)) f (solo_n p) in
       let tests = count_below-same (λ k. not (has_place block (f k))) (λ k. not (eqb (k / r) q)) (solo_n p)
       (λ k lt. ap not (sym (listed-same block (solo_n p) (solo_cells p) (lies_in p (Block b)) (lists_house p ok (Block b) b_in) (f k) (inside k lt)) ∙ cut k lt)) in
-      let few = count_other r q (solo_n p) pos fits in
+      let few = count_other r q (solo_n p) pos in
       omega arith
 
   -- a block of the same band as the row has the row's cells of its own stack, and so with a column
@@ -154,20 +143,25 @@ module _ (p : Solo) (ok : IsSolo p) (b : ℕ) (b_in : b < solo_n p) where
       (same_test (y / p.c * p.c + b % p.c) b (y / p.c) (b / p.c) (λ z. sym (div-mul-add (y / p.c) p.c (b % p.c) low) ∙ ap (λ k. k / p.c) z) (λ z. ap (λ k. k * p.c + b % p.c) z ∙ whole)))
 
 -- ---- the bound with crossings
-sum_alike : (n : ℕ) (f : ℕ → House) (k len : ℕ) → ((m : ℕ) → m < k → length (f m).places ≡ len) → sum_by (visits_of n) (map f (range_with_len 0 k)) ≡ k * (1 + len * n)
-sum_alike n f k len each = sum_same (visits_of n) (1 + len * n) (map f (range_with_len 0 k)) (each_value (λ house. visits_of n house ≡ 1 + len * n) f k (λ m lt. ap (λ l. 1 + l * n) (each m lt)))
-    ∙ ap (λ l. l * (1 + len * n)) (length-map-range_with_len f 0 k)
+sum_alike : (p : Solo) (f : ℕ → SoloScope) (k len : ℕ) → ((m : ℕ) → m < k → length (house_at p (f m)).places ≡ len)
+    → sum_by (visits_of (solo_n p)) (map (house_at p) (map f (range_with_len 0 k))) ≡ k * (1 + len * solo_n p)
+sum_alike p f k len each = sum_same (visits_of (solo_n p)) (1 + len * solo_n p) (map (house_at p) (map f (range_with_len 0 k)))
+    (All-map (λ house. visits_of (solo_n p) house ≡ 1 + len * solo_n p) (house_at p) (map f (range_with_len 0 k))
+    (each_value (λ scope. visits_of (solo_n p) (house_at p scope) ≡ 1 + len * solo_n p) f k (λ m lt. ap (λ l. 1 + l * solo_n p) (each m lt))))
+    ∙ ap (λ l. l * (1 + len * solo_n p)) (length-map (map f (range_with_len 0 k)) (house_at p) ∙ length-map-range_with_len f 0 k)
 
 pub crossings_bound : (p : Solo) → IsSolo p
     → sum_by (visits_of (solo_n p)) (crossings_of p) ≡ solo_n p * p.c * (1 + (solo_n p + (solo_n p - p.r)) * solo_n p) + solo_n p * p.r * (1 + (solo_n p + (solo_n p - p.c)) * solo_n p)
 crossings_bound p ok =
     let c_low = ok.c_low in
     let r_low = ok.r_low in
-    let rows = sum_alike (solo_n p) (row_crossing p) (solo_n p * p.c) (solo_n p + (solo_n p - p.r)) (λ m lt. let w = row_in p ok m lt in
+    let rows = sum_alike p (row_scope p) (solo_n p * p.c) (solo_n p + (solo_n p - p.r)) (λ m lt. let w = row_in p ok m lt in
     row_cells p ok (m / p.c) w.0 (m / p.c / p.c * p.c + m % p.c) w.1 (div-mul-add (m / p.c / p.c) p.c (m % p.c) (mod_below m p.c (omega arith)))) in
-    let columns = sum_alike (solo_n p) (column_crossing p) (solo_n p * p.r) (solo_n p + (solo_n p - p.c)) (λ m lt. let w = column_in p ok m lt in
+    let columns = sum_alike p (column_scope p) (solo_n p * p.r) (solo_n p + (solo_n p - p.c)) (λ m lt. let w = column_in p ok m lt in
     column_cells p ok (m / p.r) w.0 (m / p.r % p.c * p.r + m % p.r) w.1 (div-mul-add (m / p.r % p.c) p.r (m % p.r) (mod_below m p.r (omega arith)))) in
-    sum_by-append (visits_of (solo_n p)) (map (row_crossing p) (range_with_len 0 (solo_n p * p.c))) (map (column_crossing p) (range_with_len 0 (solo_n p * p.r))) ∙ rw (rows, columns) refl
+    ap (sum_by (visits_of (solo_n p))) (map-append (house_at p) (map (row_scope p) (range_with_len 0 (solo_n p * p.c))) (map (column_scope p) (range_with_len 0 (solo_n p * p.r))))
+    ∙ sum_by-append (visits_of (solo_n p)) (map (house_at p) (map (row_scope p) (range_with_len 0 (solo_n p * p.c)))) (map (house_at p) (map (column_scope p) (range_with_len 0 (solo_n p * p.r))))
+    ∙ rw (rows, columns) refl
 
 pub crossings_rules-bound : (p : Solo) → IsSolo p → (crossings_rules p).bound ≡ length (houses_of p) + length (houses_of p) * (solo_n p * solo_n p)
     + (solo_n p * p.c * (1 + (2 * solo_n p - p.r) * solo_n p) + solo_n p * p.r * (1 + (2 * solo_n p - p.c) * solo_n p))

@@ -78,31 +78,38 @@ module _ (block line : ℕ → Bool) where
           (two_cases ⊥ old w.0 v (λ _ no. true≢false (sym in_block ∙ no)) (λ _ no. true≢false (sym in_line ∙ no))))) in
           true≢false (sym (part-here part new v w.0 (let e = a.as_many in let l = w.1 in omega arith) w.2 kept) ∙ none)
 
--- ---- a house of n different cells
-module _ (n : ℕ) (g : List ℕ) (small : (c : ℕ) → c < length g → slice_index g c < n) (places : List ℕ) (long : length places ≡ n)
-    (inside : (k : ℕ) → k < length places → slice_index places k < length g) (holds : no_repeat (map (slice_index g) places) ≡ true) where
-  at_place : (k : ℕ) → k < length places → get_or (map (slice_index g) places) k 0 ≡ slice_index g (slice_index places k)
-  at_place k lt = get_or-map (slice_index g) places k 0 0 lt
+-- ---- houses of n different cells of a grid, with no number twice
+pub record HoldsEach (n : ℕ) (g places : List ℕ) : Type 0 where
+  pub long : length places ≡ n
+  pub inside : (k : ℕ) → k < length places → slice_index places k < length g
+  pub holds : no_repeat (map (slice_index g) places) ≡ true
 
-  -- has each number at one place alone
-  pub one_place : (c d : ℕ) → has_place places c ≡ true → has_place places d ≡ true → slice_index g c ≡ slice_index g d → c ≡ d
-  one_place c d on_c on_d same =
+module _ (n : ℕ) (g : List ℕ) (small : (c : ℕ) → c < length g → slice_index g c < n) where
+  -- a house has each number at one place alone
+  one_place : (places : List ℕ) → HoldsEach n g places → (c d : ℕ) → has_place places c ≡ true → has_place places d ≡ true → slice_index g c ≡ slice_index g d → c ≡ d
+  one_place places h c d on_c on_d same =
       let j = has_place-at places c on_c in
       let k = has_place-at places d on_d in
-      let len = length-map places (slice_index g) in
-      let lj = j.1 in
-      let lk = k.1 in
-      let e = own_from_no_repeat (map (slice_index g) places) holds j.0 k.0 (omega arith) (omega arith)
-      (at_place j.0 lj ∙ ap (slice_index g) j.2 ∙ same ∙ sym (at_place k.0 lk ∙ ap (slice_index g) k.2)) in
+      let long = length-map places (slice_index g) in
+      let e = own_from_no_repeat (map (slice_index g) places) h.holds j.0 k.0 (omega (arith, j.1)) (omega (arith, k.1))
+      (get_or-map (slice_index g) places j.0 0 0 j.1 ∙ ap (slice_index g) j.2 ∙ same ∙ sym (get_or-map (slice_index g) places k.0 0 0 k.1 ∙ ap (slice_index g) k.2)) in
       sym j.2 ∙ ap (slice_index places) e ∙ k.2
 
-  -- and each number below n somewhere
-  pub some_place : (v : ℕ) → v < n → (c : ℕ) × (has_place places c ≡ true) × (slice_index g c ≡ v)
-  some_place v lt =
-      let w = none_missing n (map (slice_index g) places) (length-map places (slice_index g) ∙ long) holds
-      (λ k lk. let l : k < length places = omega arith in rw (at_place k l) (small (slice_index places k) (inside k l))) v lt in
-      let l : w.0 < length places = let a = w.1 in omega arith in
-      (slice_index places w.0, has_place-here places w.0 l, sym (at_place w.0 l) ∙ w.2)
+  -- the number of a cell that the first house has alone stands in a cell that the second has alone
+  other_cell : (first second : List ℕ) → HoldsEach n g first → HoldsEach n g second → (c : ℕ) → has_place first c ≡ true → has_place second c ≡ false
+      → (d : ℕ) × (has_place second d ≡ true) × (has_place first d ≡ false) × (slice_index g d ≡ slice_index g c)
+  other_cell first second h other c on off =
+      let at = has_place-at first c on in
+      let low = rw at.2 at (small (slice_index first at.0) (h.inside at.0 at.1)) in
+      let w = none_missing n (map (slice_index g) second) (length-map second (slice_index g) ∙ other.long) other.holds (λ k lk. numbers k (omega (arith, other.long))) (slice_index g c) low in
+      let lw : w.0 < length second = omega (arith, w.1, other.long) in
+      let there = has_place-here second w.0 lw in
+      let same = sym (get_or-map (slice_index g) second w.0 0 0 lw) ∙ w.2 in
+      (slice_index second w.0, there, false_from_ne_true (has_place first (slice_index second w.0)) (λ here.
+          true≢false (sym there ∙ ap (has_place second) (one_place first h (slice_index second w.0) c here on same) ∙ off)), same)
+    where
+      numbers : (k : ℕ) → k < length second → get_or (map (slice_index g) second) k 0 < n
+      numbers k lk = rw (get_or-map (slice_index g) second k 0 0 lk) (small (slice_index second k) (other.inside k lk))
 
 -- ---- a crossing of a block and a line
 module _ (block line : List ℕ) where
@@ -137,61 +144,48 @@ module _ (block line : List ℕ) where
   crossing-different in_block in_line = different-from (crossing_places block line) (distinct-append block rest (distinct-from block in_block) (distinct-from rest (different-filter (λ c. not (has_place block c)) line in_line))
       (λ d here there. true≢false (sym here ∙ not-true (has_place block d) (place-filter (λ c. not (has_place block c)) line d there).1)))
 
-  -- where both have n different cells and no number twice, each number of the one is one of the other
-  module _ (n : ℕ) (g : List ℕ) (small : (c : ℕ) → c < length g → slice_index g c < n) (block_long : length block ≡ n) (line_long : length line ≡ n)
-      (in_block : (k : ℕ) → k < length block → slice_index block k < length g) (in_line : (k : ℕ) → k < length line → slice_index line k < length g)
-      (block_holds : no_repeat (map (slice_index g) block) ≡ true) (line_holds : no_repeat (map (slice_index g) line) ≡ true) where
-    value_at : (k : ℕ) → k < length (crossing_places block line) → get_or (map (slice_index g) (crossing_places block line)) k 0 ≡ slice_index g (slice_index (crossing_places block line) k)
+  -- where both hold each number, the numbers of each part are those of the other
+  module _ (n : ℕ) (g : List ℕ) (small : (c : ℕ) → c < length g → slice_index g c < n) (in_block : HoldsEach n g block) (in_line : HoldsEach n g line) where
+    abbrev values : List ℕ
+    values = map (slice_index g) (crossing_places block line)
+
+    value_at : (k : ℕ) → k < length (crossing_places block line) → get_or values k 0 ≡ slice_index g (slice_index (crossing_places block line) k)
     value_at k lt = get_or-map (slice_index g) (crossing_places block line) k 0 0 lt
 
-    size : length (map (slice_index g) (crossing_places block line)) ≡ length (crossing_places block line)
-    size = length-map (crossing_places block line) (slice_index g)
-
-    low_value : (k : ℕ) → k < length (crossing_places block line) → slice_index g (slice_index (crossing_places block line) k) < n
-    low_value k lt = small (slice_index (crossing_places block line) k) (crossing-within (length g) in_block in_line k lt)
-
-    pub crossing-sound : Keeps (strikes_by_crossing (in_block_alone block line) (in_line_alone block)) (map (slice_index g) (crossing_places block line))
-    crossing-sound = crossing-keeps (in_block_alone block line) (in_line_alone block) (map (slice_index g) (crossing_places block line)) from_line from_block
+    pub crossing-sound : Keeps (strikes_by_crossing (in_block_alone block line) (in_line_alone block)) values
+    crossing-sound = crossing-keeps (in_block_alone block line) (in_line_alone block) values from_line from_block
       where
-        from_line : (k : ℕ) → k < length (map (slice_index g) (crossing_places block line)) → in_line_alone block k ≡ true
-            → (j : ℕ) × (j < length (map (slice_index g) (crossing_places block line))) × (in_block_alone block line j ≡ true)
-            × (get_or (map (slice_index g) (crossing_places block line)) j 0 ≡ get_or (map (slice_index g) (crossing_places block line)) k 0)
+        size : length values ≡ length block + length rest
+        size = length-map (crossing_places block line) (slice_index g) ∙ long
+
+        from_line : (k : ℕ) → k < length values → in_line_alone block k ≡ true → (j : ℕ) × (j < length values) × (in_block_alone block line j ≡ true) × (get_or values j 0 ≡ get_or values k 0)
         from_line k lt here =
             let len = long in
             let s = size in
             let lk : k < length (crossing_places block line) = omega arith in
             let w = rest_is k (leb-true (length block) k here) lk in
-            let d = some_place n g small block block_long in_block block_holds (slice_index g (slice_index (crossing_places block line) k)) (low_value k lk) in
+            let d = other_cell n g small line block in_line in_block (slice_index (crossing_places block line) k) w.0 w.1 in
             let j = has_place-at block d.0 d.1 in
-            let lj = j.1 in
-            let apart : has_place line (slice_index block j.0) ≡ false = false_from_ne_true (has_place line (slice_index block j.0)) (λ on.
-            let same = one_place n g small line line_long in_line line_holds (slice_index block j.0) (slice_index (crossing_places block line) k) on w.0 (ap (slice_index g) j.2 ∙ d.2) in
-            true≢false (sym (rw same at (has_place-here block j.0 lj)) ∙ w.1)) in (
+            let lj = j.1 in (
               j.0,
               omega arith,
-              and_from _ _ (lt-ltb j.0 (length block) lj) (not_from_false (has_place line (slice_index block j.0)) apart),
-              value_at j.0 (omega arith) ∙ ap (slice_index g) (at_block j.0 lj ∙ j.2) ∙ d.2 ∙ sym (value_at k lk),
+              and_from _ _ (lt-ltb j.0 (length block) lj) (not_from_false (has_place line (slice_index block j.0)) (ap (has_place line) j.2 ∙ d.2)),
+              value_at j.0 (omega arith) ∙ ap (slice_index g) (at_block j.0 lj ∙ j.2) ∙ d.3 ∙ sym (value_at k lk),
             )
 
-        from_block : (k : ℕ) → k < length (map (slice_index g) (crossing_places block line)) → in_block_alone block line k ≡ true
-            → (j : ℕ) × (j < length (map (slice_index g) (crossing_places block line))) × (in_line_alone block j ≡ true)
-            × (get_or (map (slice_index g) (crossing_places block line)) j 0 ≡ get_or (map (slice_index g) (crossing_places block line)) k 0)
+        from_block : (k : ℕ) → k < length values → in_block_alone block line k ≡ true → (j : ℕ) × (j < length values) × (in_line_alone block j ≡ true) × (get_or values j 0 ≡ get_or values k 0)
         from_block k lt here =
             let len = long in
             let s = size in
-            let lk : k < length (crossing_places block line) = omega arith in
             let parts = and_parts _ _ here in
             let low = ltb-true k (length block) parts.0 in
-            let d = some_place n g small line line_long in_line line_holds (slice_index g (slice_index (crossing_places block line) k)) (low_value k lk) in
-            let apart : has_place block d.0 ≡ false = false_from_ne_true (has_place block d.0) (λ on.
-            let same = one_place n g small block block_long in_block block_holds d.0 (slice_index block k) on (has_place-here block k low) (d.2 ∙ ap (slice_index g) (at_block k low)) in
-            true≢false (sym (rw same at d.1) ∙ not-true (has_place line (slice_index block k)) parts.1)) in
-            let j = has_place-at rest d.0 (place-kept (λ c. not (has_place block c)) line d.0 d.1 (not_from_false (has_place block d.0) apart)) in
+            let d = other_cell n g small block line in_block in_line (slice_index block k) (has_place-here block k low) (not-true (has_place line (slice_index block k)) parts.1) in
+            let j = has_place-at rest d.0 (place-kept (λ c. not (has_place block c)) line d.0 d.1 (not_from_false (has_place block d.0) d.2)) in
             let lj = j.1 in
             let e : length block + j.0 - length block ≡ j.0 = omega arith in (
               length block + j.0,
               omega arith,
               le-leb (length block) (length block + j.0) (omega arith),
-              value_at (length block + j.0) (omega arith)
-                  ∙ ap (slice_index g) (at_rest (length block + j.0) (omega arith) ∙ ap (slice_index rest) e ∙ j.2) ∙ d.2 ∙ sym (value_at k lk),
+              value_at (length block + j.0) (omega arith) ∙ ap (slice_index g) (at_rest (length block + j.0) (omega arith) ∙ ap (slice_index rest) e ∙ j.2) ∙ d.3
+                  ∙ sym (value_at k (omega arith) ∙ ap (slice_index g) (at_block k low)),
             )

@@ -20,7 +20,9 @@ use Rattle.engine_core.specs.HousesLaws.{by_houses-lawful, bound_enough, by_fill
 use Rattle.solo_core.specs.declared.houses.house.SoloHouse.{SoloHouse}
 use Rattle.solo_core.specs.declared.houses.house.SoloHouse.TheVariants.{Row, Column, Block}
 use Rattle.solo_core.specs.Cells.{solo_cells}
-use Rattle.solo_core.specs.RuleSets.{start, deciding, row_crossing, column_crossing, crossings_of, setting_of, rules_of, singles_rules, houses_rules, crossings_rules}
+use Rattle.solo_core.specs.RuleSets.{start, house_by, house_at, deciding, crossings_of, setting_of, rules_of, singles_rules, houses_rules, crossings_rules}
+use Rattle.solo_core.specs.declared.houses.scope.SoloScope.{SoloScope}
+use Rattle.solo_core.specs.Scopes.{row_scope, column_scope, crossing_scopes}
 use Rattle.solo_core.specs.Houses.{houses_of, IsHouseOf, lies_in, places_of}
 use Rattle.solo_core.specs.Solutions.{numbers_of, is_solo_solution}
 use Rattle.solo_core.specs.HouseLaws.{Lists, lists_house, listed-within, listed-different, some_numbers, each_value, all_houses, row_in, column_in}
@@ -29,7 +31,7 @@ use Rattle.solo_core.specs.NoRepeat.{no_repeat}
 use Rattle.solo_core.specs.Singles.{strikes_by_singles}
 use Rattle.solo_core.specs.SinglesLaws.{singles-monotone, singles-keeps}
 use Rattle.solo_core.specs.Crossing.{crossing, in_block_alone, in_line_alone}
-use Rattle.solo_core.specs.CrossingLaws.{crossing-monotone, crossing-settles, crossing-within, crossing-different, crossing-sound}
+use Rattle.solo_core.specs.CrossingLaws.{crossing-monotone, crossing-settles, crossing-within, crossing-different, crossing-sound, HoldsEach}
 
 module _ (p : Solo) (ok : IsSolo p) where
   -- ---- the start
@@ -80,23 +82,26 @@ module _ (p : Solo) (ok : IsSolo p) where
   inside_grid : (g : List ℕ) → IsGrid (solo_cells p) (solo_n p) g → (house : SoloHouse) → IsHouseOf p house → (k : ℕ) → k < length (places_of p house) → slice_index (places_of p house) k < length g
   inside_grid g grid house is k lt = let e = grid.each_cell in let w = inside house is k lt in omega arith
 
+  holds_each : (g : List ℕ) → IsGrid (solo_cells p) (solo_n p) g → is_solo_solution p g ≡ true → (house : SoloHouse) → IsHouseOf p house → HoldsEach (solo_n p) g (places_of p house)
+  holds_each g grid on house is = record { long = (listed house is).len; inside = inside_grid g grid house is; holds = house_of_solution p ok g (rule_from_test p ok g grid on) house is }
+
   pub alike_sound : (settled : Bool) (all : List House) (decides : Decision) → IsMonotone decides
       → ((f : List ℕ) → length f ≡ solo_n p → no_repeat f ≡ true → ((k : ℕ) → k < solo_n p → get_or f k 0 < solo_n p) → Keeps decides f)
       → (settled ≡ true → IsSettled decides)
       → All (IsSound (setting_of settled p all)) (deciding decides p)
-  alike_sound settled all decides monotone keeps settles = All-map (IsSound (setting_of settled p all)) (λ house. record { places = places_of p house; decides = decides }) (houses_of p) (λ k d lt.
+  alike_sound settled all decides monotone keeps settles = All-map (IsSound (setting_of settled p all)) (house_by decides p) (houses_of p) (λ k d lt.
       each (get_or (houses_of p) k d) (all_houses p k d lt))
     where
-      each : (house : SoloHouse) → IsHouseOf p house → IsSound (setting_of settled p all) (record { places = places_of p house; decides = decides })
+      each : (house : SoloHouse) → IsHouseOf p house → IsSound (setting_of settled p all) (house_by decides p house)
       each house is = record {
         within = inside house is;
         different = different house is;
         monotone = monotone;
-        keeps = λ g grid on. keeps (numbers_of p g house) (length-map (places_of p house) (slice_index g) ∙ (listed house is).len)
-            (house_of_solution p ok g (rule_from_test p ok g grid on) house is)
-            (λ k lt.
-            let lk : k < length (places_of p house) = let e = (listed house is).len in omega arith in
-            rw (get_or-map (slice_index g) (places_of p house) k 0 0 lk) (numbers_small g grid (slice_index (places_of p house) k) (inside_grid g grid house is k lk)));
+        keeps = λ g grid on.
+            let h = holds_each g grid on house is in
+            keeps (numbers_of p g house) (length-map (places_of p house) (slice_index g) ∙ h.long) h.holds (λ k lt.
+            let lk : k < length (places_of p house) = omega (arith, h.long) in
+            rw (get_or-map (slice_index g) (places_of p house) k 0 0 lk) (numbers_small g grid (slice_index (places_of p house) k) (h.inside k lk)));
         settles = settles;
       }
 
@@ -106,17 +111,18 @@ module _ (p : Solo) (ok : IsSolo p) where
     within = crossing-within (places_of p (Block b)) (places_of p line) (solo_cells p) (inside (Block b) b_in) (inside line is);
     different = crossing-different (places_of p (Block b)) (places_of p line) (different (Block b) b_in) (different line is);
     monotone = crossing-monotone (in_block_alone (places_of p (Block b)) (places_of p line)) (in_line_alone (places_of p (Block b)));
-    keeps = λ g grid on.
-        let s = rule_from_test p ok g grid on in
-        crossing-sound (places_of p (Block b)) (places_of p line) (solo_n p) g (numbers_small g grid) ((listed (Block b) b_in).len) ((listed line is).len)
-        (inside_grid g grid (Block b) b_in) (inside_grid g grid line is) (house_of_solution p ok g s (Block b) b_in) (house_of_solution p ok g s line is);
+    keeps = λ g grid on. crossing-sound (places_of p (Block b)) (places_of p line) (solo_n p) g (numbers_small g grid) (holds_each g grid on (Block b) b_in) (holds_each g grid on line is);
     settles = λ _. crossing-settles (in_block_alone (places_of p (Block b)) (places_of p line)) (in_line_alone (places_of p (Block b)));
   }
 
+  abbrev scope_is_sound : List House → SoloScope → Type 0
+  scope_is_sound all scope = IsSound (setting_of true p all) (house_at p scope)
+
   each_crossing : (all : List House) → All (IsSound (setting_of true p all)) (crossings_of p)
-  each_crossing all = All-append (IsSound (setting_of true p all)) (map (row_crossing p) (range_with_len 0 (solo_n p * p.c))) (map (column_crossing p) (range_with_len 0 (solo_n p * p.r)))
-      (each_value (IsSound (setting_of true p all)) (row_crossing p) (solo_n p * p.c) (λ m lt. let w = row_in p ok m lt in crossing_is_sound all (m / p.c) (Row (m / p.c / p.c * p.c + m % p.c)) w.0 w.1))
-      (each_value (IsSound (setting_of true p all)) (column_crossing p) (solo_n p * p.r) (λ m lt. let w = column_in p ok m lt in crossing_is_sound all (m / p.r) (Column (m / p.r % p.c * p.r + m % p.r)) w.0 w.1))
+  each_crossing all = All-map (IsSound (setting_of true p all)) (house_at p) (crossing_scopes p)
+      (All-append (scope_is_sound all) (map (row_scope p) (range_with_len 0 (solo_n p * p.c))) (map (column_scope p) (range_with_len 0 (solo_n p * p.r)))
+      (each_value (scope_is_sound all) (row_scope p) (solo_n p * p.c) (λ m lt. let w = row_in p ok m lt in crossing_is_sound all (m / p.c) (Row (m / p.c / p.c * p.c + m % p.c)) w.0 w.1))
+      (each_value (scope_is_sound all) (column_scope p) (solo_n p * p.r) (λ m lt. let w = column_in p ok m lt in crossing_is_sound all (m / p.r) (Column (m / p.r % p.c * p.r + m % p.r)) w.0 w.1)))
 
   -- ---- the three rule sets
   by_fillings : (all : List House) → All (IsSound (setting_of true p all)) (deciding (strikes_by_fillings no_repeat) p)

@@ -1,7 +1,6 @@
 -- The rule sets of Solo. They have the same start and the same solutions; singles and houses strike differently in the
 -- same houses, and crossings have further ones.
-use Rattle.std.specs.Prelude.{◌≡◌, ℕ, ◌<◌, ◌+◌, ◌*◌, Bool, true, false, ◌&&◌, ◌||◌, ◌==◌, nat_lt, List, ◌++◌, map, slice_index, sum_by}
-use Rattle.std.specs.List.{range_with_len}
+use Rattle.std.specs.Prelude.{◌≡◌, ℕ, ◌<◌, ◌+◌, Bool, true, false, ◌&&◌, ◌||◌, ◌==◌, nat_lt, List, ◌++◌, map, slice_index, sum_by}
 use Rattle.grid_core.specs.Candidates.{Candidates}
 use Rattle.gameid_core.specs.Puzzles.{Solo, solo_n}
 use Rattle.engine_core.specs.Puzzle.{Puzzle, has_place}
@@ -17,7 +16,7 @@ use Rattle.solo_core.specs.Cells.{solo_cells}
 use Rattle.solo_core.specs.Crossing.{crossing, outside}
 use Rattle.solo_core.specs.Houses.{houses_of, places_of}
 use Rattle.solo_core.specs.NoRepeat.{no_repeat}
-use Rattle.solo_core.specs.Scopes.{row_scope, column_scope}
+use Rattle.solo_core.specs.Scopes.{crossing_scopes}
 use Rattle.solo_core.specs.Singles.{strikes_by_singles}
 use Rattle.solo_core.specs.Solutions.{is_solo_solution}
 
@@ -42,10 +41,12 @@ setting_of settled p houses = record {
 abbrev pub rules_of : Bool → Solo → List House → Puzzle
 rules_of settled p houses = by_houses (setting_of settled p houses) houses
 
--- the puzzle's houses, each with this decision
+-- a house of the puzzle with this decision, and all of them
+abbrev pub house_by : Decision → Solo → SoloHouse → House
+house_by decides p house = record { places = places_of p house; decides = decides }
+
 abbrev pub deciding : Decision → Solo → List House
-deciding decides p =
-    map (λ house. record { places = places_of p house; decides = decides }) (houses_of p)
+deciding decides p = map (house_by decides p) (houses_of p)
 
 -- a house strikes by its single values and places
 abbrev pub single_houses : Solo → List House
@@ -74,25 +75,12 @@ is_shared p block line k = has_place (places_of p line) (slice_index (places_of 
 
 -- what is visited as a house, and by which decision
 abbrev pub house_at : Solo → SoloScope → House
-house_at p (scope.House house) =
-    record { places = places_of p house; decides = strikes_by_fillings no_repeat }
+house_at p (scope.House house) = house_by (strikes_by_fillings no_repeat) p house
 house_at p (scope.Crossing block line) = crossing_of p block line
 
 -- crossings strike too
-abbrev pub row_crossing : Solo → ℕ → House
-row_crossing p m = house_at p (row_scope p m)
-
-abbrev pub column_crossing : Solo → ℕ → House
-column_crossing p m = house_at p (column_scope p m)
-
-abbrev pub row_crossings : Solo → List House
-row_crossings p = map (row_crossing p) (range_with_len 0 (solo_n p * p.c))
-
-abbrev pub column_crossings : Solo → List House
-column_crossings p = map (column_crossing p) (range_with_len 0 (solo_n p * p.r))
-
 abbrev pub crossings_of : Solo → List House
-crossings_of p = row_crossings p ++ column_crossings p
+crossings_of p = map (house_at p) (crossing_scopes p)
 
 abbrev pub crossings_rules : Solo → Puzzle
 crossings_rules p = rules_of true p (filled_houses p ++ crossings_of p)

@@ -1,6 +1,6 @@
 use Rattle.std.proofs.Common.{ℕ, ◌∙◌, ap, length, arith}
 use Rattle.engine_core.specs.Sets.{has_bit}
-use Rattle.solo_core.proofs.AloneLemmas.{decided_alone}
+use Rattle.solo_core.proofs.MateLemmas.{decided_alone}
 use Rattle.solo_core.proofs.visits.houses.keep_peeled.Goals as goal
 
 pub returns-then-alone-all_below-clause-decided : goal.returns-then-alone-all_below-clause-decided
