@@ -1,5 +1,5 @@
 //! What a visit of a house keeps by its single values and places.
-#![tactic(auto, using(crate::proofs::AnyLemmas::not_found))]
+#![tactic(auto)]
 
 ghost use Rattle.std.specs.Prelude.{◌≡◌, ℕ, ◌<◌, ◌≤◌, true, false, length, slice_index};
 ghost use Rattle.grid_core.specs.Candidates.{any_below};
@@ -73,12 +73,7 @@ pub(crate) fn is_taken(values: u8, sets: &[u32], place: usize, value: u8) -> boo
     requires value_in { value < values }
     ensures { result ≡ taken_elsewhere (length sets.now) values (has_in sets.now) place value }
 {
-    for j in 0..sets.len() {
-        if j != place && has_only(values, sets[j], value) {
-            return true;
-        }
-    }
-    false
+    (0..sets.len()).any(|j| j != place && has_only(values, sets[j], value))
 }
 
 /// Whether the set has the value and no other.
@@ -95,12 +90,7 @@ fn has_other(values: u8, set: u32, value: u8) -> bool
     requires few { values ≤ 31 }
     ensures { result ≡ has_other_bit values set value }
 {
-    for other in 0..values {
-        if other != value && has_bit(set, other) {
-            return true;
-        }
-    }
-    false
+    (0..values).any(|other| other != value && has_bit(set, other))
 }
 
 /// Whether the cell is the only place of another value.
@@ -109,12 +99,7 @@ fn is_needed(values: u8, sets: &[u32], place: usize, value: u8) -> bool
     requires place_in { place < length sets.now }
     ensures { result ≡ needed_for_other (length sets.now) values (has_in sets.now) place value }
 {
-    for other in 0..values {
-        if other != value && is_only_place(sets, place, other) {
-            return true;
-        }
-    }
-    false
+    (0..values).any(|other| other != value && is_only_place(sets, place, other))
 }
 
 /// Whether the cell has the value and no other cell has it.
@@ -131,12 +116,7 @@ fn is_elsewhere(sets: &[u32], place: usize, value: u8) -> bool
     requires few { value < 31 }
     ensures { result ≡ some_elsewhere (length sets.now) (has_in sets.now) place value }
 {
-    for j in 0..sets.len() {
-        if j != place && has_bit(sets[j], value) {
-            return true;
-        }
-    }
-    false
+    (0..sets.len()).any(|j| j != place && has_bit(sets[j], value))
 }
 
 /// Whether some cell has no value, or some value no place.
@@ -152,12 +132,7 @@ fn has_empty_cell(values: u8, sets: &[u32]) -> bool
     requires few { values ≤ 31 }
     ensures { result ≡ some_empty (length sets.now) values (has_in sets.now) }
 {
-    for j in 0..sets.len() {
-        if !has_some(values, sets[j]) {
-            return true;
-        }
-    }
-    false
+    (0..sets.len()).any(|j| !has_some(values, sets[j]))
 }
 
 /// Whether the set has a value.
@@ -165,12 +140,7 @@ fn has_some(values: u8, set: u32) -> bool
     requires few { values ≤ 31 }
     ensures { result ≡ any_below (is_set set) values }
 {
-    for value in 0..values {
-        if has_bit(set, value) {
-            return true;
-        }
-    }
-    false
+    (0..values).any(|value| has_bit(set, value))
 }
 
 /// Whether some value has no place.
@@ -178,12 +148,7 @@ fn has_lost_value(values: u8, sets: &[u32]) -> bool
     requires few { values ≤ 31 }
     ensures { result ≡ some_lost (length sets.now) values (has_in sets.now) }
 {
-    for value in 0..values {
-        if !has_place(sets, value) {
-            return true;
-        }
-    }
-    false
+    (0..values).any(|value| !has_place(sets, value))
 }
 
 /// Whether some cell has the value.
@@ -191,10 +156,5 @@ fn has_place(sets: &[u32], value: u8) -> bool
     requires few { value < 31 }
     ensures { result ≡ any_below (λ j. has_in sets.now j value) (length sets.now) }
 {
-    for j in 0..sets.len() {
-        if has_bit(sets[j], value) {
-            return true;
-        }
-    }
-    false
+    (0..sets.len()).any(|j| has_bit(sets[j], value))
 }

@@ -1,6 +1,6 @@
-use Rattle.std.proofs.Common.{not, sym, ap, ◌∙◌, arith}
-use Rattle.solo_core.proofs.AnyLemmas.{found}
+use Rattle.std.proofs.Common.{refl, rules, tests}
+use Rattle.solo_core.proofs.AnyLemmas.{any_in_range}
 use Rattle.solo_core.proofs.visits.singles.has_empty_cell.Goals as goal
 
-pub returns-then-not-has_some : goal.returns-then-not-has_some
-returns-then-not-has_some c = found _ _ c.loop-j.j (omega arith) (ap not (sym c.has_some.ensures ∙ c.if-not-has_some.true))
+pub returns : goal.returns
+returns c = any_in_range _ _ _ _ _ _ refl c.any.ensures.ran (λ x q k. search (rules, tests)) (λ x q k. search (rules, tests))

@@ -1,6 +1,6 @@
-use Rattle.std.proofs.Common.{sym, ◌∙◌, arith}
-use Rattle.solo_core.proofs.AnyLemmas.{found}
+use Rattle.std.proofs.Common.{refl, rules, tests}
+use Rattle.solo_core.proofs.AnyLemmas.{any_in_range}
 use Rattle.solo_core.proofs.visits.singles.has_place.Goals as goal
 
-pub returns-then-has_bit : goal.returns-then-has_bit
-returns-then-has_bit c = found _ _ c.loop-j.j (omega arith) (sym c.has_bit.ensures ∙ c.if-has_bit.true)
+pub returns : goal.returns
+returns c = any_in_range _ _ _ _ _ _ refl c.any.ensures.ran (λ x q k. search (rules, tests)) (λ x q k. search (rules, tests))

@@ -1,7 +1,6 @@
-use Rattle.std.proofs.Common.{not, sym, ap, ◌∙◌, arith}
-use Rattle.std.proofs.lemmas.Bool.{and_from, ne_eqb}
-use Rattle.solo_core.proofs.AnyLemmas.{found}
+use Rattle.std.proofs.Common.{refl, rules, tests}
+use Rattle.solo_core.proofs.AnyLemmas.{any_in_range}
 use Rattle.solo_core.proofs.visits.singles.is_needed.Goals as goal
 
-pub returns-then-is_only_place : goal.returns-then-is_only_place
-returns-then-is_only_place c = found _ _ c.loop-other.other (omega arith) (and_from _ _ (ap not (ne_eqb _ _ c.if-other-value.true)) (sym c.is_only_place.ensures ∙ c.if-is_only_place.true))
+pub returns : goal.returns
+returns c = any_in_range _ _ _ _ _ _ refl c.any.ensures.ran (λ x q k. search (rules, tests)) (λ x q k. search (rules, tests))

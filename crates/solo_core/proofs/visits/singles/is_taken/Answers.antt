@@ -1,7 +1,6 @@
-use Rattle.std.proofs.Common.{not, sym, ap, ◌∙◌, arith}
-use Rattle.std.proofs.lemmas.Bool.{and_from, ne_eqb}
-use Rattle.solo_core.proofs.AnyLemmas.{found}
+use Rattle.std.proofs.Common.{refl, rules, tests}
+use Rattle.solo_core.proofs.AnyLemmas.{any_in_range}
 use Rattle.solo_core.proofs.visits.singles.is_taken.Goals as goal
 
-pub returns-then-has_only : goal.returns-then-has_only
-returns-then-has_only c = found _ _ c.loop-j.j (omega arith) (and_from _ _ (ap not (ne_eqb _ _ c.if-j-place.true)) (sym c.has_only.ensures ∙ c.if-has_only.true))
+pub returns : goal.returns
+returns c = any_in_range _ _ _ _ _ _ refl c.any.ensures.ran (λ x q k. search (rules, tests)) (λ x q k. search (rules, tests))
