@@ -1,27 +1,17 @@
 -- Houses that decide alike, and tables of scopes.
-use Rattle.std.proofs.Common.{◌≡◌, ℕ, zero, suc, ◌<◌, Bool, List, [], ◌∷◌, map, length, get_or, slice_index, ◌+◌, ◌*◌, refl, sym, ap, ◌∙◌, arith, ◌++◌}
-use Rattle.std.specs.Prelude.{All, sum_by}
-use Rattle.std.proofs.Math.Path.{fun_ext}
+use Rattle.std.proofs.Common.{◌≡◌, ℕ, zero, suc, ◌<◌, Bool, List, [], ◌∷◌, map, length, get_or, slice_index, ◌+◌, ◌*◌, refl, sym, ap, ◌∙◌, arith, ◌++◌, All, sum_by}
+use Rattle.solo_core.specs.Common.{fun_ext, IsBoardOf, after, has_place, set_of_bits, IsBitsOf, get_or-map, length-map, map-append, Solo, IsSolo, solo_n}
+use Rattle.solo_core.specs.Common.{Decision, sets_at, kept_in, IsDecided, House, house_of, no_house, IsSound, visits_of, Row, houses_of, places_of, solo_cells}
+use Rattle.solo_core.specs.Common.{no_repeat, strikes_by_fillings}
 use Rattle.std.proofs.lemmas.List.Sums.{sum_by-cons}
 use Rattle.grid_core.specs.Board.{Layout, has}
 use Rattle.grid_core.proofs.BoardLemmas.{has-within}
-use Rattle.engine_core.specs.Puzzle.{IsBoardOf, after, has_place}
-use Rattle.engine_core.specs.Sets.{set_of_bits, IsBitsOf}
 use Rattle.engine_core.specs.HouseLaws.{visited-after}
 use Rattle.std.proofs.lemmas.Simd.{map-map}
-use Rattle.std.proofs.lemmas.List.{get_or-map, length-map, map-append}
-use Rattle.gameid_core.specs.Puzzles.{Solo, IsSolo, solo_n}
-use Rattle.engine_core.specs.House.{Decision, sets_at, kept_in, IsDecided}
-use Rattle.engine_core.specs.Houses.{House, house_of, no_house, IsSound, visits_of}
 use Rattle.engine_core.specs.HouseIndex.{Table, scope_of, AreScopes}
-use Rattle.solo_core.specs.declared.houses.house.SoloHouse.TheVariants.{Row}
-use Rattle.solo_core.specs.Houses.{houses_of, places_of}
 use Rattle.solo_core.specs.HouseLaws.{lists_house, all_houses}
 use Rattle.solo_core.specs.RuleSets.{deciding, house_by, filled_houses, setting_of, rules_of, crossings_of}
-use Rattle.solo_core.specs.Cells.{solo_cells}
-use Rattle.solo_core.specs.NoRepeat.{no_repeat}
 use Rattle.solo_core.specs.Work.{all_places, table_of}
-use Rattle.engine_core.specs.Filling.{strikes_by_fillings}
 use Rattle.engine_core.specs.HouseList.{Listed}
 
 pub length-deciding : (decides : Decision) (p : Solo) → length (deciding decides p) ≡ length (houses_of p)

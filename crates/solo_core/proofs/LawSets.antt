@@ -1,19 +1,18 @@
 -- The lemmas by which the functions of a file are proved.
+use Rattle.solo_core.specs.Common.{bits-both, bits-either}
 use Rattle.solo_core.specs.SolutionLaws.{test_from_rule, rule_from_test}
 use Rattle.solo_core.proofs.RepeatLemmas.{no_test, first_fault, solved, len_of, number_at, seen_none, seen_more, seen_again, seen_all, first_house, fine_more}
-use Rattle.solo_core.proofs.HouseLemmas.{listed-none, listed-all}
+use Rattle.solo_core.proofs.HouseLemmas.{listed-none, listed-all, crossings-length, scopes-length, first_at, crossings-counted, house-named, scope-named, first-at, second-at, crossing-after, all-length, filled-length}
 use Rattle.solo_core.specs.HouseLaws.{lists_house, listed-has, listed-same, row_in, column_in}
-use Rattle.solo_core.proofs.CrossedLemmas.{decided_at, crossing-is, crossings-listed, rest-out, rest-in, rest-all, shared-below, shared-above}
-use Rattle.solo_core.proofs.ScopeLemmas.{crossings-length, scopes-length, first_at, crossings-counted, house-named, scope-named, first-at, second-at, crossing-after, all-length, filled-length}
+use Rattle.solo_core.proofs.CrossingLemmas.{decided_at, crossing-is, crossings-listed, rest-out, rest-in, rest-all, shared-below, shared-above}
 use Rattle.solo_core.specs.BoundLaws.{house_count, bound_is}
-use Rattle.solo_core.proofs.SinglesInHouses.{singles_in_houses}
+use Rattle.solo_core.proofs.SinglesLemmas.{singles_in_houses}
 use Rattle.solo_core.specs.RuleLaws.{houses_lawful, singles_lawful, crossings_lawful}
 use Rattle.solo_core.proofs.DecidingLemmas.{length-deciding, decides-at, long-at, listed-crossings, listed-deciding}
 use Rattle.solo_core.proofs.MateLemmas.{rest-more, rest-same, rest-apart}
-use Rattle.engine_core.proofs.BitLemmas.{bits-both, bits-either}
 use Rattle.solo_core.proofs.PeelLemmas.{alone-none, alone-lone, alone-more, counts-none, counts-more, peeled-step, counts-same, peeled-none, peeled-more}
 use Rattle.solo_core.proofs.QuickLemmas.{goes_on_free, begun-none, goes_on_swapped}
-use Rattle.solo_core.proofs.Reaching.{over_none, over_next, over_all}
+use Rattle.solo_core.proofs.WayLemmas.{over_none, over_next, over_all}
 use Rattle.solo_core.proofs.Marks.{over_alone}
 use Rattle.solo_core.proofs.StartLemmas.{started, started-none, started-all, started-blank, started-given, started-there}
 use Rattle.solo_core.proofs.TurningLemmas.{after-root, before-root, in_ends, after-step, before-step}

@@ -1,10 +1,7 @@
 pub mod PairedFillings
 pub mod Marks
 pub mod WayLemmas
-pub mod Reaching
 pub mod Turned
-pub mod LowestBit
-pub mod KeptBits
 pub mod RepeatLemmas
 pub mod StartLemmas
 pub mod AnyLemmas
@@ -16,7 +13,4 @@ mod MateLemmas
 mod HouseLemmas
 mod DecidingLemmas
 mod CrossingLemmas
-mod CrossedLemmas
-mod ScopeLemmas
-mod SinglesInHouses
 pub mod LawSets

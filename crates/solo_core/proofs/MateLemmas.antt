@@ -1,23 +1,11 @@
 -- The values of the cells that are alone and a pairing of the rest make a pairing of the house.
 use Rattle.std.proofs.Common.{◌≡◌, ℕ, zero, suc, ◌+◌, ◌<◌, Bool, true, false, not, eqb, List, [], ◌∷◌, ◌++◌, cond, map, length, slice_index, refl, sym, ap, ◌∙◌, inl, inr, arith, append-nil}
-use Rattle.std.specs.List.{range_with_len, filter}
-use Rattle.std.proofs.lemmas.Bool.{cases_Bool, true≢false, not-true, not_from_false, eqb-true, eq-eqb}
-use Rattle.std.proofs.lemmas.List.{map-id}
-use Rattle.std.proofs.lemmas.List.FromFn.{map-range_with_len_more, length-range_with_len, get_or-range_with_len, get_or-map-range_with_len, length-map-range_with_len}
-use Rattle.std.proofs.lemmas.List.Elements.{filter-append}
-use Rattle.engine_core.specs.House.{AreDifferent}
-use Rattle.engine_core.specs.PlaceLaws.{has_place-at, has_place-here, place-filter, place-kept, different-filter}
-use Rattle.engine_core.specs.Puzzle.{has_place}
-use Rattle.engine_core.specs.Sets.{has_bit}
-use Rattle.grid_core.specs.Pairings.{IsPairing}
+use Rattle.solo_core.specs.Common.{range_with_len, filter, cases_Bool, true≢false, not-true, not_from_false, eqb-true, eq-eqb, map-id, map-range_with_len_more}
+use Rattle.solo_core.specs.Common.{length-range_with_len, get_or-range_with_len, get_or-map-range_with_len, length-map-range_with_len, filter-append}
+use Rattle.solo_core.specs.Common.{AreDifferent, has_place-at, has_place-here, place-filter, place-kept, different-filter, has_place, has_bit, IsPairing}
+use Rattle.solo_core.specs.Common.{has_in, nat_tests, strikes_by_fillings, IsDecided, is_struck, no_repeat}
 use Rattle.grid_core.proofs.ShortSets.{no_choice}
-use Rattle.solo_core.specs.Deciding.{has_in}
 use Rattle.solo_core.specs.Peeled.{AreAlone, IsPaired, IsShort, rest_of}
-use Rattle.std.proofs.lemmas.Bool.Decides.{nat_tests}
-use Rattle.engine_core.specs.Filling.{strikes_by_fillings}
-use Rattle.engine_core.specs.House.{IsDecided}
-use Rattle.solo_core.specs.Deciding.{is_struck}
-use Rattle.solo_core.specs.NoRepeat.{no_repeat}
 use Rattle.solo_core.proofs.PairedFillings.{shown_by_pairing}
 
 -- ---- the rest, cell by cell

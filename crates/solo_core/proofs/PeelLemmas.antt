@@ -1,15 +1,8 @@
 -- Striking the value of a cell that has one alone from the other cells takes no filling away.
 use Rattle.std.proofs.Common.{◌≡◌, ℕ, ◌+◌, ◌<◌, ◌⊎◌, Bool, true, false, not, ◌&&◌, ◌||◌, eqb, List, map, length, slice_index, refl, sym, ap, ◌∙◌, inl, inr, arith}
-use Rattle.std.proofs.lemmas.Bool.{cases_eq, eq-eqb, eqb-true, true≢false, false_from_ne_true, true_from_ne_false}
-use Rattle.std.proofs.lemmas.Bool.Decides.{nat_tests}
-use Rattle.engine_core.specs.Filling.{strikes_by_fillings}
+use Rattle.solo_core.specs.Common.{cases_eq, eq-eqb, eqb-true, true≢false, false_from_ne_true, true_from_ne_false, nat_tests, strikes_by_fillings, IsDecided}
+use Rattle.solo_core.specs.Common.{has_bit, set_of_bits, bits-of_zero, IsPairing, has_in, is_struck, no_repeat}
 use Rattle.engine_core.specs.FillingLaws.{shown_from_test}
-use Rattle.engine_core.specs.House.{IsDecided}
-use Rattle.engine_core.specs.Sets.{has_bit, set_of_bits}
-use Rattle.engine_core.proofs.BitLemmas.{bits-of_zero}
-use Rattle.grid_core.specs.Pairings.{IsPairing}
-use Rattle.solo_core.specs.Deciding.{has_in, is_struck}
-use Rattle.solo_core.specs.NoRepeat.{no_repeat}
 use Rattle.solo_core.specs.Peeled.{IsPeeled, IsAlone, AreAlone, AreCounts, IsSingleSet, IsDropped}
 use Rattle.solo_core.proofs.PairedFillings.{shown_by_pairing, pairing_of_filling}
 use Rattle.solo_core.specs.NoRepeatLaws.{none_missed}

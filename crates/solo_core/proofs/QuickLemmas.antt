@@ -1,9 +1,6 @@
 -- A pairing goes on by a cell with a free value, or with the value of another cell that has a free one.
 use Rattle.std.proofs.Common.{◌≡◌, ℕ, ◌+◌, ◌<◌, true, false, true≢false, eqb, cond, List, slice_index, sym, ap, ◌∙◌, arith}
-use Rattle.std.proofs.lemmas.Bool.{false_from_ne_true}
-use Rattle.std.proofs.lemmas.Bool.Decides.{nat_tests}
-use Rattle.engine_core.specs.Sets.{has_bit}
-use Rattle.solo_core.specs.Deciding.{has_in}
+use Rattle.solo_core.specs.Common.{false_from_ne_true, nat_tests, has_bit, has_in}
 use Rattle.solo_core.specs.Quick.{IsBegun, GoesOn}
 
 module _ (n : ℕ) (sets rest : List ℕ) where

@@ -1,24 +1,13 @@
 -- What a house that holds a number twice says of the grid, and what a house that does not rules out.
 use Rattle.std.proofs.Common.{◌≡◌, ℕ, suc, ◌+◌, ◌<◌, ◌≤◌, true, false, not, ◌||◌, eqb, List, [], ◌∷◌, length, get_or, slice_index, Some, sym, ap, ◌∙◌, inl, inr, arith}
-use Rattle.std.specs.List.{list_any}
-use Rattle.std.proofs.lemmas.Bool.{cases_eq, and_cases, or_cases, eqb-true, true≢false, not-false, false_from_ne_true}
-use Rattle.std.proofs.lemmas.Bool.Decides.{nat_tests}
-use Rattle.std.proofs.lemmas.List.{get_or-map, length-map, get_or_default}
-use Rattle.engine_core.specs.Sets.{has_bit}
-use Rattle.engine_core.proofs.BitLemmas.{bits-of_zero}
-use Rattle.grid_core.specs.Grids.{IsGrid}
+use Rattle.solo_core.specs.Common.{list_any, cases_eq, and_cases, or_cases, eqb-true, true≢false, not-false, false_from_ne_true, nat_tests, get_or-map}
+use Rattle.solo_core.specs.Common.{length-map, get_or_default, has_bit, bits-of_zero, IsGrid, Solo, IsSolo, solo_n, SoloHouse, Row, Column, Block, Diagonal}
+use Rattle.solo_core.specs.Common.{solo_cells, houses_of, IsHouseOf, lies_in, places_of, numbers_of, IsSoloSolution, is_solo_solution, no_repeat}
 use Rattle.grid_core.proofs.ShortSets.{contains_from_member}
-use Rattle.gameid_core.specs.Puzzles.{Solo, IsSolo, solo_n}
-use Rattle.solo_core.specs.declared.houses.house.SoloHouse.{SoloHouse}
-use Rattle.solo_core.specs.declared.houses.house.SoloHouse.TheVariants.{Row, Column, Block, Diagonal}
 use Rattle.solo_core.specs.declared.fault.SoloFault.{SoloFault}
 use Rattle.solo_core.specs.declared.fault.SoloFault.TheVariants.{Given, Row as BadRow, Column as BadColumn, Block as BadBlock, Diagonal as BadDiagonal}
-use Rattle.solo_core.specs.Cells.{solo_cells}
 use Rattle.solo_core.specs.SolutionLaws.{differ_in, rule_from_test}
-use Rattle.solo_core.specs.Houses.{houses_of, IsHouseOf, lies_in, places_of}
-use Rattle.solo_core.specs.Solutions.{numbers_of, IsSoloSolution, is_solo_solution}
 use Rattle.solo_core.specs.HouseLaws.{lists_house, all_houses, each_house}
-use Rattle.solo_core.specs.NoRepeat.{no_repeat}
 use Rattle.solo_core.specs.NoRepeatLaws.{different_from_no_repeat, no_repeat_from_different}
 use Rattle.solo_core.specs.Faults.{AllStand, Repeats, RepeatsFirst, IsFirstFault, fault_of}
 

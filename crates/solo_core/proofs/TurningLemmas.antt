@@ -1,14 +1,7 @@
 -- Where each value of the paired cells leads to a root and back, each of them can stand in each cell that has it.
 use Rattle.std.proofs.Common.{◌≡◌, ℕ, ◌<◌, ◌⊎◌, Bool, true, false, not, bit_and, ◌&&◌, ◌||◌, eqb, List, [], ◌∷◌, ◌++◌, length, slice_index, refl, sym, ap, ◌∙◌, inl, inr, arith}
-use Rattle.std.proofs.lemmas.Bool.{cases_Bool, and_parts, or_cases, eqb-true, eq-eqb}
-use Rattle.std.proofs.lemmas.Bool.Decides.{nat_tests}
-use Rattle.engine_core.specs.Filling.{strikes_by_fillings}
-use Rattle.engine_core.specs.House.{IsDecided}
-use Rattle.engine_core.specs.Sets.{has_bit}
-use Rattle.engine_core.proofs.BitLemmas.{bits-both, bits-of_zero}
-use Rattle.grid_core.specs.Pairings.{IsPairing}
-use Rattle.solo_core.specs.Deciding.{has_in}
-use Rattle.solo_core.specs.NoRepeat.{no_repeat}
+use Rattle.solo_core.specs.Common.{cases_Bool, and_parts, or_cases, eqb-true, eq-eqb, nat_tests, strikes_by_fillings, IsDecided, has_bit, bits-both}
+use Rattle.solo_core.specs.Common.{bits-of_zero, IsPairing, has_in, no_repeat}
 use Rattle.solo_core.specs.Peeled.{AreAlone, IsPaired, rest_of}
 use Rattle.solo_core.specs.Turning.{LeadsByMates, ComesAfter, ComesBefore, LiesOnRounds}
 use Rattle.solo_core.specs.Ways.{IsWay}

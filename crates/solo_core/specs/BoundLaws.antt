@@ -1,28 +1,12 @@
 -- The bounds of closings as numbers: 3n + 3n^3 in plain Solo, with two houses more in Solo X, and with crossings what these add.
-use Rattle.std.proofs.Common.{◌≡◌, ℕ, zero, suc, ◌+◌, ◌-◌, ◌*◌, ◌/◌, ◌%◌, ◌^◌, ◌<◌, ◌≤◌, Bool, true, false, not, cond, eqb, List, [], ◌∷◌, ◌++◌, map, length, get_or, if◌then◌else◌, refl, sym, ap, ◌∙◌, min, inl, inr, add-one, arith, length-append}
-use Rattle.std.specs.Prelude.{All, sum_by}
-use Rattle.std.specs.List.{range_with_len, filter}
-use Rattle.std.proofs.lemmas.Bool.{cases_order, eq-eqb, ne_eqb}
-use Rattle.std.proofs.lemmas.Bool.Decides.{nat_tests}
-use Rattle.std.proofs.lemmas.Nat.{div-mul-add, mod-mul-add, div_below, mod_below, mul-le, mul-add-lt, div-add-mod'}
-use Rattle.std.proofs.lemmas.List.{length-map, map-append}
+use Rattle.std.proofs.Common.{◌≡◌, ℕ, zero, suc, ◌+◌, ◌-◌, ◌*◌, ◌/◌, ◌%◌, ◌^◌, ◌<◌, ◌≤◌, Bool, true, false, not, cond, eqb, List, [], ◌∷◌, ◌++◌, map, length, get_or, if◌then◌else◌, refl, sym, ap, ◌∙◌, min, inl, inr, add-one, arith, length-append, All, sum_by}
+use Rattle.solo_core.specs.Common.{range_with_len, filter, cases_order, eq-eqb, ne_eqb, nat_tests, div-mul-add, mod-mul-add, div_below, mod_below, mul-le}
+use Rattle.solo_core.specs.Common.{mul-add-lt, div-add-mod', length-map, map-append, All-map, length-map-range_with_len, filter_of_map_range_with_len_more}
+use Rattle.solo_core.specs.Common.{count_below, count_below-same, Solo, IsSolo, solo_n, has_place, strikes_by_fillings, Decision, House, visits_of, SoloHouse}
+use Rattle.solo_core.specs.Common.{Row, Column, Block, Diagonal, solo_cells, block_of, houses_of, lies_in, places_of, no_repeat}
 use Rattle.std.proofs.lemmas.List.Sums.{sum_by-cons, sum_by-append}
-use Rattle.std.proofs.lemmas.List.Elements.{All-map}
-use Rattle.std.proofs.lemmas.List.FromFn.{length-map-range_with_len, filter_of_map_range_with_len_more}
-use Rattle.grid_core.specs.Candidates.{count_below}
-use Rattle.grid_core.proofs.CandidateLemmas.{count_below-same}
-use Rattle.gameid_core.specs.Puzzles.{Solo, IsSolo, solo_n}
-use Rattle.engine_core.specs.Puzzle.{has_place}
-use Rattle.engine_core.specs.Filling.{strikes_by_fillings}
-use Rattle.engine_core.specs.House.{Decision}
-use Rattle.engine_core.specs.Houses.{House, visits_of}
-use Rattle.solo_core.specs.declared.houses.house.SoloHouse.{SoloHouse}
-use Rattle.solo_core.specs.declared.houses.house.SoloHouse.TheVariants.{Row, Column, Block, Diagonal}
-use Rattle.solo_core.specs.Cells.{solo_cells, block_of}
 use Rattle.solo_core.specs.Crossing.{crossing_places}
-use Rattle.solo_core.specs.Houses.{houses_of, lies_in, places_of}
 use Rattle.solo_core.specs.HouseLaws.{lists_house, listed-same, all_houses, each_value, row_in, column_in}
-use Rattle.solo_core.specs.NoRepeat.{no_repeat}
 use Rattle.solo_core.specs.RuleSets.{deciding, house_by, house_at, crossings_rules, crossings_of}
 use Rattle.solo_core.specs.declared.houses.scope.SoloScope.{SoloScope}
 use Rattle.solo_core.specs.Scopes.{row_scope, column_scope}

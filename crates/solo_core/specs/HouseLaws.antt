@@ -1,22 +1,12 @@
 -- Laws of the houses: each has n different places of the grid, exactly those that lie in it.
-use Rattle.std.proofs.Common.{◌≡◌, ℕ, ◌+◌, ◌-◌, ◌*◌, ◌/◌, ◌%◌, ◌<◌, Bool, true, false, eqb, List, [], ◌∷◌, map, length, slice_index, if◌then◌else◌, refl, sym, ap, ◌∙◌, inl, inr, arith}
-use Rattle.std.specs.Prelude.{All, ◌↔◌, IsTrue}
-use Rattle.engine_core.specs.Puzzle.{has_place}
-use Rattle.engine_core.specs.PlaceLaws.{has_place-at, has_place-here}
-use Rattle.std.specs.List.{range_with_len}
-use Rattle.std.proofs.lemmas.Bool.{cases_lt, cases_Bool, eq-eqb, eqb-true, true≢false, false_from_ne_true}
-use Rattle.std.proofs.lemmas.Nat.{mul-add-lt, mul-le, div-mul-add, mod-mul-add, div_below, mod_below, div-add-mod'}
-use Rattle.std.proofs.lemmas.List.Elements.{All-append, All-nil, All-cons}
-use Rattle.std.proofs.lemmas.List.FromFn.{get_or-map-range_with_len, length-map-range_with_len}
+use Rattle.std.proofs.Common.{◌≡◌, ℕ, ◌+◌, ◌-◌, ◌*◌, ◌/◌, ◌%◌, ◌<◌, Bool, true, false, eqb, List, [], ◌∷◌, map, length, slice_index, if◌then◌else◌, refl, sym, ap, ◌∙◌, inl, inr, arith, All, ◌↔◌, IsTrue}
+use Rattle.solo_core.specs.Common.{has_place, has_place-at, has_place-here, range_with_len, cases_lt, cases_Bool, eq-eqb, eqb-true, true≢false}
+use Rattle.solo_core.specs.Common.{false_from_ne_true, mul-add-lt, mul-le, div-mul-add, mod-mul-add, div_below, mod_below, div-add-mod', All-append, All-nil}
+use Rattle.solo_core.specs.Common.{All-cons, get_or-map-range_with_len, length-map-range_with_len, Solo, IsSolo, solo_n, AreDifferent, SoloHouse, Row, Column}
+use Rattle.solo_core.specs.Common.{Block, Diagonal, solo_cells, houses_of, IsHouseOf, lies_in, places_of}
 use Rattle.grid_core.specs.Regions.{block_places}
 use Rattle.grid_core.proofs.RegionLemmas.{block-within}
-use Rattle.gameid_core.specs.Puzzles.{Solo, IsSolo, solo_n}
-use Rattle.engine_core.specs.House.{AreDifferent}
 use Rattle.engine_core.specs.Every.{of_first, of_rest, of_value}
-use Rattle.solo_core.specs.declared.houses.house.SoloHouse.{SoloHouse}
-use Rattle.solo_core.specs.declared.houses.house.SoloHouse.TheVariants.{Row, Column, Block, Diagonal}
-use Rattle.solo_core.specs.Cells.{solo_cells}
-use Rattle.solo_core.specs.Houses.{houses_of, IsHouseOf, lies_in, places_of}
 
 -- the list has n different places below `cells`, which are those that pass the test
 pub record Lists (places : List ℕ) (n cells : ℕ) (lies : ℕ → Bool) : Type 0 where

@@ -1,3 +1,4 @@
+pub mod Common
 pub mod Cells
 pub mod Houses
 pub mod HouseLaws

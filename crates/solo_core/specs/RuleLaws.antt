@@ -1,33 +1,17 @@
 -- The laws that every rule set keeps to, for the rule sets of Solo.
-use Rattle.std.proofs.Common.{◌≡◌, ℕ, ◌+◌, ◌*◌, ◌/◌, ◌%◌, ◌<◌, Bool, true, false, ltb, List, ◌++◌, map, length, get_or, slice_index, sym, ◌∙◌, arith}
-use Rattle.std.specs.Prelude.{All}
-use Rattle.std.specs.List.{range_with_len}
-use Rattle.std.proofs.lemmas.Bool.{and_parts, ltb-true, true≢false}
-use Rattle.std.proofs.lemmas.Bool.Decides.{nat_tests}
-use Rattle.std.proofs.lemmas.Nat.{mul-le}
-use Rattle.std.proofs.lemmas.List.{get_or-map, length-map}
-use Rattle.std.proofs.lemmas.List.Elements.{All-append, All-map}
-use Rattle.grid_core.specs.Candidates.{IsInside, IsWithin, single}
-use Rattle.grid_core.specs.Grids.{IsGrid}
+use Rattle.std.proofs.Common.{◌≡◌, ℕ, ◌+◌, ◌*◌, ◌/◌, ◌%◌, ◌<◌, Bool, true, false, ltb, List, ◌++◌, map, length, get_or, slice_index, sym, ◌∙◌, arith, All}
+use Rattle.solo_core.specs.Common.{range_with_len, and_parts, ltb-true, true≢false, nat_tests, mul-le, get_or-map, length-map, All-append, All-map, IsInside}
+use Rattle.solo_core.specs.Common.{IsWithin, single, IsGrid, Solo, IsSolo, solo_n, IsLawful, strikes_by_fillings, Decision, IsMonotone, House, IsSettled, Keeps}
+use Rattle.solo_core.specs.Common.{IsSound, IsSetting, SoloHouse, Row, Column, Block, solo_cells, houses_of, IsHouseOf, lies_in, places_of, numbers_of}
+use Rattle.solo_core.specs.Common.{is_solo_solution, no_repeat}
 use Rattle.grid_core.proofs.GridLemmas.{single-is}
-use Rattle.gameid_core.specs.Puzzles.{Solo, IsSolo, solo_n}
-use Rattle.engine_core.specs.Puzzle.{IsLawful}
-use Rattle.engine_core.specs.Filling.{strikes_by_fillings}
-use Rattle.engine_core.specs.House.{Decision, IsMonotone}
 use Rattle.engine_core.specs.HouseLaws.{by_fillings-monotone}
-use Rattle.engine_core.specs.Houses.{House, IsSettled, Keeps, IsSound, IsSetting}
 use Rattle.engine_core.specs.HousesLaws.{by_houses-lawful, bound_enough, by_fillings-settles, by_fillings-keeps}
-use Rattle.solo_core.specs.declared.houses.house.SoloHouse.{SoloHouse}
-use Rattle.solo_core.specs.declared.houses.house.SoloHouse.TheVariants.{Row, Column, Block}
-use Rattle.solo_core.specs.Cells.{solo_cells}
 use Rattle.solo_core.specs.RuleSets.{start, house_by, house_at, deciding, crossings_of, setting_of, rules_of, singles_rules, houses_rules, crossings_rules}
 use Rattle.solo_core.specs.declared.houses.scope.SoloScope.{SoloScope}
 use Rattle.solo_core.specs.Scopes.{row_scope, column_scope, crossing_scopes}
-use Rattle.solo_core.specs.Houses.{houses_of, IsHouseOf, lies_in, places_of}
-use Rattle.solo_core.specs.Solutions.{numbers_of, is_solo_solution}
 use Rattle.solo_core.specs.HouseLaws.{Lists, lists_house, listed-within, listed-different, some_numbers, each_value, all_houses, row_in, column_in}
 use Rattle.solo_core.specs.SolutionLaws.{rule_from_test, house_of_solution}
-use Rattle.solo_core.specs.NoRepeat.{no_repeat}
 use Rattle.solo_core.specs.Singles.{strikes_by_singles}
 use Rattle.solo_core.specs.SinglesLaws.{singles-monotone, singles-keeps}
 use Rattle.solo_core.specs.Crossing.{crossing, in_block_alone, in_line_alone}

@@ -1,21 +1,11 @@
 -- Laws of solutions: the test of a grid, house by house, is the rule.
 use Rattle.std.proofs.Common.{◌≡◌, ℕ, ◌+◌, ◌<◌, ◌≤◌, Bool, true, List, map, get_or, slice_index, sym, ap, ◌∙◌, arith}
-use Rattle.std.specs.List.{list_all}
-use Rattle.std.proofs.lemmas.Bool.{and_parts, and_from}
-use Rattle.std.proofs.lemmas.Bool.Decides.{nat_tests}
-use Rattle.std.proofs.lemmas.List.{get_or-map, length-map}
-use Rattle.grid_core.specs.Candidates.{all_below}
-use Rattle.grid_core.specs.Grids.{IsGrid}
-use Rattle.grid_core.proofs.CandidateLemmas.{all_below-at, all_below-from}
-use Rattle.gameid_core.specs.Puzzles.{Solo, IsSolo, solo_n}
+use Rattle.solo_core.specs.Common.{list_all, and_parts, and_from, nat_tests, get_or-map, length-map, all_below, IsGrid, all_below-at, all_below-from, Solo}
+use Rattle.solo_core.specs.Common.{IsSolo, solo_n, SoloHouse, solo_cells, houses_of, IsHouseOf, lies_in, places_of, no_repeat, IsSoloSolution, given_stands}
+use Rattle.solo_core.specs.Common.{numbers_of, is_solo_solution}
 use Rattle.engine_core.specs.Every.{test_each, each_test}
-use Rattle.solo_core.specs.declared.houses.house.SoloHouse.{SoloHouse}
-use Rattle.solo_core.specs.Cells.{solo_cells}
-use Rattle.solo_core.specs.Houses.{houses_of, IsHouseOf, lies_in, places_of}
 use Rattle.solo_core.specs.HouseLaws.{Lists, lists_house, all_houses, each_house}
-use Rattle.solo_core.specs.NoRepeat.{no_repeat}
 use Rattle.solo_core.specs.NoRepeatLaws.{own_from_no_repeat, no_repeat_from_different}
-use Rattle.solo_core.specs.Solutions.{IsSoloSolution, given_stands, numbers_of, is_solo_solution}
 
 -- ---- a given stands
 pub given_from_test : (p : Solo) (g : List ℕ) (place : ℕ) → given_stands p g place ≡ true → 1 ≤ slice_index p.givens place → slice_index g place + 1 ≡ slice_index p.givens place

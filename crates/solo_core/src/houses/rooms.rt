@@ -1,5 +1,5 @@
 //! How much room the lists of houses and of crossings take.
-#![tactic(auto, using(crate::proofs::ScopeLemmas::room_laws))]
+#![tactic(auto, using(crate::proofs::HouseLemmas::room_laws))]
 
 ghost use Rattle.std.specs.Prelude.{◌≡◌, ◌≤◌, length};
 ghost use Rattle.solo_core.specs.RuleSets.{crossings_of};

@@ -1,4 +1,4 @@
-use Rattle.solo_core.specs.Solutions.{numbers_of}
+use Rattle.solo_core.specs.Common.{numbers_of}
 use Rattle.solo_core.proofs.RepeatLemmas.{HasSeen}
 use Rattle.solo_core.proofs.check.holds_each_once.Given as goal
 

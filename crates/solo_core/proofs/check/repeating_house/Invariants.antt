@@ -1,8 +1,5 @@
 use Rattle.std.proofs.Common.{◌≡◌, ℕ, ◌<◌, true, get_or}
-use Rattle.solo_core.specs.declared.houses.house.SoloHouse.{SoloHouse}
-use Rattle.solo_core.specs.NoRepeat.{no_repeat}
-use Rattle.solo_core.specs.Houses.{houses_of}
-use Rattle.solo_core.specs.Solutions.{numbers_of}
+use Rattle.solo_core.specs.Common.{SoloHouse, no_repeat, houses_of, numbers_of}
 use Rattle.solo_core.proofs.check.repeating_house.Given as goal
 
 abbrev pub invariant-loop-number : goal.invariant-loop-number

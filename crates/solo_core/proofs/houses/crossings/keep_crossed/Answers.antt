@@ -1,11 +1,7 @@
 use Rattle.std.proofs.Common.{subst}
-use Rattle.gameid_core.specs.Puzzles.{solo_n}
-use Rattle.engine_core.specs.House.{IsDecided}
-use Rattle.engine_core.specs.Houses.{House}
-use Rattle.solo_core.specs.declared.houses.house.SoloHouse.TheVariants.{Block}
-use Rattle.solo_core.specs.Houses.{places_of}
+use Rattle.solo_core.specs.Common.{solo_n, IsDecided, House, Block, places_of}
 use Rattle.solo_core.specs.HouseLaws.{lists_house}
-use Rattle.solo_core.proofs.CrossedLemmas.{crossing-is, decided_at}
+use Rattle.solo_core.proofs.CrossingLemmas.{crossing-is, decided_at}
 use Rattle.solo_core.proofs.houses.crossings.keep_crossed.Goals as goal
 
 pub returns : goal.returns

@@ -1,9 +1,7 @@
 use Rattle.std.proofs.Common.{not, sym, ap, ◌∙◌, arith}
-use Rattle.solo_core.specs.declared.houses.house.SoloHouse.TheVariants.{Block}
-use Rattle.solo_core.specs.Houses.{lies_in, places_of}
+use Rattle.solo_core.specs.Common.{Block, lies_in, places_of, has_place}
 use Rattle.solo_core.specs.HouseLaws.{lists_house, listed-same}
-use Rattle.engine_core.specs.Puzzle.{has_place}
-use Rattle.solo_core.proofs.CrossedLemmas.{rest-out, rest-in}
+use Rattle.solo_core.proofs.CrossingLemmas.{rest-out, rest-in}
 use Rattle.solo_core.proofs.houses.crossings.push_rest.Goals as goal
 
 pub loop-k-preserved-then-lies : goal.loop-k-preserved-then-lies

@@ -1,8 +1,6 @@
 use Rattle.std.proofs.Common.{not}
-use Rattle.engine_core.specs.Puzzle.{has_place}
-use Rattle.solo_core.specs.declared.houses.house.SoloHouse.TheVariants.{Block}
-use Rattle.solo_core.specs.Houses.{places_of}
-use Rattle.solo_core.proofs.CrossedLemmas.{IsRest}
+use Rattle.solo_core.specs.Common.{has_place, Block, places_of}
+use Rattle.solo_core.proofs.CrossingLemmas.{IsRest}
 use Rattle.solo_core.proofs.houses.crossings.push_rest.Given as goal
 
 abbrev pub invariant-loop-k : goal.invariant-loop-k

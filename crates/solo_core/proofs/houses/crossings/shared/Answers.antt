@@ -1,9 +1,6 @@
 use Rattle.std.proofs.Common.{◌∙◌, slice_index, arith}
-use Rattle.solo_core.specs.declared.houses.house.SoloHouse.TheVariants.{Block}
-use Rattle.solo_core.specs.Houses.{lies_in, places_of}
+use Rattle.solo_core.specs.Common.{Block, lies_in, places_of, solo_cells, solo_n}
 use Rattle.solo_core.specs.HouseLaws.{lists_house, listed-same}
-use Rattle.solo_core.specs.Cells.{solo_cells}
-use Rattle.gameid_core.specs.Puzzles.{solo_n}
 use Rattle.solo_core.proofs.houses.crossings.shared.Goals as goal
 
 pub returns : goal.returns

@@ -1,7 +1,5 @@
 use Rattle.std.proofs.Common.{◌≡◌, ℕ, ◌<◌, ◌≤◌, false, slice_index}
-use Rattle.engine_core.specs.Sets.{has_bit}
-use Rattle.solo_core.specs.declared.houses.house.SoloHouse.TheVariants.{Block}
-use Rattle.solo_core.specs.Houses.{lies_in, places_of}
+use Rattle.solo_core.specs.Common.{has_bit, Block, lies_in, places_of}
 use Rattle.solo_core.proofs.houses.crossings.shared.Given as goal
 
 abbrev pub invariant-loop-k : goal.invariant-loop-k

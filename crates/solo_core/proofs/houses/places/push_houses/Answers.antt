@@ -1,5 +1,5 @@
 use Rattle.std.proofs.Common.{arith}
-use Rattle.solo_core.specs.Houses.{house_places}
+use Rattle.solo_core.specs.Common.{house_places}
 use Rattle.solo_core.proofs.HouseLemmas.{listed-more, places-at, places-length}
 use Rattle.solo_core.proofs.houses.places.push_houses.Goals as goal
 

@@ -1,5 +1,5 @@
 use Rattle.std.proofs.Common.{◌≡◌, ◌++◌, [], take}
-use Rattle.solo_core.specs.Houses.{house_places}
+use Rattle.solo_core.specs.Common.{house_places}
 use Rattle.solo_core.proofs.houses.places.push_houses.Given as goal
 
 abbrev pub invariant-loop-number : goal.invariant-loop-number

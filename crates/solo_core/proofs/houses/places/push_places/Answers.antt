@@ -1,5 +1,5 @@
 use Rattle.std.proofs.Common.{arith}
-use Rattle.solo_core.specs.Houses.{places_of}
+use Rattle.solo_core.specs.Common.{places_of}
 use Rattle.solo_core.specs.HouseLaws.{lists_house}
 use Rattle.solo_core.proofs.HouseLemmas.{begun-more, begun-done}
 use Rattle.solo_core.proofs.houses.places.push_places.Goals as goal

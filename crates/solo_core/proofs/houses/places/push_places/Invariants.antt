@@ -1,5 +1,5 @@
 use Rattle.std.proofs.Common.{◌≡◌, take}
-use Rattle.solo_core.specs.Houses.{places_of}
+use Rattle.solo_core.specs.Common.{places_of}
 use Rattle.solo_core.proofs.houses.places.push_places.Given as goal
 
 abbrev pub invariant-loop-k : goal.invariant-loop-k

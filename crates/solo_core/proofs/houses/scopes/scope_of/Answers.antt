@@ -1,6 +1,6 @@
 use Rattle.std.proofs.Common.{◌∙◌, sym, ap, arith}
 use Rattle.solo_core.specs.declared.houses.scope.SoloScope.TheVariants as scope
-use Rattle.solo_core.proofs.ScopeLemmas.{house-named}
+use Rattle.solo_core.proofs.HouseLemmas.{house-named}
 use Rattle.solo_core.proofs.houses.scopes.scope_of.Goals as goal
 
 pub returns-then-number-count : goal.returns-then-number-count

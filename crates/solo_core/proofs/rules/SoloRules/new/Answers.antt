@@ -1,6 +1,5 @@
 use Rattle.std.proofs.Common.{arith}
-use Rattle.std.proofs.lemmas.Nat.{mul-le}
-use Rattle.gameid_core.specs.Puzzles.{solo_n}
+use Rattle.solo_core.specs.Common.{mul-le, solo_n}
 use Rattle.solo_core.proofs.DecidingLemmas.{scopes-fit}
 use Rattle.solo_core.proofs.rules.SoloRules.new.Goals as goal
 

@@ -1,7 +1,5 @@
-use Rattle.std.proofs.Common.{◌≡◌, ◌+◌, ◌*◌, length, refl, arith}
-use Rattle.std.specs.Prelude.{sum_by}
-use Rattle.gameid_core.specs.Puzzles.{solo_n}
-use Rattle.engine_core.specs.Houses.{visits_of}
+use Rattle.std.proofs.Common.{◌≡◌, ◌+◌, ◌*◌, length, refl, arith, sum_by}
+use Rattle.solo_core.specs.Common.{solo_n, visits_of}
 use Rattle.solo_core.specs.Work.{all_places}
 use Rattle.solo_core.proofs.DecidingLemmas.{bound-from-table}
 use Rattle.solo_core.proofs.rules.SoloRulesRules.bound.Goals as goal

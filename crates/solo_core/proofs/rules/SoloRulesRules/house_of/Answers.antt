@@ -1,4 +1,4 @@
-use Rattle.engine_core.specs.Puzzle.{IsKth}
+use Rattle.solo_core.specs.Common.{IsKth}
 use Rattle.solo_core.proofs.DecidingLemmas.{scopes-say}
 use Rattle.solo_core.proofs.rules.SoloRulesRules.house_of.Goals as goal
 

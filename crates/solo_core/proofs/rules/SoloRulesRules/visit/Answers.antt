@@ -1,5 +1,5 @@
 use Rattle.std.proofs.Common.{length, arith}
-use Rattle.engine_core.specs.Houses.{house_of}
+use Rattle.solo_core.specs.Common.{house_of}
 use Rattle.engine_core.proofs.StoreLemmas.{scope_le-longest}
 use Rattle.solo_core.proofs.rules.SoloRulesRules.visit.Goals as goal
 

@@ -1,9 +1,8 @@
 use Rattle.std.proofs.Common.{◌≡◌, ◌+◌, ◌*◌, length, ap, ◌∙◌, arith}
-use Rattle.gameid_core.specs.Puzzles.{Solo, solo_n}
+use Rattle.solo_core.specs.Common.{Solo, solo_n, houses_of}
 use Rattle.solo_core.specs.BoundLaws.{count_x}
-use Rattle.solo_core.specs.Houses.{houses_of}
 use Rattle.solo_core.specs.Scopes.{crossing_scopes}
-use Rattle.solo_core.proofs.ScopeLemmas.{all-length, scopes-length}
+use Rattle.solo_core.proofs.HouseLemmas.{all-length, scopes-length}
 use Rattle.solo_core.proofs.tests.scopes.named.Goals as goal
 
 pub scope_of-requires : goal.scope_of-requires

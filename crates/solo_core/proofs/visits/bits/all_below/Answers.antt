@@ -1,6 +1,5 @@
 use Rattle.std.proofs.Common.{ℕ, ◌-◌, sym, ap, ◌∙◌, arith}
-use Rattle.std.proofs.lemmas.Nat.{one_shl}
-use Rattle.engine_core.specs.Sets.{has_bit}
+use Rattle.solo_core.specs.Common.{one_shl, has_bit}
 use Rattle.solo_core.proofs.Marks.{in_ones, below_ones}
 use Rattle.solo_core.proofs.visits.bits.all_below.Goals as goal
 

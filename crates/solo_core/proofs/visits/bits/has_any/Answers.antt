@@ -1,6 +1,5 @@
 use Rattle.std.proofs.Common.{ℕ, sym, ap, ◌∙◌, not, true≢false, arith}
-use Rattle.std.proofs.lemmas.Bool.{eq-eqb}
-use Rattle.engine_core.specs.Sets.{has_bit}
+use Rattle.solo_core.specs.Common.{eq-eqb, has_bit}
 use Rattle.solo_core.proofs.Marks.{some_bit, none_in_zero, zero_from_test}
 use Rattle.solo_core.proofs.visits.bits.has_any.Goals as goal
 

@@ -1,5 +1,5 @@
 use Rattle.std.proofs.Common.{arith}
-use Rattle.solo_core.proofs.LowestBit.{no_bit_before, bit_there}
+use Rattle.solo_core.proofs.Marks.{no_bit_before, bit_there}
 use Rattle.solo_core.proofs.visits.bits.next_bit.Goals as goal
 
 pub returns-then-bit-end : goal.returns-then-bit-end

@@ -1,5 +1,5 @@
 use Rattle.std.proofs.Common.{sym, ◌∙◌, arith}
-use Rattle.std.proofs.lemmas.Bool.{eqb-true}
+use Rattle.solo_core.specs.Common.{eqb-true}
 use Rattle.solo_core.proofs.Marks.{single_bit}
 use Rattle.solo_core.proofs.visits.bits.single_of.Goals as goal
 

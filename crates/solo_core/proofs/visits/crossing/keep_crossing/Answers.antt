@@ -1,7 +1,5 @@
 use Rattle.std.proofs.Common.{◌&&◌, not, ltb, leb, ◌∙◌, arith}
-use Rattle.std.proofs.lemmas.List.{length-set}
-use Rattle.engine_core.specs.Sets.{has_bit}
-use Rattle.solo_core.specs.Deciding.{has_in}
+use Rattle.solo_core.specs.Common.{length-set, has_bit, has_in}
 use Rattle.solo_core.proofs.CrossingLemmas.{crossing-decided, bits-more}
 use Rattle.solo_core.proofs.visits.crossing.keep_crossing.Goals as goal
 

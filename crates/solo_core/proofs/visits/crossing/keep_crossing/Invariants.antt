@@ -1,7 +1,5 @@
-use Rattle.std.proofs.Common.{◌≡◌, ℕ, ◌<◌, ◌&&◌, not, length, slice_index}
-use Rattle.std.specs.Prelude.{nat_lt, nat_le}
-use Rattle.engine_core.specs.Sets.{has_bit}
-use Rattle.solo_core.specs.Deciding.{has_in}
+use Rattle.std.proofs.Common.{◌≡◌, ℕ, ◌<◌, ◌&&◌, not, length, slice_index, nat_lt, nat_le}
+use Rattle.solo_core.specs.Common.{has_bit, has_in}
 use Rattle.solo_core.proofs.visits.crossing.keep_crossing.Given as goal
 
 abbrev pub invariant-loop-k : goal.invariant-loop-k

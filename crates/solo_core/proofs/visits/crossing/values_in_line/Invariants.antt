@@ -1,8 +1,5 @@
-use Rattle.std.proofs.Common.{◌≡◌, ℕ, ◌&&◌}
-use Rattle.std.specs.Prelude.{nat_le}
-use Rattle.grid_core.specs.Candidates.{any_below}
-use Rattle.engine_core.specs.Sets.{has_bit}
-use Rattle.solo_core.specs.Deciding.{has_in}
+use Rattle.std.proofs.Common.{◌≡◌, ℕ, ◌&&◌, nat_le}
+use Rattle.solo_core.specs.Common.{any_below, has_bit, has_in}
 use Rattle.solo_core.proofs.visits.crossing.values_in_line.Given as goal
 
 abbrev pub invariant-loop-k : goal.invariant-loop-k

@@ -1,6 +1,5 @@
 use Rattle.std.proofs.Common.{ℕ, ◌∙◌, ap, arith, subst}
-use Rattle.engine_core.specs.Sets.{has_bit}
-use Rattle.solo_core.specs.Deciding.{has_in}
+use Rattle.solo_core.specs.Common.{has_bit, has_in}
 use Rattle.solo_core.specs.Ways.{IsTransitiveClosure}
 use Rattle.solo_core.proofs.Turned.{decided_by_reach}
 use Rattle.solo_core.proofs.visits.houses.keep_paired.Goals as goal

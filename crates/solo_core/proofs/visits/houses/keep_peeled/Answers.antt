@@ -1,5 +1,5 @@
 use Rattle.std.proofs.Common.{ℕ, ◌∙◌, ap, length, arith}
-use Rattle.engine_core.specs.Sets.{has_bit}
+use Rattle.solo_core.specs.Common.{has_bit}
 use Rattle.solo_core.proofs.MateLemmas.{decided_alone}
 use Rattle.solo_core.proofs.visits.houses.keep_peeled.Goals as goal
 

@@ -1,5 +1,5 @@
 use Rattle.std.proofs.Common.{◌≡◌, ℕ, ◌<◌, ◌≤◌, ◌&&◌, length, slice_index}
-use Rattle.solo_core.specs.Deciding.{has_in}
+use Rattle.solo_core.specs.Common.{has_in}
 use Rattle.solo_core.proofs.visits.houses.keep_reached.Given as goal
 
 abbrev pub invariant-loop-cell : goal.invariant-loop-cell

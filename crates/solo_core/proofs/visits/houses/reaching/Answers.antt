@@ -1,9 +1,7 @@
 use Rattle.std.proofs.Common.{ℕ, true, false, sym, ap, ◌∙◌, arith}
+use Rattle.solo_core.specs.Common.{has_bit, has_in, bits-of_zero}
 use Rattle.std.proofs.Math.Bool.{or-false}
-use Rattle.engine_core.specs.Sets.{has_bit}
-use Rattle.solo_core.specs.Deciding.{has_in}
-use Rattle.solo_core.proofs.KeptBits.{next_kept, all_kept}
-use Rattle.engine_core.proofs.BitLemmas.{bits-of_zero}
+use Rattle.solo_core.proofs.Marks.{next_kept, all_kept}
 use Rattle.solo_core.proofs.visits.houses.reaching.Goals as goal
 use Rattle.solo_core.proofs.visits.houses.reaching.Goals.{then-has_bit, else-has_bit}
 

@@ -1,7 +1,6 @@
 use Rattle.std.proofs.Common.{◌≤◌, ◌-◌}
-use Rattle.engine_core.specs.Sets.{has_bit}
-use Rattle.solo_core.specs.Deciding.{has_in}
-use Rattle.solo_core.proofs.KeptBits.{AreKept}
+use Rattle.solo_core.specs.Common.{has_bit, has_in}
+use Rattle.solo_core.proofs.Marks.{AreKept}
 use Rattle.solo_core.proofs.visits.houses.reaching.Given as goal
 
 abbrev pub invariant-loop-value : goal.invariant-loop-value

@@ -1,5 +1,5 @@
 use Rattle.std.proofs.Common.{◌≡◌, ℕ, ◌<◌, true, length, slice_index}
-use Rattle.solo_core.specs.Deciding.{has_in}
+use Rattle.solo_core.specs.Common.{has_in}
 use Rattle.solo_core.proofs.visits.mates.write_own.Given as goal
 
 abbrev pub invariant-loop-cell : goal.invariant-loop-cell

@@ -1,5 +1,5 @@
 use Rattle.std.proofs.Common.{arith}
-use Rattle.engine_core.proofs.BitLemmas.{bits-both}
+use Rattle.solo_core.specs.Common.{bits-both}
 use Rattle.solo_core.proofs.PeelLemmas.{alone-lone, alone-more}
 use Rattle.solo_core.proofs.visits.peel.alone_cells.Goals as goal
 use Rattle.solo_core.proofs.visits.peel.alone_cells.Goals.{then-has_any, else-has_any}

@@ -1,6 +1,5 @@
 use Rattle.std.proofs.Common.{◌≡◌, ℕ, Bool, true, false, not, ◌&&◌, true≢false, arith, sym, ap, ◌∙◌, bit_and, inr}
-use Rattle.engine_core.specs.Sets.{has_bit}
-use Rattle.engine_core.proofs.BitLemmas.{bits-both}
+use Rattle.solo_core.specs.Common.{has_bit, bits-both}
 use Rattle.solo_core.proofs.visits.peel.narrow.Goals as goal
 
 left_out : (a b d : Bool) → a ≡ true → b ≡ true → (a && (b && not d)) ≡ false → d ≡ true

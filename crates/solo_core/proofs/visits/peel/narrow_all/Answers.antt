@@ -1,8 +1,5 @@
 use Rattle.std.proofs.Common.{◌≡◌, ℕ, ◌&&◌, ◌||◌, sym, ap, ◌∙◌, refl, slice_index, slice_set, arith, inl, inr}
-use Rattle.std.proofs.lemmas.Bool.{cases_eq}
-use Rattle.std.proofs.lemmas.List.{get_or-set_other, length-set}
-use Rattle.std.proofs.lemmas.Grind.{get_or-set_at}
-use Rattle.engine_core.specs.Sets.{has_bit}
+use Rattle.solo_core.specs.Common.{cases_eq, get_or-set_other, length-set, get_or-set_at, has_bit}
 use Rattle.solo_core.proofs.PeelLemmas.{peeled-step, counts-same, counts-more}
 use Rattle.solo_core.proofs.visits.peel.narrow_all.Goals as goal
 

@@ -1,5 +1,5 @@
 use Rattle.std.proofs.Common.{◌≡◌, ℕ, ◌<◌, ◌≤◌, true, false, length, slice_index}
-use Rattle.solo_core.specs.Deciding.{has_in}
+use Rattle.solo_core.specs.Common.{has_in}
 use Rattle.solo_core.specs.Peeled.{AreCounts, IsDropped}
 use Rattle.solo_core.proofs.visits.peel.narrow_all.Given as goal
 

@@ -1,7 +1,5 @@
 use Rattle.std.proofs.Common.{slice_index, slice_set, refl, arith}
-use Rattle.std.proofs.lemmas.List.{get_or-set_other}
-use Rattle.std.proofs.lemmas.Grind.{get_or-set_at}
-use Rattle.engine_core.proofs.BitLemmas.{bits-both}
+use Rattle.solo_core.specs.Common.{get_or-set_other, get_or-set_at, bits-both}
 use Rattle.solo_core.proofs.QuickLemmas.{goes_on_free}
 use Rattle.solo_core.proofs.visits.quick.give.Goals as goal
 

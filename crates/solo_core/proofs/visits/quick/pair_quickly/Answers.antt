@@ -1,5 +1,5 @@
 use Rattle.std.proofs.Common.{◌∙◌, arith}
-use Rattle.std.proofs.lemmas.Bool.Decides.{nat_tests}
+use Rattle.solo_core.specs.Common.{nat_tests}
 use Rattle.solo_core.proofs.visits.quick.pair_quickly.Goals as goal
 
 pub loop-i-preserved : goal.loop-i-preserved

@@ -1,8 +1,5 @@
 use Rattle.std.proofs.Common.{◌≡◌, ℕ, List, length, slice_index, slice_set, refl, sym, ap, ◌∙◌, subst, arith}
-use Rattle.std.proofs.lemmas.List.{get_or-set_other, length-set}
-use Rattle.std.proofs.lemmas.Grind.{get_or-set_at}
-use Rattle.engine_core.specs.Sets.{has_bit}
-use Rattle.engine_core.proofs.BitLemmas.{bits-both}
+use Rattle.solo_core.specs.Common.{get_or-set_other, length-set, get_or-set_at, has_bit, bits-both}
 use Rattle.solo_core.specs.Quick.{IsBegun}
 use Rattle.solo_core.proofs.QuickLemmas.{goes_on_swapped}
 use Rattle.solo_core.proofs.visits.quick.swap.Goals as goal

@@ -1,6 +1,5 @@
 use Rattle.std.proofs.Common.{◌≡◌, ℕ, ◌<◌, ◌≤◌, ◌&&◌, ◌||◌, length, slice_index}
-use Rattle.engine_core.specs.Sets.{has_bit}
-use Rattle.solo_core.specs.Deciding.{has_in}
+use Rattle.solo_core.specs.Common.{has_bit, has_in}
 use Rattle.solo_core.proofs.visits.reach.add_more.Given as goal
 
 abbrev pub invariant-loop-value : goal.invariant-loop-value

@@ -1,6 +1,6 @@
 use Rattle.std.proofs.Common.{◌≡◌, length}
-use Rattle.solo_core.specs.Deciding.{has_in}
-use Rattle.solo_core.proofs.Reaching.{ReachesOver}
+use Rattle.solo_core.specs.Common.{has_in}
+use Rattle.solo_core.proofs.WayLemmas.{ReachesOver}
 use Rattle.solo_core.proofs.visits.reach.close_reach.Given as goal
 
 abbrev pub invariant-loop-over : goal.invariant-loop-over

@@ -1,5 +1,5 @@
 use Rattle.std.proofs.Common.{◌≡◌, ℕ, ◌<◌, ◌≤◌, false}
-use Rattle.engine_core.specs.Sets.{has_bit}
+use Rattle.solo_core.specs.Common.{has_bit}
 use Rattle.solo_core.specs.Singles.{stays_in}
 use Rattle.solo_core.proofs.visits.singles.keep_cell.Given as goal
 

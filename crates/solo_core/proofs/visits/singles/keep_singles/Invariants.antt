@@ -1,5 +1,5 @@
 use Rattle.std.proofs.Common.{◌≡◌, ℕ, ◌<◌, length, slice_index}
-use Rattle.engine_core.specs.Sets.{has_bit}
+use Rattle.solo_core.specs.Common.{has_bit}
 use Rattle.solo_core.specs.Singles.{stays_in}
 use Rattle.solo_core.proofs.visits.singles.keep_singles.Given as goal
 

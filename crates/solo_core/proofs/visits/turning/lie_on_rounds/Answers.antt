@@ -1,5 +1,5 @@
 use Rattle.std.proofs.Common.{ℕ, ◌≡◌, ◌<◌, eqb, false, sym, ◌∙◌, slice_index, arith}
-use Rattle.std.proofs.lemmas.Bool.Decides.{nat_tests}
+use Rattle.solo_core.specs.Common.{nat_tests}
 use Rattle.solo_core.proofs.TurningLemmas.{after-root, before-root, in_ends}
 use Rattle.solo_core.proofs.visits.turning.lie_on_rounds.Goals as goal
 

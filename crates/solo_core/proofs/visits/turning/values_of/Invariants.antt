@@ -1,6 +1,5 @@
 use Rattle.std.proofs.Common.{◌≡◌, ℕ, ◌<◌, true, slice_index}
-use Rattle.engine_core.specs.Sets.{has_bit}
-use Rattle.solo_core.specs.Deciding.{has_in}
+use Rattle.solo_core.specs.Common.{has_bit, has_in}
 use Rattle.solo_core.proofs.visits.turning.values_of.Given as goal
 
 abbrev pub invariant-loop-i : goal.invariant-loop-i
