@@ -98,9 +98,13 @@ module _ (n : ℕ) (g : List ℕ) (small : (c : ℕ) → c < length g → slice_
       let w = none_missing n (map (slice_index g) second) (length-map second (slice_index g) ∙ other.long) other.holds (λ k lk. numbers k (omega (arith, other.long))) (slice_index g c) low in
       let lw : w.0 < length second = omega (arith, w.1, other.long) in
       let there = has_place-here second w.0 lw in
-      let same = sym (get_or-map (slice_index g) second w.0 0 0 lw) ∙ w.2 in
-      (slice_index second w.0, there, false_from_ne_true (has_place first (slice_index second w.0)) (λ here.
-          true≢false (sym there ∙ ap (has_place second) (one_place first h (slice_index second w.0) c here on same) ∙ off)), same)
+      let same = sym (get_or-map (slice_index g) second w.0 0 0 lw) ∙ w.2 in (
+        slice_index second w.0,
+        there,
+        false_from_ne_true (has_place first (slice_index second w.0)) (λ here.
+            true≢false (sym there ∙ ap (has_place second) (one_place first h (slice_index second w.0) c here on same) ∙ off)),
+        same,
+      )
     where
       numbers : (k : ℕ) → k < length second → get_or (map (slice_index g) second) k 0 < n
       numbers k lk = rw (get_or-map (slice_index g) second k 0 0 lk) (small (slice_index second k) (other.inside k lk))
