@@ -1,5 +1,5 @@
 //! What a visit of a house keeps by its single values and places.
-#![tactic(auto)]
+#![tactic(auto, using(crate::proofs::SinglesLemmas::decided_broken))]
 
 ghost use Rattle.std.specs.Prelude.{◌≡◌, ℕ, ◌<◌, ◌≤◌, true, false, length, slice_index};
 ghost use Rattle.grid_core.specs.Candidates.{any_below};
