@@ -9,23 +9,13 @@ use Rattle.solo_core.specs.NoRepeatLaws.{none_missed}
 use Rattle.solo_core.proofs.Marks.{none_in_zero}
 
 -- ---- what is peeled
-pub pairing_peeled : (n : ℕ) (old new mates : List ℕ) → IsPeeled n old new → IsPairing (has_in old) (length old) n mates → IsPairing (has_in new) (length new) n mates
-pairing_peeled n old new mates e p = rw e.as_many (record {
-  len = p.len;
-  in_range = p.in_range;
-  joined = λ k lk. e.keeps mates p k lk;
-  own = p.own;
-})
+-- a pairing is one of other sets where they have its values too
+pairing_over : (n : ℕ) (old new mates : List ℕ) → length new ≡ length old → ((k : ℕ) → k < length old → has_in old k (slice_index mates k) ≡ true → has_in new k (slice_index mates k) ≡ true)
+    → IsPairing (has_in old) (length old) n mates → IsPairing (has_in new) (length new) n mates
+pairing_over n old new mates same joined p = rw same (record { len = p.len; in_range = p.in_range; joined = λ k lk. joined k lk (p.joined k lk); own = p.own })
 
-pub pairing_whole : (n : ℕ) (old new mates : List ℕ) → IsPeeled n old new → IsPairing (has_in new) (length new) n mates → IsPairing (has_in old) (length old) n mates
-pairing_whole n old new mates e p =
-    let q : IsPairing (has_in new) (length old) n mates = rw e.as_many at p in
-    record {
-      len = q.len;
-      in_range = q.in_range;
-      joined = λ k lk. e.inside k (slice_index mates k) lk (q.joined k lk);
-      own = q.own;
-    }
+pairing_peeled : (n : ℕ) (old new mates : List ℕ) → IsPeeled n old new → IsPairing (has_in old) (length old) n mates → IsPairing (has_in new) (length new) n mates
+pairing_peeled n old new mates e p = pairing_over n old new mates e.as_many (λ k lk on. e.keeps mates p k lk) p
 
 pub peeled-none : (n : ℕ) (sets : List ℕ) → IsPeeled n sets sets
 peeled-none n sets = record { as_many = refl; inside = λ k v lk on. on; keeps = λ mates p k lk. p.joined k lk }
@@ -122,24 +112,23 @@ alone-more n sets cells more cell alone a bit k lk on = elim (cases_eq k cell) [
 ]
 
 -- ---- what is decided of the peeled sets is decided of the sets
+-- what is shown by a pairing is shown where each pairing of the sets is one of the others
+shown_over : (n : ℕ) (old new : List ℕ) → ((mates : List ℕ) → IsPairing (has_in old) (length old) n mates → IsPairing (has_in new) (length new) n mates)
+    → (k v : ℕ) → k < length new → is_struck n old k v ≡ false → (has_in new k v ≡ true) × (is_struck n new k v ≡ false)
+shown_over n old new over k v lk off =
+    let w = shown_from_test no_repeat (map (set_of_bits n) old) k v off in
+    let p = over w.0 (pairing_of_filling old n k v w.0 w.1) in
+    (rw w.1.has_it at (p.joined k lk), rw w.1.has_it at (shown_by_pairing new n w.0 p k))
+
 pub decided_by_peeled : (n : ℕ) (sets peeled kept : List ℕ) → IsPeeled n sets peeled → IsDecided n (strikes_by_fillings no_repeat) peeled kept
     → IsDecided n (strikes_by_fillings no_repeat) sets kept
 decided_by_peeled n sets peeled kept e d = record {
   as_many = d.as_many ∙ e.as_many;
-  bits = λ k v lk lv. d.bits k v (let a = e.as_many in omega arith) lv ∙ same k v lk (is_struck n sets k v) refl;
+  bits = λ k v lk lv.
+      let low : k < length peeled = omega (arith, e.as_many) in
+      let there = shown_over n sets peeled (λ mates p. pairing_peeled n sets peeled mates e p) k v low in
+      let back = shown_over n peeled sets (λ mates p. pairing_over n peeled sets mates (sym e.as_many) (λ j lj on. e.inside j (slice_index mates j) (omega (arith, e.as_many)) on) p) k v lk in
+      let bits = d.bits k v low lv in
+      let inside = e.inside k v lk in
+      grind arith;
 }
-  where
-    same : (k v : ℕ) → k < length sets → (struck : Bool) → is_struck n sets k v ≡ struck → (has_in peeled k v && not (is_struck n peeled k v)) ≡ (has_in sets k v && not (is_struck n sets k v))
-    same k v lk false is =
-        let w = shown_from_test no_repeat (map (set_of_bits n) sets) k v is in
-        let p = pairing_of_filling sets n k v w.0 w.1 in
-        let q = pairing_peeled n sets peeled w.0 e p in
-        let has : has_in peeled k v ≡ true = rw w.1.has_it at (e.keeps w.0 p k lk) in
-        let shown : is_struck n peeled k v ≡ false = rw w.1.has_it at (shown_by_pairing peeled n w.0 q k) in
-        rw (has, shown, e.inside k v lk has, is) refl
-    same k v lk true is =
-        let shown : is_struck n peeled k v ≡ false → ⊥ = λ other.
-        let w = shown_from_test no_repeat (map (set_of_bits n) peeled) k v other in
-        let p = pairing_whole n sets peeled w.0 e (pairing_of_filling peeled n k v w.0 w.1) in
-        true≢false (sym is ∙ rw w.1.has_it at (shown_by_pairing sets n w.0 p k)) in
-        grind arith

@@ -1,6 +1,6 @@
 -- The bounds of closings as numbers: 3n + 3n^3 in plain Solo, with two houses more in Solo X, and with crossings what these add.
 use Rattle.std.proofs.Common.{◌≡◌, ℕ, zero, suc, ◌+◌, ◌-◌, ◌*◌, ◌/◌, ◌%◌, ◌^◌, ◌<◌, ◌≤◌, Bool, true, false, not, cond, eqb, List, [], ◌∷◌, ◌++◌, map, length, get_or, if◌then◌else◌, refl, sym, ap, ◌∙◌, min, inl, inr, add-one, arith, length-append, All, sum_by}
-use Rattle.solo_core.specs.Common.{range_with_len, filter, cases_order, eq-eqb, ne_eqb, nat_tests, div-mul-add, mod-mul-add, div_below, mod_below, mul-le}
+use Rattle.solo_core.specs.Common.{cases_Bool, range_with_len, filter, cases_order, eq-eqb, ne_eqb, nat_tests, div-mul-add, mod-mul-add, div_below, mod_below, mul-le}
 use Rattle.solo_core.specs.Common.{mul-add-lt, div-add-mod', length-map, map-append, All-map, length-map-range_with_len, filter_of_map_range_with_len_more}
 use Rattle.solo_core.specs.Common.{count_below, count_below-same, Solo, IsSolo, solo_n, has_place, strikes_by_fillings, Decision, House, visits_of, SoloHouse}
 use Rattle.solo_core.specs.Common.{Row, Column, Block, Diagonal, solo_cells, block_of, houses_of, lies_in, places_of, no_repeat}
@@ -13,11 +13,7 @@ use Rattle.solo_core.specs.Scopes.{row_scope, column_scope}
 
 -- how many houses the puzzle has
 pub house_count : (p : Solo) → length (houses_of p) ≡ 3 * solo_n p + (if p.x then 2 else 0)
-house_count p = simp (length-append, length-map-range_with_len) (few p.x)
-  where
-    few : (x : Bool) → solo_n p + (solo_n p + (solo_n p + length (if x then Diagonal 0 ∷ Diagonal 1 ∷ [] else []))) ≡ 3 * solo_n p + (if x then 2 else 0)
-    few true = omega arith
-    few false = omega arith
+house_count p = simp (length-append, length-map-range_with_len) (elim (cases_Bool p.x) [ inl on ↦ rw on (omega arith) | inr off ↦ rw off (omega arith) ])
 
 pub sum_same : {X : Type 0} (f : X → ℕ) (m : ℕ) (xs : List X) → All (λ y. f y ≡ m) xs → sum_by f xs ≡ length xs * m
 sum_same f m [] all = omega arith
@@ -41,14 +37,10 @@ few_lines decides p ok =
     let e = bound_is decides p ok in
     let count = house_count p in
     let high = ok.n_high in
-    let two : (if p.x then 2 else 0) ≤ 2 = two_at_most p.x in
+    let two : (if p.x then 2 else 0) ≤ 2 = elim (cases_Bool p.x) [ inl on ↦ rw on (omega arith) | inr off ↦ rw off (omega arith) ] in
     let square = mul-le (solo_n p) (solo_n p) 31 31 high high in
     let all = mul-le (length (houses_of p)) (solo_n p * solo_n p) 95 961 (omega arith) square in
     omega arith
-  where
-    two_at_most : (x : Bool) → (if x then 2 else 0) ≤ 2
-    two_at_most true = omega arith
-    two_at_most false = omega arith
 
 pub few_visits : (decides : Decision) (p : Solo) → IsSolo p → sum_by (visits_of (solo_n p)) (deciding decides p) < 2 ^ 32
 few_visits decides p ok = let few = few_lines decides p ok in omega arith

@@ -22,9 +22,12 @@ HasAdded more old new = new ≡ record { closed = old.closed ++ more; begun = []
 abbrev pub HasBegun : List ℕ → Listed → Listed → Type 0
 HasBegun more old new = new ≡ record { closed = old.closed; begun = old.begun ++ more }
 
--- what is kept of the sets is what the house doesn't strike
-abbrev pub IsKeptBy : Solo → House → List ℕ → List ℕ → Type 0
-IsKeptBy p house sets kept = IsDecided (solo_n p) house.decides sets kept
+-- there is a set for each cell of the house with the number, and what is kept of the sets is what it doesn't strike
+abbrev pub HasSets : List House → ℕ → List ℕ → Type 0
+HasSets houses h sets = length sets ≡ length (house_of houses h).places
+
+abbrev pub IsKeptBy : Solo → List House → ℕ → List ℕ → List ℕ → Type 0
+IsKeptBy p houses h sets kept = IsDecided (solo_n p) (house_of houses h).decides sets kept
 
 -- the list with one more closed list of places, and none begun; and the list with these places begun
 abbrev pub HasClosed : List ℕ → Listed → Listed → Type 0

@@ -39,10 +39,8 @@ fn first_fault(puzzle: &SoloPuzzle, grid: &Grid) -> Option<SoloFault>
     if let Some(place) = broken_given(puzzle, grid) {
         return Some(SoloFault::Given(place));
     }
-    match repeating_house(puzzle, grid) {
-        None => None,
-        Some(house) => Some(fault_of(house)),
-    }
+    let house = repeating_house(puzzle, grid)?;
+    Some(fault_of(house))
 }
 
 /// Whether the grid solves the puzzle.
@@ -50,10 +48,7 @@ pub(crate) fn accepts(puzzle: &SoloPuzzle, grid: &Grid) -> bool
     requires fits { IsGrid (solo_cells puzzle.now) (solo_n puzzle.now) grid.now }
     ensures { result ≡ is_solo_solution puzzle.now grid.now }
 {
-    match first_fault(puzzle, grid) {
-        None => true,
-        Some(_) => false,
-    }
+    first_fault(puzzle, grid).is_none()
 }
 
 /// The lowest place whose given doesn't stand.

@@ -100,7 +100,7 @@ impl<S: Strikes> SoloRules<S> {
 
 impl<S: Strikes> Rules for SoloRules<S> {
     ghost use Rattle.std.specs.Prelude.{true};
-    ghost use Rattle.std.proofs.Common.{arith, sym, subst};
+    ghost use Rattle.std.proofs.Common.{le_trans, sym, subst};
     ghost use Rattle.solo_core.specs.RuleLaws.{rules_lawful};
 
     type Scratch = SoloWork<S::Work>;
@@ -115,19 +115,21 @@ impl<S: Strikes> Rules for SoloRules<S> {
 
     ghost MODE = { Queue };
 
-    ghost serves = { λ w needs. (needs.scope ≤ vec_len w.sets) × (needs.scope ≤ vec_len w.kept) × S.serves w.work needs.values };
+    ghost serves = { λ w needs. (needs.scope ≤ vec_len w.sets) × (needs.scope ≤ vec_len w.kept)
+        × S.serves w.work needs.values };
 
     ghost follows = { λ _ _ _. Unit {0} };
 
-    ghost lawful = { λ r. rules_lawful r.puzzle r.is_solo S.SETTLED (S.houses r.puzzle) (S.sound r.puzzle r.is_solo) };
+    ghost lawful = { λ r.
+        rules_lawful r.puzzle r.is_solo S.SETTLED (S.houses r.puzzle) (S.sound r.puzzle r.is_solo) };
 
     ghost settled_is = { λ _. refl };
 
     ghost mode_is = { λ _. refl };
 
-    ghost serves_smaller = { λ w need had f s. let le = f.scope_in in let a = s.0 in let b = s.1 in (
-      Prim.omega arith,
-      Prim.omega arith,
+    ghost serves_smaller = { λ w need had f s. (
+      le_trans f.scope_in s.0,
+      le_trans f.scope_in s.1,
       subst (S.serves w.work) (sym f.same_values) s.2,
     ) };
 

@@ -3,9 +3,9 @@
 
 ghost use Rattle.std.specs.Prelude.{◌≡◌, ℕ, ◌<◌, ◌≤◌, ◌^◌, sum_by, Bool, true, false, All, IfOk, List, length};
 ghost use Rattle.gameid_core.specs.Puzzles.{Solo, IsSolo, solo_n};
-ghost use Rattle.engine_core.specs.Houses.{House, IsSound, house_of, visits_of};
+ghost use Rattle.engine_core.specs.Houses.{House, IsSound, visits_of};
 ghost use Rattle.solo_core.specs.RuleSets.{setting_of};
-ghost use Rattle.solo_core.specs.Work.{all_places, IsKeptBy};
+ghost use Rattle.solo_core.specs.Work.{all_places, HasSets, IsKeptBy};
 
 use crate::houses::crossings::{keep_crossed, push_crossings};
 use crate::houses::places::{houses, push_houses};
@@ -50,10 +50,10 @@ pub trait Strikes {
         work: &mut Self::Work,
     )
         requires house_in { house < length (houses puzzle.now) }
-        requires of_house { length sets.now ≡ length (house_of (houses puzzle.now) house).places }
+        requires of_house { HasSets (houses puzzle.now) house sets.now }
         requires as_many { length kept.old ≡ length sets.now }
         requires served { serves work.old (solo_n puzzle.now) }
-        ensures decided { IsKeptBy puzzle.now (house_of (houses puzzle.now) house) sets.now kept.new }
+        ensures decided { IsKeptBy puzzle.now (houses puzzle.now) house sets.now kept.new }
         ensures keeps { (values : ℕ) → serves work.old values → serves work.new values };
 
     /// The houses are those of a lawful rule set.

@@ -4,7 +4,6 @@
 ghost use Rattle.std.specs.Prelude.{◌≡◌, ℕ, ◌<◌, ◌&&◌, ◌||◌, ◌==◌, [], OnOk, length};
 ghost use Rattle.gameid_core.specs.Puzzles.{solo_n};
 ghost use Rattle.engine_core.specs.Sets.{has_bit as is_set};
-ghost use Rattle.engine_core.specs.Houses.{house_of};
 ghost use Rattle.solo_core.specs.declared.houses.house.SoloHouse.TheVariants.{Block};
 ghost use Rattle.solo_core.specs.Houses.{IsHouseOf, places_of};
 ghost use Rattle.solo_core.specs.RuleSets.{crossing_of, crossings_of, rest_of_line, AreShared};
@@ -97,7 +96,7 @@ fn with_bit_if(bits: u32, value: usize, on: bool) -> u32
 pub(crate) fn keep_crossed(puzzle: &SoloPuzzle, number: usize, sets: &[u32], kept: &mut [u32])
     requires number_in { number < length (crossings_of puzzle.now) }
     requires as_many { length kept.old ≡ length sets.now }
-    ensures { IsKeptBy puzzle.now (house_of (crossings_of puzzle.now) number) sets.now kept.new }
+    ensures { IsKeptBy puzzle.now (crossings_of puzzle.now) number sets.now kept.new }
 {
     let (block, line) = crossing_at(puzzle, number);
     keep_crossing(

@@ -1,12 +1,11 @@
 //! What the numbers of a rule set's houses name.
 #![tactic(auto, using(crate::proofs::LawSets::scopes_laws))]
 
-ghost use Rattle.std.specs.Prelude.{◌≡◌, ◌*◌, ◌<◌, length, slice_index_or};
+ghost use Rattle.std.specs.Prelude.{◌≡◌, ◌<◌, length, slice_index_or};
 ghost use Rattle.gameid_core.specs.Puzzles.{solo_n};
 ghost use Rattle.solo_core.specs.declared.houses.scope.SoloScope.{SoloScope};
-ghost use Rattle.solo_core.specs.declared.houses.scope.SoloScope.TheVariants.{Crossing};
 ghost use Rattle.solo_core.specs.Houses.{IsHouseOf};
-ghost use Rattle.solo_core.specs.Scopes.{scopes_of, crossing_scopes, row_scope, column_scope, IsCrossingAt};
+ghost use Rattle.solo_core.specs.Scopes.{scopes_of, crossing_scopes, IsCrossingAt};
 
 use crate::houses::house::SoloHouse;
 use crate::houses::places::{house, houses};
@@ -35,35 +34,13 @@ pub(crate) fn crossing_at(puzzle: &SoloPuzzle, number: usize) -> (usize, SoloHou
     ensures block_in { result.0 < solo_n puzzle.now }
     ensures line_of { IsHouseOf puzzle.now result.1 }
 {
-    let rows = usize::from(puzzle.n()) * usize::from(puzzle.c());
-    if number < rows {
-        row_crossing(puzzle, number)
-    } else {
-        column_crossing(puzzle, number - rows)
-    }
-}
-
-/// The block and the row of a crossing, by its number among those.
-fn row_crossing(puzzle: &SoloPuzzle, m: usize) -> (usize, SoloHouse)
-    requires { m < solo_n puzzle.now * puzzle.now.c }
-    ensures scope { Crossing result.0 result.1 ≡ row_scope puzzle.now m }
-    ensures block_in { result.0 < solo_n puzzle.now }
-    ensures line_of { IsHouseOf puzzle.now result.1 }
-{
-    let c = usize::from(puzzle.c());
-    let block = m / c;
-    (block, SoloHouse::Row(block / c * c + m % c))
-}
-
-/// The block and the column of a crossing, by its number among those.
-fn column_crossing(puzzle: &SoloPuzzle, m: usize) -> (usize, SoloHouse)
-    requires { m < solo_n puzzle.now * puzzle.now.r }
-    ensures scope { Crossing result.0 result.1 ≡ column_scope puzzle.now m }
-    ensures block_in { result.0 < solo_n puzzle.now }
-    ensures line_of { IsHouseOf puzzle.now result.1 }
-{
     let c = usize::from(puzzle.c());
     let r = usize::from(puzzle.r());
-    let block = m / r;
-    (block, SoloHouse::Column(block % c * r + m % r))
+    let rows = usize::from(puzzle.n()) * c;
+    if number < rows {
+        let block = number / c;
+        return (block, SoloHouse::Row(block / c * c + number % c));
+    }
+    let block = (number - rows) / r;
+    (block, SoloHouse::Column(block % c * r + (number - rows) % r))
 }

@@ -103,10 +103,7 @@ fn lowest(values: u8, set: u32) -> u8
     requires { values ≤ 31 }
     ensures { (v : ℕ) → v < values → is_set set v ≡ true → is_set set result ≡ true }
 {
-    match next_bit(set, 0, usize::from(values)) {
-        None => 0,
-        Some(value) => value as u8,
-    }
+    next_bit(set, 0, usize::from(values)).unwrap_or(0) as u8
 }
 
 /// Writes for each of these cells the value that it is paired with.

@@ -58,13 +58,9 @@ fn stays(values: u8, sets: &[u32], place: usize, value: u8) -> bool
     requires value_in { value < values }
     ensures { result ≡ stays_in values sets.now place value }
 {
-    if !has_bit(sets[place], value) {
-        return false;
-    }
-    if is_taken(values, sets, place, value) {
-        return false;
-    }
-    !is_needed(values, sets, place, value)
+    has_bit(sets[place], value)
+        && !is_taken(values, sets, place, value)
+        && !is_needed(values, sets, place, value)
 }
 
 /// Whether another cell has only the value.
