@@ -1,6 +1,6 @@
 -- Striking the value of a cell that has one alone from the other cells takes no filling away.
 use Rattle.std.proofs.Common.{◌≡◌, ℕ, ◌+◌, ◌<◌, ◌⊎◌, Bool, true, false, not, ◌&&◌, ◌||◌, eqb, List, map, length, slice_index, refl, sym, ap, ◌∙◌, inl, inr, arith}
-use Rattle.solo_core.specs.Common.{cases_eq, eq-eqb, eqb-true, true≢false, false_from_ne_true, true_from_ne_false, nat_tests, strikes_by_fillings, IsDecided}
+use Rattle.solo_core.specs.Common.{cases_Bool, cases_eq, eq-eqb, eqb-true, true≢false, false_from_ne_true, true_from_ne_false, nat_tests, strikes_by_fillings, IsDecided}
 use Rattle.solo_core.specs.Common.{has_bit, set_of_bits, bits-of_zero, IsPairing, has_in, is_struck, no_repeat}
 use Rattle.engine_core.specs.FillingLaws.{shown_from_test}
 use Rattle.solo_core.specs.Peeled.{IsPeeled, IsAlone, AreAlone, AreCounts, IsSingleSet, IsDropped}
@@ -105,10 +105,11 @@ module _ (n : ℕ) (old : List ℕ) (square : length old ≡ n) (some single sha
         apart = λ m lm ne. false_from_ne_true (has_in old m v) (λ there. true≢false (sym (shares m k v lm lk ne there has) ∙ off));
       }
 
-pub alone-more : (n : ℕ) (sets : List ℕ) (cells more cell : ℕ) → AreAlone n sets cells → IsAlone n sets cell → ((k : ℕ) → has_bit more k ≡ (has_bit cells k || eqb k cell)) → AreAlone n sets more
-alone-more n sets cells more cell alone a bit k lk on = elim (cases_eq k cell) [
-  | inl e ↦ rw e a
-  | inr ne ↦ alone k lk (let b = bit k in grind (arith, nat_tests))
+pub alone-more : (n : ℕ) (sets : List ℕ) (cells more cell : ℕ) (on : Bool) → AreAlone n sets cells → (on ≡ true → IsAlone n sets cell)
+    → ((k : ℕ) → has_bit more k ≡ (has_bit cells k || (on && eqb k cell))) → AreAlone n sets more
+alone-more n sets cells more cell on alone a bit k lk set = elim (cases_Bool (has_bit cells k)) [
+  | inl was ↦ alone k lk was
+  | inr off ↦ let b = bit k in let both : (k ≡ cell) × (on ≡ true) = (grind (arith, nat_tests), grind (arith, nat_tests)) in rw both.0 (a both.1)
 ]
 
 -- ---- what is decided of the peeled sets is decided of the sets

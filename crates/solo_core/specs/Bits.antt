@@ -1,6 +1,8 @@
--- Sets of values as bits.
-use Rattle.std.specs.Prelude.{◌≡◌, ℕ, ◌<◌, ◌≤◌, ◌&&◌, ◌||◌, ◌⊎◌, true}
-use Rattle.engine_core.specs.Sets.{has_bit}
+-- Sets of values as bits, and what a visit reads of those of a house.
+use Rattle.std.specs.Prelude.{◌≡◌, ℕ, ◌<◌, ◌≤◌, ◌&&◌, ◌||◌, ◌⊎◌, Bool, true, List, map, slice_index}
+use Rattle.engine_core.specs.Filling.{strikes_by_fillings}
+use Rattle.engine_core.specs.Sets.{has_bit, set_of_bits}
+use Rattle.solo_core.specs.NoRepeat.{no_repeat}
 
 -- no bit from the first number on, below the second, is set
 abbrev pub NoneIsSet : ℕ → ℕ → ℕ → Type 0
@@ -20,3 +22,12 @@ HasMore old value more new =
 abbrev pub HasBefore : ℕ → ℕ → ℕ → ℕ → Type 0
 HasBefore old value next new = (v : ℕ) → has_bit new v ≡ true → (has_bit old v ≡ true)
     ⊎ ((v ≡ value) × ((w : ℕ) × (has_bit next w ≡ true) × (has_bit old w ≡ true)))
+
+-- whether no filling without repeat has the value in the place
+abbrev pub is_struck : ℕ → List ℕ → ℕ → ℕ → Bool
+is_struck values sets place value =
+    strikes_by_fillings no_repeat (map (set_of_bits values) sets) place value
+
+-- whether a cell has a value, by its bits
+abbrev pub has_in : List ℕ → ℕ → ℕ → Bool
+has_in sets place value = has_bit (slice_index sets place) value

@@ -33,6 +33,6 @@ pub use Rattle.solo_core.specs.declared.houses.house.SoloHouse.TheVariants.{Bloc
 pub use Rattle.solo_core.specs.Cells.{block_of, solo_cells}
 pub use Rattle.solo_core.specs.Houses.{IsHouseOf, house_places, houses_of, lies_in, places_of}
 unfoldable pub use Rattle.solo_core.specs.NoRepeat.{no_repeat}
-pub use Rattle.solo_core.specs.Deciding.{has_in, is_struck}
+pub use Rattle.solo_core.specs.Bits.{has_in, is_struck}
 pub use Rattle.solo_core.specs.Solutions.{IsSoloSolution, given_stands, numbers_of}
 unfoldable pub use Rattle.solo_core.specs.Solutions.{is_solo_solution}

@@ -7,8 +7,7 @@ use Rattle.engine_core.specs.Puzzle.{has_place}
 use Rattle.engine_core.specs.Filling.{Set, has_value}
 use Rattle.engine_core.specs.House.{Decision}
 use Rattle.engine_core.specs.Houses.{House}
-use Rattle.engine_core.specs.Sets.{has_bit}
-use Rattle.solo_core.specs.Deciding.{has_in}
+use Rattle.solo_core.specs.Bits.{has_in}
 
 -- the value has a place in this part of the house
 abbrev pub has_in_part : (ℕ → Bool) → List Set → ℕ → Bool
@@ -34,25 +33,24 @@ outside block line = filter (λ c. not (has_place block c)) line
 abbrev pub crossing_places : List ℕ → List ℕ → List ℕ
 crossing_places block line = block ++ outside block line
 
--- its cells in the block outside the line, and in the line outside the block, by their numbers in the list
-abbrev pub in_block_alone : List ℕ → List ℕ → ℕ → Bool
-in_block_alone block line k = nat_lt k (length block) && not (has_place line (slice_index block k))
+-- whether the block's k-th place is the line's too
+abbrev pub is_shared : List ℕ → List ℕ → ℕ → Bool
+is_shared block line k = has_place line (slice_index block k)
 
-abbrev pub in_line_alone : List ℕ → ℕ → Bool
-in_line_alone block k = nat_le (length block) k
+-- by their numbers in the list, where the block has so many cells: the cells in the block outside the line, and those in
+-- the line outside the block
+abbrev pub in_block_alone : ℕ → (ℕ → Bool) → ℕ → Bool
+in_block_alone cells shared k = nat_lt k cells && not (shared k)
 
--- the same where the block has so many cells, of which those with these bits are the line's too
-abbrev pub in_block_bits : ℕ → ℕ → ℕ → Bool
-in_block_bits cells shared k = nat_lt k cells && not (has_bit shared k)
+abbrev pub in_line_alone : ℕ → ℕ → Bool
+in_line_alone cells k = nat_le cells k
 
-abbrev pub in_line_bits : ℕ → ℕ → Bool
-in_line_bits cells k = nat_le cells k
-
-abbrev pub strikes_by_bits : ℕ → ℕ → Decision
-strikes_by_bits cells shared = strikes_by_crossing (in_block_bits cells shared) (in_line_bits cells)
+abbrev pub strikes_by_parts : ℕ → (ℕ → Bool) → Decision
+strikes_by_parts cells shared =
+    strikes_by_crossing (in_block_alone cells shared) (in_line_alone cells)
 
 abbrev pub crossing : List ℕ → List ℕ → House
 crossing block line = record {
   places = crossing_places block line;
-  decides = strikes_by_crossing (in_block_alone block line) (in_line_alone block);
+  decides = strikes_by_parts (length block) (is_shared block line);
 }

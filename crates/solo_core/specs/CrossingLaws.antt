@@ -6,7 +6,7 @@ use Rattle.solo_core.specs.Common.{ltb-true, leb-true, lt-ltb, le-leb, get_or-ma
 use Rattle.solo_core.specs.Common.{any_below-some, has_place, has_place-at, has_place-here, place-filter, place-kept, different-filter, different-from}
 use Rattle.solo_core.specs.Common.{distinct-from, distinct-append, Set, has_value, IsMonotone, AreDifferent, IsSettled, Keeps, no_repeat}
 use Rattle.solo_core.specs.NoRepeatLaws.{own_from_no_repeat, none_missing}
-use Rattle.solo_core.specs.Crossing.{has_in_part, strikes_by_crossing, crossing_places, in_block_alone, in_line_alone}
+use Rattle.solo_core.specs.Crossing.{has_in_part, strikes_by_crossing, crossing_places, is_shared, in_block_alone, in_line_alone}
 
 -- ---- parts
 part-some : (part : ℕ → Bool) (sets : List Set) (v : ℕ) → has_in_part part sets v ≡ true → (j : ℕ) × (j < length sets) × (part j ≡ true) × (has_value (get_or sets j []) v ≡ true)
@@ -150,13 +150,13 @@ module _ (block line : List ℕ) where
     value_at : (k : ℕ) → k < length (crossing_places block line) → get_or values k 0 ≡ slice_index g (slice_index (crossing_places block line) k)
     value_at k lt = get_or-map (slice_index g) (crossing_places block line) k 0 0 lt
 
-    pub crossing-sound : Keeps (strikes_by_crossing (in_block_alone block line) (in_line_alone block)) values
-    crossing-sound = crossing-keeps (in_block_alone block line) (in_line_alone block) values from_line from_block
+    pub crossing-sound : Keeps (strikes_by_crossing (in_block_alone (length block) (is_shared block line)) (in_line_alone (length block))) values
+    crossing-sound = crossing-keeps (in_block_alone (length block) (is_shared block line)) (in_line_alone (length block)) values from_line from_block
       where
         size : length values ≡ length block + length rest
         size = length-map (crossing_places block line) (slice_index g) ∙ long
 
-        from_line : (k : ℕ) → k < length values → in_line_alone block k ≡ true → (j : ℕ) × (j < length values) × (in_block_alone block line j ≡ true) × (get_or values j 0 ≡ get_or values k 0)
+        from_line : (k : ℕ) → k < length values → in_line_alone (length block) k ≡ true → (j : ℕ) × (j < length values) × (in_block_alone (length block) (is_shared block line) j ≡ true) × (get_or values j 0 ≡ get_or values k 0)
         from_line k lt here =
             let len = long in
             let s = size in
@@ -171,7 +171,7 @@ module _ (block line : List ℕ) where
               value_at j.0 (omega arith) ∙ ap (slice_index g) (at_block j.0 lj ∙ j.2) ∙ d.3 ∙ sym (value_at k lk),
             )
 
-        from_block : (k : ℕ) → k < length values → in_block_alone block line k ≡ true → (j : ℕ) × (j < length values) × (in_line_alone block j ≡ true) × (get_or values j 0 ≡ get_or values k 0)
+        from_block : (k : ℕ) → k < length values → in_block_alone (length block) (is_shared block line) k ≡ true → (j : ℕ) × (j < length values) × (in_line_alone (length block) j ≡ true) × (get_or values j 0 ≡ get_or values k 0)
         from_block k lt here =
             let len = long in
             let s = size in

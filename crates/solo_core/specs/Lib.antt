@@ -17,7 +17,6 @@ pub mod Meanings
 pub mod BoundLaws
 pub mod Faults
 pub mod Bits
-pub mod Deciding
 pub mod Ways
 pub mod Peeled
 pub mod Turning

@@ -4,7 +4,7 @@ use Rattle.std.specs.Prelude.{◌≡◌, ℕ, ◌<◌, ◌&&◌, ◌||◌, ◌==
 use Rattle.std.specs.List.{range_with_len, filter}
 use Rattle.grid_core.specs.Pairings.{IsPairing, IsShortSet}
 use Rattle.engine_core.specs.Sets.{has_bit}
-use Rattle.solo_core.specs.Deciding.{has_in}
+use Rattle.solo_core.specs.Bits.{has_in}
 
 -- nothing is added, and each pairing of the cells with values is still one
 pub record IsPeeled (n : ℕ) (old new : List ℕ) : Type 0 where

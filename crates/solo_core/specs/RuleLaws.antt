@@ -14,7 +14,7 @@ use Rattle.solo_core.specs.HouseLaws.{Lists, lists_house, listed-within, listed-
 use Rattle.solo_core.specs.SolutionLaws.{rule_from_test, house_of_solution}
 use Rattle.solo_core.specs.Singles.{strikes_by_singles}
 use Rattle.solo_core.specs.SinglesLaws.{singles-monotone, singles-keeps}
-use Rattle.solo_core.specs.Crossing.{crossing, in_block_alone, in_line_alone}
+use Rattle.solo_core.specs.Crossing.{crossing, is_shared, in_block_alone, in_line_alone}
 use Rattle.solo_core.specs.CrossingLaws.{crossing-monotone, crossing-settles, crossing-within, crossing-different, crossing-sound, HoldsEach}
 
 module _ (p : Solo) (ok : IsSolo p) where
@@ -94,9 +94,9 @@ module _ (p : Solo) (ok : IsSolo p) where
   crossing_is_sound all b line b_in is = record {
     within = crossing-within (places_of p (Block b)) (places_of p line) (solo_cells p) (inside (Block b) b_in) (inside line is);
     different = crossing-different (places_of p (Block b)) (places_of p line) (different (Block b) b_in) (different line is);
-    monotone = crossing-monotone (in_block_alone (places_of p (Block b)) (places_of p line)) (in_line_alone (places_of p (Block b)));
+    monotone = crossing-monotone (in_block_alone (length (places_of p (Block b))) (is_shared (places_of p (Block b)) (places_of p line))) (in_line_alone (length (places_of p (Block b))));
     keeps = λ g grid on. crossing-sound (places_of p (Block b)) (places_of p line) (solo_n p) g (numbers_small g grid) (holds_each g grid on (Block b) b_in) (holds_each g grid on line is);
-    settles = λ _. crossing-settles (in_block_alone (places_of p (Block b)) (places_of p line)) (in_line_alone (places_of p (Block b)));
+    settles = λ _. crossing-settles (in_block_alone (length (places_of p (Block b))) (is_shared (places_of p (Block b)) (places_of p line))) (in_line_alone (length (places_of p (Block b))));
   }
 
   abbrev scope_is_sound : List House → SoloScope → Type 0

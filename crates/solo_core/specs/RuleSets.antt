@@ -3,7 +3,7 @@
 use Rattle.std.specs.Prelude.{◌≡◌, ℕ, ◌<◌, ◌+◌, Bool, true, false, ◌&&◌, ◌||◌, ◌==◌, nat_lt, List, ◌++◌, map, slice_index, sum_by}
 use Rattle.grid_core.specs.Candidates.{Candidates}
 use Rattle.gameid_core.specs.Puzzles.{Solo, solo_n}
-use Rattle.engine_core.specs.Puzzle.{Puzzle, has_place}
+use Rattle.engine_core.specs.Puzzle.{Puzzle}
 use Rattle.engine_core.specs.Filling.{strikes_by_fillings}
 use Rattle.engine_core.specs.House.{Decision}
 use Rattle.engine_core.specs.Sets.{has_bit}
@@ -13,7 +13,7 @@ use Rattle.solo_core.specs.declared.houses.house.SoloHouse.TheVariants.{Block}
 use Rattle.solo_core.specs.declared.houses.scope.SoloScope.{SoloScope}
 use Rattle.solo_core.specs.declared.houses.scope.SoloScope.TheVariants as scope
 use Rattle.solo_core.specs.Cells.{solo_cells}
-use Rattle.solo_core.specs.Crossing.{crossing, outside}
+use Rattle.solo_core.specs.Crossing.{crossing, outside, is_shared}
 use Rattle.solo_core.specs.Houses.{houses_of, places_of}
 use Rattle.solo_core.specs.NoRepeat.{no_repeat}
 use Rattle.solo_core.specs.Scopes.{crossing_scopes}
@@ -62,16 +62,12 @@ filled_houses p = deciding (strikes_by_fillings no_repeat) p
 abbrev pub houses_rules : Solo → Puzzle
 houses_rules p = rules_of true p (filled_houses p)
 
--- a block and a line that it meets: what they strike, the line's places outside the block, and whether the block's k-th
--- place is the line's too
+-- a block and a line that it meets: what they strike, and the line's places outside the block
 abbrev pub crossing_of : Solo → ℕ → SoloHouse → House
 crossing_of p block line = crossing (places_of p (Block block)) (places_of p line)
 
 abbrev pub rest_of_line : Solo → ℕ → SoloHouse → List ℕ
 rest_of_line p block line = outside (places_of p (Block block)) (places_of p line)
-
-abbrev pub is_shared : Solo → ℕ → SoloHouse → ℕ → Bool
-is_shared p block line k = has_place (places_of p line) (slice_index (places_of p (Block block)) k)
 
 -- what is visited as a house, and by which decision
 abbrev pub house_at : Solo → SoloScope → House
@@ -91,4 +87,5 @@ rules_by settled houses p = rules_of settled p (houses p)
 
 -- the bits are those of the block's cells that are the line's too
 abbrev pub AreShared : Solo → ℕ → SoloHouse → ℕ → Type 0
-AreShared p block line bits = (k : ℕ) → k < solo_n p → has_bit bits k ≡ is_shared p block line k
+AreShared p block line bits = (k : ℕ) → k < solo_n p → has_bit bits k
+    ≡ is_shared (places_of p (Block block)) (places_of p line) k

@@ -1,7 +1,7 @@
 -- How a pairing of some cells with values can be turned: each cell's mate leads to the values of the cell.
 use Rattle.std.specs.Prelude.{◌≡◌, ℕ, ◌<◌, Bool, true, List, length, slice_index}
 use Rattle.engine_core.specs.Sets.{has_bit}
-use Rattle.solo_core.specs.Deciding.{has_in}
+use Rattle.solo_core.specs.Bits.{has_in}
 use Rattle.solo_core.specs.Ways.{IsWay}
 
 -- each cell's mate leads to exactly the values that the cell has

@@ -1,9 +1,8 @@
 //! The crossings of a puzzle: each block with each row and each column that it meets.
 #![tactic(auto, using(crate::proofs::LawSets::crossings_laws))]
 
-ghost use Rattle.std.specs.Prelude.{◌≡◌, ℕ, ◌<◌, ◌&&◌, ◌||◌, ◌==◌, [], OnOk, length};
+ghost use Rattle.std.specs.Prelude.{◌≡◌, ◌<◌, [], OnOk, length};
 ghost use Rattle.gameid_core.specs.Puzzles.{solo_n};
-ghost use Rattle.engine_core.specs.Sets.{has_bit as is_set};
 ghost use Rattle.solo_core.specs.declared.houses.house.SoloHouse.TheVariants.{Block};
 ghost use Rattle.solo_core.specs.Houses.{IsHouseOf, places_of};
 ghost use Rattle.solo_core.specs.RuleSets.{crossing_of, crossings_of, rest_of_line, AreShared};
@@ -13,7 +12,7 @@ use crate::houses::house::SoloHouse;
 use crate::houses::places::{lies, place, push_places};
 use crate::houses::rooms::crossings;
 use crate::houses::scopes::crossing_at;
-use crate::visits::bits::with_bit;
+use crate::visits::bits::with_bit_if;
 use crate::visits::crossing::keep_crossing;
 use engine_core::HouseList;
 use gameid_core::SoloPuzzle;
@@ -82,14 +81,6 @@ fn shared(puzzle: &SoloPuzzle, block: usize, line: SoloHouse) -> u32
         bits = with_bit_if(bits, k, there);
     }
     bits
-}
-
-/// The bits with bit `value` set too, where `on`.
-fn with_bit_if(bits: u32, value: usize, on: bool) -> u32
-    requires { value < 32 }
-    ensures { (v : ℕ) → is_set result v ≡ (is_set bits v || (on && (v == value))) }
-{
-    if on { with_bit(bits, value) } else { bits }
 }
 
 /// Decides what is kept of the sets of the crossing with the number.

@@ -4,7 +4,7 @@
 ghost use Rattle.std.specs.Prelude.{◌≡◌, ℕ, ◌≤◌, ◌&&◌, ◌||◌, not, length};
 ghost use Rattle.engine_core.specs.Sets.{has_bit as is_set};
 ghost use Rattle.engine_core.specs.House.{IsDecided};
-ghost use Rattle.solo_core.specs.Crossing.{part_has, in_block_bits, in_line_bits, strikes_by_bits};
+ghost use Rattle.solo_core.specs.Crossing.{part_has, in_block_alone, in_line_alone, strikes_by_parts};
 
 use engine_core::has_bit;
 
@@ -13,7 +13,7 @@ use engine_core::has_bit;
 pub(crate) fn keep_crossing(block: usize, shared: u32, sets: &[u32], kept: &mut [u32])
     requires few { block ≤ 31 }
     requires as_many { length kept.old ≡ length sets.now }
-    ensures { (values : ℕ) → IsDecided values (strikes_by_bits block shared) sets.now kept.new }
+    ensures { (values : ℕ) → IsDecided values (strikes_by_parts block (is_set shared)) sets.now kept.new }
 {
     let in_block = values_in_block(block, shared, sets);
     let in_line = values_in_line(block, sets);
@@ -26,7 +26,7 @@ pub(crate) fn keep_crossing(block: usize, shared: u32, sets: &[u32], kept: &mut 
 /// Whether the cell is in the block outside the line.
 fn is_block_alone(block: usize, shared: u32, k: usize) -> bool
     requires { block ≤ 31 }
-    ensures { result ≡ in_block_bits block shared k }
+    ensures { result ≡ in_block_alone block (is_set shared) k }
 {
     k < block && !has_bit(shared, k as u8)
 }
@@ -34,7 +34,7 @@ fn is_block_alone(block: usize, shared: u32, k: usize) -> bool
 /// The values of the block outside the line.
 fn values_in_block(block: usize, shared: u32, sets: &[u32]) -> u32
     requires { block ≤ 31 }
-    ensures { (v : ℕ) → is_set result v ≡ part_has (in_block_bits block shared) sets.now v }
+    ensures { (v : ℕ) → is_set result v ≡ part_has (in_block_alone block (is_set shared)) sets.now v }
 {
     let mut values = 0;
     for k in 0..sets.len() {
@@ -45,7 +45,7 @@ fn values_in_block(block: usize, shared: u32, sets: &[u32]) -> u32
 
 /// The values of the line outside the block.
 fn values_in_line(block: usize, sets: &[u32]) -> u32
-    ensures { (v : ℕ) → is_set result v ≡ part_has (in_line_bits block) sets.now v }
+    ensures { (v : ℕ) → is_set result v ≡ part_has (in_line_alone block) sets.now v }
 {
     let mut values = 0;
     for k in 0..sets.len() {

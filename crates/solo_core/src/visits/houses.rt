@@ -6,10 +6,10 @@ ghost use Rattle.engine_core.specs.Sets.{has_bit as is_set};
 ghost use Rattle.engine_core.specs.House.{IsDecided};
 ghost use Rattle.grid_core.specs.Pairings.{IsPairing};
 ghost use Rattle.solo_core.specs.NoRepeat.{no_repeat};
-ghost use Rattle.solo_core.specs.Deciding.{has_in};
+ghost use Rattle.solo_core.specs.Bits.{has_in};
 ghost use Rattle.solo_core.specs.Peeled.{AreAlone, IsRest, IsPaired, HasSetOfCell, KeepsReaching};
 
-use crate::visits::bits::{all_below, next_bit, with_bit};
+use crate::visits::bits::{all_below, next_bit, with_bit_if};
 use crate::visits::mates::{MANY, pair_rest, rest_of, write_mates};
 use crate::visits::peel::peel;
 use crate::visits::reach::close_reach;
@@ -127,9 +127,7 @@ fn reaching(values: u8, set: u32, own: usize, reach: &[u32]) -> u32
     let mut kept = 0u32;
     let mut from = 0;
     while let Some(value) = next_bit(set, from, usize::from(values)) {
-        if has_bit(reach[value], own as u8) {
-            kept = with_bit(kept, value);
-        }
+        kept = with_bit_if(kept, value, has_bit(reach[value], own as u8));
         from = value + 1;
     }
     kept

@@ -1,7 +1,7 @@
 //! The cells of a house and their values as two sides to be paired.
 
 ghost use Rattle.std.specs.Prelude.{◌≡◌, ℕ, ◌<◌, ◌≤◌, length, slice_index};
-ghost use Rattle.solo_core.specs.Deciding.{has_in};
+ghost use Rattle.solo_core.specs.Bits.{has_in};
 
 use crate::visits::bits::next_bit;
 use grid_core::Edges;

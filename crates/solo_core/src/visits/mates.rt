@@ -5,7 +5,7 @@ ghost use Rattle.std.specs.Prelude.{◌≡◌, ℕ, ◌<◌, ◌≤◌, true, le
 ghost use Rattle.engine_core.specs.House.{AreDifferent};
 ghost use Rattle.engine_core.specs.Sets.{has_bit as is_set};
 ghost use Rattle.grid_core.specs.Pairings.{IsPairing};
-ghost use Rattle.solo_core.specs.Deciding.{has_in};
+ghost use Rattle.solo_core.specs.Bits.{has_in};
 ghost use Rattle.solo_core.specs.Peeled.{IsRest, IsPaired, IsShort, HasMate, GotMates, KeepMates, AgreeBelow, rest_of as rest_cells};
 
 use crate::visits::bits::next_bit;

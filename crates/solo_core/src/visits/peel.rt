@@ -5,7 +5,7 @@ ghost use Rattle.std.specs.Prelude.{◌≡◌, ℕ, ◌<◌, ◌≤◌, ◌||◌
 ghost use Rattle.engine_core.specs.Sets.{has_bit as is_set};
 ghost use Rattle.solo_core.specs.Peeled.{IsPeeled, AreAlone, AreCounts, AddsSingle, AddsShared, AreDropped};
 
-use crate::visits::bits::{all_below, has_any, single_of, with_bit, without};
+use crate::visits::bits::{all_below, has_any, single_of, with_bit_if, without};
 
 /// The values that some cell has, those that some cell has alone, and those that several cells have.
 #[derive(Clone, Copy)]
@@ -121,9 +121,7 @@ fn alone_cells(values: u8, counts: Counts, sets: &[u32]) -> u32
     let lone = counts.single & without(all_below(values), counts.shared);
     let mut alone = 0u32;
     for k in 0..sets.len() {
-        if has_any(sets[k] & lone) {
-            alone = with_bit(alone, k);
-        }
+        alone = with_bit_if(alone, k, has_any(sets[k] & lone));
     }
     alone
 }

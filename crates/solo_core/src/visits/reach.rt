@@ -3,7 +3,7 @@
 
 ghost use Rattle.std.specs.Prelude.{◌≡◌, ◌<◌, ◌≤◌, length};
 ghost use Rattle.engine_core.specs.Sets.{has_bit as is_set};
-ghost use Rattle.solo_core.specs.Deciding.{has_in};
+ghost use Rattle.solo_core.specs.Bits.{has_in};
 ghost use Rattle.solo_core.specs.Ways.{IsTransitiveClosure, LeadsOver};
 
 use crate::visits::bits::{is_alone, with_more};

@@ -5,10 +5,10 @@ ghost use Rattle.std.specs.Prelude.{◌≡◌, ℕ, ◌<◌, ◌≤◌, true, fa
 ghost use Rattle.grid_core.specs.Candidates.{any_below};
 ghost use Rattle.engine_core.specs.Sets.{has_bit as is_set};
 ghost use Rattle.engine_core.specs.House.{IsDecided};
-ghost use Rattle.solo_core.specs.Deciding.{has_in};
+ghost use Rattle.solo_core.specs.Bits.{has_in};
 ghost use Rattle.solo_core.specs.Singles.{is_elsewhere as some_elsewhere, is_only_place as only_place, taken_elsewhere, needed_for_other, has_only_bit, has_other_bit, has_empty_cell as some_empty, has_lost_value as some_lost, is_broken as some_broken, stays_in, strikes_by_singles};
 
-use crate::visits::bits::with_bit;
+use crate::visits::bits::with_bit_if;
 use engine_core::has_bit;
 
 /// Decides what is kept of the sets of a house: a value is struck from a cell where another cell has only that value,
@@ -43,10 +43,8 @@ fn keep_cell(values: u8, sets: &[u32], place: usize) -> u32
 {
     let mut kept = 0u32;
     for value in 0..values {
-        if !stays(values, sets, place, value) {
-            continue;
-        }
-        kept = with_bit(kept, usize::from(value));
+        let on = stays(values, sets, place, value);
+        kept = with_bit_if(kept, usize::from(value), on);
     }
     kept
 }

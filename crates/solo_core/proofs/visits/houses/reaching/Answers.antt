@@ -1,9 +1,7 @@
 use Rattle.std.proofs.Common.{ℕ, true, false, sym, ap, ◌∙◌, arith}
 use Rattle.solo_core.specs.Common.{has_bit, has_in, bits-of_zero}
-use Rattle.std.proofs.Math.Bool.{or-false}
 use Rattle.solo_core.proofs.Marks.{next_kept, all_kept}
 use Rattle.solo_core.proofs.visits.houses.reaching.Goals as goal
-use Rattle.solo_core.proofs.visits.houses.reaching.Goals.{then-has_bit, else-has_bit}
 
 pub loop-value-init : goal.loop-value-init
 loop-value-init c = record { within = omega arith; kept = record { below = λ v lt. absurd (omega arith); above = λ v le. bits-of_zero v } }
@@ -11,13 +9,10 @@ loop-value-init c = record { within = omega arith; kept = record { below = λ v 
 pub loop-value-preserved : goal.loop-value-preserved
 loop-value-preserved c =
     let at = c.in-Some.ensures in
-    let next = next_kept (has_bit c.loop-value.kept) (has_bit c.if-has_bit.kept) (has_bit c.args.set) (λ v. has_in c.args.reach.now v c.args.own) c.loop-value.from c.in-Some.value in
     record {
       within = omega (arith, at.1);
-      kept = elim c.if-has_bit.branch [
-        | then-has_bit w ↦ next true c.loop-value.invariant.kept at.0 at.2 at.3 (sym c.has_bit.ensures ∙ w.if-has_bit.true) (λ v. ap (λ (b : ℕ). has_bit b v) w.kept-is ∙ w.with_bit-kept.ensures v)
-        | else-has_bit w ↦ next false c.loop-value.invariant.kept at.0 at.2 at.3 (sym c.has_bit.ensures ∙ w.if-has_bit.false) (λ v. ap (λ (b : ℕ). has_bit b v) w.kept-is ∙ sym (or-false (has_bit c.loop-value.kept v)))
-      ];
+      kept = next_kept (has_bit c.loop-value.kept) (has_bit c.with_bit_if-kept.result) (has_bit c.args.set) (λ v. has_in c.args.reach.now v c.args.own) c.loop-value.from c.in-Some.value
+          c.has_bit.result c.loop-value.invariant.kept at.0 at.2 at.3 (sym c.has_bit.ensures) c.with_bit_if-kept.ensures;
     }
 
 pub returns : goal.returns
