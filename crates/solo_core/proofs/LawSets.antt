@@ -15,7 +15,7 @@ use Rattle.solo_core.proofs.QuickLemmas.{goes_on_free, begun-none, goes_on_swapp
 use Rattle.solo_core.proofs.WayLemmas.{over_none, over_next, over_all}
 use Rattle.solo_core.proofs.Marks.{over_alone}
 use Rattle.solo_core.proofs.StartLemmas.{started, started-none, started-all, started-blank, started-given, started-there}
-use Rattle.solo_core.proofs.TurningLemmas.{after-root, before-root, in_ends, after-step, before-step}
+use Rattle.solo_core.proofs.Turned.{after-root, before-root, in_ends, after-step, before-step}
 
 pub ruleset check_laws = (test_from_rule, no_test, first_fault, solved, len_of, number_at, seen_none, seen_more, seen_again, seen_all, first_house, fine_more)
 

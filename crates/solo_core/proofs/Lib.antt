@@ -1,4 +1,3 @@
-pub mod PairedFillings
 pub mod Marks
 pub mod WayLemmas
 pub mod Turned
@@ -7,7 +6,6 @@ pub mod StartLemmas
 pub mod AnyLemmas
 pub mod SinglesLemmas
 mod PeelLemmas
-mod TurningLemmas
 mod QuickLemmas
 mod MateLemmas
 mod HouseLemmas

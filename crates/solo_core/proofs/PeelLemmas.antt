@@ -4,7 +4,7 @@ use Rattle.solo_core.specs.Common.{cases_Bool, cases_eq, eq-eqb, eqb-true, trueâ
 use Rattle.solo_core.specs.Common.{has_bit, set_of_bits, bits-of_zero, IsPairing, has_in, is_struck, no_repeat}
 use Rattle.engine_core.specs.FillingLaws.{shown_from_test}
 use Rattle.solo_core.specs.Peeled.{IsPeeled, IsAlone, AreAlone, AreCounts, IsSingleSet, IsDropped}
-use Rattle.solo_core.proofs.PairedFillings.{shown_by_pairing, pairing_of_filling}
+use Rattle.solo_core.proofs.MateLemmas.{shown_by_pairing, pairing_of_filling}
 use Rattle.solo_core.specs.NoRepeatLaws.{none_missed}
 use Rattle.solo_core.proofs.Marks.{none_in_zero}
 

@@ -19,6 +19,5 @@ pub mod Faults
 pub mod Bits
 pub mod Ways
 pub mod Peeled
-pub mod Turning
 pub mod Quick
 pub mod Work

@@ -3,7 +3,7 @@
 
 ghost use Rattle.std.specs.Prelude.{◌≡◌, ℕ, ◌<◌, ◌≤◌, true, length, slice_index};
 ghost use Rattle.solo_core.specs.Bits.{HasMore, HasBefore};
-ghost use Rattle.solo_core.specs.Turning.{HasValuesOf, StaysAfter, StaysBefore, LiesOnRounds};
+ghost use Rattle.solo_core.specs.Ways.{HasValuesOf, StaysAfter, StaysBefore, LiesOnRounds};
 
 use crate::visits::bits::{has_any, with_bit, with_more, without};
 

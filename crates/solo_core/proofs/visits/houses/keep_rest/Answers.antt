@@ -1,7 +1,6 @@
 use Rattle.std.proofs.Common.{refl, length}
 use Rattle.solo_core.proofs.MateLemmas.{rest-within, no_pairing}
-use Rattle.solo_core.proofs.Turned.{decided_by_none}
-use Rattle.solo_core.proofs.TurningLemmas.{decided_by_rounds}
+use Rattle.solo_core.proofs.Turned.{decided_by_none, decided_by_rounds}
 use Rattle.solo_core.proofs.visits.houses.keep_rest.Goals as goal
 
 pub pair_rest-requires-clause-rest_in : goal.pair_rest-requires-clause-rest_in

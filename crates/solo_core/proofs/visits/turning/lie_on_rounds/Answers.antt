@@ -1,6 +1,6 @@
 use Rattle.std.proofs.Common.{ℕ, ◌≡◌, ◌<◌, eqb, false, sym, ◌∙◌, slice_index, arith}
 use Rattle.solo_core.specs.Common.{nat_tests}
-use Rattle.solo_core.proofs.TurningLemmas.{after-root, before-root, in_ends}
+use Rattle.solo_core.proofs.Turned.{after-root, before-root, in_ends}
 use Rattle.solo_core.proofs.visits.turning.lie_on_rounds.Goals as goal
 
 some_of : (n : ℕ) → eqb n 0 ≡ false → 0 < n

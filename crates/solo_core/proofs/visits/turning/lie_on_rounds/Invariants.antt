@@ -1,5 +1,5 @@
 use Rattle.std.proofs.Common.{slice_index}
-use Rattle.solo_core.specs.Turning.{ComesAfter, ComesBefore}
+use Rattle.solo_core.specs.Ways.{ComesAfter, ComesBefore}
 use Rattle.solo_core.proofs.visits.turning.lie_on_rounds.Given as goal
 
 abbrev pub invariant-loop-turn : goal.invariant-loop-turn

@@ -1,5 +1,5 @@
 use Rattle.std.proofs.Common.{ℕ}
-use Rattle.solo_core.specs.Turning.{ComesAfter, ComesBefore}
+use Rattle.solo_core.specs.Ways.{ComesAfter, ComesBefore}
 use Rattle.solo_core.proofs.visits.turning.spread.Given as goal
 
 abbrev pub invariant-loop-i : goal.invariant-loop-i
