@@ -41,6 +41,7 @@ pub(crate) fn crossing_at(puzzle: &SoloPuzzle, number: usize) -> (usize, SoloHou
         let block = number / c;
         return (block, SoloHouse::Row(block / c * c + number % c));
     }
-    let block = (number - rows) / r;
-    (block, SoloHouse::Column(block % c * r + (number - rows) % r))
+    let m = number - rows;
+    let block = m / r;
+    (block, SoloHouse::Column(block % c * r + m % r))
 }
