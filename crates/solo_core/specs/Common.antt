@@ -15,16 +15,16 @@ pub use Rattle.std.proofs.Math.Path.{fun_ext}
 pub use Rattle.grid_core.specs.Candidates.{Candidates, IsInside, IsWithin, all_below, single}
 unfoldable pub use Rattle.grid_core.specs.Candidates.{all_of, any_below, count_below, only}
 pub use Rattle.grid_core.specs.Grids.{IsGrid}
-pub use Rattle.grid_core.specs.Pairings.{IsPairing}
+pub use Rattle.grid_core.specs.Pairings.{IsPairing, IsShortSet}
 pub use Rattle.grid_core.proofs.CandidateLemmas.{all_below-at, all_below-from, any_below-here, any_below-none, any_below-same, any_below-some, count_below-one}
 pub use Rattle.grid_core.proofs.CandidateLemmas.{count_below-same}
 pub use Rattle.gameid_core.specs.Puzzles.{IsSolo, Solo, solo_n}
 pub use Rattle.engine_core.specs.Sets.{IsBitsOf, has_bit}
 unfoldable pub use Rattle.engine_core.specs.Sets.{set_of_bits}
 pub use Rattle.engine_core.specs.House.{AreDifferent, Decision, IsDecided, IsMonotone, kept_in, sets_at, strikes_at}
-pub use Rattle.engine_core.specs.Houses.{House, IsSetting, IsSettled, IsSound, Keeps, house_of, no_house, visits_of}
+pub use Rattle.engine_core.specs.Houses.{House, IsSetting, IsSettled, IsSound, Keeps, Setting, by_houses, house_of, no_house, visits_of}
 pub use Rattle.engine_core.specs.Filling.{IsShownBy, Set, has_value, strikes_by_fillings}
-pub use Rattle.engine_core.specs.Puzzle.{IsBoardOf, IsKth, IsLawful, IsNext, after, has_place}
+pub use Rattle.engine_core.specs.Puzzle.{IsBoardOf, IsKth, IsLawful, IsNext, Needs, Puzzle, after, has_place}
 pub use Rattle.engine_core.specs.PlaceLaws.{different-filter, different-from, distinct-append, distinct-from, has_place-at, has_place-here, place-filter}
 pub use Rattle.engine_core.specs.PlaceLaws.{place-kept}
 pub use Rattle.engine_core.proofs.BitLemmas.{bits-both, bits-either, bits-of_power, bits-of_zero}
@@ -33,6 +33,6 @@ pub use Rattle.solo_core.specs.declared.houses.house.SoloHouse.TheVariants.{Bloc
 pub use Rattle.solo_core.specs.Cells.{block_of, solo_cells}
 pub use Rattle.solo_core.specs.Houses.{IsHouseOf, house_places, houses_of, lies_in, places_of}
 unfoldable pub use Rattle.solo_core.specs.NoRepeat.{no_repeat}
-pub use Rattle.solo_core.specs.Bits.{has_in, is_struck}
+pub use Rattle.solo_core.specs.Bits.{HasMore, IsFirstSet, NoneIsSet, has_in, is_struck}
 pub use Rattle.solo_core.specs.Solutions.{IsSoloSolution, given_stands, numbers_of}
 unfoldable pub use Rattle.solo_core.specs.Solutions.{is_solo_solution}

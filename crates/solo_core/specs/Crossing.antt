@@ -1,13 +1,7 @@
 -- Crossings of Solo: a block with a row or a column. Where one of the two has a value only in the cells that they share,
 -- the other can't have it elsewhere.
 use Rattle.std.specs.Prelude.{ℕ, Bool, not, ◌&&◌, ◌||◌, nat_lt, nat_le, List, [], ◌++◌, length, get_or, slice_index}
-use Rattle.std.specs.List.{filter}
-use Rattle.grid_core.specs.Candidates.{any_below}
-use Rattle.engine_core.specs.Puzzle.{has_place}
-use Rattle.engine_core.specs.Filling.{Set, has_value}
-use Rattle.engine_core.specs.House.{Decision}
-use Rattle.engine_core.specs.Houses.{House}
-use Rattle.solo_core.specs.Bits.{has_in}
+use Rattle.solo_core.specs.Common.{filter, any_below, has_place, Set, has_value, Decision, House, has_in}
 
 -- the value has a place in this part of the house
 abbrev pub has_in_part : (ℕ → Bool) → List Set → ℕ → Bool

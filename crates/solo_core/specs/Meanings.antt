@@ -1,18 +1,11 @@
 -- What the laws say of the rules of a puzzle of Solo.
 use Rattle.std.specs.Prelude.{◌≡◌, ℕ, ◌+◌, ◌-◌, ◌*◌, ◌<◌, ◌↔◌, IsTrue, true, List, ◌++◌, length, slice_index_or}
-use Rattle.grid_core.specs.Candidates.{Candidates}
-use Rattle.grid_core.specs.Grids.{IsGrid}
-use Rattle.gameid_core.specs.Puzzles.{Solo, solo_n}
-use Rattle.engine_core.specs.Puzzle.{Puzzle, has_place}
-use Rattle.engine_core.specs.Houses.{house_of}
-use Rattle.solo_core.specs.declared.houses.house.SoloHouse.{SoloHouse}
+use Rattle.solo_core.specs.Common.{Candidates, IsGrid, Solo, solo_n, Puzzle, has_place, house_of, SoloHouse, solo_cells, houses_of, lies_in, places_of}
+use Rattle.solo_core.specs.Common.{IsSoloSolution}
 use Rattle.solo_core.specs.declared.houses.scope.SoloScope.{SoloScope}
 use Rattle.solo_core.specs.declared.houses.scope.SoloScope.TheVariants.{House}
-use Rattle.solo_core.specs.Cells.{solo_cells}
-use Rattle.solo_core.specs.Houses.{houses_of, lies_in, places_of}
 use Rattle.solo_core.specs.RuleSets.{filled_houses, crossings_of, house_at}
 use Rattle.solo_core.specs.Scopes.{scopes_of}
-use Rattle.solo_core.specs.Solutions.{IsSoloSolution}
 
 -- the grids that the rules accept are the solutions of the puzzle
 abbrev pub AcceptsSolutions : Solo → Puzzle → Type 0

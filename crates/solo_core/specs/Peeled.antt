@@ -1,10 +1,7 @@
 -- What may be struck from a house before its cells are paired with values: the value of a cell that has one alone, from
 -- the other cells; and the other values of a cell that is the only one with some value.
 use Rattle.std.specs.Prelude.{◌≡◌, ℕ, ◌<◌, ◌&&◌, ◌||◌, ◌==◌, ◌⊎◌, Bool, true, false, not, List, length, slice_index}
-use Rattle.std.specs.List.{range_with_len, filter}
-use Rattle.grid_core.specs.Pairings.{IsPairing, IsShortSet}
-use Rattle.engine_core.specs.Sets.{has_bit}
-use Rattle.solo_core.specs.Bits.{has_in}
+use Rattle.solo_core.specs.Common.{range_with_len, filter, IsPairing, IsShortSet, has_bit, has_in}
 
 -- nothing is added, and each pairing of the cells with values is still one
 pub record IsPeeled (n : ℕ) (old new : List ℕ) : Type 0 where

@@ -1,7 +1,6 @@
 -- A pairing of the first cells with values, and the values that are free yet.
 use Rattle.std.specs.Prelude.{◌≡◌, ℕ, ◌+◌, ◌<◌, true, false, List, slice_index, Option, MatchOption}
-use Rattle.engine_core.specs.Sets.{has_bit}
-use Rattle.solo_core.specs.Bits.{has_in}
+use Rattle.solo_core.specs.Common.{has_bit, has_in}
 use Rattle.solo_core.specs.Peeled.{IsPaired}
 use Rattle.solo_core.specs.declared.visits.joined.Joined.{Joined}
 

@@ -1,24 +1,13 @@
 -- The rule sets of Solo. They have the same start and the same solutions; singles and houses strike differently in the
 -- same houses, and crossings have further ones.
 use Rattle.std.specs.Prelude.{◌≡◌, ℕ, ◌<◌, ◌+◌, Bool, true, false, ◌&&◌, ◌||◌, ◌==◌, nat_lt, List, ◌++◌, map, slice_index, sum_by}
-use Rattle.grid_core.specs.Candidates.{Candidates}
-use Rattle.gameid_core.specs.Puzzles.{Solo, solo_n}
-use Rattle.engine_core.specs.Puzzle.{Puzzle}
-use Rattle.engine_core.specs.Filling.{strikes_by_fillings}
-use Rattle.engine_core.specs.House.{Decision}
-use Rattle.engine_core.specs.Sets.{has_bit}
-use Rattle.engine_core.specs.Houses.{House, Setting, by_houses, visits_of}
-use Rattle.solo_core.specs.declared.houses.house.SoloHouse.{SoloHouse}
-use Rattle.solo_core.specs.declared.houses.house.SoloHouse.TheVariants.{Block}
+use Rattle.solo_core.specs.Common.{Candidates, Solo, solo_n, Puzzle, strikes_by_fillings, Decision, has_bit, House, Setting, by_houses, visits_of, SoloHouse}
+use Rattle.solo_core.specs.Common.{Block, solo_cells, houses_of, places_of, no_repeat, is_solo_solution}
 use Rattle.solo_core.specs.declared.houses.scope.SoloScope.{SoloScope}
 use Rattle.solo_core.specs.declared.houses.scope.SoloScope.TheVariants as scope
-use Rattle.solo_core.specs.Cells.{solo_cells}
 use Rattle.solo_core.specs.Crossing.{crossing, outside, is_shared}
-use Rattle.solo_core.specs.Houses.{houses_of, places_of}
-use Rattle.solo_core.specs.NoRepeat.{no_repeat}
 use Rattle.solo_core.specs.Scopes.{crossing_scopes}
 use Rattle.solo_core.specs.Singles.{strikes_by_singles}
-use Rattle.solo_core.specs.Solutions.{is_solo_solution}
 
 -- where a search starts: a cell with a given has it alone, every other cell has every number
 unfoldable pub start : Solo → Candidates

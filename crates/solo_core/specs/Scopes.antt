@@ -1,12 +1,8 @@
 -- What a rule set of Solo may visit: the houses, and then crossings of a block with a row or a column that it meets.
 use Rattle.std.specs.Prelude.{◌≡◌, ℕ, ◌+◌, ◌*◌, ◌/◌, ◌%◌, List, ◌++◌, map, slice_index_or}
-use Rattle.std.specs.List.{range_with_len}
-use Rattle.gameid_core.specs.Puzzles.{Solo, solo_n}
-use Rattle.solo_core.specs.declared.houses.house.SoloHouse.{SoloHouse}
-use Rattle.solo_core.specs.declared.houses.house.SoloHouse.TheVariants.{Row, Column}
+use Rattle.solo_core.specs.Common.{range_with_len, Solo, solo_n, SoloHouse, Row, Column, houses_of}
 use Rattle.solo_core.specs.declared.houses.scope.SoloScope.{SoloScope}
 use Rattle.solo_core.specs.declared.houses.scope.SoloScope.TheVariants.{House, Crossing}
-use Rattle.solo_core.specs.Houses.{houses_of}
 
 -- by number: the crossings of each block with each of the c rows that it meets, and with each of the r columns
 abbrev pub row_scope : Solo → ℕ → SoloScope

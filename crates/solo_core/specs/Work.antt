@@ -1,11 +1,8 @@
 -- What a visit works in.
 use Rattle.std.specs.Prelude.{◌≡◌, ℕ, ◌≤◌, List, [], ◌∷◌, ◌++◌, map, length}
-use Rattle.engine_core.specs.House.{IsDecided}
+use Rattle.solo_core.specs.Common.{IsDecided, House, house_of, Solo, solo_n, solo_cells}
 use Rattle.engine_core.specs.HouseList.{Listed}
-use Rattle.engine_core.specs.Houses.{House, house_of}
 use Rattle.engine_core.specs.HouseIndex.{Table}
-use Rattle.gameid_core.specs.Puzzles.{Solo, solo_n}
-use Rattle.solo_core.specs.Cells.{solo_cells}
 
 -- the table of the houses of a puzzle
 abbrev pub all_places : List House → List (List ℕ)

@@ -2,12 +2,8 @@
 #![tactic(auto, using(crate::proofs::LawSets::check_laws))]
 
 ghost use Rattle.std.specs.Prelude.{◌≡◌};
-ghost use Rattle.grid_core.specs.Grids.{IsGrid};
-ghost use Rattle.gameid_core.specs.Puzzles.{IsSolo, solo_n};
-ghost use Rattle.solo_core.specs.Cells.{solo_cells};
-ghost use Rattle.solo_core.specs.Houses.{IsHouseOf};
-ghost use Rattle.solo_core.specs.Solutions.{numbers_of, is_solo_solution};
-ghost use Rattle.solo_core.specs.NoRepeat.{no_repeat};
+ghost use Rattle.solo_core.specs.Common.{IsGrid, IsSolo, solo_n, solo_cells, IsHouseOf, numbers_of};
+ghost use Rattle.solo_core.specs.Common.{is_solo_solution, no_repeat};
 ghost use Rattle.solo_core.specs.Faults.{IsFirstFallen, IsFirstRepeating, IsFirstFault, fault_of as fault_of_house};
 
 use crate::fault::SoloFault;

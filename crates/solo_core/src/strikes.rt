@@ -2,8 +2,7 @@
 #![tactic(auto, using(crate::proofs::LawSets::strikes_laws))]
 
 ghost use Rattle.std.specs.Prelude.{◌≡◌, ℕ, ◌<◌, ◌≤◌, ◌^◌, sum_by, Bool, true, false, All, IfOk, List, length};
-ghost use Rattle.gameid_core.specs.Puzzles.{Solo, IsSolo, solo_n};
-ghost use Rattle.engine_core.specs.Houses.{House, IsSound, visits_of};
+ghost use Rattle.solo_core.specs.Common.{Solo, IsSolo, solo_n, House, IsSound, visits_of};
 ghost use Rattle.solo_core.specs.RuleSets.{setting_of};
 ghost use Rattle.solo_core.specs.Work.{all_places, HasSets, IsKeptBy};
 

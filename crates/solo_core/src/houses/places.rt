@@ -2,10 +2,8 @@
 #![tactic(auto, using(crate::proofs::HouseLemmas::house_laws))]
 
 ghost use Rattle.std.specs.Prelude.{◌≡◌, ◌<◌, ◌≤◌, [], OnOk, length, slice_index, slice_index_or};
-ghost use Rattle.gameid_core.specs.Puzzles.{IsSolo, solo_n};
-ghost use Rattle.solo_core.specs.declared.houses.house.SoloHouse.{SoloHouse};
-ghost use Rattle.solo_core.specs.Cells.{solo_cells};
-ghost use Rattle.solo_core.specs.Houses.{houses_of, house_places, IsHouseOf, lies_in, places_of};
+ghost use Rattle.solo_core.specs.Common.{IsSolo, solo_n, SoloHouse, solo_cells, houses_of};
+ghost use Rattle.solo_core.specs.Common.{house_places, IsHouseOf, lies_in, places_of};
 ghost use Rattle.solo_core.specs.Work.{HasAdded, Begins};
 
 use crate::houses::house::SoloHouse;

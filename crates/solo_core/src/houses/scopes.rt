@@ -2,9 +2,8 @@
 #![tactic(auto, using(crate::proofs::LawSets::scopes_laws))]
 
 ghost use Rattle.std.specs.Prelude.{◌≡◌, ◌<◌, length, slice_index_or};
-ghost use Rattle.gameid_core.specs.Puzzles.{solo_n};
+ghost use Rattle.solo_core.specs.Common.{solo_n, IsHouseOf};
 ghost use Rattle.solo_core.specs.declared.houses.scope.SoloScope.{SoloScope};
-ghost use Rattle.solo_core.specs.Houses.{IsHouseOf};
 ghost use Rattle.solo_core.specs.Scopes.{scopes_of, crossing_scopes, IsCrossingAt};
 
 use crate::houses::house::SoloHouse;

@@ -2,8 +2,7 @@
 #![tactic(auto, using(crate::proofs::CrossingLemmas::part_laws))]
 
 ghost use Rattle.std.specs.Prelude.{◌≡◌, ℕ, ◌≤◌, ◌&&◌, ◌||◌, not, length};
-ghost use Rattle.engine_core.specs.Sets.{has_bit as is_set};
-ghost use Rattle.engine_core.specs.House.{IsDecided};
+ghost use Rattle.solo_core.specs.Common.{has_bit as is_set, IsDecided};
 ghost use Rattle.solo_core.specs.Crossing.{part_has, in_block_alone, in_line_alone, strikes_by_parts};
 
 use engine_core::has_bit;

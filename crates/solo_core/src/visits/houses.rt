@@ -1,12 +1,8 @@
 //! What a visit of a house keeps: the values that fillings without repeat have.
 
 ghost use Rattle.std.specs.Prelude.{◌≡◌, ℕ, ◌<◌, ◌≤◌, ◌&&◌, length};
-ghost use Rattle.engine_core.specs.Filling.{strikes_by_fillings};
-ghost use Rattle.engine_core.specs.Sets.{has_bit as is_set};
-ghost use Rattle.engine_core.specs.House.{IsDecided};
-ghost use Rattle.grid_core.specs.Pairings.{IsPairing};
-ghost use Rattle.solo_core.specs.NoRepeat.{no_repeat};
-ghost use Rattle.solo_core.specs.Bits.{has_in};
+ghost use Rattle.solo_core.specs.Common.{strikes_by_fillings, has_bit as is_set, IsDecided};
+ghost use Rattle.solo_core.specs.Common.{IsPairing, no_repeat, has_in};
 ghost use Rattle.solo_core.specs.Peeled.{AreAlone, IsRest, IsPaired, HasSetOfCell, KeepsReaching};
 
 use crate::visits::bits::{all_below, next_bit, with_bit_if};

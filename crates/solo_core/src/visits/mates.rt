@@ -2,10 +2,7 @@
 #![tactic(auto, using(crate::proofs::LawSets::mates_laws))]
 
 ghost use Rattle.std.specs.Prelude.{◌≡◌, ℕ, ◌<◌, ◌≤◌, true, length, slice_index};
-ghost use Rattle.engine_core.specs.House.{AreDifferent};
-ghost use Rattle.engine_core.specs.Sets.{has_bit as is_set};
-ghost use Rattle.grid_core.specs.Pairings.{IsPairing};
-ghost use Rattle.solo_core.specs.Bits.{has_in};
+ghost use Rattle.solo_core.specs.Common.{AreDifferent, has_bit as is_set, IsPairing, has_in};
 ghost use Rattle.solo_core.specs.Peeled.{IsRest, IsPaired, IsShort, HasMate, GotMates, KeepMates, AgreeBelow, rest_of as rest_cells};
 
 use crate::visits::bits::next_bit;

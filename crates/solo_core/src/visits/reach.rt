@@ -2,8 +2,7 @@
 #![tactic(auto, using(crate::proofs::LawSets::reach_laws))]
 
 ghost use Rattle.std.specs.Prelude.{◌≡◌, ◌<◌, ◌≤◌, length};
-ghost use Rattle.engine_core.specs.Sets.{has_bit as is_set};
-ghost use Rattle.solo_core.specs.Bits.{has_in};
+ghost use Rattle.solo_core.specs.Common.{has_bit as is_set, has_in};
 ghost use Rattle.solo_core.specs.Ways.{IsTransitiveClosure, LeadsOver};
 
 use crate::visits::bits::{is_alone, with_more};
