@@ -48,9 +48,11 @@ scopes-fit settled p houses sound h lt =
 -- what the table says of a place, the houses say of it
 pub scopes-say : (p : Solo) (houses : List House) (table : Table) → table ≡ table_of p houses → (place : ℕ) (says : (ℕ → Bool) → ℕ → Type 0)
     → says (λ h. has_place (scope_of table.scopes h) place) (length table.scopes) → says (λ h. has_place (house_of houses h).places place) (length houses)
-scopes-say p houses table listed place says said = rw (listed, fun_ext (λ h. ap (λ xs. has_place xs place) (scope-at houses h)), length-map houses (λ (house : House). house.places)) at said
+scopes-say p houses table listed place says said =
+    rw (listed, fun_ext (λ h. ap (λ xs. has_place xs place) (scope-at houses h)), length-map houses (λ (house : House). house.places)) at said
 
-pub bound-from-table : (values : ℕ) (houses : List House) → sum_by length (all_places houses) * values + length (all_places houses) ≡ sum_by (visits_of values) houses
+pub bound-from-table : (values : ℕ) (houses : List House)
+    → sum_by length (all_places houses) * values + length (all_places houses) ≡ sum_by (visits_of values) houses
 bound-from-table values [] = omega arith
 bound-from-table values (house ∷ houses) =
     let rest = bound-from-table values houses in
@@ -89,7 +91,8 @@ listed-in settled p houses table h cells places sound listed lt is same k lk =
 pub listed-deciding : (decides : Decision) (p : Solo) (first second : Listed) → first ≡ record { closed = []; begun = [] }
     → second ≡ record { closed = first.closed ++ map (places_of p) (houses_of p); begun = [] } → second.closed ≡ all_places (deciding decides p)
 listed-deciding decides p first second none e =
-    ap (λ (list : Listed). list.closed) e ∙ ap (λ (list : Listed). list.closed ++ map (places_of p) (houses_of p)) none ∙ sym (map-map (λ (house : House). house.places) (house_by decides p) (houses_of p))
+    ap (λ (list : Listed). list.closed) e ∙ ap (λ (list : Listed). list.closed ++ map (places_of p) (houses_of p)) none
+    ∙ sym (map-map (λ (house : House). house.places) (house_by decides p) (houses_of p))
 
 pub listed-crossings : (p : Solo) (none first second : Listed) → none ≡ record { closed = []; begun = [] }
     → first ≡ record { closed = none.closed ++ map (places_of p) (houses_of p); begun = [] } → second ≡ record { closed = first.closed ++ all_places (crossings_of p); begun = [] }

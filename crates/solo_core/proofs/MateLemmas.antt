@@ -115,16 +115,6 @@ rest-within n cells rest e i lt = rw e ((rest-in n cells i (rw e at lt)).0)
 pub rest-apart : (n cells : ℕ) (rest : List ℕ) → rest ≡ rest_of n cells → AreDifferent rest
 rest-apart n cells rest e = rw e (rest-different n cells)
 
--- where the rest has no pairing, the house has none
-pub no_pairing : (n cells : ℕ) (sets xs mates : List ℕ) → IsShort n sets (rest_of (length sets) cells) xs → IsPairing (has_in sets) (length sets) n mates → ⊥
-no_pairing n cells sets xs mates short p = no_choice (λ l r. has_in sets (slice_index (rest_of (length sets) cells) l) r) (length (rest_of (length sets) cells)) n xs short (λ l. slice_index mates (slice_index (rest_of (length sets) cells) l))
-    (λ l lt. p.in_range (slice_index (rest_of (length sets) cells) l) (inside l lt))
-    (λ l lt. p.joined (slice_index (rest_of (length sets) cells) l) (inside l lt))
-    (λ l m ll lm same. rest-different (length sets) cells l m ll lm (p.own (slice_index (rest_of (length sets) cells) l) (slice_index (rest_of (length sets) cells) m) (inside l ll) (inside m lm) same))
-  where
-    inside : (l : ℕ) → l < length (rest_of (length sets) cells) → slice_index (rest_of (length sets) cells) l < length sets
-    inside l lt = (rest-in (length sets) cells l lt).0
-
 -- ---- the pairing of the house
 module _ (n : ℕ) (sets : List ℕ) (cells : ℕ) (alone : AreAlone n sets cells) where
   abbrev others : List ℕ
@@ -132,6 +122,16 @@ module _ (n : ℕ) (sets : List ℕ) (cells : ℕ) (alone : AreAlone n sets cell
 
   abbrev joins : ℕ → ℕ → Bool
   joins l r = has_in sets (slice_index others l) r
+
+  -- where the rest has no pairing, the house has none
+  pub no_pairing : (xs mates : List ℕ) → IsShort n sets others xs → IsPairing (has_in sets) (length sets) n mates → ⊥
+  no_pairing xs mates short p = no_choice joins (length others) n xs short (λ l. slice_index mates (slice_index others l))
+      (λ l lt. p.in_range (slice_index others l) (inside l lt))
+      (λ l lt. p.joined (slice_index others l) (inside l lt))
+      (λ l m ll lm same. rest-different (length sets) cells l m ll lm (p.own (slice_index others l) (slice_index others m) (inside l ll) (inside m lm) same))
+    where
+      inside : (l : ℕ) → l < length others → slice_index others l < length sets
+      inside l lt = (rest-in (length sets) cells l lt).0
 
   module _ (paired first mates : List ℕ) (p : IsPairing joins (length others) n paired)
       (own : (k v : ℕ) → k < length sets → v < n → has_in sets k v ≡ true → has_in sets k (slice_index first k) ≡ true)
@@ -158,7 +158,8 @@ module _ (n : ℕ) (sets : List ℕ) (cells : ℕ) (alone : AreAlone n sets cell
     apart : (k m : ℕ) → k < length sets → m < length sets → has_bit cells k ≡ true → (m ≡ k → ⊥) → slice_index mates k ≡ slice_index mates m → ⊥
     apart k m lk lm on ne same = true≢false (sym (fits m lm).1 ∙ ap (has_in sets m) (sym same ∙ alone-mate k lk on) ∙ (alone k lk on).apart m lm ne)
 
-    different : {k m : ℕ} → (i : ℕ) × (i < length others) × (slice_index others i ≡ k) → (j : ℕ) × (j < length others) × (slice_index others j ≡ m) → slice_index mates k ≡ slice_index mates m → k ≡ m
+    different : {k m : ℕ} → (i : ℕ) × (i < length others) × (slice_index others i ≡ k) → (j : ℕ) × (j < length others) × (slice_index others j ≡ m)
+        → slice_index mates k ≡ slice_index mates m → k ≡ m
     different (i, li, is) (j, lj, is_m) same =
         let e : i ≡ j = p.own i j li lj (sym (at_rest i li) ∙ ap (slice_index mates) is ∙ same ∙ sym (ap (slice_index mates) is_m) ∙ at_rest j lj) in
         sym is ∙ ap (slice_index others) e ∙ is_m
@@ -170,7 +171,8 @@ module _ (n : ℕ) (sets : List ℕ) (cells : ℕ) (alone : AreAlone n sets cell
         own_mate k m lk lm same =
             let a = apart k m lk lm in
             let b = apart m k lm lk in
-            let d : has_bit cells k ≡ false → has_bit cells m ≡ false → k ≡ m = λ off off_m. different (rest-has (length sets) cells k lk off) (rest-has (length sets) cells m lm off_m) same in
+            let d : has_bit cells k ≡ false → has_bit cells m ≡ false → k ≡ m =
+            λ off off_m. different (rest-has (length sets) cells k lk off) (rest-has (length sets) cells m lm off_m) same in
             grind arith
 
 -- the last number below n that passes
@@ -205,7 +207,8 @@ module _ (n : ℕ) (sets : List ℕ) (cells : ℕ) (alone : AreAlone n sets cell
   unfolding house_mates
   mates-at k lk = get_or-map-range_with_len mate 0 (length sets) k k 0 lk (omega arith)
 
-  pub mates-rest : (i : ℕ) → i < length (rest_of (length sets) cells) → slice_index house_mates (slice_index (rest_of (length sets) cells) i) ≡ slice_index paired i
+  pub mates-rest : (i : ℕ) → i < length (rest_of (length sets) cells)
+      → slice_index house_mates (slice_index (rest_of (length sets) cells) i) ≡ slice_index paired i
   unfolding mate at
   mates-rest i li =
       let k = slice_index (rest_of (length sets) cells) i in
@@ -217,12 +220,14 @@ module _ (n : ℕ) (sets : List ℕ) (cells : ℕ) (alone : AreAlone n sets cell
 
   pub house_pairing : IsPairing (has_in sets) (length sets) n house_mates
   unfolding house_mates mate
-  house_pairing = whole_pairing n sets cells alone paired house_mates house_mates p own (length-map-range_with_len mate 0 (length sets)) mates-rest (λ k out. refl)
+  house_pairing = whole_pairing n sets cells alone paired house_mates house_mates p own (length-map-range_with_len mate 0 (length sets)) mates-rest
+      (λ k out. refl)
     where
       own : (k v : ℕ) → k < length sets → v < n → has_in sets k v ≡ true → has_in sets k (slice_index house_mates k) ≡ true
       own k v lk lv has = elim (cases_Bool (has_bit cells k)) [
         | inl on ↦ rw (mates-at k lk, on) (last-passes n (has_in sets k) v lv has)
-        | inr off ↦ let w = rest-has (length sets) cells k lk off in rw (sym (ap (slice_index house_mates) w.2) ∙ mates-rest w.0 w.1) (rw w.2 at (p.joined w.0 w.1))
+        | inr off ↦ let w = rest-has (length sets) cells k lk off in
+            rw (sym (ap (slice_index house_mates) w.2) ∙ mates-rest w.0 w.1) (rw w.2 at (p.joined w.0 w.1))
       ]
 
   -- it shows the value of a cell that is alone
@@ -239,7 +244,8 @@ decided_by_all n sets all = record { as_many = refl; bits = λ k v lk lv. let sh
 -- where all are alone, nothing more is struck
 pub decided_alone : (n : ℕ) (sets : List ℕ) (cells : ℕ) → AreAlone n sets cells → ((k : ℕ) → k < length sets → has_bit cells k ≡ true)
     → IsDecided n (strikes_by_fillings no_repeat) sets sets
-decided_alone n sets cells alone all = decided_by_all n sets (λ k v lk lv has. shown_alone n sets cells alone (rest_of (length sets) cells) paired k v lk (all k lk) has)
+decided_alone n sets cells alone all = decided_by_all n sets
+    (λ k v lk lv has. shown_alone n sets cells alone (rest_of (length sets) cells) paired k v lk (all k lk) has)
   where
     none : (i : ℕ) → i < length (rest_of (length sets) cells) → ⊥
     none i li = let r = rest-in (length sets) cells i li in true≢false (sym (all (slice_index (rest_of (length sets) cells) i) r.0) ∙ r.1)

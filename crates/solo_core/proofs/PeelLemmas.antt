@@ -10,11 +10,13 @@ use Rattle.solo_core.proofs.Marks.{none_in_zero}
 
 -- ---- what is peeled
 -- a pairing is one of other sets where they have its values too
-pairing_over : (n : ℕ) (old new mates : List ℕ) → length new ≡ length old → ((k : ℕ) → k < length old → has_in old k (slice_index mates k) ≡ true → has_in new k (slice_index mates k) ≡ true)
+pairing_over : (n : ℕ) (old new mates : List ℕ) → length new ≡ length old
+    → ((k : ℕ) → k < length old → has_in old k (slice_index mates k) ≡ true → has_in new k (slice_index mates k) ≡ true)
     → IsPairing (has_in old) (length old) n mates → IsPairing (has_in new) (length new) n mates
 pairing_over n old new mates same joined p = rw same (record { len = p.len; in_range = p.in_range; joined = λ k lk. joined k lk (p.joined k lk); own = p.own })
 
-pairing_peeled : (n : ℕ) (old new mates : List ℕ) → IsPeeled n old new → IsPairing (has_in old) (length old) n mates → IsPairing (has_in new) (length new) n mates
+pairing_peeled : (n : ℕ) (old new mates : List ℕ) → IsPeeled n old new → IsPairing (has_in old) (length old) n mates
+    → IsPairing (has_in new) (length new) n mates
 pairing_peeled n old new mates e p = pairing_over n old new mates e.as_many (λ k lk on. e.keeps mates p k lk) p
 
 pub peeled-none : (n : ℕ) (sets : List ℕ) → IsPeeled n sets sets
@@ -128,7 +130,8 @@ decided_by_peeled n sets peeled kept e d = record {
   bits = λ k v lk lv.
       let low : k < length peeled = omega (arith, e.as_many) in
       let there = shown_over n sets peeled (λ mates p. pairing_peeled n sets peeled mates e p) k v low in
-      let back = shown_over n peeled sets (λ mates p. pairing_over n peeled sets mates (sym e.as_many) (λ j lj on. e.inside j (slice_index mates j) (omega (arith, e.as_many)) on) p) k v lk in
+      let back = shown_over n peeled sets (λ mates p. pairing_over n peeled sets mates (sym e.as_many)
+      (λ j lj on. e.inside j (slice_index mates j) (omega (arith, e.as_many)) on) p) k v lk in
       let bits = d.bits k v low lv in
       let inside = e.inside k v lk in
       grind arith;

@@ -27,7 +27,8 @@ sum_same f m (y ∷ ys) all =
 pub bound_is : (decides : Decision) (p : Solo) → IsSolo p
     → sum_by (visits_of (solo_n p)) (deciding decides p) ≡ length (houses_of p) + length (houses_of p) * (solo_n p * solo_n p)
 bound_is decides p ok =
-    let same = sum_same (visits_of (solo_n p)) (1 + solo_n p * solo_n p) (deciding decides p) (All-map (λ house. visits_of (solo_n p) house ≡ 1 + solo_n p * solo_n p) (house_by decides p) (houses_of p)
+    let same = sum_same (visits_of (solo_n p)) (1 + solo_n p * solo_n p) (deciding decides p)
+    (All-map (λ house. visits_of (solo_n p) house ≡ 1 + solo_n p * solo_n p) (house_by decides p) (houses_of p)
     (λ k d lt. ap (λ n. 1 + n * solo_n p) ((lists_house p ok (get_or (houses_of p) k d) (all_houses p k d lt)).len))) in
     let long = length-map (houses_of p) (house_by decides p) in
     same ∙ rw long (omega arith)
@@ -135,8 +136,10 @@ crossings_bound p ok =
     row_cells p ok (m / p.c) w.0 (m / p.c / p.c * p.c + m % p.c) w.1 (div-mul-add (m / p.c / p.c) p.c (m % p.c) (mod_below m p.c (omega arith)))) in
     let columns = sum_alike p (column_scope p) (solo_n p * p.r) (solo_n p + (solo_n p - p.c)) (λ m lt. let w = column_in p ok m lt in
     column_cells p ok (m / p.r) w.0 (m / p.r % p.c * p.r + m % p.r) w.1 (div-mul-add (m / p.r % p.c) p.r (m % p.r) (mod_below m p.r (omega arith)))) in
-    ap (sum_by (visits_of (solo_n p))) (map-append (house_at p) (map (row_scope p) (range_with_len 0 (solo_n p * p.c))) (map (column_scope p) (range_with_len 0 (solo_n p * p.r))))
-    ∙ sum_by-append (visits_of (solo_n p)) (map (house_at p) (map (row_scope p) (range_with_len 0 (solo_n p * p.c)))) (map (house_at p) (map (column_scope p) (range_with_len 0 (solo_n p * p.r))))
+    ap (sum_by (visits_of (solo_n p))) (map-append (house_at p) (map (row_scope p) (range_with_len 0 (solo_n p * p.c)))
+    (map (column_scope p) (range_with_len 0 (solo_n p * p.r))))
+    ∙ sum_by-append (visits_of (solo_n p)) (map (house_at p) (map (row_scope p) (range_with_len 0 (solo_n p * p.c))))
+    (map (house_at p) (map (column_scope p) (range_with_len 0 (solo_n p * p.r))))
     ∙ rw (rows, columns) refl
 
 pub crossings_rules-bound : (p : Solo) → IsSolo p → (crossings_rules p).bound ≡ length (houses_of p) + length (houses_of p) * (solo_n p * solo_n p)

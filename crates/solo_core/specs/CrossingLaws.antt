@@ -80,13 +80,15 @@ pub record HoldsEach (n : ℕ) (g places : List ℕ) : Type 0 where
 
 module _ (n : ℕ) (g : List ℕ) (small : (c : ℕ) → c < length g → slice_index g c < n) where
   -- a house has each number at one place alone
-  one_place : (places : List ℕ) → HoldsEach n g places → (c d : ℕ) → has_place places c ≡ true → has_place places d ≡ true → slice_index g c ≡ slice_index g d → c ≡ d
+  one_place : (places : List ℕ) → HoldsEach n g places → (c d : ℕ) → has_place places c ≡ true → has_place places d ≡ true → slice_index g c ≡ slice_index g d
+      → c ≡ d
   one_place places h c d on_c on_d same =
       let j = has_place-at places c on_c in
       let k = has_place-at places d on_d in
       let long = length-map places (slice_index g) in
       let e = own_from_no_repeat (map (slice_index g) places) h.holds j.0 k.0 (omega (arith, j.1)) (omega (arith, k.1))
-      (get_or-map (slice_index g) places j.0 0 0 j.1 ∙ ap (slice_index g) j.2 ∙ same ∙ sym (get_or-map (slice_index g) places k.0 0 0 k.1 ∙ ap (slice_index g) k.2)) in
+      (get_or-map (slice_index g) places j.0 0 0 j.1 ∙ ap (slice_index g) j.2 ∙ same
+      ∙ sym (get_or-map (slice_index g) places k.0 0 0 k.1 ∙ ap (slice_index g) k.2)) in
       sym j.2 ∙ ap (slice_index places) e ∙ k.2
 
   -- the number of a cell that the first house has alone stands in a cell that the second has alone
@@ -95,7 +97,8 @@ module _ (n : ℕ) (g : List ℕ) (small : (c : ℕ) → c < length g → slice_
   other_cell first second h other c on off =
       let at = has_place-at first c on in
       let low = rw at.2 at (small (slice_index first at.0) (h.inside at.0 at.1)) in
-      let w = none_missing n (map (slice_index g) second) (length-map second (slice_index g) ∙ other.long) other.holds (λ k lk. numbers k (omega (arith, other.long))) (slice_index g c) low in
+      let w = none_missing n (map (slice_index g) second) (length-map second (slice_index g) ∙ other.long) other.holds
+      (λ k lk. numbers k (omega (arith, other.long))) (slice_index g c) low in
       let lw : w.0 < length second = omega (arith, w.1, other.long) in
       let there = has_place-here second w.0 lw in
       let same = sym (get_or-map (slice_index g) second w.0 0 0 lw) ∙ w.2 in (
@@ -156,7 +159,8 @@ module _ (block line : List ℕ) where
         size : length values ≡ length block + length rest
         size = length-map (crossing_places block line) (slice_index g) ∙ long
 
-        from_line : (k : ℕ) → k < length values → in_line_alone (length block) k ≡ true → (j : ℕ) × (j < length values) × (in_block_alone (length block) (is_shared block line) j ≡ true) × (get_or values j 0 ≡ get_or values k 0)
+        from_line : (k : ℕ) → k < length values → in_line_alone (length block) k ≡ true
+            → (j : ℕ) × (j < length values) × (in_block_alone (length block) (is_shared block line) j ≡ true) × (get_or values j 0 ≡ get_or values k 0)
         from_line k lt here =
             let len = long in
             let s = size in
@@ -171,19 +175,22 @@ module _ (block line : List ℕ) where
               value_at j.0 (omega arith) ∙ ap (slice_index g) (at_block j.0 lj ∙ j.2) ∙ d.3 ∙ sym (value_at k lk),
             )
 
-        from_block : (k : ℕ) → k < length values → in_block_alone (length block) (is_shared block line) k ≡ true → (j : ℕ) × (j < length values) × (in_line_alone (length block) j ≡ true) × (get_or values j 0 ≡ get_or values k 0)
+        from_block : (k : ℕ) → k < length values → in_block_alone (length block) (is_shared block line) k ≡ true
+            → (j : ℕ) × (j < length values) × (in_line_alone (length block) j ≡ true) × (get_or values j 0 ≡ get_or values k 0)
         from_block k lt here =
             let len = long in
             let s = size in
             let parts = and_parts _ _ here in
             let low = ltb-true k (length block) parts.0 in
-            let d = other_cell n g small block line in_block in_line (slice_index block k) (has_place-here block k low) (not-true (has_place line (slice_index block k)) parts.1) in
+            let d = other_cell n g small block line in_block in_line (slice_index block k) (has_place-here block k low)
+            (not-true (has_place line (slice_index block k)) parts.1) in
             let j = has_place-at rest d.0 (place-kept (λ c. not (has_place block c)) line d.0 d.1 (not_from_false (has_place block d.0) d.2)) in
             let lj = j.1 in
             let e : length block + j.0 - length block ≡ j.0 = omega arith in (
               length block + j.0,
               omega arith,
               le-leb (length block) (length block + j.0) (omega arith),
-              value_at (length block + j.0) (omega arith) ∙ ap (slice_index g) (at_rest (length block + j.0) (omega arith) ∙ ap (slice_index rest) e ∙ j.2) ∙ d.3
+              value_at (length block + j.0) (omega arith) ∙ ap (slice_index g) (at_rest (length block + j.0) (omega arith) ∙ ap (slice_index rest) e ∙ j.2)
+                  ∙ d.3
                   ∙ sym (value_at k (omega arith) ∙ ap (slice_index g) (at_block k low)),
             )

@@ -66,8 +66,14 @@ module _ (p : Solo) (ok : IsSolo p) where
   inside_grid : (g : List ℕ) → IsGrid (solo_cells p) (solo_n p) g → (house : SoloHouse) → IsHouseOf p house → (k : ℕ) → k < length (places_of p house) → slice_index (places_of p house) k < length g
   inside_grid g grid house is k lt = let e = grid.each_cell in let w = inside house is k lt in omega arith
 
-  holds_each : (g : List ℕ) → IsGrid (solo_cells p) (solo_n p) g → is_solo_solution p g ≡ true → (house : SoloHouse) → IsHouseOf p house → HoldsEach (solo_n p) g (places_of p house)
-  holds_each g grid on house is = record { long = (listed house is).len; inside = inside_grid g grid house is; holds = house_of_solution p ok g (rule_from_test p ok g grid on) house is }
+  holds_each : (g : List ℕ) → IsGrid (solo_cells p) (solo_n p) g → is_solo_solution p g ≡ true → (house : SoloHouse) → IsHouseOf p house
+      → HoldsEach (solo_n p) g (places_of p house)
+  holds_each g grid on house is = record {
+    long =
+        (listed house is).len;
+    inside = inside_grid g grid house is;
+    holds = house_of_solution p ok g (rule_from_test p ok g grid on) house is;
+  }
 
   pub alike_sound : (settled : Bool) (all : List House) (decides : Decision) → IsMonotone decides
       → ((f : List ℕ) → length f ≡ solo_n p → no_repeat f ≡ true → ((k : ℕ) → k < solo_n p → get_or f k 0 < solo_n p) → Keeps decides f)
@@ -94,9 +100,12 @@ module _ (p : Solo) (ok : IsSolo p) where
   crossing_is_sound all b line b_in is = record {
     within = crossing-within (places_of p (Block b)) (places_of p line) (solo_cells p) (inside (Block b) b_in) (inside line is);
     different = crossing-different (places_of p (Block b)) (places_of p line) (different (Block b) b_in) (different line is);
-    monotone = crossing-monotone (in_block_alone (length (places_of p (Block b))) (is_shared (places_of p (Block b)) (places_of p line))) (in_line_alone (length (places_of p (Block b))));
-    keeps = λ g grid on. crossing-sound (places_of p (Block b)) (places_of p line) (solo_n p) g (numbers_small g grid) (holds_each g grid on (Block b) b_in) (holds_each g grid on line is);
-    settles = λ _. crossing-settles (in_block_alone (length (places_of p (Block b))) (is_shared (places_of p (Block b)) (places_of p line))) (in_line_alone (length (places_of p (Block b))));
+    monotone = crossing-monotone (in_block_alone (length (places_of p (Block b))) (is_shared (places_of p (Block b)) (places_of p line)))
+        (in_line_alone (length (places_of p (Block b))));
+    keeps = λ g grid on. crossing-sound (places_of p (Block b)) (places_of p line) (solo_n p) g (numbers_small g grid) (holds_each g grid on (Block b) b_in)
+        (holds_each g grid on line is);
+    settles = λ _. crossing-settles (in_block_alone (length (places_of p (Block b))) (is_shared (places_of p (Block b)) (places_of p line)))
+        (in_line_alone (length (places_of p (Block b))));
   }
 
   abbrev scope_is_sound : List House → SoloScope → Type 0
@@ -105,8 +114,10 @@ module _ (p : Solo) (ok : IsSolo p) where
   each_crossing : (all : List House) → All (IsSound (setting_of true p all)) (crossings_of p)
   each_crossing all = All-map (IsSound (setting_of true p all)) (house_at p) (crossing_scopes p)
       (All-append (scope_is_sound all) (map (row_scope p) (range_with_len 0 (solo_n p * p.c))) (map (column_scope p) (range_with_len 0 (solo_n p * p.r)))
-      (each_value (scope_is_sound all) (row_scope p) (solo_n p * p.c) (λ m lt. let w = row_in p ok m lt in crossing_is_sound all (m / p.c) (Row (m / p.c / p.c * p.c + m % p.c)) w.0 w.1))
-      (each_value (scope_is_sound all) (column_scope p) (solo_n p * p.r) (λ m lt. let w = column_in p ok m lt in crossing_is_sound all (m / p.r) (Column (m / p.r % p.c * p.r + m % p.r)) w.0 w.1)))
+      (each_value (scope_is_sound all) (row_scope p) (solo_n p * p.c)
+      (λ m lt. let w = row_in p ok m lt in crossing_is_sound all (m / p.c) (Row (m / p.c / p.c * p.c + m % p.c)) w.0 w.1))
+      (each_value (scope_is_sound all) (column_scope p) (solo_n p * p.r)
+      (λ m lt. let w = column_in p ok m lt in crossing_is_sound all (m / p.r) (Column (m / p.r % p.c * p.r + m % p.r)) w.0 w.1)))
 
   -- ---- the three rule sets
   by_fillings : (all : List House) → All (IsSound (setting_of true p all)) (deciding (strikes_by_fillings no_repeat) p)

@@ -54,7 +54,8 @@ strikes_stay cells values at at' down place value = or_stays
 
 pub singles-monotone : (values : ℕ) → IsMonotone (strikes_by_singles values)
 singles-monotone values smaller larger k v inside on =
-    rw inside.as_many (strikes_stay (length larger) values (has_at larger) (has_at smaller) (λ j w lj lw. inside.inside j w (let e = inside.as_many in omega arith)) k v on)
+    rw inside.as_many (strikes_stay (length larger) values (has_at larger) (has_at smaller)
+    (λ j w lj lw. inside.inside j w (let e = inside.as_many in omega arith)) k v on)
 
 -- from cells that have one value each, all different, nothing is struck
 module _ (n : ℕ) (f : List ℕ) (long : length f ≡ n) (holds : no_repeat f ≡ true) (small : (k : ℕ) → k < n → get_or f k 0 < n) where
@@ -63,18 +64,23 @@ module _ (n : ℕ) (f : List ℕ) (long : length f ≡ n) (holds : no_repeat f �
   own_stays k lk = rw (
     none_below (λ j. not (eqb j k) && (eqb (get_or f j 0) (get_or f k 0) && not (has_other n (λ j u. eqb (get_or f j 0) u) j (get_or f k 0)))) n
         (λ j lj on. let own = own_from_no_repeat f holds j k (omega arith) (omega arith) in grind (arith, nat_tests)),
-    none_below (λ u. not (eqb u (get_or f k 0)) && (eqb (get_or f k 0) u && not (is_elsewhere n (λ j u. eqb (get_or f j 0) u) k u))) n (λ u lu on. grind (arith, nat_tests)),
-    none_below (λ j. not (any_below (λ u. eqb (get_or f j 0) u) n)) n (λ j lj on. fails_below (λ u. eqb (get_or f j 0) u) n (not-true _ on) (get_or f j 0) (small j lj) (eq-eqb _ _ refl)),
+    none_below (λ u. not (eqb u (get_or f k 0)) && (eqb (get_or f k 0) u && not (is_elsewhere n (λ j u. eqb (get_or f j 0) u) k u))) n
+        (λ u lu on. grind (arith, nat_tests)),
+    none_below (λ j. not (any_below (λ u. eqb (get_or f j 0) u) n)) n
+        (λ j lj on. fails_below (λ u. eqb (get_or f j 0) u) n (not-true _ on) (get_or f j 0) (small j lj) (eq-eqb _ _ refl)),
     none_below (λ u. not (any_below (λ j. eqb (get_or f j 0) u) n)) n
         (λ u lu on. let w = none_missing n f long holds small u lu in fails_below (λ j. eqb (get_or f j 0) u) n (not-true _ on) w.0 w.1 (eq-eqb _ _ w.2)),
   ) refl
 
   -- nor is it from cells that have more values
-  pub shown_stays : (sets : List Set) → length sets ≡ n → ((k : ℕ) → k < n → has_at sets k (get_or f k 0) ≡ true) → (k : ℕ) → k < n → strikes_by_singles n sets k (get_or f k 0) ≡ false
+  pub shown_stays : (sets : List Set) → length sets ≡ n → ((k : ℕ) → k < n → has_at sets k (get_or f k 0) ≡ true) → (k : ℕ) → k < n
+      → strikes_by_singles n sets k (get_or f k 0) ≡ false
   shown_stays sets all has k lk = false_from_ne_true (strikes_by_singles n sets k (get_or f k 0)) (λ on.
-      true≢false (sym (strikes_stay n n (has_at sets) (λ j u. eqb (get_or f j 0) u) (λ j u lj lu e. rw (eqb-true (get_or f j 0) u e) at (has j lj)) k (get_or f k 0)
+      true≢false (sym (strikes_stay n n (has_at sets) (λ j u. eqb (get_or f j 0) u) (λ j u lj lu e. rw (eqb-true (get_or f j 0) u e) at (has j lj)) k
+      (get_or f k 0)
       (subst (λ m. strikes_where m n (has_at sets) k (get_or f k 0) ≡ true) all on)) ∙ own_stays k lk))
 
   -- cells that have these values alone lose none
   pub singles-keeps : Keeps (strikes_by_singles n) f
-  singles-keeps sets k own lt = shown_stays sets (own.as_many ∙ long) (λ j lj. own.own j (get_or f j 0) (omega arith) ∙ eq-eqb (get_or f j 0) (get_or f j 0) refl) k (omega arith)
+  singles-keeps sets k own lt = shown_stays sets (own.as_many ∙ long)
+      (λ j lj. own.own j (get_or f j 0) (omega arith) ∙ eq-eqb (get_or f j 0) (get_or f j 0) refl) k (omega arith)

@@ -119,8 +119,8 @@ impl<S: Strikes> Rules for SoloRules<S> {
 
     ghost follows = { λ _ _ _. Unit {0} };
 
-    ghost lawful = { λ r.
-        rules_lawful r.puzzle r.is_solo S.SETTLED (S.houses r.puzzle) (S.sound r.puzzle r.is_solo) };
+    ghost lawful = { λ r. rules_lawful r.puzzle r.is_solo S.SETTLED (S.houses r.puzzle)
+        (S.sound r.puzzle r.is_solo) };
 
     ghost settled_is = { λ _. refl };
 

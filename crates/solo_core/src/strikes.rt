@@ -56,7 +56,8 @@ pub trait Strikes {
         ensures keeps { (values : ℕ) → serves work.old values → serves work.new values };
 
     /// The houses are those of a lawful rule set.
-    ghost sound: { (p : Solo) → IsSolo p → All (IsSound (setting_of SETTLED p (houses p))) (houses p) };
+    ghost sound: { (p : Solo) → IsSolo p
+        → All (IsSound (setting_of SETTLED p (houses p))) (houses p) };
 
     /// The visits of a closing can be counted.
     ghost few: { (p : Solo) → IsSolo p → sum_by (visits_of (solo_n p)) (houses p) < 2 ^ 32 };

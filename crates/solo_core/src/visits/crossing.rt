@@ -12,7 +12,8 @@ use engine_core::has_bit;
 pub(crate) fn keep_crossing(block: usize, shared: u32, sets: &[u32], kept: &mut [u32])
     requires few { block ≤ 31 }
     requires as_many { length kept.old ≡ length sets.now }
-    ensures { (values : ℕ) → IsDecided values (strikes_by_parts block (is_set shared)) sets.now kept.new }
+    ensures { (values : ℕ)
+        → IsDecided values (strikes_by_parts block (is_set shared)) sets.now kept.new }
 {
     let in_block = values_in_block(block, shared, sets);
     let in_line = values_in_line(block, sets);
@@ -33,7 +34,8 @@ fn is_block_alone(block: usize, shared: u32, k: usize) -> bool
 /// The values of the block outside the line.
 fn values_in_block(block: usize, shared: u32, sets: &[u32]) -> u32
     requires { block ≤ 31 }
-    ensures { (v : ℕ) → is_set result v ≡ part_has (in_block_alone block (is_set shared)) sets.now v }
+    ensures { (v : ℕ) → is_set result v
+        ≡ part_has (in_block_alone block (is_set shared)) sets.now v }
 {
     let mut values = 0;
     for k in 0..sets.len() {

@@ -10,7 +10,7 @@ pub returns-in-Short-clause-decided : goal.returns-in-Short-clause-decided
 returns-in-Short-clause-decided c =
     let r = c.requires.alone in
     decided_by_none c.args.values c.args.kept.now _
-    (λ mates p. no_pairing c.args.values r.0 c.args.kept.now _ mates (rw r.1 at (c.in-Short.ensures.short refl)) p)
+    (λ mates p. no_pairing c.args.values c.args.kept.now r.0 r.2 _ mates (rw r.1 at (c.in-Short.ensures.short refl)) p)
     c.clear.ensures.as_many c.clear.ensures.none
 
 pub returns-in-All-clause-decided : goal.returns-in-All-clause-decided

@@ -8,5 +8,7 @@ loop-k-preserved c = alone-more c.args.values c.args.sets.now c.loop-k.alone c.w
     let at = c.has_any.ensures.some on in
     let kept = c.without.ensures at.0 in
     let below = c.all_below.ensures.below at.0 in
-    alone-lone c.args.values c.args.sets.now c.requires.square c.args.counts.some c.args.counts.single c.args.counts.shared c.requires.counts c.loop-k.k at.0 (omega arith)
-    (grind (arith, bits-both, at.1)) (grind (arith, bits-both, at.1)) (grind (arith, bits-both, at.1)) (grind (arith, bits-both, at.1))) c.with_bit_if-alone.ensures
+    alone-lone c.args.values c.args.sets.now c.requires.square c.args.counts.some c.args.counts.single c.args.counts.shared c.requires.counts c.loop-k.k at.0
+    (omega arith)
+    (grind (arith, bits-both, at.1)) (grind (arith, bits-both, at.1)) (grind (arith, bits-both, at.1)) (grind (arith, bits-both, at.1)))
+    c.with_bit_if-alone.ensures
