@@ -2,7 +2,7 @@
 #![tactic(auto, using(crate::proofs::LawSets::crossings_laws))]
 
 ghost use Rattle.std.specs.Prelude.{◌≡◌, ◌<◌, [], OnOk, length};
-ghost use Rattle.solo_core.specs.Common.{solo_n, Block, IsHouseOf, places_of};
+ghost use Rattle.solo_core.specs.Common.{solo_n, IsHouseOf};
 ghost use Rattle.solo_core.specs.RuleSets.{crossing_of, crossings_of, rest_of_line, AreShared};
 ghost use Rattle.solo_core.specs.Work.{all_places, HasAdded, HasBegun, HasClosed, IsKeptBy};
 

@@ -1,7 +1,7 @@
 //! What a visit strikes before it pairs: by cells that have one value alone, and by values that one cell has alone.
 #![tactic(auto, using(crate::proofs::LawSets::peel_laws))]
 
-ghost use Rattle.std.specs.Prelude.{◌≡◌, ℕ, ◌<◌, ◌≤◌, ◌||◌, true, length};
+ghost use Rattle.std.specs.Prelude.{◌≡◌, ℕ, ◌≤◌, ◌||◌, true, length};
 ghost use Rattle.engine_core.specs.Sets.{has_bit as is_set};
 ghost use Rattle.solo_core.specs.Peeled.{IsPeeled, AreAlone, AreCounts, AddsSingle, AddsShared, AreDropped};
 

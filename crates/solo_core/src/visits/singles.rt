@@ -1,7 +1,7 @@
 //! What a visit of a house keeps by its single values and places.
 #![tactic(auto, using(crate::proofs::SinglesLemmas::decided_broken))]
 
-ghost use Rattle.std.specs.Prelude.{◌≡◌, ℕ, ◌<◌, ◌≤◌, true, false, length, slice_index};
+ghost use Rattle.std.specs.Prelude.{◌≡◌, ℕ, ◌<◌, ◌≤◌, length, slice_index};
 ghost use Rattle.solo_core.specs.Common.{any_below, has_bit as is_set, IsDecided, has_in};
 ghost use Rattle.solo_core.specs.Singles.{is_elsewhere as some_elsewhere, is_only_place as only_place, taken_elsewhere, needed_for_other, has_only_bit, has_other_bit, has_empty_cell as some_empty, has_lost_value as some_lost, is_broken as some_broken, stays_in, strikes_by_singles};
 
