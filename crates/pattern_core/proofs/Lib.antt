@@ -1,5 +1,5 @@
 pub mod FirstRun
-pub mod WalkLemmas
+pub mod LineSteps
 pub mod NextLine
 pub mod LineVisits
 pub mod Leads

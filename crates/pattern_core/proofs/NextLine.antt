@@ -1,20 +1,20 @@
 -- The lines that have a place are its column and its row.
 use Rattle.std.proofs.lemmas.Grind.{common_steps}
-use Rattle.std.proofs.Common.{◌≡◌, ℕ, zero, suc, length, ◌+◌, ◌*◌, ◌/◌, ◌%◌, ◌<◌, ◌≤◌, ◌||◌, eqb, Bool, true, false, Some, None, refl, sym, ap, ◌∙◌, arith, inl, inr, ◌⊎◌}
+use Rattle.std.proofs.Common.{◌≡◌, ℕ, ◌+◌, ◌*◌, ◌/◌, ◌%◌, ◌<◌, ◌≤◌, ◌||◌, eqb, Bool, true, false, Some, None, refl, sym, ap, ◌∙◌, arith, inl, inr, ◌⊎◌}
 use Rattle.std.proofs.lemmas.Bool.{cases_Bool, cases_lt, true≢false, or_left, or_right, eq-eqb, ne_eqb, false_from_ne_true}
 use Rattle.std.proofs.lemmas.Nat.{div-add-mod'}
 use Rattle.std.proofs.Math.Nat.{mul-le-mul_right, mod-lt}
 use Rattle.grid_core.specs.Extent.{Extent}
-use Rattle.gameid_core.specs.Puzzles.{lines_of, line_cells}
-use Rattle.engine_core.specs.Puzzle.{has_place, IsNext, IsKth, longest}
+use Rattle.gameid_core.specs.Puzzles.{lines_of}
+use Rattle.engine_core.specs.Puzzle.{has_place, IsNext, IsKth}
 use Rattle.engine_core.proofs.KthLemmas.{next-kth, next-number, kth-none}
 use Rattle.grid_core.specs.Candidates.{count_below}
 use Rattle.pattern_core.specs.Lines.{line_places}
-use Rattle.pattern_core.specs.LineLaws.{length-line_places, column_has, row_has, only_column, only_row}
+use Rattle.pattern_core.specs.LineLaws.{column_has, row_has, only_column, only_row}
 
-module _ (size : Extent) (w place from : ℕ) (same : w ≡ size.w) (some : 1 ≤ size.w) (within : place < size.w * size.h) where
+module _ (size : Extent) (w place from : ℕ) (same : w ≡ size.w) (within : place < size.w * size.h) where
   x_low : place % w < size.w
-  x_low = let z : place % w < w = mod-lt place (let p : 0 < w = omega arith in p) in omega arith
+  x_low = grind (arith, common_steps, cases_Bool, mod-lt)
 
   cell : (place / w) * size.w + place % w ≡ place
   cell = ap (λ v. (place / w) * v + place % w) (sym same) ∙ div-add-mod' place w
@@ -47,15 +47,15 @@ module _ (size : Extent) (w place from : ℕ) (same : w ≡ size.w) (some : 1 �
   its_lines line = grind (arith, common_steps, cases_Bool, eq-eqb, in_column, in_row, ne_eqb, no_other, or_left, or_right, true≢false)
 
 -- ---- the same by their number
-module _ (size : Extent) (w place : ℕ) (same : w ≡ size.w) (some : 1 ≤ size.w) (within : place < size.w * size.h) where
+module _ (size : Extent) (w place : ℕ) (same : w ≡ size.w) (within : place < size.w * size.h) where
   abbrev test : ℕ → Bool
   test h = has_place (line_places size h) place
 
   column_first : IsNext test (lines_of size) 0 (Some (place % w))
-  column_first = next_column size w place 0 same some within (omega arith)
+  column_first = next_column size w place 0 same within (omega arith)
 
   row_after : IsNext test (lines_of size) (place % w + 1) (Some (w + place / w))
-  row_after = next_row size w place (place % w + 1) same some within (omega arith) (let m : place % w < w = mod-lt place (omega arith) in omega arith)
+  row_after = next_row size w place (place % w + 1) same within (omega arith) (let m = x_low size w place 0 same within in omega arith)
 
   one_before : count_below test (place % w + 1) ≡ 1
   unfolding count_below
@@ -70,26 +70,4 @@ module _ (size : Extent) (w place : ℕ) (same : w ≡ size.w) (some : 1 ≤ siz
 
   pub no_line : (k : ℕ) → 2 ≤ k → IsKth test (lines_of size) k None
   no_line k two = kth-none test (lines_of size) (w + place / w + 1) 2 k (let l = row_after.1 in omega arith) (next-number test (lines_of size) (place % w + 1) 1 (w + place / w) one_before row_after) two
-      (next_none size w place (w + place / w + 1) same some within (let m : place % w < w = mod-lt place (omega arith) in omega arith) (omega arith))
-
--- no line is longer than what each line is at most
-pub longest_at_most : (size : Extent) (n most : ℕ) → ((line : ℕ) → line_cells size line ≤ most) → longest (line_places size) n ≤ most
-unfolding longest
-longest_at_most size zero most each = omega arith
-longest_at_most size (suc n) most each =
-    let here = each n in let rest = longest_at_most size n most each in let e = length-line_places size n in omega arith
-
-up_to : (size : Extent) (line n : ℕ) → line < n → length (line_places size line) ≤ longest (line_places size) n
-unfolding longest
-up_to size line zero lt = absurd (omega arith)
-up_to size line (suc n) lt = elim (cases_lt line n) [
-  | inl low ↦ let z = up_to size line n low in omega arith
-  | inr high ↦ let e : line ≡ n = omega arith in let z : length (line_places size line) ≡ length (line_places size n) = ap (λ l. length (line_places size l)) e in omega arith
-]
-
-pub line_at_most : (size : Extent) (line most : ℕ) → line < lines_of size → longest (line_places size) (lines_of size) ≤ most → line_cells size line ≤ most
-line_at_most size line most lt all = let e = length-line_places size line in let z = up_to size line (lines_of size) lt in omega arith
-
--- a line of the rules, at the size that they keep, is no longer than the room for the longest
-pub line_in_room : (size same : Extent) (line room : ℕ) → size ≡ same → line < lines_of same → longest (line_places same) (lines_of same) ≤ room → line_cells size line ≤ room
-line_in_room size same line room e lt all = let z = line_at_most same line room lt all in let f = ap (λ s. line_cells s line) e in omega arith
+      (next_none size w place (w + place / w + 1) same within (let m = x_low size w place 0 same within in omega arith) (omega arith))

@@ -1,14 +1,15 @@
 -- A clue spelled cell by cell, as sets of places, and read back from them.
 use Rattle.std.proofs.lemmas.Bool.{cases_Bool}
 use Rattle.std.proofs.lemmas.Grind.{common_steps}
-use Rattle.std.proofs.Common.{◌≡◌, ◌∙◌, ℕ, zero, suc, ◌+◌, ◌<◌, ◌≤◌, Bool, true, false, cond, ◌||◌, eqb, List, [], ◌∷◌, ◌++◌, length, get_or, take, replicate, refl, sym, ap, ap₂, arith, append_assoc, length-append}
+use Rattle.std.proofs.Common.{◌≡◌, ◌∙◌, ℕ, zero, suc, ◌+◌, ◌<◌, ◌≤◌, Bool, true, false, cond, ◌||◌, eqb, List, [], ◌∷◌, ◌++◌, length, get_or, take, replicate, refl, sym, ap, ap₂, subst, arith, append_assoc, length-append}
 use Rattle.std.specs.List.{AllByRecursion}
 use Rattle.std.proofs.Math.Path.{fun_ext}
 use Rattle.std.proofs.lemmas.Bool.{cases_eq, cases_lt, eq-eqb, ne_eqb}
 use Rattle.std.proofs.lemmas.List.{get_or_append_left, get_or_past, take_more, replicate-append-replicate}
 use Rattle.gameid_core.specs.BlackRuns.{runs_after, runs}
 use Rattle.gameid_core.specs.Puzzles.{used}
-use Rattle.pattern_core.specs.Track.{spelled, Track, track_of, may_stay, one_on, IsSpelling, cells_from, clue_along, IsTrack}
+use Rattle.pattern_core.specs.Track.{spelled, Track, track_of, may_stay, one_on, IsSpelling, cells_from, clue_along, IsTrack, IsBelow}
+use Rattle.pattern_core.proofs.SpelledRuns.{length-spelled, track_below}
 
 -- the cells with one more
 more_cells : (cells : List ℕ) (x p : ℕ) → (p ≡ length cells → ⊥) → get_or (cells ++ x ∷ []) p 2 ≡ get_or cells p 2
@@ -137,6 +138,9 @@ spelled_runs (m ∷ clue) positive n fits =
 pub clue_back : (clue : List ℕ) (n : ℕ) (t : Track) → AllByRecursion (λ k. 0 < k) clue → used clue < n → t ≡ track_of (spelled clue) → clue_along n t ≡ clue
 unfolding clue_along track_of
 clue_back clue n t positive fits is = ap (λ (u : Track). runs (cells_from u.black n 0)) is ∙ spelled_runs clue positive n (omega arith)
+
+pub track_under : (n : ℕ) (t : Track) → IsTrack n t → IsBelow n t
+track_under n t is = subst (IsBelow n) (sym is.spells) (track_below (spelled (clue_along n t)) n (omega (arith, is.fits, length-spelled (clue_along n t))))
 
 pub track_of_clue : (clue : List ℕ) (n : ℕ) (t : Track) → AllByRecursion (λ k. 0 < k) clue → used clue < n → t ≡ track_of (spelled clue) → IsTrack n t
 track_of_clue clue n t positive fits is = grind (arith, common_steps, cases_Bool, clue_back)

@@ -1,10 +1,7 @@
 -- The clue of a line, whatever words it is spelled in.
 use Rattle.std.specs.Prelude.{ℕ, List, map}
 use Rattle.grid_core.specs.Extent.{Extent}
-use Rattle.grid_core.specs.Candidates.{Candidates}
 use Rattle.gameid_core.specs.Puzzles.{Pattern}
-use Rattle.pattern_core.specs.LineRules.{after_line}
-use Rattle.pattern_core.specs.declared.lines.Line.{Line}
 use Rattle.pattern_core.specs.declared.line_clue.LineClue.{LineClue}
 use Rattle.pattern_core.specs.declared.line_clue.LineClue.TheVariants.{Short, Long}
 
@@ -16,7 +13,3 @@ numbers_in (Long clue) = clue
 -- the puzzle of a size with these clues
 abbrev pub pattern_of : Extent → List LineClue → Pattern
 pattern_of size clues = record { size = size; clues = map numbers_in clues }
-
--- what a visit of the line leaves of a board
-abbrev pub left_by : Line → Candidates → Candidates
-left_by line = after_line line.size line.number (numbers_in line.clue.now)

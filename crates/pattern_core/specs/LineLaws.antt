@@ -15,7 +15,7 @@ use Rattle.grid_core.proofs.CandidateLemmas.{all_below-at, all_below-from, count
 use Rattle.grid_core.proofs.GridLemmas.{single-is}
 use Rattle.gameid_core.specs.Puzzles.{Pattern, lines_of, line_cells}
 use Rattle.gameid_core.specs.BlackRuns.{runs}
-use Rattle.engine_core.specs.Puzzle.{Needs, FitsIn, IsLawful, after, has_place, share}
+use Rattle.engine_core.specs.Puzzle.{IsLawful, after, has_place, share}
 use Rattle.engine_core.specs.PlaceLaws.{has_place-at, has_place-here}
 use Rattle.engine_core.specs.Filling.{strikes_by_fillings}
 use Rattle.engine_core.specs.House.{strikes_at, AreDifferent}
@@ -173,17 +173,16 @@ pub line_of_solution : (p : Pattern) (g : List ℕ) (line : ℕ) → line < line
 line_of_solution p g line lt s = grind (arith, common_steps, cases_Bool, cases_lt, line_numbers-column, line_numbers-row)
 
 -- the test of a grid is met by the solutions alone
-pub is_solution-line : (p : Pattern) (g : List ℕ) (line : ℕ) → is_pattern_solution p g ≡ true → line < lines_of p.size → HasClue p g line
+pub is_solution-line : (p : Pattern) (g : List ℕ) (line : ℕ) → is_pattern_solution p g ≡ true → line < lines_of p.size → has_runs (clue_of p line) (line_numbers p.size g line) ≡ true
 unfolding is_pattern_solution
-is_solution-line p g line on lt =
-    has_runs-is (clue_of p line) (line_numbers p.size g line) (all_below-at (λ h. has_runs (clue_of p h) (line_numbers p.size g h)) (lines_of p.size) line on lt)
+is_solution-line p g line on lt = all_below-at (λ h. has_runs (clue_of p h) (line_numbers p.size g h)) (lines_of p.size) line on lt
 
 pub is_solution-each : (p : Pattern) (g : List ℕ) → ((line : ℕ) → line < lines_of p.size → HasClue p g line) → is_pattern_solution p g ≡ true
 unfolding is_pattern_solution
 is_solution-each p g each = grind (arith, common_steps, cases_Bool, all_below-from, has_runs-from)
 
 pub is_solution-is : (p : Pattern) (g : List ℕ) → IsGrid (p.size.w * p.size.h) 2 g → is_pattern_solution p g ≡ true → IsPatternSolution p g
-is_solution-is p g grid on = solution_from_lines p g grid (λ line lt. is_solution-line p g line on lt)
+is_solution-is p g grid on = solution_from_lines p g grid (λ line lt. has_runs-is (clue_of p line) (line_numbers p.size g line) (is_solution-line p g line on lt))
 
 pub is_solution-from : (p : Pattern) (g : List ℕ) → IsPatternSolution p g → is_pattern_solution p g ≡ true
 is_solution-from p g s = is_solution-each p g (λ line lt. line_of_solution p g line lt s)
@@ -213,7 +212,7 @@ line_rules-lawful p extent = record {
       by_fillings-closed 2 (line_places p.size h) (has_runs (clue_of p h)) g
       (λ k less. let e = grid.each_cell in let z = in_grid p.size h (slice_index (line_places p.size h) k) lt (has_place-here (line_places p.size h) k less) in omega arith)
       (λ d less. grid.each_value d 0 less)
-      (ap (has_runs (clue_of p h)) (line_numbers-places p.size g h) ∙ has_runs-from (clue_of p h) (line_numbers p.size g h) (is_solution-line p g h good lt)) c v on;
+      (ap (has_runs (clue_of p h)) (line_numbers-places p.size g h) ∙ is_solution-line p g h good lt) c v on;
   settles = λ settled h K c v lt _ on.
       by_fillings-settled 2 (line_places p.size h) (has_runs (clue_of p h)) K (λ d u. K d u && not (strikes_at 2 (line_places p.size h) (strikes_by_fillings (has_runs (clue_of p h))) K d u)) (different_places p.size h) (λ d u. refl) c v on;
   bound_of_queue = λ e. let z = few_shares p (p.size.w * p.size.h) in omega arith;
@@ -225,7 +224,3 @@ line_rules-lawful p extent = record {
   scope_within = λ h c lt member. in_grid p.size h c lt member;
   scope_distinct = λ h j k lt lj lk e. different_places p.size h j k lj lk e;
 }
-
--- a scratch for long lines serves shorter ones
-pub serves-smaller : (room : ℕ) (need had : Needs) → FitsIn need had → had.scope ≤ room → need.scope ≤ room
-serves-smaller room need had fits serves = let z = fits.scope_in in omega arith

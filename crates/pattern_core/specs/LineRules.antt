@@ -1,13 +1,13 @@
 -- What the rules of Pattern mean to a search: each line is a house.
-use Rattle.std.specs.Prelude.{◌≡◌, ℕ, ◌+◌, ◌*◌, ◌==◌, Bool, true, not, ◌&&◌, List}
-use Rattle.grid_core.specs.Extent.{Extent, IsExtent}
+use Rattle.std.specs.Prelude.{◌≡◌, ℕ, ◌+◌, ◌*◌, ◌==◌, Bool, true, List}
+use Rattle.grid_core.specs.Extent.{IsExtent}
 use Rattle.grid_core.specs.Candidates.{Candidates, all_below, all_of}
 use Rattle.gameid_core.specs.Puzzles.{Pattern, lines_of}
 use Rattle.engine_core.specs.Puzzle.{Puzzle}
 use Rattle.engine_core.specs.Filling.{strikes_by_fillings}
 use Rattle.engine_core.specs.House.{strikes_at}
 use Rattle.engine_core.specs.Waiting.{is_waiting, AreCalled}
-use Rattle.pattern_core.specs.Lines.{line_places, line_numbers, clue_of, has_runs, LineWork, IsFresh}
+use Rattle.pattern_core.specs.Lines.{line_places, line_numbers, clue_of, has_runs, IsFresh}
 
 -- whether each line's runs are its clue
 unfoldable pub is_pattern_solution : Pattern → List ℕ → Bool
@@ -29,20 +29,16 @@ line_rules p = record {
   is_solution = is_pattern_solution p;
 }
 
--- the board without what the line strikes in it
-unfoldable pub after_line : Extent → ℕ → List ℕ → Candidates → Candidates
-after_line size line clue K c v = K c v && not (strikes_at 2 (line_places size line) (strikes_by_fillings (has_runs clue)) K c v)
-
 -- a puzzle whose sides are in their range
 pub record Ruled : Type 0 where
   pub pattern : Pattern
   pub extent : IsExtent pattern.size
 
 -- what is known of the board is so: where it is known to be fresh, it is
-abbrev pub GoesAlong : Pattern → LineWork → Candidates → Type 0
-GoesAlong p work K = work.fresh ≡ true → IsFresh (p.size.w * p.size.h) K
+abbrev pub GoesAlong : Pattern → Bool → Candidates → Type 0
+GoesAlong p fresh K = fresh ≡ true → IsFresh (p.size.w * p.size.h) K
 
 -- the line is marked beside those that were, unless it strikes nothing of the board that is gone along with
-abbrev pub CallsLine : Pattern → LineWork → ℕ → List ℕ → List ℕ → Type 0
-CallsLine p work line old new = (K : Candidates) → GoesAlong p work K
+abbrev pub CallsLine : Pattern → Bool → ℕ → List ℕ → List ℕ → Type 0
+CallsLine p fresh line old new = (K : Candidates) → GoesAlong p fresh K
     → AreCalled (line_rules p) K (λ j. j == line) (is_waiting old) (is_waiting new)

@@ -1,12 +1,12 @@
 -- Lines of either kind: the columns from the left, and then the rows from the top.
-use Rattle.std.specs.Prelude.{◌≡◌, ℕ, ◌+◌, ◌-◌, ◌<◌, ◌≤◌, ◌++◌, ◌==◌, ◌&&◌, Bool, true, false, List, [], ◌∷◌, Option, MatchOption, length, nat_lt, if◌then◌else◌, slice_index_or, take}
+use Rattle.std.specs.Prelude.{◌≡◌, ℕ, ◌+◌, ◌-◌, ◌<◌, ◌≤◌, ◌==◌, ◌&&◌, Bool, true, false, List, [], ◌∷◌, length, nat_lt, if◌then◌else◌, slice_index_or}
 use Rattle.std.specs.List.{AllByRecursion}
 use Rattle.grid_core.specs.Candidates.{Candidates}
 use Rattle.grid_core.specs.Extent.{Extent}
 use Rattle.grid_core.specs.Grids.{row_cells, column_cells}
 use Rattle.grid_core.specs.Regions.{row_places, column_places}
 use Rattle.gameid_core.specs.Puzzles.{Pattern, used}
-use Rattle.gameid_core.specs.BlackRuns.{run_of, runs}
+use Rattle.gameid_core.specs.BlackRuns.{runs}
 use Rattle.engine_core.specs.Filling.{strikes_by_fillings}
 use Rattle.engine_core.specs.House.{IsDecided}
 
@@ -37,21 +37,10 @@ same_numbers (x ∷ xs) (y ∷ ys) = (x == y) && same_numbers xs ys
 unfoldable pub has_runs : List ℕ → List ℕ → Bool
 has_runs clue cells = same_numbers (runs cells) clue
 
--- there are so many sets, and more rows of either width
-abbrev pub HasRoom : ℕ → List ℕ → List ℕ → List ℕ → Type 0
-HasRoom n sets rows long_rows =
-    (length sets ≡ n) × (n < length rows) × (n < length long_rows)
-
--- After `ended` of the clue's runs comes a run of k cells, or none where k is 0: so many of the clue's runs have
--- then ended, or there is no such clue.
-abbrev pub EndsAfter : List ℕ → ℕ → ℕ → Option ℕ → Type 0
-EndsAfter clue ended k result = MatchOption result
-    ((rest : List ℕ) → take ended clue ++ (run_of k ++ rest) ≡ clue → ⊥)
-    (λ e. (e ≤ length clue) × (take e clue ≡ take ended clue ++ run_of k))
-
 -- the clue has a run, and a line of n cells is longer than the clue needs by as much as each run is
 pub record IsRoomy (clue : List ℕ) (n : ℕ) : Type 0 where
   pub some : 0 < length clue
+  pub positive : AllByRecursion (λ m. 0 < m) clue
   pub spare : ℕ
   pub more : 0 < spare
   pub short : AllByRecursion (λ m. m ≤ spare) clue
@@ -60,11 +49,6 @@ pub record IsRoomy (clue : List ℕ) (n : ℕ) : Type 0 where
 -- a line of so many cells is roomy, and each longer one
 abbrev pub IsRoomyFrom : List ℕ → ℕ → Type 0
 IsRoomyFrom clue from = (n : ℕ) → n < 1000 → from ≤ n → IsRoomy clue n
-
--- what a scratch has: lines of so many cells are worked in, and whether each cell of the board may be either
-pub record LineWork : Type 0 where
-  pub room : ℕ
-  pub fresh : Bool
 
 -- each of so many cells has both values, and no other
 pub record IsFresh (cells : ℕ) (K : Candidates) : Type 0 where

@@ -5,7 +5,8 @@ ghost use Rattle.grid_core.specs.Grids.{IsGrid};
 ghost use Rattle.pattern_core.specs.Faults.{IsCheck};
 
 use crate::fault::PatternFault;
-use crate::walk::has_clue;
+use crate::line_cells::lines;
+use crate::line_clue::LineClue;
 use gameid_core::PatternPuzzle;
 use grid_core::Grid;
 
@@ -14,14 +15,15 @@ use grid_core::Grid;
 ///
 /// The rule is that of the manual of Simon Tatham's Portable Puzzle Collection, "Pattern": the numbers beside a line
 /// are the lengths of its runs of consecutive black squares, in order.
+#[tactic(auto, using(crate::proofs::LineSteps::line_tests))]
 pub fn check_pattern(puzzle: &PatternPuzzle, grid: &Grid) -> Option<PatternFault>
     requires { IsGrid (puzzle.now.size.w * puzzle.now.size.h) 2 grid.now }
     ensures { IsCheck puzzle.now grid.now result }
 {
     let size = puzzle.size();
     let w = usize::from(size.w());
-    for line in 0..w + usize::from(size.h()) {
-        if has_clue(size, grid, line, puzzle.line(line)) {
+    for line in 0..lines(size) {
+        if LineClue::new(puzzle, line).is_met(size, grid, line) {
             continue;
         }
         if line < w {

@@ -1,16 +1,15 @@
 //! Whether a line of a grid goes along its spelled clue to the end.
 
-ghost use Rattle.std.specs.Prelude.{◌≡◌, ◌<◌, ◌*◌, ◌↔◌, IsTrue};
+ghost use Rattle.std.specs.Prelude.{◌≡◌, ◌<◌, ◌*◌};
 ghost use Rattle.grid_core.specs.Grids.{IsGrid};
-ghost use Rattle.gameid_core.specs.BlackRuns.{runs};
 ghost use Rattle.gameid_core.specs.Puzzles.{lines_of};
-ghost use Rattle.pattern_core.specs.Lines.{line_numbers};
+ghost use Rattle.pattern_core.specs.Lines.{line_numbers, has_runs};
 ghost use Rattle.pattern_core.specs.Track.{AreLedByNumber};
 
+use crate::line_cells::{line_len, number_at};
 use crate::places::Places;
 use crate::table::ways_of;
 use crate::track::{SpelledClue, Steps};
-use crate::walk::{line_len, number_at};
 use grid_core::{Grid, Size};
 
 /// Which places are reached by a cell with this number, by those that are reached before it.
@@ -30,7 +29,7 @@ pub(crate) fn follows<P: Places>(
 ) -> bool
     requires grid { IsGrid (size.w * size.h) 2 grid.now }
     requires line { line < lines_of size }
-    ensures { IsTrue result ↔ (runs (line_numbers size grid.now line) ≡ clue.now) }
+    ensures { result ≡ has_runs clue.now (line_numbers size grid.now line) }
 {
     let steps = clue.steps();
     let mut reached = P::first();

@@ -5,6 +5,7 @@ mod check;
 mod fault;
 mod follow;
 mod laws;
+mod line_cells;
 mod line_clue;
 mod lines;
 #[cfg(test)]
@@ -12,7 +13,6 @@ mod listing;
 mod places;
 mod table;
 mod track;
-mod walk;
 
 pub use check::check_pattern;
 pub use fault::PatternFault;

@@ -1,17 +1,35 @@
 //! The clue of a line, spelled in words of 64 bits where they have room for it.
 
-ghost use Rattle.std.specs.Prelude.{◌≡◌, ℕ, ◌<◌, ◌≤◌, ◌*◌, ◌↔◌, IsTrue, true, false, length};
-ghost use Rattle.std.specs.List.{AllByRecursion};
+ghost use Rattle.std.specs.Prelude.{◌≡◌, ◌<◌, ◌≤◌, ◌*◌, true, false, length};
 ghost use Rattle.grid_core.specs.Grids.{IsGrid};
-ghost use Rattle.gameid_core.specs.BlackRuns.{runs};
-ghost use Rattle.gameid_core.specs.Puzzles.{lines_of, used};
-ghost use Rattle.pattern_core.specs.Lines.{line_numbers, IsDecidedBy, IsRoomy};
+ghost use Rattle.gameid_core.specs.Puzzles.{lines_of, IsPattern};
+ghost use Rattle.pattern_core.specs.Lines.{line_numbers, clue_of, has_runs, IsDecidedBy, IsRoomy};
 ghost use Rattle.pattern_core.specs.LineClues.{numbers_in};
 
 use crate::follow::follows;
 use crate::table::keep;
-use crate::track::{SpelledClue, measured, roomy_from};
+use crate::track::{SpelledClue, measured};
+use gameid_core::PatternPuzzle;
 use grid_core::{Grid, Size};
+
+/// The most cells of a line.
+pub(crate) const LONGEST: usize = 120;
+
+/// The rows of a table for a line, in words of either width.
+#[derive(Drop)]
+pub(crate) struct Rows {
+    short: [u64; LONGEST + 1],
+    long: [u128; LONGEST + 1],
+}
+
+impl Rows {
+    pub(crate) fn new() -> Rows {
+        Rows {
+            short: [0; LONGEST + 1],
+            long: [0; LONGEST + 1],
+        }
+    }
+}
 
 /// The clue of a line.
 #[derive(Drop)]
@@ -23,14 +41,14 @@ pub(crate) enum LineClue {
 }
 
 impl LineClue {
-    /// The clue with these numbers.
-    pub(crate) fn new(numbers: &[u8]) -> LineClue
-        requires positive { AllByRecursion (λ n. 0 < n) numbers.now }
-        requires fits { used numbers.now < 128 }
-        ensures { numbers_in result ≡ numbers.now }
+    /// The clue of a line of the puzzle.
+    pub(crate) fn new(puzzle: &PatternPuzzle, line: usize) -> LineClue
+        requires lawful { IsPattern puzzle.now }
+        requires line { line < lines_of puzzle.now.size }
+        ensures { numbers_in result ≡ clue_of puzzle.now line }
     {
-        let (cells, longest) = measured(numbers);
-        let from = roomy_from(numbers, cells, longest);
+        let numbers = puzzle.line(line);
+        let (cells, from) = measured(numbers);
         if cells < 64 {
             LineClue::Short(SpelledClue::new(numbers, from))
         } else {
@@ -50,15 +68,14 @@ impl LineClue {
     }
 
     /// Keeps of each cell of a line the values that some filling with the clue's runs has there, as `table::keep` says.
-    pub(crate) fn keep(&self, sets: &mut [u32], rows: &mut [u64], long_rows: &mut [u128]) -> bool
-        requires room { length sets.old < length rows.old }
-        requires long_room { length sets.old < length long_rows.old }
+    pub(crate) fn keep(&self, sets: &mut [u32], rows: &mut Rows) -> bool
+        requires { length sets.old ≤ 120 }
         ensures decided { IsDecidedBy (numbers_in self.now) sets.old sets.new }
         ensures unchanged { result ≡ false → sets.new ≡ sets.old }
     {
         match self {
-            LineClue::Short(clue) => keep(sets, clue, rows),
-            LineClue::Long(clue) => keep(sets, clue, long_rows),
+            LineClue::Short(clue) => keep(sets, clue, &mut rows.short),
+            LineClue::Long(clue) => keep(sets, clue, &mut rows.long),
         }
     }
 
@@ -66,7 +83,7 @@ impl LineClue {
     pub(crate) fn is_met(&self, size: Size, grid: &Grid, line: usize) -> bool
         requires grid { IsGrid (size.w * size.h) 2 grid.now }
         requires line { line < lines_of size }
-        ensures { IsTrue result ↔ (runs (line_numbers size grid.now line) ≡ numbers_in self.now) }
+        ensures { result ≡ has_runs (numbers_in self.now) (line_numbers size grid.now line) }
     {
         match self {
             LineClue::Short(clue) => follows(size, grid, line, clue),

@@ -1,23 +1,24 @@
 //! The lines of a puzzle as the houses of a search: the columns from the left, and then the rows from the top.
 
-ghost use Rattle.std.specs.Prelude.{◌≡◌, ℕ, ◌+◌, ◌*◌, ◌<◌, ◌≤◌, IfOk, true, false, length, refl, slice_index};
+ghost use Rattle.std.specs.Prelude.{◌≡◌, ℕ, ◌+◌, ◌<◌, ◌≤◌, IfOk, true, false, length, refl};
 ghost use Rattle.grid_core.specs.Extent.{IsExtent};
 ghost use Rattle.grid_core.specs.Board.{has, cells_of, SameShape};
-ghost use Rattle.gameid_core.specs.Puzzles.{lines_of, line_cells};
+ghost use Rattle.gameid_core.specs.Puzzles.{lines_of};
 ghost use Rattle.grid_core.specs.Candidates.{Candidates};
 ghost use Rattle.engine_core.specs.Closing.{HasStruck};
+ghost use Rattle.engine_core.specs.Puzzle.{IsBoardOf, after};
 ghost use Rattle.engine_core.specs.Waiting.{words_of};
 ghost use Rattle.engine_core.specs.declared.mode.Mode.TheVariants.{Queue};
-ghost use Rattle.pattern_core.specs.Lines.{line_places, IsFresh};
-ghost use Rattle.pattern_core.specs.LineClues.{left_by};
+ghost use Rattle.pattern_core.specs.Lines.{clue_of, IsFresh};
+ghost use Rattle.pattern_core.specs.LineClues.{numbers_in};
 ghost use Rattle.pattern_core.specs.LineRules.{line_rules, GoesAlong, CallsLine};
 
-use crate::line_clue::LineClue;
+use crate::line_cells::{line_len, line_place, lines, write_places};
+use crate::line_clue::{LONGEST, LineClue, Rows};
 use crate::table::BOTH;
-use crate::walk::line_len;
 use engine_core::{Mode, Rules, apply, gather, mark};
 use gameid_core::PatternPuzzle;
-use grid_core::{Board, Grid, Size, column_place, row_place};
+use grid_core::{Board, Grid, Size};
 use std::alloc::{AllocError, Global};
 use std::marker::Model;
 
@@ -46,103 +47,13 @@ impl Model for PatternLines {
     ghost invariant = { λ r. IsPattern (pattern_of r.size r.clues.items) };
 }
 
-/// What a visit of a line works in, for lines up to some length, and whether each cell of the board is known to have both
-/// values.
+/// What a visit of a line works in, and whether each cell of the board is known to have both values.
 #[derive(Drop)]
 pub struct LineScratch {
-    places: Vec<u32>,
-    sets: Vec<u32>,
-    rows: Vec<u64>,
-    long_rows: Vec<u128>,
+    places: [u32; LONGEST],
+    sets: [u32; LONGEST],
+    rows: Rows,
     fresh: bool,
-}
-
-impl Model for LineScratch {
-    ghost use Rattle.std.specs.Prelude.{length};
-    ghost use Rattle.pattern_core.specs.Lines.{HasRoom, LineWork};
-
-    ghost Value = { LineWork };
-
-    ghost view = { λ s. record { room = length s.places.items; fresh = s.fresh } };
-
-    ghost invariant = { λ s.
-        HasRoom (length s.places.items) s.sets.items s.rows.items s.long_rows.items };
-}
-
-/// The place of a line's k-th cell: downwards in a column and rightwards in a row.
-fn line_place(size: Size, line: usize, k: usize) -> usize
-    requires line { line < lines_of size }
-    requires cell { k < line_cells size line }
-    ensures place { result ≡ slice_index (line_places size line) k }
-    ensures small { result < 65536 }
-{
-    let w = usize::from(size.w());
-    let _h = size.h();
-    if line < w {
-        column_place(size, line, k)
-    } else {
-        row_place(size, line - w, k)
-    }
-}
-
-/// Writes the places of a line's cells.
-fn write_places(size: Size, line: usize, places: &mut [u32])
-    requires line { line < lines_of size }
-    requires as_many { length places.old ≡ line_cells size line }
-    ensures { places.new ≡ line_places size line }
-{
-    for k in 0..places.len() {
-        places[k] = line_place(size, line, k) as u32;
-    }
-}
-
-/// A line of a puzzle: the puzzle's size, the line's number, and its clue.
-#[derive(Clone, Copy)]
-struct Line<'a> {
-    size: Size,
-    number: usize,
-    clue: &'a LineClue,
-}
-
-impl Line<'_> {
-    /// Strikes from the line's cells what no filling with the clue's runs has, and says whether that was anything. It works
-    /// in the first parts of the slices, which may be longer than the line.
-    fn visit(
-        &self,
-        board: &mut Board,
-        places: &mut [u32],
-        sets: &mut [u32],
-        rows: &mut [u64],
-        long_rows: &mut [u128],
-    ) -> bool
-        requires line { self.now.number < lines_of self.now.size }
-        requires cells { cells_of board.old ≡ self.now.size.w * self.now.size.h }
-        requires values { board.old.values ≡ 2 }
-        requires places { line_cells self.now.size self.now.number ≤ length places.old }
-        requires sets { line_cells self.now.size self.now.number ≤ length sets.old }
-        requires rows { line_cells self.now.size self.now.number < length rows.old }
-        requires long_rows { line_cells self.now.size self.now.number < length long_rows.old }
-        ensures left { has board.new ≡ left_by self.now (has board.old) }
-        ensures shape { SameShape board.old board.new }
-        ensures unchanged { result ≡ false → has board.new ≡ has board.old }
-        ensures changed { result ≡ true → HasStruck (has board.old) (has board.new) }
-    {
-        let cells = line_len(self.size, self.number);
-        let (places, sets) = (&mut places[..cells], &mut sets[..cells]);
-        write_places(self.size, self.number, places);
-        gather(board, places, sets);
-        if !self.clue.keep(sets, rows, long_rows) {
-            return false;
-        }
-        apply(board, places, sets)
-    }
-}
-
-/// The length of the longer side.
-fn longest_line(size: Size) -> usize
-    ensures columns { (line : ℕ) → line_cells size line ≤ result }
-{
-    usize::from(size.w().max(size.h()))
 }
 
 /// Whether each cell has both values.
@@ -169,21 +80,71 @@ impl PatternLines {
         ensures { IfOk result (λ rules. rules.pattern ≡ puzzle.now) }
     {
         let size = puzzle.size();
-        let _w = size.w();
-        let lines = usize::from(size.w()) + usize::from(size.h());
-        let mut clues = Vec::with_capacity(alloc, lines)?;
-        for line in 0..lines {
-            clues.push(LineClue::new(puzzle.line(line)))?;
+        let count = lines(size);
+        let mut clues = Vec::with_capacity(alloc, count)?;
+        for line in 0..count {
+            clues.push(LineClue::new(puzzle, line))?;
         }
         Ok(PatternLines { size, clues })
+    }
+
+    /// The size of the grid.
+    fn size(&self) -> Size
+        ensures { result ≡ self.now.pattern.size }
+    {
+        self.size
+    }
+
+    /// How many columns there are.
+    fn columns(&self) -> usize
+        ensures { result ≡ self.now.pattern.size.w }
+    {
+        usize::from(self.size.w())
+    }
+
+    /// The clue of a line.
+    fn clue(&self, line: usize) -> &LineClue
+        requires { line < lines_of self.now.pattern.size }
+        ensures { numbers_in result.now ≡ clue_of self.now.pattern line }
+    {
+        &self.clues[line]
+    }
+
+    /// Visits a line, and works in the first parts of the slices.
+    fn visit_in(
+        &self,
+        line: usize,
+        board: &mut Board,
+        places: &mut [u32],
+        sets: &mut [u32],
+        rows: &mut Rows,
+    ) -> bool
+        requires line { line < lines_of self.now.pattern.size }
+        requires board_of { IsBoardOf (line_rules self.now.pattern) board.old }
+        requires places { length places.old ≡ 120 }
+        requires sets { length sets.old ≡ 120 }
+        ensures left { has board.new ≡ after (line_rules self.now.pattern) line (has board.old) }
+        ensures shape { SameShape board.old board.new }
+        ensures unchanged { result ≡ false → has board.new ≡ has board.old }
+        ensures changed { result ≡ true → HasStruck (has board.old) (has board.new) }
+    {
+        let size = self.size();
+        let cells = line_len(size, line);
+        let (places, sets) = (&mut places[..cells], &mut sets[..cells]);
+        write_places(size, line, places);
+        gather(board, places, sets);
+        if !self.clue(line).keep(sets, rows) {
+            return false;
+        }
+        apply(board, places, sets)
     }
 
     /// Marks the line, unless it strikes nothing.
     fn wake_line(&self, line: usize, scratch: &LineScratch, waits: &mut [u64])
         requires line_in { line < lines_of self.now.pattern.size }
         requires room { words_of (lines_of self.now.pattern.size) ≤ length waits.old }
-        requires follows { (K : Candidates) × GoesAlong self.now.pattern scratch.now K }
-        ensures { CallsLine self.now.pattern scratch.now line waits.old waits.new }
+        requires follows { (K : Candidates) × GoesAlong self.now.pattern scratch.now.fresh K }
+        ensures { CallsLine self.now.pattern scratch.now.fresh line waits.old waits.new }
     {
         if self.calls(line, scratch) {
             mark(waits, line);
@@ -192,7 +153,7 @@ impl PatternLines {
 }
 
 impl Rules for PatternLines {
-    ghost use Rattle.pattern_core.specs.LineLaws.{line_rules-lawful, serves-smaller};
+    ghost use Rattle.pattern_core.specs.LineLaws.{line_rules-lawful};
 
     type Scratch = LineScratch;
 
@@ -208,18 +169,18 @@ impl Rules for PatternLines {
 
     ghost mode_is = { λ _. refl };
 
-    ghost serves = { λ scratch needs. needs.scope ≤ scratch.room };
+    ghost serves = { λ _ _. Unit {0} };
 
-    ghost follows = { λ r. GoesAlong r.pattern };
+    ghost follows = { λ r scratch. GoesAlong r.pattern scratch.fresh };
 
     ghost lawful = { λ r. line_rules-lawful r.pattern r.extent };
 
     ghost settled_is = { λ _. refl };
 
-    ghost serves_smaller = { λ scratch. serves-smaller scratch.room };
+    ghost serves_smaller = { λ _ _ _ _ _. tt };
 
     fn cells(&self) -> usize {
-        self.size.cells()
+        self.size().cells()
     }
 
     fn values(&self) -> u8 {
@@ -227,23 +188,25 @@ impl Rules for PatternLines {
     }
 
     fn houses(&self) -> usize {
-        usize::from(self.size.w()) + usize::from(self.size.h())
+        lines(self.size())
     }
 
     fn bound(&self) -> usize {
         self.houses() + self.cells()
     }
 
+    #[tactic(auto, using(crate::proofs::LineSteps::cell_laws))]
     fn scope_len(&self, house: usize) -> usize {
-        line_len(self.size, house)
+        line_len(self.size(), house)
     }
 
+    #[tactic(auto, using(crate::proofs::LineSteps::cell_laws))]
     fn scope(&self, house: usize, k: usize) -> usize {
-        line_place(self.size, house, k)
+        line_place(self.size(), house, k)
     }
 
     fn house_at(&self, place: usize, from: usize) -> Option<usize> {
-        let w = usize::from(self.size.w());
+        let w = self.columns();
         let column = place % w;
         if from <= column {
             return Some(column);
@@ -256,7 +219,7 @@ impl Rules for PatternLines {
     }
 
     fn house_of(&self, place: usize, k: usize) -> Option<usize> {
-        let w = usize::from(self.size.w());
+        let w = self.columns();
         match k {
             0 => Some(place % w),
             1 => Some(w + place / w),
@@ -268,33 +231,21 @@ impl Rules for PatternLines {
         board.fill();
     }
 
-    fn scratch(&self, alloc: Global) -> Result<LineScratch, AllocError> {
-        let longest = longest_line(self.size);
+    fn scratch(&self, _alloc: Global) -> Result<LineScratch, AllocError> {
         Ok(LineScratch {
-            places: vec![in alloc; 0u32; longest]?,
-            sets: vec![in alloc; 0u32; longest]?,
-            rows: vec![in alloc; 0u64; longest + 1]?,
-            long_rows: vec![in alloc; 0u128; longest + 1]?,
+            places: [0; LONGEST],
+            sets: [0; LONGEST],
+            rows: Rows::new(),
             fresh: false,
         })
     }
 
     fn visit(&self, house: usize, board: &mut Board, scratch: &mut LineScratch) -> bool {
-        let line = Line {
-            size: self.size,
-            number: house,
-            clue: &self.clues[house],
-        };
         let (places, sets) = (&mut scratch.places, &mut scratch.sets);
-        line.visit(
-            board,
-            places,
-            sets,
-            &mut scratch.rows,
-            &mut scratch.long_rows,
-        )
+        self.visit_in(house, board, places, sets, &mut scratch.rows)
     }
 
+    #[tactic(auto, using(crate::proofs::LineSteps::cell_laws))]
     fn keep(
         &self,
         house: usize,
@@ -303,7 +254,7 @@ impl Rules for PatternLines {
         scratch: &mut LineScratch,
     ) -> bool {
         kept.copy_from_slice(sets);
-        self.clues[house].keep(kept, &mut scratch.rows, &mut scratch.long_rows)
+        self.clue(house).keep(kept, &mut scratch.rows)
     }
 
     fn follow(&self, board: &Board, scratch: &mut LineScratch) {
@@ -315,21 +266,22 @@ impl Rules for PatternLines {
     }
 
     fn calls(&self, house: usize, scratch: &LineScratch) -> bool {
-        if !scratch.fresh {
-            return true;
+        if scratch.fresh && self.clue(house).is_roomy(line_len(self.size(), house)) {
+            return false;
         }
-        !self.clues[house].is_roomy(line_len(self.size, house))
+        true
     }
 
     fn wake(&self, place: usize, scratch: &LineScratch, waits: &mut [u64]) {
-        let w = usize::from(self.size.w());
+        let w = self.columns();
         self.wake_line(place % w, scratch, waits);
         self.wake_line(w + place / w, scratch, waits);
     }
 
+    #[tactic(auto, using(crate::proofs::LineSteps::line_tests), unfolding(crate::specs::LineRules::is_pattern_solution))]
     fn accept(&self, _scratch: &mut LineScratch, grid: &Grid) -> bool {
         for line in 0..self.houses() {
-            if !self.clues[line].is_met(self.size, grid, line) {
+            if !self.clue(line).is_met(self.size(), grid, line) {
                 return false;
             }
         }

@@ -6,7 +6,7 @@ ghost use Rattle.std.specs.Prelude.{◌≡◌, ℕ, ◌<◌, ◌≤◌, true, le
 ghost use Rattle.std.specs.List.{AllByRecursion};
 ghost use Rattle.gameid_core.specs.Puzzles.{used};
 ghost use Rattle.pattern_core.specs.Lines.{IsRoomy, IsRoomyFrom};
-ghost use Rattle.pattern_core.specs.Track.{spelled, track_of, along, AddsCells};
+ghost use Rattle.pattern_core.specs.Track.{spelled, track_of, along, AddsCells, IsBelow};
 
 use crate::places::Places;
 use std::marker::Model;
@@ -86,13 +86,13 @@ fn spell<P: Places>(clue: &[u8]) -> Steps<P>
 /// More cells than a line has.
 pub(crate) const TOO_MANY: usize = 1000;
 
-/// How many cells a clue is spelled with, those of each run and a white one after it; and its longest run, or 0 where it
-/// has none.
-pub(crate) fn measured(numbers: &[u8]) -> (usize, u8)
-    requires { used numbers.now < 128 }
+/// How many cells a clue is spelled with, those of each run and a white one after it; and from how many cells on a line
+/// is roomy for it.
+pub(crate) fn measured(numbers: &[u8]) -> (usize, usize)
+    requires positive { AllByRecursion (λ n. 0 < n) numbers.now }
+    requires fits { used numbers.now < 128 }
     ensures cells { result.0 ≡ used numbers.now }
-    ensures longest { (k : ℕ) → k < length numbers.now
-        → slice_index numbers.now k ≤ result.1 }
+    ensures roomy { IsRoomyFrom numbers.now result.1 }
 {
     let mut cells = 0;
     let mut longest = 0;
@@ -100,21 +100,10 @@ pub(crate) fn measured(numbers: &[u8]) -> (usize, u8)
         cells += usize::from(numbers[k]) + 1;
         longest = longest.max(numbers[k]);
     }
-    (cells, longest)
-}
-
-/// From how many cells on a line is roomy for a clue, by what it measures.
-pub(crate) fn roomy_from(numbers: &[u8], cells: usize, longest: u8) -> usize
-    requires positive { AllByRecursion (λ n. 0 < n) numbers.now }
-    requires few { cells < 128 }
-    requires cells { cells ≡ used numbers.now }
-    requires longest { (k : ℕ) → k < length numbers.now → slice_index numbers.now k ≤ longest }
-    ensures { IsRoomyFrom numbers.now result }
-{
     if numbers.is_empty() {
-        return TOO_MANY;
+        return (cells, TOO_MANY);
     }
-    cells + usize::from(longest) - 1
+    (cells, cells + usize::from(longest) - 1)
 }
 
 /// A line's clue, spelled once for all visits, and from how many cells on a line is roomy for it. Its numbers are the runs
@@ -161,10 +150,11 @@ impl<P: Places> SpelledClue<P> {
     }
 
     /// How a line goes along the clue.
+    #[tactic(auto, using(crate::proofs::Spellings::track_under))]
     pub(crate) fn steps(&self) -> Steps<P>
         ensures track { along P.has result ≡ track_of (spelled self.now) }
         ensures positive { AllByRecursion (λ n. 0 < n) self.now }
-        ensures fits { used self.now < P.room }
+        ensures below { IsBelow P.room (along P.has result) }
     {
         self.steps
     }

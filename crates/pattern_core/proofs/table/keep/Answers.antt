@@ -1,24 +1,17 @@
-use Rattle.std.proofs.Common.{◌∙◌, sym, arith, subst}
-use Rattle.pattern_core.specs.Track.{spelled, IsBelow}
-use Rattle.pattern_core.proofs.SpelledRuns.{length-spelled, track_below}
+use Rattle.std.proofs.Common.{◌∙◌, sym, arith}
 use Rattle.pattern_core.proofs.TableSteps.{way_from_first, nothing_kept, decided_by_track}
 use Rattle.pattern_core.proofs.table.keep.Goals as goal
-
-pub keep_cells-requires-clause-below : goal.keep_cells-requires-clause-below
-keep_cells-requires-clause-below g c =
-    subst (IsBelow g.P.Places.room) (sym c.steps-steps.ensures.track)
-    (track_below (spelled c.args.clue.now) g.P.Places.room (omega (arith, length-spelled c.args.clue.now, c.steps-steps.ensures.fits)))
 
 pub keep_cells-requires-clause-some : goal.keep_cells-requires-clause-some
 keep_cells-requires-clause-some g c =
     sym (way_from_first _ g.P.Places.has g.P.Places.room _ c.args.sets.now c.fill_rows.new.rows c.index-rows-0.result (g.P.Places.has c.first.result) (g.P.Places.has c.both.result)
-    (omega (arith, c.steps-steps.ensures.fits)) c.first.ensures c.index-rows-0.is c.both.ensures c.fill_rows.ensures)
+    c.steps-steps.ensures.below.first c.first.ensures c.index-rows-0.is c.both.ensures c.fill_rows.ensures)
     ∙ sym c.is_some.ensures ∙ c.if-not-is_some.false
 
 pub returns-then-not-is_some-clause-decided : goal.returns-then-not-is_some-clause-decided
 returns-then-not-is_some-clause-decided g c =
     let none = sym (way_from_first _ g.P.Places.has g.P.Places.room _ c.args.sets.now c.fill_rows.new.rows c.index-rows-0.result (g.P.Places.has c.first.result) (g.P.Places.has c.both.result)
-    (omega (arith, c.steps-steps.ensures.fits)) c.first.ensures c.index-rows-0.is c.both.ensures c.fill_rows.ensures)
+    c.steps-steps.ensures.below.first c.first.ensures c.index-rows-0.is c.both.ensures c.fill_rows.ensures)
     ∙ sym c.is_some.ensures ∙ c.if-not-is_some.true in
     decided_by_track c.args.clue.now c.args.sets.now _ _ c.steps-steps.ensures.track c.steps-steps.ensures.positive
     (nothing_kept _ c.args.sets.now c.clear.new.sets none c.clear.ensures.as_many (λ k lt. c.clear.ensures.none k (omega (arith, lt, c.clear.ensures.as_many))))

@@ -1,6 +1,7 @@
-use Rattle.std.proofs.Common.{ℕ, ◌<◌}
-use Rattle.pattern_core.specs.Lines.{HasClue}
+use Rattle.std.proofs.Common.{◌≡◌, ℕ, ◌<◌, true}
+use Rattle.pattern_core.specs.Lines.{clue_of, has_runs, line_numbers}
 use Rattle.pattern_core.proofs.lines.PatternLinesRules.accept.Given as goal
 
 abbrev pub invariant-loop-line : goal.invariant-loop-line
-invariant-loop-line l = (k : ℕ) → k < l.line → HasClue l.self.pattern l.grid k
+invariant-loop-line l = (k : ℕ) → k < l.line
+    → has_runs (clue_of l.self.pattern k) (line_numbers l.self.pattern.size l.grid k) ≡ true

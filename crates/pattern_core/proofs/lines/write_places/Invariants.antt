@@ -1,7 +1,0 @@
-use Rattle.std.proofs.Common.{◌≡◌, ℕ, ◌<◌, length, slice_index}
-use Rattle.gameid_core.specs.Puzzles.{line_cells}
-use Rattle.pattern_core.specs.Lines.{line_places}
-use Rattle.pattern_core.proofs.lines.write_places.Given as goal
-
-abbrev pub invariant-loop-k : goal.invariant-loop-k
-invariant-loop-k l = (length l.places ≡ line_cells l.size l.line) × ((k : ℕ) → k < l.k → slice_index l.places k ≡ slice_index (line_places l.size l.line) k)
