@@ -1,15 +1,16 @@
 -- Fillings that lead along a track, cell by cell: by tests alone, no filling is taken apart.
 use Rattle.std.proofs.lemmas.Bool.{cases_Bool}
 use Rattle.std.proofs.lemmas.Grind.{common_steps}
-use Rattle.std.proofs.Common.{◌≡◌, ◌∙◌, ℕ, zero, suc, ◌<◌, Bool, true, false, ◌&&◌, ◌||◌, List, [], ◌∷◌, refl, sym, ap, ap₂, arith, inl, inr}
+use Rattle.std.proofs.Common.{◌≡◌, ◌∙◌, ℕ, zero, suc, ◌<◌, Bool, true, false, ◌&&◌, ◌||◌, List, [], ◌∷◌, drop, refl, sym, ap, ap₂, arith, inl, inr}
 use Rattle.std.proofs.Math.Path.{fun_ext}
-use Rattle.std.proofs.Math.Bool.{and-or_distrib_right, and_assoc}
+use Rattle.std.proofs.Math.Bool.{and-or_distrib_right, and_assoc, and-false, or-false}
 use Rattle.std.proofs.lemmas.Bool.{false≢true, and_parts, and_from, or_cases, or_left, or_right, false_from_ne_true}
 use Rattle.grid_core.specs.Candidates.{any_below}
 use Rattle.grid_core.proofs.CandidateLemmas.{any_below-some, any_below-here}
 use Rattle.engine_core.specs.Filling.{Set, some_filling}
 use Rattle.engine_core.specs.FillingLaws.{filling_from_test, test_from_filling}
-use Rattle.pattern_core.specs.Track.{Track, IsBelow, leads, some_leads, ahead, one_on, moved, any_cells, cell_is}
+use Rattle.engine_core.specs.Sets.{has_bit}
+use Rattle.pattern_core.specs.Track.{Track, IsBelow, leads, some_leads, set_for, stays, goes_on, ahead, one_on, led, any_cells, cell_is}
 
 pub same_tests : (x y : Bool) → (x ≡ true → y ≡ true) → (y ≡ true → x ≡ true) → x ≡ y
 same_tests true y h k = sym (h refl)
@@ -30,26 +31,22 @@ some_and sets false t = some_none sets
 some_same : (sets : List Set) (t u : List ℕ → Bool) → ((f : List ℕ) → t f ≡ u f) → some_filling sets t ≡ some_filling sets u
 some_same sets t u h = ap (some_filling sets) (fun_ext h)
 
-or_false : (x : Bool) → (x || false) ≡ x
-or_false true = refl
-or_false false = refl
-
 some_split : (a b : Bool) (sets : List Set) (t : List ℕ → Bool)
     → some_filling ((a ∷ b ∷ []) ∷ sets) t ≡ ((a && some_filling sets (λ f. t (0 ∷ f))) || (b && some_filling sets (λ f. t (1 ∷ f))))
 unfolding some_filling
-some_split a b sets t = ap (λ y. (a && some_filling sets (λ f. t (0 ∷ f))) || y) (or_false (b && some_filling sets (λ f. t (1 ∷ f))))
+some_split a b sets t = ap (λ y. (a && some_filling sets (λ f. t (0 ∷ f))) || y) (or-false (b && some_filling sets (λ f. t (1 ∷ f))))
 
 -- ---- one cell
 spread : (a x b y e : Bool) → (((a && x) || (b && y)) && e) ≡ ((a && (x && e)) || (b && (y && e)))
 spread a x b y e = and-or_distrib_right (a && x) (b && y) e ∙ ap₂ (λ p q. p || q) (and_assoc a x e) (and_assoc b y e)
 
-module _ (t : Track) (a b : Bool) (sets : List Set) where
-  pub leads_on : (test : List ℕ → Bool) (p : ℕ) → some_leads t ((a ∷ b ∷ []) ∷ sets) test p
-      ≡ ((a && ((t.stay p && some_leads t sets (λ f. test (0 ∷ f)) p) || (t.white p && some_leads t sets (λ f. test (0 ∷ f)) (suc p))))
-      || (b && (t.black p && some_leads t sets (λ f. test (1 ∷ f)) (suc p))))
+module _ (t : Track) (set : ℕ) (sets : List Set) where
+  leads_on : (test : List ℕ → Bool) (p : ℕ) → some_leads t ((has_bit set 0 ∷ has_bit set 1 ∷ []) ∷ sets) test p
+      ≡ ((has_bit set 0 && ((t.stay p && some_leads t sets (λ f. test (0 ∷ f)) p) || (t.white p && some_leads t sets (λ f. test (0 ∷ f)) (suc p))))
+      || (has_bit set 1 && (t.black p && some_leads t sets (λ f. test (1 ∷ f)) (suc p))))
   unfolding some_leads leads
   leads_on test p =
-      some_split a b sets (λ f. leads t p f && test f) ∙ ap₂ (λ x y. (a && x) || (b && y))
+      some_split (has_bit set 0) (has_bit set 1) sets (λ f. leads t p f && test f) ∙ ap₂ (λ x y. (has_bit set 0 && x) || (has_bit set 1 && y))
       (some_same sets (λ f. leads t p (0 ∷ f) && test (0 ∷ f)) (λ f. (t.stay p && (leads t p f && test (0 ∷ f))) || (t.white p && (leads t (suc p) f && test (0 ∷ f))))
       (λ f. spread (t.stay p) (leads t p f) (t.white p) (leads t (suc p) f) (test (0 ∷ f)))
       ∙ some_or sets (λ f. t.stay p && (leads t p f && test (0 ∷ f))) (λ f. t.white p && (leads t (suc p) f && test (0 ∷ f)))
@@ -57,122 +54,55 @@ module _ (t : Track) (a b : Bool) (sets : List Set) where
       (some_same sets (λ f. leads t p (1 ∷ f) && test (1 ∷ f)) (λ f. t.black p && (leads t (suc p) f && test (1 ∷ f))) (λ f. and_assoc (t.black p) (leads t (suc p) f) (test (1 ∷ f)))
       ∙ some_and sets (t.black p) (λ f. leads t (suc p) f && test (1 ∷ f)))
 
-  -- by any cells
-  pub leads_any : (p : ℕ) → some_leads t ((a ∷ b ∷ []) ∷ sets) any_cells p ≡ ahead t a b (some_leads t sets any_cells) p
-  unfolding ahead any_cells
-  leads_any p = leads_on any_cells p
-
-  -- with a value at a later cell
-  pub leads_later : (k v p : ℕ) → some_leads t ((a ∷ b ∷ []) ∷ sets) (cell_is (suc k) v) p ≡ ahead t a b (some_leads t sets (cell_is k v)) p
-  unfolding ahead cell_is
-  leads_later k v p = leads_on (cell_is (suc k) v) p
+  -- by a test of the cells after it
+  pub leads_next : (test : List ℕ → Bool) (p : ℕ) → some_leads t ((has_bit set 0 ∷ has_bit set 1 ∷ []) ∷ sets) (λ cells. test (drop 1 cells)) p ≡ ahead t set (some_leads t sets test) p
+  unfolding ahead stays goes_on
+  leads_next test p = leads_on (λ cells. test (drop 1 cells)) p
+      ∙ regroup (has_bit set 0) (t.stay p) (t.white p) (has_bit set 1) (t.black p) (some_leads t sets test p) (some_leads t sets test (suc p))
+    where
+      regroup : (a s w b k x y : Bool) → ((a && ((s && x) || (w && y))) || (b && (k && y))) ≡ (((a && s) && x) || (((a && w) || (b && k)) && y))
+      regroup a s w b k x y = grind (arith, common_steps, cases_Bool)
 
   never : (p : ℕ) → some_leads t sets (λ f. false) p ≡ false
   unfolding some_leads
-  never p = some_same sets (λ f. leads t p f && false) (λ f. false) (λ f. and_false (leads t p f)) ∙ some_none sets
-    where
-      and_false : (x : Bool) → (x && false) ≡ false
-      and_false true = refl
-      and_false false = refl
+  never p = some_same sets (λ f. leads t p f && false) (λ f. false) (λ f. and-false (leads t p f)) ∙ some_none sets
 
-  -- with white here, and with black here
-  pub leads_white : (p : ℕ) → some_leads t ((a ∷ b ∷ []) ∷ sets) (cell_is 0 0) p
-      ≡ (a && ((t.stay p && some_leads t sets any_cells p) || (t.white p && some_leads t sets any_cells (suc p))))
-  unfolding cell_is any_cells
-  leads_white p = leads_on (cell_is 0 0) p
-      ∙ ap (λ x. (a && ((t.stay p && some_leads t sets any_cells p) || (t.white p && some_leads t sets any_cells (suc p)))) || (b && (t.black p && x))) (never (suc p))
-      ∙ ap (λ x. (a && ((t.stay p && some_leads t sets any_cells p) || (t.white p && some_leads t sets any_cells (suc p)))) || x) (nothing b (t.black p))
-      ∙ or_false (a && ((t.stay p && some_leads t sets any_cells p) || (t.white p && some_leads t sets any_cells (suc p))))
-    where
-      nothing : (x y : Bool) → (x && (y && false)) ≡ false
-      nothing true true = refl
-      nothing true false = refl
-      nothing false y = refl
-
-  pub leads_black : (p : ℕ) → some_leads t ((a ∷ b ∷ []) ∷ sets) (cell_is 0 1) p ≡ (b && (t.black p && some_leads t sets any_cells (suc p)))
-  unfolding cell_is any_cells
-  leads_black p = leads_on (cell_is 0 1) p
-      ∙ ap₂ (λ x y. (a && ((t.stay p && x) || (t.white p && y))) || (b && (t.black p && some_leads t sets any_cells (suc p)))) (never p) (never (suc p))
-      ∙ ap (λ x. x || (b && (t.black p && some_leads t sets any_cells (suc p)))) (nothing a (t.stay p) (t.white p))
-    where
-      nothing : (x y z : Bool) → (x && ((y && false) || (z && false))) ≡ false
-      nothing true true true = refl
-      nothing true true false = refl
-      nothing true false true = refl
-      nothing true false false = refl
-      nothing false y z = refl
+  -- with a value here
+  pub leads_here : (v p : ℕ) → v < 2 → some_leads t ((has_bit set 0 ∷ has_bit set 1 ∷ []) ∷ sets) (cell_is 0 v) p ≡ (has_bit set v && ahead t (set_for v) (some_leads t sets any_cells) p)
+  unfolding ahead stays goes_on cell_is any_cells
+  leads_here zero p lt = leads_on (cell_is 0 0) p ∙ simp (never (suc p), and-false, or-false)
+  leads_here (suc zero) p lt = leads_on (cell_is 0 1) p ∙ simp (never p, never (suc p), and-false)
+  leads_here (suc (suc v)) p lt = absurd (omega arith)
 
 -- ---- all places that were reached
-on-from : (leaves reached : ℕ → Bool) (q : ℕ) → one_on (λ p. leaves p && reached p) q ≡ true → (p : ℕ) × (q ≡ suc p) × (reached p ≡ true) × (leaves p ≡ true)
-unfolding one_on
-on-from leaves reached zero on = absurd (false≢true on)
-on-from leaves reached (suc p) on = let w = and_parts (leaves p) (reached p) on in (p, refl, w.1, w.0)
+-- a way on from a reached place is a way on from a place that the cell reaches
+module _ (t : Track) (set n : ℕ) (below : IsBelow n t) (reached new way after : ℕ → Bool) (leads_to : (p : ℕ) → p < n → new p ≡ led t set reached p) (is : (p : ℕ) → way p ≡ ahead t set after p) where
+  low : (p : ℕ) → goes_on t set p ≡ true → suc p < n
+  unfolding goes_on
+  low p on = elim (or_cases (has_bit set 0 && t.white p) (has_bit set 1 && t.black p) on) [
+    | inl x ↦ below.white p (and_parts (has_bit set 0) (t.white p) x).1
+    | inr x ↦ below.black p (and_parts (has_bit set 1) (t.black p) x).1
+  ]
 
-on-to : (leaves reached : ℕ → Bool) (p : ℕ) → reached p ≡ true → leaves p ≡ true → one_on (λ q. leaves q && reached q) (suc p) ≡ true
-unfolding one_on
-on-to leaves reached p r l = and_from (leaves p) (reached p) l r
+  back : (p : ℕ) → p < n → new p ≡ true → after p ≡ true → any_below (λ p. reached p && way p) n ≡ true
+  unfolding ahead led one_on
+  back zero lt on on_after = elim (or_cases (stays t set 0 && reached 0) false (sym (leads_to 0 lt) ∙ on)) [
+    | inl x ↦ let u = and_parts (stays t set 0) (reached 0) x in any_below-here (λ p. reached p && way p) n 0 lt (and_from (reached 0) (way 0) u.1 (is 0 ∙ or_left _ _ (and_from _ _ u.0 on_after)))
+    | inr x ↦ absurd (false≢true x)
+  ]
+  back (suc p) lt on on_after = elim (or_cases (stays t set (suc p) && reached (suc p)) (goes_on t set p && reached p) (sym (leads_to (suc p) lt) ∙ on)) [
+    | inl x ↦ let u = and_parts _ _ x in any_below-here (λ p. reached p && way p) n (suc p) lt (and_from _ _ u.1 (is (suc p) ∙ or_left _ _ (and_from _ _ u.0 on_after)))
+    | inr x ↦ let u = and_parts _ _ x in any_below-here (λ p. reached p && way p) n p (omega arith) (and_from _ _ u.1 (is p ∙ or_right _ _ (and_from _ _ u.0 on_after)))
+  ]
 
-module _ (t : Track) (a b : Bool) (n : ℕ) (below : IsBelow n t) (reached after : ℕ → Bool) where
-  moved-here : (q : ℕ) → q < n → moved t a b reached q ≡ true → after q ≡ true → any_below (λ q. moved t a b reached q && after q) n ≡ true
-  moved-here q lt m on = any_below-here (λ q. moved t a b reached q && after q) n q lt (and_from (moved t a b reached q) (after q) m on)
+  forth : (p : ℕ) → p < n → reached p ≡ true → way p ≡ true → any_below (λ p. new p && after p) n ≡ true
+  unfolding ahead led one_on
+  forth p lt on on_way = elim (or_cases (stays t set p && after p) (goes_on t set p && after (suc p)) (sym (is p) ∙ on_way)) [
+    | inl x ↦ let u = and_parts _ _ x in any_below-here (λ p. new p && after p) n p lt (and_from _ _ (leads_to p lt ∙ or_left _ _ (and_from _ _ u.0 on)) u.1)
+    | inr x ↦ let u = and_parts _ _ x in any_below-here (λ p. new p && after p) n (suc p) (low p u.0) (and_from _ _ (leads_to (suc p) (low p u.0) ∙ or_right _ _ (and_from _ _ u.0 on)) u.1)
+  ]
 
-  forth : any_below (λ p. reached p && ahead t a b after p) n ≡ true → any_below (λ q. moved t a b reached q && after q) n ≡ true
-  unfolding ahead moved
-  forth on =
-      let w = any_below-some (λ p. reached p && ahead t a b after p) n on in
-      let r = and_parts (reached w.0) (ahead t a b after w.0) w.2 in
-      elim (or_cases (a && ((t.stay w.0 && after w.0) || (t.white w.0 && after (suc w.0)))) (b && (t.black w.0 && after (suc w.0))) r.1) [
-        | inl x ↦ white w.0 w.1 r.0 (and_parts a ((t.stay w.0 && after w.0) || (t.white w.0 && after (suc w.0))) x)
-        | inr x ↦ black w.0 w.1 r.0 (and_parts b (t.black w.0 && after (suc w.0)) x)
-      ]
-    where
-      white : (p : ℕ) → p < n → reached p ≡ true → (a ≡ true) × (((t.stay p && after p) || (t.white p && after (suc p))) ≡ true) → any_below (λ q. moved t a b reached q && after q) n ≡ true
-      white p lt r (on_a, x) = elim (or_cases (t.stay p && after p) (t.white p && after (suc p)) x) [
-        | inl y ↦ let u = and_parts (t.stay p) (after p) y in
-            moved-here p lt (or_left (a && ((t.stay p && reached p) || one_on (λ q. t.white q && reached q) p)) (b && one_on (λ q. t.black q && reached q) p)
-            (and_from a ((t.stay p && reached p) || one_on (λ q. t.white q && reached q) p) on_a (or_left (t.stay p && reached p) (one_on (λ q. t.white q && reached q) p) (and_from (t.stay p) (reached p) u.0 r)))) u.1
-        | inr y ↦ let u = and_parts (t.white p) (after (suc p)) y in
-            moved-here (suc p) (below.white p u.0) (or_left (a && ((t.stay (suc p) && reached (suc p)) || one_on (λ q. t.white q && reached q) (suc p))) (b && one_on (λ q. t.black q && reached q) (suc p))
-            (and_from a ((t.stay (suc p) && reached (suc p)) || one_on (λ q. t.white q && reached q) (suc p)) on_a (or_right (t.stay (suc p) && reached (suc p)) (one_on (λ q. t.white q && reached q) (suc p)) (on-to t.white reached p r u.0)))) u.1
-      ]
-
-      black : (p : ℕ) → p < n → reached p ≡ true → (b ≡ true) × ((t.black p && after (suc p)) ≡ true) → any_below (λ q. moved t a b reached q && after q) n ≡ true
-      black p lt r (on_b, x) =
-          let u = and_parts (t.black p) (after (suc p)) x in
-          moved-here (suc p) (below.black p u.0) (or_right (a && ((t.stay (suc p) && reached (suc p)) || one_on (λ q. t.white q && reached q) (suc p))) (b && one_on (λ q. t.black q && reached q) (suc p))
-          (and_from b (one_on (λ q. t.black q && reached q) (suc p)) on_b (on-to t.black reached p r u.0))) u.1
-
-  ahead-here : (p : ℕ) → p < n → reached p ≡ true → ahead t a b after p ≡ true → any_below (λ p. reached p && ahead t a b after p) n ≡ true
-  ahead-here p lt r on = any_below-here (λ p. reached p && ahead t a b after p) n p lt (and_from (reached p) (ahead t a b after p) r on)
-
-  back : any_below (λ q. moved t a b reached q && after q) n ≡ true → any_below (λ p. reached p && ahead t a b after p) n ≡ true
-  unfolding ahead moved
-  back on =
-      let w = any_below-some (λ q. moved t a b reached q && after q) n on in
-      let m = and_parts (moved t a b reached w.0) (after w.0) w.2 in
-      elim (or_cases (a && ((t.stay w.0 && reached w.0) || one_on (λ q. t.white q && reached q) w.0)) (b && one_on (λ q. t.black q && reached q) w.0) m.0) [
-        | inl x ↦ white w.0 w.1 m.1 (and_parts a ((t.stay w.0 && reached w.0) || one_on (λ q. t.white q && reached q) w.0) x)
-        | inr x ↦ let u = and_parts b (one_on (λ q. t.black q && reached q) w.0) x in black w.0 w.1 m.1 u.0 (on-from t.black reached w.0 u.1)
-      ]
-    where
-      black : (q : ℕ) → q < n → after q ≡ true → b ≡ true → (p : ℕ) × (q ≡ suc p) × (reached p ≡ true) × (t.black p ≡ true) → any_below (λ p. reached p && ahead t a b after p) n ≡ true
-      black q lt on on_b (p, e, r, l) =
-          ahead-here p (omega arith) r (or_right (a && ((t.stay p && after p) || (t.white p && after (suc p)))) (b && (t.black p && after (suc p)))
-          (and_from b (t.black p && after (suc p)) on_b (and_from (t.black p) (after (suc p)) l (ap after (sym e) ∙ on))))
-
-      white : (q : ℕ) → q < n → after q ≡ true → (a ≡ true) × (((t.stay q && reached q) || one_on (λ q. t.white q && reached q) q) ≡ true) → any_below (λ p. reached p && ahead t a b after p) n ≡ true
-      white q lt on (on_a, x) = elim (or_cases (t.stay q && reached q) (one_on (λ q. t.white q && reached q) q) x) [
-        | inl y ↦ let u = and_parts (t.stay q) (reached q) y in
-            ahead-here q lt u.1 (or_left (a && ((t.stay q && after q) || (t.white q && after (suc q)))) (b && (t.black q && after (suc q)))
-            (and_from a ((t.stay q && after q) || (t.white q && after (suc q))) on_a (or_left (t.stay q && after q) (t.white q && after (suc q)) (and_from (t.stay q) (after q) u.0 on))))
-        | inr y ↦ by_white (on-from t.white reached q y)
-      ]
-        where
-          by_white : (p : ℕ) × (q ≡ suc p) × (reached p ≡ true) × (t.white p ≡ true) → any_below (λ p. reached p && ahead t a b after p) n ≡ true
-          by_white (p, e, r, l) =
-              ahead-here p (omega arith) r (or_left (a && ((t.stay p && after p) || (t.white p && after (suc p)))) (b && (t.black p && after (suc p)))
-              (and_from a ((t.stay p && after p) || (t.white p && after (suc p))) on_a (or_right (t.stay p && after p) (t.white p && after (suc p)) (and_from (t.white p) (after (suc p)) l (ap after (sym e) ∙ on)))))
-
-  -- a way on from a reached place is a way on from a place that the cell reaches
-  pub ways_on : any_below (λ p. reached p && ahead t a b after p) n ≡ any_below (λ q. moved t a b reached q && after q) n
-  ways_on = same_tests (any_below (λ p. reached p && ahead t a b after p) n) (any_below (λ q. moved t a b reached q && after q) n) forth back
+  pub ways_on : any_below (λ p. new p && after p) n ≡ any_below (λ p. reached p && way p) n
+  ways_on = same_tests (any_below (λ p. new p && after p) n) (any_below (λ p. reached p && way p) n)
+      (λ on. let w = any_below-some (λ p. new p && after p) n on in let u = and_parts _ _ w.2 in back w.0 w.1 u.0 u.1)
+      (λ on. let w = any_below-some (λ p. reached p && way p) n on in let u = and_parts _ _ w.2 in forth w.0 w.1 u.0 u.1)

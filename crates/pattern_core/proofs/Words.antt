@@ -1,19 +1,20 @@
--- Words as sets of places, and the steps of a line along such sets.
+-- Words as sets of places.
 use Rattle.std.proofs.lemmas.Bool.{cases_Bool}
 use Rattle.std.proofs.lemmas.Grind.{common_steps}
-use Rattle.std.proofs.Common.{◌≡◌, ◌∙◌, ℕ, zero, suc, ◌*◌, ◌/◌, ◌%◌, ◌^◌, ◌<◌, ◌≤◌, Bool, true, false, not, ◌&&◌, ◌||◌, eqb, [], ◌∷◌, get_or, refl, sym, ap, ap₂, arith}
+use Rattle.std.proofs.Common.{◌≡◌, ◌∙◌, ℕ, zero, suc, ◌*◌, ◌/◌, ◌%◌, ◌^◌, ◌<◌, ◌≤◌, Bool, true, false, not, ◌&&◌, ◌||◌, eqb, [], ◌∷◌, get_or, refl, sym, ap, arith}
 use Rattle.std.specs.Prelude.{bit_or}
 use Rattle.std.specs.Int.{bit_at}
 use Rattle.std.proofs.lemmas.Bool.{cases_eq, eq-eqb, ne_eqb, and_parts, false_from_ne_true, true≢false}
 use Rattle.std.proofs.lemmas.Nat.{div-add-mod'}
 use Rattle.std.proofs.Math.Nat.{mod-lt}
-use Rattle.std.proofs.Math.Bool.{and_assoc}
+use Rattle.std.proofs.Math.Bool.{or-false}
+use Rattle.std.proofs.Math.Path.{fun_ext}
 use Rattle.std.proofs.lemmas.Nat.Bits.{bit_at-suc, bit_at-zero, bit_at-lt, bit_at_cat_low, bit_at_lowest, bit_at_above, same_from_bits_below}
 use Rattle.grid_core.specs.Candidates.{any_below}
 use Rattle.grid_core.proofs.CandidateLemmas.{any_below-none, any_below-some}
 use Rattle.engine_core.specs.Sets.{has_bit}
 use Rattle.engine_core.proofs.BitLemmas.{bits-both, bits-either, bits-of_power, bits-of_zero}
-use Rattle.pattern_core.specs.Track.{Track, one_on, ahead, led_to, moved}
+use Rattle.pattern_core.specs.Track.{Track, one_on, stays, goes_on, led}
 
 -- ---- the bits of a word of w bits
 pub bits_next : (a p : ℕ) → has_bit (a / 2) p ≡ has_bit a (suc p)
@@ -49,17 +50,13 @@ bits_of_none w = false_from_ne_true (any_below (has_bit 0) w) (λ on. let z = an
 pub some_bit_is : (w bits : ℕ) → bits < 2 ^ w → 0 < 2 ^ w → not (eqb bits 0) ≡ any_below (has_bit bits) w
 some_bit_is w bits fits some = grind (arith, common_steps, cases_Bool, bits_of_none, cases_eq, eq-eqb, ne_eqb, no_bits)
 
-pub or_false : (x : Bool) → (x || false) ≡ x
-or_false true = refl
-or_false false = refl
-
 -- ---- the lowest two bits, by which masks are looked up
 pub low_two : (set v : ℕ) → v < 2 → has_bit (set % 4) v ≡ has_bit set v
 low_two set v small = low_bits 2 set v small
 
 -- what masks say by a set
 pub masks_are : (white black set p : ℕ) → has_bit (get_or (0 ∷ white ∷ black ∷ bit_or white black ∷ []) (set % 4) 0) p ≡ ((has_bit set 0 && has_bit white p) || (has_bit set 1 && has_bit black p))
-masks_are white black set p = grind (arith, common_steps, cases_Bool, bits-either, bits-of_zero, low_two, mod-lt, or_false)
+masks_are white black set p = grind (arith, common_steps, cases_Bool, bits-either, bits-of_zero, low_two, mod-lt, or-false)
 
 -- what the operations of words say of their bits
 pub ruleset place_laws = (bits-of_zero, bits-of_power, bits-both, bits-either, bits_next, bits_on, no_high, masks_are, some_bit_is)
@@ -71,60 +68,13 @@ both_low set = grind (arith, common_steps, cases_Bool, low_two, mod-lt)
 pub both_bits : (set : ℕ) → set % 4 ≡ 3 → (has_bit set 0 ≡ true) × (has_bit set 1 ≡ true)
 both_bits set e = and_parts (has_bit set 0) (has_bit set 1) (both_low set ∙ ap (λ s. eqb s 3) e)
 
--- ---- the words of a step
--- a cell that may be black stays nowhere by it
-pub only_white : (a b x y : Bool) → y ≡ false → ((a && x) || (b && y)) ≡ (a && x)
-only_white a true x true e = absurd (true≢false e)
-only_white a true x false e = or_false (a && x)
-only_white a false x y e = or_false (a && x)
-
--- what stays and what goes on, of white and of black
-spread : (a b z w k y : Bool) → ((a && z) || (((a && w) || (b && k)) && y)) ≡ ((a && (z || (w && y))) || (b && (k && y)))
-spread false false z w k y = refl
-spread false true z w k y = refl
-spread true b true w k y = refl
-spread true false false true k true = refl
-spread true false false true k false = refl
-spread true false false false k y = refl
-spread true true false true true true = refl
-spread true true false true true false = refl
-spread true true false true false true = refl
-spread true true false true false false = refl
-spread true true false false k y = refl
-
-module _ (t : Track) (a b : Bool) (stays moves : ℕ → Bool) (stay : (p : ℕ) → stays p ≡ (a && t.stay p)) (move : (p : ℕ) → moves p ≡ ((a && t.white p) || (b && t.black p))) where
-  pub ahead_step : (after : ℕ → Bool) (p : ℕ) → ((stays p && after p) || (moves p && after (suc p))) ≡ ahead t a b after p
-  unfolding ahead
-  ahead_step after p = grind (arith, common_steps, cases_Bool, and_assoc, spread)
-
-  pub moved_step : (reached : ℕ → Bool) (p : ℕ) → ((stays p && reached p) || one_on (λ q. moves q && reached q) p) ≡ moved t a b reached p
-  unfolding moved one_on
-  moved_step reached zero = or_false (stays zero && reached zero) ∙ ap (λ m. m && reached zero) (stay zero) ∙ and_assoc a (t.stay zero) (reached zero) ∙ none a b (t.stay zero && reached zero)
-    where
-      none : (x y z : Bool) → (x && z) ≡ ((x && (z || false)) || (y && false))
-      none true true true = refl
-      none true true false = refl
-      none true false true = refl
-      none true false false = refl
-      none false true z = refl
-      none false false z = refl
-  moved_step reached (suc p) =
-      ap₂ (λ m n. (m && reached (suc p)) || (n && reached p)) (stay (suc p)) (move p)
-      ∙ ap (λ m. m || (((a && t.white p) || (b && t.black p)) && reached p)) (and_assoc a (t.stay (suc p)) (reached (suc p)))
-      ∙ spread a b (t.stay (suc p) && reached (suc p)) (t.white p) (t.black p) (reached p)
+-- the places reached, by the words of a step
+pub led_words : (t : Track) (set : ℕ) (reached next : ℕ → Bool) (p : ℕ) → ((q : ℕ) → next q ≡ (goes_on t set q && reached q)) → ((stays t set p && reached p) || one_on next p) ≡ led t set reached p
+unfolding led
+led_words t set reached next p is = ap (λ f. (stays t set p && reached p) || one_on f p) (fun_ext is)
 
 -- the steps of a cell with both values
-pub moved_both : (t : Track) (set : ℕ) (white black reached : ℕ → Bool) (p : ℕ) → set % 4 ≡ 3
-    → white p ≡ led_to t.stay t.white reached p → black p ≡ one_on (λ q. t.black q && reached q) p
-    → (white p || black p) ≡ moved t (has_bit set 0) (has_bit set 1) reached p
-unfolding moved
-moved_both t set white black reached p e is_white is_black = grind (arith, common_steps, cases_Bool, both_bits)
-
--- the steps of a cell with a number
-pub moved_white : (t : Track) (number : ℕ) (reached : ℕ → Bool) (p : ℕ) → number ≡ 0 → moved t (eqb number 0) (not (eqb number 0)) reached p ≡ led_to t.stay t.white reached p
-unfolding moved
-moved_white t number reached p e = ap (λ a. moved t a (not a) reached p) (eq-eqb number 0 e) ∙ or_false (led_to t.stay t.white reached p)
-
-pub moved_black : (t : Track) (number : ℕ) (reached : ℕ → Bool) (p : ℕ) → (number ≡ 0 → ⊥) → moved t (eqb number 0) (not (eqb number 0)) reached p ≡ one_on (λ q. t.black q && reached q) p
-unfolding moved
-moved_black t number reached p ne = ap (λ a. moved t a (not a) reached p) (ne_eqb number 0 ne)
+pub led_both : (t : Track) (set : ℕ) (reached : ℕ → Bool) (p : ℕ) → set % 4 ≡ 3 → (led t 1 reached p || led t 2 reached p) ≡ led t set reached p
+unfolding led stays goes_on one_on
+led_both t set reached zero e = grind (arith, common_steps, cases_Bool, both_bits)
+led_both t set reached (suc p) e = grind (arith, common_steps, cases_Bool, both_bits)

@@ -1,6 +1,6 @@
 -- A clue spelled out as cells, and how a line goes along it. The places along the clue are numbered from 0, before its
 -- first cell. A line that is at a place has passed what is spelled before it. No public contract uses these words.
-use Rattle.std.specs.Prelude.{◌≡◌, ℕ, zero, suc, ◌+◌, ◌<◌, ◌≤◌, Bool, true, false, ◌&&◌, ◌||◌, ◌==◌, not, List, [], ◌∷◌, ◌++◌, length, get_or, replicate, drop, map, if◌then◌else◌}
+use Rattle.std.specs.Prelude.{◌≡◌, ℕ, zero, suc, ◌+◌, ◌<◌, ◌≤◌, Bool, true, false, ◌&&◌, ◌||◌, ◌==◌, List, [], ◌∷◌, ◌++◌, length, get_or, replicate, drop, map, if◌then◌else◌}
 use Rattle.std.specs.List.{AllByRecursion}
 use Rattle.gameid_core.specs.BlackRuns.{runs}
 use Rattle.gameid_core.specs.Puzzles.{used}
@@ -55,63 +55,48 @@ leads t p (suc _ ∷ cells) = t.black p && leads t (suc p) cells
 unfoldable pub some_leads : Track → List Set → (List ℕ → Bool) → ℕ → Bool
 some_leads t sets test p = some_filling sets (λ cells. leads t p cells && test cells)
 
+-- the set of a cell with this number: of white alone, or of black alone
+abbrev pub set_for : ℕ → ℕ
+set_for zero = 1
+set_for (suc _) = 2
+
 -- the places for a cell with this set, by those for a white cell and for a black one
 abbrev pub by_set : (ℕ → Bool) → (ℕ → Bool) → ℕ → ℕ → Bool
 by_set white black set p = (has_bit set 0 && white p) || (has_bit set 1 && black p)
 
--- from which places a step leads to where there is a way on, by those at which a line may stay and from which it moves
-abbrev pub leads_on : (ℕ → Bool) → (ℕ → Bool) → (ℕ → Bool) → ℕ → Bool
-leads_on stays moves after p = (stays p && after p) || (moves p && after (suc p))
+-- whether a line may stay at the place by a cell of this set, and whether it may go on from there
+unfoldable pub stays : Track → ℕ → ℕ → Bool
+stays t set p = has_bit set 0 && t.stay p
+
+unfoldable pub goes_on : Track → ℕ → ℕ → Bool
+goes_on t set = by_set t.white t.black set
 
 -- by what a cell may be, from which places it moves a line on along a track, and at which the line may stay
-pub record AreMoves (moves stays : ℕ → ℕ → Bool) (t : Track) : Type 0 where
-  pub on : (set p : ℕ) → moves set p ≡ by_set t.white t.black set p
-  pub stay : (set p : ℕ) → stays set p ≡ (has_bit set 0 && t.stay p)
+pub record AreMoves (t : Track) (on stay : ℕ → ℕ → Bool) : Type 0 where
+  pub goes : (set p : ℕ) → on set p ≡ goes_on t set p
+  pub rests : (set p : ℕ) → stay set p ≡ stays t set p
 
 -- whether there is a way from the place to an end by a cell of this set, where `after` tells it of what follows
-unfoldable pub ahead : Track → Bool → Bool → (ℕ → Bool) → ℕ → Bool
-ahead t white black after p = (white && ((t.stay p && after p) || (t.white p && after (suc p)))) || (black && (t.black p && after (suc p)))
+unfoldable pub ahead : Track → ℕ → (ℕ → Bool) → ℕ → Bool
+ahead t set after p = (stays t set p && after p) || (goes_on t set p && after (suc p))
 
--- the same of the words of a clue's steps, of which `by` tells what they have for a set
-abbrev pub AreMovesOf : {A M : Type 0} → (M → ℕ → ℕ → Bool) → (A → ℕ → Bool) → M → M → Steps A → Type 0
-AreMovesOf by has moves stays steps = AreMoves (by moves) (by stays) (along has steps)
+abbrev pub AreAhead : {A : Type 0} → (A → ℕ → Bool) → Steps A → ℕ → A → A → Type 0
+AreAhead has steps set after result =
+    (p : ℕ) → has result p ≡ ahead (along has steps) set (has after) p
 
 -- each place one further on
 unfoldable pub one_on : (ℕ → Bool) → ℕ → Bool
 one_on places zero = false
 one_on places (suc p) = places p
 
--- the places to which a step leads from where a line may be
-abbrev pub led_to : (ℕ → Bool) → (ℕ → Bool) → (ℕ → Bool) → ℕ → Bool
-led_to stays moves reached p = (stays p && reached p) || one_on (λ q. moves q && reached q) p
+-- the places reached by a cell of this set from those that are reached before it
+unfoldable pub led : Track → ℕ → (ℕ → Bool) → ℕ → Bool
+led t set reached p = (stays t set p && reached p) || one_on (λ q. goes_on t set q && reached q) p
 
--- a step by a cell of this set leads from the places to where there is a way on
-abbrev pub AreAhead : {A M : Type 0} → (M → ℕ → ℕ → Bool) → (A → ℕ → Bool) → M → M → ℕ → A → A → Type 0
-AreAhead by has stays moves set after result =
-    (p : ℕ) → has result p ≡ leads_on (by stays set) (by moves set) (has after) p
-
--- a step by a cell of this set leads to the places, of n
-abbrev pub AreLedTo : {A M : Type 0} → ℕ → (M → ℕ → ℕ → Bool) → (A → ℕ → Bool) → M → M → ℕ → A → A → Type 0
-AreLedTo n by has stays moves set reached result =
-    (p : ℕ) → p < n → has result p ≡ led_to (by stays set) (by moves set) (has reached) p
-
--- a step by a white cell leads to the places, and one by a black cell
-abbrev pub AreLedByWhite : {A : Type 0} → ℕ → (A → ℕ → Bool) → Steps A → A → A → Type 0
-AreLedByWhite n has steps reached result =
-    (p : ℕ) → p < n → has result p ≡ led_to (has steps.stay) (has steps.white) (has reached) p
-
-abbrev pub AreLedByBlack : {A : Type 0} → ℕ → (A → ℕ → Bool) → Steps A → A → A → Type 0
-AreLedByBlack n has steps reached result =
-    (p : ℕ) → p < n → has result p ≡ one_on (λ q. has steps.black q && has reached q) p
-
--- the places reached by a cell of this set
-unfoldable pub moved : Track → Bool → Bool → (ℕ → Bool) → ℕ → Bool
-moved t white black reached p = (white && ((t.stay p && reached p) || one_on (λ q. t.white q && reached q) p)) || (black && one_on (λ q. t.black q && reached q) p)
-
--- the places are those reached by a cell with this number, of n
-abbrev pub AreLedByNumber : {A : Type 0} → ℕ → (A → ℕ → Bool) → Steps A → ℕ → A → A → Type 0
-AreLedByNumber n has steps number reached result = (p : ℕ) → p < n
-    → has result p ≡ moved (along has steps) (number == 0) (not (number == 0)) (has reached) p
+-- the places are those reached, of n
+abbrev pub AreLed : {A : Type 0} → ℕ → (A → ℕ → Bool) → Steps A → ℕ → A → A → Type 0
+AreLed n has steps set reached result =
+    (p : ℕ) → p < n → has result p ≡ led (along has steps) set (has reached) p
 
 -- every filling passes
 unfoldable pub any_cells : List ℕ → Bool

@@ -4,7 +4,7 @@ ghost use Rattle.std.specs.Prelude.{◌≡◌, ◌<◌, ◌*◌};
 ghost use Rattle.grid_core.specs.Grids.{IsGrid};
 ghost use Rattle.gameid_core.specs.Puzzles.{lines_of};
 ghost use Rattle.pattern_core.specs.Lines.{line_numbers, has_runs};
-ghost use Rattle.pattern_core.specs.Track.{AreLedByNumber};
+ghost use Rattle.pattern_core.specs.Track.{AreLed, set_for};
 
 use crate::line_cells::{line_len, number_at};
 use crate::places::Places;
@@ -13,8 +13,8 @@ use crate::track::{SpelledClue, Steps};
 use grid_core::{Grid, Size};
 
 /// Which places are reached by a cell with this number, by those that are reached before it.
-fn led_by<P: Places>(steps: Steps<P>, number: u8, reached: P) -> P
-    ensures { AreLedByNumber P.room P.has steps number reached result }
+fn led_on<P: Places>(steps: Steps<P>, number: u8, reached: P) -> P
+    ensures { AreLed P.room P.has steps (set_for number) reached result }
 {
     let ways = ways_of(steps, reached);
     if number == 0 { ways.white } else { ways.black }
@@ -34,7 +34,7 @@ pub(crate) fn follows<P: Places>(
     let steps = clue.steps();
     let mut reached = P::first();
     for k in 0..line_len(size, line) {
-        reached = led_by(steps, number_at(size, grid, line, k), reached);
+        reached = led_on(steps, number_at(size, grid, line, k), reached);
     }
     reached.both(steps.ends).is_some()
 }

@@ -7,9 +7,10 @@
 //! value of a cell stays where the two meet. What a cell's set lets a line do is looked up by the set.
 
 ghost use Rattle.std.specs.Prelude.{◌≡◌, ℕ, ◌<◌, ◌≤◌, ◌&&◌, ◌%◌, true, false, length, slice_index};
+ghost use Rattle.std.specs.List.{AllByRecursion};
 ghost use Rattle.engine_core.specs.Sets.{has_bit};
 ghost use Rattle.pattern_core.specs.Lines.{IsDecidedBy};
-ghost use Rattle.pattern_core.specs.Track.{along, AreMovesOf, AreAhead, AreLedTo, AreLedByWhite, AreLedByBlack, IsBelow, some_leads, sets_of, any_cells, AreRows, AreKept};
+ghost use Rattle.pattern_core.specs.Track.{along, spelled, track_of, AreMoves, AreAhead, AreLed, IsBelow, some_leads, sets_of, any_cells, AreRows, AreKept};
 
 use crate::places::Places;
 use crate::track::{SpelledClue, Steps};
@@ -20,37 +21,44 @@ const BLACK: u32 = 2;
 /// The set of both values.
 pub(crate) const BOTH: u32 = 3;
 
-/// What a cell lets a line do, looked up by what the cell may be: the places from which the line goes on, and those at
-/// which it may stay.
+/// The steps of a line along a clue, and what a cell lets it do, looked up by the cell's set: from which places the line
+/// goes on, and at which it may stay.
 #[derive(Drop)]
 struct Moves<P: Places> {
-    moves: P::Masks,
+    steps: Steps<P>,
+    on: P::Masks,
     stays: P::Masks,
+    ghost are: { AreMoves (along P.has steps) (P.has_by on) (P.has_by stays) },
 }
 
 /// What a cell lets a line do along a clue.
-fn moves_of<P: Places>(steps: Steps<P>) -> Moves<P>
-    ensures { AreMovesOf P.has_by P.has result.moves result.stays steps }
+fn moves_of<P: Places>(clue: &SpelledClue<P>) -> Moves<P>
+    ensures track { along P.has result.steps ≡ track_of (spelled clue.now) }
+    ensures positive { AllByRecursion (λ n. 0 < n) clue.now }
+    ensures below { IsBelow P.room (along P.has result.steps) }
 {
+    let steps = clue.steps();
     Moves {
-        moves: P::masks(steps.white, steps.black),
+        steps,
+        on: P::masks(steps.white, steps.black),
         stays: P::masks(steps.stay, P::none()),
     }
 }
 
 /// From which places there is a way to the end by a cell of this set, by those from which there is one after it.
+#[tactic(auto, unfolding(crate::specs::Track::ahead))]
 fn ahead_of<P: Places>(moves: &Moves<P>, set: u32, after: P) -> P
-    ensures { AreAhead P.has_by P.has moves.now.stays moves.now.moves set after result }
+    ensures { AreAhead P.has moves.now.steps set after result }
 {
-    let next = P::mask(&moves.moves, set).both(after.back());
+    let next = P::mask(&moves.on, set).both(after.back());
     P::mask(&moves.stays, set).both(after).either(next)
 }
 
 /// Which places are reached by a cell of this set, by those that are reached before it.
-fn moved_by<P: Places>(moves: &Moves<P>, set: u32, reached: P) -> P
-    ensures { AreLedTo P.room P.has_by P.has moves.now.stays moves.now.moves set reached result }
+fn led_by<P: Places>(moves: &Moves<P>, set: u32, reached: P) -> P
+    ensures { AreLed P.room P.has moves.now.steps set reached result }
 {
-    let next = P::mask(&moves.moves, set).both(reached).on();
+    let next = P::mask(&moves.on, set).both(reached).on();
     P::mask(&moves.stays, set).both(reached).either(next)
 }
 
@@ -63,8 +71,8 @@ pub(crate) struct Ways<P> {
 
 /// Where a cell with both values leads from the places that are reached before it.
 pub(crate) fn ways_of<P: Places>(steps: Steps<P>, reached: P) -> Ways<P>
-    ensures white { AreLedByWhite P.room P.has steps reached result.white }
-    ensures black { AreLedByBlack P.room P.has steps reached result.black }
+    ensures white { AreLed P.room P.has steps 1 reached result.white }
+    ensures black { AreLed P.room P.has steps 2 reached result.black }
 {
     let next = steps.white.both(reached).on();
     Ways {
@@ -96,13 +104,12 @@ fn keep_shown(sets: &mut [u32], at: usize, white: bool, black: bool) -> bool
 }
 
 /// Fills the table, from the last cell backwards.
-fn fill_rows<P: Places>(steps: Steps<P>, moves: &Moves<P>, sets: &[u32], rows: &mut [P])
-    requires room { length sets.now < length rows.old }
-    requires moves { AreMovesOf P.has_by P.has moves.now.moves moves.now.stays steps }
-    ensures { AreRows P.has (along P.has steps) sets.now rows.new 0 }
+fn fill_rows<P: Places>(moves: &Moves<P>, sets: &[u32], rows: &mut [P])
+    requires { length sets.now < length rows.old }
+    ensures { AreRows P.has (along P.has moves.now.steps) sets.now rows.new 0 }
 {
     let mut at = sets.len();
-    rows[at] = steps.ends;
+    rows[at] = moves.steps.ends;
     while at > 0 {
         at -= 1;
         rows[at] = ahead_of(moves, sets[at], rows[at + 1]);
@@ -111,12 +118,11 @@ fn fill_rows<P: Places>(steps: Steps<P>, moves: &Moves<P>, sets: &[u32], rows: &
 
 /// Keeps of each cell with both values what a way from the first place to the end shows there, and says whether one of
 /// them lost any. Some way leads to the end, so the other cells keep what they have.
-fn keep_cells<P: Places>(steps: Steps<P>, moves: &Moves<P>, sets: &mut [u32], rows: &[P]) -> bool
-    requires moves { AreMovesOf P.has_by P.has moves.now.moves moves.now.stays steps }
-    requires rows { AreRows P.has (along P.has steps) sets.old rows.now 0 }
-    requires below { IsBelow P.room (along P.has steps) }
-    requires some { some_leads (along P.has steps) (sets_of sets.old) any_cells 0 ≡ true }
-    ensures kept { AreKept (along P.has steps) sets.old sets.new (length sets.old) }
+fn keep_cells<P: Places>(moves: &Moves<P>, sets: &mut [u32], rows: &[P]) -> bool
+    requires rows { AreRows P.has (along P.has moves.now.steps) sets.old rows.now 0 }
+    requires below { IsBelow P.room (along P.has moves.now.steps) }
+    requires some { some_leads (along P.has moves.now.steps) (sets_of sets.old) any_cells 0 ≡ true }
+    ensures kept { AreKept (along P.has moves.now.steps) sets.old sets.new (length sets.old) }
     ensures unchanged { result ≡ false → sets.new ≡ sets.old }
 {
     let mut reached = P::first();
@@ -124,7 +130,7 @@ fn keep_cells<P: Places>(steps: Steps<P>, moves: &Moves<P>, sets: &mut [u32], ro
     for at in 0..sets.len() {
         let set = sets[at];
         if set % 4 == BOTH {
-            let ways = ways_of(steps, reached);
+            let ways = ways_of(moves.steps, reached);
             let after = rows[at + 1];
             let white = ways.white.both(after).is_some();
             let black = ways.black.both(after).is_some();
@@ -133,20 +139,10 @@ fn keep_cells<P: Places>(steps: Steps<P>, moves: &Moves<P>, sets: &mut [u32], ro
             }
             reached = ways.white.either(ways.black);
         } else {
-            reached = moved_by(moves, set, reached);
+            reached = led_by(moves, set, reached);
         }
     }
     struck
-}
-
-/// Keeps nothing.
-fn clear(sets: &mut [u32])
-    ensures as_many { length sets.new ≡ length sets.old }
-    ensures none { (k : ℕ) → k < length sets.new → slice_index sets.new k ≡ 0 }
-{
-    for k in 0..sets.len() {
-        sets[k] = 0;
-    }
 }
 
 /// Keeps of each cell of a line the values that some filling of the line with the clue's runs has there, and says whether
@@ -157,12 +153,11 @@ pub(crate) fn keep<P: Places>(sets: &mut [u32], clue: &SpelledClue<P>, rows: &mu
     ensures decided { IsDecidedBy clue.now sets.old sets.new }
     ensures unchanged { result ≡ false → sets.new ≡ sets.old }
 {
-    let steps = clue.steps();
-    let moves = moves_of(steps);
-    fill_rows(steps, &moves, sets, rows);
+    let moves = moves_of(clue);
+    fill_rows(&moves, sets, rows);
     if !rows[0].both(P::first()).is_some() {
-        clear(sets);
+        sets.fill(0);
         return true;
     }
-    keep_cells(steps, &moves, sets, rows)
+    keep_cells(&moves, sets, rows)
 }

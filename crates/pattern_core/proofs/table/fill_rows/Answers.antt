@@ -1,14 +1,12 @@
-use Rattle.std.proofs.Common.{◌≡◌, ◌∙◌, ◌+◌, ◌-◌, ◌≤◌, ◌<◌, arith, refl, subst, length, get_or}
-use Rattle.engine_core.specs.Sets.{has_bit}
+use Rattle.std.proofs.Common.{◌≡◌, ◌+◌, ◌-◌, ◌≤◌, ◌<◌, arith, refl, subst, length}
 use Rattle.pattern_core.specs.Track.{along, AreRows}
 use Rattle.pattern_core.proofs.TableSteps.{last_row, one_row}
-use Rattle.pattern_core.proofs.Words.{ahead_step}
 use Rattle.pattern_core.proofs.table.fill_rows.Goals as goal
 
 pub loop-at-init : goal.loop-at-init
 loop-at-init g c = (
   omega arith,
-  last_row _ g.P.Places.has (along g.P.Places.has c.args.steps) c.args.sets.now c.args.rows.now c.args.steps.ends (λ p. refl) c.requires.room,
+  last_row _ g.P.Places.has (along g.P.Places.has c.args.moves.now.steps) c.args.sets.now c.args.rows.now c.args.moves.now.steps.ends (λ p. refl) c.requires,
 )
 
 pub loop-at-preserved : goal.loop-at-preserved
@@ -16,12 +14,8 @@ loop-at-preserved g c =
     let pos : 0 < c.loop-at.at = c.loop-at-test.true in
     let low : c.loop-at.at ≤ length c.args.sets.now = c.loop-at.invariant.0 in
     let next : c.loop-at.at ≡ c.loop-at.at - 1 + 1 = omega arith in
-    let t = along g.P.Places.has c.args.steps in
-    let set = get_or c.args.sets.now (c.loop-at.at - 1) 0 in (
+    let t = along g.P.Places.has c.args.moves.now.steps in (
       omega arith,
       one_row _ g.P.Places.has t c.args.sets.now c.loop-at.rows (c.loop-at.at - 1) c.ahead_of.result c.index-rows-at.result
-          (subst (AreRows g.P.Places.has t c.args.sets.now c.loop-at.rows) next c.loop-at.invariant.1) (omega arith) c.index-rows-at.is
-          (λ p. c.ahead_of.ensures p
-          ∙ ahead_step t (has_bit set 0) (has_bit set 1) (g.P.Places.has_by c.args.moves.now.stays set) (g.P.Places.has_by c.args.moves.now.moves set) (c.requires.moves.stay set) (c.requires.moves.on set)
-          (g.P.Places.has c.index-rows-at.result) p),
+          (subst (AreRows g.P.Places.has t c.args.sets.now c.loop-at.rows) next c.loop-at.invariant.1) (omega arith) c.index-rows-at.is c.ahead_of.ensures,
     )

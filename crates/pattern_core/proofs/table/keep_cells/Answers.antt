@@ -1,11 +1,10 @@
-use Rattle.std.proofs.Common.{◌≡◌, ◌∙◌, ◌+◌, ◌%◌, ◌≤◌, ◌&&◌, ℕ, false, List, arith, refl, sym, ap, subst, get_or}
+use Rattle.std.proofs.Common.{◌≡◌, ◌∙◌, ◌+◌, ◌%◌, ◌≤◌, ◌&&◌, ◌||◌, ap₂, ℕ, false, List, arith, refl, sym, ap, subst, get_or}
 use Rattle.std.proofs.lemmas.Bool.{true≢false}
 use Rattle.std.proofs.lemmas.List.{get_or_default}
 use Rattle.grid_core.proofs.CandidateLemmas.{any_below-same}
-use Rattle.engine_core.specs.Sets.{has_bit}
-use Rattle.pattern_core.specs.Track.{along, moved, AreKept}
+use Rattle.pattern_core.specs.Track.{along, led, AreKept}
 use Rattle.pattern_core.proofs.TableSteps.{AreReached, reached_first, reached_next, kept_none, kept_both, kept_alone}
-use Rattle.pattern_core.proofs.Words.{moved_step, moved_both}
+use Rattle.pattern_core.proofs.Words.{led_both}
 use Rattle.pattern_core.proofs.table.keep_cells.Goals.{then-set-eq-BOTH, else-set-eq-BOTH, then-keep_shown, else-keep_shown}
 use Rattle.pattern_core.proofs.table.keep_cells.Goals as goal
 
@@ -20,10 +19,9 @@ loop-at-init g c = (
 pub loop-at-preserved : goal.loop-at-preserved
 loop-at-preserved g c =
     let has = g.P.Places.has in
-    let t = along g.P.Places.has c.args.steps in
+    let t = along g.P.Places.has c.args.moves.now.steps in
     let at = c.loop-at.at in
     let here : get_or c.loop-at.sets at 0 ≡ get_or c.args.sets.now at 0 = c.loop-at.invariant.2 at (omega arith) in
-    let now = get_or c.loop-at.sets at 0 in
     let after : AreKept t c.args.sets.now c.if-set-eq-BOTH.sets (at + 1)
     × AreReached g.P.Places.room t c.args.sets.now (has c.if-set-eq-BOTH.reached) (at + 1)
     × ((k : ℕ) → at + 1 ≤ k → get_or c.if-set-eq-BOTH.sets k 0 ≡ get_or c.args.sets.now k 0)
@@ -39,7 +37,7 @@ loop-at-preserved g c =
                 c.loop-at.invariant.0 w.keep_shown.ensures.as_many w.keep_shown.ensures.others),
             subst (λ r. AreReached g.P.Places.room t c.args.sets.now (has r) (at + 1)) (sym w.reached-is)
                 (reached_next g.P.Places.room t c.args.sets.now (has c.loop-at.reached) (has w.either-reached.result) at c.requires.below c.loop-at-test.true
-                (λ p lt. w.either-reached.ensures p ∙ moved_both t (get_or c.args.sets.now at 0) (has w.ways_of-ways.result.white) (has w.ways_of-ways.result.black) (has c.loop-at.reached) p both (w.ways_of-ways.ensures.white p lt) (w.ways_of-ways.ensures.black p lt))
+                (λ p lt. w.either-reached.ensures p ∙ ap₂ (λ x y. x || y) (w.ways_of-ways.ensures.white p lt) (w.ways_of-ways.ensures.black p lt) ∙ led_both t (get_or c.args.sets.now at 0) (has c.loop-at.reached) p both)
                 c.loop-at.invariant.1),
             λ k le. ap (λ (l : List ℕ). get_or l k 0) w.sets-is ∙ w.keep_shown.ensures.others k (λ e. absurd (omega arith)) ∙ c.loop-at.invariant.2 k (omega arith),
             λ e. elim w.if-keep_shown.branch [
@@ -53,10 +51,8 @@ loop-at-preserved g c =
             (get_or c.args.rows.now (at + 1) c.loop-at.reached)
             (get_or_default c.args.rows.now (at + 1) c.loop-at.reached (get_or c.args.rows.now (at + 1) c.loop-at.reached) (omega (arith, c.loop-at-test.true, c.requires.rows.room))) c.loop-at.sets (λ e. w.if-set-eq-BOTH.false (ap (λ s. s % 4) here ∙ e)) c.requires.some c.loop-at.invariant.0 here),
         subst (λ r. AreReached g.P.Places.room t c.args.sets.now (has r) (at + 1)) (sym w.reached-is)
-            (reached_next g.P.Places.room t c.args.sets.now (has c.loop-at.reached) (has w.moved_by-reached.result) at c.requires.below c.loop-at-test.true
-            (λ p lt. w.moved_by-reached.ensures p lt
-            ∙ moved_step t (has_bit now 0) (has_bit now 1) (g.P.Places.has_by c.args.moves.now.stays now) (g.P.Places.has_by c.args.moves.now.moves now) (c.requires.moves.stay now) (c.requires.moves.on now) (has c.loop-at.reached) p
-            ∙ ap (λ s. moved t (has_bit s 0) (has_bit s 1) (has c.loop-at.reached) p) here)
+            (reached_next g.P.Places.room t c.args.sets.now (has c.loop-at.reached) (has w.led_by-reached.result) at c.requires.below c.loop-at-test.true
+            (λ p lt. w.led_by-reached.ensures p lt ∙ ap (λ s. led t s (has c.loop-at.reached) p) here)
             c.loop-at.invariant.1),
         λ k le. ap (λ (l : List ℕ). get_or l k 0) w.sets-is ∙ c.loop-at.invariant.2 k (omega arith),
         λ e. w.sets-is ∙ c.loop-at.invariant.3 (sym w.struck-is ∙ e),

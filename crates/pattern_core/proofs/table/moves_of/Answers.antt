@@ -1,0 +1,15 @@
+use Rattle.std.proofs.Common.{◌∙◌, ◌&&◌, ◌||◌, ap}
+use Rattle.std.proofs.Math.Bool.{and-false, or-false}
+use Rattle.engine_core.specs.Sets.{has_bit}
+use Rattle.pattern_core.specs.Track.{stays, goes_on}
+use Rattle.pattern_core.proofs.table.moves_of.Goals as goal
+
+pub invariant_of-result : goal.invariant_of-result
+unfolding stays goes_on
+invariant_of-result g c = record {
+  are = record {
+    goes = c.masks.ensures;
+    rests = λ set p. c.masks-2.ensures set p
+        ∙ ap (λ x. (has_bit set 0 && g.P.Places.has c.steps-steps.result.stay p) || (has_bit set 1 && x)) (c.none.ensures p) ∙ simp (and-false, or-false);
+  };
+}
