@@ -1,4 +1,3 @@
-pub mod FirstRun
 pub mod LineSteps
 pub mod NextLine
 pub mod LineVisits

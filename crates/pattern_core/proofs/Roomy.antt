@@ -42,7 +42,7 @@ unfolding runs_after
 blacks k zero cells = ap (λ j. runs_after j cells) (let z : k ≡ k + 0 = omega arith in z)
 blacks k (suc d) cells = blacks (suc k) d cells ∙ ap (λ j. runs_after j cells) (let z : suc k + d ≡ k + suc d = omega arith in z)
 
-run_first : (m : ℕ) (cells : List ℕ) → 0 < m → runs (replicate m 1 ++ 0 ∷ cells) ≡ m ∷ runs cells
+pub run_first : (m : ℕ) (cells : List ℕ) → 0 < m → runs (replicate m 1 ++ 0 ∷ cells) ≡ m ∷ runs cells
 unfolding runs_after
 run_first zero cells some = absurd (omega arith)
 run_first (suc m) cells some = blacks 0 (suc m) (0 ∷ cells) ∙ ap (λ j. runs_after j (0 ∷ cells)) (let z : 0 + suc m ≡ suc m = omega arith in z)

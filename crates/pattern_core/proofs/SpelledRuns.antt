@@ -3,6 +3,7 @@ use Rattle.std.proofs.lemmas.Bool.{cases_Bool}
 use Rattle.std.proofs.lemmas.Grind.{common_steps}
 use Rattle.std.proofs.Common.{◌≡◌, ◌∙◌, ℕ, zero, suc, ◌+◌, ◌<◌, ◌≤◌, Bool, true, false, not, ◌&&◌, ◌||◌, eqb, leb, List, [], ◌∷◌, ◌++◌, length, get_or, drop, replicate, refl, sym, ap, ap₂, arith, inl, inr}
 use Rattle.std.specs.List.{AllByRecursion}
+use Rattle.std.proofs.Math.Bool.{and-false, or-false}
 use Rattle.std.proofs.Math.Path.{fun_ext}
 use Rattle.std.proofs.lemmas.Bool.{cases_eq, cases_lt, eq-eqb, ne_eqb, eqb-true, le-leb, lt-leb}
 use Rattle.std.proofs.lemmas.List.{length-append, length-drop, get_or-drop, drop-drop, get_or_past, length-replicate}
@@ -11,7 +12,6 @@ use Rattle.gameid_core.specs.Puzzles.{used}
 use Rattle.engine_core.specs.Filling.{Set, strikes_by_fillings}
 use Rattle.pattern_core.specs.Lines.{same_numbers, has_runs}
 use Rattle.pattern_core.specs.Track.{spelled, IsBelow, may_stay, track_of, leads, some_leads, cell_is}
-use Rattle.pattern_core.proofs.FirstRun.{first_run}
 
 -- ---- by what is left of the spelled clue
 -- whether the cells go on to an end of what is left; `may` says whether a further white cell may come first
@@ -20,16 +20,19 @@ matches may left [] = leb (length left) 1
 matches may left (zero ∷ cells) = (may && matches true left cells) || (eqb (get_or left 0 2) 0 && matches true (drop 1 left) cells)
 matches may left (suc x ∷ cells) = eqb (get_or left 0 2) 1 && matches false (drop 1 left) cells
 
-or_false : (x : Bool) → (x || false) ≡ x
-or_false true = refl
-or_false false = refl
-
 -- more than one cell is left of a run
 long : (d : ℕ) (clue : List ℕ) → leb (length (1 ∷ (replicate d 1 ++ 0 ∷ spelled clue))) 1 ≡ false
 long d clue = lt-leb (length (1 ∷ (replicate d 1 ++ 0 ∷ spelled clue))) 1 (omega (arith, length-append (replicate d 1) (0 ∷ spelled clue)))
 
 abbrev Positive : List ℕ → Type 0
 Positive clue = AllByRecursion (λ n. 0 < n) clue
+
+-- after a black cell the first run is at least as long as what was passed
+first_run : (k : ℕ) (cells : List ℕ) → (m : ℕ) × (rest : List ℕ) × (runs_after (suc k) cells ≡ m ∷ rest) × (suc k ≤ m)
+unfolding runs_after
+first_run k [] = (suc k, [], refl, omega arith)
+first_run k (zero ∷ cells) = (suc k, runs_after 0 cells, refl, omega arith)
+first_run k (suc x ∷ cells) = let w = first_run (suc k) cells in (w.0, w.1, w.2, let h = w.3 in omega arith)
 
 -- the runs after black cells are some
 not_none : (k : ℕ) (cells : List ℕ) → same_numbers (runs_after (suc k) cells) [] ≡ false
@@ -50,10 +53,6 @@ Starts cells = (clue : List ℕ) → Positive clue → matches true (spelled clu
 abbrev GoesOn : List ℕ → Type 0
 GoesOn cells = (k d : ℕ) (clue : List ℕ) → Positive clue → matches false (replicate d 1 ++ 0 ∷ spelled clue) cells ≡ same_numbers (runs_after (suc k) cells) ((suc k + d) ∷ clue)
 
-and_none : (b : Bool) → (b && false) ≡ false
-and_none true = refl
-and_none false = refl
-
 starts_none : Starts []
 unfolding spelled same_numbers runs_after matches
 starts_none [] p = refl
@@ -64,14 +63,14 @@ goes_on_none : GoesOn []
 unfolding spelled same_numbers runs_after matches
 goes_on_none k zero [] p = sym (ap (λ b. b && true) (eq-eqb (suc k) (suc k + 0) (omega arith)))
 goes_on_none k zero (zero ∷ clue) p = absurd (let q = p.0 in omega arith)
-goes_on_none k zero (suc m ∷ clue) p = lt-leb (length (0 ∷ spelled (suc m ∷ clue))) 1 (omega arith) ∙ sym (and_none (eqb (suc k) (suc k + 0)))
+goes_on_none k zero (suc m ∷ clue) p = lt-leb (length (0 ∷ spelled (suc m ∷ clue))) 1 (omega arith) ∙ sym (and-false (eqb (suc k) (suc k + 0)))
 goes_on_none k (suc d) clue p = long d clue ∙ sym (ap (λ b. b && same_numbers [] clue) (ne_eqb (suc k) (suc k + suc d) (λ e. absurd (omega arith))))
 
 starts_white : (cells : List ℕ) → Starts cells → Starts (zero ∷ cells)
 unfolding spelled same_numbers runs_after matches
-starts_white cells rest [] p = or_false (matches true [] cells) ∙ rest [] p
+starts_white cells rest [] p = or-false (matches true [] cells) ∙ rest [] p
 starts_white cells rest (zero ∷ clue) p = absurd (let q = p.0 in omega arith)
-starts_white cells rest (suc m ∷ clue) p = or_false (matches true (spelled (suc m ∷ clue)) cells) ∙ rest (suc m ∷ clue) p
+starts_white cells rest (suc m ∷ clue) p = or-false (matches true (spelled (suc m ∷ clue)) cells) ∙ rest (suc m ∷ clue) p
 
 goes_on_white : (cells : List ℕ) → Starts cells → GoesOn (zero ∷ cells)
 unfolding spelled same_numbers runs_after matches

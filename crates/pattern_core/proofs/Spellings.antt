@@ -1,14 +1,16 @@
 -- A clue spelled cell by cell, as sets of places, and read back from them.
 use Rattle.std.proofs.lemmas.Bool.{cases_Bool}
 use Rattle.std.proofs.lemmas.Grind.{common_steps}
-use Rattle.std.proofs.Common.{◌≡◌, ◌∙◌, ℕ, zero, suc, ◌+◌, ◌<◌, ◌≤◌, Bool, true, false, cond, ◌||◌, eqb, List, [], ◌∷◌, ◌++◌, length, get_or, take, replicate, refl, sym, ap, ap₂, subst, arith, append_assoc, length-append}
+use Rattle.std.proofs.Common.{◌≡◌, ◌∙◌, ℕ, zero, suc, ◌+◌, ◌-◌, ◌<◌, ◌≤◌, Bool, true, false, cond, ◌||◌, eqb, List, [], ◌∷◌, ◌++◌, length, get_or, drop, replicate, refl, sym, ap, ap₂, subst, arith, append_assoc, length-append}
 use Rattle.std.specs.List.{AllByRecursion}
+use Rattle.std.proofs.Math.Bool.{or-false, or-true}
 use Rattle.std.proofs.Math.Path.{fun_ext}
 use Rattle.std.proofs.lemmas.Bool.{cases_eq, cases_lt, eq-eqb, ne_eqb}
-use Rattle.std.proofs.lemmas.List.{get_or_append_left, get_or_past, take_more, replicate-append-replicate}
+use Rattle.std.proofs.lemmas.List.{get_or_append_left, get_or_past, drop_more, length-replicate, replicate-append-replicate}
 use Rattle.gameid_core.specs.BlackRuns.{runs_after, runs}
 use Rattle.gameid_core.specs.Puzzles.{used}
 use Rattle.pattern_core.specs.Track.{spelled, Track, track_of, may_stay, one_on, IsSpelling, cells_from, clue_along, IsTrack, IsBelow}
+use Rattle.pattern_core.proofs.Roomy.{run_first}
 use Rattle.pattern_core.proofs.SpelledRuns.{length-spelled, track_below}
 
 -- the cells with one more
@@ -19,18 +21,10 @@ last_cell : (cells : List ℕ) (x : ℕ) → get_or (cells ++ x ∷ []) (length 
 last_cell [] x = refl
 last_cell (y ∷ cells) x = last_cell cells x
 
-or_true : (b : Bool) → (b || true) ≡ true
-or_true true = refl
-or_true false = refl
-
-or_false : (b : Bool) → (b || false) ≡ b
-or_false true = refl
-or_false false = refl
-
 -- a word with the place of the new cell
 new_place : (cells : List ℕ) (v : ℕ) (old next new : ℕ → Bool) → ((p : ℕ) → old p ≡ eqb (get_or cells p 2) v) → ((p : ℕ) → next p ≡ eqb p (length cells)) → v < 2
     → ((p : ℕ) → new p ≡ (old p || next p)) → (p : ℕ) → new p ≡ eqb (get_or (cells ++ v ∷ []) p 2) v
-new_place cells v old next new is after small each p = grind (arith, common_steps, cases_Bool, cases_eq, eq-eqb, last_cell, more_cells, ne_eqb, or_false, or_true)
+new_place cells v old next new is after small each p = grind (arith, common_steps, cases_Bool, cases_eq, eq-eqb, last_cell, more_cells, ne_eqb, or-false, or-true)
 
 -- the other word stays
 old_place : (cells : List ℕ) (x v : ℕ) (old : ℕ → Bool) → x < 2 → v < 2 → (x ≡ v → ⊥) → ((p : ℕ) → old p ≡ eqb (get_or cells p 2) v) → (p : ℕ) → old p ≡ eqb (get_or (cells ++ x ∷ []) p 2) v
@@ -71,26 +65,16 @@ pub run_ended : (cells : List ℕ) (k : ℕ) → (cells ++ replicate k 1) ++ 0 �
 run_ended cells k = append_assoc cells (replicate k 1) (0 ∷ [])
 
 -- ---- the clue run by run
-spelled-append : (clue : List ℕ) (n : ℕ) → spelled (clue ++ n ∷ []) ≡ spelled clue ++ (replicate n 1 ++ 0 ∷ [])
-unfolding spelled
-spelled-append [] n = refl
-spelled-append (m ∷ clue) n = ap (λ l. replicate m 1 ++ 0 ∷ l) (spelled-append clue n) ∙ sym (append_assoc (replicate m 1) (0 ∷ spelled clue) (replicate n 1 ++ 0 ∷ []))
+module _ (front clue : List ℕ) (k : ℕ) (lt : k < length clue) (so_far : front ++ spelled (drop k clue) ≡ spelled clue) where
+  abbrev run : List ℕ
+  run = replicate (get_or clue k 0) 1 ++ 0 ∷ []
 
-pub spelled-more : (clue : List ℕ) (k : ℕ) → k < length clue → spelled (take (k + 1) clue) ≡ spelled (take k clue) ++ (replicate (get_or clue k 0) 1 ++ 0 ∷ [])
-spelled-more clue k lt = ap spelled (take_more clue k 0 lt) ∙ spelled-append (take k clue) (get_or clue k 0)
+  pub next_run : (front ++ run) ++ spelled (drop (k + 1) clue) ≡ spelled clue
+  unfolding spelled
+  next_run = simp append_assoc (sym (ap (λ l. front ++ spelled l) (drop_more clue k 0 lt)) ∙ so_far)
 
-used-append : (clue : List ℕ) (n : ℕ) → used (clue ++ n ∷ []) ≡ used clue + (n + 1)
-used-append [] n = omega arith
-used-append (m ∷ clue) n = let e = used-append clue n in omega arith
-
-pub used-more : (clue : List ℕ) (k : ℕ) → k < length clue → used (take (k + 1) clue) ≡ used (take k clue) + (get_or clue k 0 + 1)
-used-more clue k lt = ap used (take_more clue k 0 lt) ∙ used-append (take k clue) (get_or clue k 0)
-
-pub used-front : (clue : List ℕ) (k : ℕ) → used (take k clue) ≤ used clue
-used-front [] zero = omega arith
-used-front [] (suc k) = omega arith
-used-front (n ∷ clue) zero = omega arith
-used-front (n ∷ clue) (suc k) = let e = used-front clue k in omega arith
+  pub run_fits : length front + get_or clue k 0 < used clue
+  run_fits = omega (arith, ap length next_run, length-append (front ++ run) (spelled (drop (k + 1) clue)), length-append front run, length-append {A = ℕ} (replicate (get_or clue k 0) 1) (0 ∷ []), length-replicate {A = ℕ} (get_or clue k 0) 1, length-spelled clue)
 
 -- ---- the track
 pub track_spelled : (A : Type 0) (has : A → ℕ → Bool) (n : ℕ) (cells : List ℕ) (white black next stay on ends first back : A) → length cells < n → IsSpelling has cells white black next
@@ -98,7 +82,7 @@ pub track_spelled : (A : Type 0) (has : A → ℕ → Bool) (n : ℕ) (cells : L
     → ((p : ℕ) → has back p ≡ has next (suc p)) → ((p : ℕ) → has ends p ≡ (has next p || has back p))
     → ◌≡◌ {A = Track} (record { stay = has stay; white = has white; black = has black; ends = has ends }) (track_of cells)
 unfolding track_of may_stay one_on
-track_spelled A has n cells white black next stay on ends first back fits s within past one stay_is back_is ends_is = grind (arith, common_steps, cases_Bool, cases_lt, fun_ext, get_or_past, ne_eqb, or_false, or_true)
+track_spelled A has n cells white black next stay on ends first back fits s within past one stay_is back_is ends_is = grind (arith, common_steps, cases_Bool, cases_lt, fun_ext, get_or_past, ne_eqb, or-false, or-true)
 
 -- ---- the clue of a track
 -- the cells after the first
@@ -112,32 +96,23 @@ unfolding cells_from runs_after
 all_white zero p = refl
 all_white (suc n) p = all_white n (suc p)
 
-abbrev Reads : List ℕ → Type 0
-Reads clue = (n : ℕ) → used clue ≤ n → runs_after 0 (cells_from (λ q. eqb (get_or (spelled clue) q 2) 1) n 0) ≡ clue
+run_cells : (m n k : ℕ) (rest : List ℕ) → n ≡ m + suc k
+    → cells_from (λ q. eqb (get_or (replicate m 1 ++ 0 ∷ rest) q 2) 1) n 0 ≡ replicate m 1 ++ 0 ∷ cells_from (λ q. eqb (get_or rest q 2) 1) k 0
+unfolding cells_from
+run_cells m zero k rest e = absurd (omega arith)
+run_cells zero (suc n) k rest e = ap (λ (l : List ℕ). 0 ∷ l) (from_next 0 rest n 0 ∙ ap (λ j. cells_from (λ q. eqb (get_or rest q 2) 1) j 0) (let z : n ≡ k = omega arith in z))
+run_cells (suc m) (suc n) k rest e = ap (λ (l : List ℕ). 1 ∷ l) (from_next 1 (replicate m 1 ++ 0 ∷ rest) n 0 ∙ run_cells m n k rest (omega arith))
 
-spelled_run : (k d : ℕ) (clue : List ℕ) (n : ℕ) → Reads clue → 0 < k + d → d + suc (used clue) ≤ n
-    → runs_after k (cells_from (λ q. eqb (get_or (replicate d 1 ++ 0 ∷ spelled clue) q 2) 1) n 0) ≡ (k + d) ∷ clue
-unfolding cells_from runs_after
-spelled_run k zero clue zero rest some fits = absurd (omega arith)
-spelled_run zero zero clue (suc n) rest some fits = absurd (omega arith)
-spelled_run (suc k) zero clue (suc n) rest some fits =
-    ap₂ (λ (x : ℕ) (l : List ℕ). x ∷ l) (let z : suc k ≡ suc k + 0 = omega arith in z)
-    (ap (runs_after 0) (from_next 0 (spelled clue) n 0) ∙ rest n (omega arith))
-spelled_run k (suc d) clue zero rest some fits = absurd (omega arith)
-spelled_run k (suc d) clue (suc n) rest some fits =
-    ap (runs_after (suc k)) (from_next 1 (replicate d 1 ++ 0 ∷ spelled clue) n 0) ∙ spelled_run (suc k) d clue n rest (omega arith) (omega arith)
-    ∙ ap (λ (x : ℕ). x ∷ clue) (let z : suc k + d ≡ k + suc d = omega arith in z)
-
-spelled_runs : (clue : List ℕ) → AllByRecursion (λ k. 0 < k) clue → Reads clue
+spelled_runs : (clue : List ℕ) (n : ℕ) → AllByRecursion (λ k. 0 < k) clue → used clue ≤ n → runs (cells_from (λ q. eqb (get_or (spelled clue) q 2) 1) n 0) ≡ clue
 unfolding spelled
-spelled_runs [] positive n fits = all_white n 0
-spelled_runs (m ∷ clue) positive n fits =
-    spelled_run 0 m clue n (spelled_runs clue positive.1) (let z = positive.0 in omega arith) (omega arith) ∙ ap (λ (x : ℕ). x ∷ clue) (let z : 0 + m ≡ m = omega arith in z)
+spelled_runs [] n positive fits = all_white n 0
+spelled_runs (m ∷ clue) n positive fits =
+    ap runs (run_cells m n (n - m - 1) (spelled clue) (omega arith)) ∙ run_first m _ positive.0 ∙ ap (λ (l : List ℕ). m ∷ l) (spelled_runs clue (n - m - 1) positive.1 (omega arith))
 
 -- a clue is that of its track
 pub clue_back : (clue : List ℕ) (n : ℕ) (t : Track) → AllByRecursion (λ k. 0 < k) clue → used clue < n → t ≡ track_of (spelled clue) → clue_along n t ≡ clue
 unfolding clue_along track_of
-clue_back clue n t positive fits is = ap (λ (u : Track). runs (cells_from u.black n 0)) is ∙ spelled_runs clue positive n (omega arith)
+clue_back clue n t positive fits is = ap (λ (u : Track). runs (cells_from u.black n 0)) is ∙ spelled_runs clue n positive (omega arith)
 
 pub track_under : (n : ℕ) (t : Track) → IsTrack n t → IsBelow n t
 track_under n t is = subst (IsBelow n) (sym is.spells) (track_below (spelled (clue_along n t)) n (omega (arith, is.fits, length-spelled (clue_along n t))))

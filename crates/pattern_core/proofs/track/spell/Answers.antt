@@ -1,23 +1,24 @@
-use Rattle.std.proofs.Common.{◌≡◌, ◌+◌, ◌<◌, suc, List, ℕ, take, get_or, length, sym, arith, subst}
-use Rattle.std.proofs.lemmas.List.{take_all}
-use Rattle.pattern_core.specs.Track.{spelled, IsSpelling}
+use Rattle.std.proofs.Common.{◌≡◌, ◌∙◌, ◌++◌, [], refl, drop, length, sym, ap, arith, append-nil, subst}
+use Rattle.std.proofs.lemmas.List.{drop_all}
+use Rattle.pattern_core.specs.Track.{spelled, Spells}
 use Rattle.pattern_core.proofs.SpelledRuns.{length-spelled}
-use Rattle.pattern_core.proofs.Spellings.{spelling_none, spelled-more, used-more, used-front, track_spelled}
+use Rattle.pattern_core.proofs.Spellings.{spelling_none, next_run, run_fits, track_spelled}
 use Rattle.pattern_core.proofs.track.spell.Goals as goal
 
 pub loop-k-init : goal.loop-k-init
-loop-k-init g c = spelling_none _ g.P.Places.has _ _ _ c.none.ensures c.none-2.ensures c.first.ensures
+unfolding spelled
+loop-k-init g c = ([], refl, spelling_none _ g.P.Places.has _ _ _ c.none.ensures c.none-2.ensures c.first.ensures)
 
 pub loop-k-preserved : goal.loop-k-preserved
 loop-k-preserved g c =
-    let fits : suc (length (spelled (take c.loop-k.k c.args.clue.now)) + get_or c.args.clue.now c.loop-k.k 0) < g.P.Places.room =
-    omega (arith, c.requires, length-spelled (take c.loop-k.k c.args.clue.now), used-more c.args.clue.now c.loop-k.k c.loop-k-test.true, used-front c.args.clue.now (c.loop-k.k + 1)) in
-    subst (λ (l : List ℕ). IsSpelling g.P.Places.has l c.push_run-cells.result.white c.push_run-cells.result.black c.push_run-cells.result.next) (sym (spelled-more c.args.clue.now c.loop-k.k c.loop-k-test.true))
-    (c.push_run-cells.ensures (spelled (take c.loop-k.k c.args.clue.now)) fits c.loop-k.invariant)
+    let (front, so_far, spells) = c.loop-k.invariant in
+    let low = run_fits front c.args.clue.now c.loop-k.k c.loop-k-test.true so_far in
+    (_, next_run front c.args.clue.now c.loop-k.k c.loop-k-test.true so_far, c.push_run-cells.ensures front (omega (arith, low, c.requires)) spells)
 
 pub returns : goal.returns
+unfolding spelled
 returns g c =
-    let all : take c.loop-k.k c.args.clue.now ≡ c.args.clue.now = take_all c.loop-k.k c.args.clue.now c.loop-k-test.false in
+    let (front, so_far, spells) = c.loop-k.invariant in
+    let all = sym (append-nil front) ∙ ap (λ l. front ++ spelled l) (sym (drop_all c.loop-k.k c.args.clue.now c.loop-k-test.false)) ∙ so_far in
     track_spelled _ g.P.Places.has g.P.Places.room (spelled c.args.clue.now) _ _ _ _ _ _ _ _ (omega (arith, c.requires, length-spelled c.args.clue.now))
-    (subst (λ (l : List ℕ). IsSpelling g.P.Places.has (spelled l) c.loop-k.cells.white c.loop-k.cells.black c.loop-k.cells.next) all c.loop-k.invariant)
-    c.on.ensures.within c.on.ensures.past c.first-2.ensures c.either.ensures c.back.ensures c.either-2.ensures
+    (subst (λ l. Spells g.P.Places.has l c.loop-k.cells) all spells) c.on.ensures.within c.on.ensures.past c.first-2.ensures c.either.ensures c.back.ensures c.either-2.ensures

@@ -1,6 +1,6 @@
-use Rattle.std.proofs.Common.{take}
-use Rattle.pattern_core.specs.Track.{spelled, IsSpelling}
+use Rattle.std.proofs.Common.{◌≡◌, ℕ, List, ◌++◌, drop}
+use Rattle.pattern_core.specs.Track.{spelled, Spells}
 use Rattle.pattern_core.proofs.track.spell.Given as goal
 
 abbrev pub invariant-loop-k : goal.invariant-loop-k
-invariant-loop-k g l = IsSpelling g.P.Places.has (spelled (take l.k l.clue)) l.cells.white l.cells.black l.cells.next
+invariant-loop-k g l = (front : List ℕ) × (front ++ spelled (drop l.k l.clue) ≡ spelled l.clue) × Spells g.P.Places.has front l.cells
