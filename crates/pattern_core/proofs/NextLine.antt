@@ -10,7 +10,7 @@ use Rattle.engine_core.specs.Puzzle.{has_place, IsNext, IsKth}
 use Rattle.engine_core.proofs.KthLemmas.{next-kth, next-number, kth-none}
 use Rattle.grid_core.specs.Candidates.{count_below}
 use Rattle.pattern_core.specs.Lines.{line_places}
-use Rattle.pattern_core.specs.LineLaws.{column_has, row_has, only_column, only_row}
+use Rattle.pattern_core.specs.LineLaws.{column_has, row_has, lines_with}
 
 module _ (size : Extent) (w place from : ℕ) (same : w ≡ size.w) (within : place < size.w * size.h) where
   x_low : place % w < size.w
@@ -29,7 +29,7 @@ module _ (size : Extent) (w place from : ℕ) (same : w ≡ size.w) (within : pl
   in_row = ap (has_place (line_places size (size.w + place / w))) (sym cell) ∙ row_has size (place % w) (place / w) x_low y_low
 
   no_other : (line : ℕ) → has_place (line_places size line) place ≡ true → (line ≡ place % w) ⊎ (line ≡ size.w + place / w)
-  no_other line on = grind (arith, common_steps, cases_Bool, cases_lt, cell, only_column, only_row, x_low)
+  no_other line on = rw same (lines_with size place line on)
 
   not_between : (line : ℕ) → (line ≡ place % w → ⊥) → (line ≡ size.w + place / w → ⊥) → has_place (line_places size line) place ≡ false
   not_between line a b = false_from_ne_true (has_place (line_places size line) place) (λ on. elim (no_other line on) [ inl e ↦ a e | inr e ↦ b e ])

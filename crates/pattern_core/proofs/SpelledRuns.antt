@@ -2,6 +2,7 @@
 use Rattle.std.proofs.lemmas.Bool.{cases_Bool}
 use Rattle.std.proofs.lemmas.Grind.{common_steps}
 use Rattle.std.proofs.Common.{◌≡◌, ◌∙◌, ℕ, zero, suc, ◌+◌, ◌<◌, ◌≤◌, Bool, true, false, not, ◌&&◌, ◌||◌, eqb, leb, List, [], ◌∷◌, ◌++◌, length, get_or, drop, replicate, refl, sym, ap, ap₂, arith, inl, inr}
+use Rattle.std.specs.Cmp.Lexicographic.{pointwise}
 use Rattle.std.specs.List.{AllByRecursion}
 use Rattle.std.proofs.Math.Bool.{and-false, or-false}
 use Rattle.std.proofs.Math.Path.{fun_ext}
@@ -10,7 +11,7 @@ use Rattle.std.proofs.lemmas.List.{length-append, length-drop, get_or-drop, drop
 use Rattle.gameid_core.specs.BlackRuns.{runs_after}
 use Rattle.gameid_core.specs.Puzzles.{used}
 use Rattle.engine_core.specs.Filling.{Set, strikes_by_fillings}
-use Rattle.pattern_core.specs.Lines.{same_numbers, has_runs}
+use Rattle.pattern_core.specs.Lines.{has_runs}
 use Rattle.pattern_core.specs.Track.{spelled, IsBelow, may_stay, track_of, leads, some_leads, cell_is}
 
 -- ---- by what is left of the spelled clue
@@ -35,59 +36,57 @@ first_run k (zero ∷ cells) = (suc k, runs_after 0 cells, refl, omega arith)
 first_run k (suc x ∷ cells) = let w = first_run (suc k) cells in (w.0, w.1, w.2, let h = w.3 in omega arith)
 
 -- the runs after black cells are some
-not_none : (k : ℕ) (cells : List ℕ) → same_numbers (runs_after (suc k) cells) [] ≡ false
-unfolding same_numbers
-not_none k cells = let w = first_run k cells in ap (λ r. same_numbers r []) w.2
+not_none : (k : ℕ) (cells : List ℕ) → pointwise eqb (runs_after (suc k) cells) [] ≡ false
+not_none k cells = let w = first_run k cells in ap (λ r. pointwise eqb r []) w.2
 
 -- the first of them is longer than the cells before
-too_long : (k m : ℕ) (cells clue : List ℕ) → m ≤ k → same_numbers (runs_after (suc k) cells) (m ∷ clue) ≡ false
-unfolding same_numbers
+too_long : (k m : ℕ) (cells clue : List ℕ) → m ≤ k → pointwise eqb (runs_after (suc k) cells) (m ∷ clue) ≡ false
 too_long k m cells clue le =
     let w = first_run k cells in
-    ap (λ r. same_numbers r (m ∷ clue)) w.2 ∙ ap (λ b. b && same_numbers w.1 clue) (ne_eqb w.0 m (λ e. let low = w.3 in absurd (omega arith)))
+    ap (λ r. pointwise eqb r (m ∷ clue)) w.2 ∙ ap (λ b. b && pointwise eqb w.1 clue) (ne_eqb w.0 m (λ e. let low = w.3 in absurd (omega arith)))
 
 -- cells from the start of a run on, and cells after so many black ones of a run
 abbrev Starts : List ℕ → Type 0
-Starts cells = (clue : List ℕ) → Positive clue → matches true (spelled clue) cells ≡ same_numbers (runs_after 0 cells) clue
+Starts cells = (clue : List ℕ) → Positive clue → matches true (spelled clue) cells ≡ pointwise eqb (runs_after 0 cells) clue
 
 abbrev GoesOn : List ℕ → Type 0
-GoesOn cells = (k d : ℕ) (clue : List ℕ) → Positive clue → matches false (replicate d 1 ++ 0 ∷ spelled clue) cells ≡ same_numbers (runs_after (suc k) cells) ((suc k + d) ∷ clue)
+GoesOn cells = (k d : ℕ) (clue : List ℕ) → Positive clue → matches false (replicate d 1 ++ 0 ∷ spelled clue) cells ≡ pointwise eqb (runs_after (suc k) cells) ((suc k + d) ∷ clue)
 
 starts_none : Starts []
-unfolding spelled same_numbers runs_after matches
+unfolding spelled runs_after matches
 starts_none [] p = refl
 starts_none (zero ∷ clue) p = absurd (let q = p.0 in omega arith)
 starts_none (suc m ∷ clue) p = long m clue
 
 goes_on_none : GoesOn []
-unfolding spelled same_numbers runs_after matches
+unfolding spelled runs_after matches
 goes_on_none k zero [] p = sym (ap (λ b. b && true) (eq-eqb (suc k) (suc k + 0) (omega arith)))
 goes_on_none k zero (zero ∷ clue) p = absurd (let q = p.0 in omega arith)
 goes_on_none k zero (suc m ∷ clue) p = lt-leb (length (0 ∷ spelled (suc m ∷ clue))) 1 (omega arith) ∙ sym (and-false (eqb (suc k) (suc k + 0)))
-goes_on_none k (suc d) clue p = long d clue ∙ sym (ap (λ b. b && same_numbers [] clue) (ne_eqb (suc k) (suc k + suc d) (λ e. absurd (omega arith))))
+goes_on_none k (suc d) clue p = long d clue ∙ sym (ap (λ b. b && pointwise eqb [] clue) (ne_eqb (suc k) (suc k + suc d) (λ e. absurd (omega arith))))
 
 starts_white : (cells : List ℕ) → Starts cells → Starts (zero ∷ cells)
-unfolding spelled same_numbers runs_after matches
+unfolding spelled runs_after matches
 starts_white cells rest [] p = or-false (matches true [] cells) ∙ rest [] p
 starts_white cells rest (zero ∷ clue) p = absurd (let q = p.0 in omega arith)
 starts_white cells rest (suc m ∷ clue) p = or-false (matches true (spelled (suc m ∷ clue)) cells) ∙ rest (suc m ∷ clue) p
 
 goes_on_white : (cells : List ℕ) → Starts cells → GoesOn (zero ∷ cells)
-unfolding spelled same_numbers runs_after matches
-goes_on_white cells rest k zero clue p = rest clue p ∙ sym (ap (λ b. b && same_numbers (runs_after 0 cells) clue) (eq-eqb (suc k) (suc k + 0) (omega arith)))
-goes_on_white cells rest k (suc d) clue p = sym (ap (λ b. b && same_numbers (runs_after 0 cells) clue) (ne_eqb (suc k) (suc k + suc d) (λ e. absurd (omega arith))))
+unfolding spelled runs_after matches
+goes_on_white cells rest k zero clue p = rest clue p ∙ sym (ap (λ b. b && pointwise eqb (runs_after 0 cells) clue) (eq-eqb (suc k) (suc k + 0) (omega arith)))
+goes_on_white cells rest k (suc d) clue p = sym (ap (λ b. b && pointwise eqb (runs_after 0 cells) clue) (ne_eqb (suc k) (suc k + suc d) (λ e. absurd (omega arith))))
 
 starts_black : (x : ℕ) (cells : List ℕ) → GoesOn cells → Starts (suc x ∷ cells)
 unfolding spelled runs_after matches
 starts_black x cells rest [] p = sym (not_none 0 cells)
 starts_black x cells rest (zero ∷ clue) p = absurd (let q = p.0 in omega arith)
-starts_black x cells rest (suc m ∷ clue) p = rest 0 m clue p.1 ∙ ap (λ n. same_numbers (runs_after 1 cells) (n ∷ clue)) (let z : suc 0 + m ≡ suc m = omega arith in z)
+starts_black x cells rest (suc m ∷ clue) p = rest 0 m clue p.1 ∙ ap (λ n. pointwise eqb (runs_after 1 cells) (n ∷ clue)) (let z : suc 0 + m ≡ suc m = omega arith in z)
 
 goes_on_black : (x : ℕ) (cells : List ℕ) → GoesOn cells → GoesOn (suc x ∷ cells)
 unfolding spelled runs_after matches
 goes_on_black x cells rest k zero clue p = sym (too_long (suc k) (suc k + 0) cells clue (omega arith))
 goes_on_black x cells rest k (suc d) clue p =
-    rest (suc k) d clue p ∙ ap (λ m. same_numbers (runs_after (suc (suc k)) cells) (m ∷ clue)) (let z : suc (suc k) + d ≡ suc k + suc d = omega arith in z)
+    rest (suc k) d clue p ∙ ap (λ m. pointwise eqb (runs_after (suc (suc k)) cells) (m ∷ clue)) (let z : suc (suc k) + d ≡ suc k + suc d = omega arith in z)
 
 both : (cells : List ℕ) → Starts cells × GoesOn cells
 both [] = (starts_none, goes_on_none)

@@ -1,9 +1,10 @@
 -- The rules of lines are lawful, by the laws of fillings and the places of lines.
 use Rattle.std.proofs.lemmas.Bool.{cases_Bool}
 use Rattle.std.proofs.lemmas.Grind.{common_steps}
-use Rattle.std.proofs.Common.{◌≡◌, ℕ, zero, suc, ◌+◌, ◌-◌, ◌*◌, ◌%◌, ◌<◌, ◌≤◌, Bool, true, false, not, ◌&&◌, eqb, ltb, List, [], ◌∷◌, length, slice_index, map, refl, sym, ap, ap₂, ◌∙◌, arith, inl, inr, ◌⊎◌}
-use Rattle.std.proofs.lemmas.Bool.{cases_lt, true≢false, and_parts, and_from, eqb-true, eq-eqb, ltb-true, lt-ltb, le-ltb}
-use Rattle.std.proofs.lemmas.Nat.{mod-mul-add}
+use Rattle.std.proofs.Common.{◌≡◌, ℕ, zero, suc, ◌+◌, ◌-◌, ◌*◌, ◌/◌, ◌%◌, ◌<◌, ◌≤◌, Bool, true, false, not, ◌&&◌, eqb, ltb, List, [], ◌∷◌, length, slice_index, map, refl, sym, ap, ap₂, ◌∙◌, arith, inl, inr, ◌⊎◌}
+use Rattle.std.proofs.lemmas.Bool.{cases_lt, true≢false, true_from_ne_false, and_parts, and_from, eqb-true, eq-eqb, ltb-true, lt-ltb, le-ltb}
+use Rattle.std.specs.Cmp.Lexicographic.{same_text, other_text}
+use Rattle.std.proofs.lemmas.Nat.{mod-mul-add, div-mul-add}
 use Rattle.std.proofs.lemmas.Simd.{map-map}
 use Rattle.std.proofs.lemmas.List.FromFn.{length-map-range_with_len, get_or-map-range_with_len}
 use Rattle.std.proofs.Math.Nat.{mul-le-mul_right}
@@ -20,7 +21,7 @@ use Rattle.engine_core.specs.PlaceLaws.{has_place-at, has_place-here}
 use Rattle.engine_core.specs.Filling.{strikes_by_fillings}
 use Rattle.engine_core.specs.House.{strikes_at, AreDifferent}
 use Rattle.engine_core.specs.HouseLaws.{strikes_at-inside, strikes_at-in_scope, by_fillings-monotone, by_fillings-settled, by_fillings-closed}
-use Rattle.pattern_core.specs.Lines.{line_places, line_numbers, clue_of, HasClue, same_numbers, has_runs}
+use Rattle.pattern_core.specs.Lines.{line_places, line_numbers, clue_of, HasClue, has_runs}
 use Rattle.pattern_core.specs.LineRules.{is_pattern_solution, line_rules}
 use Rattle.pattern_core.specs.Solutions.{IsPatternSolution}
 
@@ -46,9 +47,6 @@ place_in_row size line k le within = grind (arith, common_steps, cases_Bool, get
 pub cell_in_grid : (size : Extent) (x y : ℕ) → x < size.w → y < size.h → y * size.w + x < size.w * size.h
 cell_in_grid size x y ltx lty = grind (arith, common_steps, cases_Bool, mul-le-mul_right)
 
-same_column : (w x y a b : ℕ) → x < w → a < w → y * w + x ≡ b * w + a → x ≡ a
-same_column w x y a b ltx lta e = sym (mod-mul-add y w x ltx) ∙ ap (λ n. n % w) e ∙ mod-mul-add b w a lta
-
 same_row : (w x y a b : ℕ) → x < w → a < w → y * w + x ≡ b * w + a → y ≡ b
 same_row w x y a b ltx lta e = grind (arith, common_steps, cases_Bool, cases_lt, mul-le-mul_right)
 
@@ -67,61 +65,31 @@ in_grid size line c lt on = elim (cases_lt line size.w) [
 
 pub different_places : (size : Extent) (line : ℕ) → AreDifferent (line_places size line)
 different_places size line j k lj lk e = elim (cases_lt line size.w) [
-  | inl column ↦
-      let n : length (line_places size line) ≡ size.h = ap length (column-places size line column) ∙ length-map-range_with_len (λ y. y * size.w + line) 0 size.h in
-      same_row size.w line j line k column column (sym (place_in_column size line j column (omega arith)) ∙ e ∙ place_in_column size line k column (omega arith))
-  | inr row ↦
-      let n : length (line_places size line) ≡ size.w = ap length (row-places size line row) ∙ length-map-range_with_len (λ x. (line - size.w) * size.w + x) 0 size.w in
-      let same : (line - size.w) * size.w + j ≡ (line - size.w) * size.w + k = sym (place_in_row size line j row (omega arith)) ∙ e ∙ place_in_row size line k row (omega arith) in
-      omega arith
+  | inl column ↦ grind (arith, common_steps, length-line_places, place_in_column, same_row)
+  | inr row ↦ grind (arith, common_steps, length-line_places, place_in_row)
 ]
 
 -- the place is in its column and in its row, and in no other line
 pub column_has : (size : Extent) (x y : ℕ) → x < size.w → y < size.h → has_place (line_places size x) (y * size.w + x) ≡ true
-column_has size x y ltx lty =
-    let n : length (line_places size x) ≡ size.h = ap length (column-places size x ltx) ∙ length-map-range_with_len (λ k. k * size.w + x) 0 size.h in
-    ap (has_place (line_places size x)) (sym (place_in_column size x y ltx lty)) ∙ has_place-here (line_places size x) y (omega arith)
+column_has size x y ltx lty = rw (← place_in_column size x y ltx lty) (has_place-here (line_places size x) y (grind (arith, common_steps, length-line_places)))
 
 pub row_has : (size : Extent) (x y : ℕ) → x < size.w → y < size.h → has_place (line_places size (size.w + y)) (y * size.w + x) ≡ true
 row_has size x y ltx lty =
-    let le : size.w ≤ size.w + y = omega arith in
-    let back : (size.w + y) - size.w ≡ y = omega arith in
-    let n : length (line_places size (size.w + y)) ≡ size.w = ap length (row-places size (size.w + y) le) ∙ length-map-range_with_len (λ k. ((size.w + y) - size.w) * size.w + k) 0 size.w in
-    ap (has_place (line_places size (size.w + y))) (sym (place_in_row size (size.w + y) x le ltx ∙ ap (λ r. r * size.w + x) back)) ∙ has_place-here (line_places size (size.w + y)) x (omega arith)
+    let at = place_in_row size (size.w + y) x (omega arith) ltx ∙ ap (λ r. r * size.w + x) (let z : (size.w + y) - size.w ≡ y = omega arith in z) in
+    rw (← at) (has_place-here (line_places size (size.w + y)) x (grind (arith, common_steps, length-line_places)))
 
-pub only_column : (size : Extent) (x y line : ℕ) → x < size.w → line < size.w → has_place (line_places size line) (y * size.w + x) ≡ true → line ≡ x
-only_column size x y line ltx lt on = let w = on_column size line (y * size.w + x) lt on in same_column size.w line w.0 x y lt ltx w.2
-
-pub only_row : (size : Extent) (x y line : ℕ) → x < size.w → size.w ≤ line → has_place (line_places size line) (y * size.w + x) ≡ true → line ≡ size.w + y
-only_row size x y line ltx le on = grind (arith, common_steps, cases_Bool, on_row, same_row)
+pub lines_with : (size : Extent) (c line : ℕ) → has_place (line_places size line) c ≡ true → (line ≡ c % size.w) ⊎ (line ≡ size.w + c / size.w)
+lines_with size c line on = grind (arith, common_steps, cases_lt, on_column, on_row, mod-mul-add, div-mul-add)
 
 -- ---- the bound: a cell is in two lines at most
 two_lines : (size : Extent) (c n : ℕ) → count_below (λ h. has_place (line_places size h) c) n ≤ 2
 two_lines size c n =
-    let columns : count_below (λ h. ltb h size.w && has_place (line_places size h) c) n ≤ 1 = count_below-few (λ h. ltb h size.w && has_place (line_places size h) c) n (λ k j _ _ ek ej.
-    let a = and_parts _ _ ek in let b = and_parts _ _ ej in
-    let ka = ltb-true k size.w a.0 in let jb = ltb-true j size.w b.0 in
-    let u = on_column size k c ka a.1 in let v = on_column size j c jb b.1 in
-    same_column size.w k u.0 j v.0 ka jb (u.2 ∙ sym v.2)) in
-    let rows : count_below (λ h. not (ltb h size.w) && has_place (line_places size h) c) n ≤ 1 = count_below-few (λ h. not (ltb h size.w) && has_place (line_places size h) c) n (λ k j _ _ ek ej.
-    let a = and_parts _ _ ek in let b = and_parts _ _ ej in
-    let ka = from_not k size.w a.0 in let jb = from_not j size.w b.0 in
-    let u = on_row size k c ka a.1 in let v = on_row size j c jb b.1 in
-    let same = same_row size.w u.0 (k - size.w) v.0 (j - size.w) u.1 v.1 (u.2 ∙ sym v.2) in omega arith) in
-    let both : count_below (λ h. has_place (line_places size h) c) n ≤ count_below (λ h. ltb h size.w && has_place (line_places size h) c) n + count_below (λ h. not (ltb h size.w) && has_place (line_places size h) c) n =
-    count_below-or (λ h. ltb h size.w && has_place (line_places size h) c) (λ h. not (ltb h size.w) && has_place (line_places size h) c) (λ h. has_place (line_places size h) c) n
-    (λ h lt on. either (ltb h size.w) (has_place (line_places size h) c) on) in
-    omega arith
+    let both = count_below-or (λ h. eqb h (c % size.w)) (λ h. eqb h (size.w + c / size.w)) (λ h. has_place (line_places size h) c) n
+    (λ h _ on. elim (lines_with size c h on) [ inl e ↦ inl (eq-eqb h (c % size.w) e) | inr e ↦ inr (eq-eqb h (size.w + c / size.w) e) ]) in
+    omega (arith, both, one (c % size.w), one (size.w + c / size.w))
   where
-    from_not : (k w : ℕ) → not (ltb k w) ≡ true → w ≤ k
-    from_not k w e = elim (cases_lt k w) [
-      | inl low ↦ absurd (true≢false (sym e ∙ ap not (lt-ltb k w low)))
-      | inr high ↦ high
-    ]
-
-    either : (a b : Bool) → b ≡ true → ((a && b) ≡ true) ⊎ ((not a && b) ≡ true)
-    either true b on = inl on
-    either false b on = inr on
+    one : (a : ℕ) → count_below (λ h. eqb h a) n ≤ 1
+    one a = count_below-few (λ h. eqb h a) n (λ k j _ _ ek ej. eqb-true k a ek ∙ sym (eqb-true j a ej))
 
 few_shares : (p : Pattern) (n : ℕ) → sum_below (λ c. (2 - 1) * share (line_rules p) c) n ≤ n
 unfolding sum_below share
@@ -129,30 +97,13 @@ few_shares p zero = omega arith
 few_shares p (suc n) = let rest = few_shares p n in let two = two_lines p.size n (lines_of p.size) in omega arith
 
 -- ---- solutions
-pub same_from_test : (xs ys : List ℕ) → same_numbers xs ys ≡ true → xs ≡ ys
-unfolding same_numbers
-same_from_test [] [] h = refl
-same_from_test [] (y ∷ ys) h = absurd (true≢false (sym h))
-same_from_test (x ∷ xs) [] h = absurd (true≢false (sym h))
-same_from_test (x ∷ xs) (y ∷ ys) h =
-    let parts = and_parts (eqb x y) (same_numbers xs ys) h in
-    ap₂ (λ a b. a ∷ b) (eqb-true x y parts.0) (same_from_test xs ys parts.1)
-
-itself : (zs : List ℕ) → same_numbers zs zs ≡ true
-unfolding same_numbers
-itself [] = refl
-itself (z ∷ zs) = and_from (eqb z z) (same_numbers zs zs) (eq-eqb z z refl) (itself zs)
-
-pub test_from_same : (xs ys : List ℕ) → xs ≡ ys → same_numbers xs ys ≡ true
-test_from_same xs ys e = ap (same_numbers xs) (sym e) ∙ itself xs
-
 pub has_runs-is : (clue cells : List ℕ) → has_runs clue cells ≡ true → runs cells ≡ clue
 unfolding has_runs
-has_runs-is clue cells on = same_from_test (runs cells) clue on
+has_runs-is clue cells on = same_text (runs cells) clue (sym on)
 
 pub has_runs-from : (clue cells : List ℕ) → runs cells ≡ clue → has_runs clue cells ≡ true
 unfolding has_runs
-has_runs-from clue cells is = test_from_same (runs cells) clue is
+has_runs-from clue cells is = true_from_ne_false (has_runs clue cells) (λ off. other_text (runs cells) clue (sym off) is)
 
 pub line_numbers-column : (size : Extent) (g : List ℕ) (line : ℕ) → line < size.w → line_numbers size g line ≡ column_cells size g line
 unfolding line_numbers
@@ -190,10 +141,7 @@ is_solution-from p g s = is_solution-each p g (λ line lt. line_of_solution p g 
 -- ---- the laws
 single-all : (cells values : ℕ) (g : List ℕ) → IsGrid cells values g → IsInside (single g) (all_of cells values)
 unfolding all_of
-single-all cells values g grid = λ c v on.
-    let w = single-is g c v on in
-    let lt = grid.each_value c 0 w.0 in
-    and_from _ _ (lt-ltb c cells (omega (arith, w.0, grid.each_cell))) (lt-ltb v values (omega (arith, lt, w.1)))
+single-all cells values g grid = grind (arith, common_steps, cases_Bool, single-is, lt-ltb, and_from)
 
 all-within : (cells values c v : ℕ) → all_of cells values c v ≡ true → (c < cells) × (v < values)
 unfolding all_of

@@ -1,5 +1,6 @@
 -- Lines of either kind: the columns from the left, and then the rows from the top.
-use Rattle.std.specs.Prelude.{◌≡◌, ℕ, ◌+◌, ◌-◌, ◌<◌, ◌≤◌, ◌==◌, ◌&&◌, Bool, true, false, List, [], ◌∷◌, length, nat_lt, if◌then◌else◌, slice_index_or}
+use Rattle.std.specs.Prelude.{◌≡◌, ℕ, ◌+◌, ◌-◌, ◌<◌, ◌≤◌, Bool, true, List, [], length, nat_eq, nat_lt, if◌then◌else◌, slice_index_or}
+use Rattle.std.specs.Cmp.Lexicographic.{pointwise}
 use Rattle.std.specs.List.{AllByRecursion}
 use Rattle.grid_core.specs.Candidates.{Candidates}
 use Rattle.grid_core.specs.Extent.{Extent}
@@ -26,16 +27,9 @@ clue_of p line = slice_index_or p.clues line []
 abbrev pub HasClue : Pattern → List ℕ → ℕ → Type 0
 HasClue p g line = runs (line_numbers p.size g line) ≡ clue_of p line
 
--- whether two lists of numbers are the same
-unfoldable pub same_numbers : List ℕ → List ℕ → Bool
-same_numbers [] [] = true
-same_numbers [] (y ∷ ys) = false
-same_numbers (x ∷ xs) [] = false
-same_numbers (x ∷ xs) (y ∷ ys) = (x == y) && same_numbers xs ys
-
 -- whether the runs of the cells are the clue
 unfoldable pub has_runs : List ℕ → List ℕ → Bool
-has_runs clue cells = same_numbers (runs cells) clue
+has_runs clue cells = pointwise nat_eq (runs cells) clue
 
 -- the clue has a run, and a line of n cells is longer than the clue needs by as much as each run is
 pub record IsRoomy (clue : List ℕ) (n : ℕ) : Type 0 where
