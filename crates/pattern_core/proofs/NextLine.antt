@@ -7,10 +7,10 @@ use Rattle.std.proofs.Math.Nat.{mul-le-mul_right, mod-lt}
 use Rattle.grid_core.specs.Extent.{Extent}
 use Rattle.gameid_core.specs.Puzzles.{lines_of}
 use Rattle.engine_core.specs.Puzzle.{has_place, IsNext, IsKth}
-use Rattle.engine_core.proofs.KthLemmas.{next-kth, next-number, kth-none}
+use Rattle.engine_core.proofs.KthLemmas.{next-kth, next-number}
 use Rattle.grid_core.specs.Candidates.{count_below}
 use Rattle.pattern_core.specs.Lines.{line_places}
-use Rattle.pattern_core.specs.LineLaws.{column_has, row_has, lines_with}
+use Rattle.pattern_core.specs.LineLaws.{column_has, row_has, lines_with, two_lines}
 
 module _ (size : Extent) (w place from : ℕ) (same : w ≡ size.w) (within : place < size.w * size.h) where
   x_low : place % w < size.w
@@ -69,5 +69,4 @@ module _ (size : Extent) (w place : ℕ) (same : w ≡ size.w) (within : place <
   second_line = next-kth test (lines_of size) (place % w + 1) 1 (Some (w + place / w)) (let l = column_first.1 in omega arith) one_before row_after
 
   pub no_line : (k : ℕ) → 2 ≤ k → IsKth test (lines_of size) k None
-  no_line k two = kth-none test (lines_of size) (w + place / w + 1) 2 k (let l = row_after.1 in omega arith) (next-number test (lines_of size) (place % w + 1) 1 (w + place / w) one_before row_after) two
-      (next_none size w place (w + place / w + 1) same within (let m = x_low size w place 0 same within in omega arith) (omega arith))
+  no_line k two = let few = two_lines size place (lines_of size) in omega arith

@@ -108,17 +108,27 @@ alone m some = record {
   small = stays_small m 1 [] (omega arith) none_small;
 }
 
-sized : {clue : List ℕ} {n : ℕ} (m : ℕ) → Fitting clue n → n ≡ m → Fitting clue m
-sized m f e = subst (Fitting _) e f
+-- cells that begin with the clue's first run
+abbrev Begins : List ℕ → ℕ → ℕ → Type 0
+Begins clue m n = (f : Fitting (m ∷ clue) n) × ((k : ℕ) → k < m → get_or f.cells k 0 ≡ 1)
+
+run_and : (clue : List ℕ) (m n : ℕ) → Positive (m ∷ clue) → m < n → Fitting clue (n - m - 1) → Begins clue m n
+run_and clue m n p lt f = subst (Begins clue m) (let z : m + suc (n - m - 1) ≡ n = omega arith in z) (longer_by m p.0 f, λ k low. before m 1 (0 ∷ f.cells) k low)
+
+blank : (n : ℕ) → Fitting [] n
+blank n = subst (Fitting []) (let z : n + 0 ≡ n = omega arith in z) (whiter n empty)
+
+begins : (clue : List ℕ) (m n : ℕ) → Positive (m ∷ clue) → used (m ∷ clue) ≤ n + 1 → Begins clue m n
+begins [] m n p fits = elim (cases_lt m n) [
+  | inl lt ↦ run_and [] m n p lt (blank (n - m - 1))
+  | inr ge ↦ subst (Begins [] m) (let z : m + 0 ≡ n = omega arith in z) (alone m p.0, λ k lt. before m 1 [] k lt)
+]
+begins (x ∷ clue) m n p fits = run_and (x ∷ clue) m n p (omega arith) (begins clue x (n - m - 1) p.1 (omega arith)).0
 
 -- a clue that fits has a filling
 fill : (clue : List ℕ) (n : ℕ) → Positive clue → used clue ≤ n + 1 → Fitting clue n
-fill [] n p fits = sized n (whiter n empty) (omega arith)
-fill (m ∷ []) n p fits = elim (cases_lt m n) [
-  | inl lt ↦ sized n (longer_by m p.0 (fill [] (n - m - 1) p.1 (omega arith))) (omega arith)
-  | inr ge ↦ sized n (alone m p.0) (omega arith)
-]
-fill (m ∷ x ∷ clue) n p fits = sized n (longer_by m p.0 (fill (x ∷ clue) (n - m - 1) p.1 (omega arith))) (omega arith)
+fill [] n p fits = blank n
+fill (m ∷ clue) n p fits = (begins clue m n p fits).0
 
 placed : {clue : List ℕ} {n k v : ℕ} (m j : ℕ) → Shows clue n k v → n ≡ m → k ≡ j → Shows clue m j v
 placed {clue} {n} {k} {v} m j s n_is k_is = subst (λ i. Shows clue i j v) n_is (subst (λ i. Shows clue n i v) k_is s)
@@ -141,36 +151,18 @@ white (m ∷ clue) n k s p most room lt = elim (cases_lt k m) [
 ]
 
 -- and black in some, where there is a run, and one cell more than needed
-in_first : (clue : List ℕ) (m n k : ℕ) → Positive (m ∷ clue) → used (m ∷ clue) ≤ n → k < m → Shows (m ∷ clue) n k 1
-in_first clue m n k p room low =
-    let f : Fitting clue (n - m - 1) = fill clue (n - m - 1) p.1 (omega arith) in
-    placed n k (longer_by m p.0 f, before m 1 (0 ∷ f.cells) k low) (omega arith) refl
+in_run : (clue : List ℕ) (m n d k : ℕ) → Positive (m ∷ clue) → used (m ∷ clue) + d ≤ n + 1 → d < n → d ≤ k → k < d + m → Shows (m ∷ clue) n k 1
+in_run clue m n d k p room inside from low =
+    let f : Begins clue m (n - d) = begins clue m (n - d) p (omega arith) in
+    placed n k (whiter d f.0, behind d 0 f.0.cells (k - d) ∙ f.1 (k - d) (omega arith)) (omega arith) (omega arith)
 
 pub black : (clue : List ℕ) (m n k : ℕ) → Positive (m ∷ clue) → used (m ∷ clue) ≤ n → k < n → Shows (m ∷ clue) n k 1
-black [] m n k p room lt = elim (cases_lt k m) [
-  | inl low ↦ in_first [] m n k p room low
+black [] m n k p room lt = let more = p.0 in in_run [] m n (k + 1 - m) k p (omega arith) (omega arith) (omega arith) (omega arith)
+black (x ∷ clue) m n k p room lt = let more = p.0 in elim (cases_lt k (m + 1)) [
+  | inl low ↦ in_run (x ∷ clue) m n (k + 1 - m) k p (omega arith) (omega arith) (omega arith) (omega arith)
   | inr high ↦
-      let more = p.0 in elim (cases_lt (k + 1) n) [
-        | inl short ↦
-            let w = in_first [] m (n - (k + 1 - m)) (m - 1) p (omega arith) (omega arith) in
-            placed n k (whiter (k + 1 - m) w.0, behind (k + 1 - m) 0 w.0.cells (m - 1) ∙ w.1) (omega arith) (omega arith)
-        | inr last ↦
-            placed n k (whiter (k + 1 - m) (alone m p.0), behind (k + 1 - m) 0 (replicate m 1 ++ []) (m - 1) ∙ before m 1 [] (m - 1) (omega arith)) (omega arith) (omega arith)
-      ]
-]
-black (x ∷ clue) m n k p room lt = elim (cases_lt k m) [
-  | inl low ↦ in_first (x ∷ clue) m n k p room low
-  | inr high ↦
-      let more = p.0 in elim (cases_eq k m) [
-        | inl e ↦
-            let next = p.1.0 in
-            let f : Fitting (x ∷ clue) (n - m - 2) = fill (x ∷ clue) (n - m - 2) p.1 (omega arith) in
-            let w = longer_by m p.0 f in
-            placed n k (whiter 1 w, behind 1 0 w.cells (m - 1) ∙ before m 1 (0 ∷ f.cells) (m - 1) (omega arith)) (omega arith) (omega arith)
-        | inr ne ↦
-            let w = black clue x (n - m - 1) (k - m - 1) p.1 (omega arith) (omega arith) in
-            placed n k (longer_by m p.0 w.0, behind m 1 (0 ∷ w.0.cells) (suc (k - m - 1)) ∙ w.1) (omega arith) (omega arith)
-      ]
+      let w = black clue x (n - m - 1) (k - m - 1) p.1 (omega arith) (omega arith) in
+      placed n k (longer_by m p.0 w.0, behind m 1 (0 ∷ w.0.cells) (suc (k - m - 1)) ∙ w.1) (omega arith) (omega arith)
 ]
 
 -- nothing is struck from cells that may be either
