@@ -55,7 +55,8 @@ module _ (t : Track) (set : ℕ) (sets : List Set) where
       ∙ some_and sets (t.black p) (λ f. leads t (suc p) f && test (1 ∷ f)))
 
   -- by a test of the cells after it
-  pub leads_next : (test : List ℕ → Bool) (p : ℕ) → some_leads t ((has_bit set 0 ∷ has_bit set 1 ∷ []) ∷ sets) (λ cells. test (drop 1 cells)) p ≡ ahead t set (some_leads t sets test) p
+  pub leads_next : (test : List ℕ → Bool) (p : ℕ) → some_leads t ((has_bit set 0 ∷ has_bit set 1 ∷ []) ∷ sets) (λ cells. test (drop 1 cells)) p
+      ≡ ahead t set (some_leads t sets test) p
   unfolding ahead stays goes_on
   leads_next test p = leads_on (λ cells. test (drop 1 cells)) p
       ∙ regroup (has_bit set 0) (t.stay p) (t.white p) (has_bit set 1) (t.black p) (some_leads t sets test p) (some_leads t sets test (suc p))
@@ -68,7 +69,8 @@ module _ (t : Track) (set : ℕ) (sets : List Set) where
   never p = some_same sets (λ f. leads t p f && false) (λ f. false) (λ f. and-false (leads t p f)) ∙ some_none sets
 
   -- with a value here
-  pub leads_here : (v p : ℕ) → v < 2 → some_leads t ((has_bit set 0 ∷ has_bit set 1 ∷ []) ∷ sets) (cell_is 0 v) p ≡ (has_bit set v && ahead t (set_for v) (some_leads t sets any_cells) p)
+  pub leads_here : (v p : ℕ) → v < 2 → some_leads t ((has_bit set 0 ∷ has_bit set 1 ∷ []) ∷ sets) (cell_is 0 v) p
+      ≡ (has_bit set v && ahead t (set_for v) (some_leads t sets any_cells) p)
   unfolding ahead stays goes_on cell_is any_cells
   leads_here zero p lt = leads_on (cell_is 0 0) p ∙ simp (never (suc p), and-false, or-false)
   leads_here (suc zero) p lt = leads_on (cell_is 0 1) p ∙ simp (never p, never (suc p), and-false)
@@ -76,7 +78,8 @@ module _ (t : Track) (set : ℕ) (sets : List Set) where
 
 -- ---- all places that were reached
 -- a way on from a reached place is a way on from a place that the cell reaches
-module _ (t : Track) (set n : ℕ) (below : IsBelow n t) (reached new way after : ℕ → Bool) (leads_to : (p : ℕ) → p < n → new p ≡ led t set reached p) (is : (p : ℕ) → way p ≡ ahead t set after p) where
+module _ (t : Track) (set n : ℕ) (below : IsBelow n t) (reached new way after : ℕ → Bool) (leads_to : (p : ℕ) → p < n → new p ≡ led t set reached p)
+    (is : (p : ℕ) → way p ≡ ahead t set after p) where
   low : (p : ℕ) → goes_on t set p ≡ true → suc p < n
   unfolding goes_on
   low p on = elim (or_cases (has_bit set 0 && t.white p) (has_bit set 1 && t.black p) on) [
@@ -87,19 +90,23 @@ module _ (t : Track) (set n : ℕ) (below : IsBelow n t) (reached new way after 
   back : (p : ℕ) → p < n → new p ≡ true → after p ≡ true → any_below (λ p. reached p && way p) n ≡ true
   unfolding ahead led one_on
   back zero lt on on_after = elim (or_cases (stays t set 0 && reached 0) false (sym (leads_to 0 lt) ∙ on)) [
-    | inl x ↦ let u = and_parts (stays t set 0) (reached 0) x in any_below-here (λ p. reached p && way p) n 0 lt (and_from (reached 0) (way 0) u.1 (is 0 ∙ or_left _ _ (and_from _ _ u.0 on_after)))
+    | inl x ↦ let u = and_parts (stays t set 0) (reached 0) x in
+        any_below-here (λ p. reached p && way p) n 0 lt (and_from (reached 0) (way 0) u.1 (is 0 ∙ or_left _ _ (and_from _ _ u.0 on_after)))
     | inr x ↦ absurd (false≢true x)
   ]
   back (suc p) lt on on_after = elim (or_cases (stays t set (suc p) && reached (suc p)) (goes_on t set p && reached p) (sym (leads_to (suc p) lt) ∙ on)) [
-    | inl x ↦ let u = and_parts _ _ x in any_below-here (λ p. reached p && way p) n (suc p) lt (and_from _ _ u.1 (is (suc p) ∙ or_left _ _ (and_from _ _ u.0 on_after)))
-    | inr x ↦ let u = and_parts _ _ x in any_below-here (λ p. reached p && way p) n p (omega arith) (and_from _ _ u.1 (is p ∙ or_right _ _ (and_from _ _ u.0 on_after)))
+    | inl x ↦ let u = and_parts _ _ x in any_below-here (λ p. reached p && way p) n (suc p) lt
+        (and_from _ _ u.1 (is (suc p) ∙ or_left _ _ (and_from _ _ u.0 on_after)))
+    | inr x ↦ let u = and_parts _ _ x in any_below-here (λ p. reached p && way p) n p (omega arith)
+        (and_from _ _ u.1 (is p ∙ or_right _ _ (and_from _ _ u.0 on_after)))
   ]
 
   forth : (p : ℕ) → p < n → reached p ≡ true → way p ≡ true → any_below (λ p. new p && after p) n ≡ true
   unfolding ahead led one_on
   forth p lt on on_way = elim (or_cases (stays t set p && after p) (goes_on t set p && after (suc p)) (sym (is p) ∙ on_way)) [
     | inl x ↦ let u = and_parts _ _ x in any_below-here (λ p. new p && after p) n p lt (and_from _ _ (leads_to p lt ∙ or_left _ _ (and_from _ _ u.0 on)) u.1)
-    | inr x ↦ let u = and_parts _ _ x in any_below-here (λ p. new p && after p) n (suc p) (low p u.0) (and_from _ _ (leads_to (suc p) (low p u.0) ∙ or_right _ _ (and_from _ _ u.0 on)) u.1)
+    | inr x ↦ let u = and_parts _ _ x in any_below-here (λ p. new p && after p) n (suc p) (low p u.0)
+        (and_from _ _ (leads_to (suc p) (low p u.0) ∙ or_right _ _ (and_from _ _ u.0 on)) u.1)
   ]
 
   pub ways_on : any_below (λ p. new p && after p) n ≡ any_below (λ p. reached p && way p) n

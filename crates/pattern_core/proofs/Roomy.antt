@@ -113,7 +113,8 @@ abbrev Begins : List ℕ → ℕ → ℕ → Type 0
 Begins clue m n = (f : Fitting (m ∷ clue) n) × ((k : ℕ) → k < m → get_or f.cells k 0 ≡ 1)
 
 run_and : (clue : List ℕ) (m n : ℕ) → Positive (m ∷ clue) → m < n → Fitting clue (n - m - 1) → Begins clue m n
-run_and clue m n p lt f = subst (Begins clue m) (let z : m + suc (n - m - 1) ≡ n = omega arith in z) (longer_by m p.0 f, λ k low. before m 1 (0 ∷ f.cells) k low)
+run_and clue m n p lt f = subst (Begins clue m) (let z : m + suc (n - m - 1) ≡ n = omega arith in z)
+    (longer_by m p.0 f, λ k low. before m 1 (0 ∷ f.cells) k low)
 
 blank : (n : ℕ) → Fitting [] n
 blank n = subst (Fitting []) (let z : n + 0 ≡ n = omega arith in z) (whiter n empty)

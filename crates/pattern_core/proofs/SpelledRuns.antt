@@ -50,7 +50,8 @@ abbrev Starts : List ℕ → Type 0
 Starts cells = (clue : List ℕ) → Positive clue → matches true (spelled clue) cells ≡ pointwise eqb (runs_after 0 cells) clue
 
 abbrev GoesOn : List ℕ → Type 0
-GoesOn cells = (k d : ℕ) (clue : List ℕ) → Positive clue → matches false (replicate d 1 ++ 0 ∷ spelled clue) cells ≡ pointwise eqb (runs_after (suc k) cells) ((suc k + d) ∷ clue)
+GoesOn cells = (k d : ℕ) (clue : List ℕ) → Positive clue
+    → matches false (replicate d 1 ++ 0 ∷ spelled clue) cells ≡ pointwise eqb (runs_after (suc k) cells) ((suc k + d) ∷ clue)
 
 starts_none : Starts []
 unfolding spelled runs_after matches
@@ -74,13 +75,15 @@ starts_white cells rest (suc m ∷ clue) p = or-false (matches true (spelled (su
 goes_on_white : (cells : List ℕ) → Starts cells → GoesOn (zero ∷ cells)
 unfolding spelled runs_after matches
 goes_on_white cells rest k zero clue p = rest clue p ∙ sym (ap (λ b. b && pointwise eqb (runs_after 0 cells) clue) (eq-eqb (suc k) (suc k + 0) (omega arith)))
-goes_on_white cells rest k (suc d) clue p = sym (ap (λ b. b && pointwise eqb (runs_after 0 cells) clue) (ne_eqb (suc k) (suc k + suc d) (λ e. absurd (omega arith))))
+goes_on_white cells rest k (suc d) clue p = sym (ap (λ b. b && pointwise eqb (runs_after 0 cells) clue)
+    (ne_eqb (suc k) (suc k + suc d) (λ e. absurd (omega arith))))
 
 starts_black : (x : ℕ) (cells : List ℕ) → GoesOn cells → Starts (suc x ∷ cells)
 unfolding spelled runs_after matches
 starts_black x cells rest [] p = sym (not_none 0 cells)
 starts_black x cells rest (zero ∷ clue) p = absurd (let q = p.0 in omega arith)
-starts_black x cells rest (suc m ∷ clue) p = rest 0 m clue p.1 ∙ ap (λ n. pointwise eqb (runs_after 1 cells) (n ∷ clue)) (let z : suc 0 + m ≡ suc m = omega arith in z)
+starts_black x cells rest (suc m ∷ clue) p = rest 0 m clue p.1
+    ∙ ap (λ n. pointwise eqb (runs_after 1 cells) (n ∷ clue)) (let z : suc 0 + m ≡ suc m = omega arith in z)
 
 goes_on_black : (x : ℕ) (cells : List ℕ) → GoesOn cells → GoesOn (suc x ∷ cells)
 unfolding spelled runs_after matches

@@ -24,7 +24,8 @@ last_cell (y ∷ cells) x = last_cell cells x
 -- a word with the place of the new cell
 new_place : (cells : List ℕ) (v : ℕ) (old next new : ℕ → Bool) → ((p : ℕ) → old p ≡ eqb (get_or cells p 2) v) → ((p : ℕ) → next p ≡ eqb p (length cells)) → v < 2
     → ((p : ℕ) → new p ≡ (old p || next p)) → (p : ℕ) → new p ≡ eqb (get_or (cells ++ v ∷ []) p 2) v
-new_place cells v old next new is after small each p = grind (arith, common_steps, cases_Bool, cases_eq, eq-eqb, last_cell, more_cells, ne_eqb, or-false, or-true)
+new_place cells v old next new is after small each p =
+    grind (arith, common_steps, cases_Bool, cases_eq, eq-eqb, last_cell, more_cells, ne_eqb, or-false, or-true)
 
 -- the other word stays
 old_place : (cells : List ℕ) (x v : ℕ) (old : ℕ → Bool) → x < 2 → v < 2 → (x ≡ v → ⊥) → ((p : ℕ) → old p ≡ eqb (get_or cells p 2) v) → (p : ℕ) → old p ≡ eqb (get_or (cells ++ x ∷ []) p 2) v
@@ -74,7 +75,11 @@ module _ (front clue : List ℕ) (k : ℕ) (lt : k < length clue) (so_far : fron
   next_run = simp append_assoc (sym (ap (λ l. front ++ spelled l) (drop_more clue k 0 lt)) ∙ so_far)
 
   pub run_fits : length front + get_or clue k 0 < used clue
-  run_fits = omega (arith, ap length next_run, length-append (front ++ run) (spelled (drop (k + 1) clue)), length-append front run, length-append {A = ℕ} (replicate (get_or clue k 0) 1) (0 ∷ []), length-replicate {A = ℕ} (get_or clue k 0) 1, length-spelled clue)
+  run_fits =
+      let long = ap length next_run in
+      let parts = length-append front run in
+      let black = length-append {A = ℕ} (replicate (get_or clue k 0) 1) (0 ∷ []) in
+      omega (arith, long, parts, black, length-append (front ++ run) (spelled (drop (k + 1) clue)), length-replicate {A = ℕ} (get_or clue k 0) 1, length-spelled clue)
 
 -- ---- the track
 pub track_spelled : (A : Type 0) (has : A → ℕ → Bool) (n : ℕ) (cells : List ℕ) (white black next stay on ends first back : A) → length cells < n → IsSpelling has cells white black next
@@ -82,7 +87,8 @@ pub track_spelled : (A : Type 0) (has : A → ℕ → Bool) (n : ℕ) (cells : L
     → ((p : ℕ) → has back p ≡ has next (suc p)) → ((p : ℕ) → has ends p ≡ (has next p || has back p))
     → ◌≡◌ {A = Track} (record { stay = has stay; white = has white; black = has black; ends = has ends }) (track_of cells)
 unfolding track_of may_stay one_on
-track_spelled A has n cells white black next stay on ends first back fits s within past one stay_is back_is ends_is = grind (arith, common_steps, cases_Bool, cases_lt, fun_ext, get_or_past, ne_eqb, or-false, or-true)
+track_spelled A has n cells white black next stay on ends first back fits s within past one stay_is back_is ends_is =
+    grind (arith, common_steps, cases_Bool, cases_lt, fun_ext, get_or_past, ne_eqb, or-false, or-true)
 
 -- ---- the clue of a track
 -- the cells after the first
@@ -100,14 +106,17 @@ run_cells : (m n k : ℕ) (rest : List ℕ) → n ≡ m + suc k
     → cells_from (λ q. eqb (get_or (replicate m 1 ++ 0 ∷ rest) q 2) 1) n 0 ≡ replicate m 1 ++ 0 ∷ cells_from (λ q. eqb (get_or rest q 2) 1) k 0
 unfolding cells_from
 run_cells m zero k rest e = absurd (omega arith)
-run_cells zero (suc n) k rest e = ap (λ (l : List ℕ). 0 ∷ l) (from_next 0 rest n 0 ∙ ap (λ j. cells_from (λ q. eqb (get_or rest q 2) 1) j 0) (let z : n ≡ k = omega arith in z))
+run_cells zero (suc n) k rest e = ap (λ (l : List ℕ). 0 ∷ l)
+    (from_next 0 rest n 0 ∙ ap (λ j. cells_from (λ q. eqb (get_or rest q 2) 1) j 0) (let z : n ≡ k = omega arith in z))
 run_cells (suc m) (suc n) k rest e = ap (λ (l : List ℕ). 1 ∷ l) (from_next 1 (replicate m 1 ++ 0 ∷ rest) n 0 ∙ run_cells m n k rest (omega arith))
 
-spelled_runs : (clue : List ℕ) (n : ℕ) → AllByRecursion (λ k. 0 < k) clue → used clue ≤ n → runs (cells_from (λ q. eqb (get_or (spelled clue) q 2) 1) n 0) ≡ clue
+spelled_runs : (clue : List ℕ) (n : ℕ) → AllByRecursion (λ k. 0 < k) clue → used clue ≤ n
+    → runs (cells_from (λ q. eqb (get_or (spelled clue) q 2) 1) n 0) ≡ clue
 unfolding spelled
 spelled_runs [] n positive fits = all_white n 0
 spelled_runs (m ∷ clue) n positive fits =
-    ap runs (run_cells m n (n - m - 1) (spelled clue) (omega arith)) ∙ run_first m _ positive.0 ∙ ap (λ (l : List ℕ). m ∷ l) (spelled_runs clue (n - m - 1) positive.1 (omega arith))
+    ap runs (run_cells m n (n - m - 1) (spelled clue) (omega arith)) ∙ run_first m _ positive.0
+    ∙ ap (λ (l : List ℕ). m ∷ l) (spelled_runs clue (n - m - 1) positive.1 (omega arith))
 
 -- a clue is that of its track
 pub clue_back : (clue : List ℕ) (n : ℕ) (t : Track) → AllByRecursion (λ k. 0 < k) clue → used clue < n → t ≡ track_of (spelled clue) → clue_along n t ≡ clue

@@ -32,7 +32,8 @@ module _ (t : Track) (sets : List ℕ) (at : ℕ) (lt : at < length sets) where
   next_set = drop_more (sets_of sets) at [] (omega (arith, length-map sets (set_of_bits 2)))
       ∙ ap (λ (s : Set). s ∷ drop (at + 1) (sets_of sets)) (get_or-map (set_of_bits 2) sets at 0 [] lt)
 
-  way_next : (test : List ℕ → Bool) (p : ℕ) → some_leads t (drop at (sets_of sets)) (λ cells. test (drop 1 cells)) p ≡ ahead t (get_or sets at 0) (some_leads t (drop (at + 1) (sets_of sets)) test) p
+  way_next : (test : List ℕ → Bool) (p : ℕ) → some_leads t (drop at (sets_of sets)) (λ cells. test (drop 1 cells)) p
+      ≡ ahead t (get_or sets at 0) (some_leads t (drop (at + 1) (sets_of sets)) test) p
   way_next test p = ap (λ s. some_leads t s (λ cells. test (drop 1 cells)) p) next_set ∙ leads_next t (get_or sets at 0) (drop (at + 1) (sets_of sets)) test p
 
   way_any : (p : ℕ) → some_leads t (drop at (sets_of sets)) any_cells p ≡ ahead t (get_or sets at 0) (some_leads t (drop (at + 1) (sets_of sets)) any_cells) p
@@ -59,7 +60,8 @@ module _ (A : Type 0) (has : A → ℕ → Bool) (t : Track) (sets : List ℕ) (
   }
 
   -- what the row of the next cell says
-  row_next : (at : ℕ) (next : A) → AreRows has t sets rows (at + 1) → at < length sets → next ≡ get_or rows (at + 1) next → some_leads t (drop (at + 1) (sets_of sets)) any_cells ≡ has next
+  row_next : (at : ℕ) (next : A) → AreRows has t sets rows (at + 1) → at < length sets → next ≡ get_or rows (at + 1) next
+      → some_leads t (drop (at + 1) (sets_of sets)) any_cells ≡ has next
   row_next at next all lt read = fun_ext λ p. sym (ap (λ x. has x p) read ∙ all.row (at + 1) p next (omega arith) (omega arith))
 
   pub one_row : (at : ℕ) (row next : A) → AreRows has t sets rows (at + 1) → at < length sets → next ≡ get_or rows (at + 1) next
@@ -68,7 +70,8 @@ module _ (A : Type 0) (has : A → ℕ → Bool) (t : Track) (sets : List ℕ) (
     room = let r = rest.room in omega (arith, length-set rows at row);
     row = λ i p w from upto. elim (cases_eq i at) [
       | inl e ↦ ap (λ j. has (get_or (set rows at row) j w) p) e ∙ ap (λ x. has x p) (get_or-set_same rows at row w (let r = rest.room in omega arith)) ∙ is p
-          ∙ ap (λ after. ahead t (get_or sets at 0) after p) (sym (row_next at next rest lt read)) ∙ sym (way_any t sets at lt p) ∙ ap (λ j. some_leads t (drop j (sets_of sets)) any_cells p) (sym e)
+          ∙ ap (λ after. ahead t (get_or sets at 0) after p) (sym (row_next at next rest lt read)) ∙ sym (way_any t sets at lt p)
+          ∙ ap (λ j. some_leads t (drop j (sets_of sets)) any_cells p) (sym e)
       | inr ne ↦ ap (λ x. has x p) (get_or-set_other rows at i row w ne) ∙ rest.row i p w (omega arith) upto
     ];
   }
@@ -99,13 +102,15 @@ pub reached_next : (n : ℕ) (t : Track) (sets : List ℕ) (reached new : ℕ �
     → ((p : ℕ) → p < n → new p ≡ led t (get_or sets at 0) reached p) → AreReached n t sets reached at → AreReached n t sets new (at + 1)
 reached_next n t sets reached new at below lt is r = record {
   shown = λ test.
-      ways_on t (get_or sets at 0) n below reached new (some_leads t (drop at (sets_of sets)) (λ cells. test (drop 1 cells))) (some_leads t (drop (at + 1) (sets_of sets)) test) is (way_next t sets at lt test)
+      ways_on t (get_or sets at 0) n below reached new (some_leads t (drop at (sets_of sets)) (λ cells. test (drop 1 cells)))
+      (some_leads t (drop (at + 1) (sets_of sets)) test) is (way_next t sets at lt test)
       ∙ r.shown (λ cells. test (drop 1 cells)) ∙ ap (λ (h : List ℕ → Bool). some_leads t (sets_of sets) h 0) (fun_ext λ cells. ap test (drop-drop 1 at cells));
 }
 
 -- ---- what is kept of a cell
 -- a set of one value leads on as that value does
-ahead_alone : (t : Track) (s v : ℕ) (after : ℕ → Bool) (p : ℕ) → v < 2 → (has_bit s 0 && has_bit s 1) ≡ false → has_bit s v ≡ true → ahead t s after p ≡ ahead t (set_for v) after p
+ahead_alone : (t : Track) (s v : ℕ) (after : ℕ → Bool) (p : ℕ) → v < 2 → (has_bit s 0 && has_bit s 1) ≡ false → has_bit s v ≡ true
+    → ahead t s after p ≡ ahead t (set_for v) after p
 unfolding ahead stays goes_on
 ahead_alone t s zero after p small one on = grind (arith, common_steps, cases_Bool)
 ahead_alone t s (suc zero) after p small one on = grind (arith, common_steps, cases_Bool)
@@ -133,9 +138,11 @@ module _ (A : Type 0) (has : A → ℕ → Bool) (n : ℕ) (t : Track) (sets : L
   shown_at : (v : ℕ) → v < 2 → some_leads t (sets_of sets) (cell_is at v) 0 ≡ (has_bit (get_or sets at 0) v && leads_by (set_for v))
   unfolding cell_is
   shown_at v small =
-      ap (λ (h : List ℕ → Bool). some_leads t (sets_of sets) h 0) (fun_ext λ cells. ap (λ x. eqb x v) (sym (get_or-drop at cells 0 0 ∙ ap (λ j. get_or cells j 0) (let z : at + 0 ≡ at = omega arith in z))))
+      ap (λ (h : List ℕ → Bool). some_leads t (sets_of sets) h 0)
+      (fun_ext λ cells. ap (λ x. eqb x v) (sym (get_or-drop at cells 0 0 ∙ ap (λ j. get_or cells j 0) (let z : at + 0 ≡ at = omega arith in z))))
       ∙ sym (r.shown (cell_is 0 v))
-      ∙ any_below-same (λ p. reached p && some_leads t (drop at (sets_of sets)) (cell_is 0 v) p) (λ p. reached p && (has_bit (get_or sets at 0) v && ahead t (set_for v) (has next) p)) n
+      ∙ any_below-same (λ p. reached p && some_leads t (drop at (sets_of sets)) (cell_is 0 v) p)
+      (λ p. reached p && (has_bit (get_or sets at 0) v && ahead t (set_for v) (has next) p)) n
       (λ p low. ap (λ x. reached p && x) (way_here t sets at lt v p small ∙ ap (λ f. has_bit (get_or sets at 0) v && ahead t (set_for v) f p) after))
       ∙ pulled (has_bit (get_or sets at 0) v) (λ p. ahead t (set_for v) (has next) p)
 
@@ -145,7 +152,8 @@ module _ (A : Type 0) (has : A → ℕ → Bool) (n : ℕ) (t : Track) (sets : L
   kept_step kept new k long others is = record {
     as_many = long ∙ k.as_many;
     bits = λ i v below small. elim (cases_eq i at) [
-      | inl e ↦ ap (λ j. has_bit (get_or new j 0) v) e ∙ is v small ∙ twice (has_bit (get_or sets at 0) v) (leads_by (set_for v)) ∙ ap (λ x. has_bit (get_or sets at 0) v && x) (sym (shown_at v small))
+      | inl e ↦ ap (λ j. has_bit (get_or new j 0) v) e ∙ is v small ∙ twice (has_bit (get_or sets at 0) v) (leads_by (set_for v))
+          ∙ ap (λ x. has_bit (get_or sets at 0) v && x) (sym (shown_at v small))
           ∙ ap (λ j. has_bit (get_or sets j 0) v && some_leads t (sets_of sets) (cell_is j v) 0) (sym e)
       | inr ne ↦ ap (λ x. has_bit x v) (others i ne) ∙ k.bits i v (omega arith) small
     ];
@@ -166,8 +174,10 @@ module _ (A : Type 0) (has : A → ℕ → Bool) (n : ℕ) (t : Track) (sets : L
   kept_both white black kept new below e is_white is_black shows_white shows_black k long others = kept_step kept new k long others by
     where
       by : (v : ℕ) → v < 2 → has_bit (get_or new at 0) v ≡ (has_bit (get_or sets at 0) v && leads_by (set_for v))
-      by zero small = shows_white ∙ ways_on t 1 n below reached white (ahead t 1 (has next)) (has next) is_white (λ p. refl) ∙ ap (λ x. x && leads_by 1) (sym (both_bits (get_or sets at 0) e).0)
-      by (suc zero) small = shows_black ∙ ways_on t 2 n below reached black (ahead t 2 (has next)) (has next) is_black (λ p. refl) ∙ ap (λ x. x && leads_by 2) (sym (both_bits (get_or sets at 0) e).1)
+      by zero small = shows_white ∙ ways_on t 1 n below reached white (ahead t 1 (has next)) (has next) is_white (λ p. refl)
+          ∙ ap (λ x. x && leads_by 1) (sym (both_bits (get_or sets at 0) e).0)
+      by (suc zero) small = shows_black ∙ ways_on t 2 n below reached black (ahead t 2 (has next)) (has next) is_black (λ p. refl)
+          ∙ ap (λ x. x && leads_by 2) (sym (both_bits (get_or sets at 0) e).1)
       by (suc (suc v)) small = absurd (omega arith)
 
   -- a cell with one value at most
@@ -183,8 +193,10 @@ module _ (A : Type 0) (has : A → ℕ → Bool) (n : ℕ) (t : Track) (sets : L
 
       by : (v : ℕ) → v < 2 → has_bit (get_or sets at 0) v ≡ (has_bit (get_or sets at 0) v && leads_by (set_for v))
       by v small = elim (cases_Bool (has_bit (get_or sets at 0) v)) [
-        | inl on ↦ on ∙ sym (ap₂ (λ x y. x && y) on (any_below-same (λ p. reached p && ahead t (set_for v) (has next) p) (λ p. reached p && ahead t (get_or sets at 0) (has next) p) n
-            (λ p low. ap (λ x. reached p && x) (sym (ahead_alone t (get_or sets at 0) v (has next) p small (both_low (get_or sets at 0) ∙ ne_eqb (get_or sets at 0 % 4) 3 ne) on))) ∙ any))
+        | inl on ↦
+            let one = both_low (get_or sets at 0) ∙ ne_eqb (get_or sets at 0 % 4) 3 ne in
+            on ∙ sym (ap₂ (λ x y. x && y) on (any_below-same (λ p. reached p && ahead t (set_for v) (has next) p) (λ p. reached p && ahead t (get_or sets at 0) (has next) p) n
+            (λ p low. ap (λ x. reached p && x) (sym (ahead_alone t (get_or sets at 0) v (has next) p small one on))) ∙ any))
         | inr off ↦ off ∙ sym (ap (λ x. x && leads_by (set_for v)) off)
       ]
 

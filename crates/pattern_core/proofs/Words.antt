@@ -69,7 +69,8 @@ pub both_bits : (set : ℕ) → set % 4 ≡ 3 → (has_bit set 0 ≡ true) × (h
 both_bits set e = and_parts (has_bit set 0) (has_bit set 1) (both_low set ∙ ap (λ s. eqb s 3) e)
 
 -- the places reached, by the words of a step
-pub led_words : (t : Track) (set : ℕ) (reached next : ℕ → Bool) (p : ℕ) → ((q : ℕ) → next q ≡ (goes_on t set q && reached q)) → ((stays t set p && reached p) || one_on next p) ≡ led t set reached p
+pub led_words : (t : Track) (set : ℕ) (reached next : ℕ → Bool) (p : ℕ) → ((q : ℕ) → next q ≡ (goes_on t set q && reached q))
+    → ((stays t set p && reached p) || one_on next p) ≡ led t set reached p
 unfolding led
 led_words t set reached next p is = ap (λ f. (stays t set p && reached p) || one_on f p) (fun_ext is)
 

@@ -124,7 +124,8 @@ pub line_of_solution : (p : Pattern) (g : List ℕ) (line : ℕ) → line < line
 line_of_solution p g line lt s = grind (arith, common_steps, cases_Bool, cases_lt, line_numbers-column, line_numbers-row)
 
 -- the test of a grid is met by the solutions alone
-pub is_solution-line : (p : Pattern) (g : List ℕ) (line : ℕ) → is_pattern_solution p g ≡ true → line < lines_of p.size → has_runs (clue_of p line) (line_numbers p.size g line) ≡ true
+pub is_solution-line : (p : Pattern) (g : List ℕ) (line : ℕ) → is_pattern_solution p g ≡ true → line < lines_of p.size
+    → has_runs (clue_of p line) (line_numbers p.size g line) ≡ true
 unfolding is_pattern_solution
 is_solution-line p g line on lt = all_below-at (λ h. has_runs (clue_of p h) (line_numbers p.size g h)) (lines_of p.size) line on lt
 
@@ -133,7 +134,8 @@ unfolding is_pattern_solution
 is_solution-each p g each = grind (arith, common_steps, cases_Bool, all_below-from, has_runs-from)
 
 pub is_solution-is : (p : Pattern) (g : List ℕ) → IsGrid (p.size.w * p.size.h) 2 g → is_pattern_solution p g ≡ true → IsPatternSolution p g
-is_solution-is p g grid on = solution_from_lines p g grid (λ line lt. has_runs-is (clue_of p line) (line_numbers p.size g line) (is_solution-line p g line on lt))
+is_solution-is p g grid on = solution_from_lines p g grid
+    (λ line lt. has_runs-is (clue_of p line) (line_numbers p.size g line) (is_solution-line p g line on lt))
 
 pub is_solution-from : (p : Pattern) (g : List ℕ) → IsPatternSolution p g → is_pattern_solution p g ≡ true
 is_solution-from p g s = is_solution-each p g (λ line lt. line_of_solution p g line lt s)

@@ -18,7 +18,8 @@ loop-k-preserved g c =
     let cells = line_numbers c.args.size c.args.grid.now c.args.line in
     let long = length-line_numbers c.args.size c.args.grid.now c.args.line in
     let number : c.number_at.result ≡ get_or cells c.loop-k.k 0 = c.number_at.ensures.value in
-    follow_next g.P.Places.room t c.steps-steps.ensures.below cells c.loop-k.k (has c.loop-k.reached) (has c.led_on-reached.result) (omega (arith, long, c.line_len-k-end.ensures.cells, c.loop-k-test.true))
+    follow_next g.P.Places.room t c.steps-steps.ensures.below cells c.loop-k.k (has c.loop-k.reached) (has c.led_on-reached.result)
+    (omega (arith, long, c.line_len-k-end.ensures.cells, c.loop-k-test.true))
     (λ p lt. c.led_on-reached.ensures p lt ∙ ap (λ n. led t (set_for n) (has c.loop-k.reached) p) number)
     c.loop-k.invariant
 
@@ -27,5 +28,6 @@ returns g c =
     let t = along g.P.Places.has c.steps-steps.result in
     let cells = line_numbers c.args.size c.args.grid.now c.args.line in
     let long = length-line_numbers c.args.size c.args.grid.now c.args.line in
-    c.is_some.ensures ∙ follow_end g.P.Places.room t c.steps-steps.ensures.below cells c.loop-k.k (g.P.Places.has c.loop-k.reached) c.args.clue.now (g.P.Places.has c.both.result) c.steps-steps.ensures.track c.steps-steps.ensures.positive
+    c.is_some.ensures ∙ follow_end g.P.Places.room t c.steps-steps.ensures.below cells c.loop-k.k (g.P.Places.has c.loop-k.reached) c.args.clue.now
+    (g.P.Places.has c.both.result) c.steps-steps.ensures.track c.steps-steps.ensures.positive
     (omega (arith, long, c.line_len-k-end.ensures.cells, c.loop-k-test.false, c.loop-k.auto.k-end)) c.both.ensures c.loop-k.invariant

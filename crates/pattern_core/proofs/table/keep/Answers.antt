@@ -18,4 +18,5 @@ returns-then-not-is_some-clause-decided g c =
     (nothing_kept _ c.args.sets.now _ none (grind (arith, common_steps)) (grind (arith, common_steps)))
 
 pub returns-clause-decided : goal.returns-clause-decided
-returns-clause-decided g c = decided_by_track c.args.clue.now c.args.sets.now _ _ c.moves_of-moves.ensures.track c.moves_of-moves.ensures.positive c.keep_cells.ensures.kept
+returns-clause-decided g c = decided_by_track c.args.clue.now c.args.sets.now _ _ c.moves_of-moves.ensures.track c.moves_of-moves.ensures.positive
+    c.keep_cells.ensures.kept

@@ -37,7 +37,8 @@ loop-at-preserved g c =
                 c.loop-at.invariant.0 w.keep_shown.ensures.as_many w.keep_shown.ensures.others),
             subst (λ r. AreReached g.P.Places.room t c.args.sets.now (has r) (at + 1)) (sym w.reached-is)
                 (reached_next g.P.Places.room t c.args.sets.now (has c.loop-at.reached) (has w.either-reached.result) at c.requires.below c.loop-at-test.true
-                (λ p lt. w.either-reached.ensures p ∙ ap₂ (λ x y. x || y) (w.ways_of-ways.ensures.white p lt) (w.ways_of-ways.ensures.black p lt) ∙ led_both t (get_or c.args.sets.now at 0) (has c.loop-at.reached) p both)
+                (λ p lt. w.either-reached.ensures p ∙ ap₂ (λ x y. x || y) (w.ways_of-ways.ensures.white p lt) (w.ways_of-ways.ensures.black p lt)
+                ∙ led_both t (get_or c.args.sets.now at 0) (has c.loop-at.reached) p both)
                 c.loop-at.invariant.1),
             λ k le. ap (λ (l : List ℕ). get_or l k 0) w.sets-is ∙ w.keep_shown.ensures.others k (λ e. absurd (omega arith)) ∙ c.loop-at.invariant.2 k (omega arith),
             λ e. elim w.if-keep_shown.branch [
