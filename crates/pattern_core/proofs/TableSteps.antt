@@ -1,7 +1,7 @@
 -- The steps of the table, at a place of the line.
 use Rattle.std.proofs.lemmas.Bool.{cases_Bool}
 use Rattle.std.proofs.lemmas.Grind.{common_steps}
-use Rattle.std.proofs.Common.{◌≡◌, ◌∙◌, ℕ, zero, suc, ◌+◌, ◌%◌, ◌<◌, Bool, true, false, ◌&&◌, eqb, List, [], ◌∷◌, length, get_or, drop, set, refl, sym, ap, ap₂, arith, inl, inr}
+use Rattle.std.proofs.Common.{◌≡◌, ◌∙◌, ℕ, zero, suc, ◌+◌, ◌%◌, ◌<◌, ◌≤◌, Bool, true, false, ◌&&◌, eqb, List, [], ◌∷◌, length, get_or, drop, set, refl, sym, ap, ap₂, arith, inl, inr}
 use Rattle.std.specs.List.{AllByRecursion}
 use Rattle.std.proofs.Math.Path.{fun_ext}
 use Rattle.std.proofs.Math.Bool.{and-true}
@@ -60,9 +60,9 @@ module _ (A : Type 0) (has : A → ℕ → Bool) (t : Track) (sets : List ℕ) (
   }
 
   -- what the row of the next cell says
-  row_next : (at : ℕ) (next : A) → AreRows has t sets rows (at + 1) → at < length sets → next ≡ get_or rows (at + 1) next
+  pub row_next : (from at : ℕ) (next : A) → AreRows has t sets rows from → from ≤ at + 1 → at < length sets → next ≡ get_or rows (at + 1) next
       → some_leads t (drop (at + 1) (sets_of sets)) any_cells ≡ has next
-  row_next at next all lt read = fun_ext λ p. sym (ap (λ x. has x p) read ∙ all.row (at + 1) p next (omega arith) (omega arith))
+  row_next from at next all low lt read = fun_ext λ p. sym (ap (λ x. has x p) read ∙ all.row (at + 1) p next low (omega arith))
 
   pub one_row : (at : ℕ) (row next : A) → AreRows has t sets rows (at + 1) → at < length sets → next ≡ get_or rows (at + 1) next
       → ((p : ℕ) → has row p ≡ ahead t (get_or sets at 0) (has next) p) → AreRows has t sets (set rows at row) at
@@ -70,7 +70,7 @@ module _ (A : Type 0) (has : A → ℕ → Bool) (t : Track) (sets : List ℕ) (
     room = let r = rest.room in omega (arith, length-set rows at row);
     row = λ i p w from upto. elim (cases_eq i at) [
       | inl e ↦ ap (λ j. has (get_or (set rows at row) j w) p) e ∙ ap (λ x. has x p) (get_or-set_same rows at row w (let r = rest.room in omega arith)) ∙ is p
-          ∙ ap (λ after. ahead t (get_or sets at 0) after p) (sym (row_next at next rest lt read)) ∙ sym (way_any t sets at lt p)
+          ∙ ap (λ after. ahead t (get_or sets at 0) after p) (sym (row_next (at + 1) at next rest (omega arith) lt read)) ∙ sym (way_any t sets at lt p)
           ∙ ap (λ j. some_leads t (drop j (sets_of sets)) any_cells p) (sym e)
       | inr ne ↦ ap (λ x. has x p) (get_or-set_other rows at i row w ne) ∙ rest.row i p w (omega arith) upto
     ];
@@ -120,14 +120,11 @@ ahead_alone t s (suc (suc v)) after p small one on = absurd (omega arith)
 pub kept_none : (t : Track) (sets : List ℕ) → AreKept t sets sets 0
 kept_none t sets = record { as_many = refl; bits = λ k v lt small. absurd (omega arith) }
 
-module _ (A : Type 0) (has : A → ℕ → Bool) (n : ℕ) (t : Track) (sets : List ℕ) (rows : List A) (reached : ℕ → Bool) (at : ℕ) (r : AreReached n t sets reached at) (all : AreRows has t sets rows 0) (lt : at < length sets)
-    (next : A) (read : next ≡ get_or rows (at + 1) next) where
+module _ (n : ℕ) (t : Track) (sets : List ℕ) (reached : ℕ → Bool) (at : ℕ) (r : AreReached n t sets reached at) (lt : at < length sets)
+    (next : ℕ → Bool) (after : some_leads t (drop (at + 1) (sets_of sets)) any_cells ≡ next) where
   -- whether a cell of this set leads on
   abbrev leads_by : ℕ → Bool
-  leads_by set = any_below (λ p. reached p && ahead t set (has next) p) n
-
-  after : some_leads t (drop (at + 1) (sets_of sets)) any_cells ≡ has next
-  after = row_next A has t sets rows at next (record { room = all.room; row = λ i p w from upto. all.row i p w (omega arith) upto }) lt read
+  leads_by set = any_below (λ p. reached p && ahead t set next p) n
 
   -- a test of the set stands before or behind
   pulled : (x : Bool) (way : ℕ → Bool) → any_below (λ p. reached p && (x && way p)) n ≡ (x && any_below (λ p. reached p && way p) n)
@@ -142,9 +139,9 @@ module _ (A : Type 0) (has : A → ℕ → Bool) (n : ℕ) (t : Track) (sets : L
       (fun_ext λ cells. ap (λ x. eqb x v) (sym (get_or-drop at cells 0 0 ∙ ap (λ j. get_or cells j 0) (let z : at + 0 ≡ at = omega arith in z))))
       ∙ sym (r.shown (cell_is 0 v))
       ∙ any_below-same (λ p. reached p && some_leads t (drop at (sets_of sets)) (cell_is 0 v) p)
-      (λ p. reached p && (has_bit (get_or sets at 0) v && ahead t (set_for v) (has next) p)) n
+      (λ p. reached p && (has_bit (get_or sets at 0) v && ahead t (set_for v) next p)) n
       (λ p low. ap (λ x. reached p && x) (way_here t sets at lt v p small ∙ ap (λ f. has_bit (get_or sets at 0) v && ahead t (set_for v) f p) after))
-      ∙ pulled (has_bit (get_or sets at 0) v) (λ p. ahead t (set_for v) (has next) p)
+      ∙ pulled (has_bit (get_or sets at 0) v) (λ p. ahead t (set_for v) next p)
 
   -- the bits of the cell are what is shown, and those of the cells before were
   kept_step : (kept new : List ℕ) → AreKept t sets kept at → length new ≡ length kept → ((i : ℕ) → (i ≡ at → ⊥) → get_or new i 0 ≡ get_or kept i 0)
@@ -167,16 +164,16 @@ module _ (A : Type 0) (has : A → ℕ → Bool) (n : ℕ) (t : Track) (sets : L
   pub kept_both : (white black : ℕ → Bool) (kept new : List ℕ) → IsBelow n t → get_or sets at 0 % 4 ≡ 3
       → ((p : ℕ) → p < n → white p ≡ led t 1 reached p)
       → ((p : ℕ) → p < n → black p ≡ led t 2 reached p)
-      → has_bit (get_or new at 0) 0 ≡ any_below (λ p. white p && has next p) n
-      → has_bit (get_or new at 0) 1 ≡ any_below (λ p. black p && has next p) n
+      → has_bit (get_or new at 0) 0 ≡ any_below (λ p. white p && next p) n
+      → has_bit (get_or new at 0) 1 ≡ any_below (λ p. black p && next p) n
       → AreKept t sets kept at → length new ≡ length kept → ((i : ℕ) → (i ≡ at → ⊥) → get_or new i 0 ≡ get_or kept i 0)
       → AreKept t sets new (at + 1)
   kept_both white black kept new below e is_white is_black shows_white shows_black k long others = kept_step kept new k long others by
     where
       by : (v : ℕ) → v < 2 → has_bit (get_or new at 0) v ≡ (has_bit (get_or sets at 0) v && leads_by (set_for v))
-      by zero small = shows_white ∙ ways_on t 1 n below reached white (ahead t 1 (has next)) (has next) is_white (λ p. refl)
+      by zero small = shows_white ∙ ways_on t 1 n below reached white (ahead t 1 next) next is_white (λ p. refl)
           ∙ ap (λ x. x && leads_by 1) (sym (both_bits (get_or sets at 0) e).0)
-      by (suc zero) small = shows_black ∙ ways_on t 2 n below reached black (ahead t 2 (has next)) (has next) is_black (λ p. refl)
+      by (suc zero) small = shows_black ∙ ways_on t 2 n below reached black (ahead t 2 next) next is_black (λ p. refl)
           ∙ ap (λ x. x && leads_by 2) (sym (both_bits (get_or sets at 0) e).1)
       by (suc (suc v)) small = absurd (omega arith)
 
@@ -188,15 +185,15 @@ module _ (A : Type 0) (has : A → ℕ → Bool) (n : ℕ) (t : Track) (sets : L
       kept_step kept kept k refl (λ i other. refl) (λ v small. ap (λ x. has_bit x v) rest ∙ by v small)
     where
       any : leads_by (get_or sets at 0) ≡ true
-      any = any_below-same (λ p. reached p && ahead t (get_or sets at 0) (has next) p) (λ p. reached p && some_leads t (drop at (sets_of sets)) any_cells p) n
+      any = any_below-same (λ p. reached p && ahead t (get_or sets at 0) next p) (λ p. reached p && some_leads t (drop at (sets_of sets)) any_cells p) n
           (λ p low. ap (λ x. reached p && x) (ap (λ f. ahead t (get_or sets at 0) f p) (sym after) ∙ sym (way_any t sets at lt p))) ∙ r.shown any_cells ∙ some
 
       by : (v : ℕ) → v < 2 → has_bit (get_or sets at 0) v ≡ (has_bit (get_or sets at 0) v && leads_by (set_for v))
       by v small = elim (cases_Bool (has_bit (get_or sets at 0) v)) [
         | inl on ↦
             let one = both_low (get_or sets at 0) ∙ ne_eqb (get_or sets at 0 % 4) 3 ne in
-            on ∙ sym (ap₂ (λ x y. x && y) on (any_below-same (λ p. reached p && ahead t (set_for v) (has next) p) (λ p. reached p && ahead t (get_or sets at 0) (has next) p) n
-            (λ p low. ap (λ x. reached p && x) (sym (ahead_alone t (get_or sets at 0) v (has next) p small one on))) ∙ any))
+            on ∙ sym (ap₂ (λ x y. x && y) on (any_below-same (λ p. reached p && ahead t (set_for v) next p) (λ p. reached p && ahead t (get_or sets at 0) next p) n
+            (λ p low. ap (λ x. reached p && x) (sym (ahead_alone t (get_or sets at 0) v next p small one on))) ∙ any))
         | inr off ↦ off ∙ sym (ap (λ x. x && leads_by (set_for v)) off)
       ]
 

@@ -134,9 +134,7 @@ fn keep_cells<P: Places>(moves: &Moves<P>, sets: &mut [u32], rows: &[P]) -> bool
             let after = rows[at + 1];
             let white = ways.white.both(after).is_some();
             let black = ways.black.both(after).is_some();
-            if keep_shown(sets, at, white, black) {
-                struck = true;
-            }
+            struck |= keep_shown(sets, at, white, black);
             reached = ways.white.either(ways.black);
         } else {
             reached = led_by(moves, set, reached);
