@@ -1,7 +1,7 @@
 -- A line leads along the spelled clue from its first place to an end exactly where its runs are the clue.
 use Rattle.std.proofs.lemmas.Bool.{cases_Bool}
 use Rattle.std.proofs.lemmas.Grind.{common_steps}
-use Rattle.std.proofs.Common.{◌≡◌, ◌∙◌, ℕ, zero, suc, ◌+◌, ◌<◌, ◌≤◌, Bool, true, false, not, ◌&&◌, ◌||◌, eqb, leb, List, [], ◌∷◌, ◌++◌, length, get_or, drop, replicate, refl, sym, ap, ap₂, arith, inl, inr}
+use Rattle.std.proofs.Common.{◌≡◌, ◌∙◌, ℕ, zero, suc, ◌+◌, ◌<◌, ◌≤◌, Bool, true, false, not, ◌&&◌, ◌||◌, eqb, leb, List, [], ◌∷◌, ◌++◌, length, get_or, drop, replicate, refl, sym, ap, ap₂, arith}
 use Rattle.std.specs.Cmp.Lexicographic.{pointwise}
 use Rattle.std.specs.List.{AllByRecursion}
 use Rattle.std.proofs.Math.Bool.{and-false, or-false}
@@ -116,13 +116,7 @@ black_not_white v on = ne_eqb v 0 (λ e. let one = eqb-true v 1 on in absurd (om
 
 leads_left : (spell cells : List ℕ) (p : ℕ) → p ≤ length spell → leads (track_of spell) p cells ≡ matches (may_stay spell p) (drop p spell) cells
 unfolding leads track_of may_stay matches
-leads_left spell [] p le = elim (cases_eq p (length spell)) [
-  | inl e ↦ ap (λ b. b || eqb (suc p) (length spell)) (eq-eqb p (length spell) e) ∙ sym (le-leb (length (drop p spell)) 1 (omega (arith, length-drop p spell)))
-  | inr ne ↦ ap (λ b. b || eqb (suc p) (length spell)) (ne_eqb p (length spell) ne) ∙ elim (cases_eq (suc p) (length spell)) [
-    | inl e ↦ eq-eqb (suc p) (length spell) e ∙ sym (le-leb (length (drop p spell)) 1 (omega (arith, length-drop p spell)))
-    | inr more ↦ ne_eqb (suc p) (length spell) more ∙ sym (lt-leb (length (drop p spell)) 1 (omega (arith, length-drop p spell)))
-  ]
-]
+leads_left spell [] p le = grind (arith, common_steps, cases_Bool, cases_eq, eq-eqb, ne_eqb, le-leb, lt-leb, length-drop)
 leads_left spell (zero ∷ cells) p le = ap₂ (λ a b. a || b)
     (and_same (may_stay spell p) (leads (track_of spell) p cells) (matches true (drop p spell) cells) (λ on. leads_left spell cells p le ∙ ap (λ b. matches b (drop p spell) cells) on))
     (and_same (eqb (get_or spell p 2) 0) (leads (track_of spell) (suc p) cells) (matches true (drop 1 (drop p spell)) cells) (λ on.

@@ -1,4 +1,4 @@
-use Rattle.std.proofs.Common.{◌≡◌, ◌∙◌, ◌++◌, [], refl, drop, length, sym, ap, arith, append-nil, subst}
+use Rattle.std.proofs.Common.{◌∙◌, ◌++◌, [], refl, sym, ap, arith, append-nil, subst}
 use Rattle.std.proofs.lemmas.List.{drop_all}
 use Rattle.pattern_core.specs.Track.{spelled, Spells}
 use Rattle.pattern_core.proofs.SpelledRuns.{length-spelled}
