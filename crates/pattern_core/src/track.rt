@@ -91,7 +91,9 @@ pub(crate) const TOO_MANY: usize = 1000;
 pub(crate) fn measured(numbers: &[u8]) -> (usize, usize)
     requires positive { AllByRecursion (λ n. 0 < n) numbers.now }
     requires fits { used numbers.now < 128 }
+    ensures positive { AllByRecursion (λ n. 0 < n) numbers.now }
     ensures cells { result.0 ≡ used numbers.now }
+    ensures few { result.0 < 128 }
     ensures roomy { IsRoomyFrom numbers.now result.1 }
 {
     let mut cells = 0;

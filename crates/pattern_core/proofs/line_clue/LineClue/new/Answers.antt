@@ -6,12 +6,3 @@ pub measured-cells-requires : goal.measured-cells-requires
 measured-cells-requires c =
     let z = clue_of_line _ _ _ c.requires.lawful c.requires.line c.line-numbers.ensures in
     record { positive = z.0; fits = let f = z.1 in omega arith }
-
-pub new-requires-clause-positive : goal.new-requires-clause-positive
-new-requires-clause-positive c = (clue_of_line _ _ _ c.requires.lawful c.requires.line c.line-numbers.ensures).0
-
-pub new-requires-else-cells-lt64-clause-positive : goal.new-requires-else-cells-lt64-clause-positive
-new-requires-else-cells-lt64-clause-positive c = (clue_of_line _ _ _ c.requires.lawful c.requires.line c.line-numbers.ensures).0
-
-pub new-requires-else-cells-lt64-clause-fits : goal.new-requires-else-cells-lt64-clause-fits
-new-requires-else-cells-lt64-clause-fits c = let z = (clue_of_line _ _ _ c.requires.lawful c.requires.line c.line-numbers.ensures).1 in omega arith
