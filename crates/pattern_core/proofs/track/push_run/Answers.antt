@@ -1,11 +1,8 @@
-use Rattle.std.proofs.Common.{◌≡◌, ◌∙◌, ◌++◌, ℕ, List, [], ◌∷◌, replicate, sym, ap, arith, subst, append-nil, length-append}
+use Rattle.std.proofs.Common.{◌≡◌, ◌∙◌, ◌++◌, ℕ, List, [], ◌∷◌, replicate, ap, arith, subst, length-append}
 use Rattle.std.proofs.lemmas.List.{length-replicate}
 use Rattle.pattern_core.specs.Track.{IsSpelling}
 use Rattle.pattern_core.proofs.Spellings.{one_more, run_ended}
 use Rattle.pattern_core.proofs.track.push_run.Goals as goal
-
-pub loop-k-init : goal.loop-k-init
-loop-k-init g c = λ cells fits s. subst (λ (l : List ℕ). IsSpelling g.P.Places.has l c.args.spelling.white c.args.spelling.black c.args.spelling.next) (sym (append-nil cells)) s
 
 pub loop-k-preserved : goal.loop-k-preserved
 loop-k-preserved g c = λ cells fits s.
