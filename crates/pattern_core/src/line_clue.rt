@@ -23,6 +23,7 @@ pub(crate) struct Rows {
 }
 
 impl Rows {
+    /// Rows of zeros, to be written.
     pub(crate) fn new() -> Rows {
         Rows {
             short: [0; LONGEST + 1],
