@@ -8,7 +8,7 @@ use Rattle.gameid_core.specs.declared.id.fault.IdFault.TheVariants.{TooMany, Too
 use Rattle.gameid_core.specs.Words.{words, Cuts}
 use Rattle.gameid_core.specs.Steps.{reading, ◌>>=◌}
 use Rattle.gameid_core.specs.Cells.{fill_step, fill_end}
-use Rattle.gameid_core.proofs.Reading.{turn_of, end_of, place}
+use Rattle.gameid_core.proofs.Reading.{place}
 use Rattle.gameid_core.proofs.Results.{bind_ok, taken}
 
 -- ---- filling
@@ -27,12 +27,6 @@ fill_end_is all cells full e = rw e refl
 
 abbrev pub fills : {A : Type 0} → (ℕ → List ℕ → Result (List A) IdFault) → ℕ → ℕ → List A → List ℕ → Result (List A) IdFault
 fills token all at cells text = reading (fill_step token all) (fill_end all) at cells (words text)
-
-pub turn_fill : {A : Type 0} (token : ℕ → List ℕ → Result (List A) IdFault) (all base d : ℕ) (cells : List A) (rest word after : List ℕ) (r : Result (List A) IdFault) (total : Result (List A) IdFault) → Cuts rest word after → length rest ≤ d → token (place base d rest) word ≡ r → fills token all (place base d rest) cells rest ≡ total → ((r >>= filled all cells) >>= (λ t. fills token all (place base d after) t after)) ≡ total
-turn_fill token all base d cells rest word after r total cuts le e so = grind (arith, turn_of (fill_step token all) (fill_end all) base d cells rest word after (r >>= filled all cells) total cuts le (fill_is token all (place base d rest) cells word r e) so)
-
-pub end_fill : {A : Type 0} (token : ℕ → List ℕ → Result (List A) IdFault) (all at : ℕ) (cells : List A) (rest : List ℕ) (full : Bool) (total : Result (List A) IdFault) → rest ≡ [] → eqb (length cells) all ≡ full → fills token all at cells rest ≡ total → total ≡ cond full (Ok cells) (Err TooFew)
-end_fill token all at cells rest full total e is so = grind (arith, common_steps, end_of, fill_end_is)
 
 -- a token of a filling that was taken
 fill_cases : {A : Type 0} (token : ℕ → List ℕ → Result (List A) IdFault) (all at : ℕ) (cells : List A) (word : List ℕ) (t : List A) → fill_step token all at cells word ≡ Ok t → (more : List A) × (token at word ≡ Ok more) × (cells ++ more ≡ t)

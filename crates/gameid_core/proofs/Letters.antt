@@ -39,12 +39,8 @@ letters_of_length q r = grind (arith, common_steps)
 pub letters_short : (k : ℕ) → length (letters k) ≤ k
 letters_short k = grind (arith, common_steps, letters_none, letters_are, letters_of_length)
 
--- a run of so many times 26 cells and 1 to 26 more
-pub letters_at : (q k : ℕ) → 1 ≤ k → k ≤ 26 → letters (26 * q + k) ≡ replicate q 122 ++ (96 + k) ∷ []
-unfolding letters_of
-letters_at q k some few = grind (arith, letters_are (26 * q + k) q (k - 1))
+-- one byte more is written, and one byte less is left
+pub push_step : (out : List ℕ) (b : ℕ) (new rest all old : List ℕ) → new ≡ out ++ b ∷ [] → all ≡ b ∷ rest → out ++ all ≡ old → new ++ rest ≡ old
+push_step out b new rest all old e f so = grind (arith, common_steps)
 
--- the last 'z' goes over to what follows
-pub z_moves : (q : ℕ) (rest : List ℕ) → replicate (suc q) 122 ++ rest ≡ replicate q 122 ++ 122 ∷ rest
-z_moves zero rest = refl
-z_moves (suc q) rest = ap (λ (t : List ℕ). 122 ∷ t) (z_moves q rest)
+pub ruleset turns = (common_steps, push_step, letters_none, letters_more, letters_last)

@@ -27,14 +27,6 @@ use Rattle.gameid_core.proofs.HeadLaws.{parts_of, plain_size, head_again, after_
 abbrev pub lights : ℕ → ℕ → List LightCell → List ℕ → Result (List LightCell) IdFault
 lights all at cells text = reading (fill_step light_token all) (fill_end all) at cells (map (λ b. b ∷ []) text)
 
-pub turn_light : (all base k : ℕ) (cells : List LightCell) (text : List ℕ) (r total : Result (List LightCell) IdFault) → k < length text → light_token (base + k) (get_or text k 0 ∷ []) ≡ r → lights all (base + k) cells (drop k text) ≡ total → ((r >>= filled all cells) >>= (λ t. lights all (base + (k + 1)) t (drop (k + 1) text))) ≡ total
-unfolding reading
-turn_light all base k cells text r total lt e so = grind (arith, common_steps, fill_is light_token all (base + k) cells (get_or text k 0 ∷ []) r e)
-
-pub end_light : (all base k : ℕ) (cells : List LightCell) (text : List ℕ) (full : Bool) (total : Result (List LightCell) IdFault) → length text ≤ k → eqb (length cells) all ≡ full → lights all (base + k) cells (drop k text) ≡ total → total ≡ cond full (Ok cells) (Err TooFew)
-unfolding reading
-end_light all base k cells text full total past is so = sym so ∙ rw (drop_all k text past) (fill_end_is all cells full is)
-
 pub wide_of : (w h : ℕ) → in_range game.LightUp w h ≡ true → IsWide (record { w = w; h = h })
 wide_of w h e = grind arith
 

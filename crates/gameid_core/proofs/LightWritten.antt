@@ -12,30 +12,17 @@ use Rattle.gameid_core.specs.SizeText.{size_text}
 use Rattle.gameid_core.specs.Puzzles.{Light, IsLight, IsLightCell}
 use Rattle.gameid_core.specs.LightText.{LightToken, whites, black, numbered, light_token_byte, light_token_cells, IsLightToken, IsBlackByte, AreFullLights, SpellsLight, IsWrittenLight, light_cells_text, light_text}
 use Rattle.gameid_core.specs.OneText.{HasOneText}
+use Rattle.gameid_core.proofs.Lists.{all_at}
 use Rattle.gameid_core.proofs.OneReading.{one_text}
-use Rattle.gameid_core.proofs.Letters.{letters_none, letters_more, letters_last, letters_short, letters_at, z_moves}
+use Rattle.gameid_core.proofs.Letters.{letters_none, letters_more, letters_last, letters_short}
 use Rattle.gameid_core.proofs.Numerals.{length_decimal}
 
 -- ---- one cell of the writer's loop
 
-pub lights_nil : (k : ℕ) → light_cells_text k [] ≡ letters k
-unfolding light_cells_text
-lights_nil k = refl
+pub light_at : (cells : List LightCell) (i : ℕ) → AllByRecursion IsLightCell cells → i < length cells → IsLightCell (get_or cells i White)
+light_at cells i each lt = all_at IsLightCell White cells i each lt
 
-pub black_ascii : (b : ℕ) (cell : LightCell) → IsLightCell cell → IsBlackByte b cell → b < 128
-black_ascii b cell is h = grind arith
-
-pub lights_end : (k i : ℕ) (cells : List LightCell) (old out new : List ℕ) → length cells ≤ i → out ++ light_cells_text k (drop i cells) ≡ old → new ≡ out ++ letters k → new ≡ old
-unfolding light_cells_text
-lights_end k i cells old out new past so e = grind (arith, common_steps)
-
-pub lights_step_white : (k i k' : ℕ) (cells : List LightCell) (old out out' : List ℕ) → i < length cells → get_or cells i White ≡ White → k' ≡ k + 1 → out' ≡ out → out ++ light_cells_text k (drop i cells) ≡ old → out' ++ light_cells_text k' (drop (i + 1) cells) ≡ old
-unfolding light_cells_text
-lights_step_white k i k' cells old out out' lt white more same so = grind (arith, common_steps)
-
-pub lights_step_black : (k i k' b : ℕ) (cells : List LightCell) (old out mid new out' : List ℕ) → i < length cells → IsBlackByte b (get_or cells i White) → mid ≡ out ++ letters k → new ≡ mid ++ b ∷ [] → k' ≡ 0 → out' ≡ new → out ++ light_cells_text k (drop i cells) ≡ old → out' ++ light_cells_text k' (drop (i + 1) cells) ≡ old
-unfolding light_cells_text
-lights_step_black k i k' b cells old out mid new out' lt byte m n none same so = grind (arith, common_steps)
+pub ruleset turns = (common_steps, light_at)
 
 -- ---- how long
 

@@ -21,14 +21,15 @@ pub all_at : {A : Type 0} (P : A → Type 0) (d : A) (xs : List A) (i : ℕ) →
 all_at P d [] i h lt = grind arith
 all_at P d (x1 ∷ xs1) i h lt = grind (arith, all_at P d xs1)
 
-pub none_pushed : (text : List ℕ) (f : ℕ → List ℕ) → text ≡ text ++ each_below f 0
+pub below_none : (f : ℕ → List ℕ) → each_below f 0 ≡ []
 unfolding each_below
-none_pushed text f = sym (append-nil text)
+below_none f = refl
 
-pub one_pushed : (old text new : List ℕ) (f : ℕ → List ℕ) (n : ℕ) (piece : List ℕ) → text ≡ old ++ each_below f n
-    → new ≡ text ++ piece → piece ≡ f n → new ≡ old ++ each_below f (n + 1)
+pub below_more : (f : ℕ → List ℕ) (n : ℕ) → each_below f (n + 1) ≡ each_below f n ++ f n
 unfolding each_below
-one_pushed old text new f n piece so_far more is = grind (arith, common_steps)
+below_more f n = grind (arith, common_steps)
+
+pub ruleset pushes = (common_steps, below_none, below_more)
 
 join_push : (c : ℕ) (y : List ℕ) (xs : List (List ℕ)) (x : List ℕ) → join_with_byte c ((y ∷ xs) ++ x ∷ []) ≡ join_with_byte c (y ∷ xs) ++ c ∷ x
 join_push c y [] x = refl
@@ -38,8 +39,7 @@ join_some : {A : Type 0} (c : ℕ) (f : A → List ℕ) (ys : List A) (x : List 
 join_some c f [] x some = absurd (omega arith)
 join_some c f (y ∷ ys) x some = join_push c (f y) (map f ys) x
 
-pub joined_first : {A : Type 0} (c : ℕ) (f : A → List ℕ) (xs : List A) (k : ℕ) (d x : A) (old out new : List ℕ) → k ≤ 0 → k < length xs → x ≡ get_or xs k d → out ≡ old ++ join_with_byte c (map f (take k xs)) → new ≡ out ++ f x → new ≡ old ++ join_with_byte c (map f (take (k + 1) xs))
-joined_first c f xs k d x old out new none lt is so e = grind (arith, common_steps)
+pub join_more : {A : Type 0} (c : ℕ) (f : A → List ℕ) (ys : List A) (x : A) → 0 < length ys → join_with_byte c (map f (ys ++ x ∷ [])) ≡ join_with_byte c (map f ys) ++ c ∷ f x
+join_more c f ys x some = grind (arith, common_steps, join_some c f ys (f x))
 
-pub joined_more : {A : Type 0} (c : ℕ) (f : A → List ℕ) (xs : List A) (k : ℕ) (d x : A) (old out mid new : List ℕ) → 0 < k → k < length xs → x ≡ get_or xs k d → out ≡ old ++ join_with_byte c (map f (take k xs)) → mid ≡ out ++ c ∷ [] → new ≡ mid ++ f x → new ≡ old ++ join_with_byte c (map f (take (k + 1) xs))
-joined_more c f xs k d x old out mid new some lt is so m e = grind (arith, common_steps, join_some c f (take k xs) (f x))
+pub ruleset joins = (common_steps, join_more)

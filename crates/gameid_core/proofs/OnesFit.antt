@@ -11,15 +11,6 @@ use Rattle.gameid_core.specs.Puzzles.{IsTents, AreCounts, lines_of}
 use Rattle.gameid_core.specs.Lines.{line_list, ones, lines_ones}
 use Rattle.gameid_core.proofs.LineLaws.{length_line}
 
-pub turn_one : (k k' i : ℕ) (cells : List ℕ) (total : ℕ) → i < length cells → get_or cells i 0 ≡ 1 → k' ≡ k + 1 → k + ones (drop i cells) ≡ total → k' + ones (drop (i + 1) cells) ≡ total
-turn_one k k' i cells total lt is more so = grind (arith, common_steps)
-
-pub turn_other : (k k' i : ℕ) (cells : List ℕ) (total : ℕ) → i < length cells → (get_or cells i 0 ≡ 1 → ⊥) → k' ≡ k → k + ones (drop i cells) ≡ total → k' + ones (drop (i + 1) cells) ≡ total
-turn_other k k' i cells total lt ne same so = grind (arith, common_steps)
-
-pub turns_done : (k i : ℕ) (cells : List ℕ) (total : ℕ) → length cells ≤ i → k + ones (drop i cells) ≡ total → k ≡ total
-turns_done k i cells total past so = let none = ap ones (drop_all i cells past) in omega (arith, none, so)
-
 ones_few : (cells : List ℕ) → ones cells ≤ length cells
 ones_few [] = omega arith
 ones_few (b ∷ cells) = grind (arith, ones_few cells)
@@ -35,5 +26,3 @@ each_of P (x ∷ xs) h = (All-head P x xs h, each_of P xs (All-tail P x xs h))
 -- trees, and the ones of the lines, are a puzzle
 pub ones_lawful : (size : Extent) (trees tents counts kept : List ℕ) → IsExtent size → 2 ≤ size.w → 2 ≤ size.h → IsGrid (size.w * size.h) 2 trees → kept ≡ trees → counts ≡ lines_ones size tents → IsTents (record { size = size; trees = kept; counts = counts })
 ones_lawful size trees tents counts kept e w h grid same is = grind (arith, each_of, length-map-range_with_len, are_ones size tents 0 (lines_of size))
-
-pub ruleset turns = (turn_one, turn_other, turns_done)

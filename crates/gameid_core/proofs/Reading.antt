@@ -22,27 +22,6 @@ reading_end step end at s text e = rw e refl
 abbrev pub place : ℕ → ℕ → List ℕ → ℕ
 place base d rest = base + (d - length rest)
 
--- a turn of a reader's loop: the first token's fault is what is read, or reading goes on behind it
-pub turn_of : {S P : Type 0} (step : ℕ → S → List ℕ → Result S IdFault) (end : S → Result P IdFault) (base d : ℕ) (s : S) (rest word after : List ℕ) (r : Result S IdFault) (total : Result P IdFault) → Cuts rest word after → length rest ≤ d → step (place base d rest) s word ≡ r → reading step end (place base d rest) s (words rest) ≡ total → (r >>= (λ t. reading step end (place base d after) t (words after))) ≡ total
-unfolding reading
-turn_of step end base d s rest word after r total cuts le e so = grind arith
-
--- each token that begins with that byte has the fault
-pub fault_first : {S P : Type 0} (step : ℕ → S → List ℕ → Result S IdFault) (end : S → Result P IdFault) (base d first : ℕ) (s : S) (f : IdFault) (rest after : List ℕ) (total : Result P IdFault) → rest ≡ first ∷ after → length rest ≤ d → ((more : List ℕ) → step (place base d rest) s (first ∷ more) ≡ Err f) → reading step end (place base d rest) s (words rest) ≡ total → Err f ≡ total
-fault_first step end base d first s f rest after total e le fault so =
-    let c = cuts_some first after in
-    turn_of step end base d s rest (first ∷ c.0) c.1 (Err f) total (rw e c.2) le (fault c.0) so
-
-pub end_of : {S P : Type 0} (step : ℕ → S → List ℕ → Result S IdFault) (end : S → Result P IdFault) (at : ℕ) (s : S) (rest : List ℕ) (read total : Result P IdFault) → rest ≡ [] → end s ≡ read → reading step end at s (words rest) ≡ total → total ≡ read
-end_of step end at s rest read total e is so = sym so ∙ reading_end step end at s rest e ∙ is
-
-pub cuts_shorter : (text word after : List ℕ) (first : ℕ) (tail : List ℕ) → text ≡ first ∷ tail → Cuts text word after → length after < length text
-cuts_shorter text [] after first tail e cuts = absurd (false≢true (cuts.first (λ _. true) ∙ ap (begins (λ _. true)) e))
-cuts_shorter text (b ∷ word) after first tail e cuts = omega (arith, cuts.lengths)
-
-pub fails_is : {Y : Type 0} (e : IdFault) (read : Result Y IdFault) → Err e ≡ read → Fails e read
-fails_is e read h = grind arith
-
 reading_cons : {S P : Type 0} (step : ℕ → S → List ℕ → Result S IdFault) (end : S → Result P IdFault) (at : ℕ) (s : S) (word : List ℕ) (words : List (List ℕ)) → reading step end at s (word ∷ words) ≡ (step at s word >>= (λ t. reading step end (at + length word) t words))
 unfolding reading
 reading_cons step end at s word words = refl

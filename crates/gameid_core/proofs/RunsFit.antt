@@ -51,18 +51,6 @@ runs_fit cells = grind (arith, common_steps, runs_positive, runs_used)
 
 -- one cell of the writer's loop
 
-pub turn_white : (k i k' : ℕ) (cells found found' total : List ℕ) → i < length cells → get_or cells i 0 ≡ 0 → k' ≡ 0 → found' ≡ found ++ run_of k → found ++ runs_after k (drop i cells) ≡ total → found' ++ runs_after k' (drop (i + 1) cells) ≡ total
-unfolding runs_after
-turn_white k i k' cells found found' total lt white zero-is e so = grind (arith, common_steps)
-
-pub turn_black : (k i k' : ℕ) (cells found found' total : List ℕ) → i < length cells → (get_or cells i 0 ≡ 0 → ⊥) → k' ≡ k + 1 → found' ≡ found → found ++ runs_after k (drop i cells) ≡ total → found' ++ runs_after k' (drop (i + 1) cells) ≡ total
-unfolding runs_after
-turn_black k i k' cells found found' total lt black more e so = grind (arith, common_steps)
-
-pub turn_end : (k i : ℕ) (cells found found' total : List ℕ) → length cells ≤ i → found' ≡ found ++ run_of k → found ++ runs_after k (drop i cells) ≡ total → found' ≡ total
-unfolding runs_after
-turn_end k i cells found found' total past e so = grind (arith, common_steps)
-
 runs_line_fits : (size : Extent) (g : List ℕ) (line : ℕ) → IsClue (line_cells size line) (runs (line_list size g line))
 runs_line_fits size g line = grind (arith, common_steps, length_line, runs_fit)
 

@@ -13,7 +13,7 @@ use Rattle.gameid_core.specs.SoloText.{before_given, cells_text, solo_text, Solo
 use Rattle.gameid_core.specs.Head.{max_id, max_numbers}
 use Rattle.gameid_core.specs.OneText.{HasOneText}
 use Rattle.gameid_core.proofs.OneReading.{one_text}
-use Rattle.gameid_core.proofs.Letters.{letters_short, letters_none, letters_more, letters_last, letters_at, z_moves}
+use Rattle.gameid_core.proofs.Letters.{letters_short, letters_none, letters_more, letters_last}
 use Rattle.std.proofs.lemmas.Bool.{cases_lt, false≢true}
 
 -- no more cells than the most numbers by as many
@@ -39,26 +39,6 @@ size_short c r x = grind (arith, common_steps, length-append)
 
 pub solo_short : (p : Solo) → IsSolo p → length (solo_text p) ≤ max_id
 solo_short p h = grind (arith, length-decimal-le 2 p.c, length-decimal-le 2 p.r, cells_short 0 false p.givens, range_more (solo_n p) p.givens, solo_few (solo_n p), size_short p.c p.r p.x, length-append (decimal p.c) (120 ∷ decimal p.r), length-append (solo_size_text p.c p.r p.x) (58 ∷ cells_text 0 false p.givens))
-
-pub cells_nil : (k : ℕ) (touches : Bool) → cells_text k touches [] ≡ letters k
-unfolding cells_text
-cells_nil k touches = refl
-
-pub cells_given : (k v : ℕ) (touches : Bool) (cells : List ℕ) → (v ≡ 0 → ⊥) → cells_text k touches (v ∷ cells) ≡ before_given k touches ++ (decimal v ++ cells_text 0 true cells)
-unfolding cells_text
-cells_given k v touches cells ne = grind arith
-
-pub cells_end : (k i : ℕ) (touches : Bool) (cells old out new : List ℕ) → length cells ≤ i → out ++ cells_text k touches (drop i cells) ≡ old → new ≡ out ++ letters k → new ≡ old
-unfolding cells_text
-cells_end k i touches cells old out new past so e = grind (arith, common_steps)
-
-pub cells_step_blank : (k i : ℕ) (touches : Bool) (cells old out : List ℕ) → i < length cells → get_or cells i 0 ≡ 0 → out ++ cells_text k touches (drop i cells) ≡ old → out ++ cells_text (k + 1) touches (drop (i + 1) cells) ≡ old
-unfolding cells_text
-cells_step_blank k i touches cells old out lt blank so = grind (arith, common_steps)
-
-pub cells_step_given : (k i : ℕ) (touches : Bool) (cells old out mid new : List ℕ) → i < length cells → (get_or cells i 0 ≡ 0 → ⊥) → mid ≡ out ++ before_given k touches → new ≡ mid ++ decimal (get_or cells i 0) → out ++ cells_text k touches (drop i cells) ≡ old → new ++ cells_text 0 true (drop (i + 1) cells) ≡ old
-unfolding cells_text
-cells_step_given k i touches cells old out mid new lt some m e so = grind (arith, common_steps)
 
 -- ---- what it spells
 

@@ -9,7 +9,7 @@ use Rattle.gameid_core.specs.Cells.{is_letter}
 use Rattle.gameid_core.specs.SoloText.{solo_token, solo_cells_at, SoloToken, blanks, gap, given, solo_token_text, solo_token_cells, IsSoloToken, AreApart, SpellsSolo, solo_of}
 use Rattle.gameid_core.specs.OneText.{HasOneReading}
 use Rattle.gameid_core.proofs.OneReading.{reading_of}
-use Rattle.gameid_core.proofs.Tokens.{cuts_some, cuts_single, cuts_number, kind_of, not_between, words_nil, no_join, IsWord, words_are, concat_words, alone}
+use Rattle.gameid_core.proofs.Tokens.{cuts_some, cuts_single, cuts_number, kind_of, not_between, words_nil, IsWord, words_are, concat_words, alone}
 use Rattle.gameid_core.proofs.Numerals.{is_lead, lead_is_digit, numeral_cuts, numeral, own, decimal_leads, value_positive}
 use Rattle.gameid_core.proofs.Results.{and_parts, chosen, not_refused, only_taken, ok_is}
 use Rattle.std.specs.List.{AllByRecursion, flat_map, concat}

@@ -13,8 +13,8 @@ use Rattle.gameid_core.specs.Words.{begins, joins, words, digits_front, value, C
 use Rattle.gameid_core.specs.Steps.{reading, ◌>>=◌}
 use Rattle.gameid_core.specs.Puzzles.{line_cells, lines_of, IsWide, IsTents, AreCounts}
 use Rattle.gameid_core.specs.TentsText.{TentsToken, blanks_and_tree, only_blanks, tents_token_byte, tents_token_cells, IsTentsToken, TentsSoFar, cells_in, tents_run, run_cells, tents_tree, tents_count, tents_step, tents_end, tents_at}
-use Rattle.gameid_core.proofs.Tokens.{front_turn, cuts_single}
-use Rattle.gameid_core.proofs.Reading.{turn_of, fault_first, place}
+use Rattle.gameid_core.proofs.Tokens.{front_turn, cuts_single, words_first}
+use Rattle.gameid_core.proofs.Reading.{place}
 use Rattle.gameid_core.proofs.Results.{bind_ok, chosen, only_taken, ok_is, and_parts}
 use Rattle.std.specs.List.{AllByRecursion}
 use Rattle.gameid_core.specs.declared.id.game.Game.TheVariants as game
@@ -87,21 +87,6 @@ count_step size at places counts word r comma e = rw (comma, e) refl
 
 abbrev pub reads : Extent → ℕ → List ℕ → List ℕ → List ℕ → Result TentsSoFar IdFault
 reads size at places counts rest = reading (tents_step size) (tents_end size) at (at_tents places counts) (words rest)
-
-pub turn_count : (size : Extent) (base d first : ℕ) (places counts rest tail word after : List ℕ) (r : Result ℕ IdFault) (total : Result TentsSoFar IdFault) → rest ≡ first ∷ tail → first ≡ 44 → length rest ≤ d → Cuts (44 ∷ tail) word after → tents_count size (place base d rest) (at_tents places counts) word ≡ r → reads size (place base d rest) places counts rest ≡ total → ((r >>= (λ n. Ok (at_tents places (counts ++ n ∷ [])))) >>= (λ t. reading (tents_step size) (tents_end size) (place base d after) t (words after))) ≡ total
-turn_count size base d first places counts rest tail word after r total e is le cuts token so = grind (arith, turn_of (tents_step size) (tents_end size) base d (at_tents places counts) rest word after, count_step size (place base d rest) places counts word r)
-
-pub turn_run : (size : Extent) (base d first blanks : ℕ) (tree : Bool) (places counts rest after : List ℕ) (total : Result TentsSoFar IdFault) → rest ≡ first ∷ after → (first ≡ 44 → ⊥) → counts ≡ [] → length rest ≤ d → tents_run (place base d rest) first ≡ Ok (blanks, tree) → reads size (place base d rest) places counts rest ≡ total → (planted size places counts blanks tree >>= (λ t. reading (tents_step size) (tents_end size) (place base d after) t (words after))) ≡ total
-turn_run size base d first blanks tree places counts rest after total e ne none le run so = grind (arith, cuts_single first after, run_single (place base d rest) first (blanks, tree) run, turn_of (tents_step size) (tents_end size) base d (at_tents places []) rest (first ∷ []) after, tree_step size (place base d rest) first blanks tree places [] (ne_eqb first 44 ne) run)
-
-pub bad_run : (size : Extent) (base d first : ℕ) (f : IdFault) (places counts rest after : List ℕ) (total : Result TentsSoFar IdFault) → rest ≡ first ∷ after → (first ≡ 44 → ⊥) → counts ≡ [] → length rest ≤ d → tents_run (place base d rest) first ≡ Err f → reads size (place base d rest) places counts rest ≡ total → Err f ≡ total
-unfolding tents_step tents_tree
-bad_run size base d first f places counts rest after total e ne none le run so = grind (arith, fault_first (tents_step size) (tents_end size) base d first (at_tents places []) f rest after total e le)
-
-pub late_run : (size : Extent) (base d first : ℕ) (places counts rest after : List ℕ) (total : Result TentsSoFar IdFault) → rest ≡ first ∷ after → (first ≡ 44 → ⊥) → 0 < length counts → length rest ≤ d → reads size (place base d rest) places counts rest ≡ total → Err (BadByte (place base d rest)) ≡ total
-unfolding tents_step
-late_run size base d first places counts rest after total e ne some le so =
-    fault_first (tents_step size) (tents_end size) base d first (at_tents places counts) _ rest after total e le (λ more. rw (ne_eqb first 44 ne, lt-ltb 0 (length counts) some) refl) so
 
 pub end_is : (size : Extent) (places counts : List ℕ) (full : Bool) → eqb (length counts) (lines_of size) ≡ full → tents_end size (at_tents places counts) ≡ cond full (Ok (at_tents places counts)) (Err TooFew)
 unfolding tents_end
@@ -184,3 +169,5 @@ tents_read size at description s wide e = grind (arith, common_steps, sound_read
 
 pub tents_lawful : (size : Extent) (at : ℕ) (description : List ℕ) (s : TentsSoFar) → IsWide size → tents_at size at description ≡ Ok s → IsTents (record { size = size; trees = take (cells_in size) s.places; counts = s.counts })
 tents_lawful size at description s wide e = grind (arith, tents_read size at description s wide e)
+
+pub ruleset turns = (common_steps, words_first, run_single, run_length)

@@ -19,33 +19,8 @@ use Rattle.gameid_core.proofs.TentsTexts.{numbers_text}
 
 -- ---- one cell of the writer's loop
 
-pub blank_pushed : (k k' : ℕ) (cells out : List ℕ) → (k ≡ 25 → ⊥) → k' ≡ k + 1 → out ++ trees_text k' cells ≡ out ++ trees_text k (0 ∷ cells)
-unfolding tents_tokens
-blank_pushed k k' cells out ne e = grind (arith, common_steps)
-
-pub full_pushed : (k : ℕ) (cells out new : List ℕ) → k ≡ 25 → new ≡ out ++ 122 ∷ [] → new ++ trees_text 1 cells ≡ out ++ trees_text k (0 ∷ cells)
-unfolding tents_tokens
-full_pushed k cells out new full e = grind (arith, common_steps)
-
-pub trees_step_blank : (k i k' : ℕ) (cells old out new : List ℕ) → i < length cells → get_or cells i 0 ≡ 0 → ((rest : List ℕ) → new ++ trees_text k' rest ≡ out ++ trees_text k (0 ∷ rest)) → out ++ trees_text k (drop i cells) ≡ old → new ++ trees_text k' (drop (i + 1) cells) ≡ old
-trees_step_blank k i k' cells old out new lt blank pushed so = grind (arith, common_steps)
-
-pub trees_step_tree : (k i k' b : ℕ) (cells old out new : List ℕ) → i < length cells → (get_or cells i 0 ≡ 0 → ⊥) → k' ≡ 0 → b ≡ tents_token_byte (blanks_and_tree k) → new ≡ out ++ b ∷ [] → out ++ trees_text k (drop i cells) ≡ old → new ++ trees_text k' (drop (i + 1) cells) ≡ old
-unfolding tents_tokens
-trees_step_tree k i k' b cells old out new lt tree none byte e so = grind (arith, common_steps)
-
-pub trees_done : (k i b : ℕ) (cells old out new : List ℕ) → length cells ≤ i → b ≡ tents_token_byte (blanks_and_tree k) → new ≡ out ++ b ∷ [] → out ++ trees_text k (drop i cells) ≡ old → new ≡ old
-unfolding tents_tokens
-trees_done k i b cells old out new past byte e so = grind (arith, common_steps)
-
 abbrev pub counts_text : List ℕ → List ℕ
 counts_text counts = flat_map (λ n. 44 ∷ decimal n) counts
-
-pub counts_step : (i : ℕ) (counts old out mid new : List ℕ) → i < length counts → mid ≡ out ++ 44 ∷ [] → new ≡ mid ++ decimal (get_or counts i 0) → out ++ counts_text (drop i counts) ≡ old → new ++ counts_text (drop (i + 1) counts) ≡ old
-counts_step i counts old out mid new lt m e so = grind (arith, common_steps)
-
-pub counts_done : (i : ℕ) (counts old out : List ℕ) → length counts ≤ i → out ++ counts_text (drop i counts) ≡ old → out ≡ old
-counts_done i counts old out past so = grind (arith, common_steps)
 
 -- ---- how long
 
@@ -155,8 +130,6 @@ tents_form text p w = grind (arith, of_cells 0 p.trees, form_tokens, numbers_pla
 
 pub tents_one_text : HasOneText IsTents IsWrittenTents tents_text
 tents_one_text = record { some = tents_is_written; one = one_text _ _ tents_form }
-
-pub ruleset turns = (full_pushed, blank_pushed, counts_step, counts_done)
 
 pub tents_spelled : (p : Tents) → IsTents p → SpellsTents (tents_text p) p
 tents_spelled p h = (tents_is_written p h).spells

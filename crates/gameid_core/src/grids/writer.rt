@@ -1,4 +1,6 @@
 //! Printed grids. Their form is this project's own.
+#![tactic(auto, using(crate::proofs::Lists::pushes))]
+
 ghost use Rattle.std.specs.Prelude.{◌≡◌, ◌*◌, ◌<◌, ◌++◌, OnOk, string_bytes};
 ghost use Rattle.grid_core.specs.Grids.{IsGrid};
 ghost use Rattle.gameid_core.specs.GridTexts.{row_text, grid_text};

@@ -1,6 +1,6 @@
 //! The written text of a puzzle of Light Up.
 
-ghost use Rattle.std.specs.Prelude.{◌≡◌, ◌≤◌, ◌++◌, length, string_bytes, OnOk, IfOk, MatchOption, List, ℕ};
+ghost use Rattle.std.specs.Prelude.{◌≡◌, ◌≤◌, ◌++◌, length, string_bytes, OnOk, IfOk, IfSome, ◌<◌, MatchOption, List, ℕ};
 ghost use Rattle.std.specs.List.{AllByRecursion};
 ghost use Rattle.gameid_core.specs.declared.light_up.cell.LightCell.TheVariants.{White};
 ghost use Rattle.gameid_core.specs.Head.{max_id};
@@ -16,7 +16,8 @@ use std::alloc::{AllocError, Global};
 /// The byte of a black cell: 'B', or its number's digit.
 fn black_byte(cell: LightCell) -> Option<u8>
     requires { IsLightCell cell }
-    ensures { MatchOption result (cell ≡ White) (λ b. IsBlackByte b cell) }
+    ensures byte { MatchOption result (cell ≡ White) (λ b. IsBlackByte b cell) }
+    ensures ascii { IfSome result (λ b. b < 128) }
 {
     match cell {
         LightCell::White => None,
@@ -26,6 +27,7 @@ fn black_byte(cell: LightCell) -> Option<u8>
 }
 
 /// Writes the cells.
+#[tactic(auto, using(crate::proofs::LightWritten::turns), unfolding(crate::specs::LightText::light_cells_text))]
 fn push_cells(out: &mut String, cells: &[LightCell]) -> Result<(), AllocError>
     requires { AllByRecursion IsLightCell cells.now }
     ensures { OnOk result (string_bytes out.new
@@ -33,14 +35,13 @@ fn push_cells(out: &mut String, cells: &[LightCell]) -> Result<(), AllocError>
 {
     let mut whites = 0;
     for cell in cells {
-        match black_byte(*cell) {
-            None => whites += 1,
-            Some(byte) => {
-                push_letters(out, whites)?;
-                out.push(byte as char)?;
-                whites = 0;
-            }
-        }
+        let Some(byte) = black_byte(*cell) else {
+            whites += 1;
+            continue;
+        };
+        push_letters(out, whites)?;
+        out.push(byte as char)?;
+        whites = 0;
     }
     push_letters(out, whites)
 }

@@ -33,6 +33,7 @@ fn push_run_of(found: &mut Vec<u8>, count: u8) -> Result<(), AllocError>
 
 /// The lengths of the maximal black runs of a line, whose cells are 0 for white and anything else
 /// for black.
+#[tactic(auto, unfolding(crate::specs::BlackRuns::runs_after))]
 fn runs_of(alloc: Global, cells: &[u8]) -> Result<Vec<u8>, AllocError>
     requires { length cells.now ≤ 255 }
     ensures { IfOk result (λ v. v.items ≡ runs cells.now) }
@@ -43,9 +44,9 @@ fn runs_of(alloc: Global, cells: &[u8]) -> Result<Vec<u8>, AllocError>
         if *cell == 0 {
             push_run_of(&mut found, count)?;
             count = 0;
-        } else {
-            count += 1;
+            continue;
         }
+        count += 1;
     }
     push_run_of(&mut found, count)?;
     Ok(found)

@@ -9,18 +9,11 @@ use grid_core::{Grid, Size};
 use std::alloc::{AllocError, Global};
 
 /// How many of the cells are 1.
-#[tactic(auto, using(crate::proofs::OnesFit::turns))]
 fn ones_of(cells: &[u8]) -> u8
     requires { length cells.now ≤ 255 }
     ensures { result ≡ ones cells.now }
 {
-    let mut count = 0;
-    for cell in cells {
-        if *cell == 1 {
-            count += 1;
-        }
-    }
-    count
+    cells.iter().filter(|cell| **cell == 1).count() as u8
 }
 
 /// How many cells of each line of a grid are 1, columns from the left and then rows from the top.

@@ -12,6 +12,7 @@ use crate::text::writing::{push_number, push_size};
 use std::alloc::{AllocError, Global};
 
 /// Writes a clue's numbers with '.' between them.
+#[tactic(auto, using(crate::proofs::Lists::joins))]
 fn push_clue(out: &mut String, clue: &[u8]) -> Result<(), AllocError>
     ensures { OnOk result (string_bytes out.new ≡ string_bytes out.old ++ clue_text clue.now) }
 {
@@ -25,6 +26,7 @@ fn push_clue(out: &mut String, clue: &[u8]) -> Result<(), AllocError>
 }
 
 /// Writes the clues with '/' between them.
+#[tactic(auto, using(crate::proofs::Lists::joins))]
 fn push_clues(out: &mut String, puzzle: &PatternPuzzle) -> Result<(), AllocError>
     ensures { OnOk result (string_bytes out.new
         ≡ string_bytes out.old ++ join_with_byte 47 (map clue_text puzzle.now.clues)) }

@@ -32,6 +32,7 @@ fn push_solo_size(out: &mut String, c: u8, r: u8, x: bool) -> Result<(), AllocEr
 }
 
 /// Writes the cells.
+#[tactic(auto, unfolding(crate::specs::SoloText::cells_text))]
 fn push_cells(out: &mut String, givens: &[u8]) -> Result<(), AllocError>
     ensures { OnOk result (string_bytes out.new
         ≡ string_bytes out.old ++ cells_text 0 false givens.now) }
@@ -41,12 +42,12 @@ fn push_cells(out: &mut String, givens: &[u8]) -> Result<(), AllocError>
     for given in givens {
         if *given == 0 {
             blanks += 1;
-        } else {
-            push_before(out, blanks, touches)?;
-            push_number(out, *given)?;
-            blanks = 0;
-            touches = true;
+            continue;
         }
+        push_before(out, blanks, touches)?;
+        push_number(out, *given)?;
+        blanks = 0;
+        touches = true;
     }
     push_letters(out, blanks)
 }

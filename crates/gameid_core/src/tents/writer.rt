@@ -21,7 +21,7 @@ fn tree_byte(blanks: u8) -> u8
 }
 
 /// Counts one blank more, and writes 'z' in place of 25 where there are 26.
-#[tactic(auto, using(crate::proofs::TentsWritten::turns))]
+#[tactic(auto, unfolding(crate::specs::TentsText::tents_tokens))]
 fn push_blank(out: &mut String, blanks: u8) -> Result<u8, AllocError>
     requires { blanks ≤ 25 }
     ensures few { IfOk result (λ k. k ≤ 25) }
@@ -38,6 +38,7 @@ fn push_blank(out: &mut String, blanks: u8) -> Result<u8, AllocError>
 }
 
 /// Writes the trees, and the tree after the cells.
+#[tactic(auto, unfolding(crate::specs::TentsText::tents_tokens))]
 fn push_trees(out: &mut String, trees: &[u8]) -> Result<(), AllocError>
     ensures { OnOk result (string_bytes out.new ≡ string_bytes out.old ++ trees_text 0 trees.now) }
 {
@@ -45,17 +46,16 @@ fn push_trees(out: &mut String, trees: &[u8]) -> Result<(), AllocError>
     for tree in trees {
         if *tree == 0 {
             blanks = push_blank(out, blanks)?;
-        } else {
-            out.push(tree_byte(blanks) as char)?;
-            blanks = 0;
+            continue;
         }
+        out.push(tree_byte(blanks) as char)?;
+        blanks = 0;
     }
     out.push(tree_byte(blanks) as char)?;
     Ok(())
 }
 
 /// Writes each line's number of tents, with ',' before it.
-#[tactic(auto, using(crate::proofs::TentsWritten::turns))]
 fn push_counts(out: &mut String, counts: &[u8]) -> Result<(), AllocError>
     ensures { OnOk result (string_bytes out.new
         ≡ string_bytes out.old ++ flat_map (λ n. 44 ∷ decimal n) counts.now) }
