@@ -18,11 +18,9 @@ abbrev pub filled : {A : Type 0} → ℕ → List A → List A → Result (List 
 filled all cells more = cond (ltb all (length cells + length more)) (Err TooMany) (Ok (cells ++ more))
 
 pub fill_is : {A : Type 0} (token : ℕ → List ℕ → Result (List A) IdFault) (all at : ℕ) (cells : List A) (word : List ℕ) (r : Result (List A) IdFault) → token at word ≡ r → fill_step token all at cells word ≡ (r >>= filled all cells)
-unfolding fill_step
 fill_is token all at cells word r e = rw e refl
 
 pub fill_end_is : {A : Type 0} (all : ℕ) (cells : List A) (full : Bool) → eqb (length cells) all ≡ full → fill_end all cells ≡ cond full (Ok cells) (Err TooFew)
-unfolding fill_end
 fill_end_is all cells full e = rw e refl
 
 abbrev pub fills : {A : Type 0} → (ℕ → List ℕ → Result (List A) IdFault) → ℕ → ℕ → List A → List ℕ → Result (List A) IdFault
@@ -30,7 +28,6 @@ fills token all at cells text = reading (fill_step token all) (fill_end all) at 
 
 -- a token of a filling that was taken
 fill_cases : {A : Type 0} (token : ℕ → List ℕ → Result (List A) IdFault) (all at : ℕ) (cells : List A) (word : List ℕ) (t : List A) → fill_step token all at cells word ≡ Ok t → (more : List A) × (token at word ≡ Ok more) × (cells ++ more ≡ t)
-unfolding fill_step
 fill_cases token all at cells word t e = grind arith
 
 -- ---- what is read is spelled, and what is spelled is read
@@ -50,7 +47,7 @@ pub record Spelled {T A : Type 0} (text : T → List ℕ) (cells : T → List A)
   pub filled : before ++ flat_map cells tokens ≡ all
 
 pub cells_spelled : {T A : Type 0} (text : T → List ℕ) (cells : T → List A) (Fits : T → Type 0) (token : ℕ → List ℕ → Result (List A) IdFault) (Is : List ℕ → Type 0) → ((at : ℕ) (word : List ℕ) (more : List A) → Is word → token at word ≡ Ok more → Token text cells Fits word more) → (most at : ℕ) (before : List A) (ws : List (List ℕ)) (all : List A) → AllByRecursion Is ws → reading (fill_step token most) (fill_end most) at before ws ≡ Ok all → Spelled text cells Fits ws before all × (length all ≡ most)
-unfolding reading fill_end
+unfolding reading
 cells_spelled text cells Fits token Is take most at before [] all w e = grind (arith, common_steps)
 cells_spelled {A = A} text cells Fits token Is take most at before (word ∷ ws) all w e =
     let b = bind_ok (fill_step token most at before word) (λ s. reading (fill_step token most) (fill_end most) (at + length word) s ws) all e in

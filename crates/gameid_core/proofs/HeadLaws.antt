@@ -28,17 +28,14 @@ use Rattle.gameid_core.proofs.Reading.{place}
 -- ---- numbers
 
 pub front_parts : (text : List ℕ) → digits_front text ++ after_digits text ≡ text
-unfolding digits_front after_digits
 front_parts [] = refl
 front_parts (b ∷ after) = grind (arith, front_parts after)
 
 pub front_digits : (text : List ℕ) → all_ascii_digits (digits_front text) ≡ true
-unfolding digits_front
 front_digits [] = refl
 front_digits (b ∷ after) = grind (arith, front_digits after)
 
 after_stops : (text : List ℕ) → begins is_ascii_digit (after_digits text) ≡ false
-unfolding after_digits
 after_stops [] = refl
 after_stops (b ∷ after) = grind (arith, after_stops after)
 

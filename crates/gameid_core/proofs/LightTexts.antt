@@ -86,7 +86,6 @@ record LightDescribed (all : ℕ) (description : List ℕ) (cells : List LightCe
   count : length cells ≡ all
 
 light_take : (all at : ℕ) (description : List ℕ) (cells : List LightCell) → light_cells_at all at description ≡ Ok cells → LightDescribed all description cells
-unfolding light_cells_at
 light_take all at description cells e =
     let s = cells_spelled light_token_text light_token_cells IsLightToken light_token IsByte token_byte all at [] (map (λ b. b ∷ []) description) cells (are_bytes description) e in
     let r = s.0 in
@@ -114,7 +113,6 @@ token_read at token h = grind arith
 
 -- what tokens that fill the grid spell is read
 light_again : (all at : ℕ) (tokens : List LightToken) → AllByRecursion IsLightToken tokens → length (flat_map light_token_cells tokens) ≡ all → light_cells_at all at (map light_token_byte tokens) ≡ Ok (flat_map light_token_cells tokens)
-unfolding light_cells_at
 light_again all at tokens each full =
     ap (reading (fill_step light_token all) (fill_end all) at []) (texts_are tokens) ∙ cells_again light_token_text light_token_cells IsLightToken light_token token_read all at [] tokens each (omega arith)
 

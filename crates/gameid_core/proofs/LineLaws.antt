@@ -3,6 +3,7 @@ use Rattle.std.proofs.Common.{◌≡◌, ℕ, ◌+◌, ◌*◌, ◌<◌, List, [
 use Rattle.std.proofs.lemmas.Grind.{common_steps}
 use Rattle.std.specs.List.{range_with_len}
 use Rattle.std.proofs.lemmas.Bool.{lt-ltb}
+use Rattle.std.proofs.lemmas.List.{map-append}
 use Rattle.std.proofs.lemmas.List.FromFn.{map-range_with_len_more, length-map-range_with_len, get_or-map-range_with_len}
 use Rattle.grid_core.specs.Extent.{Extent}
 use Rattle.grid_core.specs.Grids.{row_cells, column_cells}
@@ -19,10 +20,8 @@ line_front size g line k = map (λ j. get_or g (line_place size line j) 0) (rang
 pub length_front : (size : Extent) (g : List ℕ) (line k : ℕ) → length (line_front size g line k) ≡ k
 length_front size g line k = grind (arith, common_steps, length-map-range_with_len)
 
-pub front_more : (size : Extent) (g : List ℕ) (line k p n : ℕ) (numbers new : List ℕ) → p ≡ line_place size line k → n ≡ get_or g p 0 → new ≡ numbers ++ n ∷ [] → numbers ≡ line_front size g line k → new ≡ line_front size g line (k + 1)
-front_more size g line k p n numbers new place is e so =
-    e ∙ ap (λ (c : ℕ). numbers ++ c ∷ []) (is ∙ ap (λ (q : ℕ). get_or g q 0) place) ∙ ap (λ (ns : List ℕ). ns ++ get_or g (line_place size line k) 0 ∷ []) so
-    ∙ sym (map-range_with_len_more (λ j. get_or g (line_place size line j) 0) 0 k k (let z : 0 + k ≡ k = omega arith in z))
+pub map_more : {A : Type 0} (f : ℕ → A) (k : ℕ) → map f (range_with_len 0 (k + 1)) ≡ map f (range_with_len 0 k) ++ f k ∷ []
+map_more f k = map-range_with_len_more f 0 k k (let z : 0 + k ≡ k = omega arith in z)
 
 pub front_whole : (size : Extent) (g : List ℕ) (line : ℕ) → line_front size g line (line_cells size line) ≡ line_list size g line
 front_whole size g line = grind arith
@@ -41,7 +40,4 @@ at_row f d size g y lt = grind (arith, get_or-map-range_with_len)
 abbrev pub lines_front : {A : Type 0} → (List ℕ → A) → Extent → List ℕ → ℕ → List A
 lines_front f size g k = map (λ line. f (line_list size g line)) (range_with_len 0 k)
 
-pub lines_more : {A : Type 0} (f : List ℕ → A) (size : Extent) (g : List ℕ) (k : ℕ) (cells : List ℕ) (x : A) (old new : List A) → cells ≡ line_list size g k → x ≡ f cells → new ≡ old ++ x ∷ [] → old ≡ lines_front f size g k → new ≡ lines_front f size g (k + 1)
-lines_more {A} f size g k cells x old new is value e so =
-    e ∙ ap (λ (y : A). old ++ y ∷ []) (value ∙ ap f is) ∙ ap (λ (ys : List A). ys ++ f (line_list size g k) ∷ []) so
-    ∙ sym (map-range_with_len_more (λ line. f (line_list size g line)) 0 k k (let z : 0 + k ≡ k = omega arith in z))
+pub ruleset turns = (common_steps, map_more, map-append, length_front, front_whole)

@@ -12,7 +12,6 @@ use Rattle.gameid_core.proofs.Tokens.{value_after_ge, front_turn, front_stop, fr
 use Rattle.gameid_core.proofs.Results.{and_parts}
 
 pub own : IsNumeralModel (λ ds. all_ascii_digits ds ≡ true) value
-unfolding value_after
 own = numerals_by_fold _ (search rules) value_after (search rules)
 
 abbrev pub is_lead : ℕ → Bool
@@ -32,7 +31,6 @@ pub lead_is_digit : (b : ℕ) → is_lead b ≡ true → is_ascii_digit b ≡ tr
 lead_is_digit b e = grind arith
 
 pub value_positive : (b : ℕ) (ds : List ℕ) → 49 ≤ b → 0 < value (b ∷ ds)
-unfolding value_after
 value_positive b ds low = omega (arith, value_after_ge (10 * 0 + (b - 48)) ds)
 
 -- the digits in front of a numeral and a text that begins with none

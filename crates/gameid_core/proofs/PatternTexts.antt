@@ -56,7 +56,7 @@ slash_word : (word : List ℕ) → IsWord word → begins (λ b. eqb b 47) word 
 slash_word word w s = grind arith
 
 pub read_spelled : (size : Extent) (at : ℕ) (clues : List (List ℕ)) (clue : List ℕ) (ws : List (List ℕ)) (all : List (List ℕ)) → AllByRecursion IsWord ws → reading (pattern_step size) (pattern_end size) at (so_far clues clue) ws ≡ Ok all → Spelled clues clue (concat ws) all
-unfolding reading pattern_end
+unfolding reading
 read_spelled size at clues clue [] all w e = grind (arith, tail_none clue, append-nil clue)
 read_spelled size at clues clue (word ∷ ws) all w e =
     let b = bind_ok (pattern_step size at (so_far clues clue) word) (λ t. reading (pattern_step size) (pattern_end size) (at + length word) t ws) all e in
@@ -158,7 +158,6 @@ are_at size line [] c ys h = grind arith
 are_at size line (x ∷ xs) c ys h = grind (arith, are_at size (line + 1) xs c ys h.1)
 
 later_again : (size : Extent) (all clues : List (List ℕ)) (clue : List ℕ) (later : List (List (List ℕ))) → AllByRecursion (AllByRecursion IsNumeral) later → clues ++ clue ∷ map (map value) later ≡ all → length all ≡ lines_of size → AreClues size 0 all → Reads size all clues clue (later_text later)
-unfolding pattern_step
 later_again size all clues clue [] d is len are at = grind (arith, common_steps, reading_end (pattern_step size) (pattern_end size) at (so_far clues clue) [] refl, end_is size clues clue true)
 later_again size all clues clue (l ∷ later) d is len are at = grind (arith, nat_tests, common_steps, are_at size 0 (clues ++ clue ∷ []) (map value l) (map (map value) later), clue_again size all (clues ++ clue ∷ []) [] l later d.0, later_again size all (clues ++ clue ∷ []) (map value l) later d.1, reading_turn (pattern_step size) (pattern_end size) at (so_far clues clue) (so_far (clues ++ clue ∷ []) []) (47 ∷ (join_with_byte 46 l ++ later_text later)) (47 ∷ []) (join_with_byte 46 l ++ later_text later) (cuts_single 47 (join_with_byte 46 l ++ later_text later) refl))
 
@@ -171,7 +170,6 @@ clues_text_is ns later = grind (arith, common_steps, join_cons, flat_map-map)
 
 -- what clues that fit spell is read
 pub clues_again : (size : Extent) (at : ℕ) (numerals : List (List (List ℕ))) → AllByRecursion (AllByRecursion IsNumeral) numerals → IsPattern (record { size = size; clues = map (map value) numerals }) → clues_at size at (clues_text numerals) ≡ Ok (map (map value) numerals)
-unfolding clues_at
 clues_again size at [] d h = grind arith
 clues_again size at (ns ∷ later) d h =
     let all : List (List ℕ) = map (map value) (ns ∷ later) in
@@ -184,7 +182,6 @@ pub record CluesSpelled (description : List ℕ) (all : List (List ℕ)) : Type 
   pub values : map (map value) numerals ≡ all
 
 pub clues_take : (size : Extent) (at : ℕ) (description : List ℕ) (all : List (List ℕ)) → clues_at size at description ≡ Ok all → CluesSpelled description all
-unfolding clues_at
 clues_take size at description all e =
     let s = read_spelled size at [] [] (words description) all (words_are description) e in
     record {

@@ -141,7 +141,6 @@ record SoloDescribed (n : ℕ) (description cells : List ℕ) : Type 0 where
   count : length cells ≡ n * n
 
 solo_take : (n at : ℕ) (description cells : List ℕ) → n < 2 ^ 64 → solo_cells_at n at description ≡ Ok cells → SoloDescribed n description cells
-unfolding solo_cells_at
 solo_take n at description cells small e = grind (arith, cells_spelled solo_token_text solo_token_cells (IsSoloToken n) (solo_token n) IsWord (token_word n small) (n * n) at [] (words description) cells (words_are description) e, concat_words description, concat_texts, apart_tokens n, words_apart description)
 
 -- ---- what is read fits
@@ -191,7 +190,6 @@ token_again n small at (given v) h = given_read n at v (omega (arith, h.1)) h.0 
 
 -- what tokens that fill the grid spell is read
 solo_again : (n at : ℕ) (tokens : List SoloToken) → n < 2 ^ 64 → AllByRecursion (IsSoloToken n) tokens → AreApart tokens → length (flat_map solo_token_cells tokens) ≡ n * n → solo_cells_at n at (flat_map solo_token_text tokens) ≡ Ok (flat_map solo_token_cells tokens)
-unfolding solo_cells_at
 solo_again n at tokens small each h full = grind (arith, words_again n tokens small each h, cells_again solo_token_text solo_token_cells (IsSoloToken n) (solo_token n) (token_again n small) (n * n) at [] tokens each)
 
 pub solo_takes : (text : List ℕ) (p : Solo) → solo_of text ≡ Ok p → SpellsSolo text p

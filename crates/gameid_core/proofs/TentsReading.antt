@@ -13,7 +13,7 @@ use Rattle.gameid_core.specs.Words.{begins, joins, words, digits_front, value, C
 use Rattle.gameid_core.specs.Steps.{reading, ◌>>=◌}
 use Rattle.gameid_core.specs.Puzzles.{line_cells, lines_of, IsWide, IsTents, AreCounts}
 use Rattle.gameid_core.specs.TentsText.{TentsToken, blanks_and_tree, only_blanks, tents_token_byte, tents_token_cells, IsTentsToken, TentsSoFar, cells_in, tents_run, run_cells, tents_tree, tents_count, tents_step, tents_end, tents_at}
-use Rattle.gameid_core.proofs.Tokens.{front_turn, cuts_single, words_first}
+use Rattle.gameid_core.proofs.Tokens.{front_turn, cuts_single, words_nil, words_first, words_single}
 use Rattle.gameid_core.proofs.Reading.{place}
 use Rattle.gameid_core.proofs.Results.{bind_ok, chosen, only_taken, ok_is, and_parts}
 use Rattle.std.specs.List.{AllByRecursion}
@@ -78,18 +78,15 @@ planted size places counts blanks tree =
     cond (ltb (cells_in size + cond tree 1 0) (length places + (blanks + cond tree 1 0))) (Err TooMany) (Ok (at_tents (places ++ run_cells blanks tree) counts))
 
 pub tree_step : (size : Extent) (at b blanks : ℕ) (tree : Bool) (places word : List ℕ) → eqb b 44 ≡ false → tents_run at b ≡ Ok (blanks, tree) → tents_step size at (at_tents places []) (b ∷ word) ≡ planted size places [] blanks tree
-unfolding tents_step tents_tree
 tree_step size at b blanks tree places word other run = rw (other, run, run_length blanks tree) refl
 
 pub count_step : (size : Extent) (at : ℕ) (places counts word : List ℕ) (r : Result ℕ IdFault) → begins (λ c. eqb c 44) word ≡ true → tents_count size at (at_tents places counts) word ≡ r → tents_step size at (at_tents places counts) word ≡ (r >>= (λ n. Ok (at_tents places (counts ++ n ∷ []))))
-unfolding tents_step
 count_step size at places counts word r comma e = rw (comma, e) refl
 
 abbrev pub reads : Extent → ℕ → List ℕ → List ℕ → List ℕ → Result TentsSoFar IdFault
 reads size at places counts rest = reading (tents_step size) (tents_end size) at (at_tents places counts) (words rest)
 
 pub end_is : (size : Extent) (places counts : List ℕ) (full : Bool) → eqb (length counts) (lines_of size) ≡ full → tents_end size (at_tents places counts) ≡ cond full (Ok (at_tents places counts)) (Err TooFew)
-unfolding tents_end
 end_is size places counts full e = rw e refl
 
 -- ---- a step that was taken: a number behind ',', or cells of the trees
@@ -110,11 +107,10 @@ pub record Planted (size : Extent) (at : ℕ) (places counts word : List ℕ) (t
   pub leads : at_tents (places ++ run_cells run.0 run.1) counts ≡ t
 
 pub step_cases : (size : Extent) (at : ℕ) (places counts word : List ℕ) (t : TentsSoFar) → tents_step size at (at_tents places counts) word ≡ Ok t → Counted size places counts word t ⊎ Planted size at places counts word t
-unfolding tents_step tents_count tents_tree
+unfolding tents_count
 step_cases size at places counts word t e = grind arith
 
 pub end_cases : (size : Extent) (places counts : List ℕ) (t : TentsSoFar) → tents_end size (at_tents places counts) ≡ Ok t → (length counts ≡ lines_of size) × (at_tents places counts ≡ t)
-unfolding tents_end
 end_cases size places counts t e = grind arith
 
 -- ---- what is read fits
@@ -143,7 +139,7 @@ sound_planted size places counts blanks true s early room = grind (arith, common
 sound_planted size places counts blanks false s early room = grind (arith, common_steps, run_bits blanks false)
 
 sound_read : (size : Extent) (at : ℕ) (places counts : List ℕ) (ws : List (List ℕ)) (all : TentsSoFar) → Sound size places counts → reading (tents_step size) (tents_end size) at (at_tents places counts) ws ≡ Ok all → Sound size all.places all.counts × (length all.counts ≡ lines_of size)
-unfolding reading tents_end
+unfolding reading
 sound_read size at places counts [] all s e = grind arith
 sound_read size at places counts (word ∷ ws) all s e =
     let b = bind_ok (tents_step size at (at_tents places counts) word) (λ t. reading (tents_step size) (tents_end size) (at + length word) t ws) all e in
@@ -164,10 +160,9 @@ pub record TentsRead (size : Extent) (s : TentsSoFar) : Type 0 where
   pub range : AreCounts size 0 s.counts
 
 pub tents_read : (size : Extent) (at : ℕ) (description : List ℕ) (s : TentsSoFar) → IsWide size → tents_at size at description ≡ Ok s → TentsRead size s
-unfolding tents_at
 tents_read size at description s wide e = grind (arith, common_steps, sound_read size at [] [] (words description) s)
 
 pub tents_lawful : (size : Extent) (at : ℕ) (description : List ℕ) (s : TentsSoFar) → IsWide size → tents_at size at description ≡ Ok s → IsTents (record { size = size; trees = take (cells_in size) s.places; counts = s.counts })
 tents_lawful size at description s wide e = grind (arith, tents_read size at description s wide e)
 
-pub ruleset turns = (common_steps, words_first, run_single, run_length)
+pub ruleset turns = (common_steps, words_nil, words_first, words_single, run_single, run_length)

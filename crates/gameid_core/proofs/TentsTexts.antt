@@ -105,7 +105,6 @@ pub record TentsDescribed (description : List ℕ) (all : TentsSoFar) : Type 0 w
   pub counted : map value numerals ≡ all.counts
 
 pub tents_take : (size : Extent) (at : ℕ) (description : List ℕ) (all : TentsSoFar) → tents_at size at description ≡ Ok all → TentsDescribed description all
-unfolding tents_at
 tents_take size at description all e = grind (arith, read_spelled size at [] [] (words description) all (words_are description) e, concat_words description)
 
 -- ---- what is spelled is read
@@ -192,7 +191,6 @@ trees_again size all places trees (token ∷ tokens) rest each count is next at 
 
 -- what tokens and numerals that fit spell is read
 pub tents_again : (size : Extent) (at : ℕ) (trees counts : List ℕ) (tokens : List TentsToken) (numerals : List (List ℕ)) → AllByRecursion IsTentsToken tokens → AllByRecursion IsNumeral numerals → length trees ≡ cells_in size → flat_map tents_token_cells tokens ≡ trees ++ 1 ∷ [] → map value numerals ≡ counts → length counts ≡ lines_of size → AreCounts size 0 counts → tents_at size at (map tents_token_byte tokens ++ numbers_text numerals) ≡ Ok (at_tents (trees ++ 1 ∷ []) counts)
-unfolding tents_at
 tents_again size at trees counts tokens numerals each digits count cells is len are = grind (arith, common_steps, trees_again size (at_tents (trees ++ 1 ∷ []) counts) [] trees tokens (numbers_text numerals) each count cells, numbers_again size (trees ++ 1 ∷ []) [] counts numerals digits)
 
 pub fit : (size : Extent) (w h n at : ℕ) (description places counts trees : List ℕ) → size ≡ sized w h → n ≡ size.w * size.h → trees ≡ take n places → in_range game.Tents w h ≡ true → tents_at size at description ≡ Ok (at_tents places counts) → IsTents (record { size = size; trees = trees; counts = counts })

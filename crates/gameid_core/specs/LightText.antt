@@ -71,7 +71,7 @@ light_token at word =
     then Ok (Numbered (slice_index word 0 - 48) ∷ [])
     else Err (BadByte at)))
 
-unfoldable pub light_cells_at : ℕ → ℕ → List ℕ → Result (List LightCell) IdFault
+abbrev pub light_cells_at : ℕ → ℕ → List ℕ → Result (List LightCell) IdFault
 light_cells_at all at description =
     reading (fill_step light_token all) (fill_end all) at [] (map (λ b. b ∷ []) description)
 

@@ -61,7 +61,7 @@ clue_token cells line (n ∷ clue) at word =
     else Err (BadByte at)
 
 -- '/' ends a clue, and is refused after the last one
-unfoldable pub pattern_step : Extent → ℕ → SoFar → List ℕ → Result SoFar IdFault
+abbrev pub pattern_step : Extent → ℕ → SoFar → List ℕ → Result SoFar IdFault
 pattern_step size at s word =
     if begins (λ b. b == 47) word
     then (if length s.clues + 1 == lines_of size then Err TooMany
@@ -70,7 +70,7 @@ pattern_step size at s word =
     >>= (λ n. Ok (record { clues = s.clues; clue = s.clue ++ n ∷ [] })))
 
 -- the end ends the last clue
-unfoldable pub pattern_end : Extent → SoFar → Result (List (List ℕ)) IdFault
+abbrev pub pattern_end : Extent → SoFar → Result (List (List ℕ)) IdFault
 pattern_end size s =
     if length s.clues + 1 == lines_of size then Ok (s.clues ++ s.clue ∷ []) else Err TooFew
 
@@ -78,7 +78,7 @@ abbrev pub nothing_yet : SoFar
 nothing_yet = record { clues = []; clue = [] }
 
 -- the clues of a description that begins at that place
-unfoldable pub clues_at : Extent → ℕ → List ℕ → Result (List (List ℕ)) IdFault
+abbrev pub clues_at : Extent → ℕ → List ℕ → Result (List (List ℕ)) IdFault
 clues_at size at description =
     reading (pattern_step size) (pattern_end size) at nothing_yet (words description)
 

@@ -90,7 +90,7 @@ solo_token n at word =
     then (if nat_lt n (value word) then Err (NumberRange at) else Ok (value word ∷ []))
     else Err (BadByte at)))
 
-unfoldable pub solo_cells_at : ℕ → ℕ → List ℕ → Result (List ℕ) IdFault
+abbrev pub solo_cells_at : ℕ → ℕ → List ℕ → Result (List ℕ) IdFault
 solo_cells_at n at description =
     reading (fill_step (solo_token n) (n * n)) (fill_end (n * n)) at [] (words description)
 

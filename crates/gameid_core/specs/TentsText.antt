@@ -83,7 +83,7 @@ abbrev pub run_cells : ℕ → Bool → List ℕ
 run_cells blanks tree = replicate blanks 0 ++ (if tree then 1 ∷ [] else [])
 
 -- a token of the trees: the places may pass the cells by the one tree after them
-unfoldable pub tents_tree : Extent → ℕ → TentsSoFar → ℕ → Result TentsSoFar IdFault
+abbrev pub tents_tree : Extent → ℕ → TentsSoFar → ℕ → Result TentsSoFar IdFault
 tents_tree size at s b = tents_run at b >>= (λ run.
     if nat_lt (cells_in size + (if run.1 then 1 else 0))
     (length s.places + length (run_cells run.0 run.1)) then Err TooMany
@@ -100,7 +100,7 @@ tents_count size at s word =
     else Ok (value (drop 1 word)))))
 
 -- ',' begins a number; any other token belongs to the trees, and is refused once a number stands
-unfoldable pub tents_step : Extent → ℕ → TentsSoFar → List ℕ → Result TentsSoFar IdFault
+abbrev pub tents_step : Extent → ℕ → TentsSoFar → List ℕ → Result TentsSoFar IdFault
 tents_step size at s word =
     if begins (λ b. b == 44) word
     then (tents_count size at s word
@@ -108,14 +108,14 @@ tents_step size at s word =
     else (if nat_lt 0 (length s.counts) then Err (BadByte at)
     else tents_tree size at s (slice_index word 0))
 
-unfoldable pub tents_end : Extent → TentsSoFar → Result TentsSoFar IdFault
+abbrev pub tents_end : Extent → TentsSoFar → Result TentsSoFar IdFault
 tents_end size s = if length s.counts == lines_of size then Ok s else Err TooFew
 
 abbrev pub no_places : TentsSoFar
 no_places = record { places = []; counts = [] }
 
 -- the places and numbers of a description that begins at that place
-unfoldable pub tents_at : Extent → ℕ → List ℕ → Result TentsSoFar IdFault
+abbrev pub tents_at : Extent → ℕ → List ℕ → Result TentsSoFar IdFault
 tents_at size at description =
     reading (tents_step size) (tents_end size) at no_places (words description)
 

@@ -39,7 +39,7 @@ fn run_of(at: usize, first: u8) -> Result<(usize, LightCell), IdFault>
 }
 
 /// The cells of a description, which begins at that place of the ID.
-#[tactic(auto, unfolding(crate::specs::LightText::light_cells_at, crate::specs::Steps::reading, crate::specs::Cells::fill_step, crate::specs::Cells::fill_end))]
+#[tactic(auto, unfolding(crate::specs::Steps::reading))]
 fn cells(
     alloc: Global,
     all: usize,

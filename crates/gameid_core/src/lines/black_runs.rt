@@ -53,6 +53,7 @@ fn runs_of(alloc: Global, cells: &[u8]) -> Result<Vec<u8>, AllocError>
 }
 
 /// The runs of each line of a grid, columns from the left and then rows from the top.
+#[tactic(auto, using(crate::proofs::LineLaws::turns))]
 pub(crate) fn runs_of_lines(
     alloc: Global,
     size: Size,

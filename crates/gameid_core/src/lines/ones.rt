@@ -17,6 +17,7 @@ fn ones_of(cells: &[u8]) -> u8
 }
 
 /// How many cells of each line of a grid are 1, columns from the left and then rows from the top.
+#[tactic(auto, using(crate::proofs::LineLaws::turns))]
 pub(crate) fn ones_of_lines(alloc: Global, size: Size, grid: &Grid) -> Result<Vec<u8>, AllocError>
     requires { length grid.now ≡ size.w * size.h }
     ensures ones { IfOk result (λ v. v.items ≡ lines_ones size grid.now) }

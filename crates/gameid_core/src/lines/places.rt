@@ -44,6 +44,7 @@ fn place_of(size: Size, line: usize, k: usize) -> usize
 }
 
 /// The numbers of a line, downwards in a column and rightwards in a row.
+#[tactic(auto, using(crate::proofs::LineLaws::turns))]
 pub(crate) fn line_of(
     alloc: Global,
     size: Size,

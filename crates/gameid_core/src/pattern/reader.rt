@@ -113,7 +113,7 @@ fn next_number<'a>(
 }
 
 /// The clues of a description, which begins at that place of the ID.
-#[tactic(auto, using(crate::proofs::PatternReading::turns), unfolding(crate::specs::PatternText::clues_at, crate::specs::Steps::reading, crate::specs::Words::words, crate::specs::PatternText::pattern_step, crate::specs::PatternText::pattern_end))]
+#[tactic(auto, using(crate::proofs::PatternReading::turns), unfolding(crate::specs::Steps::reading))]
 fn clues(
     alloc: Global,
     size: Size,

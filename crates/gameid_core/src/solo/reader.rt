@@ -56,7 +56,7 @@ fn next_run<'a>(
 }
 
 /// The cells of a description, which begins at that place of the ID.
-#[tactic(auto, unfolding(crate::specs::SoloText::solo_cells_at, crate::specs::Steps::reading, crate::specs::Words::words, crate::specs::Cells::fill_step, crate::specs::Cells::fill_end))]
+#[tactic(auto, unfolding(crate::specs::Steps::reading, crate::specs::Words::words))]
 fn cells(alloc: Global, n: u8, base: usize, description: &[u8]) -> Result<Vec<u8>, IdFault>
     requires place { base + length description.now < 2 ^ 32 }
     requires n { n ≤ max_numbers }

@@ -81,7 +81,7 @@ fn count_at<'a>(
 }
 
 /// The places and counts of a description, which begins at that place of the ID.
-#[tactic(auto, using(crate::proofs::TentsReading::turns), unfolding(crate::specs::TentsText::tents_at, crate::specs::Steps::reading, crate::specs::Words::words, crate::specs::TentsText::tents_step, crate::specs::TentsText::tents_tree, crate::specs::TentsText::tents_end))]
+#[tactic(auto, using(crate::proofs::TentsReading::turns), unfolding(crate::specs::Steps::reading))]
 fn parts(
     alloc: Global,
     size: Size,

@@ -3,5 +3,4 @@ use Rattle.gameid_core.specs.LightText.{light_cells_at}
 use Rattle.gameid_core.proofs.light_up.reader.first_fault_of_lights.Goals as goal
 
 pub returns : goal.returns
-unfolding light_cells_at
 returns c = λ size at description f. exactly _ _ at _ _ f

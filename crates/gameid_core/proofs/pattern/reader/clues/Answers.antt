@@ -2,14 +2,15 @@ use Rattle.std.proofs.Common.{arith}
 use Rattle.std.proofs.lemmas.Grind.{common_steps}
 use Rattle.gameid_core.specs.PatternText.{clues_at, pattern_step}
 use Rattle.gameid_core.specs.Steps.{reading}
+use Rattle.gameid_core.proofs.Tokens.{words_single}
 use Rattle.gameid_core.proofs.PatternReading.{used_push, token_small}
 use Rattle.gameid_core.proofs.pattern.reader.clues.Goals as goal
 
 pub loop-first-preserved : goal.loop-first-preserved
-unfolding clues_at reading pattern_step
+unfolding reading
 loop-first-preserved c = record {
   short = grind (arith, common_steps);
   before = grind (arith, common_steps, used_push);
   small = grind (arith, common_steps, token_small);
-  so_far = grind (arith, common_steps);
+  so_far = grind (arith, common_steps, words_single);
 }

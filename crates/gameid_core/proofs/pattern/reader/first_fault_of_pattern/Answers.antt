@@ -3,5 +3,4 @@ use Rattle.gameid_core.specs.PatternText.{clues_at}
 use Rattle.gameid_core.proofs.pattern.reader.first_fault_of_pattern.Goals as goal
 
 pub returns : goal.returns
-unfolding clues_at
 returns c = λ size at description f. exactly _ _ at _ _ f

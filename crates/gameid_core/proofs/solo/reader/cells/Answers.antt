@@ -6,7 +6,7 @@ use Rattle.gameid_core.specs.Cells.{fill_step}
 use Rattle.gameid_core.proofs.solo.reader.cells.Goals as goal
 
 pub loop-first-preserved : goal.loop-first-preserved
-unfolding solo_cells_at reading fill_step
+unfolding reading
 loop-first-preserved c = record {
   short = grind (arith, common_steps);
   room = grind (arith, common_steps);

@@ -3,5 +3,4 @@ use Rattle.gameid_core.specs.SoloText.{solo_cells_at}
 use Rattle.gameid_core.proofs.solo.reader.first_fault_of_solo.Goals as goal
 
 pub returns : goal.returns
-unfolding solo_cells_at
 returns c = λ size at description f. exactly _ _ at _ _ f

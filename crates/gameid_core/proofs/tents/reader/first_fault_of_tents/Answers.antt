@@ -3,5 +3,4 @@ use Rattle.gameid_core.specs.TentsText.{tents_at}
 use Rattle.gameid_core.proofs.tents.reader.first_fault_of_tents.Goals as goal
 
 pub returns : goal.returns
-unfolding tents_at
 returns c = λ size at description f. exactly _ _ at _ _ f
