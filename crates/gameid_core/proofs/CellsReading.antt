@@ -54,15 +54,13 @@ cells_spelled {A = A} text cells Fits token Is take most at before (word ∷ ws)
     let f = fill_cases token most at before word b.0 b.1 in
     let t = take at word f.0 w.0 f.1 in
     let r = cells_spelled text cells Fits token Is take most (at + length word) b.0 ws all w.1 b.2 in
-    let later : List A = flat_map cells r.0.tokens in (
-      record {
-        tokens = t.token ∷ r.0.tokens;
-        texts = ap (λ (v : List ℕ). v ∷ map text r.0.tokens) (sym t.texts) ∙ ap (λ (vs : List (List ℕ)). word ∷ vs) r.0.texts;
-        each = (t.each, r.0.each);
-        filled = sym (append_assoc before (cells t.token) later) ∙ ap (λ (m : List A). (before ++ m) ++ later) t.stands ∙ ap (λ (cs : List A). cs ++ later) f.2 ∙ r.0.filled;
-      },
-      r.1,
-    )
+    let spelled : Spelled text cells Fits (word ∷ ws) before all = record {
+      tokens = t.token ∷ r.0.tokens;
+      texts = grind arith;
+      each = (t.each, r.0.each);
+      filled = grind (arith, append_assoc before (cells t.token) (flat_map cells r.0.tokens));
+    } in
+    (spelled, r.1)
 
 -- tokens that fill the grid are read
 pub cells_again : {T A : Type 0} (text : T → List ℕ) (cells : T → List A) (Fits : T → Type 0) (token : ℕ → List ℕ → Result (List A) IdFault) → ((at : ℕ) (t : T) → Fits t → token at (text t) ≡ Ok (cells t)) → (most at : ℕ) (before : List A) (tokens : List T) → AllByRecursion Fits tokens → length before + length (flat_map cells tokens) ≡ most → reading (fill_step token most) (fill_end most) at before (map text tokens) ≡ Ok (before ++ flat_map cells tokens)

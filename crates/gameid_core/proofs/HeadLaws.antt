@@ -185,13 +185,7 @@ pub record IsHead (game : Game) (text : List ℕ) (head : HeadRead) : Type 0 whe
   pub short : length text ≤ max_id
 
 colon_splits : (text : List ℕ) (k : ℕ) → position (λ c. eqb c 58) text ≡ Some k → text ≡ take k text ++ 58 ∷ drop (k + 1) text
-colon_splits text k e =
-    let at = position-Some (λ c. eqb c 58) text k 0 e in
-    let within : k < length text = at.0 in
-    let colon : get_or text k 0 ≡ 58 = eqb-true _ _ at.1 in
-    let cell : drop k text ≡ get_or text k 0 ∷ drop (suc k) text = drop-cons text k 0 within in
-    let next : drop (suc k) text ≡ drop (k + 1) text = ap (λ (i : ℕ). drop i text) (let i : suc k ≡ k + 1 = omega arith in i) in
-    sym (take-append-drop k text) ∙ ap (λ (t : List ℕ). take k text ++ t) (cell ∙ ap (λ (c : ℕ). c ∷ drop (suc k) text) colon ∙ ap (λ (t : List ℕ). 58 ∷ t) next)
+colon_splits text k e = grind (arith, common_steps, position-Some (λ c. eqb c 58) text k 0 e, take-append-drop k text)
 
 abbrev described : SizeRead → ℕ → HeadRead
 described size place = record { size = size; description = place }

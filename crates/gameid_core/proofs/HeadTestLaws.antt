@@ -3,7 +3,7 @@ use Rattle.std.proofs.Common.{◌≡◌, ◌↔◌, ℕ, ◌+◌, ◌≤◌, tru
 use Rattle.std.proofs.lemmas.Grind.{common_steps}
 use Rattle.std.specs.Prelude.{position}
 use Rattle.std.specs.List.{AllByRecursion, list_any, position_or_len}
-use Rattle.std.proofs.lemmas.Bool.{false≢true, eqb-true, eqb-false, eq-eqb, ne_eqb, ltb-true, ltb-false}
+use Rattle.std.proofs.lemmas.Bool.{cases_eq, false≢true, eqb-true, eqb-false, eq-eqb, ne_eqb, ltb-true, ltb-false}
 use Rattle.std.proofs.lemmas.List.{take_at}
 use Rattle.gameid_core.specs.declared.id.fault.IdFault.{IdFault}
 use Rattle.gameid_core.specs.declared.id.fault.IdFault.TheVariants.{TooLong, SeedId, NoColon, BadSize, Variant, SizeRange}
@@ -58,16 +58,15 @@ size_judged game text = of_sides (sides_at game text) refl
 abbrev Split : ℕ → List ℕ → Type 0
 Split byte text = (front rest : List ℕ) × (text ≡ front ++ byte ∷ rest) × Lacks byte front
 
+split_here : (byte : ℕ) (text : List ℕ) → Split byte (byte ∷ text)
+split_here byte text = ([], text, refl, tt)
+
+split_later : (byte b : ℕ) (text : List ℕ) → (b ≡ byte → ⊥) → Split byte text → Split byte (b ∷ text)
+split_later byte b text other s = (b ∷ s.0, s.1, ap (λ (t : List ℕ). b ∷ t) s.2, (other, s.3))
+
 split : (byte : ℕ) (text : List ℕ) → Lacks byte text ⊎ Split byte text
 split byte [] = inl tt
-split byte (b ∷ text) =
-    elim (eqb b byte) as (λ v. eqb b byte ≡ v → Lacks byte (b ∷ text) ⊎ Split byte (b ∷ text)) [
-      | true ↦ λ e. inr ([], text, ap (λ (k : ℕ). k ∷ text) (eqb-true b byte e), tt)
-      | false ↦ λ e. elim (split byte text) [
-        | inl none ↦ inl (eqb-false b byte e, none)
-        | inr s ↦ inr (b ∷ s.0, s.1, ap (λ (t : List ℕ). b ∷ t) s.2, (eqb-false b byte e, s.3))
-      ]
-    ] refl
+split byte (b ∷ text) = grind (arith, split byte text, split_later byte b text, split_here byte text, cases_eq b byte)
 
 lacks_front : (byte : ℕ) (xs ys : List ℕ) → Lacks byte (xs ++ ys) → Lacks byte xs
 lacks_front byte [] ys h = tt

@@ -13,10 +13,10 @@ use Rattle.gameid_core.specs.OneText.{HasOneReading}
 use Rattle.gameid_core.proofs.OneReading.{reading_of}
 use Rattle.gameid_core.proofs.CellsReading.{Token, cells_spelled, cells_again, filled, fill_is, fill_end_is}
 use Rattle.gameid_core.proofs.Lists.{AllByRecursion-replicate, AllByRecursion-flat_map}
-use Rattle.std.specs.Prelude.{map}
+use Rattle.std.specs.Prelude.{map, replicate}
 use Rattle.std.specs.List.{AllByRecursion, flat_map, concat}
 use Rattle.grid_core.specs.Extent.{Extent, IsExtent, max_side}
-use Rattle.gameid_core.specs.declared.light_up.cell.LightCell.TheVariants.{White}
+use Rattle.gameid_core.specs.declared.light_up.cell.LightCell.TheVariants.{White, Numbered}
 use Rattle.gameid_core.specs.Head.{SizeRead, extent_of, in_range}
 use Rattle.gameid_core.specs.Puzzles.{IsLight, IsLightCell, IsWide, Light}
 use Rattle.gameid_core.proofs.Results.{chosen, only_taken, ok_is, and_parts}
@@ -44,29 +44,18 @@ light_token_text token = light_token_byte token ∷ []
 abbrev IsByte : List ℕ → Type 0
 IsByte word = length word ≡ 1
 
-token_byte : (at : ℕ) (word : List ℕ) (more : List LightCell) → IsByte word → light_token at word ≡ Ok more → Token light_token_text light_token_cells IsLightToken word more
+abbrev LightWord : List ℕ → List LightCell → Type 0
+LightWord word more = Token light_token_text light_token_cells IsLightToken word more
+
+letter_word : (b : ℕ) → 97 ≤ b → b ≤ 122 → LightWord (b ∷ []) (replicate (b - 96) White)
+letter_word b low high = record { token = whites (b - 96); texts = grind arith; each = grind arith; stands = refl }
+
+digit_word : (b : ℕ) → 48 ≤ b → b ≤ 52 → LightWord (b ∷ []) (Numbered (b - 48) ∷ [])
+digit_word b low high = record { token = numbered (b - 48); texts = grind arith; each = grind arith; stands = refl }
+
+token_byte : (at : ℕ) (word : List ℕ) (more : List LightCell) → IsByte word → light_token at word ≡ Ok more → LightWord word more
 unfolding light_token
-token_byte at [] more one e = absurd (omega (arith, one))
-token_byte at (b ∷ c ∷ word) more one e = absurd (omega (arith, one))
-token_byte at (b ∷ []) more one e =
-    elim (chosen (is_letter b) _ _ _ e) [
-      | inl c ↦
-          let p = and_parts (leb 97 b) (leb b 122) c.0 in
-          let low : 97 ≤ b = leb-true _ _ p.0 in
-          let high : b ≤ 122 = leb-true _ _ p.1 in
-          let byte : b ≡ 96 + (b - 96) = omega arith in
-          record { token = whites (b - 96); texts = ap (λ (k : ℕ). k ∷ []) byte; each = (omega arith, omega arith); stands = ok_is _ _ c.1 }
-      | inr c ↦ elim (chosen (eqb b 66) _ _ _ c.1) [
-        | inl d ↦ record { token = black; texts = ap (λ (k : ℕ). k ∷ []) (eqb-true b 66 d.0); each = tt; stands = ok_is _ _ d.1 }
-        | inr d ↦
-            let f = only_taken (leb 48 b && leb b 52) _ _ _ d.1 in
-            let p = and_parts (leb 48 b) (leb b 52) f.0 in
-            let low : 48 ≤ b = leb-true _ _ p.0 in
-            let high : b ≤ 52 = leb-true _ _ p.1 in
-            let byte : b ≡ 48 + (b - 48) = omega arith in
-            record { token = numbered (b - 48); texts = ap (λ (k : ℕ). k ∷ []) byte; each = omega arith; stands = ok_is _ _ f.1 }
-      ]
-    ]
+token_byte at word more one e = grind (arith, common_steps, letter_word (get_or word 0 0), digit_word (get_or word 0 0))
 
 -- ---- what is read is spelled
 

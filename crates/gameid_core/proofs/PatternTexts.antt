@@ -40,13 +40,16 @@ tail_none clue = grind arith
 
 -- ---- what is read is spelled
 
-pub record Spelled (clues : List (List ℕ)) (clue text : List ℕ) (all : List (List ℕ)) : Type 0 where
-  pub ns : List (List ℕ)
-  pub later : List (List (List ℕ))
-  pub parts : text ≡ tail_text clue ns ++ later_text later
-  pub ns_digits : AllByRecursion IsNumeral ns
-  pub later_digits : AllByRecursion (AllByRecursion IsNumeral) later
-  pub values : clues ++ (clue ++ map value ns) ∷ map (map value) later ≡ all
+record IsSpelled (clues : List (List ℕ)) (clue text : List ℕ) (all : List (List ℕ)) (ns : List (List ℕ)) (later : List (List (List ℕ))) : Type 0 where
+  parts : text ≡ tail_text clue ns ++ later_text later
+  ns_digits : AllByRecursion IsNumeral ns
+  later_digits : AllByRecursion (AllByRecursion IsNumeral) later
+  values : clues ++ (clue ++ map value ns) ∷ map (map value) later ≡ all
+
+record Spelled (clues : List (List ℕ)) (clue text : List ℕ) (all : List (List ℕ)) : Type 0 where
+  ns : List (List ℕ)
+  later : List (List (List ℕ))
+  is : IsSpelled clues clue text all ns later
 
 -- a '.' and a numeral
 dotted_word : (word : List ℕ) → IsWord word → begins (λ b. eqb b 46) word ≡ true → begins is_ascii_digit (drop 1 word) ≡ true → (word ≡ 46 ∷ drop 1 word) × IsNumeral (drop 1 word)
@@ -55,69 +58,37 @@ dotted_word word w dot d = grind arith
 slash_word : (word : List ℕ) → IsWord word → begins (λ b. eqb b 47) word ≡ true → word ≡ 47 ∷ []
 slash_word word w s = grind arith
 
-pub read_spelled : (size : Extent) (at : ℕ) (clues : List (List ℕ)) (clue : List ℕ) (ws : List (List ℕ)) (all : List (List ℕ)) → AllByRecursion IsWord ws → reading (pattern_step size) (pattern_end size) at (so_far clues clue) ws ≡ Ok all → Spelled clues clue (concat ws) all
+slash_spelled : (clues : List (List ℕ)) (clue word rest : List ℕ) (all : List (List ℕ)) → word ≡ 47 ∷ [] → Spelled (clues ++ clue ∷ []) [] rest all → Spelled clues clue (word ++ rest) all
+slash_spelled clues clue word rest all slash r = record { ns = []; later = r.ns ∷ r.later; is = grind (arith, common_steps, tail_none clue) }
+
+number_spelled : (cells line at : ℕ) (clues : List (List ℕ)) (clue word rest : List ℕ) (all : List (List ℕ)) (n : ℕ) → IsWord word → clue_token cells line clue at word ≡ Ok n → Spelled clues (clue ++ n ∷ []) rest all → Spelled clues clue (word ++ rest) all
+number_spelled cells line at clues [] word rest all n w t r =
+    record { ns = word ∷ r.ns; later = r.later; is = grind (arith, common_steps, first_cases cells line at n word t, numeral_word word w, join_cons 46 word r.ns) }
+number_spelled cells line at clues (m ∷ clue) word rest all n w t r =
+    record { ns = drop 1 word ∷ r.ns; later = r.later; is = grind (arith, common_steps, further_cases cells line at n m clue word t, dotted_word word w) }
+
+read_spelled : (size : Extent) (at : ℕ) (clues : List (List ℕ)) (clue : List ℕ) (ws : List (List ℕ)) (all : List (List ℕ)) → AllByRecursion IsWord ws → reading (pattern_step size) (pattern_end size) at (so_far clues clue) ws ≡ Ok all → Spelled clues clue (concat ws) all
 unfolding reading
 read_spelled size at clues clue [] all w e = grind (arith, tail_none clue, append-nil clue)
 read_spelled size at clues clue (word ∷ ws) all w e =
     let b = bind_ok (pattern_step size at (so_far clues clue) word) (λ t. reading (pattern_step size) (pattern_end size) (at + length word) t ws) all e in
     elim (step_cases size at clues clue word b.0 b.1) [
-      | inl s ↦
-          let r = read_spelled size (at + length word) (clues ++ clue ∷ []) [] ws all w.1 (ap (λ t. reading (pattern_step size) (pattern_end size) (at + length word) t ws) s.leads ∙ b.2) in
-          record {
-            ns = [];
-            later = r.ns ∷ r.later;
-            parts = ap (λ (t : List ℕ). t ++ concat ws) (slash_word word w.0 s.slash) ∙ ap (λ (t : List ℕ). 47 ∷ t) r.parts ∙ rw (tail_none clue) refl;
-            ns_digits = tt;
-            later_digits = (r.ns_digits, r.later_digits);
-            values = ap (λ (c : List ℕ). clues ++ c ∷ map value r.ns ∷ map (map value) r.later) (append-nil clue) ∙ sym (append_assoc clues (clue ∷ []) (map value r.ns ∷ map (map value) r.later)) ∙ r.values;
-          }
-      | inr n ↦
-          let r = read_spelled size (at + length word) clues (clue ++ n.number ∷ []) ws all w.1 (ap (λ t. reading (pattern_step size) (pattern_end size) (at + length word) t ws) n.leads ∙ b.2) in
-          number_spelled size at clues clue word ws all n.number w.0 n.token r
+      | inl s ↦ slash_spelled clues clue word (concat ws) all (slash_word word w.0 s.slash) (read_spelled size (at + length word) (clues ++ clue ∷ []) [] ws all w.1 (grind arith))
+      | inr n ↦ number_spelled _ _ at clues clue word (concat ws) all n.number w.0 n.token (read_spelled size (at + length word) clues (clue ++ n.number ∷ []) ws all w.1 (grind arith))
     ]
-  where
-    number_spelled : (size : Extent) (at : ℕ) (clues : List (List ℕ)) (clue word : List ℕ) (ws : List (List ℕ)) (all : List (List ℕ)) (n : ℕ) → IsWord word → clue_token (line_cells size (length clues)) (length clues) clue at word ≡ Ok n → Spelled clues (clue ++ n ∷ []) (concat ws) all → Spelled clues clue (word ++ concat ws) all
-    number_spelled size at clues [] word ws all n w t r =
-        let f = first_cases _ _ at n word t in
-        record {
-          ns = word ∷ r.ns;
-          later = r.later;
-          parts = ap (λ (u : List ℕ). word ++ u) r.parts ∙ sym (append_assoc word (flat_map (λ m. 46 ∷ m) r.ns) (later_text r.later)) ∙ ap (λ (u : List ℕ). u ++ later_text r.later) (sym (join_cons 46 word r.ns));
-          ns_digits = (numeral_word word w f.0, r.ns_digits);
-          later_digits = r.later_digits;
-          values = ap (λ (k : ℕ). clues ++ (k ∷ map value r.ns) ∷ map (map value) r.later) f.1 ∙ r.values;
-        }
-    number_spelled size at clues (m ∷ clue) word ws all n w t r =
-        let f = further_cases _ _ at n m clue word t in
-        let d = dotted_word word w f.0 f.1 in
-        record {
-          ns = drop 1 word ∷ r.ns;
-          later = r.later;
-          parts = ap (λ (u : List ℕ). u ++ concat ws) d.0 ∙ ap (λ (u : List ℕ). (46 ∷ drop 1 word) ++ u) r.parts ∙ sym (append_assoc (46 ∷ drop 1 word) (flat_map (λ k. 46 ∷ k) r.ns) (later_text r.later));
-          ns_digits = (d.1, r.ns_digits);
-          later_digits = r.later_digits;
-          values = ap (λ (k : ℕ). clues ++ (m ∷ (clue ++ k ∷ map value r.ns)) ∷ map (map value) r.later) f.2 ∙ ap (λ (c : List ℕ). clues ++ (m ∷ c) ∷ map (map value) r.later) (sym (append_assoc clue (n ∷ []) (map value r.ns))) ∙ r.values;
-        }
 
 -- ---- what fits
 
+used_more : (n : ℕ) (clue rest : List ℕ) → used clue + (n + 1) ≤ used (clue ++ n ∷ rest)
+used_more n [] rest = omega arith
+used_more n (m ∷ clue) rest = omega (arith, used_more n clue rest)
+
+positive_at : (n : ℕ) (clue rest : List ℕ) → AllByRecursion (λ k. 0 < k) (clue ++ n ∷ rest) → 0 < n
+positive_at n [] rest h = h.0
+positive_at n (m ∷ clue) rest h = positive_at n clue rest h.1
+
 used_fits : (cells n : ℕ) (clue rest : List ℕ) → IsClue cells (clue ++ n ∷ rest) → (0 < n) × (used clue + n ≤ cells)
-used_fits cells n [] rest h = grind arith
-used_fits cells n (m ∷ clue) rest h =
-    let fits : (m + 1) + used (clue ++ n ∷ rest) ≤ cells + 1 = h.fits in
-    let more : (0 < n) × (used clue + n ≤ used (clue ++ n ∷ rest)) = used_part n clue rest h.positive.1 in
-    (more.0, used_room cells m n clue rest fits)
-  where
-    used_part : (n : ℕ) (clue rest : List ℕ) → AllByRecursion (λ n. 0 < n) (clue ++ n ∷ rest) → (0 < n) × (used clue + n ≤ used (clue ++ n ∷ rest))
-    used_part n [] rest h = (h.0, omega arith)
-    used_part n (m ∷ clue) rest h = let p = used_part n clue rest h.1 in (p.0, omega arith)
-
-    used_more : (n : ℕ) (clue rest : List ℕ) → used clue + (n + 1) ≤ used (clue ++ n ∷ rest)
-    used_more n [] rest = omega arith
-    used_more n (m ∷ clue) rest = omega (arith, used_more n clue rest)
-
-    used_room : (cells m n : ℕ) (clue rest : List ℕ) → (m + 1) + used (clue ++ n ∷ rest) ≤ cells + 1 → ((m + 1) + used clue) + n ≤ cells
-    used_room cells m n clue rest h = omega (arith, used_more n clue rest)
+used_fits cells n clue rest h = grind (arith, used_more n clue rest, positive_at n clue rest h.positive)
 
 first_read : (cells line at : ℕ) (num : List ℕ) → IsNumeral num → 0 < value num → value num ≤ cells → clue_token cells line [] at num ≡ Ok (value num)
 unfolding clue_token clue_number
@@ -186,9 +157,9 @@ clues_take size at description all e =
     let s = read_spelled size at [] [] (words description) all (words_are description) e in
     record {
       numerals = s.ns ∷ s.later;
-      parts = sym (concat_words description) ∙ s.parts ∙ sym (clues_text_is s.ns s.later);
-      digits = (s.ns_digits, s.later_digits);
-      values = s.values;
+      parts = grind (arith, concat_words description, s.is.parts, clues_text_is s.ns s.later);
+      digits = (s.is.ns_digits, s.is.later_digits);
+      values = s.is.values;
     }
 
 is_extent : (w h : ℕ) → in_range game.Pattern w h ≡ true → IsExtent (record { w = w; h = h })

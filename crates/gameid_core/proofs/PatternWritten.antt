@@ -41,24 +41,13 @@ pub texts_same : (clues : List (List ℕ)) → map (join_with_byte 46) (map (map
 texts_same [] = refl
 texts_same (c ∷ clues) = ap (λ (ts : List (List ℕ)). clue_text c ∷ ts) (texts_same clues)
 
-numerals : (clue : List ℕ) → used clue < 2 ^ 64 → AllByRecursion IsNumeral (map decimal clue) × (map value (map decimal clue) ≡ clue)
-numerals [] small = (tt, refl)
-numerals (n ∷ clue) small =
-    let rest = numerals clue (omega arith) in
-    let one : value (decimal n) ≡ n = digits_value-decimal own n (omega arith) in
-    ((numeral n (omega arith), rest.0), rw (one, rest.1) refl)
+numerals : (clue : List ℕ) → used clue < 2 ^ 64 → AllByRecursion IsNumeral (map decimal clue) × AllByRecursion IsPlain (map decimal clue) × (map value (map decimal clue) ≡ clue)
+numerals [] small = (tt, tt, refl)
+numerals (n ∷ clue) small = grind (arith, numerals clue, digits_value-decimal own n, numeral n, decimal_plain n)
 
-all_numerals : (size : Extent) (line : ℕ) (clues : List (List ℕ)) → IsExtent size → AreClues size line clues → AllByRecursion (AllByRecursion IsNumeral) (map (map decimal) clues) × (map (map value) (map (map decimal) clues) ≡ clues)
-all_numerals size line [] e h = (tt, refl)
+all_numerals : (size : Extent) (line : ℕ) (clues : List (List ℕ)) → IsExtent size → AreClues size line clues → AllByRecursion (AllByRecursion IsNumeral) (map (map decimal) clues) × AllByRecursion (AllByRecursion IsPlain) (map (map decimal) clues) × (map (map value) (map (map decimal) clues) ≡ clues)
+all_numerals size line [] e h = (tt, tt, refl)
 all_numerals size line (c ∷ clues) e h = grind (arith, numerals c, all_numerals size (line + 1) clues e h.1)
-
-clue_is_plain : (clue : List ℕ) → used clue < 2 ^ 64 → AllByRecursion IsPlain (map decimal clue)
-clue_is_plain [] small = tt
-clue_is_plain (n ∷ clue) small = (decimal_plain n (omega (arith, small)), clue_is_plain clue (omega (arith, small)))
-
-clues_are_plain : (size : Extent) (line : ℕ) (clues : List (List ℕ)) → IsExtent size → AreClues size line clues → AllByRecursion (AllByRecursion IsPlain) (map (map decimal) clues)
-clues_are_plain size line [] e h = tt
-clues_are_plain size line (c ∷ clues) e h = grind (arith, clue_is_plain c, clues_are_plain size (line + 1) clues e h.1)
 
 -- the written text has the form of a written text, and so it spells the puzzle
 pub pattern_is_written : (p : Pattern) → IsPattern p → IsWrittenPattern (pattern_text p) p
@@ -73,10 +62,10 @@ pattern_is_written p h =
         parts = ap (λ (ts : List (List ℕ)). size_text p.size.w p.size.h ++ 58 ∷ join_with_byte 47 ts) (sym (texts_same p.clues));
         size = inl refl;
         digits = n.0;
-        clues = n.1;
+        clues = n.2;
       };
       both = refl;
-      plain = clues_are_plain p.size 0 p.clues h.size h.clues;
+      plain = n.1;
     }
 
 clue_plain : (clue : List (List ℕ)) → AllByRecursion IsNumeral clue → AllByRecursion IsPlain clue → used (map value clue) < 2 ^ 64 → map decimal (map value clue) ≡ clue

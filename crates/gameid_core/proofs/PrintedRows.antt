@@ -86,10 +86,7 @@ pub known_cell : (cell : ℕ → List ℕ) (size : Extent) (y w x v : ℕ) (more
     → KnownCell (λ k. cell (y * w + k)) w more rest x v result
 known_cell cell size y w x v more rest result wide lt left reads =
     let a = after_cell (λ k. cell (y * w + k)) w more rest x lt left in
-    record {
-      cell = a;
-      read = reads a.after (cell_follows cell size y w x more rest wide a) a.split;
-    }
+    record { cell = a; read = reads a.after (cell_follows cell size y w x more rest wide a) a.split }
 
 -- the cell was read: what is left after it, and the number
 pub cell_read : (f : ℕ → List ℕ) (w x v value count m : ℕ) (more rest : List ℕ) (result : Option (ℕ × ℕ)) → KnownCell f w more rest x v result

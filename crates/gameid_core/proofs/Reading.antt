@@ -7,7 +7,7 @@ use Rattle.gameid_core.specs.Words.{begins, words, Cuts}
 use Rattle.gameid_core.specs.Steps.{reading, Fails, ◌>>=◌}
 use Rattle.std.specs.List.{concat}
 use Rattle.gameid_core.specs.FirstFault.{stop, FirstFault}
-use Rattle.gameid_core.proofs.Results.{taken}
+use Rattle.gameid_core.proofs.Results.{bind_ok}
 use Rattle.gameid_core.proofs.Tokens.{cuts_some}
 
 pub reading_turn : {S P : Type 0} (step : ℕ → S → List ℕ → Result S IdFault) (end : S → Result P IdFault) (at : ℕ) (s t : S) (text word after : List ℕ) → Cuts text word after → step at s word ≡ Ok t → reading step end at s (words text) ≡ reading step end (at + length word) t (words after)
@@ -68,15 +68,11 @@ one_later step end at word front rest state f (inl a) = inl a
 one_later step end at word front rest state f (inr b) = grind (arith, common_steps)
 
 fails_after : {S P : Type 0} (step : ℕ → S → List ℕ → Result S IdFault) (end : S → Result P IdFault) (at : ℕ) (s : S) (front rest : List (List ℕ)) (state : S) (f : IdFault) → reading step stop at s front ≡ Ok state → FailsAfter step end at front rest state f → reading step end at s (front ++ rest) ≡ Err f
+unfolding reading
 fails_after step end at s [] rest state f leads fault = grind (arith, reading_nil step stop at s, reading_nil step end at s, reading_cons step end at s)
-fails_after {S = S} {P = P} step end at s (word ∷ front) rest state f leads fault =
-    cases (step at s word) refl (λ t led. fails_after step end (at + length word) t front rest state f led (one_later step end at word front rest state f fault))
-  where
-    cases : (r : Result S IdFault) → step at s word ≡ r → ((t : S) → reading step stop (at + length word) t front ≡ Ok state → reading step end (at + length word) t (front ++ rest) ≡ Err f) → reading step end at s (word ∷ (front ++ rest)) ≡ Err f
-    cases (Err g) q next = absurd (let bad : failed {A = S} g ≡ taken state = ap (λ r. r >>= (λ t. reading step stop (at + length word) t front)) (sym q) ∙ sym (reading_cons step stop at s word front) ∙ leads in cc)
-    cases (Ok t) q next =
-        let led : reading step stop (at + length word) t front ≡ Ok state = ap (λ r. r >>= (λ t. reading step stop (at + length word) t front)) (sym q) ∙ sym (reading_cons step stop at s word front) ∙ leads in
-        reading_cons step end at s word (front ++ rest) ∙ ap (λ r. r >>= (λ t. reading step end (at + length word) t (front ++ rest))) q ∙ next t led
+fails_after step end at s (word ∷ front) rest state f leads fault =
+    let b = bind_ok (step at s word) (λ t. reading step stop (at + length word) t front) state leads in
+    grind (arith, fails_after step end (at + length word) b.0 front rest state f b.2 (one_later step end at word front rest state f fault))
 
 -- and one with a first fault fails with it
 pub first_fault_is : {S P : Type 0} (step : ℕ → S → List ℕ → Result S IdFault) (end : S → Result P IdFault) (at : ℕ) (s : S) (words : List (List ℕ)) (f : IdFault) → FirstFault step end at s words f → reading step end at s words ≡ Err f

@@ -14,7 +14,7 @@ use Rattle.gameid_core.proofs.Numerals.{is_lead, lead_is_digit, numeral_cuts, nu
 use Rattle.gameid_core.proofs.Results.{and_parts, chosen, not_refused, only_taken, ok_is}
 use Rattle.std.specs.List.{AllByRecursion, flat_map, concat}
 use Rattle.gameid_core.specs.Head.{in_range, max_numbers, SizeRead}
-use Rattle.gameid_core.specs.Puzzles.{IsSolo, solo_puzzle, Solo}
+use Rattle.gameid_core.specs.Puzzles.{IsSolo, solo_n, solo_puzzle, Solo}
 use Rattle.gameid_core.proofs.CellsReading.{Token, cells_spelled, cells_again}
 use Rattle.gameid_core.proofs.Lists.{AllByRecursion-replicate, AllByRecursion-flat_map}
 use Rattle.gameid_core.specs.declared.id.game.Game.TheVariants as game
@@ -47,17 +47,7 @@ pub record NumberWord (rest : List ℕ) : Type 0 where
 
 pub number_word : (rest : List ℕ) → begins is_lead rest ≡ true → NumberWord rest
 number_word [] e = absurd (false≢true e)
-number_word (b ∷ after) e =
-    let p = and_parts (leb 49 b) (leb b 57) e in
-    let low : 49 ≤ b = leb-true _ _ p.0 in
-    let high : b ≤ 57 = leb-true _ _ p.1 in
-    let cuts = cuts_number (b ∷ after) (lead_is_digit b e) in
-    record {
-      cuts = cuts;
-      letter = kind_of is_letter _ _ _ b after refl cuts ∙ not_between 97 122 b (λ l h. omega arith);
-      gap = kind_of (λ b. eqb b 95) _ _ _ b after refl cuts ∙ ne_eqb b 95 (λ q. omega arith);
-      lead = kind_of is_lead _ _ _ b after refl cuts ∙ e;
-    }
+number_word (b ∷ after) e = grind (arith, cuts_number (b ∷ after) (lead_is_digit b e))
 
 pub bad_byte : (n at first : ℕ) (rest after : List ℕ) → rest ≡ first ∷ after → (97 ≤ first → first ≤ 122 → ⊥) → (first ≡ 95 → ⊥) → (49 ≤ first → first ≤ 57 → ⊥) → (word tail : List ℕ) × Cuts rest word tail × (solo_token n at word ≡ Err (BadByte at))
 unfolding solo_token
@@ -99,17 +89,12 @@ gap_word n word w e = grind arith
 
 given_word : (n : ℕ) (word : List ℕ) → n < 2 ^ 64 → IsWord word → begins is_lead word ≡ true → value word ≤ n → SoloWord n word (value word ∷ [])
 given_word n [] small w e le = absurd w
-given_word n (b ∷ more) small w e le =
-    let low : 49 ≤ b = leb-true _ _ (and_parts (leb 49 b) (leb b 57) e).0 in
-    let digits : all_ascii_digits (b ∷ more) ≡ true = rw (lead_is_digit b e) w.0 in
-    let some : 0 < length (b ∷ more) = omega arith in
-    let small' : value (b ∷ more) < 2 ^ 64 = omega arith in
-    record {
-      token = given (value (b ∷ more));
-      texts = sym (decimal-digits_value own (b ∷ more) digits some (λ z. absurd (let zero_first : b ≡ 48 = z in omega arith)) small');
-      each = (omega (arith, value_positive b more low), le);
-      stands = refl;
-    }
+given_word n (b ∷ more) small w e le = record {
+  token = given (value (b ∷ more));
+  texts = grind (arith, lead_is_digit b, decimal-digits_value own (b ∷ more));
+  each = grind (arith, value_positive b more);
+  stands = refl;
+}
 
 token_word : (n : ℕ) → n < 2 ^ 64 → (at : ℕ) (word more : List ℕ) → IsWord word → solo_token n at word ≡ Ok more → SoloWord n word more
 unfolding solo_token
@@ -118,11 +103,7 @@ token_word n small at word more w e = grind (arith, common_steps, letter_word n 
 -- ---- what is read is spelled
 
 decimal_digit_first : (v : ℕ) → v < 2 ^ 64 → 0 < v → digit_first (decimal v) ≡ true
-decimal_digit_first v small some = lead_first (decimal v) (decimal_leads v small some)
-  where
-    lead_first : (word : List ℕ) → begins is_lead word ≡ true → digit_first word ≡ true
-    lead_first [] e = absurd (false≢true e)
-    lead_first (b ∷ more) e = lead_is_digit b e
+decimal_digit_first v small some = grind (arith, decimal_leads v small some, lead_is_digit)
 
 apart_tokens : (n : ℕ) (tokens : List SoloToken) → n < 2 ^ 64 → AllByRecursion (IsSoloToken n) tokens → Apart (map solo_token_text tokens) → AreApart tokens
 apart_tokens n [] small each h = grind (arith, common_steps, decimal_digit_first)

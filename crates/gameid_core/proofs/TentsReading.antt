@@ -43,25 +43,17 @@ pub record RunToken (b : ℕ) (run : ℕ × Bool) : Type 0 where
   pub each : IsTentsToken token
   pub cells : tents_token_cells token ≡ run_cells run.0 run.1
 
+letter_run : (b : ℕ) → 97 ≤ b → b ≤ 121 → RunToken b (b - 96, true)
+letter_run b low high = record { token = blanks_and_tree (b - 96); byte = grind (arith, nat_tests); each = grind arith; cells = refl }
+
+tree_run : RunToken 95 (0, true)
+tree_run = record { token = blanks_and_tree 0; byte = refl; each = omega arith; cells = refl }
+
 pub run_token : (at b : ℕ) (run : ℕ × Bool) → tents_run at b ≡ Ok run → RunToken b run
 unfolding tents_run
-run_token at b run e =
-    elim (chosen (eqb b 95) _ _ _ e) [
-      | inl c ↦ subst (RunToken b) (ok_is _ _ c.1) (record { token = blanks_and_tree 0; byte = eqb-true b 95 c.0; each = omega arith; cells = refl })
-      | inr c ↦ elim (chosen (leb 97 b && leb b 121) _ _ _ c.1) [
-        | inl d ↦
-            let p = and_parts (leb 97 b) (leb b 121) d.0 in
-            let low : 97 ≤ b = leb-true _ _ p.0 in
-            let high : b ≤ 121 = leb-true _ _ p.1 in
-            let some : eqb (b - 96) 0 ≡ false = ne_eqb _ _ (λ q. omega arith) in
-            subst (RunToken b) (ok_is _ _ d.1) (record { token = blanks_and_tree (b - 96); byte = rw some (omega arith); each = omega arith; cells = refl })
-        | inr d ↦
-            let f = only_taken (eqb b 122) _ _ _ d.1 in
-            subst (RunToken b) (ok_is _ _ f.1) (record { token = only_blanks; byte = eqb-true b 122 f.0; each = tt; cells = refl })
-      ]
-    ]
+run_token at b run e = grind (arith, letter_run b, tree_run)
 
-byte_single : (token : TentsToken) → joins (tents_token_byte token) ≡ false
+pub byte_single : (token : TentsToken) → joins (tents_token_byte token) ≡ false
 byte_single token = grind arith
 
 pub run_single : (at b : ℕ) (run : ℕ × Bool) → tents_run at b ≡ Ok run → joins b ≡ false
@@ -76,12 +68,6 @@ run_length blanks tree = grind (arith, common_steps, length-append, length-repli
 abbrev pub planted : Extent → List ℕ → List ℕ → ℕ → Bool → Result TentsSoFar IdFault
 planted size places counts blanks tree =
     cond (ltb (cells_in size + cond tree 1 0) (length places + (blanks + cond tree 1 0))) (Err TooMany) (Ok (at_tents (places ++ run_cells blanks tree) counts))
-
-pub tree_step : (size : Extent) (at b blanks : ℕ) (tree : Bool) (places word : List ℕ) → eqb b 44 ≡ false → tents_run at b ≡ Ok (blanks, tree) → tents_step size at (at_tents places []) (b ∷ word) ≡ planted size places [] blanks tree
-tree_step size at b blanks tree places word other run = rw (other, run, run_length blanks tree) refl
-
-pub count_step : (size : Extent) (at : ℕ) (places counts word : List ℕ) (r : Result ℕ IdFault) → begins (λ c. eqb c 44) word ≡ true → tents_count size at (at_tents places counts) word ≡ r → tents_step size at (at_tents places counts) word ≡ (r >>= (λ n. Ok (at_tents places (counts ++ n ∷ []))))
-count_step size at places counts word r comma e = rw (comma, e) refl
 
 abbrev pub reads : Extent → ℕ → List ℕ → List ℕ → List ℕ → Result TentsSoFar IdFault
 reads size at places counts rest = reading (tents_step size) (tents_end size) at (at_tents places counts) (words rest)
@@ -109,9 +95,6 @@ pub record Planted (size : Extent) (at : ℕ) (places counts word : List ℕ) (t
 pub step_cases : (size : Extent) (at : ℕ) (places counts word : List ℕ) (t : TentsSoFar) → tents_step size at (at_tents places counts) word ≡ Ok t → Counted size places counts word t ⊎ Planted size at places counts word t
 unfolding tents_count
 step_cases size at places counts word t e = grind arith
-
-pub end_cases : (size : Extent) (places counts : List ℕ) (t : TentsSoFar) → tents_end size (at_tents places counts) ≡ Ok t → (length counts ≡ lines_of size) × (at_tents places counts ≡ t)
-end_cases size places counts t e = grind arith
 
 -- ---- what is read fits
 

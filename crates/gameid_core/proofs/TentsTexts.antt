@@ -14,11 +14,11 @@ use Rattle.gameid_core.specs.Puzzles.{AreCounts, IsTents, line_cells, lines_of, 
 use Rattle.gameid_core.specs.TentsText.{TentsSoFar, TentsToken, blanks_and_tree, only_blanks, tents_token_byte, tents_token_cells, IsTentsToken, cells_in, tents_run, run_cells, tents_step, tents_end, tents_at, SpellsTents, tents_of}
 use Rattle.gameid_core.specs.OneText.{HasOneReading}
 use Rattle.gameid_core.proofs.OneReading.{reading_of}
-use Rattle.gameid_core.proofs.Tokens.{cuts_single, IsWord, words_are, concat_words, alone}
+use Rattle.gameid_core.proofs.Tokens.{cuts_single, words_single, IsWord, words_are, concat_words, alone}
 use Rattle.gameid_core.proofs.Numerals.{joined_cuts}
 use Rattle.gameid_core.proofs.Results.{bind_ok}
 use Rattle.gameid_core.proofs.Reading.{reading_turn, reading_end}
-use Rattle.gameid_core.proofs.TentsReading.{run_token, end_is, at_tents, run_single, tree_step, count_step, count_read, step_cases, end_cases, tents_read, tents_lawful}
+use Rattle.gameid_core.proofs.TentsReading.{run_token, run_length, byte_single, end_is, at_tents, run_single, count_read, step_cases, tents_read, tents_lawful}
 use Rattle.gameid_core.specs.declared.id.game.Game.TheVariants as game
 use Rattle.gameid_core.specs.Head.{HeadRead, extent_of, in_range, max_id}
 use Rattle.gameid_core.proofs.HeadLaws.{parts_of, plain_size, head_again, after_front}
@@ -30,9 +30,7 @@ abbrev pub numbers_text : List (List ℕ) → List ℕ
 numbers_text numerals = flat_map (λ numeral. 44 ∷ numeral) numerals
 
 -- what follows the places and numbers that were read
-record Spelled (places counts text : List ℕ) (all : TentsSoFar) : Type 0 where
-  tokens : List TentsToken
-  numerals : List (List ℕ)
+record IsSpelled (places counts text : List ℕ) (all : TentsSoFar) (tokens : List TentsToken) (numerals : List (List ℕ)) : Type 0 where
   parts : text ≡ map tents_token_byte tokens ++ numbers_text numerals
   each : AllByRecursion IsTentsToken tokens
   digits : AllByRecursion IsNumeral numerals
@@ -40,72 +38,32 @@ record Spelled (places counts text : List ℕ) (all : TentsSoFar) : Type 0 where
   counted : counts ++ map value numerals ≡ all.counts
   late : 0 < length counts → tokens ≡ []
 
+record Spelled (places counts text : List ℕ) (all : TentsSoFar) : Type 0 where
+  tokens : List TentsToken
+  numerals : List (List ℕ)
+  is : IsSpelled places counts text all tokens numerals
+
 comma_word : (word : List ℕ) → IsWord word → begins (λ b. eqb b 44) word ≡ true → (length word ≡ 1 → ⊥) → (word ≡ 44 ∷ drop 1 word) × IsNumeral (drop 1 word)
 comma_word word w c some = grind arith
 
 spelled_counted : (places counts word rest : List ℕ) (all : TentsSoFar) → (word ≡ 44 ∷ drop 1 word) × IsNumeral (drop 1 word) → Spelled places (counts ++ value (drop 1 word) ∷ []) rest all → Spelled places counts (word ++ rest) all
-spelled_counted places counts word rest all w r =
-    let none : r.tokens ≡ [] = r.late (omega (arith, length-append counts (value (drop 1 word) ∷ []))) in
-    let text : rest ≡ numbers_text r.numerals = r.parts ∙ ap (λ (ts : List TentsToken). map tents_token_byte ts ++ numbers_text r.numerals) none in
-    record {
-      tokens = [];
-      numerals = drop 1 word ∷ r.numerals;
-      parts = ap (λ (t : List ℕ). t ++ rest) w.0 ∙ ap (λ (t : List ℕ). (44 ∷ drop 1 word) ++ t) text;
-      each = tt;
-      digits = (w.1, r.digits);
-      filled = ap (λ (ts : List TentsToken). places ++ flat_map tents_token_cells ts) (sym none) ∙ r.filled;
-      counted = sym (append_assoc counts (value (drop 1 word) ∷ []) (map value r.numerals)) ∙ r.counted;
-      late = λ some. refl;
-    }
+spelled_counted places counts word rest all w r = record { tokens = []; numerals = drop 1 word ∷ r.numerals; is = grind (arith, common_steps) }
 
 spelled_planted : (at : ℕ) (places counts word rest : List ℕ) (run : ℕ × Bool) (all : TentsSoFar) → IsWord word → length counts ≤ 0 → tents_run at (get_or word 0 0) ≡ Ok run → Spelled (places ++ run_cells run.0 run.1) counts rest all → Spelled places counts (word ++ rest) all
 spelled_planted at places counts [] rest run all w early e r = absurd w
 spelled_planted at places counts (b ∷ more) rest run all w early e r =
     let t = run_token at b run e in
-    let single : more ≡ [] = alone b more w (run_single at b run e) in
-    record {
-      tokens = t.token ∷ r.tokens;
-      numerals = r.numerals;
-      parts = ap (λ (m : List ℕ). (b ∷ m) ++ rest) single ∙ ap (λ (k : ℕ). k ∷ rest) t.byte ∙ ap (λ (u : List ℕ). tents_token_byte t.token ∷ u) r.parts;
-      each = (t.each, r.each);
-      digits = r.digits;
-      filled = sym (append_assoc places (tents_token_cells t.token) (flat_map tents_token_cells r.tokens)) ∙ ap (λ (m : List ℕ). (places ++ m) ++ flat_map tents_token_cells r.tokens) t.cells ∙ r.filled;
-      counted = r.counted;
-      late = λ some. absurd (omega arith);
-    }
+    record { tokens = t.token ∷ r.tokens; numerals = r.numerals; is = grind (arith, common_steps, alone b more w (run_single at b run e)) }
 
 read_spelled : (size : Extent) (at : ℕ) (places counts : List ℕ) (ws : List (List ℕ)) (all : TentsSoFar) → AllByRecursion IsWord ws → reading (tents_step size) (tents_end size) at (at_tents places counts) ws ≡ Ok all → Spelled places counts (concat ws) all
 unfolding reading
-read_spelled size at places counts [] all w e =
-    let d = end_cases size places counts all e in
-    record {
-      tokens = [];
-      numerals = [];
-      parts = refl;
-      each = tt;
-      digits = tt;
-      filled = append-nil places ∙ ap (λ (t : TentsSoFar). t.places) d.1;
-      counted = append-nil counts ∙ ap (λ (t : TentsSoFar). t.counts) d.1;
-      late = λ some. refl;
-    }
+read_spelled size at places counts [] all w e = record { tokens = []; numerals = []; is = grind (arith, append-nil places, append-nil counts) }
 read_spelled size at places counts (word ∷ ws) all w e =
     let b = bind_ok (tents_step size at (at_tents places counts) word) (λ t. reading (tents_step size) (tents_end size) (at + length word) t ws) all e in
     elim (step_cases size at places counts word b.0 b.1) [
       | inl c ↦ spelled_counted places counts word (concat ws) all (comma_word word w.0 c.comma c.some) (read_spelled size (at + length word) places (counts ++ value (drop 1 word) ∷ []) ws all w.1 (ap (λ t. reading (tents_step size) (tents_end size) (at + length word) t ws) c.leads ∙ b.2))
       | inr p ↦ spelled_planted at places counts word (concat ws) p.run all w.0 p.early p.read (read_spelled size (at + length word) (places ++ run_cells p.run.0 p.run.1) counts ws all w.1 (ap (λ t. reading (tents_step size) (tents_end size) (at + length word) t ws) p.leads ∙ b.2))
     ]
-
-pub record TentsDescribed (description : List ℕ) (all : TentsSoFar) : Type 0 where
-  pub tokens : List TentsToken
-  pub numerals : List (List ℕ)
-  pub parts : description ≡ map tents_token_byte tokens ++ numbers_text numerals
-  pub each : AllByRecursion IsTentsToken tokens
-  pub digits : AllByRecursion IsNumeral numerals
-  pub filled : flat_map tents_token_cells tokens ≡ all.places
-  pub counted : map value numerals ≡ all.counts
-
-pub tents_take : (size : Extent) (at : ℕ) (description : List ℕ) (all : TentsSoFar) → tents_at size at description ≡ Ok all → TentsDescribed description all
-tents_take size at description all e = grind (arith, read_spelled size at [] [] (words description) all (words_are description) e, concat_words description)
 
 -- ---- what is spelled is read
 
@@ -126,15 +84,7 @@ not_one num some e = absurd (omega (arith, e))
 
 numbers_again : (size : Extent) (places counts total : List ℕ) (numerals : List (List ℕ)) → AllByRecursion IsNumeral numerals → cells_in size + 1 ≤ length places → counts ++ map value numerals ≡ total → length total ≡ lines_of size → AreCounts size 0 total → Reads size (at_tents places total) places counts (numbers_text numerals)
 numbers_again size places counts total [] d full is len are at = grind (arith, common_steps, reading_end (tents_step size) (tents_end size) at (at_tents places counts) [] refl, end_is size places counts true)
-numbers_again size places counts total (num ∷ numerals) d full is len are at =
-    let n : ℕ = value num in
-    let more : List ℕ = map value numerals in
-    let room : length counts ≡ lines_of size → ⊥ = λ e. absurd (omega (arith, e, ap length is, len, length-append counts (n ∷ more))) in
-    let fits : n ≤ line_cells size (length counts) = subst (λ (k : ℕ). n ≤ line_cells size k) (zero-add (length counts)) (counts_at size 0 counts n more (subst (λ (c : List ℕ). AreCounts size 0 c) (sym is) are)) in
-    let cuts = joined_cuts 44 refl num (numbers_text numerals) d.0 (numbers_begin numerals) in
-    let step = count_step size at places counts (44 ∷ num) (Ok n) refl (count_read size at places counts (44 ∷ num) full room (not_one num (let some : 0 < length num = d.0.some in some)) fits) in
-    reading_turn (tents_step size) (tents_end size) at (at_tents places counts) (at_tents places (counts ++ n ∷ [])) (44 ∷ (num ++ numbers_text numerals)) (44 ∷ num) (numbers_text numerals) cuts step
-    ∙ numbers_again size places (counts ++ n ∷ []) total numerals d.1 full (append_assoc counts (n ∷ []) more ∙ is) len are (at + length (44 ∷ num))
+numbers_again size places counts total (num ∷ numerals) d full is len are at = grind (arith, common_steps, counts_at size 0 counts (value num) (map value numerals), joined_cuts 44 refl num (numbers_text numerals) d.0 (numbers_begin numerals), count_read size at places counts (44 ∷ num) full, not_one num, reading_turn (tents_step size) (tents_end size) at (at_tents places counts) (at_tents places (counts ++ value num ∷ [])) (44 ∷ (num ++ numbers_text numerals)) (44 ∷ num) (numbers_text numerals), numbers_again size places (counts ++ value num ∷ []) total numerals d.1 full)
 
 -- the blanks of a token, and whether it has a tree
 abbrev token_blanks : TentsToken → ℕ
@@ -176,18 +126,9 @@ tree_room : (size : Extent) (places trees : List ℕ) (token : TentsToken) (rest
 tree_room size places trees token rest count is = grind (arith, common_steps, blank_last)
 
 trees_again : (size : Extent) (all : TentsSoFar) (places trees : List ℕ) (tokens : List TentsToken) (rest : List ℕ) → AllByRecursion IsTentsToken tokens → length trees ≡ cells_in size → places ++ flat_map tents_token_cells tokens ≡ trees ++ 1 ∷ [] → Reads size all (trees ++ 1 ∷ []) [] rest → Reads size all places [] (map tents_token_byte tokens ++ rest)
+unfolding reading
 trees_again size all places trees [] rest each count is next at = grind (arith, common_steps)
-trees_again size all places trees (token ∷ tokens) rest each count is next at =
-    let cells : List ℕ = tents_token_cells token in
-    let later : List ℕ = flat_map tents_token_cells tokens in
-    let b : ℕ = tents_token_byte token in
-    let after : List ℕ = map tents_token_byte tokens ++ rest in
-    let run = token_run at token each.0 in
-    let cuts = cuts_single b after (rw (run_single at b (token_blanks token, token_tree token) run) refl) in
-    let step = tree_step size at b (token_blanks token) (token_tree token) places [] (token_other token each.0) run in
-    let planted : tents_step size at (at_tents places []) (b ∷ []) ≡ Ok (at_tents (places ++ cells) []) = rw (le-ltb _ _ (tree_room size places trees token later count is), cells_of_token token) at step in
-    reading_turn (tents_step size) (tents_end size) at (at_tents places []) (at_tents (places ++ cells) []) (b ∷ after) (b ∷ []) after cuts planted
-    ∙ trees_again size all (places ++ cells) trees tokens rest each.1 count (append_assoc places cells later ∙ is) next (at + 1)
+trees_again size all places trees (token ∷ tokens) rest each count is next at = grind (arith, common_steps, tree_room size places trees token (flat_map tents_token_cells tokens), token_run at token each.0, cells_of_token token, token_other token, run_length, byte_single token, words_single, trees_again size all (places ++ tents_token_cells token) trees tokens rest each.1 count)
 
 -- what tokens and numerals that fit spell is read
 pub tents_again : (size : Extent) (at : ℕ) (trees counts : List ℕ) (tokens : List TentsToken) (numerals : List (List ℕ)) → AllByRecursion IsTentsToken tokens → AllByRecursion IsNumeral numerals → length trees ≡ cells_in size → flat_map tents_token_cells tokens ≡ trees ++ 1 ∷ [] → map value numerals ≡ counts → length counts ≡ lines_of size → AreCounts size 0 counts → tents_at size at (map tents_token_byte tokens ++ numbers_text numerals) ≡ Ok (at_tents (trees ++ 1 ∷ []) counts)
@@ -201,7 +142,7 @@ unfolding tents_of
 tents_takes text p e =
     let r = parts_of game.Tents text (λ head. tents_at (extent_of head.size) head.description (drop head.description text)) (λ head s. record { size = extent_of head.size; trees = take (head.size.w * head.size.h) s.places; counts = s.counts }) p e in
     let wide = wide_of r.head.size.w r.head.size.h r.is_head.range in
-    grind (arith, tents_take _ _ _ _ r.read, tents_read _ _ _ _ wide r.read, tents_lawful _ _ _ _ wide r.read, plain_size)
+    grind (arith, read_spelled _ _ [] [] _ _ (words_are (drop r.head.description text)) r.read, concat_words (drop r.head.description text), tents_read _ _ _ _ wide r.read, tents_lawful _ _ _ _ wide r.read, plain_size)
 
 pub tents_text_again : (text : List ℕ) (p : Tents) → SpellsTents text p → tents_of text ≡ Ok p
 unfolding tents_of

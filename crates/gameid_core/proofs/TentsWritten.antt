@@ -57,17 +57,9 @@ pub numbers_are : (counts : List ℕ) → counts_text counts ≡ numbers_text (m
 numbers_are [] = refl
 numbers_are (n ∷ counts) = ap (λ (t : List ℕ). (44 ∷ decimal n) ++ t) (numbers_are counts)
 
-numerals : (size : Extent) (line : ℕ) (counts : List ℕ) → IsExtent size → AreCounts size line counts → AllByRecursion IsNumeral (map decimal counts) × (map value (map decimal counts) ≡ counts)
-numerals size line [] e h = (tt, refl)
-numerals size line (n ∷ counts) e h =
-    let small = line_small size line e in
-    let less : n < 2 ^ 64 = omega (arith, small, h.0) in
-    let rest = numerals size (line + 1) counts e h.1 in
-    ((numeral n less, rest.0), rw (digits_value-decimal own n less, rest.1) refl)
-
-counts_are_plain : (size : Extent) (line : ℕ) (counts : List ℕ) → IsExtent size → AreCounts size line counts → AllByRecursion IsPlain (map decimal counts)
-counts_are_plain size line [] e h = tt
-counts_are_plain size line (n ∷ counts) e h = grind (arith, decimal_plain n, counts_are_plain size (line + 1) counts e h.1)
+numerals : (size : Extent) (line : ℕ) (counts : List ℕ) → IsExtent size → AreCounts size line counts → AllByRecursion IsNumeral (map decimal counts) × AllByRecursion IsPlain (map decimal counts) × (map value (map decimal counts) ≡ counts)
+numerals size line [] e h = (tt, tt, refl)
+numerals size line (n ∷ counts) e h = grind (arith, line_small size line e, numerals size (line + 1) counts e h.1, digits_value-decimal own n, numeral n, decimal_plain n)
 
 -- the written text has the form of a written text, and so it spells the puzzle
 pub tents_is_written : (p : Tents) → IsTents p → IsWrittenTents (tents_text p) p
@@ -86,11 +78,11 @@ tents_is_written p h =
         each = w.each;
         digits = n.0;
         cells = w.filled;
-        counts = n.1;
+        counts = n.2;
       };
       both = refl;
       tight = w.tight;
-      plain = counts_are_plain p.size 0 p.counts h.size.extent h.range;
+      plain = n.1;
     }
 
 -- the tokens of places, with k blanks before them
