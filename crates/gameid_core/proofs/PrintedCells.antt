@@ -1,14 +1,16 @@
 -- What is printed of a cell is read back: one byte for each cell, or a number.
-use Rattle.std.proofs.Common.{◌≡◌, ◌≢◌, ◌∙◌, ◌*◌, ◌<◌, ◌≤◌, ◌++◌, ◌∷◌, ◌==◌, ℕ, List, Bool, true, false, [], Option, Some, zero, suc, length, slice_index, ap, refl, arith, if◌then◌else◌, codes}
+use Rattle.std.proofs.Common.{◌≡◌, ◌≢◌, ◌∙◌, ◌*◌, ◌<◌, ◌≤◌, ◌++◌, ◌∷◌, ◌==◌, ℕ, List, Bool, true, false, [], Option, Some, zero, suc, length, slice_index, get_or, ap, refl, arith, if◌then◌else◌, codes}
 use Rattle.std.proofs.lemmas.Grind.{common_steps}
-use Rattle.std.specs.Prelude.{IsTrue, ◌↔◌}
+use Rattle.std.specs.Prelude.{slice_get}
+use Rattle.std.proofs.lemmas.Option.{slice_get-get_or}
 use Rattle.std.proofs.lemmas.Fmt.{decimal_digit}
-use Rattle.gameid_core.specs.Puzzles.{IsLightCell}
+use Rattle.gameid_core.specs.Puzzles.{IsLight, IsLightCell, Light}
 use Rattle.gameid_core.specs.declared.light_up.cell.LightCell.{LightCell}
 use Rattle.gameid_core.specs.declared.light_up.cell.LightCell.TheVariants.{White}
 use Rattle.grid_core.specs.Extent.{Extent}
 use Rattle.gameid_core.specs.GridReading.{IsAsShown}
 use Rattle.gameid_core.specs.GridTexts.{light_mark}
+use Rattle.gameid_core.proofs.Lists.{all_at}
 
 -- the number of a place is below `values`
 pub number_fits : (hides : ℕ → Type 0) (values : ℕ) (size : Extent) (g : List ℕ) (place : ℕ) → IsAsShown hides values size g
@@ -36,12 +38,16 @@ pub white_read : (o : Option LightCell) (v : ℕ) (text after : List ℕ) (resul
 white_read o v text after result at small read is = rw at (mark_read 79 46 v text after result small refl refl read (rw at at is))
 
 -- a cell without a tree
-pub tent_read : (tree : ℕ) (answer : Bool) (v : ℕ) (text after : List ℕ) (result : Option (ℕ × ℕ))
-    → (IsTrue answer ↔ (tree ≡ 1)) → answer ≡ false → v < 2
+pub tent_read : (tree v : ℕ) (text after : List ℕ) (result : Option (ℕ × ℕ)) → (tree ≡ 1 → ⊥) → v < 2
     → ((byte : ℕ) (rest : List ℕ) → text ≡ byte ∷ rest → result ≡ Some ((if byte == 94 then 1 else 0), 1))
     → text ≡ (if tree == 1 then codes "T" else (if v == 1 then codes "^" else codes ".")) ++ after
     → result ≡ Some (v, length (if tree == 1 then codes "T" else (if v == 1 then codes "^" else codes ".")))
-tent_read tree answer v text after result means none small read is = grind (arith, mark_read 94 46 v text after result small refl refl read)
+tent_read tree v text after result none small read is = grind (arith, mark_read 94 46 v text after result small refl refl read)
+
+-- the cell at a place of the grid, and that its number is small
+pub light_known : (p : Light) (place : ℕ) (cell : LightCell) (cells : List LightCell) → IsLight p → place < p.size.w * p.size.h → cells ≡ p.cells
+    → get_or cells place White ≡ cell → (slice_get p.cells place ≡ Some cell) × IsLightCell cell
+light_known p place cell cells h lt same is = grind (arith, slice_get-get_or p.cells place White, all_at IsLightCell White p.cells place h.each)
 
 pub same_some : (a b : LightCell) (o : Option LightCell) → o ≡ Some a → o ≡ Some b → a ≡ b
 same_some a b o is also = cc

@@ -109,8 +109,7 @@ impl Printed for LightPuzzle {
     }
 
     fn push_cell(&self, text: &mut String, grid: &Grid, place: usize) -> Result<(), AllocError> {
-        let _size = self.size();
-        match self.cell(place) {
+        match self.cells()[place] {
             LightCell::White => text.push_str(if grid.get(place) == 1 { "O" } else { "." }),
             LightCell::Black => text.push_str("#"),
             LightCell::Numbered(number) => push_number(text, number),
@@ -134,8 +133,7 @@ impl Printed for TentsPuzzle {
     }
 
     fn push_cell(&self, text: &mut String, grid: &Grid, place: usize) -> Result<(), AllocError> {
-        let _size = self.size();
-        if self.tree(place) {
+        if self.trees()[place] == 1 {
             return text.push_str("T");
         }
         text.push_str(if grid.get(place) == 1 { "^" } else { "." })

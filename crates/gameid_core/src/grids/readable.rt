@@ -80,8 +80,7 @@ impl Readable for LightPuzzle {
     ghost hides = { light_hides };
 
     fn read_cell(&self, text: &[u8], place: usize) -> Option<(u8, usize)> {
-        let _size = self.size();
-        match self.cell(place) {
+        match self.cells()[place] {
             LightCell::White => read_mark(text, b'O'),
             _ => read_hidden(text),
         }
@@ -92,8 +91,7 @@ impl Readable for TentsPuzzle {
     ghost hides = { tent_hides };
 
     fn read_cell(&self, text: &[u8], place: usize) -> Option<(u8, usize)> {
-        let _size = self.size();
-        if self.tree(place) {
+        if self.trees()[place] == 1 {
             read_hidden(text)
         } else {
             read_mark(text, b'^')
