@@ -14,7 +14,6 @@ ghost use Rattle.gameid_core.specs.declared.id.fault.IdFault.TheVariants.{TooLon
 ghost use Rattle.gameid_core.specs.declared.id.game.Game.{Game};
 
 /// A text of more bytes than an ID may have is too long, whatever they are.
-#[tactic(auto, using(crate::proofs::HeadLaws::head_too_long), unfolding(crate::specs::PatternText::pattern_of, crate::specs::SoloText::solo_of, crate::specs::LightText::light_of, crate::specs::TentsText::tents_of))]
 pub fn over_long_is_too_long()
     ensures pattern { (text : List ℕ) → max_id < length text → pattern_of text ≡ Err TooLong }
     ensures solo { (text : List ℕ) → max_id < length text → solo_of text ≡ Err TooLong }

@@ -40,17 +40,10 @@ fn puzzles_of_grids(rt: HostRuntime) -> Result<(), Fail> {
 fn puzzles_of_parts(rt: HostRuntime) -> Result<(), Fail> {
     let (corner, beside) = ([1, 0, 0, 0], [0, 1, 0, 0]);
     let (two, ends) = ([0, 1, 0, 0, 0, 1], [1, 0, 1, 0, 0, 0]);
-    let none = [0; 26];
+    let (none, empty) = ([0; 26], "13x2:za,0,0,0,0,0,0,0,0,0,0,0,0,0,0,0");
     for (w, h, trees, tents, first, want) in [
         (2, 2, &corner[..], &beside[..], 0, "2x2:_c,0,1,1,0"),
-        (
-            13,
-            2,
-            &none[..],
-            &none[..],
-            0,
-            "13x2:za,0,0,0,0,0,0,0,0,0,0,0,0,0,0,0",
-        ),
+        (13, 2, &none[..], &none[..], 0, empty),
         (3, 2, &two[..], &ends[..], 1, "3x2:ac_,1,0,1,2,0"),
     ] {
         let size = Size::new(w, h);
