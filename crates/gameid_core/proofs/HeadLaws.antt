@@ -1,13 +1,13 @@
 -- The part of an ID before its colon: what is read is spelled, and what is spelled is read.
-use Rattle.std.proofs.Common.{◌≡◌, ℕ, suc, ◌+◌, ◌^◌, ◌<◌, ◌≤◌, Bool, true, false, cond, eqb, ltb, leb, List, ◌∷◌, ◌++◌, length, get_or, take, drop, Option, Some, None, Result, Ok, Err, refl, sym, ap, subst, ◌∙◌, inl, inr, arith, length-append, append_assoc, drop-cons, [], lt-ltb}
+use Rattle.std.proofs.Common.{◌≡◌, ℕ, ◌+◌, ◌^◌, ◌<◌, ◌≤◌, Bool, true, false, cond, eqb, ltb, leb, List, ◌∷◌, ◌++◌, length, take, drop, Option, Some, None, Result, Ok, Err, refl, subst, inl, inr, arith, length-append, append_assoc, [], lt-ltb}
 use Rattle.std.proofs.lemmas.Bool.Decides.{nat_tests}
 use Rattle.std.proofs.lemmas.Grind.{common_steps}
 use Rattle.std.specs.Prelude.{decimal, position}
 use Rattle.std.specs.List.{list_any, position_or_len}
 use Rattle.std.specs.Str.{all_ascii_digits}
 use Rattle.std.specs.Char.{is_ascii_digit}
-use Rattle.std.proofs.lemmas.Bool.{false≢true, eqb-true, ltb-false, lt-ltb, leb-true}
-use Rattle.std.proofs.lemmas.List.{append-nil, take-append-drop, drop_at}
+use Rattle.std.proofs.lemmas.Bool.{false≢true, ltb-false, lt-ltb, leb-true}
+use Rattle.std.proofs.lemmas.List.{take-append-drop, drop_at}
 use Rattle.std.proofs.lemmas.List.Folds.{list_any-append}
 use Rattle.std.proofs.lemmas.List.Quantifiers.{position-Some}
 use Rattle.std.proofs.lemmas.Fmt.{decimal-digits_value, digits_decimal, digits_value-decimal}
@@ -19,10 +19,10 @@ use Rattle.gameid_core.specs.Words.{begins, digits_front, after_digits, value}
 use Rattle.gameid_core.specs.Steps.{◌>>=◌}
 use Rattle.grid_core.specs.Extent.{max_side}
 use Rattle.gameid_core.specs.Head.{SizeRead, HeadRead, Sides, has_x, two_sides, side_at, sides_at, size_of, head_at, head_of, has_hash, in_range, max_id}
-use Rattle.gameid_core.specs.HeadTests.{HasNumber, GoesOn, HasTwoSides, HasSize}
-use Rattle.gameid_core.specs.SizeText.{size_text, IsSizeText, solo_size_text, IsSoloSizeText}
+use Rattle.gameid_core.specs.HeadTests.{HasNumber, GoesOn, HasSize}
+use Rattle.gameid_core.specs.SizeText.{IsSizeText, solo_size_text, IsSoloSizeText}
 use Rattle.gameid_core.proofs.Results.{bind_ok, chosen, not_refused, only_taken, taken, ok_is, and_parts}
-use Rattle.gameid_core.proofs.Numerals.{front_numeral, own, is_lead, begins_front, decimal_leads, lead_is_digit, value_positive}
+use Rattle.gameid_core.proofs.Numerals.{front_numeral, own, is_lead, begins_front, decimal_leads}
 use Rattle.gameid_core.proofs.Reading.{place}
 
 -- ---- numbers

@@ -3,15 +3,14 @@ use Rattle.std.proofs.Common.{◌≡◌, ◌↔◌, ℕ, ◌+◌, ◌≤◌, tru
 use Rattle.std.proofs.lemmas.Grind.{common_steps}
 use Rattle.std.specs.Prelude.{position}
 use Rattle.std.specs.List.{AllByRecursion, list_any, position_or_len}
-use Rattle.std.proofs.lemmas.Bool.{cases_eq, false≢true, eqb-true, eqb-false, eq-eqb, ne_eqb, ltb-true, ltb-false}
+use Rattle.std.proofs.lemmas.Bool.{cases_eq, false≢true, eq-eqb, ne_eqb, ltb-true, ltb-false}
 use Rattle.std.proofs.lemmas.List.{take_at}
 use Rattle.gameid_core.specs.declared.id.fault.IdFault.{IdFault}
 use Rattle.gameid_core.specs.declared.id.fault.IdFault.TheVariants.{TooLong, SeedId, NoColon, BadSize, Variant, SizeRange}
 use Rattle.gameid_core.specs.declared.id.game.Game.{Game}
 use Rattle.gameid_core.specs.Steps.{◌>>=◌}
-use Rattle.gameid_core.specs.Words.{begins, digits_front, after_digits, value}
-use Rattle.gameid_core.specs.Head.{SizeRead, HeadRead, Sides, has_x, two_sides, side_at, sides_at, size_of, head_at, head_of, has_hash, in_range, max_id}
-use Rattle.gameid_core.specs.HeadTests.{Lacks, Comes, HasNumber, GoesOn, HasSize, FailsSize, FailsHead, size_tests, head_tests, IsFirstFailed}
+use Rattle.gameid_core.specs.Head.{SizeRead, HeadRead, Sides, side_at, sides_at, size_of, head_at, head_of, has_hash, in_range, max_id}
+use Rattle.gameid_core.specs.HeadTests.{Lacks, Comes, HasSize, FailsSize, FailsHead, size_tests, head_tests, IsFirstFailed}
 use Rattle.gameid_core.proofs.Results.{ok_is, taken}
 use Rattle.gameid_core.proofs.HeadLaws.{position_at, sides_found, size_read}
 

@@ -1,25 +1,21 @@
 -- Light Up: reading byte by byte, and that a text is read exactly where it spells a puzzle.
-use Rattle.std.proofs.Common.{◌≡◌, ℕ, Bool, cond, ◌+◌, ◌<◌, ◌≤◌, List, [], ◌∷◌, ◌++◌, map, length, drop, get_or, Result, Ok, Err, refl, sym, ap, ◌∙◌, eqb, arith, ◌-◌, ◌*◌, true, ◌&&◌, leb, subst, inl, inr, false}
+use Rattle.std.proofs.Common.{◌≡◌, ℕ, ◌+◌, ◌≤◌, List, [], ◌∷◌, map, length, drop, get_or, Result, Ok, refl, sym, ap, ◌∙◌, arith, ◌-◌, ◌*◌, true, false}
 use Rattle.std.proofs.lemmas.Grind.{common_steps}
-use Rattle.std.proofs.lemmas.Bool.{leb-true, eqb-true}
-use Rattle.std.proofs.lemmas.List.{drop_all}
 use Rattle.gameid_core.specs.declared.id.fault.IdFault.{IdFault}
-use Rattle.gameid_core.specs.declared.id.fault.IdFault.TheVariants.{TooFew}
 use Rattle.gameid_core.specs.declared.light_up.cell.LightCell.{LightCell}
-use Rattle.gameid_core.specs.Steps.{reading, ◌>>=◌}
-use Rattle.gameid_core.specs.Cells.{fill_step, fill_end, is_letter}
+use Rattle.gameid_core.specs.Steps.{reading}
+use Rattle.gameid_core.specs.Cells.{fill_step, fill_end}
 use Rattle.gameid_core.specs.LightText.{light_token, light_cells_at, LightToken, whites, black, numbered, light_token_byte, light_token_cells, IsLightToken, SpellsLight, light_of}
 use Rattle.gameid_core.specs.OneText.{HasOneReading}
 use Rattle.gameid_core.proofs.OneReading.{reading_of}
-use Rattle.gameid_core.proofs.CellsReading.{Token, cells_spelled, cells_again, filled, fill_is, fill_end_is}
+use Rattle.gameid_core.proofs.CellsReading.{Token, cells_spelled, cells_again}
 use Rattle.gameid_core.proofs.Lists.{AllByRecursion-replicate, AllByRecursion-flat_map}
 use Rattle.std.specs.Prelude.{map, replicate}
 use Rattle.std.specs.List.{AllByRecursion, flat_map, concat}
 use Rattle.grid_core.specs.Extent.{Extent, IsExtent, max_side}
 use Rattle.gameid_core.specs.declared.light_up.cell.LightCell.TheVariants.{White, Numbered}
-use Rattle.gameid_core.specs.Head.{SizeRead, extent_of, in_range}
+use Rattle.gameid_core.specs.Head.{extent_of, in_range}
 use Rattle.gameid_core.specs.Puzzles.{IsLight, IsLightCell, IsWide, Light}
-use Rattle.gameid_core.proofs.Results.{chosen, only_taken, ok_is, and_parts}
 use Rattle.gameid_core.specs.declared.id.game.Game.TheVariants as game
 use Rattle.gameid_core.proofs.Tokens.{concat_bytes}
 use Rattle.gameid_core.proofs.HeadLaws.{parts_of, plain_size, head_again, after_front}

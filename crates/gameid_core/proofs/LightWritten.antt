@@ -1,23 +1,22 @@
 -- The written text of a puzzle of Light Up: the writer's turns, its length, that it spells the puzzle, and that no other does.
-use Rattle.std.proofs.Common.{cond, eqb, ◌≡◌, ℕ, zero, suc, ◌+◌, ◌-◌, ◌<◌, ◌≤◌, List, [], ◌∷◌, ◌++◌, map, length, drop, get_or, refl, sym, ap, ◌∙◌, inl, inr, arith, ◌*◌}
+use Rattle.std.proofs.Common.{cond, eqb, ◌≡◌, ℕ, zero, suc, ◌+◌, ◌<◌, ◌≤◌, List, [], ◌∷◌, ◌++◌, map, length, get_or, refl, ap, inl, arith}
 use Rattle.std.proofs.lemmas.Grind.{common_steps}
 use Rattle.std.proofs.lemmas.Bool.Decides.{nat_tests}
 use Rattle.std.specs.Prelude.{replicate}
 use Rattle.std.specs.List.{AllByRecursion, flat_map}
 use Rattle.gameid_core.specs.declared.light_up.cell.LightCell.{LightCell}
 use Rattle.gameid_core.specs.declared.light_up.cell.LightCell.TheVariants.{White, Black, Numbered}
-use Rattle.gameid_core.specs.Cells.{letters}
 use Rattle.gameid_core.specs.Head.{max_id}
 use Rattle.gameid_core.specs.SizeText.{size_text}
 use Rattle.gameid_core.specs.Puzzles.{Light, IsLight, IsLightCell}
-use Rattle.gameid_core.specs.LightText.{LightToken, whites, black, numbered, light_token_byte, light_token_cells, IsLightToken, IsBlackByte, AreFullLights, SpellsLight, IsWrittenLight, light_cells_text, light_text}
+use Rattle.gameid_core.specs.LightText.{LightToken, whites, black, numbered, light_token_byte, light_token_cells, IsLightToken, AreFullLights, SpellsLight, IsWrittenLight, light_cells_text, light_text}
 use Rattle.gameid_core.specs.OneText.{HasOneText}
 use Rattle.gameid_core.proofs.Lists.{all_at}
 use Rattle.gameid_core.proofs.OneReading.{one_text}
 use Rattle.gameid_core.proofs.Letters.{letters_none, letters_more, letters_last, letters_short}
 use Rattle.gameid_core.proofs.Numerals.{length_decimal}
 
--- ---- one cell of the writer's loop
+-- ---- the cells of a puzzle
 
 pub light_at : (cells : List LightCell) (i : ℕ) → AllByRecursion IsLightCell cells → i < length cells → IsLightCell (get_or cells i White)
 light_at cells i each lt = all_at IsLightCell White cells i each lt

@@ -1,5 +1,5 @@
 -- Lists.
-use Rattle.std.proofs.Common.{◌≡◌, ℕ, ◌+◌, ◌<◌, List, ◌∷◌, ◌++◌, length, arith, zero, suc, get_or, [], append-nil, sym, ◌≤◌, map, take, refl}
+use Rattle.std.proofs.Common.{◌≡◌, ℕ, ◌+◌, ◌<◌, List, ◌∷◌, ◌++◌, length, arith, zero, suc, get_or, [], map, refl}
 use Rattle.std.proofs.lemmas.Grind.{common_steps}
 use Rattle.std.specs.Prelude.{replicate}
 use Rattle.std.specs.List.{AllByRecursion, flat_map, join_with_byte}
@@ -39,7 +39,8 @@ join_some : {A : Type 0} (c : ℕ) (f : A → List ℕ) (ys : List A) (x : List 
 join_some c f [] x some = absurd (omega arith)
 join_some c f (y ∷ ys) x some = join_push c (f y) (map f ys) x
 
-pub join_more : {A : Type 0} (c : ℕ) (f : A → List ℕ) (ys : List A) (x : A) → 0 < length ys → join_with_byte c (map f (ys ++ x ∷ [])) ≡ join_with_byte c (map f ys) ++ c ∷ f x
+pub join_more : {A : Type 0} (c : ℕ) (f : A → List ℕ) (ys : List A) (x : A) → 0 < length ys
+    → join_with_byte c (map f (ys ++ x ∷ [])) ≡ join_with_byte c (map f ys) ++ c ∷ f x
 join_more c f ys x some = grind (arith, common_steps, join_some c f ys (f x))
 
 pub ruleset joins = (common_steps, join_more)

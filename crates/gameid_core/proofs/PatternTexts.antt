@@ -17,7 +17,7 @@ use Rattle.gameid_core.proofs.PatternReading.{first_cases, further_cases, end_is
 use Rattle.gameid_core.proofs.Tokens.{IsWord, numeral_word, words_are, concat_words, cuts_single}
 use Rattle.gameid_core.proofs.Reading.{reading_turn, reading_end}
 use Rattle.gameid_core.proofs.Numerals.{numeral_cuts, joined_cuts}
-use Rattle.gameid_core.specs.Head.{SizeRead, extent_of, in_range}
+use Rattle.gameid_core.specs.Head.{extent_of, in_range}
 use Rattle.gameid_core.proofs.HeadLaws.{parts_of, plain_size, head_again, after_front}
 use Rattle.gameid_core.specs.declared.id.game.Game.TheVariants as game
 
@@ -58,16 +58,29 @@ dotted_word word w dot d = grind arith
 slash_word : (word : List ℕ) → IsWord word → begins (λ b. eqb b 47) word ≡ true → word ≡ 47 ∷ []
 slash_word word w s = grind arith
 
-slash_spelled : (clues : List (List ℕ)) (clue word rest : List ℕ) (all : List (List ℕ)) → word ≡ 47 ∷ [] → Spelled (clues ++ clue ∷ []) [] rest all → Spelled clues clue (word ++ rest) all
+slash_spelled : (clues : List (List ℕ)) (clue word rest : List ℕ) (all : List (List ℕ)) → word ≡ 47 ∷ [] → Spelled (clues ++ clue ∷ []) [] rest all
+    → Spelled clues clue (word ++ rest) all
 slash_spelled clues clue word rest all slash r = record { ns = []; later = r.ns ∷ r.later; is = grind (arith, common_steps, tail_none clue) }
 
-number_spelled : (cells line at : ℕ) (clues : List (List ℕ)) (clue word rest : List ℕ) (all : List (List ℕ)) (n : ℕ) → IsWord word → clue_token cells line clue at word ≡ Ok n → Spelled clues (clue ++ n ∷ []) rest all → Spelled clues clue (word ++ rest) all
+number_spelled : (cells line at : ℕ) (clues : List (List ℕ)) (clue word rest : List ℕ) (all : List (List ℕ)) (n : ℕ) → IsWord word
+    → clue_token cells line clue at word ≡ Ok n → Spelled clues (clue ++ n ∷ []) rest all → Spelled clues clue (word ++ rest) all
 number_spelled cells line at clues [] word rest all n w t r =
-    record { ns = word ∷ r.ns; later = r.later; is = grind (arith, common_steps, first_cases cells line at n word t, numeral_word word w, join_cons 46 word r.ns) }
+    record {
+      ns = word ∷ r.ns;
+      later = r.later;
+      is = grind (
+        arith,
+        common_steps,
+        first_cases cells line at n word t,
+        numeral_word word w,
+        join_cons 46 word r.ns,
+      );
+    }
 number_spelled cells line at clues (m ∷ clue) word rest all n w t r =
     record { ns = drop 1 word ∷ r.ns; later = r.later; is = grind (arith, common_steps, further_cases cells line at n m clue word t, dotted_word word w) }
 
-read_spelled : (size : Extent) (at : ℕ) (clues : List (List ℕ)) (clue : List ℕ) (ws : List (List ℕ)) (all : List (List ℕ)) → AllByRecursion IsWord ws → reading (pattern_step size) (pattern_end size) at (so_far clues clue) ws ≡ Ok all → Spelled clues clue (concat ws) all
+read_spelled : (size : Extent) (at : ℕ) (clues : List (List ℕ)) (clue : List ℕ) (ws : List (List ℕ)) (all : List (List ℕ)) → AllByRecursion IsWord ws
+    → reading (pattern_step size) (pattern_end size) at (so_far clues clue) ws ≡ Ok all → Spelled clues clue (concat ws) all
 unfolding reading
 read_spelled size at clues clue [] all w e = grind (arith, tail_none clue, append-nil clue)
 read_spelled size at clues clue (word ∷ ws) all w e =

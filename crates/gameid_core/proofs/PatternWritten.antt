@@ -41,11 +41,14 @@ pub texts_same : (clues : List (List ℕ)) → map (join_with_byte 46) (map (map
 texts_same [] = refl
 texts_same (c ∷ clues) = ap (λ (ts : List (List ℕ)). clue_text c ∷ ts) (texts_same clues)
 
-numerals : (clue : List ℕ) → used clue < 2 ^ 64 → AllByRecursion IsNumeral (map decimal clue) × AllByRecursion IsPlain (map decimal clue) × (map value (map decimal clue) ≡ clue)
+numerals : (clue : List ℕ) → used clue < 2 ^ 64
+    → AllByRecursion IsNumeral (map decimal clue) × AllByRecursion IsPlain (map decimal clue) × (map value (map decimal clue) ≡ clue)
 numerals [] small = (tt, tt, refl)
 numerals (n ∷ clue) small = grind (arith, numerals clue, digits_value-decimal own n, numeral n, decimal_plain n)
 
-all_numerals : (size : Extent) (line : ℕ) (clues : List (List ℕ)) → IsExtent size → AreClues size line clues → AllByRecursion (AllByRecursion IsNumeral) (map (map decimal) clues) × AllByRecursion (AllByRecursion IsPlain) (map (map decimal) clues) × (map (map value) (map (map decimal) clues) ≡ clues)
+all_numerals : (size : Extent) (line : ℕ) (clues : List (List ℕ)) → IsExtent size → AreClues size line clues
+    → AllByRecursion (AllByRecursion IsNumeral) (map (map decimal) clues) × AllByRecursion (AllByRecursion IsPlain) (map (map decimal) clues)
+    × (map (map value) (map (map decimal) clues) ≡ clues)
 all_numerals size line [] e h = (tt, tt, refl)
 all_numerals size line (c ∷ clues) e h = grind (arith, numerals c, all_numerals size (line + 1) clues e h.1)
 

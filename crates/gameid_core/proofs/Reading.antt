@@ -1,14 +1,12 @@
 -- Reading a description token by token, for any game, and its first fault.
-use Rattle.std.proofs.Common.{◌≡◌, ℕ, ◌+◌, ◌-◌, ◌<◌, ◌≤◌, true, List, ◌∷◌, length, Result, Ok, Err, refl, ap, ◌∙◌, arith, [], ◌↔◌, ◌⊎◌, ◌++◌, sym, inl, inr, length-append}
+use Rattle.std.proofs.Common.{◌≡◌, ℕ, ◌+◌, ◌-◌, List, ◌∷◌, length, Result, Ok, Err, refl, ap, ◌∙◌, arith, [], ◌↔◌, ◌⊎◌, ◌++◌, sym, inl, inr, length-append}
 use Rattle.std.proofs.lemmas.Grind.{common_steps}
-use Rattle.std.proofs.lemmas.Bool.{false≢true}
 use Rattle.gameid_core.specs.declared.id.fault.IdFault.{IdFault}
-use Rattle.gameid_core.specs.Words.{begins, words, Cuts}
-use Rattle.gameid_core.specs.Steps.{reading, Fails, ◌>>=◌}
+use Rattle.gameid_core.specs.Words.{words, Cuts}
+use Rattle.gameid_core.specs.Steps.{reading, ◌>>=◌}
 use Rattle.std.specs.List.{concat}
 use Rattle.gameid_core.specs.FirstFault.{stop, FirstFault}
 use Rattle.gameid_core.proofs.Results.{bind_ok}
-use Rattle.gameid_core.proofs.Tokens.{cuts_some}
 
 pub reading_turn : {S P : Type 0} (step : ℕ → S → List ℕ → Result S IdFault) (end : S → Result P IdFault) (at : ℕ) (s t : S) (text word after : List ℕ) → Cuts text word after → step at s word ≡ Ok t → reading step end at s (words text) ≡ reading step end (at + length word) t (words after)
 unfolding reading

@@ -1,5 +1,5 @@
 -- Laws of the runs of a line, by induction on the cells.
-use Rattle.std.proofs.Common.{◌≡◌, ℕ, zero, suc, ◌+◌, List, ◌∷◌, ◌++◌, replicate, refl, ◌∙◌, ap, arith, [], ◌<◌, ◌≤◌, length, map, drop, get_or}
+use Rattle.std.proofs.Common.{◌≡◌, ℕ, zero, suc, ◌+◌, List, ◌∷◌, ◌++◌, replicate, refl, ◌∙◌, ap, arith, [], ◌<◌, ◌≤◌, length, map}
 use Rattle.std.proofs.lemmas.Grind.{common_steps}
 use Rattle.gameid_core.specs.BlackRuns.{run_of, runs_after, runs}
 use Rattle.std.specs.List.{AllByRecursion, range_with_len}
@@ -48,8 +48,6 @@ runs_used k (suc b ∷ cells) = omega (arith, runs_used (suc k) cells)
 
 pub runs_fit : (cells : List ℕ) → IsClue (length cells) (runs cells)
 runs_fit cells = grind (arith, common_steps, runs_positive, runs_used)
-
--- one cell of the writer's loop
 
 runs_line_fits : (size : Extent) (g : List ℕ) (line : ℕ) → IsClue (line_cells size line) (runs (line_list size g line))
 runs_line_fits size g line = grind (arith, common_steps, length_line, runs_fit)

@@ -1,5 +1,5 @@
 -- The written text of a puzzle of Solo: the writer's turns, its length, that it spells the puzzle, and that no other does.
-use Rattle.std.proofs.Common.{cond, eqb, ◌≡◌, ℕ, zero, suc, ◌+◌, ◌*◌, ◌≤◌, Bool, true, false, List, ◌∷◌, ◌++◌, length, refl, ap, arith, length-append, ◌<◌, get_or, drop, sym, ◌∙◌, append_assoc, [], ◌-◌, inl, inr}
+use Rattle.std.proofs.Common.{cond, eqb, ◌≡◌, ℕ, zero, suc, ◌+◌, ◌*◌, ◌≤◌, Bool, true, false, List, ◌∷◌, ◌++◌, length, refl, ap, arith, length-append, ◌<◌, []}
 use Rattle.std.proofs.lemmas.Bool.Decides.{nat_tests}
 use Rattle.std.proofs.lemmas.Grind.{common_steps}
 use Rattle.std.specs.Prelude.{decimal, replicate}
@@ -14,7 +14,7 @@ use Rattle.gameid_core.specs.Head.{max_id, max_numbers}
 use Rattle.gameid_core.specs.OneText.{HasOneText}
 use Rattle.gameid_core.proofs.OneReading.{one_text}
 use Rattle.gameid_core.proofs.Letters.{letters_short, letters_none, letters_more, letters_last}
-use Rattle.std.proofs.lemmas.Bool.{cases_lt, false≢true}
+use Rattle.std.proofs.lemmas.Bool.{false≢true}
 
 -- no more cells than the most numbers by as many
 pub solo_few : (n : ℕ) → n ≤ max_numbers → n * n ≤ max_numbers * max_numbers

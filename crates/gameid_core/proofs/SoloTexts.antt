@@ -1,24 +1,23 @@
 -- Solo: the tokens of a text, and that a text is read exactly where it spells a puzzle.
-use Rattle.std.proofs.Common.{◌≡◌, ℕ, ◌-◌, ◌<◌, ◌≤◌, true, false, ◌&&◌, eqb, leb, List, ◌∷◌, Ok, Err, refl, sym, subst, ◌∙◌, arith, [], ◌*◌, Bool, ltb, get_or, inl, inr, ◌+◌, ◌^◌, ◌++◌, map, length, ap, drop}
+use Rattle.std.proofs.Common.{◌≡◌, ℕ, ◌-◌, ◌<◌, ◌≤◌, true, false, ◌&&◌, eqb, leb, List, ◌∷◌, Ok, Err, refl, subst, ◌∙◌, arith, [], ◌*◌, Bool, get_or, ◌+◌, ◌^◌, ◌++◌, map, length, ap, drop}
 use Rattle.std.proofs.lemmas.Grind.{common_steps}
 use Rattle.std.specs.Prelude.{replicate, decimal}
-use Rattle.std.proofs.lemmas.Bool.{ne_eqb, false≢true, le-ltb, lt-ltb, leb-true, ltb-false}
+use Rattle.std.proofs.lemmas.Bool.{false≢true, le-ltb, lt-ltb, leb-true}
 use Rattle.gameid_core.specs.declared.id.fault.IdFault.TheVariants.{BadByte, NumberRange}
 use Rattle.gameid_core.specs.Words.{begins, digits_front, after_digits, value, Cuts, words}
 use Rattle.gameid_core.specs.Cells.{is_letter}
 use Rattle.gameid_core.specs.SoloText.{solo_token, solo_cells_at, SoloToken, blanks, gap, given, solo_token_text, solo_token_cells, IsSoloToken, AreApart, SpellsSolo, solo_of}
 use Rattle.gameid_core.specs.OneText.{HasOneReading}
 use Rattle.gameid_core.proofs.OneReading.{reading_of}
-use Rattle.gameid_core.proofs.Tokens.{cuts_some, cuts_single, cuts_number, kind_of, not_between, words_nil, IsWord, words_are, concat_words, alone}
+use Rattle.gameid_core.proofs.Tokens.{cuts_some, cuts_single, cuts_number, words_nil, IsWord, words_are, concat_words, alone}
 use Rattle.gameid_core.proofs.Numerals.{is_lead, lead_is_digit, numeral_cuts, numeral, own, decimal_leads, value_positive}
-use Rattle.gameid_core.proofs.Results.{and_parts, chosen, not_refused, only_taken, ok_is}
+use Rattle.gameid_core.proofs.Results.{and_parts}
 use Rattle.std.specs.List.{AllByRecursion, flat_map, concat}
 use Rattle.gameid_core.specs.Head.{in_range, max_numbers, SizeRead}
-use Rattle.gameid_core.specs.Puzzles.{IsSolo, solo_n, solo_puzzle, Solo}
+use Rattle.gameid_core.specs.Puzzles.{IsSolo, solo_puzzle, Solo}
 use Rattle.gameid_core.proofs.CellsReading.{Token, cells_spelled, cells_again}
 use Rattle.gameid_core.proofs.Lists.{AllByRecursion-replicate, AllByRecursion-flat_map}
 use Rattle.gameid_core.specs.declared.id.game.Game.TheVariants as game
-use Rattle.std.specs.Str.{all_ascii_digits}
 use Rattle.std.specs.Char.{is_ascii_digit}
 use Rattle.std.proofs.lemmas.Fmt.{decimal-digits_value, digits_value-decimal}
 use Rattle.gameid_core.proofs.HeadLaws.{parts_of, solo_size, size_of_solo, head_again, after_front}

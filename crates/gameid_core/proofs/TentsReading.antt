@@ -1,23 +1,21 @@
 -- Tents: reading a description turn by turn, and that what is read fits.
-use Rattle.std.proofs.Common.{◌≡◌, ℕ, ◌-◌, ◌+◌, ◌<◌, ◌≤◌, Bool, true, false, cond, ◌&&◌, eqb, ltb, leb, List, [], ◌∷◌, ◌++◌, length, drop, Result, Ok, Err, refl, ap, subst, ◌∙◌, inl, inr, arith, length-append, ◌*◌, take, get_or, ◌⊎◌, append_assoc}
+use Rattle.std.proofs.Common.{◌≡◌, ℕ, ◌-◌, ◌+◌, ◌<◌, ◌≤◌, Bool, true, false, cond, eqb, ltb, List, [], ◌∷◌, ◌++◌, length, drop, Result, Ok, Err, refl, ap, ◌∙◌, inl, inr, arith, length-append, take, get_or, ◌⊎◌, append_assoc}
 use Rattle.std.proofs.lemmas.Bool.Decides.{nat_tests}
 use Rattle.std.proofs.lemmas.Grind.{common_steps}
 use Rattle.std.specs.Prelude.{replicate}
 use Rattle.std.specs.Char.{is_ascii_digit}
-use Rattle.std.proofs.lemmas.Bool.{ne_eqb, false≢true, eqb-true, lt-ltb, leb-true}
+use Rattle.std.proofs.lemmas.Bool.{false≢true}
 use Rattle.std.proofs.lemmas.List.{length-replicate}
 use Rattle.grid_core.specs.Extent.{Extent}
 use Rattle.gameid_core.specs.declared.id.fault.IdFault.{IdFault}
-use Rattle.gameid_core.specs.declared.id.fault.IdFault.TheVariants.{BadByte, TooMany, TooFew}
-use Rattle.gameid_core.specs.Words.{begins, joins, words, digits_front, value, Cuts}
-use Rattle.gameid_core.specs.Steps.{reading, ◌>>=◌}
+use Rattle.gameid_core.specs.declared.id.fault.IdFault.TheVariants.{TooMany, TooFew}
+use Rattle.gameid_core.specs.Words.{begins, joins, words, digits_front, value}
+use Rattle.gameid_core.specs.Steps.{reading}
 use Rattle.gameid_core.specs.Puzzles.{line_cells, lines_of, IsWide, IsTents, AreCounts}
-use Rattle.gameid_core.specs.TentsText.{TentsToken, blanks_and_tree, only_blanks, tents_token_byte, tents_token_cells, IsTentsToken, TentsSoFar, cells_in, tents_run, run_cells, tents_tree, tents_count, tents_step, tents_end, tents_at}
+use Rattle.gameid_core.specs.TentsText.{TentsToken, blanks_and_tree, tents_token_byte, tents_token_cells, IsTentsToken, TentsSoFar, cells_in, tents_run, run_cells, tents_count, tents_step, tents_end, tents_at}
 use Rattle.gameid_core.proofs.Tokens.{front_turn, cuts_single, words_nil, words_first, words_single}
-use Rattle.gameid_core.proofs.Reading.{place}
-use Rattle.gameid_core.proofs.Results.{bind_ok, chosen, only_taken, ok_is, and_parts}
+use Rattle.gameid_core.proofs.Results.{bind_ok}
 use Rattle.std.specs.List.{AllByRecursion}
-use Rattle.gameid_core.specs.declared.id.game.Game.TheVariants as game
 use Rattle.gameid_core.proofs.Lists.{AllByRecursion-append, AllByRecursion-replicate}
 
 abbrev pub at_tents : List ℕ → List ℕ → TentsSoFar

@@ -1,10 +1,9 @@
 -- Tents: a text is read exactly where it spells a puzzle.
-use Rattle.std.proofs.Common.{◌≡◌, ℕ, ◌+◌, ◌<◌, ◌≤◌, Bool, true, false, cond, eqb, List, [], ◌∷◌, ◌++◌, map, length, drop, get_or, Result, Ok, refl, sym, ap, subst, ◌∙◌, inl, inr, arith, append_assoc, length-append, zero-add, ◌*◌, take}
+use Rattle.std.proofs.Common.{◌≡◌, ℕ, ◌+◌, ◌<◌, ◌≤◌, Bool, true, false, cond, eqb, List, [], ◌∷◌, ◌++◌, map, length, drop, get_or, Result, Ok, refl, ap, ◌∙◌, inl, inr, arith, append_assoc, ◌*◌, take}
 use Rattle.std.proofs.lemmas.Grind.{common_steps}
 use Rattle.std.specs.Prelude.{replicate}
 use Rattle.std.specs.List.{AllByRecursion, flat_map, concat}
 use Rattle.std.specs.Char.{is_ascii_digit}
-use Rattle.std.proofs.lemmas.Bool.{le-ltb}
 use Rattle.std.proofs.lemmas.List.{append-nil, take_at}
 use Rattle.grid_core.specs.Extent.{Extent}
 use Rattle.gameid_core.specs.declared.id.fault.IdFault.{IdFault}
@@ -14,13 +13,13 @@ use Rattle.gameid_core.specs.Puzzles.{AreCounts, IsTents, line_cells, lines_of, 
 use Rattle.gameid_core.specs.TentsText.{TentsSoFar, TentsToken, blanks_and_tree, only_blanks, tents_token_byte, tents_token_cells, IsTentsToken, cells_in, tents_run, run_cells, tents_step, tents_end, tents_at, SpellsTents, tents_of}
 use Rattle.gameid_core.specs.OneText.{HasOneReading}
 use Rattle.gameid_core.proofs.OneReading.{reading_of}
-use Rattle.gameid_core.proofs.Tokens.{cuts_single, words_single, IsWord, words_are, concat_words, alone}
+use Rattle.gameid_core.proofs.Tokens.{words_single, IsWord, words_are, concat_words, alone}
 use Rattle.gameid_core.proofs.Numerals.{joined_cuts}
 use Rattle.gameid_core.proofs.Results.{bind_ok}
 use Rattle.gameid_core.proofs.Reading.{reading_turn, reading_end}
 use Rattle.gameid_core.proofs.TentsReading.{run_token, run_length, byte_single, end_is, at_tents, run_single, count_read, step_cases, tents_read, tents_lawful}
 use Rattle.gameid_core.specs.declared.id.game.Game.TheVariants as game
-use Rattle.gameid_core.specs.Head.{HeadRead, extent_of, in_range, max_id}
+use Rattle.gameid_core.specs.Head.{extent_of, in_range}
 use Rattle.gameid_core.proofs.HeadLaws.{parts_of, plain_size, head_again, after_front}
 use Rattle.gameid_core.proofs.LightTexts.{wide_of, wide_range, sized}
 
@@ -84,7 +83,18 @@ not_one num some e = absurd (omega (arith, e))
 
 numbers_again : (size : Extent) (places counts total : List ℕ) (numerals : List (List ℕ)) → AllByRecursion IsNumeral numerals → cells_in size + 1 ≤ length places → counts ++ map value numerals ≡ total → length total ≡ lines_of size → AreCounts size 0 total → Reads size (at_tents places total) places counts (numbers_text numerals)
 numbers_again size places counts total [] d full is len are at = grind (arith, common_steps, reading_end (tents_step size) (tents_end size) at (at_tents places counts) [] refl, end_is size places counts true)
-numbers_again size places counts total (num ∷ numerals) d full is len are at = grind (arith, common_steps, counts_at size 0 counts (value num) (map value numerals), joined_cuts 44 refl num (numbers_text numerals) d.0 (numbers_begin numerals), count_read size at places counts (44 ∷ num) full, not_one num, reading_turn (tents_step size) (tents_end size) at (at_tents places counts) (at_tents places (counts ++ value num ∷ [])) (44 ∷ (num ++ numbers_text numerals)) (44 ∷ num) (numbers_text numerals), numbers_again size places (counts ++ value num ∷ []) total numerals d.1 full)
+numbers_again size places counts total (num ∷ numerals) d full is len are at =
+    grind (
+      arith,
+      common_steps,
+      counts_at size 0 counts (value num) (map value numerals),
+      joined_cuts 44 refl num (numbers_text numerals) d.0 (numbers_begin numerals),
+      count_read size at places counts (44 ∷ num) full,
+      not_one num,
+      reading_turn (tents_step size) (tents_end size) at (at_tents places counts) (at_tents places (counts ++ value num ∷ []))
+          (44 ∷ (num ++ numbers_text numerals)) (44 ∷ num) (numbers_text numerals),
+      numbers_again size places (counts ++ value num ∷ []) total numerals d.1 full,
+    )
 
 -- the blanks of a token, and whether it has a tree
 abbrev token_blanks : TentsToken → ℕ
@@ -128,7 +138,19 @@ tree_room size places trees token rest count is = grind (arith, common_steps, bl
 trees_again : (size : Extent) (all : TentsSoFar) (places trees : List ℕ) (tokens : List TentsToken) (rest : List ℕ) → AllByRecursion IsTentsToken tokens → length trees ≡ cells_in size → places ++ flat_map tents_token_cells tokens ≡ trees ++ 1 ∷ [] → Reads size all (trees ++ 1 ∷ []) [] rest → Reads size all places [] (map tents_token_byte tokens ++ rest)
 unfolding reading
 trees_again size all places trees [] rest each count is next at = grind (arith, common_steps)
-trees_again size all places trees (token ∷ tokens) rest each count is next at = grind (arith, common_steps, tree_room size places trees token (flat_map tents_token_cells tokens), token_run at token each.0, cells_of_token token, token_other token, run_length, byte_single token, words_single, trees_again size all (places ++ tents_token_cells token) trees tokens rest each.1 count)
+trees_again size all places trees (token ∷ tokens) rest each count is next at =
+    grind (
+      arith,
+      common_steps,
+      tree_room size places trees token (flat_map tents_token_cells tokens),
+      token_run at token each.0,
+      cells_of_token token,
+      token_other token,
+      run_length,
+      byte_single token,
+      words_single,
+      trees_again size all (places ++ tents_token_cells token) trees tokens rest each.1 count,
+    )
 
 -- what tokens and numerals that fit spell is read
 pub tents_again : (size : Extent) (at : ℕ) (trees counts : List ℕ) (tokens : List TentsToken) (numerals : List (List ℕ)) → AllByRecursion IsTentsToken tokens → AllByRecursion IsNumeral numerals → length trees ≡ cells_in size → flat_map tents_token_cells tokens ≡ trees ++ 1 ∷ [] → map value numerals ≡ counts → length counts ≡ lines_of size → AreCounts size 0 counts → tents_at size at (map tents_token_byte tokens ++ numbers_text numerals) ≡ Ok (at_tents (trees ++ 1 ∷ []) counts)
@@ -142,7 +164,14 @@ unfolding tents_of
 tents_takes text p e =
     let r = parts_of game.Tents text (λ head. tents_at (extent_of head.size) head.description (drop head.description text)) (λ head s. record { size = extent_of head.size; trees = take (head.size.w * head.size.h) s.places; counts = s.counts }) p e in
     let wide = wide_of r.head.size.w r.head.size.h r.is_head.range in
-    grind (arith, read_spelled _ _ [] [] _ _ (words_are (drop r.head.description text)) r.read, concat_words (drop r.head.description text), tents_read _ _ _ _ wide r.read, tents_lawful _ _ _ _ wide r.read, plain_size)
+    grind (
+      arith,
+      read_spelled _ _ [] [] _ _ (words_are (drop r.head.description text)) r.read,
+      concat_words (drop r.head.description text),
+      tents_read _ _ _ _ wide r.read,
+      tents_lawful _ _ _ _ wide r.read,
+      plain_size,
+    )
 
 pub tents_text_again : (text : List ℕ) (p : Tents) → SpellsTents text p → tents_of text ≡ Ok p
 unfolding tents_of

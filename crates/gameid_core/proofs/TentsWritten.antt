@@ -1,5 +1,5 @@
 -- The written text of a puzzle of Tents: the writer's turns, its length, that it spells the puzzle, and that no other does.
-use Rattle.std.proofs.Common.{◌≡◌, ℕ, zero, suc, ◌+◌, ◌*◌, ◌^◌, ◌<◌, ◌≤◌, cond, eqb, List, [], ◌∷◌, ◌++◌, map, length, drop, get_or, refl, sym, ap, ◌∙◌, inl, arith, append_assoc}
+use Rattle.std.proofs.Common.{◌≡◌, ℕ, zero, suc, ◌+◌, ◌*◌, ◌<◌, ◌≤◌, cond, eqb, List, [], ◌∷◌, ◌++◌, map, length, refl, ap, inl, arith, append_assoc}
 use Rattle.std.proofs.lemmas.Bool.Decides.{nat_tests}
 use Rattle.std.proofs.lemmas.Grind.{common_steps}
 use Rattle.std.specs.Prelude.{replicate, decimal}
@@ -10,7 +10,7 @@ use Rattle.gameid_core.specs.Head.{max_id}
 use Rattle.gameid_core.specs.Words.{IsNumeral, IsPlain, value}
 use Rattle.gameid_core.specs.SizeText.{size_text}
 use Rattle.gameid_core.specs.Puzzles.{Tents, IsTents, AreCounts}
-use Rattle.gameid_core.specs.TentsText.{TentsToken, blanks_and_tree, only_blanks, tents_token_byte, tents_token_cells, IsTentsToken, AreTight, SpellsTents, IsWrittenTents, tents_tokens, trees_text, tents_text}
+use Rattle.gameid_core.specs.TentsText.{TentsToken, blanks_and_tree, only_blanks, tents_token_cells, IsTentsToken, AreTight, SpellsTents, IsWrittenTents, tents_tokens, trees_text, tents_text}
 use Rattle.gameid_core.specs.OneText.{HasOneText}
 use Rattle.gameid_core.proofs.OneReading.{one_text}
 use Rattle.gameid_core.proofs.Numerals.{own, decimal_plain, numeral, length_decimal, plain_decimal}
@@ -57,9 +57,11 @@ pub numbers_are : (counts : List ℕ) → counts_text counts ≡ numbers_text (m
 numbers_are [] = refl
 numbers_are (n ∷ counts) = ap (λ (t : List ℕ). (44 ∷ decimal n) ++ t) (numbers_are counts)
 
-numerals : (size : Extent) (line : ℕ) (counts : List ℕ) → IsExtent size → AreCounts size line counts → AllByRecursion IsNumeral (map decimal counts) × AllByRecursion IsPlain (map decimal counts) × (map value (map decimal counts) ≡ counts)
+numerals : (size : Extent) (line : ℕ) (counts : List ℕ) → IsExtent size → AreCounts size line counts
+    → AllByRecursion IsNumeral (map decimal counts) × AllByRecursion IsPlain (map decimal counts) × (map value (map decimal counts) ≡ counts)
 numerals size line [] e h = (tt, tt, refl)
-numerals size line (n ∷ counts) e h = grind (arith, line_small size line e, numerals size (line + 1) counts e h.1, digits_value-decimal own n, numeral n, decimal_plain n)
+numerals size line (n ∷ counts) e h =
+    grind (arith, line_small size line e, numerals size (line + 1) counts e h.1, digits_value-decimal own n, numeral n, decimal_plain n)
 
 -- the written text has the form of a written text, and so it spells the puzzle
 pub tents_is_written : (p : Tents) → IsTents p → IsWrittenTents (tents_text p) p

@@ -1,13 +1,15 @@
 //! Game IDs of Pattern.
 
-ghost use Rattle.std.specs.Prelude.{◌≡◌, ◌↔◌, ℕ, ◌<◌, ◌≤◌, ◌+◌, ◌^◌, [], ◌∷◌, length, map, IfOk, IfErr, Ok, Err, List, ◌⊎◌};
+ghost use Rattle.std.specs.Prelude.{◌≡◌, ◌↔◌, ℕ, ◌<◌, ◌≤◌, ◌+◌, ◌^◌, [], ◌∷◌, length, map, IfOk, IfErr, Ok, Err, List, ◌⊎◌, if◌then◌else◌};
+ghost use Rattle.std.specs.Char.{is_ascii_digit};
 ghost use Rattle.gameid_core.specs.Steps.{Gives, Fails};
 ghost use Rattle.gameid_core.specs.Head.{head_of};
 ghost use Rattle.gameid_core.specs.declared.id.fault.IdFault.{IdFault};
+ghost use Rattle.gameid_core.specs.declared.id.fault.IdFault.TheVariants.{BadByte};
 ghost use Rattle.gameid_core.specs.Puzzles.{used as used_cells};
 ghost use Rattle.gameid_core.specs.Puzzles.{Pattern};
 ghost use Rattle.gameid_core.specs.PatternText.{SpellsPattern, pattern_of, GivesNumber, clue_number, clue_token, clues_at, pattern_step, pattern_end, nothing_yet};
-ghost use Rattle.gameid_core.specs.Words.{digits_front, after_digits, words};
+ghost use Rattle.gameid_core.specs.Words.{begins, digits_front, after_digits, words};
 ghost use Rattle.gameid_core.specs.FirstFault.{FirstFault};
 ghost use Rattle.gameid_core.specs.OneText.{HasOneReading};
 ghost use Rattle.gameid_core.specs.FirstTokens.{TakesNumber};
@@ -22,42 +24,6 @@ use crate::text::number::{first_of, leading_number, starts_with_digit};
 use grid_core::Size;
 use std::alloc::Global;
 
-/// The number of a clue, whose digits stand in front of the text, and the text after it.
-#[tactic(auto, unfolding(crate::specs::PatternText::clue_number))]
-fn number(
-    cells: u8,
-    line: usize,
-    before: u32,
-    at: usize,
-    digits: &[u8],
-) -> Result<(u8, &[u8]), IdFault>
-    requires { before ≤ 1000 }
-    ensures { GivesNumber (clue_number cells line before at (digits_front digits.now))
-        (after_digits digits.now) result }
-{
-    let (number, rest) = leading_number(digits);
-    if number == 0 {
-        return Err(IdFault::NumberRange(at));
-    }
-    if before + number > u32::from(cells) {
-        return Err(IdFault::LineTooFull(line));
-    }
-    Ok((number as u8, rest))
-}
-
-/// The first number of a clue, and the text after it.
-#[tactic(auto, using(crate::proofs::PatternReading::firsts))]
-fn first_number(cells: u8, line: usize, at: usize, rest: &[u8]) -> Result<(u8, &[u8]), IdFault>
-    requires { 0 < length rest.now }
-    ensures { TakesNumber (clue_token cells line [] at) rest.now result }
-{
-    if starts_with_digit(rest) {
-        number(cells, line, 0, at, rest)
-    } else {
-        Err(IdFault::BadByte(at))
-    }
-}
-
 /// A line's clue as far as it is read, and the cells that its numbers use, with a gap behind each.
 #[derive(Drop)]
 struct ClueSoFar<'a> {
@@ -67,30 +33,36 @@ struct ClueSoFar<'a> {
     before: u32,
 }
 
-/// A further number of a clue, and the text after it.
-fn further_number<'a>(
+/// The number whose digits stand in front of the text, and the text after it. The number's token
+/// and the digits begin at these places.
+#[tactic(auto, unfolding(crate::specs::PatternText::clue_number))]
+fn number<'a>(
     clue: &ClueSoFar<'_>,
+    token: usize,
     at: usize,
-    first: u8,
-    after: &'a [u8],
+    digits: &'a [u8],
 ) -> Result<(u8, &'a [u8]), IdFault>
-    requires some { 0 < length clue.now.numbers.now }
-    requires used { clue.now.before ≡ used_cells clue.now.numbers.now }
-    requires small { clue.now.before ≤ 1000 }
-    requires place { at < 2 ^ 32 }
-    ensures { TakesNumber (clue_token clue.now.cells clue.now.line clue.now.numbers.now at)
-        (first ∷ after.now) result }
+    requires { clue.now.before ≤ 1000 }
+    ensures { GivesNumber
+        (if begins is_ascii_digit digits.now
+        then clue_number clue.now.cells clue.now.line clue.now.before at (digits_front digits.now)
+        else Err (BadByte token)) (after_digits digits.now) result }
 {
-    if first != b'.' {
-        return Err(IdFault::BadByte(at));
+    if !starts_with_digit(digits) {
+        return Err(IdFault::BadByte(token));
     }
-    if !starts_with_digit(after) {
-        return Err(IdFault::BadByte(at));
+    let (number, rest) = leading_number(digits);
+    if number == 0 {
+        return Err(IdFault::NumberRange(at));
     }
-    number(clue.cells, clue.line, clue.before, at + 1, after)
+    if clue.before + number > u32::from(clue.cells) {
+        return Err(IdFault::LineTooFull(clue.line));
+    }
+    Ok((number as u8, rest))
 }
 
-/// The number that comes next in a clue, and the text after it.
+/// The number that comes next in a clue, and the text after it: a further number stands behind '.'.
+#[tactic(auto, using(crate::proofs::PatternReading::numbers))]
 fn next_number<'a>(
     clue: &ClueSoFar<'_>,
     at: usize,
@@ -106,10 +78,12 @@ fn next_number<'a>(
         rest.now result }
 {
     if clue.numbers.is_empty() {
-        first_number(clue.cells, clue.line, at, rest)
-    } else {
-        further_number(clue, at, first, after)
+        return number(clue, at, at, rest);
     }
+    if first != b'.' {
+        return Err(IdFault::BadByte(at));
+    }
+    number(clue, at, at + 1, after)
 }
 
 /// The clues of a description, which begins at that place of the ID.

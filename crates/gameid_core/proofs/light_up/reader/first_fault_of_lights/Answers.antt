@@ -1,5 +1,4 @@
 use Rattle.gameid_core.proofs.Reading.{exactly}
-use Rattle.gameid_core.specs.LightText.{light_cells_at}
 use Rattle.gameid_core.proofs.light_up.reader.first_fault_of_lights.Goals as goal
 
 pub returns : goal.returns

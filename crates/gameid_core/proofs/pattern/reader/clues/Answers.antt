@@ -1,6 +1,5 @@
 use Rattle.std.proofs.Common.{arith}
 use Rattle.std.proofs.lemmas.Grind.{common_steps}
-use Rattle.gameid_core.specs.PatternText.{clues_at, pattern_step}
 use Rattle.gameid_core.specs.Steps.{reading}
 use Rattle.gameid_core.proofs.Tokens.{words_single}
 use Rattle.gameid_core.proofs.PatternReading.{used_push, token_small}

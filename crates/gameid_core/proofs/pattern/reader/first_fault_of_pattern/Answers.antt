@@ -1,5 +1,4 @@
 use Rattle.gameid_core.proofs.Reading.{exactly}
-use Rattle.gameid_core.specs.PatternText.{clues_at}
 use Rattle.gameid_core.proofs.pattern.reader.first_fault_of_pattern.Goals as goal
 
 pub returns : goal.returns

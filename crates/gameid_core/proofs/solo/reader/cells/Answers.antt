@@ -1,8 +1,6 @@
 use Rattle.std.proofs.Common.{arith}
 use Rattle.std.proofs.lemmas.Grind.{common_steps}
-use Rattle.gameid_core.specs.SoloText.{solo_cells_at}
 use Rattle.gameid_core.specs.Steps.{reading}
-use Rattle.gameid_core.specs.Cells.{fill_step}
 use Rattle.gameid_core.proofs.solo.reader.cells.Goals as goal
 
 pub loop-first-preserved : goal.loop-first-preserved

@@ -1,5 +1,4 @@
 use Rattle.gameid_core.proofs.Reading.{exactly}
-use Rattle.gameid_core.specs.SoloText.{solo_cells_at}
 use Rattle.gameid_core.proofs.solo.reader.first_fault_of_solo.Goals as goal
 
 pub returns : goal.returns

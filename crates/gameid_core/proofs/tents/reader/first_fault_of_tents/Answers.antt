@@ -1,5 +1,4 @@
 use Rattle.gameid_core.proofs.Reading.{exactly}
-use Rattle.gameid_core.specs.TentsText.{tents_at}
 use Rattle.gameid_core.proofs.tents.reader.first_fault_of_tents.Goals as goal
 
 pub returns : goal.returns
