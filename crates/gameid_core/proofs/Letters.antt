@@ -1,4 +1,4 @@
--- The letters of a run of cells, and the written text of Solo's cells.
+-- The letters of a run of cells.
 use Rattle.std.proofs.Common.{◌≡◌, ℕ, suc, ◌+◌, ◌-◌, ◌/◌, ◌%◌, ◌<◌, ◌≤◌, List, ◌∷◌, ◌++◌, length, refl, arith, []}
 use Rattle.std.proofs.lemmas.Grind.{common_steps}
 use Rattle.std.specs.Prelude.{replicate}
@@ -29,7 +29,7 @@ letters_more k long = grind (arith, letters_are k, letters_suc ((k - 26 - 1) / 2
 pub letters_last : (k : ℕ) → 0 < k → k ≤ 26 → letters k ≡ (96 + k) ∷ []
 letters_last k some short = grind (arith, letters_are k 0 (k - 1) some, letters_one (k - 1))
 
--- ---- Solo's cells
+-- ---- how many
 
 pub letters_of_length : (q r : ℕ) → length (letters_of q r) ≡ q + 1
 unfolding letters_of

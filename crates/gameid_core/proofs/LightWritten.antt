@@ -1,4 +1,4 @@
--- The written text of a puzzle of Light Up: the writer's turns, its length, that it spells the puzzle, and that no other does.
+-- The written text of a puzzle of Light Up: its length, that it spells the puzzle, and that no other does.
 use Rattle.std.proofs.Common.{cond, eqb, ◌≡◌, ℕ, zero, suc, ◌+◌, ◌<◌, ◌≤◌, List, [], ◌∷◌, ◌++◌, map, length, get_or, refl, ap, inl, arith}
 use Rattle.std.proofs.lemmas.Grind.{common_steps}
 use Rattle.std.proofs.lemmas.Bool.Decides.{nat_tests}

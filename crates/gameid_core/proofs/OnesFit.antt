@@ -1,4 +1,4 @@
--- The ones of a line are no more than its cells; the turns of counting them.
+-- The ones of a line are no more than its cells.
 use Rattle.std.proofs.Common.{◌≡◌, ℕ, zero, suc, ◌+◌, ◌*◌, ◌≤◌, List, [], ◌∷◌, map, length, arith}
 use Rattle.std.proofs.lemmas.Grind.{common_steps}
 use Rattle.std.specs.List.{All, AllByRecursion, range_with_len}

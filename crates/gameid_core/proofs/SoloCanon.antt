@@ -1,4 +1,4 @@
--- The written text of a puzzle of Solo: the writer's turns, its length, that it spells the puzzle, and that no other does.
+-- The written text of a puzzle of Solo: its length, that it spells the puzzle, and that no other does.
 use Rattle.std.proofs.Common.{cond, eqb, ◌≡◌, ℕ, zero, suc, ◌+◌, ◌*◌, ◌≤◌, Bool, true, false, List, ◌∷◌, ◌++◌, length, refl, ap, arith, length-append, ◌<◌, []}
 use Rattle.std.proofs.lemmas.Bool.Decides.{nat_tests}
 use Rattle.std.proofs.lemmas.Grind.{common_steps}

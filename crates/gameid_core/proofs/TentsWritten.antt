@@ -1,4 +1,4 @@
--- The written text of a puzzle of Tents: the writer's turns, its length, that it spells the puzzle, and that no other does.
+-- The written text of a puzzle of Tents: its length, that it spells the puzzle, and that no other does.
 use Rattle.std.proofs.Common.{◌≡◌, ℕ, zero, suc, ◌+◌, ◌*◌, ◌<◌, ◌≤◌, cond, eqb, List, [], ◌∷◌, ◌++◌, map, length, refl, ap, inl, arith, append_assoc}
 use Rattle.std.proofs.lemmas.Bool.Decides.{nat_tests}
 use Rattle.std.proofs.lemmas.Grind.{common_steps}
@@ -17,7 +17,7 @@ use Rattle.gameid_core.proofs.Numerals.{own, decimal_plain, numeral, length_deci
 use Rattle.gameid_core.proofs.PatternWritten.{line_small}
 use Rattle.gameid_core.proofs.TentsTexts.{numbers_text}
 
--- ---- one cell of the writer's loop
+-- ---- the numbers of tents
 
 abbrev pub counts_text : List ℕ → List ℕ
 counts_text counts = flat_map (λ n. 44 ∷ decimal n) counts
