@@ -1,4 +1,5 @@
 -- The cells of a grid that were drawn so far are the list of draws.
+use Rattle.std.proofs.lemmas.Grind.{elements}
 use Rattle.std.proofs.Common.{◌≡◌, ℕ, zero, suc, ◌+◌, ◌<◌, Bool, List, [], ◌∷◌, ◌++◌, refl, sym, ◌∙◌, ap, arith, add-one, take, length, length-append, cond, get_or-set_other, inl, inr}
 use Rattle.std.specs.Prelude.{nat_lt, slice_index, slice_set}
 use Rattle.std.proofs.lemmas.Grind.{common_steps}
@@ -36,34 +37,18 @@ IsDrawn-none black cells s grid long = record {
   full = λ e k lt. absurd (omega arith);
 }
 
--- a draw is never less than 0, and always less than 100
-drawn_white : (black d v : ℕ) → v ≡ cond (nat_lt d black) 1 0 → black ≡ 0 → v ≡ 0
-drawn_white black d v value e = value ∙ ap (λ b. cond b 1 0) (le-ltb d black (omega arith))
-
-drawn_full : (black d v : ℕ) → v ≡ cond (nat_lt d black) 1 0 → d < 100 → black ≡ 100 → v ≡ 1
-drawn_full black d v value below e = value ∙ ap (λ b. cond b 1 0) (lt-ltb d black (omega arith))
-
--- one more cell of a number that all before it hold
-one_more : (grid : List ℕ) (place v x : ℕ) → place < length grid → v ≡ x → ((k : ℕ) → k < place → slice_index grid k ≡ x)
-    → (k : ℕ) → k < place + 1 → slice_index (slice_set grid place v) k ≡ x
-one_more grid place v x within is before k lt = elim (cases_eq k place) [
-  | inl e ↦ get_or-set_at grid place k v 0 e within ∙ is
-  | inr ne ↦ get_or-set_other grid place k v 0 ne ∙ before k (omega arith)
-]
-
 pub IsDrawn-more : (black cells place d v : ℕ) (s now u : Stream) (grid : List ℕ)
     → IsDrawn black cells place s now grid → ◌≡◌ {A = ℕ × Stream} (d, u) (draw_below 100 now) → d < 100 → v ≡ cond (nat_lt d black) 1 0 → place < cells
     → IsDrawn black cells (place + 1) s u (slice_set grid place v)
 IsDrawn-more black cells place d v s now u grid before draw below value within =
-    let l = before.long in
-    let inside : place < length grid = omega arith in
+    let inside : place < length grid = omega (arith, before.long) in
     record {
-      long = grind (arith, common_steps);
+      long = grind (arith, common_steps, before.long);
       drawn =
           ap (λ xs. (xs, u)) (take_more_set grid place v inside ∙ ap (λ w. take place grid ++ w ∷ []) value)
           ∙ black_cells-more black place d s now u (take place grid) before.drawn draw;
-      white = λ e. one_more grid place v 0 inside (drawn_white black d v value e) (before.white e);
-      full = λ e. one_more grid place v 1 inside (drawn_full black d v value below e) (before.full e);
+      white = λ e k lt. grind (arith, elements, before.white e k);
+      full = λ e k lt. grind (arith, elements, before.full e k);
     }
 
 pub IsDrawn-all : (black cells : ℕ) (s now : Stream) (grid : List ℕ) → IsDrawn black cells cells s now grid

@@ -1,37 +1,35 @@
 -- A filter of a range grows by its end, and keeps each number that passes.
-use Rattle.std.proofs.Common.{◌≡◌, ◌≢◌, ℕ, zero, suc, ◌+◌, ◌<◌, Bool, true, false, true≢false, eqb, cond, List, [], ◌∷◌, ◌++◌, sym, ◌∙◌, ap, subst, arith, add-one, map-id, inl, inr}
+use Rattle.std.proofs.Common.{◌≡◌, ◌≢◌, ℕ, zero, suc, ◌+◌, ◌<◌, Bool, true, false, eqb, cond, List, [], ◌∷◌, ◌++◌, sym, ◌∙◌, ap, subst, arith, add-one, map-id, inl, inr}
 use Rattle.std.specs.Prelude.{filter, Contains}
 use Rattle.std.specs.List.{AllByRecursion, range_with_len}
-use Rattle.std.proofs.lemmas.Bool.{cases_eq, eq-eqb}
+use Rattle.std.proofs.lemmas.Bool.{cases_eq}
 use Rattle.std.proofs.lemmas.List.{append-nil}
 use Rattle.std.proofs.lemmas.List.Elements.{All-contains, All-from_recursion, Contains-append_left, Contains-append_right, filter-append}
 use Rattle.std.proofs.lemmas.List.FromFn.{map-range_with_len_more}
 
 -- one more number of a range
 pub range_more : (k : ℕ) → range_with_len 0 (k + 1) ≡ range_with_len 0 k ++ k ∷ []
-range_more k =
-    sym (map-id (range_with_len 0 (k + 1))) ∙ map-range_with_len_more (λ x. x) 0 k k (omega arith) ∙ ap (λ xs. xs ++ k ∷ []) (map-id (range_with_len 0 k))
+range_more k = simp map-id at (map-range_with_len_more (λ x. x) 0 k k (omega arith))
 
 filter_more : (p : ℕ → Bool) (k : ℕ) → filter p (range_with_len 0 (k + 1)) ≡ filter p (range_with_len 0 k) ++ cond (p k) (k ∷ []) []
-filter_more p k = ap (filter p) (range_more k) ∙ filter-append p (range_with_len 0 k) (k ∷ [])
+filter_more p k = rw range_more (filter-append p (range_with_len 0 k) (k ∷ []))
 
 pub filter_kept : (p : ℕ → Bool) (k : ℕ) (xs ys : List ℕ) → p k ≡ true → xs ≡ filter p (range_with_len 0 k) → ys ≡ xs ++ k ∷ [] → ys ≡ filter p (range_with_len 0 (k + 1))
-filter_kept p k xs ys passes before more =
-    more ∙ ap (λ zs. zs ++ k ∷ []) before ∙ sym (filter_more p k ∙ ap (λ b. filter p (range_with_len 0 k) ++ cond b (k ∷ []) []) passes)
+filter_kept p k xs ys passes before more = grind (arith, filter_more p k)
 
 pub filter_skipped : (p : ℕ → Bool) (k : ℕ) (xs : List ℕ) → p k ≡ false → xs ≡ filter p (range_with_len 0 k) → xs ≡ filter p (range_with_len 0 (k + 1))
-filter_skipped p k xs fails before =
-    before ∙ sym (append-nil (filter p (range_with_len 0 k))) ∙ sym (filter_more p k ∙ ap (λ b. filter p (range_with_len 0 k) ++ cond b (k ∷ []) []) fails)
+filter_skipped p k xs fails before = grind (arith, filter_more p k, append-nil (filter p (range_with_len 0 k)))
 
 -- a number of the range that passes is kept
 pub passes_kept : (p : ℕ → Bool) (n q : ℕ) → q < n → p q ≡ true → Contains (filter p (range_with_len 0 n)) q
 passes_kept p zero q lt on = absurd (omega arith)
-passes_kept p (suc n) q lt on = subst (λ xs. Contains xs q) (sym (ap (λ k. filter p (range_with_len 0 k)) (sym (add-one n)) ∙ filter_more p n)) (elim (cases_eq q n) [
-  | inl e ↦ Contains-append_right (filter p (range_with_len 0 n)) (cond (p n) (n ∷ []) []) q
-      (subst (λ b. Contains (cond b (n ∷ []) []) q) (sym on ∙ ap p e) (0, omega arith, sym e))
-  | inr ne ↦ Contains-append_left (filter p (range_with_len 0 n)) (cond (p n) (n ∷ []) []) q (passes_kept p n q (omega arith) on)
-])
+passes_kept p (suc n) q lt on =
+    subst (λ xs. Contains xs q) (sym (ap (λ k. filter p (range_with_len 0 k)) (sym (add-one n)) ∙ filter_more p n)) (elim (cases_eq q n) [
+      | inl e ↦ Contains-append_right (filter p (range_with_len 0 n)) (cond (p n) (n ∷ []) []) q (grind arith)
+      | inr ne ↦ Contains-append_left (filter p (range_with_len 0 n)) (cond (p n) (n ∷ []) []) q (passes_kept p n q (omega arith) on)
+    ])
 
 -- no number after the head is the head
 pub head_apart : (xs : List ℕ) (x q : ℕ) → AllByRecursion (λ y. eqb x y ≡ false) xs → Contains xs q → q ≢ x
-head_apart xs x q apart held = λ e. true≢false (sym (eq-eqb x q (sym e)) ∙ All-contains (λ y. eqb x y ≡ false) xs q (All-from_recursion (λ y. eqb x y ≡ false) xs apart) held)
+head_apart xs x q apart held = λ e.
+    grind (arith, All-contains (λ y. eqb x y ≡ false) xs q (All-from_recursion (λ y. eqb x y ≡ false) xs apart) held)

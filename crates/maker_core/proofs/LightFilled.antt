@@ -1,4 +1,5 @@
 -- What is drawn for a filling of Light Up is its definition.
+use Rattle.std.proofs.lemmas.Grind.{elements}
 use Rattle.std.proofs.Common.{◌≡◌, ℕ, ◌*◌, ◌<◌, true, List, false, inl, inr, arith, map, length, refl, sym, ap, ◌∙◌}
 use Rattle.std.proofs.lemmas.List.{get_or_default, get_or-map, get_or_past, length-map}
 use Rattle.std.proofs.lemmas.Bool.{cases_lt}
@@ -54,10 +55,7 @@ puzzle_is size cells bulbs p q blacks numbers = rw (sym blacks) numbers
 -- black cells alone
 black_at : (size : Extent) (cells : List ℕ) → AreAll 1 cells → (c : ℕ) → white (lights_of size cells) c ≡ false
 unfolding white lights_of
-black_at size cells all c = elim (cases_lt c (length cells)) [
-  | inl low ↦ ap is_white (get_or-map (λ v. if v == 1 then Black else White) cells c 0 Black low) ∙ rw (all c low) refl
-  | inr high ↦ ap is_white (get_or_past (map (λ v. if v == 1 then Black else White) cells) c Black (let l = length-map cells (λ v. if v == 1 then Black else White) in omega arith))
-]
+black_at size cells all c = grind (arith, all c, get_or-map, get_or_past, length-map)
 
 black_long : (size : Extent) (cells : List ℕ) → length cells ≡ size.w * size.h → length (lights_of size cells).cells ≡ light_cells (lights_of size cells)
 unfolding lights_of

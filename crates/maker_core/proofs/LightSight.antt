@@ -1,8 +1,9 @@
 -- Who sees whom, whatever the numbers, and both ways; and bulbs that are placed in turn.
+use Rattle.std.proofs.lemmas.Grind.{elements}
 use Rattle.std.proofs.Common.{◌≡◌, ℕ, ◌+◌, ◌*◌, ◌/◌, ◌%◌, ◌<◌, Bool, true, false, not, ◌&&◌, List, eqb, length, get_or, map, refl, sym, ap, ◌∙◌, arith, inl, inr, zero, suc, replicate, add-one}
 use Rattle.std.specs.Prelude.{◌||◌, if◌then◌else◌, slice_index, slice_set, filter}
 use Rattle.std.specs.List.{range_with_len}
-use Rattle.std.proofs.lemmas.Bool.{cases_lt, and_parts, and_from, or_cases, or_left, or_right, eq-eqb}
+use Rattle.std.proofs.lemmas.Bool.{cases_lt, cond_both, and_parts, and_from, or_cases, or_left, or_right, eq-eqb}
 use Rattle.std.proofs.lemmas.Cmp.{nat_eq_equiv}
 use Rattle.std.proofs.lemmas.List.{get_or_past}
 use Rattle.std.proofs.lemmas.List.FromFn.{get_or-map-range_with_len, length-map-range_with_len}
@@ -13,26 +14,16 @@ use Rattle.fields_core.specs.Light.{light_cells, is_white, white, bulb, bulbs_be
 use Rattle.fields_core.proofs.LightHouseLaws.{clear-from, row-both, row-self, column-both}
 use Rattle.maker_core.specs.LightFilling.{numbered_cell, with_numbers, with_bulb, bulbs_after, white_places}
 use Rattle.grid_core.specs.Grids.{IsGrid}
-use Rattle.maker_core.proofs.Shuffles.{if_either}
 use Rattle.maker_core.proofs.WrittenGrids.{grid_with, zeros-grid}
 
 -- ---- numbers change no colour
 pub number_at : (p : Light) (g : List ℕ) (c : ℕ) → c < light_cells p → get_or (with_numbers p g).cells c Black ≡ numbered_cell p g c
 unfolding with_numbers
-number_at p g c lt = get_or-map-range_with_len (numbered_cell p g) 0 (light_cells p) c c Black lt (omega arith)
-
-colour_of : (b : Bool) (n : ℕ) → is_white (if b then White else Numbered n) ≡ b
-colour_of true n = refl
-colour_of false n = refl
+number_at p g c lt = grind (arith, get_or-map-range_with_len)
 
 pub same_white : (p : Light) (g : List ℕ) → length p.cells ≡ light_cells p → (c : ℕ) → white (with_numbers p g) c ≡ white p c
 unfolding white numbered_cell with_numbers
-same_white p g long c = elim (cases_lt c (light_cells p)) [
-  | inl low ↦ ap is_white (number_at p g c low) ∙ colour_of (white p c) (bulbs_beside p g c)
-  | inr high ↦
-      ap is_white (get_or_past (map (numbered_cell p g) (range_with_len 0 (light_cells p))) c Black (let l = length-map-range_with_len (numbered_cell p g) 0 (light_cells p) in omega arith))
-      ∙ sym (ap is_white (get_or_past p.cells c Black (omega arith)))
-]
+same_white p g long c = grind (arith, number_at p g c, get_or_past, length-map-range_with_len)
 
 -- so the same cells see each other
 same_sees : (p : Light) (g : List ℕ) → length p.cells ≡ light_cells p → (a b : ℕ) → sees (with_numbers p g) a b ≡ sees p a b
@@ -52,25 +43,18 @@ column-self p c on = and_from _ _ (eq-eqb (c % p.size.w) (c % p.size.w) refl) (c
 
 pub sees_back : (p : Light) (a b : ℕ) → white p a ≡ true → sees p a b ≡ true → sees p b a ≡ true
 unfolding sees
-sees_back p a b on seen =
-    let parts = and_parts (not (eqb a b)) _ seen in
-    and_from _ _ (ap not (nat_eq_equiv.symm b a) ∙ parts.0)
-    (elim (or_cases (joined_in_row p a b) (joined_in_column p a b) parts.1) [
-      | inl row ↦ or_left _ _ (row-both p a b a row (row-self p a on))
-      | inr column ↦ or_right _ _ (column-both p a b a column (column-self p a on))
-    ])
+sees_back p a b on seen = grind (arith, row-both p a b a, row-self p a, column-both p a b a, column-self p a)
 
 pub sees_itself : (p : Light) (a : ℕ) → sees p a a ≡ false
 unfolding sees
-sees_itself p a = ap (λ t. not t && (joined_in_row p a a || joined_in_column p a a)) (eq-eqb a a refl)
+sees_itself p a = grind arith
 
 -- a bulb that is seen
 pub seen_bulb : (p : Light) (g : List ℕ) (c : ℕ) → sees_bulb p g c ≡ true → (d : ℕ) × (d < light_cells p) × (sees p c d ≡ true) × (bulb g d ≡ true)
 unfolding sees_bulb
 seen_bulb p g c on =
     let w = any_below-some (λ d. sees p c d && bulb g d) (light_cells p) on in
-    let parts = and_parts (sees p c w.0) _ w.2 in
-    (w.0, w.1, parts.0, parts.1)
+    (w.0, w.1, grind arith, grind arith)
 
 pub bulb_seen : (p : Light) (g : List ℕ) (c d : ℕ) → d < light_cells p → sees p c d ≡ true → bulb g d ≡ true → sees_bulb p g c ≡ true
 unfolding sees_bulb
@@ -87,7 +71,7 @@ unfolding bulbs_after with_bulb
 bulbs_after-grid p order zero = zeros-grid (light_cells p)
 bulbs_after-grid p order (suc k) =
     let before = bulbs_after-grid p order k in
-    if_either (IsGrid (light_cells p) 2) (bulb (bulbs_after p order k) (slice_index order k) || sees_bulb p (bulbs_after p order k) (slice_index order k)) _ _
+    cond_both (bulb (bulbs_after p order k) (slice_index order k) || sees_bulb p (bulbs_after p order k) (slice_index order k)) _ _ (IsGrid (light_cells p) 2)
     (λ held. before) (λ none. grid_with (light_cells p) (slice_index order k) 1 _ _ (omega arith) refl before)
 
 pub bulbs_none : (p : Light) (order : List ℕ) → replicate (light_cells p) 0 ≡ bulbs_after p order 0
@@ -97,14 +81,6 @@ bulbs_none p order = refl
 pub bulbs_next : (p : Light) (order : List ℕ) (k : ℕ) → bulbs_after p order (k + 1) ≡ with_bulb p (bulbs_after p order k) (slice_index order k)
 unfolding bulbs_after
 bulbs_next p order k = rw add-one refl
-
-pub with_bulb-held : (p : Light) (g : List ℕ) (c : ℕ) → (bulb g c || sees_bulb p g c) ≡ true → with_bulb p g c ≡ g
-unfolding with_bulb
-with_bulb-held p g c held = rw held refl
-
-pub with_bulb-new : (p : Light) (g : List ℕ) (c : ℕ) → (bulb g c || sees_bulb p g c) ≡ false → with_bulb p g c ≡ slice_set g c 1
-unfolding with_bulb
-with_bulb-new p g c none = rw none refl
 
 -- what the placing of bulbs cites
 pub ruleset bulb_laws = (bulbs_none, bulbs_next, bulbs_after-grid)

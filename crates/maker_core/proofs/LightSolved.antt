@@ -1,9 +1,10 @@
 -- White cells that were taken in turn, in any order, hold or see a bulb, and no bulb sees a bulb: the grid solves the
 -- puzzle with all numbers.
+use Rattle.std.proofs.lemmas.Grind.{elements}
 use Rattle.std.proofs.Common.{◌≡◌, ℕ, zero, suc, ◌<◌, ◌≤◌, Bool, true, false, not, List, length, get_or, refl, sym, ap, ◌∙◌, arith, inl, inr, replicate}
 use Rattle.std.specs.Prelude.{◌==◌, ◌||◌, slice_index, slice_set, if◌then◌else◌, IsPermutation}
-use Rattle.std.proofs.lemmas.Bool.{cases_eq, true≢false, false_from_ne_true, and_parts, or_cases, or_left, or_right, eq-eqb}
-use Rattle.std.proofs.lemmas.Grind.{get_or-set_at}
+use Rattle.std.proofs.lemmas.Bool.{cond_both, cases_eq, true≢false, false_from_ne_true, and_parts, or_cases, or_left, or_right, eq-eqb}
+
 use Rattle.std.proofs.lemmas.List.Elements.{filter_passes, All-contains, Contains-get_or}
 use Rattle.std.proofs.lemmas.List.Sorted.{Contains-permutation, IsPermutation-sym}
 use Rattle.std.specs.List.{range_with_len}
@@ -19,7 +20,7 @@ use Rattle.fields_core.proofs.LightHouseLaws.{white-in}
 use Rattle.fields_core.proofs.LightSight.{bulb-in}
 use Rattle.maker_core.specs.LightFilling.{white_places, with_bulb, bulbs_after, numbered_cell, with_numbers}
 use Rattle.maker_core.proofs.FilteredRanges.{passes_kept}
-use Rattle.maker_core.proofs.LightSight.{bulbs_after-grid, with_bulb-held, with_bulb-new, number_at, same_white, same_seen, sees_back, sees_itself, seen_bulb, bulb_seen}
+use Rattle.maker_core.proofs.LightSight.{bulbs_after-grid, number_at, same_white, same_seen, sees_back, sees_itself, seen_bulb, bulb_seen}
 use Rattle.maker_core.proofs.WrittenGrids.{new_or_old, no_one, old_stays}
 
 -- the first k cells of the order hold or see a bulb, bulbs stand on white cells and none sees another
@@ -39,10 +40,7 @@ planted_held : (p : Light) (order g : List ℕ) (k : ℕ) → IsPlanted p order 
 planted_held p order g k w held = record {
   on_white = w.on_white;
   apart = w.apart;
-  lit = λ j lt. elim (cases_eq j k) [
-    | inl e ↦ rw e held
-    | inr ne ↦ w.lit j (omega arith)
-  ];
+  lit = λ j lt. grind (arith, w.lit j);
 }
 
 -- ---- a new bulb
@@ -57,22 +55,10 @@ lit_stays p g c d lt on = elim (or_cases (bulb g d) (sees_bulb p g d) on) [
 planted_new : (p : Light) (order g : List ℕ) (k c : ℕ) → length g ≡ light_cells p → IsPlanted p order g k → c ≡ slice_index order k → white p c ≡ true → c < light_cells p
     → (bulb g c || sees_bulb p g c) ≡ false → IsPlanted p order (slice_set g c 1) (suc k)
 planted_new p order g k c long w at on within none = record {
-  on_white = λ d here. elim (new_or_old g c d here) [
-    | inl e ↦ ap (white p) e ∙ on
-    | inr old ↦ w.on_white d old
-  ];
-  apart = λ d e here there. elim (new_or_old g c d here) [
-    | inl new ↦ elim (new_or_old g c e there) [
-      | inl too ↦ rw (new, too) (sees_itself p c)
-      | inr old ↦ rw new (unseen e old)
-    ]
-    | inr old ↦ elim (new_or_old g c e there) [
-      | inl new ↦ rw new (false_from_ne_true _ (λ seen. true≢false (sym (sees_back p d c (w.on_white d old) seen) ∙ unseen d old)))
-      | inr too ↦ w.apart d e old too
-    ]
-  ];
+  on_white = λ d here. grind (arith, elements, w.on_white d);
+  apart = λ d e here there. grind (arith, elements, w.apart d e, sees_itself p c, unseen d, unseen e, sees_back p d c, w.on_white d);
   lit = λ j lt. elim (cases_eq j k) [
-    | inl e ↦ or_left _ _ (eq-eqb _ _ (get_or-set_at g c (slice_index order j) 1 0 (ap (slice_index order) e ∙ sym at) (omega arith)))
+    | inl e ↦ grind (arith, elements)
     | inr ne ↦ lit_stays p g c (slice_index order j) (omega arith) (w.lit j (omega arith))
   ];
 }
@@ -82,22 +68,19 @@ planted_new p order g k c long w at on within none = record {
 
 pub planted : (p : Light) (order : List ℕ) → ((j : ℕ) → j < length order → white p (slice_index order j) ≡ true) → length p.cells ≡ light_cells p
     → (k : ℕ) → k ≤ length order → IsPlanted p order (bulbs_after p order k) k
-unfolding bulbs_after
+unfolding bulbs_after with_bulb
 planted p order whites long zero le = planted_none p order
-planted p order whites long (suc k) le = by (bulb (bulbs_after p order k) (slice_index order k) || sees_bulb p (bulbs_after p order k) (slice_index order k)) refl (planted p order whites long k (omega arith))
-  where
-    by : (b : Bool) → (bulb (bulbs_after p order k) (slice_index order k) || sees_bulb p (bulbs_after p order k) (slice_index order k)) ≡ b
-        → IsPlanted p order (bulbs_after p order k) k → IsPlanted p order (with_bulb p (bulbs_after p order k) (slice_index order k)) (suc k)
-    by true e before = rw (with_bulb-held p (bulbs_after p order k) (slice_index order k) e) (planted_held p order (bulbs_after p order k) k before e)
-    by false e before =
-        let on = whites k (omega arith) in
-        rw (with_bulb-new p (bulbs_after p order k) (slice_index order k) e)
-        (planted_new p order (bulbs_after p order k) k (slice_index order k) (bulbs_after-grid p order k).each_cell before refl on (white-in p (slice_index order k) long on) e)
+planted p order whites long (suc k) le =
+    let g = bulbs_after p order k in
+    let c = slice_index order k in
+    let before = planted p order whites long k (omega arith) in
+    let on = whites k (omega arith) in
+    cond_both (bulb g c || sees_bulb p g c) _ _ (λ h. IsPlanted p order h (suc k)) (planted_held p order g k before)
+    (planted_new p order g k c (bulbs_after-grid p order k).each_cell before refl on (white-in p c long on))
 
 -- ---- the rules
 number_met : (cell : LightCell) (white_cell : Bool) (n : ℕ) → cell ≡ (if white_cell then White else Numbered n) → number_is cell n ≡ true
-number_met cell true n e = ap (λ x. number_is x n) e
-number_met cell false n e = ap (λ x. number_is x n) e ∙ eq-eqb n n refl
+number_met cell b n e = grind arith
 
 pub lights_solved : (p : Light) (order g : List ℕ) (k : ℕ) → length p.cells ≡ light_cells p → IsGrid (light_cells p) 2 g → IsPlanted p order g k
     → ((c : ℕ) → white p c ≡ true → (j : ℕ) × (j < k) × (slice_index order j ≡ c)) → is_lit (with_numbers p g) g ≡ true
@@ -110,23 +93,13 @@ lights_solved p order g k long grid w each =
     (all_below-from (lit_right (with_numbers p g) g) (light_cells p) lit)
   where
     black : (c : ℕ) → c < light_cells p → black_right (with_numbers p g) g c ≡ true
-    black c lt = rw (same_white p g long c) (by (white p c) refl)
-      where
-        by : (b : Bool) → white p c ≡ b → (b || (slice_index g c == 0)) ≡ true
-        by true e = refl
-        by false e = let small = grid.each_value c 0 (let l = grid.each_cell in omega arith) in elim (cases_eq (slice_index g c) 1) [
-          | inl one ↦ absurd (true≢false (sym (w.on_white c (eq-eqb _ _ one)) ∙ e))
-          | inr ne ↦ eq-eqb (slice_index g c) 0 (omega arith)
-        ]
+    black c lt = grind (arith, same_white p g long c, w.on_white c, grid.each_value c 0, grid.each_cell)
 
     number : (c : ℕ) → c < light_cells p → number_right (with_numbers p g) g c ≡ true
     number c lt = number_met (get_or (with_numbers p g).cells c Black) (white p c) (bulbs_beside p g c) (number_at p g c lt)
 
     alone : (c : ℕ) → c < light_cells p → bulb_right (with_numbers p g) g c ≡ true
-    alone c lt = rw (same_seen p g long c) (ap not (false_from_ne_true _ (λ both.
-        let parts = and_parts (bulb g c) _ both in
-        let v = seen_bulb p g c parts.1 in
-        true≢false (sym v.2 ∙ w.apart c v.0 parts.0 v.3))))
+    alone c lt = rw (same_seen p g long c) (grind (arith, seen_bulb p g c, w.apart c))
 
     lit : (c : ℕ) → c < light_cells p → lit_right (with_numbers p g) g c ≡ true
     lit c lt = rw (same_white p g long c, same_seen p g long c) (by (white p c) refl)

@@ -1,14 +1,13 @@
 -- A grid of white cells alone, or of black cells alone, is all that one visit of each row leaves.
 use Rattle.std.proofs.Common.{◌≡◌, ℕ, zero, suc, ◌+◌, ◌-◌, ◌*◌, ◌/◌, ◌%◌, ◌<◌, ◌≤◌, true, false, List, [], ◌∷◌, ◌++◌, length, slice_index, refl, sym, ap, subst, ◌∙◌, arith, inl, inr, ◌⊎◌}
-use Rattle.std.proofs.lemmas.Bool.{cases_lt, le-ltb}
-use Rattle.std.proofs.lemmas.Nat.{div-add-mod'}
-use Rattle.std.proofs.Math.Nat.{mod-lt, mul-le-mul_right}
+use Rattle.std.proofs.lemmas.Bool.{le-ltb}
+use Rattle.std.proofs.lemmas.Nat.{div-add-mod', div_below, mod_below}
 use Rattle.std.proofs.lemmas.List.FromFn.{get_or-map-range_with_len, length-map-range_with_len}
 use Rattle.grid_core.specs.Extent.{Extent, IsExtent}
 use Rattle.grid_core.specs.Candidates.{Candidates}
 use Rattle.grid_core.specs.Grids.{row_cells}
 use Rattle.gameid_core.specs.BlackRuns.{run_of, runs_after, runs}
-use Rattle.gameid_core.specs.Lines.{line_list}
+use Rattle.gameid_core.proofs.LineLaws.{at_row}
 use Rattle.gameid_core.specs.Puzzles.{Pattern, lines_of}
 use Rattle.engine_core.specs.Closing.{closure}
 use Rattle.engine_core.specs.Filling.{strikes_by_fillings}
@@ -17,14 +16,14 @@ use Rattle.engine_core.specs.House.{sets_at, strikes_at}
 use Rattle.engine_core.specs.HouseLaws.{strikes_at-place, length-sets_at}
 use Rattle.engine_core.specs.Puzzle.{IsClosed}
 use Rattle.pattern_core.specs.Lines.{line_places, clue_of, has_runs}
-use Rattle.pattern_core.specs.LineLaws.{length-line_places, place_in_row, cell_in_grid, different_places, has_runs-is, is_solution-from}
+use Rattle.pattern_core.specs.LineLaws.{length-line_places, place_in_row, cell_in_grid, different_places, has_runs-is, is_solution-from, line_rules-lawful}
 use Rattle.pattern_core.specs.LineRules.{line_rules}
 use Rattle.pattern_core.specs.Solutions.{IsPatternSolution}
 use Rattle.maker_core.specs.Draws.{AreAll}
 use Rattle.maker_core.specs.Made.{is_one, has_one}
 use Rattle.maker_core.specs.PatternMaking.{clued_by}
-use Rattle.maker_core.proofs.FoundAtOnce.{IsKnown, closed_start, found_at_once}
-use Rattle.maker_core.proofs.PatternMakings.{runs_at}
+use Rattle.maker_core.proofs.FoundAtOnce.{closed_start, found_at_once}
+use Rattle.maker_core.proofs.FullStart.{known}
 
 -- how many cells are black
 blacks : List ℕ → ℕ
@@ -98,15 +97,6 @@ pub black_line : (line cells : List ℕ) → AreAll 1 line → length cells ≡ 
 black_line line cells all long e = each_black cells (same_blacks cells line e ∙ blacks-all line all ∙ sym long)
 
 -- ---- the row of a cell
-row_of : (size : Extent) (c : ℕ) → 1 ≤ size.w → c < size.w * size.h → (c / size.w < size.h) × (c % size.w < size.w) × (c / size.w * size.w + c % size.w ≡ c)
-row_of size c w lt =
-    let back : c / size.w * size.w + c % size.w ≡ c = div-add-mod' c size.w in
-    let low : c / size.w < size.h = elim (cases_lt (c / size.w) size.h) [
-      | inl below ↦ below
-      | inr over ↦ let more : size.h * size.w ≤ c / size.w * size.w = mul-le-mul_right size.w over in absurd (omega arith)
-    ] in
-    (low, mod-lt c (let z : zero < size.w = omega arith in z), back)
-
 row_all : (size : Extent) (g : List ℕ) (y b : ℕ) → length g ≡ size.w * size.h → y < size.h → AreAll b g → AreAll b (row_cells size g y)
 row_all size g y b long lty all k lt =
     let few : k < size.w = omega (arith, lt, length-map-range_with_len (λ x. slice_index g (y * size.w + x)) 0 size.w) in
@@ -117,24 +107,25 @@ row_all size g y b long lty all k lt =
 shown : (size : Extent) (g : List ℕ) (E : Candidates) (c v : ℕ) → IsExtent size → IsClosed (line_rules (clued_by size g)) E → c < size.w * size.h → E c v ≡ true
     → (cells : List ℕ) × (runs cells ≡ runs (row_cells size g (c / size.w))) × (length cells ≡ size.w) × (slice_index cells (c % size.w) ≡ v)
 shown size g E c v extent closed lt on =
-    let at = row_of size c extent.w_low lt in
+    let low : c / size.w < size.h = div_below c size.w size.h extent.w_low (omega arith) in
+    let left : c % size.w < size.w = mod_below c size.w extent.w_low in
     let line : ℕ = size.w + c / size.w in
     let past : size.w ≤ line = omega arith in
     let back : line - size.w ≡ c / size.w = omega arith in
-    let below : line < lines_of size = let low = at.0 in omega arith in
+    let below : line < lines_of size = omega arith in
     let places : List ℕ = line_places size line in
     let long : length places ≡ size.w = length-line_places size line ∙ rw (le-ltb line size.w past) refl in
-    let cell : slice_index places (c % size.w) ≡ c = place_in_row size line (c % size.w) past at.1 ∙ ap (λ y. y * size.w + c % size.w) back ∙ at.2 in
-    let within : c % size.w < length places = let low = at.1 in omega arith in
+    let cell : slice_index places (c % size.w) ≡ c =
+    place_in_row size line (c % size.w) past left ∙ ap (λ y. y * size.w + c % size.w) back ∙ div-add-mod' c size.w in
+    let within : c % size.w < length places = omega arith in
     let clue : List ℕ = clue_of (clued_by size g) line in
     let not_struck : strikes_at 2 places (strikes_by_fillings (has_runs clue)) E (slice_index places (c % size.w)) v ≡ false =
     ap (λ d. strikes_at 2 places (strikes_by_fillings (has_runs clue)) E d v) cell ∙ closed line c v below on in
     let decided : strikes_by_fillings (has_runs clue) (sets_at 2 places E) (c % size.w) v ≡ false =
     sym (strikes_at-place 2 places (strikes_by_fillings (has_runs clue)) E (c % size.w) v (different_places size line) within) ∙ not_struck in
-    let w = shown_from_test (has_runs clue) (sets_at 2 places E) (c % size.w) v decided in
-    let row : line_list size g line ≡ row_cells size g (c / size.w) = rw (le-ltb line size.w past) (ap (row_cells size g) back) in (
+    let w = shown_from_test (has_runs clue) (sets_at 2 places E) (c % size.w) v decided in (
       w.0,
-      has_runs-is clue w.0 w.1.holds_true ∙ runs_at size g line below ∙ ap runs row,
+      has_runs-is clue w.0 w.1.holds_true ∙ at_row runs [] size g (c / size.w) low,
       w.1.fills.len ∙ length-sets_at 2 places E ∙ long,
       w.1.has_it,
     )
@@ -142,16 +133,17 @@ shown size g E c v extent closed lt on =
 pub plain_alone : (size : Extent) (g : List ℕ) (E : Candidates) (c v : ℕ) → IsExtent size → length g ≡ size.w * size.h → AreAll 0 g ⊎ AreAll 1 g
     → IsClosed (line_rules (clued_by size g)) E → c < size.w * size.h → v < 2 → E c v ≡ true → v ≡ slice_index g c
 plain_alone size g E c v extent long plain closed lt few on =
-    let at = row_of size c extent.w_low lt in
+    let low : c / size.w < size.h = div_below c size.w size.h extent.w_low (omega arith) in
+    let left : c % size.w < size.w = mod_below c size.w extent.w_low in
     let inside : c < length g = omega arith in
     let w = shown size g E c v extent closed lt on in
     let row : List ℕ = row_cells size g (c / size.w) in
     let row_long : length row ≡ size.w = length-map-range_with_len (λ x. slice_index g (c / size.w * size.w + x)) 0 size.w in
-    let k : c % size.w < length w.0 = let low = at.1 in let l = w.2 in omega arith in
+    let k : c % size.w < length w.0 = let l = w.2 in omega arith in
     elim plain [
-      | inl white ↦ sym w.3 ∙ white_line row w.0 (row_all size g (c / size.w) 0 long at.0 white) w.1 (c % size.w) k ∙ sym (white c inside)
+      | inl white ↦ sym w.3 ∙ white_line row w.0 (row_all size g (c / size.w) 0 long low white) w.1 (c % size.w) k ∙ sym (white c inside)
       | inr black ↦
-          let high : 1 ≤ slice_index w.0 (c % size.w) = black_line row w.0 (row_all size g (c / size.w) 1 long at.0 black) (w.2 ∙ sym row_long) w.1 (c % size.w) k in
+          let high : 1 ≤ slice_index w.0 (c % size.w) = black_line row w.0 (row_all size g (c / size.w) 1 long low black) (w.2 ∙ sym row_long) w.1 (c % size.w) k in
           let is = w.3 in
           let one : v ≡ 1 = omega arith in
           one ∙ sym (black c inside)
@@ -159,8 +151,9 @@ plain_alone size g E c v extent long plain closed lt few on =
 
 -- the verdict of such a grid's puzzle is one
 pub plain_passes : (p : Pattern) (g : List ℕ) (budget : ℕ) → IsExtent p.size → p ≡ clued_by p.size g → IsPatternSolution p g → AreAll 0 g ⊎ AreAll 1 g
-    → IsKnown (line_rules p) → has_one (line_rules p) budget ≡ true
-plain_passes p g budget extent made good plain known =
-    ap is_one (found_at_once (line_rules p) budget g known (record { grid = good.grid; good = is_solution-from p g good })
+    → has_one (line_rules p) budget ≡ true
+plain_passes p g budget extent made good plain =
+    let rules = known (line_rules p) (line_rules-lawful p extent) in
+    ap is_one (found_at_once (line_rules p) budget g rules (record { grid = good.grid; good = is_solution-from p g good })
     (λ c v lt few here. plain_alone p.size g (closure (line_rules p) (line_rules p).start) c v extent good.grid.each_cell plain
-    (subst (λ (q : Pattern). IsClosed (line_rules q) (closure (line_rules p) (line_rules p).start)) made (closed_start (line_rules p) known)) lt few here))
+    (subst (λ (q : Pattern). IsClosed (line_rules q) (closure (line_rules p) (line_rules p).start)) made (closed_start (line_rules p) rules)) lt few here))

@@ -1,6 +1,6 @@
 -- A draw below a number is below it, a shuffle brings a list into another order, and both leave a stream of words.
 use Rattle.std.proofs.Common.{◌≡◌, ℕ, ◌+◌, ◌-◌, ◌*◌, ◌/◌, ◌%◌, ◌^◌, ◌<◌, ◌≤◌, [], ◌∷◌, Bool, true, false, if◌then◌else◌, nat_le, nat_lt, refl, arith, ◌∙◌, zero, suc, List, length, sym, subst}
-use Rattle.std.proofs.lemmas.Bool.{ltb-true, eqb-true, lt-ltb, ltb-false, true≢false}
+use Rattle.std.proofs.lemmas.Bool.{cond_both, ltb-true, eqb-true, lt-ltb, ltb-false, true≢false}
 use Rattle.std.proofs.lemmas.Nat.{div-add-mod', div_below, mul-le, mod_below}
 use Rattle.rand_core.specs.Stream.{Stream, next_u32, u32_call}
 use Rattle.rand.specs.Uniform.{canon}
@@ -23,11 +23,6 @@ words_left : (s : Stream) → HasWords s → HasWords (next_u32 s).1
 unfolding next_u32
 words_left s words = record { below = λ calls. words.below (u32_call ∷ calls) }
 
--- what holds of both branches
-pub if_either : {A : Type 0} (P : A → Type 0) (b : Bool) (x y : A) → (b ≡ true → P x) → (b ≡ false → P y) → P (if b then x else y)
-if_either P true x y then_x else_y = then_x refl
-if_either P false x y then_x else_y = else_y refl
-
 -- a number below a range, and words after it
 pub record IsDrawn (range : ℕ) (draw : ℕ × Stream) : Type 0 where
   pub below : draw.0 < range
@@ -43,7 +38,7 @@ draw_is range s some within words =
     let room : (w + 1) * range ≤ 2 ^ 32 * range = mul-le (w + 1) range (2 ^ 32) range (omega arith) (omega arith) in
     let under : high < range = div_below (w * range) (2 ^ 32) range (omega arith) (omega arith) in
     let left = words_left s words in
-    if_either (IsDrawn range) (nat_lt (2 ^ 32 - range) low) _ _
+    cond_both (nat_lt (2 ^ 32 - range) low) _ _ (IsDrawn range)
     (λ carried. record {
       below = if_below (nat_le (2 ^ 32) (low + (next_u32 (next_u32 s).1).0 * range / 2 ^ 32)) _ (high + 1) high range refl
           (carry_room (2 ^ 32) range w high low fits (div-add-mod' (w * range) (2 ^ 32)) (ltb-true (2 ^ 32 - range) low carried) within) under;
@@ -61,12 +56,9 @@ record IsChunk (m : ℕ) (chunk : ℕ × ℕ) : Type 0 where
 grow_is : (m n p c k : ℕ) → c ≡ m + k → IsChunk m (p, k) → IsChunk m (grow n p c k)
 unfolding grow
 grow_is m zero p c k at is = is
-grow_is m (suc n) p c k at is = if_either (IsChunk m) (nat_lt (2 ^ 32 - 1) (p * c)) (p, k) (grow n (p * c) (c + 1) (k + 1)) (λ over. is)
-    (λ fits. grow_is m n (p * c) (c + 1) (k + 1) (omega arith) (record {
-      product = rw (is.product, at) (sym (rising_more m k));
-      within = let room = ltb-false (2 ^ 32 - 1) (p * c) fits in omega arith;
-      some = omega arith;
-    }))
+grow_is m (suc n) p c k at is = cond_both (nat_lt (2 ^ 32 - 1) (p * c)) _ _ (IsChunk m) (λ over. is)
+    (λ fits. grow_is m n (p * c) (c + 1) (k + 1) (omega arith)
+    (let more = rising_more m k in record { product = grind arith; within = grind (arith, ltb-false (2 ^ 32 - 1) (p * c) fits); some = omega arith }))
 
 chunk_is : (m : ℕ) → m < 2 ^ 32 → IsChunk m (chunk_of m)
 chunk_is m within = grow_is m 32 m (m + 1) 1 refl (record { product = rising_one m; within = within; some = omega arith })
@@ -88,17 +80,9 @@ refill_is c s is words within =
     let chunk : IsChunk m (chunk_of m) = chunk_is m within in
     let positive : 0 < (chunk_of m).0 = rw chunk.product (rising_positive m (chunk_of m).1 (omega arith)) in
     let drawn : IsDrawn (chunk_of m).0 (canon (2 ^ 32) next_u32 (chunk_of m).0 s) = draw_is (chunk_of m).0 s positive (let w = chunk.within in omega arith) words in
-    if_either (IsRefilled c.n) (c.left == 0) _ _
-    (λ none. record {
-      some = chunk.some;
-      room = subst (λ p. (canon (2 ^ 32) next_u32 (chunk_of m).0 s).0 < p) chunk.product drawn.below;
-      words = drawn.words;
-    })
-    (λ left. let low : 0 < c.left = some_left c.left left in record { some = low; room = is.room low; words = words })
-  where
-    some_left : (n : ℕ) → (n == 0) ≡ false → 0 < n
-    some_left zero e = absurd (true≢false e)
-    some_left (suc n) e = omega arith
+    cond_both (c.left == 0) _ _ (IsRefilled c.n)
+    (λ none. record { some = chunk.some; room = rw (← chunk.product) drawn.below; words = drawn.words })
+    (λ left. let low : 0 < c.left = grind arith in record { some = low; room = is.room low; words = words })
 
 -- an index of at most n, and a chooser for higher ones
 record IsNext (n : ℕ) (d : ℕ × Chooser × Stream) : Type 0 where
@@ -111,9 +95,9 @@ next_is : (c : Chooser) (s : Stream) → IsChooser c → HasWords s → c.n + 1 
 next_is c s is words within =
     let r : ℕ × ℕ × Stream = chooser_refill c s in
     let filled : IsRefilled c.n r = refill_is c s is words within in
-    if_either (IsNext c.n) (r.1 == 1) _ _
+    cond_both (r.1 == 1) _ _ (IsNext c.n)
     (λ last. record {
-      index = let low = last_below r.0 (c.n + 1) (subst (λ k. r.0 < rising (c.n + 1) k) (eqb-true r.1 1 last) filled.room) in omega arith;
+      index = let low = last_below r.0 (c.n + 1) (rw (eqb-true r.1 1 last) at filled.room) in omega arith;
       bound = refl;
       chooser = record { room = λ none. absurd (omega arith) };
       words = filled.words;
@@ -122,8 +106,8 @@ next_is c s is words within =
       index = let low = mod_below r.0 (c.n + 1) (omega arith) in omega arith;
       bound = refl;
       chooser = record {
-        room = λ some. rest_below r.0 (c.n + 1) (r.1 - 1) (omega arith)
-            (subst (λ k. r.0 < rising (c.n + 1) k) (let f = filled.some in let e : r.1 ≡ suc (r.1 - 1) = omega arith in e) filled.room);
+        room = λ some. let e : r.1 ≡ suc (r.1 - 1) = let f = filled.some in omega arith in
+            rest_below r.0 (c.n + 1) (r.1 - 1) (omega arith) (subst (λ k. r.0 < rising (c.n + 1) k) e filled.room);
       };
       words = filled.words;
     })
@@ -147,14 +131,12 @@ swaps_are items s words few zero within = record {
 swaps_are items s words few (suc k) within =
     let p : List ℕ × Chooser × Stream = narrow_swaps items (chooser_at 0) s k in
     let before : IsSwapped items k p = swaps_are items s words few k (omega arith) in
-    let at = before.bound in
-    let long : length p.0 ≡ length items = length_permutation items p.0 before.permutation in
+    let long = length_permutation items p.0 before.permutation in
     let next : IsNext p.1.n (chooser_next p.1 p.2) = next_is p.1 p.2 before.chooser before.words (omega arith) in
-    let index = next.index in
     record {
       permutation = IsPermutation-trans items p.0 _ before.permutation
           (IsPermutation-swap p.0 _ p.1.n (chooser_next p.1 p.2).0 (omega arith) (omega arith) refl);
-      bound = let b = next.bound in omega arith;
+      bound = omega arith;
       chooser = next.chooser;
       words = next.words;
     }
@@ -169,6 +151,6 @@ order_is n s few words =
     let items : List ℕ = range_with_len 0 n in
     let len : length items ≡ n = length-range_with_len 0 n in
     let swapped = swaps_are items s words (omega arith) (length items - 0) (omega arith) in
-    if_either (IsShuffled n) (nat_lt (length items) (2 ^ 32 - 1)) _ _
+    cond_both (nat_lt (length items) (2 ^ 32 - 1)) _ _ (IsShuffled n)
     (λ narrow. record { order = order_from_permutation n _ swapped.permutation; words = swapped.words })
     (λ wide. absurd (true≢false (sym (lt-ltb (length items) (2 ^ 32 - 1) (omega arith)) ∙ wide)))

@@ -1,19 +1,20 @@
 -- Cells turned and turned back leave a grid as it was, and a puzzle with two solutions has no verdict of one.
 use Rattle.std.proofs.Common.{◌≡◌, ◌≢◌, ℕ, ◌*◌, ◌<◌, Bool, true, false, List, length, refl, sym, ap, ◌∙◌, arith, not, Option, Some, None}
-use Rattle.std.specs.Prelude.{slice_index, slice_set, is_some, IsTrue, ◌↔◌}
+use Rattle.std.specs.Prelude.{slice_index, slice_set, is_some}
 use Rattle.std.proofs.lemmas.Bool.{true≢false}
 use Rattle.std.proofs.lemmas.List.{get_or-set_same}
-use Rattle.grid_core.specs.Grids.{IsGrid}
+use Rattle.grid_core.specs.Extent.{IsExtent}
 use Rattle.gameid_core.specs.Puzzles.{Pattern}
 use Rattle.engine_core.specs.Puzzle.{Puzzle}
+use Rattle.engine_core.proofs.VerdictLemmas.{outcome-true}
 use Rattle.engine_core.specs.Verdict.{Outcome, Outcome.NoGrid, Outcome.OneGrid, Outcome.TwoGrids, Outcome.OutOfBudget, verdict_of, Solves, IsTrueOf}
 use Rattle.pattern_core.specs.Faults.{IsCheck}
 use Rattle.pattern_core.specs.declared.fault.PatternFault.{PatternFault}
+use Rattle.pattern_core.specs.LineLaws.{is_solution-from, line_rules-lawful}
 use Rattle.pattern_core.specs.LineRules.{line_rules}
 use Rattle.pattern_core.specs.Solutions.{IsPatternSolution}
 use Rattle.maker_core.specs.Made.{is_one, has_one}
 use Rattle.maker_core.specs.Switch.{HasOther}
-use Rattle.maker_core.proofs.OnlySolutions.{solution}
 use Rattle.maker_core.proofs.WrittenGrids.{set_back}
 
 -- one number put back, after those that were written later
@@ -39,9 +40,7 @@ two_fail rules g h (OneGrid first) true_of sg sh ne = absurd (ne (sym (true_of.1
 two_fail rules g h (TwoGrids first second) true_of sg sh ne = refl
 two_fail rules g h (OutOfBudget first) true_of sg sh ne = refl
 
-pub other_fails : (p : Pattern) (g : List ℕ) (budget : ℕ)
-    → ((q : Pattern) (h : List ℕ) → IsGrid (q.size.w * q.size.h) 2 h → (IsTrue ((line_rules q).is_solution h)) ↔ IsPatternSolution q h)
-    → IsTrueOf (line_rules p) (verdict_of (line_rules p) budget) → IsPatternSolution p g → HasOther p g → has_one (line_rules p) budget ≡ false
-other_fails p g budget accepted true_of good other =
-    let solves = solution (line_rules p) (IsPatternSolution p) (λ h s. s.grid) (accepted p) in
-    two_fail (line_rules p) g other.0 (verdict_of (line_rules p) budget) true_of (solves g good) (solves other.0 other.1) other.2
+pub other_fails : (p : Pattern) (g : List ℕ) (budget : ℕ) → IsExtent p.size → IsPatternSolution p g → HasOther p g → has_one (line_rules p) budget ≡ false
+other_fails p g budget extent good other =
+    two_fail (line_rules p) g other.0 (verdict_of (line_rules p) budget) (outcome-true (line_rules p) (line_rules-lawful p extent) budget)
+    (record { grid = good.grid; good = is_solution-from p g good }) (record { grid = other.1.grid; good = is_solution-from p other.0 other.1 }) other.2

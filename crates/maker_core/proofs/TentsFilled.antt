@@ -1,6 +1,7 @@
 -- Each filling of a making of Tents over a stream of words is a camp, which solves its puzzle.
 use Rattle.std.proofs.Common.{◌≡◌, ℕ, zero, suc, ◌*◌, ◌<◌, ◌≤◌, true, List, length, refl, subst, add-one, inl, inr, arith}
 use Rattle.std.specs.Prelude.{slice_index}
+use Rattle.std.proofs.lemmas.Bool.{cond_both}
 use Rattle.std.proofs.lemmas.Nat.{mul-le}
 use Rattle.rand_core.specs.Stream.{Stream}
 use Rattle.grid_core.specs.Extent.{Extent, IsExtent}
@@ -12,8 +13,8 @@ use Rattle.maker_core.specs.TentFilling.{camp_after, free_cells_beside, may_pitc
 use Rattle.maker_core.specs.TentSteps.{IsTaken}
 use Rattle.maker_core.specs.declared.tents.camp.Camp.{Camp}
 use Rattle.maker_core.proofs.TentCamps.{free_few, pitched_is}
-use Rattle.maker_core.proofs.TentsSolved.{IsCamp, camp_none, camp_solves, camp_step}
-use Rattle.maker_core.proofs.Shuffles.{IsDrawn, draw_is, if_either, IsShuffled, order_is}
+use Rattle.maker_core.proofs.TentsSolved.{IsCamp, camp_none, camp_step}
+use Rattle.maker_core.proofs.Shuffles.{IsDrawn, draw_is, IsShuffled, order_is}
 
 -- a camp, and words after it
 record IsTakenBy (size : Extent) (old : Camp) (c : ℕ) (q : Camp × Stream) : Type 0 where
@@ -34,7 +35,7 @@ pitch_takes size camp c s may words =
 
 cell_takes : (size : Extent) (camp : Camp) (c : ℕ) (s : Stream) → HasWords s → IsTakenBy size camp c (take_cell size camp c s)
 unfolding take_cell
-cell_takes size camp c s words = if_either (IsTakenBy size camp c) (may_pitch size camp c) (pitch size camp c s) (camp, s)
+cell_takes size camp c s words = cond_both (may_pitch size camp c) (pitch size camp c s) (camp, s) (IsTakenBy size camp c)
     (λ may. pitch_takes size camp c s may words) (λ none. record { taken = inl refl; words = words })
 
 record IsCampBy (size : Extent) (order : List ℕ) (k : ℕ) (q : Camp × Stream) : Type 0 where
@@ -73,7 +74,7 @@ filling_solves size s extent words =
     camp_is size order.0 order.1 extent.w_low shuffled.order shuffled.words (length order.0) (omega arith) in
     record {
       trees = made.camp.trees_grid;
-      solves = camp_solves size order.0 (length order.0) _ made.camp;
+      solves = made.camp.solved;
       words = made.words;
     }
 

@@ -1,8 +1,8 @@
 -- The reasons that were written are those of the clues that are left, by place.
-use Rattle.std.proofs.Common.{◌≡◌, ℕ, suc, ◌+◌, ◌<◌, ◌≤◌, Bool, true, false, eqb, List, [], ◌∷◌, ◌++◌, Option, Some, None, length, get_or, map, take, replicate, refl, add-one, sym, ◌∙◌, ap, subst, arith, length-take, ◌⊎◌, inl, inr}
+use Rattle.std.proofs.Common.{◌≡◌, ℕ, suc, ◌+◌, ◌<◌, ◌≤◌, Bool, true, false, eqb, List, [], ◌∷◌, ◌++◌, Option, Some, None, length, get_or, map, take, drop, replicate, refl, add-one, sym, ◌∙◌, ap, subst, arith, length-take, ◌⊎◌, inl, inr}
 use Rattle.std.specs.Prelude.{filter, All, Contains, IsPermutation}
 use Rattle.std.specs.List.{range_with_len}
-use Rattle.std.proofs.lemmas.List.{take_more, append-nil, get_or-replicate, get_or_past, length-replicate}
+use Rattle.std.proofs.lemmas.List.{take_more, drop_all, append-nil, get_or-replicate, get_or_past, length-replicate}
 use Rattle.std.proofs.lemmas.List.Elements.{All-contains, All-cons, All-nil, filter_passes}
 use Rattle.std.proofs.lemmas.List.Sorted.{Contains-permutation, IsPermutation-sym}
 use Rattle.std.proofs.lemmas.Map.Keys.{IsDistinct-IsPermutation}
@@ -17,10 +17,6 @@ use Rattle.maker_core.specs.ThinningSteps.{IsTold, IsThinning, reasons_from}
 use Rattle.grid_core.proofs.DifferentNumbers.{distinct_filtered_range}
 use Rattle.maker_core.proofs.FilteredRanges.{passes_kept}
 use Rattle.maker_core.proofs.ThinningTurns.{some_of, none_of, within_itself}
-
--- a whole list that was written through a slice of it
-pub whole_front : {X : Type 0} (n : ℕ) (xs ys : List X) → length xs ≡ n → take n (xs ++ ys) ≡ xs
-whole_front n xs ys e = grind (arith, common_steps)
 
 blank_at : (n place : ℕ) → get_or (replicate {A = Option Why} n None) place None ≡ None
 blank_at n place = by (cases_lt place n)
@@ -84,7 +80,10 @@ module _ {A : Type 0} (game : Game A) (budget : ℕ) (all p : A) where
 
 -- all clues were tried
 module _ {A : Type 0} (game : Game A) (laws : IsGame game) (budget : ℕ) (all p : A) (answer : List ℕ) (whys : List (Option Why))
-    (now : IsThinning game budget all p whys []) where
+    (order : List ℕ) (k : ℕ) (over : length order ≤ k) (left : IsThinning game budget all p whys (drop k order)) where
+  now : IsThinning game budget all p whys []
+  now = subst (IsThinning game budget all p whys) (drop_all k order over) left
+
   all_told : AreTold game budget all p whys 0
   all_told k i e = let same : k ≡ i = omega arith in rw same (by (now.told i))
     where
@@ -99,8 +98,10 @@ module _ {A : Type 0} (game : Game A) (laws : IsGame game) (budget : ℕ) (all p
   })
 
   -- the one solution is still the answer
-  pub answer_is : IsOnly (game.rules all) answer → now.one.answer ≡ answer
-  answer_is only = now.one.only.1 answer (laws.solutions_stay p all answer now.within only.0)
+  pub answer_left : IsOnly (game.rules all) answer → IsOnly (game.rules p) answer × TellsOne (game.rules p) budget answer
+  answer_left only =
+      let same = now.one.only.1 answer (laws.solutions_stay p all answer now.within only.0) in
+      subst (λ g. IsOnly (game.rules p) g × TellsOne (game.rules p) budget g) same (now.one.only, now.one.found)
 
 -- before any clue is tried
 pub thinning_start : {A : Type 0} (game : Game A) → IsGame game → (budget : ℕ) (p : A) (answer order : List ℕ) (whys : List (Option Why))

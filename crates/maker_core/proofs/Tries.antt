@@ -37,7 +37,7 @@ module _ {A : Type 0} (t : Tries A) (s : Stream) where
     IsTrying-more fails = record {
       stands = rw add-one left_is;
       failing = λ j h. elim (cases_eq j done) [
-        | inl e ↦ ap (λ k. t.passes (filling_at t.make k s)) e ∙ ap t.passes (sym filling_is) ∙ fails
+        | inl e ↦ rw (e, ← filling_is) fails
         | inr ne ↦ p.failing j (omega arith)
       ];
     }

@@ -15,12 +15,7 @@ grid_with n c v g h few e grid =
     rw e (record { each_cell = length-set g c v ∙ grid.each_cell; each_value = All-set (λ x. x < 2) g c v few grid.each_value })
 
 pub no_one : (n c : ℕ) → (slice_index (replicate n 0) c == 1) ≡ true → ⊥
-no_one n c on =
-    let zeros : List ℕ = replicate n 0 in
-    let one : slice_index zeros c ≡ 1 = eqb-true (slice_index zeros c) 1 on in
-    let l : length zeros ≡ n = length-replicate {A = ℕ} n 0 in
-    let none : slice_index zeros c ≡ 0 = elim (cases_lt c n) [ inl low ↦ get_or-replicate n c 0 0 low | inr high ↦ get_or_past zeros c 0 (omega arith) ] in
-    absurd (omega arith)
+no_one n c on = grind (arith, elements, length-replicate {A = ℕ} n 0, get_or-replicate {A = ℕ} n c 0 0, get_or_past {X = ℕ} (replicate n 0) c 0)
 
 -- the cells that hold 1 when one more does: that one, and those that held it before
 pub new_or_old : (g : List ℕ) (c d : ℕ) → (slice_index (slice_set g c 1) d == 1) ≡ true → (d ≡ c) ⊎ ((slice_index g d == 1) ≡ true)

@@ -44,8 +44,6 @@ fn passes(
         → IfOk result (λ unique. unique ≡ true) }
 {
     let rules = LightRules::new(alloc, puzzle)?;
-    engine_core::closure_is_largest(&rules);
-    engine_core::walk_goes_on_from_the_closure(&rules);
     is_unique(alloc, &rules, budget)
 }
 
@@ -84,7 +82,6 @@ pub fn make_lights<G: Rng>(
     ensures undrawn { result ≡ Err SizeRange → G.stream rng.new ≡ G.stream rng.old }
     ensures full { 1 ≤ limits.tries → black ≡ 100 → result ≢ Err Exhausted }
 {
-    fields_core::accepted_lights_are_solutions();
     if !is_wide(size) {
         return Err(MakeFault::SizeRange);
     }

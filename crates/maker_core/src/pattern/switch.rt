@@ -122,22 +122,6 @@ fn run_has_switch(puzzle: &PatternPuzzle, grid: &mut Grid, x: usize, y: usize) -
     false
 }
 
-/// Whether a run of row `y` may be turned. The grid is left as it was.
-fn row_has_switch(puzzle: &PatternPuzzle, grid: &mut Grid, y: usize) -> bool
-    requires grid { IsGrid (puzzle.now.size.w * puzzle.now.size.h) 2 grid.old }
-    requires y_in { y < puzzle.now.size.h }
-    ensures same { grid.new ≡ grid.old }
-    ensures other { result ≡ true → HasOther puzzle.now grid.old }
-{
-    let size = puzzle.size();
-    for x in 0..usize::from(size.w()) {
-        if begins_run(size, grid, x, y) && run_has_switch(puzzle, grid, x, y) {
-            return true;
-        }
-    }
-    false
-}
-
 /// Whether some run may be turned, so that the puzzle has another solution than the grid. The grid is left as it was.
 pub(crate) fn has_switch(puzzle: &PatternPuzzle, grid: &mut Grid) -> bool
     requires { IsGrid (puzzle.now.size.w * puzzle.now.size.h) 2 grid.old }
@@ -145,8 +129,10 @@ pub(crate) fn has_switch(puzzle: &PatternPuzzle, grid: &mut Grid) -> bool
     ensures other { result ≡ true → HasOther puzzle.now grid.old }
 {
     let size = puzzle.size();
-    for y in 0..usize::from(size.h()) {
-        if row_has_switch(puzzle, grid, y) {
+    let w = usize::from(size.w());
+    for place in 0..size.cells() {
+        let (x, y) = (place % w, place / w);
+        if begins_run(size, grid, x, y) && run_has_switch(puzzle, grid, x, y) {
             return true;
         }
     }

@@ -77,7 +77,6 @@ pub fn make_tents<G: Rng>(
     ensures all_drawn { DrawsAll (tents_tries size limits) G.stream rng.old rng.new result }
     ensures undrawn { result ≡ Err SizeRange → G.stream rng.new ≡ G.stream rng.old }
 {
-    fields_core::accepted_tents_are_solutions();
     if !is_tent_size(size) {
         return Err(MakeFault::SizeRange);
     }

@@ -47,7 +47,9 @@ where
     let mut store = Store::new(alloc, &rules)?;
     let order = shuffled_clues(alloc, &puzzle, rng)?;
     let mut whys = vec![in alloc; None; puzzle.cells()]?;
-    try_clues(alloc, &mut puzzle, &mut store, &order, &mut whys, budget)?;
+    for &place in &order {
+        whys[place] = try_clue(alloc, &mut puzzle, &mut store, place, budget)?;
+    }
     let kept = reasons(alloc, &whys)?;
     Ok(Made {
         puzzle,
@@ -84,28 +86,6 @@ fn shuffled_clues<P: Clued, G: Rng>(
     let mut order = clue_list(alloc, puzzle)?;
     shuffle(rng, &mut order);
     Ok(order)
-}
-
-/// Tries each clue of the list once, and writes at its cell why it stays, if it does.
-fn try_clues<P: Clued>(
-    alloc: Global,
-    puzzle: &mut P,
-    store: &mut Store<P::Search>,
-    order: &[usize],
-    whys: &mut [Option<Why>],
-    budget: u64,
-) -> Result<(), AllocError>
-where
-    P::Search: Rules,
-    requires means { (rules : P.Search) → P.Search.puzzle rules ≡ P.meaning rules }
-    requires fits { FitsIn (needs_of (P.game.rules puzzle.old)) store.old.made }
-    requires start { IsThinning P.game budget puzzle.old puzzle.old whys.old order.now }
-    ensures { OnOk result (IsThinning P.game budget puzzle.old puzzle.new whys.new []) }
-{
-    for &place in order {
-        whys[place] = try_clue(alloc, puzzle, store, place, budget)?;
-    }
-    Ok(())
 }
 
 /// Takes a clue away for good where the puzzle without it has one solution still; else leaves it and says why.

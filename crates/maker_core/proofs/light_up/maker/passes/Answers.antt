@@ -1,20 +1,16 @@
 use Rattle.std.proofs.Common.{◌≡◌, ◌∙◌, ap, subst}
 use Rattle.std.specs.Prelude.{IfOk}
 use Rattle.gameid_core.specs.Puzzles.{Light}
+use Rattle.engine_core.specs.Puzzle.{IsLawful}
 use Rattle.fields_core.specs.LightHouses.{light_rules}
 use Rattle.fields_core.specs.LightLaws.{light-lawful}
 use Rattle.maker_core.specs.Made.{has_one}
-use Rattle.maker_core.proofs.FoundAtOnce.{IsKnown}
 use Rattle.maker_core.proofs.LightMakings.{black_passes}
 use Rattle.maker_core.proofs.light_up.maker.passes.Goals as goal
 
 pub returns-clause-black : goal.returns-clause-black
 returns-clause-black c black =
-    let known : IsKnown (light_rules c.in_ok-rules.rules.light) = record {
-      laws = light-lawful c.in_ok-rules.rules;
-      largest = c.closure_is_largest.ensures;
-      on = c.walk_goes_on_from_the_closure.ensures;
-    } in
     let is = c.in_ok-rules.ensures in
-    let passed = black_passes c.args.puzzle.now c.args.answer.now c.args.budget (subst (λ (p : Light). IsKnown (light_rules p)) is known) c.requires.grid c.requires.solved black in
+    let laws = subst (λ (p : Light). IsLawful (light_rules p)) is (light-lawful c.in_ok-rules.rules) in
+    let passed = black_passes c.args.puzzle.now c.args.answer.now c.args.budget laws c.requires.grid c.requires.solved black in
     subst (λ b. IfOk c.is_unique.result (λ unique. unique ≡ b)) (ap (λ (p : Light). has_one (light_rules p) c.args.budget) is ∙ passed) c.is_unique.ensures.verdict

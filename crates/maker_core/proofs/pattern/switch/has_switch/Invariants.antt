@@ -1,5 +1,5 @@
 use Rattle.std.proofs.Common.{◌≡◌}
 use Rattle.maker_core.proofs.pattern.switch.has_switch.Given as goal
 
-abbrev pub invariant-loop-y : goal.invariant-loop-y
-invariant-loop-y l = l.grid ≡ l.fn.grid
+abbrev pub invariant-loop-place : goal.invariant-loop-place
+invariant-loop-place l = l.grid ≡ l.fn.grid

@@ -1,6 +1,6 @@
 use Rattle.std.proofs.Common.{◌*◌, ◌<◌, arith, refl}
 use Rattle.maker_core.proofs.TentCamps.{none_after, more_after}
-use Rattle.maker_core.proofs.TentsSolved.{camp_none, camp_step, camp_solves}
+use Rattle.maker_core.proofs.TentsSolved.{camp_none, camp_step}
 use Rattle.maker_core.proofs.tents.filling.take_cells.Goals as goal
 
 pub loop-k-init : goal.loop-k-init
@@ -13,6 +13,3 @@ loop-k-preserved g c =
       drawn = more_after _ _ _ _ _ _ _ _ _ c.loop-k.invariant.drawn c.in_ok-take_cell.ensures.drawn refl;
       camp = camp_step c.args.size c.args.order.now c.loop-k.k _ _ _ c.cells-cells.ensures.lawful.w_low c.requires.order within refl c.loop-k.invariant.camp c.in_ok-take_cell.ensures.taken;
     }
-
-pub returns-clause-solved : goal.returns-clause-solved
-returns-clause-solved g c = camp_solves _ _ _ _ c.loop-k.invariant.camp

@@ -1,6 +1,7 @@
 use Rattle.std.proofs.Common.{◌≡◌, refl, sym, ◌∙◌, ap}
 use Rattle.gameid_core.specs.Puzzles.{Tents}
 use Rattle.fields_core.specs.TentHouses.{tent_rules}
+use Rattle.fields_core.proofs.TentRuleLemmas.{solution-from-camp, camp-from-solution}
 use Rattle.maker_core.specs.declared.tents.camp.Camp.{Camp}
 use Rattle.maker_core.specs.Made.{has_one}
 use Rattle.maker_core.specs.TentFilling.{tents_pass, tents_puzzle_of}
@@ -23,8 +24,8 @@ returns-then-branch-clause-made g c =
     let made = c.in_ok-camp.ensures.drawn in
     let is = filling_is _ _ _ _ _ _ trying made in
     let puzzle = c.in_ok-puzzle.ensures in
-    let only = tents_only c.args.size c.in_ok-camp.camp c.in_ok-puzzle.puzzle puzzle c.in_ok-camp.ensures.solved c.accepted_tents_are_solutions.ensures
-    c.args.limits.budget (c.in_ok-passes.ensures.only c.if-branch.true) in
+    let only = tents_only c.args.size c.in_ok-camp.camp c.in_ok-puzzle.puzzle puzzle c.in_ok-camp.ensures.solved
+    (λ q h grid. (solution-from-camp q h grid, camp-from-solution q h grid)) c.args.limits.budget (c.in_ok-passes.ensures.only c.if-branch.true) in
     record {
       k = _;
       first = first_passing _ _ _ _ _ _ trying made passed c.loop-attempt-test.true;
