@@ -33,10 +33,7 @@ diagonal_from false false d = d
 
 diagonal_from-few : (across down : Bool) (d : ℕ) → d < 2 → diagonal_from across down d < 2
 unfolding diagonal_from
-diagonal_from-few true true d few = few
-diagonal_from-few true false d few = omega arith
-diagonal_from-few false true d few = omega arith
-diagonal_from-few false false d few = few
+diagonal_from-few across down d few = grind arith
 
 -- the cell in column x of row y is on the diagonal
 abbrev on_diagonal : ℕ → ℕ → ℕ → ℕ → Type 0
@@ -45,15 +42,7 @@ on_diagonal n d x y = x ≡ (if eqb d 0 then y else n - 1 - y)
 diagonal_is : (across down : Bool) (n d x y : ℕ) → d < 2 → x < n → y < n → on_diagonal n d x y
     → on_diagonal n (diagonal_from across down d) (line_from across n x) (line_from down n y)
 unfolding diagonal_from
-diagonal_is true true n zero x y few lx ly on = omega arith
-diagonal_is true true n (suc zero) x y few lx ly on = omega arith
-diagonal_is true false n zero x y few lx ly on = omega arith
-diagonal_is true false n (suc zero) x y few lx ly on = omega arith
-diagonal_is false true n zero x y few lx ly on = omega arith
-diagonal_is false true n (suc zero) x y few lx ly on = omega arith
-diagonal_is false false n zero x y few lx ly on = on
-diagonal_is false false n (suc zero) x y few lx ly on = on
-diagonal_is across down n (suc (suc d)) x y few lx ly on = absurd (omega arith)
+diagonal_is across down n d x y few lx ly on = grind arith
 
 module _ (p : Solo) (c_low : 0 < p.c) (r_low : 0 < p.r) (across down : Bool) where
   abbrev from : ℕ → ℕ
@@ -79,15 +68,14 @@ module _ (p : Solo) (c_low : 0 < p.c) (r_low : 0 < p.r) (across down : Bool) whe
     column_below = mod_below place (solo_n p) some
 
     in_row : (y : ℕ) → lies_in p (Row y) place ≡ true → lies_in p (Row (line_from down (solo_n p) y)) (from place) ≡ true
-    in_row y on = eq-eqb _ _ (row ∙ ap (line_from down (solo_n p)) (eqb-true _ _ on))
+    in_row y on = grind (arith, row)
 
     in_column : (x : ℕ) → lies_in p (Column x) place ≡ true → lies_in p (Column (line_from across (solo_n p) x)) (from place) ≡ true
-    in_column x on = eq-eqb _ _ (column ∙ ap (line_from across (solo_n p)) (eqb-true _ _ on))
+    in_column x on = grind (arith, column)
 
     in_diagonal : (d : ℕ) → d < 2 → lies_in p (Diagonal d) place ≡ true → lies_in p (Diagonal (diagonal_from across down d)) (from place) ≡ true
-    in_diagonal d few on = eq-eqb _ _ (
-        column ∙ diagonal_is across down (solo_n p) d (column_of p place) (row_of p place) few column_below row_below (eqb-true _ _ on)
-        ∙ ap (λ y. if eqb (diagonal_from across down d) 0 then y else solo_n p - 1 - y) (sym row))
+    in_diagonal d few on = eq-eqb _ _
+        (rw (row, column) (diagonal_is across down (solo_n p) d (column_of p place) (row_of p place) few column_below row_below (eqb-true _ _ on)))
 
   block_in : (place : ℕ) → place < solo_cells p → block_of p place < solo_n p
   block_in place within =
@@ -99,13 +87,9 @@ module _ (p : Solo) (c_low : 0 < p.c) (r_low : 0 < p.r) (across down : Bool) whe
   same_block j k lj lk e =
       let parts = same_from_place (row_of p j / p.c) (column_of p j / p.r) (row_of p k / p.c) (column_of p k / p.r) p.c
       (div_below (column_of p j) p.r p.c r_low (column_below j lj)) (div_below (column_of p k) p.r p.c r_low (column_below k lk)) e in
-      let band : row_of p (from j) / p.c ≡ row_of p (from k) / p.c =
-      ap (λ y. y / p.c) (row j lj) ∙ line_from-together down (solo_n p) p.r p.c (row_of p j) (row_of p k) (sym turned) c_low (row_below j lj) (row_below k lk) parts.0
-      ∙ ap (λ y. y / p.c) (sym (row k lk)) in
-      let stack : column_of p (from j) / p.r ≡ column_of p (from k) / p.r =
-      ap (λ x. x / p.r) (column j lj) ∙ line_from-together across (solo_n p) p.c p.r (column_of p j) (column_of p k) refl r_low (column_below j lj) (column_below k lk) parts.1
-      ∙ ap (λ x. x / p.r) (sym (column k lk)) in
-      ap (λ b. b * p.c + column_of p (from j) / p.r) band ∙ ap (λ s. row_of p (from k) / p.c * p.c + s) stack
+      let band = line_from-together down (solo_n p) p.r p.c (row_of p j) (row_of p k) (sym turned) c_low (row_below j lj) (row_below k lk) parts.0 in
+      let stack = line_from-together across (solo_n p) p.c p.r (column_of p j) (column_of p k) refl r_low (column_below j lj) (column_below k lk) parts.1 in
+      rw (row j lj, row k lk, column j lj, column k lk, band, stack) refl
 
   together : (house : SoloHouse) → IsHouseOf p house → (j k : ℕ) → j < solo_cells p → k < solo_cells p → lies_in p house j ≡ true → lies_in p house k ≡ true
       → AreTogether p (from j) (from k)
@@ -136,7 +120,7 @@ module _ (p : Solo) (c_low : 0 < p.c) (r_low : 0 < p.r) (across down : Bool) whe
 
 -- ---- grids
 given_itself : (c r : ℕ) (x : Bool) (g : List ℕ) (place : ℕ) → place < length g → slice_index g place + 1 ≡ slice_index (all_given c r x g).givens place
-given_itself c r x g place within = let at = get_or-map suc g place 0 0 within in omega arith
+given_itself c r x g place within = grind (arith, get_or-map)
 
 -- the flipped grid solves the puzzle that gives all its cells
 pub flipped-solution : (c r : ℕ) (x : Bool) (givens g : List ℕ) → 0 < c → 0 < r → (across down : Bool) → IsSoloSolution (solo_puzzle c r x givens) g

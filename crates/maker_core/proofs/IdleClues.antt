@@ -13,12 +13,8 @@ lacking_within : {A : Type 0} (game : Game A) → IsGame game → (p q : A) (pla
     → IsThinnedFrom game q (game.without p place)
 lacking_within game laws p q place n w e lacks = record {
   frame = laws.same_through _ _ _ w.frame (laws.same_back _ _ (laws.without_frame p place n e));
-  clues = λ other m had. by other m had (cases_eq other place);
+  clues = λ other m had. grind (arith, cases_eq other place, laws.others_stay p place other, w.clues other m);
 }
-  where
-    by : (other m : ℕ) → game.clue q other ≡ Some m → (other ≡ place) ⊎ (other ≢ place) → game.clue (game.without p place) other ≡ Some m
-    by other m had (inl same) = absurd (true≢false (sym (ap is_some had) ∙ ap (has_clue game q) same ∙ lacks))
-    by other m had (inr apart) = laws.others_stay p place other apart ∙ w.clues other m had
 
 -- the reason of a clue that is left
 needed_at : {A : Type 0} (game : Game A) (budget : ℕ) (all p : A) (kept : List Kept) (place : ℕ) → AreReasons game budget all p kept → All (λ k. k.why ≡ Needed) kept

@@ -1,12 +1,13 @@
 -- The puzzle that gives all cells of a grid: its search starts from that grid alone.
-use Rattle.std.proofs.Common.{◌≡◌, ℕ, suc, ◌+◌, ◌*◌, ◌<◌, ◌≤◌, Bool, eqb, ltb, List, map, length, slice_index, refl, sym, ◌∙◌, inl, inr, arith, true, Some, ap}
+use Rattle.std.proofs.Common.{◌≡◌, ℕ, suc, ◌+◌, ◌*◌, ◌<◌, ◌≤◌, Bool, eqb, ltb, List, map, length, slice_index, take, replicate, [], ◌∷◌, ◌++◌, ◌-◌, refl, sym, ◌∙◌, inl, inr, arith, true, Some, ap}
 use Rattle.std.proofs.lemmas.Bool.{cases_eq, and_parts, and_from, or_cases, eqb-true, eq-eqb, ltb-true, lt-ltb}
 use Rattle.std.proofs.lemmas.Grind.{same_number_lists}
-use Rattle.std.proofs.lemmas.List.{length-map, get_or-map}
+use Rattle.std.proofs.lemmas.List.{length-map, length-take-le, get_or-map, map_more, set_at, append_assoc, append-nil, take_all}
 use Rattle.std.proofs.lemmas.List.Elements.{All-map, All-weaker, All-get_or, All-from_get_or, recursion_from_All}
 use Rattle.grid_core.specs.Candidates.{IsInside, single}
 use Rattle.grid_core.specs.Grids.{IsGrid}
-use Rattle.gameid_core.specs.Puzzles.{Solo, IsSolo}
+use Rattle.std.specs.Prelude.{slice_set}
+use Rattle.gameid_core.specs.Puzzles.{Solo, IsSolo, solo_puzzle}
 use Rattle.engine_core.specs.Verdict.{Outcome.OneGrid, Solves, IsTrueOf}
 use Rattle.solo_core.specs.Solutions.{IsSoloSolution}
 use Rattle.solo_core.specs.SolutionLaws.{test_from_rule, rule_from_test}
@@ -21,14 +22,28 @@ use Rattle.maker_core.specs.Thinning.{IsThinnedFrom}
 use Rattle.maker_core.proofs.FullStart.{start_found, start_only}
 
 pub given-at : (g : List ℕ) (place : ℕ) → place < length g → slice_index (map suc g) place ≡ slice_index g place + 1
-given-at g place lt = let at = get_or-map suc g place 0 0 lt in omega arith
+given-at g place lt = grind (arith, get_or-map)
 
-pub all_given-same : (p : Solo) (c r : ℕ) (x : Bool) (g : List ℕ) → p.c ≡ c → p.r ≡ r → p.x ≡ x → length p.givens ≡ length g
-    → ((k : ℕ) → k < length g → slice_index p.givens k ≡ slice_index g k + 1) → p ≡ all_given c r x g
-all_given-same p c r x g same_c same_r same_x long same =
-    let givens : p.givens ≡ map suc g =
-    same_number_lists p.givens (map suc g) (long ∙ sym (length-map g suc)) (λ k lt. same k (omega arith) ∙ sym (given-at g k (omega arith))) in
-    rw (sym same_c, sym same_r, sym same_x, sym givens) refl
+-- one more number of a list is written
+pub written : (xs : List ℕ) (m k v : ℕ) → k < length xs → length xs ≤ m → v ≡ slice_index xs k + 1
+    → slice_set (map suc (take k xs) ++ replicate (m - k) 0) k v ≡ map suc (take (k + 1) xs) ++ replicate (m - (k + 1)) 0
+written xs m k v lt room is =
+    let front = map suc (take k xs) in
+    let rest : List ℕ = replicate (m - (k + 1)) 0 in
+    let e : m - k ≡ suc (m - (k + 1)) = omega arith in
+    let next : suc (slice_index xs k) ≡ v = omega arith in
+    rw e (set_at front 0 rest v k (length-map (take k xs) suc ∙ length-take-le k xs (omega arith)))
+    ∙ sym (ap (λ ys. ys ++ rest) (map_more suc xs k 0 lt) ∙ append_assoc front (suc (slice_index xs k) ∷ []) rest ∙ ap (λ z. front ++ z ∷ rest) next)
+
+-- the puzzle whose first k cells have the numbers of a list, and whose other cells are blank
+abbrev pub given_first : ℕ → ℕ → Bool → List ℕ → ℕ → Solo
+given_first c r x numbers k = solo_puzzle c r x (map suc (take k numbers) ++ replicate ((c * r) * (c * r) - k) 0)
+
+pub given-all : (p : Solo) (c r : ℕ) (x : Bool) (g : List ℕ) (k : ℕ) → p ≡ given_first c r x g k → k ≡ length g → length g ≡ (c * r) * (c * r)
+    → p ≡ all_given c r x g
+given-all p c r x g k is all long =
+    let none : (c * r) * (c * r) - k ≡ 0 = omega arith in
+    is ∙ ap (solo_puzzle c r x) (rw (none, take_all k g (omega arith)) (append-nil (map suc g)))
 
 module _ (c r : ℕ) (x : Bool) (g : List ℕ) (size : IsSoloSize c r) (fits : IsGrid ((c * r) * (c * r)) (c * r) g) where
   all_given-solo : IsSolo (all_given c r x g)
@@ -37,23 +52,12 @@ module _ (c r : ℕ) (x : Bool) (g : List ℕ) (size : IsSoloSize c r) (fits : I
     r_low = size.r_low;
     n_high = size.n_high;
     cells = length-map g suc ∙ fits.each_cell;
-    range = recursion_from_All (λ v. v ≤ c * r) (map suc g)
-        (All-map (λ v. v ≤ c * r) suc g (All-weaker (λ v. v < c * r) (λ v. suc v ≤ c * r) (λ v lt. omega arith) g fits.each_value));
+    range = recursion_from_All (λ v. v ≤ c * r) (map suc g) (All-map (λ v. v ≤ c * r) suc g fits.each_value);
   }
 
   start_inside : IsInside (start (all_given c r x g)) (single g)
   unfolding start single
-  start_inside place v on =
-      let w = and_parts (ltb place ((c * r) * (c * r))) _ on in
-      let u = and_parts (ltb v (c * r)) _ w.1 in
-      let lt = ltb-true place ((c * r) * (c * r)) w.0 in
-      let long = fits.each_cell in
-      let at = given-at g place (omega arith) in
-      and_from (ltb place (length g)) (eqb (slice_index g place) v) (lt-ltb place (length g) (omega arith))
-      (elim (or_cases (eqb (slice_index (map suc g) place) 0) (eqb (v + 1) (slice_index (map suc g) place)) u.1) [
-        | inl blank ↦ let e = eqb-true (slice_index (map suc g) place) 0 blank in absurd (omega arith)
-        | inr same ↦ let e = eqb-true (v + 1) (slice_index (map suc g) place) same in eq-eqb (slice_index g place) v (omega arith)
-      ])
+  start_inside place v on = grind (arith, given-at g place, fits.each_cell)
 
 module _ (c r : ℕ) (x : Bool) (g : List ℕ) (size : IsSoloSize c r) (solution : IsSoloSolution (all_given c r x g) g) where
   solo : IsSolo (all_given c r x g)
@@ -83,20 +87,14 @@ thinned-solo c r x p g size solution w = record {
 }
   where
     given_low : (place : ℕ) → place < length p.givens → slice_index p.givens place ≤ c * r
-    given_low place lt = elim (cases_eq (slice_index p.givens place) 0) [
-      | inl none ↦ omega arith
-      | inr some ↦
-          let long = w.frame.cells in
-          let same = length-map g suc in
-          let inside : place < length g = omega arith in
-          let is = clue_is _ _ (w.clues place (slice_index p.givens place) (is_clue _ (omega arith))) in
-          let at = given-at g place inside in
-          let low = All-get_or (λ v. v < c * r) g place 0 inside solution.grid.each_value in
-          omega arith
-    ]
+    given_low place lt =
+        let value = All-get_or (λ v. v < c * r) g place 0 in
+        let given = w.clues place (slice_index p.givens place) in
+        grind (arith, given, is_clue (slice_index p.givens place), clue_is (slice_index (map suc g) place) (slice_index p.givens place),
+        given-at g place, value, solution.grid.each_value, w.frame.cells, length-map g suc)
 
 -- what the writing of all givens cites
-pub ruleset full_laws = (all_given-same)
+pub ruleset full_laws = (written, given-all)
 
 -- a filling that is there passes
 pub full_passes : (c r : ℕ) (x : Bool) (g : List ℕ) (budget : ℕ) → IsSoloSize c r → IsSoloSolution (all_given c r x g) g → solo_passes c r x budget (Some g) ≡ true

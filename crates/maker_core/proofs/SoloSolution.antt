@@ -20,12 +20,11 @@ use Rattle.maker_core.proofs.SoloNumbers.{row_apart, column_apart, block_apart, 
 pub rearranged-at : (c r : ℕ) (numbers rows columns : List ℕ) (place : ℕ) → place < (c * r) * (c * r)
     → slice_index (rearranged c r numbers rows columns) place ≡ slice_index numbers (old_number c r rows columns place)
 unfolding rearranged
-rearranged-at c r numbers rows columns place lt =
-    get_or-map-range_with_len (λ k. slice_index numbers (old_number c r rows columns k)) 0 ((c * r) * (c * r)) place place 0 lt (omega arith)
+rearranged-at c r numbers rows columns place lt = grind (arith, get_or-map-range_with_len)
 
 pub length-rearranged : (c r : ℕ) (numbers rows columns : List ℕ) → length (rearranged c r numbers rows columns) ≡ (c * r) * (c * r)
 unfolding rearranged
-length-rearranged c r numbers rows columns = length-map-range_with_len (λ k. slice_index numbers (old_number c r rows columns k)) 0 ((c * r) * (c * r))
+length-rearranged c r numbers rows columns = grind (arith, length-map-range_with_len)
 
 module _ (c r : ℕ) (numbers rows columns : List ℕ) (orders : AreOrders c r numbers rows columns) where
   abbrev grid : List ℕ
@@ -70,15 +69,13 @@ module _ (c r : ℕ) (numbers rows columns : List ℕ) (orders : AreOrders c r n
 
   apart_in_row : (j k : ℕ) → j < (c * r) * (c * r) → k < (c * r) * (c * r) → slice_index grid j ≡ slice_index grid k → j / (c * r) ≡ k / (c * r) → j ≡ k
   apart_in_row j k lj lk e row =
-      let old = same_first j k lj lk e ∙ ap (first_number c r (old_x k)) (ap (slice_index rows) (sym row)) in
-      let column = row_apart c r orders.c_some orders.r_some (old_x j) (old_x k) (old_y j) (old_x_below j) (old_x_below k) old in
-      same_line (c * r) j k row (same_x j k column)
+      let apart = row_apart c r orders.c_some orders.r_some (old_x j) (old_x k) (old_y j) (old_x_below j) (old_x_below k) in
+      grind (arith, same_first j k lj lk e, apart, same_x j k, same_line (c * r) j k)
 
   apart_in_column : (j k : ℕ) → j < (c * r) * (c * r) → k < (c * r) * (c * r) → slice_index grid j ≡ slice_index grid k → j % (c * r) ≡ k % (c * r) → j ≡ k
   apart_in_column j k lj lk e column =
-      let old = same_first j k lj lk e ∙ ap (λ x. first_number c r x (old_y k)) (ap (slice_index columns) (sym column)) in
-      let row = column_apart c r orders.c_some orders.r_some (old_x j) (old_y j) (old_y k) (old_y_below j lj) (old_y_below k lk) old in
-      same_line (c * r) j k (same_y j k lj lk row) column
+      let apart = column_apart c r orders.c_some orders.r_some (old_x j) (old_y j) (old_y k) (old_y_below j lj) (old_y_below k lk) in
+      grind (arith, same_first j k lj lk e, apart, same_y j k lj lk, same_line (c * r) j k)
 
   apart_in_block : (j k : ℕ) → j < (c * r) * (c * r) → k < (c * r) * (c * r) → slice_index grid j ≡ slice_index grid k
       → j / (c * r) / c ≡ k / (c * r) / c → j % (c * r) / r ≡ k % (c * r) / r → j ≡ k
@@ -104,16 +101,14 @@ module _ (c r : ℕ) (numbers rows columns : List ℕ) (orders : AreOrders c r n
   is_grid = record {
     each_cell = length-rearranged c r numbers rows columns;
     each_value = All-from_get_or (λ v. v < c * r) grid 0 (λ place lt.
-        let long = length-rearranged c r numbers rows columns in
-        let at = rearranged-at c r numbers rows columns place (omega arith) in
         let low = orders.number_order.within (old_number c r rows columns place) (mod_below _ (c * r) side_some) in
-        omega arith);
+        grind (arith, length-rearranged c r numbers rows columns, rearranged-at c r numbers rows columns place));
   }
 
   pub is_solution_of_all : IsSoloSolution (all_given c r false grid) grid
   is_solution_of_all = record {
     grid = is_grid;
-    givens = λ place lt some. let long = length-rearranged c r numbers rows columns in let at = get_or-map suc grid place 0 0 (omega arith) in omega arith;
+    givens = λ place lt some. grind (arith, length-rearranged c r numbers rows columns, get_or-map);
     different = λ house is j k lj lk ne a b e. ne (apart_in_house house is j k lj lk a b e);
   }
 

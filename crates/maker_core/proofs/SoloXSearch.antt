@@ -2,8 +2,8 @@
 use Rattle.std.proofs.Common.{◌≡◌, ℕ, zero, suc, ◌+◌, ◌-◌, ◌*◌, ◌<◌, ◌≤◌, true, Option, Some, None, List, map, ◌++◌, length, slice_index, replicate, sym, ap, subst, ◌∙◌, arith, inl, inr}
 use Rattle.std.specs.Prelude.{IfSome}
 use Rattle.std.proofs.lemmas.Bool.{cases_lt}
-use Rattle.std.proofs.lemmas.Grind.{same_number_lists}
-use Rattle.std.proofs.lemmas.List.{get_or-map, length-map, length-append, length-replicate, get_or_append_left, get_or-append_right, get_or-replicate}
+use Rattle.std.proofs.lemmas.Grind.{common_steps, same_number_lists}
+use Rattle.std.proofs.lemmas.List.{get_or-map, length-map, length-append, length-replicate, get_or_append_left, get_or-append_right, get_or-replicate, take_all}
 use Rattle.std.proofs.lemmas.List.Elements.{All-map, All-append, All-replicate, All-from_get_or, recursion_from_All}
 use Rattle.std.proofs.lemmas.Nat.{mul-le}
 use Rattle.rand_core.specs.Stream.{Stream}
@@ -22,13 +22,11 @@ use Rattle.maker_core.specs.SoloMaking.{IsSoloSize}
 use Rattle.maker_core.specs.SoloOrders.{IsOrder}
 use Rattle.maker_core.specs.SoloXFilling.{top_row_given, first_grid, flipped_by_draw, x_filling}
 use Rattle.maker_core.proofs.FlippedHouses.{flipped-solution}
+use Rattle.maker_core.proofs.SoloFull.{given_first, written}
 
 -- the store lends the first grid of what the search says
 pub first_is : (answer : Verdict) (first second : Option (List ℕ)) (said : Outcome) → IsAnswer answer first second said → first ≡ first_grid said
-first_is verdict.None first second said is = is.1 ∙ sym (ap first_grid is.0)
-first_is verdict.One first second said is = is.2 ∙ sym (ap first_grid is.1)
-first_is verdict.Several first second said is = is.3 ∙ sym (ap first_grid is.2)
-first_is (verdict.GaveUp found) first second said is = sym (ap first_grid is.0)
+first_is answer first second said is = grind arith
 
 -- and that grid is a solution
 first_solves : (p : Puzzle) (said : Outcome) → IsTrueOf p said → IfSome (first_grid said) (Solves p)
@@ -44,28 +42,18 @@ found_solves p found first second answer said lent is true_of =
     subst (λ (f : Option (List ℕ)). IfSome f (Solves p)) (sym (lent ∙ first_is answer first second said is)) (first_solves p said true_of)
 
 -- ---- the top row
+pub room : (c r : ℕ) → IsSoloSize c r → c * r ≤ (c * r) * (c * r)
+room c r size = grind (arith, mul-le 1 1 c r, mul-le 1 (c * r) (c * r) (c * r), size.c_low, size.r_low)
+
 module _ (c r : ℕ) (numbers : List ℕ) (size : IsSoloSize c r) (order : IsOrder (c * r) numbers) where
   abbrev rest : ℕ
   rest = (c * r) * (c * r) - c * r
-
-  room : c * r ≤ (c * r) * (c * r)
-  room =
-      let c_low = size.c_low in
-      let r_low = size.r_low in
-      let some = mul-le 1 1 c r (omega arith) (omega arith) in
-      let e = mul-le 1 (c * r) (c * r) (c * r) (omega arith) (omega arith) in
-      omega arith
 
   row : length (map suc numbers) ≡ c * r
   row = length-map numbers suc ∙ order.len
 
   top_cells : length (map suc numbers ++ replicate rest 0) ≡ (c * r) * (c * r)
-  top_cells =
-      let a = length-append (map suc numbers) (replicate rest 0) in
-      let b : length (replicate rest zero) ≡ rest = length-replicate rest zero in
-      let low = room in
-      let first = row in
-      omega arith
+  top_cells = grind (arith, common_steps, row, room c r size)
 
   pub top-solo : IsSolo (top_row_given c r numbers)
   top-solo = record {
@@ -75,33 +63,12 @@ module _ (c r : ℕ) (numbers : List ℕ) (size : IsSoloSize c r) (order : IsOrd
     cells = top_cells;
     range = recursion_from_All (λ v. v ≤ c * r) (map suc numbers ++ replicate rest 0)
         (All-append (λ v. v ≤ c * r) (map suc numbers) (replicate rest 0)
-        (All-map (λ v. v ≤ c * r) suc numbers (All-from_get_or (λ v. suc v ≤ c * r) numbers 0 (λ k lt. let len = order.len in let low = order.within k (omega arith) in omega arith)))
+        (All-map (λ v. v ≤ c * r) suc numbers (All-from_get_or (λ v. suc v ≤ c * r) numbers 0 (λ k lt. grind (arith, order.len, order.within k))))
         (All-replicate (λ v. v ≤ c * r) rest 0 (omega arith)));
   }
 
-  -- a puzzle of that size that gives these numbers alone
-  pub top-same : (p : Solo) (column : ℕ) → p.c ≡ c → p.r ≡ r → p.x ≡ true → length p.givens ≡ (c * r) * (c * r) → length numbers ≤ column
-      → ((k : ℕ) → k < column → slice_index p.givens k ≡ slice_index numbers k + 1) → ((k : ℕ) → column ≤ k → slice_index p.givens k ≡ 0)
-      → column ≡ length numbers → p ≡ top_row_given c r numbers
-  top-same p column same_c same_r same_x long all given blank end =
-      let givens : p.givens ≡ map suc numbers ++ replicate rest 0 =
-      same_number_lists p.givens (map suc numbers ++ replicate rest 0) (long ∙ sym top_cells) (λ k lt. elim (cases_lt k column) [
-        | inl low ↦
-            let first = row in
-            let a = get_or_append_left (map suc numbers) (replicate rest 0) 0 k (omega arith) in
-            let b = get_or-map suc numbers k 0 0 (omega arith) in
-            let e = given k low in
-            omega arith
-        | inr high ↦
-            let len = order.len in
-            let first = row in
-            let low = room in
-            let a = get_or-append_right (map suc numbers) (replicate rest 0) (c * r) k 0 row (omega arith) in
-            let b : slice_index (replicate rest zero) (k - c * r) ≡ 0 = get_or-replicate rest (k - c * r) zero zero (omega arith) in
-            let e = blank k high in
-            omega arith
-      ]) in
-      ap (λ i. solo_puzzle i p.r p.x p.givens) same_c ∙ ap (λ i. solo_puzzle c i p.x p.givens) same_r ∙ ap (λ i. solo_puzzle c r i p.givens) same_x ∙ ap (solo_puzzle c r true) givens
+  pub top-all : (p : Solo) (k : ℕ) → p ≡ given_first c r true numbers k → k ≡ length numbers → p ≡ top_row_given c r numbers
+  top-all p k is all = is ∙ rw (all, order.len) (ap (λ xs. solo_puzzle c r true (map suc xs ++ replicate rest 0)) (take_all (c * r) numbers (omega (arith, order.len))))
 
   found-solution : (g : List ℕ) → Solves (houses_rules (top_row_given c r numbers)) g → IsSoloSolution (top_row_given c r numbers) g
   found-solution g s = rule_from_test (top_row_given c r numbers) top-solo g s.grid s.good
@@ -132,4 +99,4 @@ x-filling-solves c r n t u numbers p q found filling size order is top rules sol
     rw (ap (λ (z : Option (List ℕ) × Stream). z.0) (rw is at flipped)) (flipped-found c r numbers size order found t (rw (rules, top) at solves))
 
 -- what the writing of the top row cites
-pub ruleset top_laws = (top-same)
+pub ruleset top_laws = (written, top-all, room)

@@ -19,11 +19,7 @@ use Rattle.maker_core.proofs.FilteredRanges.{passes_kept}
 use Rattle.maker_core.proofs.ThinningTurns.{some_of, none_of, within_itself}
 
 blank_at : (n place : ℕ) → get_or (replicate {A = Option Why} n None) place None ≡ None
-blank_at n place = by (cases_lt place n)
-  where
-    by : (place < n) ⊎ (n ≤ place) → get_or (replicate {A = Option Why} n None) place None ≡ None
-    by (inl below) = get_or-replicate n place None None below
-    by (inr past) = get_or_past (replicate n None) place None (omega (arith, past, length-replicate {A = Option Why} n None))
+blank_at n place = grind (arith, get_or-replicate {A = Option Why}, get_or_past {X = Option Why}, length-replicate {A = Option Why})
 
 one_reason : ℕ → Option Why → List Kept
 one_reason place None = []
@@ -45,14 +41,12 @@ taken_more whys k o below is =
 pub reason_kept : (whys : List (Option Why)) (k : ℕ) (why : Why) (before after : List Kept) → k < length whys → get_or whys k None ≡ Some why
     → before ≡ reasons_from 0 (take k whys) → after ≡ before ++ record { place = k; why = why } ∷ [] → after ≡ reasons_from 0 (take (k + 1) whys)
 unfolding one_reason
-reason_kept whys k why before after below is kept more =
-    more ∙ ap (λ ks. ks ++ record { place = k; why = why } ∷ []) kept ∙ sym (taken_more whys k (Some why) below is)
+reason_kept whys k why before after below is kept more = grind (arith, taken_more whys k (Some why))
 
 pub reason_skipped : (whys : List (Option Why)) (k : ℕ) (before after : List Kept) → k < length whys → get_or whys k None ≡ None
     → before ≡ reasons_from 0 (take k whys) → after ≡ before → after ≡ reasons_from 0 (take (k + 1) whys)
 unfolding one_reason
-reason_skipped whys k before after below is kept same =
-    same ∙ kept ∙ sym (append-nil (reasons_from 0 (take k whys))) ∙ sym (taken_more whys k None below is)
+reason_skipped whys k before after below is kept same = grind (arith, taken_more whys k None, append-nil (reasons_from 0 (take k whys)))
 
 pub no_reason : (o : Option Why) → ((why : Why) → o ≡ Some why → ⊥) → o ≡ None
 no_reason None never = refl

@@ -37,8 +37,7 @@ some_of None e = absurd (true≢false (sym e))
 some_of (Some n) e = (n, refl)
 
 pub none_of : (o : Option ℕ) → is_some o ≡ false → o ≡ None
-none_of None e = refl
-none_of (Some n) e = absurd (true≢false e)
+none_of o e = grind arith
 
 pub contains_head : (xs : List ℕ) (x : ℕ) → Contains (x ∷ xs) x
 contains_head xs x = (0, omega arith, refl)
@@ -49,13 +48,7 @@ contains_rest xs x q apart (zero, below, is) = absurd (apart (sym is))
 contains_rest xs x q apart (suc k, below, is) = (k, omega arith, is)
 
 fits_through : (a b c : Needs) → FitsIn a b → FitsIn b c → FitsIn a c
-fits_through a b c first second = record {
-  same_cells = first.same_cells ∙ second.same_cells;
-  same_values = first.same_values ∙ second.same_values;
-  houses_in = omega (arith, first.houses_in, second.houses_in);
-  bound_in = omega (arith, first.bound_in, second.bound_in);
-  scope_in = omega (arith, first.scope_in, second.scope_in);
-}
+fits_through a b c first second = grind arith
 
 module _ {A : Type 0} (game : Game A) (laws : IsGame game) where
   pub within_itself : (p : A) → IsThinnedFrom game p p
