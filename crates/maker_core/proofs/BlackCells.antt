@@ -1,15 +1,8 @@
 -- The cells of a grid that were drawn so far are the list of draws.
-use Rattle.std.proofs.lemmas.Grind.{elements}
-use Rattle.std.proofs.Common.{◌≡◌, ℕ, zero, suc, ◌+◌, ◌<◌, Bool, List, [], ◌∷◌, ◌++◌, refl, sym, ◌∙◌, ap, arith, add-one, take, length, length-append, cond, get_or-set_other, inl, inr}
-use Rattle.std.specs.Prelude.{nat_lt, slice_index, slice_set}
-use Rattle.std.proofs.lemmas.Grind.{common_steps}
-use Rattle.std.proofs.lemmas.Bool.{cases_eq, lt-ltb, le-ltb}
-use Rattle.std.proofs.lemmas.Grind.{get_or-set_at}
-use Rattle.std.proofs.lemmas.List.{take_more_set}
-use Rattle.std.proofs.lemmas.List.Elements.{All-append, All-cons, All-nil}
-use Rattle.rand_core.specs.Stream.{Stream}
-use Rattle.grid_core.specs.Grids.{IsGrid}
-use Rattle.maker_core.specs.Draws.{draw_below, black_cells}
+use Rattle.maker_core.proofs.Words.{elements, ◌≡◌, ℕ, zero, suc, ◌+◌, ◌<◌, Bool, List, [], ◌∷◌, ◌++◌, refl, sym, ◌∙◌, ap, arith, add-one, take}
+use Rattle.maker_core.proofs.Words.{length, length-append, cond, get_or-set_other, inl, inr, nat_lt, slice_index, slice_set, common_steps, cases_eq}
+use Rattle.maker_core.proofs.Words.{lt-ltb, le-ltb, get_or-set_at, take_more_set, All-append, All-cons, All-nil, Stream, IsGrid, draw_below}
+use Rattle.maker_core.proofs.Words.{black_cells}
 
 -- the steps of the drawing
 black_cells-none : (black : ℕ) (s : Stream) → ◌≡◌ {A = List ℕ × Stream} ([], s) (black_cells black 0 s)

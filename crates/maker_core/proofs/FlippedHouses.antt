@@ -1,19 +1,10 @@
 -- A flip of a grid that keeps to all rules but the givens keeps to them: what lies in one row, column, block or diagonal
 -- comes from one row, column, block or diagonal.
-use Rattle.std.proofs.Common.{◌≡◌, ℕ, zero, suc, ◌+◌, ◌-◌, ◌*◌, ◌/◌, ◌<◌, Bool, true, false, eqb, List, length, slice_index, if◌then◌else◌, refl, sym, ap, ◌∙◌, arith}
-use native.Mathlib.Nat.{mul-pos}
-use Rattle.std.proofs.lemmas.Bool.{eqb-true, eq-eqb}
-use Rattle.std.proofs.lemmas.Nat.{mul-add-lt, div_below, mod_below, same_from_place}
-use Rattle.std.proofs.lemmas.List.{get_or-map}
-use Rattle.gameid_core.specs.Puzzles.{Solo, solo_n, solo_puzzle}
-use Rattle.solo_core.specs.declared.houses.house.SoloHouse.{SoloHouse}
-use Rattle.solo_core.specs.declared.houses.house.SoloHouse.TheVariants.{Row, Column, Block, Diagonal}
-use Rattle.solo_core.specs.Cells.{solo_cells, row_of, column_of, block_of}
-use Rattle.solo_core.specs.Houses.{IsHouseOf, lies_in}
-use Rattle.solo_core.specs.Solutions.{IsSoloSolution}
-use Rattle.maker_core.specs.Flips.{line_from, flipped_from, flipped}
-use Rattle.maker_core.specs.SoloCluesLaws.{house_stays, lies_alike}
-use Rattle.maker_core.specs.SoloFilling.{all_given}
+use Rattle.maker_core.proofs.Words.{◌≡◌, ℕ, zero, suc, ◌+◌, ◌-◌, ◌*◌, ◌/◌, ◌<◌, Bool, true, false, eqb, List, length, slice_index, if◌then◌else◌}
+use Rattle.maker_core.proofs.Words.{refl, sym, ap, ◌∙◌, arith, mul-pos, eqb-true, eq-eqb, mul-add-lt, div_below, mod_below, same_from_place}
+use Rattle.maker_core.proofs.Words.{get_or-map, Solo, solo_n, solo_puzzle, SoloHouse, Row, Column, Block, Diagonal, solo_cells, row_of, column_of}
+use Rattle.maker_core.proofs.Words.{block_of, IsHouseOf, lies_in, IsSoloSolution, line_from, flipped_from, flipped, house_stays, lies_alike}
+use Rattle.maker_core.proofs.Words.{all_given}
 use Rattle.maker_core.proofs.Flips.{line_from-below, line_from-together, from_row, from_column, from_below, from_apart, flipped-at, flipped-grid, length-flipped}
 
 -- two places lie in one house of the puzzle

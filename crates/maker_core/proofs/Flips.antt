@@ -1,11 +1,7 @@
 -- A flip of a square grid brings each row to a row, each column to a column, and lines of one group to lines of one group.
-use Rattle.std.proofs.Common.{◌≡◌, ℕ, ◌+◌, ◌-◌, ◌*◌, ◌/◌, ◌%◌, ◌<◌, Bool, List, length, slice_index, ap, arith}
-use Rattle.std.proofs.lemmas.Bool.{cases_eq}
-use Rattle.std.proofs.lemmas.Nat.{mul-add-lt, div-mul-add, mod-mul-add, div_below, mod_below, div-add-mod'}
-use Rattle.std.proofs.lemmas.List.Elements.{All-get_or, All-from_get_or}
-use Rattle.std.proofs.lemmas.List.FromFn.{length-map-range_with_len, get_or-map-range_with_len}
-use Rattle.grid_core.specs.Grids.{IsGrid}
-use Rattle.maker_core.specs.Flips.{line_from, flipped_from, flipped}
+use Rattle.maker_core.proofs.Words.{◌≡◌, ℕ, ◌+◌, ◌-◌, ◌*◌, ◌/◌, ◌%◌, ◌<◌, Bool, List, length, slice_index, ap, arith, cases_eq, mul-add-lt}
+use Rattle.maker_core.proofs.Words.{div-mul-add, mod-mul-add, div_below, mod_below, div-add-mod', All-get_or, All-from_get_or}
+use Rattle.maker_core.proofs.Words.{length-map-range_with_len, get_or-map-range_with_len, IsGrid, line_from, flipped_from, flipped}
 
 -- ---- lines
 pub line_from-below : (flips : Bool) (n k : ℕ) → k < n → line_from flips n k < n

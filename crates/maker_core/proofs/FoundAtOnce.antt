@@ -1,14 +1,10 @@
 -- Where the closure of the start leaves each cell only its number of a solution, the verdict is that one, whatever the budget.
-use Rattle.std.proofs.Common.{◌≡◌, ℕ, zero, suc, ◌<◌, ◌≤◌, true, List, [], ◌∷◌, length, slice_index, None, refl, sym, ap, ◌∙◌, arith}
-use Rattle.grid_core.specs.Candidates.{Candidates, IsInside, IsWithin, single, grid_of, count_below}
-use Rattle.grid_core.proofs.CandidateLemmas.{count_below-pos, count_below-few, is_dead-each, is_full-each}
-use Rattle.grid_core.proofs.GridLemmas.{single-at, grid_of-full}
-use Rattle.engine_core.specs.Puzzle.{Puzzle, IsLawful, IsClosed}
-use Rattle.engine_core.specs.Closing.{closure, IsLargestClosed}
-use Rattle.engine_core.specs.Walk.{Mark, Mark.Found, walk, walk_closed}
-use Rattle.engine_core.specs.Verdict.{Outcome.OneGrid, outcome, Solves}
-use Rattle.engine_core.proofs.WalkLemmas.{walk_closed-solved}
-use Rattle.maker_core.specs.Made.{TellsOne}
+use Rattle.maker_core.proofs.Words.{◌≡◌, ℕ, zero, suc, ◌<◌, ◌≤◌, true, List, [], ◌∷◌, length, slice_index, None, refl, sym, ap, ◌∙◌, arith}
+use Rattle.maker_core.proofs.Words.{Candidates, IsInside, IsWithin, single, grid_of, count_below, count_below-pos, count_below-few, is_dead-each}
+use Rattle.maker_core.proofs.Words.{is_full-each, single-at, grid_of-full, Puzzle, IsLawful, IsClosed, closure, IsLargestClosed, Mark, walk}
+use Rattle.maker_core.proofs.Words.{walk_closed, outcome, Solves, walk_closed-solved, TellsOne}
+use Rattle.engine_core.specs.Walk.{Mark.Found}
+use Rattle.engine_core.specs.Verdict.{Outcome.OneGrid}
 
 -- each value that the board has is the grid's
 pub record IsGridAlone (p : Puzzle) (g : List ℕ) (E : Candidates) : Type 0 where

@@ -1,13 +1,7 @@
 -- Where a search starts from a solution alone, no other grid lies inside the start, and the verdict is that one whatever the budget.
-use Rattle.std.proofs.Common.{ℕ, List, slice_index, sym, arith}
-use Rattle.std.proofs.lemmas.Grind.{same_number_lists}
-use Rattle.grid_core.specs.Candidates.{IsInside, single}
-use Rattle.grid_core.proofs.GridLemmas.{single-at, single-is}
-use Rattle.engine_core.specs.Puzzle.{Puzzle, IsLawful}
-use Rattle.engine_core.specs.Verdict.{Outcome.OneGrid, Solves, IsTrueOf}
-use Rattle.engine_core.proofs.ClosingLemmas.{closure_inside, closure_closed, closure_largest}
-use Rattle.engine_core.proofs.WalkLemmas.{walk-unfold}
-use Rattle.maker_core.specs.Made.{TellsOne}
+use Rattle.maker_core.proofs.Words.{ℕ, List, slice_index, sym, arith, same_number_lists, IsInside, single, single-at, single-is, Puzzle, IsLawful}
+use Rattle.maker_core.proofs.Words.{Solves, IsTrueOf, closure_inside, closure_closed, closure_largest, walk-unfold, TellsOne}
+use Rattle.engine_core.specs.Verdict.{Outcome.OneGrid}
 use Rattle.maker_core.proofs.FoundAtOnce.{IsKnown, found_at_once}
 
 pub known : (p : Puzzle) → IsLawful p → IsKnown p

@@ -1,11 +1,7 @@
 -- A puzzle that lacks a needed clue is within the puzzle without that clue alone.
-use Rattle.std.proofs.Common.{◌≡◌, ◌≢◌, ℕ, ◌<◌, false, true≢false, Some, List, length, get_or, map, sym, ◌∙◌, ap, subst, arith, ◌⊎◌, inl, inr}
-use Rattle.std.specs.Prelude.{is_some, All, Contains}
-use Rattle.std.proofs.lemmas.Bool.{cases_eq}
-use Rattle.std.proofs.lemmas.List.{get_or-map, length-map}
-use Rattle.maker_core.specs.Thinning.{Game, IsGame, has_clue, IsThinnedFrom, HasTwo, IsReason, AreReasons, LeavesNoIdleClue}
-use Rattle.maker_core.specs.declared.made.Kept.{Kept}
-use Rattle.maker_core.specs.declared.made.Why.TheVariants.{Needed}
+use Rattle.maker_core.proofs.Words.{◌≡◌, ◌≢◌, ℕ, ◌<◌, false, true≢false, Some, List, length, get_or, map, sym, ◌∙◌, ap, subst, arith, ◌⊎◌, inl, inr}
+use Rattle.maker_core.proofs.Words.{is_some, All, Contains, cases_eq, get_or-map, length-map, Game, IsGame, has_clue, IsThinnedFrom, HasTwo, IsReason}
+use Rattle.maker_core.proofs.Words.{AreReasons, LeavesNoIdleClue, Kept, Needed}
 use Rattle.maker_core.proofs.FilteredRanges.{passes_kept}
 use Rattle.maker_core.proofs.ThinningTurns.{some_of, two_in}
 

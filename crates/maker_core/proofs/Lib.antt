@@ -1,3 +1,4 @@
+pub mod Words
 pub mod BlackCells
 pub mod FoundAtOnce
 pub mod LightCells

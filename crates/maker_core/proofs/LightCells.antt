@@ -1,18 +1,7 @@
 -- The cells of a puzzle of Light Up, rewritten one by one.
-use Rattle.std.proofs.Common.{◌≡◌, ℕ, ◌*◌, ◌<◌, ◌≤◌, List, length, map, get_or, refl, ◌∙◌, arith}
-use Rattle.std.specs.Prelude.{◌==◌, if◌then◌else◌}
-use Rattle.std.specs.List.{range_with_len}
-use Rattle.std.proofs.lemmas.List.{get_or-map, length-map}
-use Rattle.std.proofs.lemmas.List.Sums.{count_by-le-length}
-use Rattle.std.proofs.lemmas.List.FromFn.{fill_by_all}
-use Rattle.grid_core.specs.Extent.{Extent}
-use Rattle.gameid_core.specs.Puzzles.{Light}
-use Rattle.gameid_core.specs.declared.light_up.cell.LightCell.{LightCell}
-use Rattle.gameid_core.specs.declared.light_up.cell.LightCell.TheVariants.{White, Black}
-use Rattle.grid_core.specs.Regions.{beside}
-use Rattle.fields_core.specs.Light.{light_cells, bulb, bulbs_beside}
-use Rattle.fields_core.proofs.StepLaws.{steps-few}
-use Rattle.maker_core.specs.LightFilling.{lights_of, numbered_cell, with_numbers}
+use Rattle.maker_core.proofs.Words.{◌≡◌, ℕ, ◌*◌, ◌<◌, ◌≤◌, List, length, map, get_or, refl, ◌∙◌, arith, ◌==◌, if◌then◌else◌, range_with_len}
+use Rattle.maker_core.proofs.Words.{get_or-map, length-map, count_by-le-length, fill_by_all, Extent, Light, LightCell, White, Black, beside}
+use Rattle.maker_core.proofs.Words.{light_cells, bulb, bulbs_beside, steps-few, lights_of, numbered_cell, with_numbers}
 
 -- the cells below `place` are the new ones, and the others the old ones
 pub record IsRewritten (size : Extent) (new old : ℕ → LightCell) (place : ℕ) (p : Light) : Type 0 where

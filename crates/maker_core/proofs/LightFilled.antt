@@ -1,19 +1,9 @@
 -- What is drawn for a filling of Light Up is its definition.
-use Rattle.std.proofs.lemmas.Grind.{elements}
-use Rattle.std.proofs.Common.{◌≡◌, ℕ, ◌*◌, ◌<◌, true, List, false, inl, inr, arith, map, length, refl, sym, ap, ◌∙◌}
-use Rattle.std.proofs.lemmas.List.{get_or_default, get_or-map, get_or_past, length-map}
-use Rattle.std.proofs.lemmas.Bool.{cases_lt}
-use Rattle.std.specs.Prelude.{All, IsPermutation, slice_index, ◌==◌, if◌then◌else◌}
-use Rattle.std.specs.List.{range_with_len}
-use Rattle.gameid_core.specs.declared.light_up.cell.LightCell.{LightCell}
-use Rattle.rand_core.specs.Stream.{Stream}
-use Rattle.grid_core.specs.Extent.{Extent}
-use Rattle.gameid_core.specs.Puzzles.{Light}
-use Rattle.gameid_core.specs.declared.light_up.cell.LightCell.TheVariants.{White, Black}
-use Rattle.fields_core.specs.Light.{light_cells, white, is_white, is_lit}
-use Rattle.fields_core.proofs.LightHouseLaws.{white-in}
-use Rattle.maker_core.specs.Draws.{AreAll, shuffled_list, black_cells}
-use Rattle.maker_core.specs.LightFilling.{lights_of, white_places, bulbs_after, numbered_cell, with_numbers, lit_up, Lighting, light_filling, light_puzzle_of}
+use Rattle.maker_core.proofs.Words.{elements, ◌≡◌, ℕ, ◌*◌, ◌<◌, true, List, false, inl, inr, arith, map, length, refl, sym, ap, ◌∙◌, get_or_default}
+use Rattle.maker_core.proofs.Words.{get_or-map, get_or_past, length-map, cases_lt, All, IsPermutation, slice_index, ◌==◌, if◌then◌else◌}
+use Rattle.maker_core.proofs.Words.{range_with_len, LightCell, Stream, Extent, Light, White, Black, light_cells, white, is_white, is_lit, white-in}
+use Rattle.maker_core.proofs.Words.{AreAll, shuffled_list, black_cells, lights_of, white_places, bulbs_after, numbered_cell, with_numbers, lit_up}
+use Rattle.maker_core.proofs.Words.{Lighting, light_filling, light_puzzle_of}
 use Rattle.maker_core.proofs.LightSight.{same_white}
 use Rattle.maker_core.proofs.LightSolved.{order_white, lit_solved}
 

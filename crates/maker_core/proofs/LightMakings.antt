@@ -1,20 +1,8 @@
 -- A puzzle of black cells alone passes, and the puzzle of a filling is of its size.
-use Rattle.std.proofs.Common.{◌≡◌, ℕ, ◌<◌, true, false, not, ◌&&◌, List, slice_index, sym, ap, ◌∙◌, arith, inl, inr}
-use Rattle.std.specs.Prelude.{◌==◌}
-use Rattle.std.proofs.lemmas.Bool.{true≢false, and_parts, or_cases, eqb-true, eq-eqb, cases_eq}
-use Rattle.grid_core.specs.Candidates.{all_of}
-use Rattle.grid_core.specs.Extent.{Extent}
-use Rattle.grid_core.specs.Grids.{IsGrid}
-use Rattle.grid_core.proofs.CandidateLemmas.{all_below-at}
-use Rattle.gameid_core.specs.Puzzles.{Light}
-use Rattle.engine_core.specs.Puzzle.{IsLawful}
-use Rattle.engine_core.proofs.ClosingLemmas.{closure_inside}
-use Rattle.fields_core.specs.CountHouse.{start_of}
-use Rattle.fields_core.specs.Light.{light_cells, white, black_right, is_lit}
-use Rattle.fields_core.specs.LightHouses.{light_rules}
-use Rattle.fields_core.proofs.LightFaultLemmas.{lit-parts}
-use Rattle.maker_core.specs.LightFilling.{Lighting, lights_of, light_puzzle_of, with_numbers}
-use Rattle.maker_core.specs.Made.{is_one, has_one}
+use Rattle.maker_core.proofs.Words.{◌≡◌, ℕ, ◌<◌, true, false, not, ◌&&◌, List, slice_index, sym, ap, ◌∙◌, arith, inl, inr, ◌==◌, true≢false}
+use Rattle.maker_core.proofs.Words.{and_parts, or_cases, eqb-true, eq-eqb, cases_eq, all_of, Extent, IsGrid, all_below-at, Light, IsLawful}
+use Rattle.maker_core.proofs.Words.{closure_inside, start_of, light_cells, white, black_right, is_lit, light_rules, lit-parts, Lighting, lights_of}
+use Rattle.maker_core.proofs.Words.{light_puzzle_of, with_numbers, is_one, has_one}
 use Rattle.maker_core.proofs.FoundAtOnce.{found_at_once}
 use Rattle.maker_core.proofs.FullStart.{known}
 

@@ -1,19 +1,11 @@
 -- Who sees whom, whatever the numbers, and both ways; and bulbs that are placed in turn.
-use Rattle.std.proofs.lemmas.Grind.{elements}
-use Rattle.std.proofs.Common.{◌≡◌, ℕ, ◌+◌, ◌*◌, ◌/◌, ◌%◌, ◌<◌, Bool, true, false, not, ◌&&◌, List, eqb, length, get_or, map, refl, sym, ap, ◌∙◌, arith, inl, inr, zero, suc, replicate, add-one}
-use Rattle.std.specs.Prelude.{◌||◌, if◌then◌else◌, slice_index, slice_set, filter}
-use Rattle.std.specs.List.{range_with_len}
-use Rattle.std.proofs.lemmas.Bool.{cases_lt, cond_both, and_parts, and_from, or_cases, or_left, or_right, eq-eqb}
-use Rattle.std.proofs.lemmas.Cmp.{nat_eq_equiv}
-use Rattle.std.proofs.lemmas.List.{get_or_past}
-use Rattle.std.proofs.lemmas.List.FromFn.{get_or-map-range_with_len, length-map-range_with_len}
-use Rattle.grid_core.proofs.CandidateLemmas.{any_below-here, any_below-some}
-use Rattle.gameid_core.specs.Puzzles.{Light}
-use Rattle.gameid_core.specs.declared.light_up.cell.LightCell.TheVariants.{White, Black, Numbered}
-use Rattle.fields_core.specs.Light.{light_cells, is_white, white, bulb, bulbs_beside, joined_in_row, joined_in_column, sees, sees_bulb}
-use Rattle.fields_core.proofs.LightHouseLaws.{clear-from, row-both, row-self, column-both}
-use Rattle.maker_core.specs.LightFilling.{numbered_cell, with_numbers, with_bulb, bulbs_after, white_places}
-use Rattle.grid_core.specs.Grids.{IsGrid}
+use Rattle.maker_core.proofs.Words.{elements, ◌≡◌, ℕ, ◌+◌, ◌*◌, ◌/◌, ◌%◌, ◌<◌, Bool, true, false, not, ◌&&◌, List, eqb, length, get_or, map, refl}
+use Rattle.maker_core.proofs.Words.{sym, ap, ◌∙◌, arith, inl, inr, zero, suc, replicate, add-one, ◌||◌, if◌then◌else◌, slice_index, slice_set, filter}
+use Rattle.maker_core.proofs.Words.{range_with_len, cases_lt, cond_both, and_parts, and_from, or_cases, or_left, or_right, eq-eqb, nat_eq_equiv}
+use Rattle.maker_core.proofs.Words.{get_or_past, get_or-map-range_with_len, length-map-range_with_len, any_below-here, any_below-some, Light, White}
+use Rattle.maker_core.proofs.Words.{Black, Numbered, light_cells, is_white, white, bulb, bulbs_beside, joined_in_row, joined_in_column, sees}
+use Rattle.maker_core.proofs.Words.{sees_bulb, clear-from, row-both, row-self, column-both, numbered_cell, with_numbers, with_bulb, bulbs_after}
+use Rattle.maker_core.proofs.Words.{white_places, IsGrid}
 use Rattle.maker_core.proofs.WrittenGrids.{grid_with, zeros-grid}
 
 -- ---- numbers change no colour

@@ -1,24 +1,13 @@
 -- White cells that were taken in turn, in any order, hold or see a bulb, and no bulb sees a bulb: the grid solves the
 -- puzzle with all numbers.
-use Rattle.std.proofs.lemmas.Grind.{elements}
-use Rattle.std.proofs.Common.{◌≡◌, ℕ, zero, suc, ◌<◌, ◌≤◌, Bool, true, false, not, List, length, get_or, refl, sym, ap, ◌∙◌, arith, inl, inr, replicate}
-use Rattle.std.specs.Prelude.{◌==◌, ◌||◌, slice_index, slice_set, if◌then◌else◌, IsPermutation}
-use Rattle.std.proofs.lemmas.Bool.{cond_both, cases_eq, true≢false, false_from_ne_true, and_parts, or_cases, or_left, or_right, eq-eqb}
+use Rattle.maker_core.proofs.Words.{elements, ◌≡◌, ℕ, zero, suc, ◌<◌, ◌≤◌, Bool, true, false, not, List, length, get_or, refl, sym, ap, ◌∙◌, arith}
+use Rattle.maker_core.proofs.Words.{inl, inr, replicate, ◌==◌, ◌||◌, slice_index, slice_set, if◌then◌else◌, IsPermutation, cond_both, cases_eq}
+use Rattle.maker_core.proofs.Words.{true≢false, false_from_ne_true, and_parts, or_cases, or_left, or_right, eq-eqb, filter_passes, All-contains}
+use Rattle.maker_core.proofs.Words.{Contains-get_or, Contains-permutation, IsPermutation-sym, range_with_len, get_or_default, all_below-from, IsGrid}
+use Rattle.maker_core.proofs.Words.{Light, LightCell, White, Black, Numbered, light_cells, white, bulb, bulbs_beside, number_is, sees, sees_bulb}
+use Rattle.maker_core.proofs.Words.{black_right, number_right, bulb_right, lit_right, is_lit, lit-from, white-in, bulb-in, white_places, with_bulb}
+use Rattle.maker_core.proofs.Words.{bulbs_after, numbered_cell, with_numbers}
 
-use Rattle.std.proofs.lemmas.List.Elements.{filter_passes, All-contains, Contains-get_or}
-use Rattle.std.proofs.lemmas.List.Sorted.{Contains-permutation, IsPermutation-sym}
-use Rattle.std.specs.List.{range_with_len}
-use Rattle.std.proofs.lemmas.List.{get_or_default}
-use Rattle.grid_core.proofs.CandidateLemmas.{all_below-from}
-use Rattle.grid_core.specs.Grids.{IsGrid}
-use Rattle.gameid_core.specs.Puzzles.{Light}
-use Rattle.gameid_core.specs.declared.light_up.cell.LightCell.{LightCell}
-use Rattle.gameid_core.specs.declared.light_up.cell.LightCell.TheVariants.{White, Black, Numbered}
-use Rattle.fields_core.specs.Light.{light_cells, white, bulb, bulbs_beside, number_is, sees, sees_bulb, black_right, number_right, bulb_right, lit_right, is_lit}
-use Rattle.fields_core.proofs.LightFaultLemmas.{lit-from}
-use Rattle.fields_core.proofs.LightHouseLaws.{white-in}
-use Rattle.fields_core.proofs.LightSight.{bulb-in}
-use Rattle.maker_core.specs.LightFilling.{white_places, with_bulb, bulbs_after, numbered_cell, with_numbers}
 use Rattle.maker_core.proofs.FilteredRanges.{passes_kept}
 use Rattle.maker_core.proofs.LightSight.{bulbs_after-grid, number_at, same_white, same_seen, sees_back, sees_itself, seen_bulb, bulb_seen}
 use Rattle.maker_core.proofs.WrittenGrids.{new_or_old, no_one, old_stays}

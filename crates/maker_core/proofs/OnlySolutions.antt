@@ -1,10 +1,5 @@
 -- What a search says of the solutions of its rules it says of the solutions of the game, where the two agree.
-use Rattle.std.proofs.Common.{ℕ, List, sym, ◌∙◌, subst}
-use Rattle.std.specs.Prelude.{IsTrue, ◌↔◌}
-use Rattle.engine_core.specs.Puzzle.{Puzzle, IsGridOf}
-use Rattle.engine_core.specs.Verdict.{Solves}
-use Rattle.maker_core.specs.Made.{HasOne, TellsOne, IsOnlySolution}
-use Rattle.maker_core.specs.Thinning.{IsOnly}
+use Rattle.maker_core.proofs.Words.{ℕ, List, sym, ◌∙◌, subst, IsTrue, ◌↔◌, Puzzle, IsGridOf, Solves, HasOne, TellsOne, IsOnlySolution, IsOnly}
 
 module _ (rules : Puzzle) (solves : List ℕ → Type 0) (fits : (h : List ℕ) → solves h → IsGridOf rules h)
     (accepted : (h : List ℕ) → IsGridOf rules h → (IsTrue (rules.is_solution h)) ↔ solves h) where

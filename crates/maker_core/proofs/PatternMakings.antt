@@ -1,18 +1,8 @@
 -- The puzzle of a grid has the runs of its lines as clues, and the grid is a solution of it.
-use Rattle.std.proofs.Common.{◌≡◌, ℕ, ◌+◌, ◌-◌, ◌*◌, ◌<◌, List, [], length, map, get_or, subst, refl, sym, ap, ◌∙◌, arith, inl, inr}
-use Rattle.std.specs.List.{range_with_len}
-use Rattle.std.specs.Prelude.{slice_index_or, IsTrue, ◌↔◌}
-use Rattle.std.proofs.lemmas.Bool.{cases_lt, lt-ltb, le-ltb}
-use Rattle.std.proofs.lemmas.List.FromFn.{fill_by_all}
-use Rattle.grid_core.specs.Extent.{Extent}
-use Rattle.grid_core.specs.Grids.{IsGrid, row_cells, column_cells}
-use Rattle.gameid_core.specs.BlackRuns.{runs}
-use Rattle.gameid_core.specs.Lines.{line_list}
-use Rattle.gameid_core.specs.Puzzles.{Pattern, lines_of}
-use Rattle.pattern_core.specs.LineRules.{line_rules}
-use Rattle.pattern_core.specs.Solutions.{IsPatternSolution}
-use Rattle.maker_core.specs.Made.{HasOne, TellsOne, IsOnlySolution}
-use Rattle.maker_core.specs.PatternMaking.{clued_by}
+use Rattle.maker_core.proofs.Words.{◌≡◌, ℕ, ◌+◌, ◌-◌, ◌*◌, ◌<◌, List, [], length, map, get_or, subst, refl, sym, ap, ◌∙◌, arith, inl, inr}
+use Rattle.maker_core.proofs.Words.{range_with_len, slice_index_or, IsTrue, ◌↔◌, cases_lt, lt-ltb, le-ltb, fill_by_all, Extent, IsGrid, row_cells}
+use Rattle.maker_core.proofs.Words.{column_cells, runs, line_list, Pattern, lines_of, line_rules, IsPatternSolution, HasOne, TellsOne, IsOnlySolution}
+use Rattle.maker_core.proofs.Words.{clued_by}
 use Rattle.maker_core.proofs.OnlySolutions.{one_is}
 
 -- a puzzle with those clues

@@ -1,27 +1,11 @@
 -- A grid of white cells alone, or of black cells alone, is all that one visit of each row leaves.
-use Rattle.std.proofs.Common.{◌≡◌, ℕ, zero, suc, ◌+◌, ◌-◌, ◌*◌, ◌/◌, ◌%◌, ◌<◌, ◌≤◌, true, false, List, [], ◌∷◌, ◌++◌, length, slice_index, refl, sym, ap, subst, ◌∙◌, arith, inl, inr, ◌⊎◌}
-use Rattle.std.proofs.lemmas.Bool.{le-ltb}
-use Rattle.std.proofs.lemmas.Nat.{div-add-mod', div_below, mod_below}
-use Rattle.std.proofs.lemmas.List.FromFn.{get_or-map-range_with_len, length-map-range_with_len}
-use Rattle.grid_core.specs.Extent.{Extent, IsExtent}
-use Rattle.grid_core.specs.Candidates.{Candidates}
-use Rattle.grid_core.specs.Grids.{row_cells}
-use Rattle.gameid_core.specs.BlackRuns.{run_of, runs_after, runs}
-use Rattle.gameid_core.proofs.LineLaws.{at_row}
-use Rattle.gameid_core.specs.Puzzles.{Pattern, lines_of}
-use Rattle.engine_core.specs.Closing.{closure}
-use Rattle.engine_core.specs.Filling.{strikes_by_fillings}
-use Rattle.engine_core.specs.FillingLaws.{shown_from_test}
-use Rattle.engine_core.specs.House.{sets_at, strikes_at}
-use Rattle.engine_core.specs.HouseLaws.{strikes_at-place, length-sets_at}
-use Rattle.engine_core.specs.Puzzle.{IsClosed}
-use Rattle.pattern_core.specs.Lines.{line_places, clue_of, has_runs}
-use Rattle.pattern_core.specs.LineLaws.{length-line_places, place_in_row, cell_in_grid, different_places, has_runs-is, is_solution-from, line_rules-lawful}
-use Rattle.pattern_core.specs.LineRules.{line_rules}
-use Rattle.pattern_core.specs.Solutions.{IsPatternSolution}
-use Rattle.maker_core.specs.Draws.{AreAll}
-use Rattle.maker_core.specs.Made.{is_one, has_one}
-use Rattle.maker_core.specs.PatternMaking.{clued_by}
+use Rattle.maker_core.proofs.Words.{◌≡◌, ℕ, zero, suc, ◌+◌, ◌-◌, ◌*◌, ◌/◌, ◌%◌, ◌<◌, ◌≤◌, true, false, List, [], ◌∷◌, ◌++◌, length, slice_index, refl}
+use Rattle.maker_core.proofs.Words.{sym, ap, subst, ◌∙◌, arith, inl, inr, ◌⊎◌, le-ltb, div-add-mod', div_below, mod_below, get_or-map-range_with_len}
+use Rattle.maker_core.proofs.Words.{length-map-range_with_len, Extent, IsExtent, Candidates, row_cells, run_of, runs_after, runs, at_row, Pattern}
+use Rattle.maker_core.proofs.Words.{lines_of, closure, strikes_by_fillings, shown_from_test, sets_at, strikes_at, strikes_at-place, length-sets_at}
+use Rattle.maker_core.proofs.Words.{IsClosed, line_places, clue_of, has_runs, length-line_places, place_in_row, cell_in_grid, different_places}
+use Rattle.maker_core.proofs.Words.{has_runs-is, is_solution-from, line_rules-lawful, line_rules, IsPatternSolution, AreAll, is_one, has_one}
+use Rattle.maker_core.proofs.Words.{clued_by}
 use Rattle.maker_core.proofs.FoundAtOnce.{closed_start, found_at_once}
 use Rattle.maker_core.proofs.FullStart.{known}
 

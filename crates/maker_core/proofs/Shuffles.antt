@@ -1,18 +1,10 @@
 -- A draw below a number is below it, a shuffle brings a list into another order, and both leave a stream of words.
-use Rattle.std.proofs.Common.{◌≡◌, ℕ, ◌+◌, ◌-◌, ◌*◌, ◌/◌, ◌%◌, ◌^◌, ◌<◌, ◌≤◌, [], ◌∷◌, Bool, true, false, if◌then◌else◌, nat_le, nat_lt, refl, arith, ◌∙◌, zero, suc, List, length, sym, subst}
-use Rattle.std.proofs.lemmas.Bool.{cond_both, ltb-true, eqb-true, lt-ltb, ltb-false, true≢false}
-use Rattle.std.proofs.lemmas.Nat.{div-add-mod', div_below, mul-le, mod_below}
-use Rattle.rand_core.specs.Stream.{Stream, next_u32, u32_call}
-use Rattle.rand.specs.Uniform.{canon}
-use Rattle.rand.proofs.UniformLemmas.{carry_room, if_below}
-use Rattle.maker_core.specs.Draws.{HasWords, shuffled_order}
-use Rattle.std.specs.Prelude.{◌==◌, nat_lt, IsPermutation}
-use Rattle.std.specs.List.{range_with_len}
-use Rattle.std.proofs.lemmas.List.FromFn.{length-range_with_len}
-use Rattle.std.proofs.lemmas.List.Sorted.{IsPermutation-refl, IsPermutation-swap, IsPermutation-trans, length_permutation}
-use Rattle.rand.specs.Shuffle.{Chooser, chooser_at, chooser_next, chooser_refill, chunk_of, grow, narrow_swaps, rising}
-use Rattle.rand.proofs.ShuffleLemmas.{last_below, rest_below, rising_more, rising_one, rising_positive}
-use Rattle.maker_core.specs.SoloOrders.{IsOrder}
+use Rattle.maker_core.proofs.Words.{◌≡◌, ℕ, ◌+◌, ◌-◌, ◌*◌, ◌/◌, ◌%◌, ◌^◌, ◌<◌, ◌≤◌, [], ◌∷◌, Bool, true, false, if◌then◌else◌, nat_le, nat_lt, refl}
+use Rattle.maker_core.proofs.Words.{arith, ◌∙◌, zero, suc, List, length, sym, subst, cond_both, ltb-true, eqb-true, lt-ltb, ltb-false, true≢false}
+use Rattle.maker_core.proofs.Words.{div-add-mod', div_below, mul-le, mod_below, Stream, next_u32, u32_call, canon, carry_room, if_below, HasWords}
+use Rattle.maker_core.proofs.Words.{shuffled_order, ◌==◌, IsPermutation, range_with_len, length-range_with_len, IsPermutation-refl}
+use Rattle.maker_core.proofs.Words.{IsPermutation-swap, IsPermutation-trans, length_permutation, Chooser, chooser_at, chooser_next, chooser_refill}
+use Rattle.maker_core.proofs.Words.{chunk_of, grow, narrow_swaps, rising, last_below, rest_below, rising_more, rising_one, rising_positive, IsOrder}
 use Rattle.maker_core.proofs.SoloOrderLemmas.{order_from_permutation}
 
 word_below : (s : Stream) → HasWords s → (next_u32 s).0 < 2 ^ 32

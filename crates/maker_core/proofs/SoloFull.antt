@@ -1,24 +1,12 @@
 -- The puzzle that gives all cells of a grid: its search starts from that grid alone.
-use Rattle.std.proofs.Common.{◌≡◌, ℕ, suc, ◌+◌, ◌*◌, ◌<◌, ◌≤◌, Bool, eqb, ltb, List, map, length, slice_index, take, replicate, [], ◌∷◌, ◌++◌, ◌-◌, refl, sym, ◌∙◌, inl, inr, arith, true, Some, ap}
-use Rattle.std.proofs.lemmas.Bool.{cases_eq, and_parts, and_from, or_cases, eqb-true, eq-eqb, ltb-true, lt-ltb}
-use Rattle.std.proofs.lemmas.Grind.{same_number_lists}
-use Rattle.std.proofs.lemmas.List.{length-map, length-take-le, get_or-map, map_more, set_at, append_assoc, append-nil, take_all}
-use Rattle.std.proofs.lemmas.List.Elements.{All-map, All-weaker, All-get_or, All-from_get_or, recursion_from_All}
-use Rattle.grid_core.specs.Candidates.{IsInside, single}
-use Rattle.grid_core.specs.Grids.{IsGrid}
-use Rattle.std.specs.Prelude.{slice_set}
-use Rattle.gameid_core.specs.Puzzles.{Solo, IsSolo, solo_puzzle}
-use Rattle.engine_core.specs.Verdict.{Outcome.OneGrid, Solves, IsTrueOf}
-use Rattle.solo_core.specs.Solutions.{IsSoloSolution}
-use Rattle.solo_core.specs.SolutionLaws.{test_from_rule, rule_from_test}
-use Rattle.solo_core.specs.RuleSets.{start, houses_rules}
-use Rattle.solo_core.specs.RuleLaws.{houses_lawful}
-use Rattle.maker_core.specs.Made.{TellsOne, is_one, IsOnlySolution}
-use Rattle.maker_core.specs.SoloFilling.{all_given}
-use Rattle.maker_core.specs.SoloClues.{solo_game}
-use Rattle.maker_core.specs.SoloCluesLaws.{clue_is, is_clue}
-use Rattle.maker_core.specs.SoloMaking.{IsSoloSize, solo_passes}
-use Rattle.maker_core.specs.Thinning.{IsThinnedFrom}
+use Rattle.maker_core.proofs.Words.{◌≡◌, ℕ, suc, ◌+◌, ◌*◌, ◌<◌, ◌≤◌, Bool, eqb, ltb, List, map, length, slice_index, take, replicate, [], ◌∷◌, ◌++◌}
+use Rattle.maker_core.proofs.Words.{◌-◌, refl, sym, ◌∙◌, inl, inr, arith, true, Some, ap, cases_eq, and_parts, and_from, or_cases, eqb-true, eq-eqb}
+use Rattle.maker_core.proofs.Words.{ltb-true, lt-ltb, same_number_lists, length-map, length-take-le, get_or-map, map_more, set_at, append_assoc}
+use Rattle.maker_core.proofs.Words.{append-nil, take_all, All-map, All-weaker, All-get_or, All-from_get_or, recursion_from_All, IsInside, single}
+use Rattle.maker_core.proofs.Words.{IsGrid, slice_set, Solo, IsSolo, solo_puzzle, Solves, IsTrueOf, IsSoloSolution, test_from_rule, rule_from_test}
+use Rattle.maker_core.proofs.Words.{start, houses_rules, houses_lawful, TellsOne, is_one, IsOnlySolution, all_given, solo_game, clue_is, is_clue}
+use Rattle.maker_core.proofs.Words.{IsSoloSize, solo_passes, IsThinnedFrom}
+use Rattle.engine_core.specs.Verdict.{Outcome.OneGrid}
 use Rattle.maker_core.proofs.FullStart.{start_found, start_only}
 
 pub given-at : (g : List ℕ) (place : ℕ) → place < length g → slice_index (map suc g) place ≡ slice_index g place + 1

@@ -1,22 +1,13 @@
 -- A shuffled list of numbers is an order of them, and groups of lines that are appended in such an order, each group's lines
 -- in such an order too, are an order of the lines that keeps groups together: a line is its group's number times the size,
 -- and its place in the group.
-use Rattle.std.proofs.Common.{◌≡◌, ℕ, ◌+◌, ◌-◌, ◌*◌, ◌/◌, ◌<◌, ◌≤◌, eqb, List, ◌++◌, [], map, length, slice_index, get_or, sym, ap, ◌∙◌, inl, inr, arith, true≢false, ◌∷◌, take, refl, add-one}
-use Rattle.std.specs.Prelude.{IsPermutation}
-use Rattle.std.specs.List.{IsDistinct, range_with_len}
-use Rattle.std.proofs.lemmas.Bool.{cases_lt, eq-eqb, ne_eqb}
-use Rattle.std.proofs.lemmas.Cmp.{nat_eq_equiv}
-use Rattle.std.proofs.lemmas.Grind.{common_steps, elements}
-use Rattle.std.proofs.lemmas.Nat.{mul-le, div_below, div-mul-add, mod_below, div-add-mod'}
-use Rattle.std.proofs.lemmas.List.{length-map, length-append, get_or-map, get_or_append_left, append_assoc, map_more, take_all}
-use Rattle.std.proofs.lemmas.List.Elements.{All-get_or, All-from_get_or}
-use Rattle.std.proofs.lemmas.List.FromFn.{length-range_with_len, get_or-range_with_len}
-use Rattle.std.proofs.lemmas.List.Sorted.{length_permutation, All-permutation}
-use Rattle.std.proofs.lemmas.Map.Keys.{IsDistinct-from_apart, IsDistinct-IsPermutation, apart_from_distinct}
-use Rattle.maker_core.specs.SoloOrders.{IsOrder, IsLineOrder}
-use Rattle.rand_core.specs.Stream.{Stream}
-use Rattle.maker_core.specs.Draws.{shuffled_order}
-use Rattle.maker_core.specs.SoloFilling.{lines_of_groups, group_added}
+use Rattle.maker_core.proofs.Words.{◌≡◌, ℕ, ◌+◌, ◌-◌, ◌*◌, ◌/◌, ◌<◌, ◌≤◌, eqb, List, ◌++◌, [], map, length, slice_index, get_or, sym, ap, ◌∙◌, inl}
+use Rattle.maker_core.proofs.Words.{inr, arith, true≢false, ◌∷◌, take, refl, add-one, IsPermutation, IsDistinct, range_with_len, cases_lt, eq-eqb}
+use Rattle.maker_core.proofs.Words.{ne_eqb, nat_eq_equiv, common_steps, elements, mul-le, div_below, div-mul-add, mod_below, div-add-mod', length-map}
+use Rattle.maker_core.proofs.Words.{length-append, get_or-map, get_or_append_left, append_assoc, map_more, take_all, All-get_or, All-from_get_or}
+use Rattle.maker_core.proofs.Words.{length-range_with_len, get_or-range_with_len, length_permutation, All-permutation, IsDistinct-from_apart}
+use Rattle.maker_core.proofs.Words.{IsDistinct-IsPermutation, apart_from_distinct, IsOrder, IsLineOrder, Stream, shuffled_order, lines_of_groups}
+use Rattle.maker_core.proofs.Words.{group_added}
 
 -- the lines of the first k groups, each group's own lines beside each other
 pub record AreGrouped (size : ℕ) (groups : List ℕ) (k : ℕ) (lines : List ℕ) : Type 0 where

@@ -1,20 +1,9 @@
 -- The grid of orders is a solution of the puzzle that gives all its cells: two cells of one row, column or block come of two
 -- cells of one before the shuffles, and there the numbers differ.
-use Rattle.std.proofs.Common.{◌≡◌, ℕ, suc, ◌*◌, ◌/◌, ◌%◌, ◌<◌, true, false, List, length, slice_index, sym, ap, ◌∙◌, arith}
-use Rattle.std.proofs.lemmas.Bool.{eqb-true, true≢false}
-use native.Mathlib.Nat.{mul-pos}
-use Rattle.std.proofs.lemmas.Nat.{div_below, mod_below, same_from_place}
-use Rattle.std.proofs.lemmas.List.{get_or-map}
-use Rattle.std.proofs.lemmas.List.Elements.{All-from_get_or}
-use Rattle.std.proofs.lemmas.List.FromFn.{length-map-range_with_len, get_or-map-range_with_len}
-use Rattle.grid_core.specs.Grids.{IsGrid}
-use Rattle.solo_core.specs.declared.houses.house.SoloHouse.{SoloHouse}
-use Rattle.solo_core.specs.declared.houses.house.SoloHouse.TheVariants.{Row, Column, Block, Diagonal}
-use Rattle.solo_core.specs.Cells.{block_of}
-use Rattle.solo_core.specs.Houses.{IsHouseOf, lies_in}
-use Rattle.solo_core.specs.Solutions.{IsSoloSolution}
-use Rattle.maker_core.specs.SoloFilling.{first_number, old_number, rearranged, all_given}
-use Rattle.maker_core.specs.SoloOrders.{AreOrders}
+use Rattle.maker_core.proofs.Words.{◌≡◌, ℕ, suc, ◌*◌, ◌/◌, ◌%◌, ◌<◌, true, false, List, length, slice_index, sym, ap, ◌∙◌, arith, eqb-true}
+use Rattle.maker_core.proofs.Words.{true≢false, mul-pos, div_below, mod_below, same_from_place, get_or-map, All-from_get_or}
+use Rattle.maker_core.proofs.Words.{length-map-range_with_len, get_or-map-range_with_len, IsGrid, SoloHouse, Row, Column, Block, Diagonal, block_of}
+use Rattle.maker_core.proofs.Words.{IsHouseOf, lies_in, IsSoloSolution, first_number, old_number, rearranged, all_given, AreOrders}
 use Rattle.maker_core.proofs.SoloNumbers.{row_apart, column_apart, block_apart, same_line}
 
 pub rearranged-at : (c r : ℕ) (numbers rows columns : List ℕ) (place : ℕ) → place < (c * r) * (c * r)

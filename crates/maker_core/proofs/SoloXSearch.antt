@@ -1,26 +1,13 @@
 -- What the search of a top row gives: the first grid of the verdict, which keeps to the rules of Solo X.
-use Rattle.std.proofs.Common.{◌≡◌, ℕ, zero, suc, ◌+◌, ◌-◌, ◌*◌, ◌<◌, ◌≤◌, true, Option, Some, None, List, map, ◌++◌, length, slice_index, replicate, sym, ap, subst, ◌∙◌, arith, inl, inr}
-use Rattle.std.specs.Prelude.{IfSome}
-use Rattle.std.proofs.lemmas.Bool.{cases_lt}
-use Rattle.std.proofs.lemmas.Grind.{common_steps, same_number_lists}
-use Rattle.std.proofs.lemmas.List.{get_or-map, length-map, length-append, length-replicate, get_or_append_left, get_or-append_right, get_or-replicate, take_all}
-use Rattle.std.proofs.lemmas.List.Elements.{All-map, All-append, All-replicate, All-from_get_or, recursion_from_All}
-use Rattle.std.proofs.lemmas.Nat.{mul-le}
-use Rattle.rand_core.specs.Stream.{Stream}
-use Rattle.gameid_core.specs.Puzzles.{Solo, IsSolo, solo_puzzle}
-use Rattle.engine_core.specs.Puzzle.{Puzzle}
-use Rattle.engine_core.specs.Verdict.{Outcome, Outcome.NoGrid, Outcome.OneGrid, Outcome.TwoGrids, Outcome.OutOfBudget, verdict_of, Solves, IsTrueOf}
-use Rattle.engine_core.specs.Stored.{IsAnswer}
-use Rattle.engine_core.specs.declared.search.walk.Verdict.{Verdict}
+use Rattle.maker_core.proofs.Words.{◌≡◌, ℕ, zero, suc, ◌+◌, ◌-◌, ◌*◌, ◌<◌, ◌≤◌, true, Option, Some, None, List, map, ◌++◌, length, slice_index}
+use Rattle.maker_core.proofs.Words.{replicate, sym, ap, subst, ◌∙◌, arith, inl, inr, IfSome, cases_lt, common_steps, same_number_lists, get_or-map}
+use Rattle.maker_core.proofs.Words.{length-map, length-append, length-replicate, get_or_append_left, get_or-append_right, get_or-replicate, take_all}
+use Rattle.maker_core.proofs.Words.{All-map, All-append, All-replicate, All-from_get_or, recursion_from_All, mul-le, Stream, Solo, IsSolo}
+use Rattle.maker_core.proofs.Words.{solo_puzzle, Puzzle, Outcome, verdict_of, Solves, IsTrueOf, IsAnswer, Verdict, houses_rules, IsSoloSolution}
+use Rattle.maker_core.proofs.Words.{rule_from_test, shuffled_order, all_given, IsSoloSize, IsOrder, top_row_given, first_grid, flipped_by_draw}
+use Rattle.maker_core.proofs.Words.{x_filling}
+use Rattle.engine_core.specs.Verdict.{Outcome.NoGrid, Outcome.OneGrid, Outcome.TwoGrids, Outcome.OutOfBudget}
 use Rattle.engine_core.specs.declared.search.walk.Verdict.TheVariants as verdict
-use Rattle.solo_core.specs.RuleSets.{houses_rules}
-use Rattle.solo_core.specs.Solutions.{IsSoloSolution}
-use Rattle.solo_core.specs.SolutionLaws.{rule_from_test}
-use Rattle.maker_core.specs.Draws.{shuffled_order}
-use Rattle.maker_core.specs.SoloFilling.{all_given}
-use Rattle.maker_core.specs.SoloMaking.{IsSoloSize}
-use Rattle.maker_core.specs.SoloOrders.{IsOrder}
-use Rattle.maker_core.specs.SoloXFilling.{top_row_given, first_grid, flipped_by_draw, x_filling}
 use Rattle.maker_core.proofs.FlippedHouses.{flipped-solution}
 use Rattle.maker_core.proofs.SoloFull.{given_first, written}
 

@@ -1,20 +1,9 @@
 -- Cells turned and turned back leave a grid as it was, and a puzzle with two solutions has no verdict of one.
-use Rattle.std.proofs.Common.{◌≡◌, ◌≢◌, ℕ, ◌*◌, ◌<◌, Bool, true, false, List, length, refl, sym, ap, ◌∙◌, arith, not, Option, Some, None}
-use Rattle.std.specs.Prelude.{slice_index, slice_set, is_some}
-use Rattle.std.proofs.lemmas.Bool.{true≢false}
-use Rattle.std.proofs.lemmas.List.{get_or-set_same}
-use Rattle.grid_core.specs.Extent.{IsExtent}
-use Rattle.gameid_core.specs.Puzzles.{Pattern}
-use Rattle.engine_core.specs.Puzzle.{Puzzle}
-use Rattle.engine_core.proofs.VerdictLemmas.{outcome-true}
-use Rattle.engine_core.specs.Verdict.{Outcome, Outcome.NoGrid, Outcome.OneGrid, Outcome.TwoGrids, Outcome.OutOfBudget, verdict_of, Solves, IsTrueOf}
-use Rattle.pattern_core.specs.Faults.{IsCheck}
-use Rattle.pattern_core.specs.declared.fault.PatternFault.{PatternFault}
-use Rattle.pattern_core.specs.LineLaws.{is_solution-from, line_rules-lawful}
-use Rattle.pattern_core.specs.LineRules.{line_rules}
-use Rattle.pattern_core.specs.Solutions.{IsPatternSolution}
-use Rattle.maker_core.specs.Made.{is_one, has_one}
-use Rattle.maker_core.specs.Switch.{HasOther}
+use Rattle.maker_core.proofs.Words.{◌≡◌, ◌≢◌, ℕ, ◌*◌, ◌<◌, Bool, true, false, List, length, refl, sym, ap, ◌∙◌, arith, not, Option, Some, None}
+use Rattle.maker_core.proofs.Words.{slice_index, slice_set, is_some, true≢false, get_or-set_same, IsExtent, Pattern, Puzzle, outcome-true, Outcome}
+use Rattle.maker_core.proofs.Words.{verdict_of, Solves, IsTrueOf, IsCheck, PatternFault, is_solution-from, line_rules-lawful, line_rules}
+use Rattle.maker_core.proofs.Words.{IsPatternSolution, is_one, has_one, HasOther}
+use Rattle.engine_core.specs.Verdict.{Outcome.NoGrid, Outcome.OneGrid, Outcome.TwoGrids, Outcome.OutOfBudget}
 use Rattle.maker_core.proofs.WrittenGrids.{set_back}
 
 -- one number put back, after those that were written later

@@ -1,18 +1,8 @@
 -- What taking a cell does, as the definitions say it.
-use Rattle.std.proofs.Common.{replicate, add-one, ◌≡◌, ℕ, ◌+◌, ◌*◌, ◌<◌, ◌≤◌, true, List, length, refl, sym, ap, subst, ◌∙◌, arith, add-one}
-use Rattle.std.specs.Prelude.{slice_index, slice_set, filter}
-use Rattle.rand_core.specs.Stream.{Stream}
-use Rattle.grid_core.specs.Extent.{Extent}
-use Rattle.grid_core.specs.Regions.{steps}
-use Rattle.engine_core.specs.Puzzle.{has_place}
-use Rattle.engine_core.specs.PlaceLaws.{has_place-here, place-filter}
-use Rattle.fields_core.proofs.TentBeside.{beside-in}
-use Rattle.fields_core.proofs.LightCounting.{filter-few}
-use Rattle.fields_core.proofs.StepLaws.{steps-few}
-use Rattle.maker_core.specs.declared.tents.camp.Camp.{Camp}
-use Rattle.maker_core.specs.Draws.{shuffled_order}
-use Rattle.maker_core.specs.TentFilling.{no_camp, is_free, free_cells_beside, may_pitch, take_cell, camp_after, tent_filling}
-use Rattle.maker_core.specs.TentSteps.{IsPitched}
+use Rattle.maker_core.proofs.Words.{replicate, add-one, ◌≡◌, ℕ, ◌+◌, ◌*◌, ◌<◌, ◌≤◌, true, List, length, refl, sym, ap, subst, ◌∙◌, arith, slice_index}
+use Rattle.maker_core.proofs.Words.{slice_set, filter, Stream, Extent, steps, has_place, has_place-here, place-filter, beside-in, filter-few}
+use Rattle.maker_core.proofs.Words.{steps-few, Camp, shuffled_order, no_camp, is_free, free_cells_beside, may_pitch, take_cell, camp_after}
+use Rattle.maker_core.proofs.Words.{tent_filling, IsPitched}
 
 pub free_all : (size : Extent) (camp : Camp) (c n : ℕ) (places : List ℕ) → places ≡ filter (is_free camp) (steps size c n) → n ≡ 4 → places ≡ free_cells_beside size camp c
 unfolding free_cells_beside

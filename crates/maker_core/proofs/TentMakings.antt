@@ -1,16 +1,7 @@
 -- The puzzle of a camp has its trees and the numbers of its tents, and the camp is its solution.
-use Rattle.std.proofs.Common.{◌≡◌, ℕ, ◌+◌, ◌<◌, List, length, subst, refl, sym, ap, ◌∙◌}
-use Rattle.std.specs.Prelude.{slice_index, IsTrue, ◌↔◌}
-use Rattle.grid_core.specs.Extent.{Extent}
-use Rattle.grid_core.specs.Grids.{row_cells, column_cells}
-use Rattle.gameid_core.specs.Lines.{ones}
-use Rattle.gameid_core.specs.Puzzles.{Tents, lines_of}
-use Rattle.engine_core.specs.Puzzle.{IsGridOf}
-use Rattle.fields_core.specs.TentHouses.{tent_rules}
-use Rattle.fields_core.specs.TentSolutions.{IsTentSolution}
-use Rattle.maker_core.specs.declared.tents.camp.Camp.{Camp}
-use Rattle.maker_core.specs.Made.{HasOne, TellsOne, IsOnlySolution}
-use Rattle.maker_core.specs.TentFilling.{tents_puzzle_of}
+use Rattle.maker_core.proofs.Words.{◌≡◌, ℕ, ◌+◌, ◌<◌, List, length, subst, refl, sym, ap, ◌∙◌, slice_index, IsTrue, ◌↔◌, Extent, row_cells}
+use Rattle.maker_core.proofs.Words.{column_cells, ones, Tents, lines_of, IsGridOf, tent_rules, IsTentSolution, Camp, HasOne, TellsOne, IsOnlySolution}
+use Rattle.maker_core.proofs.Words.{tents_puzzle_of}
 use Rattle.maker_core.proofs.OnlySolutions.{one_is}
 use Rattle.maker_core.proofs.PatternMakings.{each_line}
 

@@ -1,17 +1,8 @@
 -- Each filling of a making of Tents over a stream of words is a camp, which solves its puzzle.
-use Rattle.std.proofs.Common.{◌≡◌, ℕ, zero, suc, ◌*◌, ◌<◌, ◌≤◌, true, List, length, refl, subst, add-one, inl, inr, arith}
-use Rattle.std.specs.Prelude.{slice_index}
-use Rattle.std.proofs.lemmas.Bool.{cond_both}
-use Rattle.std.proofs.lemmas.Nat.{mul-le}
-use Rattle.rand_core.specs.Stream.{Stream}
-use Rattle.grid_core.specs.Extent.{Extent, IsExtent}
-use Rattle.grid_core.specs.Grids.{IsGrid}
-use Rattle.fields_core.specs.TentSolutions.{IsTentSolution}
-use Rattle.maker_core.specs.Draws.{HasWords, draw_below, shuffled_order, stream_after}
-use Rattle.maker_core.specs.SoloOrders.{IsOrder}
-use Rattle.maker_core.specs.TentFilling.{camp_after, free_cells_beside, may_pitch, no_camp, pitch, take_cell, tent_filling, tents_puzzle_of}
-use Rattle.maker_core.specs.TentSteps.{IsTaken}
-use Rattle.maker_core.specs.declared.tents.camp.Camp.{Camp}
+use Rattle.maker_core.proofs.Words.{◌≡◌, ℕ, zero, suc, ◌*◌, ◌<◌, ◌≤◌, true, List, length, refl, subst, add-one, inl, inr, arith, slice_index}
+use Rattle.maker_core.proofs.Words.{cond_both, mul-le, Stream, Extent, IsExtent, IsGrid, IsTentSolution, HasWords, draw_below, shuffled_order}
+use Rattle.maker_core.proofs.Words.{stream_after, IsOrder, camp_after, free_cells_beside, may_pitch, no_camp, pitch, take_cell, tent_filling}
+use Rattle.maker_core.proofs.Words.{tents_puzzle_of, IsTaken, Camp}
 use Rattle.maker_core.proofs.TentCamps.{free_few, pitched_is}
 use Rattle.maker_core.proofs.TentsSolved.{IsCamp, camp_none, camp_step}
 use Rattle.maker_core.proofs.Shuffles.{IsDrawn, draw_is, IsShuffled, order_is}

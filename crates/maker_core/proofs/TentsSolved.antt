@@ -1,27 +1,11 @@
 -- Cells that were taken in turn: each tent has a tree of its own beside it, none stands on a tree, and no two touch.
-use Rattle.std.proofs.Common.{◌≡◌, ℕ, zero, suc, ◌+◌, ◌-◌, ◌*◌, ◌/◌, ◌<◌, ◌≤◌, Bool, true, false, not, ◌&&◌, cond, List, [], ◌∷◌, length, map, replicate, refl, sym, ap, subst, ◌∙◌, arith, inl, inr, Some}
-use Rattle.std.specs.Prelude.{◌==◌, nat_lt, slice_index, slice_set, count_by, filter}
-use Rattle.std.specs.List.{range_with_len}
-use Rattle.std.proofs.lemmas.Bool.{true≢false, false_from_ne_true, and_parts, and_from, eqb-true, eq-eqb, ne_eqb, not-true, lt-ltb, le-ltb}
-use Rattle.std.proofs.lemmas.Grind.{elements}
-use Rattle.std.proofs.lemmas.List.Sums.{length-filter}
-use Rattle.std.proofs.lemmas.Simd.{map-map}
-use Rattle.grid_core.specs.Extent.{Extent}
-use Rattle.grid_core.specs.Grids.{IsGrid, row_cells, column_cells}
-use Rattle.grid_core.specs.Regions.{steps, step, row_places, column_places}
-use Rattle.grid_core.proofs.CandidateLemmas.{any_below-none}
-use Rattle.gameid_core.proofs.LineLaws.{at_column, at_row}
-use Rattle.gameid_core.specs.Lines.{lines_ones, ones}
-use Rattle.engine_core.specs.Puzzle.{has_place}
-use Rattle.fields_core.specs.Tents.{tent, touches, tents_in_column, tents_in_row}
-use Rattle.fields_core.specs.TentSolutions.{IsTentSolution}
-use Rattle.fields_core.proofs.StepLaws.{steps-some, step-up, step-left, step-right, step-down}
-use Rattle.fields_core.proofs.TentBeside.{beside-in}
-use Rattle.fields_core.proofs.TentCounting.{tent-in}
-use Rattle.maker_core.specs.declared.tents.camp.Camp.{Camp}
-use Rattle.maker_core.specs.SoloOrders.{IsOrder}
-use Rattle.maker_core.specs.TentFilling.{no_camp, touches_tent, may_pitch, tents_puzzle_of}
-use Rattle.maker_core.specs.TentSteps.{IsPitched, IsTaken}
+use Rattle.maker_core.proofs.Words.{◌≡◌, ℕ, zero, suc, ◌+◌, ◌-◌, ◌*◌, ◌/◌, ◌<◌, ◌≤◌, Bool, true, false, not, ◌&&◌, cond, List, [], ◌∷◌, length, map}
+use Rattle.maker_core.proofs.Words.{replicate, refl, sym, ap, subst, ◌∙◌, arith, inl, inr, Some, ◌==◌, nat_lt, slice_index, slice_set, count_by}
+use Rattle.maker_core.proofs.Words.{filter, range_with_len, true≢false, false_from_ne_true, and_parts, and_from, eqb-true, eq-eqb, ne_eqb, not-true}
+use Rattle.maker_core.proofs.Words.{lt-ltb, le-ltb, elements, length-filter, map-map, Extent, IsGrid, row_cells, column_cells, steps, step}
+use Rattle.maker_core.proofs.Words.{row_places, column_places, any_below-none, at_column, at_row, lines_ones, ones, has_place, tent, touches}
+use Rattle.maker_core.proofs.Words.{tents_in_column, tents_in_row, IsTentSolution, steps-some, step-up, step-left, step-right, step-down, beside-in}
+use Rattle.maker_core.proofs.Words.{tent-in, Camp, IsOrder, no_camp, touches_tent, may_pitch, tents_puzzle_of, IsPitched, IsTaken}
 use Rattle.maker_core.proofs.WrittenGrids.{grid_with, new_or_old, no_one, old_stays, zeros-grid}
 use Rattle.maker_core.proofs.TentCamps.{free_place}
 

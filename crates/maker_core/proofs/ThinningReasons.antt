@@ -1,20 +1,10 @@
 -- The reasons that were written are those of the clues that are left, by place.
-use Rattle.std.proofs.Common.{◌≡◌, ℕ, suc, ◌+◌, ◌<◌, ◌≤◌, Bool, true, false, eqb, List, [], ◌∷◌, ◌++◌, Option, Some, None, length, get_or, map, take, drop, replicate, refl, add-one, sym, ◌∙◌, ap, subst, arith, length-take, ◌⊎◌, inl, inr}
-use Rattle.std.specs.Prelude.{filter, All, Contains, IsPermutation}
-use Rattle.std.specs.List.{range_with_len}
-use Rattle.std.proofs.lemmas.List.{take_more, drop_all, append-nil, get_or-replicate, get_or_past, length-replicate}
-use Rattle.std.proofs.lemmas.List.Elements.{All-contains, All-cons, All-nil, filter_passes}
-use Rattle.std.proofs.lemmas.List.Sorted.{Contains-permutation, IsPermutation-sym}
-use Rattle.std.proofs.lemmas.Map.Keys.{IsDistinct-IsPermutation}
-use Rattle.std.proofs.lemmas.Bool.{cases_lt}
-use Rattle.std.proofs.lemmas.Cmp.{nat_eq_equiv}
-use Rattle.std.proofs.lemmas.Grind.{common_steps}
-use Rattle.maker_core.specs.declared.made.Kept.{Kept}
-use Rattle.maker_core.specs.declared.made.Why.{Why}
-use Rattle.maker_core.specs.Made.{TellsOne}
-use Rattle.maker_core.specs.Thinning.{Game, IsGame, has_clue, clue_places, IsOnly, IsReason, AreReasons}
-use Rattle.maker_core.specs.ThinningSteps.{IsTold, IsThinning, reasons_from}
-use Rattle.grid_core.proofs.DifferentNumbers.{distinct_filtered_range}
+use Rattle.maker_core.proofs.Words.{◌≡◌, ℕ, suc, ◌+◌, ◌<◌, ◌≤◌, Bool, true, false, eqb, List, [], ◌∷◌, ◌++◌, Option, Some, None, length, get_or, map}
+use Rattle.maker_core.proofs.Words.{take, drop, replicate, refl, add-one, sym, ◌∙◌, ap, subst, arith, length-take, ◌⊎◌, inl, inr, filter, All}
+use Rattle.maker_core.proofs.Words.{Contains, IsPermutation, range_with_len, take_more, drop_all, append-nil, get_or-replicate, get_or_past}
+use Rattle.maker_core.proofs.Words.{length-replicate, All-contains, All-cons, All-nil, filter_passes, Contains-permutation, IsPermutation-sym}
+use Rattle.maker_core.proofs.Words.{IsDistinct-IsPermutation, cases_lt, nat_eq_equiv, common_steps, Kept, Why, TellsOne, Game, IsGame, has_clue}
+use Rattle.maker_core.proofs.Words.{clue_places, IsOnly, IsReason, AreReasons, IsTold, IsThinning, reasons_from, distinct_filtered_range}
 use Rattle.maker_core.proofs.FilteredRanges.{passes_kept}
 use Rattle.maker_core.proofs.ThinningTurns.{some_of, none_of, within_itself}
 

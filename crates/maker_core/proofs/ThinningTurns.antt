@@ -1,24 +1,11 @@
 -- A clue is tried: it stays for a reason that the verdict tells, and what was told of other cells holds of the thinner puzzle
 -- too, since fewer clues lose no solution.
 use Rattle.engine_core.specs.declared.search.walk.Verdict.TheVariants as verdict
-use Rattle.std.proofs.Common.{◌≡◌, ℕ, List, Option, None, Bool, sym, subst, ◌≢◌, zero, suc, ◌<◌, true, false, true≢false, [], ◌∷◌, Some, length, get_or, set, drop, ◌+◌, refl, ◌∙◌, ap, arith, ◌⊎◌, inl, inr, add-one}
-use Rattle.engine_core.specs.Puzzle.{Puzzle, Needs, FitsIn, needs_of}
-use Rattle.engine_core.specs.Verdict.{Outcome, outcome, IsTrueOf}
-use Rattle.engine_core.specs.Walk.{walk}
-use Rattle.engine_core.specs.Stored.{IsAnswer}
-use Rattle.maker_core.specs.ThinningSteps.{IsVerdict, IsAsked, IsLeft, IsTold, IsThinning}
-use Rattle.maker_core.specs.declared.made.Why.{Why}
-use Rattle.maker_core.specs.declared.made.Why.TheVariants.{Needed, Budget}
-use Rattle.std.specs.Prelude.{is_some, Contains}
-use Rattle.std.specs.List.{IsDistinct}
-use Rattle.std.proofs.lemmas.Bool.{cases_eq}
-use Rattle.std.proofs.lemmas.List.{get_or-set_other, length-set}
-use Rattle.std.proofs.lemmas.List.Elements.{Contains-append_right}
-use Rattle.std.proofs.lemmas.Option.{none-some}
-use Rattle.std.proofs.lemmas.Grind.{get_or-set_at}
-use Rattle.std.proofs.Math.Seq.{drop-cons}
-use Rattle.maker_core.specs.Made.{HasOne}
-use Rattle.maker_core.specs.Thinning.{Game, IsGame, IsThinnedFrom, HasTwo, IsReason}
+use Rattle.maker_core.proofs.Words.{◌≡◌, ℕ, List, Option, None, Bool, sym, subst, ◌≢◌, zero, suc, ◌<◌, true, false, true≢false, [], ◌∷◌, Some, length}
+use Rattle.maker_core.proofs.Words.{get_or, set, drop, ◌+◌, refl, ◌∙◌, ap, arith, ◌⊎◌, inl, inr, add-one, Puzzle, Needs, FitsIn, needs_of, Outcome}
+use Rattle.maker_core.proofs.Words.{outcome, IsTrueOf, walk, IsAnswer, IsVerdict, IsAsked, IsLeft, IsTold, IsThinning, Why, Needed, Budget, is_some}
+use Rattle.maker_core.proofs.Words.{Contains, IsDistinct, cases_eq, get_or-set_other, length-set, Contains-append_right, none-some, get_or-set_at}
+use Rattle.maker_core.proofs.Words.{drop-cons, HasOne, Game, IsGame, IsThinnedFrom, HasTwo, IsReason}
 use Rattle.maker_core.proofs.FilteredRanges.{head_apart}
 
 pub needed : (p : Puzzle) (budget : ℕ) (first second : Option (List ℕ)) (o : Outcome) (why : Why) → why ≡ Needed

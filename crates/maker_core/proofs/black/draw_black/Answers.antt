@@ -1,8 +1,5 @@
-use Rattle.std.proofs.Common.{◌≡◌, ℕ, List, ap, subst, sym, arith, length, ◌+◌, ◌∙◌, refl, Bool, true, false, cond}
-use Rattle.std.specs.Prelude.{nat_lt}
-use Rattle.std.proofs.lemmas.List.{length-replicate}
-use Rattle.rand_core.specs.Stream.{Stream}
-use Rattle.grid_core.specs.Grids.{IsGrid}
+use Rattle.maker_core.proofs.Words.{◌≡◌, ℕ, List, ap, subst, sym, arith, length, ◌+◌, ◌∙◌, refl, Bool, true, false, cond, nat_lt, length-replicate}
+use Rattle.maker_core.proofs.Words.{Stream, IsGrid}
 use Rattle.maker_core.proofs.BlackCells.{IsDrawn, IsDrawn-none, IsDrawn-more, IsDrawn-all, black_cells-grid}
 use Rattle.maker_core.proofs.black.draw_black.Goals as goal
 

@@ -1,7 +1,4 @@
-use Rattle.maker_core.specs.SoloClues.{solo_game}
-use Rattle.maker_core.specs.SoloCluesLaws.{solo_is_game}
-use Rattle.maker_core.specs.LightClues.{light_game}
-use Rattle.maker_core.specs.LightCluesLaws.{light_is_game}
+use Rattle.maker_core.proofs.Words.{solo_game, solo_is_game, light_game, light_is_game}
 use Rattle.maker_core.proofs.IdleClues.{none_is_idle}
 use Rattle.maker_core.proofs.laws.needed_clues_are_not_idle.Goals as goal
 

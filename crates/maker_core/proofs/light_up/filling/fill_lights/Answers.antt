@@ -1,5 +1,4 @@
-use Rattle.std.proofs.Common.{refl, ◌∙◌, ap}
-use Rattle.maker_core.specs.Draws.{black_cells}
+use Rattle.maker_core.proofs.Words.{refl, ◌∙◌, ap, black_cells}
 use Rattle.maker_core.proofs.LightFilled.{filling_is, puzzle_is}
 use Rattle.maker_core.proofs.light_up.filling.fill_lights.Goals as goal
 

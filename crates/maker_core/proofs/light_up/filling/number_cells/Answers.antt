@@ -1,5 +1,4 @@
-use Rattle.std.proofs.Common.{◌*◌, ◌∙◌, ap, arith, rules}
-use Rattle.grid_core.specs.Extent.{Extent}
+use Rattle.maker_core.proofs.Words.{◌*◌, ◌∙◌, ap, arith, rules, Extent}
 use Rattle.maker_core.proofs.LightCells.{numbered_all, bulbs_few}
 use Rattle.maker_core.proofs.light_up.filling.number_cells.Goals as goal
 

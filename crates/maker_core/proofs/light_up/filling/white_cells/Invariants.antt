@@ -1,7 +1,4 @@
-use Rattle.std.proofs.Common.{◌≡◌}
-use Rattle.std.specs.Prelude.{filter}
-use Rattle.std.specs.List.{range_with_len}
-use Rattle.fields_core.specs.Light.{white}
+use Rattle.maker_core.proofs.Words.{◌≡◌, filter, range_with_len, white}
 use Rattle.maker_core.proofs.light_up.filling.white_cells.Given as goal
 
 abbrev pub invariant-loop-place : goal.invariant-loop-place

@@ -1,10 +1,4 @@
-use Rattle.std.proofs.Common.{◌≡◌, ◌∙◌, ap, subst}
-use Rattle.std.specs.Prelude.{IfOk}
-use Rattle.gameid_core.specs.Puzzles.{Light}
-use Rattle.engine_core.specs.Puzzle.{IsLawful}
-use Rattle.fields_core.specs.LightHouses.{light_rules}
-use Rattle.fields_core.specs.LightLaws.{light-lawful}
-use Rattle.maker_core.specs.Made.{has_one}
+use Rattle.maker_core.proofs.Words.{◌≡◌, ◌∙◌, ap, subst, IfOk, Light, IsLawful, light_rules, light-lawful, has_one}
 use Rattle.maker_core.proofs.LightMakings.{black_passes}
 use Rattle.maker_core.proofs.light_up.maker.passes.Goals as goal
 

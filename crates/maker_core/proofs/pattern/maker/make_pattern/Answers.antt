@@ -1,7 +1,5 @@
-use Rattle.std.proofs.Common.{◌≡◌, List, ℕ, true≢false, inl, inr, refl, sym, ◌∙◌, ap}
-use Rattle.rand_core.specs.Stream.{Stream}
-use Rattle.maker_core.specs.Draws.{black_cells}
-use Rattle.maker_core.specs.PatternMaking.{clued_by, pattern_filling, pattern_passes}
+use Rattle.maker_core.proofs.Words.{◌≡◌, List, ℕ, true≢false, inl, inr, refl, sym, ◌∙◌, ap, Stream, black_cells, clued_by, pattern_filling}
+use Rattle.maker_core.proofs.Words.{pattern_passes}
 use Rattle.maker_core.proofs.Tries.{IsTrying-none, IsTrying-more, filling_is, first_passing, left_first}
 use Rattle.maker_core.proofs.pattern.maker.make_pattern.Given as given
 use Rattle.maker_core.proofs.pattern.maker.make_pattern.Goals as goal

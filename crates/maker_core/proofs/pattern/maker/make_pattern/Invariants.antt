@@ -1,5 +1,4 @@
-use Rattle.std.proofs.Common.{◌≡◌, ◌⊎◌}
-use Rattle.maker_core.specs.PatternMaking.{pattern_tries}
+use Rattle.maker_core.proofs.Words.{◌≡◌, ◌⊎◌, pattern_tries}
 use Rattle.maker_core.proofs.Tries.{IsTrying}
 use Rattle.maker_core.proofs.pattern.maker.make_pattern.Given as goal
 

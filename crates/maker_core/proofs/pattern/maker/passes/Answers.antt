@@ -1,10 +1,4 @@
-use Rattle.std.proofs.Common.{◌≡◌, ◌∙◌, ◌⊎◌, false, true, sym, ap, subst}
-use Rattle.std.specs.Prelude.{IfOk}
-use Rattle.gameid_core.specs.Puzzles.{Pattern}
-use Rattle.grid_core.specs.Extent.{IsExtent}
-use Rattle.pattern_core.specs.LineRules.{line_rules}
-use Rattle.maker_core.specs.Draws.{AreAll}
-use Rattle.maker_core.specs.Made.{has_one}
+use Rattle.maker_core.proofs.Words.{◌≡◌, ◌∙◌, ◌⊎◌, false, true, sym, ap, subst, IfOk, Pattern, IsExtent, line_rules, AreAll, has_one}
 use Rattle.maker_core.proofs.PlainPattern.{plain_passes}
 use Rattle.maker_core.proofs.Switches.{other_fails}
 use Rattle.maker_core.proofs.pattern.maker.passes.Goals as goal

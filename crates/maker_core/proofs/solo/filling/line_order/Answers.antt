@@ -1,6 +1,4 @@
-use Rattle.std.proofs.Common.{◌+◌, arith}
-use Rattle.std.proofs.lemmas.Nat.{mul-le}
-use Rattle.std.proofs.lemmas.List.{get_or_read}
+use Rattle.maker_core.proofs.Words.{◌+◌, arith, mul-le, get_or_read}
 use Rattle.maker_core.proofs.SoloOrderLemmas.{groups-more, grouped-more}
 use Rattle.maker_core.proofs.solo.filling.line_order.Goals as goal
 

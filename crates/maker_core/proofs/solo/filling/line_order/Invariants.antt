@@ -1,8 +1,5 @@
-use Rattle.std.proofs.Common.{◌≡◌, List, ℕ}
-use Rattle.rand_core.specs.Stream.{Stream}
-use Rattle.maker_core.specs.SoloFilling.{lines_of_groups}
+use Rattle.maker_core.proofs.Words.{◌≡◌, List, ℕ, Stream, lines_of_groups, shuffled_order}
 use Rattle.maker_core.proofs.SoloOrderLemmas.{AreGrouped}
-use Rattle.maker_core.specs.Draws.{shuffled_order}
 use Rattle.maker_core.proofs.solo.filling.line_order.Given as goal
 
 abbrev pub invariant-loop-k : goal.invariant-loop-k

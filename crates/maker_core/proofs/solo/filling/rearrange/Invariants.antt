@@ -1,5 +1,4 @@
-use Rattle.std.proofs.Common.{◌≡◌, ◌*◌, ℕ, ◌<◌, length, slice_index}
-use Rattle.maker_core.specs.SoloFilling.{rearranged}
+use Rattle.maker_core.proofs.Words.{◌≡◌, ◌*◌, ℕ, ◌<◌, length, slice_index, rearranged}
 use Rattle.maker_core.proofs.solo.filling.rearrange.Given as goal
 
 abbrev pub invariant-loop-place : goal.invariant-loop-place

@@ -1,11 +1,5 @@
-use Rattle.std.proofs.Common.{◌≡◌, ℕ, Option, List, Some, None, refl, sym, ◌∙◌, ap, arith, inl, inr}
-use Rattle.std.proofs.lemmas.Bool.{cases_eq}
-use Rattle.rand_core.specs.Stream.{Stream}
-use Rattle.solo_core.specs.Solutions.{IsSoloSolution}
-use Rattle.maker_core.specs.SoloClues.{solo_game}
-use Rattle.maker_core.specs.SoloFilling.{all_given}
-use Rattle.maker_core.specs.SoloMaking.{IsSoloSize, solo_filling}
-use Rattle.maker_core.specs.Thinning.{IsThinnedFrom, stream_after_clues}
+use Rattle.maker_core.proofs.Words.{◌≡◌, ℕ, Option, List, Some, None, refl, sym, ◌∙◌, ap, arith, inl, inr, cases_eq, Stream, IsSoloSolution}
+use Rattle.maker_core.proofs.Words.{solo_game, all_given, IsSoloSize, solo_filling, IsThinnedFrom, stream_after_clues}
 use Rattle.maker_core.proofs.SoloFull.{all_given-only, all_given-found, thinned-solo, full_passes, only_by_rules, same_given}
 use Rattle.maker_core.proofs.Tries.{IsTrying-none, IsTrying-more, filling_is, first_passing, left_first}
 use Rattle.maker_core.proofs.solo.maker.make_solo.Given as given

@@ -1,6 +1,4 @@
-use Rattle.std.proofs.Common.{sym, ap, ◌∙◌, ◌++◌, ◌∷◌, [], arith}
-use Rattle.fields_core.proofs.HouseLists.{step-none, step-skip, step-keep}
-use Rattle.maker_core.specs.TentFilling.{is_free}
+use Rattle.maker_core.proofs.Words.{sym, ap, ◌∙◌, ◌++◌, ◌∷◌, [], arith, step-none, step-skip, step-keep, is_free}
 use Rattle.maker_core.proofs.TentCamps.{free_all}
 use Rattle.maker_core.proofs.tents.filling.free_cells.Goals as goal
 

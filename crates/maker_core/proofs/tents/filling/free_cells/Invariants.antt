@@ -1,7 +1,4 @@
-use Rattle.std.proofs.Common.{◌≡◌}
-use Rattle.std.specs.Prelude.{filter}
-use Rattle.grid_core.specs.Regions.{steps}
-use Rattle.maker_core.specs.TentFilling.{is_free}
+use Rattle.maker_core.proofs.Words.{◌≡◌, filter, steps, is_free}
 use Rattle.maker_core.proofs.tents.filling.free_cells.Given as goal
 
 abbrev pub invariant-loop-direction : goal.invariant-loop-direction

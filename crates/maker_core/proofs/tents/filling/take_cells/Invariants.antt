@@ -1,7 +1,4 @@
-use Rattle.std.proofs.Common.{◌≡◌}
-use Rattle.rand_core.specs.Stream.{Stream}
-use Rattle.maker_core.specs.declared.tents.camp.Camp.{Camp}
-use Rattle.maker_core.specs.TentFilling.{camp_after}
+use Rattle.maker_core.proofs.Words.{◌≡◌, Stream, Camp, camp_after}
 use Rattle.maker_core.proofs.TentsSolved.{IsCamp}
 use Rattle.maker_core.proofs.tents.filling.take_cells.Given as goal
 

@@ -1,10 +1,5 @@
-use Rattle.std.proofs.Common.{◌≡◌, refl, sym, ◌∙◌, ap}
-use Rattle.gameid_core.specs.Puzzles.{Tents}
-use Rattle.fields_core.specs.TentHouses.{tent_rules}
-use Rattle.fields_core.proofs.TentRuleLemmas.{solution-from-camp, camp-from-solution}
-use Rattle.maker_core.specs.declared.tents.camp.Camp.{Camp}
-use Rattle.maker_core.specs.Made.{has_one}
-use Rattle.maker_core.specs.TentFilling.{tents_pass, tents_puzzle_of}
+use Rattle.maker_core.proofs.Words.{◌≡◌, refl, sym, ◌∙◌, ap, Tents, tent_rules, solution-from-camp, camp-from-solution, Camp, has_one, tents_pass}
+use Rattle.maker_core.proofs.Words.{tents_puzzle_of}
 use Rattle.maker_core.proofs.TentMakings.{tents_size, tents_only}
 use Rattle.maker_core.proofs.Tries.{IsTrying-none, IsTrying-more, filling_is, first_passing, left_first}
 use Rattle.maker_core.proofs.tents.maker.make_tents.Given as given

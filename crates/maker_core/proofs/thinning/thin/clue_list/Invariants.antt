@@ -1,7 +1,4 @@
-use Rattle.std.proofs.Common.{◌≡◌}
-use Rattle.std.specs.Prelude.{filter}
-use Rattle.std.specs.List.{range_with_len}
-use Rattle.maker_core.specs.Thinning.{has_clue}
+use Rattle.maker_core.proofs.Words.{◌≡◌, filter, range_with_len, has_clue}
 use Rattle.maker_core.proofs.thinning.thin.clue_list.Given as goal
 
 abbrev pub invariant-loop-place : goal.invariant-loop-place

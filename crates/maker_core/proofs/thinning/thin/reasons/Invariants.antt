@@ -1,5 +1,4 @@
-use Rattle.std.proofs.Common.{◌≡◌, take}
-use Rattle.maker_core.specs.ThinningSteps.{reasons_from}
+use Rattle.maker_core.proofs.Words.{◌≡◌, take, reasons_from}
 use Rattle.maker_core.proofs.thinning.thin.reasons.Given as goal
 
 abbrev pub invariant-loop-place : goal.invariant-loop-place

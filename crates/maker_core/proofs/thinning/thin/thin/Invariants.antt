@@ -1,6 +1,4 @@
-use Rattle.std.proofs.Common.{drop}
-use Rattle.engine_core.specs.Puzzle.{FitsIn, needs_of}
-use Rattle.maker_core.specs.ThinningSteps.{IsThinning}
+use Rattle.maker_core.proofs.Words.{drop, FitsIn, needs_of, IsThinning}
 use Rattle.maker_core.proofs.thinning.thin.thin.Given as goal
 
 abbrev pub invariant-loop-place : goal.invariant-loop-place
