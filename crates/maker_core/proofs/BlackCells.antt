@@ -1,4 +1,5 @@
 -- The cells of a grid that were drawn so far are the list of draws.
+use Rattle.maker_core.proofs.Words.{take_all}
 use Rattle.maker_core.proofs.Words.{elements, ◌≡◌, ℕ, zero, suc, ◌+◌, ◌<◌, Bool, List, [], ◌∷◌, ◌++◌, refl, sym, ◌∙◌, ap, arith, add-one, take}
 use Rattle.maker_core.proofs.Words.{length, length-append, cond, get_or-set_other, inl, inr, nat_lt, slice_index, slice_set, common_steps, cases_eq}
 use Rattle.maker_core.proofs.Words.{lt-ltb, le-ltb, get_or-set_at, take_more_set, All-append, All-cons, All-nil, Stream, IsGrid, draw_below}
@@ -47,7 +48,7 @@ IsDrawn-more black cells place d v s now u grid before draw below value within =
 pub IsDrawn-all : (black cells : ℕ) (s now : Stream) (grid : List ℕ) → IsDrawn black cells cells s now grid
     → ◌≡◌ {A = List ℕ × Stream} (grid, now) (black_cells black cells s)
 IsDrawn-all black cells s now grid all =
-    ap (λ xs. (xs, now)) (let l = all.long in grind (arith, common_steps)) ∙ all.drawn
+    rw (take_all cells grid (omega (arith, all.long))) at all.drawn
 
 -- one more cell, of 0 or 1
 pub bit_below : (b : Bool) → cond b 1 0 < 2

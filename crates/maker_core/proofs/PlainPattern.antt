@@ -1,4 +1,10 @@
 -- A grid of white cells alone, or of black cells alone, is all that one visit of each row leaves.
+use Rattle.std.specs.Prelude.{sum, sum_by, nat_lt}
+use Rattle.std.proofs.Common.{cond, set}
+use Rattle.std.proofs.lemmas.List.{length-set}
+use Rattle.std.proofs.lemmas.Bool.{lt-ltb}
+use Rattle.std.proofs.lemmas.List.Elements.{All-from_get_or}
+use Rattle.std.proofs.lemmas.List.Sums.{count_by-le-length, get_or-le-sum_by, sum_by-append, sum_by-cons, sum_by-le, sum_by-set}
 use Rattle.maker_core.proofs.Words.{◌≡◌, ℕ, zero, suc, ◌+◌, ◌-◌, ◌*◌, ◌/◌, ◌%◌, ◌<◌, ◌≤◌, true, false, List, [], ◌∷◌, ◌++◌, length, slice_index, refl}
 use Rattle.maker_core.proofs.Words.{sym, ap, subst, ◌∙◌, arith, inl, inr, ◌⊎◌, le-ltb, div-add-mod', div_below, mod_below, get_or-map-range_with_len}
 use Rattle.maker_core.proofs.Words.{length-map-range_with_len, Extent, IsExtent, Candidates, row_cells, run_of, runs_after, runs, at_row, Pattern}
@@ -9,68 +15,48 @@ use Rattle.maker_core.proofs.Words.{clued_by}
 use Rattle.maker_core.proofs.FoundAtOnce.{closed_start, found_at_once}
 use Rattle.maker_core.proofs.FullStart.{known}
 
--- how many cells are black
-blacks : List ℕ → ℕ
-blacks [] = 0
-blacks (zero ∷ cells) = blacks cells
-blacks (suc v ∷ cells) = suc (blacks cells)
+-- 1 for a black cell, and how many cells are black
+abbrev black : ℕ → ℕ
+black v = cond (nat_lt 0 v) 1 0
 
-total_of : List ℕ → ℕ
-total_of [] = 0
-total_of (x ∷ xs) = x + total_of xs
-
-total-run : (k : ℕ) (xs : List ℕ) → total_of (run_of k ++ xs) ≡ k + total_of xs
-unfolding total_of
-total-run zero xs = omega arith
-total-run (suc k) xs = refl
+abbrev blacks : List ℕ → ℕ
+blacks cells = sum_by black cells
 
 -- the runs' lengths together are the black cells
-total-runs : (k : ℕ) (cells : List ℕ) → total_of (runs_after k cells) ≡ k + blacks cells
-unfolding total_of blacks runs_after
-total-runs zero [] = omega arith
-total-runs (suc k) [] = refl
-total-runs k (zero ∷ cells) = total-run k (runs_after 0 cells) ∙ (let rest = total-runs 0 cells in omega arith)
-total-runs k (suc v ∷ cells) = total-runs (suc k) cells ∙ (let z : suc k + blacks cells ≡ k + suc (blacks cells) = omega arith in z)
+total-run : (k : ℕ) → sum (run_of k) ≡ k
+total-run zero = refl
+total-run (suc k) = omega arith
 
-blacks-few : (cells : List ℕ) → blacks cells ≤ length cells
-unfolding blacks
-blacks-few [] = omega arith
-blacks-few (zero ∷ cells) = let rest = blacks-few cells in omega arith
-blacks-few (suc v ∷ cells) = let rest = blacks-few cells in omega arith
+total-runs : (k : ℕ) (cells : List ℕ) → sum (runs_after k cells) ≡ k + blacks cells
+unfolding runs_after
+total-runs zero [] = refl
+total-runs (suc k) [] = omega arith
+total-runs k (zero ∷ cells) =
+    omega (arith, sum_by-append (λ x. x) (run_of k) (runs_after 0 cells), total-run k, total-runs 0 cells, sum_by-cons black zero cells)
+total-runs k (suc v ∷ cells) = grind (arith, total-runs (suc k) cells, sum_by-cons black (suc v) cells, lt-ltb 0 (suc v))
 
 -- no cell is black, or each
 no_black : (cells : List ℕ) → blacks cells ≡ 0 → (k : ℕ) → k < length cells → slice_index cells k ≡ 0
-unfolding blacks
-no_black [] e k lt = absurd (omega arith)
-no_black (zero ∷ cells) e zero lt = refl
-no_black (zero ∷ cells) e (suc k) lt = no_black cells e k (omega arith)
-no_black (suc v ∷ cells) e k lt = absurd (omega arith)
+no_black cells e k lt = grind (arith, get_or-le-sum_by black cells k 0 lt)
 
 each_black : (cells : List ℕ) → blacks cells ≡ length cells → (k : ℕ) → k < length cells → 1 ≤ slice_index cells k
-unfolding blacks
-each_black [] e k lt = absurd (omega arith)
-each_black (zero ∷ cells) e k lt = let few = blacks-few cells in absurd (omega arith)
-each_black (suc v ∷ cells) e zero lt = let z : 1 ≤ suc v = omega arith in z
-each_black (suc v ∷ cells) e (suc k) lt = each_black cells (omega arith) k (omega arith)
+each_black cells e k lt =
+    grind (arith, sum_by-set black cells k 1 0 lt, count_by-le-length (nat_lt 0) (set cells k 1), length-set cells k 1)
 
 blacks-none : (cells : List ℕ) → AreAll 0 cells → blacks cells ≡ 0
-unfolding blacks
-blacks-none [] all = refl
-blacks-none (zero ∷ cells) all = blacks-none cells (λ k lt. all (suc k) (omega arith))
-blacks-none (suc v ∷ cells) all = let here : suc v ≡ 0 = all 0 (omega arith) in absurd (omega arith)
+blacks-none cells all = grind (arith, sum_by-le black 0 cells (All-from_get_or (λ v. black v ≤ 0) cells 0 (λ k lt. grind (arith, all k lt))))
 
 blacks-all : (cells : List ℕ) → AreAll 1 cells → blacks cells ≡ length cells
-unfolding blacks
 blacks-all [] all = refl
-blacks-all (zero ∷ cells) all = let here : zero ≡ 1 = all 0 (omega arith) in absurd (omega arith)
-blacks-all (suc v ∷ cells) all = ap suc (blacks-all cells (λ k lt. all (suc k) (omega arith)))
+blacks-all (v ∷ cells) all =
+    grind (arith, sum_by-cons black v cells, blacks-all cells (λ k lt. all (suc k) (omega arith)), all 0 (omega arith))
 
 -- lists of the same runs have as many black cells
 same_blacks : (xs ys : List ℕ) → runs xs ≡ runs ys → blacks xs ≡ blacks ys
 same_blacks xs ys e =
     let a = total-runs 0 xs in
     let b = total-runs 0 ys in
-    let same = ap total_of e in
+    let same = ap sum e in
     omega arith
 
 -- so a line of one colour is told by its runs

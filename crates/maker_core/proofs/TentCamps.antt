@@ -1,4 +1,5 @@
 -- What taking a cell does, as the definitions say it.
+use Rattle.fields_core.proofs.HouseLists.{step-keep, step-none, step-skip}
 use Rattle.maker_core.proofs.Words.{replicate, add-one, ◌≡◌, ℕ, ◌+◌, ◌*◌, ◌<◌, ◌≤◌, true, List, length, refl, sym, ap, subst, ◌∙◌, arith, slice_index}
 use Rattle.maker_core.proofs.Words.{slice_set, filter, Stream, Extent, steps, has_place, has_place-here, place-filter, beside-in, filter-few}
 use Rattle.maker_core.proofs.Words.{steps-few, Camp, shuffled_order, no_camp, is_free, free_cells_beside, may_pitch, take_cell, camp_after}
@@ -52,3 +53,9 @@ pub no_camp_is : (size : Extent) (trees tents : List ℕ) (n : ℕ) → n ≡ si
     → ◌≡◌ {A = Camp} (record { trees = trees; tents = tents; pitched = 0 }) (no_camp size)
 unfolding no_camp
 no_camp_is size trees tents n cells is_trees is_tents = rw (is_trees, is_tents, cells) refl
+
+-- what the listing of free cells cites
+pub ruleset free_laws = (step-none, step-skip, step-keep)
+
+-- what the pitching of a tent cites
+pub ruleset pitch_laws = (free_few, free_in, pitched_is)

@@ -11,13 +11,12 @@ use Rattle.maker_core.proofs.FilteredRanges.{head_apart}
 pub needed : (p : Puzzle) (budget : ℕ) (first second : Option (List ℕ)) (o : Outcome) (why : Why) → why ≡ Needed
     → IsAnswer verdict.Several first second o → IsTrueOf p o → IsVerdict p budget why
 needed p budget first second o why is answer sound =
-    let two = subst (λ x. IsTrueOf p x) answer.2 sound in
-    subst (λ x. IsVerdict p budget x) (sym is) (record { first = answer.0; second = answer.1; first_solves = two.0; second_solves = two.1; differ = two.2 })
+    let two = rw answer.2 at sound in
+    rw is (record { first = answer.0; second = answer.1; first_solves = two.0; second_solves = two.1; differ = two.2 })
 
 pub gave_up : (p : Puzzle) (budget : ℕ) (first second : Option (List ℕ)) (found : Bool) (why : Why) → why ≡ Budget
     → IsAnswer (verdict.GaveUp found) first second (outcome budget None (walk p 0 p.start)) → IsVerdict p budget why
-gave_up p budget first second found why is answer =
-    subst (λ x. IsVerdict p budget x) (sym is) (record { found = first; verdict = answer.0 })
+gave_up p budget first second found why is answer = rw is (record { found = first; verdict = answer.0 })
 
 pub some_of : (o : Option ℕ) → is_some o ≡ true → (n : ℕ) × (o ≡ Some n)
 some_of None e = absurd (true≢false (sym e))
@@ -47,10 +46,7 @@ module _ {A : Type 0} (game : Game A) (laws : IsGame game) where
 
   -- a clue of the puzzle without the clue of a cell is a clue of another cell
   other_clue : (p : A) (place other m : ℕ) → game.clue (game.without p place) other ≡ Some m → (other ≢ place) × (game.clue p other ≡ Some m)
-  other_clue p place other m had = (apart, sym (laws.others_stay p place other apart) ∙ had)
-    where
-      apart : other ≢ place
-      apart same = none-some m (sym (laws.without_it p place) ∙ ap (game.clue (game.without p place)) (sym same) ∙ had)
+  other_clue p place other m had = grind (arith, cases_eq other place, laws.without_it p place, laws.others_stay p place other)
 
   thinner : (p : A) (place n : ℕ) → game.clue p place ≡ Some n → IsThinnedFrom game (game.without p place) p
   thinner p place n e = record { frame = laws.without_frame p place n e; clues = λ other m had. (other_clue p place other m had).1 }

@@ -19,9 +19,6 @@ module _ {A : Type 0} (t : Tries A) (s : Stream) where
   pub none_passes : (done : ℕ) (now : Stream) → IsTrying t s done now → t.count ≤ done → AllFail t s
   none_passes done now p all = record { failing = λ j h. p.failing j (omega arith) }
 
-  first_once : (j k : ℕ) → IsFirst t s j → IsFirst t s k → j ≡ k
-  first_once j k a b = grind arith
-
   -- one more filling is made
   module _ (done : ℕ) (now u : Stream) (x : A) (p : IsTrying t s done now) (made : ◌≡◌ {A = A × Stream} (x, u) (t.make now)) where
     pub filling_is : x ≡ filling_at t.make done s
@@ -47,5 +44,5 @@ module _ {A : Type 0} (t : Tries A) (s : Stream) where
       -- the stream that is left where the first that passes was made to a puzzle
       pub left_first : (left : Stream) → left ≡ t.ends x u → (k : ℕ) → IsFirst t s k → left ≡ t.ends (filling_at t.make k s) (stream_after t.make (suc k) s)
       left_first left is k first =
-          is ∙ ap (λ y. t.ends y u) filling_is ∙ ap (t.ends (filling_at t.make done s)) left_is
-          ∙ ap (λ i. t.ends (filling_at t.make i s) (stream_after t.make (suc i) s)) (first_once done k first_passing first)
+          let same : done ≡ k = let a = first_passing in grind arith in
+          rw (← same, ← filling_is, ← left_is) is

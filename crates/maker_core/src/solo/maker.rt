@@ -57,8 +57,9 @@ pub fn make_solo<G: Rng>(
     if !is_size(c, r) {
         return Err(MakeFault::SizeRange);
     }
+    let budget = limits.budget;
     for _attempt in 0..limits.tries {
-        let filling = fill_solo(alloc, c, r, x, rng, limits.budget)?;
+        let filling = fill_solo(alloc, rng, Sought { c, r, x, budget })?;
         if let Some(answer) = filling {
             let puzzle = full_puzzle(alloc, c, r, x, &answer)?;
             return Ok(thin(alloc, puzzle, answer, rng, limits.budget)?);
@@ -67,24 +68,31 @@ pub fn make_solo<G: Rng>(
     Err(MakeFault::Exhausted)
 }
 
-/// The filling of a try, where there is one.
-fn fill_solo<G: Rng>(
-    alloc: Global,
+/// The size of a filling, whether it is one of Solo X, and how many trials its search may take.
+#[derive(Clone, Copy)]
+struct Sought {
     c: u8,
     r: u8,
     x: bool,
-    rng: &mut G,
     budget: u64,
+}
+
+/// The filling of a try, where there is one.
+fn fill_solo<G: Rng>(
+    alloc: Global,
+    rng: &mut G,
+    sought: Sought,
 ) -> Result<Option<Grid>, AllocError>
-    requires { IsSoloSize c r }
-    ensures filling { IfOk result (IsDrawnBy (solo_filling c r x budget) G.stream rng.old rng.new) }
+    requires { IsSoloSize sought.c sought.r }
+    ensures filling { IfOk result
+        (IsDrawnBy (solo_filling sought.c sought.r sought.x sought.budget) G.stream rng.old rng.new) }
     ensures solution { IfOk result (λ filling.
-        IfSome filling (λ grid. IsSoloSolution (all_given c r x grid) grid)) }
+        IfSome filling (λ grid. IsSoloSolution (all_given sought.c sought.r sought.x grid) grid)) }
 {
-    if x {
-        fill_x(alloc, c, r, rng, budget)
+    if sought.x {
+        fill_x(alloc, sought.c, sought.r, rng, sought.budget)
     } else {
-        Ok(Some(fill_plain(alloc, c, r, rng)?))
+        Ok(Some(fill_plain(alloc, sought.c, sought.r, rng)?))
     }
 }
 

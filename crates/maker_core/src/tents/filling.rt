@@ -24,7 +24,7 @@ fn is_free(camp: &Camp, place: usize) -> bool
 }
 
 /// The cells beside the place that have neither tree nor tent: up, left, right, down.
-#[tactic(auto, unfolding(grid_core::specs::Regions::steps))]
+#[tactic(auto, using(crate::proofs::TentCamps::free_laws), unfolding(grid_core::specs::Regions::steps))]
 fn free_cells(
     alloc: Global,
     size: Size,
@@ -51,7 +51,7 @@ fn free_cells(
 }
 
 /// Puts a tent into the cell and a tree into the one of the free cells beside it that a draw names.
-#[tactic(auto, using(crate::proofs::TentCamps::free_few, crate::proofs::TentCamps::free_in, crate::proofs::TentCamps::pitched_is), unfolding(crate::specs::TentFilling::pitch, crate::specs::TentFilling::may_pitch))]
+#[tactic(auto, using(crate::proofs::TentCamps::pitch_laws), unfolding(crate::specs::TentFilling::pitch, crate::specs::TentFilling::may_pitch))]
 fn pitch<G: Rng>(rng: &mut G, size: Size, camp: &mut Camp, place: usize, free: &[usize])
     requires trees { length camp.old.trees ≡ size.w * size.h }
     requires tents { length camp.old.tents ≡ size.w * size.h }

@@ -5,7 +5,7 @@ ghost use Rattle.grid_core.specs.Grids.{IsGrid};
 ghost use Rattle.gameid_core.specs.Puzzles.{solo_n};
 ghost use Rattle.solo_core.specs.Cells.{solo_cells};
 
-use crate::made::{Made, MakeFault, Why};
+use crate::made::{Limits, Made, MakeFault, Why};
 use crate::solo::filling::{fill_plain, full_puzzle};
 use crate::solo::maker::make_solo;
 use crate::tests::{fault, generator, limits};
@@ -30,13 +30,12 @@ fn made(
     c: u8,
     r: u8,
     x: bool,
-    budget: u64,
-    tries: u32,
+    limits: Limits,
 ) -> Result<Made<SoloPuzzle>, MakeFault>
     ensures { IfOk result (λ made.
         IsGrid (solo_cells made.puzzle) (solo_n made.puzzle) made.answer) }
 {
-    make_solo(rt.alloc(), c, r, x, &mut generator(), limits(budget, tries))
+    make_solo(rt.alloc(), c, r, x, &mut generator(), limits)
 }
 
 /// Whether each given that was left, of some and not all cells, was left for this reason.
@@ -46,7 +45,7 @@ fn all_kept(made: &Made<SoloPuzzle>, why: Why) -> bool {
 
 #[test]
 fn no_budget_leaves_givens_for_want_of_it(rt: HostRuntime) -> Result<(), Fail> {
-    let made = made(&rt, 2, 2, false, 0, 1)?;
+    let made = made(&rt, 2, 2, false, limits(0, 1))?;
     assert!(rt; all_kept(&made, Why::Budget));
     let rules = SoloHouses::new(rt.alloc(), &made.puzzle)?;
     let mut store = Store::new(rt.alloc(), &rules)?;
@@ -57,7 +56,7 @@ fn no_budget_leaves_givens_for_want_of_it(rt: HostRuntime) -> Result<(), Fail> {
 
 #[test]
 fn enough_budget_leaves_givens_that_are_needed(rt: HostRuntime) -> Result<(), Fail> {
-    let made = made(&rt, 2, 2, false, 100_000, 1)?;
+    let made = made(&rt, 2, 2, false, limits(100_000, 1))?;
     assert!(rt; all_kept(&made, Why::Needed));
     assert_eq!(rt; check_solo(&made.puzzle, &made.answer), None);
     Ok(())
@@ -77,7 +76,7 @@ fn is_same(found: Option<&Grid>, answer: &Grid) -> bool {
 
 #[test]
 fn solo_x_has_numbers_once_on_its_diagonals(rt: HostRuntime) -> Result<(), Fail> {
-    let made = made(&rt, 2, 2, true, 100_000, 1)?;
+    let made = made(&rt, 2, 2, true, limits(100_000, 1))?;
     assert!(rt; made.puzzle.x());
     assert!(rt; all_kept(&made, Why::Needed));
     assert_eq!(rt; check_solo(&made.puzzle, &made.answer), None);
@@ -91,20 +90,20 @@ fn solo_x_has_numbers_once_on_its_diagonals(rt: HostRuntime) -> Result<(), Fail>
 #[test]
 fn sizes_and_tries_are_tested_first(rt: HostRuntime) -> Result<(), Fail> {
     assert_eq!(rt;
-        fault(made(&rt, 1, 4, false, 0, 0))?,
+        fault(made(&rt, 1, 4, false, limits(0, 0)))?,
         Some(MakeFault::SizeRange)
     );
     assert_eq!(rt;
-        fault(made(&rt, 6, 6, true, 0, 1))?,
+        fault(made(&rt, 6, 6, true, limits(0, 1)))?,
         Some(MakeFault::SizeRange)
     );
     assert_eq!(rt;
-        fault(made(&rt, 2, 2, false, 0, 0))?,
+        fault(made(&rt, 2, 2, false, limits(0, 0)))?,
         Some(MakeFault::Exhausted)
     );
     // a top row alone leaves two grids, so that a search needs trials
     assert_eq!(rt;
-        fault(made(&rt, 2, 2, true, 0, 2))?,
+        fault(made(&rt, 2, 2, true, limits(0, 2)))?,
         Some(MakeFault::Exhausted)
     );
     Ok(())
