@@ -37,7 +37,7 @@ pub(crate) fn fill_plain<G: Rng>(
     let numbers = order(alloc, rng, tall * wide)?;
     let rows = line_order(alloc, wide, tall, rng)?;
     let columns = line_order(alloc, tall, wide, rng)?;
-    rearrange(alloc, tall, wide, &numbers, &rows, &columns)
+    rearrange(alloc, tall, wide, &numbers, Lines { rows: &rows, columns: &columns })
 }
 
 /// The puzzle that gives all cells of the grid.
@@ -106,6 +106,13 @@ fn push_group<G: Rng>(
     Ok(())
 }
 
+/// The rows and the columns of a grid in new orders.
+#[derive(Clone, Copy)]
+struct Lines<'a> {
+    rows: &'a [usize],
+    columns: &'a [usize],
+}
+
 /// The grid in which each number has become another, and rows and columns stand in new orders.
 #[tactic(auto, using(crate::proofs::SoloSolution::solution_laws, std::proofs::lemmas::Grind::same_number_lists))]
 fn rearrange(
@@ -113,17 +120,17 @@ fn rearrange(
     c: usize,
     r: usize,
     numbers: &[usize],
-    rows: &[usize],
-    columns: &[usize],
+    lines: Lines<'_>,
 ) -> Result<Grid, AllocError>
-    requires { AreOrders c r numbers.now rows.now columns.now }
-    ensures grid { IfOk result (λ grid. grid ≡ rearranged c r numbers.now rows.now columns.now) }
+    requires { AreOrders c r numbers.now lines.rows.now lines.columns.now }
+    ensures grid { IfOk result (λ grid. grid
+        ≡ rearranged c r numbers.now lines.entry.rows.now lines.entry.columns.now) }
     ensures solution { IfOk result (λ grid. IsSoloSolution (all_given c r false grid) grid) }
 {
     let cells = c * r * (c * r);
     let mut grid = Grid::new(alloc, cells)?;
     for place in 0..cells {
-        grid.set(place, number_at(c, r, numbers, rows, columns, place));
+        grid.set(place, number_at(c, r, numbers, lines, place));
     }
     Ok(grid)
 }
@@ -134,16 +141,16 @@ fn number_at(
     c: usize,
     r: usize,
     numbers: &[usize],
-    rows: &[usize],
-    columns: &[usize],
+    lines: Lines<'_>,
     place: usize,
 ) -> u8
-    requires orders { AreOrders c r numbers.now rows.now columns.now }
+    requires orders { AreOrders c r numbers.now lines.rows.now lines.columns.now }
     requires place { place < (c * r) * (c * r) }
-    ensures { result ≡ slice_index (rearranged c r numbers.now rows.now columns.now) place }
+    ensures { result
+        ≡ slice_index (rearranged c r numbers.now lines.entry.rows.now lines.entry.columns.now) place }
 {
     let n = c * r;
-    let x = columns[place % n];
-    let y = rows[place / n];
+    let x = lines.columns[place % n];
+    let y = lines.rows[place / n];
     numbers[(y % c * r + y / c + x) % n] as u8
 }

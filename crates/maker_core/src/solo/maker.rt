@@ -84,8 +84,8 @@ fn fill_solo<G: Rng>(
     sought: Sought,
 ) -> Result<Option<Grid>, AllocError>
     requires { IsSoloSize sought.c sought.r }
-    ensures filling { IfOk result
-        (IsDrawnBy (solo_filling sought.c sought.r sought.x sought.budget) G.stream rng.old rng.new) }
+    ensures filling { IfOk result (IsDrawnBy
+        (solo_filling sought.c sought.r sought.x sought.budget) G.stream rng.old rng.new) }
     ensures solution { IfOk result (λ filling.
         IfSome filling (λ grid. IsSoloSolution (all_given sought.c sought.r sought.x grid) grid)) }
 {
