@@ -1,4 +1,5 @@
 -- A flip of a square grid brings each row to a row, each column to a column, and lines of one group to lines of one group.
+use Rattle.std.proofs.lemmas.Grind.{same_number_lists}
 use Rattle.maker_core.proofs.Words.{◌≡◌, ℕ, ◌+◌, ◌-◌, ◌*◌, ◌/◌, ◌%◌, ◌<◌, Bool, List, length, slice_index, ap, arith, cases_eq, mul-add-lt}
 use Rattle.maker_core.proofs.Words.{div-mul-add, mod-mul-add, div_below, mod_below, div-add-mod', All-get_or, All-from_get_or}
 use Rattle.maker_core.proofs.Words.{length-map-range_with_len, get_or-map-range_with_len, IsGrid, line_from, flipped_from, flipped}
@@ -60,4 +61,4 @@ module _ (n : ℕ) (across down : Bool) where
   }
 
 -- what the code of flips cites
-pub ruleset flip_laws = (length-flipped, flipped-at, from_below, line_from-below)
+pub ruleset flip_laws = (same_number_lists, length-flipped, flipped-at, from_below, line_from-below)

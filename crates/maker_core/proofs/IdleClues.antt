@@ -1,4 +1,7 @@
 -- A puzzle that lacks a needed clue is within the puzzle without that clue alone.
+use Rattle.maker_core.specs.SoloCluesLaws.{clue_is, solved_by_fewer}
+use Rattle.maker_core.specs.LightCluesLaws.{lit_by_fewer, numbered_is}
+use Rattle.maker_core.proofs.WrittenGrids.{set_back}
 use Rattle.maker_core.proofs.Words.{◌≡◌, ◌≢◌, ℕ, ◌<◌, false, true≢false, Some, List, length, get_or, map, sym, ◌∙◌, ap, subst, arith, ◌⊎◌, inl, inr}
 use Rattle.maker_core.proofs.Words.{is_some, All, Contains, cases_eq, get_or-map, length-map, Game, IsGame, has_clue, IsThinnedFrom, HasTwo, IsReason}
 use Rattle.maker_core.proofs.Words.{AreReasons, LeavesNoIdleClue, Kept, Needed}
@@ -27,3 +30,8 @@ none_is_idle game laws budget all p q kept place reasons needed w has lacks =
     let listed = passes_kept (has_clue game p) (game.cells p) place (laws.clue_in p place n.0 n.1) has in
     two_in game laws _ _ (lacking_within game laws p q place n.0 w n.1 lacks)
     (needed_at game budget all p kept place reasons needed (subst (λ xs. Contains xs place) (sym reasons.places) listed))
+
+-- what the taking away of clues cites, and that fewer clues lose no solution
+pub ruleset clue_laws = (set_back, clue_is, numbered_is)
+
+pub ruleset fewer_laws = (solved_by_fewer, lit_by_fewer)

@@ -61,7 +61,7 @@ none_white size cells bulbs p q all is numbers long c = rw numbers (same_white p
 
 -- numbers told by the same bulbs are the same
 again_at : (p : Light) (g : List ℕ) → length p.cells ≡ light_cells p → (c : ℕ) → numbered_cell p g c ≡ numbered_cell (with_numbers p g) g c
-unfolding numbered_cell with_numbers
+unfolding with_numbers
 again_at p g long c = rw (same_white p g long c) refl
 
 again : (p : Light) (g : List ℕ) → length p.cells ≡ light_cells p → with_numbers p g ≡ with_numbers (with_numbers p g) g
@@ -70,3 +70,6 @@ again p g long = ap (λ (f : ℕ → LightCell). record { size = p.size; cells =
 
 pub numbers_again : (size : Extent) (cells bulbs : List ℕ) (p q : Light) → p ≡ lights_of size cells → q ≡ with_numbers p bulbs → length cells ≡ size.w * size.h → q ≡ with_numbers q bulbs
 numbers_again size cells bulbs p q is numbers long = rw numbers (again p bulbs (rw is (black_long size cells long)))
+
+-- what the filling cites
+pub ruleset filled_laws = (numbers_again, none_white, numbered_cells)

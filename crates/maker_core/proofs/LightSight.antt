@@ -1,4 +1,5 @@
 -- Who sees whom, whatever the numbers, and both ways; and bulbs that are placed in turn.
+use Rattle.maker_core.proofs.FilteredRanges.{filter_laws}
 use Rattle.maker_core.proofs.Words.{elements, ◌≡◌, ℕ, ◌+◌, ◌*◌, ◌/◌, ◌%◌, ◌<◌, Bool, true, false, not, ◌&&◌, List, eqb, length, get_or, map, refl}
 use Rattle.maker_core.proofs.Words.{sym, ap, ◌∙◌, arith, inl, inr, zero, suc, replicate, add-one, ◌||◌, if◌then◌else◌, slice_index, slice_set, filter}
 use Rattle.maker_core.proofs.Words.{range_with_len, cases_lt, cond_both, and_parts, and_from, or_cases, or_left, or_right, eq-eqb, nat_eq_equiv}
@@ -14,7 +15,7 @@ unfolding with_numbers
 number_at p g c lt = grind (arith, get_or-map-range_with_len)
 
 pub same_white : (p : Light) (g : List ℕ) → length p.cells ≡ light_cells p → (c : ℕ) → white (with_numbers p g) c ≡ white p c
-unfolding white numbered_cell with_numbers
+unfolding white with_numbers
 same_white p g long c = grind (arith, number_at p g c, get_or_past, length-map-range_with_len)
 
 -- so the same cells see each other
@@ -59,7 +60,7 @@ white_all p k xs is all = is ∙ ap (λ n. filter (white p) (range_with_len 0 n)
 
 -- ---- the bulbs
 pub bulbs_after-grid : (p : Light) (order : List ℕ) (k : ℕ) → IsGrid (light_cells p) 2 (bulbs_after p order k)
-unfolding bulbs_after with_bulb
+unfolding bulbs_after
 bulbs_after-grid p order zero = zeros-grid (light_cells p)
 bulbs_after-grid p order (suc k) =
     let before = bulbs_after-grid p order k in
@@ -76,3 +77,6 @@ bulbs_next p order k = rw add-one refl
 
 -- what the placing of bulbs cites
 pub ruleset bulb_laws = (bulbs_none, bulbs_next, bulbs_after-grid)
+
+-- what the listing of white cells cites
+pub ruleset white_laws = (filter_laws, white_all)

@@ -57,7 +57,7 @@ planted_new p order g k c long w at on within none = record {
 
 pub planted : (p : Light) (order : List ℕ) → ((j : ℕ) → j < length order → white p (slice_index order j) ≡ true) → length p.cells ≡ light_cells p
     → (k : ℕ) → k ≤ length order → IsPlanted p order (bulbs_after p order k) k
-unfolding bulbs_after with_bulb
+unfolding bulbs_after
 planted p order whites long zero le = planted_none p order
 planted p order whites long (suc k) le =
     let g = bulbs_after p order k in
@@ -73,7 +73,7 @@ number_met cell b n e = grind arith
 
 pub lights_solved : (p : Light) (order g : List ℕ) (k : ℕ) → length p.cells ≡ light_cells p → IsGrid (light_cells p) 2 g → IsPlanted p order g k
     → ((c : ℕ) → white p c ≡ true → (j : ℕ) × (j < k) × (slice_index order j ≡ c)) → is_lit (with_numbers p g) g ≡ true
-unfolding with_numbers numbered_cell black_right number_right bulb_right lit_right
+unfolding with_numbers black_right number_right bulb_right lit_right
 lights_solved p order g k long grid w each =
     lit-from (with_numbers p g) g
     (all_below-from (black_right (with_numbers p g) g) (light_cells p) black)

@@ -41,3 +41,6 @@ pub pattern_only : (p : Pattern) (g : List ℕ)
     → (budget : ℕ) → HasOne (line_rules p) budget
     → IsPatternSolution p g → IsOnlySolution (IsPatternSolution p) g × TellsOne (line_rules p) budget g
 pattern_only p g accepted budget one good = one_is (line_rules p) (IsPatternSolution p) (λ h s. s.grid) (accepted p) g budget one good
+
+-- what the making of a puzzle of a grid cites
+pub ruleset pattern_laws = (pattern_is, pattern_solved)

@@ -107,4 +107,4 @@ grouped-more size k group groups lines new t u some before is inner added =
     rw (ap (λ (q : List ℕ × Stream). q.0) added, is) (AreGrouped-more size groups k lines (shuffled_order size t).0 some before inner)
 
 -- what the drawing of lines cites
-pub ruleset draw_laws = (line-more, lines-all, order_drawn, groups-none, grouped-none)
+pub ruleset draw_laws = (line_order_from_groups, line-more, lines-all, order_drawn, groups-none, grouped-none)

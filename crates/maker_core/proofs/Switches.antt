@@ -4,7 +4,7 @@ use Rattle.maker_core.proofs.Words.{slice_index, slice_set, is_some, true≢fals
 use Rattle.maker_core.proofs.Words.{verdict_of, Solves, IsTrueOf, IsCheck, PatternFault, is_solution-from, line_rules-lawful, line_rules}
 use Rattle.maker_core.proofs.Words.{IsPatternSolution, is_one, has_one, HasOther}
 use Rattle.engine_core.specs.Verdict.{Outcome.NoGrid, Outcome.OneGrid, Outcome.TwoGrids, Outcome.OutOfBudget}
-use Rattle.maker_core.proofs.WrittenGrids.{set_back}
+use Rattle.maker_core.proofs.WrittenGrids.{grid_with, set_back}
 
 -- one number put back, after those that were written later
 pub undone : (g h back k : List ℕ) (i u was : ℕ) → h ≡ slice_set g i u → was ≡ slice_index g i → back ≡ h → k ≡ slice_set back i was → k ≡ g
@@ -33,3 +33,6 @@ pub other_fails : (p : Pattern) (g : List ℕ) (budget : ℕ) → IsExtent p.siz
 other_fails p g budget extent good other =
     two_fail (line_rules p) g other.0 (verdict_of (line_rules p) budget) (outcome-true (line_rules p) (line_rules-lawful p extent) budget)
     (record { grid = good.grid; good = is_solution-from p g good }) (record { grid = other.1.grid; good = is_solution-from p other.0 other.1 }) other.2
+
+-- what the turning of four cells cites
+pub ruleset switch_laws = (grid_with, solved_by, turned_other)

@@ -13,11 +13,9 @@ record IsTakenBy (size : Extent) (old : Camp) (c : ℕ) (q : Camp × Stream) : T
   words : HasWords q.1
 
 some_free : (size : Extent) (camp : Camp) (c : ℕ) → may_pitch size camp c ≡ true → 0 < length (free_cells_beside size camp c)
-unfolding may_pitch
 some_free size camp c may = grind arith
 
 pitch_takes : (size : Extent) (camp : Camp) (c : ℕ) (s : Stream) → may_pitch size camp c ≡ true → HasWords s → IsTakenBy size camp c (pitch size camp c s)
-unfolding pitch
 pitch_takes size camp c s may words =
     let free : List ℕ = free_cells_beside size camp c in
     let few = free_few size camp c in
@@ -25,7 +23,6 @@ pitch_takes size camp c s may words =
     record { taken = inr (pitched_is size camp _ c (draw_below (length free) s).0 free refl drawn.below may refl refl); words = drawn.words }
 
 cell_takes : (size : Extent) (camp : Camp) (c : ℕ) (s : Stream) → HasWords s → IsTakenBy size camp c (take_cell size camp c s)
-unfolding take_cell
 cell_takes size camp c s words = cond_both (may_pitch size camp c) (pitch size camp c s) (camp, s) (IsTakenBy size camp c)
     (λ may. pitch_takes size camp c s may words) (λ none. record { taken = inl refl; words = words })
 

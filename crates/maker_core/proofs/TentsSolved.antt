@@ -85,7 +85,6 @@ record IsNew (size : Extent) (old : Camp) (c t : ℕ) : Type 0 where
 
 new_from : (size : Extent) (order : List ℕ) (k c : ℕ) (old new : Camp) → 1 ≤ size.w → IsOrder (size.w * size.h) order → k < size.w * size.h → c ≡ slice_index order k
     → IsCamp size order k old → (p : IsPitched size old c new) → IsNew size old c p.tree
-unfolding may_pitch touches_tent
 new_from size order k c old new w ordered lt at before p =
     let free = free_place size old c p.tree p.free in
     let may = p.may in

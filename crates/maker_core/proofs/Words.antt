@@ -110,8 +110,10 @@ unfoldable pub use Rattle.maker_core.specs.Flips.{flipped}
 pub use Rattle.maker_core.specs.LightClues.{light_game}
 pub use Rattle.maker_core.specs.LightCluesLaws.{light_is_game}
 pub use Rattle.maker_core.specs.LightFilling.{Lighting, light_passes, lit_up}
-unfoldable pub use Rattle.maker_core.specs.LightFilling.{bulbs_after, light_filling, light_puzzle_of, lights_of, numbered_cell, white_places}
-unfoldable pub use Rattle.maker_core.specs.LightFilling.{with_bulb, with_numbers}
+pub use Rattle.maker_core.specs.LightFilling.{numbered_cell}
+unfoldable pub use Rattle.maker_core.specs.LightFilling.{bulbs_after, light_filling, light_puzzle_of, lights_of, white_places}
+pub use Rattle.maker_core.specs.LightFilling.{with_bulb}
+unfoldable pub use Rattle.maker_core.specs.LightFilling.{with_numbers}
 pub use Rattle.maker_core.specs.LightMaking.{light_tries}
 pub use Rattle.maker_core.specs.Made.{HasOne, IsOnlySolution, TellsOne, has_one, is_one}
 pub use Rattle.maker_core.specs.PatternMaking.{clued_by, pattern_filling, pattern_passes, pattern_tries}
@@ -124,8 +126,10 @@ pub use Rattle.maker_core.specs.SoloOrders.{AreOrders, IsLineOrder, IsOrder}
 pub use Rattle.maker_core.specs.SoloXFilling.{first_grid, flipped_by_draw, top_row_given, x_filling}
 pub use Rattle.maker_core.specs.Switch.{HasOther, cell_of}
 pub use Rattle.maker_core.specs.TentFilling.{is_free, tents_pass}
-unfoldable pub use Rattle.maker_core.specs.TentFilling.{camp_after, free_cells_beside, may_pitch, no_camp, pitch, take_cell, tent_filling}
-unfoldable pub use Rattle.maker_core.specs.TentFilling.{tents_puzzle_of, touches_tent}
+pub use Rattle.maker_core.specs.TentFilling.{may_pitch, pitch, take_cell}
+unfoldable pub use Rattle.maker_core.specs.TentFilling.{camp_after, free_cells_beside, no_camp, tent_filling}
+pub use Rattle.maker_core.specs.TentFilling.{touches_tent}
+unfoldable pub use Rattle.maker_core.specs.TentFilling.{tents_puzzle_of}
 pub use Rattle.maker_core.specs.TentMaking.{tents_tries}
 pub use Rattle.maker_core.specs.TentSteps.{IsPitched, IsTaken}
 pub use Rattle.maker_core.specs.Thinning.{AreReasons, Game, HasTwo, IsGame, IsOnly, IsReason, IsThinnedFrom, LeavesNoIdleClue, clue_places, has_clue}

@@ -129,7 +129,7 @@ same_length : (p q : Light) → map is_white p.cells ≡ map is_white q.cells �
 same_length p q same = sym (length-map p.cells is_white) ∙ ap length same ∙ length-map q.cells is_white
 
 told_same : (p : Light) (cells : List LightCell) (g : List ℕ) → map is_white p.cells ≡ map is_white cells → light_game.all_clues p g ≡ light_game.all_clues (with_cells p.size cells) g
-unfolding with_cells with_numbers numbered_cell
+unfolding with_cells with_numbers
 told_same p cells g same = ap (λ wh. with_cells p.size (map (λ place. cond (wh place) White (Numbered (bulbs_beside p g place))) (range_with_len 0 (light_cells p)))) (same_white p (with_cells p.size cells) same)
 
 pub light_is_game : IsGame light_game

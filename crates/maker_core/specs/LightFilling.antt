@@ -21,7 +21,7 @@ unfoldable pub white_places : Light → List ℕ
 white_places p = filter (white p) (range_with_len 0 (light_cells p))
 
 -- a cell gets a bulb if it neither holds nor sees one
-unfoldable pub with_bulb : Light → List ℕ → ℕ → List ℕ
+abbrev pub with_bulb : Light → List ℕ → ℕ → List ℕ
 with_bulb p g c = if bulb g c || sees_bulb p g c then g else slice_set g c 1
 
 -- the bulbs when the first k cells of the order were taken in turn
@@ -30,7 +30,7 @@ bulbs_after p order zero = replicate (light_cells p) 0
 bulbs_after p order (suc k) = with_bulb p (bulbs_after p order k) (slice_index order k)
 
 -- the puzzle with a number on every black cell: how many bulbs stand beside it
-unfoldable pub numbered_cell : Light → List ℕ → ℕ → LightCell
+abbrev pub numbered_cell : Light → List ℕ → ℕ → LightCell
 numbered_cell p g c = if white p c then White else Numbered (bulbs_beside p g c)
 
 unfoldable pub with_numbers : Light → List ℕ → Light

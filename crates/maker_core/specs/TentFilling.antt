@@ -28,11 +28,11 @@ unfoldable pub free_cells_beside : Extent → Camp → ℕ → List ℕ
 free_cells_beside size camp c = filter (is_free camp) (beside size c)
 
 -- the cell touches a tent
-unfoldable pub touches_tent : Extent → List ℕ → ℕ → Bool
+abbrev pub touches_tent : Extent → List ℕ → ℕ → Bool
 touches_tent size tents c = any_below (λ d. touches size c d && tent tents d) (size.w * size.h)
 
 -- fewer tents stand than a fifth of the cells, and the cell has no tree, touches no tent and has free cells beside it
-unfoldable pub may_pitch : Extent → Camp → ℕ → Bool
+abbrev pub may_pitch : Extent → Camp → ℕ → Bool
 may_pitch size camp c =
     nat_lt camp.pitched (size.w * size.h / 5)
     && ((slice_index camp.trees c == 0)
@@ -40,7 +40,7 @@ may_pitch size camp c =
     && nat_lt 0 (length (free_cells_beside size camp c))))
 
 -- a tent in the cell and a tree in one of the free cells beside it, which a draw names
-unfoldable pub pitch : Extent → Camp → ℕ → Making Camp
+abbrev pub pitch : Extent → Camp → ℕ → Making Camp
 pitch size camp c s =
     let free = free_cells_beside size camp c in
     let draw = draw_below (length free) s in
@@ -48,7 +48,7 @@ pitch size camp c s =
     (record { trees = trees; tents = slice_set camp.tents c 1; pitched = suc camp.pitched }, draw.1)
 
 -- the cell is taken
-unfoldable pub take_cell : Extent → Camp → ℕ → Making Camp
+abbrev pub take_cell : Extent → Camp → ℕ → Making Camp
 take_cell size camp c s = if may_pitch size camp c then pitch size camp c s else (camp, s)
 
 -- the camp when the first k cells of the order were taken in turn

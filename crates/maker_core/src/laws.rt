@@ -10,7 +10,7 @@ ghost use Rattle.maker_core.specs.SoloClues.{solo_game};
 ghost use Rattle.maker_core.specs.LightClues.{light_game};
 
 /// Where each clue of a puzzle is a clue of another one, each solution of the other one is one of the puzzle.
-#[tactic(auto, using(crate::specs::SoloCluesLaws::solved_by_fewer, crate::specs::LightCluesLaws::lit_by_fewer))]
+#[tactic(auto, using(crate::proofs::IdleClues::fewer_laws))]
 pub fn fewer_clues_keep_solutions()
     ensures solo { KeepsSolutions solo_game IsSoloSolution }
     ensures lights { KeepsSolutions light_game (λ p g. is_lit p g ≡ true) }

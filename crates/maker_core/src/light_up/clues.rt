@@ -1,5 +1,5 @@
 //! The clues of Light Up: the numbers of black cells.
-#![tactic(auto, using(crate::proofs::WrittenGrids::set_back, crate::specs::LightCluesLaws::numbered_is))]
+#![tactic(auto, using(crate::proofs::IdleClues::clue_laws))]
 
 use crate::thinning::clued::Clued;
 use fields_core::LightRules;

@@ -33,7 +33,7 @@ fn with_black_cells(alloc: Global, size: Size, black: &Grid) -> Result<LightPuzz
 }
 
 /// The white cells, by place.
-#[tactic(auto, using(crate::proofs::FilteredRanges::filter_kept, crate::proofs::FilteredRanges::filter_skipped, crate::proofs::LightSight::white_all))]
+#[tactic(auto, using(crate::proofs::LightSight::white_laws))]
 fn white_cells(alloc: Global, puzzle: &LightPuzzle) -> Result<Vec<usize>, AllocError>
     ensures { IfOk result (λ places. places.items ≡ white_places puzzle.now) }
 {
@@ -48,7 +48,7 @@ fn white_cells(alloc: Global, puzzle: &LightPuzzle) -> Result<Vec<usize>, AllocE
 }
 
 /// Takes the cells of the list in turn, and puts a bulb into each that neither holds nor sees one.
-#[tactic(auto, using(crate::proofs::LightSight::bulb_laws), unfolding(crate::specs::LightFilling::with_bulb))]
+#[tactic(auto, using(crate::proofs::LightSight::bulb_laws))]
 fn place_bulbs(puzzle: &LightPuzzle, order: &[usize], grid: &mut Grid)
     requires within { All (λ c. c < light_cells puzzle.now) order.now }
     requires none { grid.old ≡ replicate (light_cells puzzle.now) 0 }
@@ -67,7 +67,7 @@ fn place_bulbs(puzzle: &LightPuzzle, order: &[usize], grid: &mut Grid)
 }
 
 /// Writes a number on every black cell: how many bulbs stand beside it.
-#[tactic(auto, using(std::proofs::lemmas::Grind::common_steps), unfolding(fields_core::specs::Light::white, crate::specs::LightFilling::numbered_cell))]
+#[tactic(auto, unfolding(fields_core::specs::Light::white))]
 fn number_cells(puzzle: &mut LightPuzzle, grid: &Grid)
     requires { IsGrid (light_cells puzzle.old) 2 grid.now }
     ensures { puzzle.new ≡ with_numbers puzzle.old grid.now }
@@ -103,7 +103,7 @@ fn light_up<G: Rng>(alloc: Global, rng: &mut G, puzzle: &LightPuzzle) -> Result<
 /// # Errors
 ///
 /// When memory was refused.
-#[tactic(auto, using(crate::proofs::LightFilled::numbers_again, crate::proofs::LightFilled::none_white, crate::proofs::LightFilled::numbered_cells), unfolding(crate::specs::LightFilling::light_filling, crate::specs::LightFilling::light_puzzle_of))]
+#[tactic(auto, using(crate::proofs::LightFilled::filled_laws))]
 pub(crate) fn fill_lights<G: Rng>(
     alloc: Global,
     rng: &mut G,

@@ -20,7 +20,7 @@ use rand_core::Rng;
 use std::alloc::{AllocError, Global};
 
 /// The puzzle with all clues of the grid.
-#[tactic(auto, using(crate::proofs::PatternMakings::pattern_is, crate::proofs::PatternMakings::pattern_solved))]
+#[tactic(auto, using(crate::proofs::PatternMakings::pattern_laws))]
 pub(crate) fn puzzle_of(alloc: Global, size: Size, grid: &Grid) -> Result<PatternPuzzle, AllocError>
     requires { IsGrid (size.w * size.h) 2 grid.now }
     ensures puzzle { IfOk result (λ p. p ≡ clued_by size grid.now) }

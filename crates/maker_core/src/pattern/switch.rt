@@ -33,7 +33,7 @@ fn replace(grid: &mut Grid, place: usize, value: u8) -> u8
 }
 
 /// Whether the grid with the corners turned is a solution. The grid is left as it was.
-#[tactic(auto, using(crate::proofs::WrittenGrids::grid_with, crate::proofs::Switches::solved_by, crate::proofs::Switches::turned_other))]
+#[tactic(auto, using(crate::proofs::Switches::switch_laws))]
 fn is_solved_turned(puzzle: &PatternPuzzle, grid: &mut Grid, corners: Corners) -> bool
     requires grid { IsGrid (puzzle.now.size.w * puzzle.now.size.h) 2 grid.old }
     requires black_in { corners.black < puzzle.now.size.w * puzzle.now.size.h }

@@ -1,5 +1,5 @@
 //! The clues of Solo: the givens.
-#![tactic(auto, using(crate::proofs::WrittenGrids::set_back, crate::specs::SoloCluesLaws::clue_is))]
+#![tactic(auto, using(crate::proofs::IdleClues::clue_laws))]
 
 use crate::thinning::clued::Clued;
 use gameid_core::SoloPuzzle;

@@ -65,7 +65,7 @@ pub(crate) fn full_puzzle(
 }
 
 /// So many groups of so many lines in a shuffled order: the groups first, and then the lines in each.
-#[tactic(auto, using(crate::proofs::SoloOrderLemmas::draw_laws, crate::proofs::SoloOrderLemmas::line_order_from_groups))]
+#[tactic(auto, using(crate::proofs::SoloOrderLemmas::draw_laws))]
 fn line_order<G: Rng>(
     alloc: Global,
     count: usize,
@@ -114,7 +114,7 @@ struct Lines<'a> {
 }
 
 /// The grid in which each number has become another, and rows and columns stand in new orders.
-#[tactic(auto, using(crate::proofs::SoloSolution::solution_laws, std::proofs::lemmas::Grind::same_number_lists))]
+#[tactic(auto, using(crate::proofs::SoloSolution::solution_laws))]
 fn rearrange(
     alloc: Global,
     c: usize,
@@ -136,7 +136,7 @@ fn rearrange(
 }
 
 /// The number in a cell of that grid.
-#[tactic(auto, using(crate::proofs::SoloSolution::solution_laws, crate::proofs::SoloNumbers::begin_below))]
+#[tactic(auto, using(crate::proofs::SoloSolution::solution_laws))]
 fn number_at(
     c: usize,
     r: usize,

@@ -12,7 +12,7 @@ use std::alloc::{AllocError, Global};
 /// # Errors
 ///
 /// When memory was refused.
-#[tactic(auto, using(crate::proofs::Flips::flip_laws, std::proofs::lemmas::Grind::same_number_lists))]
+#[tactic(auto, using(crate::proofs::Flips::flip_laws))]
 pub(crate) fn flip(
     alloc: Global,
     n: usize,

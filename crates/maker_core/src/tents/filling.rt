@@ -51,7 +51,7 @@ fn free_cells(
 }
 
 /// Puts a tent into the cell and a tree into the one of the free cells beside it that a draw names.
-#[tactic(auto, using(crate::proofs::TentCamps::pitch_laws), unfolding(crate::specs::TentFilling::pitch, crate::specs::TentFilling::may_pitch))]
+#[tactic(auto, using(crate::proofs::TentCamps::pitch_laws))]
 fn pitch<G: Rng>(rng: &mut G, size: Size, camp: &mut Camp, place: usize, free: &[usize])
     requires trees { length camp.old.trees ≡ size.w * size.h }
     requires tents { length camp.old.tents ≡ size.w * size.h }
@@ -71,7 +71,6 @@ fn pitch<G: Rng>(rng: &mut G, size: Size, camp: &mut Camp, place: usize, free: &
 
 /// Takes a cell: it becomes a tent while fewer than a fifth of the cells are tents, if it has no tree, touches no tent and
 /// has a free cell beside it.
-#[tactic(auto, unfolding(crate::specs::TentFilling::take_cell, crate::specs::TentFilling::may_pitch, crate::specs::TentFilling::touches_tent))]
 fn take_cell<G: Rng>(
     alloc: Global,
     rng: &mut G,
