@@ -1,9 +1,7 @@
 -- The cells of a grid that were drawn so far are the list of draws.
-use Rattle.maker_core.proofs.Words.{take_all}
-use Rattle.maker_core.proofs.Words.{elements, ◌≡◌, ℕ, zero, suc, ◌+◌, ◌<◌, Bool, List, [], ◌∷◌, ◌++◌, refl, sym, ◌∙◌, ap, arith, add-one, take}
-use Rattle.maker_core.proofs.Words.{length, length-append, cond, get_or-set_other, inl, inr, nat_lt, slice_index, slice_set, common_steps, cases_eq}
-use Rattle.maker_core.proofs.Words.{lt-ltb, le-ltb, get_or-set_at, take_more_set, All-append, All-cons, All-nil, Stream, IsGrid, draw_below}
-use Rattle.maker_core.proofs.Words.{black_cells}
+use Rattle.maker_core.proofs.Words.{take_all, elements, ◌≡◌, ℕ, zero, suc, ◌+◌, ◌<◌, Bool, List, [], ◌∷◌, ◌++◌, refl, sym, ◌∙◌, ap, arith, add-one}
+use Rattle.maker_core.proofs.Words.{take, length, length-append, cond, nat_lt, slice_index, slice_set, common_steps, take_more_set, All-append}
+use Rattle.maker_core.proofs.Words.{All-cons, All-nil, Stream, IsGrid, draw_below, black_cells}
 
 -- the steps of the drawing
 black_cells-none : (black : ℕ) (s : Stream) → ◌≡◌ {A = List ℕ × Stream} ([], s) (black_cells black 0 s)

@@ -1,7 +1,6 @@
 -- A flip of a square grid brings each row to a row, each column to a column, and lines of one group to lines of one group.
-use Rattle.std.proofs.lemmas.Grind.{same_number_lists}
-use Rattle.maker_core.proofs.Words.{◌≡◌, ℕ, ◌+◌, ◌-◌, ◌*◌, ◌/◌, ◌%◌, ◌<◌, Bool, List, length, slice_index, ap, arith, cases_eq, mul-add-lt}
-use Rattle.maker_core.proofs.Words.{div-mul-add, mod-mul-add, div_below, mod_below, div-add-mod', All-get_or, All-from_get_or}
+use Rattle.maker_core.proofs.Words.{same_number_lists, ◌≡◌, ℕ, ◌+◌, ◌-◌, ◌*◌, ◌/◌, ◌%◌, ◌<◌, Bool, List, length, slice_index, ap, arith, cases_eq}
+use Rattle.maker_core.proofs.Words.{mul-add-lt, div-mul-add, mod-mul-add, div_below, mod_below, div-add-mod', All-get_or, All-from_get_or}
 use Rattle.maker_core.proofs.Words.{length-map-range_with_len, get_or-map-range_with_len, IsGrid, line_from, flipped_from, flipped}
 
 -- ---- lines

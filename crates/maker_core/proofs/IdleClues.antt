@@ -1,10 +1,8 @@
 -- A puzzle that lacks a needed clue is within the puzzle without that clue alone.
-use Rattle.maker_core.specs.SoloCluesLaws.{clue_is, solved_by_fewer}
-use Rattle.maker_core.specs.LightCluesLaws.{lit_by_fewer, numbered_is}
+use Rattle.maker_core.proofs.Words.{clue_is, solved_by_fewer, lit_by_fewer, numbered_is, ◌≡◌, ℕ, ◌<◌, false, Some, List, length, get_or, map, sym}
+use Rattle.maker_core.proofs.Words.{◌∙◌, subst, arith, All, Contains, cases_eq, get_or-map, length-map, Game, IsGame, has_clue, IsThinnedFrom, HasTwo}
+use Rattle.maker_core.proofs.Words.{IsReason, AreReasons, LeavesNoIdleClue, Kept, Needed}
 use Rattle.maker_core.proofs.WrittenGrids.{set_back}
-use Rattle.maker_core.proofs.Words.{◌≡◌, ◌≢◌, ℕ, ◌<◌, false, true≢false, Some, List, length, get_or, map, sym, ◌∙◌, ap, subst, arith, ◌⊎◌, inl, inr}
-use Rattle.maker_core.proofs.Words.{is_some, All, Contains, cases_eq, get_or-map, length-map, Game, IsGame, has_clue, IsThinnedFrom, HasTwo, IsReason}
-use Rattle.maker_core.proofs.Words.{AreReasons, LeavesNoIdleClue, Kept, Needed}
 use Rattle.maker_core.proofs.FilteredRanges.{passes_kept}
 use Rattle.maker_core.proofs.ThinningTurns.{some_of, two_in}
 

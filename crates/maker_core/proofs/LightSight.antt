@@ -1,12 +1,10 @@
 -- Who sees whom, whatever the numbers, and both ways; and bulbs that are placed in turn.
 use Rattle.maker_core.proofs.FilteredRanges.{filter_laws}
-use Rattle.maker_core.proofs.Words.{elements, ◌≡◌, ℕ, ◌+◌, ◌*◌, ◌/◌, ◌%◌, ◌<◌, Bool, true, false, not, ◌&&◌, List, eqb, length, get_or, map, refl}
-use Rattle.maker_core.proofs.Words.{sym, ap, ◌∙◌, arith, inl, inr, zero, suc, replicate, add-one, ◌||◌, if◌then◌else◌, slice_index, slice_set, filter}
-use Rattle.maker_core.proofs.Words.{range_with_len, cases_lt, cond_both, and_parts, and_from, or_cases, or_left, or_right, eq-eqb, nat_eq_equiv}
-use Rattle.maker_core.proofs.Words.{get_or_past, get_or-map-range_with_len, length-map-range_with_len, any_below-here, any_below-some, Light, White}
-use Rattle.maker_core.proofs.Words.{Black, Numbered, light_cells, is_white, white, bulb, bulbs_beside, joined_in_row, joined_in_column, sees}
-use Rattle.maker_core.proofs.Words.{sees_bulb, clear-from, row-both, row-self, column-both, numbered_cell, with_numbers, with_bulb, bulbs_after}
-use Rattle.maker_core.proofs.Words.{white_places, IsGrid}
+use Rattle.maker_core.proofs.Words.{◌≡◌, ℕ, ◌+◌, ◌*◌, ◌/◌, ◌%◌, ◌<◌, true, false, ◌&&◌, List, length, get_or, refl, ap, ◌∙◌, arith, zero, suc}
+use Rattle.maker_core.proofs.Words.{replicate, add-one, ◌||◌, slice_index, filter, range_with_len, cond_both, and_from, eq-eqb, get_or_past}
+use Rattle.maker_core.proofs.Words.{get_or-map-range_with_len, length-map-range_with_len, any_below-here, any_below-some, Light, Black, light_cells}
+use Rattle.maker_core.proofs.Words.{white, bulb, joined_in_row, joined_in_column, sees, sees_bulb, clear-from, row-both, row-self, column-both}
+use Rattle.maker_core.proofs.Words.{numbered_cell, with_numbers, with_bulb, bulbs_after, white_places, IsGrid}
 use Rattle.maker_core.proofs.WrittenGrids.{grid_with, zeros-grid}
 
 -- ---- numbers change no colour

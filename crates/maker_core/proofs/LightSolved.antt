@@ -1,16 +1,14 @@
 -- White cells that were taken in turn, in any order, hold or see a bulb, and no bulb sees a bulb: the grid solves the
 -- puzzle with all numbers.
-use Rattle.maker_core.proofs.Words.{elements, ◌≡◌, ℕ, zero, suc, ◌<◌, ◌≤◌, Bool, true, false, not, List, length, get_or, refl, sym, ap, ◌∙◌, arith}
-use Rattle.maker_core.proofs.Words.{inl, inr, replicate, ◌==◌, ◌||◌, slice_index, slice_set, if◌then◌else◌, IsPermutation, cond_both, cases_eq}
-use Rattle.maker_core.proofs.Words.{true≢false, false_from_ne_true, and_parts, or_cases, or_left, or_right, eq-eqb, filter_passes, All-contains}
-use Rattle.maker_core.proofs.Words.{Contains-get_or, Contains-permutation, IsPermutation-sym, range_with_len, get_or_default, all_below-from, IsGrid}
-use Rattle.maker_core.proofs.Words.{Light, LightCell, White, Black, Numbered, light_cells, white, bulb, bulbs_beside, number_is, sees, sees_bulb}
-use Rattle.maker_core.proofs.Words.{black_right, number_right, bulb_right, lit_right, is_lit, lit-from, white-in, bulb-in, white_places, with_bulb}
-use Rattle.maker_core.proofs.Words.{bulbs_after, numbered_cell, with_numbers}
-
+use Rattle.maker_core.proofs.Words.{elements, ◌≡◌, ℕ, zero, suc, ◌<◌, ◌≤◌, Bool, true, false, List, length, get_or, refl, sym, ◌∙◌, arith, inl, inr}
+use Rattle.maker_core.proofs.Words.{replicate, ◌||◌, slice_index, slice_set, if◌then◌else◌, IsPermutation, cond_both, cases_eq, true≢false}
+use Rattle.maker_core.proofs.Words.{false_from_ne_true, or_cases, or_left, or_right, filter_passes, All-contains, Contains-get_or}
+use Rattle.maker_core.proofs.Words.{Contains-permutation, IsPermutation-sym, range_with_len, get_or_default, all_below-from, IsGrid, Light, LightCell}
+use Rattle.maker_core.proofs.Words.{White, Black, Numbered, light_cells, white, bulb, bulbs_beside, number_is, sees, sees_bulb, black_right}
+use Rattle.maker_core.proofs.Words.{number_right, bulb_right, lit_right, is_lit, lit-from, white-in, bulb-in, white_places, bulbs_after, with_numbers}
 use Rattle.maker_core.proofs.FilteredRanges.{passes_kept}
 use Rattle.maker_core.proofs.LightSight.{bulbs_after-grid, number_at, same_white, same_seen, sees_back, sees_itself, seen_bulb, bulb_seen}
-use Rattle.maker_core.proofs.WrittenGrids.{new_or_old, no_one, old_stays}
+use Rattle.maker_core.proofs.WrittenGrids.{no_one, old_stays}
 
 -- the first k cells of the order hold or see a bulb, bulbs stand on white cells and none sees another
 pub record IsPlanted (p : Light) (order g : List ℕ) (k : ℕ) : Type 0 where
@@ -91,11 +89,7 @@ lights_solved p order g k long grid w each =
     alone c lt = rw (same_seen p g long c) (grind (arith, seen_bulb p g c, w.apart c))
 
     lit : (c : ℕ) → c < light_cells p → lit_right (with_numbers p g) g c ≡ true
-    lit c lt = rw (same_white p g long c, same_seen p g long c) (by (white p c) refl)
-      where
-        by : (b : Bool) → white p c ≡ b → (not b || (bulb g c || sees_bulb p g c)) ≡ true
-        by false e = refl
-        by true e = let v = each c e in rw (sym v.2) (w.lit v.0 v.1)
+    lit c lt = grind (arith, same_white p g long c, same_seen p g long c, each c, w.lit)
 
 -- ---- in any order of the white cells
 pub order_white : (p : Light) (order : List ℕ) → IsPermutation (white_places p) order → (j : ℕ) → j < length order → white p (slice_index order j) ≡ true

@@ -1,11 +1,10 @@
 -- The puzzle that gives all cells of a grid: its search starts from that grid alone.
-use Rattle.maker_core.proofs.Words.{◌≡◌, ℕ, suc, ◌+◌, ◌*◌, ◌<◌, ◌≤◌, Bool, eqb, ltb, List, map, length, slice_index, take, replicate, [], ◌∷◌, ◌++◌}
-use Rattle.maker_core.proofs.Words.{◌-◌, refl, sym, ◌∙◌, inl, inr, arith, true, Some, ap, cases_eq, and_parts, and_from, or_cases, eqb-true, eq-eqb}
-use Rattle.maker_core.proofs.Words.{ltb-true, lt-ltb, same_number_lists, length-map, length-take-le, get_or-map, map_more, set_at, append_assoc}
-use Rattle.maker_core.proofs.Words.{append-nil, take_all, All-map, All-weaker, All-get_or, All-from_get_or, recursion_from_All, IsInside, single}
-use Rattle.maker_core.proofs.Words.{IsGrid, slice_set, Solo, IsSolo, solo_puzzle, Solves, IsTrueOf, IsSoloSolution, test_from_rule, rule_from_test}
-use Rattle.maker_core.proofs.Words.{start, houses_rules, houses_lawful, TellsOne, is_one, IsOnlySolution, all_given, solo_game, clue_is, is_clue}
-use Rattle.maker_core.proofs.Words.{IsSoloSize, solo_passes, IsThinnedFrom}
+use Rattle.maker_core.proofs.Words.{◌≡◌, ℕ, suc, ◌+◌, ◌*◌, ◌<◌, ◌≤◌, Bool, List, map, length, slice_index, take, replicate, [], ◌∷◌, ◌++◌, ◌-◌, refl}
+use Rattle.maker_core.proofs.Words.{sym, ◌∙◌, arith, true, Some, ap, length-map, length-take-le, get_or-map, map_more, set_at, append_assoc}
+use Rattle.maker_core.proofs.Words.{append-nil, take_all, All-map, All-get_or, All-from_get_or, recursion_from_All, IsInside, single, IsGrid}
+use Rattle.maker_core.proofs.Words.{slice_set, Solo, IsSolo, solo_puzzle, Solves, IsTrueOf, IsSoloSolution, test_from_rule, rule_from_test, start}
+use Rattle.maker_core.proofs.Words.{houses_rules, houses_lawful, TellsOne, is_one, IsOnlySolution, all_given, solo_game, clue_is, is_clue, IsSoloSize}
+use Rattle.maker_core.proofs.Words.{solo_passes, IsThinnedFrom}
 use Rattle.engine_core.specs.Verdict.{Outcome.OneGrid}
 use Rattle.maker_core.proofs.FullStart.{start_found, start_only}
 

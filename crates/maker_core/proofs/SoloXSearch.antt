@@ -1,11 +1,9 @@
 -- What the search of a top row gives: the first grid of the verdict, which keeps to the rules of Solo X.
-use Rattle.maker_core.proofs.Words.{◌≡◌, ℕ, zero, suc, ◌+◌, ◌-◌, ◌*◌, ◌<◌, ◌≤◌, true, Option, Some, None, List, map, ◌++◌, length, slice_index}
-use Rattle.maker_core.proofs.Words.{replicate, sym, ap, subst, ◌∙◌, arith, inl, inr, IfSome, cases_lt, common_steps, same_number_lists, get_or-map}
-use Rattle.maker_core.proofs.Words.{length-map, length-append, length-replicate, get_or_append_left, get_or-append_right, get_or-replicate, take_all}
-use Rattle.maker_core.proofs.Words.{All-map, All-append, All-replicate, All-from_get_or, recursion_from_All, mul-le, Stream, Solo, IsSolo}
-use Rattle.maker_core.proofs.Words.{solo_puzzle, Puzzle, Outcome, verdict_of, Solves, IsTrueOf, IsAnswer, Verdict, houses_rules, IsSoloSolution}
-use Rattle.maker_core.proofs.Words.{rule_from_test, shuffled_order, all_given, IsSoloSize, IsOrder, top_row_given, first_grid, flipped_by_draw}
-use Rattle.maker_core.proofs.Words.{x_filling}
+use Rattle.maker_core.proofs.Words.{◌≡◌, ℕ, suc, ◌+◌, ◌-◌, ◌*◌, ◌≤◌, true, Option, Some, None, List, map, ◌++◌, length, replicate, sym, ap, subst}
+use Rattle.maker_core.proofs.Words.{◌∙◌, arith, IfSome, common_steps, length-map, take_all, All-map, All-append, All-replicate, All-from_get_or}
+use Rattle.maker_core.proofs.Words.{recursion_from_All, mul-le, Stream, Solo, IsSolo, solo_puzzle, Puzzle, Outcome, verdict_of, Solves, IsTrueOf}
+use Rattle.maker_core.proofs.Words.{IsAnswer, Verdict, houses_rules, IsSoloSolution, rule_from_test, shuffled_order, all_given, IsSoloSize, IsOrder}
+use Rattle.maker_core.proofs.Words.{top_row_given, first_grid, flipped_by_draw, x_filling}
 use Rattle.engine_core.specs.Verdict.{Outcome.NoGrid, Outcome.OneGrid, Outcome.TwoGrids, Outcome.OutOfBudget}
 use Rattle.engine_core.specs.declared.search.walk.Verdict.TheVariants as verdict
 use Rattle.maker_core.proofs.FlippedHouses.{flipped-solution}

@@ -1,5 +1,5 @@
 -- Cells turned and turned back leave a grid as it was, and a puzzle with two solutions has no verdict of one.
-use Rattle.maker_core.proofs.Words.{◌≡◌, ◌≢◌, ℕ, ◌*◌, ◌<◌, Bool, true, false, List, length, refl, sym, ap, ◌∙◌, arith, not, Option, Some, None}
+use Rattle.maker_core.proofs.Words.{◌≡◌, ◌≢◌, ℕ, ◌<◌, Bool, true, false, List, length, refl, sym, ap, ◌∙◌, arith, not, Option, Some, None}
 use Rattle.maker_core.proofs.Words.{slice_index, slice_set, is_some, true≢false, get_or-set_same, IsExtent, Pattern, Puzzle, outcome-true, Outcome}
 use Rattle.maker_core.proofs.Words.{verdict_of, Solves, IsTrueOf, IsCheck, PatternFault, is_solution-from, line_rules-lawful, line_rules}
 use Rattle.maker_core.proofs.Words.{IsPatternSolution, is_one, has_one, HasOther}

@@ -1,9 +1,8 @@
 -- What taking a cell does, as the definitions say it.
-use Rattle.fields_core.proofs.HouseLists.{step-keep, step-none, step-skip}
-use Rattle.maker_core.proofs.Words.{replicate, add-one, ◌≡◌, ℕ, ◌+◌, ◌*◌, ◌<◌, ◌≤◌, true, List, length, refl, sym, ap, subst, ◌∙◌, arith, slice_index}
-use Rattle.maker_core.proofs.Words.{slice_set, filter, Stream, Extent, steps, has_place, has_place-here, place-filter, beside-in, filter-few}
-use Rattle.maker_core.proofs.Words.{steps-few, Camp, shuffled_order, no_camp, is_free, free_cells_beside, may_pitch, take_cell, camp_after}
-use Rattle.maker_core.proofs.Words.{tent_filling, IsPitched}
+use Rattle.maker_core.proofs.Words.{step-keep, step-none, step-skip, replicate, add-one, ◌≡◌, ℕ, ◌+◌, ◌*◌, ◌<◌, ◌≤◌, true, List, length, refl, sym}
+use Rattle.maker_core.proofs.Words.{ap, subst, ◌∙◌, arith, slice_index, slice_set, filter, Stream, Extent, steps, has_place, has_place-here}
+use Rattle.maker_core.proofs.Words.{place-filter, beside-in, filter-few, steps-few, Camp, shuffled_order, no_camp, is_free, free_cells_beside}
+use Rattle.maker_core.proofs.Words.{may_pitch, take_cell, camp_after, tent_filling, IsPitched}
 
 pub free_all : (size : Extent) (camp : Camp) (c n : ℕ) (places : List ℕ) → places ≡ filter (is_free camp) (steps size c n) → n ≡ 4 → places ≡ free_cells_beside size camp c
 unfolding free_cells_beside

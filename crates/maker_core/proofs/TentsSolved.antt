@@ -1,12 +1,10 @@
 -- Cells that were taken in turn: each tent has a tree of its own beside it, none stands on a tree, and no two touch.
-use Rattle.maker_core.proofs.Words.{◌≡◌, ℕ, zero, suc, ◌+◌, ◌-◌, ◌*◌, ◌/◌, ◌<◌, ◌≤◌, Bool, true, false, not, ◌&&◌, cond, List, [], ◌∷◌, length, map}
-use Rattle.maker_core.proofs.Words.{replicate, refl, sym, ap, subst, ◌∙◌, arith, inl, inr, Some, ◌==◌, nat_lt, slice_index, slice_set, count_by}
-use Rattle.maker_core.proofs.Words.{filter, range_with_len, true≢false, false_from_ne_true, and_parts, and_from, eqb-true, eq-eqb, ne_eqb, not-true}
-use Rattle.maker_core.proofs.Words.{lt-ltb, le-ltb, elements, length-filter, map-map, Extent, IsGrid, row_cells, column_cells, steps, step}
-use Rattle.maker_core.proofs.Words.{row_places, column_places, any_below-none, at_column, at_row, lines_ones, ones, has_place, tent, touches}
-use Rattle.maker_core.proofs.Words.{tents_in_column, tents_in_row, IsTentSolution, steps-some, step-up, step-left, step-right, step-down, beside-in}
-use Rattle.maker_core.proofs.Words.{tent-in, Camp, IsOrder, no_camp, touches_tent, may_pitch, tents_puzzle_of, IsPitched, IsTaken}
-use Rattle.maker_core.proofs.WrittenGrids.{grid_with, new_or_old, no_one, old_stays, zeros-grid}
+use Rattle.maker_core.proofs.Words.{◌≡◌, ℕ, ◌+◌, ◌-◌, ◌*◌, ◌<◌, ◌≤◌, true, false, ◌&&◌, cond, List, [], ◌∷◌, length, map, replicate, refl, sym, ap}
+use Rattle.maker_core.proofs.Words.{subst, ◌∙◌, arith, inl, inr, ◌==◌, slice_index, filter, range_with_len, elements, length-filter, map-map, Extent}
+use Rattle.maker_core.proofs.Words.{IsGrid, steps, row_places, column_places, any_below-none, at_column, at_row, lines_ones, ones, has_place, tent}
+use Rattle.maker_core.proofs.Words.{touches, tents_in_column, tents_in_row, IsTentSolution, steps-some, step-up, step-left, step-right, step-down}
+use Rattle.maker_core.proofs.Words.{beside-in, tent-in, Camp, IsOrder, no_camp, tents_puzzle_of, IsPitched, IsTaken}
+use Rattle.maker_core.proofs.WrittenGrids.{grid_with, new_or_old, no_one, zeros-grid}
 use Rattle.maker_core.proofs.TentCamps.{free_place}
 
 -- what the first k cells of the order made

@@ -3,8 +3,8 @@ use Rattle.maker_core.proofs.Words.{◌≡◌, ℕ, suc, ◌+◌, ◌<◌, ◌�
 use Rattle.maker_core.proofs.Words.{take, drop, replicate, refl, add-one, sym, ◌∙◌, ap, subst, arith, length-take, ◌⊎◌, inl, inr, filter, All}
 use Rattle.maker_core.proofs.Words.{Contains, IsPermutation, range_with_len, take_more, drop_all, append-nil, get_or-replicate, get_or_past}
 use Rattle.maker_core.proofs.Words.{length-replicate, All-contains, All-cons, All-nil, filter_passes, Contains-permutation, IsPermutation-sym}
-use Rattle.maker_core.proofs.Words.{IsDistinct-IsPermutation, cases_lt, nat_eq_equiv, common_steps, Kept, Why, TellsOne, Game, IsGame, has_clue}
-use Rattle.maker_core.proofs.Words.{clue_places, IsOnly, IsReason, AreReasons, IsTold, IsThinning, reasons_from, distinct_filtered_range}
+use Rattle.maker_core.proofs.Words.{IsDistinct-IsPermutation, nat_eq_equiv, Kept, Why, TellsOne, Game, IsGame, has_clue, clue_places, IsOnly}
+use Rattle.maker_core.proofs.Words.{IsReason, AreReasons, IsTold, IsThinning, reasons_from, distinct_filtered_range}
 use Rattle.maker_core.proofs.FilteredRanges.{passes_kept}
 use Rattle.maker_core.proofs.ThinningTurns.{some_of, none_of, within_itself}
 

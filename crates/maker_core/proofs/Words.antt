@@ -1,32 +1,31 @@
 -- Words and lemmas of std and of the crates below, and words of this crate, as its proofs use them.
 pub use Rattle.std.proofs.Common.{Bool, List, None, Option, Some, [], add-one, ap, arith, cond, drop, eqb, false, get_or, get_or-set_other, inl, inr}
-pub use Rattle.std.proofs.Common.{length, length-take, ltb, map, map-id, nat_le, not, refl, replicate, rules, set, slice_index, subst, suc, sym, take}
+pub use Rattle.std.proofs.Common.{length, length-take, map, map-id, nat_le, not, refl, replicate, rules, set, slice_index, subst, suc, sym, take}
 pub use Rattle.std.proofs.Common.{true, zero, ℕ, ◌%◌, ◌&&◌, ◌*◌, ◌++◌, ◌+◌, ◌-◌, ◌/◌, ◌<◌, ◌^◌, ◌∙◌, ◌∷◌, ◌≡◌, ◌≢◌, ◌≤◌, ◌⊎◌}
 pub use Rattle.std.proofs.Math.Seq.{drop-cons}
-pub use Rattle.std.proofs.lemmas.Bool.{and_from, and_parts, cases_eq, cases_lt, cond_both, eq-eqb, eqb-true, false_from_ne_true, le-ltb, lt-ltb}
-pub use Rattle.std.proofs.lemmas.Bool.{ltb-false, ltb-true, ne_eqb, not-true, or_cases, or_left, or_right, true≢false}
+pub use Rattle.std.proofs.lemmas.Bool.{and_from, cases_eq, cases_lt, cond_both, eq-eqb, eqb-true, false_from_ne_true, le-ltb, lt-ltb, ltb-false}
+pub use Rattle.std.proofs.lemmas.Bool.{ltb-true, or_cases, or_left, or_right, true≢false}
 pub use Rattle.std.proofs.lemmas.Cmp.{nat_eq_equiv}
 pub use Rattle.std.proofs.lemmas.Grind.{common_steps, elements, get_or-set_at, rows, same_number_lists}
-pub use Rattle.std.proofs.lemmas.List.{append-nil, append_assoc, drop_all, get_or-append_right, get_or-map, get_or-replicate, get_or-set_same}
-pub use Rattle.std.proofs.lemmas.List.{get_or_append_left, get_or_default, get_or_past, get_or_read, length-append, length-map, length-replicate}
-pub use Rattle.std.proofs.lemmas.List.{length-set, length-take-le, map_more, set-get_or, set-set, set_at, take_all, take_more, take_more_set}
+pub use Rattle.std.proofs.lemmas.List.{append-nil, append_assoc, drop_all, get_or-map, get_or-replicate, get_or-set_same, get_or_append_left}
+pub use Rattle.std.proofs.lemmas.List.{get_or_default, get_or_past, get_or_read, length-append, length-map, length-replicate, length-set}
+pub use Rattle.std.proofs.lemmas.List.{length-take-le, map_more, set-get_or, set-set, set_at, take_all, take_more, take_more_set}
 pub use Rattle.std.proofs.lemmas.List.Elements.{All-append, All-cons, All-contains, All-from_get_or, All-from_recursion, All-get_or, All-map, All-nil}
-pub use Rattle.std.proofs.lemmas.List.Elements.{All-replicate, All-set, All-weaker, Contains-append_left, Contains-append_right, Contains-get_or}
-pub use Rattle.std.proofs.lemmas.List.Elements.{filter-append, filter_passes, recursion_from_All}
+pub use Rattle.std.proofs.lemmas.List.Elements.{All-replicate, All-set, Contains-append_left, Contains-append_right, Contains-get_or, filter-append}
+pub use Rattle.std.proofs.lemmas.List.Elements.{filter_passes, recursion_from_All}
 pub use Rattle.std.proofs.lemmas.List.FromFn.{fill_by_all, get_or-map-range_with_len, get_or-range_with_len, length-map-range_with_len}
 pub use Rattle.std.proofs.lemmas.List.FromFn.{length-range_with_len, map-range_with_len_more}
 pub use Rattle.std.proofs.lemmas.List.Sorted.{All-permutation, Contains-permutation, IsPermutation-refl, IsPermutation-swap, IsPermutation-sym}
 pub use Rattle.std.proofs.lemmas.List.Sorted.{IsPermutation-trans, length_permutation}
-pub use Rattle.std.proofs.lemmas.List.Sums.{count_by-le-length, length-filter}
+pub use Rattle.std.proofs.lemmas.List.Sums.{count_by-le-length, get_or-le-sum_by, length-filter, sum_by-append, sum_by-cons, sum_by-le, sum_by-set}
 pub use Rattle.std.proofs.lemmas.Map.Keys.{IsDistinct-IsPermutation, IsDistinct-from_apart, apart_from_distinct}
 pub use Rattle.std.proofs.lemmas.Nat.{div-add-mod', div-mul-add, div_below, mod-mul-add, mod_below, mul-add-lt, mul-le, same_from_place}
-pub use Rattle.std.proofs.lemmas.Option.{none-some}
 pub use Rattle.std.proofs.lemmas.Result.{IfOk-weaker}
 pub use Rattle.std.proofs.lemmas.Simd.{map-map}
 pub use Rattle.std.specs.List.{AllByRecursion, range_with_len}
 unfoldable pub use Rattle.std.specs.List.{IsDistinct}
-pub use Rattle.std.specs.Prelude.{All, Contains, IfOk, IfSome, IsPermutation, IsTrue, count_by, filter, if◌then◌else◌, is_some, nat_lt}
-pub use Rattle.std.specs.Prelude.{slice_index_or, slice_set, ◌==◌, ◌||◌, ◌↔◌}
+pub use Rattle.std.specs.Prelude.{All, Contains, IfOk, IfSome, IsPermutation, IsTrue, filter, if◌then◌else◌, is_some, nat_lt, slice_index_or}
+pub use Rattle.std.specs.Prelude.{slice_set, sum, sum_by, ◌==◌, ◌||◌, ◌↔◌}
 pub use native.Mathlib.Nat.{mul-pos}
 pub use Rattle.engine_core.proofs.ClosingLemmas.{closure_closed, closure_inside, closure_largest}
 pub use Rattle.engine_core.proofs.VerdictLemmas.{outcome-true}
@@ -54,7 +53,7 @@ pub use Rattle.fields_core.proofs.TentBeside.{beside-in}
 pub use Rattle.fields_core.proofs.TentCounting.{tent-in}
 pub use Rattle.fields_core.proofs.TentRuleLemmas.{camp-from-solution, solution-from-camp}
 unfoldable pub use Rattle.fields_core.specs.CountHouse.{start_of}
-pub use Rattle.fields_core.specs.Light.{bulb, bulbs_beside, is_lit, is_white, light_cells, number_is}
+pub use Rattle.fields_core.specs.Light.{bulb, bulbs_beside, is_lit, light_cells, number_is}
 unfoldable pub use Rattle.fields_core.specs.Light.{black_right, bulb_right, joined_in_column, joined_in_row, lit_right, number_right, sees, sees_bulb}
 unfoldable pub use Rattle.fields_core.specs.Light.{white}
 pub use Rattle.fields_core.specs.LightHouses.{light_rules}
@@ -75,11 +74,11 @@ pub use Rattle.grid_core.proofs.CandidateLemmas.{all_below-at, all_below-from, a
 pub use Rattle.grid_core.proofs.CandidateLemmas.{count_below-pos, is_dead-each, is_full-each}
 pub use Rattle.grid_core.proofs.DifferentNumbers.{distinct_filtered_range}
 pub use Rattle.grid_core.proofs.GridLemmas.{grid_of-full, single-at, single-is}
-pub use Rattle.grid_core.specs.Candidates.{Candidates, IsInside, IsWithin, all_of, count_below, grid_of}
+pub use Rattle.grid_core.specs.Candidates.{Candidates, IsInside, IsWithin, count_below, grid_of}
 unfoldable pub use Rattle.grid_core.specs.Candidates.{single}
 pub use Rattle.grid_core.specs.Extent.{Extent, IsExtent}
 pub use Rattle.grid_core.specs.Grids.{IsGrid, column_cells, row_cells}
-pub use Rattle.grid_core.specs.Regions.{beside, column_places, row_places, step, steps}
+pub use Rattle.grid_core.specs.Regions.{beside, column_places, row_places, steps}
 pub use Rattle.pattern_core.specs.Faults.{IsCheck}
 pub use Rattle.pattern_core.specs.LineLaws.{cell_in_grid, different_places, has_runs-is, is_solution-from, length-line_places, line_rules-lawful}
 pub use Rattle.pattern_core.specs.LineLaws.{place_in_row}
@@ -108,28 +107,22 @@ unfoldable pub use Rattle.maker_core.specs.Draws.{black_cells, stream_after}
 pub use Rattle.maker_core.specs.Flips.{flipped_from, line_from}
 unfoldable pub use Rattle.maker_core.specs.Flips.{flipped}
 pub use Rattle.maker_core.specs.LightClues.{light_game}
-pub use Rattle.maker_core.specs.LightCluesLaws.{light_is_game}
-pub use Rattle.maker_core.specs.LightFilling.{Lighting, light_passes, lit_up}
-pub use Rattle.maker_core.specs.LightFilling.{numbered_cell}
-unfoldable pub use Rattle.maker_core.specs.LightFilling.{bulbs_after, light_filling, light_puzzle_of, lights_of, white_places}
-pub use Rattle.maker_core.specs.LightFilling.{with_bulb}
-unfoldable pub use Rattle.maker_core.specs.LightFilling.{with_numbers}
+pub use Rattle.maker_core.specs.LightCluesLaws.{light_is_game, lit_by_fewer, numbered_is}
+pub use Rattle.maker_core.specs.LightFilling.{Lighting, light_passes, lit_up, numbered_cell, with_bulb}
+unfoldable pub use Rattle.maker_core.specs.LightFilling.{bulbs_after, light_filling, light_puzzle_of, lights_of, white_places, with_numbers}
 pub use Rattle.maker_core.specs.LightMaking.{light_tries}
 pub use Rattle.maker_core.specs.Made.{HasOne, IsOnlySolution, TellsOne, has_one, is_one}
 pub use Rattle.maker_core.specs.PatternMaking.{clued_by, pattern_filling, pattern_passes, pattern_tries}
 pub use Rattle.maker_core.specs.SoloClues.{solo_game}
-pub use Rattle.maker_core.specs.SoloCluesLaws.{clue_is, house_stays, is_clue, lies_alike, solo_is_game}
+pub use Rattle.maker_core.specs.SoloCluesLaws.{clue_is, house_stays, is_clue, lies_alike, solo_is_game, solved_by_fewer}
 pub use Rattle.maker_core.specs.SoloFilling.{all_given, first_number, group_added, old_number}
 unfoldable pub use Rattle.maker_core.specs.SoloFilling.{lines_of_groups, rearranged}
 pub use Rattle.maker_core.specs.SoloMaking.{IsSoloSize, NoneFound, solo_filling, solo_passes, solo_tries}
 pub use Rattle.maker_core.specs.SoloOrders.{AreOrders, IsLineOrder, IsOrder}
 pub use Rattle.maker_core.specs.SoloXFilling.{first_grid, flipped_by_draw, top_row_given, x_filling}
 pub use Rattle.maker_core.specs.Switch.{HasOther, cell_of}
-pub use Rattle.maker_core.specs.TentFilling.{is_free, tents_pass}
-pub use Rattle.maker_core.specs.TentFilling.{may_pitch, pitch, take_cell}
-unfoldable pub use Rattle.maker_core.specs.TentFilling.{camp_after, free_cells_beside, no_camp, tent_filling}
-pub use Rattle.maker_core.specs.TentFilling.{touches_tent}
-unfoldable pub use Rattle.maker_core.specs.TentFilling.{tents_puzzle_of}
+pub use Rattle.maker_core.specs.TentFilling.{is_free, may_pitch, pitch, take_cell, tents_pass}
+unfoldable pub use Rattle.maker_core.specs.TentFilling.{camp_after, free_cells_beside, no_camp, tent_filling, tents_puzzle_of}
 pub use Rattle.maker_core.specs.TentMaking.{tents_tries}
 pub use Rattle.maker_core.specs.TentSteps.{IsPitched, IsTaken}
 pub use Rattle.maker_core.specs.Thinning.{AreReasons, Game, HasTwo, IsGame, IsOnly, IsReason, IsThinnedFrom, LeavesNoIdleClue, clue_places, has_clue}

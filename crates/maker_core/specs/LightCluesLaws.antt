@@ -42,9 +42,7 @@ same_white p q same = fun_ext λ c. white_map p c ∙ ap (λ whites. get_or whit
 
 -- ---- fewer numbers
 pub numbered_is : (cell : LightCell) (n : ℕ) → number_clue cell ≡ Some n → cell ≡ Numbered n
-numbered_is White n e = absurd (none-some n e)
-numbered_is Black n e = absurd (none-some n e)
-numbered_is (Numbered m) n e = let same : Some m ≡ Some n = e in ap Numbered cc
+numbered_is cell n e = grind arith
 
 number_stays : (a b : LightCell) (bulbs : ℕ) → ((n : ℕ) → number_clue a ≡ Some n → number_clue b ≡ Some n) → number_is b bulbs ≡ true → number_is a bulbs ≡ true
 number_stays White b bulbs clues right = refl
@@ -83,10 +81,7 @@ without_number : Light → ℕ → Light
 without_number p place = record p { cells = set p.cells place Black }
 
 cleared : (cells : List LightCell) (place : ℕ) → slice_index_or (slice_set cells place Black) place Black ≡ Black
-cleared cells place = elim (cases_lt place (length cells)) [
-  | inl below ↦ get_or-set_same cells place Black Black below
-  | inr past ↦ get_or_past (set cells place Black) place Black (omega (arith, past, length-set cells place Black))
-]
+cleared cells place = grind (arith, cases_lt place (length cells), get_or-set_same cells place Black Black, get_or_past (set cells place Black) place Black, length-set cells place Black)
 
 not_white : (cell : LightCell) (n : ℕ) → number_clue cell ≡ Some n → is_white cell ≡ false
 not_white cell n e = ap is_white (numbered_is cell n e)
@@ -120,10 +115,7 @@ fewer_houses p place n e =
     by c (inr apart) = inl (ap (λ cell. numbered cell (filter (white (without_number p place)) (beside p.size c))) (get_or-set_other p.cells place c Black Black apart) ∙ ap (λ wh. numbered (slice_index_or p.cells c Black) (filter wh (beside p.size c))) whites)
 
 clue_in : (cells : List LightCell) (place n : ℕ) → number_clue (slice_index_or cells place Black) ≡ Some n → place < length cells
-clue_in cells place n e = elim (cases_lt place (length cells)) [
-  | inl below ↦ below
-  | inr past ↦ absurd (none-some n (sym (ap number_clue (get_or_past cells place Black past)) ∙ e))
-]
+clue_in cells place n e = grind (arith, get_or_past cells place Black)
 
 same_length : (p q : Light) → map is_white p.cells ≡ map is_white q.cells → length p.cells ≡ length q.cells
 same_length p q same = sym (length-map p.cells is_white) ∙ ap length same ∙ length-map q.cells is_white

@@ -35,24 +35,15 @@ is_clue zero low = absurd (omega arith)
 is_clue (suc v) low = refl
 
 pub given_in : (givens : List ℕ) (place n : ℕ) → given_clue (slice_index givens place) ≡ Some n → place < length givens
-given_in givens place n e = elim (cases_lt place (length givens)) [
-  | inl below ↦ below
-  | inr past ↦ absurd (none-some n (sym (ap given_clue (get_or_past givens place 0 past)) ∙ e))
-]
+given_in givens place n e = grind (arith, get_or_past givens place 0)
 
 -- ---- solutions
 -- puzzles of one size have the same houses
 pub house_stays : (p : Solo) (givens : List ℕ) (house : SoloHouse) → IsHouseOf p house → IsHouseOf (solo_puzzle p.c p.r p.x givens) house
-house_stays p givens (Row y) is = is
-house_stays p givens (Column i) is = is
-house_stays p givens (Block b) is = is
-house_stays p givens (Diagonal d) is = is
+house_stays p givens house is = grind arith
 
 pub lies_alike : (p : Solo) (givens : List ℕ) (house : SoloHouse) (place : ℕ) → lies_in p house place ≡ lies_in (solo_puzzle p.c p.r p.x givens) house place
-lies_alike p givens (Row y) place = refl
-lies_alike p givens (Column i) place = refl
-lies_alike p givens (Block b) place = refl
-lies_alike p givens (Diagonal d) place = refl
+lies_alike p givens house place = grind arith
 
 -- the clues of p are clues of the puzzle with these givens
 abbrev pub HasClues : Solo → List ℕ → Type 0
@@ -93,10 +84,7 @@ solutions_stay p q g w s =
     record { grid = same.grid; good = test_stays p q.givens g w.clues same.good }
 
 cleared : (givens : List ℕ) (place : ℕ) → slice_index (slice_set givens place 0) place ≡ 0
-cleared givens place = elim (cases_lt place (length givens)) [
-  | inl below ↦ get_or-set_same givens place 0 0 below
-  | inr past ↦ get_or_past (set givens place 0) place 0 (omega (arith, past, length-set givens place 0))
-]
+cleared givens place = grind (arith, cases_lt place (length givens), get_or-set_same givens place 0 0, get_or_past (set givens place 0) place 0, length-set givens place 0)
 
 pub solo_is_game : IsGame solo_game
 solo_is_game = record {
