@@ -53,8 +53,8 @@ pub no_camp_is : (size : Extent) (trees tents : List ℕ) (n : ℕ) → n ≡ si
 unfolding no_camp
 no_camp_is size trees tents n cells is_trees is_tents = rw (is_trees, is_tents, cells) refl
 
--- what the listing of free cells cites
-pub ruleset free_laws = (step-none, step-skip, step-keep)
+-- the four sides of a cell, as the listing of free cells cites them
+pub ruleset sides = (step-none, step-skip, step-keep)
 
 -- what the pitching of a tent cites
 pub ruleset pitch_laws = (free_few, free_in, pitched_is)

@@ -1,5 +1,5 @@
 -- Cells that were taken in turn: each tent has a tree of its own beside it, none stands on a tree, and no two touch.
-use Rattle.maker_core.proofs.Words.{◌≡◌, ℕ, ◌+◌, ◌-◌, ◌*◌, ◌<◌, ◌≤◌, true, false, ◌&&◌, cond, List, [], ◌∷◌, length, map, replicate, refl, sym, ap}
+use Rattle.maker_core.proofs.Words.{◌≡◌, ℕ, ◌+◌, ◌*◌, ◌<◌, ◌≤◌, true, false, ◌&&◌, cond, List, [], ◌∷◌, length, map, replicate, refl, sym, ap}
 use Rattle.maker_core.proofs.Words.{subst, ◌∙◌, arith, inl, inr, ◌==◌, slice_index, filter, range_with_len, elements, length-filter, map-map, Extent}
 use Rattle.maker_core.proofs.Words.{IsGrid, steps, row_places, column_places, any_below-none, at_column, at_row, lines_ones, ones, has_place, tent}
 use Rattle.maker_core.proofs.Words.{touches, tents_in_column, tents_in_row, IsTentSolution, steps-some, step-up, step-left, step-right, step-down}

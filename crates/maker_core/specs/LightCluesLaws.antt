@@ -7,7 +7,6 @@ use Rattle.std.proofs.Math.Path.{fun_ext}
 use Rattle.std.proofs.Math.ListN.{get_or-map}
 use Rattle.std.proofs.Math.Seq.{map-set_same}
 use Rattle.std.proofs.lemmas.Bool.{cases_lt, cases_eq}
-use Rattle.std.proofs.lemmas.Option.{none-some}
 use Rattle.std.proofs.lemmas.List.{get_or-set_other, get_or-set_same, get_or_past, length-set, length-map}
 use Rattle.grid_core.specs.Extent.{Extent}
 use Rattle.grid_core.specs.Regions.{beside}
@@ -21,7 +20,7 @@ use Rattle.fields_core.specs.LightHouses.{row_run, column_run, seen_from, begins
 use Rattle.fields_core.proofs.LightFaultLemmas.{lit-from, lit-parts}
 use Rattle.maker_core.specs.Thinning.{IsThinnedFrom, IsGame}
 use Rattle.maker_core.specs.LightClues.{number_clue, SameLight, light_game}
-use Rattle.maker_core.specs.LightFilling.{numbered_cell, with_numbers}
+use Rattle.maker_core.specs.LightFilling.{with_numbers}
 use Rattle.maker_core.specs.FewerHouseLaws.{IsFewer, fewer_append, fewer_below, longest_of_fewer}
 
 with_cells : Extent → List LightCell → Light

@@ -1,5 +1,5 @@
 -- What fewer givens change.
-use Rattle.std.proofs.Common.{◌≡◌, ℕ, zero, suc, ◌+◌, ◌<◌, ◌≤◌, true, Some, List, length, set, refl, sym, ◌∙◌, ap, subst, arith, inl, inr}
+use Rattle.std.proofs.Common.{◌≡◌, ℕ, zero, suc, ◌+◌, ◌<◌, ◌≤◌, true, Some, List, length, set, refl, sym, ◌∙◌, ap, subst, arith}
 use Rattle.std.specs.Prelude.{slice_index, slice_set}
 use Rattle.std.proofs.Math.Nat.{le_refl}
 use Rattle.std.proofs.lemmas.Bool.{cases_lt, and_parts, and_from}
@@ -11,7 +11,6 @@ use Rattle.gameid_core.specs.Puzzles.{Solo, solo_puzzle}
 use Rattle.engine_core.specs.Verdict.{Solves}
 use Rattle.solo_core.specs.RuleSets.{houses_rules}
 use Rattle.solo_core.specs.declared.houses.house.SoloHouse.{SoloHouse}
-use Rattle.solo_core.specs.declared.houses.house.SoloHouse.TheVariants.{Row, Column, Block, Diagonal}
 use Rattle.solo_core.specs.Cells.{solo_cells}
 use Rattle.solo_core.specs.Houses.{IsHouseOf, lies_in}
 use Rattle.solo_core.specs.Solutions.{IsSoloSolution, given_stands, is_solo_solution}

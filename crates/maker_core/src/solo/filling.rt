@@ -146,8 +146,8 @@ fn number_at(
 ) -> u8
     requires orders { AreOrders c r numbers.now lines.rows.now lines.columns.now }
     requires place { place < (c * r) * (c * r) }
-    ensures { result
-        ≡ slice_index (rearranged c r numbers.now lines.entry.rows.now lines.entry.columns.now) place }
+    ensures { result ≡ slice_index
+        (rearranged c r numbers.now lines.entry.rows.now lines.entry.columns.now) place }
 {
     let n = c * r;
     let x = lines.columns[place % n];

@@ -24,7 +24,7 @@ fn is_free(camp: &Camp, place: usize) -> bool
 }
 
 /// The cells beside the place that have neither tree nor tent: up, left, right, down.
-#[tactic(auto, using(crate::proofs::TentCamps::free_laws), unfolding(grid_core::specs::Regions::steps))]
+#[tactic(auto, using(crate::proofs::TentCamps::sides), unfolding(grid_core::specs::Regions::steps))]
 fn free_cells(
     alloc: Global,
     size: Size,
