@@ -45,8 +45,19 @@ module _ (n : ℕ) (across down : Bool) where
 
   pub from_apart : (j k : ℕ) → j < n * n → k < n * n → flipped_from n across down j ≡ flipped_from n across down k → j ≡ k
   from_apart j k lj lk e =
-      grind (arith, from_row j, from_row k, from_column j, from_column k, div-add-mod' j n, div-add-mod' k n,
-      mod_below j n, mod_below k n, div_below j n n, div_below k n n)
+      grind (
+        arith,
+        from_row j,
+        from_row k,
+        from_column j,
+        from_column k,
+        div-add-mod' j n,
+        div-add-mod' k n,
+        mod_below j n,
+        mod_below k n,
+        div_below j n n,
+        div_below k n n,
+      )
 
   pub length-flipped : (g : List ℕ) → length (flipped n across down g) ≡ n * n
   unfolding flipped

@@ -18,7 +18,8 @@ pub black_passes : (p : Light) (g : List ℕ) (budget : ℕ) → IsLawful (light
     → ((c : ℕ) → white p c ≡ false) → has_one (light_rules p) budget ≡ true
 black_passes p g budget laws grid lit black =
     ap is_one (found_at_once (light_rules p) budget g (known (light_rules p) laws) (record { grid = grid; good = lit })
-    (λ c v lt few here. start_black p c v (black c) few (closure_inside (light_rules p) (light_rules p).start c v here) ∙ sym (no_bulb_on p g c lit lt (black c))))
+    (λ c v lt few here. start_black p c v (black c) few (closure_inside (light_rules p) (light_rules p).start c v here)
+    ∙ sym (no_bulb_on p g c lit lt (black c))))
 
 pub size_is : (size : Extent) (f : Lighting) (p q : Light) → p ≡ light_puzzle_of size f → q.size ≡ p.size → q.size ≡ size
 unfolding light_puzzle_of with_numbers lights_of

@@ -77,8 +77,17 @@ thinned-solo c r x p g size solution w = record {
     given_low place lt =
         let value = All-get_or (λ v. v < c * r) g place 0 in
         let given = w.clues place (slice_index p.givens place) in
-        grind (arith, given, is_clue (slice_index p.givens place), clue_is (slice_index (map suc g) place) (slice_index p.givens place),
-        given-at g place, value, solution.grid.each_value, w.frame.cells, length-map g suc)
+        grind (
+          arith,
+          given,
+          is_clue (slice_index p.givens place),
+          clue_is (slice_index (map suc g) place) (slice_index p.givens place),
+          given-at g place,
+          value,
+          solution.grid.each_value,
+          w.frame.cells,
+          length-map g suc,
+        )
 
 -- what the writing of all givens cites
 pub ruleset full_laws = (written, given-all)

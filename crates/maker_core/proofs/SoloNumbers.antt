@@ -24,11 +24,31 @@ module _ (c r : ℕ) (c_low : 0 < c) (r_low : 0 < r) where
   column_apart x y z ly lz e =
       let far : y / c < r = div_below y c r c_low (omega arith) in
       let far' : z / c < r = div_below z c r c_low (omega arith) in
-      grind (arith, moved_apart (c * r) x ((y % c) * r + y / c) ((z % c) * r + z / c), begin_below c r y, begin_below c r z,
-      same_from_place (y % c) (y / c) (z % c) (z / c) r, div-add-mod' y c, div-add-mod' z c)
+      grind (
+        arith,
+        moved_apart (c * r) x ((y % c) * r + y / c) ((z % c) * r + z / c),
+        begin_below c r y,
+        begin_below c r z,
+        same_from_place (y % c) (y / c) (z % c) (z / c) r,
+        div-add-mod' y c,
+        div-add-mod' z c,
+      )
 
   pub block_apart : (x u y z : ℕ) → x / r ≡ u / r → y / c ≡ z / c → first_number c r x y ≡ first_number c r u z → (x ≡ u) × (y ≡ z)
   block_apart x u y z stack band e =
       let same = moved_apart (c * r) (y / c + x / r * r) ((y % c) * r + x % r) ((z % c) * r + u % r) in
-      grind (arith, same, mul-add-lt (y % c) r (x % r) c, mul-add-lt (z % c) r (u % r) c, mod_below y c, mod_below z c, mod_below x r, mod_below u r,
-      same_from_place (y % c) (x % r) (z % c) (u % r) r, div-add-mod' x r, div-add-mod' u r, div-add-mod' y c, div-add-mod' z c)
+      grind (
+        arith,
+        same,
+        mul-add-lt (y % c) r (x % r) c,
+        mul-add-lt (z % c) r (u % r) c,
+        mod_below y c,
+        mod_below z c,
+        mod_below x r,
+        mod_below u r,
+        same_from_place (y % c) (x % r) (z % c) (u % r) r,
+        div-add-mod' x r,
+        div-add-mod' u r,
+        div-add-mod' y c,
+        div-add-mod' z c,
+      )

@@ -50,8 +50,19 @@ module _ (size : ℕ) (groups : List ℕ) (k : ℕ) (lines inside : List ℕ) (s
         let inner_line = div-mul-add (slice_index groups k) size (slice_index inside (y - k * size)) in
         grind (arith, old_line y, before.group y, new_line y, new_group y, inner_line, inner.within (y - k * size));
     apart = λ y z ly lz same e.
-        grind (arith, old_line y, old_line z, new_line y, new_line z, new_group y, new_group z, div_below y size k, div_below z size k,
-        before.apart y z, inner.apart (y - k * size) (z - k * size));
+        grind (
+          arith,
+          old_line y,
+          old_line z,
+          new_line y,
+          new_line z,
+          new_group y,
+          new_group z,
+          div_below y size k,
+          div_below z size k,
+          before.apart y z,
+          inner.apart (y - k * size) (z - k * size),
+        );
   }
 
 -- all groups together
@@ -61,8 +72,15 @@ line_order_from_groups count size groups lines size_low outer all = record {
     len = all.len;
     within = λ y lt.
         let room = mul-le (slice_index lines y / size + 1) size count size in
-        grind (arith, room, all.group y lt, outer.within (y / size), div_below y size count size_low lt, div-add-mod' (slice_index lines y) size,
-        mod_below (slice_index lines y) size size_low);
+        grind (
+          arith,
+          room,
+          all.group y lt,
+          outer.within (y / size),
+          div_below y size count size_low lt,
+          div-add-mod' (slice_index lines y) size,
+          mod_below (slice_index lines y) size size_low,
+        );
     apart = λ y z ly lz e.
         grind (arith, all.apart y z, outer.apart (y / size) (z / size), div_below y size count, div_below z size count, all.group y, all.group z);
   };

@@ -52,7 +52,8 @@ module _ (c r : ℕ) (numbers : List ℕ) (size : IsSoloSize c r) (order : IsOrd
   }
 
   pub top-all : (p : Solo) (k : ℕ) → p ≡ given_first c r true numbers k → k ≡ length numbers → p ≡ top_row_given c r numbers
-  top-all p k is all = is ∙ rw (all, order.len) (ap (λ xs. solo_puzzle c r true (map suc xs ++ replicate rest 0)) (take_all (c * r) numbers (omega (arith, order.len))))
+  top-all p k is all = is
+      ∙ rw (all, order.len) (ap (λ xs. solo_puzzle c r true (map suc xs ++ replicate rest 0)) (take_all (c * r) numbers (omega (arith, order.len))))
 
   found-solution : (g : List ℕ) → Solves (houses_rules (top_row_given c r numbers)) g → IsSoloSolution (top_row_given c r numbers) g
   found-solution g s = rule_from_test (top_row_given c r numbers) top-solo g s.grid s.good

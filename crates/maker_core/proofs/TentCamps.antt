@@ -1,8 +1,12 @@
 -- What taking a cell does, as the definitions say it.
+use Rattle.maker_core.proofs.Words.{cases_eq}
 use Rattle.maker_core.proofs.Words.{step-keep, step-none, step-skip, replicate, add-one, ◌≡◌, ℕ, ◌+◌, ◌*◌, ◌<◌, ◌≤◌, true, List, length, refl, sym}
 use Rattle.maker_core.proofs.Words.{ap, subst, ◌∙◌, arith, slice_index, slice_set, filter, Stream, Extent, steps, has_place, has_place-here}
 use Rattle.maker_core.proofs.Words.{place-filter, beside-in, filter-few, steps-few, Camp, shuffled_order, no_camp, is_free, free_cells_beside}
 use Rattle.maker_core.proofs.Words.{may_pitch, take_cell, camp_after, tent_filling, IsPitched}
+
+pub wide : (size : Extent) (c : ℕ) → c < size.w * size.h → 1 ≤ size.w
+wide size c lt = grind (arith, cases_eq size.w 0)
 
 pub free_all : (size : Extent) (camp : Camp) (c n : ℕ) (places : List ℕ) → places ≡ filter (is_free camp) (steps size c n) → n ≡ 4 → places ≡ free_cells_beside size camp c
 unfolding free_cells_beside
@@ -28,9 +32,9 @@ pitched_is size camp new c k free is below may trees tents = record {
 }
 
 -- a free cell beside a cell lies in the grid
-pub free_in : (size : Extent) (camp : Camp) (c k : ℕ) (free : List ℕ) → 1 ≤ size.w → c < size.w * size.h → free ≡ free_cells_beside size camp c → k < length free → slice_index free k < size.w * size.h
-free_in size camp c k free w lt is below =
-    beside-in size c (slice_index free k) (omega arith) lt
+pub free_in : (size : Extent) (camp : Camp) (c k : ℕ) (free : List ℕ) → c < size.w * size.h → free ≡ free_cells_beside size camp c → k < length free → slice_index free k < size.w * size.h
+free_in size camp c k free lt is below =
+    beside-in size c (slice_index free k) (wide size c lt) lt
     (free_place size camp c (slice_index free k) (subst (λ (xs : List ℕ). has_place xs (slice_index free k) ≡ true) is (has_place-here free k below))).0
 
 -- ---- the cells in turn

@@ -147,4 +147,5 @@ camp_step size order k c old new w ordered lt at before (inl same) = rw same (re
   taken = λ d on. let t = before.taken d on in (t.0, omega (arith, t.1), t.2);
   solved = before.solved;
 })
-camp_step size order k c old new w ordered lt at before (inr p) = camp_more size order k c old new before p (new_from size order k c old new w ordered lt at before p) at
+camp_step size order k c old new w ordered lt at before (inr p) =
+    camp_more size order k c old new before p (new_from size order k c old new w ordered lt at before p) at

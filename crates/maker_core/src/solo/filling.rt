@@ -37,7 +37,16 @@ pub(crate) fn fill_plain<G: Rng>(
     let numbers = order(alloc, rng, tall * wide)?;
     let rows = line_order(alloc, wide, tall, rng)?;
     let columns = line_order(alloc, tall, wide, rng)?;
-    rearrange(alloc, tall, wide, &numbers, Lines { rows: &rows, columns: &columns })
+    rearrange(
+        alloc,
+        tall,
+        wide,
+        &numbers,
+        Lines {
+            rows: &rows,
+            columns: &columns,
+        },
+    )
 }
 
 /// The puzzle that gives all cells of the grid.
@@ -137,13 +146,7 @@ fn rearrange(
 
 /// The number in a cell of that grid.
 #[tactic(auto, using(crate::proofs::SoloSolution::solution_laws))]
-fn number_at(
-    c: usize,
-    r: usize,
-    numbers: &[usize],
-    lines: Lines<'_>,
-    place: usize,
-) -> u8
+fn number_at(c: usize, r: usize, numbers: &[usize], lines: Lines<'_>, place: usize) -> u8
     requires orders { AreOrders c r numbers.now lines.rows.now lines.columns.now }
     requires place { place < (c * r) * (c * r) }
     ensures { result ≡ slice_index

@@ -78,11 +78,7 @@ struct Sought {
 }
 
 /// The filling of a try, where there is one.
-fn fill_solo<G: Rng>(
-    alloc: Global,
-    rng: &mut G,
-    sought: Sought,
-) -> Result<Option<Grid>, AllocError>
+fn fill_solo<G: Rng>(alloc: Global, rng: &mut G, sought: Sought) -> Result<Option<Grid>, AllocError>
     requires { IsSoloSize sought.c sought.r }
     ensures filling { IfOk result (IsDrawnBy
         (solo_filling sought.c sought.r sought.x sought.budget) G.stream rng.old rng.new) }

@@ -62,7 +62,6 @@ fn pitch<G: Rng>(rng: &mut G, size: Size, camp: &mut Camp, place: usize, free: &
     ensures drawn { IsDrawnBy (pitched_in size camp.old place) G.stream rng.old rng.new camp.new }
     ensures pitched { IsPitched size camp.old place camp.new }
 {
-    let _cells = size.cells();
     let k = draw(rng, free.len() as u32);
     camp.trees.set(free[k as usize], 1);
     camp.tents.set(place, 1);
@@ -118,7 +117,6 @@ fn take_cells<G: Rng>(
     ensures tents { OnOk result (IsGrid (size.w * size.h) 2 camp.new.tents) }
     ensures solved { OnOk result (IsSolvedCamp size camp.new) }
 {
-    let _cells = size.cells();
     for k in 0..order.len() {
         take_cell(alloc, rng, size, camp, order[k])?;
     }

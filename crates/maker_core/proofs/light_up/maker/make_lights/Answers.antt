@@ -31,7 +31,8 @@ returns-then-branch-clause-made g c =
       numbers = subst (IsThinnedFrom light_game p) (w.2 ∙ ap (light_puzzle_of c.args.size) is) c.in_ok-thin.ensures.within;
       filled = given ∙ w.3 ∙ ap (λ (f : Lighting). f.bulbs) is;
       size_asked = size_is c.args.size w.0 c.in_ok-puzzle.puzzle p w.2 c.in_ok-thin.ensures.within.frame.size;
-      only = rw given (only_is (light_rules p) (IsLightSolution p) (λ h s. s.grid) (λ h grid. (rule-from-test p h grid, test-from-rule p h grid)) _ c.in_ok-thin.ensures.only);
+      only = rw given (only_is (light_rules p) (IsLightSolution p) (λ h s. s.grid)
+          (λ h grid. (rule-from-test p h grid, test-from-rule p h grid)) _ c.in_ok-thin.ensures.only);
       verdict = rw given c.in_ok-thin.ensures.found;
       reasons = rw given c.in_ok-thin.ensures.reasons;
     }

@@ -6,5 +6,6 @@ pub returns-clause-solution : goal.returns-clause-solution
 returns-clause-solution c =
     let a = c.args in
     let i = c.loop-place.invariant in
-    rw (same_number_lists _ _ (i.long ∙ sym (length-rearranged a.c a.r a.numbers.now a.lines.rows.now a.lines.columns.now)) (λ k lt. let long = i.long in i.same k (omega arith)))
+    rw (same_number_lists _ _ (i.long ∙ sym (length-rearranged a.c a.r a.numbers.now a.lines.rows.now a.lines.columns.now))
+    (λ k lt. let long = i.long in i.same k (omega arith)))
     (is_solution_of_all a.c a.r a.numbers.now a.lines.rows.now a.lines.columns.now c.requires)

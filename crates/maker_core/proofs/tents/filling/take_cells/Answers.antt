@@ -1,5 +1,5 @@
 use Rattle.maker_core.proofs.Words.{◌*◌, ◌<◌, arith, refl}
-use Rattle.maker_core.proofs.TentCamps.{none_after, more_after}
+use Rattle.maker_core.proofs.TentCamps.{none_after, more_after, wide}
 use Rattle.maker_core.proofs.TentsSolved.{camp_none, camp_step}
 use Rattle.maker_core.proofs.tents.filling.take_cells.Goals as goal
 
@@ -11,5 +11,5 @@ loop-k-preserved g c =
     let within : c.loop-k.k < c.args.size.w * c.args.size.h = let l = c.requires.order.len in let t = c.loop-k-test.true in omega arith in
     record {
       drawn = more_after _ _ _ _ _ _ _ _ _ c.loop-k.invariant.drawn c.in_ok-take_cell.ensures.drawn refl;
-      camp = camp_step c.args.size c.args.order.now c.loop-k.k _ _ _ c.cells-cells.ensures.lawful.w_low c.requires.order within refl c.loop-k.invariant.camp c.in_ok-take_cell.ensures.taken;
+      camp = camp_step c.args.size c.args.order.now c.loop-k.k _ _ _ (wide c.args.size c.loop-k.k within) c.requires.order within refl c.loop-k.invariant.camp c.in_ok-take_cell.ensures.taken;
     }
