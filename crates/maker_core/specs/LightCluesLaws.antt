@@ -81,13 +81,7 @@ without_number p place = record p { cells = set p.cells place Black }
 
 cleared : (cells : List LightCell) (place : ℕ) → slice_index_or (slice_set cells place Black) place Black ≡ Black
 cleared cells place =
-    grind (
-      arith,
-      cases_lt place (length cells),
-      get_or-set_same cells place Black Black,
-      get_or_past (set cells place Black) place Black,
-      length-set cells place Black,
-    )
+    grind (arith, cases_lt place (length cells), get_or-set_same cells place Black Black, get_or_past (set cells place Black) place Black, length-set cells place Black)
 
 not_white : (cell : LightCell) (n : ℕ) → number_clue cell ≡ Some n → is_white cell ≡ false
 not_white cell n e = ap is_white (numbered_is cell n e)

@@ -84,13 +84,7 @@ solutions_stay p q g w s =
 
 cleared : (givens : List ℕ) (place : ℕ) → slice_index (slice_set givens place 0) place ≡ 0
 cleared givens place =
-    grind (
-      arith,
-      cases_lt place (length givens),
-      get_or-set_same givens place 0 0,
-      get_or_past (set givens place 0) place 0,
-      length-set givens place 0,
-    )
+    grind (arith, cases_lt place (length givens), get_or-set_same givens place 0 0, get_or_past (set givens place 0) place 0, length-set givens place 0)
 
 pub solo_is_game : IsGame solo_game
 solo_is_game = record {
