@@ -30,21 +30,7 @@ pub upto-first : (p : Puzzle) (K : Candidates) (test waits : ℕ → Bool) → A
 upto-first p K test waits = called-none p K _ waits (λ j lt. and_right (test j) _ (le-ltb (count_below test j) 0 (omega arith)))
 
 upto-next : (test : ℕ → Bool) (n k j : ℕ) → test n ≡ true → count_below test n ≡ k → (asked_upto test k j || eqb j n) ≡ asked_upto test (k + 1) j
-upto-next test n k j on number =
-    grind (
-      arith,
-      common_steps,
-      and_from,
-      and_left,
-      cases_eq,
-      cases_lt,
-      counted,
-      eq-eqb,
-      le-ltb,
-      lt-ltb,
-      ne_eqb,
-      or_right,
-    )
+upto-next test n k j on number = grind (arith, common_steps, and_from, and_left, cases_eq, cases_lt, counted, eq-eqb, le-ltb, lt-ltb, ne_eqb, or_right)
 
 -- the next one is marked
 pub upto-marked : (p : Puzzle) (K : Candidates) (test before now after : ℕ → Bool) (n k : ℕ) → test n ≡ true → count_below test n ≡ k → ((j : ℕ) → after j ≡ (now j || eqb j n))

@@ -24,5 +24,4 @@ ended-told p K E whole answer trace sweeps e = grind (arith, common_steps)
 -- its turns are counted
 pub ended-counted : (p : Puzzle) (levels : Levels) (E : Candidates) (whole : Bool) (answer : Closing) (trace : List ℕ) (visits sweeps m before : ℕ) → m ≡ max visits sweeps
     → IsEnded p (board_in levels) E whole answer (take visits trace) sweeps → visits ≤ length trace → m ≤ 18446744073709551615 → CountsClosing p levels before (before + m)
-ended-counted p levels E whole answer trace visits sweeps m before is c le few =
-    grind (arith, common_steps, closed-in)
+ended-counted p levels E whole answer trace visits sweeps m before is c le few = grind (arith, common_steps, closed-in)

@@ -65,10 +65,7 @@ module _ (places : List ℕ) (k : ℕ) (lt : k < length places) where
 
   -- one of the first k places is one of the places, and not the next
   taken-at : (c : ℕ) → has_place (take k places) c ≡ true → (j : ℕ) × (j < k) × (slice_index places j ≡ c)
-  taken-at c on =
-      let w = has_place-at (take k places) c on in
-      let below : w.0 < k = omega (arith, w.1, length-take-le k places (omega arith)) in
-      (w.0, below, sym (get_or-take k places w.0 0 below) ∙ w.2)
+  taken-at c on = grind (arith, common_steps, get_or-take, has_place-at, length-take-le)
 
   pub taken-in : (c : ℕ) → has_place (take k places) c ≡ true → has_place places c ≡ true
   taken-in c on = grind (arith, common_steps, taken-at c, has_place-here)

@@ -35,11 +35,7 @@ length-pieces xs from (e ∷ ends) = ap suc (length-pieces xs e ends)
 
 pub pieces-push : (xs : List ℕ) (x from : ℕ) (ends : List ℕ) → AreEnds (length xs) from ends → pieces (xs ++ x ∷ []) from ends ≡ pieces xs from ends
 pieces-push xs x from [] e = refl
-pieces-push xs x from (end ∷ ends) (low, e) =
-    rw (pieces-push xs x end ends e, piece) refl
-  where
-    piece : between from end (xs ++ x ∷ []) ≡ between from end xs
-    piece = grind (arith, common_steps, between_is, last-le, take-append-le)
+pieces-push xs x from (end ∷ ends) (low, e) = grind (arith, common_steps, between_is, last-le, take-append-le, pieces-push xs x end ends)
 
 pub listed-push : (xs ends : List ℕ) (x : ℕ) → AreEnds (length xs) 0 ends
     → listed (xs ++ x ∷ []) ends ≡ record { closed = (listed xs ends).closed; begun = (listed xs ends).begun ++ x ∷ [] }
@@ -73,9 +69,7 @@ closed-in xs ends h lt = let e = length-pieces xs 0 ends in omega arith
 pub last-at : (from : ℕ) (ends : List ℕ) → (length ends ≡ 0 → ⊥) → get_or ends (length ends - 1) 0 ≡ last_end from ends
 last-at from [] some = absurd (some refl)
 last-at from (end ∷ []) some = refl
-last-at from (end ∷ next ∷ ends) some =
-    let z : suc (suc (length ends)) - 1 ≡ suc (suc (length ends) - 1) = omega arith in
-    rw z (last-at end (next ∷ ends) (λ e. absurd (omega arith)))
+last-at from (end ∷ next ∷ ends) some = grind (arith, common_steps, last-at end (next ∷ ends))
 
 pub total-is : (xs : List ℕ) (from : ℕ) (ends : List ℕ) → AreEnds (length xs) from ends → from + sum_by length (pieces xs from ends) ≡ last_end from ends
 total-is xs from [] e = omega arith

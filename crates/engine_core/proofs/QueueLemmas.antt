@@ -18,8 +18,7 @@ use Rattle.std.proofs.lemmas.Grind.{common_steps}
 -- a cell outside the house is left alone
 pub after-outside : (p : Puzzle) (laws : IsLawful p) (h : ℕ) (K : Candidates) (c v : ℕ) → h < p.houses → has_place (p.scope h) c ≡ false → K c v ≡ true → after p h K c v ≡ true
 unfolding after
-after-outside p laws h K c v lt out on =
-    grind (arith, common_steps, and_from, false_from_ne_true, not_from_false, true≢false)
+after-outside p laws h K c v lt out on = grind (arith, common_steps, and_from, false_from_ne_true, not_from_false, true≢false)
 
 left_false : (x y : Bool) → (x && y) ≡ false → y ≡ true → x ≡ false
 left_false x0 y e f = grind (arith, common_steps, true≢false)
@@ -193,14 +192,12 @@ pub empties_then : (p : Puzzle) (h : ℕ) (before : ℕ → ℕ) (K : Candidates
     → (before k ≡ count_below (K (slice_index (p.scope h) k)) p.values → ⊥) → now ≡ eqb (count_below (K (slice_index (p.scope h) k)) p.values) 0
     → d' ≡ any_below (empties p h before K) (k + 1)
 unfolding counts_of
-empties_then p h before K k d d' now e f ne g =
-    grind (arith, common_steps, any_below-more, ne_eqb, not_from_false)
+empties_then p h before K k d d' now e f ne g = grind (arith, common_steps, any_below-more, ne_eqb, not_from_false)
 
 pub empties_else : (p : Puzzle) (h : ℕ) (before : ℕ → ℕ) (K : Candidates) (k : ℕ) (d d' : Bool) → d' ≡ d → d ≡ any_below (empties p h before K) k
     → before k ≡ count_below (K (slice_index (p.scope h) k)) p.values → d' ≡ any_below (empties p h before K) (k + 1)
 unfolding counts_of
-empties_else p h before K k d d' e f same =
-    grind (arith, common_steps, and_left, any_below-more, eq-eqb, not_from_true, unwoken)
+empties_else p h before K k d d' e f same = grind (arith, common_steps, and_left, any_below-more, eq-eqb, not_from_true, unwoken)
 
 -- ---- one turn of the queue
 visits_left-fewer : (p : Puzzle) (K : Candidates) (waits waits' : ℕ → Bool) → ((j : ℕ) → j < p.houses → waits j ≡ true → waits' j ≡ true) → visits_left p K waits ≤ visits_left p K waits'
