@@ -41,10 +41,7 @@ unfolding count_below
 numbered p zero r lt = absurd (omega arith)
 numbered p (suc n) r lt = elim (cases_lt r (count_below p n)) [
   | inl low ↦ let w = numbered p n r low in let l = w.1 in (w.0, omega arith, w.2, w.3)
-  | inr high ↦ elim (cases_Bool (p n)) [
-    | inl on ↦ let here : ◌≡◌ {A = ℕ} (cond (p n) 1 0) 1 = rw on refl in (n, omega arith, on, omega arith)
-    | inr off ↦ let here : ◌≡◌ {A = ℕ} (cond (p n) 1 0) 0 = rw off refl in absurd (omega arith)
-  ]
+  | inr high ↦ grind (arith, common_steps, cases_Bool)
 ]
 
 -- ---- one place more of a house
@@ -162,10 +159,7 @@ module _ (slots : ℕ) (scopes : List (List ℕ)) (are : AreScopes slots scopes)
     pub index-turn : (starts' houses' : List ℕ) → IsPut house (scope_of scopes house) starts houses starts' houses' → IsIndex slots scopes house starts' houses'
     index-turn starts' houses' put = record {
       as_many = put.as_many ∙ index.as_many;
-      begins = λ c lc. elim (cases_Bool (has_place (scope_of scopes house) c)) [
-        | inl on ↦ let b = index.begins c lc in let m = one_more c on in let p = put.on c on in omega arith
-        | inr off ↦ put.off c off ∙ index.begins c lc ∙ ap (λ n. start_at scopes c + n) (none_more c off)
-      ];
+      begins = λ c lc. grind (arith, common_steps, cases_Bool, none_more, one_more);
       long = put.long ∙ index.long;
       there = λ c h lc le lh on. elim (cases_lt house h) [
         | inl later ↦ put.kept (start_at scopes c + number_at scopes h c) (λ d on_d e.
@@ -219,16 +213,7 @@ module _ (house : ℕ) (places : List ℕ) (k : ℕ) (lt : k < length places) (d
       | inl is ↦ at_place c is
       | inr other ↦ ap suc (get_or-set_other starts' place c _ 0 other) ∙ was.on c (sym (taken-other places k lt c other) ∙ on)
     ];
-    put = λ c on. elim (cases_eq c place) [
-      | inl is ↦ get_or-set_at houses' (slice_index starts' place - 1) _ house 0 (get_or-set_at starts' place c _ 0 is in_starts) put-room.1
-      | inr other ↦
-          let before = sym (taken-other places k lt c other) ∙ on in
-          ap (slice_index (set houses' (slice_index starts' place - 1) house)) (get_or-set_other starts' place c _ 0 other)
-          ∙ get_or-set_other houses' (slice_index starts' place - 1) (slice_index starts' c) house 0 (λ e.
-          let p = was.on c before in
-          let r = put-room.0 in
-          other (room.apart c place (taken-in places k lt c before) here (let s = put-start in omega arith))) ∙ was.put c before
-    ];
+    put = λ c on. grind (arith, common_steps, cases_eq, get_or-set_at, get_or-set_other, here, in_starts, place, put-room, put-start, taken-in, taken-other);
     kept = λ i free.
         let r = put-room.0 in
         let s = put-start in

@@ -26,10 +26,7 @@ upto-next p laws h k K L lth lt i = fun_ext λ v. i.rest _ v (λ j less e. let s
 upto-more : (p : Puzzle) (laws : IsLawful p) (h k : ℕ) (K L M : Candidates) → h < p.houses → k < length (p.scope h) → IsUpto p h k K L
     → M (slice_index (p.scope h) k) ≡ after p h K (slice_index (p.scope h) k) → ((c v : ℕ) → c ≢ slice_index (p.scope h) k → M c v ≡ L c v) → IsUpto p h (k + 1) K M
 upto-more p laws h k K L M lth lt i here others = record {
-  done = λ j v less. elim (cases_eq j k) [
-    | inl e ↦ rw e (ap (λ (f : ℕ → Bool). f v) here)
-    | inr ne ↦ others _ v (λ e. ne (laws.scope_distinct h j k lth (omega arith) lt e)) ∙ i.done j v (omega arith)
-  ];
+  done = λ j v less. grind (arith, common_steps, cases_eq);
   rest = λ c v none. others c v (λ e. none k (omega arith) (sym e)) ∙ i.rest c v (λ j less. none j (omega arith));
 }
 
@@ -60,8 +57,5 @@ upto-same p laws h k K L bits lth lt within i was is =
 pub upto-all : (p : Puzzle) (laws : IsLawful p) (h : ℕ) (K L : Candidates) → h < p.houses → IsUpto p h (length (p.scope h)) K L → L ≡ after p h K
 upto-all p laws h K L lth i = fun_ext λ c. fun_ext λ v. elim (cases_Bool (has_place (p.scope h) c)) [
   | inl member ↦ let w = has_place-at (p.scope h) c member in rw w.2 at (i.done w.0 v w.1)
-  | inr out ↦ i.rest c v (λ j less e. true≢false (sym (has_place-here (p.scope h) j less) ∙ (ap (has_place (p.scope h)) e ∙ out))) ∙ elim (cases_Bool (K c v)) [
-    | inl on ↦ on ∙ sym (after-outside p laws h K c v lth out on)
-    | inr off ↦ off ∙ sym (false_from_ne_true _ (λ on. true≢false (sym (after_inside p h K c v on) ∙ off)))
-  ]
+  | inr out ↦ grind (arith, common_steps, after-outside, after_inside, cases_Bool, false_from_ne_true, has_place-here, true≢false)
 ]
