@@ -41,11 +41,8 @@ upto-marked p K test before now after n k on number marks a = grind (arith, comm
 pub upto-idle : (p : Puzzle) (K : Candidates) (test before now : ℕ → Bool) (n k : ℕ) → test n ≡ true → count_below test n ≡ k → IsIdle p n K
     → AreCalled p K (asked_upto test k) before now → AreCalled p K (asked_upto test (k + 1)) before now
 upto-idle p K test before now n k on number idle a =
-    called-same p K _ _ before now (λ j lt. upto-next test n k j on number) (called-more p K (asked_upto test k) (λ j. eqb j n) before now now a (record {
-      kept = λ j lt was. was;
-      fewer = λ j lt waits. or_left (now j) (eqb j n) waits;
-      idle = λ j lt asleep here. rw (eqb-true j n here) idle;
-    }))
+    called-same p K _ _ before now (λ j lt. upto-next test n k j on number)
+    (called-more p K (asked_upto test k) (λ j. eqb j n) before now now a (grind (arith, common_steps, eqb-true)))
 
 pub upto-all : (p : Puzzle) (K : Candidates) (test before now : ℕ → Bool) (k : ℕ) → count_below test p.houses ≤ k → AreCalled p K (asked_upto test k) before now → AreCalled p K test before now
 upto-all p K test before now k le a = grind (arith, common_steps, and_from, and_left, called-same, counted, lt-ltb)

@@ -35,13 +35,10 @@ left-others K place bits c v ne = grind (arith, common_steps)
 
 pub left-change : (p : Puzzle) (b b' : Layout) (place before left : ℕ) → IsBoardOf p b → place < p.cells → IsBitsOf (has b place) p.values before
     → IsBitsOf (left_by (has b) place left place) p.values left → has b' ≡ left_by (has b) place left → IsChange p.cells p.values (has b) (has b') place before left
-left-change p b b' place before left of lt was is e = record {
-  place_in = lt;
-  before_is = was;
-  after_is = rw e is;
-  within = λ v on. (within_of p b of place v (left-inside (has b) place left place v (sym (ap (λ (L : Candidates). L place v) e) ∙ on))).1;
-  others = λ c v ne. ap (λ (L : Candidates). L c v) e ∙ left-others (has b) place left c v ne;
-}
+left-change p b b' place before left of lt was is e = rw e (record {
+  place_in = lt; before_is = was; after_is = is; others = left-others (has b) place left;
+  within = λ v on. (within_of p b of place v (left-inside (has b) place left place v on)).1;
+})
 
 -- ---- one value alone is left
 pub left-only : (K : Candidates) (place value : ℕ) → left_by K place (2 ^ value) ≡ only K place value

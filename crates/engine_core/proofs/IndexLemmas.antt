@@ -40,8 +40,8 @@ pub numbered : (p : ℕ → Bool) (n r : ℕ) → r < count_below p n → (k : �
 unfolding count_below
 numbered p zero r lt = absurd (omega arith)
 numbered p (suc n) r lt = elim (cases_lt r (count_below p n)) [
-  | inl low ↦ let w = numbered p n r low in let l = w.1 in (w.0, omega arith, w.2, w.3)
-  | inr high ↦ grind (arith, common_steps, cases_Bool)
+  | inl low ↦ let w = numbered p n r low in (w.0, grind (arith, w.1), w.2, w.3)
+  | inr high ↦ (n, omega arith, grind (arith, common_steps), grind (arith, common_steps))
 ]
 
 -- ---- one place more of a house

@@ -9,7 +9,7 @@ use Rattle.grid_core.proofs.BoardLemmas.{has-within}
 use Rattle.grid_core.proofs.GridLemmas.{only-inside, only-other, only-here}
 use Rattle.engine_core.specs.Puzzle.{Puzzle, IsLawful, IsClosed, IsInsideAt, IsBoardOf, after, has_place, share}
 use Rattle.engine_core.specs.PlaceLaws.{has_place-at, has_place-here}
-use Rattle.engine_core.specs.Queue.{counts_of, woken, but, visits_left, IsRested, IsWoken, empties, IsClosedBut, waits_from}
+use Rattle.engine_core.specs.Queue.{counts_of, woken, but, visits_left, IsRested, IsWoken, empties, IsClosedBut, waits_from, called_for}
 use Rattle.engine_core.specs.Waiting.{AreCalled}
 use Rattle.engine_core.proofs.ClosingLemmas.{after_inside}
 use Rattle.std.proofs.lemmas.Grind.{common_steps}
@@ -29,20 +29,13 @@ same_from_counts p h K k e = eqb-true _ _ (not-false _ e)
 
 -- a house that has no cell with another number of values than before strikes what it struck before
 still_rested : (p : Puzzle) (laws : IsLawful p) (h j : ℕ) (K : Candidates) → h < p.houses → j < p.houses → IsWithin p.cells p.values K
-    → any_below (λ k. not (eqb (counts_of p h K k) (counts_of p h (after p h K) k)) && has_place (p.scope j) (slice_index (p.scope h) k)) (length (p.scope h)) ≡ false
-    → IsInsideAt (p.scope j) K (after p h K)
-still_rested p laws h j K lth ltj within quiet = λ c v member on. elim (cases_Bool (has_place (p.scope h) c)) [
-  | inl both ↦
-      let w = has_place-at (p.scope h) c both in
-      let none = any_below-none (λ k. not (eqb (counts_of p h K k) (counts_of p h (after p h K) k)) && has_place (p.scope j) (slice_index (p.scope h) k)) (length (p.scope h)) quiet w.0 w.1 in
-      let same : count_below (K (slice_index (p.scope h) w.0)) p.values ≡ count_below (after p h K (slice_index (p.scope h) w.0)) p.values = same_count p h j K w.0 none (rw w.2 member) in
-      let range = within c v on in
-      count_below-kept (after p h K c) (K c) p.values v (λ u _. after_inside p h K c u) (sym (rw w.2 at same)) range.1 on
-  | inr out ↦ after-outside p laws h K c v lth out on
-]
-  where
-    same_count : (p : Puzzle) (h j : ℕ) (K : Candidates) (k : ℕ) → (not (eqb (counts_of p h K k) (counts_of p h (after p h K) k)) && has_place (p.scope j) (slice_index (p.scope h) k)) ≡ false → has_place (p.scope j) (slice_index (p.scope h) k) ≡ true → count_below (K (slice_index (p.scope h) k)) p.values ≡ count_below (after p h K (slice_index (p.scope h) k)) p.values
-    same_count p h j K k none member = same_from_counts p h K k (left_false _ _ none member)
+    → called_for p h K (after p h K) j ≡ false → IsInsideAt (p.scope j) K (after p h K)
+unfolding counts_of
+still_rested p laws h j K lth ltj within quiet = λ c v member on.
+    grind (
+      arith, common_steps, after-outside p laws h K c v lth, has_place-at (p.scope h) c, any_below-none _ (length (p.scope h)) quiet,
+      count_below-kept (after p h K c) (K c) p.values v (λ u _. after_inside p h K c u), within c v on,
+    )
 
 -- the waiting houses after a visit
 not_struck : (p : Puzzle) (h : ℕ) (K : Candidates) (c v : ℕ) → after p h K c v ≡ true → p.strikes h K c v ≡ false
@@ -53,20 +46,9 @@ pub rested_after : (p : Puzzle) (laws : IsLawful p) (h : ℕ) (K : Candidates) (
     → IsRested p (after p h K) (woken p h (counts_of p h K) (after p h K) (but waits h))
 unfolding woken but
 rested_after p laws h K waits lth within rested = λ j c v ltj asleep on.
-    let parts = or_parts (waits j && not (eqb j h)) _ asleep in
-    elim (cases_Bool (p.settled && eqb j h)) [
-      | inl same ↦
-          let w = and_parts p.settled (eqb j h) same in
-          rw (eqb-true j h w.1) (laws.settles w.0 h K c v lth (within c v (after_inside p h K c v on)).1 on)
-      | inr other ↦
-          let quiet = left_false _ (not (p.settled && eqb j h)) parts.1 (not_from_false _ other) in
-          false_from_ne_true (p.strikes j (after p h K) c v) (λ struck.
-          let before = laws.strikes_inside j K (after p h K) ltj (still_rested p laws h j K lth ltj within quiet) c v struck in
-          elim (cases_Bool (eqb j h)) [
-            | inl here ↦ true≢false (sym before ∙ rw (eqb-true j h here) (not_struck p h K c v on))
-            | inr apart ↦ true≢false (sym before ∙ rested j c v ltj (left_false (waits j) (not (eqb j h)) parts.0 (not_from_false (eqb j h) apart)) (after_inside p h K c v on))
-          ])
-    ]
+    let settles = λ (e : p.settled ≡ true) (lt : v < p.values). laws.settles e h K c v lth lt on in
+    let still = λ (quiet : called_for p h K (after p h K) j ≡ false). laws.strikes_inside j K (after p h K) ltj (still_rested p laws h j K lth ltj within quiet) c v in
+    grind (arith, common_steps, eqb-true, not_struck p h K c v on, within c v, after_inside p h K c v on, rested j c v ltj, settles, still)
 
 -- where the houses that a closing begins with were called for, each other one strikes nothing
 pub rested_from : (p : Puzzle) (K : Candidates) (from : Option ℕ) (waits : ℕ → Bool) → IsClosedBut p K from → AreCalled p K (waits_from p from) (λ j. false) waits → IsRested p K waits
@@ -77,13 +59,12 @@ rested_from p K from waits e h = grind (arith, common_steps)
 pub closed-but_only : (p : Puzzle) (laws : IsLawful p) (K : Candidates) (cell v : ℕ) → cell < p.cells → v < p.values → K cell v ≡ true → IsClosed p K → is_dead p.cells p.values K ≡ false → IsClosedBut p (only K cell v) (Some cell)
 closed-but_only p laws K cell v lt ltv on closed alive = record {
   place_in = lt;
-  closed = λ h c w lth out still. false_from_ne_true (p.strikes h (only K cell v) c w) (λ struck.
-      true≢false (sym (laws.strikes_inside h K (only K cell v) lth (λ d u member has. ap (λ (f : ℕ → Bool). f u) (only-other K cell v d (λ e. true≢false (sym member ∙ (ap (has_place (p.scope h)) e ∙ out)))) ∙ has) c w struck)
-      ∙ closed h c w lth (only-inside K cell v c w still)));
-  alive = is_dead-each p.cells p.values (only K cell v) (λ c ltc. elim (cases_eq c cell) [
-    | inl here ↦ rw here (count_below-pos (only K cell v cell) p.values v ltv (only-here K cell v on))
-    | inr apart ↦ rw (only-other K cell v c apart) (is_dead-not p.cells p.values K c alive ltc)
-  ]);
+  closed = λ h c w lth out still. grind (
+    arith, common_steps, only-inside K cell v c w still, closed h c w lth,
+    laws.strikes_inside h K (only K cell v) lth (λ d u member has. grind (arith, common_steps, only-other K cell v d)) c w,
+  );
+  alive = is_dead-each p.cells p.values (only K cell v) (λ c ltc.
+      grind (arith, common_steps, cases_eq c cell, count_below-pos (only K cell v cell) p.values v ltv, only-here K cell v on, only-other K cell v c, is_dead-not p.cells p.values K c alive ltc));
 }
 
 pub dead_of : (p : Puzzle) (b : Layout) → IsBoardOf p b → is_dead (cells_of b) b.values (has b) ≡ is_dead p.cells p.values (has b)
@@ -104,26 +85,14 @@ sent p h K c j = (not (eqb (count_below (K c) p.values) (count_below (after p h 
 -- so many houses are sent for by a cell
 sent_few : (p : Puzzle) (h : ℕ) (K : Candidates) (c : ℕ) → h < p.houses → count_below (sent p h K c) p.houses ≤ share p c
 unfolding sent share
-sent_few p h K c lth = elim (cases_Bool p.settled) [
-  | inl settled ↦ elim (cases_Bool (has_place (p.scope h) c)) [
-    | inl member ↦
-        let less : count_below (sent p h K c) p.houses < count_below (λ j. has_place (p.scope j) c) p.houses =
-        count_below-lt (sent p h K c) (λ j. has_place (p.scope j) c) p.houses h (λ j _ on. (and_parts _ _ (and_parts _ _ (and_parts _ _ on).0).1).1) lth (not_itself settled) member in
-        let one : cond {A = ℕ} p.settled 1 0 ≡ 1 = ap (λ (b : Bool). cond {A = ℕ} b 1 0) settled in
-        omega arith
-    | inr out ↦
-        let none : count_below (sent p h K c) p.houses ≡ 0 = count_below-none (sent p h K c) p.houses (λ j _. false_from_ne_true _ (λ on. true≢false (sym ((and_parts _ _ (and_parts _ _ (and_parts _ _ on).0).1).0) ∙ out))) in
-        omega arith
-  ]
-  | inr free ↦
-      let le : count_below (sent p h K c) p.houses ≤ count_below (λ j. has_place (p.scope j) c) p.houses =
-      count_below-le (sent p h K c) (λ j. has_place (p.scope j) c) p.houses (λ j _ on. (and_parts _ _ (and_parts _ _ (and_parts _ _ on).0).1).1) in
-      let none : cond {A = ℕ} p.settled 1 0 ≡ 0 = ap (λ (b : Bool). cond {A = ℕ} b 1 0) free in
-      omega arith
-]
+sent_few p h K c lth =
+    let le = count_below-le (sent p h K c) (λ j. has_place (p.scope j) c) p.houses (λ j _ on. (sent_of j on).1) in
+    let less = count_below-lt (sent p h K c) (λ j. has_place (p.scope j) c) p.houses h (λ j _ on. (sent_of j on).1) lth in
+    let none = λ (out : has_place (p.scope h) c ≡ false). count_below-none (sent p h K c) p.houses (λ j _. grind (arith, common_steps)) in
+    grind (arith, common_steps, eq-eqb h h refl)
   where
-    not_itself : p.settled ≡ true → sent p h K c h ≡ false
-    not_itself settled = and_right _ (not (p.settled && eqb h h)) (not_from_true (p.settled && eqb h h) (and_from p.settled (eqb h h) settled (eq-eqb h h refl)))
+    sent_of : (j : ℕ) → sent p h K c j ≡ true → (has_place (p.scope h) c ≡ true) × (has_place (p.scope j) c ≡ true)
+    sent_of j on = grind (arith, common_steps)
 
 unsent : (p : Puzzle) (h : ℕ) (K : Candidates) (c : ℕ) → count_below (K c) p.values ≡ count_below (after p h K c) p.values → count_below (sent p h K c) p.houses ≡ 0
 unfolding sent
@@ -152,7 +121,7 @@ woken_or_sent p laws h K waits j lth on = elim (or_cases (but waits h j) _ on) [
 
 one_less : (waits : ℕ → Bool) (n h : ℕ) → h < n → waits h ≡ true → count_below (but waits h) n < count_below waits n
 unfolding but
-one_less waits n h lt waiting = count_below-lt (λ j. waits j && not (eqb j h)) waits n h (λ j _ on. (and_parts (waits j) _ on).0) lt (and_right (waits h) _ (not_from_true (eqb h h) (eq-eqb h h refl))) waiting
+one_less waits n h lt waiting = count_below-lt (λ j. waits j && not (eqb j h)) waits n h (λ j _ on. (and_parts (waits j) _ on).0) lt (grind (arith, common_steps, eq-eqb h h refl)) waiting
 
 pub visit_pays : (p : Puzzle) (laws : IsLawful p) (h : ℕ) (K : Candidates) (waits : ℕ → Bool) → h < p.houses → waits h ≡ true → is_dead p.cells p.values (after p h K) ≡ false
     → visits_left p (after p h K) (woken p h (counts_of p h K) (after p h K) (but waits h)) + 1 ≤ visits_left p K waits
@@ -213,9 +182,7 @@ pub turn_enough : (p : Puzzle) (laws : IsLawful p) (h : ℕ) (K K' : Candidates)
     → is_dead p.cells p.values K' ≡ false → visits_left p K' waits' + (visits + 1) ≤ p.bound
 turn_enough p laws h K K' waits waits' visits lth waiting e woke enough alive =
     let pays = visit_pays p laws h K waits lth waiting (rw e at alive) in
-    let less = visits_left-fewer p K' waits' (woken p h (counts_of p h K) K' (but waits h)) woke.fewer in
-    let eq' : visits_left p K' (woken p h (counts_of p h K) K' (but waits h)) ≡ visits_left p (after p h K) (woken p h (counts_of p h K) (after p h K) (but waits h)) = ap (λ (L : Candidates). visits_left p L (woken p h (counts_of p h K) L (but waits h))) e in
-    omega arith
+    let less = visits_left-fewer p K' waits' (woken p h (counts_of p h K) K' (but waits h)) woke.fewer in grind (arith, common_steps)
 
 pub turn_rested : (p : Puzzle) (laws : IsLawful p) (h : ℕ) (K K' : Candidates) (waits waits' : ℕ → Bool) → h < p.houses → IsWithin p.cells p.values K → K' ≡ after p h K
     → IsWoken p h K K' waits waits' → IsRested p K waits → IsRested p K' waits'
@@ -260,9 +227,8 @@ emptied-alive p laws h K K' lt alive e = elim (cases_Bool (any_below (empties p 
 pub emptied-dead : (p : Puzzle) (laws : IsLawful p) (h : ℕ) (K K' : Candidates) → h < p.houses → K' ≡ after p h K
     → is_dead p.cells p.values K' ≡ (is_dead p.cells p.values K || any_below (empties p h (counts_of p h K) K') (length (p.scope h)))
 emptied-dead p laws h K K' lt e = elim (cases_Bool (is_dead p.cells p.values K)) [
-  | inl dead ↦ is_dead-inside p.cells p.values K' K (λ c v on. after_inside p h K c v (sym (ap (λ (L : Candidates). L c v) e) ∙ on)) dead
-      ∙ sym (or_left (is_dead p.cells p.values K) (any_below (empties p h (counts_of p h K) K') (length (p.scope h))) dead)
-  | inr alive ↦ emptied-alive p laws h K K' lt alive e ∙ ap (λ b. b || any_below (empties p h (counts_of p h K) K') (length (p.scope h))) (sym alive)
+  | inl dead ↦ rw dead (is_dead-inside p.cells p.values K' K (rw e (after_inside p h K)) dead)
+  | inr alive ↦ rw alive (emptied-alive p laws h K K' lt alive e)
 ]
 
 -- where the board was alive before a visit, the visit tells whether it is dead

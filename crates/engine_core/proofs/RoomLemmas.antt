@@ -16,17 +16,11 @@ use Rattle.std.proofs.lemmas.Grind.{common_steps}
 pub singles-only : (p : Puzzle) (K : Candidates) (cell v : ℕ) → cell < p.cells → v < p.values → K cell v ≡ true → 2 ≤ count_below (K cell) p.values → singles p K < singles p (only K cell v)
 unfolding singles
 singles-only p K cell v ltc ltv on two =
+    let few = count_below-few (only K cell v cell) p.values (λ k j _ _ onk onj. only-at K cell v k onk ∙ sym (only-at K cell v j onj)) in
+    let some = count_below-pos (only K cell v cell) p.values v ltv (only-here K cell v on) in
     count_below-lt (λ c. eqb (count_below (K c) p.values) 1) (λ c. eqb (count_below (only K cell v c) p.values) 1) p.cells cell
-    (λ c _ one. elim (cases_eq c cell) [
-      | inl e ↦ absurd (let s : count_below (K c) p.values ≡ 1 = eqb-true _ _ one in let t : 2 ≤ count_below (K c) p.values = rw e two in omega arith)
-      | inr ne ↦ rw (only-other K cell v c ne) one
-    ])
-    ltc
-    (ne_eqb (count_below (K cell) p.values) 1 (λ one. omega arith))
-    (eq-eqb (count_below (only K cell v cell) p.values) 1 (
-    let few : count_below (only K cell v cell) p.values ≤ 1 = count_below-few (only K cell v cell) p.values (λ k j _ _ onk onj. only-at K cell v k onk ∙ sym (only-at K cell v j onj)) in
-    let some : 0 < count_below (only K cell v cell) p.values = count_below-pos (only K cell v cell) p.values v ltv (only-here K cell v on) in
-    omega arith))
+    (λ c _ one. grind (arith, common_steps, cases_eq c cell, eqb-true, only-other K cell v c))
+    ltc (ne_eqb _ 1 (λ one. omega arith)) (eq-eqb _ 1 (omega arith))
 
 pub singles-inside : (p : Puzzle) (J K : Candidates) → IsInside J K → is_dead p.cells p.values J ≡ false → singles p K ≤ singles p J
 unfolding singles
@@ -35,10 +29,8 @@ singles-inside p J K inside alive = grind (arith, common_steps, count_below-le, 
 pub singles-room : (p : Puzzle) (K : Candidates) (cell : ℕ) → cell < p.cells → 2 ≤ count_below (K cell) p.values → singles p K < p.cells
 unfolding singles
 singles-room p K cell lt two =
-    let less : count_below (λ c. eqb (count_below (K c) p.values) 1) p.cells < count_below (λ c. true) p.cells =
-    count_below-lt (λ c. eqb (count_below (K c) p.values) 1) (λ c. true) p.cells cell (λ c _ _. refl) lt (ne_eqb (count_below (K cell) p.values) 1 (λ one. omega arith)) refl in
-    let all = count_below-bound (λ c. true) p.cells in
-    omega arith
+    let less = count_below-lt (λ c. eqb (count_below (K c) p.values) 1) (λ c. true) p.cells cell (λ c _ _. refl) lt (ne_eqb _ 1 (λ one. omega arith)) refl in
+    omega (arith, count_below-bound (λ c. true) p.cells)
 
 pub split-room : (p : Puzzle) (K K' : Candidates) (n cell : ℕ) → IsInside K' K → n ≤ singles p K → is_dead p.cells p.values K' ≡ false → pick p.cells p.values K' ≡ Some cell
     → IsWithin p.cells p.values K → (is_dead p.cells p.values K' ≡ false → K' ≡ closure p K) → IsOpen p (record { board = K'; cell = cell; next = 0 }) n
