@@ -3,7 +3,7 @@ use Rattle.std.proofs.Common.{add-one, ◌≡◌, ℕ, zero, suc, ◌+◌, ◌-�
 use Rattle.std.specs.Prelude.{sum_by}
 use Rattle.std.specs.List.{between}
 use Rattle.std.proofs.lemmas.Bool.{cases_eq, cases_lt, cases_Bool, true≢false, false_from_ne_true, eqb-true, eq-eqb, ne_eqb}
-use Rattle.std.proofs.lemmas.List.{take_more, length-take-le, get_or-take, length-set, get_or-set_other}
+use Rattle.std.proofs.lemmas.List.{take_more, length-take-le, get_or-take, length-set, get_or-set_other, places}
 use Rattle.std.proofs.lemmas.List.Edits.{length-between, get_or-between}
 use Rattle.std.proofs.lemmas.List.Sums.{sum_by-cons}
 use Rattle.std.proofs.lemmas.Grind.{common_steps, get_or-set_at}
@@ -13,6 +13,7 @@ use Rattle.engine_core.specs.PlaceLaws.{has_place-at, has_place-here}
 use Rattle.engine_core.specs.House.{AreDifferent}
 use Rattle.engine_core.specs.HousesLaws.{counted_twice, from_first}
 use Rattle.engine_core.specs.HouseIndex.{scope_of, AreScopes, number_at, AreHousesAt, start_at, IsIndex, IsRoom, IsPut, IsFirstFrom}
+use Rattle.engine_core.proofs.ListLemmas.{room}
 
 -- ---- sums and counts as they go on
 pub sum_below-more : (f : ℕ → ℕ) (m n : ℕ) → m ≤ n → sum_below f m ≤ sum_below f n
@@ -163,21 +164,14 @@ module _ (slots : ℕ) (scopes : List (List ℕ)) (are : AreScopes slots scopes)
       long = put.long ∙ index.long;
       there = λ c h lc le lh on. elim (cases_lt house h) [
         | inl later ↦ put.kept (start_at scopes c + number_at scopes h c) (λ d on_d e.
-            let b = index.begins d (within d on_d) in
-            let m = one_more d on_d in
             let same = slot-apart (number_at scopes (length scopes)) c d (number_at scopes h c) (number_at scopes house d)
-            (counted (holds c) h (length scopes) lh on) (counted (holds d) house (length scopes) lt on_d) (omega arith) in
-            let more = count_below-more (holds c) (suc house) h later in
-            let m' = one_more c (rw same on_d) in
-            let at : start_at scopes c + number_at scopes house c ≡ start_at scopes d + number_at scopes house d = ap (λ x. start_at scopes x + number_at scopes house x) same in
-            absurd (omega arith)) ∙ index.there c h lc later lh on
+            (counted (holds c) h (length scopes) lh on) (counted (holds d) house (length scopes) lt on_d) (omega (arith, index.begins d (within d on_d), one_more d on_d)) in
+            let at = ap (λ x. start_at scopes x + number_at scopes house x) same in
+            absurd (omega (arith, count_below-more (holds c) (suc house) h later, one_more c (rw same on_d), one_more d on_d, index.begins d (within d on_d)))) ∙ index.there c h lc later lh on
         | inr here ↦
             let is : h ≡ house = omega arith in
             let on' : has_place (scope_of scopes house) c ≡ true = rw (← is) on in
-            let b = index.begins c lc in
-            let m = one_more c on' in
-            let p = put.on c on' in
-            let at : slice_index starts' c ≡ start_at scopes c + number_at scopes house c = omega arith in
+            let at : slice_index starts' c ≡ start_at scopes c + number_at scopes house c = omega (arith, index.begins c lc, one_more c on', put.on c on') in
             rw is (rw at at (put.put c on'))
       ];
     }
@@ -199,7 +193,7 @@ module _ (house : ℕ) (places : List ℕ) (k : ℕ) (lt : k < length places) (d
   put-start = was.off place (not_taken places k lt different place refl)
 
   pub put-room : (0 < slice_index starts' place) × (slice_index starts' place - 1 < length houses')
-  put-room = let e = put-start in let some = room.some place here in let within = room.within place here in let long = was.long in (omega arith, omega arith)
+  put-room = (omega (arith, put-start, room.some place here), omega (arith, put-start, room.some place here, room.within place here, was.long))
 
   pub put-more : IsPut house (take (k + 1) places) starts houses (set starts' place (slice_index starts' place - 1)) (set houses' (slice_index starts' place - 1) house)
   put-more = record {
@@ -210,14 +204,11 @@ module _ (house : ℕ) (places : List ℕ) (k : ℕ) (lt : k < length places) (d
       | inr other ↦ get_or-set_other starts' place c _ 0 other ∙ was.off c (sym (taken-other places k lt c other) ∙ off)
     ];
     on = λ c on. elim (cases_eq c place) [
-      | inl is ↦ at_place c is
+      | inl is ↦ grind (arith, common_steps, get_or-set_at starts' place c, put-room, put-start, in_starts)
       | inr other ↦ ap suc (get_or-set_other starts' place c _ 0 other) ∙ was.on c (sym (taken-other places k lt c other) ∙ on)
     ];
     put = λ c on. grind (arith, common_steps, cases_eq, get_or-set_at, get_or-set_other, here, in_starts, place, put-room, put-start, taken-in, taken-other);
-    kept = λ i free.
-        let r = put-room.0 in
-        let s = put-start in
-        get_or-set_other houses' (slice_index starts' place - 1) i house 0 (λ e. free place (taken-here places k lt place refl) (omega arith))
+    kept = λ i free. get_or-set_other houses' (slice_index starts' place - 1) i house 0 (λ e. free place (taken-here places k lt place refl) (omega (arith, put-room, put-start)))
         ∙ was.kept i (λ c on e. elim (cases_eq c place) [
           | inl is ↦ free c (taken-here places k lt c is) e
           | inr other ↦ free c (taken-other places k lt c other ∙ on) e
@@ -225,15 +216,7 @@ module _ (house : ℕ) (places : List ℕ) (k : ℕ) (lt : k < length places) (d
   }
     where
       in_starts : place < length starts'
-      in_starts = let e = was.as_many in omega arith
-
-      at_place : (c : ℕ) → c ≡ place → suc (slice_index (set starts' place (slice_index starts' place - 1)) c) ≡ slice_index starts c
-      at_place c is =
-          let new = get_or-set_at starts' place c (slice_index starts' place - 1) 0 is in_starts in
-          let r = put-room.0 in
-          let s = put-start in
-          let e : slice_index starts c ≡ slice_index starts place = ap (slice_index starts) is in
-          omega arith
+      in_starts = omega (arith, was.as_many)
 
 -- ---- the houses of a place
 module _ (slots : ℕ) (scopes : List (List ℕ)) (starts houses : List ℕ) (index : IsIndex slots scopes 0 starts houses) (c : ℕ) (lt : suc c < slots) where
@@ -253,16 +236,13 @@ module _ (slots : ℕ) (scopes : List (List ℕ)) (starts houses : List ℕ) (in
   ends_in = omega (arith, ends_here, index.long, sum_below-more (number_at scopes (length scopes)) (suc c) slots (omega arith))
 
   pub houses-at : AreHousesAt scopes c (between (slice_index starts c) (slice_index starts (c + 1)) houses)
-  houses-at =
-      let a = starts_here in
-      let b = ends_here in
-      record {
-        as_many = omega (arith, length-between houses (slice_index starts c) (slice_index starts (c + 1)) ends_in);
-        each = λ h lh on.
-            let low = counted (λ j. has_place (scope_of scopes j) c) h (length scopes) lh on in
-            get_or-between houses (slice_index starts c) (slice_index starts (c + 1)) (number_at scopes h c) 0 (omega arith)
-            ∙ ap (λ s. slice_index houses (s + number_at scopes h c)) a ∙ index.there c h (omega arith) (omega arith) lh on;
-      }
+  houses-at = record {
+    as_many = omega (arith, starts_here, ends_here, length-between houses (slice_index starts c) (slice_index starts (c + 1)) ends_in);
+    each = λ h lh on.
+        let low = counted (λ j. has_place (scope_of scopes j) c) h (length scopes) lh on in
+        get_or-between houses (slice_index starts c) (slice_index starts (c + 1)) (number_at scopes h c) 0 (omega (arith, starts_here, ends_here))
+        ∙ ap (λ s. slice_index houses (s + number_at scopes h c)) starts_here ∙ index.there c h (omega arith) (omega arith) lh on;
+  }
 
 -- a house of the list has the place, and its number among these is its place in the list
 pub nth-at : (scopes : List (List ℕ)) (c k : ℕ) (houses : List ℕ) → AreHousesAt scopes c houses → k < length houses

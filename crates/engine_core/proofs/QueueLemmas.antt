@@ -9,7 +9,7 @@ use Rattle.grid_core.proofs.BoardLemmas.{has-within}
 use Rattle.grid_core.proofs.GridLemmas.{only-inside, only-other, only-here}
 use Rattle.engine_core.specs.Puzzle.{Puzzle, IsLawful, IsClosed, IsInsideAt, IsBoardOf, after, has_place, share}
 use Rattle.engine_core.specs.PlaceLaws.{has_place-at, has_place-here}
-use Rattle.engine_core.specs.Queue.{counts_of, woken, but, visits_left, IsRested, IsWoken, empties, IsClosedBut, waits_from, called_for}
+use Rattle.engine_core.specs.Queue.{counts_of, woken, but, visits_left, IsRested, IsWoken, empties, IsClosedBut, waits_from, called_for, are_emptied}
 use Rattle.engine_core.specs.Waiting.{AreCalled}
 use Rattle.engine_core.proofs.ClosingLemmas.{after_inside}
 use Rattle.std.proofs.lemmas.Grind.{common_steps}
@@ -110,13 +110,9 @@ unfolding woken sent counts_of
 woken_or_sent p laws h K waits j lth on = elim (or_cases (but waits h j) _ on) [
   | inl waited ↦ or_left (but waits h j) _ waited
   | inr called ↦
-      let parts = and_parts (any_below (λ k. not (eqb (count_below (K (slice_index (p.scope h) k)) p.values) (count_below (after p h K (slice_index (p.scope h) k)) p.values)) && has_place (p.scope j) (slice_index (p.scope h) k)) (length (p.scope h))) (not (p.settled && eqb j h)) called in
-      let w = any_below-some (λ k. not (eqb (count_below (K (slice_index (p.scope h) k)) p.values) (count_below (after p h K (slice_index (p.scope h) k)) p.values)) && has_place (p.scope j) (slice_index (p.scope h) k)) (length (p.scope h)) parts.0 in
-      let c = slice_index (p.scope h) w.0 in
-      let both = and_parts (not (eqb (count_below (K c) p.values) (count_below (after p h K c) p.values))) (has_place (p.scope j) c) w.2 in
+      let w = any_below-some _ (length (p.scope h)) (and_parts _ (not (p.settled && eqb j h)) called).0 in
       let member = has_place-here (p.scope h) w.0 w.1 in
-      or_right (but waits h j) _ (any_below-here (λ c. sent p h K c j) p.cells c (laws.scope_within h c lth member)
-      (and_from _ (not (p.settled && eqb j h)) (and_from _ (has_place (p.scope h) c && has_place (p.scope j) c) both.0 (and_from (has_place (p.scope h) c) (has_place (p.scope j) c) member both.1)) parts.1))
+      or_right (but waits h j) _ (any_below-here (λ c. sent p h K c j) p.cells (slice_index (p.scope h) w.0) (laws.scope_within h _ lth member) (grind (arith, common_steps)))
 ]
 
 one_less : (waits : ℕ → Bool) (n h : ℕ) → h < n → waits h ≡ true → count_below (but waits h) n < count_below waits n
@@ -127,18 +123,13 @@ pub visit_pays : (p : Puzzle) (laws : IsLawful p) (h : ℕ) (K : Candidates) (wa
     → visits_left p (after p h K) (woken p h (counts_of p h K) (after p h K) (but waits h)) + 1 ≤ visits_left p K waits
 unfolding visits_left
 visit_pays p laws h K waits lth waiting alive =
-    let n = p.houses in
-    let W' = woken p h (counts_of p h K) (after p h K) (but waits h) in
-    let some : count_below W' n ≤ count_below (λ j. but waits h j || any_below (λ c. sent p h K c j) p.cells) n =
-    count_below-le W' (λ j. but waits h j || any_below (λ c. sent p h K c j) p.cells) n (λ j _ on. woken_or_sent p laws h K waits j lth on) in
-    let split : count_below (λ j. but waits h j || any_below (λ c. sent p h K c j) p.cells) n ≤ count_below (but waits h) n + sum_below (λ c. count_below (sent p h K c) n) p.cells =
-    count_below-any (but waits h) (sent p h K) p.cells n in
-    let less : count_below (but waits h) n < count_below waits n = one_less waits n h lth waiting in
-    let joined : sum_below (λ c. count_below (sent p h K c) n + (count_below (after p h K c) p.values - 1) * share p c) p.cells ≡ sum_below (λ c. count_below (sent p h K c) n) p.cells + sum_below (λ c. (count_below (after p h K c) p.values - 1) * share p c) p.cells =
-    sum_below-add (λ c. count_below (sent p h K c) n) (λ c. (count_below (after p h K c) p.values - 1) * share p c) p.cells in
-    let paid : sum_below (λ c. count_below (sent p h K c) n + (count_below (after p h K c) p.values - 1) * share p c) p.cells ≤ sum_below (λ c. (count_below (K c) p.values - 1) * share p c) p.cells =
-    sum_below-le (λ c. count_below (sent p h K c) n + (count_below (after p h K c) p.values - 1) * share p c) (λ c. (count_below (K c) p.values - 1) * share p c) p.cells (λ c lt. cell_pays p h K c lth (is_dead-not p.cells p.values (after p h K) c alive lt)) in
-    omega arith
+    let sending = λ (c : ℕ). count_below (sent p h K c) p.houses in
+    let before = λ (c : ℕ). (count_below (K c) p.values - 1) * share p c in
+    let later = λ (c : ℕ). (count_below (after p h K c) p.values - 1) * share p c in
+    let some = count_below-le (woken p h (counts_of p h K) (after p h K) (but waits h)) (λ j. but waits h j || any_below (λ c. sent p h K c j) p.cells) p.houses
+    (λ j _ on. woken_or_sent p laws h K waits j lth on) in
+    let paid = sum_below-le (λ c. sending c + later c) before p.cells (λ c lt. cell_pays p h K c lth (is_dead-not p.cells p.values (after p h K) c alive lt)) in
+    omega (arith, some, paid, count_below-any (but waits h) (sent p h K) p.cells p.houses, one_less waits p.houses h lth waiting, sum_below-add sending later p.cells)
 
 -- at the start the bound is enough
 pub visits_first : (p : Puzzle) (laws : IsLawful p) (K : Candidates) (waits : ℕ → Bool) → p.by_queue ≡ true → visits_left p K waits ≤ p.bound
@@ -201,27 +192,15 @@ within_of p b of = λ c v on. let w = has-within b c v on in (omega (arith, w.0,
 emptied-alive : (p : Puzzle) (laws : IsLawful p) (h : ℕ) (K K' : Candidates) → h < p.houses → is_dead p.cells p.values K ≡ false → K' ≡ after p h K
     → is_dead p.cells p.values K' ≡ any_below (empties p h (counts_of p h K) K') (length (p.scope h))
 unfolding counts_of
-emptied-alive p laws h K K' lt alive e = elim (cases_Bool (any_below (empties p h (counts_of p h K) K') (length (p.scope h)))) [
+emptied-alive p laws h K K' lt alive e = elim (cases_Bool (are_emptied p h K K')) [
   | inl some ↦
       let w = any_below-some (empties p h (counts_of p h K) K') (length (p.scope h)) some in
-      let c = slice_index (p.scope h) w.0 in
-      let both = and_parts (not (eqb (count_below (K c) p.values) (count_below (K' c) p.values))) (eqb (count_below (K' c) p.values) 0) w.2 in
-      is_dead-here p.cells p.values K' c (laws.scope_within h c lt (has_place-here (p.scope h) w.0 w.1)) (eqb-true _ _ both.1) ∙ sym some
-  | inr none ↦ is_dead-each p.cells p.values K' (λ c less. elim (cases_Bool (has_place (p.scope h) c)) [
-    | inl member ↦
-        let w = has_place-at (p.scope h) c member in
-        let some : 0 < count_below (K (slice_index (p.scope h) w.0)) p.values = is_dead-not p.cells p.values K (slice_index (p.scope h) w.0) alive (rw w.2 less) in
-        rw w.2 at (still_some (count_below (K (slice_index (p.scope h) w.0)) p.values) (count_below (K' (slice_index (p.scope h) w.0)) p.values) some
-        (any_below-none (empties p h (counts_of p h K) K') (length (p.scope h)) none w.0 w.1))
-    | inr out ↦
-        let some : 0 < count_below (K c) p.values = is_dead-not p.cells p.values K c alive less in
-        let same : count_below (K c) p.values ≤ count_below (K' c) p.values = count_below-le (K c) (K' c) p.values (λ v _ on. rw e (after-outside p laws h K c v lt out on)) in
-        omega arith
-  ]) ∙ sym none
+      is_dead-here p.cells p.values K' _ (laws.scope_within h _ lt (has_place-here (p.scope h) w.0 w.1)) (eqb-true _ _ (and_parts _ _ w.2).1) ∙ sym some
+  | inr none ↦ is_dead-each p.cells p.values K' (λ c less.
+      let same = λ (out : has_place (p.scope h) c ≡ false). count_below-le (K c) (K' c) p.values (λ v _ on. rw e (after-outside p laws h K c v lt out on)) in
+      let still = any_below-none (empties p h (counts_of p h K) K') (length (p.scope h)) none in
+      grind (arith, common_steps, cases_Bool (has_place (p.scope h) c), has_place-at (p.scope h) c, is_dead-not p.cells p.values K c alive less)) ∙ sym none
 ]
-  where
-    still_some : (x y : ℕ) → 0 < x → (not (eqb x y) && eqb y 0) ≡ false → 0 < y
-    still_some x y e h = grind (arith, common_steps)
 
 -- a board is dead after a visit where it was before, or where a cell of the house lost its last values
 pub emptied-dead : (p : Puzzle) (laws : IsLawful p) (h : ℕ) (K K' : Candidates) → h < p.houses → K' ≡ after p h K

@@ -2,7 +2,7 @@
 use Rattle.std.proofs.Common.{◌≡◌, ◌≢◌, ℕ, ◌+◌, ◌-◌, ◌*◌, ◌/◌, ◌%◌, ◌^◌, ◌<◌, ◌≤◌, Bool, true, false, not, ◌&&◌, ◌||◌, eqb, List, get_or, set, bit_and, bit_or, length, replicate, refl, sym, ap, ◌∙◌, Some, inl, inr, arith, w64}
 use Rattle.std.specs.Int.{bit_at, trailing_zeros}
 use Rattle.std.proofs.Math.Nat.{div-div-eq-div-mul, div-le_self}
-use Rattle.std.proofs.lemmas.Bool.{cases_eq, cases_lt, and_right, or_right, eq-eqb, ne_eqb, not_from_true}
+use Rattle.std.proofs.lemmas.Bool.{cases_eq, cases_lt, and_right, or_right, eq-eqb, ne_eqb, not_from_true, eqb-true}
 use Rattle.std.proofs.lemmas.List.{get_or-set_same, get_or-set_other, get_or-replicate}
 use Rattle.std.proofs.lemmas.Nat.{pow-add}
 use Rattle.std.proofs.lemmas.Nat.Bits.{bit_at_set_same, bit_at_set_other, bit_at_clear_same, bit_at_clear_other, bit_at-zero, bit_at-trailing_zeros, bit_at_above}
@@ -35,45 +35,30 @@ or_false x0 = grind (arith, common_steps)
 and_true : (x : Bool) → x ≡ (x && true)
 and_true x0 = grind (arith, common_steps)
 
+-- the word of a house written anew, where its bits are the old ones but for that house
+waiting-word : (f : Bool → Bool → Bool) → ((x : Bool) → f x false ≡ x) → (waits : List ℕ) (h y j : ℕ) → h / 64 < length waits
+    → ((b : ℕ) → b < 64 → has_bit y b ≡ f (has_bit (get_or waits (h / 64) 0) b) (eqb b (h % 64)))
+    → is_waiting (set waits (h / 64) y) j ≡ f (is_waiting waits j) (eqb j h)
+waiting-word f none waits h y j lt bits = elim (cases_eq (j / 64) (h / 64)) [
+  | inl word ↦
+      word-same waits (h / 64) y j lt word ∙ bits (j % 64) (omega arith)
+      ∙ rw (word-is waits (h / 64) j word, same_bool (eqb (j % 64) (h % 64)) (eqb j h) (grind (arith, common_steps, eq-eqb, eqb-true, same_house)) (grind (arith, common_steps, eq-eqb, eqb-true))) refl
+  | inr apart ↦ word-other waits (h / 64) y j apart ∙ rw (ne_eqb j h (λ e. apart (ap (λ (k : ℕ). k / 64) e))) (sym (none _))
+]
+  where
+    same_bool : (x y : Bool) → (x ≡ true → y ≡ true) → (y ≡ true → x ≡ true) → x ≡ y
+    same_bool x y p q = grind (arith, common_steps)
+
 pub waiting-mark : (waits : List ℕ) (h j : ℕ) → h / 64 < length waits
     → is_waiting (set waits (h / 64) (bit_or (get_or waits (h / 64) 0) (1 * 2 ^ (h % 64) % 18446744073709551616))) j ≡ (is_waiting waits j || eqb j h)
-waiting-mark waits h j lt =
-    let bit : h % 64 < 64 = omega arith in
-    let old = get_or waits (h / 64) 0 in
-    let new = bit_or old (1 * 2 ^ (h % 64) % 18446744073709551616) in
-    elim (cases_eq (j / 64) (h / 64)) [
-      | inl word ↦ word-same waits (h / 64) new j lt word ∙ elim (cases_eq (j % 64) (h % 64)) [
-        | inl same ↦
-            ap (λ (k : ℕ). has_bit new k) same ∙ ap (λ (b : ℕ). eqb b 1) (bit_at_set_same w64 old (h % 64) bit) ∙ sym (or_right (is_waiting waits j) (eqb j h) (eq-eqb j h (same_house j h word same)))
-        | inr other ↦
-            let ne : j ≢ h = λ e. other (ap (λ (k : ℕ). k % 64) e) in
-            ap (λ (b : ℕ). eqb b 1) (bit_at_set_other w64 old (h % 64) bit (j % 64) other) ∙ sym (word-is waits (h / 64) j word) ∙ or_false (is_waiting waits j) ∙ ap (λ b. is_waiting waits j || b) (sym (ne_eqb j h ne))
-      ]
-      | inr apart ↦
-          let ne : j ≢ h = λ e. apart (ap (λ (k : ℕ). k / 64) e) in
-          word-other waits (h / 64) new j apart ∙ or_false (is_waiting waits j) ∙ ap (λ b. is_waiting waits j || b) (sym (ne_eqb j h ne))
-    ]
+waiting-mark waits h j lt = waiting-word ◌||◌ (λ x. grind (arith, common_steps)) waits h _ j lt (λ b small.
+    grind (arith, common_steps, cases_eq b (h % 64), bit_at_set_same w64 (get_or waits (h / 64) 0) (h % 64), bit_at_set_other w64 (get_or waits (h / 64) 0) (h % 64), eq-eqb, ne_eqb))
 
 pub waiting-unmark : (waits : List ℕ) (h j : ℕ) → h / 64 < length waits
     → is_waiting (set waits (h / 64) (bit_and (get_or waits (h / 64) 0) (18446744073709551615 - 1 * 2 ^ (h % 64) % 18446744073709551616))) j ≡ but (is_waiting waits) h j
 unfolding but
-waiting-unmark waits h j lt =
-    let bit : h % 64 < 64 = omega arith in
-    let old = get_or waits (h / 64) 0 in
-    let new = bit_and old (18446744073709551615 - 1 * 2 ^ (h % 64) % 18446744073709551616) in
-    elim (cases_eq (j / 64) (h / 64)) [
-      | inl word ↦ word-same waits (h / 64) new j lt word ∙ elim (cases_eq (j % 64) (h % 64)) [
-        | inl same ↦
-            ap (λ (k : ℕ). has_bit new k) same ∙ ap (λ (b : ℕ). eqb b 1) (bit_at_clear_same w64 old (h % 64) bit) ∙ sym (and_right (is_waiting waits j) (not (eqb j h)) (not_from_true (eqb j h) (eq-eqb j h (same_house j h word same))))
-        | inr other ↦
-            let ne : j ≢ h = λ e. other (ap (λ (k : ℕ). k % 64) e) in
-            let small : j % 64 < 64 = omega arith in
-            ap (λ (b : ℕ). eqb b 1) (bit_at_clear_other w64 old (h % 64) bit (j % 64) small other) ∙ sym (word-is waits (h / 64) j word) ∙ and_true (is_waiting waits j) ∙ ap (λ b. is_waiting waits j && not b) (sym (ne_eqb j h ne))
-      ]
-      | inr apart ↦
-          let ne : j ≢ h = λ e. apart (ap (λ (k : ℕ). k / 64) e) in
-          word-other waits (h / 64) new j apart ∙ and_true (is_waiting waits j) ∙ ap (λ b. is_waiting waits j && not b) (sym (ne_eqb j h ne))
-    ]
+waiting-unmark waits h j lt = waiting-word (λ x here. x && not here) (λ x. grind (arith, common_steps)) waits h _ j lt (λ b small.
+    grind (arith, common_steps, cases_eq b (h % 64), bit_at_clear_same w64 (get_or waits (h / 64) 0) (h % 64), bit_at_clear_other w64 (get_or waits (h / 64) 0) (h % 64), eq-eqb, ne_eqb))
 
 pub waiting-none : (words j : ℕ) → j / 64 < words → is_waiting (replicate words 0) j ≡ false
 unfolding is_waiting
@@ -94,23 +79,13 @@ pub lowest_left : (word from : ℕ) → word < 2 ^ 64 → (word / 2 ^ from ≡ 0
 lowest_left word from small some =
     let left = word / 2 ^ from in
     let z = trailing_zeros w64 left in
-    let le : left ≤ word = div-le_self word (2 ^ from) in
-    let pos : 0 < left = omega arith in
-    let w = bit_at-trailing_zeros w64 left pos (omega arith) in
+    let w = bit_at-trailing_zeros w64 left (omega arith) (omega (arith, div-le_self word (2 ^ from))) in
     let here : bit_at word (from + z) ≡ 1 = sym (shifted word from z) ∙ w.1 in (
       omega arith,
-      below word (from + z) small here,
+      grind (arith, common_steps, bit_at_above word 64 (from + z) small),
       ap (λ (b : ℕ). eqb b 1) here,
-      λ j from_j lt.
-          let e : from + (j - from) ≡ j = omega arith in
-          ap (λ (b : ℕ). eqb b 1) (ap (bit_at word) (sym e) ∙ sym (shifted word from (j - from)) ∙ w.2 (j - from) (omega arith)),
+      λ j from_j lt. let e : from + (j - from) ≡ j = omega arith in grind (arith, common_steps, shifted word from (j - from), w.2 (j - from)),
     )
-  where
-    below : (word k : ℕ) → word < 2 ^ 64 → bit_at word k ≡ 1 → k < 64
-    below word k small on = elim (cases_lt k 64) [
-      | inl lt ↦ lt
-      | inr above ↦ absurd (let none : bit_at word k ≡ 0 = bit_at_above word 64 k small above in omega arith)
-    ]
 
 -- ---- one word after another
 -- where no bit of a word is set from one to another, no house there waits
@@ -123,10 +98,8 @@ none_in_word waits w low high small none j le lt =
 pub none_so_far : (waits : List ℕ) (from w low high : ℕ) → high ≤ 64 → ((j : ℕ) → from ≤ j → j < w * 64 + low → is_waiting waits j ≡ false)
     → ((b : ℕ) → low ≤ b → b < high → has_bit (get_or waits w 0) b ≡ false)
     → (j : ℕ) → from ≤ j → j < w * 64 + high → is_waiting waits j ≡ false
-none_so_far waits from w low high small before none j le lt = elim (cases_lt j (w * 64 + low)) [
-  | inl less ↦ before j le less
-  | inr above ↦ none_in_word waits w low high small none j above lt
-]
+none_so_far waits from w low high small before none j le lt =
+    grind (arith, common_steps, cases_lt j (w * 64 + low), before j le, none_in_word waits w low high small none j)
 
 pub waits_in_word : (waits : List ℕ) (w b : ℕ) → b < 64 → has_bit (get_or waits w 0) b ≡ true → is_waiting waits (w * 64 + b) ≡ true
 waits_in_word waits w b lt on =
