@@ -54,12 +54,10 @@ by_houses-lawful s houses fine sound queue sweeps = record {
 -- ---- the bound, by counting twice: over the cells the houses of each, over the houses the cells of each
 listed_once : (xs : List ℕ) (n : ℕ) → count_below (has_place xs) n ≤ length xs
 unfolding has_place
-listed_once [] n = let e = count_below-none (has_place []) n (λ k lt. refl) in omega arith
+listed_once [] n = omega (arith, count_below-none (has_place []) n (λ k lt. refl))
 listed_once (x ∷ xs) n =
-    let rest = listed_once xs n in
     let here = count_below-few (eqb x) n (λ k j lk lj a b. sym (eqb-true x k a) ∙ eqb-true x j b) in
-    let both = count_below-or (eqb x) (has_place xs) (has_place (x ∷ xs)) n (λ c lt on. or_cases (eqb x c) (has_place xs c) on) in
-    omega arith
+    omega (arith, here, listed_once xs n, count_below-or (eqb x) (has_place xs) (has_place (x ∷ xs)) n (λ c lt on. or_cases (eqb x c) (has_place xs c) on))
 
 count_as_sum : (p : ℕ → Bool) (n : ℕ) → sum_below (λ c. cond (p c) 1 0) n ≡ count_below p n
 unfolding sum_below count_below
@@ -73,13 +71,11 @@ times k f (suc n) = let rest = times k f n in omega arith
 
 pub counted_twice : (scope : ℕ → List ℕ) (n cells : ℕ) → sum_below (λ c. count_below (λ h. has_place (scope h) c) n) cells ≤ sum_below (λ h. length (scope h)) n
 unfolding sum_below count_below
-counted_twice scope zero cells = let e = times 0 (λ c. 0) cells in omega arith
-counted_twice scope (suc n) cells =
-    let rest = counted_twice scope n cells in
-    let add = sum_below-add (λ c. count_below (λ h. has_place (scope h) c) n) (λ c. cond (has_place (scope n) c) 1 0) cells in
-    let one = count_as_sum (has_place (scope n)) cells in
-    let few = listed_once (scope n) cells in
-    omega arith
+counted_twice scope zero cells = omega (arith, times 0 (λ c. 0) cells)
+counted_twice scope (suc n) cells = omega (
+  arith, counted_twice scope n cells, count_as_sum (has_place (scope n)) cells, listed_once (scope n) cells,
+  sum_below-add (λ c. count_below (λ h. has_place (scope h) c) n) (λ c. cond (has_place (scope n) c) 1 0) cells,
+)
 
 pub from_first : (f : ℕ → ℕ) (n : ℕ) → sum_below f (suc n) ≡ f 0 + sum_below (λ k. f (suc k)) n
 unfolding sum_below
@@ -90,10 +86,8 @@ visits_sum : (values : ℕ) (houses : List House) → sum_by (visits_of values) 
 unfolding sum_below
 visits_sum values [] = omega arith
 visits_sum values (house ∷ houses) =
-    let rest = visits_sum values houses in
     let shift = ap (λ z. values * z) (from_first (λ h. length (house_of (house ∷ houses) h).places) (length houses)) in
-    let cons = sum_by-cons (visits_of values) house houses in
-    omega arith
+    omega (arith, visits_sum values houses, shift, sum_by-cons (visits_of values) house houses)
 
 pub bound_enough : (s : Setting) (houses : List House) → sum_by (visits_of s.values) houses ≤ s.bound
     → length houses + sum_below (λ c. (s.values - 1) * share (by_houses s houses) c) s.cells ≤ s.bound
@@ -101,11 +95,9 @@ unfolding share
 bound_enough s houses enough =
     let each = sum_below-le (λ c. (s.values - 1) * share (by_houses s houses) c) (λ c. s.values * at c) s.cells
     (λ c lt. mul-le (s.values - 1) (share (by_houses s houses) c) s.values (at c) (omega arith) (omega arith)) in
-    let out = times s.values at s.cells in
     let twice = counted_twice (λ h. (house_of houses h).places) (length houses) s.cells in
-    let all = visits_sum s.values houses in
-    let most = mul-le s.values (sum_below at s.cells) s.values (sum_below (λ h. length (house_of houses h).places) (length houses)) (omega arith) twice in
-    omega arith
+    let most = mul-le s.values (sum_below at s.cells) s.values _ (omega arith) twice in
+    omega (arith, each, most, times s.values at s.cells, visits_sum s.values houses)
   where
     at : ℕ → ℕ
     at c = count_below (λ h. has_place (house_of houses h).places c) (length houses)
