@@ -62,14 +62,11 @@ part-within m s a i la li = let h : (a + 1) * s ≤ m * s = mul-le-mul_right s (
 
 pub block-within : (c r b k : ℕ) → b < c * r → k < c * r → ((b / c) * c + k / r) * (c * r) + ((b % c) * r + k % r) < (c * r) * (c * r)
 block-within c r b k lb lk =
-    let some : 0 < c * r = omega arith in
-    let c_pos : 0 < c = (both_pos c r some).0 in
-    let r_pos : 0 < r = (both_pos c r some).1 in
-    let band : b / c < r = (div-lt_iff_lt-mul c_pos).1 (omega arith) in
-    let down : k / r < c = (div-lt_iff_lt-mul r_pos).1 lk in
-    let y : (b / c) * c + k / r < r * c = part-within r c (b / c) (k / r) band down in
-    let x : (b % c) * r + k % r < c * r = part-within c r (b % c) (k % r) (mod-lt b c_pos) (mod-lt k r_pos) in
-    part-within (c * r) (c * r) ((b / c) * c + k / r) ((b % c) * r + k % r) (omega arith) x
+    let some = both_pos c r (omega arith) in
+    let band : b / c < r = (div-lt_iff_lt-mul some.0).1 (omega arith) in
+    let down : k / r < c = (div-lt_iff_lt-mul some.1).1 lk in
+    let y = part-within r c (b / c) (k / r) band down in
+    part-within (c * r) (c * r) ((b / c) * c + k / r) ((b % c) * r + k % r) (omega arith) (part-within c r (b % c) (k % r) (mod-lt b some.0) (mod-lt k some.1))
   where
     both_pos : (a b : ℕ) → 0 < a * b → (0 < a) × (0 < b)
     both_pos zero b lt = absurd (omega arith)

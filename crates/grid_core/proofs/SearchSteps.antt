@@ -58,13 +58,9 @@ mate_kept mates xs ys r e w = let a = e.grown in (w.0, w.1, omega arith, ap (λ 
 -- an owner that was reached isn't the root, which has no mate
 mate_of_reached : (joins : ℕ → ℕ → Bool) (mates : List ℕ) (reached : ReachedView) (owner r : ℕ) → IsReach joins mates reached
     → Contains reached.lefts owner → owner < length mates → get_or mates owner 0 ≡ r → IsMateOfLater mates reached.lefts r
-mate_of_reached joins mates reached owner r reach w owner_in owns = elim (cases_eq w.0 0) [
-  | inl z ↦ let a = at ∙ ap (λ k. get_or reached.lefts k 0) z ∙ reach.root in absurd (omega arith)
-  | inr nz ↦ (w.0, omega arith, w.1, ap (λ l. get_or mates l 0) (sym at) ∙ owns)
-]
-  where
-    at : owner ≡ get_or reached.lefts w.0 0
-    at = sym w.2 ∙ get_or_default reached.lefts w.0 owner 0 w.1
+mate_of_reached joins mates reached owner r reach w owner_in owns =
+    let at : owner ≡ get_or reached.lefts w.0 0 = sym w.2 ∙ get_or_default reached.lefts w.0 owner 0 w.1 in
+    (w.0, grind (arith, common_steps, reach.root), w.1, ap (λ l. get_or mates l 0) (sym at) ∙ owns)
 
 -- a joined right is passed: it is free, its owner was reached before, or its owner is reached now
 module _ (joins : ℕ → ℕ → Bool) (mates : List ℕ) (old reached : ReachedView) (left from right : ℕ)
@@ -142,10 +138,7 @@ module _ (joins : ℕ → ℕ → Bool) (lefts rights : ℕ) (mates : List ℕ) 
   joined_held r h w = mate_held r (closed w.0 r w.2 h (subst (λ l. joins l r ≡ true) (sym w.3 ∙ get_or_default reached.lefts w.0 w.1 0 w.2) w.4))
 
   low : (i : ℕ) → i < length reached.lefts → get_or reached.lefts i 0 < lefts
-  low i h = elim (cases_eq i 0) [
-    | inl z ↦ let a = ap (λ k. get_or reached.lefts k 0) z ∙ reach.root in omega arith
-    | inr nz ↦ let a = reach.paired i (omega arith) h in omega arith
-  ]
+  low i h = grind (arith, common_steps, cases_eq i 0, reach.root, reach.paired i)
 
   pub IsShortSet-from_closed : IsStrictlyIncreasing sorted → IsShortSet joins lefts rights sorted
   unfolding later_mates
