@@ -27,9 +27,6 @@ AreOwners-replace mates left right left_in owners p inside free =
     let had = p.owned left left_in in
     let old_in = mate_in owners (get_or mates left 0) left had in
     record {
-      owned = λ l h. let a = free l in let b = p.owned l in elim (cases_eq l left) [
-        | inl e ↦ grind (arith, common_steps)
-        | inr ne ↦ grind (arith, common_steps)
-      ];
+      owned = λ l h. grind (arith, common_steps, cases_eq);
       own = λ r l h. let b = p.own r l in (grind (arith, common_steps), grind (arith, common_steps));
     }

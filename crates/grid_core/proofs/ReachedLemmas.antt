@@ -49,9 +49,7 @@ module _ (seen : List Bool) (queue parents : List ℕ) (room count left : ℕ) (
       (let e = ap (λ (w : ReachedView). w.room) is in omega arith) (rw (ap (λ (w : ReachedView). w.lefts) is) new)
 
   pub room_for_left : count < length seen
-  room_for_left =
-      let within = reached-le (set seen left true) (take count queue ++ left ∷ []) pushed in
-      omega (arith, length-set seen left true, length-append (take count queue) (left ∷ []), length-take count queue)
+  room_for_left = grind (arith, common_steps, length-append, length-set, length-take, pushed, reached-le)
 
   pub AreReached-write : count < length queue → AreReached (set seen left true) (take (count + 1) (set queue count left))
   AreReached-write within = rw (take_more_set queue count left within) pushed
@@ -63,9 +61,7 @@ pub view-write : (queue parents : List ℕ) (room count left parent : ℕ) (v : 
     → ◌≡◌ {A = ReachedView}
     (record { room = room; lefts = take (count + 1) (set queue count left); parents = take (count + 1) (set parents count parent) })
     (with_left v left parent)
-view-write queue parents room count left parent v is queue_room parents_room =
-    rw (take_more_set queue count left queue_room, take_more_set parents count parent parents_room)
-    (ap (λ (w : ReachedView). with_left w left parent) is)
+view-write queue parents room count left parent v is queue_room parents_room = grind (arith, common_steps, take_more_set)
 
 -- the last left is forgotten
 module _ (seen : List Bool) (queue : List ℕ) (count last left : ℕ) (left_is : left ≡ get_or queue last left)

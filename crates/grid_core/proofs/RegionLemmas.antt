@@ -8,6 +8,7 @@ use Rattle.std.proofs.Math.Seq.{get_or-append_seam}
 use Rattle.std.proofs.Math.Nat.{mul-le-mul_right, div-lt_iff_lt-mul, mod-lt}
 use Rattle.grid_core.specs.Extent.{Extent}
 use Rattle.grid_core.specs.Regions.{row_places, column_places, up, left, right, down, step, steps, if_there}
+use Rattle.std.proofs.lemmas.Grind.{common_steps}
 
 -- ---- lines and blocks
 pub line_at : (place : ℕ → ℕ) (n k : ℕ) → k < n → slice_index (map place (range_with_len 0 n)) k ≡ place k
@@ -50,10 +51,7 @@ get-seam xs x = slice_get-get_or (xs ++ x ∷ []) (length xs) 0 (omega (arith, l
 pub steps-at : (size : Extent) (place m n cell : ℕ) → n < m → Some cell ≡ step size place n → slice_get (steps size place m) (length (steps size place n)) ≡ Some cell
 unfolding steps
 steps-at size place zero n cell lt e = absurd (omega arith)
-steps-at size place (suc m) n cell lt e = elim (cases_eq n m) [
-  | inl same ↦ rw (same, sym (rw same at e)) (get-seam (steps size place m) cell)
-  | inr other ↦ get-append (steps size place m) (if_there (step size place m)) (length (steps size place n)) cell (steps-at size place m n cell (omega arith) e)
-]
+steps-at size place (suc m) n cell lt e = grind (arith, common_steps, cases_eq, get-append, get-seam, steps-at size place m n cell)
 
 -- ---- a block lies in the grid
 -- the a-th of m parts of s each, and a place in it

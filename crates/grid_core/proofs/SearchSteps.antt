@@ -47,10 +47,7 @@ Extends-push : (xs : List ℕ) (y : ℕ) → Extends xs (xs ++ y ∷ [])
 Extends-push xs y = record { grown = grind (arith, common_steps); kept = λ j h. grind (arith, common_steps) }
 
 Extends-chain : (xs ys zs : List ℕ) → Extends xs ys → Extends ys zs → Extends xs zs
-Extends-chain xs ys zs e f = let a = e.grown in let b = f.grown in record {
-  grown = omega arith;
-  kept = λ j h. f.kept j (omega arith) ∙ e.kept j h;
-}
+Extends-chain xs ys zs e f = grind (arith, common_steps)
 
 mate_kept : (mates xs ys : List ℕ) (r : ℕ) → Extends xs ys → IsMateOfLater mates xs r → IsMateOfLater mates ys r
 mate_kept mates xs ys r e w = let a = e.grown in (w.0, w.1, omega arith, ap (λ l. get_or mates l 0) (e.kept w.0 w.2) ∙ w.3)
@@ -58,9 +55,7 @@ mate_kept mates xs ys r e w = let a = e.grown in (w.0, w.1, omega arith, ap (λ 
 -- an owner that was reached isn't the root, which has no mate
 mate_of_reached : (joins : ℕ → ℕ → Bool) (mates : List ℕ) (reached : ReachedView) (owner r : ℕ) → IsReach joins mates reached
     → Contains reached.lefts owner → owner < length mates → get_or mates owner 0 ≡ r → IsMateOfLater mates reached.lefts r
-mate_of_reached joins mates reached owner r reach w owner_in owns =
-    let at : owner ≡ get_or reached.lefts w.0 0 = sym w.2 ∙ get_or_default reached.lefts w.0 owner 0 w.1 in
-    (w.0, grind (arith, common_steps, reach.root), w.1, ap (λ l. get_or mates l 0) (sym at) ∙ owns)
+mate_of_reached joins mates reached owner r reach w owner_in owns = grind (arith, common_steps, get_or_default)
 
 -- a joined right is passed: it is free, its owner was reached before, or its owner is reached now
 module _ (joins : ℕ → ℕ → Bool) (mates : List ℕ) (old reached : ReachedView) (left from right : ℕ)

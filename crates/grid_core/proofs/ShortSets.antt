@@ -15,6 +15,7 @@ use Rattle.std.proofs.lemmas.List.Kept.{AllPairs-from_increasing}
 use Rattle.std.proofs.lemmas.List.Sums.{length-filter}
 use Rattle.std.proofs.lemmas.Map.Made.{length-le_from_is_member, is_member-Decides, is_member-filter, IsDistinct-from_AllPairs}
 use Rattle.grid_core.specs.Pairings.{IsShortSet}
+use Rattle.std.proofs.lemmas.Grind.{common_steps}
 
 -- a test of membership says that the number stands in the list
 pub contains_from_member : (xs : List ℕ) (q : ℕ) → is_member eqb xs q ≡ true → Contains xs q
@@ -46,25 +47,11 @@ module _ (joins : ℕ → ℕ → Bool) (lefts rights : ℕ) (xs : List ℕ) (sh
   entry_in i h = All-get_or (λ l. l < lefts) xs i 0 h short.in_range
 
   chosen_apart : IsDistinct eqb (map right_of xs)
-  chosen_apart = IsDistinct-from_AllPairs unsigned_Decides (map right_of xs) (λ i j d below within same.
-      let last : j < length xs = omega (arith, within, length-map xs right_of) in
-      let first : i < length xs = omega arith in
-      let up = AllPairs-from_increasing xs short.ascending i j 0 below last in
-      let e = own (get_or xs i 0) (get_or xs j 0) (entry_in i first) (entry_in j last)
-      (sym (at_map i d (omega arith)) ∙ same ∙ at_map j d within) in
-      absurd (omega arith))
+  chosen_apart = grind (arith, common_steps, AllPairs-from_increasing, IsDistinct-from_AllPairs, at_map, entry_in, length-map)
 
   chosen_joined : (q : ℕ) → is_member eqb (map right_of xs) q ≡ true
       → is_member eqb (filter (λ r. list_any (λ l. joins l r) xs) (range_with_len 0 rights)) q ≡ true
-  chosen_joined q h =
-      let w = contains_from_member (map right_of xs) q h in
-      let within : w.0 < length xs = omega (arith, w.1, length-map xs right_of) in
-      let left_in = entry_in w.0 within in
-      let same : q ≡ right_of (get_or xs w.0 0) = sym w.2 ∙ at_map w.0 q w.1 in
-      let right_in = in_range (get_or xs w.0 0) left_in in
-      let here : joins (get_or xs w.0 0) q ≡ true = ap (joins (get_or xs w.0 0)) same ∙ joined (get_or xs w.0 0) left_in in
-      member_of_filter (λ r. list_any (λ l. joins l r) xs) rights q
-      ∙ and_from _ _ (lt-ltb q rights (omega arith)) (list_any_at (λ l. joins l q) xs w.0 0 within here)
+  chosen_joined q h = grind (arith, common_steps, and_from, at_map, contains_from_member, entry_in, length-map, list_any_at, lt-ltb, member_of_filter)
 
   pub no_choice : ⊥
   no_choice =
