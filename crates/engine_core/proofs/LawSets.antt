@@ -7,8 +7,17 @@ use Rattle.engine_core.proofs.IndexLemmas.{has_place-none, number_at-none, longe
 use Rattle.engine_core.proofs.PickLemmas.{pick-is}
 use Rattle.engine_core.proofs.PieceLemmas.{begin-after, closed-in, ends-close, listed-close, length-pieces, total-closed, ends-more, listed-push, piece-at, piece-ends, last-at, few-listed}
 use Rattle.engine_core.proofs.TrialLemmas.{tried-first, trials-counted}
-use Rattle.engine_core.proofs.VerdictLemmas.{outcome-true, outcome-counts, spent-counts, found_iff}
+use Rattle.engine_core.proofs.VerdictLemmas.{spent-le, outcome-true, outcome-counts, spent-counts, found_iff}
 use Rattle.engine_core.proofs.WalkLemmas.{walk-once, walk-unfold}
+use Rattle.engine_core.specs.HouseLaws.{sets-bits}
+use Rattle.engine_core.proofs.CountLemmas.{search-few, spent-tried}
+use Rattle.engine_core.proofs.EndLemmas.{ended-counted}
+use Rattle.engine_core.proofs.HouseLemmas.{kept-first, kept-inside, kept-more, striking-first, striking-more}
+use Rattle.engine_core.proofs.JudgeLemmas.{grid-fits, grid-long, pick-ends, pick-in, pick-more}
+use Rattle.engine_core.proofs.StoreLemmas.{settled-dead}
+use Rattle.engine_core.proofs.SweepLemmas.{total-bound}
+use Rattle.engine_core.proofs.TrailLemmas.{put_back-none, trail-none}
+use Rattle.engine_core.proofs.WaitLemmas.{lowest_left, none_left, waiting-mark, waiting-unmark}
 
 pub ruleset house_index_laws = (has_place-none, number_at-none, longest-none, longest-more, not_taken, counted-more, summed-none, summed-sum, summed-more, sum_below-more, ascends, ends_in, houses-at, next-at, nth-at, scopes-wider, index-none, counts_same, houses_of_places, index-room, index-turn, put-none, put-room, put-more, number_at-more, few-listed, length-set)
 
@@ -17,3 +26,15 @@ pub ruleset house_list_laws = (begin-after, closed-in, ends-close, listed-close,
 pub ruleset laws_laws = (by_houses-lawful, bound_enough, closure_inside, closure_closed, closure_largest, outcome-true, shown_from_test, test_from_shown, pick-is, walk-once, found_iff, outcome-counts, spent-counts, walk-unfold)
 
 pub ruleset trials_laws = (tried-first, trials-counted)
+
+pub ruleset wait_laws = (waiting-mark, waiting-unmark, none_left, lowest_left)
+
+pub ruleset visit_laws = (kept-first, kept-inside, kept-more, striking-first, striking-more, sets-bits)
+
+pub ruleset trail_laws = (trail-none, total-bound, put_back-none)
+
+pub ruleset judge_laws = (grid-fits, grid-long, pick-in, pick-more, pick-ends)
+
+pub ruleset walk_laws = (ended-counted)
+
+pub ruleset store_laws = (outcome-true, spent-tried, spent-le, search-few, settled-dead)

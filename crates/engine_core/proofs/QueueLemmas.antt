@@ -14,6 +14,10 @@ use Rattle.engine_core.specs.Waiting.{AreCalled}
 use Rattle.engine_core.proofs.ClosingLemmas.{after_inside}
 use Rattle.std.proofs.lemmas.Grind.{common_steps}
 
+-- the cells of a house are cells of the board
+pub scope-in : (p : Puzzle) (laws : IsLawful p) (h k : ℕ) → h < p.houses → k < length (p.scope h) → slice_index (p.scope h) k < p.cells
+scope-in p laws h k lt lk = laws.scope_within h _ lt (has_place-here (p.scope h) k lk)
+
 -- ---- what a visit leaves in the cells of other houses
 -- a cell outside the house is left alone
 pub after-outside : (p : Puzzle) (laws : IsLawful p) (h : ℕ) (K : Candidates) (c v : ℕ) → h < p.houses → has_place (p.scope h) c ≡ false → K c v ≡ true → after p h K c v ≡ true

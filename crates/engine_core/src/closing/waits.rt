@@ -1,4 +1,5 @@
 //! Which houses wait: a bit for each, in words of 64.
+#![tactic(auto, using(crate::proofs::LawSets::wait_laws))]
 
 ghost use Rattle.std.specs.Prelude.{◌≡◌, ℕ, ◌/◌, ◌<◌, ◌≤◌, ◌||◌, ◌==◌, length};
 ghost use Rattle.engine_core.specs.Puzzle.{IsNext};

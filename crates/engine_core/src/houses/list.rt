@@ -48,7 +48,8 @@ impl HouseList {
     /// When memory was refused, or there are 2^32 - 1 places.
     pub fn push(&mut self, place: usize) -> Result<(), AllocError>
         requires { place < 2 ^ 32 }
-        ensures { OnOk result (self.new ≡ record self.old { begun = self.old.begun ++ place ∷ [] }) }
+        ensures { OnOk result (self.new
+            ≡ record self.old { begun = self.old.begun ++ place ∷ [] }) }
     {
         if is_long(&self.places) {
             return Err(AllocError);

@@ -1,5 +1,6 @@
 //! A visit of a house in three steps: `gather` reads the sets of its cells, the rules decide what is kept of them, and
 //! `apply` strikes the rest. All strikes of a visit are decided before the first is made.
+#![tactic(auto, using(crate::proofs::LawSets::visit_laws))]
 
 ghost use Rattle.std.specs.Prelude.{◌≡◌, ℕ, ◌<◌, ◌==◌, true, false, map, length, slice_index};
 ghost use Rattle.grid_core.specs.Board.{has, cells_of, SameShape};

@@ -1,4 +1,5 @@
 //! What a closed board is: dead, a grid, or a cell to branch on.
+#![tactic(auto, using(crate::proofs::LawSets::judge_laws))]
 
 ghost use Rattle.std.specs.Prelude.{◌≡◌, ◌<◌, ◌≤◌, length, true, None, IfSome};
 ghost use Rattle.grid_core.specs.Board.{has, cells_of};
@@ -138,7 +139,8 @@ pub(crate) fn judge<R: Rules>(
     requires from_in { at.from ≤ (R.puzzle rules.now).cells }
     requires none { pick at.from (R.puzzle rules.now).values (has board.now) ≡ None }
     requires long { AreGrids (R.puzzle rules.now).cells grids.old }
-    ensures judged { Judges (R.puzzle rules.now) (has board.now) (written at.found grids.new) result }
+    ensures judged { Judges (R.puzzle rules.now) (has board.now) (written at.found grids.new)
+        result }
     ensures long { AreGrids (R.puzzle rules.now).cells grids.new }
     ensures kept { at.found ≡ true → grids.new.first ≡ grids.old.first }
     ensures along { IsAlong (R.puzzle rules.now) (R.follows rules.now) work.new board.now }

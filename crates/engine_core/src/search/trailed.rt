@@ -1,4 +1,5 @@
 //! A board, and the trail of its changes: what each changed cell had before, so that it can be put back.
+#![tactic(auto, using(crate::proofs::LawSets::trail_laws))]
 
 ghost use Rattle.std.specs.Prelude.{◌≡◌, ◌≢◌, ◌+◌, ◌*◌, ◌<◌, ◌≤◌, IfOk, bit_and, length, true, false};
 ghost use Rattle.grid_core.specs.Board.{has, cells_of, SameShape};

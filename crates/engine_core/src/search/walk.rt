@@ -1,4 +1,5 @@
 //! The walk over trials, level by level.
+#![tactic(auto, using(crate::proofs::LawSets::walk_laws))]
 
 ghost use Rattle.std.specs.Prelude.{max, ◌≡◌, ◌+◌, ◌≤◌, length, false, [], None};
 ghost use Rattle.grid_core.specs.Board.{SameShape};

@@ -1,14 +1,7 @@
-use Rattle.std.proofs.Common.{refl, ◌∙◌}
+use Rattle.std.proofs.Common.{◌∙◌}
 use Rattle.grid_core.specs.Board.{has}
-use Rattle.engine_core.proofs.HouseLemmas.{striking-first, striking-more, kept-first, kept-more, kept-inside}
+use Rattle.engine_core.proofs.HouseLemmas.{striking-more, kept-more, kept-inside}
 use Rattle.engine_core.proofs.houses.visit.apply.Goals as goal
-
-pub loop-k-init : goal.loop-k-init
-loop-k-init c = record {
-  left = kept-first c.args.places.now c.args.kept.now (has c.args.board.now);
-  striking = striking-first (has c.args.board.now);
-  shape = record { same_values = refl; same_cells = refl };
-}
 
 pub loop-k-preserved : goal.loop-k-preserved
 loop-k-preserved c =

@@ -1,16 +1,10 @@
 use Rattle.std.proofs.Common.{arith, sym, ◌∙◌}
 use Rattle.grid_core.specs.Board.{has, cells_of}
-use Rattle.engine_core.proofs.JudgeLemmas.{pick-in, pick-more, pick-ends}
+use Rattle.engine_core.proofs.JudgeLemmas.{pick-in, pick-ends}
 use Rattle.engine_core.proofs.search.judge.pick_cell.Goals as goal
-
-pub loop-cell-init : goal.loop-cell-init
-loop-cell-init c = sym c.requires.none
 
 pub better_cell-best-requires-clause-best_in : goal.better_cell-best-requires-clause-best_in
 better_cell-best-requires-clause-best_in c = pick-in c.loop-cell.best c.loop-cell.cell (cells_of c.args.board.now) c.args.board.now.values (has c.args.board.now) c.loop-cell.invariant (omega arith)
-
-pub loop-cell-preserved : goal.loop-cell-preserved
-loop-cell-preserved c = pick-more c.loop-cell.best c.better_cell-best.result c.loop-cell.cell c.args.board.now.values (has c.args.board.now) c.loop-cell.invariant c.better_cell-best.ensures
 
 pub returns-then-count-eq2 : goal.returns-then-count-eq2
 returns-then-count-eq2 c =

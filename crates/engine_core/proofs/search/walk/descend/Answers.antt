@@ -60,15 +60,6 @@ returns-in-Split-clause-ready g c =
     let room = open-room _ _ _ o in
     ready-push _ _ _ _ _ _ (ready-further _ _ _ _ _ c.requires.ready c.close-closed.ensures.further) (omega (arith, c.requires.ready.room)) c.mark.ensures.len o
 
-pub returns-in-Dead-clause-turned : goal.returns-in-Dead-clause-turned
-returns-in-Dead-clause-turned g c = ended-counted _ _ _ _ _ _ _ _ _ _ c.max.ensures c.close-closed.ensures.ended c.close-closed.ensures.visits (omega arith)
-
-pub returns-in-Nothing-clause-turned : goal.returns-in-Nothing-clause-turned
-returns-in-Nothing-clause-turned g c = ended-counted _ _ _ _ _ _ _ _ _ _ c.max.ensures c.close-closed.ensures.ended c.close-closed.ensures.visits (omega arith)
-
-pub returns-in-Solved-clause-turned : goal.returns-in-Solved-clause-turned
-returns-in-Solved-clause-turned g c = ended-counted _ _ _ _ _ _ _ _ _ _ c.max.ensures c.close-closed.ensures.ended c.close-closed.ensures.visits (omega arith)
-
 pub returns-in-Split-clause-turned : goal.returns-in-Split-clause-turned
 returns-in-Split-clause-turned g c = ended-counted _ _ _ _ _ _ _ _ _ _ c.max.ensures c.close-closed.ensures.ended c.close-closed.ensures.visits (omega arith)
 

@@ -1,10 +1,9 @@
 use Rattle.std.proofs.Common.{◌≡◌, ◌<◌, bit_and, length, slice_index, refl, arith, sym, ap, ◌∙◌}
 use Rattle.grid_core.specs.Candidates.{any_below}
-use Rattle.engine_core.specs.PlaceLaws.{has_place-here}
 use Rattle.engine_core.specs.Queue.{counts_of}
 use Rattle.engine_core.specs.Waiting.{is_waiting}
 use Rattle.engine_core.proofs.SetLemmas.{counts-same, counts-differ, bits-empty}
-use Rattle.engine_core.proofs.QueueLemmas.{empties_then, empties_else}
+use Rattle.engine_core.proofs.QueueLemmas.{scope-in, empties_then, empties_else}
 use Rattle.engine_core.proofs.CallLemmas.{called-first, called-then, called-else}
 use Rattle.engine_core.proofs.closing.work.Work.wake.Goals as goal
 use Rattle.engine_core.proofs.closing.work.Work.wake.Goals.{then-left-before, else-left-before}
@@ -19,9 +18,7 @@ loop-k-init g c = record {
 
 pub wait_at-requires-clause-place_in : goal.wait_at-requires-clause-place_in
 wait_at-requires-clause-place_in g c =
-    let p = g.R.Rules.puzzle c.args.rules.now in
-    let lt : c.loop-k.k < length (p.scope c.args.house) = omega arith in
-    rw c.scope.ensures ((g.met.R.Rules.lawful c.args.rules.now).scope_within c.args.house _ c.requires.house_in (has_place-here (p.scope c.args.house) c.loop-k.k lt))
+    rw c.scope.ensures (scope-in _ (g.met.R.Rules.lawful c.args.rules.now) c.args.house c.loop-k.k c.requires.house_in (omega arith))
 
 pub loop-k-preserved : goal.loop-k-preserved
 unfolding counts_of

@@ -2,12 +2,11 @@ use Rattle.std.proofs.Common.{◌≡◌, ◌<◌, length, slice_index, refl, sym
 use Rattle.grid_core.specs.Board.{has}
 use Rattle.grid_core.specs.Candidates.{Candidates}
 use Rattle.engine_core.specs.Keeping.{AreSetsOf}
-use Rattle.engine_core.specs.PlaceLaws.{has_place-here}
 use Rattle.engine_core.specs.Puzzle.{after}
 use Rattle.engine_core.specs.Sets.{IsBitsOf}
 use Rattle.engine_core.proofs.ClosingLemmas.{after_inside}
 use Rattle.engine_core.proofs.KeepLemmas.{kept-none, kept-left}
-use Rattle.engine_core.proofs.QueueLemmas.{within_of}
+use Rattle.engine_core.proofs.QueueLemmas.{scope-in, within_of}
 use Rattle.engine_core.proofs.ScopeLemmas.{upto-next, upto-cell, upto-left, upto-same, upto-all}
 use Rattle.engine_core.proofs.TrailLemmas.{further-more}
 use Rattle.engine_core.proofs.search.trailed.Trailed.visit_cells.Goals as goal
@@ -31,9 +30,7 @@ returns-then-not-keep-clause-left g c =
 
 pub leave-requires-clause-place_in : goal.leave-requires-clause-place_in
 leave-requires-clause-place_in g c =
-    let p = g.R.Rules.puzzle c.args.rules.now in
-    let lt : c.loop-k.k < length (p.scope c.args.house) = omega arith in
-    rw c.scope.ensures ((g.met.R.Rules.lawful c.args.rules.now).scope_within c.args.house _ c.requires.house_in (has_place-here (p.scope c.args.house) c.loop-k.k lt))
+    rw c.scope.ensures (scope-in _ (g.met.R.Rules.lawful c.args.rules.now) c.args.house c.loop-k.k c.requires.house_in (omega arith))
 
 pub leave-requires-clause-before : goal.leave-requires-clause-before
 leave-requires-clause-before g c =
