@@ -75,9 +75,7 @@ levels-retried t frames n next pos lt e = grind (arith, common_steps, frame_at-h
 
 -- the innermost level is open
 pub top-open : {p : Puzzle} {t : Trail} {frames : List Frame} {n : ℕ} → IsReady p t frames n → 0 < n → ((frame_at frames (n - 1)).cell < p.cells) × (n - 1 < p.cells)
-top-open {p = p} {n = n} ready pos =
-    let o = ready.open_levels (n - 1) (omega arith) in
-    ((open-cell p _ (n - 1) o).within, open-room p _ (n - 1) o)
+top-open {p = p} {n = n} ready pos = let o = ready.open_levels (n - 1) (omega arith) in ((open-cell p _ (n - 1) o).within, open-room p _ (n - 1) o)
 
 -- ---- one turn of the search: the trail t was taken back to t1
 module _ {p : Puzzle} {t t1 : Trail} {frames : List Frame} {n : ℕ} (ready : IsReady p t frames n) (pos : 0 < n) (back : IsBack t t1 (frame_at frames (n - 1)).mark) where
@@ -98,7 +96,7 @@ module _ {p : Puzzle} {t t1 : Trail} {frames : List Frame} {n : ℕ} (ready : Is
   -- what it still has to give
   pending-back : pending_in p t frames n ≡ pending p (record { board = has t1.board; cell = top.cell; next = top.next } ∷ outside)
   pending-back =
-      let same : levels_of t1 frames n ≡ levels_of t frames n = levels-same t1 t frames frames n (λ k lt.
+      let same = levels-same t1 t frames frames n (λ k lt.
       level-with t1 (frame_at frames k) _ (back.back (frame_at frames k).mark (ready.ascend k (n - 1) (omega arith) (omega arith)))) in
       ap (pending p) (sym same ∙ levels-top t1 frames n pos ∙ ap (λ (l : Level). l ∷ outside) (level-here t1 top (sym back.len)))
 

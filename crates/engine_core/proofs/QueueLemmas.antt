@@ -24,13 +24,6 @@ pub after-outside : (p : Puzzle) (laws : IsLawful p) (h : ℕ) (K : Candidates) 
 unfolding after
 after-outside p laws h K c v lt out on = grind (arith, common_steps, and_from, false_from_ne_true, not_from_false, true≢false)
 
-left_false : (x y : Bool) → (x && y) ≡ false → y ≡ true → x ≡ false
-left_false x0 y e f = grind (arith, common_steps, true≢false)
-
-same_from_counts : (p : Puzzle) (h : ℕ) (K : Candidates) (k : ℕ) → not (eqb (counts_of p h K k) (counts_of p h (after p h K) k)) ≡ false → count_below (K (slice_index (p.scope h) k)) p.values ≡ count_below (after p h K (slice_index (p.scope h) k)) p.values
-unfolding counts_of
-same_from_counts p h K k e = eqb-true _ _ (not-false _ e)
-
 -- a house that has no cell with another number of values than before strikes what it struck before
 still_rested : (p : Puzzle) (laws : IsLawful p) (h j : ℕ) (K : Candidates) → h < p.houses → j < p.houses → IsWithin p.cells p.values K
     → called_for p h K (after p h K) j ≡ false → IsInsideAt (p.scope j) K (after p h K)

@@ -71,8 +71,7 @@ shifted word from i = ap (λ (x : ℕ). x % 2) (div-div-eq-div-mul word (2 ^ fro
 -- where nothing is left above, no bit is set from there on
 pub none_left : (word from j : ℕ) → word / 2 ^ from ≡ 0 → from ≤ j → has_bit word j ≡ false
 none_left word from j none le =
-    let e : from + (j - from) ≡ j = omega arith in
-    ap (λ (b : ℕ). eqb b 1) (ap (bit_at word) (sym e) ∙ sym (shifted word from (j - from)) ∙ ap (λ (x : ℕ). bit_at x (j - from)) none ∙ bit_at-zero (j - from))
+    let e : from + (j - from) ≡ j = omega arith in grind (arith, common_steps, shifted word from (j - from), bit_at-zero)
 
 -- the lowest bit of what is left above
 pub lowest_left : (word from : ℕ) → word < 2 ^ 64 → (word / 2 ^ from ≡ 0 → ⊥) → IsNext (has_bit word) 64 from (Some (from + trailing_zeros w64 (word / 2 ^ from)))
@@ -92,8 +91,7 @@ lowest_left word from small some =
 pub none_in_word : (waits : List ℕ) (w low high : ℕ) → high ≤ 64 → ((b : ℕ) → low ≤ b → b < high → has_bit (get_or waits w 0) b ≡ false)
     → (j : ℕ) → w * 64 + low ≤ j → j < w * 64 + high → is_waiting waits j ≡ false
 none_in_word waits w low high small none j le lt =
-    let word : j / 64 ≡ w = omega arith in
-    word-is waits w j word ∙ none (j % 64) (omega arith) (omega arith)
+    let word : j / 64 ≡ w = omega arith in word-is waits w j word ∙ none (j % 64) (omega arith) (omega arith)
 
 pub none_so_far : (waits : List ℕ) (from w low high : ℕ) → high ≤ 64 → ((j : ℕ) → from ≤ j → j < w * 64 + low → is_waiting waits j ≡ false)
     → ((b : ℕ) → low ≤ b → b < high → has_bit (get_or waits w 0) b ≡ false)
@@ -103,6 +101,4 @@ none_so_far waits from w low high small before none j le lt =
 
 pub waits_in_word : (waits : List ℕ) (w b : ℕ) → b < 64 → has_bit (get_or waits w 0) b ≡ true → is_waiting waits (w * 64 + b) ≡ true
 waits_in_word waits w b lt on =
-    let word : (w * 64 + b) / 64 ≡ w = omega arith in
-    let bit : (w * 64 + b) % 64 ≡ b = omega arith in
-    word-is waits w (w * 64 + b) word ∙ ap (has_bit (get_or waits w 0)) bit ∙ on
+    let bit : (w * 64 + b) % 64 ≡ b = omega arith in word-is waits w (w * 64 + b) (omega arith) ∙ ap (has_bit (get_or waits w 0)) bit ∙ on
