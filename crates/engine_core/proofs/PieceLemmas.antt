@@ -74,13 +74,9 @@ last-at from (end ∷ next ∷ ends) some = grind (arith, common_steps, last-at 
 pub total-is : (xs : List ℕ) (from : ℕ) (ends : List ℕ) → AreEnds (length xs) from ends → from + sum_by length (pieces xs from ends) ≡ last_end from ends
 total-is xs from [] e = omega arith
 total-is xs from (end ∷ ends) (low, e) =
-    let rest = total-is xs end ends e in
     let high = last-le (length xs) end ends e in
-    let a = high.0 in
-    let b = high.1 in
-    let cons = sum_by-cons (length {A = ℕ}) (between from end xs) (pieces xs end ends) in
-    let here : length (between from end xs) ≡ end - from = length-between xs from end (omega arith) in
-    omega arith
+    let here = length-between xs from end (omega (arith, high.0, high.1)) in
+    omega (arith, total-is xs end ends e, sum_by-cons (length {A = ℕ}) (between from end xs) (pieces xs end ends), here)
 
 pub total-closed : (xs ends : List ℕ) (n : ℕ) → AreEnds (length xs) 0 ends → n ≡ last_end 0 ends → n ≡ sum_by length (listed xs ends).closed
 total-closed xs ends n e is = let t = total-is xs 0 ends e in omega arith

@@ -139,9 +139,7 @@ fn piece<'a>(places: &'a [u32], ends: &[u32], house: usize) -> &'a [u32]
     requires house_in { house < length ends.now }
     ensures { result.now ≡ slice_index_or (pieces places.now 0 ends.now) house [] }
 {
-    let from = begin(ends, house);
-    let end = ends[house] as usize;
-    part(places, from, end)
+    part(places, begin(ends, house), ends[house] as usize)
 }
 
 /// The part of the list from one number to another.
