@@ -36,7 +36,10 @@ left-others K place bits c v ne = grind (arith, common_steps)
 pub left-change : (p : Puzzle) (b b' : Layout) (place before left : ℕ) → IsBoardOf p b → place < p.cells → IsBitsOf (has b place) p.values before
     → IsBitsOf (left_by (has b) place left place) p.values left → has b' ≡ left_by (has b) place left → IsChange p.cells p.values (has b) (has b') place before left
 left-change p b b' place before left of lt was is e = rw e (record {
-  place_in = lt; before_is = was; after_is = is; others = left-others (has b) place left;
+  place_in = lt;
+  before_is = was;
+  after_is = is;
+  others = left-others (has b) place left;
   within = λ v on. (within_of p b of place v (left-inside (has b) place left place v on)).1;
 })
 

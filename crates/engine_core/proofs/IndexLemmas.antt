@@ -165,9 +165,11 @@ module _ (slots : ℕ) (scopes : List (List ℕ)) (are : AreScopes slots scopes)
       there = λ c h lc le lh on. elim (cases_lt house h) [
         | inl later ↦ put.kept (start_at scopes c + number_at scopes h c) (λ d on_d e.
             let same = slot-apart (number_at scopes (length scopes)) c d (number_at scopes h c) (number_at scopes house d)
-            (counted (holds c) h (length scopes) lh on) (counted (holds d) house (length scopes) lt on_d) (omega (arith, index.begins d (within d on_d), one_more d on_d)) in
+            (counted (holds c) h (length scopes) lh on) (counted (holds d) house (length scopes) lt on_d)
+            (omega (arith, index.begins d (within d on_d), one_more d on_d)) in
             let at = ap (λ x. start_at scopes x + number_at scopes house x) same in
-            absurd (omega (arith, count_below-more (holds c) (suc house) h later, one_more c (rw same on_d), one_more d on_d, index.begins d (within d on_d)))) ∙ index.there c h lc later lh on
+            absurd (omega (arith, count_below-more (holds c) (suc house) h later, one_more c (rw same on_d), one_more d on_d, index.begins d (within d on_d))))
+            ∙ index.there c h lc later lh on
         | inr here ↦
             let is : h ≡ house = omega arith in
             let on' : has_place (scope_of scopes house) c ≡ true = rw (← is) on in
@@ -208,7 +210,8 @@ module _ (house : ℕ) (places : List ℕ) (k : ℕ) (lt : k < length places) (d
       | inr other ↦ ap suc (get_or-set_other starts' place c _ 0 other) ∙ was.on c (sym (taken-other places k lt c other) ∙ on)
     ];
     put = λ c on. grind (arith, common_steps, cases_eq, get_or-set_at, get_or-set_other, here, in_starts, place, put-room, put-start, taken-in, taken-other);
-    kept = λ i free. get_or-set_other houses' (slice_index starts' place - 1) i house 0 (λ e. free place (taken-here places k lt place refl) (omega (arith, put-room, put-start)))
+    kept = λ i free. get_or-set_other houses' (slice_index starts' place - 1) i house 0
+        (λ e. free place (taken-here places k lt place refl) (omega (arith, put-room, put-start)))
         ∙ was.kept i (λ c on e. elim (cases_eq c place) [
           | inl is ↦ free c (taken-here places k lt c is) e
           | inr other ↦ free c (taken-other places k lt c other ∙ on) e

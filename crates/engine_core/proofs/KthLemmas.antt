@@ -14,7 +14,9 @@ unfolding count_below
 count-rest p m zero le none = let e : m ≡ 0 = omega arith in rw e refl
 count-rest p m (suc n) le none = elim (cases_eq m (suc n)) [
   | inl e ↦ rw e refl
-  | inr ne ↦ let rest = count-rest p m n (omega (arith, ne)) (λ j from lt. none j from (omega arith)) in rw (none n (omega (arith, ne)) (omega arith)) (omega (arith, rest))
+  | inr ne ↦
+      let rest = count-rest p m n (omega (arith, ne)) (λ j from lt. none j from (omega arith)) in
+      rw (none n (omega (arith, ne)) (omega arith)) (omega (arith, rest))
 ]
 
 -- the next after so many is the one with so many before it

@@ -29,10 +29,9 @@ still_rested : (p : Puzzle) (laws : IsLawful p) (h j : ℕ) (K : Candidates) →
     → called_for p h K (after p h K) j ≡ false → IsInsideAt (p.scope j) K (after p h K)
 unfolding counts_of
 still_rested p laws h j K lth ltj within quiet = λ c v member on.
-    grind (
-      arith, common_steps, after-outside p laws h K c v lth, has_place-at (p.scope h) c, any_below-none _ (length (p.scope h)) quiet,
-      count_below-kept (after p h K c) (K c) p.values v (λ u _. after_inside p h K c u), within c v on,
-    )
+    let unchanged = any_below-none _ (length (p.scope h)) quiet in
+    let kept = count_below-kept (after p h K c) (K c) p.values v (λ u _. after_inside p h K c u) in
+    grind (arith, common_steps, after-outside p laws h K c v lth, has_place-at (p.scope h) c, within c v on)
 
 -- the waiting houses after a visit
 not_struck : (p : Puzzle) (h : ℕ) (K : Candidates) (c v : ℕ) → after p h K c v ≡ true → p.strikes h K c v ≡ false
@@ -44,7 +43,8 @@ pub rested_after : (p : Puzzle) (laws : IsLawful p) (h : ℕ) (K : Candidates) (
 unfolding woken but
 rested_after p laws h K waits lth within rested = λ j c v ltj asleep on.
     let settles = λ (e : p.settled ≡ true) (lt : v < p.values). laws.settles e h K c v lth lt on in
-    let still = λ (quiet : called_for p h K (after p h K) j ≡ false). laws.strikes_inside j K (after p h K) ltj (still_rested p laws h j K lth ltj within quiet) c v in
+    let still = λ (quiet : called_for p h K (after p h K) j ≡ false).
+    laws.strikes_inside j K (after p h K) ltj (still_rested p laws h j K lth ltj within quiet) c v in
     grind (arith, common_steps, eqb-true, not_struck p h K c v on, within c v, after_inside p h K c v on, rested j c v ltj, settles, still)
 
 -- where the houses that a closing begins with were called for, each other one strikes nothing
@@ -56,12 +56,12 @@ rested_from p K from waits e h = grind (arith, common_steps)
 pub closed-but_only : (p : Puzzle) (laws : IsLawful p) (K : Candidates) (cell v : ℕ) → cell < p.cells → v < p.values → K cell v ≡ true → IsClosed p K → is_dead p.cells p.values K ≡ false → IsClosedBut p (only K cell v) (Some cell)
 closed-but_only p laws K cell v lt ltv on closed alive = record {
   place_in = lt;
-  closed = λ h c w lth out still. grind (
-    arith, common_steps, only-inside K cell v c w still, closed h c w lth,
-    laws.strikes_inside h K (only K cell v) lth (λ d u member has. grind (arith, common_steps, only-other K cell v d)) c w,
-  );
+  closed = λ h c w lth out still.
+      let struck = laws.strikes_inside h K (only K cell v) lth (λ d u member has. grind (arith, common_steps, only-other K cell v d)) c w in
+      grind (arith, common_steps, only-inside K cell v c w still, closed h c w lth);
   alive = is_dead-each p.cells p.values (only K cell v) (λ c ltc.
-      grind (arith, common_steps, cases_eq c cell, count_below-pos (only K cell v cell) p.values v ltv, only-here K cell v on, only-other K cell v c, is_dead-not p.cells p.values K c alive ltc));
+      let here = count_below-pos (only K cell v cell) p.values v ltv (only-here K cell v on) in
+      grind (arith, common_steps, cases_eq c cell, only-other K cell v c, is_dead-not p.cells p.values K c alive ltc));
 }
 
 pub dead_of : (p : Puzzle) (b : Layout) → IsBoardOf p b → is_dead (cells_of b) b.values (has b) ≡ is_dead p.cells p.values (has b)
@@ -109,12 +109,13 @@ woken_or_sent p laws h K waits j lth on = elim (or_cases (but waits h j) _ on) [
   | inr called ↦
       let w = any_below-some _ (length (p.scope h)) (and_parts _ (not (p.settled && eqb j h)) called).0 in
       let member = has_place-here (p.scope h) w.0 w.1 in
-      or_right (but waits h j) _ (any_below-here (λ c. sent p h K c j) p.cells (slice_index (p.scope h) w.0) (laws.scope_within h _ lth member) (grind (arith, common_steps)))
+      or_right (but waits h j) _ (any_below-here (λ c. sent p h K c j) p.cells (slice_index (p.scope h) w.0) (scope-in p laws h w.0 lth w.1) (grind (arith, common_steps)))
 ]
 
 one_less : (waits : ℕ → Bool) (n h : ℕ) → h < n → waits h ≡ true → count_below (but waits h) n < count_below waits n
 unfolding but
-one_less waits n h lt waiting = count_below-lt (λ j. waits j && not (eqb j h)) waits n h (λ j _ on. (and_parts (waits j) _ on).0) lt (grind (arith, common_steps, eq-eqb h h refl)) waiting
+one_less waits n h lt waiting =
+    count_below-lt (λ j. waits j && not (eqb j h)) waits n h (λ j _ on. (and_parts (waits j) _ on).0) lt (grind (arith, common_steps, eq-eqb h h refl)) waiting
 
 pub visit_pays : (p : Puzzle) (laws : IsLawful p) (h : ℕ) (K : Candidates) (waits : ℕ → Bool) → h < p.houses → waits h ≡ true → is_dead p.cells p.values (after p h K) ≡ false
     → visits_left p (after p h K) (woken p h (counts_of p h K) (after p h K) (but waits h)) + 1 ≤ visits_left p K waits
@@ -126,7 +127,8 @@ visit_pays p laws h K waits lth waiting alive =
     let some = count_below-le (woken p h (counts_of p h K) (after p h K) (but waits h)) (λ j. but waits h j || any_below (λ c. sent p h K c j) p.cells) p.houses
     (λ j _ on. woken_or_sent p laws h K waits j lth on) in
     let paid = sum_below-le (λ c. sending c + later c) before p.cells (λ c lt. cell_pays p h K c lth (is_dead-not p.cells p.values (after p h K) c alive lt)) in
-    omega (arith, some, paid, count_below-any (but waits h) (sent p h K) p.cells p.houses, one_less waits p.houses h lth waiting, sum_below-add sending later p.cells)
+    let split = count_below-any (but waits h) (sent p h K) p.cells p.houses in
+    omega (arith, some, paid, split, one_less waits p.houses h lth waiting, sum_below-add sending later p.cells)
 
 -- at the start the bound is enough
 pub visits_first : (p : Puzzle) (laws : IsLawful p) (K : Candidates) (waits : ℕ → Bool) → p.by_queue ≡ true → visits_left p K waits ≤ p.bound

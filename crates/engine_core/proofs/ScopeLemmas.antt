@@ -26,7 +26,8 @@ upto-next p laws h k K L lth lt i = fun_ext λ v. i.rest _ v (λ j less e. let s
 upto-more : (p : Puzzle) (laws : IsLawful p) (h k : ℕ) (K L M : Candidates) → h < p.houses → k < length (p.scope h) → IsUpto p h k K L
     → M (slice_index (p.scope h) k) ≡ after p h K (slice_index (p.scope h) k) → ((c v : ℕ) → c ≢ slice_index (p.scope h) k → M c v ≡ L c v) → IsUpto p h (k + 1) K M
 upto-more p laws h k K L M lth lt i here others = record {
-  done = λ j v less. grind (arith, common_steps, cases_eq j k, here, ap (λ (f : ℕ → Bool). f v) here, others (slice_index (p.scope h) j) v, laws.scope_distinct h j k lth, i.done j v);
+  done = λ j v less.
+      grind (arith, common_steps, cases_eq j k, ap (λ (f : ℕ → Bool). f v) here, others (slice_index (p.scope h) j) v, laws.scope_distinct h j k lth, i.done j v);
   rest = λ c v none. others c v (λ e. none k (omega arith) (sym e)) ∙ i.rest c v (λ j less. none j (omega arith));
 }
 
@@ -56,4 +57,5 @@ upto-same p laws h k K L bits lth lt within i was is =
 -- once all cells of the house are done, the board is as after the visit
 pub upto-all : (p : Puzzle) (laws : IsLawful p) (h : ℕ) (K L : Candidates) → h < p.houses → IsUpto p h (length (p.scope h)) K L → L ≡ after p h K
 upto-all p laws h K L lth i = fun_ext λ c. fun_ext λ v.
-    grind (arith, common_steps, cases_Bool (has_place (p.scope h) c), has_place-at (p.scope h) c, has_place-here (p.scope h), after-outside p laws h K c v lth, after_inside p h K c v)
+    let outside = after-outside p laws h K c v lth in
+    grind (arith, common_steps, cases_Bool (has_place (p.scope h) c), has_place-at (p.scope h) c, has_place-here (p.scope h), after_inside p h K c v)

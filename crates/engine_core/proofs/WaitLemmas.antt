@@ -42,7 +42,8 @@ waiting-word : (f : Bool → Bool → Bool) → ((x : Bool) → f x false ≡ x)
 waiting-word f none waits h y j lt bits = elim (cases_eq (j / 64) (h / 64)) [
   | inl word ↦
       word-same waits (h / 64) y j lt word ∙ bits (j % 64) (omega arith)
-      ∙ rw (word-is waits (h / 64) j word, same_bool (eqb (j % 64) (h % 64)) (eqb j h) (grind (arith, common_steps, eq-eqb, eqb-true, same_house)) (grind (arith, common_steps, eq-eqb, eqb-true))) refl
+      ∙ (let same = same_bool (eqb (j % 64) (h % 64)) (eqb j h) (grind (arith, common_steps, eq-eqb, eqb-true, same_house)) (grind (arith, common_steps, eq-eqb, eqb-true)) in
+      rw (word-is waits (h / 64) j word, same) refl)
   | inr apart ↦ word-other waits (h / 64) y j apart ∙ rw (ne_eqb j h (λ e. apart (ap (λ (k : ℕ). k / 64) e))) (sym (none _))
 ]
   where
@@ -52,13 +53,15 @@ waiting-word f none waits h y j lt bits = elim (cases_eq (j / 64) (h / 64)) [
 pub waiting-mark : (waits : List ℕ) (h j : ℕ) → h / 64 < length waits
     → is_waiting (set waits (h / 64) (bit_or (get_or waits (h / 64) 0) (1 * 2 ^ (h % 64) % 18446744073709551616))) j ≡ (is_waiting waits j || eqb j h)
 waiting-mark waits h j lt = waiting-word ◌||◌ (λ x. grind (arith, common_steps)) waits h _ j lt (λ b small.
-    grind (arith, common_steps, cases_eq b (h % 64), bit_at_set_same w64 (get_or waits (h / 64) 0) (h % 64), bit_at_set_other w64 (get_or waits (h / 64) 0) (h % 64), eq-eqb, ne_eqb))
+    let other = bit_at_set_other w64 (get_or waits (h / 64) 0) (h % 64) in
+    grind (arith, common_steps, cases_eq b (h % 64), bit_at_set_same w64 (get_or waits (h / 64) 0) (h % 64), eq-eqb, ne_eqb))
 
 pub waiting-unmark : (waits : List ℕ) (h j : ℕ) → h / 64 < length waits
     → is_waiting (set waits (h / 64) (bit_and (get_or waits (h / 64) 0) (18446744073709551615 - 1 * 2 ^ (h % 64) % 18446744073709551616))) j ≡ but (is_waiting waits) h j
 unfolding but
 waiting-unmark waits h j lt = waiting-word (λ x here. x && not here) (λ x. grind (arith, common_steps)) waits h _ j lt (λ b small.
-    grind (arith, common_steps, cases_eq b (h % 64), bit_at_clear_same w64 (get_or waits (h / 64) 0) (h % 64), bit_at_clear_other w64 (get_or waits (h / 64) 0) (h % 64), eq-eqb, ne_eqb))
+    let other = bit_at_clear_other w64 (get_or waits (h / 64) 0) (h % 64) in
+    grind (arith, common_steps, cases_eq b (h % 64), bit_at_clear_same w64 (get_or waits (h / 64) 0) (h % 64), eq-eqb, ne_eqb))
 
 pub waiting-none : (words j : ℕ) → j / 64 < words → is_waiting (replicate words 0) j ≡ false
 unfolding is_waiting

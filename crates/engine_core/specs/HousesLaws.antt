@@ -72,10 +72,9 @@ times k f (suc n) = let rest = times k f n in omega arith
 pub counted_twice : (scope : ℕ → List ℕ) (n cells : ℕ) → sum_below (λ c. count_below (λ h. has_place (scope h) c) n) cells ≤ sum_below (λ h. length (scope h)) n
 unfolding sum_below count_below
 counted_twice scope zero cells = omega (arith, times 0 (λ c. 0) cells)
-counted_twice scope (suc n) cells = omega (
-  arith, counted_twice scope n cells, count_as_sum (has_place (scope n)) cells, listed_once (scope n) cells,
-  sum_below-add (λ c. count_below (λ h. has_place (scope h) c) n) (λ c. cond (has_place (scope n) c) 1 0) cells,
-)
+counted_twice scope (suc n) cells =
+    let add = sum_below-add (λ c. count_below (λ h. has_place (scope h) c) n) (λ c. cond (has_place (scope n) c) 1 0) cells in
+    omega (arith, add, counted_twice scope n cells, count_as_sum (has_place (scope n)) cells, listed_once (scope n) cells)
 
 pub from_first : (f : ℕ → ℕ) (n : ℕ) → sum_below f (suc n) ≡ f 0 + sum_below (λ k. f (suc k)) n
 unfolding sum_below

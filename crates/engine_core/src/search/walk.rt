@@ -144,9 +144,7 @@ fn search<R: Rules>(
     let mut trials = 0;
     while levels.depth > 0 {
         match levels.next_trial(rules, work) {
-            None => {
-                levels.depth -= 1;
-            }
+            None => levels.depth -= 1,
             Some(cell) => {
                 if trials == from.budget {
                     return ended(at, Verdict::GaveUp { found: at.found }, trials);

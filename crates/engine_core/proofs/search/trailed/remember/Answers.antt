@@ -4,4 +4,5 @@ use Rattle.engine_core.proofs.search.trailed.remember.Goals as goal
 
 pub cell_bits-requires : goal.cell_bits-requires
 cell_bits-requires g c =
-    rw (c.requires.board_of.same_cells, c.scope.ensures) (scope-in _ (g.met.R.Rules.lawful c.args.rules.now) c.args.house c.loop-k.k c.requires.house_in (omega arith))
+    rw (c.requires.board_of.same_cells, c.scope.ensures)
+    (scope-in _ (g.met.R.Rules.lawful c.args.rules.now) c.args.house c.loop-k.k c.requires.house_in (omega arith))
