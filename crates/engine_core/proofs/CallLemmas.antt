@@ -1,5 +1,5 @@
 -- Which houses wait after others were called for.
-use Rattle.std.proofs.Common.{◌≡◌, ℕ, ◌+◌, ◌<◌, ◌≤◌, Bool, true, false, not, ◌&&◌, ◌||◌, eqb, ltb, slice_index, refl, sym, ap, ◌∙◌, inl, inr, arith}
+use Rattle.std.proofs.Common.{◌≡◌, ℕ, ◌+◌, ◌<◌, ◌≤◌, Bool, true, false, not, ◌&&◌, ◌||◌, eqb, ltb, slice_index, refl, arith}
 use Rattle.std.proofs.lemmas.Bool.{cases_eq, cases_lt, lt-ltb, le-ltb, and_from, and_left, and_right, or_left, or_right, eqb-true, eq-eqb, ne_eqb, not_from_true, not_from_false}
 use Rattle.grid_core.specs.Candidates.{Candidates, any_below, count_below}
 use Rattle.engine_core.specs.Puzzle.{Puzzle, has_place, IsIdle}

@@ -1,5 +1,5 @@
 -- What a closing left.
-use Rattle.std.proofs.Common.{arith, ◌≡◌, ℕ, ◌+◌, ◌-◌, ◌≤◌, max, Bool, false, List, length, take, ◌↔◌}
+use Rattle.std.proofs.Common.{arith, ◌≡◌, ℕ, ◌+◌, ◌≤◌, max, Bool, false, List, length, take, ◌↔◌}
 use Rattle.grid_core.specs.Candidates.{Candidates, is_dead}
 use Rattle.engine_core.specs.Puzzle.{Puzzle}
 use Rattle.engine_core.specs.Closing.{closure}

@@ -2,7 +2,7 @@
 use Rattle.std.proofs.Common.{add-one, ◌≡◌, ℕ, zero, suc, ◌+◌, ◌-◌, ◌<◌, ◌≤◌, max, Bool, true, false, cond, eqb, List, [], ◌∷◌, ◌++◌, length, set, slice_index, take, Option, Some, None, refl, sym, ap, ◌∙◌, ◌||◌, inl, inr, arith}
 use Rattle.std.specs.Prelude.{sum_by}
 use Rattle.std.specs.List.{between}
-use Rattle.std.proofs.lemmas.Bool.{cases_eq, cases_lt, cases_Bool, true≢false, false_from_ne_true, eqb-true, eq-eqb, ne_eqb}
+use Rattle.std.proofs.lemmas.Bool.{cases_eq, cases_lt, cases_Bool, true≢false, eq-eqb, ne_eqb}
 use Rattle.std.proofs.lemmas.List.{take_more, length-take-le, get_or-take, length-set, get_or-set_other, places}
 use Rattle.std.proofs.lemmas.List.Edits.{length-between, get_or-between}
 use Rattle.std.proofs.lemmas.List.Sums.{sum_by-cons}
@@ -13,7 +13,6 @@ use Rattle.engine_core.specs.PlaceLaws.{has_place-at, has_place-here}
 use Rattle.engine_core.specs.House.{AreDifferent}
 use Rattle.engine_core.specs.HousesLaws.{counted_twice, from_first}
 use Rattle.engine_core.specs.HouseIndex.{scope_of, AreScopes, number_at, AreHousesAt, start_at, IsIndex, IsRoom, IsPut, IsFirstFrom}
-use Rattle.engine_core.proofs.ListLemmas.{room}
 
 -- ---- sums and counts as they go on
 pub sum_below-more : (f : ℕ → ℕ) (m n : ℕ) → m ≤ n → sum_below f m ≤ sum_below f n

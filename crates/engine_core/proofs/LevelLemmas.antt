@@ -1,12 +1,11 @@
 -- The levels of a search: what its frames and its trail say of the boards that are open.
-use Rattle.std.proofs.Common.{◌≡◌, ◌≢◌, ℕ, zero, suc, ◌+◌, ◌-◌, ◌<◌, ◌≤◌, true, false, List, [], ◌∷◌, ◌++◌, length, length-set, set, Some, None, refl, sym, ap, ◌∙◌, subst, arith, add-one}
+use Rattle.std.proofs.Common.{◌≡◌, ◌≢◌, ℕ, zero, suc, ◌+◌, ◌-◌, ◌<◌, List, ◌∷◌, ◌++◌, length, length-set, set, Some, None, refl, sym, ap, ◌∙◌, subst, arith, add-one}
 use Rattle.std.proofs.lemmas.Bool.{cases_eq}
 use Rattle.std.proofs.lemmas.List.{get_or-set_same, get_or-set_other}
 use Rattle.grid_core.specs.Board.{has}
-use Rattle.grid_core.specs.Candidates.{Candidates, only, pick}
+use Rattle.grid_core.specs.Candidates.{Candidates, only}
 use Rattle.grid_core.proofs.GridLemmas.{only-inside}
 use Rattle.engine_core.specs.Puzzle.{Puzzle, IsLawful, IsNext}
-use Rattle.engine_core.specs.Queue.{IsClosedBut}
 use Rattle.engine_core.specs.Walk.{IsFewest, Mark.Trial, walk}
 use Rattle.engine_core.specs.Search.{Level, pending}
 use Rattle.engine_core.specs.Trail.{Trail, back_at, IsFurther, IsBack}

@@ -1,8 +1,8 @@
-use Rattle.std.proofs.Common.{add-one, ◌≡◌, ℕ, ◌+◌, ◌-◌, ◌*◌, ◌<◌, ◌≤◌, Bool, true, false, not, cond, ◌&&◌, ◌||◌, eqb, List, [], ◌∷◌, ◌++◌, length, slice_index, take, set, Option, Some, refl, sym, ap, ◌∙◌, inl, inr, arith}
-use Rattle.std.proofs.lemmas.Bool.{and_left, and_right, cases_Bool, cases_eq, true≢false, and_parts, and_from, or_cases, or_left, or_right, or_parts, not-true, not-false, not_from_false, not_from_true, false_from_ne_true, eqb-true, eq-eqb, ne_eqb}
+use Rattle.std.proofs.Common.{add-one, ◌≡◌, ℕ, ◌+◌, ◌-◌, ◌*◌, ◌<◌, ◌≤◌, Bool, true, false, not, ◌&&◌, ◌||◌, eqb, List, [], ◌∷◌, ◌++◌, length, slice_index, take, set, Option, Some, refl, sym, ap, ◌∙◌, inl, inr, arith}
+use Rattle.std.proofs.lemmas.Bool.{and_left, cases_Bool, cases_eq, true≢false, and_parts, and_from, or_cases, or_left, or_right, not-true, not_from_false, not_from_true, false_from_ne_true, eqb-true, eq-eqb, ne_eqb}
 use Rattle.std.proofs.Math.Nat.{mul-le-mul_right}
 use Rattle.std.proofs.Math.Seq.{take-suc-set}
-use Rattle.grid_core.specs.Candidates.{Candidates, IsWithin, any_below, count_below, sum_below, is_dead, only}
+use Rattle.grid_core.specs.Candidates.{Candidates, IsWithin, any_below, count_below, is_dead, only}
 use Rattle.grid_core.proofs.CandidateLemmas.{any_below-here, any_below-some, any_below-none, count_below-le, count_below-lt, count_below-any, count_below-kept, count_below-pos, count_below-none, count_below-bound, sum_below-le, sum_below-add, is_dead-not, is_dead-here, is_dead-each, is_dead-inside}
 use Rattle.grid_core.specs.Board.{Layout, SameShape, has, cells_of}
 use Rattle.grid_core.proofs.BoardLemmas.{has-within}
@@ -109,7 +109,8 @@ woken_or_sent p laws h K waits j lth on = elim (or_cases (but waits h j) _ on) [
   | inr called ↦
       let w = any_below-some _ (length (p.scope h)) (and_parts _ (not (p.settled && eqb j h)) called).0 in
       let member = has_place-here (p.scope h) w.0 w.1 in
-      or_right (but waits h j) _ (any_below-here (λ c. sent p h K c j) p.cells (slice_index (p.scope h) w.0) (scope-in p laws h w.0 lth w.1) (grind (arith, common_steps)))
+      or_right (but waits h j) _ (any_below-here (λ c. sent p h K c j) p.cells (slice_index (p.scope h) w.0)
+      (scope-in p laws h w.0 lth w.1) (grind (arith, common_steps)))
 ]
 
 one_less : (waits : ℕ → Bool) (n h : ℕ) → h < n → waits h ≡ true → count_below (but waits h) n < count_below waits n

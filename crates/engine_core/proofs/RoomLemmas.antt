@@ -1,10 +1,10 @@
 -- Room for the frames: each open level has one more cell with a single value.
-use Rattle.std.proofs.Common.{◌≡◌, ℕ, ◌<◌, ◌≤◌, true, false, eqb, refl, sym, ◌∙◌, inl, inr, arith, Some, subst}
+use Rattle.std.proofs.Common.{◌≡◌, ℕ, ◌<◌, ◌≤◌, true, false, eqb, refl, sym, ◌∙◌, arith, Some}
 use Rattle.std.proofs.lemmas.Bool.{cases_eq, eqb-true, ne_eqb, eq-eqb}
 use Rattle.grid_core.specs.Candidates.{Candidates, IsInside, IsWithin, is_dead, pick, only, count_below}
 use Rattle.grid_core.proofs.CandidateLemmas.{count_below-lt, count_below-le, count_below-few, count_below-pos, count_below-bound, is_dead-not}
 use Rattle.grid_core.proofs.GridLemmas.{only-at, only-other, only-here}
-use Rattle.engine_core.specs.Puzzle.{Puzzle, IsClosed}
+use Rattle.engine_core.specs.Puzzle.{Puzzle}
 use Rattle.engine_core.specs.Closing.{closure}
 use Rattle.engine_core.specs.Walk.{IsFewest}
 use Rattle.engine_core.specs.Search.{Level}

@@ -6,7 +6,7 @@ use Rattle.grid_core.specs.Candidates.{Candidates}
 use Rattle.engine_core.specs.Puzzle.{Puzzle}
 use Rattle.engine_core.specs.Search.{pending}
 use Rattle.engine_core.specs.Walk.{Mark, Mark.Trial, walk}
-use Rattle.engine_core.specs.Verdict.{Outcome.TwoGrids, Outcome.OutOfBudget, outcome, tried}
+use Rattle.engine_core.specs.Verdict.{Outcome.OutOfBudget, outcome, tried}
 use Rattle.engine_core.specs.Counts.{deepest_of, boards_of, IsTurns}
 use Rattle.engine_core.specs.Frames.{found_marks, found_of, levels_of, pending_of, walk_of, marks_of, marks_from, board_in, Says, IsTrial, CountsClosing, IsSearched, IsWalked, searched_at}
 use Rattle.engine_core.specs.declared.search.judge.Grids.{Grids}

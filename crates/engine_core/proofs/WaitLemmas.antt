@@ -2,7 +2,7 @@
 use Rattle.std.proofs.Common.{◌≡◌, ◌≢◌, ℕ, ◌+◌, ◌-◌, ◌*◌, ◌/◌, ◌%◌, ◌^◌, ◌<◌, ◌≤◌, Bool, true, false, not, ◌&&◌, ◌||◌, eqb, List, get_or, set, bit_and, bit_or, length, replicate, refl, sym, ap, ◌∙◌, Some, inl, inr, arith, w64}
 use Rattle.std.specs.Int.{bit_at, trailing_zeros}
 use Rattle.std.proofs.Math.Nat.{div-div-eq-div-mul, div-le_self}
-use Rattle.std.proofs.lemmas.Bool.{cases_eq, cases_lt, and_right, or_right, eq-eqb, ne_eqb, not_from_true, eqb-true}
+use Rattle.std.proofs.lemmas.Bool.{cases_eq, cases_lt, eq-eqb, ne_eqb, eqb-true}
 use Rattle.std.proofs.lemmas.List.{get_or-set_same, get_or-set_other, get_or-replicate}
 use Rattle.std.proofs.lemmas.Nat.{pow-add}
 use Rattle.std.proofs.lemmas.Nat.Bits.{bit_at_set_same, bit_at_set_other, bit_at_clear_same, bit_at_clear_other, bit_at-zero, bit_at-trailing_zeros, bit_at_above}
@@ -42,7 +42,8 @@ waiting-word : (f : Bool → Bool → Bool) → ((x : Bool) → f x false ≡ x)
 waiting-word f none waits h y j lt bits = elim (cases_eq (j / 64) (h / 64)) [
   | inl word ↦
       word-same waits (h / 64) y j lt word ∙ bits (j % 64) (omega arith)
-      ∙ (let same = same_bool (eqb (j % 64) (h % 64)) (eqb j h) (grind (arith, common_steps, eq-eqb, eqb-true, same_house)) (grind (arith, common_steps, eq-eqb, eqb-true)) in
+      ∙ (let same = same_bool (eqb (j % 64) (h % 64)) (eqb j h) (grind (arith, common_steps, eq-eqb, eqb-true, same_house))
+      (grind (arith, common_steps, eq-eqb, eqb-true)) in
       rw (word-is waits (h / 64) j word, same) refl)
   | inr apart ↦ word-other waits (h / 64) y j apart ∙ rw (ne_eqb j h (λ e. apart (ap (λ (k : ℕ). k / 64) e))) (sym (none _))
 ]

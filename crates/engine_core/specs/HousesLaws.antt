@@ -1,22 +1,17 @@
 -- A puzzle of sound houses is lawful; and visits enough for each house once, and once more for each value of its cells.
-use Rattle.std.proofs.Common.{◌≡◌, ℕ, zero, suc, ◌+◌, ◌-◌, ◌*◌, ◌<◌, ◌≤◌, Bool, true, false, not, cond, ◌&&◌, eqb, List, [], ◌∷◌, map, length, get_or, slice_index, refl, sym, ap, ◌∙◌, inl, inr, arith}
+use Rattle.std.proofs.Common.{◌≡◌, ℕ, zero, suc, ◌+◌, ◌-◌, ◌*◌, ◌<◌, ◌≤◌, Bool, true, false, not, cond, ◌&&◌, eqb, List, [], ◌∷◌, length, refl, sym, ap, ◌∙◌, arith}
 use Rattle.std.specs.Prelude.{All, sum_by}
-use Rattle.std.proofs.lemmas.Bool.{cases_Bool, cases_lt, true≢false, and_left, or_cases, eqb-true, eq-eqb, false_from_ne_true, ne_eqb}
-use Rattle.std.proofs.lemmas.List.{get_or-map, length-map}
+use Rattle.std.proofs.lemmas.Bool.{or_cases, eqb-true}
 use Rattle.std.proofs.lemmas.Nat.{mul-le}
 use Rattle.std.proofs.lemmas.List.Sums.{sum_by-cons}
-use Rattle.grid_core.specs.Candidates.{Candidates, single, count_below, sum_below}
+use Rattle.grid_core.specs.Candidates.{count_below, sum_below}
 use Rattle.grid_core.proofs.CandidateLemmas.{sum_below-le, sum_below-add, count_below-or, count_below-few, count_below-none}
-use Rattle.grid_core.proofs.GridLemmas.{single-at, single-is}
 use Rattle.engine_core.specs.Puzzle.{IsLawful, after, has_place, share}
 use Rattle.engine_core.specs.PlaceLaws.{has_place-at}
-use Rattle.engine_core.specs.Filling.{has_value, strikes_by_fillings}
-use Rattle.engine_core.specs.FillingLaws.{strikes_settled, own_values_stay}
-use Rattle.engine_core.specs.House.{Decision, sets_at, strikes_at, AreDifferent}
+use Rattle.engine_core.specs.House.{Decision, strikes_at}
 use Rattle.engine_core.specs.HouseLaws.{strikes_at-in_scope, strikes_at-inside, settled_at, closed_at}
 pub use Rattle.engine_core.specs.HouseLaws.{by_fillings-settles, by_fillings-keeps}
-use Rattle.engine_core.specs.Houses.{House, house_of, no_house, Setting, by_houses, AreLeft, IsSettled, AreOwn, Keeps, IsSound, IsSetting, visits_of}
-use Rattle.std.proofs.lemmas.Grind.{common_steps}
+use Rattle.engine_core.specs.Houses.{House, house_of, no_house, Setting, by_houses, IsSound, IsSetting, visits_of}
 
 -- ---- a puzzle of sound houses
 pub by_houses-lawful : (s : Setting) (houses : List House) → IsSetting s → All (IsSound s) houses

@@ -1,9 +1,7 @@
-use Rattle.std.proofs.Common.{◌+◌, ◌<◌, cond, length, refl, ap, ◌∙◌, sym, arith}
-use Rattle.grid_core.specs.Candidates.{count_below}
+use Rattle.std.proofs.Common.{arith}
 use Rattle.grid_core.proofs.CandidateLemmas.{count_below-bound}
 use Rattle.engine_core.specs.Puzzle.{has_place}
-use Rattle.engine_core.specs.HouseIndex.{scope_of, number_at}
-use Rattle.engine_core.proofs.IndexLemmas.{number_at-more}
+use Rattle.engine_core.specs.HouseIndex.{scope_of}
 use Rattle.engine_core.proofs.houses.table.count_houses.Goals as goal
 
 pub count_house-requires-clause-within : goal.count_house-requires-clause-within

@@ -1,5 +1,5 @@
 use Rattle.std.proofs.Common.{suc, length, slice_index, arith}
-use Rattle.engine_core.proofs.IndexLemmas.{summed-none, summed-sum, summed-more, sum_below-more}
+use Rattle.engine_core.proofs.IndexLemmas.{summed-sum, sum_below-more}
 use Rattle.engine_core.proofs.houses.table.sum_up.Goals as goal
 
 pub overflow_add-sum : goal.overflow_add-sum

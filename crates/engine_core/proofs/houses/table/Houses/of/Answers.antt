@@ -2,7 +2,6 @@ use Rattle.std.proofs.Common.{◌≡◌, ◌∙◌, drop, length, slice_index, r
 use Rattle.std.proofs.lemmas.List.{take_at}
 use Rattle.engine_core.specs.HouseIndex.{start_at}
 use Rattle.engine_core.proofs.IndexLemmas.{scopes-wider, index-none}
-use Rattle.engine_core.proofs.PieceLemmas.{few-listed}
 use Rattle.engine_core.proofs.houses.table.Houses.of.Goals as goal
 
 pub write_ends-all-requires-clause-scopes : goal.write_ends-all-requires-clause-scopes

@@ -1,10 +1,8 @@
-use Rattle.std.proofs.Common.{◌≡◌, ◌<◌, length, slice_index, refl, sym, ap, ◌∙◌, arith}
+use Rattle.std.proofs.Common.{◌≡◌, ◌<◌, length, slice_index, arith}
 use Rattle.grid_core.specs.Board.{has}
-use Rattle.grid_core.specs.Candidates.{Candidates}
 use Rattle.engine_core.specs.Keeping.{AreSetsOf}
 use Rattle.engine_core.specs.Puzzle.{after}
 use Rattle.engine_core.specs.Sets.{IsBitsOf}
-use Rattle.engine_core.proofs.ClosingLemmas.{after_inside}
 use Rattle.engine_core.proofs.KeepLemmas.{kept-none, kept-left}
 use Rattle.engine_core.proofs.QueueLemmas.{scope-in, within_of}
 use Rattle.engine_core.proofs.ScopeLemmas.{upto-next, upto-cell, upto-left, upto-same, upto-all}
