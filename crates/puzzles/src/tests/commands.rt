@@ -20,10 +20,8 @@ fn one_answer(rt: HostRuntime) -> Result<(), Fail> {
         let (text, status) = run_on_bytes(rt.alloc(), &row.words, row.input.as_bytes());
         for most in [1, 2] {
             let seen = row.read_by(rt.alloc(), most, 0);
-            assert!(rt;
-                seen.writer.taken == text && seen.status == status,
-                "{line} by {most}"
-            );
+            let is_same = seen.writer.taken == text && seen.status == status;
+            assert!(rt; is_same, "{line} by {most}");
         }
     }
     Ok(())

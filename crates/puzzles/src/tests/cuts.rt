@@ -23,6 +23,13 @@ const ENDED: [&str; 4] = [
 const RIGHT: &str = "check solo 2x3:zj \
     < 1 2 3 4 5 6|4 5 6 1 2 3|2 3 1 5 6 4|5 6 4 2 3 1|3 1 2 6 4 5|6 4 5 3 1 2| > 0 correct|";
 
+/// Inputs that are no grids: as many bytes as are read, one more, and many more.
+const NO_GRIDS: [&str; 3] = [
+    "check solo 2x3:zj < {16384}| > 2 refused: grid|",
+    "check solo 2x3:zj < {16385}| > 2 refused: grid|",
+    "check solo 2x3:zj < {100000}| > 2 refused: grid|",
+];
+
 /// An ID that is solved; the program's stored run has these words too.
 const SOLVED: &str = "solve pattern 5x1:1/1//1/1/2.2 > 0 one|##.##|";
 
@@ -35,24 +42,9 @@ fn inputs_are_read_to_their_ends(rt: HostRuntime) -> Result<(), Fail> {
         (RIGHT, 2, 37, 1),
         (RIGHT, 3, 25, 1),
         (RIGHT, 4_096, 2, 1),
-        (
-            "check solo 2x3:zj < {16384}| > 2 refused: grid|",
-            4_096,
-            5,
-            1,
-        ),
-        (
-            "check solo 2x3:zj < {16385}| > 2 refused: grid|",
-            4_096,
-            6,
-            1,
-        ),
-        (
-            "check solo 2x3:zj < {100000}| > 2 refused: grid|",
-            4_096,
-            26,
-            1,
-        ),
+        (NO_GRIDS[0], 4_096, 5, 1),
+        (NO_GRIDS[1], 4_096, 6, 1),
+        (NO_GRIDS[2], 4_096, 26, 1),
     ] {
         let row = Row::read(rt.alloc(), line)?;
         let seen = row.read_by(rt.alloc(), most, 0);
@@ -129,11 +121,8 @@ fn a_failing_writer_leaves_a_beginning(rt: HostRuntime) -> Result<(), Fail> {
         assert!(rt; seen.sink_failed, "{line} at {fails_at}");
         assert_eq!(rt; seen.writer.taken.as_slice(), written.as_bytes(), "{line}");
         assert_eq!(rt; seen.writer.calls, calls, "{line} at {fails_at}");
-        assert_eq!(rt;
-            seen.writer.flushes > 0,
-            written.len() == row.text.len(),
-            "{line} at {fails_at}"
-        );
+        let is_all = written.len() == row.text.len();
+        assert_eq!(rt; seen.writer.flushes > 0, is_all, "{line} at {fails_at}");
         assert_eq!(rt; seen.reader.calls, reads, "{line} at {fails_at}");
         assert_eq!(rt; seen.fetches, reads, "{line} at {fails_at}");
     }

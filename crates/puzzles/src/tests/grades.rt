@@ -29,10 +29,8 @@ fn grades_with_traces_begin_alike(rt: HostRuntime) -> Result<(), Fail> {
         row.words.push(String::from_str(rt.alloc(), "--trace")?)?;
         let seen = row.read_by(rt.alloc(), 1, 0);
         let taken = seen.writer.taken.as_slice();
-        assert!(rt;
-            taken.starts_with(row.text.as_bytes()) && seen.status == row.status,
-            "{line}"
-        );
+        let is_alike = taken.starts_with(row.text.as_bytes()) && seen.status == row.status;
+        assert!(rt; is_alike, "{line}");
         // A refusal ends there: it has no trace.
         assert!(rt; taken.len() == row.text.len() || row.status != 2, "{line}");
     }
@@ -144,10 +142,8 @@ fn traces_of_pattern_close_their_boards(rt: HostRuntime) -> Result<(), Fail> {
         let columns = usize::from(puzzle.size().w());
         let rules = PatternLines::new(alloc, &puzzle)?;
         let visits = visits_in(alloc, &lines, &["column", "row"], columns, rules.houses())?;
-        assert!(rt;
-            closes(alloc, &rules, &visits, false)?,
-            "{id} with {budget}"
-        );
+        let is_closed = closes(alloc, &rules, &visits, false)?;
+        assert!(rt; is_closed, "{id} with {budget}");
     }
     Ok(())
 }
@@ -163,37 +159,25 @@ const SOLOS: [(&str, &str, usize, usize); 6] = [
 ];
 
 /// Whether the visits that are told of a puzzle of Solo close its board, by the rules of its grade.
-fn solo_closes(
-    alloc: Global,
-    id: &str,
-    grade: &str,
-    per_kind: usize,
-    houses: usize,
-) -> Result<bool, Fail> {
+fn solo_closes(alloc: Global, solo: (&str, &str, usize, usize)) -> Result<bool, Fail> {
+    let (id, grade, per_kind, houses) = solo;
     let lines = traced(alloc, ["solo", id, "0", grade])?;
     let kinds = ["row", "column", "block", "diagonal"];
     let visits = visits_in(alloc, &lines, &kinds, per_kind, houses)?;
     let puzzle = read_solo(alloc, id.as_bytes())?;
-    let fine = match grade {
-        "singles" => closes(
-            alloc,
-            &SoloSingles::new(alloc, &puzzle)?,
-            &visits,
-            id == LATIN,
-        )?,
+    let is_full = id == LATIN;
+    Ok(match grade {
+        "singles" => closes(alloc, &SoloSingles::new(alloc, &puzzle)?, &visits, is_full)?,
         "houses" => closes(alloc, &SoloHouses::new(alloc, &puzzle)?, &visits, false)?,
         _ => closes(alloc, &SoloCrossings::new(alloc, &puzzle)?, &visits, false)?,
-    };
-    Ok(fine)
+    })
 }
 
 #[test]
 fn traces_of_solo_close_their_boards(rt: HostRuntime) -> Result<(), Fail> {
-    for (id, grade, per_kind, houses) in SOLOS {
-        assert!(rt;
-            solo_closes(rt.alloc(), id, grade, per_kind, houses)?,
-            "{id}"
-        );
+    for solo in SOLOS {
+        let is_closed = solo_closes(rt.alloc(), solo)?;
+        assert!(rt; is_closed, "{}", solo.0);
     }
     Ok(())
 }
@@ -221,16 +205,11 @@ fn sweeps_close_their_boards(rt: HostRuntime) -> Result<(), Fail> {
     ] {
         let lines = traced(alloc, ["lightup", id, budget, grade])?;
         let number = lines.strip_prefix("sweeps ").ok_or("sweeps")?;
-        let sweeps = number
-            .strip_suffix('\n')
-            .ok_or("a line end")?
-            .parse::<usize>()?;
+        let digits = number.strip_suffix('\n').ok_or("a line end")?;
         let rules = LightRules::new(alloc, &read_lights(alloc, id.as_bytes())?)?;
-        let visits = swept(alloc, sweeps, rules.houses())?;
-        assert!(rt;
-            closes(alloc, &rules, &visits, false)?,
-            "{id} with {budget}"
-        );
+        let visits = swept(alloc, digits.parse::<usize>()?, rules.houses())?;
+        let is_closed = closes(alloc, &rules, &visits, false)?;
+        assert!(rt; is_closed, "{id} with {budget}");
     }
     Ok(())
 }
@@ -266,10 +245,8 @@ fn a_long_trace_goes_out_in_pieces(rt: HostRuntime) -> Result<(), Fail> {
         let writer = Slow::new(rt.alloc(), 1_000_000, fails_at, true);
         let seen = observe(rt.alloc(), &words, Endless::new(b'#'), writer);
         let is_whole = seen.writer.taken.len() == whole.len();
-        assert!(rt;
-            whole.starts_with(seen.writer.taken.as_slice()),
-            "at {fails_at}"
-        );
+        let is_beginning = whole.starts_with(seen.writer.taken.as_slice());
+        assert!(rt; is_beginning, "at {fails_at}");
         assert_eq!(rt; seen.status, if is_whole { 0 } else { 6 }, "at {fails_at}");
         assert_eq!(rt; is_whole, fails_at > pieces, "at {fails_at} of {pieces}");
     }

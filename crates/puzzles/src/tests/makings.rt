@@ -39,10 +39,8 @@ fn made_puzzles_are_solved(rt: HostRuntime) -> Result<(), Fail> {
             let words = ["generate", game, size, "--seed", seed, "--budget", budget];
             let (written, status) = outcome(rt.alloc(), &words)?;
             assert_eq!(rt; status, 0, "{game} {size} of {seed}");
-            assert!(rt;
-                is_solved(rt.alloc(), game, &written, budget)?,
-                "{game} {size} of {seed}"
-            );
+            let is_fine = is_solved(rt.alloc(), game, &written, budget)?;
+            assert!(rt; is_fine, "{game} {size} of {seed}");
             let (again, _) = outcome(rt.alloc(), &words)?;
             assert_eq!(rt; again, written, "{game} {size} of {seed}");
         }

@@ -53,6 +53,11 @@ impl Row {
     /// The run of a line, and what it is to write.
     pub fn read(alloc: Global, line: &str) -> Result<Row, Fail> {
         let (asked, told) = line.split_once(" > ").unwrap_or((line, "0"));
+        Row::of(alloc, asked, told)
+    }
+
+    /// The run of these words and their input, with its status and what it is to write.
+    pub fn of(alloc: Global, asked: &str, told: &str) -> Result<Row, Fail> {
         let (words, input) = asked.split_once(" < ").unwrap_or((asked, "unread"));
         let (status, text) = told.split_once(' ').unwrap_or((told, ""));
         Ok(Row {

@@ -8,21 +8,11 @@ use std::test::Fail;
 fn numbers_to_make(alloc: Global, words: &[&str]) -> Result<Option<[u64; 4]>, AllocError> {
     let words = texts(alloc, words)?;
     Ok(match read_words(alloc, words.as_slice())? {
-        Some(
-            Request::Generate {
-                size: "4x5",
-                recipe,
-                ..
-            },
-        ) => {
+        Some(Request::Generate { size, recipe, .. }) if size == "4x5" => {
             let limits = recipe.limits;
             let tries = u64::from(limits.tries);
-            Some([
-                recipe.seed,
-                limits.budget,
-                tries,
-                u64::from(recipe.black.value),
-            ])
+            let black = u64::from(recipe.black.value);
+            Some([recipe.seed, limits.budget, tries, black])
         }
         _ => None,
     })
@@ -31,24 +21,14 @@ fn numbers_to_make(alloc: Global, words: &[&str]) -> Result<Option<[u64; 4]>, Al
 #[test]
 fn numbers_are_read(rt: HostRuntime) -> Result<(), Fail> {
     let most = "18446744073709551615";
+    let of_most = Some([u64::MAX, 100_000, 4_294_967_295, 0]);
+    let all_black = Some([0, 100_000, 1_000, 100]);
     for (game, seed, option, value, numbers) in [
         ("pattern", "1", "--budget", "7", Some([1, 7, 1_000, 50])),
         ("lightup", "007", "--tries", "00", Some([7, 100_000, 0, 20])),
-        (
-            "solo",
-            most,
-            "--tries",
-            "4294967295",
-            Some([u64::MAX, 100_000, 4_294_967_295, 0]),
-        ),
+        ("solo", most, "--tries", "4294967295", of_most),
         ("tents", "0", "--tries", "4294967296", None),
-        (
-            "pattern",
-            "0",
-            "--black",
-            "100",
-            Some([0, 100_000, 1_000, 100]),
-        ),
+        ("pattern", "0", "--black", "100", all_black),
         ("lightup", "0", "--black", "0", Some([0, 100_000, 1_000, 0])),
         ("lightup", "0", "--black", "101", None),
         ("tents", "0", "--black", "5", None),
