@@ -6,7 +6,7 @@ use Rattle.std.specs.List.{All, slice_split}
 use Rattle.std.proofs.lemmas.List.Splits.{slice_split_at, slice_split_none, length-slice_split}
 use Rattle.std.proofs.lemmas.List.Elements.{All-push, All-nil}
 use Rattle.std.specs.Str.Lines.{lines, lines_of_parts, strip_carriage_return}
-use Rattle.puzzles.specs.Answers.{Answer, BeginsAnswer, PutBegun, Text, Begins, IsInput}
+use Rattle.puzzles.specs.Answers.{Answer, BeginsAnswer, PutBegun, Text, Begins, IsInput, answer_with}
 use Rattle.puzzles.specs.Each.{AllowsEach, Answered, Begun, HasAnswers, Stopped, both, silence}
 use Rattle.puzzles.specs.Batches.{Batched, Holds}
 use Rattle.puzzles.specs.Texts.{Given}
@@ -42,11 +42,8 @@ module _ (allows : Text → Answer → Type 0) where
         → allows (strip_carriage_return b.piece) x → (rest : Text) (z : Answer) → AllowsEach allows (lines rest) z
         → AllowsEach allows (lines ((seen ++ 10 ∷ []) ++ rest)) (both (record { text = b.written; status = code_of batch.status }) (both x z))
     after_line start now batch seen x b allowed rest z h =
-        let here : AllowsEach allows (strip_carriage_return b.piece ∷ lines rest) (both x z) = (x, z, allowed, h, refl) in
-        let whole : AllowsEach allows (lines (b.piece ++ 10 ∷ rest)) (both x z) =
-        subst (λ (ls : List Text). AllowsEach allows ls (both x z)) (sym (lines_at b.piece rest b.in_line)) here in
-        subst (λ (t : Text). AllowsEach allows (lines t) (both (record { text = b.written; status = code_of batch.status }) (both x z)))
-        (sym (append_assoc seen (10 ∷ []) rest)) (b.goes_on (10 ∷ rest) (both x z) whole)
+        let whole : AllowsEach allows (lines (b.piece ++ 10 ∷ rest)) (both x z) = rw (lines_at b.piece rest b.in_line) (x, z, allowed, h, refl) in
+        rw (append_assoc seen (10 ∷ []) rest) (b.goes_on (10 ∷ rest) (both x z) whole)
 
     pub step_answered : (start now new : S) (batch next : Batch) (seen : Text) (x : Answer) → Batched takes allows start batch seen now
         → ((piece : Text) → Holds batch.line piece → allows (strip_carriage_return piece) x) → takes now x.text new
@@ -58,9 +55,8 @@ module _ (allows : Text → Answer → Type 0) where
       in_line = All-nil (λ b. (b == 10) ≡ false);
       took = both_times start now new b.written x.text b.took took;
       goes_on = λ rest z h.
-          let regrouped : ◌≡◌ {A = Answer} (both (record { text = b.written; status = code_of batch.status }) (both x z)) (both (record { text = b.written ++ x.text; status = code_of next.status }) z) =
-          ap₂ (λ (t : Text) (s : ℕ). record { text = t; status = s }) (sym (append_assoc b.written x.text z.text)) (omega arith) in
-          subst (λ (a : Answer). AllowsEach allows (lines ((seen ++ 10 ∷ []) ++ rest)) a) regrouped (after_line start now batch seen x b (allowed b.piece b.holds) rest z h);
+          let same : max (code_of next.status) z.status ≡ max (code_of batch.status) (max x.status z.status) = omega arith in
+          rw (append_assoc b.written x.text z.text, same) (after_line start now batch seen x b (allowed b.piece b.holds) rest z h);
     }
 
     pub step_broken : HasAnswers allows → (start now new : S) (batch : Batch) (seen : Text) (x : Answer) → Batched takes allows start batch seen now
@@ -71,8 +67,7 @@ module _ (allows : Text → Answer → Type 0) where
       took = both_times start now new b.written w.done b.took w.took;
       begun = λ rest.
           let z = each_has answers (lines rest) in
-          let text_is : b.written ++ (x.text ++ z.0.text) ≡ (b.written ++ w.done) ++ (w.begun.0 ++ z.0.text) =
-          ap (λ t. b.written ++ (t ++ z.0.text)) w.begun.1 ∙ ap (λ t. b.written ++ t) (append_assoc w.done w.begun.0 z.0.text) ∙ sym (append_assoc b.written w.done (w.begun.0 ++ z.0.text)) in
+          let text_is : b.written ++ (x.text ++ z.0.text) ≡ (b.written ++ w.done) ++ (w.begun.0 ++ z.0.text) = rw w.begun.1 (simp append_assoc) in
           inr (_, after_line start now batch seen x b (allowed b.piece b.holds) rest z.0 z.1, (w.begun.0 ++ z.0.text, text_is));
     }
 
@@ -84,9 +79,7 @@ module _ (allows : Text → Answer → Type 0) where
       took = b.took;
       begun = λ rest.
           let z = each_has answers (lines (b.piece ++ (more ++ rest))) in
-          let allowed = subst (λ (t : Text). AllowsEach allows (lines t) (both (record { text = b.written; status = code_of batch.status }) z.0))
-          (sym (append_assoc seen more rest)) (b.goes_on (more ++ rest) z.0 z.1) in
-          inr (_, allowed, (z.0.text, refl));
+          inr (both (answer_with b.written (code_of batch.status)) z.0, rw (append_assoc seen more rest) (b.goes_on (more ++ rest) z.0 z.1), (z.0.text, refl));
     }
 
     pub step_in_line : (start now : S) (batch next : Batch) (seen : Text) (byte : ℕ) → (byte == 10) ≡ false → Batched takes allows start batch seen now
@@ -99,9 +92,7 @@ module _ (allows : Text → Answer → Type 0) where
       in_line = All-push (λ x. (x == 10) ≡ false) b.piece byte b.in_line other;
       took = b.took;
       goes_on = λ rest z h.
-          let at : AllowsEach allows (lines (b.piece ++ byte ∷ rest)) z = subst (λ (t : Text). AllowsEach allows (lines t) z) (append_assoc b.piece (byte ∷ []) rest) h in
-          let moved = subst (λ (t : Text). AllowsEach allows (lines t) (both (record { text = b.written; status = code_of batch.status }) z)) (sym (append_assoc seen (byte ∷ []) rest)) (b.goes_on (byte ∷ rest) z at) in
-          subst (λ (s : ℕ). AllowsEach allows (lines ((seen ++ byte ∷ []) ++ rest)) (both (record { text = b.written; status = s }) z)) (sym status) moved;
+          rw (status, append_assoc seen (byte ∷ []) rest) (b.goes_on (byte ∷ rest) z (rw (append_assoc b.piece (byte ∷ []) rest) at h));
     }
 
     -- the end of the input, after a newline
@@ -111,13 +102,9 @@ module _ (allows : Text → Answer → Type 0) where
       written = b.written;
       took = b.took;
       whole =
-          let lines_are : lines (b.piece ++ []) ≡ [] = ap lines (append-nil b.piece) ∙ lines_last b.piece b.in_line ∙ ap (λ t. if t then [] else b.piece ∷ []) (sym (empty b.piece b.holds)) in
-          let here : AllowsEach allows (lines (b.piece ++ [])) silence = subst (λ (ls : List Text). AllowsEach allows ls silence) (sym lines_are) refl in
-          let all = b.goes_on [] silence here in
-          let same : ◌≡◌ {A = Answer} (both (record { text = b.written; status = code_of batch.status }) silence) (record { text = b.written; status = code_of batch.status }) =
-          ap₂ (λ (t : Text) (s : ℕ). record { text = t; status = s }) (append-nil b.written) (omega arith) in
-          subst (λ (t : Text). AllowsEach allows (lines t) (record { text = b.written; status = code_of batch.status })) (append-nil seen)
-          (subst (λ (a : Answer). AllowsEach allows (lines (seen ++ [])) a) same all);
+          let same : max (code_of batch.status) 0 ≡ code_of batch.status = omega arith in
+          let all = b.goes_on [] silence (rw (append-nil b.piece, lines_last b.piece b.in_line, ← empty b.piece b.holds) refl) in
+          simp (append-nil, same) at all;
     }
 
     -- with the answer to a last line that the end of the input ends
@@ -125,13 +112,9 @@ module _ (allows : Text → Answer → Type 0) where
         → false ≡ (length b.piece == 0) → allows b.piece x
         → AllowsEach allows (lines seen) (record { text = b.written ++ x.text; status = max (code_of batch.status) x.status })
     after_last start now batch seen x b some allowed =
-        let lines_are : lines (b.piece ++ []) ≡ b.piece ∷ [] = ap lines (append-nil b.piece) ∙ lines_last b.piece b.in_line ∙ ap (λ t. if t then [] else b.piece ∷ []) (sym some) in
-        let one : AllowsEach allows (b.piece ∷ []) (both x silence) = (x, silence, allowed, refl, refl) in
-        let here : AllowsEach allows (lines (b.piece ++ [])) (both x silence) = subst (λ (ls : List Text). AllowsEach allows ls (both x silence)) (sym lines_are) one in
-        let same : ◌≡◌ {A = Answer} (both (record { text = b.written; status = code_of batch.status }) (both x silence)) (record { text = b.written ++ x.text; status = max (code_of batch.status) x.status }) =
-        ap₂ (λ (t : Text) (s : ℕ). record { text = t; status = s }) (ap (λ t. b.written ++ t) (append-nil x.text)) (omega arith) in
-        subst (λ (t : Text). AllowsEach allows (lines t) (record { text = b.written ++ x.text; status = max (code_of batch.status) x.status })) (append-nil seen)
-        (subst (λ (a : Answer). AllowsEach allows (lines (seen ++ [])) a) same (b.goes_on [] (both x silence) here))
+        let same : max (code_of batch.status) (max x.status 0) ≡ max (code_of batch.status) x.status = omega arith in
+        let all = b.goes_on [] (both x silence) (rw (append-nil b.piece, lines_last b.piece b.in_line, ← some) (x, silence, allowed, refl, refl)) in
+        simp (append-nil, same) at all
 
     pub last_answered : (start now new : S) (batch : Batch) (seen : Text) (x : Answer) (status : ℕ) → Batched takes allows start batch seen now
         → ((piece : Text) → Holds batch.line piece → false ≡ (length piece == 0)) → ((piece : Text) → Holds batch.line piece → allows piece x)
@@ -139,8 +122,7 @@ module _ (allows : Text → Answer → Type 0) where
     last_answered start now new batch seen x status b some allowed took is = record {
       written = b.written ++ x.text;
       took = both_times start now new b.written x.text b.took took;
-      whole = subst (λ (s : ℕ). AllowsEach allows (lines seen) (record { text = b.written ++ x.text; status = s })) (sym is)
-          (after_last start now batch seen x b (some b.piece b.holds) (allowed b.piece b.holds));
+      whole = rw is (after_last start now batch seen x b (some b.piece b.holds) (allowed b.piece b.holds));
     }
 
     pub last_broken : (start now new : S) (batch : Batch) (seen : Text) (x : Answer) → Batched takes allows start batch seen now
@@ -149,18 +131,14 @@ module _ (allows : Text → Answer → Type 0) where
     last_broken start now new batch seen x b some allowed w = record {
       written = b.written ++ w.done;
       took = both_times start now new b.written w.done b.took w.took;
-      begun = inr (_, after_last start now batch seen x b (some b.piece b.holds) (allowed b.piece b.holds), (w.begun.0, ap (λ t. b.written ++ t) w.begun.1 ∙ sym (append_assoc b.written w.done w.begun.0)));
+      begun = inr (_, after_last start now batch seen x b (some b.piece b.holds) (allowed b.piece b.holds), (w.begun.0, rw w.begun.1 (simp append_assoc)));
     }
 
     -- no more was written
     pub last_stopped : HasAnswers allows → (start now : S) (batch : Batch) (seen : Text) → Batched takes allows start batch seen now → Begun takes allows start seen now
     last_stopped answers start now batch seen b =
         let s = step_stopped answers start now batch seen [] b in
-        record {
-          written = s.written;
-          took = s.took;
-          begun = subst (λ (t : Text). BeginsAnswer (AllowsEach allows (lines t)) s.written) (append-nil (seen ++ []) ∙ append-nil seen) (s.begun []);
-        }
+        record { written = s.written; took = s.took; begun = simp append-nil at (s.begun []) }
 
 -- a fact that holds whatever the error
 pub on_any_err : {T E : Type 0} (r : Result T E) (P : Type 0) → P → IfErr r (λ _. P)
@@ -170,11 +148,8 @@ on_any_err (Err e) P p = p
 -- what was written still begins an answer, when more of the input is known
 pub stopped_further : {S : Type 0} (takes : S → Text → S → Type 0) (allows : Text → Answer → Type 0) (start now : S) (seen more : Text)
     → Stopped takes allows start seen now → Stopped takes allows start (seen ++ more) now
-stopped_further takes allows start now seen more s = record {
-  written = s.written;
-  took = s.took;
-  begun = λ rest. subst (λ (t : Text). BeginsAnswer (AllowsEach allows (lines t)) s.written) (sym (append_assoc seen more rest)) (s.begun (more ++ rest));
-}
+stopped_further takes allows start now seen more s =
+    record { written = s.written; took = s.took; begun = λ rest. rw (append_assoc seen more rest) (s.begun (more ++ rest)) }
 
 -- the bytes up to one more
 pub one_further : (seen chunk : Text) (i : ℕ) → i < length chunk → (seen ++ take i chunk) ++ get_or chunk i 0 ∷ [] ≡ seen ++ take (i + 1) chunk
@@ -201,11 +176,8 @@ module _ {I : Type 0} (gives : I → Text → I → Type 0) (gives_both : (s t u
   pub stopped_here : {S : Type 0} (takes : S → Text → S → Type 0) (nothing : (s : S) → takes s [] s) (both : (s t u : S) (a b : Text) → takes s a t → takes t b u → takes s (a ++ b) u)
       (allows : Text → Answer → Type 0) → HasAnswers allows → (from i : I) (start o : S) (batch : Batch)
       → Given gives from i (λ seen. Batched takes allows start batch seen o) → Given gives from i (λ seen. Stopped takes allows start seen o)
-  stopped_here takes nothing both allows answers from i start o batch t = record {
-    seen = t.seen;
-    gave = t.gave;
-    is = subst (λ (c : Text). Stopped takes allows start c o) (append-nil t.seen) (step_stopped allows takes nothing both answers start o batch t.seen [] t.is);
-  }
+  stopped_here takes nothing both allows answers from i start o batch t =
+      record { seen = t.seen; gave = t.gave; is = simp append-nil at (step_stopped allows takes nothing both answers start o batch t.seen [] t.is) }
 
 -- what was read begins the input
 begins_input : (ended : Bool) (read input : Text) → IsInput ended read input → Begins read input
@@ -227,7 +199,7 @@ module _ {I S : Type 0} (source : sources.Ghosts I) (sink : sinks.Ghosts S) (tak
     leaves = record {
       begun = λ input is.
           let more = begins_input (source.has_ended j) s.seen input is in
-          subst (λ (t : Text). BeginsAnswer (AllowsEach allows (lines t)) s.is.written) (sym more.1) (s.is.begun more.0);
+          rw more.1 (s.is.begun more.0);
       whole = λ low. absurd (omega arith);
     };
   }
@@ -239,7 +211,7 @@ module _ {I S : Type 0} (source : sources.Ghosts I) (sink : sinks.Ghosts S) (tak
     gave = gave;
     took = s.took;
     leaves = record {
-      begun = λ input is. subst (λ (t : Text). BeginsAnswer (AllowsEach allows (lines t)) s.written) (same_input (source.has_ended j) seen input ended is) s.begun;
+      begun = λ input is. rw (← same_input (source.has_ended j) seen input ended is) s.begun;
       whole = λ low. absurd (omega arith);
     };
   }
@@ -251,11 +223,11 @@ module _ {I S : Type 0} (source : sources.Ghosts I) (sink : sinks.Ghosts S) (tak
     read = seen;
     written = s.written;
     gave = gave;
-    took = subst (λ (t : Text). sink.takes o t q) (append-nil s.written) (takes_both o p q s.written [] s.took more);
+    took = simp append-nil at (takes_both o p q s.written [] s.took more);
     leaves = record {
-      begun = λ input is. inr (_, subst (λ (t : Text). AllowsEach allows (lines t) (record { text = s.written; status = told })) (same_input (source.has_ended j) seen input ended is) s.whole, ([], sym (append-nil s.written)));
+      begun = λ input is. inr (answer_with s.written told, rw (← same_input (source.has_ended j) seen input ended is) s.whole, ([], sym (append-nil s.written)));
       whole = λ low input is. elim is_told [
-        | inl same ↦ subst (λ (n : ℕ). AllowsEach allows (lines input) (record { text = s.written; status = n })) (sym same) (subst (λ (t : Text). AllowsEach allows (lines t) (record { text = s.written; status = told })) (same_input (source.has_ended j) seen input ended is) s.whole)
+        | inl same ↦ rw (same, ← same_input (source.has_ended j) seen input ended is) s.whole
         | inr broken ↦ absurd (omega arith)
       ];
     };

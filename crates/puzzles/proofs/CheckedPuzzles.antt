@@ -1,29 +1,23 @@
 -- What the checks of grids rest on, for a puzzle of each game: an input has one answer of `check`, and the printed form of
 -- a solution is told to be correct.
-use Rattle.std.proofs.Common.{◌≡◌, ◌<◌, ◌≤◌, ◌∷◌, ◌⊎◌, ℕ, List, zero, suc, [], length, refl, sym, ap, ap₂, subst, arith, inl, inr, ◌≢◌, ◌∙◌, ◌*◌, true, Option, Some, None, get_or, slice_index, true≢false, codes}
+use Rattle.std.proofs.Common.{◌≡◌, ◌<◌, ◌≤◌, ◌∷◌, ◌⊎◌, ℕ, List, zero, suc, [], length, refl, sym, ap, ap₂, subst, arith, inl, inr, ◌≢◌, ◌∙◌, ◌*◌, Bool, true, false, Option, Some, None, get_or, slice_index, true≢false, codes}
 use Rattle.std.proofs.lemmas.Grind.{common_steps}
 use Rattle.std.specs.Prelude.{All, option_map, ◌↔◌, ◌++◌}
 use Rattle.std.proofs.lemmas.Bool.{cases_eq, cases_lt, eq-eqb}
+use Rattle.std.specs.Bool.{Decides}
+use Rattle.std.specs.Cmp.Lexicographic.{bytes_decides}
 use Rattle.std.specs.List.{slice_get}
+use Rattle.std.specs.Str.{bytes_eq}
 use Rattle.std.proofs.lemmas.List.{get_or_past}
-use Rattle.grid_core.specs.Grids.{IsGrid}
-use Rattle.grid_core.specs.Extent.{Extent, max_side}
-use Rattle.gameid_core.specs.GridReading.{IsAsShown, hides_nothing, light_hides, tent_hides, IsPrinted}
-use Rattle.gameid_core.specs.GridTexts.{grid_text, pattern_cell, solo_cell, solo_extent, light_cell, tents_cell}
-use Rattle.gameid_core.specs.Head.{max_numbers}
-use Rattle.gameid_core.specs.Puzzles.{IsLight, IsPattern, IsSolo, IsTents, Light, Pattern, Solo, Tents, solo_n}
 use Rattle.gameid_core.specs.declared.light_up.cell.LightCell.{LightCell}
 use Rattle.gameid_core.specs.declared.light_up.cell.LightCell.TheVariants.{White, Black, Numbered}
 use Rattle.gameid_core.specs.declared.id.game.Game.TheVariants as game
-use Rattle.pattern_core.specs.Faults.{IsCheck}
-use Rattle.solo_core.specs.Faults.{IsFirstFault}
 use Rattle.fields_core.specs.Light.{is_white, light_cells, white}
-use Rattle.fields_core.specs.LightFaults.{IsLightFault}
-use Rattle.fields_core.specs.LightSolutions.{IsLightSolution}
-use Rattle.fields_core.specs.TentFaults.{IsTentFault}
-use Rattle.fields_core.specs.TentSolutions.{IsTentSolution}
 use Rattle.fields_core.proofs.LightRuleLemmas as light
 use Rattle.fields_core.proofs.TentRuleLemmas as tents
+use Rattle.puzzles.specs.Words.{IsGrid, Extent, max_side, IsAsShown, hides_nothing, light_hides, tent_hides, IsPrinted, grid_text, pattern_cell}
+use Rattle.puzzles.specs.Words.{solo_cell, solo_extent, light_cell, tents_cell, max_numbers, IsLight, IsPattern, IsSolo, IsTents, Light, Pattern, Solo}
+use Rattle.puzzles.specs.Words.{Tents, solo_n, IsCheck, IsFirstFault, IsLightFault, IsLightSolution, IsTentFault, IsTentSolution}
 use Rattle.puzzles.specs.Answers.{Answer, Text}
 use Rattle.puzzles.specs.CheckAnswers.{IsFaultTold, checked, pattern_fault, solo_fault, light_fault, tent_fault, IsInputOf, without_returns}
 use Rattle.puzzles.specs.Games.{Playing, played}
@@ -47,17 +41,12 @@ decided_either A B (inr never) (inr none) = inr (λ h. neither h)
     neither (inl a) = never a
     neither (inr b) = none b
 
+decided_by : (P : Type 0) (test : Bool) → Decides test P → Decided P
+decided_by P true d = inl (d.0 refl)
+decided_by P false d = inr (λ p. true≢false (sym (d.1 p)))
+
 pub decided_text : (a b : List ℕ) → Decided (a ≡ b)
-decided_text [] [] = inl refl
-decided_text [] (y ∷ b) = inr (λ e. absurd (omega (arith, ap (λ (t : List ℕ). length t) e)))
-decided_text (x ∷ a) [] = inr (λ e. absurd (omega (arith, ap (λ (t : List ℕ). length t) e)))
-decided_text (x ∷ a) (y ∷ b) = elim (cases_eq x y) [
-  | inl same ↦ elim (decided_text a b) [
-    | inl rest ↦ inl (ap₂ (λ (n : ℕ) (t : List ℕ). n ∷ t) same rest)
-    | inr other ↦ inr (λ e. other (let rest : a ≡ b = cc in rest))
-  ]
-  | inr other ↦ inr (λ e. other (let same : x ≡ y = cc in same))
-]
+decided_text a b = decided_by (a ≡ b) (bytes_eq a b) (bytes_decides a b)
 
 pub decided_below : (n : ℕ) (P : ℕ → Type 0) → ((k : ℕ) → Decided (P k)) → Decided ((k : ℕ) → k < n → P k)
 decided_below zero P each = inl (λ k lt. absurd (omega arith))

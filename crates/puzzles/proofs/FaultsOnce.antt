@@ -4,13 +4,12 @@ use Rattle.std.proofs.lemmas.Grind.{common_steps}
 use Rattle.std.proofs.lemmas.Bool.{and_from, cases_lt}
 use Rattle.std.proofs.lemmas.List.{get_or_default}
 use Rattle.grid_core.specs.Candidates.{all_below}
-use Rattle.grid_core.specs.Grids.{IsGrid}
+use Rattle.puzzles.specs.Words.{IsGrid, IsSolo, Light, Pattern, Solo, Tents, lines_of, solo_n, IsLightFault, IsTentFault, IsCheck, IsFirstWrongLine}
+use Rattle.puzzles.specs.Words.{has_runs-from, has_runs-is, line_of_solution, solution_from_lines, AllStand, FallsFirst, Stands, IsFirstFault, Repeats}
+use Rattle.puzzles.specs.Words.{RepeatsFirst, fault_of, given_from_test, test_from_given, test_from_rule, given_stands}
 use Rattle.grid_core.proofs.CandidateLemmas.{all_below-at}
-use Rattle.gameid_core.specs.Puzzles.{IsSolo, Light, Pattern, Solo, Tents, lines_of, solo_n}
 use Rattle.fields_core.specs.Firsts.{IsFirst, IsFirstWrong}
 use Rattle.fields_core.specs.Light.{light_cells, black_right, number_right, bulb_right, lit_right}
-use Rattle.fields_core.specs.LightFaults.{IsLightFault}
-use Rattle.fields_core.specs.TentFaults.{IsTentFault}
 use Rattle.fields_core.specs.Tents.{tent_cells, tree_right, touch_right, column_right, row_right, can_be_paired}
 use Rattle.fields_core.specs.declared.light_up.fault.LightFault.{LightFault}
 use Rattle.fields_core.specs.declared.light_up.fault.LightFault.TheVariants as light
@@ -19,17 +18,13 @@ use Rattle.fields_core.specs.declared.tents.fault.TentFault.TheVariants as tent
 use Rattle.fields_core.proofs.LightFaultLemmas.{first-breaks, lit-from, lit-parts}
 use Rattle.fields_core.proofs.TentCounting.{camp-parts}
 use Rattle.fields_core.proofs.TentRuleLemmas.{camp-from}
-use Rattle.pattern_core.specs.Faults.{IsCheck, IsFirstWrongLine}
-use Rattle.pattern_core.specs.LineLaws.{has_runs-from, has_runs-is, line_of_solution, solution_from_lines}
 use Rattle.pattern_core.specs.Lines.{HasClue, clue_of, has_runs, line_numbers}
 use Rattle.pattern_core.specs.declared.fault.PatternFault.{PatternFault}
 use Rattle.pattern_core.specs.declared.fault.PatternFault.TheVariants as pattern
 use Rattle.solo_core.specs.Cells.{solo_cells}
-use Rattle.solo_core.specs.Faults.{AllStand, Stands, IsFirstFault, Repeats, RepeatsFirst, fault_of}
 use Rattle.solo_core.specs.Houses.{houses_of}
 use Rattle.solo_core.specs.NoRepeat.{no_repeat}
-use Rattle.solo_core.specs.SolutionLaws.{given_from_test, test_from_given, test_from_rule}
-use Rattle.solo_core.specs.Solutions.{given_stands, numbers_of as numbers_in}
+use Rattle.solo_core.specs.Solutions.{numbers_of as numbers_in}
 use Rattle.solo_core.specs.declared.fault.SoloFault.{SoloFault}
 use Rattle.solo_core.specs.declared.fault.SoloFault.TheVariants as solo
 use Rattle.solo_core.specs.declared.houses.house.SoloHouse.{SoloHouse}
@@ -225,7 +220,7 @@ module _ (p : Solo) (ok : IsSolo p) (g : List ℕ) where
         solved p ok g grid (all_stand all) (λ h d lt. fine_at h d lt (all_below-at fine (length (houses_of p)) h houses lt)),
       )
 
-  given_once : (x y : ℕ) → IsFirstFault p g (Some (solo.Given x)) → IsFirstFault p g (Some (solo.Given y)) → x ≡ y
+  given_once : (x y : ℕ) → FallsFirst p g x → FallsFirst p g y → x ≡ y
   given_once x y a b = least_once (Stands p g) (λ q. Stands p g q → ⊥) (λ q stands never. never stands) x y a.1 b.1 a.2 b.2
 
   -- the first house that repeats a number is one alone
@@ -244,26 +239,22 @@ module _ (p : Solo) (ok : IsSolo p) (g : List ℕ) where
   ]
 
   -- a fault is that of a given, or that of a house
-  split : (f : SoloFault) → IsFirstFault p g (Some f)
-      → ((x : ℕ) × (f ≡ solo.Given x) × IsFirstFault p g (Some (solo.Given x)))
+  abbrev Split : SoloFault → Type 0
+  Split f = ((x : ℕ) × (f ≡ solo.Given x) × FallsFirst p g x)
       ⊎ ((house : SoloHouse) × (f ≡ fault_of house) × AllStand p g × RepeatsFirst p g house)
+
+  split : (f : SoloFault) → IsFirstFault p g (Some f) → Split f
   split (solo.Given x) is = inl (x, refl, is)
   split (solo.Row y) is = inr (Row y, refl, is.0, is.1)
   split (solo.Column x) is = inr (Column x, refl, is.0, is.1)
   split (solo.Block b) is = inr (Block b, refl, is.0, is.1)
   split (solo.Diagonal d) is = inr (Diagonal d, refl, is.0, is.1)
 
-  both : (e f : SoloFault) → IsFirstFault p g (Some e) → IsFirstFault p g (Some f) → e ≡ f
-  both e f a b = by (split e a) (split f b)
-    where
-      by : ((x : ℕ) × (e ≡ solo.Given x) × IsFirstFault p g (Some (solo.Given x)))
-          ⊎ ((house : SoloHouse) × (e ≡ fault_of house) × AllStand p g × RepeatsFirst p g house)
-          → ((x : ℕ) × (f ≡ solo.Given x) × IsFirstFault p g (Some (solo.Given x)))
-          ⊎ ((house : SoloHouse) × (f ≡ fault_of house) × AllStand p g × RepeatsFirst p g house) → e ≡ f
-      by (inl (x, is, x_first)) (inl (y, are, y_first)) = is ∙ ap (λ (n : ℕ). solo.Given n) (given_once x y x_first y_first) ∙ sym are
-      by (inl (x, is, x_first)) (inr (house, are, stand, first)) = absurd (x_first.1 (stand x x_first.0))
-      by (inr (house, is, stand, first)) (inl (y, are, y_first)) = absurd (y_first.1 (stand y y_first.0))
-      by (inr (house, is, stand, first)) (inr (other, are, stood, second)) = is ∙ ap fault_of (house_once house other first second) ∙ sym are
+  both : (e f : SoloFault) → Split e → Split f → e ≡ f
+  both e f (inl (x, is, x_first)) (inl (y, are, y_first)) = is ∙ ap (λ (n : ℕ). solo.Given n) (given_once x y x_first y_first) ∙ sym are
+  both e f (inl (x, is, x_first)) (inr (house, are, stand, first)) = absurd (x_first.1 (stand x x_first.0))
+  both e f (inr (house, is, stand, first)) (inl (y, are, y_first)) = absurd (y_first.1 (stand y y_first.0))
+  both e f (inr (house, is, stand, first)) (inr (other, are, stood, second)) = is ∙ ap fault_of (house_once house other first second) ∙ sym are
 
   no_solution : (f : SoloFault) → IsFirstFault p g (Some f) → IsFirstFault p g None → ⊥
   no_solution f is s = true≢false (sym (test_from_rule p ok g s) ∙ sym (no_test p ok g f s.grid is))
@@ -272,4 +263,4 @@ module _ (p : Solo) (ok : IsSolo p) (g : List ℕ) where
   solo_alone None None a b = refl
   solo_alone None (Some f) a b = absurd (no_solution f b a)
   solo_alone (Some e) None a b = absurd (no_solution e a b)
-  solo_alone (Some e) (Some f) a b = ap Some (both e f a b)
+  solo_alone (Some e) (Some f) a b = ap Some (both e f (split e a) (split f b))

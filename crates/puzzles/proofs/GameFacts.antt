@@ -3,23 +3,19 @@
 use Rattle.std.proofs.Common.{◌≡◌, ◌≢◌, ◌∙◌, ℕ, List, Result, sym, ap, subst, arith, inl, inr, Some, None, Ok, Err, true, refl, drop, ◌∷◌, Bool, false, [], if◌then◌else◌}
 use Rattle.std.proofs.lemmas.Grind.{common_steps}
 use Rattle.std.specs.Prelude.{◌↔◌, is_ok, ◌≤◌}
-use Rattle.gameid_core.specs.declared.id.fault.IdFault.{IdFault}
-use Rattle.gameid_core.specs.GridTexts.{grid_text}
-use Rattle.gameid_core.specs.Head.{SizeRead}
-use Rattle.gameid_core.specs.GridReading.{IsPrinted}
-use Rattle.gameid_core.specs.declared.id.game.Game.{Game}
 use Rattle.gameid_core.specs.declared.id.game.Game.TheVariants as game
+use Rattle.gameid_core.proofs.LightTexts.{light_reading}
 use Rattle.gameid_core.proofs.LightWritten.{light_is_written}
+use Rattle.gameid_core.proofs.PatternTexts.{pattern_reading}
 use Rattle.gameid_core.proofs.PatternWritten.{pattern_is_written}
 use Rattle.gameid_core.proofs.SoloCanon.{solo_is_written}
+use Rattle.gameid_core.proofs.SoloTexts.{solo_reading}
+use Rattle.gameid_core.proofs.TentsTexts.{tents_reading}
 use Rattle.gameid_core.proofs.TentsWritten.{tents_is_written}
-use Rattle.engine_core.specs.Verdict.{Outcome.OneGrid, verdict_of, Solves, Outcome, Outcome.NoGrid, Outcome.TwoGrids, Outcome.OutOfBudget, trials_in}
-use Rattle.engine_core.specs.Puzzle.{Puzzle}
-use Rattle.engine_core.specs.Stored.{is_settled}
-use Rattle.engine_core.specs.Walk.{walk}
+use Rattle.engine_core.specs.Verdict.{Outcome.OneGrid, Outcome.NoGrid, Outcome.TwoGrids, Outcome.OutOfBudget, trials_in}
 use Rattle.maker_core.specs.Made.{IsOnlySolution}
 use Rattle.maker_core.specs.Thinning.{HasTwo}
-use Rattle.maker_core.specs.declared.made.Kept.{Kept}
+use Rattle.puzzles.specs.Words.{IdFault, grid_text, SizeRead, IsPrinted, Game, HasOneReading, verdict_of, Solves, Outcome, Puzzle, is_settled, walk, Kept}
 use Rattle.puzzles.specs.Answers.{Answer, Text}
 use Rattle.puzzles.specs.Games.{Playing, played}
 use Rattle.puzzles.specs.Makings.{exhausted_answer, Wanted}
@@ -31,7 +27,7 @@ use Rattle.puzzles.specs.Grades.{HasOneSolution, IsRightGrade, Settling, grade_b
 use Rattle.puzzles.specs.declared.grade.Telling.{Telling}
 use Rattle.puzzles.specs.declared.grade.Grade.TheVariants.{ByRules}
 use Rattle.puzzles.proofs.GradedAlike.{status_one, told_status, graded_one, settled_found}
-use Rattle.puzzles.proofs.Readings.{Reading, id_once, light_reading, pattern_reading, solo_reading, tents_reading}
+use Rattle.puzzles.proofs.Readings.{id_once}
 use Rattle.puzzles.proofs.CheckedPuzzles.{correct_grid, CheckedPuzzle, light_checked, pattern_checked, solo_checked, tents_checked}
 use Rattle.puzzles.proofs.PrintedGrids.{printed_once}
 use Rattle.puzzles.proofs.SearchedPuzzles.{SearchedPuzzle, found_with_enough, verdict_right, crossings_searched, light_searched, pattern_searched, singles_searched, solo_searched, solved_once, tents_searched}
@@ -42,7 +38,7 @@ same_status a b e = ap (λ (c : Answer). c.status) e
 pub none_made : (answer : Answer) (wanted : Type 0) → answer ≡ exhausted_answer → answer.status ≡ 0 → wanted
 none_made answer wanted told fine = absurd (omega (arith, fine, ap (λ (a : Answer). a.status) told))
 
-module _ {P : Type 0} (play : Playing P) (reading : Reading play.game.reading play.game.spells) where
+module _ {P : Type 0} (play : Playing P) (reading : HasOneReading play.game.spells play.game.reading) where
   -- the verdict is one, of that grid
   pub found_alone : (id : Text) (p : P) (budget : ℕ) (g : List ℕ) (said : Answer) → play.game.spells id p → verdict_of (play.game.rules p) budget ≡ OneGrid g
       → IsOnlySolution (play.game.solves p) g
@@ -72,10 +68,10 @@ module _ {P : Type 0} (play : Playing P) (reading : Reading play.game.reading pl
   never_one id p any said h1 h2 h3 h4 = grind (arith, common_steps, status_one, told_status)
 
 -- what is spelled is read
-pub spelled_read : {P : Type 0} (of : Text → Result P IdFault) (spells : Text → P → Type 0) → Reading of spells → (id : Text) (p : P) → spells id p → is_ok (of id) ≡ true
+pub spelled_read : {P : Type 0} (of : Text → Result P IdFault) (spells : Text → P → Type 0) → HasOneReading spells of → (id : Text) (p : P) → spells id p → is_ok (of id) ≡ true
 spelled_read of spells h1 id p h2 = grind (arith, common_steps)
 
-module _ {P : Type 0} (play : Playing P) (reading : Reading play.game.reading play.game.spells)
+module _ {P : Type 0} (play : Playing P) (reading : HasOneReading play.game.spells play.game.reading)
     (game : (id : Text) (p : P) → play.game.spells id p → CheckedPuzzle play p) where
   abbrev printed : P → List ℕ → Text
   printed p g = grid_text (play.cell_text p g) (play.extent p)
@@ -197,7 +193,7 @@ listed_right solves (first ∷ rest) search budget each searched = by (is_settle
     by false unsettled later = later
 
 -- with enough budget a search tells the one solution of a puzzle whose grade names a rule set or a search
-pub with_enough : {P : Type 0} (play : Playing P) (reading : Reading play.game.reading play.game.spells)
+pub with_enough : {P : Type 0} (play : Playing P) (reading : HasOneReading play.game.spells play.game.reading)
     → ((id : Text) (p : P) → play.game.spells id p → SearchedPuzzle (play.game.rules p) (play.game.solves p))
     → (telling : Telling) (id : Text) (graded : Answer) → GradesId play.game telling id graded → graded.status ≡ 0
     → (enough : ℕ) × (grid : Text) × ((budget : ℕ) → enough ≤ budget → (said : Answer) → SolvesId play budget id said ↔ (said ≡ one_answer grid))
@@ -213,7 +209,7 @@ with_enough play reading searched telling id graded (inr answered) fine =
 
 pub record GameFacts {P : Type 0} (play : Playing P) : Type 0 where
   -- a text spells one puzzle or has one fault, and what is written for a puzzle spells it
-  pub reading : Reading play.game.reading play.game.spells
+  pub reading : HasOneReading play.game.spells play.game.reading
   pub again : (text : Text) (p : P) → play.game.spells text p → play.game.spells (play.game.written p) p
   -- the rules of the search and of each rule set are lawful and accept the solutions, and checks tell solutions
   pub searched : (text : Text) (p : P) → play.game.spells text p → SearchedPuzzle (play.game.rules p) (play.game.solves p)
@@ -266,5 +262,4 @@ facts game.Tents = record {
 pub solving : (g : Game) (budget : ℕ) (id : Text) → HasOneAnswer (AllowsSolve g budget id)
 solving g budget id =
     let play = played g in
-    id_once play.game.reading play.game.spells (facts g).reading id _
-    (λ p s. solved_once (play.game.rules p) (play.game.solves p) ((facts g).searched id p s) (play.cell_text p) (play.extent p) budget)
+    id_once (facts g).reading id _ (λ p s. solved_once (play.game.rules p) (play.game.solves p) ((facts g).searched id p s) (play.cell_text p) (play.extent p) budget)

@@ -4,16 +4,14 @@ use Rattle.std.proofs.lemmas.Grind.{common_steps}
 use Rattle.std.specs.Prelude.{◌↔◌}
 use Rattle.std.proofs.lemmas.Bool.{and_parts, ne_eqb, eqb-true}
 use Rattle.std.proofs.lemmas.List.{length-map}
-use Rattle.grid_core.specs.Candidates.{Candidates, all_below, any_below, is_dead, is_full, count_below, grid_of}
-use Rattle.gameid_core.specs.Puzzles.{Solo}
-use Rattle.engine_core.specs.Puzzle.{Puzzle}
+use Rattle.grid_core.specs.Candidates.{all_below, any_below, is_dead, is_full}
 use Rattle.engine_core.specs.Closing.{closure}
-use Rattle.engine_core.specs.Stored.{is_settled}
-use Rattle.engine_core.specs.Walk.{Mark, Mark.Trial, Mark.Found, IsFound, walk, walk_closed}
-use Rattle.engine_core.specs.Verdict.{Outcome, Outcome.OneGrid, Solves, outcome, verdict_of, spent, trials_in}
+use Rattle.engine_core.specs.Walk.{Mark.Trial, Mark.Found, walk_closed}
+use Rattle.engine_core.specs.Verdict.{Outcome.OneGrid, outcome, spent, trials_in}
 use Rattle.solo_core.specs.Houses.{houses_of}
-use Rattle.solo_core.specs.Scopes.{crossing_scopes, scopes_of}
 use Rattle.solo_core.specs.declared.houses.scope.SoloScope.TheVariants.{House}
+use Rattle.puzzles.specs.Words.{Candidates, count_below, grid_of, Solo, Puzzle, is_settled, Mark, IsFound, walk, Outcome, Solves, verdict_of}
+use Rattle.puzzles.specs.Words.{crossing_scopes, scopes_of}
 use Rattle.puzzles.specs.Grades.{HasOneSolution, IsGradeOf, IsRightGrade, TellsGrade, grade_by, searched_grade, Settling, last_tried, listed_grade, only_set, grade_status, grade_text}
 use Rattle.puzzles.specs.Answers.{Text, Answer, Delivers}
 use Rattle.puzzles.specs.Stops.{Tells}
@@ -89,10 +87,11 @@ right_as A B SeveralSolutions same right = (right.0, right.1, (same right.0).0 r
 right_as A B GaveUp same right = tt
 
 -- a grade that is told of a puzzle, and is right, is told rightly
-pub rightly : {S : Type 0} (takes : S → Text → S → Type 0) (solves : List ℕ → Type 0) (grade is : Grade) (traced : Bool) (tells : Text → Type 0) (s t : S) (status : ℕ)
-    → grade ≡ is → IsRightGrade solves grade → Tells takes (TellsGrade grade traced tells) s t status → Tells takes (IsGradeOf solves is traced tells) s t status
-rightly takes solves grade is traced tells s t status e right told = subst (λ (x : Grade). Tells takes (IsGradeOf solves x traced tells) s t status) e
-    (tells_as takes (TellsGrade grade traced tells) (IsGradeOf solves grade traced tells) s t status (λ a t. record { right = right; told = t }) told)
+rightly : {S : Type 0} (takes : S → Text → S → Type 0) (solves : List ℕ → Type 0) (grade : Grade) (traced : Bool) (tells : Text → Type 0)
+    (s t : S) (status : ℕ) → IsRightGrade solves grade → Tells takes (TellsGrade grade traced tells) s t status
+    → Tells takes (IsGradeOf solves grade traced tells) s t status
+rightly takes solves grade traced tells s t status right told =
+    tells_as takes (TellsGrade grade traced tells) (IsGradeOf solves grade traced tells) s t status (λ a t. record { right = right; told = t }) told
 
 -- the grids that rules accept are the solutions, and a grade is right of both
 pub right_by : (p q : Puzzle) (solves : List ℕ → Type 0) (grade : Grade) → q ≡ p → ((g : List ℕ) → Solves p g ↔ solves g)
@@ -124,9 +123,8 @@ module _ {P : Type 0} (game : GameOf P) (p : P) (telling : Telling) {S : Type 0}
   -- the last in the list
   pub told_last : (grade : Grade) (set : RuleSet) (rules : Puzzle) → grade ≡ listed_grade (only_set set rules) (game.rules p) telling.budget
       → IsRightGrade (game.solves p) grade → Tells takes (TellsGrade grade telling.traced (game.tells p rules)) s t status → TellsBy (only_set set rules)
-  told_last grade set rules e right told = rightly takes (game.solves p) grade (listed_grade (only_set set rules) (game.rules p) telling.budget) telling.traced
-      (game.tells p (last_tried (game.rules p) (only_set set rules))) s t status e right
-      (subst (λ (r : Puzzle). Tells takes (TellsGrade grade telling.traced (game.tells p r)) s t status) (last_of_one (game.rules p) set rules) told)
+  told_last grade set rules e right told = rw (← e, ← last_of_one (game.rules p) set rules)
+      (rightly takes (game.solves p) grade telling.traced (game.tells p rules) s t status right told)
 
   -- the first in the list settles the puzzle
   pub told_first : (q : Puzzle) (set : RuleSet) (rules : Puzzle) (rest : List Settling) → q ≡ rules → is_settled q ≡ true
@@ -134,20 +132,14 @@ module _ {P : Type 0} (game : GameOf P) (p : P) (telling : Telling) {S : Type 0}
       → TellsBy (record { set = set; rules = rules } ∷ rest)
   told_first q set rules rest e settled same one told =
       let is : is_settled rules ≡ true = ap is_settled (sym e) ∙ settled in
-      rightly takes (game.solves p) (ByRules set) (listed_grade (record { set = set; rules = rules } ∷ rest) (game.rules p) telling.budget) telling.traced
-      (game.tells p (last_tried (game.rules p) (record { set = set; rules = rules } ∷ rest))) s t status
-      (ap (λ (b : Bool). if b then ByRules set else listed_grade rest (game.rules p) telling.budget) (sym is))
-      (right_by rules q (game.solves p) (ByRules set) e same one)
-      (subst (λ (b : Bool). Tells takes (TellsGrade (ByRules set) telling.traced (game.tells p (if b then rules else last_tried rules rest))) s t status) (sym is)
-      (subst (λ (r : Puzzle). Tells takes (TellsGrade (ByRules set) telling.traced (game.tells p r)) s t status) e told))
+      rw is (rightly takes (game.solves p) (ByRules set) telling.traced (game.tells p rules) s t status
+      (right_by rules q (game.solves p) (ByRules set) e same one) (rw e at told))
 
   -- the first of two or more in the list doesn't
   pub told_later : (q : Puzzle) (set : RuleSet) (rules : Puzzle) (next : Settling) (rest : List Settling) → q ≡ rules → is_settled q ≡ false
       → TellsBy (next ∷ rest) → TellsBy (record { set = set; rules = rules } ∷ next ∷ rest)
-  told_later q set rules next rest e unsettled told = subst
-      (λ (b : Bool). Tells takes (IsGradeOf (game.solves p) (if b then ByRules set else listed_grade (next ∷ rest) (game.rules p) telling.budget) telling.traced
-      (game.tells p (if b then rules else last_tried rules (next ∷ rest)))) s t status)
-      (sym unsettled ∙ ap is_settled e) told
+  told_later q set rules next rest e unsettled told =
+      let is : is_settled rules ≡ false = ap is_settled (sym e) ∙ unsettled in rw is told
 
   -- rules that were made for a puzzle are its own
   pub told_by : (q r : Puzzle) (set : RuleSet) → q ≡ r → TellsBy (only_set set q) → TellsBy (only_set set r)

@@ -4,20 +4,19 @@ use Rattle.std.proofs.Common.{◌≡◌, ◌∙◌, ◌⊎◌, ◌<◌, ℕ, zer
 use Rattle.std.proofs.lemmas.Grind.{common_steps}
 use Rattle.std.proofs.lemmas.Bool.{and_parts, and_from}
 use Rattle.std.specs.Prelude.{◌↔◌, ◌+◌, ◌*◌}
-use Rattle.grid_core.specs.Candidates.{Candidates, IsInside, is_dead, is_full, grid_of, only, pick}
+use Rattle.grid_core.specs.Candidates.{is_dead, is_full}
 use Rattle.grid_core.proofs.CandidateLemmas.{count_below-one, least_below-passes}
 use Rattle.grid_core.proofs.GridLemmas.{is_full-count, grid_of-at}
-use Rattle.gameid_core.specs.declared.id.fault.IdFault.{IdFault}
-use Rattle.engine_core.specs.Puzzle.{Puzzle, IsLawful, IsClosed}
 use Rattle.engine_core.specs.Closing.{closure}
-use Rattle.engine_core.specs.Stored.{is_settled}
-use Rattle.engine_core.specs.Verdict.{Outcome.OneGrid, Outcome.NoGrid, Solves, outcome, verdict_of, Outcome, Outcome.TwoGrids, Outcome.OutOfBudget, trials_in}
-use Rattle.engine_core.specs.Walk.{Mark, Mark.Trial, walk, walk_closed, branches, branch_at, at_cell}
+use Rattle.engine_core.specs.Verdict.{Outcome.OneGrid, Outcome.NoGrid, outcome, Outcome.TwoGrids, Outcome.OutOfBudget, trials_in}
+use Rattle.engine_core.specs.Walk.{Mark.Trial, walk_closed, branches, branch_at, at_cell}
 use Rattle.engine_core.proofs.ClosingLemmas.{closure_inside, closure_closed, closure_largest}
 use Rattle.engine_core.proofs.JudgeLemmas.{grid-fits}
 use Rattle.engine_core.proofs.WalkLemmas.{walk-unfold, walk_closed-dead, walk_closed-wrong}
 use Rattle.maker_core.proofs.FoundAtOnce.{found_at_once, found_one}
 use Rattle.maker_core.proofs.FullStart.{known}
+use Rattle.puzzles.specs.Words.{Candidates, IsInside, grid_of, only, pick, HasOneReading, IdFault, Puzzle, IsLawful, IsClosed, is_settled, Solves}
+use Rattle.puzzles.specs.Words.{verdict_of, Outcome, Mark, walk}
 use Rattle.puzzles.specs.Answers.{Answer, Begins, Text}
 use Rattle.puzzles.specs.Grades.{HasOneSolution, IsRightGrade, Settling, TellsGrade, first_settled, grade_by, grade_status, grade_text, listed_grade, rule_set_text, searched_grade}
 use Rattle.puzzles.specs.Allowed.{AllowsId}
@@ -97,9 +96,7 @@ module _ (weak strong : Puzzle) (weak_laws : IsLawful weak) (strong_laws : IsLaw
       })
 
 -- ---- two commands that answer to one ID
-module _ {P : Type 0} (of : Text → Result P IdFault) (spells : Text → P → Type 0)
-    (one : (text : Text) (p q : P) → spells text p → spells text q → p ≡ q)
-    (apart : (text : Text) (p : P) (f : IdFault) → spells text p → of text ≡ Err f → ⊥) where
+module _ {P : Type 0} {of : Text → Result P IdFault} {spells : Text → P → Type 0} (reading : HasOneReading spells of) where
   -- what holds of refusals, and of the answers to each puzzle, holds of the answers to an ID
   pub both_answers : (first second : P → Answer → Type 0) (holds : Answer → Answer → Type 0) (id : Text) (a b : Answer)
       → ((causes others : Text) → holds (refused causes) (refused others))
@@ -107,10 +104,10 @@ module _ {P : Type 0} (of : Text → Result P IdFault) (spells : Text → P → 
       → AllowsId (of id) (spells id) first a → AllowsId (of id) (spells id) second b → holds a b
   both_answers first second holds id a b refusals answers (inl x) (inl y) =
       subst (λ c. holds c b) (sym x.told) (subst (holds (refused (fault_text x.fault))) (sym y.told) (refusals (fault_text x.fault) (fault_text y.fault)))
-  both_answers first second holds id a b refusals answers (inl x) (inr y) = absurd (apart id y.puzzle x.fault y.spelled x.first)
-  both_answers first second holds id a b refusals answers (inr x) (inl y) = absurd (apart id x.puzzle y.fault x.spelled y.first)
+  both_answers first second holds id a b refusals answers (inl x) (inr y) = absurd (reading.apart id y.puzzle x.fault y.spelled x.first)
+  both_answers first second holds id a b refusals answers (inr x) (inl y) = absurd (reading.apart id x.puzzle y.fault x.spelled y.first)
   both_answers first second holds id a b refusals answers (inr x) (inr y) =
-      answers x.puzzle x.spelled x.allowed (subst (λ p. second p b) (one id y.puzzle x.puzzle y.spelled x.spelled) y.allowed)
+      answers x.puzzle x.spelled x.allowed (subst (λ p. second p b) (reading.one id y.puzzle x.puzzle y.spelled x.spelled) y.allowed)
 
 -- ---- statuses
 pub verdict_status : Outcome → ℕ
@@ -252,9 +249,7 @@ refusals_along first second = record { by_grade = λ _. refl; by_verdict = λ _.
 module _ (traced : Bool) (tells : Text → Type 0) (printed : List ℕ → Text) (solved graded : Answer) where
   pub status_alike : (grade : Grade) (o : Outcome) → GoesAlong (grade_status grade) (verdict_status o) → TellsGrade grade traced tells graded
       → solved ≡ verdict_answer printed o → GoesAlong graded.status solved.status
-  status_alike grade o along told is =
-      let second : verdict_status o ≡ solved.status = sym (ap (λ (a : Answer). a.status) is ∙ told_status printed o) in
-      subst (λ (n : ℕ). GoesAlong n solved.status) (sym told.status) (subst (GoesAlong (grade_status grade)) second along)
+  status_alike grade o along told is = rw (told.status, is, told_status printed o) along
 
   pub named_alike : (grade : Grade) (rules : Puzzle) → IsLawful rules → is_within grade ≡ is_settled rules → TellsGrade grade traced tells graded
       → solved ≡ verdict_answer printed (verdict_of rules 0) → NamesRules graded ↔ (solved.status ≡ 0)

@@ -4,38 +4,26 @@ use Rattle.std.proofs.lemmas.Nat.{mod_below}
 use Rattle.std.specs.Prelude.{nat_le, if◌then◌else◌}
 use Rattle.std.proofs.lemmas.Bool.{and_parts, leb-true, not-false, not-true}
 use Rattle.rand_core.specs.Steps.{state_after, steps_u32, stream_of}
-use Rattle.rand_core.specs.Stream.{Stream}
 use Rattle.rand_chacha.specs.Block.{block_word}
 use Rattle.rand_chacha.specs.ChaCha.{ChaCha, next_word, of_seed}
-use Rattle.grid_core.specs.Extent.{Extent, IsExtent, max_side}
-use Rattle.grid_core.specs.Grids.{IsGrid}
 use Rattle.grid_core.proofs.CandidateLemmas.{all_below-at}
 use Rattle.gameid_core.specs.BlackRuns.{runs}
-use Rattle.gameid_core.specs.GridTexts.{grid_text, pattern_cell, tents_cell}
-use Rattle.gameid_core.specs.Head.{SizeRead, extent_of, in_range, size_of}
 use Rattle.gameid_core.specs.Lines.{lines_ones, lines_runs}
 use Rattle.gameid_core.specs.PatternText.{pattern_text}
-use Rattle.gameid_core.specs.Puzzles.{IsTents, Pattern, Tents}
 use Rattle.gameid_core.specs.TentsText.{tents_text}
-use Rattle.gameid_core.specs.declared.id.fault.IdFault.{IdFault}
 use Rattle.gameid_core.specs.declared.id.fault.IdFault.TheVariants.{SizeRange}
 use Rattle.gameid_core.specs.declared.id.game.Game.TheVariants as game
 use Rattle.gameid_core.proofs.HeadLaws.{size_take}
 use Rattle.gameid_core.proofs.LineLaws.{at_column, at_row}
+use Rattle.gameid_core.proofs.OneReading.{reading_of}
 use Rattle.gameid_core.proofs.OnesFit.{ones_lawful}
 use Rattle.gameid_core.proofs.PatternWritten.{pattern_is_written}
 use Rattle.gameid_core.proofs.Results.{bind_ok, chosen, ok_is, taken}
 use Rattle.gameid_core.proofs.RunsFit.{runs_lawful}
 use Rattle.gameid_core.proofs.TentsWritten.{tents_is_written}
-use Rattle.engine_core.specs.Puzzle.{IsLawful, Puzzle}
-use Rattle.engine_core.specs.Verdict.{Outcome, Outcome.OneGrid, IsTrueOf, verdict_of}
+use Rattle.engine_core.specs.Verdict.{Outcome.OneGrid}
 use Rattle.engine_core.proofs.VerdictLemmas.{outcome-true}
-use Rattle.pattern_core.specs.LineLaws.{is_solution-from, is_solution-is, line_rules-lawful}
-use Rattle.pattern_core.specs.LineRules.{line_rules}
-use Rattle.pattern_core.specs.Solutions.{IsPatternSolution}
 use Rattle.fields_core.specs.Firsts.{IsFirstWrong}
-use Rattle.fields_core.specs.TentHouses.{tent_rules}
-use Rattle.fields_core.specs.TentSolutions.{IsTentSolution}
 use Rattle.fields_core.proofs.TentRuleLemmas as tents
 use Rattle.maker_core.specs.Draws.{HasWords, IsFirstPassing, Making, NonePasses, filling_at, stream_after}
 use Rattle.maker_core.specs.Made.{HasOne, IsOnlySolution, TellsOne, is_one}
@@ -45,6 +33,9 @@ use Rattle.maker_core.specs.TentFilling.{tent_filling, tents_pass, tents_puzzle_
 use Rattle.maker_core.proofs.BlackCells.{black_cells-grid}
 use Rattle.maker_core.proofs.PatternMakings.{pattern_only, pattern_solved}
 use Rattle.maker_core.proofs.TentMakings.{tents_only, tents_size}
+use Rattle.puzzles.specs.Words.{Stream, Extent, IsExtent, max_side, IsGrid, grid_text, pattern_cell, tents_cell, SizeRead, extent_of, in_range}
+use Rattle.puzzles.specs.Words.{size_of, HasOneReading, IsTents, Pattern, Tents, IdFault, IsLawful, Puzzle, Outcome, IsTrueOf, verdict_of}
+use Rattle.puzzles.specs.Words.{is_solution-from, is_solution-is, line_rules-lawful, line_rules, IsPatternSolution, tent_rules, IsTentSolution}
 use Rattle.puzzles.specs.Seeds.{seed_key, seed_stream}
 use Rattle.puzzles.specs.Answers.{Answer, Text}
 use Rattle.puzzles.specs.Games.{Playing, played}
@@ -52,7 +43,7 @@ use Rattle.puzzles.specs.Allowed.{AllowsMade, AllowsOfSize, MakesOf, wanted}
 use Rattle.puzzles.specs.Makings.{IsExhausted, Wanted, exhausted_answer, made_answer, size_to_make}
 use Rattle.puzzles.specs.LawsOfCommands.{HasOneAnswer}
 use Rattle.puzzles.proofs.FaultsOnce.{first_of, least_once}
-use Rattle.puzzles.proofs.Readings.{Reading, id_once}
+use Rattle.puzzles.proofs.Readings.{id_once}
 use Rattle.puzzles.proofs.SearchedPuzzles.{tents_searched}
 
 block_below : (n : ℕ) (key : List ℕ) (counter nonce k : ℕ) → block_word n key counter nonce k < 2 ^ 32
@@ -108,16 +99,12 @@ module _ {A : Type 0} (make : Making A) (passes : A → Bool) (s : Stream) (trie
       exhausted none other (inr also) = sym also.told
 
 -- a text is one size, or has one fault
-size_reading : (sizes : Text → Result SizeRead IdFault) → Reading sizes (λ text size. sizes text ≡ Ok size)
-size_reading sizes = record { one = λ text p q a b. cc; apart = λ text p f a b. cc; either = λ text. by text (sizes text) refl }
-  where
-    by : (text : Text) (r : Result SizeRead IdFault) → sizes text ≡ r → ((size : SizeRead) × (sizes text ≡ Ok size)) ⊎ ((f : IdFault) × (sizes text ≡ Err f))
-    by text (Ok size) is = inl (size, is)
-    by text (Err f) is = inr (f, is)
+size_reading : (sizes : Text → Result SizeRead IdFault) → HasOneReading (λ text size. sizes text ≡ Ok size) sizes
+size_reading sizes = reading_of (λ text size. sizes text ≡ Ok size) sizes (λ text size is. is) (λ text size is. is)
 
 made_once : {P : Type 0} (play : Playing P) (w : Wanted) (text : Text) → ((read : SizeRead) → play.game.sizes text ≡ Ok read → HasOneAnswer (AllowsOfSize play w read))
     → HasOneAnswer (MakesOf play w text)
-made_once play w text each = id_once play.game.sizes (λ text size. play.game.sizes text ≡ Ok size) (size_reading play.game.sizes) text (AllowsOfSize play w) each
+made_once play w text each = id_once (size_reading play.game.sizes) text (AllowsOfSize play w) each
 
 abbrev handed_answer : {P : Type 0} → Playing P → P → List ℕ → Answer
 handed_answer play p g = made_answer (play.game.written p) (grid_text (play.cell_text p g) (play.extent p))

@@ -1,20 +1,9 @@
--- How texts are read in each game, and what is answered to an ID: a text spells one puzzle or has one fault, and never both.
+-- What is answered to an ID, where a text spells one puzzle or has one fault, and never both.
 use Rattle.std.proofs.Common.{◌≡◌, ◌⊎◌, Result, Err, ◌≢◌, ◌<◌, ℕ, length, inl, Ok, refl, ◌∙◌, ◌++◌, false, List, [], ◌∷◌, codes, sym, ap, ap₂, subst, inr}
 use Rattle.std.specs.Prelude.{IfOk, ◌↔◌}
-use Rattle.gameid_core.specs.LightText.{SpellsLight, light_of}
-use Rattle.gameid_core.specs.PatternText.{SpellsPattern, pattern_of}
-use Rattle.gameid_core.specs.SoloText.{SpellsSolo, solo_of}
-use Rattle.gameid_core.specs.TentsText.{SpellsTents, tents_of}
-use Rattle.gameid_core.specs.declared.id.fault.IdFault.{IdFault}
-use Rattle.gameid_core.proofs.LightTexts.{light_takes, light_text_again}
-use Rattle.gameid_core.proofs.OneReading.{Again, Takes, apart_of, either_of, one_of}
-use Rattle.gameid_core.proofs.PatternTexts.{pattern_again, pattern_takes}
-use Rattle.gameid_core.proofs.SoloTexts.{solo_takes, solo_text_again}
-use Rattle.gameid_core.proofs.TentsTexts.{tents_takes, tents_text_again}
-use Rattle.gameid_core.specs.Head.{max_id}
-use Rattle.gameid_core.specs.declared.id.game.Game.{Game}
 use Rattle.gameid_core.specs.Steps.{Fails}
 use Rattle.gameid_core.specs.declared.id.fault.IdFault.TheVariants.{Memory, TooLong}
+use Rattle.puzzles.specs.Words.{HasOneReading, IdFault, max_id, Game}
 use Rattle.puzzles.specs.Answers.{Text, Answer}
 use Rattle.puzzles.specs.Games.{played}
 use Rattle.puzzles.specs.Allowed.{AllowsId, AllowsSolve}
@@ -24,26 +13,6 @@ use Rattle.puzzles.specs.Each.{AllowsEach, both, silence}
 use Rattle.puzzles.specs.Grades.{IsGradeOf, IsRightGrade, grade_status, grade_text}
 use Rattle.puzzles.specs.LawsOfCommands.{HasOneAnswer, IsRewritten}
 use Rattle.puzzles.specs.declared.grade.Grade.{Grade}
-
-pub record Reading {P : Type 0} (of : Text → Result P IdFault) (spells : Text → P → Type 0) : Type 0 where
-  pub one : (text : Text) (p q : P) → spells text p → spells text q → p ≡ q
-  pub apart : (text : Text) (p : P) (f : IdFault) → spells text p → of text ≡ Err f → ⊥
-  pub either : (text : Text) → ((p : P) × spells text p) ⊎ ((f : IdFault) × (of text ≡ Err f))
-
-read_by : {P : Type 0} (of : Text → Result P IdFault) (spells : Text → P → Type 0) → Again spells of → Takes spells of → Reading of spells
-read_by of spells again takes = record { one = one_of spells of again; apart = apart_of spells of again; either = either_of spells of takes }
-
-pub pattern_reading : Reading pattern_of SpellsPattern
-pattern_reading = read_by pattern_of SpellsPattern pattern_again pattern_takes
-
-pub solo_reading : Reading solo_of SpellsSolo
-solo_reading = read_by solo_of SpellsSolo solo_text_again solo_takes
-
-pub light_reading : Reading light_of SpellsLight
-light_reading = read_by light_of SpellsLight light_text_again light_takes
-
-pub tents_reading : Reading tents_of SpellsTents
-tents_reading = read_by tents_of SpellsTents tents_text_again tents_takes
 
 first_fault : {P : Type 0} (fault : IdFault) (reading : Result P IdFault) → fault ≢ Memory → Fails fault reading → reading ≡ Err fault
 first_fault Memory reading other fails = absurd (other refl)
@@ -71,7 +40,7 @@ one_of_same allows some same = record { answer = some.0; allowed = some.1; only 
 pub told_once : (answer : Answer) → HasOneAnswer (λ a. a ≡ answer)
 told_once answer = record { answer = answer; allowed = refl; only = λ other is. sym is }
 
-module _ {P : Type 0} (of : Text → Result P IdFault) (spells : Text → P → Type 0) (reading : Reading of spells) where
+module _ {P : Type 0} {of : Text → Result P IdFault} {spells : Text → P → Type 0} (reading : HasOneReading spells of) where
   pub id_once : (id : Text) (allows : P → Answer → Type 0) → ((p : P) → spells id p → HasOneAnswer (allows p)) → HasOneAnswer (AllowsId (of id) (spells id) allows)
   id_once id allows each = elim (reading.either id) [
     | inl s ↦ record {
@@ -119,17 +88,15 @@ each_once allows one (text ∷ texts) =
     }
 
 -- a reading, what it spells and what is written
-module _ {P : Type 0} (of : Text → Result P IdFault) (spells : Text → P → Type 0) (written : P → Text)
-    (one : (text : Text) (p q : P) → spells text p → spells text q → p ≡ q)
-    (apart : (text : Text) (p : P) (f : IdFault) → spells text p → of text ≡ Err f → ⊥)
+module _ {P : Type 0} {of : Text → Result P IdFault} {spells : Text → P → Type 0} (written : P → Text) (reading : HasOneReading spells of)
     (again : (text : Text) (p : P) → spells text p → spells (written p) p) where
   carried : (id other : Text) (p : P) → spells id p → spells other p → (allows : P → Answer → Type 0) (a : Answer)
       → AllowsId (of id) (spells id) allows a → AllowsId (of other) (spells other) allows a
-  carried id other p s t allows a (inl refused) = absurd (apart id p refused.fault s refused.first)
+  carried id other p s t allows a (inl refused) = absurd (reading.apart id p refused.fault s refused.first)
   carried id other p s t allows a (inr answered) = inr (record {
     puzzle = p;
     spelled = t;
-    allowed = subst (λ q. allows q a) (one id answered.puzzle p answered.spelled s) answered.allowed;
+    allowed = subst (λ q. allows q a) (reading.one id answered.puzzle p answered.spelled s) answered.allowed;
   })
 
   spells_written : (id other : Text) (r : IsRewritten spells written id other) → spells other r.puzzle
@@ -144,4 +111,4 @@ module _ {P : Type 0} (of : Text → Result P IdFault) (spells : Text → P → 
   pub spelled_alike : (id other : Text) → IsRewritten spells written id other → (q : P) → spells id q ↔ spells other q
   spelled_alike id other r q =
       let t = spells_written id other r in
-      (λ s. subst (spells other) (one id r.puzzle q r.spelled s) t, λ s. subst (spells id) (one other r.puzzle q t s) r.spelled)
+      (λ s. subst (spells other) (reading.one id r.puzzle q r.spelled s) t, λ s. subst (spells id) (reading.one other r.puzzle q t s) r.spelled)

@@ -1,31 +1,22 @@
 -- What the searches rest on, for a puzzle of each game, and what follows for their verdicts.
-use Rattle.std.proofs.Common.{◌≡◌, ℕ, List, Some, None, ◌∙◌, ◌≤◌, ◌∷◌, zero, suc, [], Option, refl, sym, ap, arith}
+use Rattle.std.proofs.Common.{◌≡◌, ℕ, Bool, List, Some, None, ◌∙◌, ◌≤◌, ◌∷◌, zero, suc, [], Option, refl, sym, ap, arith}
 use Rattle.std.proofs.lemmas.Grind.{common_steps}
-use Rattle.std.specs.Prelude.{◌↔◌}
-use Rattle.grid_core.specs.Extent.{Extent}
-use Rattle.gameid_core.specs.GridTexts.{grid_text}
-use Rattle.gameid_core.specs.Puzzles.{IsLight, IsPattern, IsSolo, IsTents, Light, Pattern, Solo, Tents}
-use Rattle.engine_core.specs.Puzzle.{Puzzle, IsLawful}
-use Rattle.engine_core.specs.Verdict.{Outcome, Outcome.NoGrid, Outcome.OneGrid, Outcome.TwoGrids, Outcome.OutOfBudget, verdict_of, IsTrueOf, Solves, outcome, trials_in}
-use Rattle.engine_core.specs.Walk.{Mark, Mark.Found, Mark.Trial, walk}
+use Rattle.std.specs.Prelude.{◌↔◌, IfOk, Result, Ok, Err}
+use Rattle.engine_core.specs.Verdict.{Outcome.NoGrid, Outcome.OneGrid, Outcome.TwoGrids, Outcome.OutOfBudget, outcome, trials_in}
+use Rattle.engine_core.specs.Walk.{Mark.Found, Mark.Trial}
 use Rattle.engine_core.proofs.VerdictLemmas.{outcome-true}
-use Rattle.pattern_core.specs.LineLaws.{is_solution-from, is_solution-is, line_rules-lawful}
-use Rattle.pattern_core.specs.LineRules.{line_rules}
-use Rattle.pattern_core.specs.Solutions.{IsPatternSolution}
 use Rattle.solo_core.specs.RuleLaws.{crossings_lawful, houses_lawful, singles_lawful}
-use Rattle.solo_core.specs.RuleSets.{crossings_rules, houses_rules, singles_rules}
-use Rattle.solo_core.specs.SolutionLaws.{rule_from_test, test_from_rule}
-use Rattle.solo_core.specs.Solutions.{IsSoloSolution}
-use Rattle.fields_core.specs.LightHouses.{light_rules}
+use Rattle.engine_core.specs.Houses.{House}
 use Rattle.fields_core.specs.LightLaws.{light-lawful}
-use Rattle.fields_core.specs.LightSolutions.{IsLightSolution}
-use Rattle.fields_core.specs.TentHouses.{tent_rules}
 use Rattle.fields_core.specs.TentLaws.{tent-lawful}
-use Rattle.fields_core.specs.TentSolutions.{IsTentSolution}
 use Rattle.fields_core.proofs.LightCounting.{light-counting}
 use Rattle.fields_core.proofs.LightRuleLemmas as light
 use Rattle.fields_core.proofs.TentCounting.{tent-counting}
 use Rattle.fields_core.proofs.TentRuleLemmas as tents
+use Rattle.puzzles.specs.Words.{Extent, grid_text, IsLight, IsPattern, IsSolo, IsTents, Light, Pattern, Solo, Tents, Puzzle, IsLawful, Outcome}
+use Rattle.puzzles.specs.Words.{verdict_of, IsTrueOf, Solves, Mark, walk, is_solution-from, is_solution-is, line_rules-lawful, line_rules}
+use Rattle.puzzles.specs.Words.{IsPatternSolution, crossings_rules, houses_rules, rules_of, singles_rules, rule_from_test, test_from_rule}
+use Rattle.puzzles.specs.Words.{IsSoloSolution, light_rules, IsLightSolution, tent_rules, IsTentSolution}
 use Rattle.puzzles.specs.Answers.{Answer, Text}
 use Rattle.puzzles.specs.Allowed.{IsSolved}
 use Rattle.puzzles.specs.Replies.{IsRight, verdict_answer}
@@ -55,41 +46,42 @@ pub record SearchedPuzzle (rules : Puzzle) (solves : List ℕ → Type 0) : Type
   pub lawful : IsLawful rules
   pub accepted : (g : List ℕ) → Solves rules g ↔ solves g
 
+-- a fact that holds whatever the result
+pub on_any_ok : {T E : Type 0} (r : Result T E) (P : Type 0) → P → IfOk r (λ _. P)
+on_any_ok (Ok x) P p = p
+on_any_ok (Err e) P p = tt
+
+-- ---- the grids that the rules accept are the solutions, in each game
+pub pattern_accepted : (p : Pattern) (g : List ℕ) → Solves (line_rules p) g ↔ IsPatternSolution p g
+pattern_accepted p g = (λ s. is_solution-is p g s.grid s.good, λ s. record { grid = s.grid; good = is_solution-from p g s })
+
+-- by each rule set
+pub solo_accepted : (p : Solo) → IsSolo p → (settled : Bool) (houses : List House) (g : List ℕ) → Solves (rules_of settled p houses) g ↔ IsSoloSolution p g
+solo_accepted p ok settled houses g = (λ s. rule_from_test p ok g s.grid s.good, λ s. record { grid = s.grid; good = test_from_rule p ok g s })
+
+pub light_accepted : (p : Light) (g : List ℕ) → Solves (light_rules p) g ↔ IsLightSolution p g
+light_accepted p g = (λ s. light.rule-from-test p g s.grid s.good, λ s. record { grid = s.grid; good = light.test-from-rule p g s.grid s })
+
+pub tents_accepted : (p : Tents) (g : List ℕ) → Solves (tent_rules p) g ↔ IsTentSolution p g
+tents_accepted p g = (λ s. tents.solution-from-camp p g s.grid s.good, λ s. record { grid = s.grid; good = tents.camp-from-solution p g s.grid s })
+
 pub pattern_searched : (p : Pattern) → IsPattern p → SearchedPuzzle (line_rules p) (IsPatternSolution p)
-pattern_searched p ok = record {
-  lawful = line_rules-lawful p ok.size;
-  accepted = λ g. (λ s. is_solution-is p g s.grid s.good, λ s. record { grid = s.grid; good = is_solution-from p g s });
-}
+pattern_searched p ok = record { lawful = line_rules-lawful p ok.size; accepted = pattern_accepted p }
 
 pub solo_searched : (p : Solo) → IsSolo p → SearchedPuzzle (houses_rules p) (IsSoloSolution p)
-solo_searched p ok = record {
-  lawful = houses_lawful p ok;
-  accepted = λ g. (λ s. rule_from_test p ok g s.grid s.good, λ s. record { grid = s.grid; good = test_from_rule p ok g s });
-}
+solo_searched p ok = record { lawful = houses_lawful p ok; accepted = solo_accepted p ok _ _ }
 
 pub singles_searched : (p : Solo) → IsSolo p → SearchedPuzzle (singles_rules p) (IsSoloSolution p)
-singles_searched p ok = record {
-  lawful = singles_lawful p ok;
-  accepted = λ g. (λ s. rule_from_test p ok g s.grid s.good, λ s. record { grid = s.grid; good = test_from_rule p ok g s });
-}
+singles_searched p ok = record { lawful = singles_lawful p ok; accepted = solo_accepted p ok _ _ }
 
 pub crossings_searched : (p : Solo) → IsSolo p → SearchedPuzzle (crossings_rules p) (IsSoloSolution p)
-crossings_searched p ok = record {
-  lawful = crossings_lawful p ok;
-  accepted = λ g. (λ s. rule_from_test p ok g s.grid s.good, λ s. record { grid = s.grid; good = test_from_rule p ok g s });
-}
+crossings_searched p ok = record { lawful = crossings_lawful p ok; accepted = solo_accepted p ok _ _ }
 
 pub light_searched : (p : Light) → IsLight p → SearchedPuzzle (light_rules p) (IsLightSolution p)
-light_searched p ok = record {
-  lawful = light-lawful (record { light = p; counting = light-counting p ok });
-  accepted = λ g. (λ s. light.rule-from-test p g s.grid s.good, λ s. record { grid = s.grid; good = light.test-from-rule p g s.grid s });
-}
+light_searched p ok = record { lawful = light-lawful (record { light = p; counting = light-counting p ok }); accepted = light_accepted p }
 
 pub tents_searched : (p : Tents) → IsTents p → SearchedPuzzle (tent_rules p) (IsTentSolution p)
-tents_searched p ok = record {
-  lawful = tent-lawful (record { tents = p; counting = tent-counting p ok });
-  accepted = λ g. (λ s. tents.solution-from-camp p g s.grid s.good, λ s. record { grid = s.grid; good = tents.camp-from-solution p g s.grid s });
-}
+tents_searched p ok = record { lawful = tent-lawful (record { tents = p; counting = tent-counting p ok }); accepted = tents_accepted p }
 
 -- a search with a trial for each of the walk doesn't give up
 never_out : (marks : List Mark) (budget : ℕ) (found sofar : Option (List ℕ)) → trials_in marks ≤ budget → outcome budget sofar marks ≡ OutOfBudget found → ⊥

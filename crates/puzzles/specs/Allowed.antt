@@ -1,15 +1,8 @@
 -- The answers that each command allows, and those that the words allow on an input.
 use Rattle.std.specs.Prelude.{◌⊎◌, Result, Ok, ◌≡◌, List, ℕ, Bool, is_ok, true, false, Option, Some, None}
 use Rattle.std.specs.Str.Lines.{lines}
-use Rattle.grid_core.specs.Extent.{Extent}
-use Rattle.gameid_core.specs.declared.id.fault.IdFault.{IdFault}
-use Rattle.gameid_core.specs.GridTexts.{grid_text}
-use Rattle.gameid_core.specs.declared.id.game.Game.{Game}
-use Rattle.gameid_core.specs.Puzzles.{Solo}
 use Rattle.gameid_core.specs.declared.id.game.Game.TheVariants as game
-use Rattle.gameid_core.specs.Head.{SizeRead}
-use Rattle.engine_core.specs.Puzzle.{Puzzle}
-use Rattle.engine_core.specs.Verdict.{verdict_of}
+use Rattle.puzzles.specs.Words.{Extent, IdFault, grid_text, Game, Solo, SizeRead, Puzzle, verdict_of}
 use Rattle.puzzles.specs.Answers.{Answer, Text}
 use Rattle.puzzles.specs.Games.{GameOf, Playing, played}
 use Rattle.puzzles.specs.Replies.{IsRefused, refused_words, IsRight, verdict_answer}

@@ -1,21 +1,14 @@
 -- What `check` takes for a grid, and what it answers to an input, given a puzzle.
 use Rattle.std.specs.Prelude.{◌∷◌, ◌==◌, ◌&&◌, [], Bool, false, if◌then◌else◌, ◌≡◌, ◌≤◌, ◌⊎◌, ◌++◌, ◌/◌, ◌%◌, ℕ, List, Option, Some, None, length, codes, decimal, option_map}
-use Rattle.grid_core.specs.Extent.{Extent}
-use Rattle.gameid_core.specs.Puzzles.{Pattern, Solo, Light, Tents, solo_n}
-use Rattle.gameid_core.specs.GridReading.{IsPrinted, IsAsShown}
-use Rattle.gameid_core.specs.GridTexts.{grid_text}
-use Rattle.pattern_core.specs.Faults.{IsCheck}
 use Rattle.pattern_core.specs.declared.fault.PatternFault.{PatternFault}
 use Rattle.pattern_core.specs.declared.fault.PatternFault.TheVariants as pattern
-use Rattle.solo_core.specs.Faults.{IsFirstFault}
 use Rattle.solo_core.specs.declared.fault.SoloFault.{SoloFault}
 use Rattle.solo_core.specs.declared.fault.SoloFault.TheVariants as solo
-use Rattle.fields_core.specs.LightFaults.{IsLightFault}
 use Rattle.fields_core.specs.declared.light_up.fault.LightFault.{LightFault}
 use Rattle.fields_core.specs.declared.light_up.fault.LightFault.TheVariants as light
-use Rattle.fields_core.specs.TentFaults.{IsTentFault}
 use Rattle.fields_core.specs.declared.tents.fault.TentFault.{TentFault}
 use Rattle.fields_core.specs.declared.tents.fault.TentFault.TheVariants as tent
+use Rattle.puzzles.specs.Words.{Extent, Pattern, Solo, Light, Tents, solo_n, IsPrinted, IsAsShown, grid_text, IsCheck, IsFirstFault, IsLightFault, IsTentFault}
 use Rattle.puzzles.specs.Answers.{Text, Answer}
 use Rattle.puzzles.specs.Replies.{refused}
 use Rattle.puzzles.specs.Texts.{text_limit}

@@ -1,33 +1,18 @@
 -- What the commands know of the games: one record for each.
 use Rattle.std.specs.Prelude.{ℕ, List, Result}
-use Rattle.grid_core.specs.Extent.{Extent}
-use Rattle.engine_core.specs.Puzzle.{Puzzle}
-use Rattle.gameid_core.specs.Head.{SizeRead, extent_of}
-use Rattle.gameid_core.specs.Puzzles.{Pattern, Solo, Light, Tents, solo_n}
-use Rattle.gameid_core.specs.declared.id.fault.IdFault.{IdFault}
-use Rattle.gameid_core.specs.declared.id.game.Game.{Game}
 use Rattle.gameid_core.specs.declared.id.game.Game.TheVariants as game
 use Rattle.gameid_core.specs.LightText.{SpellsLight, light_of, light_text}
 use Rattle.gameid_core.specs.TentsText.{SpellsTents, tents_of, tents_text}
 use Rattle.gameid_core.specs.SoloText.{SpellsSolo, solo_of, solo_text}
 use Rattle.gameid_core.specs.PatternText.{SpellsPattern, pattern_of, pattern_text}
-use Rattle.gameid_core.specs.GridReading.{hides_nothing, light_hides, tent_hides}
-use Rattle.gameid_core.specs.GridTexts.{pattern_cell, solo_cell, solo_extent, light_cell, tents_cell}
-use Rattle.pattern_core.specs.LineRules.{line_rules}
-use Rattle.pattern_core.specs.Solutions.{IsPatternSolution}
-use Rattle.solo_core.specs.RuleSets.{houses_rules}
-use Rattle.solo_core.specs.Solutions.{IsSoloSolution}
-use Rattle.fields_core.specs.LightHouses.{light_rules}
-use Rattle.fields_core.specs.LightSolutions.{IsLightSolution}
-use Rattle.fields_core.specs.TentHouses.{tent_rules}
-use Rattle.fields_core.specs.TentSolutions.{IsTentSolution}
 use Rattle.maker_core.specs.LightFilling.{light_filling, light_passes}
 use Rattle.maker_core.specs.LightMaking.{IsLightMade}
 use Rattle.maker_core.specs.PatternMaking.{IsPatternMade, pattern_filling, pattern_passes}
-use Rattle.maker_core.specs.SoloMaking.{IsSoloMade}
 use Rattle.maker_core.specs.TentFilling.{tent_filling, tents_pass}
 use Rattle.maker_core.specs.TentMaking.{IsTentsMade}
-use Rattle.maker_core.specs.declared.made.Kept.{Kept}
+use Rattle.puzzles.specs.Words.{Extent, Puzzle, SizeRead, extent_of, Pattern, Solo, Light, Tents, solo_n, IdFault, Game, hides_nothing, light_hides}
+use Rattle.puzzles.specs.Words.{tent_hides, pattern_cell, solo_cell, solo_extent, light_cell, tents_cell, line_rules, IsPatternSolution, houses_rules}
+use Rattle.puzzles.specs.Words.{IsSoloSolution, light_rules, IsLightSolution, tent_rules, IsTentSolution, IsSoloMade, Kept}
 use Rattle.puzzles.specs.Answers.{Answer, Text}
 use Rattle.puzzles.specs.CheckAnswers.{pattern_told, solo_told, light_told, tent_told}
 use Rattle.puzzles.specs.Grades.{Settling, pattern_sets, solo_sets, light_sets, tent_sets}

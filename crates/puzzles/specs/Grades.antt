@@ -1,15 +1,9 @@
 -- What `grade` says of a puzzle: the first rule set of a list that settles it, or else the verdict
 -- of a search.
 use Rattle.std.specs.Prelude.{◌≡◌, ◌≢◌, ◌++◌, ℕ, Bool, List, [], ◌∷◌, if◌then◌else◌, codes, decimal, ⊤}
-use Rattle.engine_core.specs.Puzzle.{Puzzle}
-use Rattle.engine_core.specs.Stored.{is_settled}
-use Rattle.engine_core.specs.Verdict.{Outcome, Outcome.NoGrid, Outcome.OneGrid, Outcome.TwoGrids, Outcome.OutOfBudget, verdict_of, trials_in}
-use Rattle.engine_core.specs.Walk.{walk}
-use Rattle.gameid_core.specs.Puzzles.{Pattern, Solo, Light, Tents}
-use Rattle.fields_core.specs.LightHouses.{light_rules}
-use Rattle.fields_core.specs.TentHouses.{tent_rules}
-use Rattle.pattern_core.specs.LineRules.{line_rules}
-use Rattle.solo_core.specs.RuleSets.{singles_rules, houses_rules, crossings_rules}
+use Rattle.engine_core.specs.Verdict.{Outcome.NoGrid, Outcome.OneGrid, Outcome.TwoGrids, Outcome.OutOfBudget, trials_in}
+use Rattle.puzzles.specs.Words.{Puzzle, is_settled, Outcome, verdict_of, walk, Pattern, Solo, Light, Tents, light_rules, tent_rules, line_rules}
+use Rattle.puzzles.specs.Words.{singles_rules, houses_rules, crossings_rules}
 use Rattle.puzzles.specs.Answers.{Answer, Text}
 use Rattle.puzzles.specs.Traces.{IsTrace}
 use Rattle.puzzles.specs.declared.grade.Grade.{Grade}

@@ -1,20 +1,14 @@
 -- What ties the commands to one another: what they say of one ID and of what one of them hands out,
 -- and how many answers a request allows.
 use Rattle.std.specs.Prelude.{◌≡◌, ◌↔◌, ℕ, Bool, Some, ◌≢◌, None, ◌≤◌, ◌++◌, true, false, codes, List, Contains, Option}
-use Rattle.rand_core.specs.Stream.{Stream}
-use Rattle.grid_core.specs.Extent.{Extent}
-use Rattle.gameid_core.specs.declared.id.game.Game.{Game}
-use Rattle.gameid_core.specs.GridReading.{IsPrinted}
 use Rattle.gameid_core.specs.declared.id.game.Game.TheVariants as game
 use Rattle.gameid_core.specs.LightText.{SpellsLight}
-use Rattle.gameid_core.specs.Puzzles.{Light, Solo}
 use Rattle.gameid_core.specs.SoloText.{SpellsSolo}
 use Rattle.maker_core.specs.LightClues.{light_game}
 use Rattle.maker_core.specs.LightMaking.{IsLightMade}
 use Rattle.maker_core.specs.SoloClues.{solo_game}
-use Rattle.maker_core.specs.SoloMaking.{IsSoloMade}
-use Rattle.maker_core.specs.declared.made.Kept.{Kept}
 use Rattle.maker_core.specs.declared.made.Why.TheVariants.{Needed}
+use Rattle.puzzles.specs.Words.{Stream, Extent, Game, IsPrinted, Light, Solo, IsSoloMade, Kept}
 use Rattle.puzzles.specs.Answers.{Answer, Text, Begins}
 use Rattle.puzzles.specs.Games.{played, puzzle_of}
 use Rattle.puzzles.specs.Allowed.{Allows, AllowsCheck, AllowsSolve, AllowsGrade, is_read, AllowsMade}

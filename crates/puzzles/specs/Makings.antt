@@ -1,15 +1,10 @@
 -- The answers of `generate`.
 use Rattle.std.specs.Prelude.{◌≡◌, ◌⊎◌, ◌++◌, ◌&&◌, nat_le, ℕ, Bool, false, List, Result, Ok, Err, codes, if◌then◌else◌}
-use Rattle.rand_core.specs.Stream.{Stream}
-use Rattle.gameid_core.specs.Head.{SizeRead, size_of}
-use Rattle.gameid_core.specs.declared.id.fault.IdFault.{IdFault}
 use Rattle.gameid_core.specs.declared.id.fault.IdFault.TheVariants.{SizeRange}
-use Rattle.gameid_core.specs.declared.id.game.Game.{Game}
 use Rattle.gameid_core.specs.declared.id.game.Game.TheVariants as game
 use Rattle.gameid_core.specs.Steps.{◌>>=◌}
 use Rattle.maker_core.specs.Draws.{Making, NonePasses}
-use Rattle.maker_core.specs.SoloMaking.{NoneFound}
-use Rattle.maker_core.specs.declared.made.Kept.{Kept}
+use Rattle.puzzles.specs.Words.{Stream, SizeRead, size_of, IdFault, Game, NoneFound, Kept}
 use Rattle.puzzles.specs.Answers.{Answer, Text}
 
 -- What a puzzle is made by: the words of the seed's generator, the trials of each verdict, the

@@ -1,12 +1,10 @@
 -- What is said: the statuses of answers, what is said of a refusal, and the answers of `solve`,
 -- given how their grids are printed.
 use Rattle.std.specs.Prelude.{ℕ, ◌≡◌, ◌++◌, [], Result, Err, codes, decimal, List, string_bytes, ◌≢◌, Some, None, ⊤}
-use Rattle.gameid_core.specs.declared.id.fault.IdFault.{IdFault}
 use Rattle.gameid_core.specs.declared.id.fault.IdFault.TheVariants.{TooLong, SeedId, NoColon, BadSize, Variant, SizeRange, BadByte, NumberRange, LineTooFull, TooFew, TooMany, Memory}
-use Rattle.gameid_core.specs.GridTexts.{grid_text}
 use Rattle.gameid_core.specs.declared.grids.printed.Printed as printed
-use Rattle.engine_core.specs.Puzzle.{Puzzle}
-use Rattle.engine_core.specs.Verdict.{Outcome, Outcome.NoGrid, Outcome.OneGrid, Outcome.TwoGrids, Outcome.OutOfBudget, verdict_of}
+use Rattle.engine_core.specs.Verdict.{Outcome.NoGrid, Outcome.OneGrid, Outcome.TwoGrids, Outcome.OutOfBudget}
+use Rattle.puzzles.specs.Words.{IdFault, grid_text, Puzzle, Outcome, verdict_of}
 use Rattle.puzzles.specs.declared.answers.status.Status.{Status}
 use Rattle.puzzles.specs.declared.answers.status.Status.TheVariants.{Fine, Wrong, Refused, Several, GaveUp}
 use Rattle.puzzles.specs.Answers.{Answer, Text}

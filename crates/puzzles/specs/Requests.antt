@@ -38,7 +38,7 @@ pub data Asked : Type 0 where
   generate : Game → Text → ℕ → ℕ → ℕ → ℕ → Asked
 
 abbrev pub asked_in : Request → Asked
-asked_in (request.Solve game id budget) = solve game (option_map (λ s. s.now) id) budget
+asked_in (request.Solve task id) = solve task.game (option_map (λ s. s.now) id) task.budget
 asked_in (request.Check game id) = check game id.now
 asked_in (request.Grade game id telling) = grade game id.now telling.budget telling.traced
 asked_in (request.Generate game size recipe) =

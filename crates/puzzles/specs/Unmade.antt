@@ -1,11 +1,9 @@
 -- What a maker made, or why it made no puzzle. No contract of a run uses these words.
 use Rattle.std.specs.Prelude.{◌≡◌, ⊤, ℕ, List, Result, Ok, Err}
-use Rattle.gameid_core.specs.Head.{SizeRead}
-use Rattle.gameid_core.specs.declared.id.fault.IdFault.{IdFault}
 use Rattle.gameid_core.specs.declared.id.fault.IdFault.TheVariants.{SizeRange}
-use Rattle.maker_core.specs.declared.made.Kept.{Kept}
 use Rattle.maker_core.specs.declared.made.MakeFault.{MakeFault}
 use Rattle.maker_core.specs.declared.made.MakeFault.TheVariants as fault
+use Rattle.puzzles.specs.Words.{SizeRead, IdFault, Kept}
 use Rattle.puzzles.specs.Answers.{Text}
 use Rattle.puzzles.specs.Games.{GameOf}
 use Rattle.puzzles.specs.Allowed.{wanted}

@@ -9,7 +9,7 @@ ghost use Rattle.puzzles.specs.declared.answers.status.Status.TheVariants.{Fine}
 
 pub mod lines;
 
-use crate::answers::reply::{Reply, id_refused_in};
+use crate::answers::reply::{Reply, id_refused};
 use crate::answers::status::{Ended, Status, Stop};
 use crate::batch::lines::Line;
 use crate::ends::output::put_all;
@@ -43,7 +43,7 @@ fn line_reply(
     gameid_core::over_long_is_too_long();
     match line {
         Some(id) => stores.solve_id(alloc, task, id, text),
-        None => id_refused_in(text, IdFault::TooLong),
+        None => id_refused(text, IdFault::TooLong),
     }
 }
 

@@ -72,7 +72,7 @@ fn check_one<P: Checked + Drop, I: Source, O: Sink>(
         Ok(puzzle) => check_input(alloc, &puzzle, input, output),
         Err(IdFault::Memory) => Err(Stop::Memory),
         Err(fault) => {
-            let reply = id_refused(alloc, fault)?;
+            let reply = id_refused(String::new(alloc), fault)?;
             deliver(output, &reply)
         }
     }

@@ -62,7 +62,7 @@ fn generate_one<P: Makable + Drop>(
             let written = made.puzzle.write_id(alloc)?;
             made_reply(written, &made.puzzle, &made.answer)
         }
-        Err(Unmade::Size(fault)) => id_refused(alloc, fault),
+        Err(Unmade::Size(fault)) => id_refused(String::new(alloc), fault),
         Err(Unmade::Exhausted) => exhausted_reply(alloc),
         Err(Unmade::Memory) => Err(AllocError),
     }

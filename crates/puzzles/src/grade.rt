@@ -1,7 +1,6 @@
 //! The answers of `grade`.
 ghost use Rattle.std.specs.Prelude.{◌≡◌, ◌++◌, ◌≤◌, ◌↔◌, List, ℕ, true, false, IfOk, codes, string_bytes};
-ghost use Rattle.engine_core.specs.Verdict.{Solves};
-ghost use Rattle.engine_core.specs.Puzzle.{needs_of, FitsIn};
+ghost use Rattle.puzzles.specs.Words.{Solves, needs_of, FitsIn};
 ghost use Rattle.puzzles.specs.Games.{played};
 ghost use Rattle.puzzles.specs.Grades.{grade_status, grade_text, rule_set_text};
 ghost use Rattle.puzzles.specs.Allowed.{AreTold, GradeTold, GradesId, IsGradeAfter, IsGraded, IsToldBySweeps};
@@ -128,7 +127,7 @@ fn refuse<O: Sink>(alloc: Global, fault: IdFault, output: &mut O) -> Ended
         result }
     ensures left { LeavesSink O.Sink output.new result }
 {
-    let reply = id_refused(alloc, fault)?;
+    let reply = id_refused(String::new(alloc), fault)?;
     deliver(output, &reply)
 }
 

@@ -17,7 +17,7 @@ use crate::ends::write_end::WriteEnd;
 use crate::ends::{Sink, Source};
 use crate::generate::generated;
 use crate::grade::grade_id;
-use crate::solve::{Stores, Task};
+use crate::solve::Stores;
 use crate::words::{Request, read_words};
 use std::alloc::{AllocError, Global};
 
@@ -28,22 +28,12 @@ fn reply_to(alloc: Global, request: Option<Request<'_>>) -> Result<Reply, AllocE
         → Allows (option_map asked_in request.entry) input (answer_in r)) }
 {
     match request {
-        Some(
-            Request::Solve {
-                game,
-                id: Some(id),
-                budget,
-            },
-        ) => {
-            let task = Task { game, budget };
+        Some(Request::Solve { task, id: Some(id) }) => {
             Stores::none().solve_id(alloc, task, id.as_bytes(), String::new(alloc))
         }
-        Some(Request::Generate { game, size, recipe }) => generated(
-            alloc,
-            game,
-            size.as_bytes(),
-            recipe,
-        ),
+        Some(Request::Generate { game, size, recipe }) => {
+            generated(alloc, game, size.as_bytes(), recipe)
+        }
         _ => words_reply(String::new(alloc), "refused: words\n", Status::Refused),
     }
 }
@@ -62,15 +52,8 @@ fn answer<I: Source, O: Sink>(
         input.new output.new result }
 {
     let request = read_words(alloc, words)?;
-    if let Some(
-        Request::Solve {
-            game,
-            id: None,
-            budget,
-        },
-    ) = request
-    {
-        return solve_lines(alloc, Task { game, budget }, input, output);
+    if let Some(Request::Solve { task, id: None }) = request {
+        return solve_lines(alloc, task, input, output);
     }
     if let Some(Request::Grade { game, id, telling }) = request {
         return grade_id(alloc, game, id.as_bytes(), telling, output);

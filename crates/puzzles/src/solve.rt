@@ -1,14 +1,13 @@
 //! The answers of `solve`.
 ghost use Rattle.std.specs.Prelude.{◌≡◌, ◌<◌, ◌*◌, List, ℕ, None, IfOk};
-ghost use Rattle.engine_core.specs.Puzzle.{FitsIn, needs_of};
-ghost use Rattle.engine_core.specs.Verdict.{IsTrueOf, verdict_of};
+ghost use Rattle.puzzles.specs.Words.{FitsIn, needs_of, IsTrueOf, verdict_of};
 ghost use Rattle.puzzles.specs.Each.{HasAnswers};
 ghost use Rattle.puzzles.specs.Allowed.{AllowsSolve, SolvesId};
 ghost use Rattle.puzzles.specs.Replies.{answer_in, verdict_told};
 
 pub mod solvable;
 
-use crate::answers::reply::{Reply, grid_reply, id_refused_in, several_reply, words_reply};
+use crate::answers::reply::{Reply, grid_reply, id_refused, several_reply, words_reply};
 use crate::answers::status::Status;
 use crate::solve::solvable::Solvable;
 use engine_core::{Rules, Store, Verdict};
@@ -56,8 +55,8 @@ fn store_for<R: Rules>(
     }
 }
 
-/// The answer of a search by the rules of the puzzle, in the memory of a text.
-fn searched<P: Printed, R: Rules>(
+/// The answer that tells the verdict of a search by the rules, in the memory of a text.
+fn verdict_reply<P: Printed, R: Rules>(
     store: &mut Store<R>,
     puzzle: &P,
     rules: &R,
@@ -81,13 +80,8 @@ fn searched<P: Printed, R: Rules>(
             several_reply(text, puzzle, first, store.second().unwrap())
         }
         Verdict::GaveUp { found: true } => {
-            grid_reply(
-                text,
-                "gave up\n",
-                Status::GaveUp,
-                puzzle,
-                store.first().unwrap(),
-            )
+            let found = store.first().unwrap();
+            grid_reply(text, "gave up\n", Status::GaveUp, puzzle, found)
         }
         Verdict::GaveUp { found: false } => words_reply(text, "gave up\n", Status::GaveUp),
     }
@@ -110,12 +104,12 @@ where
         Ok(puzzle) => {
             let rules = puzzle.rules(alloc)?;
             let mut store = store_for(alloc, kept, &rules)?;
-            let reply = searched(&mut store, &puzzle, &rules, budget, text)?;
+            let reply = verdict_reply(&mut store, &puzzle, &rules, budget, text)?;
             *kept = Some(store);
             Ok(reply)
         }
         Err(IdFault::Memory) => Err(AllocError),
-        Err(fault) => id_refused_in(text, fault),
+        Err(fault) => id_refused(text, fault),
     }
 }
 

@@ -5,11 +5,12 @@ ghost use Rattle.clap.specs.Walk.{rule_of, first_of, rows_of};
 ghost use Rattle.clap.specs.Simple.{app_of, subcommand_rows_of};
 ghost use Rattle.clap.specs.Matches.{found_of};
 ghost use Rattle.clap.specs.declared.builder.command.Command.TheViews.{out-Command as fields_of};
-ghost use Rattle.puzzles.specs.CommandLine.{required_word, optional_word, text_option, flag, solve_app, check_app, grade_app, generate_needs_app, generate_app, bare_app, puzzles_app, parsed};
+ghost use Rattle.puzzles.specs.CommandLine.{required_word, text_option, flag, solve_app, check_app, grade_app, generate_needs_app, generate_app, bare_app, puzzles_app, parsed};
 
 use crate::generate::Recipe;
 use crate::generate::percent::Percent;
 use crate::grade::Telling;
+use crate::solve::Task;
 use clap::error::ErrorKind;
 use clap::{Arg, ArgAction, ArgMatches, Command};
 use gameid_core::Game;
@@ -36,9 +37,8 @@ pub const MOST_BLACK: u64 = 100;
 pub enum Request<'a> {
     /// Without an ID the lines of the input are IDs.
     Solve {
-        game: Game,
+        task: Task,
         id: Option<&'a str>,
-        budget: u64,
     },
     /// The grid is the input.
     Check {
@@ -64,13 +64,6 @@ fn required_argument<'a>(alloc: Global, id: &'a str) -> Arg<'a>
     Arg::new(alloc, id).required(true)
 }
 
-fn optional_argument<'a>(alloc: Global, id: &'a str) -> Arg<'a>
-    ensures rule { rule_of result ≡ optional_word id.entry.now }
-    ensures local { result.global ≡ false }
-{
-    Arg::new(alloc, id)
-}
-
 fn text_argument<'a>(alloc: Global, name: &'a str) -> Arg<'a>
     ensures rule { rule_of result ≡ text_option name.entry.now }
     ensures local { result.global ≡ false }
@@ -91,7 +84,7 @@ fn solve_command<'a>(alloc: Global) -> Result<Command<'a>, AllocError>
 {
     Command::new(alloc, "solve")
         .arg(required_argument(alloc, "game"))?
-        .arg(optional_argument(alloc, "id"))?
+        .arg(Arg::new(alloc, "id"))?
         .arg(text_argument(alloc, "budget"))
 }
 
@@ -235,7 +228,8 @@ fn solve_request<'a>(matches: &ArgMatches<'a>) -> Option<Request<'a>>
     let game = game_from(matches)?;
     let budget = budget_from(matches)?;
     let id = text_of(matches, "id");
-    Some(Request::Solve { game, id, budget })
+    let task = Task { game, budget };
+    Some(Request::Solve { task, id })
 }
 
 fn check_request<'a>(matches: &ArgMatches<'a>) -> Option<Request<'a>>

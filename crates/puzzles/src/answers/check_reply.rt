@@ -3,7 +3,7 @@ ghost use Rattle.std.specs.Prelude.{◌≡◌, ◌≤◌, ◌++◌, Some, None, 
 ghost use Rattle.puzzles.specs.CheckAnswers.{checked, place_text};
 ghost use Rattle.puzzles.specs.Replies.{refused, answer_in};
 
-use crate::answers::decimal::push_number;
+use crate::answers::decimal::{push_number, push_numbered};
 use crate::answers::reply::{Reply, words_reply};
 use crate::answers::status::Status;
 use std::alloc::{AllocError, Global};
@@ -55,8 +55,7 @@ pub fn wrong_line_reply(alloc: Global, kind: &str, line: usize) -> Result<Reply,
     ensures { IfOk result (λ r. answer_in r ≡ checked (Some (kind.now ++ decimal line))) }
 {
     let mut text = String::from_str(alloc, "wrong: ")?;
-    text.push_str(kind)?;
-    push_number(&mut text, line)?;
+    push_numbered(&mut text, kind, line)?;
     text.push_str("\n")?;
     let status = Status::Wrong;
     Ok(Reply { text, status })

@@ -1,5 +1,5 @@
 //! Numbers in texts.
-ghost use Rattle.std.specs.Prelude.{◌≡◌, ◌+◌, ◌≤◌, ◌++◌, decimal, IsOk, OnOk, string_bytes, string_len, string_capacity};
+ghost use Rattle.std.specs.Prelude.{◌≡◌, ◌+◌, ◌≤◌, ◌++◌, decimal, IsOk, OnOk, length, string_bytes, string_len, string_capacity};
 
 use itoa::Buffer;
 use std::alloc::AllocError;
@@ -17,4 +17,19 @@ pub fn push_number(text: &mut String, number: usize) -> Result<(), AllocError>
 {
     let mut buffer = Buffer::new();
     text.push_str(buffer.format(number))
+}
+
+/// Adds words to a text, and then a number as `push_number` does.
+///
+/// # Errors
+///
+/// When memory was refused.
+pub fn push_numbered(text: &mut String, words: &str, number: usize) -> Result<(), AllocError>
+    ensures words { OnOk result (string_bytes text.new
+        ≡ string_bytes text.old ++ (words.now ++ decimal number)) }
+    ensures short { OnOk result (string_len text.new
+        ≤ string_len text.old + length words.now + 20) }
+{
+    text.push_str(words)?;
+    push_number(text, number)
 }

@@ -4,11 +4,11 @@ ghost use Rattle.gameid_core.specs.declared.id.fault.IdFault.TheVariants.{Memory
 ghost use Rattle.puzzles.specs.Answers.{IsGridFor, answer_with};
 ghost use Rattle.puzzles.specs.Replies.{answer_in, code_of, fault_text, grid_of, refused, two_grids};
 
-use crate::answers::decimal::push_number;
+use crate::answers::decimal::push_numbered;
 use crate::answers::status::Status;
 use gameid_core::{IdFault, Printed, push_grid};
 use grid_core::Grid;
-use std::alloc::{AllocError, Global};
+use std::alloc::AllocError;
 
 /// What a command has to say: its whole text, with line ends, and the status of the run.
 #[derive(Drop)]
@@ -51,16 +51,7 @@ pub fn grid_reply<P: Printed>(
     Ok(reply)
 }
 
-/// Adds words to a text, and then a number in decimal.
-fn push_numbered(text: &mut String, words: &str, number: usize) -> Result<(), AllocError>
-    ensures { OnOk result (string_bytes text.new
-        ≡ string_bytes text.old ++ (words.now ++ decimal number)) }
-{
-    text.push_str(words)?;
-    push_number(text, number)
-}
-
-/// Adds a fault to a text.
+/// Adds what is said of a fault to a text.
 fn push_fault(text: &mut String, fault: IdFault) -> Result<(), AllocError>
     ensures { OnOk result (string_bytes text.new ≡ string_bytes text.old ++ fault_text fault) }
 {
@@ -83,23 +74,12 @@ fn push_fault(text: &mut String, fault: IdFault) -> Result<(), AllocError>
     }
 }
 
-/// The answer to an ID with that first fault.
+/// The answer to an ID or a size with that first fault, in the memory of a text.
 ///
 /// # Errors
 ///
 /// When memory was refused.
-pub fn id_refused(alloc: Global, fault: IdFault) -> Result<Reply, AllocError>
-    ensures { IfOk result (λ r. answer_in r ≡ refused (fault_text fault)) }
-{
-    id_refused_in(String::new(alloc), fault)
-}
-
-/// The answer to an ID with that first fault, in the memory of a text.
-///
-/// # Errors
-///
-/// When memory was refused.
-pub fn id_refused_in(text: String, fault: IdFault) -> Result<Reply, AllocError>
+pub fn id_refused(text: String, fault: IdFault) -> Result<Reply, AllocError>
     ensures { IfOk result (λ r. answer_in r ≡ refused (fault_text fault)) }
 {
     let mut reply = words_reply(text, "refused: ", Status::Refused)?;

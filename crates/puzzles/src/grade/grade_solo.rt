@@ -7,7 +7,6 @@ use crate::answers::status::Ended;
 use crate::ends::Sink;
 use crate::grade::settling::settles;
 use crate::grade::{Attempt, Grade, Graded, RuleSet, Telling};
-use crate::solve::solvable::solo_is_lawful;
 use engine_core::Store;
 use gameid_core::SoloPuzzle;
 use solo_core::{SoloCrossings, SoloHouses, SoloSingles};
@@ -15,7 +14,6 @@ use std::alloc::Global;
 
 impl Graded for SoloPuzzle {
     fn tell<O: Sink>(&self, alloc: Global, wanted: Telling, output: &mut O) -> Ended {
-        solo_is_lawful(self);
         solo_core::scopes_are_houses_and_crossings();
         let singles = SoloSingles::new(alloc, self)?;
         let mut store = Store::new(alloc, &singles)?;
@@ -41,7 +39,6 @@ fn tell_by_houses<O: Sink>(
         output.old output.new result }
     ensures left { LeavesSink O.Sink output.new result }
 {
-    solo_is_lawful(puzzle);
     solo_core::scopes_are_houses_and_crossings();
     let houses = SoloHouses::new(alloc, puzzle)?;
     let mut store = Store::new(alloc, &houses)?;

@@ -1,12 +1,10 @@
 //! The names of what a closing visits.
 ghost use Rattle.std.specs.Prelude.{◌≡◌, ◌++◌, ◌+◌, ◌<◌, ◌≤◌, ℕ, OnOk, length, string_bytes, string_len};
-ghost use Rattle.engine_core.specs.Puzzle.{Puzzle};
-ghost use Rattle.gameid_core.specs.Puzzles.{Pattern, Solo};
-ghost use Rattle.solo_core.specs.Scopes.{scopes_of};
+ghost use Rattle.puzzles.specs.Words.{Puzzle, Pattern, Solo, scopes_of};
 ghost use Rattle.puzzles.specs.Answers.{Text};
 ghost use Rattle.puzzles.specs.Traces.{TellsVisits, house_text, scope_text, pattern_name, solo_name};
 
-use crate::answers::decimal::push_number;
+use crate::answers::decimal::push_numbered;
 use crate::played::Played;
 use gameid_core::{PatternPuzzle, SoloPuzzle};
 use solo_core::{SoloHouse, SoloScope, scope_of};
@@ -76,25 +74,12 @@ fn push_house(text: &mut String, house: SoloHouse) -> Result<(), AllocError>
     ensures name { OnOk result (string_bytes text.new ≡ string_bytes text.old ++ house_text house) }
     ensures short { OnOk result (string_len text.new ≤ string_len text.old + HOUSE) }
 {
-    let number = match house {
-        SoloHouse::Row(y) => {
-            text.push_str("row ")?;
-            y
-        }
-        SoloHouse::Column(x) => {
-            text.push_str("column ")?;
-            x
-        }
-        SoloHouse::Block(b) => {
-            text.push_str("block ")?;
-            b
-        }
-        SoloHouse::Diagonal(d) => {
-            text.push_str("diagonal ")?;
-            d
-        }
-    };
-    push_number(text, number)
+    match house {
+        SoloHouse::Row(y) => push_numbered(text, "row ", y),
+        SoloHouse::Column(x) => push_numbered(text, "column ", x),
+        SoloHouse::Block(b) => push_numbered(text, "block ", b),
+        SoloHouse::Diagonal(d) => push_numbered(text, "diagonal ", d),
+    }
 }
 
 /// Adds the name of a house, or those of a block and of a line that it meets.

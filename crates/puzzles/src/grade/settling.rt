@@ -1,8 +1,6 @@
 //! Grades: by rules that settle a puzzle, and by a search.
 ghost use Rattle.std.specs.Prelude.{◌≡◌, ◌↔◌, List, ℕ, true, IfOk};
-ghost use Rattle.engine_core.specs.Puzzle.{needs_of, FitsIn};
-ghost use Rattle.engine_core.specs.Stored.{is_settled};
-ghost use Rattle.engine_core.specs.Verdict.{Solves};
+ghost use Rattle.puzzles.specs.Words.{needs_of, FitsIn, is_settled, Solves};
 ghost use Rattle.puzzles.specs.Allowed.{grade_after};
 ghost use Rattle.puzzles.specs.Grades.{HasOneSolution, IsRightGrade, searched_grade};
 

@@ -5,7 +5,7 @@ ghost use Rattle.puzzles.specs.Stops.{is_broken};
 ghost use Rattle.puzzles.specs.TracePieces.{KeptOrPut, VisitsBegun, VisitsInPieces, VisitsPut};
 ghost use Rattle.puzzles.specs.Traces.{line_of, sweeps_text};
 
-use crate::answers::decimal::push_number;
+use crate::answers::decimal::push_numbered;
 use crate::answers::status::Stop;
 use crate::ends::Sink;
 use crate::ends::output::put_all;
@@ -37,8 +37,7 @@ fn push_visit<P: Named>(puzzle: &P, number: usize, text: &mut String) -> Result<
 pub fn push_sweeps(text: &mut String, sweeps: usize) -> Result<(), AllocError>
     ensures { OnOk result (string_bytes text.new ≡ string_bytes text.old ++ sweeps_text sweeps) }
 {
-    text.push_str("sweeps ")?;
-    push_number(text, sweeps)?;
+    push_numbered(text, "sweeps ", sweeps)?;
     text.push_str("\n")
 }
 

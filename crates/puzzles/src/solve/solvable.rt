@@ -1,12 +1,6 @@
 //! Puzzles that can be searched: the rules that a search goes by, and the solutions by the game.
-ghost use Rattle.std.specs.Prelude.{◌≡◌, ◌*◌, ◌↔◌, List, ℕ, IfOk};
-ghost use Rattle.engine_core.specs.Puzzle.{Puzzle};
-ghost use Rattle.engine_core.specs.Verdict.{Solves};
-ghost use Rattle.fields_core.specs.LightHouses.{light_rules};
-ghost use Rattle.fields_core.specs.TentHouses.{tent_rules};
-ghost use Rattle.gameid_core.specs.Puzzles.{IsSolo};
-ghost use Rattle.pattern_core.specs.LineRules.{line_rules};
-ghost use Rattle.solo_core.specs.RuleSets.{houses_rules};
+ghost use Rattle.std.specs.Prelude.{◌≡◌, ◌*◌, ◌↔◌, List, ℕ, IfOk, OnOk};
+ghost use Rattle.puzzles.specs.Words.{Puzzle, Solves, light_rules, tent_rules, line_rules, houses_rules};
 
 use crate::played::Played;
 use fields_core::{LightRules, TentRules};
@@ -33,8 +27,8 @@ pub trait Solvable: Played {
         ensures cells { (Self.game.rules self.now).cells
             ≡ (Self.extent self.now).w * (Self.extent self.now).h }
         ensures values { (Self.game.rules self.now).values ≡ Self.value_count self.now }
-        ensures solutions { (g : List ℕ)
-            → Solves (Self.game.rules self.now) g ↔ Self.game.solves self.now g };
+        ensures solutions { OnOk result ((g : List ℕ)
+            → Solves (Self.game.rules self.now) g ↔ Self.game.solves self.now g) };
 }
 
 impl Solvable for PatternPuzzle {
@@ -43,16 +37,8 @@ impl Solvable for PatternPuzzle {
     ghost meaning = { λ search. line_rules search.pattern };
 
     fn rules(&self, alloc: Global) -> Result<PatternLines, AllocError> {
-        pattern_core::accepted_are_solutions();
         PatternLines::new(alloc, self)
     }
-}
-
-/// Says of a puzzle of Solo that its sides and givens are within the game's limits.
-pub fn solo_is_lawful(puzzle: &SoloPuzzle)
-    ensures { IsSolo puzzle.now }
-{
-    let _numbers = puzzle.n();
 }
 
 impl Solvable for SoloPuzzle {
@@ -61,8 +47,6 @@ impl Solvable for SoloPuzzle {
     ghost meaning = { λ search. houses_rules search.puzzle };
 
     fn rules(&self, alloc: Global) -> Result<SoloHouses, AllocError> {
-        solo_is_lawful(self);
-        solo_core::accepted_are_solutions();
         SoloHouses::new(alloc, self)
     }
 }
@@ -73,7 +57,6 @@ impl Solvable for LightPuzzle {
     ghost meaning = { λ search. light_rules search.light };
 
     fn rules(&self, alloc: Global) -> Result<LightRules, AllocError> {
-        fields_core::accepted_lights_are_solutions();
         LightRules::new(alloc, self)
     }
 }
@@ -84,7 +67,6 @@ impl Solvable for TentsPuzzle {
     ghost meaning = { λ search. tent_rules search.tents };
 
     fn rules(&self, alloc: Global) -> Result<TentRules, AllocError> {
-        fields_core::accepted_tents_are_solutions();
         TentRules::new(alloc, self)
     }
 }

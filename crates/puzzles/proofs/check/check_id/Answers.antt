@@ -1,25 +1,16 @@
 use Rattle.puzzles.proofs.check.check_id.Goals as goal
 
-pub returns-in-Pattern-clause-ran : goal.returns-in-Pattern-clause-ran
-returns-in-Pattern-clause-ran g c = rw c.in-Pattern.is c.check_one.ensures.ran
+pub returns-in-Pattern : goal.returns-in-Pattern
+returns-in-Pattern g c = let e = c.in-Pattern.is in record { ran = rw e c.check_one.ensures.ran; left = rw e c.check_one.ensures.left }
 
-pub returns-in-Pattern-clause-left : goal.returns-in-Pattern-clause-left
-returns-in-Pattern-clause-left g c = rw c.in-Pattern.is c.check_one.ensures.left
+pub returns-in-Solo : goal.returns-in-Solo
+returns-in-Solo g c =
+    let e = c.in-Solo.is in record { ran = rw e c.check_one-in-Solo.ensures.ran; left = rw e c.check_one-in-Solo.ensures.left }
 
-pub returns-in-Solo-clause-ran : goal.returns-in-Solo-clause-ran
-returns-in-Solo-clause-ran g c = rw c.in-Solo.is c.check_one-in-Solo.ensures.ran
+pub returns-in-LightUp : goal.returns-in-LightUp
+returns-in-LightUp g c =
+    let e = c.in-LightUp.is in record { ran = rw e c.check_one-in-LightUp.ensures.ran; left = rw e c.check_one-in-LightUp.ensures.left }
 
-pub returns-in-Solo-clause-left : goal.returns-in-Solo-clause-left
-returns-in-Solo-clause-left g c = rw c.in-Solo.is c.check_one-in-Solo.ensures.left
-
-pub returns-in-LightUp-clause-ran : goal.returns-in-LightUp-clause-ran
-returns-in-LightUp-clause-ran g c = rw c.in-LightUp.is c.check_one-in-LightUp.ensures.ran
-
-pub returns-in-LightUp-clause-left : goal.returns-in-LightUp-clause-left
-returns-in-LightUp-clause-left g c = rw c.in-LightUp.is c.check_one-in-LightUp.ensures.left
-
-pub returns-in-Tents-clause-ran : goal.returns-in-Tents-clause-ran
-returns-in-Tents-clause-ran g c = rw c.in-Tents.is c.check_one-in-Tents.ensures.ran
-
-pub returns-in-Tents-clause-left : goal.returns-in-Tents-clause-left
-returns-in-Tents-clause-left g c = rw c.in-Tents.is c.check_one-in-Tents.ensures.left
+pub returns-in-Tents : goal.returns-in-Tents
+returns-in-Tents g c =
+    let e = c.in-Tents.is in record { ran = rw e c.check_one-in-Tents.ensures.ran; left = rw e c.check_one-in-Tents.ensures.left }

@@ -1,15 +1,8 @@
 use Rattle.std.proofs.Common.{◌≡◌, ◌∙◌, ◌∷◌, ◌<◌, ℕ, Bool, true, [], sym, refl}
 use Rattle.std.specs.Prelude.{◌↔◌}
 use Rattle.std.proofs.lemmas.Bool.{false_from_ne_true, true≢false}
-use Rattle.grid_core.specs.Candidates.{Candidates}
-use Rattle.gameid_core.specs.declared.id.game.Game.{Game}
 use Rattle.gameid_core.specs.declared.id.game.Game.TheVariants as game
-use Rattle.gameid_core.specs.Puzzles.{IsSolo, Solo}
-use Rattle.engine_core.specs.Stored.{is_settled}
-use Rattle.fields_core.specs.LightHouses.{light_rules}
-use Rattle.fields_core.specs.TentHouses.{tent_rules}
-use Rattle.pattern_core.specs.LineRules.{line_rules}
-use Rattle.solo_core.specs.RuleSets.{crossings_rules, houses_rules, singles_rules}
+use Rattle.puzzles.specs.Words.{Candidates, Game, IsSolo, Solo, is_settled, light_rules, tent_rules, line_rules, crossings_rules, houses_rules, singles_rules}
 use Rattle.puzzles.specs.Answers.{Answer, Text}
 use Rattle.puzzles.specs.Games.{played, puzzle_of}
 use Rattle.puzzles.specs.Grades.{listed_grade, only_set, solo_sets}
@@ -48,8 +41,7 @@ statuses : (g : Game) (id : Text) (budget : ℕ) (traced : Bool) (solved graded 
     → AllowsSolve g budget id solved → AllowsGrade g id budget traced graded → GoesAlong graded.status solved.status
 statuses g id budget traced solved graded =
     let of = (played g).game in
-    let reading = (facts g).reading in
-    both_answers of.reading of.spells reading.one reading.apart _ _ (λ x y. GoesAlong y.status x.status) id solved graded refusals_along
+    both_answers (facts g).reading _ _ (λ x y. GoesAlong y.status x.status) id solved graded refusals_along
     (λ p s a b. status_alike traced _ _ solved graded _ _ (goes_along (of.sets p) (of.rules p) (of.solves p) budget a.right b.right) b.told a.told)
 
 enough : (g : Game) (id : Text) (budget : ℕ) (traced : Bool) (graded : Answer) → AllowsGrade g id budget traced graded → graded.status ≡ 0 → IsOneWithEnough g id
@@ -61,8 +53,7 @@ rule_sets : Strikes → (g : Game) (id : Text) (budget : ℕ) (traced : Bool) (s
     → AllowsSolve g 0 id solved → AllowsGrade g id budget traced graded → NamesRules graded ↔ (solved.status ≡ 0)
 rule_sets strikes g id budget traced solved graded =
     let of = (played g).game in
-    let reading = (facts g).reading in
-    both_answers of.reading of.spells reading.one reading.apart _ _ (λ x y. NamesRules y ↔ (x.status ≡ 0)) id solved graded refusals_apart
+    both_answers (facts g).reading _ _ (λ x y. NamesRules y ↔ (x.status ≡ 0)) id solved graded refusals_apart
     (λ p s a b. named_alike traced _ _ solved graded _ (of.rules p) ((facts g).searched id p s).lawful (named strikes g id p s budget) b.told a.told)
 
 pub returns-clause-statuses : goal.returns-clause-statuses

@@ -1,15 +1,13 @@
 use Rattle.std.proofs.Common.{◌≡◌, ℕ, ap, arith, inl, inr}
 use Rattle.std.proofs.lemmas.List.Elements.{All-contains}
-use Rattle.gameid_core.specs.declared.id.game.Game.{Game}
 use Rattle.gameid_core.specs.declared.id.game.Game.TheVariants.{Solo, LightUp}
-use Rattle.gameid_core.specs.GridTexts.{grid_text}
 use Rattle.fields_core.proofs.LightRuleLemmas.{rule-from-test}
-use Rattle.solo_core.specs.SolutionLaws.{rule_from_test}
 use Rattle.maker_core.specs.LightClues.{light_game}
 use Rattle.maker_core.specs.LightFilling.{with_numbers}
 use Rattle.maker_core.specs.SoloClues.{solo_game}
 use Rattle.maker_core.specs.SoloFilling.{all_given}
 use Rattle.maker_core.specs.Thinning.{IsReason}
+use Rattle.puzzles.specs.Words.{Game, grid_text, rule_from_test}
 use Rattle.puzzles.specs.Answers.{Answer, Text}
 use Rattle.puzzles.specs.Games.{played}
 use Rattle.puzzles.specs.LawsOfCommands.{IsSolvedAsMade}

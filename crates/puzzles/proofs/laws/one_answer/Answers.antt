@@ -16,15 +16,14 @@ use Rattle.puzzles.proofs.laws.one_answer.Goals as goal
 
 checking : (game : Game) (id input : Text) → HasOneAnswer (AllowsCheck game id input)
 checking game id input =
-    let play = played game in
-    id_once play.game.reading play.game.spells (facts game).reading id _ (λ p s.
+    id_once (facts game).reading id _ (λ p s.
     let checked = (facts game).checked id p s in
-    one_of_same _ (check_some play p checked input) (check_same play p checked input))
+    one_of_same _ (check_some (played game) p checked input) (check_same (played game) p checked input))
 
 grading : (game : Game) (id : Text) (budget : ℕ) → HasOneAnswer (AllowsGrade game id budget false)
 grading game id budget =
     let of = (played game).game in
-    id_once of.reading of.spells (facts game).reading id _ (λ p s. grade_once (of.solves p) _ _
+    id_once (facts game).reading id _ (λ p s. grade_once (of.solves p) _ _
     (listed_right (of.solves p) (of.sets p) (of.rules p) budget ((facts game).listed id p s) ((facts game).searched id p s)))
 
 pub returns : goal.returns

@@ -10,16 +10,10 @@ use Rattle.puzzles.proofs.laws.rewritten_ids_are_the_same.Goals as goal
 
 alike : (game : Game) (id other : Text) → Rewrites game id other → (allows : puzzle_of game → Answer → Type 0) (answer : Answer)
     → AnswersId (played game).game id allows answer ↔ AnswersId (played game).game other allows answer
-alike game id other r allows answer =
-    let of = (played game).game in
-    let reading = (facts game).reading in
-    answered_alike of.reading of.spells of.written reading.one reading.apart (facts game).again id other r allows answer
+alike game id other r allows answer = answered_alike (played game).game.written (facts game).reading (facts game).again id other r allows answer
 
 pub returns-clause-puzzles : goal.returns-clause-puzzles
-returns-clause-puzzles c = λ game id other r.
-    let of = (played game).game in
-    let reading = (facts game).reading in
-    spelled_alike of.reading of.spells of.written reading.one reading.apart (facts game).again id other r
+returns-clause-puzzles c = λ game id other r. spelled_alike (played game).game.written (facts game).reading (facts game).again id other r
 
 pub returns-clause-solved : goal.returns-clause-solved
 returns-clause-solved c = λ game id other r budget input answer. alike game id other r _ answer

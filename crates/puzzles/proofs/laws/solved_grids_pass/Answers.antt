@@ -10,9 +10,7 @@ use Rattle.puzzles.proofs.laws.solved_grids_pass.Goals as goal
 goes : (game : Game) (id input : Text) (budget : ℕ) (given solved : Answer)
     → AllowsCheck game id input given → AllowsSolve game budget id solved → GoesWith input given solved
 goes game id input budget given solved =
-    let of = (played game).game in
-    let reading = (facts game).reading in
-    both_answers of.reading of.spells reading.one reading.apart _ _ (GoesWith input) id given solved (refusals_go input)
+    both_answers (facts game).reading _ _ (GoesWith input) id given solved (refusals_go input)
     (λ p s a b. goes_with (played game) p budget input given solved ((facts game).checked id p s) a b)
 
 pub returns-clause-pass : goal.returns-clause-pass

@@ -1,12 +1,11 @@
-use Rattle.std.proofs.Common.{[], arith, refl, rules, sym}
+use Rattle.std.proofs.Common.{[], arith, refl, rules, subst, sym}
 use Rattle.gameid_core.specs.declared.id.game.Game.TheVariants.{Solo}
-use Rattle.solo_core.specs.RuleSets.{crossings_rules, houses_rules}
-use Rattle.solo_core.specs.Solutions.{IsSoloSolution}
+use Rattle.puzzles.specs.Words.{IsSolo, crossings_rules, houses_rules, IsSoloSolution}
 use Rattle.puzzles.specs.Games.{played}
 use Rattle.puzzles.specs.Grades.{only_set}
 use Rattle.puzzles.specs.declared.grade.RuleSet.TheVariants.{Crossings, Houses}
 use Rattle.puzzles.proofs.GradeLemmas.{accepted_by, told_by, told_first, told_later, houses_named, named}
-use Rattle.puzzles.proofs.SearchedPuzzles.{crossings_searched, solo_searched}
+use Rattle.puzzles.proofs.SearchedPuzzles.{solo_accepted}
 use Rattle.puzzles.proofs.RunLemmas.{is_late, left_alone, tells_nothing}
 use Rattle.puzzles.proofs.grade.grade_solo.tell_by_houses.Goals as goal
 
@@ -26,14 +25,15 @@ tell_by_visits-requires-clause-named g c = named c.args.puzzle.now _ _ c.in_ok-c
 
 pub tell_by_visits-requires-clause-accepted : goal.tell_by_visits-requires-clause-accepted
 tell_by_visits-requires-clause-accepted g c =
-    accepted_by (crossings_rules c.args.puzzle.now) _ (IsSoloSolution c.args.puzzle.now) c.in_ok-crossings.ensures.rules
-    (crossings_searched c.args.puzzle.now c.solo_is_lawful.ensures).accepted
+    let ok = subst IsSolo c.in_ok-crossings.ensures.copied c.in_ok-crossings.crossings.is_solo in
+    accepted_by (crossings_rules c.args.puzzle.now) _ (IsSoloSolution c.args.puzzle.now) c.in_ok-crossings.ensures.rules (solo_accepted c.args.puzzle.now ok _ _)
 
 pub returns-then-settles-clause-told : goal.returns-then-settles-clause-told
 returns-then-settles-clause-told g c =
     let p = c.args.puzzle.now in
+    let ok = subst IsSolo c.in_ok-houses.ensures.copied c.in_ok-houses.houses.is_solo in
     told_first (played Solo).game p c.args.wanted g.O.Sink.takes _ _ _ _ Houses (houses_rules p) (only_set Crossings (crossings_rules p)) c.in_ok-houses.ensures.rules
-    (sym c.if-settles.ensures.settled) (solo_searched p c.solo_is_lawful.ensures).accepted (c.if-settles.ensures.one refl) c.tell_with_visits.ensures.told
+    (sym c.if-settles.ensures.settled) (solo_accepted p ok _ _) (c.if-settles.ensures.one refl) c.tell_with_visits.ensures.told
 
 pub returns-clause-told : goal.returns-clause-told
 returns-clause-told g c =

@@ -1,4 +1,4 @@
-use Rattle.puzzles.proofs.Readings.{light_reading}
+use Rattle.gameid_core.proofs.LightTexts.{light_reading}
 use Rattle.puzzles.proofs.played.LightPuzzlePlayed.read_id.Goals as goal
 
 pub returns-clause-apart : goal.returns-clause-apart

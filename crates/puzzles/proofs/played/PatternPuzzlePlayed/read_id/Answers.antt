@@ -1,4 +1,4 @@
-use Rattle.puzzles.proofs.Readings.{pattern_reading}
+use Rattle.gameid_core.proofs.PatternTexts.{pattern_reading}
 use Rattle.puzzles.proofs.played.PatternPuzzlePlayed.read_id.Goals as goal
 
 pub returns-clause-apart : goal.returns-clause-apart

@@ -1,4 +1,4 @@
-use Rattle.puzzles.proofs.Readings.{solo_reading}
+use Rattle.gameid_core.proofs.SoloTexts.{solo_reading}
 use Rattle.puzzles.proofs.played.SoloPuzzlePlayed.read_id.Goals as goal
 
 pub returns-clause-apart : goal.returns-clause-apart

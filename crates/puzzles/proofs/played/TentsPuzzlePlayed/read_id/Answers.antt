@@ -1,4 +1,4 @@
-use Rattle.puzzles.proofs.Readings.{tents_reading}
+use Rattle.gameid_core.proofs.TentsTexts.{tents_reading}
 use Rattle.puzzles.proofs.played.TentsPuzzlePlayed.read_id.Goals as goal
 
 pub returns-clause-apart : goal.returns-clause-apart

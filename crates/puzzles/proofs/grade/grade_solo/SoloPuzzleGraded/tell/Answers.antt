@@ -1,11 +1,11 @@
-use Rattle.std.proofs.Common.{arith, refl, rules, sym}
+use Rattle.std.proofs.Common.{arith, refl, rules, subst, sym}
 use Rattle.gameid_core.specs.declared.id.game.Game.TheVariants.{Solo}
-use Rattle.solo_core.specs.RuleSets.{crossings_rules, singles_rules}
+use Rattle.puzzles.specs.Words.{IsSolo, crossings_rules, singles_rules}
 use Rattle.puzzles.specs.Games.{played}
 use Rattle.puzzles.specs.Grades.{after_singles, only_set}
 use Rattle.puzzles.specs.declared.grade.RuleSet.TheVariants.{Crossings, Singles}
 use Rattle.puzzles.proofs.GradeLemmas.{told_first, told_later, houses_named, named}
-use Rattle.puzzles.proofs.SearchedPuzzles.{singles_searched}
+use Rattle.puzzles.proofs.SearchedPuzzles.{solo_accepted}
 use Rattle.puzzles.proofs.RunLemmas.{tells_nothing}
 use Rattle.puzzles.proofs.grade.grade_solo.SoloPuzzleGraded.tell.Goals as goal
 
@@ -19,8 +19,9 @@ tell_with_visits-requires-clause-named g c = named c.args.self.now _ _ c.in_ok-s
 pub returns-then-settles-clause-told : goal.returns-then-settles-clause-told
 returns-then-settles-clause-told g c =
     let p = c.args.self.now in
+    let ok = subst IsSolo c.in_ok-singles.ensures.copied c.in_ok-singles.singles.is_solo in
     told_first (played Solo).game p c.args.wanted g.O.Sink.takes _ _ _ _ Singles (singles_rules p) (after_singles p) c.in_ok-singles.ensures.rules
-    (sym c.if-settles.ensures.settled) (singles_searched p c.solo_is_lawful.ensures).accepted (c.if-settles.ensures.one refl) c.tell_with_visits.ensures.told
+    (sym c.if-settles.ensures.settled) (solo_accepted p ok _ _) (c.if-settles.ensures.one refl) c.tell_with_visits.ensures.told
 
 pub returns-clause-told : goal.returns-clause-told
 returns-clause-told g c =

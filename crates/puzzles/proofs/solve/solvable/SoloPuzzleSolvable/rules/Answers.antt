@@ -1,5 +1,9 @@
+use Rattle.std.proofs.Common.{subst}
+use Rattle.std.proofs.lemmas.Result.{IfOk-weaker}
+use Rattle.gameid_core.specs.Puzzles.{IsSolo}
+use Rattle.puzzles.proofs.SearchedPuzzles.{solo_accepted}
 use Rattle.puzzles.proofs.solve.solvable.SoloPuzzleSolvable.rules.Goals as goal
 
 pub returns-clause-solutions : goal.returns-clause-solutions
-returns-clause-solutions c = λ g. let same = c.accepted_are_solutions.ensures.houses c.args.self.now c.solo_is_lawful.ensures g in
-    (λ s. (same s.grid).0 s.good, λ s. record { grid = s.grid; good = (same s.grid).1 s })
+returns-clause-solutions c =
+    IfOk-weaker c.new.result _ _ (λ rules copied. solo_accepted c.args.self.now (subst IsSolo copied rules.is_solo) _ _) c.new.ensures.copied
