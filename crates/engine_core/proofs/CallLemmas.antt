@@ -1,13 +1,10 @@
 -- Which houses wait after others were called for.
-use Rattle.std.proofs.Common.{◌≡◌, ℕ, ◌+◌, ◌<◌, ◌≤◌, Bool, true, false, not, ◌&&◌, ◌||◌, eqb, ltb, slice_index, refl, arith}
-use Rattle.std.proofs.lemmas.Bool.{cases_eq, cases_lt, lt-ltb, le-ltb, and_from, and_left, and_right, or_left, or_right, eqb-true, eq-eqb, ne_eqb, not_from_true, not_from_false}
-use Rattle.grid_core.specs.Candidates.{Candidates, any_below, count_below}
-use Rattle.engine_core.specs.Puzzle.{Puzzle, has_place, IsIdle}
-use Rattle.engine_core.specs.Queue.{calls, counts_of, called_for, woken, but, IsWoken}
-use Rattle.engine_core.specs.Waiting.{AreCalled}
+use Rattle.engine_core.proofs.Common.{AreCalled, Bool, Candidates, IsIdle, IsWoken, Puzzle, and_from, and_left, and_right, any_below, arith, but}
+use Rattle.engine_core.proofs.Common.{called_for, calls, cases_eq, cases_lt, common_steps, count_below, counts_of, eq-eqb, eqb, eqb-true, false}
+use Rattle.engine_core.proofs.Common.{has_place, le-ltb, lt-ltb, ltb, ne_eqb, not, not_from_false, not_from_true, or_left, or_right, refl}
+use Rattle.engine_core.proofs.Common.{slice_index, true, woken, ℕ, ◌&&◌, ◌+◌, ◌<◌, ◌||◌, ◌≡◌, ◌≤◌}
 use Rattle.engine_core.proofs.IndexLemmas.{counted}
 use Rattle.engine_core.proofs.QueueLemmas.{any_below-more, woken-none}
-use Rattle.std.proofs.lemmas.Grind.{common_steps}
 
 -- where no house is called for, nothing changes
 pub called-none : (p : Puzzle) (K : Candidates) (called waits : ℕ → Bool) → ((j : ℕ) → j < p.houses → called j ≡ false) → AreCalled p K called waits waits

@@ -1,18 +1,9 @@
 -- Boards that differ in one cell alone.
-use Rattle.std.proofs.Common.{◌≡◌, ℕ, ◌^◌, ◌<◌, ◌≤◌, Bool, true, not, ◌&&◌, eqb, arith}
-use Rattle.std.proofs.Math.Path.{fun_ext}
-use Rattle.std.proofs.lemmas.Bool.{cases_eq, eq-eqb, eqb-true, ne_eqb}
-use Rattle.std.proofs.lemmas.Nat.{pow_below}
-use Rattle.grid_core.specs.Board.{Layout, has, SameShape}
-use Rattle.grid_core.specs.Candidates.{Candidates, IsInside, only, count_below}
-use Rattle.grid_core.proofs.BoardLemmas.{has-within}
-use Rattle.grid_core.proofs.CandidateLemmas.{count_below-few}
-use Rattle.engine_core.specs.Puzzle.{Puzzle, IsBoardOf}
-use Rattle.engine_core.specs.Sets.{has_bit, IsBitsOf, IsChange}
-use Rattle.engine_core.specs.Trail.{left_by}
+use Rattle.engine_core.proofs.Common.{Bool, Candidates, IsBitsOf, IsBoardOf, IsChange, IsInside, Layout, Puzzle, SameShape, arith, cases_eq}
+use Rattle.engine_core.proofs.Common.{common_steps, count_below, count_below-few, eq-eqb, eqb, eqb-true, fun_ext, has, has-within, has_bit, left_by}
+use Rattle.engine_core.proofs.Common.{ne_eqb, not, only, pow_below, true, ℕ, ◌&&◌, ◌<◌, ◌^◌, ◌≡◌, ◌≤◌}
 use Rattle.engine_core.proofs.BitLemmas.{bits-of_power}
 use Rattle.engine_core.proofs.QueueLemmas.{within_of}
-use Rattle.std.proofs.lemmas.Grind.{common_steps}
 
 -- by the bits that boards give for a cell
 pub change-of : (p : Puzzle) (b b' : Layout) (place before after : ℕ) → IsBoardOf p b → SameShape b b' → place < p.cells → IsBitsOf (has b place) b.values before → IsBitsOf (has b' place) b'.values after

@@ -1,16 +1,10 @@
 -- What a closing left.
-use Rattle.std.proofs.Common.{arith, ◌≡◌, ℕ, ◌+◌, ◌≤◌, max, Bool, false, List, length, take, ◌↔◌}
-use Rattle.grid_core.specs.Candidates.{Candidates, is_dead}
-use Rattle.engine_core.specs.Puzzle.{Puzzle}
-use Rattle.engine_core.specs.Closing.{closure}
-use Rattle.engine_core.specs.ClosingList.{IsDead, IsClosing}
+use Rattle.engine_core.proofs.Common.{Bool, Candidates, CountsClosing, IsClosing, IsDead, IsEnded, List, Puzzle, arith, board_in, closure}
+use Rattle.engine_core.proofs.Common.{common_steps, false, is_dead, length, max, take, ℕ, ◌+◌, ◌↔◌, ◌≡◌, ◌≤◌}
 use Rattle.engine_core.specs.declared.mode.Closing.{Closing}
 use Rattle.engine_core.specs.declared.mode.Closing.TheVariants.{Dead}
-use Rattle.engine_core.specs.Queue.{IsEnded}
 use Rattle.engine_core.specs.declared.search.levels.Levels.{Levels}
-use Rattle.engine_core.specs.Frames.{board_in, CountsClosing}
 use Rattle.engine_core.proofs.CountLemmas.{closed-in}
-use Rattle.std.proofs.lemmas.Grind.{common_steps}
 
 -- a whole closing
 pub ended-whole : (p : Puzzle) (K E : Candidates) (whole : Bool) (answer : Closing) (trace : List ℕ) (sweeps : ℕ) → IsClosing p K E answer trace sweeps → IsEnded p K E whole answer trace sweeps

@@ -1,18 +1,10 @@
 -- Laws of the list of houses place by place.
-use Rattle.std.proofs.Common.{add-one, ◌≡◌, ℕ, zero, suc, ◌+◌, ◌-◌, ◌<◌, ◌≤◌, max, Bool, true, false, cond, eqb, List, [], ◌∷◌, ◌++◌, length, set, slice_index, take, Option, Some, None, refl, sym, ap, ◌∙◌, ◌||◌, inl, inr, arith}
-use Rattle.std.specs.Prelude.{sum_by}
-use Rattle.std.specs.List.{between}
-use Rattle.std.proofs.lemmas.Bool.{cases_eq, cases_lt, cases_Bool, true≢false, eq-eqb, ne_eqb}
-use Rattle.std.proofs.lemmas.List.{take_more, length-take-le, get_or-take, length-set, get_or-set_other, places}
-use Rattle.std.proofs.lemmas.List.Edits.{length-between, get_or-between}
-use Rattle.std.proofs.lemmas.List.Sums.{sum_by-cons}
-use Rattle.std.proofs.lemmas.Grind.{common_steps, get_or-set_at}
-use Rattle.grid_core.specs.Candidates.{count_below, sum_below}
-use Rattle.engine_core.specs.Puzzle.{has_place, longest, IsNext}
-use Rattle.engine_core.specs.PlaceLaws.{has_place-at, has_place-here}
-use Rattle.engine_core.specs.House.{AreDifferent}
-use Rattle.engine_core.specs.HousesLaws.{counted_twice, from_first}
-use Rattle.engine_core.specs.HouseIndex.{scope_of, AreScopes, number_at, AreHousesAt, start_at, IsIndex, IsRoom, IsPut, IsFirstFrom}
+use Rattle.engine_core.proofs.Common.{AreDifferent, AreHousesAt, AreScopes, Bool, IsFirstFrom, IsIndex, IsNext, IsPut, IsRoom, List, None, Option}
+use Rattle.engine_core.proofs.Common.{Some, [], add-one, ap, arith, between, cases_Bool, cases_eq, cases_lt, common_steps, cond, count_below}
+use Rattle.engine_core.proofs.Common.{counted_twice, eq-eqb, eqb, false, from_first, get_or-between, get_or-set_at, get_or-set_other, get_or-take}
+use Rattle.engine_core.proofs.Common.{has_place, has_place-at, has_place-here, inl, inr, length, length-between, length-set, length-take-le, longest}
+use Rattle.engine_core.proofs.Common.{max, ne_eqb, number_at, places, refl, scope_of, set, slice_index, start_at, suc, sum_below, sum_by, sum_by-cons}
+use Rattle.engine_core.proofs.Common.{sym, take, take_more, true, true≢false, zero, ℕ, ◌++◌, ◌+◌, ◌-◌, ◌<◌, ◌||◌, ◌∙◌, ◌∷◌, ◌≡◌, ◌≤◌}
 
 -- ---- sums and counts as they go on
 pub sum_below-more : (f : ℕ → ℕ) (m n : ℕ) → m ≤ n → sum_below f m ≤ sum_below f n

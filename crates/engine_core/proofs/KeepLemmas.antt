@@ -1,14 +1,8 @@
 -- What a visit leaves, by what is kept of the sets of its house's cells.
-use Rattle.std.proofs.Common.{◌≡◌, ℕ, ◌<◌, true, false, bit_and, List, length, slice_index, arith}
-use Rattle.std.proofs.lemmas.Bool.{cases_Bool, and_left, and_from, false_from_ne_true}
-use Rattle.std.proofs.lemmas.Nat.{and_le_l}
-use Rattle.grid_core.specs.Candidates.{Candidates, IsWithin}
-use Rattle.engine_core.specs.Puzzle.{Puzzle, IsLawful, after}
-use Rattle.engine_core.specs.PlaceLaws.{has_place-at}
-use Rattle.engine_core.specs.Sets.{IsBitsOf}
-use Rattle.engine_core.specs.Keeping.{AreSetsOf, IsKept}
+use Rattle.engine_core.proofs.Common.{AreSetsOf, Candidates, IsBitsOf, IsKept, IsLawful, IsWithin, List, Puzzle, after, and_from, and_le_l, and_left}
+use Rattle.engine_core.proofs.Common.{arith, bit_and, cases_Bool, common_steps, false, false_from_ne_true, has_place-at, length, slice_index, true, ℕ}
+use Rattle.engine_core.proofs.Common.{◌<◌, ◌≡◌}
 use Rattle.engine_core.proofs.BitLemmas.{bits-both}
-use Rattle.std.proofs.lemmas.Grind.{common_steps}
 
 -- where nothing is struck, the board stays
 pub kept-none : (p : Puzzle) (laws : IsLawful p) (h : ℕ) (K : Candidates) (kept : List ℕ) → h < p.houses → IsWithin p.cells p.values K → IsKept p h K false kept → K ≡ after p h K

@@ -1,8 +1,6 @@
 -- Numbers that pass a test, one after the other.
-use Rattle.std.proofs.Common.{◌≡◌, ℕ, zero, suc, ◌+◌, ◌<◌, ◌≤◌, Bool, true, false, Option, Some, None, refl, ap, ◌∙◌, inl, inr, arith, add-one}
-use Rattle.std.proofs.lemmas.Bool.{cases_eq}
-use Rattle.grid_core.specs.Candidates.{count_below}
-use Rattle.engine_core.specs.Puzzle.{IsNext, IsKth}
+use Rattle.engine_core.proofs.Common.{Bool, IsKth, IsNext, None, Option, Some, add-one, ap, arith, cases_eq, count_below, false, inl, inr, refl, suc}
+use Rattle.engine_core.proofs.Common.{true, zero, ℕ, ◌+◌, ◌<◌, ◌∙◌, ◌≡◌, ◌≤◌}
 
 count-on : (p : ℕ → Bool) (n : ℕ) → p n ≡ true → count_below p (n + 1) ≡ count_below p n + 1
 unfolding count_below

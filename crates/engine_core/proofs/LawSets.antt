@@ -1,7 +1,5 @@
 -- The laws that the goals of a file use, by the file's name.
-use Rattle.std.proofs.lemmas.List.{length-set}
-use Rattle.engine_core.specs.FillingLaws.{shown_from_test, test_from_shown}
-use Rattle.engine_core.specs.HousesLaws.{by_houses-lawful, bound_enough}
+use Rattle.engine_core.proofs.Common.{bound_enough, by_houses-lawful, length-set, sets-bits, shown_from_test, test_from_shown}
 use Rattle.engine_core.proofs.ClosingLemmas.{closure_inside, closure_closed, closure_largest}
 use Rattle.engine_core.proofs.IndexLemmas.{has_place-none, number_at-none, longest-none, longest-more, not_taken, counted-more, summed-none, summed-sum, summed-more, sum_below-more, ascends, ends_in, houses-at, next-at, nth-at, scopes-wider, index-none, counts_same, houses_of_places, index-room, index-turn, put-none, put-room, put-more, number_at-more}
 use Rattle.engine_core.proofs.PickLemmas.{pick-is}
@@ -9,7 +7,6 @@ use Rattle.engine_core.proofs.PieceLemmas.{begin-after, closed-in, ends-close, l
 use Rattle.engine_core.proofs.TrialLemmas.{tried-first, trials-counted}
 use Rattle.engine_core.proofs.VerdictLemmas.{spent-le, outcome-true, outcome-counts, spent-counts, found_iff}
 use Rattle.engine_core.proofs.WalkLemmas.{walk-once, walk-unfold}
-use Rattle.engine_core.specs.HouseLaws.{sets-bits}
 use Rattle.engine_core.proofs.CountLemmas.{search-few, spent-tried}
 use Rattle.engine_core.proofs.EndLemmas.{ended-counted}
 use Rattle.engine_core.proofs.HouseLemmas.{kept-first, kept-inside, kept-more, striking-first, striking-more}

@@ -1,15 +1,8 @@
 -- The levels of a search: what its frames and its trail say of the boards that are open.
-use Rattle.std.proofs.Common.{◌≡◌, ◌≢◌, ℕ, zero, suc, ◌+◌, ◌-◌, ◌<◌, List, ◌∷◌, ◌++◌, length, length-set, set, Some, None, refl, sym, ap, ◌∙◌, subst, arith, add-one}
-use Rattle.std.proofs.lemmas.Bool.{cases_eq}
-use Rattle.std.proofs.lemmas.List.{get_or-set_same, get_or-set_other}
-use Rattle.grid_core.specs.Board.{has}
-use Rattle.grid_core.specs.Candidates.{Candidates, only}
-use Rattle.grid_core.proofs.GridLemmas.{only-inside}
-use Rattle.engine_core.specs.Puzzle.{Puzzle, IsLawful, IsNext}
-use Rattle.engine_core.specs.Walk.{IsFewest, Mark.Trial, walk}
-use Rattle.engine_core.specs.Search.{Level, pending}
-use Rattle.engine_core.specs.Trail.{Trail, back_at, IsFurther, IsBack}
-use Rattle.engine_core.specs.Frames.{level_at, frame_at, levels_of, IsOpen, IsReady, IsTrial, pending_in}
+use Rattle.engine_core.proofs.Common.{Candidates, IsBack, IsFewest, IsFurther, IsLawful, IsNext, IsOpen, IsReady, IsTrial, Level, List, Mark.Trial}
+use Rattle.engine_core.proofs.Common.{None, Puzzle, Some, Trail, add-one, ap, arith, back_at, cases_eq, common_steps, frame_at, get_or-set_other}
+use Rattle.engine_core.proofs.Common.{get_or-set_same, has, length, length-set, level_at, levels_of, only, only-inside, pending, pending_in, refl}
+use Rattle.engine_core.proofs.Common.{set, subst, suc, sym, walk, zero, ℕ, ◌++◌, ◌+◌, ◌-◌, ◌<◌, ◌∙◌, ◌∷◌, ◌≡◌, ◌≢◌}
 use Rattle.engine_core.specs.declared.search.levels.Frame.{Frame}
 use Rattle.engine_core.specs.declared.search.levels.Levels.{Levels}
 use Rattle.engine_core.proofs.QueueLemmas.{closed-but_only}
@@ -17,7 +10,6 @@ use Rattle.engine_core.proofs.SearchLemmas.{pending-pop, pending-trial}
 use Rattle.engine_core.proofs.TrailLemmas.{put_back-none}
 use Rattle.engine_core.proofs.RoomLemmas.{singles-only, open-cell, open-room}
 use Rattle.engine_core.proofs.PickLemmas.{pick-inside, pick-before}
-use Rattle.std.proofs.lemmas.Grind.{common_steps}
 
 -- ---- the levels of frames
 frame_at-here : (frames : List Frame) (n : ℕ) (f : Frame) → n < length frames → frame_at (set frames n f) n ≡ f

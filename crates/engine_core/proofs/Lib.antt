@@ -1,3 +1,4 @@
+pub mod Common
 pub mod BitLemmas
 pub mod SetLemmas
 pub mod ClosingLemmas

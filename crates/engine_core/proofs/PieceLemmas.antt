@@ -1,13 +1,7 @@
 -- Laws of lists that are the pieces of one.
-use Rattle.std.proofs.Common.{◌≡◌, ℕ, zero, suc, ◌+◌, ◌-◌, ◌<◌, ◌≤◌, ◌^◌, List, [], ◌∷◌, ◌++◌, length, get_or, refl, sym, ap, arith}
-use Rattle.std.specs.List.{between}
-use Rattle.std.proofs.lemmas.List.{take-append-le, drop-append-le}
-use Rattle.std.specs.Prelude.{sum_by}
-use Rattle.std.proofs.lemmas.List.Sums.{sum_by-cons}
-use Rattle.std.proofs.lemmas.List.Edits.{length-between}
-use Rattle.std.proofs.lemmas.Slice.{between_is, between_to_end}
-use Rattle.engine_core.specs.HouseList.{pieces, last_end, AreEnds, listed, begin_of, IsListed}
-use Rattle.std.proofs.lemmas.Grind.{common_steps}
+use Rattle.engine_core.proofs.Common.{AreEnds, IsListed, List, [], ap, arith, begin_of, between, between_is, between_to_end, common_steps}
+use Rattle.engine_core.proofs.Common.{drop-append-le, get_or, last_end, length, length-between, listed, pieces, refl, suc, sum_by, sum_by-cons, sym}
+use Rattle.engine_core.proofs.Common.{take-append-le, zero, ℕ, ◌++◌, ◌+◌, ◌-◌, ◌<◌, ◌^◌, ◌∷◌, ◌≡◌, ◌≤◌}
 
 pub last-le : (n from : ℕ) (ends : List ℕ) → AreEnds n from ends → (from ≤ last_end from ends) × (last_end from ends ≤ n)
 last-le n from [] e = (omega arith, e)

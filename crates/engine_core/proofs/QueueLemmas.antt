@@ -1,18 +1,14 @@
-use Rattle.std.proofs.Common.{add-one, ◌≡◌, ℕ, ◌+◌, ◌-◌, ◌*◌, ◌<◌, ◌≤◌, Bool, true, false, not, ◌&&◌, ◌||◌, eqb, List, [], ◌∷◌, ◌++◌, length, slice_index, take, set, Option, Some, refl, sym, ap, ◌∙◌, inl, inr, arith}
-use Rattle.std.proofs.lemmas.Bool.{and_left, cases_Bool, cases_eq, true≢false, and_parts, and_from, or_cases, or_left, or_right, not-true, not_from_false, not_from_true, false_from_ne_true, eqb-true, eq-eqb, ne_eqb}
-use Rattle.std.proofs.Math.Nat.{mul-le-mul_right}
-use Rattle.std.proofs.Math.Seq.{take-suc-set}
-use Rattle.grid_core.specs.Candidates.{Candidates, IsWithin, any_below, count_below, is_dead, only}
-use Rattle.grid_core.proofs.CandidateLemmas.{any_below-here, any_below-some, any_below-none, count_below-le, count_below-lt, count_below-any, count_below-kept, count_below-pos, count_below-none, count_below-bound, sum_below-le, sum_below-add, is_dead-not, is_dead-here, is_dead-each, is_dead-inside}
-use Rattle.grid_core.specs.Board.{Layout, SameShape, has, cells_of}
-use Rattle.grid_core.proofs.BoardLemmas.{has-within}
-use Rattle.grid_core.proofs.GridLemmas.{only-inside, only-other, only-here}
-use Rattle.engine_core.specs.Puzzle.{Puzzle, IsLawful, IsClosed, IsInsideAt, IsBoardOf, after, has_place, share}
-use Rattle.engine_core.specs.PlaceLaws.{has_place-at, has_place-here}
-use Rattle.engine_core.specs.Queue.{counts_of, woken, but, visits_left, IsRested, IsWoken, empties, IsClosedBut, waits_from, called_for, are_emptied}
-use Rattle.engine_core.specs.Waiting.{AreCalled}
+use Rattle.engine_core.proofs.Common.{AreCalled, Bool, Candidates, IsBoardOf, IsClosed, IsClosedBut, IsInsideAt, IsLawful, IsRested, IsWithin}
+use Rattle.engine_core.proofs.Common.{IsWoken, Layout, List, Option, Puzzle, SameShape, Some, [], add-one, after, and_from, and_left, and_parts}
+use Rattle.engine_core.proofs.Common.{any_below, any_below-here, any_below-none, any_below-some, ap, are_emptied, arith, but, called_for, cases_Bool}
+use Rattle.engine_core.proofs.Common.{cases_eq, cells_of, common_steps, count_below, count_below-any, count_below-bound, count_below-kept}
+use Rattle.engine_core.proofs.Common.{count_below-le, count_below-lt, count_below-none, count_below-pos, counts_of, empties, eq-eqb, eqb, eqb-true}
+use Rattle.engine_core.proofs.Common.{false, false_from_ne_true, has, has-within, has_place, has_place-at, has_place-here, inl, inr, is_dead}
+use Rattle.engine_core.proofs.Common.{is_dead-each, is_dead-here, is_dead-inside, is_dead-not, length, mul-le-mul_right, ne_eqb, not, not-true}
+use Rattle.engine_core.proofs.Common.{not_from_false, not_from_true, only, only-here, only-inside, only-other, or_cases, or_left, or_right, refl, set}
+use Rattle.engine_core.proofs.Common.{share, slice_index, sum_below-add, sum_below-le, sym, take, take-suc-set, true, true≢false, visits_left}
+use Rattle.engine_core.proofs.Common.{waits_from, woken, ℕ, ◌&&◌, ◌*◌, ◌++◌, ◌+◌, ◌-◌, ◌<◌, ◌||◌, ◌∙◌, ◌∷◌, ◌≡◌, ◌≤◌}
 use Rattle.engine_core.proofs.ClosingLemmas.{after_inside}
-use Rattle.std.proofs.lemmas.Grind.{common_steps}
 
 -- the cells of a house are cells of the board
 pub scope-in : (p : Puzzle) (laws : IsLawful p) (h k : ℕ) → h < p.houses → k < length (p.scope h) → slice_index (p.scope h) k < p.cells

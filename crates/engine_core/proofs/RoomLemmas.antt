@@ -1,17 +1,10 @@
 -- Room for the frames: each open level has one more cell with a single value.
-use Rattle.std.proofs.Common.{◌≡◌, ℕ, ◌<◌, ◌≤◌, true, false, eqb, refl, sym, ◌∙◌, arith, Some}
-use Rattle.std.proofs.lemmas.Bool.{cases_eq, eqb-true, ne_eqb, eq-eqb}
-use Rattle.grid_core.specs.Candidates.{Candidates, IsInside, IsWithin, is_dead, pick, only, count_below}
-use Rattle.grid_core.proofs.CandidateLemmas.{count_below-lt, count_below-le, count_below-few, count_below-pos, count_below-bound, is_dead-not}
-use Rattle.grid_core.proofs.GridLemmas.{only-at, only-other, only-here}
-use Rattle.engine_core.specs.Puzzle.{Puzzle}
-use Rattle.engine_core.specs.Closing.{closure}
-use Rattle.engine_core.specs.Walk.{IsFewest}
-use Rattle.engine_core.specs.Search.{Level}
-use Rattle.engine_core.specs.Frames.{singles, IsOpen}
+use Rattle.engine_core.proofs.Common.{Candidates, IsFewest, IsInside, IsOpen, IsWithin, Level, Puzzle, Some, arith, cases_eq, closure, common_steps}
+use Rattle.engine_core.proofs.Common.{count_below, count_below-bound, count_below-few, count_below-le, count_below-lt, count_below-pos, eq-eqb, eqb}
+use Rattle.engine_core.proofs.Common.{eqb-true, false, is_dead, is_dead-not, ne_eqb, only, only-at, only-here, only-other, pick, refl, singles, sym}
+use Rattle.engine_core.proofs.Common.{true, ℕ, ◌<◌, ◌∙◌, ◌≡◌, ◌≤◌}
 use Rattle.engine_core.proofs.PickLemmas.{pick-fewest}
 use Rattle.engine_core.proofs.ClosingLemmas.{closure_closed}
-use Rattle.std.proofs.lemmas.Grind.{common_steps}
 
 pub singles-only : (p : Puzzle) (K : Candidates) (cell v : ℕ) → cell < p.cells → v < p.values → K cell v ≡ true → 2 ≤ count_below (K cell) p.values → singles p K < singles p (only K cell v)
 unfolding singles

@@ -1,16 +1,10 @@
 -- The boards on the way from the board before a visit to the board after it, cell by cell of the house.
-use Rattle.std.proofs.Common.{◌≡◌, ◌≢◌, ℕ, ◌+◌, ◌<◌, Bool, length, slice_index, refl, sym, ap, ◌∙◌, arith}
-use Rattle.std.proofs.Math.Path.{fun_ext}
-use Rattle.std.proofs.lemmas.Bool.{cases_Bool, cases_eq, eq-eqb}
-use Rattle.grid_core.specs.Candidates.{Candidates, IsWithin}
-use Rattle.engine_core.specs.Puzzle.{Puzzle, IsLawful, after, has_place}
-use Rattle.engine_core.specs.PlaceLaws.{has_place-at, has_place-here}
-use Rattle.engine_core.specs.Sets.{IsBitsOf}
-use Rattle.engine_core.specs.Trail.{left_by}
+use Rattle.engine_core.proofs.Common.{Bool, Candidates, IsBitsOf, IsLawful, IsWithin, Puzzle, after, ap, arith, cases_Bool, cases_eq, common_steps}
+use Rattle.engine_core.proofs.Common.{eq-eqb, fun_ext, has_place, has_place-at, has_place-here, left_by, length, refl, slice_index, sym, ℕ, ◌+◌, ◌<◌}
+use Rattle.engine_core.proofs.Common.{◌∙◌, ◌≡◌, ◌≢◌}
 use Rattle.engine_core.proofs.QueueLemmas.{after-outside}
 use Rattle.engine_core.proofs.ChangeLemmas.{left-others}
 use Rattle.engine_core.proofs.ClosingLemmas.{after_inside}
-use Rattle.std.proofs.lemmas.Grind.{common_steps}
 
 -- the first k cells of the house are as after a visit of it, and all other cells as before
 pub record IsUpto (p : Puzzle) (h k : ℕ) (K L : Candidates) : Type 0 where

@@ -1,14 +1,9 @@
 -- A search that is under way: which marks are left, and what was counted of those before.
-use Rattle.std.proofs.Common.{◌≡◌, ℕ, suc, ◌+◌, ◌-◌, ◌<◌, ◌≤◌, max, Bool, true, false, List, [], ◌∷◌, ◌++◌, length, None, refl, sym, ap, ◌∙◌, arith, append_assoc}
-use Rattle.std.proofs.lemmas.Bool.{true≢false}
-use Rattle.std.proofs.lemmas.List.{length_push}
-use Rattle.grid_core.specs.Candidates.{Candidates}
-use Rattle.engine_core.specs.Puzzle.{Puzzle}
-use Rattle.engine_core.specs.Search.{pending}
-use Rattle.engine_core.specs.Walk.{Mark, Mark.Trial, walk}
-use Rattle.engine_core.specs.Verdict.{Outcome.OutOfBudget, outcome, tried}
-use Rattle.engine_core.specs.Counts.{deepest_of, boards_of, IsTurns}
-use Rattle.engine_core.specs.Frames.{found_marks, found_of, levels_of, pending_of, walk_of, marks_of, marks_from, board_in, Says, IsTrial, CountsClosing, IsSearched, IsWalked, searched_at}
+use Rattle.engine_core.proofs.Common.{Bool, Candidates, CountsClosing, IsSearched, IsTrial, IsTurns, IsWalked, List, Mark, Mark.Trial, None}
+use Rattle.engine_core.proofs.Common.{Outcome.OutOfBudget, Puzzle, Says, [], ap, append_assoc, arith, board_in, boards_of, common_steps, deepest_of}
+use Rattle.engine_core.proofs.Common.{false, found_marks, found_of, length, length_push, levels_of, marks_from, marks_of, max, outcome, pending}
+use Rattle.engine_core.proofs.Common.{pending_of, refl, searched_at, suc, sym, tried, true, true≢false, walk, walk_of, ℕ, ◌++◌, ◌+◌, ◌-◌, ◌<◌, ◌∙◌}
+use Rattle.engine_core.proofs.Common.{◌∷◌, ◌≡◌, ◌≤◌}
 use Rattle.engine_core.specs.declared.search.judge.Grids.{Grids}
 use Rattle.engine_core.specs.declared.search.levels.Levels.{Levels}
 use Rattle.engine_core.specs.declared.search.walk.Progress.{Progress}
@@ -16,7 +11,6 @@ use Rattle.engine_core.specs.declared.search.walk.Searched.{Searched}
 use Rattle.engine_core.specs.declared.search.walk.Verdict.{Verdict}
 use Rattle.engine_core.specs.declared.search.walk.Verdict.TheVariants as verdict
 use Rattle.engine_core.proofs.CountLemmas.{turns-push, boards-push, deepest-push}
-use Rattle.std.proofs.lemmas.Grind.{common_steps}
 
 -- the marks that came and those that are still to come, after so many trials from one progress to another
 pub record IsSearching (p : Puzzle) (from : Progress) (all : List Mark) (trials : ℕ) (rest : List Mark) (at : Progress) : Type 0 where

@@ -1,8 +1,6 @@
 -- The trials that a search makes are the first of the walk's.
-use Rattle.std.proofs.Common.{◌≡◌, ℕ, zero, suc, List, [], ◌∷◌, length, take, Option, Some, None, ap, refl}
-use Rattle.engine_core.specs.Walk.{Mark, Mark.Trial, Mark.Found}
-use Rattle.engine_core.specs.Verdict.{spent, tried, trials_in}
-use Rattle.engine_core.specs.Trials.{trials_of}
+use Rattle.engine_core.proofs.Common.{List, Mark, Mark.Found, Mark.Trial, None, Option, Some, [], ap, length, refl, spent, suc, take, trials_in}
+use Rattle.engine_core.proofs.Common.{trials_of, tried, zero, ℕ, ◌∷◌, ◌≡◌}
 
 pub tried-first : (budget : ℕ) (found : Option (List ℕ)) (marks : List Mark) → tried budget found marks ≡ take (spent budget found marks) (trials_of marks)
 unfolding tried spent trials_of

@@ -1,16 +1,9 @@
 -- Marks of houses as the bits of words.
-use Rattle.std.proofs.Common.{◌≡◌, ◌≢◌, ℕ, ◌+◌, ◌-◌, ◌*◌, ◌/◌, ◌%◌, ◌^◌, ◌<◌, ◌≤◌, Bool, true, false, not, ◌&&◌, ◌||◌, eqb, List, get_or, set, bit_and, bit_or, length, replicate, refl, sym, ap, ◌∙◌, Some, inl, inr, arith, w64}
-use Rattle.std.specs.Int.{bit_at, trailing_zeros}
-use Rattle.std.proofs.Math.Nat.{div-div-eq-div-mul, div-le_self}
-use Rattle.std.proofs.lemmas.Bool.{cases_eq, cases_lt, eq-eqb, ne_eqb, eqb-true}
-use Rattle.std.proofs.lemmas.List.{get_or-set_same, get_or-set_other, get_or-replicate}
-use Rattle.std.proofs.lemmas.Nat.{pow-add}
-use Rattle.std.proofs.lemmas.Nat.Bits.{bit_at_set_same, bit_at_set_other, bit_at_clear_same, bit_at_clear_other, bit_at-zero, bit_at-trailing_zeros, bit_at_above}
-use Rattle.engine_core.specs.Sets.{has_bit}
-use Rattle.engine_core.specs.Puzzle.{IsNext}
-use Rattle.engine_core.specs.Queue.{but}
-use Rattle.engine_core.specs.Waiting.{is_waiting}
-use Rattle.std.proofs.lemmas.Grind.{common_steps}
+use Rattle.engine_core.proofs.Common.{Bool, IsNext, List, Some, ap, arith, bit_and, bit_at, bit_at-trailing_zeros, bit_at-zero, bit_at_above}
+use Rattle.engine_core.proofs.Common.{bit_at_clear_other, bit_at_clear_same, bit_at_set_other, bit_at_set_same, bit_or, but, cases_eq, cases_lt}
+use Rattle.engine_core.proofs.Common.{common_steps, div-div-eq-div-mul, div-le_self, eq-eqb, eqb, eqb-true, false, get_or, get_or-replicate}
+use Rattle.engine_core.proofs.Common.{get_or-set_other, get_or-set_same, has_bit, inl, inr, is_waiting, length, ne_eqb, not, pow-add, refl, replicate}
+use Rattle.engine_core.proofs.Common.{set, sym, trailing_zeros, true, w64, ℕ, ◌%◌, ◌&&◌, ◌*◌, ◌+◌, ◌-◌, ◌/◌, ◌<◌, ◌^◌, ◌||◌, ◌∙◌, ◌≡◌, ◌≢◌, ◌≤◌}
 
 -- ---- a house's word and bit
 same_house : (j h : ℕ) → j / 64 ≡ h / 64 → j % 64 ≡ h % 64 → j ≡ h

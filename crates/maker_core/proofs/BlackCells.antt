@@ -1,7 +1,7 @@
 -- The cells of a grid that were drawn so far are the list of draws.
-use Rattle.maker_core.proofs.Words.{take_all, elements, ◌≡◌, ℕ, zero, suc, ◌+◌, ◌<◌, Bool, List, [], ◌∷◌, ◌++◌, refl, sym, ◌∙◌, ap, arith, add-one}
-use Rattle.maker_core.proofs.Words.{take, length, length-append, cond, nat_lt, slice_index, slice_set, common_steps, take_more_set, All-append}
-use Rattle.maker_core.proofs.Words.{All-cons, All-nil, Stream, IsGrid, draw_below, black_cells}
+use Rattle.maker_core.proofs.Common.{take_all, elements, ◌≡◌, ℕ, zero, suc, ◌+◌, ◌<◌, Bool, List, [], ◌∷◌, ◌++◌, refl, sym, ◌∙◌, ap, arith, add-one}
+use Rattle.maker_core.proofs.Common.{take, length, length-append, cond, nat_lt, slice_index, slice_set, common_steps, take_more_set, All-append}
+use Rattle.maker_core.proofs.Common.{All-cons, All-nil, Stream, IsGrid, draw_below, black_cells}
 
 -- the steps of the drawing
 black_cells-none : (black : ℕ) (s : Stream) → ◌≡◌ {A = List ℕ × Stream} ([], s) (black_cells black 0 s)

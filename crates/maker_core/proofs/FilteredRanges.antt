@@ -1,7 +1,7 @@
 -- A filter of a range grows by its end, and keeps each number that passes.
-use Rattle.maker_core.proofs.Words.{◌≡◌, ◌≢◌, ℕ, zero, suc, ◌+◌, ◌<◌, Bool, true, false, eqb, cond, List, [], ◌∷◌, ◌++◌, sym, ◌∙◌, ap, subst, arith}
-use Rattle.maker_core.proofs.Words.{add-one, map-id, inl, inr, filter, Contains, AllByRecursion, range_with_len, cases_eq, append-nil, All-contains}
-use Rattle.maker_core.proofs.Words.{All-from_recursion, Contains-append_left, Contains-append_right, filter-append, map-range_with_len_more}
+use Rattle.maker_core.proofs.Common.{◌≡◌, ◌≢◌, ℕ, zero, suc, ◌+◌, ◌<◌, Bool, true, false, eqb, cond, List, [], ◌∷◌, ◌++◌, sym, ◌∙◌, ap, subst, arith}
+use Rattle.maker_core.proofs.Common.{add-one, map-id, inl, inr, filter, Contains, AllByRecursion, range_with_len, cases_eq, append-nil, All-contains}
+use Rattle.maker_core.proofs.Common.{All-from_recursion, Contains-append_left, Contains-append_right, filter-append, map-range_with_len_more}
 
 -- one more number of a range
 pub range_more : (k : ℕ) → range_with_len 0 (k + 1) ≡ range_with_len 0 k ++ k ∷ []

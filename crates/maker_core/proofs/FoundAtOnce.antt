@@ -1,8 +1,8 @@
 -- Where the closure of the start leaves each cell only its number of a solution, the verdict is that one, whatever the budget.
-use Rattle.maker_core.proofs.Words.{◌≡◌, ℕ, zero, suc, ◌<◌, ◌≤◌, true, List, [], ◌∷◌, length, slice_index, None, refl, sym, ap, ◌∙◌, arith}
-use Rattle.maker_core.proofs.Words.{Candidates, IsInside, IsWithin, single, grid_of, count_below, count_below-pos, count_below-few, is_dead-each}
-use Rattle.maker_core.proofs.Words.{is_full-each, single-at, grid_of-full, Puzzle, IsLawful, IsClosed, closure, IsLargestClosed, Mark, walk}
-use Rattle.maker_core.proofs.Words.{walk_closed, outcome, Solves, walk_closed-solved, TellsOne}
+use Rattle.maker_core.proofs.Common.{◌≡◌, ℕ, zero, suc, ◌<◌, ◌≤◌, true, List, [], ◌∷◌, length, slice_index, None, refl, sym, ap, ◌∙◌, arith}
+use Rattle.maker_core.proofs.Common.{Candidates, IsInside, IsWithin, single, grid_of, count_below, count_below-pos, count_below-few, is_dead-each}
+use Rattle.maker_core.proofs.Common.{is_full-each, single-at, grid_of-full, Puzzle, IsLawful, IsClosed, closure, IsLargestClosed, Mark, walk}
+use Rattle.maker_core.proofs.Common.{walk_closed, outcome, Solves, walk_closed-solved, TellsOne}
 use Rattle.engine_core.specs.Walk.{Mark.Found}
 use Rattle.engine_core.specs.Verdict.{Outcome.OneGrid}
 

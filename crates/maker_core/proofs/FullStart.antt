@@ -1,6 +1,6 @@
 -- Where a search starts from a solution alone, no other grid lies inside the start, and the verdict is that one whatever the budget.
-use Rattle.maker_core.proofs.Words.{ℕ, List, slice_index, sym, arith, same_number_lists, IsInside, single, single-at, single-is, Puzzle, IsLawful}
-use Rattle.maker_core.proofs.Words.{Solves, IsTrueOf, closure_inside, closure_closed, closure_largest, walk-unfold, TellsOne}
+use Rattle.maker_core.proofs.Common.{ℕ, List, slice_index, sym, arith, same_number_lists, IsInside, single, single-at, single-is, Puzzle, IsLawful}
+use Rattle.maker_core.proofs.Common.{Solves, IsTrueOf, closure_inside, closure_closed, closure_largest, walk-unfold, TellsOne}
 use Rattle.engine_core.specs.Verdict.{Outcome.OneGrid}
 use Rattle.maker_core.proofs.FoundAtOnce.{IsKnown, found_at_once}
 

@@ -1,7 +1,7 @@
 -- A puzzle that lacks a needed clue is within the puzzle without that clue alone.
-use Rattle.maker_core.proofs.Words.{clue_is, solved_by_fewer, lit_by_fewer, numbered_is, ◌≡◌, ℕ, ◌<◌, false, Some, List, length, get_or, map, sym}
-use Rattle.maker_core.proofs.Words.{◌∙◌, subst, arith, All, Contains, cases_eq, get_or-map, length-map, Game, IsGame, has_clue, IsThinnedFrom, HasTwo}
-use Rattle.maker_core.proofs.Words.{IsReason, AreReasons, LeavesNoIdleClue, Kept, Needed}
+use Rattle.maker_core.proofs.Common.{clue_is, solved_by_fewer, lit_by_fewer, numbered_is, ◌≡◌, ℕ, ◌<◌, false, Some, List, length, get_or, map, sym}
+use Rattle.maker_core.proofs.Common.{◌∙◌, subst, arith, All, Contains, cases_eq, get_or-map, length-map, Game, IsGame, has_clue, IsThinnedFrom, HasTwo}
+use Rattle.maker_core.proofs.Common.{IsReason, AreReasons, LeavesNoIdleClue, Kept, Needed}
 use Rattle.maker_core.proofs.WrittenGrids.{set_back}
 use Rattle.maker_core.proofs.FilteredRanges.{passes_kept}
 use Rattle.maker_core.proofs.ThinningTurns.{some_of, two_in}

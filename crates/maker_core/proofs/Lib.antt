@@ -1,4 +1,4 @@
-pub mod Words
+pub mod Common
 pub mod BlackCells
 pub mod FoundAtOnce
 pub mod LightCells

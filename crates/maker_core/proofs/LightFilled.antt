@@ -1,8 +1,8 @@
 -- What is drawn for a filling of Light Up is its definition.
-use Rattle.maker_core.proofs.Words.{◌≡◌, ℕ, ◌*◌, ◌<◌, true, List, false, arith, map, length, refl, sym, ap, ◌∙◌, get_or_default, get_or-map}
-use Rattle.maker_core.proofs.Words.{get_or_past, length-map, All, IsPermutation, slice_index, ◌==◌, if◌then◌else◌, range_with_len, LightCell, Stream}
-use Rattle.maker_core.proofs.Words.{Extent, Light, White, Black, light_cells, white, is_lit, white-in, AreAll, shuffled_list, black_cells, lights_of}
-use Rattle.maker_core.proofs.Words.{white_places, bulbs_after, numbered_cell, with_numbers, lit_up, Lighting, light_filling, light_puzzle_of}
+use Rattle.maker_core.proofs.Common.{◌≡◌, ℕ, ◌*◌, ◌<◌, true, List, false, arith, map, length, refl, sym, ap, ◌∙◌, get_or_default, get_or-map}
+use Rattle.maker_core.proofs.Common.{get_or_past, length-map, All, IsPermutation, slice_index, ◌==◌, if◌then◌else◌, range_with_len, LightCell, Stream}
+use Rattle.maker_core.proofs.Common.{Extent, Light, White, Black, light_cells, white, is_lit, white-in, AreAll, shuffled_list, black_cells, lights_of}
+use Rattle.maker_core.proofs.Common.{white_places, bulbs_after, numbered_cell, with_numbers, lit_up, Lighting, light_filling, light_puzzle_of}
 use Rattle.maker_core.proofs.LightSight.{same_white}
 use Rattle.maker_core.proofs.LightSolved.{order_white, lit_solved}
 

@@ -1,7 +1,7 @@
 -- A puzzle of black cells alone passes, and the puzzle of a filling is of its size.
-use Rattle.maker_core.proofs.Words.{◌≡◌, ℕ, ◌<◌, true, false, not, List, slice_index, sym, ap, ◌∙◌, arith, Extent, IsGrid, all_below-at, Light}
-use Rattle.maker_core.proofs.Words.{IsLawful, closure_inside, start_of, light_cells, white, black_right, is_lit, light_rules, lit-parts, Lighting}
-use Rattle.maker_core.proofs.Words.{lights_of, light_puzzle_of, with_numbers, is_one, has_one}
+use Rattle.maker_core.proofs.Common.{◌≡◌, ℕ, ◌<◌, true, false, not, List, slice_index, sym, ap, ◌∙◌, arith, Extent, IsGrid, all_below-at, Light}
+use Rattle.maker_core.proofs.Common.{IsLawful, closure_inside, start_of, light_cells, white, black_right, is_lit, light_rules, lit-parts, Lighting}
+use Rattle.maker_core.proofs.Common.{lights_of, light_puzzle_of, with_numbers, is_one, has_one}
 use Rattle.maker_core.proofs.FoundAtOnce.{found_at_once}
 use Rattle.maker_core.proofs.FullStart.{known}
 

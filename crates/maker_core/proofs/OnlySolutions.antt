@@ -1,5 +1,5 @@
 -- What a search says of the solutions of its rules it says of the solutions of the game, where the two agree.
-use Rattle.maker_core.proofs.Words.{ℕ, List, sym, ◌∙◌, subst, IsTrue, ◌↔◌, Puzzle, IsGridOf, Solves, HasOne, TellsOne, IsOnlySolution, IsOnly}
+use Rattle.maker_core.proofs.Common.{ℕ, List, sym, ◌∙◌, subst, IsTrue, ◌↔◌, Puzzle, IsGridOf, Solves, HasOne, TellsOne, IsOnlySolution, IsOnly}
 
 module _ (rules : Puzzle) (solves : List ℕ → Type 0) (fits : (h : List ℕ) → solves h → IsGridOf rules h)
     (accepted : (h : List ℕ) → IsGridOf rules h → (IsTrue (rules.is_solution h)) ↔ solves h) where

@@ -1,8 +1,8 @@
 -- The puzzle of a grid has the runs of its lines as clues, and the grid is a solution of it.
-use Rattle.maker_core.proofs.Words.{◌≡◌, ℕ, ◌+◌, ◌-◌, ◌*◌, ◌<◌, List, [], length, map, get_or, subst, refl, sym, ap, ◌∙◌, arith, inl, inr}
-use Rattle.maker_core.proofs.Words.{range_with_len, slice_index_or, IsTrue, ◌↔◌, cases_lt, lt-ltb, le-ltb, fill_by_all, Extent, IsGrid, row_cells}
-use Rattle.maker_core.proofs.Words.{column_cells, runs, line_list, Pattern, lines_of, line_rules, IsPatternSolution, HasOne, TellsOne, IsOnlySolution}
-use Rattle.maker_core.proofs.Words.{clued_by}
+use Rattle.maker_core.proofs.Common.{◌≡◌, ℕ, ◌+◌, ◌-◌, ◌*◌, ◌<◌, List, [], length, map, get_or, subst, refl, sym, ap, ◌∙◌, arith, inl, inr}
+use Rattle.maker_core.proofs.Common.{range_with_len, slice_index_or, IsTrue, ◌↔◌, cases_lt, lt-ltb, le-ltb, fill_by_all, Extent, IsGrid, row_cells}
+use Rattle.maker_core.proofs.Common.{column_cells, runs, line_list, Pattern, lines_of, line_rules, IsPatternSolution, HasOne, TellsOne, IsOnlySolution}
+use Rattle.maker_core.proofs.Common.{clued_by}
 use Rattle.maker_core.proofs.OnlySolutions.{one_is}
 
 -- a puzzle with those clues

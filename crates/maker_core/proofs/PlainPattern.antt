@@ -1,12 +1,12 @@
 -- A grid of white cells alone, or of black cells alone, is all that one visit of each row leaves.
-use Rattle.maker_core.proofs.Words.{sum, sum_by, nat_lt, cond, set, length-set, lt-ltb, All-from_get_or, count_by-le-length, get_or-le-sum_by}
-use Rattle.maker_core.proofs.Words.{sum_by-append, sum_by-cons, sum_by-le, sum_by-set, ◌≡◌, ℕ, zero, suc, ◌+◌, ◌-◌, ◌*◌, ◌/◌, ◌%◌, ◌<◌, ◌≤◌, true}
-use Rattle.maker_core.proofs.Words.{false, List, [], ◌∷◌, length, slice_index, refl, sym, ap, subst, ◌∙◌, arith, inl, inr, ◌⊎◌, le-ltb, div-add-mod'}
-use Rattle.maker_core.proofs.Words.{div_below, mod_below, get_or-map-range_with_len, length-map-range_with_len, Extent, IsExtent, Candidates}
-use Rattle.maker_core.proofs.Words.{row_cells, run_of, runs_after, runs, at_row, Pattern, lines_of, closure, strikes_by_fillings, shown_from_test}
-use Rattle.maker_core.proofs.Words.{sets_at, strikes_at, strikes_at-place, length-sets_at, IsClosed, line_places, clue_of, has_runs}
-use Rattle.maker_core.proofs.Words.{length-line_places, place_in_row, cell_in_grid, different_places, has_runs-is, is_solution-from}
-use Rattle.maker_core.proofs.Words.{line_rules-lawful, line_rules, IsPatternSolution, AreAll, is_one, has_one, clued_by}
+use Rattle.maker_core.proofs.Common.{sum, sum_by, nat_lt, cond, set, length-set, lt-ltb, All-from_get_or, count_by-le-length, get_or-le-sum_by}
+use Rattle.maker_core.proofs.Common.{sum_by-append, sum_by-cons, sum_by-le, sum_by-set, ◌≡◌, ℕ, zero, suc, ◌+◌, ◌-◌, ◌*◌, ◌/◌, ◌%◌, ◌<◌, ◌≤◌, true}
+use Rattle.maker_core.proofs.Common.{false, List, [], ◌∷◌, length, slice_index, refl, sym, ap, subst, ◌∙◌, arith, inl, inr, ◌⊎◌, le-ltb, div-add-mod'}
+use Rattle.maker_core.proofs.Common.{div_below, mod_below, get_or-map-range_with_len, length-map-range_with_len, Extent, IsExtent, Candidates}
+use Rattle.maker_core.proofs.Common.{row_cells, run_of, runs_after, runs, at_row, Pattern, lines_of, closure, strikes_by_fillings, shown_from_test}
+use Rattle.maker_core.proofs.Common.{sets_at, strikes_at, strikes_at-place, length-sets_at, IsClosed, line_places, clue_of, has_runs}
+use Rattle.maker_core.proofs.Common.{length-line_places, place_in_row, cell_in_grid, different_places, has_runs-is, is_solution-from}
+use Rattle.maker_core.proofs.Common.{line_rules-lawful, line_rules, IsPatternSolution, AreAll, is_one, has_one, clued_by}
 use Rattle.maker_core.proofs.FoundAtOnce.{closed_start, found_at_once}
 use Rattle.maker_core.proofs.FullStart.{known}
 

@@ -1,9 +1,9 @@
 -- The grid of orders is a solution of the puzzle that gives all its cells: two cells of one row, column or block come of two
 -- cells of one before the shuffles, and there the numbers differ.
-use Rattle.maker_core.proofs.Words.{same_number_lists, ◌≡◌, ℕ, ◌*◌, ◌/◌, ◌%◌, ◌<◌, true, false, List, length, slice_index, sym, ◌∙◌, arith, eqb-true}
-use Rattle.maker_core.proofs.Words.{true≢false, mul-pos, div_below, mod_below, same_from_place, get_or-map, All-from_get_or}
-use Rattle.maker_core.proofs.Words.{length-map-range_with_len, get_or-map-range_with_len, IsGrid, SoloHouse, Row, Column, Block, Diagonal, block_of}
-use Rattle.maker_core.proofs.Words.{IsHouseOf, lies_in, IsSoloSolution, old_number, rearranged, all_given, AreOrders}
+use Rattle.maker_core.proofs.Common.{same_number_lists, ◌≡◌, ℕ, ◌*◌, ◌/◌, ◌%◌, ◌<◌, true, false, List, length, slice_index, sym, ◌∙◌, arith, eqb-true}
+use Rattle.maker_core.proofs.Common.{true≢false, mul-pos, div_below, mod_below, same_from_place, get_or-map, All-from_get_or}
+use Rattle.maker_core.proofs.Common.{length-map-range_with_len, get_or-map-range_with_len, IsGrid, SoloHouse, Row, Column, Block, Diagonal, block_of}
+use Rattle.maker_core.proofs.Common.{IsHouseOf, lies_in, IsSoloSolution, old_number, rearranged, all_given, AreOrders}
 use Rattle.maker_core.proofs.SoloNumbers.{begin_below, row_apart, column_apart, block_apart, same_line}
 
 pub rearranged-at : (c r : ℕ) (numbers rows columns : List ℕ) (place : ℕ) → place < (c * r) * (c * r)

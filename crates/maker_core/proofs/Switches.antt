@@ -1,8 +1,8 @@
 -- Cells turned and turned back leave a grid as it was, and a puzzle with two solutions has no verdict of one.
-use Rattle.maker_core.proofs.Words.{◌≡◌, ◌≢◌, ℕ, ◌<◌, Bool, true, false, List, length, refl, sym, ap, ◌∙◌, arith, not, Option, Some, None}
-use Rattle.maker_core.proofs.Words.{slice_index, slice_set, is_some, true≢false, get_or-set_same, IsExtent, Pattern, Puzzle, outcome-true, Outcome}
-use Rattle.maker_core.proofs.Words.{verdict_of, Solves, IsTrueOf, IsCheck, PatternFault, is_solution-from, line_rules-lawful, line_rules}
-use Rattle.maker_core.proofs.Words.{IsPatternSolution, is_one, has_one, HasOther}
+use Rattle.maker_core.proofs.Common.{◌≡◌, ◌≢◌, ℕ, ◌<◌, Bool, true, false, List, length, refl, sym, ap, ◌∙◌, arith, not, Option, Some, None}
+use Rattle.maker_core.proofs.Common.{slice_index, slice_set, is_some, true≢false, get_or-set_same, IsExtent, Pattern, Puzzle, outcome-true, Outcome}
+use Rattle.maker_core.proofs.Common.{verdict_of, Solves, IsTrueOf, IsCheck, PatternFault, is_solution-from, line_rules-lawful, line_rules}
+use Rattle.maker_core.proofs.Common.{IsPatternSolution, is_one, has_one, HasOther}
 use Rattle.engine_core.specs.Verdict.{Outcome.NoGrid, Outcome.OneGrid, Outcome.TwoGrids, Outcome.OutOfBudget}
 use Rattle.maker_core.proofs.WrittenGrids.{grid_with, set_back}
 

@@ -1,9 +1,9 @@
 -- What taking a cell does, as the definitions say it.
-use Rattle.maker_core.proofs.Words.{cases_eq}
-use Rattle.maker_core.proofs.Words.{step-keep, step-none, step-skip, replicate, add-one, ◌≡◌, ℕ, ◌+◌, ◌*◌, ◌<◌, ◌≤◌, true, List, length, refl, sym}
-use Rattle.maker_core.proofs.Words.{ap, subst, ◌∙◌, arith, slice_index, slice_set, filter, Stream, Extent, steps, has_place, has_place-here}
-use Rattle.maker_core.proofs.Words.{place-filter, beside-in, filter-few, steps-few, Camp, shuffled_order, no_camp, is_free, free_cells_beside}
-use Rattle.maker_core.proofs.Words.{may_pitch, take_cell, camp_after, tent_filling, IsPitched}
+use Rattle.maker_core.proofs.Common.{cases_eq}
+use Rattle.maker_core.proofs.Common.{step-keep, step-none, step-skip, replicate, add-one, ◌≡◌, ℕ, ◌+◌, ◌*◌, ◌<◌, ◌≤◌, true, List, length, refl, sym}
+use Rattle.maker_core.proofs.Common.{ap, subst, ◌∙◌, arith, slice_index, slice_set, filter, Stream, Extent, steps, has_place, has_place-here}
+use Rattle.maker_core.proofs.Common.{place-filter, beside-in, filter-few, steps-few, Camp, shuffled_order, no_camp, is_free, free_cells_beside}
+use Rattle.maker_core.proofs.Common.{may_pitch, take_cell, camp_after, tent_filling, IsPitched}
 
 pub wide : (size : Extent) (c : ℕ) → c < size.w * size.h → 1 ≤ size.w
 wide size c lt = grind (arith, cases_eq size.w 0)

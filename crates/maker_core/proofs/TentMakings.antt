@@ -1,7 +1,7 @@
 -- The puzzle of a camp has its trees and the numbers of its tents, and the camp is its solution.
-use Rattle.maker_core.proofs.Words.{◌≡◌, ℕ, ◌+◌, ◌<◌, List, length, subst, refl, sym, ap, ◌∙◌, slice_index, IsTrue, ◌↔◌, Extent, row_cells}
-use Rattle.maker_core.proofs.Words.{column_cells, ones, Tents, lines_of, IsGridOf, tent_rules, IsTentSolution, Camp, HasOne, TellsOne, IsOnlySolution}
-use Rattle.maker_core.proofs.Words.{tents_puzzle_of}
+use Rattle.maker_core.proofs.Common.{◌≡◌, ℕ, ◌+◌, ◌<◌, List, length, subst, refl, sym, ap, ◌∙◌, slice_index, IsTrue, ◌↔◌, Extent, row_cells}
+use Rattle.maker_core.proofs.Common.{column_cells, ones, Tents, lines_of, IsGridOf, tent_rules, IsTentSolution, Camp, HasOne, TellsOne, IsOnlySolution}
+use Rattle.maker_core.proofs.Common.{tents_puzzle_of}
 use Rattle.maker_core.proofs.OnlySolutions.{one_is}
 use Rattle.maker_core.proofs.PatternMakings.{each_line}
 

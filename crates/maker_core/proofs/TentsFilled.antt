@@ -1,8 +1,8 @@
 -- Each filling of a making of Tents over a stream of words is a camp, which solves its puzzle.
-use Rattle.maker_core.proofs.Words.{◌≡◌, ℕ, zero, suc, ◌*◌, ◌<◌, ◌≤◌, true, List, length, refl, subst, add-one, inl, inr, arith, slice_index}
-use Rattle.maker_core.proofs.Words.{cond_both, mul-le, Stream, Extent, IsExtent, IsGrid, IsTentSolution, HasWords, draw_below, shuffled_order}
-use Rattle.maker_core.proofs.Words.{stream_after, IsOrder, camp_after, free_cells_beside, may_pitch, no_camp, pitch, take_cell, tent_filling}
-use Rattle.maker_core.proofs.Words.{tents_puzzle_of, IsTaken, Camp}
+use Rattle.maker_core.proofs.Common.{◌≡◌, ℕ, zero, suc, ◌*◌, ◌<◌, ◌≤◌, true, List, length, refl, subst, add-one, inl, inr, arith, slice_index}
+use Rattle.maker_core.proofs.Common.{cond_both, mul-le, Stream, Extent, IsExtent, IsGrid, IsTentSolution, HasWords, draw_below, shuffled_order}
+use Rattle.maker_core.proofs.Common.{stream_after, IsOrder, camp_after, free_cells_beside, may_pitch, no_camp, pitch, take_cell, tent_filling}
+use Rattle.maker_core.proofs.Common.{tents_puzzle_of, IsTaken, Camp}
 use Rattle.maker_core.proofs.TentCamps.{free_few, pitched_is}
 use Rattle.maker_core.proofs.TentsSolved.{IsCamp, camp_none, camp_step}
 use Rattle.maker_core.proofs.Shuffles.{IsDrawn, draw_is, IsShuffled, order_is}

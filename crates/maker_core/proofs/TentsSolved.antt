@@ -1,9 +1,9 @@
 -- Cells that were taken in turn: each tent has a tree of its own beside it, none stands on a tree, and no two touch.
-use Rattle.maker_core.proofs.Words.{◌≡◌, ℕ, ◌+◌, ◌*◌, ◌<◌, ◌≤◌, true, false, ◌&&◌, cond, List, [], ◌∷◌, length, map, replicate, refl, sym, ap}
-use Rattle.maker_core.proofs.Words.{subst, ◌∙◌, arith, inl, inr, ◌==◌, slice_index, filter, range_with_len, elements, length-filter, map-map, Extent}
-use Rattle.maker_core.proofs.Words.{IsGrid, steps, row_places, column_places, any_below-none, at_column, at_row, lines_ones, ones, has_place, tent}
-use Rattle.maker_core.proofs.Words.{touches, tents_in_column, tents_in_row, IsTentSolution, steps-some, step-up, step-left, step-right, step-down}
-use Rattle.maker_core.proofs.Words.{beside-in, tent-in, Camp, IsOrder, no_camp, tents_puzzle_of, IsPitched, IsTaken}
+use Rattle.maker_core.proofs.Common.{◌≡◌, ℕ, ◌+◌, ◌*◌, ◌<◌, ◌≤◌, true, false, ◌&&◌, cond, List, [], ◌∷◌, length, map, replicate, refl, sym, ap}
+use Rattle.maker_core.proofs.Common.{subst, ◌∙◌, arith, inl, inr, ◌==◌, slice_index, filter, range_with_len, elements, length-filter, map-map, Extent}
+use Rattle.maker_core.proofs.Common.{IsGrid, steps, row_places, column_places, any_below-none, at_column, at_row, lines_ones, ones, has_place, tent}
+use Rattle.maker_core.proofs.Common.{touches, tents_in_column, tents_in_row, IsTentSolution, steps-some, step-up, step-left, step-right, step-down}
+use Rattle.maker_core.proofs.Common.{beside-in, tent-in, Camp, IsOrder, no_camp, tents_puzzle_of, IsPitched, IsTaken}
 use Rattle.maker_core.proofs.WrittenGrids.{grid_with, new_or_old, no_one, zeros-grid}
 use Rattle.maker_core.proofs.TentCamps.{free_place}
 

@@ -1,11 +1,11 @@
 -- A clue is tried: it stays for a reason that the verdict tells, and what was told of other cells holds of the thinner puzzle
 -- too, since fewer clues lose no solution.
 use Rattle.engine_core.specs.declared.search.walk.Verdict.TheVariants as verdict
-use Rattle.maker_core.proofs.Words.{◌≡◌, ℕ, List, Option, None, Bool, sym, ◌≢◌, zero, suc, ◌<◌, true, false, true≢false, [], ◌∷◌, Some, length}
-use Rattle.maker_core.proofs.Words.{get_or, set, drop, ◌+◌, refl, ◌∙◌, ap, arith, ◌⊎◌, inl, inr, add-one, Puzzle, Needs, FitsIn, needs_of, Outcome}
-use Rattle.maker_core.proofs.Words.{outcome, IsTrueOf, walk, IsAnswer, IsVerdict, IsAsked, IsLeft, IsTold, IsThinning, Why, Needed, Budget, is_some}
-use Rattle.maker_core.proofs.Words.{Contains, IsDistinct, cases_eq, get_or-set_other, length-set, Contains-append_right, get_or-set_at, drop-cons}
-use Rattle.maker_core.proofs.Words.{HasOne, Game, IsGame, IsThinnedFrom, HasTwo, IsReason}
+use Rattle.maker_core.proofs.Common.{◌≡◌, ℕ, List, Option, None, Bool, sym, ◌≢◌, zero, suc, ◌<◌, true, false, true≢false, [], ◌∷◌, Some, length}
+use Rattle.maker_core.proofs.Common.{get_or, set, drop, ◌+◌, refl, ◌∙◌, ap, arith, ◌⊎◌, inl, inr, add-one, Puzzle, Needs, FitsIn, needs_of, Outcome}
+use Rattle.maker_core.proofs.Common.{outcome, IsTrueOf, walk, IsAnswer, IsVerdict, IsAsked, IsLeft, IsTold, IsThinning, Why, Needed, Budget, is_some}
+use Rattle.maker_core.proofs.Common.{Contains, IsDistinct, cases_eq, get_or-set_other, length-set, Contains-append_right, get_or-set_at, drop-cons}
+use Rattle.maker_core.proofs.Common.{HasOne, Game, IsGame, IsThinnedFrom, HasTwo, IsReason}
 use Rattle.maker_core.proofs.FilteredRanges.{head_apart}
 
 pub needed : (p : Puzzle) (budget : ℕ) (first second : Option (List ℕ)) (o : Outcome) (why : Why) → why ≡ Needed

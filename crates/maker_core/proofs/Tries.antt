@@ -1,6 +1,6 @@
 -- The loop over tries: so many fillings were made, and each failed.
-use Rattle.maker_core.proofs.Words.{◌≡◌, ℕ, suc, ◌+◌, ◌<◌, ◌≤◌, true, false, refl, sym, ◌∙◌, ap, arith, add-one, inl, inr, cases_eq, Stream, Tries}
-use Rattle.maker_core.proofs.Words.{stream_after, filling_at, IsFirstPassing, AllFail}
+use Rattle.maker_core.proofs.Common.{◌≡◌, ℕ, suc, ◌+◌, ◌<◌, ◌≤◌, true, false, refl, sym, ◌∙◌, ap, arith, add-one, inl, inr, cases_eq, Stream, Tries}
+use Rattle.maker_core.proofs.Common.{stream_after, filling_at, IsFirstPassing, AllFail}
 
 -- so many tries were made, each failed, and the generator stands where the last left it
 pub record IsTrying {A : Type 0} (t : Tries A) (s : Stream) (done : ℕ) (now : Stream) : Type 0 where

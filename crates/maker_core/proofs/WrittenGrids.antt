@@ -1,7 +1,7 @@
 -- Grids of 0 and 1, of which a cell is written.
-use Rattle.maker_core.proofs.Words.{◌≡◌, ℕ, ◌<◌, true, List, length, replicate, ◌∙◌, arith, ◌⊎◌, get_or, set, sym, ap, ◌==◌, slice_index, slice_set}
-use Rattle.maker_core.proofs.Words.{elements, get_or-replicate, get_or_past, length-replicate, length-set, set-set, set-get_or, All-replicate}
-use Rattle.maker_core.proofs.Words.{All-set, IsGrid}
+use Rattle.maker_core.proofs.Common.{◌≡◌, ℕ, ◌<◌, true, List, length, replicate, ◌∙◌, arith, ◌⊎◌, get_or, set, sym, ap, ◌==◌, slice_index, slice_set}
+use Rattle.maker_core.proofs.Common.{elements, get_or-replicate, get_or_past, length-replicate, length-set, set-set, set-get_or, All-replicate}
+use Rattle.maker_core.proofs.Common.{All-set, IsGrid}
 
 pub zeros-grid : (n : ℕ) → IsGrid n 2 (replicate n 0)
 zeros-grid n = record { each_cell = length-replicate n 0; each_value = All-replicate (λ v. v < 2) n 0 (omega arith) }

@@ -15,9 +15,9 @@ use Rattle.gameid_core.specs.declared.id.game.Game.TheVariants as game
 use Rattle.fields_core.specs.Light.{is_white, light_cells, white}
 use Rattle.fields_core.proofs.LightRuleLemmas as light
 use Rattle.fields_core.proofs.TentRuleLemmas as tents
-use Rattle.puzzles.specs.Words.{IsGrid, Extent, max_side, IsAsShown, hides_nothing, light_hides, tent_hides, IsPrinted, grid_text, pattern_cell}
-use Rattle.puzzles.specs.Words.{solo_cell, solo_extent, light_cell, tents_cell, max_numbers, IsLight, IsPattern, IsSolo, IsTents, Light, Pattern, Solo}
-use Rattle.puzzles.specs.Words.{Tents, solo_n, IsCheck, IsFirstFault, IsLightFault, IsLightSolution, IsTentFault, IsTentSolution}
+use Rattle.puzzles.specs.Common.{IsGrid, Extent, max_side, IsAsShown, hides_nothing, light_hides, tent_hides, IsPrinted, grid_text, pattern_cell}
+use Rattle.puzzles.specs.Common.{solo_cell, solo_extent, light_cell, tents_cell, max_numbers, IsLight, IsPattern, IsSolo, IsTents, Light, Pattern, Solo}
+use Rattle.puzzles.specs.Common.{Tents, solo_n, IsCheck, IsFirstFault, IsLightFault, IsLightSolution, IsTentFault, IsTentSolution}
 use Rattle.puzzles.specs.Answers.{Answer, Text}
 use Rattle.puzzles.specs.CheckAnswers.{IsFaultTold, checked, pattern_fault, solo_fault, light_fault, tent_fault, IsInputOf, without_returns}
 use Rattle.puzzles.specs.Games.{Playing, played}

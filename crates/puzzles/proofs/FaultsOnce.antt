@@ -4,9 +4,9 @@ use Rattle.std.proofs.lemmas.Grind.{common_steps}
 use Rattle.std.proofs.lemmas.Bool.{and_from, cases_lt}
 use Rattle.std.proofs.lemmas.List.{get_or_default}
 use Rattle.grid_core.specs.Candidates.{all_below}
-use Rattle.puzzles.specs.Words.{IsGrid, IsSolo, Light, Pattern, Solo, Tents, lines_of, solo_n, IsLightFault, IsTentFault, IsCheck, IsFirstWrongLine}
-use Rattle.puzzles.specs.Words.{has_runs-from, has_runs-is, line_of_solution, solution_from_lines, AllStand, FallsFirst, Stands, IsFirstFault, Repeats}
-use Rattle.puzzles.specs.Words.{RepeatsFirst, fault_of, given_from_test, test_from_given, test_from_rule, given_stands}
+use Rattle.puzzles.specs.Common.{IsGrid, IsSolo, Light, Pattern, Solo, Tents, lines_of, solo_n, IsLightFault, IsTentFault, IsCheck, IsFirstWrongLine}
+use Rattle.puzzles.specs.Common.{has_runs-from, has_runs-is, line_of_solution, solution_from_lines, AllStand, FallsFirst, Stands, IsFirstFault, Repeats}
+use Rattle.puzzles.specs.Common.{RepeatsFirst, fault_of, given_from_test, test_from_given, test_from_rule, given_stands}
 use Rattle.grid_core.proofs.CandidateLemmas.{all_below-at}
 use Rattle.fields_core.specs.Firsts.{IsFirst, IsFirstWrong}
 use Rattle.fields_core.specs.Light.{light_cells, black_right, number_right, bulb_right, lit_right}

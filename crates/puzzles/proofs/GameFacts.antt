@@ -15,7 +15,7 @@ use Rattle.gameid_core.proofs.TentsWritten.{tents_is_written}
 use Rattle.engine_core.specs.Verdict.{Outcome.OneGrid, Outcome.NoGrid, Outcome.TwoGrids, Outcome.OutOfBudget, trials_in}
 use Rattle.maker_core.specs.Made.{IsOnlySolution}
 use Rattle.maker_core.specs.Thinning.{HasTwo}
-use Rattle.puzzles.specs.Words.{IdFault, grid_text, SizeRead, IsPrinted, Game, HasOneReading, verdict_of, Solves, Outcome, Puzzle, is_settled, walk, Kept}
+use Rattle.puzzles.specs.Common.{IdFault, grid_text, SizeRead, IsPrinted, Game, HasOneReading, verdict_of, Solves, Outcome, Puzzle, is_settled, walk, Kept}
 use Rattle.puzzles.specs.Answers.{Answer, Text}
 use Rattle.puzzles.specs.Games.{Playing, played}
 use Rattle.puzzles.specs.Makings.{exhausted_answer, Wanted}

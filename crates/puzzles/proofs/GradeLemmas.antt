@@ -10,8 +10,8 @@ use Rattle.engine_core.specs.Walk.{Mark.Trial, Mark.Found, walk_closed}
 use Rattle.engine_core.specs.Verdict.{Outcome.OneGrid, outcome, spent, trials_in}
 use Rattle.solo_core.specs.Houses.{houses_of}
 use Rattle.solo_core.specs.declared.houses.scope.SoloScope.TheVariants.{House}
-use Rattle.puzzles.specs.Words.{Candidates, count_below, grid_of, Solo, Puzzle, is_settled, Mark, IsFound, walk, Outcome, Solves, verdict_of}
-use Rattle.puzzles.specs.Words.{crossing_scopes, scopes_of}
+use Rattle.puzzles.specs.Common.{Candidates, count_below, grid_of, Solo, Puzzle, is_settled, Mark, IsFound, walk, Outcome, Solves, verdict_of}
+use Rattle.puzzles.specs.Common.{crossing_scopes, scopes_of}
 use Rattle.puzzles.specs.Grades.{HasOneSolution, IsGradeOf, IsRightGrade, TellsGrade, grade_by, searched_grade, Settling, last_tried, listed_grade, only_set, grade_status, grade_text}
 use Rattle.puzzles.specs.Answers.{Text, Answer, Delivers}
 use Rattle.puzzles.specs.Stops.{Tells}

@@ -15,8 +15,8 @@ use Rattle.engine_core.proofs.JudgeLemmas.{grid-fits}
 use Rattle.engine_core.proofs.WalkLemmas.{walk-unfold, walk_closed-dead, walk_closed-wrong}
 use Rattle.maker_core.proofs.FoundAtOnce.{found_at_once, found_one}
 use Rattle.maker_core.proofs.FullStart.{known}
-use Rattle.puzzles.specs.Words.{Candidates, IsInside, grid_of, only, pick, HasOneReading, IdFault, Puzzle, IsLawful, IsClosed, is_settled, Solves}
-use Rattle.puzzles.specs.Words.{verdict_of, Outcome, Mark, walk}
+use Rattle.puzzles.specs.Common.{Candidates, IsInside, grid_of, only, pick, HasOneReading, IdFault, Puzzle, IsLawful, IsClosed, is_settled, Solves}
+use Rattle.puzzles.specs.Common.{verdict_of, Outcome, Mark, walk}
 use Rattle.puzzles.specs.Answers.{Answer, Begins, Text}
 use Rattle.puzzles.specs.Grades.{HasOneSolution, IsRightGrade, Settling, TellsGrade, first_settled, grade_by, grade_status, grade_text, listed_grade, rule_set_text, searched_grade}
 use Rattle.puzzles.specs.Allowed.{AllowsId}

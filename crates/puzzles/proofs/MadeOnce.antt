@@ -33,9 +33,9 @@ use Rattle.maker_core.specs.TentFilling.{tent_filling, tents_pass, tents_puzzle_
 use Rattle.maker_core.proofs.BlackCells.{black_cells-grid}
 use Rattle.maker_core.proofs.PatternMakings.{pattern_only, pattern_solved}
 use Rattle.maker_core.proofs.TentMakings.{tents_only, tents_size}
-use Rattle.puzzles.specs.Words.{Stream, Extent, IsExtent, max_side, IsGrid, grid_text, pattern_cell, tents_cell, SizeRead, extent_of, in_range}
-use Rattle.puzzles.specs.Words.{size_of, HasOneReading, IsTents, Pattern, Tents, IdFault, IsLawful, Puzzle, Outcome, IsTrueOf, verdict_of}
-use Rattle.puzzles.specs.Words.{is_solution-from, is_solution-is, line_rules-lawful, line_rules, IsPatternSolution, tent_rules, IsTentSolution}
+use Rattle.puzzles.specs.Common.{Stream, Extent, IsExtent, max_side, IsGrid, grid_text, pattern_cell, tents_cell, SizeRead, extent_of, in_range}
+use Rattle.puzzles.specs.Common.{size_of, HasOneReading, IsTents, Pattern, Tents, IdFault, IsLawful, Puzzle, Outcome, IsTrueOf, verdict_of}
+use Rattle.puzzles.specs.Common.{is_solution-from, is_solution-is, line_rules-lawful, line_rules, IsPatternSolution, tent_rules, IsTentSolution}
 use Rattle.puzzles.specs.Seeds.{seed_key, seed_stream}
 use Rattle.puzzles.specs.Answers.{Answer, Text}
 use Rattle.puzzles.specs.Games.{Playing, played}

@@ -3,7 +3,7 @@ use Rattle.std.proofs.Common.{◌≡◌, ◌⊎◌, Result, Err, ◌≢◌, ◌<
 use Rattle.std.specs.Prelude.{IfOk, ◌↔◌}
 use Rattle.gameid_core.specs.Steps.{Fails}
 use Rattle.gameid_core.specs.declared.id.fault.IdFault.TheVariants.{Memory, TooLong}
-use Rattle.puzzles.specs.Words.{HasOneReading, IdFault, max_id, Game}
+use Rattle.puzzles.specs.Common.{HasOneReading, IdFault, max_id, Game}
 use Rattle.puzzles.specs.Answers.{Text, Answer}
 use Rattle.puzzles.specs.Games.{played}
 use Rattle.puzzles.specs.Allowed.{AllowsId, AllowsSolve}

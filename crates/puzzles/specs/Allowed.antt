@@ -2,7 +2,7 @@
 use Rattle.std.specs.Prelude.{◌⊎◌, Result, Ok, ◌≡◌, List, ℕ, Bool, is_ok, true, false, Option, Some, None}
 use Rattle.std.specs.Str.Lines.{lines}
 use Rattle.gameid_core.specs.declared.id.game.Game.TheVariants as game
-use Rattle.puzzles.specs.Words.{Extent, IdFault, grid_text, Game, Solo, SizeRead, Puzzle, verdict_of}
+use Rattle.puzzles.specs.Common.{Extent, IdFault, grid_text, Game, Solo, SizeRead, Puzzle, verdict_of}
 use Rattle.puzzles.specs.Answers.{Answer, Text}
 use Rattle.puzzles.specs.Games.{GameOf, Playing, played}
 use Rattle.puzzles.specs.Replies.{IsRefused, refused_words, IsRight, verdict_answer}

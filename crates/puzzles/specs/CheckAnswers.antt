@@ -8,7 +8,7 @@ use Rattle.fields_core.specs.declared.light_up.fault.LightFault.{LightFault}
 use Rattle.fields_core.specs.declared.light_up.fault.LightFault.TheVariants as light
 use Rattle.fields_core.specs.declared.tents.fault.TentFault.{TentFault}
 use Rattle.fields_core.specs.declared.tents.fault.TentFault.TheVariants as tent
-use Rattle.puzzles.specs.Words.{Extent, Pattern, Solo, Light, Tents, solo_n, IsPrinted, IsAsShown, grid_text, IsCheck, IsFirstFault, IsLightFault, IsTentFault}
+use Rattle.puzzles.specs.Common.{Extent, Pattern, Solo, Light, Tents, solo_n, IsPrinted, IsAsShown, grid_text, IsCheck, IsFirstFault, IsLightFault, IsTentFault}
 use Rattle.puzzles.specs.Answers.{Text, Answer}
 use Rattle.puzzles.specs.Replies.{refused}
 use Rattle.puzzles.specs.Texts.{text_limit}

@@ -10,9 +10,9 @@ use Rattle.maker_core.specs.LightMaking.{IsLightMade}
 use Rattle.maker_core.specs.PatternMaking.{IsPatternMade, pattern_filling, pattern_passes}
 use Rattle.maker_core.specs.TentFilling.{tent_filling, tents_pass}
 use Rattle.maker_core.specs.TentMaking.{IsTentsMade}
-use Rattle.puzzles.specs.Words.{Extent, Puzzle, SizeRead, extent_of, Pattern, Solo, Light, Tents, solo_n, IdFault, Game, hides_nothing, light_hides}
-use Rattle.puzzles.specs.Words.{tent_hides, pattern_cell, solo_cell, solo_extent, light_cell, tents_cell, line_rules, IsPatternSolution, houses_rules}
-use Rattle.puzzles.specs.Words.{IsSoloSolution, light_rules, IsLightSolution, tent_rules, IsTentSolution, IsSoloMade, Kept}
+use Rattle.puzzles.specs.Common.{Extent, Puzzle, SizeRead, extent_of, Pattern, Solo, Light, Tents, solo_n, IdFault, Game, hides_nothing, light_hides}
+use Rattle.puzzles.specs.Common.{tent_hides, pattern_cell, solo_cell, solo_extent, light_cell, tents_cell, line_rules, IsPatternSolution, houses_rules}
+use Rattle.puzzles.specs.Common.{IsSoloSolution, light_rules, IsLightSolution, tent_rules, IsTentSolution, IsSoloMade, Kept}
 use Rattle.puzzles.specs.Answers.{Answer, Text}
 use Rattle.puzzles.specs.CheckAnswers.{pattern_told, solo_told, light_told, tent_told}
 use Rattle.puzzles.specs.Grades.{Settling, pattern_sets, solo_sets, light_sets, tent_sets}

@@ -2,8 +2,8 @@
 -- of a search.
 use Rattle.std.specs.Prelude.{◌≡◌, ◌≢◌, ◌++◌, ℕ, Bool, List, [], ◌∷◌, if◌then◌else◌, codes, decimal, ⊤}
 use Rattle.engine_core.specs.Verdict.{Outcome.NoGrid, Outcome.OneGrid, Outcome.TwoGrids, Outcome.OutOfBudget, trials_in}
-use Rattle.puzzles.specs.Words.{Puzzle, is_settled, Outcome, verdict_of, walk, Pattern, Solo, Light, Tents, light_rules, tent_rules, line_rules}
-use Rattle.puzzles.specs.Words.{singles_rules, houses_rules, crossings_rules}
+use Rattle.puzzles.specs.Common.{Puzzle, is_settled, Outcome, verdict_of, walk, Pattern, Solo, Light, Tents, light_rules, tent_rules, line_rules}
+use Rattle.puzzles.specs.Common.{singles_rules, houses_rules, crossings_rules}
 use Rattle.puzzles.specs.Answers.{Answer, Text}
 use Rattle.puzzles.specs.Traces.{IsTrace}
 use Rattle.puzzles.specs.declared.grade.Grade.{Grade}

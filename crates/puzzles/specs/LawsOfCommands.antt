@@ -8,7 +8,7 @@ use Rattle.maker_core.specs.LightClues.{light_game}
 use Rattle.maker_core.specs.LightMaking.{IsLightMade}
 use Rattle.maker_core.specs.SoloClues.{solo_game}
 use Rattle.maker_core.specs.declared.made.Why.TheVariants.{Needed}
-use Rattle.puzzles.specs.Words.{Stream, Extent, Game, IsPrinted, Light, Solo, IsSoloMade, Kept}
+use Rattle.puzzles.specs.Common.{Stream, Extent, Game, IsPrinted, Light, Solo, IsSoloMade, Kept}
 use Rattle.puzzles.specs.Answers.{Answer, Text, Begins}
 use Rattle.puzzles.specs.Games.{played, puzzle_of}
 use Rattle.puzzles.specs.Allowed.{Allows, AllowsCheck, AllowsSolve, AllowsGrade, is_read, AllowsMade}

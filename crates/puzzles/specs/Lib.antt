@@ -1,4 +1,4 @@
-pub mod Words
+pub mod Common
 pub mod CommandLine
 pub mod Requests
 pub mod Ends

@@ -4,7 +4,7 @@ use Rattle.gameid_core.specs.declared.id.fault.IdFault.TheVariants.{SizeRange}
 use Rattle.gameid_core.specs.declared.id.game.Game.TheVariants as game
 use Rattle.gameid_core.specs.Steps.{◌>>=◌}
 use Rattle.maker_core.specs.Draws.{Making, NonePasses}
-use Rattle.puzzles.specs.Words.{Stream, SizeRead, size_of, IdFault, Game, NoneFound, Kept}
+use Rattle.puzzles.specs.Common.{Stream, SizeRead, size_of, IdFault, Game, NoneFound, Kept}
 use Rattle.puzzles.specs.Answers.{Answer, Text}
 
 -- What a puzzle is made by: the words of the seed's generator, the trials of each verdict, the

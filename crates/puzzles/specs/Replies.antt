@@ -4,7 +4,7 @@ use Rattle.std.specs.Prelude.{ℕ, ◌≡◌, ◌++◌, [], Result, Err, codes, 
 use Rattle.gameid_core.specs.declared.id.fault.IdFault.TheVariants.{TooLong, SeedId, NoColon, BadSize, Variant, SizeRange, BadByte, NumberRange, LineTooFull, TooFew, TooMany, Memory}
 use Rattle.gameid_core.specs.declared.grids.printed.Printed as printed
 use Rattle.engine_core.specs.Verdict.{Outcome.NoGrid, Outcome.OneGrid, Outcome.TwoGrids, Outcome.OutOfBudget}
-use Rattle.puzzles.specs.Words.{IdFault, grid_text, Puzzle, Outcome, verdict_of}
+use Rattle.puzzles.specs.Common.{IdFault, grid_text, Puzzle, Outcome, verdict_of}
 use Rattle.puzzles.specs.declared.answers.status.Status.{Status}
 use Rattle.puzzles.specs.declared.answers.status.Status.TheVariants.{Fine, Wrong, Refused, Several, GaveUp}
 use Rattle.puzzles.specs.Answers.{Answer, Text}

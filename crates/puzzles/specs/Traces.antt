@@ -1,7 +1,7 @@
 -- How a closing is told: a line for each visit in order, or one line for all sweeps.
 use Rattle.std.specs.Prelude.{◌≡◌, ◌++◌, ◌-◌, ℕ, Bool, true, false, List, [], length, slice_index, slice_index_or, nat_lt, if◌then◌else◌, codes, decimal}
 use Rattle.engine_core.specs.ClosingList.{IsClosingList, IsClosingSweeps}
-use Rattle.puzzles.specs.Words.{Puzzle, Pattern, Solo, scopes_of}
+use Rattle.puzzles.specs.Common.{Puzzle, Pattern, Solo, scopes_of}
 use Rattle.puzzles.specs.Answers.{Text}
 use Rattle.gameid_core.specs.GridTexts.{each_below}
 use Rattle.solo_core.specs.declared.houses.house.SoloHouse.{SoloHouse}

@@ -3,7 +3,7 @@ use Rattle.std.specs.Prelude.{◌≡◌, ⊤, ℕ, List, Result, Ok, Err}
 use Rattle.gameid_core.specs.declared.id.fault.IdFault.TheVariants.{SizeRange}
 use Rattle.maker_core.specs.declared.made.MakeFault.{MakeFault}
 use Rattle.maker_core.specs.declared.made.MakeFault.TheVariants as fault
-use Rattle.puzzles.specs.Words.{SizeRead, IdFault, Kept}
+use Rattle.puzzles.specs.Common.{SizeRead, IdFault, Kept}
 use Rattle.puzzles.specs.Answers.{Text}
 use Rattle.puzzles.specs.Games.{GameOf}
 use Rattle.puzzles.specs.Allowed.{wanted}

@@ -1,6 +1,6 @@
 //! The answers of `grade`.
 ghost use Rattle.std.specs.Prelude.{◌≡◌, ◌++◌, ◌≤◌, ◌↔◌, List, ℕ, true, false, IfOk, codes, string_bytes};
-ghost use Rattle.puzzles.specs.Words.{Solves, needs_of, FitsIn};
+ghost use Rattle.puzzles.specs.Common.{Solves, needs_of, FitsIn};
 ghost use Rattle.puzzles.specs.Games.{played};
 ghost use Rattle.puzzles.specs.Grades.{grade_status, grade_text, rule_set_text};
 ghost use Rattle.puzzles.specs.Allowed.{AreTold, GradeTold, GradesId, IsGradeAfter, IsGraded, IsToldBySweeps};

@@ -1,6 +1,6 @@
 //! The answers of `solve`.
 ghost use Rattle.std.specs.Prelude.{◌≡◌, ◌<◌, ◌*◌, List, ℕ, None, IfOk};
-ghost use Rattle.puzzles.specs.Words.{FitsIn, needs_of, IsTrueOf, verdict_of};
+ghost use Rattle.puzzles.specs.Common.{FitsIn, needs_of, IsTrueOf, verdict_of};
 ghost use Rattle.puzzles.specs.Each.{HasAnswers};
 ghost use Rattle.puzzles.specs.Allowed.{AllowsSolve, SolvesId};
 ghost use Rattle.puzzles.specs.Replies.{answer_in, verdict_told};

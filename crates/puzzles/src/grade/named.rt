@@ -1,6 +1,6 @@
 //! The names of what a closing visits.
 ghost use Rattle.std.specs.Prelude.{◌≡◌, ◌++◌, ◌+◌, ◌<◌, ◌≤◌, ℕ, OnOk, length, string_bytes, string_len};
-ghost use Rattle.puzzles.specs.Words.{Puzzle, Pattern, Solo, scopes_of};
+ghost use Rattle.puzzles.specs.Common.{Puzzle, Pattern, Solo, scopes_of};
 ghost use Rattle.puzzles.specs.Answers.{Text};
 ghost use Rattle.puzzles.specs.Traces.{TellsVisits, house_text, scope_text, pattern_name, solo_name};
 

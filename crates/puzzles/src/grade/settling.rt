@@ -1,6 +1,6 @@
 //! Grades: by rules that settle a puzzle, and by a search.
 ghost use Rattle.std.specs.Prelude.{◌≡◌, ◌↔◌, List, ℕ, true, IfOk};
-ghost use Rattle.puzzles.specs.Words.{needs_of, FitsIn, is_settled, Solves};
+ghost use Rattle.puzzles.specs.Common.{needs_of, FitsIn, is_settled, Solves};
 ghost use Rattle.puzzles.specs.Allowed.{grade_after};
 ghost use Rattle.puzzles.specs.Grades.{HasOneSolution, IsRightGrade, searched_grade};
 

@@ -1,6 +1,6 @@
 //! Puzzles that can be searched: the rules that a search goes by, and the solutions by the game.
 ghost use Rattle.std.specs.Prelude.{◌≡◌, ◌*◌, ◌↔◌, List, ℕ, IfOk, OnOk};
-ghost use Rattle.puzzles.specs.Words.{Puzzle, Solves, light_rules, tent_rules, line_rules, houses_rules};
+ghost use Rattle.puzzles.specs.Common.{Puzzle, Solves, light_rules, tent_rules, line_rules, houses_rules};
 
 use crate::played::Played;
 use fields_core::{LightRules, TentRules};

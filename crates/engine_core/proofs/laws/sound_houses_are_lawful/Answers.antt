@@ -1,4 +1,4 @@
-use Rattle.engine_core.specs.HousesLaws.{by_houses-lawful}
+use Rattle.engine_core.proofs.Common.{by_houses-lawful}
 use Rattle.engine_core.proofs.laws.sound_houses_are_lawful.Goals as goal
 
 pub returns : goal.returns

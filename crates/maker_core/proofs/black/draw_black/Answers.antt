@@ -1,5 +1,5 @@
-use Rattle.maker_core.proofs.Words.{◌≡◌, ℕ, List, ap, subst, sym, arith, length, ◌+◌, ◌∙◌, refl, Bool, true, false, cond, nat_lt, length-replicate}
-use Rattle.maker_core.proofs.Words.{Stream, IsGrid}
+use Rattle.maker_core.proofs.Common.{◌≡◌, ℕ, List, ap, subst, sym, arith, length, ◌+◌, ◌∙◌, refl, Bool, true, false, cond, nat_lt, length-replicate}
+use Rattle.maker_core.proofs.Common.{Stream, IsGrid}
 use Rattle.maker_core.proofs.BlackCells.{IsDrawn, IsDrawn-none, IsDrawn-more, IsDrawn-all, black_cells-grid}
 use Rattle.maker_core.proofs.black.draw_black.Goals as goal
 

@@ -1,7 +1,7 @@
 use Rattle.std.proofs.Common.{◌≡◌, ◌<◌, length, Err}
 use Rattle.gameid_core.specs.declared.id.fault.IdFault.TheVariants.{TooLong}
 use Rattle.gameid_core.specs.declared.id.game.Game.TheVariants.{Solo, Pattern, LightUp, Tents}
-use Rattle.puzzles.specs.Words.{max_id, Game}
+use Rattle.puzzles.specs.Common.{max_id, Game}
 use Rattle.puzzles.specs.Answers.{Text}
 use Rattle.puzzles.specs.Games.{played}
 use Rattle.puzzles.proofs.Readings.{too_long_id}

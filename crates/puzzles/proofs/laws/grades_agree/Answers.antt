@@ -2,7 +2,7 @@ use Rattle.std.proofs.Common.{◌≡◌, ◌∙◌, ◌∷◌, ◌<◌, ℕ, Boo
 use Rattle.std.specs.Prelude.{◌↔◌}
 use Rattle.std.proofs.lemmas.Bool.{false_from_ne_true, true≢false}
 use Rattle.gameid_core.specs.declared.id.game.Game.TheVariants as game
-use Rattle.puzzles.specs.Words.{Candidates, Game, IsSolo, Solo, is_settled, light_rules, tent_rules, line_rules, crossings_rules, houses_rules, singles_rules}
+use Rattle.puzzles.specs.Common.{Candidates, Game, IsSolo, Solo, is_settled, light_rules, tent_rules, line_rules, crossings_rules, houses_rules, singles_rules}
 use Rattle.puzzles.specs.Answers.{Answer, Text}
 use Rattle.puzzles.specs.Games.{played, puzzle_of}
 use Rattle.puzzles.specs.Grades.{listed_grade, only_set, solo_sets}

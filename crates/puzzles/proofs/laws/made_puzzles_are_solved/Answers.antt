@@ -7,7 +7,7 @@ use Rattle.maker_core.specs.LightFilling.{with_numbers}
 use Rattle.maker_core.specs.SoloClues.{solo_game}
 use Rattle.maker_core.specs.SoloFilling.{all_given}
 use Rattle.maker_core.specs.Thinning.{IsReason}
-use Rattle.puzzles.specs.Words.{Game, grid_text, rule_from_test}
+use Rattle.puzzles.specs.Common.{Game, grid_text, rule_from_test}
 use Rattle.puzzles.specs.Answers.{Answer, Text}
 use Rattle.puzzles.specs.Games.{played}
 use Rattle.puzzles.specs.LawsOfCommands.{IsSolvedAsMade}

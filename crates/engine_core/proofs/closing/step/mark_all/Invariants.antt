@@ -1,6 +1,4 @@
-use Rattle.std.proofs.Common.{◌&&◌, ltb, true}
-use Rattle.grid_core.specs.Candidates.{Candidates}
-use Rattle.engine_core.specs.Waiting.{is_waiting, AreCalled}
+use Rattle.engine_core.proofs.Common.{AreCalled, Candidates, is_waiting, ltb, true, ◌&&◌}
 use Rattle.engine_core.proofs.closing.step.mark_all.Given as goal
 
 abbrev pub invariant-loop-house : goal.invariant-loop-house

@@ -1,5 +1,4 @@
-use Rattle.std.proofs.Common.{◌≡◌, true, sym, ◌∙◌}
-use Rattle.engine_core.specs.Queue.{but}
+use Rattle.engine_core.proofs.Common.{but, sym, true, ◌∙◌, ◌≡◌}
 use Rattle.engine_core.proofs.closing.step.settle.Goals as goal
 
 pub returns-then-SETTLED : goal.returns-then-SETTLED

@@ -1,7 +1,4 @@
-use Rattle.std.proofs.Common.{◌≡◌, true, length, replicate, refl, arith, rules}
-use Rattle.engine_core.specs.Puzzle.{has_place}
-use Rattle.engine_core.specs.Queue.{waits_from}
-use Rattle.engine_core.specs.Waiting.{is_waiting}
+use Rattle.engine_core.proofs.Common.{arith, has_place, is_waiting, length, refl, replicate, rules, true, waits_from, ◌≡◌}
 use Rattle.engine_core.proofs.WaitLemmas.{waiting-none}
 use Rattle.engine_core.proofs.CallLemmas.{called-from}
 use Rattle.engine_core.proofs.closing.step.wait_from.Goals as goal

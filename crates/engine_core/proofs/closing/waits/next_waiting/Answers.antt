@@ -1,4 +1,4 @@
-use Rattle.std.proofs.Common.{arith}
+use Rattle.engine_core.proofs.Common.{arith}
 use Rattle.engine_core.proofs.WaitLemmas.{none_so_far, waits_in_word}
 use Rattle.engine_core.proofs.closing.waits.next_waiting.Goals as goal
 

@@ -1,5 +1,4 @@
-use Rattle.std.proofs.Common.{◌≡◌, ℕ, ◌+◌, ◌*◌, ◌<◌, ◌≤◌, false}
-use Rattle.engine_core.specs.Waiting.{is_waiting}
+use Rattle.engine_core.proofs.Common.{false, is_waiting, ℕ, ◌*◌, ◌+◌, ◌<◌, ◌≡◌, ◌≤◌}
 use Rattle.engine_core.proofs.closing.waits.next_waiting.Given as goal
 
 abbrev pub invariant-loop-word : goal.invariant-loop-word

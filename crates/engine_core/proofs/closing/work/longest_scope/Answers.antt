@@ -1,5 +1,4 @@
-use Rattle.std.proofs.Common.{add-one, refl, rules}
-use Rattle.engine_core.specs.Puzzle.{longest}
+use Rattle.engine_core.proofs.Common.{add-one, longest, refl, rules}
 use Rattle.engine_core.proofs.closing.work.longest_scope.Goals as goal
 
 pub loop-house-init : goal.loop-house-init

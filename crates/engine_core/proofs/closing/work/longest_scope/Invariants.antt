@@ -1,5 +1,4 @@
-use Rattle.std.proofs.Common.{◌≡◌}
-use Rattle.engine_core.specs.Puzzle.{longest}
+use Rattle.engine_core.proofs.Common.{longest, ◌≡◌}
 use Rattle.engine_core.proofs.closing.work.longest_scope.Given as goal
 
 abbrev pub invariant-loop-house : goal.invariant-loop-house

@@ -1,5 +1,4 @@
-use Rattle.std.proofs.Common.{◌≡◌, ℕ, ◌+◌, ◌<◌, cond, length, slice_index, take}
-use Rattle.engine_core.specs.Puzzle.{has_place}
+use Rattle.engine_core.proofs.Common.{cond, has_place, length, slice_index, take, ℕ, ◌+◌, ◌<◌, ◌≡◌}
 use Rattle.engine_core.proofs.houses.table.count_house.Given as goal
 
 abbrev pub invariant-loop-k : goal.invariant-loop-k

@@ -1,7 +1,4 @@
-use Rattle.std.proofs.Common.{arith}
-use Rattle.grid_core.proofs.CandidateLemmas.{count_below-bound}
-use Rattle.engine_core.specs.Puzzle.{has_place}
-use Rattle.engine_core.specs.HouseIndex.{scope_of}
+use Rattle.engine_core.proofs.Common.{arith, count_below-bound, has_place, scope_of}
 use Rattle.engine_core.proofs.houses.table.count_houses.Goals as goal
 
 pub count_house-requires-clause-within : goal.count_house-requires-clause-within

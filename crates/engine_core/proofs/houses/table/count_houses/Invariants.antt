@@ -1,5 +1,4 @@
-use Rattle.std.proofs.Common.{◌≡◌, ℕ, ◌<◌, length, slice_index}
-use Rattle.engine_core.specs.HouseIndex.{number_at}
+use Rattle.engine_core.proofs.Common.{length, number_at, slice_index, ℕ, ◌<◌, ◌≡◌}
 use Rattle.engine_core.proofs.houses.table.count_houses.Given as goal
 
 abbrev pub invariant-loop-house : goal.invariant-loop-house

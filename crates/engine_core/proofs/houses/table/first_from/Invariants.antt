@@ -1,4 +1,4 @@
-use Rattle.std.proofs.Common.{ℕ, ◌<◌, slice_index}
+use Rattle.engine_core.proofs.Common.{slice_index, ℕ, ◌<◌}
 use Rattle.engine_core.proofs.houses.table.first_from.Given as goal
 
 abbrev pub invariant-loop-k : goal.invariant-loop-k

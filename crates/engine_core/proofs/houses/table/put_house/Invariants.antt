@@ -1,5 +1,4 @@
-use Rattle.std.proofs.Common.{take}
-use Rattle.engine_core.specs.HouseIndex.{IsPut}
+use Rattle.engine_core.proofs.Common.{IsPut, take}
 use Rattle.engine_core.proofs.houses.table.put_house.Given as goal
 
 abbrev pub invariant-loop-k : goal.invariant-loop-k

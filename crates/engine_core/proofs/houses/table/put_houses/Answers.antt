@@ -1,4 +1,4 @@
-use Rattle.std.proofs.Common.{◌≡◌, ◌-◌, ◌+◌, suc, length, arith}
+use Rattle.engine_core.proofs.Common.{arith, length, suc, ◌+◌, ◌-◌, ◌≡◌}
 use Rattle.engine_core.proofs.IndexLemmas.{index-room, index-turn}
 use Rattle.engine_core.proofs.houses.table.put_houses.Goals as goal
 

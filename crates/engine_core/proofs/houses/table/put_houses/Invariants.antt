@@ -1,5 +1,4 @@
-use Rattle.std.proofs.Common.{◌-◌, length}
-use Rattle.engine_core.specs.HouseIndex.{IsIndex}
+use Rattle.engine_core.proofs.Common.{IsIndex, length, ◌-◌}
 use Rattle.engine_core.proofs.houses.table.put_houses.Given as goal
 
 abbrev pub invariant-loop-after : goal.invariant-loop-after

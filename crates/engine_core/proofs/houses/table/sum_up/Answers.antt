@@ -1,4 +1,4 @@
-use Rattle.std.proofs.Common.{suc, length, slice_index, arith}
+use Rattle.engine_core.proofs.Common.{arith, length, slice_index, suc}
 use Rattle.engine_core.proofs.IndexLemmas.{summed-sum, sum_below-more}
 use Rattle.engine_core.proofs.houses.table.sum_up.Goals as goal
 

@@ -1,5 +1,4 @@
-use Rattle.std.proofs.Common.{◌∙◌, length, ap, arith}
-use Rattle.engine_core.specs.HouseIndex.{start_at}
+use Rattle.engine_core.proofs.Common.{ap, arith, length, start_at, ◌∙◌}
 use Rattle.engine_core.proofs.IndexLemmas.{counts_same, houses_of_places}
 use Rattle.engine_core.proofs.houses.table.write_ends.Goals as goal
 

@@ -1,5 +1,4 @@
-use Rattle.std.proofs.Common.{◌∙◌}
-use Rattle.grid_core.specs.Board.{has}
+use Rattle.engine_core.proofs.Common.{has, ◌∙◌}
 use Rattle.engine_core.proofs.HouseLemmas.{striking-more, kept-more, kept-inside}
 use Rattle.engine_core.proofs.houses.visit.apply.Goals as goal
 

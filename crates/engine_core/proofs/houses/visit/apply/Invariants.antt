@@ -1,6 +1,4 @@
-use Rattle.std.proofs.Common.{◌≡◌}
-use Rattle.grid_core.specs.Board.{has, SameShape}
-use Rattle.engine_core.specs.House.{kept_in}
+use Rattle.engine_core.proofs.Common.{SameShape, has, kept_in, ◌≡◌}
 use Rattle.engine_core.proofs.HouseLemmas.{IsStriking}
 use Rattle.engine_core.proofs.houses.visit.apply.Given as goal
 

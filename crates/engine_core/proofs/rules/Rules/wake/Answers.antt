@@ -1,7 +1,4 @@
-use Rattle.std.proofs.Common.{arith}
-use Rattle.grid_core.proofs.CandidateLemmas.{count_below-bound}
-use Rattle.engine_core.specs.Puzzle.{has_place}
-use Rattle.engine_core.specs.Waiting.{is_waiting}
+use Rattle.engine_core.proofs.Common.{arith, count_below-bound, has_place, is_waiting}
 use Rattle.engine_core.proofs.CallLemmas.{upto-marked, upto-idle, upto-all}
 use Rattle.engine_core.proofs.rules.Rules.wake.Goals as goal
 use Rattle.engine_core.proofs.rules.Rules.wake.Goals.{then-calls, else-calls}

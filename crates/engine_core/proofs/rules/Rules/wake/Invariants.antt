@@ -1,6 +1,4 @@
-use Rattle.grid_core.specs.Candidates.{Candidates}
-use Rattle.engine_core.specs.Puzzle.{has_place}
-use Rattle.engine_core.specs.Waiting.{is_waiting, AreCalled}
+use Rattle.engine_core.proofs.Common.{AreCalled, Candidates, has_place, is_waiting}
 use Rattle.engine_core.proofs.CallLemmas.{asked_upto}
 use Rattle.engine_core.proofs.rules.Rules.wake.Given as goal
 

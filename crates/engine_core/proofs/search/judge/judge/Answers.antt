@@ -1,7 +1,4 @@
-use Rattle.std.proofs.Common.{sym, ◌∙◌}
-use Rattle.std.proofs.lemmas.Bool.{cond-true, cond-false}
-use Rattle.grid_core.specs.Board.{has}
-use Rattle.engine_core.specs.Frames.{IsFull}
+use Rattle.engine_core.proofs.Common.{IsFull, cond-false, cond-true, has, sym, ◌∙◌}
 use Rattle.engine_core.proofs.JudgeLemmas.{full_unpicked, split_picked, judged_as}
 use Rattle.engine_core.proofs.search.judge.judge.Goals as goal
 use Rattle.engine_core.proofs.search.judge.judge.Goals.{In_default, then-at, else-at}

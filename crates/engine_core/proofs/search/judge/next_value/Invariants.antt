@@ -1,5 +1,4 @@
-use Rattle.std.proofs.Common.{◌≡◌, ℕ, ◌<◌, ◌≤◌, false}
-use Rattle.grid_core.specs.Board.{has}
+use Rattle.engine_core.proofs.Common.{false, has, ℕ, ◌<◌, ◌≡◌, ◌≤◌}
 use Rattle.engine_core.proofs.search.judge.next_value.Given as goal
 
 abbrev pub invariant-loop-value : goal.invariant-loop-value

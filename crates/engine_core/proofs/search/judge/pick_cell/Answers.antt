@@ -1,5 +1,4 @@
-use Rattle.std.proofs.Common.{arith, sym, ◌∙◌}
-use Rattle.grid_core.specs.Board.{has, cells_of}
+use Rattle.engine_core.proofs.Common.{arith, cells_of, has, sym, ◌∙◌}
 use Rattle.engine_core.proofs.JudgeLemmas.{pick-in, pick-ends}
 use Rattle.engine_core.proofs.search.judge.pick_cell.Goals as goal
 

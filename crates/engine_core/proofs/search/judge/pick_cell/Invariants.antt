@@ -1,6 +1,4 @@
-use Rattle.std.proofs.Common.{◌≡◌}
-use Rattle.grid_core.specs.Board.{has}
-use Rattle.grid_core.specs.Candidates.{pick}
+use Rattle.engine_core.proofs.Common.{has, pick, ◌≡◌}
 use Rattle.engine_core.proofs.search.judge.pick_cell.Given as goal
 
 abbrev pub invariant-loop-cell : goal.invariant-loop-cell

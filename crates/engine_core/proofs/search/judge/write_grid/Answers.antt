@@ -1,7 +1,4 @@
-use Rattle.std.proofs.Common.{◌≡◌, arith, refl, ◌∙◌, set}
-use Rattle.std.proofs.Common.{length-set}
-use Rattle.grid_core.specs.Board.{has}
-use Rattle.grid_core.specs.Candidates.{grid_of}
+use Rattle.engine_core.proofs.Common.{arith, grid_of, has, length-set, refl, set, ◌∙◌, ◌≡◌}
 use Rattle.engine_core.proofs.JudgeLemmas.{grid-more, never-none}
 use Rattle.engine_core.proofs.search.judge.write_grid.Goals as goal
 use Rattle.engine_core.proofs.search.judge.write_grid.Goals.{in-Some, in_default}

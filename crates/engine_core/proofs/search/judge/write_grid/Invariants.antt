@@ -1,6 +1,4 @@
-use Rattle.std.proofs.Common.{◌≡◌, length, take}
-use Rattle.grid_core.specs.Board.{has}
-use Rattle.grid_core.specs.Candidates.{grid_of}
+use Rattle.engine_core.proofs.Common.{grid_of, has, length, take, ◌≡◌}
 use Rattle.engine_core.proofs.search.judge.write_grid.Given as goal
 
 abbrev pub invariant-loop-cell : goal.invariant-loop-cell

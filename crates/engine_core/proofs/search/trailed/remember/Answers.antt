@@ -1,4 +1,4 @@
-use Rattle.std.proofs.Common.{arith}
+use Rattle.engine_core.proofs.Common.{arith}
 use Rattle.engine_core.proofs.QueueLemmas.{scope-in}
 use Rattle.engine_core.proofs.search.trailed.remember.Goals as goal
 

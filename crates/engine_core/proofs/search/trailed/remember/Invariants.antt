@@ -1,6 +1,4 @@
-use Rattle.std.proofs.Common.{ℕ, ◌<◌, slice_index}
-use Rattle.grid_core.specs.Board.{has}
-use Rattle.engine_core.specs.Sets.{IsBitsOf}
+use Rattle.engine_core.proofs.Common.{IsBitsOf, has, slice_index, ℕ, ◌<◌}
 use Rattle.engine_core.proofs.search.trailed.remember.Given as goal
 
 abbrev pub invariant-loop-k : goal.invariant-loop-k

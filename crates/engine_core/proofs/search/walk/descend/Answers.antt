@@ -1,6 +1,4 @@
-use Rattle.std.proofs.Common.{arith, refl}
-use Rattle.grid_core.specs.Board.{has}
-use Rattle.engine_core.specs.Frames.{IsOpen}
+use Rattle.engine_core.proofs.Common.{IsOpen, arith, has, refl}
 use Rattle.engine_core.proofs.EndLemmas.{ended-told, ended-counted}
 use Rattle.engine_core.proofs.PickLemmas.{pick-inside}
 use Rattle.engine_core.proofs.RoomLemmas.{split-room, open-room}

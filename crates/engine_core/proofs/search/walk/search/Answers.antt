@@ -1,7 +1,4 @@
-use Rattle.std.proofs.Common.{◌+◌, arith, ◌∙◌, refl, sym}
-use Rattle.std.proofs.lemmas.Grind.{common_steps}
-use Rattle.grid_core.specs.Candidates.{pick}
-use Rattle.engine_core.specs.Frames.{marks_of}
+use Rattle.engine_core.proofs.Common.{arith, common_steps, marks_of, pick, refl, sym, ◌+◌, ◌∙◌}
 use Rattle.engine_core.proofs.SearchingLemmas.{IsSearching, searching-first, searching-trial, ended-out, ended-two, ended-one, ended-none}
 use Rattle.engine_core.proofs.search.walk.search.Goals as goal
 use Rattle.engine_core.proofs.search.walk.search.Goals.{After-descend-at, then-values-eq2, else-values-eq2}

@@ -1,6 +1,4 @@
-use Rattle.std.proofs.Common.{max, ◌≡◌, ◌+◌, ◌-◌, ◌*◌, ◌≤◌, false, length}
-use Rattle.grid_core.specs.Board.{SameShape}
-use Rattle.engine_core.specs.Frames.{AreReady, AreAlong, marks_of, AreGrids}
+use Rattle.engine_core.proofs.Common.{AreAlong, AreGrids, AreReady, SameShape, false, length, marks_of, max, ◌*◌, ◌+◌, ◌-◌, ◌≡◌, ◌≤◌}
 use Rattle.engine_core.proofs.SearchingLemmas.{IsSearching}
 use Rattle.engine_core.proofs.search.walk.search.Given as goal
 

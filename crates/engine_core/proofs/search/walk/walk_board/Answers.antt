@@ -1,7 +1,4 @@
-use Rattle.std.proofs.Common.{◌≡◌, refl, sym, ◌∙◌}
-use Rattle.grid_core.specs.Candidates.{pick}
-use Rattle.engine_core.specs.Walk.{walk}
-use Rattle.engine_core.specs.Frames.{board_in, marks_of}
+use Rattle.engine_core.proofs.Common.{board_in, marks_of, pick, refl, sym, walk, ◌∙◌, ◌≡◌}
 use Rattle.engine_core.proofs.LevelLemmas.{walk-alone}
 use Rattle.engine_core.proofs.SearchingLemmas.{searching-first, ended-two, walked}
 use Rattle.engine_core.proofs.search.walk.walk_board.Goals as goal

@@ -1,4 +1,4 @@
-use Rattle.maker_core.proofs.Words.{refl, ◌∙◌, ap, black_cells}
+use Rattle.maker_core.proofs.Common.{refl, ◌∙◌, ap, black_cells}
 use Rattle.maker_core.proofs.LightFilled.{filling_is, puzzle_is}
 use Rattle.maker_core.proofs.light_up.filling.fill_lights.Goals as goal
 

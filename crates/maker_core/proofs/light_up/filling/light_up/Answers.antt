@@ -1,4 +1,4 @@
-use Rattle.maker_core.proofs.Words.{length, sym, subst, IsGrid, light_cells}
+use Rattle.maker_core.proofs.Common.{length, sym, subst, IsGrid, light_cells}
 use Rattle.maker_core.proofs.LightSight.{bulbs_after-grid}
 use Rattle.maker_core.proofs.LightFilled.{order_within, lit_up_solved}
 use Rattle.maker_core.proofs.light_up.filling.light_up.Goals as goal

@@ -1,4 +1,4 @@
-use Rattle.maker_core.proofs.Words.{numbered_cell}
+use Rattle.maker_core.proofs.Common.{numbered_cell}
 use Rattle.maker_core.proofs.LightCells.{IsRewritten, old_cell}
 use Rattle.maker_core.proofs.light_up.filling.number_cells.Given as goal
 

@@ -1,5 +1,5 @@
-use Rattle.maker_core.proofs.Words.{◌≡◌, refl, sym, ◌∙◌, ap, subst, arith, true≢false, light_rules, IsLightSolution, rule-from-test, test-from-rule}
-use Rattle.maker_core.proofs.Words.{light_game, Lighting, light_passes, light_puzzle_of, has_one, IsThinnedFrom, stream_after_clues}
+use Rattle.maker_core.proofs.Common.{◌≡◌, refl, sym, ◌∙◌, ap, subst, arith, true≢false, light_rules, IsLightSolution, rule-from-test, test-from-rule}
+use Rattle.maker_core.proofs.Common.{light_game, Lighting, light_passes, light_puzzle_of, has_one, IsThinnedFrom, stream_after_clues}
 use Rattle.maker_core.proofs.LightMakings.{size_is}
 use Rattle.maker_core.proofs.OnlySolutions.{only_is}
 use Rattle.maker_core.proofs.Tries.{IsTrying-none, IsTrying-more, filling_is, first_passing, left_first, none_passes}

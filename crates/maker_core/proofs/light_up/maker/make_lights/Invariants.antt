@@ -1,4 +1,4 @@
-use Rattle.maker_core.proofs.Words.{◌≡◌, light_tries}
+use Rattle.maker_core.proofs.Common.{◌≡◌, light_tries}
 use Rattle.maker_core.proofs.Tries.{IsTrying}
 use Rattle.maker_core.proofs.light_up.maker.make_lights.Given as goal
 

@@ -1,4 +1,4 @@
-use Rattle.maker_core.proofs.Words.{◌≡◌, ◌∙◌, ap, subst, IfOk, Light, IsLawful, light_rules, light-lawful, has_one}
+use Rattle.maker_core.proofs.Common.{◌≡◌, ◌∙◌, ap, subst, IfOk, Light, IsLawful, light_rules, light-lawful, has_one}
 use Rattle.maker_core.proofs.LightMakings.{black_passes}
 use Rattle.maker_core.proofs.light_up.maker.passes.Goals as goal
 

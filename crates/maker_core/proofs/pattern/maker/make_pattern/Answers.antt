@@ -1,5 +1,5 @@
-use Rattle.maker_core.proofs.Words.{◌≡◌, List, ℕ, true≢false, inl, inr, refl, sym, ◌∙◌, ap, Stream, black_cells, clued_by, pattern_filling}
-use Rattle.maker_core.proofs.Words.{pattern_passes}
+use Rattle.maker_core.proofs.Common.{◌≡◌, List, ℕ, true≢false, inl, inr, refl, sym, ◌∙◌, ap, Stream, black_cells, clued_by, pattern_filling}
+use Rattle.maker_core.proofs.Common.{pattern_passes}
 use Rattle.maker_core.proofs.Tries.{IsTrying-none, IsTrying-more, filling_is, first_passing, left_first}
 use Rattle.maker_core.proofs.pattern.maker.make_pattern.Given as given
 use Rattle.maker_core.proofs.pattern.maker.make_pattern.Goals as goal

@@ -1,4 +1,4 @@
-use Rattle.maker_core.proofs.Words.{◌≡◌, ◌⊎◌, pattern_tries}
+use Rattle.maker_core.proofs.Common.{◌≡◌, ◌⊎◌, pattern_tries}
 use Rattle.maker_core.proofs.Tries.{IsTrying}
 use Rattle.maker_core.proofs.pattern.maker.make_pattern.Given as goal
 

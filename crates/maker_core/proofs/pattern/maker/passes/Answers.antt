@@ -1,4 +1,4 @@
-use Rattle.maker_core.proofs.Words.{◌≡◌, ◌∙◌, ◌⊎◌, false, true, sym, ap, subst, IfOk, Pattern, IsExtent, line_rules, AreAll, has_one}
+use Rattle.maker_core.proofs.Common.{◌≡◌, ◌∙◌, ◌⊎◌, false, true, sym, ap, subst, IfOk, Pattern, IsExtent, line_rules, AreAll, has_one}
 use Rattle.maker_core.proofs.PlainPattern.{plain_passes}
 use Rattle.maker_core.proofs.Switches.{other_fails}
 use Rattle.maker_core.proofs.pattern.maker.passes.Goals as goal

@@ -1,4 +1,4 @@
-use Rattle.maker_core.proofs.Words.{refl}
+use Rattle.maker_core.proofs.Common.{refl}
 use Rattle.maker_core.proofs.Switches.{undone}
 use Rattle.maker_core.proofs.pattern.switch.is_solved_turned.Goals as goal
 

@@ -1,4 +1,4 @@
-use Rattle.maker_core.proofs.Words.{arith}
+use Rattle.maker_core.proofs.Common.{arith}
 use Rattle.maker_core.proofs.solo.filling.fill_plain.Goals as goal
 
 pub rearrange-requires : goal.rearrange-requires

@@ -1,4 +1,4 @@
-use Rattle.maker_core.proofs.Words.{◌≡◌}
+use Rattle.maker_core.proofs.Common.{◌≡◌}
 use Rattle.maker_core.proofs.SoloFull.{given_first}
 use Rattle.maker_core.proofs.solo.filling.full_puzzle.Given as goal
 

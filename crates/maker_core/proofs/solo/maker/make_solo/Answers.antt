@@ -1,5 +1,5 @@
-use Rattle.maker_core.proofs.Words.{◌≡◌, ℕ, Option, List, Some, None, refl, sym, ◌∙◌, ap, arith, inl, inr, cases_eq, Stream, IsSoloSolution}
-use Rattle.maker_core.proofs.Words.{solo_game, all_given, IsSoloSize, solo_filling, IsThinnedFrom, stream_after_clues}
+use Rattle.maker_core.proofs.Common.{◌≡◌, ℕ, Option, List, Some, None, refl, sym, ◌∙◌, ap, arith, inl, inr, cases_eq, Stream, IsSoloSolution}
+use Rattle.maker_core.proofs.Common.{solo_game, all_given, IsSoloSize, solo_filling, IsThinnedFrom, stream_after_clues}
 use Rattle.maker_core.proofs.SoloFull.{all_given-only, all_given-found, thinned-solo, full_passes, only_by_rules, same_given}
 use Rattle.maker_core.proofs.Tries.{IsTrying-none, IsTrying-more, filling_is, first_passing, left_first}
 use Rattle.maker_core.proofs.solo.maker.make_solo.Given as given

@@ -1,4 +1,4 @@
-use Rattle.maker_core.proofs.Words.{NoneFound, solo_tries}
+use Rattle.maker_core.proofs.Common.{NoneFound, solo_tries}
 use Rattle.maker_core.proofs.Tries.{IsTrying}
 use Rattle.maker_core.proofs.solo.maker.make_solo.Given as goal
 

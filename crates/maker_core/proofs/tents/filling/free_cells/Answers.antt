@@ -1,4 +1,4 @@
-use Rattle.maker_core.proofs.Words.{arith}
+use Rattle.maker_core.proofs.Common.{arith}
 use Rattle.maker_core.proofs.TentCamps.{free_all}
 use Rattle.maker_core.proofs.tents.filling.free_cells.Goals as goal
 

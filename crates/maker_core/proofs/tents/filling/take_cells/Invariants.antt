@@ -1,4 +1,4 @@
-use Rattle.maker_core.proofs.Words.{◌≡◌, Stream, Camp, camp_after}
+use Rattle.maker_core.proofs.Common.{◌≡◌, Stream, Camp, camp_after}
 use Rattle.maker_core.proofs.TentsSolved.{IsCamp}
 use Rattle.maker_core.proofs.tents.filling.take_cells.Given as goal
 

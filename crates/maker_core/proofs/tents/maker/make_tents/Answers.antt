@@ -1,5 +1,5 @@
-use Rattle.maker_core.proofs.Words.{◌≡◌, refl, sym, ◌∙◌, ap, Tents, tent_rules, solution-from-camp, camp-from-solution, Camp, has_one, tents_pass}
-use Rattle.maker_core.proofs.Words.{tents_puzzle_of}
+use Rattle.maker_core.proofs.Common.{◌≡◌, refl, sym, ◌∙◌, ap, Tents, tent_rules, solution-from-camp, camp-from-solution, Camp, has_one, tents_pass}
+use Rattle.maker_core.proofs.Common.{tents_puzzle_of}
 use Rattle.maker_core.proofs.TentMakings.{tents_size, tents_only}
 use Rattle.maker_core.proofs.Tries.{IsTrying-none, IsTrying-more, filling_is, first_passing, left_first}
 use Rattle.maker_core.proofs.tents.maker.make_tents.Given as given

@@ -1,4 +1,4 @@
-use Rattle.maker_core.proofs.Words.{tents_tries}
+use Rattle.maker_core.proofs.Common.{tents_tries}
 use Rattle.maker_core.proofs.Tries.{IsTrying}
 use Rattle.maker_core.proofs.tents.maker.make_tents.Given as goal
 

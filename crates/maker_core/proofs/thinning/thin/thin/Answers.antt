@@ -1,4 +1,4 @@
-use Rattle.maker_core.proofs.Words.{◌≡◌, Option, None, replicate, rules, sym, ap, ◌∙◌, subst, IsPermutation, reasons_from, clue_places, Why}
+use Rattle.maker_core.proofs.Common.{◌≡◌, Option, None, replicate, rules, sym, ap, ◌∙◌, subst, IsPermutation, reasons_from, clue_places, Why}
 use Rattle.maker_core.proofs.ThinningReasons.{thinning_start, answer_left, reasons_left}
 use Rattle.maker_core.proofs.ThinningTurns.{contains_head, next_turn, turn, turn_in_room, thinning_turn}
 use Rattle.maker_core.proofs.thinning.thin.thin.Goals as goal

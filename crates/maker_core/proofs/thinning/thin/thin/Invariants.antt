@@ -1,4 +1,4 @@
-use Rattle.maker_core.proofs.Words.{drop, FitsIn, needs_of, IsThinning}
+use Rattle.maker_core.proofs.Common.{drop, FitsIn, needs_of, IsThinning}
 use Rattle.maker_core.proofs.thinning.thin.thin.Given as goal
 
 abbrev pub invariant-loop-place : goal.invariant-loop-place

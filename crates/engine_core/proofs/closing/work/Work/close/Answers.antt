@@ -1,5 +1,4 @@
-use Rattle.std.proofs.Common.{sym, ◌∙◌}
-use Rattle.grid_core.specs.Board.{has}
+use Rattle.engine_core.proofs.Common.{has, sym, ◌∙◌}
 use Rattle.engine_core.proofs.QueueLemmas.{rested_from, dead_of, within_of}
 use Rattle.engine_core.proofs.ListLemmas.{closing-none}
 use Rattle.engine_core.proofs.EndLemmas.{ended-whole}

@@ -1,5 +1,4 @@
-use Rattle.std.proofs.Common.{◌<◌, take, arith, ◌∙◌, ap, refl, ℕ}
-use Rattle.std.proofs.lemmas.List.{length-set}
+use Rattle.engine_core.proofs.Common.{ap, arith, length-set, refl, take, ℕ, ◌<◌, ◌∙◌}
 use Rattle.engine_core.proofs.QueueLemmas.{pushed, within_of, dead_by}
 use Rattle.engine_core.proofs.TrailLemmas.{further-none, further-more}
 use Rattle.engine_core.proofs.ListLemmas.{running-first, running-alive, running-turn, closing-dead, closing-open, room}

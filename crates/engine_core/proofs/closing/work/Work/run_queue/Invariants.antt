@@ -1,8 +1,4 @@
-use Rattle.std.proofs.Common.{◌≡◌, ◌-◌, ◌≤◌, take, length}
-use Rattle.grid_core.specs.Board.{has}
-use Rattle.engine_core.specs.Waiting.{is_waiting}
-use Rattle.engine_core.specs.Trail.{IsFurther}
-use Rattle.engine_core.specs.Working.{IsAlong}
+use Rattle.engine_core.proofs.Common.{IsAlong, IsFurther, has, is_waiting, length, take, ◌-◌, ◌≡◌, ◌≤◌}
 use Rattle.engine_core.proofs.ListLemmas.{IsRunning}
 use Rattle.engine_core.proofs.closing.work.Work.run_queue.Given as goal
 

@@ -1,8 +1,4 @@
-use Rattle.std.proofs.Common.{refl, ◌∙◌}
-use Rattle.grid_core.specs.Board.{has}
-use Rattle.engine_core.specs.Closing.{HasStruck}
-use Rattle.engine_core.specs.ClosingList.{IsAlive}
-use Rattle.engine_core.specs.Waiting.{is_waiting}
+use Rattle.engine_core.proofs.Common.{HasStruck, IsAlive, has, is_waiting, refl, ◌∙◌}
 use Rattle.engine_core.proofs.QueueLemmas.{within_of}
 use Rattle.engine_core.proofs.TrailLemmas.{further-none, further-more}
 use Rattle.engine_core.proofs.SweepLemmas.{some_waits, none_waits, swept-first, swept-turn, swept-open, sweep-alive, ended-dead, fewer}

@@ -1,11 +1,4 @@
-use Rattle.std.proofs.Common.{◌≡◌}
-use Rattle.grid_core.specs.Board.{has}
-use Rattle.grid_core.specs.Candidates.{total}
-use Rattle.engine_core.specs.ClosingList.{IsAlive}
-use Rattle.engine_core.specs.Queue.{IsRested}
-use Rattle.engine_core.specs.Waiting.{is_waiting}
-use Rattle.engine_core.specs.Trail.{IsFurther}
-use Rattle.engine_core.specs.Working.{IsAlong}
+use Rattle.engine_core.proofs.Common.{IsAlive, IsAlong, IsFurther, IsRested, has, is_waiting, total, ◌≡◌}
 use Rattle.engine_core.proofs.SweepLemmas.{IsSwept}
 use Rattle.engine_core.proofs.closing.work.Work.run_sweeps.Given as goal
 

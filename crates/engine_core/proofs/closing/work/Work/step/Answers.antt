@@ -1,7 +1,4 @@
-use Rattle.std.proofs.Common.{sym, ap, ◌∙◌, ◌||◌}
-use Rattle.grid_core.specs.Board.{has}
-use Rattle.grid_core.specs.Candidates.{is_dead}
-use Rattle.engine_core.specs.Waiting.{is_waiting}
+use Rattle.engine_core.proofs.Common.{ap, has, is_dead, is_waiting, sym, ◌||◌, ◌∙◌}
 use Rattle.engine_core.proofs.QueueLemmas.{emptied-dead}
 use Rattle.engine_core.proofs.CallLemmas.{woken-by, woken-unstruck}
 use Rattle.engine_core.proofs.closing.work.Work.step.Goals as goal

@@ -1,7 +1,4 @@
-use Rattle.std.proofs.Common.{◌+◌, ◌||◌, arith, refl, ◌∙◌}
-use Rattle.std.proofs.lemmas.Bool.{or_right}
-use Rattle.grid_core.specs.Board.{has}
-use Rattle.engine_core.specs.Waiting.{is_waiting}
+use Rattle.engine_core.proofs.Common.{arith, has, is_waiting, or_right, refl, ◌+◌, ◌||◌, ◌∙◌}
 use Rattle.engine_core.proofs.QueueLemmas.{within_of}
 use Rattle.engine_core.proofs.TrailLemmas.{further-none, further-more}
 use Rattle.engine_core.proofs.SweepLemmas.{IsSweeping, sweeping-first, sweeping-passed, sweeping-turn, sweep-whole, sweep-short}

@@ -1,8 +1,4 @@
-use Rattle.std.proofs.Common.{◌≡◌, ◌-◌, ◌≤◌}
-use Rattle.grid_core.specs.Board.{has}
-use Rattle.engine_core.specs.Waiting.{is_waiting}
-use Rattle.engine_core.specs.Trail.{IsFurther}
-use Rattle.engine_core.specs.Working.{IsAlong}
+use Rattle.engine_core.proofs.Common.{IsAlong, IsFurther, has, is_waiting, ◌-◌, ◌≡◌, ◌≤◌}
 use Rattle.engine_core.proofs.SweepLemmas.{IsSweeping}
 use Rattle.engine_core.proofs.closing.work.Work.sweep.Given as goal
 

@@ -1,5 +1,4 @@
-use Rattle.std.proofs.Common.{◌≤◌, length}
-use Rattle.std.specs.List.{length_refill}
+use Rattle.engine_core.proofs.Common.{length, length_refill, ◌≤◌}
 use Rattle.engine_core.proofs.WorkLemmas.{sets-room}
 use Rattle.engine_core.proofs.closing.work.Work.visit.Goals as goal
 use Rattle.engine_core.proofs.closing.work.Work.visit.Goals.{After-deref_mut}

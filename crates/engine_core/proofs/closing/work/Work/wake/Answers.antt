@@ -1,7 +1,4 @@
-use Rattle.std.proofs.Common.{◌≡◌, ◌<◌, bit_and, length, slice_index, refl, arith, sym, ap, ◌∙◌}
-use Rattle.grid_core.specs.Candidates.{any_below}
-use Rattle.engine_core.specs.Queue.{counts_of}
-use Rattle.engine_core.specs.Waiting.{is_waiting}
+use Rattle.engine_core.proofs.Common.{any_below, ap, arith, bit_and, counts_of, is_waiting, length, refl, slice_index, sym, ◌<◌, ◌∙◌, ◌≡◌}
 use Rattle.engine_core.proofs.SetLemmas.{counts-same, counts-differ, bits-empty}
 use Rattle.engine_core.proofs.QueueLemmas.{scope-in, empties_then, empties_else}
 use Rattle.engine_core.proofs.CallLemmas.{called-first, called-then, called-else}

@@ -1,8 +1,4 @@
-use Rattle.std.proofs.Common.{◌≡◌}
-use Rattle.grid_core.specs.Candidates.{Candidates, any_below}
-use Rattle.engine_core.specs.Queue.{calls, empties, counts_of, AreRemembered}
-use Rattle.engine_core.specs.Waiting.{is_waiting, AreCalled}
-use Rattle.engine_core.specs.Working.{IsSameButWaits}
+use Rattle.engine_core.proofs.Common.{AreCalled, AreRemembered, Candidates, IsSameButWaits, any_below, calls, counts_of, empties, is_waiting, ◌≡◌}
 use Rattle.engine_core.proofs.closing.work.Work.wake.Given as goal
 
 abbrev pub invariant-loop-k : goal.invariant-loop-k

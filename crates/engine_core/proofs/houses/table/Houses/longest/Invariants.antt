@@ -1,6 +1,4 @@
-use Rattle.std.proofs.Common.{◌≡◌}
-use Rattle.engine_core.specs.Puzzle.{longest}
-use Rattle.engine_core.specs.HouseIndex.{scope_of}
+use Rattle.engine_core.proofs.Common.{longest, scope_of, ◌≡◌}
 use Rattle.engine_core.proofs.houses.table.Houses.longest.Given as goal
 
 abbrev pub invariant-loop-house : goal.invariant-loop-house

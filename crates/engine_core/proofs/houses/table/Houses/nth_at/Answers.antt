@@ -1,4 +1,4 @@
-use Rattle.std.proofs.Common.{arith}
+use Rattle.engine_core.proofs.Common.{arith}
 use Rattle.engine_core.proofs.IndexLemmas.{nth-at}
 use Rattle.engine_core.proofs.houses.table.Houses.nth_at.Goals as goal
 

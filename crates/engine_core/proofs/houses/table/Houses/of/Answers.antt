@@ -1,6 +1,4 @@
-use Rattle.std.proofs.Common.{◌≡◌, ◌∙◌, drop, length, slice_index, refl, ap, sym, arith}
-use Rattle.std.proofs.lemmas.List.{take_at}
-use Rattle.engine_core.specs.HouseIndex.{start_at}
+use Rattle.engine_core.proofs.Common.{ap, arith, drop, length, refl, slice_index, start_at, sym, take_at, ◌∙◌, ◌≡◌}
 use Rattle.engine_core.proofs.IndexLemmas.{scopes-wider, index-none}
 use Rattle.engine_core.proofs.houses.table.Houses.of.Goals as goal
 

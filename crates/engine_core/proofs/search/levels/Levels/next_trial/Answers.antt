@@ -1,4 +1,4 @@
-use Rattle.std.proofs.Common.{arith, refl}
+use Rattle.engine_core.proofs.Common.{arith, refl}
 use Rattle.engine_core.proofs.LevelLemmas.{top-open, open-back, ready-back, turn-done, turn-ready, turn-trial}
 use Rattle.engine_core.proofs.RoomLemmas.{open-cell}
 use Rattle.engine_core.proofs.search.levels.Levels.next_trial.Goals as goal

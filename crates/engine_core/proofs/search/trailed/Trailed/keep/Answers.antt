@@ -1,7 +1,4 @@
-use Rattle.std.proofs.Common.{◌≡◌, ◌^◌, ◌*◌, ◌%◌, ◌∙◌, sym, arith}
-use Rattle.std.proofs.lemmas.Nat.{one_shl}
-use Rattle.grid_core.specs.Board.{has}
-use Rattle.engine_core.specs.Sets.{IsBitsOf}
+use Rattle.engine_core.proofs.Common.{IsBitsOf, arith, has, one_shl, sym, ◌%◌, ◌*◌, ◌^◌, ◌∙◌, ◌≡◌}
 use Rattle.engine_core.proofs.ChangeLemmas.{left-only, only-bits, only-other}
 use Rattle.engine_core.proofs.search.trailed.Trailed.keep.Goals as goal
 use Rattle.engine_core.proofs.search.trailed.Trailed.keep.Goals.{After-cell_bits-before}

@@ -1,4 +1,4 @@
-use Rattle.std.proofs.Common.{arith}
+use Rattle.engine_core.proofs.Common.{arith}
 use Rattle.engine_core.proofs.ChangeLemmas.{left-is}
 use Rattle.engine_core.proofs.TrailLemmas.{IsLeft, left-noted, trail-len}
 use Rattle.engine_core.proofs.search.trailed.Trailed.leave.Goals as goal

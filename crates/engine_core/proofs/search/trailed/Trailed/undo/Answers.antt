@@ -1,6 +1,4 @@
-use Rattle.std.proofs.Common.{◌-◌, arith, sym, ◌∙◌}
-use Rattle.std.proofs.lemmas.List.{get_or_read_under}
-use Rattle.grid_core.specs.Board.{has}
+use Rattle.engine_core.proofs.Common.{arith, get_or_read_under, has, sym, ◌-◌, ◌∙◌}
 use Rattle.engine_core.proofs.TrailLemmas.{IsUndone, put_back-none, undone, trail-len}
 use Rattle.engine_core.proofs.search.trailed.Trailed.undo.Goals as goal
 use Rattle.engine_core.proofs.search.trailed.Trailed.undo.Goals.{After-cell_bits}

@@ -1,7 +1,4 @@
-use Rattle.std.proofs.Common.{◌≡◌, ℕ, ◌≤◌}
-use Rattle.grid_core.specs.Board.{has, cells_of, SameShape}
-use Rattle.engine_core.specs.Puzzle.{Needs}
-use Rattle.engine_core.specs.Trail.{put_back, back_at, IsTrail}
+use Rattle.engine_core.proofs.Common.{IsTrail, Needs, SameShape, back_at, cells_of, has, put_back, ℕ, ◌≡◌, ◌≤◌}
 use Rattle.engine_core.proofs.search.trailed.Trailed.undo.Given as goal
 
 abbrev pub invariant-loop-self : goal.invariant-loop-self

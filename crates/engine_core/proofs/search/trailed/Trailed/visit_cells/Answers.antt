@@ -1,8 +1,4 @@
-use Rattle.std.proofs.Common.{◌≡◌, ◌<◌, length, slice_index, arith}
-use Rattle.grid_core.specs.Board.{has}
-use Rattle.engine_core.specs.Keeping.{AreSetsOf}
-use Rattle.engine_core.specs.Puzzle.{after}
-use Rattle.engine_core.specs.Sets.{IsBitsOf}
+use Rattle.engine_core.proofs.Common.{AreSetsOf, IsBitsOf, after, arith, has, length, slice_index, ◌<◌, ◌≡◌}
 use Rattle.engine_core.proofs.KeepLemmas.{kept-none, kept-left}
 use Rattle.engine_core.proofs.QueueLemmas.{scope-in, within_of}
 use Rattle.engine_core.proofs.ScopeLemmas.{upto-next, upto-cell, upto-left, upto-same, upto-all}

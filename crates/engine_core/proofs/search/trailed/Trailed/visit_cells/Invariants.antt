@@ -1,7 +1,4 @@
-use Rattle.std.proofs.Common.{◌≡◌}
-use Rattle.grid_core.specs.Board.{has}
-use Rattle.engine_core.specs.Trail.{IsFurther}
-use Rattle.engine_core.specs.Working.{StillServes}
+use Rattle.engine_core.proofs.Common.{IsFurther, StillServes, has, ◌≡◌}
 use Rattle.engine_core.proofs.ScopeLemmas.{IsUpto}
 use Rattle.engine_core.proofs.search.trailed.Trailed.visit_cells.Given as goal
 

@@ -1,5 +1,4 @@
-use Rattle.std.proofs.Common.{◌≡◌, refl, arith}
-use Rattle.grid_core.specs.Candidates.{count_below}
+use Rattle.engine_core.proofs.Common.{arith, count_below, refl, ◌≡◌}
 use Rattle.engine_core.proofs.KthLemmas.{next-kth, next-number, kth-none}
 use Rattle.engine_core.proofs.tests.neighbours.NeighboursRules.house_of.Goals as goal
 

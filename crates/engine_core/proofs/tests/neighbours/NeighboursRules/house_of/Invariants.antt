@@ -1,6 +1,4 @@
-use Rattle.std.proofs.Common.{◌≡◌, ◌≤◌, ◌-◌, ◌+◌, ◌∷◌, []}
-use Rattle.grid_core.specs.Candidates.{count_below}
-use Rattle.engine_core.specs.Puzzle.{has_place}
+use Rattle.engine_core.proofs.Common.{[], count_below, has_place, ◌+◌, ◌-◌, ◌∷◌, ◌≡◌, ◌≤◌}
 use Rattle.engine_core.proofs.tests.neighbours.NeighboursRules.house_of.Given as goal
 
 abbrev pub invariant-loop-before : goal.invariant-loop-before

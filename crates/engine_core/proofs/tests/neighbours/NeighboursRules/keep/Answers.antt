@@ -1,9 +1,4 @@
-use Rattle.std.proofs.Common.{true, refl}
-use Rattle.std.proofs.lemmas.Bool.{true≢false}
-use Rattle.engine_core.specs.Filling.{strikes_by_fillings}
-use Rattle.engine_core.specs.HouseLaws.{kept-decided}
-use Rattle.engine_core.specs.Neighbours.{neighbours, differ}
-use Rattle.engine_core.specs.NeighboursLaws.{pair-different}
+use Rattle.engine_core.proofs.Common.{differ, kept-decided, neighbours, pair-different, refl, strikes_by_fillings, true, true≢false}
 use Rattle.engine_core.proofs.tests.neighbours.NeighboursRules.keep.Goals as goal
 
 pub returns-clause-kept : goal.returns-clause-kept

@@ -1,6 +1,6 @@
 use Rattle.std.proofs.Common.{arith, refl, rules, subst, sym}
 use Rattle.gameid_core.specs.declared.id.game.Game.TheVariants.{Solo}
-use Rattle.puzzles.specs.Words.{IsSolo, crossings_rules, singles_rules}
+use Rattle.puzzles.specs.Common.{IsSolo, crossings_rules, singles_rules}
 use Rattle.puzzles.specs.Games.{played}
 use Rattle.puzzles.specs.Grades.{after_singles, only_set}
 use Rattle.puzzles.specs.declared.grade.RuleSet.TheVariants.{Crossings, Singles}
