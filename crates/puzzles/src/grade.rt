@@ -8,7 +8,6 @@ ghost use Rattle.puzzles.specs.Replies.{code_of, refused, fault_text};
 ghost use Rattle.puzzles.specs.Stops.{LeavesSink, Told};
 ghost use Rattle.puzzles.specs.Traces.{TellsSweeps};
 
-pub mod grade_solo;
 pub mod named;
 pub mod settling;
 pub mod trace;
@@ -218,7 +217,7 @@ impl Attempt {
     }
 
     /// The same by rules that are closed by sweeps.
-    fn tell_by_sweeps<P: Solvable, R: Rules, O: Sink>(
+    pub(crate) fn tell_by_sweeps<P: Solvable, R: Rules, O: Sink>(
         self,
         puzzle: &P,
         rules: &R,
@@ -256,33 +255,6 @@ pub trait Graded: Solvable {
             (IsGraded Self.game wanted self.now)
             output.old output.new result }
         ensures left { LeavesSink O.Sink output.new result };
-}
-
-impl Graded for PatternPuzzle {
-    fn tell<O: Sink>(&self, alloc: Global, wanted: Telling, output: &mut O) -> Ended {
-        let lines = self.rules(alloc)?;
-        let set = RuleSet::Lines;
-        let attempt = Attempt { alloc, set, wanted };
-        attempt.tell_by_visits(self, &lines, output)
-    }
-}
-
-impl Graded for LightPuzzle {
-    fn tell<O: Sink>(&self, alloc: Global, wanted: Telling, output: &mut O) -> Ended {
-        let local = self.rules(alloc)?;
-        let set = RuleSet::Local;
-        let attempt = Attempt { alloc, set, wanted };
-        attempt.tell_by_sweeps(self, &local, output)
-    }
-}
-
-impl Graded for TentsPuzzle {
-    fn tell<O: Sink>(&self, alloc: Global, wanted: Telling, output: &mut O) -> Ended {
-        let local = self.rules(alloc)?;
-        let set = RuleSet::Local;
-        let attempt = Attempt { alloc, set, wanted };
-        attempt.tell_by_sweeps(self, &local, output)
-    }
 }
 
 /// Tells the grade of an ID, or its fault.

@@ -5,6 +5,7 @@ pub mod answers;
 pub mod batch;
 pub mod check;
 pub mod ends;
+pub mod games;
 pub mod generate;
 pub mod grade;
 pub mod laws;

@@ -2,13 +2,9 @@
 ghost use Rattle.std.specs.Prelude.{◌≡◌, Err, IfOk, IfErr, string_bytes};
 ghost use Rattle.gameid_core.specs.Steps.{Fails};
 ghost use Rattle.gameid_core.specs.declared.id.fault.IdFault.{IdFault};
-ghost use Rattle.gameid_core.specs.declared.id.game.Game.TheVariants.{LightUp, Pattern, Solo, Tents};
-ghost use Rattle.puzzles.specs.Games.{GameOf, played};
+ghost use Rattle.puzzles.specs.Games.{GameOf};
 
-use gameid_core::{
-    IdFault, LightPuzzle, PatternPuzzle, Readable, SoloPuzzle, TentsPuzzle, read_lights,
-    read_pattern, read_solo, read_tents, write_lights, write_pattern, write_solo, write_tents,
-};
+use gameid_core::{IdFault, Readable};
 use std::alloc::{AllocError, Global};
 
 /// A puzzle of a game that is played.
@@ -35,52 +31,4 @@ pub trait Played: Readable + Sized {
     fn write_id(&self, alloc: Global) -> Result<String, AllocError>
         ensures text { IfOk result (λ text. string_bytes text ≡ game.written self.now) }
         ensures again { IfOk result (λ text. game.spells (string_bytes text) self.now) };
-}
-
-impl Played for PatternPuzzle {
-    ghost game = { (played Pattern).game };
-
-    fn read_id(alloc: Global, id: &[u8]) -> Result<PatternPuzzle, IdFault> {
-        read_pattern(alloc, id)
-    }
-
-    fn write_id(&self, alloc: Global) -> Result<String, AllocError> {
-        write_pattern(alloc, self)
-    }
-}
-
-impl Played for SoloPuzzle {
-    ghost game = { (played Solo).game };
-
-    fn read_id(alloc: Global, id: &[u8]) -> Result<SoloPuzzle, IdFault> {
-        read_solo(alloc, id)
-    }
-
-    fn write_id(&self, alloc: Global) -> Result<String, AllocError> {
-        write_solo(alloc, self)
-    }
-}
-
-impl Played for LightPuzzle {
-    ghost game = { (played LightUp).game };
-
-    fn read_id(alloc: Global, id: &[u8]) -> Result<LightPuzzle, IdFault> {
-        read_lights(alloc, id)
-    }
-
-    fn write_id(&self, alloc: Global) -> Result<String, AllocError> {
-        write_lights(alloc, self)
-    }
-}
-
-impl Played for TentsPuzzle {
-    ghost game = { (played Tents).game };
-
-    fn read_id(alloc: Global, id: &[u8]) -> Result<TentsPuzzle, IdFault> {
-        read_tents(alloc, id)
-    }
-
-    fn write_id(&self, alloc: Global) -> Result<String, AllocError> {
-        write_tents(alloc, self)
-    }
 }

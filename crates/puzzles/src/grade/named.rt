@@ -1,13 +1,12 @@
 //! The names of what a closing visits.
-ghost use Rattle.std.specs.Prelude.{◌≡◌, ◌++◌, ◌+◌, ◌<◌, ◌≤◌, ℕ, OnOk, length, string_bytes, string_len};
-ghost use Rattle.puzzles.specs.Common.{Puzzle, Pattern, Solo, scopes_of};
+ghost use Rattle.std.specs.Prelude.{◌≡◌, ◌++◌, ◌+◌, ◌<◌, ◌≤◌, ℕ, OnOk, string_bytes, string_len};
+ghost use Rattle.puzzles.specs.Common.{Puzzle};
 ghost use Rattle.puzzles.specs.Answers.{Text};
-ghost use Rattle.puzzles.specs.Traces.{TellsVisits, house_text, scope_text, pattern_name, solo_name};
+ghost use Rattle.puzzles.specs.Traces.{TellsVisits, house_text, scope_text};
 
 use crate::answers::decimal::push_numbered;
 use crate::played::Played;
-use gameid_core::{PatternPuzzle, SoloPuzzle};
-use solo_core::{SoloHouse, SoloScope, scope_of};
+use solo_core::{SoloHouse, SoloScope};
 use std::alloc::AllocError;
 
 /// Most bytes of the name of a house: the longest kind, a space and a number.
@@ -40,37 +39,8 @@ pub trait Named: Played {
         → TellsVisits (name_of p) rules lines → Self.game.tells p rules lines };
 }
 
-impl Named for SoloPuzzle {
-    ghost named = { λ p. length (scopes_of p) };
-
-    ghost name_of = { solo_name };
-
-    fn push_name(&self, number: usize, text: &mut String) -> Result<(), AllocError> {
-        push_scope(text, scope_of(self, number))
-    }
-
-    ghost by_visits = { λ p rules lines told. told };
-}
-
-impl Named for PatternPuzzle {
-    ghost named = { λ p. p.size.w + p.size.h };
-
-    ghost name_of = { pattern_name };
-
-    fn push_name(&self, number: usize, text: &mut String) -> Result<(), AllocError> {
-        let w = usize::from(self.size().w());
-        if number < w {
-            push_house(text, SoloHouse::Column(number))
-        } else {
-            push_house(text, SoloHouse::Row(number - w))
-        }
-    }
-
-    ghost by_visits = { λ p rules lines told. told };
-}
-
 /// Adds the name of a house: its kind, and its number among those.
-fn push_house(text: &mut String, house: SoloHouse) -> Result<(), AllocError>
+pub(crate) fn push_house(text: &mut String, house: SoloHouse) -> Result<(), AllocError>
     ensures name { OnOk result (string_bytes text.new ≡ string_bytes text.old ++ house_text house) }
     ensures short { OnOk result (string_len text.new ≤ string_len text.old + HOUSE) }
 {
@@ -83,7 +53,7 @@ fn push_house(text: &mut String, house: SoloHouse) -> Result<(), AllocError>
 }
 
 /// Adds the name of a house, or those of a block and of a line that it meets.
-fn push_scope(text: &mut String, scope: SoloScope) -> Result<(), AllocError>
+pub(crate) fn push_scope(text: &mut String, scope: SoloScope) -> Result<(), AllocError>
     ensures name { OnOk result (string_bytes text.new ≡ string_bytes text.old ++ scope_text scope) }
     ensures short { OnOk result (string_len text.new ≤ string_len text.old + NAME) }
 {
