@@ -1,7 +1,7 @@
 -- What the searches rest on, for a puzzle of each game, and what follows for their verdicts.
 use Rattle.std.proofs.Common.{◌≡◌, ℕ, Bool, List, Some, None, ◌∙◌, ◌≤◌, ◌∷◌, zero, suc, [], Option, refl, sym, ap, arith}
 use Rattle.std.proofs.lemmas.Grind.{common_steps}
-use Rattle.std.specs.Prelude.{◌↔◌, IfOk, Result, Ok, Err}
+use Rattle.std.specs.Prelude.{◌↔◌}
 use Rattle.engine_core.specs.Verdict.{Outcome.NoGrid, Outcome.OneGrid, Outcome.TwoGrids, Outcome.OutOfBudget, outcome, trials_in}
 use Rattle.engine_core.specs.Walk.{Mark.Found, Mark.Trial}
 use Rattle.engine_core.proofs.VerdictLemmas.{outcome-true}
@@ -45,11 +45,6 @@ module _ {P : Type 0} (solves : P → List ℕ → Type 0) (rules : P → Puzzle
 pub record SearchedPuzzle (rules : Puzzle) (solves : List ℕ → Type 0) : Type 0 where
   pub lawful : IsLawful rules
   pub accepted : (g : List ℕ) → Solves rules g ↔ solves g
-
--- a fact that holds whatever the result
-pub on_any_ok : {T E : Type 0} (r : Result T E) (P : Type 0) → P → IfOk r (λ _. P)
-on_any_ok (Ok x) P p = p
-on_any_ok (Err e) P p = tt
 
 -- ---- the grids that the rules accept are the solutions, in each game
 pub pattern_accepted : (p : Pattern) (g : List ℕ) → Solves (line_rules p) g ↔ IsPatternSolution p g

@@ -54,6 +54,7 @@ impl<S: Strikes> SoloRules<S> {
     /// When memory was refused.
     pub fn new(alloc: Global, puzzle: &SoloPuzzle) -> Result<SoloRules<S>, AllocError>
         ensures copied { IfOk result (λ rules. rules.puzzle ≡ puzzle.now) }
+        ensures lawful { IsSolo puzzle.now }
         ensures rules { IfOk result (λ r. ⟦<SoloRules<S> as Rules>⟧.puzzle r
             ≡ rules_by S.SETTLED S.houses puzzle.now) }
     {

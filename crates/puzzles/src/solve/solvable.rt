@@ -1,5 +1,5 @@
 //! Puzzles that can be searched: the rules that a search goes by, and the solutions by the game.
-ghost use Rattle.std.specs.Prelude.{◌≡◌, ◌*◌, ◌↔◌, List, ℕ, IfOk, OnOk};
+ghost use Rattle.std.specs.Prelude.{◌≡◌, ◌*◌, ◌↔◌, List, ℕ, IfOk};
 ghost use Rattle.puzzles.specs.Common.{Puzzle, Solves};
 
 use crate::played::Played;
@@ -23,6 +23,6 @@ pub trait Solvable: Played {
         ensures cells { (Self.game.rules self.now).cells
             ≡ (Self.extent self.now).w * (Self.extent self.now).h }
         ensures values { (Self.game.rules self.now).values ≡ Self.value_count self.now }
-        ensures solutions { OnOk result ((g : List ℕ)
-            → Solves (Self.game.rules self.now) g ↔ Self.game.solves self.now g) };
+        ensures solutions { (g : List ℕ)
+            → Solves (Self.game.rules self.now) g ↔ Self.game.solves self.now g };
 }
