@@ -49,7 +49,7 @@ pub trait Source {
         ensures failed { has_failed self.new ≡ is_none result }
         ensures ended { has_ended self.new ≡ is_end result };
 
-    // No time gives nothing, and what two times gave is given by both together.
+    // From a moment to itself nothing is given. What two times in turn gave is given by both together.
     ghost gives_nothing: { (s : Self) → gives s [] s };
 
     ghost gives_both: { (s t u : Self) (a b : List ℕ)
@@ -87,7 +87,7 @@ pub trait Sink {
         ensures failed { has_failed self.new ≡ not result }
         ensures flushed { is_flushed self.new ≡ result };
 
-    // No time takes nothing, and what two times took is taken by both together.
+    // From a moment to itself nothing is taken. What two times in turn took is taken by both together.
     ghost takes_nothing: { (s : Self) → takes s [] s };
 
     ghost takes_both: { (s t u : Self) (a b : List ℕ)

@@ -131,7 +131,7 @@ fn refuse<O: Sink>(alloc: Global, fault: IdFault, output: &mut O) -> Ended
 }
 
 impl Attempt {
-    /// Tells a grade, and where a trace is asked for the visits of a closing by these rules.
+    /// Tells a grade and, if a trace is asked for, the visits of a closing by these rules.
     ///
     /// # Errors
     ///
@@ -162,7 +162,7 @@ impl Attempt {
         deliver(output, &Reply { text, status })
     }
 
-    /// Tells a grade, and where a trace is asked for the sweeps of a closing by these rules.
+    /// Tells a grade and, if a trace is asked for, the sweeps of a closing by these rules.
     fn tell_with_sweeps<R: Rules, O: Sink>(
         self,
         grade: Grade,
@@ -243,7 +243,7 @@ impl Attempt {
 
 /// A puzzle that can be graded.
 pub trait Graded: Solvable {
-    /// Tells the grade, and where one is asked for a trace, and gives the status of the run.
+    /// Tells the grade, and then a trace if one is asked for. Gives the status of the run.
     ///
     /// # Errors
     ///

@@ -30,7 +30,8 @@ pub enum Verdict {
 }
 
 /// How far a search is, and how many trials it may make. The board was closed before the cell that is named as changed
-/// lost values. No cell before `from` is one to branch on.
+/// lost values. No cell before `from` is one to branch on. A search stops at its second grid. `turns` counts the visits or
+/// sweeps of all closings so far, and `deepest` the trials that were open at once.
 #[derive(Clone, Copy)]
 pub(crate) struct Progress {
     pub budget: u64,

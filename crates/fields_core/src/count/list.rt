@@ -52,7 +52,7 @@ impl CountList {
         Ok(())
     }
 
-    /// Ends the house that is begun: it holds so many ones.
+    /// Ends the house that is begun: it holds at least `least` and at most `most` ones.
     pub(crate) fn close(&mut self, least: u32, most: u32) -> Result<(), AllocError>
         ensures { OnOk result (IsHouseClosed self.old self.new least most) }
     {

@@ -1,4 +1,4 @@
-//! A visit of a count house: one pass over its cells says what can be struck, and nothing is written where nothing is.
+//! What a visit of a count house keeps of its cells' sets: by a tally that is given, or by one counted on the board.
 #![tactic(auto, using(crate::proofs::LawSets::count_visit_laws))]
 
 ghost use Rattle.std.specs.Prelude.{◌≡◌, ℕ, ◌<◌, true, false, length, slice_index};

@@ -7,7 +7,7 @@ use std::alloc::{AllocError, Global};
 
 /// A puzzle that can be searched.
 pub trait Solvable: Played {
-    /// What a search goes by: rules, which is asked where a search is made.
+    /// What a search goes by. Where a search is made, it is asked to be `Rules`.
     type Search: Drop;
 
     // What those rules mean.
