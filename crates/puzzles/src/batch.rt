@@ -234,9 +234,10 @@ fn answer_lines<I: Source, O: Sink>(
 }
 
 /// Answers the lines of the input in order, each as an ID of the game, and gives the greatest of
-/// the answers' statuses, or `Fine` if there is no line. A line ends at `\n`, and the last one also at the end of the input
-/// where it isn't empty; one `\r` before the `\n` is no part of it. A line of more than `MAX_ID`
-/// bytes is refused as too long. One line is held at a time, and each answer is put at once.
+/// the answers' statuses, or `Fine` if there is no line. A line ends at `\n`, and the last one also
+/// at the end of the input if it isn't empty; one `\r` before the `\n` is no part of it. A line of
+/// more than `MAX_ID` bytes is refused as too long. One line is held at a time, and each answer is
+/// put at once.
 pub fn solve_lines<I: Source, O: Sink>(
     alloc: Global,
     task: Task,
