@@ -47,12 +47,18 @@ impl Model for PatternLines {
     ghost invariant = { λ r. IsPattern (pattern_of r.size r.clues.items) };
 }
 
-/// What a visit of a line works in, and whether each cell of the board is known to have both values.
+/// Room for a visit of a line.
 #[derive(Drop)]
-pub struct LineScratch {
+struct LineRoom {
     places: [u32; LONGEST],
     sets: [u32; LONGEST],
     rows: Rows,
+}
+
+/// What a visit of a line works in, and whether each cell of the board is known to have both values.
+#[derive(Drop)]
+pub struct LineScratch {
+    room: Box<LineRoom>,
     fresh: bool,
 }
 
@@ -231,18 +237,27 @@ impl Rules for PatternLines {
         board.fill();
     }
 
-    fn scratch(&self, _alloc: Global) -> Result<LineScratch, AllocError> {
-        Ok(LineScratch {
+    fn scratch(&self, alloc: Global) -> Result<LineScratch, AllocError> {
+        let room = LineRoom {
             places: [0; LONGEST],
             sets: [0; LONGEST],
             rows: Rows::new(),
+        };
+        Ok(LineScratch {
+            room: Box::new(alloc, room)?,
             fresh: false,
         })
     }
 
     fn visit(&self, house: usize, board: &mut Board, scratch: &mut LineScratch) -> bool {
-        let (places, sets) = (&mut scratch.places, &mut scratch.sets);
-        self.visit_in(house, board, places, sets, &mut scratch.rows)
+        let room: &mut LineRoom = &mut scratch.room;
+        self.visit_in(
+            house,
+            board,
+            &mut room.places,
+            &mut room.sets,
+            &mut room.rows,
+        )
     }
 
     #[tactic(auto, using(crate::proofs::LineSteps::cell_laws))]
@@ -254,7 +269,8 @@ impl Rules for PatternLines {
         scratch: &mut LineScratch,
     ) -> bool {
         kept.copy_from_slice(sets);
-        self.clue(house).keep(kept, &mut scratch.rows)
+        let room: &mut LineRoom = &mut scratch.room;
+        self.clue(house).keep(kept, &mut room.rows)
     }
 
     fn follow(&self, board: &Board, scratch: &mut LineScratch) {
