@@ -23,7 +23,7 @@ pub use Rattle.std.proofs.lemmas.Nat.Bits.{bit_at_clear_other, bit_at_clear_same
 pub use Rattle.std.proofs.lemmas.Slice.{between_is, between_to_end}
 pub use Rattle.std.specs.Int.{bit_at, trailing_zeros}
 pub use Rattle.std.specs.List.{AllByRecursion, between, length_refill, range_with_len}
-pub use Rattle.std.specs.Prelude.{bit_or, sum_by}
+pub use Rattle.std.specs.Prelude.{bit_or, nat_le, sum_by}
 pub use Rattle.grid_core.proofs.BoardLemmas.{bits_both, bits_either, count_ones-bits, has-within}
 pub use Rattle.grid_core.proofs.CandidateLemmas.{all_below-from, any_below-here, any_below-none, any_below-some, count_below-any, count_below-bound}
 pub use Rattle.grid_core.proofs.CandidateLemmas.{count_below-few, count_below-kept, count_below-le, count_below-lt, count_below-none, count_below-one}
@@ -62,14 +62,14 @@ pub use Rattle.engine_core.specs.NeighboursLaws.{pair-cases, pair-different, pai
 pub use Rattle.engine_core.specs.PlaceLaws.{has_place-at, has_place-here}
 pub use Rattle.engine_core.specs.Puzzle.{FitsIn, IsBoardOf, IsClosed, IsGridOf, IsIdle, IsInsideAt, IsKth, IsLawful, IsNext, Needs, Puzzle, needs_of}
 unfoldable pub use Rattle.engine_core.specs.Puzzle.{after, has_place, longest, share}
-pub use Rattle.engine_core.specs.Queue.{AreRemembered, IsClosedBut, IsEnded, IsRested, IsSweep, IsWoken, are_emptied, called_for, calls, empties}
+pub use Rattle.engine_core.specs.Queue.{IsClosedBut, IsEnded, IsRested, IsSweep, IsWoken, are_emptied, called_for, calls, empties}
 unfoldable pub use Rattle.engine_core.specs.Queue.{but, counts_of, visits_left, waits_from, woken}
 pub use Rattle.engine_core.specs.Search.{Level}
 unfoldable pub use Rattle.engine_core.specs.Search.{branches_from, pending}
 pub use Rattle.engine_core.specs.Sets.{IsBitsOf, IsChange, has_bit}
 unfoldable pub use Rattle.engine_core.specs.Sets.{set_of_bits}
 pub use Rattle.engine_core.specs.Stored.{is_settled}
-pub use Rattle.engine_core.specs.Trail.{IsBack, IsFurther, IsTrail, Trail, back_at, change_at, given_back}
+pub use Rattle.engine_core.specs.Trail.{AreLost, IsBack, IsFurther, IsTrail, Trail, back_at, change_at, given_back, is_emptied_since, is_since}
 unfoldable pub use Rattle.engine_core.specs.Trail.{left_by, put_back}
 unfoldable pub use Rattle.engine_core.specs.Trials.{trials_of}
 pub use Rattle.engine_core.specs.Verdict.{IsTrueOf, Outcome, Outcome.NoGrid, Outcome.OneGrid, Outcome.OutOfBudget, Outcome.TwoGrids, Solves}

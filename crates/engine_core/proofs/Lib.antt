@@ -11,6 +11,7 @@ pub mod ListLemmas
 pub mod SweepLemmas
 pub mod JudgeLemmas
 pub mod KeepLemmas
+pub mod LostLemmas
 pub mod StoreLemmas
 pub mod HouseLemmas
 pub mod NeighboursLemmas

@@ -1,8 +1,9 @@
 -- A board with the trail of its changes, so that it can be put back. No public contract uses these words.
-use Rattle.std.specs.Prelude.{◌≡◌, ℕ, zero, suc, ◌+◌, ◌*◌, ◌^◌, ◌<◌, ◌≤◌, ◌==◌, ◌&&◌, not, nat_le, List, length, slice_index_or, if◌then◌else◌}
+use Rattle.std.specs.Prelude.{◌≡◌, ◌≢◌, ℕ, Bool, zero, suc, ◌+◌, ◌*◌, ◌^◌, ◌<◌, ◌≤◌, ◌==◌, ◌&&◌, not, nat_le, List, slice_index, length, slice_index_or, if◌then◌else◌}
 use Rattle.grid_core.specs.Board.{Layout, has, SameShape}
-use Rattle.grid_core.specs.Candidates.{Candidates, IsInside, total, with_set}
-use Rattle.engine_core.specs.Puzzle.{Puzzle, after}
+use Rattle.grid_core.specs.Candidates.{Candidates, IsInside, any_below, count_below, total, with_set}
+use Rattle.engine_core.specs.Puzzle.{Puzzle, after, has_place}
+use Rattle.engine_core.specs.Queue.{counts_of}
 use Rattle.engine_core.specs.Sets.{has_bit}
 
 -- a change: the cell, and the set that it had before, as bits
@@ -59,3 +60,22 @@ pub record IsBack (from to : Trail) (mark : ℕ) : Type 0 where
   pub here : has to.board ≡ back_at from mark
   pub len : to.len ≡ mark
   pub back : (earlier : ℕ) → earlier ≤ mark → back_at to earlier ≡ back_at from earlier
+
+-- the changes since the first trail are those of the first n cells of h that lost a value
+pub record AreLost (p : Puzzle) (h n : ℕ) (from to : Trail) : Type 0 where
+  pub only : (m : ℕ) → from.len ≤ m → m < to.len
+      → (k : ℕ) × (k < n) × (slice_index (p.scope h) k ≡ (change_at to.changes m).0)
+      × (counts_of p h (has from.board) k ≢ counts_of p h (has to.board) k)
+  pub all : (k : ℕ) → k < n → counts_of p h (has from.board) k ≢ counts_of p h (has to.board) k
+      → (m : ℕ) × (from.len ≤ m) × (m < to.len)
+      × ((change_at to.changes m).0 ≡ slice_index (p.scope h) k)
+
+-- the house j has a cell with a change from the number `from` on and below n
+abbrev pub is_since : Puzzle → Trail → ℕ → ℕ → ℕ → Bool
+is_since p t from n j =
+    any_below (λ m. nat_le from m && has_place (p.scope j) (change_at t.changes m).0) n
+
+-- a cell with a change from the number `from` on and below n has no value
+abbrev pub is_emptied_since : Puzzle → Trail → ℕ → ℕ → Bool
+is_emptied_since p t from n = any_below
+    (λ m. nat_le from m && (count_below (has t.board (change_at t.changes m).0) p.values == 0)) n

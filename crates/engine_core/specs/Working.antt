@@ -4,8 +4,8 @@ use Rattle.grid_core.specs.Board.{Layout, has}
 use Rattle.grid_core.specs.Candidates.{Candidates, is_dead}
 use Rattle.engine_core.specs.Puzzle.{Puzzle, Needs, needs_of, FitsIn, IsBoardOf, has_place}
 use Rattle.engine_core.specs.ClosingList.{IsClosing}
-use Rattle.engine_core.specs.Queue.{AreRemembered, IsRested, IsWoken, IsSweep, IsEnded, called_for, are_emptied, waits_from}
-use Rattle.engine_core.specs.Trail.{Trail}
+use Rattle.engine_core.specs.Queue.{IsRested, IsWoken, IsSweep, IsEnded, waits_from}
+use Rattle.engine_core.specs.Trail.{Trail, is_since}
 use Rattle.engine_core.specs.Waiting.{words_of, is_waiting, AreCalled}
 use Rattle.engine_core.specs.declared.mode.Closed.{Closed}
 use Rattle.engine_core.specs.declared.closing.work.Made.{Made}
@@ -91,18 +91,11 @@ WakesAt p follows place old new =
     → AreCalled p K (λ j. has_place (p.scope j) place)
     (is_waiting old.waits) (is_waiting new.waits)
 
--- the houses of each cell that lost a value at the visit of h were called for
-abbrev pub WakesFor : {S : Type 0} → Puzzle → (S → Candidates → Type 0) → ℕ
-    → Working S → Working S → Type 0
-WakesFor p follows h old new =
-    (K K' : Candidates) → AreRemembered p h K K' old.sets old.kept → follows old.scratch K'
-    → AreCalled p K' (called_for p h K K') (is_waiting old.waits) (is_waiting new.waits)
-
--- whether the visit of h left a cell of it with no value
-abbrev pub Empties : {S : Type 0} → Puzzle → ℕ → Working S → Bool → Type 0
-Empties p h work emptied =
-    (K K' : Candidates) → AreRemembered p h K K' work.sets work.kept
-    → emptied ≡ are_emptied p h K K'
+-- the houses of each cell with a change from the number `from` on were called for
+abbrev pub WakesSince : {S : Type 0} → Puzzle → Trail → ℕ → Working S → Working S → Type 0
+WakesSince p t from old new =
+    AreCalled p (has t.board) (is_since p t from t.len)
+    (is_waiting old.waits) (is_waiting new.waits)
 
 -- the mark of h goes where it is settled
 abbrev pub Settles : Puzzle → ℕ → List ℕ → List ℕ → Type 0
@@ -110,16 +103,6 @@ Settles p h before now =
     (j : ℕ) → is_waiting now j ≡ (is_waiting before j && not (p.settled && (j == h)))
 
 -- ---- from a board with its trail to a later one
--- where the visit of h struck anything, these are the sets that it found and what it kept of them
-abbrev pub Recalls : Puzzle → ℕ → Trail → Trail → Bool
-    → List ℕ → List ℕ → Type 0
-Recalls p h from to struck sets kept =
-    struck ≡ true → AreRemembered p h (has from.board) (has to.board) sets kept
-
-abbrev pub IsRecalled : {S : Type 0} → Puzzle → ℕ → Trail → Trail → Bool
-    → Working S → Type 0
-IsRecalled p h from to struck work = Recalls p h from to struck work.sets work.kept
-
 -- the marks after the visit of h
 abbrev pub Wakes : {S : Type 0} → Puzzle → ℕ → Trail → Trail
     → Working S → Working S → Type 0

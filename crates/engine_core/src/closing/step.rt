@@ -75,10 +75,11 @@ impl<R: Rules> Work<R> {
         ensures trace { self.new.trace ≡ self.old.trace }
     {
         self.unmark(rules, house);
+        let before = trailed.mark();
         if !self.visit(rules, house, trailed) {
             return false;
         }
-        let dead = self.wake(rules, house);
+        let dead = self.wake(rules, trailed, before);
         self.settle(rules, house);
         dead
     }

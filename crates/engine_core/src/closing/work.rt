@@ -1,19 +1,20 @@
 //! What closings work in.
 
-ghost use Rattle.std.specs.Prelude.{◌≡◌, ℕ, ◌+◌, ◌<◌, ◌≤◌, ◌^◌, ◌==◌, true, false, IfOk, IfSome, bit_and, length, slice_index, slice_set, if◌then◌else◌};
+ghost use Rattle.std.specs.Prelude.{◌≡◌, ℕ, ◌+◌, ◌<◌, ◌≤◌, ◌^◌, ◌==◌, true, false, IfOk, IfSome, length, slice_set, if◌then◌else◌};
 ghost use Rattle.grid_core.specs.Board.{has};
 ghost use Rattle.grid_core.specs.Candidates.{Candidates, count_below, only};
 ghost use Rattle.engine_core.specs.Mode.{is_queue};
 ghost use Rattle.engine_core.specs.Puzzle.{needs_of, FitsIn, IsBoardOf, IsGridOf, IsNext};
 ghost use Rattle.engine_core.specs.Queue.{but, IsAnyOf};
 ghost use Rattle.engine_core.specs.Waiting.{is_waiting};
-ghost use Rattle.engine_core.specs.Trail.{IsBack, IsFurther, Visits};
-ghost use Rattle.engine_core.specs.Working.{needs_made, IsAlong, IsSameButWaits, WorkWaits, HasTraceRoom, WakesAt, Settles, IsRecalled, WakesFor, Empties, StillFollows};
+ghost use Rattle.engine_core.specs.Trail.{AreLost, IsBack, IsFurther, Visits, is_emptied_since};
+ghost use Rattle.engine_core.specs.Working.{needs_made, IsAlong, IsSameButWaits, WorkWaits, HasTraceRoom, WakesAt, Settles, WakesSince, StillFollows};
 
 use crate::closing::step::{settle, wait_from};
 use crate::closing::waits::{next_around, next_waiting, unmark, words_for};
+use crate::houses::sets::cell_bits;
 use crate::rules::{Rules, by_queue};
-use crate::search::trailed::{Trailed, left_of};
+use crate::search::trailed::Trailed;
 use grid_core::{Board, Grid};
 use std::alloc::{AllocError, Global};
 use std::marker::Model;
@@ -149,10 +150,8 @@ impl<R: Rules> Work<R> {
         ensures left { Visits (R.puzzle rules.now) house trailed.old trailed.new }
         ensures unchanged { result ≡ false → has trailed.new.board ≡ has trailed.old.board }
         ensures further { IsFurther trailed.old trailed.new }
-        ensures remembered { IsRecalled (R.puzzle rules.now) house trailed.old trailed.new
-            result self.new }
-        ensures sets_room { length ((R.puzzle rules.now).scope house) ≤ length self.new.sets }
-        ensures kept_room { length ((R.puzzle rules.now).scope house) ≤ length self.new.kept }
+        ensures lost { AreLost (R.puzzle rules.now) house
+            (length ((R.puzzle rules.now).scope house)) trailed.old trailed.new }
         ensures along { IsAlong (R.puzzle rules.now) (R.follows rules.now) self.new
             trailed.new.board }
         ensures waits { self.new.waits ≡ self.old.waits }
@@ -168,37 +167,22 @@ impl<R: Rules> Work<R> {
         )
     }
 
-    /// The set that the cell at this number of the house had before the visit, and what it has left.
-    fn sets_at(&self, k: usize) -> (u32, u32)
-        requires sets_room { k < length self.now.sets }
-        requires kept_room { k < length self.now.kept }
-        ensures before { result.0 ≡ slice_index self.now.sets k }
-        ensures left { result.1
-            ≡ bit_and (slice_index self.now.sets k) (slice_index self.now.kept k) }
-    {
-        (self.sets[k], left_of(self.sets[k], self.kept[k]))
-    }
-
-    /// Marks the houses of each cell of the house that lost a value at its visit, but for those that strike nothing, and
+    /// Marks the houses of each cell that the trail names from the number `from` on, but for those that strike nothing, and
     /// says whether one of these cells has no value left.
-    pub(crate) fn wake(&mut self, rules: &R, house: usize) -> bool
-        requires fits { FitsIn (needs_of (R.puzzle rules.now)) self.old.made }
-        requires house_in { house < (R.puzzle rules.now).houses }
-        requires sets_room { length ((R.puzzle rules.now).scope house) ≤ length self.old.sets }
-        requires kept_room { length ((R.puzzle rules.now).scope house) ≤ length self.old.kept }
-        requires follows { (K : Candidates) × R.follows rules.now self.old.scratch K }
-        ensures called { WakesFor (R.puzzle rules.now) (R.follows rules.now) house
-            self.old self.new }
-        ensures dead { Empties (R.puzzle rules.now) house self.old result }
+    pub(crate) fn wake(&mut self, rules: &R, trailed: &Trailed, from: usize) -> bool
+        requires along { IsAlong (R.puzzle rules.now) (R.follows rules.now) self.old
+            trailed.now.board }
+        requires from_in { from ≤ trailed.now.len }
+        ensures called { WakesSince (R.puzzle rules.now) trailed.now from self.old self.new }
+        ensures dead { result ≡ is_emptied_since (R.puzzle rules.now) trailed.now from
+            trailed.now.len }
         ensures others { IsSameButWaits self.old self.new }
     {
         let mut dead = false;
-        for k in 0..rules.scope_len(house) {
-            let (before, left) = self.sets_at(k);
-            if left != before {
-                self.wait_at(rules, rules.scope(house, k));
-                dead |= left == 0;
-            }
+        for number in from..trailed.mark() {
+            let place = trailed.changed(number);
+            self.wait_at(rules, place);
+            dead |= cell_bits(trailed.board(), place) == 0;
         }
         dead
     }

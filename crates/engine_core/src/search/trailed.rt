@@ -1,13 +1,13 @@
 //! A board, and the trail of its changes: what each changed cell had before, so that it can be put back.
 #![tactic(auto, using(crate::proofs::LawSets::trail_laws))]
 
-ghost use Rattle.std.specs.Prelude.{◌≡◌, ◌≢◌, ◌+◌, ◌*◌, ◌<◌, ◌≤◌, IfOk, bit_and, length, true, false};
+ghost use Rattle.std.specs.Prelude.{◌≡◌, ◌≢◌, ℕ, ◌+◌, ◌*◌, ◌<◌, ◌≤◌, IfOk, bit_and, length, true, false};
 ghost use Rattle.grid_core.specs.Board.{has, cells_of, SameShape};
 ghost use Rattle.grid_core.specs.Candidates.{count_below, only};
 ghost use Rattle.engine_core.specs.Puzzle.{needs_of, IsBoardOf};
 ghost use Rattle.engine_core.specs.Sets.{IsBitsOf};
-ghost use Rattle.engine_core.specs.Trail.{back_at, left_by, IsFurther, IsBack, Visits};
-ghost use Rattle.engine_core.specs.Working.{Recalls, StillServes};
+ghost use Rattle.engine_core.specs.Trail.{AreLost, back_at, change_at, left_by, IsFurther, IsBack, Visits};
+ghost use Rattle.engine_core.specs.Working.{StillServes};
 ghost use Rattle.engine_core.specs.Keeping.{AreSetsOf};
 
 use crate::houses::sets::cell_bits;
@@ -78,6 +78,15 @@ impl Trailed {
         self.len
     }
 
+    /// The place of the cell whose change has this number.
+    pub(crate) fn changed(&self, number: usize) -> usize
+        requires { number < self.now.len }
+        ensures place { result ≡ (change_at self.now.changes number).0 }
+        ensures within { result < cells_of self.now.board }
+    {
+        self.changes[number].0
+    }
+
     /// Begins with the board that a search starts from.
     pub(crate) fn start<R: Rules>(&mut self, rules: &R)
         requires board_of { IsBoardOf (R.puzzle rules.now) self.old.board }
@@ -97,8 +106,8 @@ impl Trailed {
         self.len = 0;
     }
 
-    /// Visits the house, notes what each of its cells had that lost a value, and says whether one did. The sets of all its
-    /// cells before the visit are left in `sets`, and what it keeps of them in `kept`.
+    /// Visits the house, notes what each of its cells had that lost a value, and says whether one did. It works in `sets`
+    /// and `kept`.
     pub(crate) fn visit<R: Rules>(
         &mut self,
         rules: &R,
@@ -116,8 +125,8 @@ impl Trailed {
         ensures left { Visits (R.puzzle rules.now) house self.old self.new }
         ensures unchanged { result ≡ false → has self.new.board ≡ has self.old.board }
         ensures further { IsFurther self.old self.new }
-        ensures remembered { Recalls (R.puzzle rules.now) house self.old self.new result
-            sets.new kept.new }
+        ensures lost { AreLost (R.puzzle rules.now) house
+            (length ((R.puzzle rules.now).scope house)) self.old self.new }
         ensures follows { R.follows rules.now scratch.new (has self.new.board) }
         ensures keeps { StillServes R.serves scratch.old scratch.new }
     {
@@ -149,8 +158,8 @@ impl Trailed {
         ensures left { Visits (R.puzzle rules.now) house self.old self.new }
         ensures unchanged { result ≡ false → has self.new.board ≡ has self.old.board }
         ensures further { IsFurther self.old self.new }
-        ensures remembered { Recalls (R.puzzle rules.now) house self.old self.new result
-            sets.new kept.new }
+        ensures lost { AreLost (R.puzzle rules.now) house
+            (length ((R.puzzle rules.now).scope house)) self.old self.new }
         ensures follows { R.follows rules.now scratch.new (has self.new.board) }
         ensures keeps { StillServes R.serves scratch.old scratch.new }
     {
@@ -187,6 +196,9 @@ impl Trailed {
         ensures left { has self.new.board ≡ left_by (has self.old.board) place left }
         ensures further { IsFurther self.old self.new }
         ensures longer { self.new.len ≡ self.old.len + 1 }
+        ensures noted { change_at self.new.changes self.old.len ≡ (place, before) }
+        ensures earlier { (m : ℕ) → m < self.old.len
+            → change_at self.new.changes m ≡ change_at self.old.changes m }
         ensures follows { R.follows rules.now scratch.new (has self.new.board) }
         ensures keeps { StillServes R.serves scratch.old scratch.new }
     {

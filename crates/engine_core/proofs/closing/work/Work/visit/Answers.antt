@@ -1,4 +1,4 @@
-use Rattle.engine_core.proofs.Common.{length, length_refill, ◌≤◌}
+use Rattle.engine_core.proofs.Common.{length, ◌≤◌}
 use Rattle.engine_core.proofs.WorkLemmas.{sets-room}
 use Rattle.engine_core.proofs.closing.work.Work.visit.Goals as goal
 use Rattle.engine_core.proofs.closing.work.Work.visit.Goals.{After-deref_mut}
@@ -13,13 +13,3 @@ visit-requires-clause-sets_room g c = rw c.deref_mut.ensures.value (room g (goal
 
 pub visit-requires-clause-kept_room : goal.visit-requires-clause-kept_room
 visit-requires-clause-kept_room g c = rw c.deref_mut-2.ensures.value (room g (goal.at.visit-requires-clause-kept_room g c).After-deref_mut).1
-
-pub returns-clause-sets_room : goal.returns-clause-sets_room
-returns-clause-sets_room g c =
-    let w = c.self.inside in
-    rw (← length_refill w.sets.len w.sets.items c.visit.new.sets w.sets.ok.0, w.sets.ok.0) (room g (goal.at.returns-clause-sets_room g c).After-deref_mut).0
-
-pub returns-clause-kept_room : goal.returns-clause-kept_room
-returns-clause-kept_room g c =
-    let w = c.self.inside in
-    rw (← length_refill w.kept.len w.kept.items c.visit.new.kept w.kept.ok.0, w.kept.ok.0) (room g (goal.at.returns-clause-kept_room g c).After-deref_mut).1

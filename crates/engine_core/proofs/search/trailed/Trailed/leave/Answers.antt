@@ -1,4 +1,4 @@
-use Rattle.engine_core.proofs.Common.{arith}
+use Rattle.engine_core.proofs.Common.{arith, get_or-set_other, get_or-set_same, ◌<◌}
 use Rattle.engine_core.proofs.ChangeLemmas.{left-is}
 use Rattle.engine_core.proofs.TrailLemmas.{IsLeft, left-noted, trail-len}
 use Rattle.engine_core.proofs.search.trailed.Trailed.leave.Goals as goal
@@ -37,3 +37,13 @@ returns-clause-further g c =
 
 pub returns-clause-follows : goal.returns-clause-follows
 returns-clause-follows g c = c.change.ensures.follows _ _ (rw (← c.self.view_is) at c.requires.follows) (noted g (goal.at.returns-clause-follows g c).After-retain).change
+
+pub returns-clause-noted : goal.returns-clause-noted
+returns-clause-noted g c =
+    let room = (noted g (goal.at.returns-clause-noted g c).After-retain).room in
+    rw (← c.self.view_is) (get_or-set_same c.self.inside.changes.items c.self.inside.len (c.args.place, c.args.before) (0, 0) room)
+
+pub returns-clause-earlier : goal.returns-clause-earlier
+returns-clause-earlier g c = λ m lt.
+    let less : m < c.self.inside.len = rw (← c.self.view_is) at lt in
+    rw (← c.self.view_is) (get_or-set_other c.self.inside.changes.items c.self.inside.len m _ (0, 0) (λ e. absurd (omega arith)))

@@ -1,7 +1,8 @@
-use Rattle.engine_core.proofs.Common.{AreSetsOf, IsBitsOf, after, arith, has, length, slice_index, ◌<◌, ◌≡◌}
+use Rattle.engine_core.proofs.Common.{AreSetsOf, IsBitsOf, after, arith, has, length, slice_index, ◌+◌, ◌<◌, ◌≡◌}
 use Rattle.engine_core.proofs.KeepLemmas.{kept-none, kept-left}
+use Rattle.engine_core.proofs.LostLemmas.{lost-differ, lost-more, lost-none, lost-same}
 use Rattle.engine_core.proofs.QueueLemmas.{scope-in, within_of}
-use Rattle.engine_core.proofs.ScopeLemmas.{upto-next, upto-cell, upto-left, upto-same, upto-all}
+use Rattle.engine_core.proofs.ScopeLemmas.{IsUpto, upto-next, upto-cell, upto-left, upto-same, upto-all}
 use Rattle.engine_core.proofs.TrailLemmas.{further-more}
 use Rattle.engine_core.proofs.search.trailed.Trailed.visit_cells.Goals as goal
 use Rattle.engine_core.proofs.search.trailed.Trailed.visit_cells.Goals.{After-keep, After-left_of-left, then-left-sets, else-left-sets}
@@ -54,8 +55,11 @@ loop-k-preserved g c =
     elim c.if-left-sets.branch [
       | then-left-sets w ↦
           let e = w.leave.ensures in
+          let upto : IsUpto (g.R.Rules.puzzle c.args.rules.now) c.args.house (c.loop-k.k + 1) (has c.args.self.now.board) (has w.leave.new.self.board) = rw (e.left, w.scope.ensures) (upto-left _ laws _ _ _ _ _ c.requires.house_in lt within i.upto left) in
           rw (w.self-is, w.scratch-is) (record {
-            upto = rw (e.left, w.scope.ensures) (upto-left _ laws _ _ _ _ _ c.requires.house_in lt within i.upto left);
+            upto = upto;
+            lost = lost-more _ laws _ _ _ _ _ _ _ c.requires.house_in lt grows e.longer (rw w.scope.ensures at e.noted) e.earlier (rw w.scope.ensures at e.left)
+                (lost-differ _ _ _ _ _ _ _ upto (are.bits c.loop-k.k lt) left w.if-left-sets.true) i.lost;
             still = λ same. absurd (omega arith);
             further = further-more _ _ _ i.further e.further;
             follows = e.follows;
@@ -63,6 +67,7 @@ loop-k-preserved g c =
           })
       | else-left-sets w ↦ rw (w.self-is, w.scratch-is) (record {
         upto = upto-same _ laws _ _ _ _ _ c.requires.house_in lt within i.upto (are.bits c.loop-k.k lt) (rw w.if-left-sets.false at left);
+        lost = lost-same _ laws _ _ _ _ c.requires.house_in lt i.upto i.lost;
         still = i.still;
         further = i.further;
         follows = i.follows;
@@ -75,11 +80,7 @@ returns-clause-left g c =
     let all : c.loop-k.k ≡ length ((g.R.Rules.puzzle c.args.rules.now).scope c.args.house) = omega (arith, c.requires.sets_room, c.remember.auto.sets) in
     upto-all _ (g.met.R.Rules.lawful c.args.rules.now) c.args.house _ _ c.requires.house_in (rw all at c.loop-k.invariant.upto)
 
-pub returns-clause-remembered : goal.returns-clause-remembered
-returns-clause-remembered g c = λ _.
-    let are = are g (goal.at.returns-clause-remembered g c).After-keep in
-    record {
-      bits = are.bits;
-      left = rw (returns-clause-left g c) (kept-left _ _ _ _ _ are (rw c.if-not-keep.false at (c.keep.ensures.kept _ are c.requires.follows)));
-      inside = c.loop-k.invariant.further.inside;
-    }
+pub returns-clause-lost : goal.returns-clause-lost
+returns-clause-lost g c =
+    let all : c.loop-k.k ≡ length ((g.R.Rules.puzzle c.args.rules.now).scope c.args.house) = omega (arith, c.requires.sets_room, c.remember.auto.sets) in
+    rw all at c.loop-k.invariant.lost
