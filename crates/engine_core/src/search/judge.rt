@@ -3,13 +3,14 @@
 
 ghost use Rattle.std.specs.Prelude.{◌≡◌, ◌<◌, ◌≤◌, length, true, None, IfSome};
 ghost use Rattle.grid_core.specs.Board.{has, cells_of};
-ghost use Rattle.grid_core.specs.Candidates.{is_full, grid_of, pick, better};
+ghost use Rattle.grid_core.specs.Candidates.{count_below, is_full, grid_of, pick, better};
 ghost use Rattle.engine_core.specs.ClosingList.{IsAlive};
 ghost use Rattle.engine_core.specs.Puzzle.{needs_of, FitsIn, IsBoardOf, IsNext};
 ghost use Rattle.engine_core.specs.Frames.{IsFull, own_grid, Judges, AreGrids, written};
 ghost use Rattle.engine_core.specs.Working.{IsAlong, StillFollows};
 
 use crate::closing::work::Work;
+use crate::houses::sets::cell_bits;
 use crate::rules::Rules;
 use crate::search::walk::Progress;
 use grid_core::{Board, Grid};
@@ -46,18 +47,25 @@ pub(crate) fn next_value(board: &Board, place: usize, from: u8, values: u8) -> O
     None
 }
 
+/// The least value of a cell that has any.
+fn least_value(board: &Board, place: usize) -> u8
+    requires place_in { place < cells_of board.now }
+    requires some { 0 < count_below (has board.now place) board.now.values }
+    ensures value_in { result < board.now.values }
+    ensures there { has board.now place result ≡ true }
+{
+    cell_bits(board, place).trailing_zeros() as u8
+}
+
 /// Writes each cell's only value.
-pub(crate) fn write_grid(board: &Board, cells: usize, values: u8, grid: &mut Grid)
+pub(crate) fn write_grid(board: &Board, cells: usize, grid: &mut Grid)
     requires cells_of { cells ≡ cells_of board.now }
-    requires values_of { values ≡ board.now.values }
-    requires full { is_full cells values (has board.now) ≡ true }
+    requires full { is_full cells board.now.values (has board.now) ≡ true }
     requires long { length grid.old ≡ cells }
-    ensures { grid.new ≡ grid_of cells values (has board.now) }
+    ensures { grid.new ≡ grid_of cells board.now.values (has board.now) }
 {
     for cell in 0..cells {
-        if let Some(value) = next_value(board, cell, 0, values) {
-            grid.set(cell, value);
-        }
+        grid.set(cell, least_value(board, cell));
     }
 }
 
@@ -122,7 +130,7 @@ pub(crate) fn accept_board<R: Rules>(
     ensures made { work.new.made ≡ work.old.made }
     ensures trace { work.new.trace ≡ work.old.trace }
 {
-    write_grid(board, rules.cells(), rules.values(), grid);
+    write_grid(board, rules.cells(), grid);
     work.accept(rules, grid)
 }
 
