@@ -1,13 +1,14 @@
 -- The steps of the table, at a place of the line.
 use Rattle.std.proofs.lemmas.Bool.{cases_Bool}
 use Rattle.std.proofs.lemmas.Grind.{common_steps}
-use Rattle.std.proofs.Common.{◌≡◌, ◌∙◌, ℕ, zero, suc, ◌+◌, ◌%◌, ◌<◌, ◌≤◌, Bool, true, false, ◌&&◌, eqb, List, [], ◌∷◌, length, get_or, drop, set, refl, sym, ap, ap₂, arith, inl, inr}
+use Rattle.std.proofs.Common.{bit_and, ◌≡◌, ◌∙◌, ℕ, zero, suc, ◌+◌, ◌%◌, ◌<◌, ◌≤◌, Bool, true, false, ◌&&◌, eqb, List, [], ◌∷◌, length, get_or, drop, set, refl, sym, ap, ap₂, arith, inl, inr}
 use Rattle.std.specs.List.{AllByRecursion}
 use Rattle.std.proofs.Math.Path.{fun_ext}
 use Rattle.std.proofs.Math.Bool.{and-true}
 use Rattle.std.proofs.lemmas.Bool.{cases_eq, ne_eqb, and_parts, and_from, eqb-true, true≢false, false_from_ne_true}
 use Rattle.std.proofs.lemmas.List.{length-map, get_or-map, get_or-set_same, get_or-set_other, length-set, drop_all, drop_more, drop-drop, get_or-drop}
 use Rattle.grid_core.specs.Candidates.{any_below}
+use Rattle.grid_core.proofs.BoardLemmas.{bits_both}
 use Rattle.grid_core.proofs.CandidateLemmas.{any_below-some, any_below-here, any_below-same}
 use Rattle.engine_core.specs.Filling.{Set, some_filling, strikes_by_fillings}
 use Rattle.engine_core.specs.FillingLaws.{filling_from_test, test_from_filling}
@@ -18,7 +19,6 @@ use Rattle.pattern_core.specs.Lines.{has_runs}
 use Rattle.pattern_core.specs.Track.{spelled, Track, IsBelow, track_of, leads, some_leads, set_for, stays, goes_on, ahead, led, any_cells, cell_is, sets_of, AreRows, AreKept}
 use Rattle.pattern_core.proofs.Leads.{same_tests, leads_next, leads_here, ways_on}
 use Rattle.pattern_core.proofs.SpelledRuns.{strikes_by_track}
-use Rattle.pattern_core.proofs.Words.{both_low, both_bits}
 
 -- a way on from the places that are reached before the cell at `at`, by any test of the cells from there on
 pub record AreReached (n : ℕ) (t : Track) (sets : List ℕ) (reached : ℕ → Bool) (at : ℕ) : Type 0 where
@@ -88,16 +88,6 @@ at_first n first way some is = same_tests (any_below (λ p. first p && way p) n)
 pub reached_first : (n : ℕ) (t : Track) (sets : List ℕ) (first : ℕ → Bool) → 0 < n → ((p : ℕ) → first p ≡ eqb p 0) → AreReached n t sets first 0
 reached_first n t sets first some is = record { shown = λ test. at_first n first (some_leads t (sets_of sets) test) some is }
 
--- whether the first row has the first place
-pub way_from_first : (A : Type 0) (has : A → ℕ → Bool) (n : ℕ) (t : Track) (sets : List ℕ) (rows : List A) (row : A) (first both : ℕ → Bool) → 0 < n → ((p : ℕ) → first p ≡ eqb p 0)
-    → row ≡ get_or rows 0 row → ((p : ℕ) → both p ≡ (has row p && first p)) → AreRows has t sets rows 0 → any_below both n ≡ some_leads t (sets_of sets) any_cells 0
-way_from_first A has n t sets rows row first both some is read each all =
-    any_below-same both (λ p. first p && has row p) n (λ p lt. each p ∙ and_turned (has row p) (first p))
-    ∙ at_first n first (has row) some is ∙ ap (λ x. has x 0) read ∙ all.row 0 0 row (omega arith) (omega arith)
-  where
-    and_turned : (x y : Bool) → (x && y) ≡ (y && x)
-    and_turned x y = grind (arith, common_steps, cases_Bool)
-
 pub reached_next : (n : ℕ) (t : Track) (sets : List ℕ) (reached new : ℕ → Bool) (at : ℕ) → IsBelow n t → at < length sets
     → ((p : ℕ) → p < n → new p ≡ led t (get_or sets at 0) reached p) → AreReached n t sets reached at → AreReached n t sets new (at + 1)
 reached_next n t sets reached new at below lt is r = record {
@@ -108,14 +98,6 @@ reached_next n t sets reached new at below lt is r = record {
 }
 
 -- ---- what is kept of a cell
--- a set of one value leads on as that value does
-ahead_alone : (t : Track) (s v : ℕ) (after : ℕ → Bool) (p : ℕ) → v < 2 → (has_bit s 0 && has_bit s 1) ≡ false → has_bit s v ≡ true
-    → ahead t s after p ≡ ahead t (set_for v) after p
-unfolding ahead stays goes_on
-ahead_alone t s zero after p small one on = grind (arith, common_steps, cases_Bool)
-ahead_alone t s (suc zero) after p small one on = grind (arith, common_steps, cases_Bool)
-ahead_alone t s (suc (suc v)) after p small one on = absurd (omega arith)
-
 -- nothing is kept yet
 pub kept_none : (t : Track) (sets : List ℕ) → AreKept t sets sets 0
 kept_none t sets = record { as_many = refl; bits = λ k v lt small. absurd (omega arith) }
@@ -160,49 +142,21 @@ module _ (n : ℕ) (t : Track) (sets : List ℕ) (reached : ℕ → Bool) (at : 
       twice true y = refl
       twice false y = refl
 
-  -- a cell that had both values, and keeps those by which a way leads from what it reaches
-  pub kept_both : (white black : ℕ → Bool) (kept new : List ℕ) → IsBelow n t → get_or sets at 0 % 4 ≡ 3
-      → ((p : ℕ) → p < n → white p ≡ led t 1 reached p)
-      → ((p : ℕ) → p < n → black p ≡ led t 2 reached p)
-      → has_bit (get_or new at 0) 0 ≡ any_below (λ p. white p && next p) n
-      → has_bit (get_or new at 0) 1 ≡ any_below (λ p. black p && next p) n
-      → AreKept t sets kept at → length new ≡ length kept → ((i : ℕ) → (i ≡ at → ⊥) → get_or new i 0 ≡ get_or kept i 0)
-      → AreKept t sets new (at + 1)
-  kept_both white black kept new below e is_white is_black shows_white shows_black k long others = kept_step kept new k long others by
+  -- the cell keeps those of its values by which a way leads from what it reaches
+  pub kept_cell : (white black : ℕ → Bool) (kept : List ℕ) (shown : ℕ) → IsBelow n t → ((p : ℕ) → p < n → white p ≡ led t 1 reached p) → ((p : ℕ) → p < n → black p ≡ led t 2 reached p)
+      → has_bit shown 0 ≡ any_below (λ p. white p && next p) n → has_bit shown 1 ≡ any_below (λ p. black p && next p) n
+      → get_or kept at 0 ≡ get_or sets at 0 → AreKept t sets kept at → AreKept t sets (set kept at (bit_and (get_or kept at 0) shown)) (at + 1)
+  kept_cell white black kept shown below is_white is_black shows_white shows_black same k =
+      kept_step kept _ k (length-set kept at _) (λ i other. get_or-set_other kept at i _ 0 other) (λ v small.
+      ap (λ s. has_bit s v) (get_or-set_same kept at _ 0 (omega (arith, k.as_many))) ∙ bits_both (get_or kept at 0) shown v
+      ∙ ap₂ (λ x y. has_bit x v && y) same (by v small))
     where
-      by : (v : ℕ) → v < 2 → has_bit (get_or new at 0) v ≡ (has_bit (get_or sets at 0) v && leads_by (set_for v))
+      by : (v : ℕ) → v < 2 → has_bit shown v ≡ leads_by (set_for v)
       by zero small = shows_white ∙ ways_on t 1 n below reached white (ahead t 1 next) next is_white (λ p. refl)
-          ∙ ap (λ x. x && leads_by 1) (sym (both_bits (get_or sets at 0) e).0)
       by (suc zero) small = shows_black ∙ ways_on t 2 n below reached black (ahead t 2 next) next is_black (λ p. refl)
-          ∙ ap (λ x. x && leads_by 2) (sym (both_bits (get_or sets at 0) e).1)
       by (suc (suc v)) small = absurd (omega arith)
 
-  -- a cell with one value at most
-  pub kept_alone : (kept : List ℕ) → (get_or sets at 0 % 4 ≡ 3 → ⊥) → some_leads t (sets_of sets) any_cells 0 ≡ true
-      → AreKept t sets kept at → get_or kept at 0 ≡ get_or sets at 0 → AreKept t sets kept (at + 1)
-  unfolding any_cells
-  kept_alone kept ne some k rest =
-      kept_step kept kept k refl (λ i other. refl) (λ v small. ap (λ x. has_bit x v) rest ∙ by v small)
-    where
-      any : leads_by (get_or sets at 0) ≡ true
-      any = any_below-same (λ p. reached p && ahead t (get_or sets at 0) next p) (λ p. reached p && some_leads t (drop at (sets_of sets)) any_cells p) n
-          (λ p low. ap (λ x. reached p && x) (ap (λ f. ahead t (get_or sets at 0) f p) (sym after) ∙ sym (way_any t sets at lt p))) ∙ r.shown any_cells ∙ some
-
-      by : (v : ℕ) → v < 2 → has_bit (get_or sets at 0) v ≡ (has_bit (get_or sets at 0) v && leads_by (set_for v))
-      by v small = elim (cases_Bool (has_bit (get_or sets at 0) v)) [
-        | inl on ↦
-            let one = both_low (get_or sets at 0) ∙ ne_eqb (get_or sets at 0 % 4) 3 ne in
-            on ∙ sym (ap₂ (λ x y. x && y) on (any_below-same (λ p. reached p && ahead t (set_for v) next p) (λ p. reached p && ahead t (get_or sets at 0) next p) n
-            (λ p low. ap (λ x. reached p && x) (sym (ahead_alone t (get_or sets at 0) v next p small one on))) ∙ any))
-        | inr off ↦ off ∙ sym (ap (λ x. x && leads_by (set_for v)) off)
-      ]
-
 -- ---- all cells
--- where there is no way, nothing is shown
-pub nothing_kept : (t : Track) (sets kept : List ℕ) → some_leads t (sets_of sets) any_cells 0 ≡ false → length kept ≡ length sets → ((k : ℕ) → k < length sets → get_or kept k 0 ≡ 0) → AreKept t sets kept (length sets)
-unfolding some_leads any_cells
-nothing_kept t sets kept none long zeros = grind (arith, common_steps, cases_Bool, and_parts, bits-of_zero, false_from_ne_true, filling_from_test, test_from_filling, true≢false)
-
 pub decided_by_track : (clue sets kept : List ℕ) (t : Track) → t ≡ track_of (spelled clue) → AllByRecursion (λ n. 0 < n) clue → AreKept t sets kept (length sets)
     → IsDecided 2 (strikes_by_fillings (has_runs clue)) sets kept
 decided_by_track clue sets kept t is positive k = grind (arith, common_steps, cases_Bool, strikes_by_track)

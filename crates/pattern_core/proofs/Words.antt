@@ -59,21 +59,8 @@ masks_are white black set p = grind (arith, common_steps, cases_Bool, bits-eithe
 -- what the operations of words say of their bits
 pub ruleset place_laws = (bits-of_zero, bits-of_power, bits-both, bits-either, bits_next, bits_on, no_high, masks_are, some_bit_is)
 
--- both are set exactly where they make 3
-pub both_low : (set : ℕ) → (has_bit set 0 && has_bit set 1) ≡ eqb (set % 4) 3
-both_low set = grind (arith, common_steps, cases_Bool, low_two, mod-lt)
-
-pub both_bits : (set : ℕ) → set % 4 ≡ 3 → (has_bit set 0 ≡ true) × (has_bit set 1 ≡ true)
-both_bits set e = and_parts (has_bit set 0) (has_bit set 1) (both_low set ∙ ap (λ s. eqb s 3) e)
-
 -- the places reached, by the words of a step
 pub led_words : (t : Track) (set : ℕ) (reached next : ℕ → Bool) (p : ℕ) → ((q : ℕ) → next q ≡ (goes_on t set q && reached q))
     → ((stays t set p && reached p) || one_on next p) ≡ led t set reached p
 unfolding led
 led_words t set reached next p is = ap (λ f. (stays t set p && reached p) || one_on f p) (fun_ext is)
-
--- the steps of a cell with both values
-pub led_both : (t : Track) (set : ℕ) (reached : ℕ → Bool) (p : ℕ) → set % 4 ≡ 3 → (led t 1 reached p || led t 2 reached p) ≡ led t set reached p
-unfolding led stays goes_on one_on
-led_both t set reached zero e = grind (arith, common_steps, cases_Bool, both_bits)
-led_both t set reached (suc p) e = grind (arith, common_steps, cases_Bool, both_bits)

@@ -6,17 +6,14 @@
 //! The rows are filled from the last cell backwards; then one word, the places that can be reached, goes forwards, and a
 //! value of a cell stays where the two meet. What a cell's set lets a line do is looked up by the set.
 
-ghost use Rattle.std.specs.Prelude.{◌≡◌, ℕ, ◌<◌, ◌≤◌, ◌&&◌, ◌%◌, true, false, length, slice_index};
+ghost use Rattle.std.specs.Prelude.{◌≡◌, ℕ, ◌<◌, ◌≤◌, ◌&&◌, false, length, slice_index};
 ghost use Rattle.std.specs.List.{AllByRecursion};
 ghost use Rattle.engine_core.specs.Sets.{has_bit};
 ghost use Rattle.pattern_core.specs.Lines.{IsDecidedBy};
-ghost use Rattle.pattern_core.specs.Track.{along, spelled, track_of, AreMoves, AreAhead, AreLed, IsBelow, some_leads, sets_of, any_cells, AreRows, AreKept};
+ghost use Rattle.pattern_core.specs.Track.{along, spelled, track_of, AreMoves, AreAhead, AreLed, IsBelow, AreRows, AreKept};
 
 use crate::places::Places;
 use crate::track::{SpelledClue, Steps};
-
-/// The set of black alone.
-const BLACK: u32 = 2;
 
 /// The set of both values.
 pub(crate) const BOTH: u32 = 3;
@@ -81,26 +78,12 @@ pub(crate) fn ways_of<P: Places>(steps: Steps<P>, reached: P) -> Ways<P>
     }
 }
 
-/// Keeps of a cell with both values those that are shown, and says whether it lost any.
-fn keep_shown(sets: &mut [u32], at: usize, white: bool, black: bool) -> bool
-    requires at { at < length sets.old }
-    requires both { slice_index sets.old at % 4 ≡ 3 }
-    ensures as_many { length sets.new ≡ length sets.old }
-    ensures others { (k : ℕ) → (k ≡ at → ⊥)
-        → slice_index sets.new k ≡ slice_index sets.old k }
-    ensures white { has_bit (slice_index sets.new at) 0 ≡ white }
-    ensures black { has_bit (slice_index sets.new at) 1 ≡ black }
-    ensures unchanged { result ≡ false → sets.new ≡ sets.old }
+/// The set of the values that are shown.
+fn set_of(white: bool, black: bool) -> u32
+    ensures white { has_bit result 0 ≡ white }
+    ensures black { has_bit result 1 ≡ black }
 {
-    if !black {
-        sets[at] = u32::from(white);
-        return true;
-    }
-    if !white {
-        sets[at] = BLACK;
-        return true;
-    }
-    false
+    u32::from(white) + 2 * u32::from(black)
 }
 
 /// Fills the table, from the last cell backwards.
@@ -116,12 +99,11 @@ fn fill_rows<P: Places>(moves: &Moves<P>, sets: &[u32], rows: &mut [P])
     }
 }
 
-/// Keeps of each cell with both values what a way from the first place to the end shows there, and says whether one of
-/// them lost any. Some way leads to the end, so the other cells keep what they have.
+/// Keeps of each cell what a way from the first place to the end shows there, and says whether one of them lost any. It asks
+/// of no cell what it has, since that can't be foreseen.
 fn keep_cells<P: Places>(moves: &Moves<P>, sets: &mut [u32], rows: &[P]) -> bool
     requires rows { AreRows P.has (along P.has moves.now.steps) sets.old rows.now 0 }
     requires below { IsBelow P.room (along P.has moves.now.steps) }
-    requires some { some_leads (along P.has moves.now.steps) (sets_of sets.old) any_cells 0 ≡ true }
     ensures kept { AreKept (along P.has moves.now.steps) sets.old sets.new (length sets.old) }
     ensures unchanged { result ≡ false → sets.new ≡ sets.old }
 {
@@ -129,16 +111,14 @@ fn keep_cells<P: Places>(moves: &Moves<P>, sets: &mut [u32], rows: &[P]) -> bool
     let mut struck = false;
     for at in 0..sets.len() {
         let set = sets[at];
-        if set % 4 == BOTH {
-            let ways = ways_of(moves.steps, reached);
-            let after = rows[at + 1];
-            let white = ways.white.both(after).is_some();
-            let black = ways.black.both(after).is_some();
-            struck |= keep_shown(sets, at, white, black);
-            reached = ways.white.either(ways.black);
-        } else {
-            reached = led_by(moves, set, reached);
-        }
+        let ways = ways_of(moves.steps, reached);
+        let after = rows[at + 1];
+        let white = ways.white.both(after).is_some();
+        let black = ways.black.both(after).is_some();
+        let left = set & set_of(white, black);
+        struck |= left != set;
+        sets[at] = left;
+        reached = led_by(moves, set, reached);
     }
     struck
 }
@@ -153,9 +133,5 @@ pub(crate) fn keep<P: Places>(sets: &mut [u32], clue: &SpelledClue<P>, rows: &mu
 {
     let moves = moves_of(clue);
     fill_rows(&moves, sets, rows);
-    if !rows[0].both(P::first()).is_some() {
-        sets.fill(0);
-        return true;
-    }
     keep_cells(&moves, sets, rows)
 }
