@@ -6,7 +6,7 @@ use Rattle.std.specs.Prelude.{decimal, position}
 use Rattle.std.specs.List.{list_any, position_or_len}
 use Rattle.std.specs.Str.{all_ascii_digits}
 use Rattle.std.specs.Char.{is_ascii_digit}
-use Rattle.std.proofs.lemmas.Bool.{false≢true, ltb-false, lt-ltb, leb-true}
+use Rattle.std.proofs.lemmas.Bool.{and_parts, false≢true, ltb-false, lt-ltb, leb-true}
 use Rattle.std.proofs.lemmas.List.{take-append-drop, drop_at}
 use Rattle.std.proofs.lemmas.List.Folds.{list_any-append}
 use Rattle.std.proofs.lemmas.List.Quantifiers.{position-Some}
@@ -21,7 +21,7 @@ use Rattle.grid_core.specs.Extent.{max_side}
 use Rattle.gameid_core.specs.Head.{SizeRead, HeadRead, Sides, has_x, two_sides, side_at, sides_at, size_of, head_at, head_of, has_hash, in_range, max_id}
 use Rattle.gameid_core.specs.HeadTests.{HasNumber, GoesOn, HasSize}
 use Rattle.gameid_core.specs.SizeText.{IsSizeText, solo_size_text, IsSoloSizeText}
-use Rattle.gameid_core.proofs.Results.{bind_ok, chosen, not_refused, only_taken, taken, ok_is, and_parts}
+use Rattle.gameid_core.proofs.Results.{bind_ok, chosen, not_refused, only_taken, taken, ok_is}
 use Rattle.gameid_core.proofs.Numerals.{front_numeral, own, is_lead, begins_front, decimal_leads}
 use Rattle.gameid_core.proofs.Reading.{place}
 

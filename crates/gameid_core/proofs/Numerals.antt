@@ -1,5 +1,6 @@
 -- Numbers as texts: the digits in front, and the written digits of a number.
 use Rattle.std.proofs.Common.{◌≡◌, ℕ, zero, suc, ◌+◌, ◌-◌, ◌*◌, ◌^◌, ◌<◌, ◌≤◌, Bool, true, false, ◌&&◌, leb, List, ◌∷◌, ◌++◌, length, refl, arith, rules, length-append, ◌%◌, []}
+use Rattle.std.proofs.lemmas.Bool.{and_parts}
 use Rattle.std.proofs.lemmas.Bool.Decides.{nat_tests}
 use Rattle.std.proofs.lemmas.Grind.{common_steps}
 use Rattle.std.specs.Prelude.{decimal}
@@ -9,7 +10,6 @@ use Rattle.std.proofs.lemmas.Str.Parse.{IsNumeralModel, numerals_by_fold}
 use Rattle.std.proofs.lemmas.Fmt.{decimal-digits_value, length-decimal-le, decimal_by_steps, digits_decimal}
 use Rattle.gameid_core.specs.Words.{IsPlain, joins, begins, digits_front, after_digits, value, value_after, Cuts, IsNumeral}
 use Rattle.gameid_core.proofs.Tokens.{value_after_ge, front_turn, front_stop, front_end, cuts_joined, cuts_number}
-use Rattle.gameid_core.proofs.Results.{and_parts}
 
 pub own : IsNumeralModel (λ ds. all_ascii_digits ds ≡ true) value
 own = numerals_by_fold _ (search rules) value_after (search rules)

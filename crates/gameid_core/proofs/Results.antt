@@ -1,5 +1,5 @@
 -- Answers of steps that may be refused, and which way a test went.
-use Rattle.std.proofs.Common.{◌≡◌, Bool, true, false, cond, Result, Ok, Err, ◌⊎◌, ◌&&◌}
+use Rattle.std.proofs.Common.{◌≡◌, Bool, true, false, cond, Result, Ok, Err, ◌⊎◌}
 use Rattle.std.proofs.Common.{arith}
 use Rattle.gameid_core.specs.declared.id.fault.IdFault.{IdFault}
 use Rattle.gameid_core.specs.Steps.{◌>>=◌}
@@ -24,6 +24,3 @@ not_refused b f r x e = grind arith
 
 pub only_taken : {A : Type 0} (b : Bool) (f : IdFault) (r : Result A IdFault) (x : A) → cond b r (Err f) ≡ Ok x → (b ≡ true) × (r ≡ Ok x)
 only_taken b f r x e = grind arith
-
-pub and_parts : (p q : Bool) → (p && q) ≡ true → (p ≡ true) × (q ≡ true)
-and_parts p q e = grind arith

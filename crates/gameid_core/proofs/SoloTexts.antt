@@ -2,7 +2,7 @@
 use Rattle.std.proofs.Common.{◌≡◌, ℕ, ◌-◌, ◌<◌, ◌≤◌, true, false, ◌&&◌, eqb, leb, List, ◌∷◌, Ok, Err, refl, subst, ◌∙◌, arith, [], ◌*◌, Bool, get_or, ◌+◌, ◌^◌, ◌++◌, map, length, ap, drop}
 use Rattle.std.proofs.lemmas.Grind.{common_steps}
 use Rattle.std.specs.Prelude.{replicate, decimal}
-use Rattle.std.proofs.lemmas.Bool.{false≢true, le-ltb, lt-ltb, leb-true}
+use Rattle.std.proofs.lemmas.Bool.{and_parts, false≢true, le-ltb, lt-ltb, leb-true}
 use Rattle.gameid_core.specs.declared.id.fault.IdFault.TheVariants.{BadByte, NumberRange}
 use Rattle.gameid_core.specs.Words.{begins, digits_front, after_digits, value, Cuts, words}
 use Rattle.gameid_core.specs.Cells.{is_letter}
@@ -11,7 +11,6 @@ use Rattle.gameid_core.specs.OneText.{HasOneReading}
 use Rattle.gameid_core.proofs.OneReading.{reading_of}
 use Rattle.gameid_core.proofs.Tokens.{cuts_some, cuts_single, cuts_number, words_nil, IsWord, words_are, concat_words, alone}
 use Rattle.gameid_core.proofs.Numerals.{is_lead, lead_is_digit, numeral_cuts, numeral, own, decimal_leads, value_positive}
-use Rattle.gameid_core.proofs.Results.{and_parts}
 use Rattle.std.specs.List.{AllByRecursion, flat_map, concat}
 use Rattle.gameid_core.specs.Head.{in_range, max_numbers, SizeRead}
 use Rattle.gameid_core.specs.Puzzles.{IsSolo, solo_puzzle, Solo}
