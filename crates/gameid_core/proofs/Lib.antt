@@ -1,4 +1,5 @@
 pub mod CellsReading
+pub mod CluesLaws
 pub mod HeadLaws
 pub mod HeadTestLaws
 pub mod Letters

@@ -7,6 +7,7 @@ pub mod SizeText
 pub mod Puzzles
 pub mod BlackRuns
 pub mod PatternText
+pub mod Clues
 pub mod Cells
 pub mod FirstTokens
 pub mod SoloText

@@ -1,11 +1,12 @@
 //! The black runs of a line.
 
-ghost use Rattle.std.specs.Prelude.{◌≡◌, ◌≤◌, ◌*◌, ℕ, suc, List, [], ◌∷◌, ◌++◌, length, map, replicate, OnOk, IfOk};
+ghost use Rattle.std.specs.Prelude.{◌≡◌, ◌≤◌, ◌*◌, ℕ, suc, List, [], ◌∷◌, ◌++◌, length, replicate, OnOk, IfOk};
 ghost use Rattle.grid_core.specs.Extent.{IsExtent};
 ghost use Rattle.gameid_core.specs.BlackRuns.{run_of, runs};
 ghost use Rattle.gameid_core.specs.Lines.{lines_runs};
 
 use crate::lines::places::{line_of, lines};
+use crate::pattern::clues::Clues;
 use grid_core::{Grid, Size};
 use std::alloc::{AllocError, Global};
 
@@ -22,52 +23,48 @@ pub fn runs_by_first_cells()
 {}
 
 /// Adds a run of so many cells, unless there are none.
-fn push_run_of(found: &mut Vec<u8>, count: u8) -> Result<(), AllocError>
-    ensures { OnOk result (found.new.items ≡ found.old.items ++ run_of count) }
+fn push_run_of(clues: &mut Clues, count: u8) -> Result<(), AllocError>
+    ensures { OnOk result (clues.new
+        ≡ record clues.old { clue = clues.old.clue ++ run_of count }) }
 {
     if count > 0 {
-        found.push(count)?;
+        clues.push(count)?;
     }
     Ok(())
 }
 
-/// The lengths of the maximal black runs of a line, whose cells are 0 for white and anything else
-/// for black.
+/// Adds the lengths of the maximal black runs of a line, whose cells are 0 for white and anything
+/// else for black.
 #[tactic(auto, unfolding(crate::specs::BlackRuns::runs_after))]
-fn runs_of(alloc: Global, cells: &[u8]) -> Result<Vec<u8>, AllocError>
+fn push_runs(clues: &mut Clues, cells: &[u8]) -> Result<(), AllocError>
     requires { length cells.now ≤ 255 }
-    ensures { IfOk result (λ v. v.items ≡ runs cells.now) }
+    ensures { OnOk result (clues.new
+        ≡ record clues.old { clue = clues.old.clue ++ runs cells.now }) }
 {
-    let mut found = Vec::new(alloc);
     let mut count = 0;
     for cell in cells {
         if *cell == 0 {
-            push_run_of(&mut found, count)?;
+            push_run_of(clues, count)?;
             count = 0;
             continue;
         }
         count += 1;
     }
-    push_run_of(&mut found, count)?;
-    Ok(found)
+    push_run_of(clues, count)
 }
 
 /// The runs of each line of a grid, columns from the left and then rows from the top.
 #[tactic(auto, using(crate::proofs::LineLaws::turns))]
-pub(crate) fn runs_of_lines(
-    alloc: Global,
-    size: Size,
-    grid: &Grid,
-) -> Result<Vec<Vec<u8>>, AllocError>
+pub(crate) fn runs_of_lines(alloc: Global, size: Size, grid: &Grid) -> Result<Clues, AllocError>
     requires { length grid.now ≡ size.w * size.h }
-    ensures runs { IfOk result (λ v. map (λ clue. clue.items) v.items ≡ lines_runs size grid.now) }
+    ensures runs { IfOk result (λ c. c.clues ≡ lines_runs size grid.now) }
     ensures lawful { IsExtent size }
 {
-    let mut clues = Vec::new(alloc);
-    for line in 0..lines(size) {
-        let cells = line_of(alloc, size, grid, line)?;
-        let clue = runs_of(alloc, &cells)?;
-        clues.push(clue)?;
+    let lines = lines(size);
+    let mut clues = Clues::new(alloc, lines, size.cells() + lines / 2)?;
+    for line in 0..lines {
+        push_runs(&mut clues, &line_of(alloc, size, grid, line)?)?;
+        clues.close()?;
     }
     Ok(clues)
 }

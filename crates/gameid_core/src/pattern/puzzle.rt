@@ -1,11 +1,12 @@
 //! The puzzles of Pattern.
 
-ghost use Rattle.std.specs.Prelude.{◌≡◌, ◌<◌, ◌+◌, ◌*◌, ℕ, length, [], map, slice_index, slice_index_or, IfOk};
+ghost use Rattle.std.specs.Prelude.{◌≡◌, ◌<◌, ◌+◌, ◌*◌, ℕ, length, [], slice_index, slice_index_or, IfOk};
 ghost use Rattle.grid_core.specs.Grids.{IsGrid, row_cells, column_cells};
 ghost use Rattle.gameid_core.specs.BlackRuns.{runs};
 ghost use Rattle.gameid_core.specs.Puzzles.{Pattern, IsPattern, lines_of, pattern_puzzle};
 
 use crate::lines::black_runs::runs_of_lines;
+use crate::pattern::clues::Clues;
 use grid_core::{Grid, Size};
 use std::alloc::{AllocError, Global};
 use std::marker::Model;
@@ -14,26 +15,25 @@ use std::marker::Model;
 #[derive(Debug, Drop)]
 pub struct PatternPuzzle {
     size: Size,
-    clues: Vec<Vec<u8>>,
+    clues: Clues,
 }
 
 impl Model for PatternPuzzle {
-    ghost use Rattle.std.specs.Prelude.{map};
     ghost use Rattle.gameid_core.specs.Puzzles.{Pattern, IsPattern, pattern_puzzle};
 
     ghost Value = { Pattern };
 
-    ghost view = { λ p. pattern_puzzle p.size (map (λ c. c.items) p.clues.items) };
+    ghost view = { λ p. pattern_puzzle p.size p.clues.clues };
 
-    ghost invariant = { λ p. IsPattern (pattern_puzzle p.size (map (λ c. c.items) p.clues.items)) };
+    ghost invariant = { λ p. IsPattern (pattern_puzzle p.size p.clues.clues) };
 }
 
 impl PatternPuzzle {
     /// The puzzle of that size whose columns from the left, and then rows from the top, have these
     /// clues.
-    pub(crate) fn of_clues(size: Size, clues: Vec<Vec<u8>>) -> PatternPuzzle
-        requires { IsPattern (pattern_puzzle size (map (λ clue. clue.items) clues.items)) }
-        ensures { result ≡ pattern_puzzle size (map (λ clue. clue.items) clues.items) }
+    pub(crate) fn of_clues(size: Size, clues: Clues) -> PatternPuzzle
+        requires { IsPattern (pattern_puzzle size clues.clues) }
+        ensures { result ≡ pattern_puzzle size clues.clues }
     {
         PatternPuzzle { size, clues }
     }
@@ -72,7 +72,7 @@ impl PatternPuzzle {
         ensures value { result ≡ length (slice_index_or self.now.clues line []) }
         ensures lawful { IsPattern self.now }
     {
-        self.clues[line].len()
+        self.clues.clue(line).len()
     }
 
     /// The k-th number of a line's clue, from 0: the length of the k-th black run, downwards or
@@ -82,7 +82,7 @@ impl PatternPuzzle {
         requires number { k < length (slice_index_or self.now.clues line []) }
         ensures { result ≡ slice_index (slice_index_or self.now.clues line []) k }
     {
-        self.clues[line][k]
+        self.clues.clue(line)[k]
     }
 
     /// How many lines there are.
@@ -99,6 +99,6 @@ impl PatternPuzzle {
         requires { line < length self.now.clues }
         ensures { result.now ≡ slice_index_or self.now.clues line [] }
     {
-        &self.clues[line]
+        self.clues.clue(line)
     }
 }

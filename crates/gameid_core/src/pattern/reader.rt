@@ -1,6 +1,6 @@
 //! Game IDs of Pattern.
 
-ghost use Rattle.std.specs.Prelude.{◌≡◌, ◌↔◌, ℕ, ◌<◌, ◌≤◌, ◌+◌, ◌^◌, [], ◌∷◌, length, map, IfOk, IfErr, Ok, Err, List, ◌⊎◌, if◌then◌else◌};
+ghost use Rattle.std.specs.Prelude.{◌≡◌, ◌↔◌, ℕ, ◌<◌, ◌≤◌, ◌+◌, ◌^◌, [], ◌∷◌, length, IfOk, IfErr, Ok, Err, List, ◌⊎◌, if◌then◌else◌};
 ghost use Rattle.std.specs.Char.{is_ascii_digit};
 ghost use Rattle.gameid_core.specs.Steps.{Gives, Fails};
 ghost use Rattle.gameid_core.specs.Head.{head_of};
@@ -19,17 +19,18 @@ use crate::id::fault::IdFault;
 use crate::id::game::Game;
 use crate::id::head::read_head;
 use crate::lines::places::{cells_of, lines};
+use crate::pattern::clues::Clues;
 use crate::pattern::puzzle::PatternPuzzle;
 use crate::text::number::{first_of, leading_number, starts_with_digit};
 use grid_core::Size;
 use std::alloc::Global;
 
-/// A line's clue as far as it is read, and the cells that its numbers use, with a gap behind each.
+/// The cells of a line, the clues as far as they are read, and the cells that the numbers of its
+/// clue use so far, with a gap behind each.
 #[derive(Drop)]
-struct ClueSoFar<'a> {
+struct LineSoFar<'a> {
     cells: u8,
-    line: usize,
-    numbers: &'a [u8],
+    clues: &'a Clues,
     before: u32,
 }
 
@@ -37,15 +38,15 @@ struct ClueSoFar<'a> {
 /// and the digits begin at these places.
 #[tactic(auto, unfolding(crate::specs::PatternText::clue_number))]
 fn number<'a>(
-    clue: &ClueSoFar<'_>,
+    line: &LineSoFar<'_>,
     token: usize,
     at: usize,
     digits: &'a [u8],
 ) -> Result<(u8, &'a [u8]), IdFault>
-    requires { clue.now.before ≤ 1000 }
+    requires { line.now.before ≤ 1000 }
     ensures { GivesNumber
-        (if begins is_ascii_digit digits.now
-        then clue_number clue.now.cells clue.now.line clue.now.before at (digits_front digits.now)
+        (if begins is_ascii_digit digits.now then clue_number line.now.cells
+        (length line.now.clues.now.clues) line.now.before at (digits_front digits.now)
         else Err (BadByte token)) (after_digits digits.now) result }
 {
     if !starts_with_digit(digits) {
@@ -55,8 +56,8 @@ fn number<'a>(
     if number == 0 {
         return Err(IdFault::NumberRange(at));
     }
-    if clue.before + number > u32::from(clue.cells) {
-        return Err(IdFault::LineTooFull(clue.line));
+    if line.before + number > u32::from(line.cells) {
+        return Err(IdFault::LineTooFull(line.clues.len()));
     }
     Ok((number as u8, rest))
 }
@@ -64,66 +65,55 @@ fn number<'a>(
 /// The number that comes next in a clue, and the text after it: a further number stands behind '.'.
 #[tactic(auto, using(crate::proofs::PatternReading::numbers))]
 fn next_number<'a>(
-    clue: &ClueSoFar<'_>,
+    line: &LineSoFar<'_>,
     at: usize,
     first: u8,
     after: &'a [u8],
     rest: &'a [u8],
 ) -> Result<(u8, &'a [u8]), IdFault>
     requires text { rest.now ≡ first ∷ after.now }
-    requires used { clue.now.before ≡ used_cells clue.now.numbers.now }
-    requires small { clue.now.before ≤ 1000 }
+    requires used { line.now.before ≡ used_cells line.now.clues.now.clue }
+    requires small { line.now.before ≤ 1000 }
     requires place { at < 2 ^ 32 }
-    ensures { TakesNumber (clue_token clue.now.cells clue.now.line clue.now.numbers.now at)
-        rest.now result }
+    ensures { TakesNumber (clue_token line.now.cells (length line.now.clues.now.clues)
+        line.now.clues.now.clue at) rest.now result }
 {
-    if clue.numbers.is_empty() {
-        return number(clue, at, at, rest);
+    if line.before == 0 {
+        return number(line, at, at, rest);
     }
     if first != b'.' {
         return Err(IdFault::BadByte(at));
     }
-    number(clue, at, at + 1, after)
+    number(line, at, at + 1, after)
 }
 
 /// The clues of a description, which begins at that place of the ID.
 #[tactic(auto, using(crate::proofs::PatternReading::turns), unfolding(crate::specs::Steps::reading))]
-fn clues(
-    alloc: Global,
-    size: Size,
-    base: usize,
-    description: &[u8],
-) -> Result<Vec<Vec<u8>>, IdFault>
+fn clues(alloc: Global, size: Size, base: usize, description: &[u8]) -> Result<Clues, IdFault>
     requires { base + length description.now < 2 ^ 32 }
-    ensures { Gives (λ v. map (λ clue. clue.items) v.items) result
-        (clues_at size base description.now) }
+    ensures { Gives (λ c. c.clues) result (clues_at size base description.now) }
 {
     let lines = lines(size);
-    let mut clues = Vec::with_capacity(alloc, lines)?;
-    let mut clue = Vec::new(alloc);
+    let mut clues = Clues::new(alloc, lines, description.len().div_ceil(2))?;
     let mut before = 0;
     let mut rest = description;
     while let Some((first, after)) = first_of(rest) {
-        let line = clues.len();
         if first == b'/' {
-            if line + 1 == lines {
+            if clues.len() + 1 == lines {
                 return Err(IdFault::TooMany);
             }
-            clues.push(clue)?;
-            clue = Vec::new(alloc);
+            clues.close()?;
             before = 0;
             rest = after;
         } else {
             let at = base + (description.len() - rest.len());
-            let cells = cells_of(size, line);
-            let so_far = ClueSoFar {
-                cells,
-                line,
-                numbers: &clue,
+            let line = LineSoFar {
+                cells: cells_of(size, clues.len()),
+                clues: &clues,
                 before,
             };
-            let (number, after) = next_number(&so_far, at, first, after, rest)?;
-            clue.push(number)?;
+            let (number, after) = next_number(&line, at, first, after, rest)?;
+            clues.push(number)?;
             before += u32::from(number) + 1;
             rest = after;
         }
@@ -131,7 +121,7 @@ fn clues(
     if clues.len() + 1 != lines {
         return Err(IdFault::TooFew);
     }
-    clues.push(clue)?;
+    clues.close()?;
     Ok(clues)
 }
 

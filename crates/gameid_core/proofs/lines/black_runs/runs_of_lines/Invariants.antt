@@ -1,7 +1,7 @@
-use Rattle.std.proofs.Common.{◌≡◌, map}
+use Rattle.std.proofs.Common.{◌≡◌, []}
 use Rattle.gameid_core.specs.BlackRuns.{runs}
 use Rattle.gameid_core.proofs.LineLaws.{lines_front}
 use Rattle.gameid_core.proofs.lines.black_runs.runs_of_lines.Given as goal
 
 abbrev pub invariant-loop-line : goal.invariant-loop-line
-invariant-loop-line l = map (λ clue. clue.items) l.clues.items ≡ lines_front runs l.size l.grid l.line
+invariant-loop-line l = l.clues ≡ record { clues = lines_front runs l.size l.grid l.line; clue = [] }

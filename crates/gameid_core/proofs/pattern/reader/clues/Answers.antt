@@ -1,8 +1,7 @@
 use Rattle.std.proofs.Common.{arith}
 use Rattle.std.proofs.lemmas.Grind.{common_steps}
 use Rattle.gameid_core.specs.Steps.{reading}
-use Rattle.gameid_core.proofs.Tokens.{words_single}
-use Rattle.gameid_core.proofs.PatternReading.{used_push, token_small}
+use Rattle.gameid_core.proofs.PatternReading.{number_turn, token_small, used_push}
 use Rattle.gameid_core.proofs.pattern.reader.clues.Goals as goal
 
 pub loop-first-preserved : goal.loop-first-preserved
@@ -11,5 +10,5 @@ loop-first-preserved c = record {
   short = grind (arith, common_steps);
   before = grind (arith, common_steps, used_push);
   small = grind (arith, common_steps, token_small);
-  so_far = grind (arith, common_steps, words_single);
+  so_far = grind (arith, common_steps, number_turn);
 }
