@@ -47,6 +47,7 @@ impl PatternPuzzle {
     /// When memory was refused.
     pub fn of_grid(alloc: Global, size: Size, grid: &Grid) -> Result<PatternPuzzle, AllocError>
         requires { IsGrid (size.w * size.h) 2 grid.now }
+        ensures lawful { IfOk result (λ p. IsPattern p) }
         ensures size { IfOk result (λ p. p.size ≡ size) }
         ensures columns { IfOk result (λ p. (x : ℕ) → x < size.w
             → slice_index_or p.clues x [] ≡ runs (column_cells size grid.now x)) }

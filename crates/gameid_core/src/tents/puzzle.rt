@@ -49,6 +49,7 @@ impl TentsPuzzle {
     /// # Errors
     ///
     /// When memory was refused.
+    #[tactic(auto, using(crate::proofs::OnesFit::ones_lawful))]
     pub fn of_parts(
         alloc: Global,
         size: Size,
@@ -59,6 +60,7 @@ impl TentsPuzzle {
         requires h_two { 2 ≤ size.h }
         requires trees { IsGrid (size.w * size.h) 2 trees.now }
         requires tents { IsGrid (size.w * size.h) 2 tents.now }
+        ensures lawful { IfOk result (λ p. IsTents p) }
         ensures size { IfOk result (λ p. p.size ≡ size) }
         ensures trees { IfOk result (λ p. p.trees ≡ trees.now) }
         ensures columns { IfOk result (λ p. (x : ℕ) → x < size.w

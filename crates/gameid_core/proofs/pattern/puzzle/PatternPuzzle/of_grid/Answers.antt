@@ -7,6 +7,9 @@ use Rattle.gameid_core.proofs.pattern.puzzle.PatternPuzzle.of_grid.Goals as goal
 pub invariant_of-result : goal.invariant_of-result
 invariant_of-result c = runs_lawful c.args.size c.args.grid.now _ c.in_ok-clues.ensures.lawful c.in_ok-clues.ensures.runs
 
+pub returns-clause-lawful : goal.returns-clause-lawful
+returns-clause-lawful c = runs_lawful c.args.size c.args.grid.now _ c.in_ok-clues.ensures.lawful c.in_ok-clues.ensures.runs
+
 pub returns-clause-columns : goal.returns-clause-columns
 returns-clause-columns c = λ x lt. ap (λ (cs : List (List ℕ)). get_or cs x []) c.in_ok-clues.ensures.runs ∙ at_column runs [] c.args.size c.args.grid.now x lt
 

@@ -1,11 +1,7 @@
 use Rattle.std.proofs.Common.{◌+◌, ℕ, List, get_or, ap, ◌∙◌}
 use Rattle.gameid_core.specs.Lines.{ones}
 use Rattle.gameid_core.proofs.LineLaws.{at_column, at_row}
-use Rattle.gameid_core.proofs.OnesFit.{ones_lawful}
 use Rattle.gameid_core.proofs.tents.puzzle.TentsPuzzle.of_parts.Goals as goal
-
-pub invariant_of-result : goal.invariant_of-result
-invariant_of-result c = ones_lawful c.args.size c.args.trees.now c.args.tents.now _ _ c.in_ok-counts.ensures.lawful c.requires.w_two c.requires.h_two c.requires.trees c.in_ok-trees.ensures c.in_ok-counts.ensures.ones
 
 pub returns-clause-columns : goal.returns-clause-columns
 returns-clause-columns c = λ x lt. ap (λ (cs : List ℕ). get_or cs x 0) c.in_ok-counts.ensures.ones ∙ at_column ones 0 c.args.size c.args.tents.now x lt
