@@ -13,21 +13,14 @@ use Rattle.gameid_core.specs.Lines.{line_place, line_list}
 pub within_column : (size : Extent) (line k w : ℕ) → w ≡ size.w → line < w → k < line_cells size line → k * w + line < size.w * size.h
 within_column size line k w is lt room = grind (arith, lt-ltb)
 
--- the first numbers of a line
-abbrev pub line_front : Extent → List ℕ → ℕ → ℕ → List ℕ
-line_front size g line k = map (λ j. get_or g (line_place size line j) 0) (range_with_len 0 k)
-
-pub length_front : (size : Extent) (g : List ℕ) (line k : ℕ) → length (line_front size g line k) ≡ k
-length_front size g line k = grind (arith, common_steps, length-map-range_with_len)
-
 pub map_more : {A : Type 0} (f : ℕ → A) (k : ℕ) → map f (range_with_len 0 (k + 1)) ≡ map f (range_with_len 0 k) ++ f k ∷ []
 map_more f k = map-range_with_len_more f 0 k k (let z : 0 + k ≡ k = omega arith in z)
 
-pub front_whole : (size : Extent) (g : List ℕ) (line : ℕ) → line_front size g line (line_cells size line) ≡ line_list size g line
-front_whole size g line = grind arith
-
 pub length_line : (size : Extent) (g : List ℕ) (line : ℕ) → length (line_list size g line) ≡ line_cells size line
 length_line size g line = grind (arith, length-map-range_with_len)
+
+pub cell_at : (size : Extent) (g : List ℕ) (line k : ℕ) → k < line_cells size line → get_or (line_list size g line) k 0 ≡ get_or g (line_place size line k) 0
+cell_at size g line k lt = grind (arith, get_or-map-range_with_len)
 
 -- a function of each line's list, for the columns and for the rows
 pub at_column : {A : Type 0} (f : List ℕ → A) (d : A) (size : Extent) (g : List ℕ) (x : ℕ) → x < size.w → get_or (map (λ line. f (line_list size g line)) (range_with_len 0 (lines_of size))) x d ≡ f (column_cells size g x)
@@ -40,4 +33,4 @@ at_row f d size g y lt = grind (arith, get_or-map-range_with_len)
 abbrev pub lines_front : {A : Type 0} → (List ℕ → A) → Extent → List ℕ → ℕ → List A
 lines_front f size g k = map (λ line. f (line_list size g line)) (range_with_len 0 k)
 
-pub ruleset turns = (common_steps, map_more, map-append, length_front, front_whole)
+pub ruleset turns = (common_steps, map_more, map-append, length_line, cell_at)

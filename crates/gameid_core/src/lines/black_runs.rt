@@ -1,11 +1,12 @@
 //! The black runs of a line.
 
-ghost use Rattle.std.specs.Prelude.{◌≡◌, ◌≤◌, ◌*◌, ℕ, suc, List, [], ◌∷◌, ◌++◌, length, replicate, OnOk, IfOk};
+ghost use Rattle.std.specs.Prelude.{◌≡◌, ◌<◌, ◌*◌, ℕ, suc, List, [], ◌∷◌, ◌++◌, length, replicate, OnOk, IfOk};
 ghost use Rattle.grid_core.specs.Extent.{IsExtent};
 ghost use Rattle.gameid_core.specs.BlackRuns.{run_of, runs};
-ghost use Rattle.gameid_core.specs.Lines.{lines_runs};
+ghost use Rattle.gameid_core.specs.Puzzles.{lines_of};
+ghost use Rattle.gameid_core.specs.Lines.{line_list, lines_runs};
 
-use crate::lines::places::{line_of, lines};
+use crate::lines::places::{cell_of, cells_of, lines};
 use crate::pattern::clues::Clues;
 use grid_core::{Grid, Size};
 use std::alloc::{AllocError, Global};
@@ -35,15 +36,16 @@ fn push_run_of(clues: &mut Clues, count: u8) -> Result<(), AllocError>
 
 /// Adds the lengths of the maximal black runs of a line, whose cells are 0 for white and anything
 /// else for black.
-#[tactic(auto, unfolding(crate::specs::BlackRuns::runs_after))]
-fn push_runs(clues: &mut Clues, cells: &[u8]) -> Result<(), AllocError>
-    requires { length cells.now ≤ 255 }
+#[tactic(auto, using(crate::proofs::LineLaws::turns), unfolding(crate::specs::BlackRuns::runs_after))]
+fn push_runs(clues: &mut Clues, size: Size, grid: &Grid, line: usize) -> Result<(), AllocError>
+    requires cells { length grid.now ≡ size.w * size.h }
+    requires line { line < lines_of size }
     ensures { OnOk result (clues.new
-        ≡ record clues.old { clue = clues.old.clue ++ runs cells.now }) }
+        ≡ record clues.old { clue = clues.old.clue ++ runs (line_list size grid.now line) }) }
 {
     let mut count = 0;
-    for cell in cells {
-        if *cell == 0 {
+    for k in 0..cells_of(size, line) {
+        if cell_of(size, grid, line, usize::from(k)) == 0 {
             push_run_of(clues, count)?;
             count = 0;
             continue;
@@ -63,7 +65,7 @@ pub(crate) fn runs_of_lines(alloc: Global, size: Size, grid: &Grid) -> Result<Cl
     let lines = lines(size);
     let mut clues = Clues::new(alloc, lines, size.cells() + lines / 2)?;
     for line in 0..lines {
-        push_runs(&mut clues, &line_of(alloc, size, grid, line)?)?;
+        push_runs(&mut clues, size, grid, line)?;
         clues.close()?;
     }
     Ok(clues)

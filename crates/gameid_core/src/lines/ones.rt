@@ -1,19 +1,28 @@
 //! How many cells of each line are 1.
 
-ghost use Rattle.std.specs.Prelude.{◌≡◌, ◌≤◌, ◌*◌, length, IfOk};
+ghost use Rattle.std.specs.Prelude.{◌≡◌, ◌<◌, ◌*◌, length, IfOk};
 ghost use Rattle.grid_core.specs.Extent.{IsExtent};
-ghost use Rattle.gameid_core.specs.Lines.{lines_ones, ones};
+ghost use Rattle.gameid_core.specs.Puzzles.{lines_of};
+ghost use Rattle.gameid_core.specs.Lines.{line_list, lines_ones, ones};
 
-use crate::lines::places::{line_of, lines};
+use crate::lines::places::{cell_of, cells_of, lines};
 use grid_core::{Grid, Size};
 use std::alloc::{AllocError, Global};
 
-/// How many of the cells are 1.
-fn ones_of(cells: &[u8]) -> u8
-    requires { length cells.now ≤ 255 }
-    ensures { result ≡ ones cells.now }
+/// How many cells of a line are 1.
+#[tactic(auto, using(crate::proofs::LineLaws::turns))]
+fn ones_of(size: Size, grid: &Grid, line: usize) -> u8
+    requires cells { length grid.now ≡ size.w * size.h }
+    requires line { line < lines_of size }
+    ensures { result ≡ ones (line_list size grid.now line) }
 {
-    cells.iter().filter(|cell| **cell == 1).count() as u8
+    let mut count = 0;
+    for k in 0..cells_of(size, line) {
+        if cell_of(size, grid, line, usize::from(k)) == 1 {
+            count += 1;
+        }
+    }
+    count
 }
 
 /// How many cells of each line of a grid are 1, columns from the left and then rows from the top.
@@ -23,10 +32,10 @@ pub(crate) fn ones_of_lines(alloc: Global, size: Size, grid: &Grid) -> Result<Ve
     ensures ones { IfOk result (λ v. v.items ≡ lines_ones size grid.now) }
     ensures lawful { IsExtent size }
 {
-    let mut counts = Vec::new(alloc);
-    for line in 0..lines(size) {
-        let cells = line_of(alloc, size, grid, line)?;
-        counts.push(ones_of(&cells))?;
+    let lines = lines(size);
+    let mut counts = Vec::with_capacity(alloc, lines)?;
+    for line in 0..lines {
+        counts.push(ones_of(size, grid, line))?;
     }
     Ok(counts)
 }
@@ -35,7 +44,7 @@ pub(crate) fn ones_of_lines(alloc: Global, size: Size, grid: &Grid) -> Result<Ve
 pub(crate) fn numbers_of(alloc: Global, grid: &Grid) -> Result<Vec<u8>, AllocError>
     ensures { IfOk result (λ v. v.items ≡ grid.now) }
 {
-    let mut numbers = Vec::new(alloc);
+    let mut numbers = Vec::with_capacity(alloc, grid.len())?;
     for place in 0..grid.len() {
         numbers.push(grid.get(place))?;
     }

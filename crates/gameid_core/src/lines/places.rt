@@ -1,12 +1,11 @@
 //! The lines of a grid: the columns from the left, and then the rows from the top.
 
-ghost use Rattle.std.specs.Prelude.{◌≡◌, ◌<◌, ◌≤◌, ◌*◌, length, IfOk};
+ghost use Rattle.std.specs.Prelude.{◌≡◌, ◌<◌, ◌≤◌, ◌*◌, length, slice_index};
 ghost use Rattle.grid_core.specs.Extent.{IsExtent};
 ghost use Rattle.gameid_core.specs.Puzzles.{line_cells, lines_of};
 ghost use Rattle.gameid_core.specs.Lines.{line_list, line_place};
 
 use grid_core::{Grid, Size};
-use std::alloc::{AllocError, Global};
 
 /// The cells of a line: columns first, then rows.
 pub(crate) fn cells_of(size: Size, line: usize) -> u8
@@ -43,22 +42,13 @@ fn place_of(size: Size, line: usize, k: usize) -> usize
     }
 }
 
-/// The numbers of a line, downwards in a column and rightwards in a row.
+/// The number of the k-th cell of a line, downwards in a column and rightwards in a row.
 #[tactic(auto, using(crate::proofs::LineLaws::turns))]
-pub(crate) fn line_of(
-    alloc: Global,
-    size: Size,
-    grid: &Grid,
-    line: usize,
-) -> Result<Vec<u8>, AllocError>
+pub(crate) fn cell_of(size: Size, grid: &Grid, line: usize, k: usize) -> u8
     requires cells { length grid.now ≡ size.w * size.h }
     requires line { line < lines_of size }
-    ensures list { IfOk result (λ v. v.items ≡ line_list size grid.now line) }
-    ensures short { IfOk result (λ v. length v.items ≤ 255) }
+    requires k { k < line_cells size line }
+    ensures { result ≡ slice_index (line_list size grid.now line) k }
 {
-    let mut numbers = Vec::new(alloc);
-    for k in 0..usize::from(cells_of(size, line)) {
-        numbers.push(grid.get(place_of(size, line, k)))?;
-    }
-    Ok(numbers)
+    grid.get(place_of(size, line, k))
 }
