@@ -1,9 +1,9 @@
 -- The ones of a line are no more than its cells.
 use Rattle.std.proofs.Common.{◌≡◌, ℕ, zero, suc, ◌+◌, ◌*◌, ◌≤◌, List, [], ◌∷◌, map, length, arith}
 use Rattle.std.proofs.lemmas.Grind.{common_steps}
-use Rattle.std.specs.List.{All, AllByRecursion, range_with_len}
+use Rattle.std.specs.List.{range_with_len}
 use Rattle.std.proofs.lemmas.List.FromFn.{length-map-range_with_len}
-use Rattle.std.proofs.lemmas.List.Elements.{All-head, All-tail}
+use Rattle.std.proofs.lemmas.List.Elements.{recursion_from_All}
 use Rattle.grid_core.specs.Extent.{Extent, IsExtent}
 use Rattle.grid_core.specs.Grids.{IsGrid}
 use Rattle.gameid_core.specs.Puzzles.{IsTents, AreCounts, lines_of}
@@ -18,10 +18,6 @@ are_ones : (size : Extent) (g : List ℕ) (line n : ℕ) → AreCounts size line
 are_ones size g line zero = tt
 are_ones size g line (suc n) = grind (arith, common_steps, are_ones size g (line + 1) n, ones_few, length_line)
 
-each_of : {A : Type 0} (P : A → Type 0) (xs : List A) → All P xs → AllByRecursion P xs
-each_of P [] h = tt
-each_of P (x ∷ xs) h = (All-head P x xs h, each_of P xs (All-tail P x xs h))
-
 -- trees, and the ones of the lines, are a puzzle
 pub ones_lawful : (size : Extent) (trees tents counts kept : List ℕ) → IsExtent size → 2 ≤ size.w → 2 ≤ size.h → IsGrid (size.w * size.h) 2 trees → kept ≡ trees → counts ≡ lines_ones size tents → IsTents (record { size = size; trees = kept; counts = counts })
-ones_lawful size trees tents counts kept e w h grid same is = grind (arith, each_of, length-map-range_with_len, are_ones size tents 0 (lines_of size))
+ones_lawful size trees tents counts kept e w h grid same is = grind (arith, recursion_from_All, length-map-range_with_len, are_ones size tents 0 (lines_of size))

@@ -49,10 +49,10 @@ fn number<'a>(
         (length line.now.clues.now.clues) line.now.before at (digits_front digits.now)
         else Err (BadByte token)) (after_digits digits.now) result }
 {
-    if !starts_with_digit(digits) {
+    let (number, rest) = leading_number(digits);
+    if number == 0 && !starts_with_digit(digits) {
         return Err(IdFault::BadByte(token));
     }
-    let (number, rest) = leading_number(digits);
     if number == 0 {
         return Err(IdFault::NumberRange(at));
     }
