@@ -50,7 +50,7 @@ fn cells(
     requires all { all ≤ max_side * max_side }
     ensures { Gives (λ v. v.items) result (light_cells_at all base description.now) }
 {
-    let mut cells = Vec::new(alloc);
+    let mut cells = Vec::with_capacity(alloc, all)?;
     for (k, first) in description.iter().enumerate() {
         let (count, cell) = run_of(base + k, *first)?;
         if count > all - cells.len() {

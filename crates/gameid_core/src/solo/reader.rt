@@ -63,7 +63,7 @@ fn cells(alloc: Global, n: u8, base: usize, description: &[u8]) -> Result<Vec<u8
     ensures { Gives (λ v. v.items) result (solo_cells_at n base description.now) }
 {
     let all = usize::from(n) * usize::from(n);
-    let mut cells = Vec::new(alloc);
+    let mut cells = Vec::with_capacity(alloc, all)?;
     let mut rest = description;
     while let Some((first, after)) = first_of(rest) {
         let at = base + (description.len() - rest.len());

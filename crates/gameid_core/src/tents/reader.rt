@@ -92,8 +92,9 @@ fn parts(
     ensures { Gives (λ x. record { places = x.0.items; counts = x.1.items }) result
         (tents_at size base description.now) }
 {
-    let mut places = Vec::new(alloc);
-    let mut counts = Vec::new(alloc);
+    let lines = lines(size);
+    let mut places = Vec::with_capacity(alloc, size.cells() + 1)?;
+    let mut counts = Vec::with_capacity(alloc, lines)?;
     let mut rest = description;
     while let Some((first, after)) = first_of(rest) {
         let at = base + (description.len() - rest.len());
@@ -115,7 +116,7 @@ fn parts(
             rest = after;
         }
     }
-    if counts.len() != lines(size) {
+    if counts.len() != lines {
         return Err(IdFault::TooFew);
     }
     Ok((places, counts))
