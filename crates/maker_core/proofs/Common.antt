@@ -80,7 +80,7 @@ pub use Rattle.grid_core.specs.Extent.{Extent, IsExtent}
 pub use Rattle.grid_core.specs.Grids.{IsGrid, column_cells, row_cells}
 pub use Rattle.grid_core.specs.Regions.{beside, column_places, row_places, steps}
 pub use Rattle.pattern_core.specs.Faults.{IsCheck}
-pub use Rattle.pattern_core.specs.LineLaws.{cell_in_grid, different_places, has_runs-is, is_solution-from, length-line_places, line_rules-lawful}
+pub use Rattle.pattern_core.specs.LineLaws.{cell_in_grid, different_places, has_runs-is, is_solution-from, is_solution-is, length-line_places, line_rules-lawful}
 pub use Rattle.pattern_core.specs.LineLaws.{place_in_row}
 pub use Rattle.pattern_core.specs.LineRules.{line_rules}
 pub use Rattle.pattern_core.specs.Lines.{clue_of, has_runs, line_places}
@@ -102,13 +102,13 @@ pub use Rattle.solo_core.specs.SolutionLaws.{rule_from_test, test_from_rule}
 pub use Rattle.solo_core.specs.Solutions.{IsSoloSolution}
 pub use Rattle.solo_core.specs.declared.houses.house.SoloHouse.{SoloHouse}
 pub use Rattle.solo_core.specs.declared.houses.house.SoloHouse.TheVariants.{Block, Column, Diagonal, Row}
-pub use Rattle.maker_core.specs.Draws.{AllFail, AreAll, HasWords, IsFirstPassing, Tries, draw_below, filling_at, shuffled_list, shuffled_order}
+pub use Rattle.maker_core.specs.Draws.{AllFail, AreAll, HasWords, IsFirst, IsFirstPassing, Tries, draw_below, filling_at, shuffled_list, shuffled_order}
 unfoldable pub use Rattle.maker_core.specs.Draws.{black_cells, stream_after}
 pub use Rattle.maker_core.specs.Flips.{flipped_from, line_from}
 unfoldable pub use Rattle.maker_core.specs.Flips.{flipped}
 pub use Rattle.maker_core.specs.LightClues.{light_game}
 pub use Rattle.maker_core.specs.LightCluesLaws.{light_is_game, lit_by_fewer, numbered_is}
-pub use Rattle.maker_core.specs.LightFilling.{Lighting, light_passes, lit_up, numbered_cell, with_bulb}
+pub use Rattle.maker_core.specs.LightFilling.{IsLit, light_passes, lit_up, numbered_cell, with_bulb}
 unfoldable pub use Rattle.maker_core.specs.LightFilling.{bulbs_after, light_filling, light_puzzle_of, lights_of, white_places, with_numbers}
 pub use Rattle.maker_core.specs.LightMaking.{light_tries}
 pub use Rattle.maker_core.specs.Made.{HasOne, IsOnlySolution, TellsOne, has_one, is_one}
@@ -129,6 +129,7 @@ pub use Rattle.maker_core.specs.Thinning.{AreReasons, Game, HasTwo, IsGame, IsOn
 pub use Rattle.maker_core.specs.Thinning.{stream_after_clues}
 pub use Rattle.maker_core.specs.ThinningSteps.{IsAsked, IsLeft, IsThinning, IsTold, IsVerdict}
 unfoldable pub use Rattle.maker_core.specs.ThinningSteps.{reasons_from}
+pub use Rattle.maker_core.specs.declared.light_up.lighting.Lighting.{Lighting}
 pub use Rattle.maker_core.specs.declared.made.Kept.{Kept}
 pub use Rattle.maker_core.specs.declared.made.Why.{Why}
 pub use Rattle.maker_core.specs.declared.made.Why.TheVariants.{Budget, Needed}

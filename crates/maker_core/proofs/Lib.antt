@@ -13,7 +13,7 @@ pub mod TentMakings
 pub mod TentsSolved
 pub mod Shuffles
 mod TentsFilled
-pub mod Tries
+pub mod FirstTries
 pub mod SoloNumbers
 pub mod SoloOrderLemmas
 pub mod SoloSolution

@@ -1,8 +1,8 @@
 -- What is drawn for a filling of Light Up is its definition.
 use Rattle.maker_core.proofs.Common.{◌≡◌, ℕ, ◌*◌, ◌<◌, true, List, false, arith, map, length, refl, sym, ap, ◌∙◌, get_or_default, get_or-map}
 use Rattle.maker_core.proofs.Common.{get_or_past, length-map, All, IsPermutation, slice_index, ◌==◌, if◌then◌else◌, range_with_len, LightCell, Stream}
-use Rattle.maker_core.proofs.Common.{Extent, Light, White, Black, light_cells, white, is_lit, white-in, AreAll, shuffled_list, black_cells, lights_of}
-use Rattle.maker_core.proofs.Common.{white_places, bulbs_after, numbered_cell, with_numbers, lit_up, Lighting, light_filling, light_puzzle_of}
+use Rattle.maker_core.proofs.Common.{Extent, Light, White, Black, light_cells, white, is_lit, white-in, AreAll, shuffled_list, lights_of}
+use Rattle.maker_core.proofs.Common.{white_places, bulbs_after, numbered_cell, with_numbers, Lighting, light_puzzle_of}
 use Rattle.maker_core.proofs.LightSight.{same_white}
 use Rattle.maker_core.proofs.LightSolved.{order_white, lit_solved}
 
@@ -25,22 +25,6 @@ pub lit_up_solved : (p : Light) (items new order g : List ℕ) (s t : Stream) �
     → is_lit (with_numbers p g) g ≡ true
 lit_up_solved p items new order g s t w long is = lit_solved p order g long (mixed_order p items new order s t w) is
 
--- the whole filling
-pub record IsFilled (size : Extent) (black : ℕ) (s t u : Stream) (cells bulbs : List ℕ) (p : Light) : Type 0 where
-  pub drawn : ◌≡◌ {A = List ℕ × Stream} (cells, t) (black_cells black (size.w * size.h) s)
-  pub blacks : p ≡ lights_of size cells
-  pub lit : ◌≡◌ {A = List ℕ × Stream} (bulbs, u) (lit_up p t)
-
-pub filling_is : (size : Extent) (black : ℕ) (s t u : Stream) (cells bulbs : List ℕ) (p : Light) → IsFilled size black s t u cells bulbs p
-    → ◌≡◌ {A = Lighting × Stream} (record { black = cells; bulbs = bulbs }, u) (light_filling size black s)
-unfolding light_filling
-filling_is size black s t u cells bulbs p w = rw (sym w.drawn, sym w.blacks, sym w.lit) refl
-
-pub puzzle_is : (size : Extent) (cells bulbs : List ℕ) (p q : Light) → p ≡ lights_of size cells → q ≡ with_numbers p bulbs
-    → q ≡ light_puzzle_of size (record { black = cells; bulbs = bulbs })
-unfolding light_puzzle_of
-puzzle_is size cells bulbs p q blacks numbers = rw (sym blacks) numbers
-
 -- black cells alone
 black_at : (size : Extent) (cells : List ℕ) → AreAll 1 cells → (c : ℕ) → white (lights_of size cells) c ≡ false
 unfolding white lights_of
@@ -50,13 +34,9 @@ black_long : (size : Extent) (cells : List ℕ) → length cells ≡ size.w * si
 unfolding lights_of
 black_long size cells long = length-map cells (λ v. if v == 1 then Black else White) ∙ long
 
-pub numbered_cells : (size : Extent) (cells bulbs : List ℕ) (p q : Light) → p ≡ lights_of size cells → q ≡ with_numbers p bulbs → light_cells p ≡ light_cells q
-unfolding with_numbers
-numbered_cells size cells bulbs p q is numbers = sym (ap light_cells numbers)
-
-pub none_white : (size : Extent) (cells bulbs : List ℕ) (p q : Light) → AreAll 1 cells → p ≡ lights_of size cells → q ≡ with_numbers p bulbs → length cells ≡ size.w * size.h
-    → (c : ℕ) → white q c ≡ false
-none_white size cells bulbs p q all is numbers long c = rw numbers (same_white p bulbs (rw is (black_long size cells long)) c ∙ rw is (black_at size cells all c))
+pub none_white : (size : Extent) (f : Lighting) → length f.black ≡ size.w * size.h → AreAll 1 f.black → (c : ℕ) → white (light_puzzle_of size f) c ≡ false
+unfolding light_puzzle_of
+none_white size f long all c = same_white (lights_of size f.black) f.bulbs (black_long size f.black long) c ∙ black_at size f.black all c
 
 -- numbers told by the same bulbs are the same
 again_at : (p : Light) (g : List ℕ) → length p.cells ≡ light_cells p → (c : ℕ) → numbered_cell p g c ≡ numbered_cell (with_numbers p g) g c
@@ -67,8 +47,6 @@ again : (p : Light) (g : List ℕ) → length p.cells ≡ light_cells p → with
 unfolding with_numbers
 again p g long = ap (λ (f : ℕ → LightCell). record { size = p.size; cells = map f (range_with_len 0 (light_cells p)) }) (λ i c. again_at p g long c i)
 
-pub numbers_again : (size : Extent) (cells bulbs : List ℕ) (p q : Light) → p ≡ lights_of size cells → q ≡ with_numbers p bulbs → length cells ≡ size.w * size.h → q ≡ with_numbers q bulbs
-numbers_again size cells bulbs p q is numbers long = rw numbers (again p bulbs (rw is (black_long size cells long)))
-
--- what the filling cites
-pub ruleset filled_laws = (numbers_again, none_white, numbered_cells)
+pub numbers_again : (size : Extent) (f : Lighting) → length f.black ≡ size.w * size.h → light_puzzle_of size f ≡ with_numbers (light_puzzle_of size f) f.bulbs
+unfolding light_puzzle_of
+numbers_again size f long = again (lights_of size f.black) f.bulbs (black_long size f.black long)

@@ -1,9 +1,11 @@
--- A puzzle of black cells alone passes, and the puzzle of a filling is of its size.
+-- A puzzle of black cells alone passes; and what is known of the puzzle of a filling.
 use Rattle.maker_core.proofs.Common.{◌≡◌, ℕ, ◌<◌, true, false, not, List, slice_index, sym, ap, ◌∙◌, arith, Extent, IsGrid, all_below-at, Light}
 use Rattle.maker_core.proofs.Common.{IsLawful, closure_inside, start_of, light_cells, white, black_right, is_lit, light_rules, lit-parts, Lighting}
-use Rattle.maker_core.proofs.Common.{lights_of, light_puzzle_of, with_numbers, is_one, has_one}
+use Rattle.maker_core.proofs.Common.{AreAll, IsLit, light-lawful, lights_of, light_puzzle_of, with_numbers, is_one, has_one, HasOne, TellsOne, IsOnly}
 use Rattle.maker_core.proofs.FoundAtOnce.{found_at_once}
 use Rattle.maker_core.proofs.FullStart.{known}
+use Rattle.maker_core.proofs.LightFilled.{none_white, numbers_again}
+use Rattle.maker_core.proofs.OnlySolutions.{one_grid}
 
 -- ---- black cells alone
 start_black : (p : Light) (c v : ℕ) → white p c ≡ false → v < 2 → start_of (light_cells p) (λ d. not (white p d)) c v ≡ true → v ≡ 0
@@ -21,6 +23,27 @@ black_passes p g budget laws grid lit black =
     (λ c v lt few here. start_black p c v (black c) few (closure_inside (light_rules p) (light_rules p).start c v here)
     ∙ sym (no_bulb_on p g c lit lt (black c))))
 
-pub size_is : (size : Extent) (f : Lighting) (p q : Light) → p ≡ light_puzzle_of size f → q.size ≡ p.size → q.size ≡ size
+-- ---- the puzzle of a filling
+pub size_is : (size : Extent) (f : Lighting) (p : Light) → p ≡ light_puzzle_of size f → p.size ≡ size
 unfolding light_puzzle_of with_numbers lights_of
-size_is size f p q is same = same ∙ ap (λ (r : Light). r.size) is
+size_is size f p is = ap (λ (r : Light). r.size) is
+
+pub all_numbers : (size : Extent) (f : Lighting) (p : Light) → p ≡ light_puzzle_of size f → IsLit size f → p ≡ with_numbers p f.bulbs
+all_numbers size f p is lit = rw is (numbers_again size f lit.black.each_cell)
+
+pub lit_one : (size : Extent) (f : Lighting) (budget : ℕ) (p : Light) → p ≡ light_puzzle_of size f → IsLit size f → HasOne (light_rules (light_puzzle_of size f)) budget
+    → IsOnly (light_rules p) f.bulbs × TellsOne (light_rules p) budget f.bulbs
+unfolding light_puzzle_of with_numbers lights_of
+lit_one size f budget p is lit one = rw is (one_grid (light_rules (light_puzzle_of size f)) f.bulbs budget one (record { grid = lit.bulbs; good = lit.solved }))
+
+-- what the thinning of a filling's puzzle cites
+pub ruleset lit_laws = (all_numbers, lit_one)
+
+-- black cells alone pass
+pub all_black : (size : Extent) (f : Lighting) (budget : ℕ) (p : Light) → p ≡ light_puzzle_of size f → IsLawful (light_rules p) → IsLit size f → AreAll 1 f.black
+    → has_one (light_rules p) budget ≡ true
+unfolding light_puzzle_of with_numbers lights_of
+all_black size f budget p is laws lit black =
+    rw is (black_passes (light_puzzle_of size f) f.bulbs budget (rw is at laws) lit.bulbs lit.solved (none_white size f lit.black.each_cell black))
+
+pub ruleset black_laws = (all_black, light-lawful)

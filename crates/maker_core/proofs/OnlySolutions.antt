@@ -1,5 +1,9 @@
 -- What a search says of the solutions of its rules it says of the solutions of the game, where the two agree.
-use Rattle.maker_core.proofs.Common.{ℕ, List, sym, ◌∙◌, subst, IsTrue, ◌↔◌, Puzzle, IsGridOf, Solves, HasOne, TellsOne, IsOnlySolution, IsOnly}
+use Rattle.maker_core.proofs.Common.{ℕ, List, sym, subst, IsTrue, ◌↔◌, Puzzle, IsGridOf, Solves, HasOne, TellsOne, IsOnlySolution, IsOnly}
+
+-- a grid that solves is the one of the verdict
+pub one_grid : (rules : Puzzle) (g : List ℕ) (budget : ℕ) → HasOne rules budget → Solves rules g → IsOnly rules g × TellsOne rules budget g
+one_grid rules g budget one good = subst (λ h. IsOnly rules h × TellsOne rules budget h) (one.only.1 g good) (one.only, one.found)
 
 module _ (rules : Puzzle) (solves : List ℕ → Type 0) (fits : (h : List ℕ) → solves h → IsGridOf rules h)
     (accepted : (h : List ℕ) → IsGridOf rules h → (IsTrue (rules.is_solution h)) ↔ solves h) where
@@ -10,6 +14,4 @@ module _ (rules : Puzzle) (solves : List ℕ → Type 0) (fits : (h : List ℕ) 
   only_is g only = ((accepted g only.0.grid).0 only.0.good, λ h s. sym (only.1 h (solution h s)))
 
   pub one_is : (g : List ℕ) (budget : ℕ) → HasOne rules budget → solves g → IsOnlySolution solves g × TellsOne rules budget g
-  one_is g budget one good =
-      let same = one.only.1 g (solution g good) in
-      ((good, λ h s. sym (one.only.1 h (solution h s)) ∙ same), subst (TellsOne rules budget) same one.found)
+  one_is g budget one good = let w = one_grid rules g budget one (solution g good) in (only_is g w.0, w.1)

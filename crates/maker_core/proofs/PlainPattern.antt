@@ -1,7 +1,7 @@
 -- A grid of white cells alone, or of black cells alone, is all that one visit of each row leaves.
 use Rattle.maker_core.proofs.Common.{sum, sum_by, nat_lt, cond, set, length-set, lt-ltb, All-from_get_or, count_by-le-length, get_or-le-sum_by}
 use Rattle.maker_core.proofs.Common.{sum_by-append, sum_by-cons, sum_by-le, sum_by-set, ◌≡◌, ℕ, zero, suc, ◌+◌, ◌-◌, ◌*◌, ◌/◌, ◌%◌, ◌<◌, ◌≤◌, true}
-use Rattle.maker_core.proofs.Common.{false, List, [], ◌∷◌, length, slice_index, refl, sym, ap, subst, ◌∙◌, arith, inl, inr, ◌⊎◌, le-ltb, div-add-mod'}
+use Rattle.maker_core.proofs.Common.{false, List, [], ◌∷◌, length, slice_index, refl, sym, ap, ◌∙◌, arith, inl, inr, ◌⊎◌, le-ltb, div-add-mod'}
 use Rattle.maker_core.proofs.Common.{div_below, mod_below, get_or-map-range_with_len, length-map-range_with_len, Extent, IsExtent, Candidates}
 use Rattle.maker_core.proofs.Common.{row_cells, run_of, runs_after, runs, at_row, Pattern, lines_of, closure, strikes_by_fillings, shown_from_test}
 use Rattle.maker_core.proofs.Common.{sets_at, strikes_at, strikes_at-place, length-sets_at, IsClosed, line_places, clue_of, has_runs}
@@ -115,10 +115,10 @@ plain_alone size g E c v extent long plain closed lt few on =
     ]
 
 -- the verdict of such a grid's puzzle is one
-pub plain_passes : (p : Pattern) (g : List ℕ) (budget : ℕ) → IsExtent p.size → p ≡ clued_by p.size g → IsPatternSolution p g → AreAll 0 g ⊎ AreAll 1 g
-    → has_one (line_rules p) budget ≡ true
-plain_passes p g budget extent made good plain =
+pub plain_passes : (size : Extent) (g : List ℕ) (budget : ℕ) → IsExtent size → IsPatternSolution (clued_by size g) g → AreAll 0 g ⊎ AreAll 1 g
+    → has_one (line_rules (clued_by size g)) budget ≡ true
+plain_passes size g budget extent good plain =
+    let p : Pattern = clued_by size g in
     let rules = known (line_rules p) (line_rules-lawful p extent) in
     ap is_one (found_at_once (line_rules p) budget g rules (record { grid = good.grid; good = is_solution-from p g good })
-    (λ c v lt few here. plain_alone p.size g (closure (line_rules p) (line_rules p).start) c v extent good.grid.each_cell plain
-    (subst (λ (q : Pattern). IsClosed (line_rules q) (closure (line_rules p) (line_rules p).start)) made (closed_start (line_rules p) rules)) lt few here))
+    (λ c v lt few here. plain_alone size g (closure (line_rules p) (line_rules p).start) c v extent good.grid.each_cell plain (closed_start (line_rules p) rules) lt few here))

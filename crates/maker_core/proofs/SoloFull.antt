@@ -1,10 +1,10 @@
 -- The puzzle that gives all cells of a grid: its search starts from that grid alone.
 use Rattle.maker_core.proofs.Common.{◌≡◌, ℕ, suc, ◌+◌, ◌*◌, ◌<◌, ◌≤◌, Bool, List, map, length, slice_index, take, replicate, [], ◌∷◌, ◌++◌, ◌-◌, refl}
-use Rattle.maker_core.proofs.Common.{sym, ◌∙◌, arith, true, Some, ap, length-map, length-take-le, get_or-map, map_more, set_at, append_assoc}
+use Rattle.maker_core.proofs.Common.{sym, ◌∙◌, arith, Some, ap, length-map, length-take-le, get_or-map, map_more, set_at, append_assoc}
 use Rattle.maker_core.proofs.Common.{append-nil, take_all, All-map, All-get_or, All-from_get_or, recursion_from_All, IsInside, single, IsGrid}
 use Rattle.maker_core.proofs.Common.{slice_set, Solo, IsSolo, solo_puzzle, Solves, IsTrueOf, IsSoloSolution, test_from_rule, rule_from_test, start}
 use Rattle.maker_core.proofs.Common.{houses_rules, houses_lawful, TellsOne, is_one, IsOnlySolution, all_given, solo_game, clue_is, is_clue, IsSoloSize}
-use Rattle.maker_core.proofs.Common.{solo_passes, IsThinnedFrom}
+use Rattle.maker_core.proofs.Common.{solo_passes, IsThinnedFrom, Option, None, IfSome, is_some}
 use Rattle.engine_core.specs.Verdict.{Outcome.OneGrid}
 use Rattle.maker_core.proofs.FullStart.{start_found, start_only}
 
@@ -92,9 +92,11 @@ thinned-solo c r x p g size solution w = record {
 -- what the writing of all givens cites
 pub ruleset full_laws = (written, given-all)
 
--- a filling that is there passes
-pub full_passes : (c r : ℕ) (x : Bool) (g : List ℕ) (budget : ℕ) → IsSoloSize c r → IsSoloSolution (all_given c r x g) g → solo_passes c r x budget (Some g) ≡ true
-full_passes c r x g budget size solution = ap is_one (all_given-found c r x g size solution budget)
+-- a filling passes where it is there
+pub found_passes : (c r : ℕ) (x : Bool) (budget : ℕ) (filling : Option (List ℕ)) → IsSoloSize c r
+    → IfSome filling (λ g. IsSoloSolution (all_given c r x g) g) → is_some filling ≡ solo_passes c r x budget filling
+found_passes c r x budget (Some g) size solution = sym (ap is_one (all_given-found c r x g size solution budget))
+found_passes c r x budget None size solution = refl
 
 pub only_by_rules : (p : Solo) (g : List ℕ) → IsSolo p → IsTrueOf (houses_rules p) (OneGrid g) → IsOnlySolution (IsSoloSolution p) g
 only_by_rules p g ok w = (

@@ -76,6 +76,13 @@ pub record Tries (A : Type 0) : Type 0 where
   pub count : ℕ
   pub ends : A → Stream → Stream
 
+-- the filling is the first that passes, and that stream is left after it
+pub record IsFirst {A : Type 0} (t : Tries A) (s : Stream) (filling : A) (left : Stream) : Type 0 where
+  pub k : ℕ
+  pub first : IsFirstPassing t.make t.passes s t.count k
+  pub filled : filling ≡ filling_at t.make k s
+  pub drawn : left ≡ stream_after t.make (suc k) s
+
 -- none of the tries passes
 abbrev pub AllFail : {A : Type 0} → Tries A → Stream → Type 0
 AllFail t s = NonePasses t.make t.passes s t.count

@@ -1,13 +1,14 @@
 -- What a maker of Light Up tries. A grid has 1 at a bulb and 0 elsewhere.
-use Rattle.std.specs.Prelude.{◌≡◌, ℕ, zero, suc, ◌*◌, Bool, ◌||◌, ◌==◌, List, length, map, filter, replicate, slice_index, slice_set, if◌then◌else◌}
+use Rattle.std.specs.Prelude.{◌≡◌, ℕ, zero, suc, ◌*◌, Bool, true, ◌||◌, ◌==◌, List, length, map, filter, replicate, slice_index, slice_set, if◌then◌else◌}
 use Rattle.std.specs.List.{range_with_len}
-use Rattle.rand_core.specs.Stream.{Stream}
 use Rattle.grid_core.specs.Extent.{Extent}
+use Rattle.grid_core.specs.Grids.{IsGrid}
 use Rattle.gameid_core.specs.Puzzles.{Light}
 use Rattle.gameid_core.specs.declared.light_up.cell.LightCell.{LightCell}
 use Rattle.gameid_core.specs.declared.light_up.cell.LightCell.TheVariants.{White, Black, Numbered}
-use Rattle.fields_core.specs.Light.{light_cells, white, bulb, sees_bulb, bulbs_beside}
+use Rattle.fields_core.specs.Light.{light_cells, white, bulb, sees_bulb, bulbs_beside, is_lit}
 use Rattle.fields_core.specs.LightHouses.{light_rules}
+use Rattle.maker_core.specs.declared.light_up.lighting.Lighting.{Lighting}
 use Rattle.maker_core.specs.Draws.{Making, black_cells, shuffled_list}
 use Rattle.maker_core.specs.Made.{has_one}
 
@@ -37,11 +38,6 @@ unfoldable pub with_numbers : Light → List ℕ → Light
 with_numbers p g =
     record { size = p.size; cells = map (numbered_cell p g) (range_with_len 0 (light_cells p)) }
 
--- black cells and bulbs
-pub record Lighting : Type 0 where
-  pub black : List ℕ
-  pub bulbs : List ℕ
-
 -- the white cells, listed by place and shuffled, are taken in turn
 unfoldable pub lit_up : Light → Making (List ℕ)
 lit_up p s =
@@ -63,8 +59,8 @@ light_puzzle_of size filling = with_numbers (lights_of size filling.black) filli
 abbrev pub light_passes : Extent → ℕ → Lighting → Bool
 light_passes size budget filling = has_one (light_rules (light_puzzle_of size filling)) budget
 
--- the puzzle and the bulbs of the filling that is made of a stream, and the stream that is left
-abbrev pub IsLighting : Extent → ℕ → Stream → Light → List ℕ → Stream → Type 0
-IsLighting size black s p bulbs left = (filling : Lighting)
-    × ((filling, left) ≡ light_filling size black s)
-    × (p ≡ light_puzzle_of size filling) × (bulbs ≡ filling.bulbs)
+-- black cells and bulbs of so many cells; the bulbs solve its puzzle
+pub record IsLit (size : Extent) (filling : Lighting) : Type 0 where
+  pub black : IsGrid (size.w * size.h) 2 filling.black
+  pub bulbs : IsGrid (size.w * size.h) 2 filling.bulbs
+  pub solved : is_lit (light_puzzle_of size filling) filling.bulbs ≡ true

@@ -7,9 +7,10 @@ use Rattle.fields_core.specs.LightHouses.{light_rules}
 use Rattle.fields_core.specs.LightSolutions.{IsLightSolution}
 use Rattle.maker_core.specs.Draws.{Tries, IsFirstPassing, filling_at}
 use Rattle.maker_core.specs.LightClues.{light_game}
-use Rattle.maker_core.specs.LightFilling.{Lighting, light_filling, light_passes, light_puzzle_of, with_numbers}
+use Rattle.maker_core.specs.LightFilling.{light_filling, light_passes, light_puzzle_of, with_numbers}
 use Rattle.maker_core.specs.Made.{TellsOne, IsOnlySolution}
 use Rattle.maker_core.specs.Thinning.{AreReasons, IsThinnedFrom, stream_after_clues}
+use Rattle.maker_core.specs.declared.light_up.lighting.Lighting.{Lighting}
 use Rattle.maker_core.specs.declared.made.Kept.{Kept}
 use Rattle.maker_core.specs.declared.made.Limits.{Limits}
 use Rattle.maker_core.specs.declared.made.Made.{Made}

@@ -10,6 +10,7 @@ mod pattern;
 mod solo;
 mod tents;
 mod thinning;
+mod tries;
 
 pub use laws::{
     fewer_clues_keep_solutions, fillings_of_tents_are_solutions, needed_clues_are_not_idle,

@@ -2,4 +2,5 @@
 
 pub(crate) mod clues;
 pub(crate) mod filling;
+pub(crate) mod lighting;
 pub(crate) mod maker;

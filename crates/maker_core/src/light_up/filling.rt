@@ -2,12 +2,14 @@
 
 ghost use Rattle.std.specs.Prelude.{◌≡◌, ◌≤◌, ◌<◌, ◌*◌, ℕ, true, false, All, IfOk, length, replicate};
 ghost use Rattle.grid_core.specs.Grids.{IsGrid};
+ghost use Rattle.gameid_core.specs.Puzzles.{IsWide};
 ghost use Rattle.fields_core.specs.Light.{light_cells, white, is_lit};
-ghost use Rattle.maker_core.specs.Draws.{IsDrawnBy};
-ghost use Rattle.maker_core.specs.LightFilling.{lights_of, white_places, bulbs_after, with_numbers, lit_up, IsLighting};
+ghost use Rattle.maker_core.specs.Draws.{AreAll, IsDrawnBy};
+ghost use Rattle.maker_core.specs.LightFilling.{IsLit, bulbs_after, light_filling, light_puzzle_of, lights_of, lit_up, white_places, with_numbers};
 
 use crate::black::draw_black;
 use crate::draws::shuffle;
+use crate::light_up::lighting::Lighting;
 use fields_core::{count_beside, is_white, sees_a_bulb};
 use gameid_core::{LightCell, LightPuzzle};
 use grid_core::{Grid, Size};
@@ -96,32 +98,42 @@ fn light_up<G: Rng>(alloc: Global, rng: &mut G, puzzle: &LightPuzzle) -> Result<
     Ok(grid)
 }
 
-/// A filling of Light Up, as a puzzle with a number on every black cell and its grid: black cells are drawn one by one;
-/// then the white cells, listed by place and shuffled, are taken in turn, and each that neither holds nor sees a bulb
-/// gets one.
+/// A filling of Light Up: black cells are drawn one by one; then the white cells, listed by place and shuffled, are taken
+/// in turn, and each that neither holds nor sees one gets a bulb.
 ///
 /// # Errors
 ///
 /// When memory was refused.
-#[tactic(auto, using(crate::proofs::LightFilled::filled_laws))]
 pub(crate) fn fill_lights<G: Rng>(
     alloc: Global,
     rng: &mut G,
     size: Size,
     black: u8,
-) -> Result<(LightPuzzle, Grid), AllocError>
-    requires w_two { 2 ≤ size.w }
-    requires h_two { 2 ≤ size.h }
-    ensures drawn { IfOk result (λ made.
-        IsLighting size black (G.stream rng.old) made.0 made.1 (G.stream rng.new)) }
-    ensures grid { IfOk result (λ made. IsGrid (light_cells made.0) 2 made.1) }
-    ensures solved { IfOk result (λ made. is_lit made.0 made.1 ≡ true) }
-    ensures numbers { IfOk result (λ made. made.0 ≡ with_numbers made.0 made.1) }
-    ensures full { black ≡ 100 → IfOk result (λ made. (c : ℕ) → white made.0 c ≡ false) }
+) -> Result<Lighting, AllocError>
+    requires { IsWide size }
+    ensures drawn { IfOk result
+        (IsDrawnBy (light_filling size black) G.stream rng.old rng.new) }
+    ensures lit { IfOk result (IsLit size) }
+    ensures full { black ≡ 100 → IfOk result (λ filling. AreAll 1 filling.black) }
 {
-    let blacks = draw_black(alloc, rng, size.cells(), black)?;
-    let mut puzzle = with_black_cells(alloc, size, &blacks)?;
-    let grid = light_up(alloc, rng, &puzzle)?;
-    number_cells(&mut puzzle, &grid);
-    Ok((puzzle, grid))
+    let black = draw_black(alloc, rng, size.cells(), black)?;
+    let puzzle = with_black_cells(alloc, size, &black)?;
+    let bulbs = light_up(alloc, rng, &puzzle)?;
+    Ok(Lighting { black, bulbs })
+}
+
+/// The puzzle of a filling, with a number on every black cell.
+#[tactic(auto, unfolding(crate::specs::LightFilling::light_puzzle_of, crate::specs::LightFilling::lights_of))]
+pub(crate) fn puzzle_of(
+    alloc: Global,
+    size: Size,
+    filling: &Lighting,
+) -> Result<LightPuzzle, AllocError>
+    requires wide { IsWide size }
+    requires lit { IsLit size filling.now }
+    ensures { IfOk result (λ p. p ≡ light_puzzle_of size filling.now) }
+{
+    let mut puzzle = with_black_cells(alloc, size, &filling.black)?;
+    number_cells(&mut puzzle, &filling.bulbs);
+    Ok(puzzle)
 }

@@ -1,20 +1,20 @@
 //! The maker of Light Up.
 
-ghost use Rattle.std.specs.Prelude.{◌≡◌, ◌≢◌, ◌≤◌, ◌↔◌, ℕ, true, false, IsTrue, Err, IfOk, OnOk};
-ghost use Rattle.grid_core.specs.Grids.{IsGrid};
+ghost use Rattle.std.specs.Prelude.{◌≡◌, ◌≢◌, ◌≤◌, ◌↔◌, true, IsTrue, Err, IfOk, OnOk};
 ghost use Rattle.gameid_core.specs.Puzzles.{IsWide};
-ghost use Rattle.fields_core.specs.Light.{light_cells, white, is_lit};
 ghost use Rattle.fields_core.specs.LightHouses.{light_rules};
 ghost use Rattle.maker_core.specs.declared.made.MakeFault.TheVariants.{Exhausted, SizeRange};
 ghost use Rattle.maker_core.specs.Draws.{AllFail, DrawsAll, DrawsFirst};
+ghost use Rattle.maker_core.specs.LightFilling.{IsLit, light_puzzle_of};
 ghost use Rattle.maker_core.specs.LightMaking.{MakesLights, light_tries};
-ghost use Rattle.maker_core.specs.Made.{IfYes, TellsOne, has_one};
-ghost use Rattle.maker_core.specs.Thinning.{IsOnly};
+ghost use Rattle.maker_core.specs.Made.{HasOne};
 
-use crate::light_up::filling::fill_lights;
+use crate::light_up::filling::{fill_lights, puzzle_of};
+use crate::light_up::lighting::Lighting;
 use crate::made::{Limits, Made, MakeFault};
 use crate::thinning::thin::thin;
 use crate::thinning::unique::is_unique;
+use crate::tries::{Fillings, first_passing};
 use fields_core::LightRules;
 use gameid_core::LightPuzzle;
 use grid_core::{Grid, Size};
@@ -28,23 +28,31 @@ fn is_wide(size: Size) -> bool
     size.w() >= 2 && size.h() >= 2
 }
 
-/// Whether the verdict of the puzzle is one. That of a puzzle without white cells is, whatever the budget.
-fn passes(
-    alloc: Global,
-    puzzle: &LightPuzzle,
-    answer: &Grid,
-    budget: u64,
-) -> Result<bool, AllocError>
-    requires grid { IsGrid (light_cells puzzle.now) 2 answer.now }
-    requires solved { is_lit puzzle.now answer.now ≡ true }
-    ensures verdict { IfOk result (λ unique. unique ≡ has_one (light_rules puzzle.now) budget) }
-    ensures only { IfYes result (IsOnly (light_rules puzzle.now) answer.now) }
-    ensures found { IfYes result (TellsOne (light_rules puzzle.now) budget answer.now) }
-    ensures black { ((c : ℕ) → white puzzle.now c ≡ false)
-        → IfOk result (λ unique. unique ≡ true) }
-{
-    let rules = LightRules::new(alloc, puzzle)?;
-    is_unique(alloc, &rules, budget)
+/// Grids whose black cells are drawn one by one, and which are then lit up.
+#[derive(Drop)]
+struct LitGrids {
+    size: Size,
+    black: u8,
+    limits: Limits,
+    ghost wide: { IsWide size },
+}
+
+impl Fillings for LitGrids {
+    type Filling = Lighting;
+
+    ghost tries = { λ t. light_tries t.size t.black t.limits };
+
+    ghost known = { λ t filling passes. IsLit t.size filling
+        × (passes ≡ true → HasOne (light_rules (light_puzzle_of t.size filling)) t.limits.budget)
+        × (t.black ≡ 100 → passes ≡ true) };
+
+    #[tactic(auto, using(crate::proofs::LightMakings::black_laws))]
+    fn draw<G: Rng>(&self, alloc: Global, rng: &mut G) -> Result<(Lighting, bool), AllocError> {
+        let filling = fill_lights(alloc, rng, self.size, self.black)?;
+        let rules = LightRules::new(alloc, &puzzle_of(alloc, self.size, &filling)?)?;
+        let passes = is_unique(alloc, &rules, self.limits.budget)?;
+        Ok((filling, passes))
+    }
 }
 
 /// A puzzle of Light Up with exactly one solution, which is `answer`: 1 at a bulb and 0 elsewhere.
@@ -63,6 +71,7 @@ fn passes(
 ///
 /// `SizeRange` where a side is below 2, tested first; `Exhausted` where no filling of the tries passes, and at once where
 /// there are no tries; `Memory` where memory was refused.
+#[tactic(auto, using(crate::proofs::LightMakings::lit_laws))]
 pub fn make_lights<G: Rng>(
     alloc: Global,
     size: Size,
@@ -85,11 +94,12 @@ pub fn make_lights<G: Rng>(
     if !is_wide(size) {
         return Err(MakeFault::SizeRange);
     }
-    for _attempt in 0..limits.tries {
-        let (puzzle, answer) = fill_lights(alloc, rng, size, black)?;
-        if passes(alloc, &puzzle, &answer, limits.budget)? {
-            return Ok(thin(alloc, puzzle, answer, rng, limits.budget)?);
-        }
-    }
-    Err(MakeFault::Exhausted)
+    let grids = LitGrids {
+        size,
+        black,
+        limits,
+    };
+    let filling = first_passing(alloc, &grids, rng, limits.tries)?;
+    let puzzle = puzzle_of(alloc, size, &filling)?;
+    Ok(thin(alloc, puzzle, filling.bulbs, rng, limits.budget)?)
 }

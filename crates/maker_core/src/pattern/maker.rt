@@ -6,13 +6,14 @@ ghost use Rattle.pattern_core.specs.LineRules.{line_rules};
 ghost use Rattle.pattern_core.specs.Solutions.{IsPatternSolution};
 ghost use Rattle.maker_core.specs.declared.made.MakeFault.TheVariants.{Exhausted, SizeRange};
 ghost use Rattle.maker_core.specs.Draws.{AreAll, AllFail, DrawsAll, DrawsFirst};
-ghost use Rattle.maker_core.specs.Made.{IfYes, TellsOne, IsOnlySolution};
-ghost use Rattle.maker_core.specs.PatternMaking.{MakesPattern, clued_by, pattern_passes, pattern_tries};
+ghost use Rattle.maker_core.specs.Made.{HasOne};
+ghost use Rattle.maker_core.specs.PatternMaking.{MakesPattern, clued_by, pattern_tries};
 
 use crate::black::draw_black;
 use crate::made::{Limits, Made, MakeFault};
 use crate::pattern::switch::has_switch;
 use crate::thinning::unique::is_unique;
+use crate::tries::{Fillings, first_passing};
 use gameid_core::PatternPuzzle;
 use grid_core::{Grid, Size};
 use pattern_core::PatternLines;
@@ -31,30 +32,34 @@ pub(crate) fn puzzle_of(alloc: Global, size: Size, grid: &Grid) -> Result<Patter
     Ok(puzzle)
 }
 
-/// Whether the verdict of the puzzle of the grid is one. That of a grid of one colour is, whatever the budget. A puzzle
-/// in which a second solution is found close by isn't searched. The grid is left as it was.
-fn passes(
-    alloc: Global,
-    puzzle: &PatternPuzzle,
-    answer: &mut Grid,
-    budget: u64,
-) -> Result<bool, AllocError>
-    requires puzzle { puzzle.now ≡ clued_by puzzle.now.size answer.old }
-    requires solved { IsPatternSolution puzzle.now answer.old }
-    ensures verdict { IfOk result
-        (λ unique. unique ≡ pattern_passes puzzle.now.size budget answer.old) }
-    ensures only { IfYes result (IsOnlySolution (IsPatternSolution puzzle.now) answer.old) }
-    ensures found { IfYes result (TellsOne (line_rules puzzle.now) budget answer.old) }
-    ensures plain { AreAll 0 answer.old ⊎ AreAll 1 answer.old
-        → IfOk result (λ unique. unique ≡ true) }
-    ensures same { answer.new ≡ answer.old }
-{
-    pattern_core::accepted_are_solutions();
-    let rules = PatternLines::new(alloc, puzzle)?;
-    if has_switch(puzzle, answer) {
-        return Ok(false);
+/// Grids whose cells are drawn one by one.
+#[derive(Drop)]
+struct Bitmaps {
+    size: Size,
+    black: u8,
+    limits: Limits,
+}
+
+impl Fillings for Bitmaps {
+    type Filling = Grid;
+
+    ghost tries = { λ t. pattern_tries t.size t.black t.limits };
+
+    ghost known = { λ t g passes. IsGrid (t.size.w * t.size.h) 2 g
+        × (passes ≡ true → HasOne (line_rules (clued_by t.size g)) t.limits.budget)
+        × ((t.black ≡ 0) ⊎ (t.black ≡ 100) → passes ≡ true) };
+
+    /// A puzzle in which a second solution is found close by isn't searched.
+    fn draw<G: Rng>(&self, alloc: Global, rng: &mut G) -> Result<(Grid, bool), AllocError> {
+        let mut grid = draw_black(alloc, rng, self.size.cells(), self.black)?;
+        let puzzle = puzzle_of(alloc, self.size, &grid)?;
+        if has_switch(&puzzle, &mut grid) {
+            return Ok((grid, false));
+        }
+        let rules = PatternLines::new(alloc, &puzzle)?;
+        let passes = is_unique(alloc, &rules, self.limits.budget)?;
+        Ok((grid, passes))
     }
-    is_unique(alloc, &rules, budget)
 }
 
 /// A puzzle of Pattern with exactly one solution, which is `answer`: 0 for a white cell and 1 for a black one.
@@ -89,17 +94,17 @@ pub fn make_pattern<G: Rng>(
     ensures plain { 1 ≤ limits.tries → (black ≡ 0) ⊎ (black ≡ 100)
         → result ≢ Err Exhausted }
 {
-    for _attempt in 0..limits.tries {
-        let mut answer = draw_black(alloc, rng, size.cells(), black)?;
-        let puzzle = puzzle_of(alloc, size, &answer)?;
-        if passes(alloc, &puzzle, &mut answer, limits.budget)? {
-            let kept = Vec::new(alloc);
-            return Ok(Made {
-                puzzle,
-                answer,
-                kept,
-            });
-        }
-    }
-    Err(MakeFault::Exhausted)
+    let bitmaps = Bitmaps {
+        size,
+        black,
+        limits,
+    };
+    let answer = first_passing(alloc, &bitmaps, rng, limits.tries)?;
+    let puzzle = puzzle_of(alloc, size, &answer)?;
+    let kept = Vec::new(alloc);
+    Ok(Made {
+        puzzle,
+        answer,
+        kept,
+    })
 }

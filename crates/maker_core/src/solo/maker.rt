@@ -1,16 +1,17 @@
 //! The maker of Solo.
 
-ghost use Rattle.std.specs.Prelude.{◌≡◌, ◌↔◌, false, IsTrue, Err, IfOk, IfSome, OnOk};
+ghost use Rattle.std.specs.Prelude.{◌≡◌, ◌↔◌, false, is_some, IsTrue, Err, IfOk, IfSome, OnOk};
 ghost use Rattle.solo_core.specs.Solutions.{IsSoloSolution};
 ghost use Rattle.maker_core.specs.declared.made.MakeFault.TheVariants.{Exhausted, SizeRange};
-ghost use Rattle.maker_core.specs.Draws.{AllFail, DrawsAll, DrawsFirst, IsDrawnBy};
+ghost use Rattle.maker_core.specs.Draws.{AllFail, DrawsAll, DrawsFirst};
 ghost use Rattle.maker_core.specs.SoloFilling.{all_given};
-ghost use Rattle.maker_core.specs.SoloMaking.{IsSoloSize, MakesSolo, NoneFound, solo_filling, solo_tries};
+ghost use Rattle.maker_core.specs.SoloMaking.{IsSoloSize, MakesSolo, NoneFound, solo_tries};
 
 use crate::made::{Limits, Made, MakeFault};
 use crate::solo::filling::{fill_plain, full_puzzle};
 use crate::solo::x_filling::fill_x;
 use crate::thinning::thin::thin;
+use crate::tries::{Fillings, first_passing};
 use gameid_core::{MAX_NUMBERS, SoloPuzzle};
 use grid_core::Grid;
 use rand_core::Rng;
@@ -57,38 +58,42 @@ pub fn make_solo<G: Rng>(
     if !is_size(c, r) {
         return Err(MakeFault::SizeRange);
     }
-    let budget = limits.budget;
-    for _attempt in 0..limits.tries {
-        let filling = fill_solo(alloc, rng, Sought { c, r, x, budget })?;
-        if let Some(answer) = filling {
-            let puzzle = full_puzzle(alloc, c, r, x, &answer)?;
-            return Ok(thin(alloc, puzzle, answer, rng, limits.budget)?);
-        }
-    }
-    Err(MakeFault::Exhausted)
+    let grids = SoloGrids { c, r, x, limits };
+    let Some(answer) = first_passing(alloc, &grids, rng, limits.tries)? else {
+        unreachable!()
+    };
+    let puzzle = full_puzzle(alloc, c, r, x, &answer)?;
+    Ok(thin(alloc, puzzle, answer, rng, limits.budget)?)
 }
 
-/// The size of a filling, whether it is one of Solo X, and how many trials its search may take.
-#[derive(Clone, Copy)]
-struct Sought {
+/// Grids of a size, of Solo X or plain Solo, where a search finds them.
+#[derive(Drop)]
+struct SoloGrids {
     c: u8,
     r: u8,
     x: bool,
-    budget: u64,
+    limits: Limits,
+    ghost fits: { IsSoloSize c r },
 }
 
-/// The filling of a try, where there is one.
-fn fill_solo<G: Rng>(alloc: Global, rng: &mut G, sought: Sought) -> Result<Option<Grid>, AllocError>
-    requires { IsSoloSize sought.c sought.r }
-    ensures filling { IfOk result (IsDrawnBy
-        (solo_filling sought.c sought.r sought.x sought.budget) G.stream rng.old rng.new) }
-    ensures solution { IfOk result (λ filling.
-        IfSome filling (λ grid. IsSoloSolution (all_given sought.c sought.r sought.x grid) grid)) }
-{
-    if sought.x {
-        fill_x(alloc, sought.c, sought.r, rng, sought.budget)
-    } else {
-        Ok(Some(fill_plain(alloc, sought.c, sought.r, rng)?))
+impl Fillings for SoloGrids {
+    type Filling = Option<Grid>;
+
+    ghost tries = { λ t. solo_tries t.c t.r t.x t.limits };
+
+    ghost known = { λ t filling passes. (passes ≡ is_some filling)
+        × IfSome filling (λ grid. IsSoloSolution (all_given t.c t.r t.x grid) grid) };
+
+    /// Each grid passes: its puzzle, which gives all cells, has one solution.
+    #[tactic(auto, using(crate::proofs::SoloFull::found_passes))]
+    fn draw<G: Rng>(&self, alloc: Global, rng: &mut G) -> Result<(Option<Grid>, bool), AllocError> {
+        let filling = if self.x {
+            fill_x(alloc, self.c, self.r, rng, self.limits.budget)?
+        } else {
+            Some(fill_plain(alloc, self.c, self.r, rng)?)
+        };
+        let passes = filling.is_some();
+        Ok((filling, passes))
     }
 }
 

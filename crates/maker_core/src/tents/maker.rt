@@ -1,18 +1,19 @@
 //! The maker of Tents.
 
-ghost use Rattle.std.specs.Prelude.{◌≡◌, ◌↔◌, ◌*◌, IsTrue, Err, IfOk, OnOk};
+ghost use Rattle.std.specs.Prelude.{◌≡◌, ◌↔◌, ◌*◌, true, IsTrue, Err, IfOk, OnOk};
 ghost use Rattle.grid_core.specs.Grids.{IsGrid};
 ghost use Rattle.fields_core.specs.TentHouses.{tent_rules};
 ghost use Rattle.maker_core.specs.declared.made.MakeFault.TheVariants.{Exhausted, SizeRange};
 ghost use Rattle.maker_core.specs.Draws.{AllFail, DrawsAll, DrawsFirst};
-ghost use Rattle.maker_core.specs.Made.{HasOne, IfYes, has_one};
-ghost use Rattle.maker_core.specs.TentFilling.{tents_puzzle_of};
+ghost use Rattle.maker_core.specs.Made.{HasOne};
+ghost use Rattle.maker_core.specs.TentFilling.{IsSolvedCamp, tents_puzzle_of};
 ghost use Rattle.maker_core.specs.TentMaking.{IsTentSize, MakesTents, tents_tries};
 
 use crate::made::{Limits, Made, MakeFault};
 use crate::tents::camp::Camp;
 use crate::tents::filling::fill_tents;
 use crate::thinning::unique::is_unique;
+use crate::tries::{Fillings, first_passing};
 use fields_core::TentRules;
 use gameid_core::TentsPuzzle;
 use grid_core::Size;
@@ -39,13 +40,29 @@ fn puzzle_of(alloc: Global, size: Size, camp: &Camp) -> Result<TentsPuzzle, Allo
     Ok(puzzle)
 }
 
-/// Whether the verdict of the puzzle is one.
-fn passes(alloc: Global, puzzle: &TentsPuzzle, budget: u64) -> Result<bool, AllocError>
-    ensures verdict { IfOk result (λ unique. unique ≡ has_one (tent_rules puzzle.now) budget) }
-    ensures only { IfYes result (HasOne (tent_rules puzzle.now) budget) }
-{
-    let rules = TentRules::new(alloc, puzzle)?;
-    is_unique(alloc, &rules, budget)
+/// Camps that are pitched at random.
+#[derive(Drop)]
+struct Camps {
+    size: Size,
+    limits: Limits,
+    ghost fits: { IsTentSize size },
+}
+
+impl Fillings for Camps {
+    type Filling = Camp;
+
+    ghost tries = { λ t. tents_tries t.size t.limits };
+
+    ghost known = { λ t camp passes. IsGrid (t.size.w * t.size.h) 2 camp.trees
+        × IsGrid (t.size.w * t.size.h) 2 camp.tents × IsSolvedCamp t.size camp
+        × (passes ≡ true → HasOne (tent_rules (tents_puzzle_of t.size camp)) t.limits.budget) };
+
+    fn draw<G: Rng>(&self, alloc: Global, rng: &mut G) -> Result<(Camp, bool), AllocError> {
+        let camp = fill_tents(alloc, rng, self.size)?;
+        let rules = TentRules::new(alloc, &puzzle_of(alloc, self.size, &camp)?)?;
+        let passes = is_unique(alloc, &rules, self.limits.budget)?;
+        Ok((camp, passes))
+    }
 }
 
 /// A puzzle of Tents with exactly one solution, which is `answer`: 1 at a tent and 0 elsewhere.
@@ -80,16 +97,12 @@ pub fn make_tents<G: Rng>(
     if !is_tent_size(size) {
         return Err(MakeFault::SizeRange);
     }
-    for _attempt in 0..limits.tries {
-        let camp = fill_tents(alloc, rng, size)?;
-        let puzzle = puzzle_of(alloc, size, &camp)?;
-        if passes(alloc, &puzzle, limits.budget)? {
-            return Ok(Made {
-                puzzle,
-                answer: camp.tents,
-                kept: Vec::new(alloc),
-            });
-        }
-    }
-    Err(MakeFault::Exhausted)
+    let camps = Camps { size, limits };
+    let camp = first_passing(alloc, &camps, rng, limits.tries)?;
+    let puzzle = puzzle_of(alloc, size, &camp)?;
+    Ok(Made {
+        puzzle,
+        answer: camp.tents,
+        kept: Vec::new(alloc),
+    })
 }

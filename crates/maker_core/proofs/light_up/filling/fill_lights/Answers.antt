@@ -1,15 +1,16 @@
-use Rattle.maker_core.proofs.Common.{refl, ◌∙◌, ap, black_cells}
-use Rattle.maker_core.proofs.LightFilled.{filling_is, puzzle_is}
+use Rattle.maker_core.proofs.Common.{refl, sym, ◌∙◌, ap, black_cells, light_filling, light_puzzle_of, lights_of}
 use Rattle.maker_core.proofs.light_up.filling.fill_lights.Goals as goal
 
 pub returns-clause-drawn : goal.returns-clause-drawn
-returns-clause-drawn g c = (
-  record { black = c.in_ok-blacks.blacks; bulbs = c.in_ok-grid.grid },
-  filling_is c.args.size c.args.black _ _ _ _ _ _ (record {
-    drawn = c.in_ok-blacks.ensures.drawn ∙ ap (λ cells. black_cells c.args.black cells (g.G.Rng.stream c.args.rng.now)) c.cells.ensures.value;
-    blacks = c.in_ok-puzzle.ensures;
-    lit = c.in_ok-grid.ensures.drawn;
-  }),
-  puzzle_is c.args.size _ _ _ _ c.in_ok-puzzle.ensures c.number_cells.ensures,
-  refl,
-)
+unfolding light_filling
+returns-clause-drawn g c =
+    let drawn = c.in_ok-black.ensures.drawn ∙ ap (λ cells. black_cells c.args.black cells (g.G.Rng.stream c.args.rng.now)) c.cells.ensures.value in
+    rw (sym drawn, sym c.in_ok-puzzle.ensures, sym c.in_ok-bulbs.ensures.drawn) refl
+
+pub returns-clause-lit : goal.returns-clause-lit
+unfolding light_puzzle_of lights_of
+returns-clause-lit g c = record {
+  black = rw (← c.cells.ensures.value) c.in_ok-black.ensures.grid;
+  bulbs = rw c.in_ok-puzzle.ensures at c.in_ok-bulbs.ensures.grid;
+  solved = rw (← c.in_ok-puzzle.ensures) c.in_ok-bulbs.ensures.solved;
+}
