@@ -1,12 +1,12 @@
 -- The steps of a batch, and the chunks of its input.
-use Rattle.std.proofs.Common.{◌≡◌, ◌∙◌, ◌==◌, ◌<◌, ◌+◌, ◌++◌, ℕ, true, false, List, [], ◌∷◌, length, ap, ap₂, sym, refl, subst, arith, if◌then◌else◌, append-nil, append_assoc, inr, max, Result, Ok, Err, IfErr, take, drop, get_or, ◌≤◌, ◌⊎◌, Bool, inl, true≢false}
+use Rattle.std.proofs.Common.{◌≡◌, ◌∙◌, ◌==◌, ◌<◌, ◌+◌, ◌++◌, ℕ, true, false, List, [], ◌∷◌, length, ap, sym, refl, subst, arith, if◌then◌else◌, append-nil, append_assoc, inr, max, Result, Ok, Err, IfErr, take, drop, get_or, ◌≤◌, ◌⊎◌, Bool, inl, true≢false}
 use Rattle.std.proofs.lemmas.Grind.{common_steps}
 use Rattle.std.proofs.lemmas.List.{take-append-drop, take_more}
 use Rattle.std.specs.List.{All, slice_split}
 use Rattle.std.proofs.lemmas.List.Splits.{slice_split_at, slice_split_none, length-slice_split}
 use Rattle.std.proofs.lemmas.List.Elements.{All-push, All-nil}
 use Rattle.std.specs.Str.Lines.{lines, lines_of_parts, strip_carriage_return}
-use Rattle.puzzles.specs.Answers.{Answer, BeginsAnswer, PutBegun, Text, Begins, IsInput, answer_with}
+use Rattle.puzzles.specs.Answers.{Answer, PutBegun, Text, Begins, IsInput, answer_with}
 use Rattle.puzzles.specs.Each.{AllowsEach, Answered, Begun, HasAnswers, Stopped, both, silence}
 use Rattle.puzzles.specs.Batches.{Batched, Holds}
 use Rattle.puzzles.specs.Texts.{Given}

@@ -1,6 +1,6 @@
 -- What the checks of grids rest on, for a puzzle of each game: an input has one answer of `check`, and the printed form of
 -- a solution is told to be correct.
-use Rattle.std.proofs.Common.{◌≡◌, ◌<◌, ◌≤◌, ◌∷◌, ◌⊎◌, ℕ, List, zero, suc, [], length, refl, sym, ap, ap₂, subst, arith, inl, inr, ◌≢◌, ◌∙◌, ◌*◌, Bool, true, false, Option, Some, None, get_or, slice_index, true≢false, codes}
+use Rattle.std.proofs.Common.{◌≡◌, ◌<◌, ◌≤◌, ◌∷◌, ◌⊎◌, ℕ, List, zero, suc, [], length, refl, sym, ap, subst, arith, inl, inr, ◌≢◌, ◌∙◌, ◌*◌, Bool, true, false, Option, Some, None, get_or, slice_index, true≢false, codes}
 use Rattle.std.proofs.lemmas.Grind.{common_steps}
 use Rattle.std.specs.Prelude.{All, option_map, ◌↔◌, ◌++◌}
 use Rattle.std.proofs.lemmas.Bool.{cases_eq, cases_lt, eq-eqb}
@@ -19,8 +19,13 @@ use Rattle.puzzles.specs.Common.{IsGrid, Extent, max_side, IsAsShown, hides_noth
 use Rattle.puzzles.specs.Common.{solo_cell, solo_extent, light_cell, tents_cell, max_numbers, IsLight, IsPattern, IsSolo, IsTents, Light, Pattern, Solo}
 use Rattle.puzzles.specs.Common.{Tents, solo_n, IsCheck, IsFirstFault, IsLightFault, IsLightSolution, IsTentFault, IsTentSolution}
 use Rattle.puzzles.specs.Answers.{Answer, Text}
-use Rattle.puzzles.specs.CheckAnswers.{IsFaultTold, checked, pattern_fault, solo_fault, light_fault, tent_fault, IsInputOf, without_returns}
-use Rattle.puzzles.specs.Games.{Playing, played}
+use Rattle.puzzles.specs.CheckAnswers.{IsFaultTold, checked, IsInputOf, without_returns}
+use Rattle.puzzles.specs.Games.{played}
+use Rattle.puzzles.specs.LightPlayed.{light_fault}
+use Rattle.puzzles.specs.PatternPlayed.{pattern_fault}
+use Rattle.puzzles.specs.Playing.{Playing}
+use Rattle.puzzles.specs.SoloPlayed.{solo_fault}
+use Rattle.puzzles.specs.TentsPlayed.{tent_fault}
 use Rattle.puzzles.specs.Allowed.{ChecksGrid}
 use Rattle.puzzles.specs.Replies.{refused}
 use Rattle.puzzles.specs.Texts.{text_limit}

@@ -1,9 +1,16 @@
 -- What the laws rest on, for each game; and what is told of an ID beside its verdict: a grid that is told passes, what is
 -- handed out is solved, and an input that is correct is a solution.
-use Rattle.std.proofs.Common.{◌≡◌, ◌≢◌, ◌∙◌, ℕ, List, Result, sym, ap, subst, arith, inl, inr, Some, None, Ok, Err, true, refl, drop, ◌∷◌, Bool, false, [], if◌then◌else◌}
+use Rattle.std.proofs.Common.{◌≡◌, ◌≢◌, ◌<◌, length, true≢false, ◌∙◌, ℕ, List, Result, sym, ap, subst, arith, inl, inr, Some, None, Err, true, refl, drop, ◌∷◌, Bool, false, [], if◌then◌else◌}
+use Rattle.std.proofs.lemmas.Bool.{false_from_ne_true}
 use Rattle.std.proofs.lemmas.Grind.{common_steps}
 use Rattle.std.specs.Prelude.{◌↔◌, is_ok, ◌≤◌}
 use Rattle.gameid_core.specs.declared.id.game.Game.TheVariants as game
+use Rattle.gameid_core.specs.LightText.{light_of}
+use Rattle.gameid_core.specs.PatternText.{pattern_of}
+use Rattle.gameid_core.specs.SoloText.{solo_of}
+use Rattle.gameid_core.specs.TentsText.{tents_of}
+use Rattle.gameid_core.specs.declared.id.fault.IdFault.TheVariants.{TooLong}
+use Rattle.gameid_core.proofs.HeadLaws.{head_too_long}
 use Rattle.gameid_core.proofs.LightTexts.{light_reading}
 use Rattle.gameid_core.proofs.LightWritten.{light_is_written}
 use Rattle.gameid_core.proofs.PatternTexts.{pattern_reading}
@@ -15,18 +22,24 @@ use Rattle.gameid_core.proofs.TentsWritten.{tents_is_written}
 use Rattle.engine_core.specs.Verdict.{Outcome.OneGrid, Outcome.NoGrid, Outcome.TwoGrids, Outcome.OutOfBudget, trials_in}
 use Rattle.maker_core.specs.Made.{IsOnlySolution}
 use Rattle.maker_core.specs.Thinning.{HasTwo}
+use Rattle.solo_core.proofs.SinglesLemmas.{singles_in_houses}
+use Rattle.puzzles.specs.Common.{IsSolo, Solo, max_id, light_rules, tent_rules, line_rules, crossings_rules, houses_rules, singles_rules}
 use Rattle.puzzles.specs.Common.{IdFault, grid_text, SizeRead, IsPrinted, Game, HasOneReading, verdict_of, Solves, Outcome, Puzzle, is_settled, walk, Kept}
 use Rattle.puzzles.specs.Answers.{Answer, Text}
-use Rattle.puzzles.specs.Games.{Playing, played}
+use Rattle.puzzles.specs.Each.{HasAnswers}
+use Rattle.puzzles.specs.Games.{played}
+use Rattle.puzzles.specs.Playing.{Playing}
+use Rattle.puzzles.specs.SoloPlayed.{solo_sets}
 use Rattle.puzzles.specs.Makings.{exhausted_answer, Wanted}
 use Rattle.puzzles.specs.Replies.{one_answer, IsRight, verdict_answer, refused}
 use Rattle.puzzles.specs.Allowed.{IsSolved, SolvesId, ChecksGrid, ChecksId, GradesId, AllowsSolve}
 use Rattle.puzzles.specs.CheckAnswers.{checked as correct_or, without_returns}
 use Rattle.puzzles.specs.LawsOfCommands.{ArePassed, HasOneAnswer}
-use Rattle.puzzles.specs.Grades.{HasOneSolution, IsRightGrade, Settling, grade_by, listed_grade, searched_grade}
+use Rattle.puzzles.specs.Grades.{HasOneSolution, IsRightGrade, Settling, grade_by, listed_grade, only_set, searched_grade}
 use Rattle.puzzles.specs.declared.grade.Telling.{Telling}
 use Rattle.puzzles.specs.declared.grade.Grade.TheVariants.{ByRules}
-use Rattle.puzzles.proofs.GradedAlike.{status_one, told_status, graded_one, settled_found}
+use Rattle.puzzles.specs.declared.grade.RuleSet.TheVariants.{Singles, Houses, Crossings, Lines, Local}
+use Rattle.puzzles.proofs.GradedAlike.{status_one, told_status, graded_one, settled_found, settled_by_stronger, is_within, own_named, weaker_named}
 use Rattle.puzzles.proofs.Readings.{id_once}
 use Rattle.puzzles.proofs.CheckedPuzzles.{correct_grid, CheckedPuzzle, light_checked, pattern_checked, solo_checked, tents_checked}
 use Rattle.puzzles.proofs.PrintedGrids.{printed_once}
@@ -207,6 +220,16 @@ with_enough play reading searched telling id graded (inr answered) fine =
           (found_with_enough (play.game.rules p) (play.game.solves p) (searched id p answered.spelled) one budget room) (one.1, λ h other. sym (one.2 h other)),
     )
 
+-- in Solo the singles are named before the search's own rules
+solo_named : (p : Solo) → IsSolo p → (budget : ℕ) → is_within (listed_grade (solo_sets p) (houses_rules p) budget) ≡ is_settled (houses_rules p)
+solo_named p ok budget = weaker_named (houses_rules p) budget Singles (singles_rules p)
+    (record { set = Houses; rules = houses_rules p } ∷ only_set Crossings (crossings_rules p)) refl
+    (settled_by_stronger (singles_rules p) (houses_rules p) (singles_searched p ok).lawful (solo_searched p ok).lawful refl refl refl
+    (λ g s. record { grid = s.grid; good = s.good })
+    (λ K closed h place v lt on. false_from_ne_true _ (λ struck. let both = singles_in_houses p ok h K place v lt struck in
+    true≢false (sym both.1 ∙ closed h place v both.0 on))))
+    (own_named (houses_rules p) budget Houses (only_set Crossings (crossings_rules p)) refl (refl, tt))
+
 pub record GameFacts {P : Type 0} (play : Playing P) : Type 0 where
   -- a text spells one puzzle or has one fault, and what is written for a puzzle spells it
   pub reading : HasOneReading play.game.spells play.game.reading
@@ -214,6 +237,9 @@ pub record GameFacts {P : Type 0} (play : Playing P) : Type 0 where
   -- the rules of the search and of each rule set are lawful and accept the solutions, and checks tell solutions
   pub searched : (text : Text) (p : P) → play.game.spells text p → SearchedPuzzle (play.game.rules p) (play.game.solves p)
   pub listed : (text : Text) (p : P) → play.game.spells text p → EachSearched (play.game.solves p) (play.game.sets p)
+  -- where the search's rules settle a puzzle, its grade names them, or weaker ones
+  pub named : (text : Text) (p : P) → play.game.spells text p → (budget : ℕ)
+      → is_within (listed_grade (play.game.sets p) (play.game.rules p) budget) ≡ is_settled (play.game.rules p)
   pub checked : (text : Text) (p : P) → play.game.spells text p → CheckedPuzzle play p
   -- a puzzle is made with its only solution, which a search tells, or it is told that none was
   pub made : (size : SizeRead) (w : Wanted) (p : P) (g : List ℕ) (kept : List Kept) → play.game.makes size w p g kept
@@ -226,6 +252,7 @@ facts game.Pattern = record {
   again = λ text p s. (pattern_is_written p s.puzzle).spells;
   searched = λ text p s. pattern_searched p s.puzzle;
   listed = λ text p s. (pattern_searched p s.puzzle, tt);
+  named = λ text p s budget. own_named (line_rules p) budget Lines [] refl tt;
   checked = λ text p s. pattern_checked p s.puzzle;
   made = λ size w p g kept made. (made.verdict, made.only);
   unmade = λ size w answer none. none.told;
@@ -235,6 +262,7 @@ facts game.Solo = record {
   again = λ text p s. (solo_is_written p s.puzzle).spells;
   searched = λ text p s. solo_searched p s.puzzle;
   listed = λ text p s. (singles_searched p s.puzzle, (solo_searched p s.puzzle, (crossings_searched p s.puzzle, tt)));
+  named = λ text p s. solo_named p s.puzzle;
   checked = λ text p s. solo_checked p s.puzzle;
   made = λ size w p g kept made. (made.verdict, made.only);
   unmade = λ size w answer none. none.told;
@@ -244,6 +272,7 @@ facts game.LightUp = record {
   again = λ text p s. (light_is_written p s.puzzle).spells;
   searched = λ text p s. light_searched p s.puzzle;
   listed = λ text p s. (light_searched p s.puzzle, tt);
+  named = λ text p s budget. own_named (light_rules p) budget Local [] refl tt;
   checked = λ text p s. light_checked p s.puzzle;
   made = λ size w p g kept made. (made.verdict, made.only);
   unmade = λ size w answer none. none.told;
@@ -253,13 +282,26 @@ facts game.Tents = record {
   again = λ text p s. (tents_is_written p s.puzzle).spells;
   searched = λ text p s. tents_searched p s.puzzle;
   listed = λ text p s. (tents_searched p s.puzzle, tt);
+  named = λ text p s budget. own_named (tent_rules p) budget Local [] refl tt;
   checked = λ text p s. tents_checked p s.puzzle;
   made = λ size w p g kept made. (made.verdict, made.only);
   unmade = λ size w answer none. none.told;
 }
+
+-- a text of more bytes than an ID may have is too long
+pub too_long : (g : Game) (text : Text) → max_id < length text → (played g).game.reading text ≡ Err TooLong
+unfolding pattern_of solo_of light_of tents_of
+too_long game.Pattern text over = rw (head_too_long game.Pattern text over) refl
+too_long game.Solo text over = rw (head_too_long game.Solo text over) refl
+too_long game.LightUp text over = rw (head_too_long game.LightUp text over) refl
+too_long game.Tents text over = rw (head_too_long game.Tents text over) refl
 
 -- a search has one answer
 pub solving : (g : Game) (budget : ℕ) (id : Text) → HasOneAnswer (AllowsSolve g budget id)
 solving g budget id =
     let play = played g in
     id_once (facts g).reading id _ (λ p s. solved_once (play.game.rules p) (play.game.solves p) ((facts g).searched id p s) (play.cell_text p) (play.extent p) budget)
+
+-- so each text has an answer
+pub answers : (g : Game) (budget : ℕ) → HasAnswers (AllowsSolve g budget)
+answers g budget text = let one = solving g budget text in (one.answer, one.allowed)

@@ -1,23 +1,28 @@
 -- What grades mean of the games' own solutions, and how their texts and traces are told.
-use Rattle.std.proofs.Common.{length, ◌≡◌, ◌∙◌, ℕ, zero, suc, Bool, true, false, ◌==◌, List, [], ◌∷◌, Option, Some, None, refl, sym, ap, subst, inl, inr, arith, if◌then◌else◌, ◌++◌, ◌≤◌, append_assoc, append-nil, codes, true≢false, map, length-append}
+use Rattle.std.proofs.Common.{length, ◌≡◌, ◌∙◌, ℕ, zero, suc, Bool, true, false, ◌==◌, List, [], ◌∷◌, Option, Some, None, refl, sym, ap, subst, inl, inr, arith, ◌++◌, ◌≤◌, append_assoc, append-nil, codes, true≢false, map, length-append}
 use Rattle.std.proofs.lemmas.Grind.{common_steps}
 use Rattle.std.specs.Prelude.{◌↔◌}
 use Rattle.std.proofs.lemmas.Bool.{and_parts, ne_eqb, eqb-true}
 use Rattle.std.proofs.lemmas.List.{length-map}
 use Rattle.grid_core.specs.Candidates.{all_below, any_below, is_dead, is_full}
 use Rattle.engine_core.specs.Closing.{closure}
+use Rattle.engine_core.specs.Filling.{strikes_by_fillings}
+use Rattle.engine_core.specs.House.{Decision}
 use Rattle.engine_core.specs.Walk.{Mark.Trial, Mark.Found, walk_closed}
 use Rattle.engine_core.specs.Verdict.{Outcome.OneGrid, outcome, spent, trials_in}
 use Rattle.solo_core.specs.Houses.{houses_of}
+use Rattle.solo_core.specs.NoRepeat.{no_repeat}
+use Rattle.solo_core.specs.RuleSets.{crossings_of, deciding, filled_houses, house_at, house_by}
+use Rattle.solo_core.specs.Singles.{strikes_by_singles}
 use Rattle.solo_core.specs.declared.houses.scope.SoloScope.TheVariants.{House}
 use Rattle.puzzles.specs.Common.{Candidates, count_below, grid_of, Solo, Puzzle, is_settled, Mark, IsFound, walk, Outcome, Solves, verdict_of}
-use Rattle.puzzles.specs.Common.{crossing_scopes, scopes_of}
+use Rattle.puzzles.specs.Common.{crossing_scopes, crossings_rules, houses_rules, scopes_of, singles_rules, solo_n}
 use Rattle.puzzles.specs.Grades.{HasOneSolution, IsGradeOf, IsRightGrade, TellsGrade, grade_by, searched_grade, Settling, last_tried, listed_grade, only_set, grade_status, grade_text}
 use Rattle.puzzles.specs.Answers.{Text, Answer, Delivers}
 use Rattle.puzzles.specs.Stops.{Tells}
 use Rattle.puzzles.specs.declared.grade.Grade.{Grade}
 use Rattle.puzzles.specs.declared.grade.Grade.TheVariants.{ByRules, BySearch, NoSolution, SeveralSolutions, GaveUp}
-use Rattle.puzzles.specs.Games.{GameOf}
+use Rattle.puzzles.specs.Playing.{GameOf}
 use Rattle.puzzles.specs.Allowed.{IsGradeBy}
 use Rattle.puzzles.specs.Traces.{IsTrace}
 use Rattle.puzzles.specs.declared.grade.RuleSet.{RuleSet}
@@ -201,9 +206,27 @@ untraced takes traced tells s text nothing is = record { lines = []; trace = non
     none true e = absurd (true≢false e)
     none false e = refl
 
--- the houses come first among what has a name
-pub houses_named : (p : Solo) → length (houses_of p) ≤ length (scopes_of p)
-houses_named p = omega (arith, length-append (map House (houses_of p)) (crossing_scopes p), length-map (houses_of p) House)
+-- what the rule sets of Solo visit has a name: houses first, and then crossings
+over_houses : (decides : Decision) (p : Solo) → length (deciding decides p) ≤ length (scopes_of p)
+over_houses decides p =
+    omega (arith, length-map (houses_of p) (house_by decides p), length-append (map House (houses_of p)) (crossing_scopes p), length-map (houses_of p) House)
+
+pub singles_named : (p : Solo) → (singles_rules p).houses ≤ length (scopes_of p)
+singles_named p = over_houses (strikes_by_singles (solo_n p)) p
+
+pub houses_named : (p : Solo) → (houses_rules p).houses ≤ length (scopes_of p)
+houses_named p = over_houses (strikes_by_fillings no_repeat) p
+
+pub crossings_named : (p : Solo) → (crossings_rules p).houses ≤ length (scopes_of p)
+crossings_named p =
+    omega (
+      arith,
+      length-append (filled_houses p) (crossings_of p),
+      length-map (houses_of p) (house_by (strikes_by_fillings no_repeat) p),
+      length-map (crossing_scopes p) (house_at p),
+      length-append (map House (houses_of p)) (crossing_scopes p),
+      length-map (houses_of p) House,
+    )
 
 pub named : (p : Solo) (q rules : Puzzle) → q ≡ rules → rules.houses ≤ length (scopes_of p) → q.houses ≤ length (scopes_of p)
 named p q rules e few = subst (λ (r : Puzzle). r.houses ≤ length (scopes_of p)) (sym e) few

@@ -1,10 +1,10 @@
 -- A puzzle is settled exactly where its verdict without a trial is one, and its grade goes along with its verdict; and so what is
 -- told of the two.
-use Rattle.std.proofs.Common.{◌≡◌, ◌∙◌, ◌⊎◌, ◌<◌, ℕ, zero, suc, Bool, true, false, List, [], ◌∷◌, ◌++◌, Option, Some, None, refl, sym, ap, subst, inl, inr, arith, ◌≢◌, Result, Err, if◌then◌else◌, codes, slice_index, true≢false}
+use Rattle.std.proofs.Common.{◌≡◌, ◌∙◌, ◌⊎◌, ◌<◌, ℕ, zero, suc, Bool, true, false, List, [], ◌∷◌, ◌++◌, Option, None, refl, sym, ap, subst, inl, inr, arith, ◌≢◌, Result, if◌then◌else◌, codes, slice_index, true≢false}
 use Rattle.std.proofs.lemmas.Grind.{common_steps}
 use Rattle.std.proofs.lemmas.Bool.{and_parts, and_from}
 use Rattle.std.specs.Prelude.{◌↔◌, ◌+◌, ◌*◌}
-use Rattle.grid_core.specs.Candidates.{is_dead, is_full}
+use Rattle.grid_core.specs.Candidates.{is_full}
 use Rattle.grid_core.proofs.CandidateLemmas.{count_below-one, least_below-passes}
 use Rattle.grid_core.proofs.GridLemmas.{is_full-count, grid_of-at}
 use Rattle.engine_core.specs.Closing.{closure}
@@ -15,7 +15,7 @@ use Rattle.engine_core.proofs.JudgeLemmas.{grid-fits}
 use Rattle.engine_core.proofs.WalkLemmas.{walk-unfold, walk_closed-dead, walk_closed-wrong}
 use Rattle.maker_core.proofs.FoundAtOnce.{found_at_once, found_one}
 use Rattle.maker_core.proofs.FullStart.{known}
-use Rattle.puzzles.specs.Common.{Candidates, IsInside, grid_of, only, pick, HasOneReading, IdFault, Puzzle, IsLawful, IsClosed, is_settled, Solves}
+use Rattle.puzzles.specs.Common.{Candidates, IsInside, grid_of, only, HasOneReading, IdFault, Puzzle, IsLawful, IsClosed, is_settled, Solves}
 use Rattle.puzzles.specs.Common.{verdict_of, Outcome, Mark, walk}
 use Rattle.puzzles.specs.Answers.{Answer, Begins, Text}
 use Rattle.puzzles.specs.Grades.{HasOneSolution, IsRightGrade, Settling, TellsGrade, first_settled, grade_by, grade_status, grade_text, listed_grade, rule_set_text, searched_grade}

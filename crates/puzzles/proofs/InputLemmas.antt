@@ -1,6 +1,6 @@
 -- The bytes that a line's state stands for, and a text that is copied without its returns: what is copied, and the rest
 -- without its returns, is always the whole without them.
-use Rattle.std.proofs.Common.{◌≡◌, ◌∙◌, ◌==◌, ◌<◌, ◌≤◌, ◌-◌, ◌+◌, ◌++◌, ℕ, Bool, true, false, List, [], ◌∷◌, length, take, drop, ap, sym, refl, subst, inl, inr, arith, slice_index, if◌then◌else◌, append-nil, length-drop, eq-eqb, true≢false, ◌&&◌, append_assoc}
+use Rattle.std.proofs.Common.{◌≡◌, ◌∙◌, ◌==◌, ◌<◌, ◌≤◌, ◌-◌, ◌+◌, ◌++◌, ℕ, Bool, true, false, List, [], ◌∷◌, length, take, drop, ap, sym, refl, subst, arith, slice_index, if◌then◌else◌, append-nil, length-drop, eq-eqb, true≢false, ◌&&◌, append_assoc}
 use Rattle.std.proofs.lemmas.List.{take-append-drop, take-append-le, drop-append-le, length-append}
 use Rattle.std.proofs.lemmas.Bool.{cases_lt, ne_eqb, eqb-true}
 use Rattle.std.proofs.lemmas.Grind.{common_steps}

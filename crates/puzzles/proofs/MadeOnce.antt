@@ -9,8 +9,6 @@ use Rattle.rand_chacha.specs.ChaCha.{ChaCha, next_word, of_seed}
 use Rattle.grid_core.proofs.CandidateLemmas.{all_below-at}
 use Rattle.gameid_core.specs.BlackRuns.{runs}
 use Rattle.gameid_core.specs.Lines.{lines_ones, lines_runs}
-use Rattle.gameid_core.specs.PatternText.{pattern_text}
-use Rattle.gameid_core.specs.TentsText.{tents_text}
 use Rattle.gameid_core.specs.declared.id.fault.IdFault.TheVariants.{SizeRange}
 use Rattle.gameid_core.specs.declared.id.game.Game.TheVariants as game
 use Rattle.gameid_core.proofs.HeadLaws.{size_take}
@@ -33,14 +31,16 @@ use Rattle.maker_core.specs.TentFilling.{tent_filling, tents_pass, tents_puzzle_
 use Rattle.maker_core.proofs.BlackCells.{black_cells-grid}
 use Rattle.maker_core.proofs.PatternMakings.{pattern_only, pattern_solved}
 use Rattle.maker_core.proofs.TentMakings.{tents_only, tents_size}
-use Rattle.puzzles.specs.Common.{Stream, Extent, IsExtent, max_side, IsGrid, grid_text, pattern_cell, tents_cell, SizeRead, extent_of, in_range}
-use Rattle.puzzles.specs.Common.{size_of, HasOneReading, IsTents, Pattern, Tents, IdFault, IsLawful, Puzzle, Outcome, IsTrueOf, verdict_of}
+use Rattle.puzzles.specs.Common.{Stream, Extent, IsExtent, max_side, IsGrid, grid_text, SizeRead, extent_of}
+use Rattle.puzzles.specs.Common.{size_of, HasOneReading, IsTents, Tents, IdFault, IsLawful, Puzzle, Outcome, IsTrueOf, verdict_of}
 use Rattle.puzzles.specs.Common.{is_solution-from, is_solution-is, line_rules-lawful, line_rules, IsPatternSolution, tent_rules, IsTentSolution}
 use Rattle.puzzles.specs.Seeds.{seed_key, seed_stream}
 use Rattle.puzzles.specs.Answers.{Answer, Text}
-use Rattle.puzzles.specs.Games.{Playing, played}
+use Rattle.puzzles.specs.Games.{played}
+use Rattle.puzzles.specs.Playing.{Playing}
+use Rattle.puzzles.specs.TentsPlayed.{tents_sizes}
 use Rattle.puzzles.specs.Allowed.{AllowsMade, AllowsOfSize, MakesOf, wanted}
-use Rattle.puzzles.specs.Makings.{IsExhausted, Wanted, exhausted_answer, made_answer, size_to_make}
+use Rattle.puzzles.specs.Makings.{IsExhausted, Wanted, exhausted_answer, made_answer}
 use Rattle.puzzles.specs.LawsOfCommands.{HasOneAnswer}
 use Rattle.puzzles.proofs.FaultsOnce.{first_of, least_once}
 use Rattle.puzzles.proofs.Readings.{id_once}
@@ -178,7 +178,7 @@ record IsTentsExtent (size : Extent) : Type 0 where
   w_four : 4 ≤ size.w
   h_four : 4 ≤ size.h
 
-tents_extent : (text : Text) (read : SizeRead) → size_to_make game.Tents text ≡ Ok read → IsTentsExtent (extent_of read)
+tents_extent : (text : Text) (read : SizeRead) → tents_sizes text ≡ Ok read → IsTentsExtent (extent_of read)
 tents_extent text read e =
     let sized = bind_ok (size_of game.Tents text) (λ s. if nat_le 4 s.w && nat_le 4 s.h then taken s else Err SizeRange) read e in
     let large = chosen (nat_le 4 sized.0.w && nat_le 4 sized.0.h) (taken sized.0) (Err SizeRange) (taken read) sized.2 in

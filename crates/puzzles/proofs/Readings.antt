@@ -1,5 +1,5 @@
 -- What is answered to an ID, where a text spells one puzzle or has one fault, and never both.
-use Rattle.std.proofs.Common.{◌≡◌, ◌⊎◌, Result, Err, ◌≢◌, ◌<◌, ℕ, length, inl, Ok, refl, ◌∙◌, ◌++◌, false, List, [], ◌∷◌, codes, sym, ap, ap₂, subst, inr}
+use Rattle.std.proofs.Common.{◌≡◌, Result, Err, ◌≢◌, ◌<◌, ℕ, length, inl, Ok, refl, ◌∙◌, ◌++◌, false, List, [], ◌∷◌, codes, sym, ap, ap₂, subst, inr}
 use Rattle.std.specs.Prelude.{IfOk, ◌↔◌}
 use Rattle.gameid_core.specs.Steps.{Fails}
 use Rattle.gameid_core.specs.declared.id.fault.IdFault.TheVariants.{Memory, TooLong}

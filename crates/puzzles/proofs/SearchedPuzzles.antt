@@ -1,5 +1,5 @@
 -- What the searches rest on, for a puzzle of each game, and what follows for their verdicts.
-use Rattle.std.proofs.Common.{◌≡◌, ℕ, Bool, List, Some, None, ◌∙◌, ◌≤◌, ◌∷◌, zero, suc, [], Option, refl, sym, ap, arith}
+use Rattle.std.proofs.Common.{◌≡◌, ℕ, Bool, List, Some, None, ◌≤◌, ◌∷◌, zero, suc, [], Option, refl, sym, arith}
 use Rattle.std.proofs.lemmas.Grind.{common_steps}
 use Rattle.std.specs.Prelude.{◌↔◌}
 use Rattle.engine_core.specs.Verdict.{Outcome.NoGrid, Outcome.OneGrid, Outcome.TwoGrids, Outcome.OutOfBudget, outcome, trials_in}

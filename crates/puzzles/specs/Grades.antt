@@ -2,8 +2,7 @@
 -- of a search.
 use Rattle.std.specs.Prelude.{◌≡◌, ◌≢◌, ◌++◌, ℕ, Bool, List, [], ◌∷◌, if◌then◌else◌, codes, decimal, ⊤}
 use Rattle.engine_core.specs.Verdict.{Outcome.NoGrid, Outcome.OneGrid, Outcome.TwoGrids, Outcome.OutOfBudget, trials_in}
-use Rattle.puzzles.specs.Common.{Puzzle, is_settled, Outcome, verdict_of, walk, Pattern, Solo, Light, Tents, light_rules, tent_rules, line_rules}
-use Rattle.puzzles.specs.Common.{singles_rules, houses_rules, crossings_rules}
+use Rattle.puzzles.specs.Common.{Puzzle, is_settled, Outcome, verdict_of, walk}
 use Rattle.puzzles.specs.Answers.{Answer, Text}
 use Rattle.puzzles.specs.Traces.{IsTrace}
 use Rattle.puzzles.specs.declared.grade.Grade.{Grade}
@@ -52,23 +51,6 @@ listed_grade sets search budget = first_settled sets (searched_grade search budg
 -- a list of one
 abbrev pub only_set : RuleSet → Puzzle → List Settling
 only_set set rules = record { set = set; rules = rules } ∷ []
-
--- the rule sets that are tried in each game, in order
-abbrev pub after_singles : Solo → List Settling
-after_singles p =
-    record { set = Houses; rules = houses_rules p } ∷ only_set Crossings (crossings_rules p)
-
-abbrev pub solo_sets : Solo → List Settling
-solo_sets p = record { set = Singles; rules = singles_rules p } ∷ after_singles p
-
-abbrev pub pattern_sets : Pattern → List Settling
-pattern_sets p = only_set Lines (line_rules p)
-
-abbrev pub light_sets : Light → List Settling
-light_sets p = only_set Local (light_rules p)
-
-abbrev pub tent_sets : Tents → List Settling
-tent_sets p = only_set Local (tent_rules p)
 
 -- some grid is a solution, and no other is
 abbrev pub HasOneSolution : (List ℕ → Type 0) → Type 0

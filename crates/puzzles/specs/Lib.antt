@@ -16,6 +16,11 @@ pub mod Each
 pub mod CheckAnswers
 pub mod Seeds
 pub mod Makings
+pub mod Playing
+pub mod LightPlayed
+pub mod PatternPlayed
+pub mod SoloPlayed
+pub mod TentsPlayed
 pub mod Games
 pub mod Unmade
 pub mod Allowed

@@ -1,10 +1,7 @@
 -- The answers of `generate`.
-use Rattle.std.specs.Prelude.{◌≡◌, ◌⊎◌, ◌++◌, ◌&&◌, nat_le, ℕ, Bool, false, List, Result, Ok, Err, codes, if◌then◌else◌}
-use Rattle.gameid_core.specs.declared.id.fault.IdFault.TheVariants.{SizeRange}
-use Rattle.gameid_core.specs.declared.id.game.Game.TheVariants as game
-use Rattle.gameid_core.specs.Steps.{◌>>=◌}
+use Rattle.std.specs.Prelude.{◌≡◌, ◌++◌, ℕ, Bool, false, List, codes}
 use Rattle.maker_core.specs.Draws.{Making, NonePasses}
-use Rattle.puzzles.specs.Common.{Stream, SizeRead, size_of, IdFault, Game, NoneFound, Kept}
+use Rattle.puzzles.specs.Common.{Stream, SizeRead, NoneFound, Kept}
 use Rattle.puzzles.specs.Answers.{Answer, Text}
 
 -- What a puzzle is made by: the words of the seed's generator, the trials of each verdict, the
@@ -22,13 +19,6 @@ made_answer id grid = record { text = id ++ codes "\n" ++ grid; status = 0 }
 -- no try made a puzzle with one solution
 abbrev pub exhausted_answer : Answer
 exhausted_answer = record { text = codes "exhausted\n"; status = 4 }
-
--- the size that the whole text is, within the limits of what is made: a side of Tents is at least 4
-abbrev pub size_to_make : Game → Text → Result SizeRead IdFault
-size_to_make game.Tents text =
-    size_of game.Tents text >>= (λ size.
-    if nat_le 4 size.w && nat_le 4 size.h then Ok size else Err SizeRange)
-size_to_make game text = size_of game text
 
 -- a puzzle is told that was made with that solution and with what is known of each clue that was
 -- left; its ID spells it

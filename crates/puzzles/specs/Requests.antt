@@ -7,8 +7,8 @@ use Rattle.std.specs.Str.{bytes_eq}
 use Rattle.std.specs.Option.{option_map_or}
 use Rattle.clap.specs.Walk.{Row, Text, first_of}
 use Rattle.gameid_core.specs.declared.id.game.Game.{Game}
-use Rattle.gameid_core.specs.declared.id.game.Game.TheVariants.{Solo, Pattern, LightUp, Tents}
 use Rattle.puzzles.specs.CommandLine.{parsed}
+use Rattle.puzzles.specs.Games.{game_of, usual_black}
 use Rattle.puzzles.specs.declared.words.Request.{Request}
 use Rattle.puzzles.specs.declared.words.Request.TheVariants as request
 
@@ -44,12 +44,6 @@ asked_in (request.Grade game id telling) = grade game id.now telling.budget tell
 asked_in (request.Generate game size recipe) =
     generate game size.now recipe.seed recipe.limits.budget recipe.limits.tries recipe.black.value
 
-abbrev pub game_of : Text → Option Game
-game_of text = if bytes_eq text (codes "solo") then Some Solo
-    else (if bytes_eq text (codes "pattern") then Some Pattern
-    else (if bytes_eq text (codes "lightup") then Some LightUp
-    else (if bytes_eq text (codes "tents") then Some Tents else None)))
-
 abbrev pub game_in : List Row → Option Game
 game_in rows = option_and_then game_of (first_of (codes "game") rows)
 
@@ -75,13 +69,11 @@ grade_in rows = option_and_then (λ game. option_and_then (λ id. option_map (λ
     grade game id budget (trace_in rows)) (budget_in rows)) (first_of (codes "id") rows))
     (game_in rows)
 
--- the percentage of black cells, 0 to 100, which only two games have: 50 and 20 where nothing is
--- said
-abbrev pub black_for : Game → Option Text → Option ℕ
-black_for Pattern text = number_or 50 100 text
-black_for LightUp text = number_or 20 100 text
-black_for _ None = Some 0
-black_for _ (Some text) = None
+-- the percentage of black cells, 0 to 100; where a game has none, nothing may be said of it
+abbrev pub black_for : Option ℕ → Option Text → Option ℕ
+black_for (Some usual) text = number_or usual 100 text
+black_for None None = Some 0
+black_for None (Some text) = None
 
 -- 0 to 18,446,744,073,709,551,615
 abbrev pub seed_in : List Row → Option ℕ
@@ -92,7 +84,7 @@ abbrev pub tries_in : List Row → Option ℕ
 tries_in rows = number_or 1000 4294967295 (first_of (codes "tries") rows)
 
 abbrev pub black_in : Game → List Row → Option ℕ
-black_in game rows = black_for game (first_of (codes "black") rows)
+black_in game rows = black_for (usual_black game) (first_of (codes "black") rows)
 
 abbrev pub generate_in : List Row → Option Asked
 generate_in rows = option_and_then (λ game. option_and_then (λ size. option_and_then (λ seed.

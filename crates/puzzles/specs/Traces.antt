@@ -1,7 +1,7 @@
 -- How a closing is told: a line for each visit in order, or one line for all sweeps.
-use Rattle.std.specs.Prelude.{◌≡◌, ◌++◌, ◌-◌, ℕ, Bool, true, false, List, [], length, slice_index, slice_index_or, nat_lt, if◌then◌else◌, codes, decimal}
+use Rattle.std.specs.Prelude.{◌≡◌, ◌++◌, ℕ, Bool, true, false, List, [], length, slice_index, codes, decimal}
 use Rattle.engine_core.specs.ClosingList.{IsClosingList, IsClosingSweeps}
-use Rattle.puzzles.specs.Common.{Puzzle, Pattern, Solo, scopes_of}
+use Rattle.puzzles.specs.Common.{Puzzle}
 use Rattle.puzzles.specs.Answers.{Text}
 use Rattle.gameid_core.specs.GridTexts.{each_below}
 use Rattle.solo_core.specs.declared.houses.house.SoloHouse.{SoloHouse}
@@ -18,15 +18,6 @@ house_text (Diagonal d) = codes "diagonal " ++ decimal d
 abbrev pub scope_text : SoloScope → Text
 scope_text (House house) = house_text house
 scope_text (Crossing block line) = house_text (Block block) ++ codes " " ++ house_text line
-
--- what a rule set of Solo visits under the number
-abbrev pub solo_name : Solo → ℕ → Text
-solo_name p h = scope_text (slice_index_or (scopes_of p) h (House (Row 0)))
-
--- the houses of Pattern: the columns, then the rows
-abbrev pub pattern_name : Pattern → ℕ → Text
-pattern_name p h = if nat_lt h p.size.w then codes "column " ++ decimal h
-    else codes "row " ++ decimal (h - p.size.w)
 
 abbrev pub line_of : Text → Text
 line_of name = name ++ codes "\n"

@@ -5,7 +5,7 @@ use Rattle.maker_core.specs.declared.made.MakeFault.{MakeFault}
 use Rattle.maker_core.specs.declared.made.MakeFault.TheVariants as fault
 use Rattle.puzzles.specs.Common.{SizeRead, IdFault, Kept}
 use Rattle.puzzles.specs.Answers.{Text}
-use Rattle.puzzles.specs.Games.{GameOf}
+use Rattle.puzzles.specs.Playing.{GameOf}
 use Rattle.puzzles.specs.Allowed.{wanted}
 use Rattle.puzzles.specs.Makings.{Wanted, exhausted_answer}
 use Rattle.puzzles.specs.declared.generate.Recipe.{Recipe}

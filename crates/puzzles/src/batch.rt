@@ -14,7 +14,8 @@ use crate::answers::status::{Ended, Status, Stop};
 use crate::batch::lines::Line;
 use crate::ends::output::put_all;
 use crate::ends::{CALL_LIMIT, CHUNK, Sink, Source};
-use crate::solve::{Stores, Task, each_text_has_an_answer};
+use crate::games::Stores;
+use crate::solve::Task;
 use gameid_core::IdFault;
 use std::alloc::{AllocError, Global};
 use std::mem::replace;
@@ -40,7 +41,6 @@ fn line_reply(
     ensures { IfOk result
         (λ r. (id : Text) → IsLine line.entry id → AllowsTask task id (answer_in r)) }
 {
-    gameid_core::over_long_is_too_long();
     match line {
         Some(id) => stores.solve_id(alloc, task, id, text),
         None => id_refused(text, IdFault::TooLong),
@@ -54,7 +54,7 @@ impl Batch {
     {
         Batch {
             line: Line::new(alloc),
-            stores: Stores::none(),
+            stores: Stores::default(),
             text: String::new(alloc),
             status: Status::Fine,
         }
@@ -223,7 +223,6 @@ fn answer_lines<I: Source, O: Sink>(
         input.old input.new output.old output.new result }
     ensures left { LeavesEnds I.Source O.Sink true input.new output.new result }
 {
-    each_text_has_an_answer();
     take_input(alloc, task, batch, input, output)?;
     batch.answer_last(alloc, task, output)?;
     if output.finish() {

@@ -16,7 +16,8 @@ use crate::check::checked::Checked;
 use crate::ends::output::deliver;
 use crate::ends::text::{read_whole, without_returns};
 use crate::ends::{Sink, Source};
-use gameid_core::{Game, IdFault, LightPuzzle, PatternPuzzle, SoloPuzzle, TentsPuzzle, read_grid};
+use crate::games::by_game;
+use gameid_core::{Game, IdFault, read_grid};
 use std::alloc::{AllocError, Global};
 
 /// The answer to an input that was read whole, or that was too long.
@@ -92,10 +93,5 @@ pub fn check_id<I: Source, O: Sink>(
         input.old input.new output.old output.new result }
     ensures left { LeavesEnds I.Source O.Sink (is_read game id.now) input.new output.new result }
 {
-    match game {
-        Game::Pattern => check_one::<PatternPuzzle, I, O>(alloc, id, input, output),
-        Game::Solo => check_one::<SoloPuzzle, I, O>(alloc, id, input, output),
-        Game::LightUp => check_one::<LightPuzzle, I, O>(alloc, id, input, output),
-        Game::Tents => check_one::<TentsPuzzle, I, O>(alloc, id, input, output),
-    }
+    by_game!(game, check_one::<_, I, O>(alloc, id, input, output))
 }

@@ -13,9 +13,10 @@ pub mod seed;
 
 use crate::answers::reply::{Reply, id_refused, words_reply};
 use crate::answers::status::Status;
+use crate::games::by_game;
 use crate::generate::makable::{Makable, Unmade};
 use crate::generate::percent::Percent;
-use gameid_core::{Game, LightPuzzle, PatternPuzzle, Printed, SoloPuzzle, TentsPuzzle, push_grid};
+use gameid_core::{Game, Printed, push_grid};
 use grid_core::Grid;
 use maker_core::Limits;
 use std::alloc::{AllocError, Global};
@@ -82,10 +83,5 @@ pub fn generated(
     ensures { IfOk result
         (λ r. MakesOf (played game) (wanted_in recipe) size.now (answer_in r)) }
 {
-    match game {
-        Game::Pattern => generate_one::<PatternPuzzle>(alloc, size, recipe),
-        Game::Solo => generate_one::<SoloPuzzle>(alloc, size, recipe),
-        Game::LightUp => generate_one::<LightPuzzle>(alloc, size, recipe),
-        Game::Tents => generate_one::<TentsPuzzle>(alloc, size, recipe),
-    }
+    by_game!(game, generate_one::<_>(alloc, size, recipe))
 }

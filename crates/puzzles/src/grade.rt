@@ -16,11 +16,12 @@ use crate::answers::reply::{Reply, id_refused};
 use crate::answers::status::{Ended, Status, Stop};
 use crate::ends::Sink;
 use crate::ends::output::deliver;
+use crate::games::by_game;
 use crate::grade::named::Named;
 use crate::grade::trace::{push_sweeps, put_visits};
 use crate::solve::solvable::Solvable;
 use engine_core::{Rules, Store};
-use gameid_core::{Game, IdFault, LightPuzzle, PatternPuzzle, SoloPuzzle, TentsPuzzle};
+use gameid_core::{Game, IdFault};
 use itoa::Buffer;
 use std::alloc::{AllocError, Global};
 
@@ -295,10 +296,5 @@ pub fn grade_id<O: Sink>(
         output.old output.new result }
     ensures left { LeavesSink O.Sink output.new result }
 {
-    match game {
-        Game::Solo => grade_one::<SoloPuzzle, O>(alloc, id, wanted, output),
-        Game::Pattern => grade_one::<PatternPuzzle, O>(alloc, id, wanted, output),
-        Game::LightUp => grade_one::<LightPuzzle, O>(alloc, id, wanted, output),
-        Game::Tents => grade_one::<TentsPuzzle, O>(alloc, id, wanted, output),
-    }
+    by_game!(game, grade_one::<_, O>(alloc, id, wanted, output))
 }

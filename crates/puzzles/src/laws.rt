@@ -28,9 +28,7 @@ pub fn grades_agree()
     ensures statuses { GradesGoWithVerdicts }
     ensures enough { GradedPuzzlesHaveOne }
     ensures rule_sets { RuleSetsNeedNoTrial }
-{
-    solo_core::houses_strike_what_singles_strike();
-}
+{}
 
 /// A made puzzle is solved: its ID is read; with the budget that it was made with, `solve` tells of
 /// it the grid that was handed out with it, and nothing else is allowed; and `check` finds that

@@ -2,7 +2,7 @@
 ghost use Rattle.std.specs.Prelude.{◌≡◌, Err, IfOk, IfErr, string_bytes};
 ghost use Rattle.gameid_core.specs.Steps.{Fails};
 ghost use Rattle.gameid_core.specs.declared.id.fault.IdFault.{IdFault};
-ghost use Rattle.puzzles.specs.Games.{GameOf};
+ghost use Rattle.puzzles.specs.Playing.{GameOf};
 
 use gameid_core::{IdFault, Readable};
 use std::alloc::{AllocError, Global};

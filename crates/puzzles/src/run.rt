@@ -15,9 +15,9 @@ use crate::ends::output::deliver;
 use crate::ends::read_end::ReadEnd;
 use crate::ends::write_end::WriteEnd;
 use crate::ends::{Sink, Source};
+use crate::games::Stores;
 use crate::generate::generated;
 use crate::grade::grade_id;
-use crate::solve::Stores;
 use crate::words::{Request, read_words};
 use std::alloc::{AllocError, Global};
 
@@ -29,7 +29,7 @@ fn reply_to(alloc: Global, request: Option<Request<'_>>) -> Result<Reply, AllocE
 {
     match request {
         Some(Request::Solve { task, id: Some(id) }) => {
-            Stores::none().solve_id(alloc, task, id.as_bytes(), String::new(alloc))
+            Stores::default().solve_id(alloc, task, id.as_bytes(), String::new(alloc))
         }
         Some(Request::Generate { game, size, recipe }) => {
             generated(alloc, game, size.as_bytes(), recipe)

@@ -1,5 +1,5 @@
 //! The answers of `solve`.
-ghost use Rattle.std.specs.Prelude.{◌≡◌, ◌<◌, ◌*◌, List, ℕ, None, IfOk};
+ghost use Rattle.std.specs.Prelude.{◌≡◌, ◌<◌, ◌*◌, List, ℕ, IfOk};
 ghost use Rattle.puzzles.specs.Common.{FitsIn, needs_of, IsTrueOf, verdict_of};
 ghost use Rattle.puzzles.specs.Each.{HasAnswers};
 ghost use Rattle.puzzles.specs.Allowed.{AllowsSolve, SolvesId};
@@ -9,37 +9,11 @@ pub mod solvable;
 
 use crate::answers::reply::{Reply, grid_reply, id_refused, several_reply, words_reply};
 use crate::answers::status::Status;
+use crate::games::{Stores, by_game};
 use crate::solve::solvable::Solvable;
 use engine_core::{Rules, Store, Verdict};
-use fields_core::{LightRules, TentRules};
-use gameid_core::{Game, IdFault, LightPuzzle, PatternPuzzle, Printed, SoloPuzzle, TentsPuzzle};
-use pattern_core::PatternLines;
-use solo_core::SoloHouses;
+use gameid_core::{Game, IdFault, Printed};
 use std::alloc::{AllocError, Global};
-
-/// The memory of the last searches of each game, for the next ones that it is enough for.
-#[derive(Drop)]
-pub struct Stores {
-    solo: Option<Store<SoloHouses>>,
-    pattern: Option<Store<PatternLines>>,
-    lights: Option<Store<LightRules>>,
-    tents: Option<Store<TentRules>>,
-}
-
-impl Stores {
-    /// No memory yet.
-    pub fn none() -> Stores
-        ensures { ((result.solo ≡ None) × (result.pattern ≡ None))
-            × ((result.lights ≡ None) × (result.tents ≡ None)) }
-    {
-        Stores {
-            solo: None,
-            pattern: None,
-            lights: None,
-            tents: None,
-        }
-    }
-}
 
 /// The memory that is kept, where it is enough for the rules, or new memory.
 fn store_for<R: Rules>(
@@ -74,7 +48,10 @@ fn verdict_reply<P: Printed, R: Rules>(
 {
     match store.solve(rules, budget) {
         Verdict::None => words_reply(text, "none\n", Status::Wrong),
-        Verdict::One => { grid_reply(text, "one\n", Status::Fine, puzzle, store.first().unwrap()) }
+        Verdict::One => {
+            let found = store.first().unwrap();
+            grid_reply(text, "one\n", Status::Fine, puzzle, found)
+        }
         Verdict::Several => {
             let first = store.first().unwrap();
             several_reply(text, puzzle, first, store.second().unwrap())
@@ -138,12 +115,7 @@ impl Stores {
         ensures { IfOk result (λ r. AllowsSolve task.game task.budget id.now (answer_in r)) }
     {
         let budget = task.budget;
-        match task.game {
-            Game::Solo => solve_one::<SoloPuzzle>(alloc, &mut self.solo, id, budget, text),
-            Game::Pattern => solve_one::<PatternPuzzle>(alloc, &mut self.pattern, id, budget, text),
-            Game::LightUp => solve_one::<LightPuzzle>(alloc, &mut self.lights, id, budget, text),
-            Game::Tents => solve_one::<TentsPuzzle>(alloc, &mut self.tents, id, budget, text),
-        }
+        by_game!(task.game, solve_one::<_>(alloc, &mut self._, id, budget, text))
     }
 }
 

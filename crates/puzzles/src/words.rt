@@ -1,5 +1,5 @@
 //! What the words of a command line ask for.
-ghost use Rattle.puzzles.specs.Requests.{number_of, number_or, asked_in, game_of, game_in, budget_in, solve_in, check_in, trace_in, grade_in, seed_in, tries_in, black_in, generate_in, asked_by, asked_of};
+ghost use Rattle.puzzles.specs.Requests.{number_of, number_or, asked_in, game_in, budget_in, solve_in, check_in, trace_in, grade_in, seed_in, tries_in, black_in, generate_in, asked_by, asked_of};
 ghost use Rattle.std.specs.Prelude.{◌≡◌, ◌≤◌, IfSome, IfOk, option_and_then, option_map, map, string_bytes, false};
 ghost use Rattle.clap.specs.Walk.{rule_of, first_of, rows_of};
 ghost use Rattle.clap.specs.Simple.{app_of, subcommand_rows_of};
@@ -7,6 +7,7 @@ ghost use Rattle.clap.specs.Matches.{found_of};
 ghost use Rattle.clap.specs.declared.builder.command.Command.TheViews.{out-Command as fields_of};
 ghost use Rattle.puzzles.specs.CommandLine.{required_word, text_option, flag, solve_app, check_app, grade_app, generate_needs_app, generate_app, bare_app, puzzles_app, parsed};
 
+use crate::games::{game_named, usual_black};
 use crate::generate::Recipe;
 use crate::generate::percent::Percent;
 use crate::grade::Telling;
@@ -22,12 +23,6 @@ pub const BUDGET: u64 = 100_000;
 
 /// The tries where the words name none.
 pub const TRIES: u32 = 1_000;
-
-/// The percentage of black cells in Pattern where the words name none.
-pub const PATTERN_BLACK: Percent = Percent { value: 50 };
-
-/// The percentage of black cells in Light Up where the words name none.
-pub const LIGHT_UP_BLACK: Percent = Percent { value: 20 };
 
 /// The highest percentage of black cells.
 pub const MOST_BLACK: u64 = 100;
@@ -57,6 +52,7 @@ pub enum Request<'a> {
     },
 }
 
+/// A word that has to stand at its place.
 fn required_argument<'a>(alloc: Global, id: &'a str) -> Arg<'a>
     ensures rule { rule_of result ≡ required_word id.entry.now }
     ensures local { result.global ≡ false }
@@ -64,6 +60,7 @@ fn required_argument<'a>(alloc: Global, id: &'a str) -> Arg<'a>
     Arg::new(alloc, id).required(true)
 }
 
+/// An option that is followed by its text.
 fn text_argument<'a>(alloc: Global, name: &'a str) -> Arg<'a>
     ensures rule { rule_of result ≡ text_option name.entry.now }
     ensures local { result.global ≡ false }
@@ -71,6 +68,7 @@ fn text_argument<'a>(alloc: Global, name: &'a str) -> Arg<'a>
     Arg::new(alloc, name).long(name)
 }
 
+/// An option that stands alone.
 fn flag_argument<'a>(alloc: Global, name: &'a str) -> Arg<'a>
     ensures rule { rule_of result ≡ flag name.entry.now }
     ensures local { result.global ≡ false }
@@ -78,6 +76,7 @@ fn flag_argument<'a>(alloc: Global, name: &'a str) -> Arg<'a>
     text_argument(alloc, name).action(ArgAction::SetTrue)
 }
 
+/// `solve GAME [ID] [--budget N]`
 fn solve_command<'a>(alloc: Global) -> Result<Command<'a>, AllocError>
     ensures app { IfOk result (λ c. app_of c ≡ solve_app) }
     ensures local { IfOk result (λ c. (fields_of c).has_globals ≡ false) }
@@ -88,6 +87,7 @@ fn solve_command<'a>(alloc: Global) -> Result<Command<'a>, AllocError>
         .arg(text_argument(alloc, "budget"))
 }
 
+/// `check GAME ID`
 fn check_command<'a>(alloc: Global) -> Result<Command<'a>, AllocError>
     ensures app { IfOk result (λ c. app_of c ≡ check_app) }
     ensures local { IfOk result (λ c. (fields_of c).has_globals ≡ false) }
@@ -97,6 +97,7 @@ fn check_command<'a>(alloc: Global) -> Result<Command<'a>, AllocError>
         .arg(required_argument(alloc, "id"))
 }
 
+/// `grade GAME ID [--budget N] [--trace]`
 fn grade_command<'a>(alloc: Global) -> Result<Command<'a>, AllocError>
     ensures app { IfOk result (λ c. app_of c ≡ grade_app) }
     ensures local { IfOk result (λ c. (fields_of c).has_globals ≡ false) }
@@ -108,7 +109,7 @@ fn grade_command<'a>(alloc: Global) -> Result<Command<'a>, AllocError>
         .arg(flag_argument(alloc, "trace"))
 }
 
-/// What a generated puzzle cannot do without.
+/// `generate GAME SIZE --seed N`: what a generated puzzle cannot do without.
 fn generate_needs<'a>(alloc: Global) -> Result<Command<'a>, AllocError>
     ensures app { IfOk result (λ c. app_of c ≡ generate_needs_app) }
     ensures local { IfOk result (λ c. (fields_of c).has_globals ≡ false) }
@@ -119,6 +120,7 @@ fn generate_needs<'a>(alloc: Global) -> Result<Command<'a>, AllocError>
         .arg(text_argument(alloc, "seed").required(true))
 }
 
+/// What a puzzle is generated of, with `[--budget N] [--tries N] [--black N]`.
 fn generate_command<'a>(alloc: Global) -> Result<Command<'a>, AllocError>
     ensures app { IfOk result (λ c. app_of c ≡ generate_app) }
     ensures local { IfOk result (λ c. (fields_of c).has_globals ≡ false) }
@@ -129,6 +131,7 @@ fn generate_command<'a>(alloc: Global) -> Result<Command<'a>, AllocError>
         .arg(text_argument(alloc, "black"))
 }
 
+/// The program without its commands. It has no help and no version, and wants a command.
 fn bare_command<'a>(alloc: Global) -> Command<'a>
     ensures app { app_of result ≡ bare_app }
     ensures local { (fields_of result).has_globals ≡ false }
@@ -141,6 +144,7 @@ fn bare_command<'a>(alloc: Global) -> Command<'a>
         .subcommand_required(true)
 }
 
+/// The program with its four commands.
 fn puzzles_command<'a>(alloc: Global) -> Result<Command<'a>, AllocError>
     ensures { IfOk result (λ c. app_of c ≡ puzzles_app) }
 {
@@ -166,24 +170,14 @@ fn matches_of<'a>(alloc: Global, words: &'a [String]) -> Result<Option<ArgMatche
     }
 }
 
-fn game_named(text: &str) -> Option<Game>
-    ensures { result ≡ game_of text.now }
-{
-    match text {
-        "solo" => Some(Game::Solo),
-        "pattern" => Some(Game::Pattern),
-        "lightup" => Some(Game::LightUp),
-        "tents" => Some(Game::Tents),
-        _ => None,
-    }
-}
-
+/// The text of an argument, where the words have it.
 fn text_of<'a>(matches: &ArgMatches<'a>, id: &str) -> Option<&'a str>
     ensures { option_map (λ s. s.now) result ≡ first_of id.now (rows_of (found_of matches.now)) }
 {
     matches.get_str(id)
 }
 
+/// The game that the words name.
 fn game_from<'a>(matches: &ArgMatches<'a>) -> Option<Game>
     ensures { result ≡ game_in (rows_of (found_of matches.now)) }
 {
@@ -205,6 +199,7 @@ fn number(text: &str, most: u64) -> Option<u64>
     }
 }
 
+/// The same of a text, and another number where there is no text.
 fn number_or(text: Option<&str>, most: u64, otherwise: u64) -> Option<u64>
     requires { otherwise ≤ most }
     ensures value { result ≡ number_or otherwise most (option_map (λ s. s.now) text.entry) }
@@ -216,12 +211,14 @@ fn number_or(text: Option<&str>, most: u64, otherwise: u64) -> Option<u64>
     }
 }
 
+/// The budget that the words name, or the usual one.
 fn budget_from<'a>(matches: &ArgMatches<'a>) -> Option<u64>
     ensures { result ≡ budget_in (rows_of (found_of matches.now)) }
 {
     number_or(text_of(matches, "budget"), u64::MAX, BUDGET)
 }
 
+/// What the words after `solve` ask for.
 fn solve_request<'a>(matches: &ArgMatches<'a>) -> Option<Request<'a>>
     ensures { option_map asked_in result ≡ solve_in (rows_of (found_of matches.now)) }
 {
@@ -232,6 +229,7 @@ fn solve_request<'a>(matches: &ArgMatches<'a>) -> Option<Request<'a>>
     Some(Request::Solve { task, id })
 }
 
+/// What the words after `check` ask for.
 fn check_request<'a>(matches: &ArgMatches<'a>) -> Option<Request<'a>>
     ensures { option_map asked_in result ≡ check_in (rows_of (found_of matches.now)) }
 {
@@ -240,6 +238,7 @@ fn check_request<'a>(matches: &ArgMatches<'a>) -> Option<Request<'a>>
     Some(Request::Check { game, id })
 }
 
+/// Whether a trace is asked for.
 fn trace_from<'a>(matches: &ArgMatches<'a>) -> bool
     ensures { result ≡ trace_in (rows_of (found_of matches.now)) }
 {
@@ -249,6 +248,7 @@ fn trace_from<'a>(matches: &ArgMatches<'a>) -> bool
     }
 }
 
+/// What the words after `grade` ask for.
 fn grade_request<'a>(matches: &ArgMatches<'a>) -> Option<Request<'a>>
     ensures { option_map asked_in result ≡ grade_in (rows_of (found_of matches.now)) }
 {
@@ -260,12 +260,14 @@ fn grade_request<'a>(matches: &ArgMatches<'a>) -> Option<Request<'a>>
     Some(Request::Grade { game, id, telling })
 }
 
+/// The seed that the words name.
 fn seed_from<'a>(matches: &ArgMatches<'a>) -> Option<u64>
     ensures { result ≡ seed_in (rows_of (found_of matches.now)) }
 {
     number(text_of(matches, "seed")?, u64::MAX)
 }
 
+/// The tries that the words name, or the usual number of them.
 fn tries_from<'a>(matches: &ArgMatches<'a>) -> Option<u32>
     ensures { result ≡ tries_in (rows_of (found_of matches.now)) }
 {
@@ -282,21 +284,19 @@ fn percent_or(text: Option<&str>, otherwise: Percent) -> Option<Percent>
     Some(Percent { value })
 }
 
-/// The percentage of black cells, which only Pattern and Light Up have.
+/// The percentage of black cells, which the words name only in a game that has some.
 fn black_from<'a>(game: Game, matches: &ArgMatches<'a>) -> Option<Percent>
     ensures { option_map (λ p. p.value) result ≡ black_in game (rows_of (found_of matches.now)) }
 {
     let text = text_of(matches, "black");
-    match game {
-        Game::Pattern => percent_or(text, PATTERN_BLACK),
-        Game::LightUp => percent_or(text, LIGHT_UP_BLACK),
-        _ => match text {
-            Some(_) => None,
-            None => Some(Percent { value: 0 }),
-        },
+    match (usual_black(game), text) {
+        (Some(usual), _) => percent_or(text, usual),
+        (None, None) => Some(Percent { value: 0 }),
+        (None, Some(_)) => None,
     }
 }
 
+/// What the words after `generate` ask for.
 fn generate_request<'a>(matches: &ArgMatches<'a>) -> Option<Request<'a>>
     ensures { option_map asked_in result ≡ generate_in (rows_of (found_of matches.now)) }
 {
@@ -315,6 +315,7 @@ fn generate_request<'a>(matches: &ArgMatches<'a>) -> Option<Request<'a>>
     Some(Request::Generate { game, size, recipe })
 }
 
+/// What the words after the name of a command ask for.
 fn request_by<'a>(name: &str, matches: &ArgMatches<'a>) -> Option<Request<'a>>
     ensures { option_map asked_in result ≡ asked_by name.now (rows_of (found_of matches.now)) }
 {
@@ -327,6 +328,7 @@ fn request_by<'a>(name: &str, matches: &ArgMatches<'a>) -> Option<Request<'a>>
     }
 }
 
+/// What the command and the words after it ask for.
 fn request_in<'a>(matches: &ArgMatches<'a>) -> Option<Request<'a>>
     ensures { option_map asked_in result
         ≡ option_and_then (λ p. asked_by p.0 p.1) (subcommand_rows_of matches.now) }

@@ -51,7 +51,8 @@ pub fn grid_reply<P: Printed>(
     Ok(reply)
 }
 
-/// Adds what is said of a fault to a text.
+/// Adds what is said of a fault to a text. Of want of memory, which is no fault of an ID, it is
+/// nothing.
 fn push_fault(text: &mut String, fault: IdFault) -> Result<(), AllocError>
     ensures { OnOk result (string_bytes text.new ≡ string_bytes text.old ++ fault_text fault) }
 {
@@ -70,7 +71,7 @@ fn push_fault(text: &mut String, fault: IdFault) -> Result<(), AllocError>
         }
         IdFault::TooFew => text.push_str("too few"),
         IdFault::TooMany => text.push_str("too many"),
-        IdFault::Memory => text.push_str(""),
+        IdFault::Memory => Ok(()),
     }
 }
 

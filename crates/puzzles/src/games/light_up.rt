@@ -1,7 +1,6 @@
 //! Light Up, as the commands play it.
-ghost use Rattle.gameid_core.specs.declared.id.game.Game.TheVariants as games;
 ghost use Rattle.puzzles.specs.Common.{light_rules};
-ghost use Rattle.puzzles.specs.Games.{played};
+ghost use Rattle.puzzles.specs.LightPlayed.{light_played};
 
 use crate::answers::check_reply::{correct_reply, wrong_place_reply};
 use crate::answers::reply::Reply;
@@ -21,7 +20,7 @@ use maker_core::{Made, make_lights};
 use std::alloc::{AllocError, Global};
 
 impl Played for LightPuzzle {
-    ghost game = { (played games.LightUp).game };
+    ghost game = { light_played.game };
 
     fn read_id(alloc: Global, id: &[u8]) -> Result<LightPuzzle, IdFault> {
         read_lights(alloc, id)

@@ -1,9 +1,7 @@
 //! Pattern, as the commands play it.
 ghost use Rattle.std.specs.Prelude.{◌+◌};
-ghost use Rattle.gameid_core.specs.declared.id.game.Game.TheVariants as games;
 ghost use Rattle.puzzles.specs.Common.{Pattern, line_rules};
-ghost use Rattle.puzzles.specs.Games.{played};
-ghost use Rattle.puzzles.specs.Traces.{pattern_name};
+ghost use Rattle.puzzles.specs.PatternPlayed.{pattern_name, pattern_played};
 
 use crate::answers::check_reply::{correct_reply, wrong_line_reply};
 use crate::answers::reply::Reply;
@@ -25,7 +23,7 @@ use solo_core::SoloHouse;
 use std::alloc::{AllocError, Global};
 
 impl Played for PatternPuzzle {
-    ghost game = { (played games.Pattern).game };
+    ghost game = { pattern_played.game };
 
     fn read_id(alloc: Global, id: &[u8]) -> Result<PatternPuzzle, IdFault> {
         read_pattern(alloc, id)

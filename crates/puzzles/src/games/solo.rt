@@ -1,11 +1,9 @@
 //! Solo, as the commands play it. It is graded by three rule sets in turn, and else by a search.
 ghost use Rattle.std.specs.Prelude.{◌≡◌, false, length};
-ghost use Rattle.gameid_core.specs.declared.id.game.Game.TheVariants as games;
 ghost use Rattle.puzzles.specs.Allowed.{IsGradedAfterSingles};
 ghost use Rattle.puzzles.specs.Common.{Solo, houses_rules, scopes_of};
-ghost use Rattle.puzzles.specs.Games.{played};
+ghost use Rattle.puzzles.specs.SoloPlayed.{solo_name, solo_played};
 ghost use Rattle.puzzles.specs.Stops.{LeavesSink, Told};
-ghost use Rattle.puzzles.specs.Traces.{solo_name};
 
 use crate::answers::check_reply::{correct_reply, wrong_line_reply, wrong_place_reply};
 use crate::answers::reply::Reply;
@@ -28,7 +26,7 @@ use solo_core::{SoloCrossings, SoloFault, SoloHouses, SoloSingles, check_solo, s
 use std::alloc::{AllocError, Global};
 
 impl Played for SoloPuzzle {
-    ghost game = { (played games.Solo).game };
+    ghost game = { solo_played.game };
 
     fn read_id(alloc: Global, id: &[u8]) -> Result<SoloPuzzle, IdFault> {
         read_solo(alloc, id)
@@ -65,7 +63,6 @@ impl Checked for SoloPuzzle {
 
 impl Graded for SoloPuzzle {
     fn tell<O: Sink>(&self, alloc: Global, wanted: Telling, output: &mut O) -> Ended {
-        solo_core::scopes_are_houses_and_crossings();
         let singles = SoloSingles::new(alloc, self)?;
         let mut store = Store::new(alloc, &singles)?;
         if settles(&mut store, &singles) {
@@ -90,7 +87,6 @@ fn tell_by_houses<O: Sink>(
         output.old output.new result }
     ensures left { LeavesSink O.Sink output.new result }
 {
-    solo_core::scopes_are_houses_and_crossings();
     let houses = SoloHouses::new(alloc, puzzle)?;
     let mut store = Store::new(alloc, &houses)?;
     if settles(&mut store, &houses) {

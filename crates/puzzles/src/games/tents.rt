@@ -1,7 +1,6 @@
 //! Tents, as the commands play it.
-ghost use Rattle.gameid_core.specs.declared.id.game.Game.TheVariants as games;
 ghost use Rattle.puzzles.specs.Common.{tent_rules};
-ghost use Rattle.puzzles.specs.Games.{played};
+ghost use Rattle.puzzles.specs.TentsPlayed.{tents_played};
 
 use crate::answers::check_reply::{
     correct_reply, wrong_line_reply, wrong_place_reply, wrong_reply,
@@ -23,7 +22,7 @@ use maker_core::{Made, make_tents};
 use std::alloc::{AllocError, Global};
 
 impl Played for TentsPuzzle {
-    ghost game = { (played games.Tents).game };
+    ghost game = { tents_played.game };
 
     fn read_id(alloc: Global, id: &[u8]) -> Result<TentsPuzzle, IdFault> {
         read_tents(alloc, id)

@@ -16,8 +16,6 @@ pub fn settles<R: Rules>(store: &mut Store<R>, rules: &R) -> bool
     ensures one { result ≡ true → HasOneSolution (Solves (R.puzzle rules.now)) }
     ensures made { store.new.made ≡ store.old.made }
 {
-    engine_core::walk_finds_each_solution_once(rules);
-    engine_core::walk_goes_on_from_the_closure(rules);
     store.settles(rules)
 }
 

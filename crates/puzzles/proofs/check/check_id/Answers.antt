@@ -1,11 +1,11 @@
 use Rattle.puzzles.proofs.check.check_id.Goals as goal
 
-pub returns-in-Pattern : goal.returns-in-Pattern
-returns-in-Pattern g c = let e = c.in-Pattern.is in record { ran = rw e c.check_one.ensures.ran; left = rw e c.check_one.ensures.left }
-
 pub returns-in-Solo : goal.returns-in-Solo
-returns-in-Solo g c =
-    let e = c.in-Solo.is in record { ran = rw e c.check_one-in-Solo.ensures.ran; left = rw e c.check_one-in-Solo.ensures.left }
+returns-in-Solo g c = let e = c.in-Solo.is in record { ran = rw e c.check_one.ensures.ran; left = rw e c.check_one.ensures.left }
+
+pub returns-in-Pattern : goal.returns-in-Pattern
+returns-in-Pattern g c =
+    let e = c.in-Pattern.is in record { ran = rw e c.check_one-in-Pattern.ensures.ran; left = rw e c.check_one-in-Pattern.ensures.left }
 
 pub returns-in-LightUp : goal.returns-in-LightUp
 returns-in-LightUp g c =

@@ -1,5 +1,4 @@
-use Rattle.std.proofs.Common.{◌∙◌, ap, inr}
-use Rattle.engine_core.specs.Puzzle.{Puzzle}
+use Rattle.std.proofs.Common.{◌∙◌, inr}
 use Rattle.puzzles.proofs.SearchedPuzzles.{solved_of}
 use Rattle.puzzles.proofs.solve.solve_one.Goals as goal
 

@@ -1,10 +1,10 @@
-use Rattle.std.proofs.Common.{[], arith, refl, rules, subst, sym}
+use Rattle.std.proofs.Common.{[], refl, rules, subst, sym}
 use Rattle.gameid_core.specs.declared.id.game.Game.TheVariants.{Solo}
 use Rattle.puzzles.specs.Common.{IsSolo, crossings_rules, houses_rules, IsSoloSolution}
 use Rattle.puzzles.specs.Games.{played}
 use Rattle.puzzles.specs.Grades.{only_set}
 use Rattle.puzzles.specs.declared.grade.RuleSet.TheVariants.{Crossings, Houses}
-use Rattle.puzzles.proofs.GradeLemmas.{accepted_by, told_by, told_first, told_later, houses_named, named}
+use Rattle.puzzles.proofs.GradeLemmas.{accepted_by, told_by, told_first, told_later, crossings_named, houses_named, named}
 use Rattle.puzzles.proofs.SearchedPuzzles.{solo_accepted}
 use Rattle.puzzles.proofs.RunLemmas.{is_late, left_alone, tells_nothing}
 use Rattle.puzzles.proofs.games.solo.tell_by_houses.Goals as goal
@@ -16,12 +16,10 @@ pub returns-in_err-crossings-clause-told : goal.returns-in_err-crossings-clause-
 returns-in_err-crossings-clause-told g c = tells_nothing g.O.Sink.takes _ _ _ (g.met.O.Sink.takes_nothing _) (is_late _ _ c.from_residual-in_err-crossings.ensures)
 
 pub tell_with_visits-requires-clause-named : goal.tell_with_visits-requires-clause-named
-tell_with_visits-requires-clause-named g c = named c.args.puzzle.now _ _ c.in_ok-houses.ensures.rules
-    (omega (arith, c.scopes_are_houses_and_crossings.ensures.houses c.args.puzzle.now, houses_named c.args.puzzle.now))
+tell_with_visits-requires-clause-named g c = named c.args.puzzle.now _ _ c.in_ok-houses.ensures.rules (houses_named c.args.puzzle.now)
 
 pub tell_by_visits-requires-clause-named : goal.tell_by_visits-requires-clause-named
-tell_by_visits-requires-clause-named g c = named c.args.puzzle.now _ _ c.in_ok-crossings.ensures.rules
-    (omega (arith, c.scopes_are_houses_and_crossings.ensures.crossings c.args.puzzle.now))
+tell_by_visits-requires-clause-named g c = named c.args.puzzle.now _ _ c.in_ok-crossings.ensures.rules (crossings_named c.args.puzzle.now)
 
 pub tell_by_visits-requires-clause-accepted : goal.tell_by_visits-requires-clause-accepted
 tell_by_visits-requires-clause-accepted g c =

@@ -1,5 +1,4 @@
-use Rattle.std.proofs.Common.{◌∙◌, ap}
-use Rattle.puzzles.specs.Grades.{searched_grade}
+use Rattle.std.proofs.Common.{◌∙◌}
 use Rattle.puzzles.proofs.GradeLemmas.{right_by}
 use Rattle.puzzles.proofs.grade.settling.search_grade.Goals as goal
 

@@ -1,10 +1,11 @@
-use Rattle.std.proofs.Common.{arith, refl, rules, subst, sym}
+use Rattle.std.proofs.Common.{refl, rules, subst, sym}
 use Rattle.gameid_core.specs.declared.id.game.Game.TheVariants.{Solo}
 use Rattle.puzzles.specs.Common.{IsSolo, crossings_rules, singles_rules}
 use Rattle.puzzles.specs.Games.{played}
-use Rattle.puzzles.specs.Grades.{after_singles, only_set}
+use Rattle.puzzles.specs.Grades.{only_set}
+use Rattle.puzzles.specs.SoloPlayed.{after_singles}
 use Rattle.puzzles.specs.declared.grade.RuleSet.TheVariants.{Crossings, Singles}
-use Rattle.puzzles.proofs.GradeLemmas.{told_first, told_later, houses_named, named}
+use Rattle.puzzles.proofs.GradeLemmas.{told_first, told_later, named, singles_named}
 use Rattle.puzzles.proofs.SearchedPuzzles.{solo_accepted}
 use Rattle.puzzles.proofs.RunLemmas.{tells_nothing}
 use Rattle.puzzles.proofs.games.solo.SoloPuzzleGraded.tell.Goals as goal
@@ -13,8 +14,7 @@ pub returns-in_err-store-clause-told : goal.returns-in_err-store-clause-told
 returns-in_err-store-clause-told g c = tells_nothing g.O.Sink.takes _ _ _ (g.met.O.Sink.takes_nothing _) (search rules)
 
 pub tell_with_visits-requires-clause-named : goal.tell_with_visits-requires-clause-named
-tell_with_visits-requires-clause-named g c = named c.args.self.now _ _ c.in_ok-singles.ensures.rules
-    (omega (arith, c.scopes_are_houses_and_crossings.ensures.singles c.args.self.now, houses_named c.args.self.now))
+tell_with_visits-requires-clause-named g c = named c.args.self.now _ _ c.in_ok-singles.ensures.rules (singles_named c.args.self.now)
 
 pub returns-then-settles-clause-told : goal.returns-then-settles-clause-told
 returns-then-settles-clause-told g c =

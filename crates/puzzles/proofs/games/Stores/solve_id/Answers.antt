@@ -1,4 +1,4 @@
-use Rattle.puzzles.proofs.solve.Stores.solve_id.Goals as goal
+use Rattle.puzzles.proofs.games.Stores.solve_id.Goals as goal
 
 pub returns-in-Solo : goal.returns-in-Solo
 returns-in-Solo c = rw c.in-Solo.is c.solve_one.ensures
