@@ -41,6 +41,12 @@ upto-idle p K test before now n k on number idle a =
     called-same p K _ _ before now (λ j lt. upto-next test n k j on number)
     (called-more p K (asked_upto test k) (λ j. eqb j n) before now now a (grind (arith, common_steps, eqb-true)))
 
+-- one or the other
+pub upto-asked : (p : Puzzle) (K : Candidates) (test before now after : ℕ → Bool) (n k : ℕ) (called : Bool) → test n ≡ true → count_below test n ≡ k → (called ≡ false → IsIdle p n K)
+    → ((j : ℕ) → after j ≡ (now j || (called && eqb j n))) → AreCalled p K (asked_upto test k) before now → AreCalled p K (asked_upto test (k + 1)) before after
+upto-asked p K test before now after n k true on number idle marks a = upto-marked p K test before now after n k on number marks a
+upto-asked p K test before now after n k false on number idle marks a = upto-idle p K test before after n k on number (idle refl) (grind (arith, common_steps))
+
 pub upto-all : (p : Puzzle) (K : Candidates) (test before now : ℕ → Bool) (k : ℕ) → count_below test p.houses ≤ k → AreCalled p K (asked_upto test k) before now → AreCalled p K test before now
 upto-all p K test before now k le a = grind (arith, common_steps, and_from, and_left, called-same, counted, lt-ltb)
 

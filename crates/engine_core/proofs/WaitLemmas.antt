@@ -3,6 +3,7 @@ use Rattle.engine_core.proofs.Common.{Bool, IsNext, List, Some, ap, arith, bit_a
 use Rattle.engine_core.proofs.Common.{bit_at_clear_other, bit_at_clear_same, bit_at_set_other, bit_at_set_same, bit_or, but, cases_eq, cases_lt}
 use Rattle.engine_core.proofs.Common.{common_steps, div-div-eq-div-mul, div-le_self, eq-eqb, eqb, eqb-true, false, get_or, get_or-replicate}
 use Rattle.engine_core.proofs.Common.{get_or-set_other, get_or-set_same, has_bit, inl, inr, is_waiting, length, ne_eqb, not, pow-add, refl, replicate}
+use Rattle.engine_core.proofs.BitLemmas.{bits-either, bits-of_zero}
 use Rattle.engine_core.proofs.Common.{set, sym, trailing_zeros, true, w64, ℕ, ◌%◌, ◌&&◌, ◌*◌, ◌+◌, ◌-◌, ◌/◌, ◌<◌, ◌^◌, ◌||◌, ◌∙◌, ◌≡◌, ◌≢◌, ◌≤◌}
 
 -- ---- a house's word and bit
@@ -49,6 +50,13 @@ pub waiting-mark : (waits : List ℕ) (h j : ℕ) → h / 64 < length waits
 waiting-mark waits h j lt = waiting-word ◌||◌ (λ x. grind (arith, common_steps)) waits h _ j lt (λ b small.
     let other = bit_at_set_other w64 (get_or waits (h / 64) 0) (h % 64) in
     grind (arith, common_steps, cases_eq b (h % 64), bit_at_set_same w64 (get_or waits (h / 64) 0) (h % 64), eq-eqb, ne_eqb))
+
+-- a house is marked where it is called for
+pub waiting-mark_if : (waits : List ℕ) (h j bit : ℕ) (called : Bool) → (called ≡ true → bit ≡ 1) → (called ≡ false → bit ≡ 0) → h / 64 < length waits
+    → is_waiting (set waits (h / 64) (bit_or (get_or waits (h / 64) 0) (bit * 2 ^ (h % 64) % 18446744073709551616))) j ≡ (is_waiting waits j || (called && eqb j h))
+waiting-mark_if waits h j bit true is off lt = rw (is refl) (waiting-mark waits h j lt)
+waiting-mark_if waits h j bit false on is lt =
+    rw (is refl) (waiting-word (λ x here. x || false) (λ x. sym (or_false x)) waits h _ j lt (λ b small. grind (arith, common_steps, bits-either, bits-of_zero)))
 
 pub waiting-unmark : (waits : List ℕ) (h j : ℕ) → h / 64 < length waits
     → is_waiting (set waits (h / 64) (bit_and (get_or waits (h / 64) 0) (18446744073709551615 - 1 * 2 ^ (h % 64) % 18446744073709551616))) j ≡ but (is_waiting waits) h j

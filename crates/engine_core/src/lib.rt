@@ -9,7 +9,7 @@ mod rules;
 mod search;
 mod store;
 
-pub use closing::waits::mark;
+pub use closing::waits::{mark, mark_if};
 pub use houses::list::HouseList;
 pub use houses::table::Houses;
 pub use houses::visit::{apply, gather, has_bit};

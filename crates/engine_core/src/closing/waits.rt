@@ -1,7 +1,7 @@
 //! Which houses wait: a bit for each, in words of 64.
 #![tactic(auto, using(crate::proofs::LawSets::wait_laws))]
 
-ghost use Rattle.std.specs.Prelude.{◌≡◌, ℕ, ◌/◌, ◌<◌, ◌≤◌, ◌||◌, ◌==◌, length};
+ghost use Rattle.std.specs.Prelude.{◌≡◌, ℕ, ◌/◌, ◌<◌, ◌≤◌, ◌&&◌, ◌||◌, ◌==◌, length};
 ghost use Rattle.engine_core.specs.Puzzle.{IsNext};
 ghost use Rattle.engine_core.specs.Queue.{but, IsAnyOf};
 ghost use Rattle.engine_core.specs.Waiting.{words_of, is_waiting};
@@ -21,6 +21,16 @@ pub fn mark(waits: &mut [u64], house: usize)
 {
     let word = house / 64;
     waits[word] |= 1 << (house % 64);
+}
+
+/// Marks the house if it is called for. There is no branch on that: it can't be foreseen.
+pub fn mark_if(waits: &mut [u64], house: usize, called: bool)
+    requires { house / 64 < length waits.old }
+    ensures { (j : ℕ) → is_waiting waits.new j
+        ≡ (is_waiting waits.old j || (called && (j == house))) }
+{
+    let word = house / 64;
+    waits[word] |= u64::from(called) << (house % 64);
 }
 
 /// Takes the house's mark away.
