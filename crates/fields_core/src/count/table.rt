@@ -16,7 +16,7 @@ ghost use Rattle.fields_core.specs.CountLists.{bounded, bounds_of};
 use crate::count::list::{Bounds, CountList};
 use crate::count::tally::Tally;
 use crate::count::visit::{keep_cells, visit_house};
-use engine_core::{Houses, mark};
+use engine_core::{Houses, mark_if};
 use grid_core::Board;
 use std::alloc::{AllocError, Global};
 use std::marker::Model;
@@ -225,9 +225,7 @@ impl CountTable {
         let houses = self.houses.houses_at(place);
         for k in 0..houses.len() {
             let house = houses[k] as usize;
-            if self.calls(house, tallies) {
-                mark(waits, house);
-            }
+            mark_if(waits, house, self.calls(house, tallies));
         }
     }
 }

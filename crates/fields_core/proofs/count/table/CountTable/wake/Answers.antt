@@ -1,20 +1,19 @@
 use Rattle.std.proofs.Common.{ℕ, Bool, Some, None, slice_index, arith}
 use Rattle.engine_core.specs.Puzzle.{has_place}
 use Rattle.engine_core.specs.Waiting.{is_waiting}
-use Rattle.engine_core.proofs.CallLemmas.{upto-marked, upto-idle, upto-all}
+use Rattle.engine_core.proofs.CallLemmas.{upto-asked, upto-all}
 use Rattle.engine_core.proofs.IndexLemmas.{nth-at}
 use Rattle.fields_core.specs.CountHouse.{count_house_of, table_puzzle}
 use Rattle.fields_core.proofs.CountListLemmas.{kth-in}
 use Rattle.fields_core.proofs.count.table.CountTable.wake.Goals as goal
-use Rattle.fields_core.proofs.count.table.CountTable.wake.Goals.{then-calls, else-calls}
 
 pub calls-requires-clause-house_in : goal.calls-requires-clause-house_in
 calls-requires-clause-house_in c =
     let houses = c.houses_at-houses.result.now in
     (kth-in _ _ _ _ c.args.place c.loop-k.k (Some (slice_index houses c.loop-k.k)) c.self.invariant.0 c.self.view_is (nth-at _ c.args.place c.loop-k.k houses c.houses_at-houses.ensures c.loop-k-test.true)).0
 
-pub mark-requires : goal.mark-requires
-mark-requires c =
+pub mark_if-requires : goal.mark_if-requires
+mark_if-requires c =
     let houses = c.houses_at-houses.result.now in
     let at = kth-in _ _ _ _ c.args.place c.loop-k.k (Some (slice_index houses c.loop-k.k)) c.self.invariant.0 c.self.view_is (nth-at _ c.args.place c.loop-k.k houses c.houses_at-houses.ensures c.loop-k-test.true) in
     omega (arith, at.0, c.requires.room, c.loop-k.auto.waits)
@@ -28,10 +27,7 @@ loop-k-preserved c = λ blocked is_solution K tallied.
     let house = slice_index houses k in
     let at = kth-in _ _ _ _ c.args.place k (Some house) c.self.invariant.0 c.self.view_is (nth-at _ c.args.place k houses c.houses_at-houses.ensures c.loop-k-test.true) in
     let upto = c.loop-k.invariant blocked is_solution K tallied in
-    elim c.if-calls.branch [
-      | then-calls w ↦ rw w.waits-is (upto-marked p K test (is_waiting c.args.waits.now) (is_waiting c.loop-k.waits) (is_waiting w.mark.new.waits) house k at.1 at.2 w.mark.ensures upto)
-      | else-calls w ↦ rw w.waits-is (upto-idle p K test (is_waiting c.args.waits.now) (is_waiting c.loop-k.waits) house k at.1 at.2 (c.calls.ensures w.if-calls.false K tallied) upto)
-    ]
+    upto-asked p K test (is_waiting c.args.waits.now) (is_waiting c.loop-k.waits) (is_waiting c.mark_if.new.waits) house k c.calls.result at.1 at.2 (λ off. c.calls.ensures off K tallied) c.mark_if.ensures upto
 
 pub returns : goal.returns
 returns c = λ blocked is_solution K tallied.
