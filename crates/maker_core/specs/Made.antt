@@ -1,5 +1,5 @@
 -- When a filling passes, and what a maker of puzzles gives.
-use Rattle.std.specs.Prelude.{◌≡◌, ℕ, Bool, true, false, List, Result, IfOk}
+use Rattle.std.specs.Prelude.{◌≡◌, ℕ, Bool, true, false, List}
 use Rattle.engine_core.specs.Puzzle.{Puzzle}
 use Rattle.engine_core.specs.Verdict.{Outcome, Outcome.NoGrid, Outcome.OneGrid, Outcome.TwoGrids, Outcome.OutOfBudget, verdict_of, IsTrueOf}
 
@@ -23,10 +23,6 @@ pub record HasOne (rules : Puzzle) (budget : ℕ) : Type 0 where
   pub answer : List ℕ
   pub found : TellsOne rules budget answer
   pub only : IsTrueOf rules (OneGrid answer)
-
--- what holds where the answer is yes
-abbrev pub IfYes : {E : Type 0} → Result Bool E → Type 0 → Type 0
-IfYes answer P = IfOk answer (λ yes. yes ≡ true → P)
 
 -- the grid is a solution and no other is
 abbrev pub IsOnlySolution : (List ℕ → Type 0) → List ℕ → Type 0

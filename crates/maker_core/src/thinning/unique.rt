@@ -1,7 +1,7 @@
 //! Whether a puzzle's search answers that one grid solves it.
 
 ghost use Rattle.std.specs.Prelude.{◌≡◌, true, IfOk};
-ghost use Rattle.maker_core.specs.Made.{HasOne, IfYes, has_one};
+ghost use Rattle.maker_core.specs.Made.{HasOne, has_one};
 
 use engine_core::{Rules, Store, Verdict};
 use std::alloc::{AllocError, Global};
@@ -13,7 +13,7 @@ use std::alloc::{AllocError, Global};
 /// When memory was refused.
 pub(crate) fn is_unique<R: Rules>(alloc: Global, rules: &R, budget: u64) -> Result<bool, AllocError>
     ensures verdict { IfOk result (λ unique. unique ≡ has_one (R.puzzle rules.now) budget) }
-    ensures only { IfYes result (HasOne (R.puzzle rules.now) budget) }
+    ensures only { IfOk result (λ yes. yes ≡ true → HasOne (R.puzzle rules.now) budget) }
 {
     let mut store = Store::new(alloc, rules)?;
     match store.solve(rules, budget) {
