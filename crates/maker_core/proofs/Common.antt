@@ -80,8 +80,8 @@ pub use Rattle.grid_core.specs.Extent.{Extent, IsExtent}
 pub use Rattle.grid_core.specs.Grids.{IsGrid, column_cells, row_cells}
 pub use Rattle.grid_core.specs.Regions.{beside, column_places, row_places, steps}
 pub use Rattle.pattern_core.specs.Faults.{IsCheck}
-pub use Rattle.pattern_core.specs.LineLaws.{cell_in_grid, different_places, has_runs-is, is_solution-from, is_solution-is, length-line_places, line_rules-lawful}
-pub use Rattle.pattern_core.specs.LineLaws.{place_in_row}
+pub use Rattle.pattern_core.specs.LineLaws.{cell_in_grid, different_places, has_runs-is, is_solution-from, is_solution-is, length-line_places}
+pub use Rattle.pattern_core.specs.LineLaws.{line_rules-lawful, place_in_row}
 pub use Rattle.pattern_core.specs.LineRules.{line_rules}
 pub use Rattle.pattern_core.specs.Lines.{clue_of, has_runs, line_places}
 pub use Rattle.pattern_core.specs.Solutions.{IsPatternSolution}

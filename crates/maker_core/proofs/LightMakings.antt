@@ -31,8 +31,8 @@ size_is size f p is = ap (λ (r : Light). r.size) is
 pub all_numbers : (size : Extent) (f : Lighting) (p : Light) → p ≡ light_puzzle_of size f → IsLit size f → p ≡ with_numbers p f.bulbs
 all_numbers size f p is lit = rw is (numbers_again size f lit.black.each_cell)
 
-pub lit_one : (size : Extent) (f : Lighting) (budget : ℕ) (p : Light) → p ≡ light_puzzle_of size f → IsLit size f → HasOne (light_rules (light_puzzle_of size f)) budget
-    → IsOnly (light_rules p) f.bulbs × TellsOne (light_rules p) budget f.bulbs
+pub lit_one : (size : Extent) (f : Lighting) (budget : ℕ) (p : Light) → p ≡ light_puzzle_of size f → IsLit size f
+    → HasOne (light_rules (light_puzzle_of size f)) budget → IsOnly (light_rules p) f.bulbs × TellsOne (light_rules p) budget f.bulbs
 unfolding light_puzzle_of with_numbers lights_of
 lit_one size f budget p is lit one = rw is (one_grid (light_rules (light_puzzle_of size f)) f.bulbs budget one (record { grid = lit.bulbs; good = lit.solved }))
 
@@ -40,8 +40,8 @@ lit_one size f budget p is lit one = rw is (one_grid (light_rules (light_puzzle_
 pub ruleset lit_laws = (all_numbers, lit_one)
 
 -- black cells alone pass
-pub all_black : (size : Extent) (f : Lighting) (budget : ℕ) (p : Light) → p ≡ light_puzzle_of size f → IsLawful (light_rules p) → IsLit size f → AreAll 1 f.black
-    → has_one (light_rules p) budget ≡ true
+pub all_black : (size : Extent) (f : Lighting) (budget : ℕ) (p : Light) → p ≡ light_puzzle_of size f → IsLawful (light_rules p) → IsLit size f
+    → AreAll 1 f.black → has_one (light_rules p) budget ≡ true
 unfolding light_puzzle_of with_numbers lights_of
 all_black size f budget p is laws lit black =
     rw is (black_passes (light_puzzle_of size f) f.bulbs budget (rw is at laws) lit.bulbs lit.solved (none_white size f lit.black.each_cell black))

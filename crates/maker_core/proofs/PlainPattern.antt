@@ -58,7 +58,8 @@ same_blacks xs ys e =
 pub white_line : (line cells : List ℕ) → AreAll 0 line → runs cells ≡ runs line → AreAll 0 cells
 white_line line cells all e = no_black cells (same_blacks cells line e ∙ blacks-none line all)
 
-pub black_line : (line cells : List ℕ) → AreAll 1 line → length cells ≡ length line → runs cells ≡ runs line → (k : ℕ) → k < length cells → 1 ≤ slice_index cells k
+pub black_line : (line cells : List ℕ) → AreAll 1 line
+    → length cells ≡ length line → runs cells ≡ runs line → (k : ℕ) → k < length cells → 1 ≤ slice_index cells k
 black_line line cells all long e = each_black cells (same_blacks cells line e ∙ blacks-all line all ∙ sym long)
 
 -- ---- the row of a cell
@@ -108,7 +109,8 @@ plain_alone size g E c v extent long plain closed lt few on =
     elim plain [
       | inl white ↦ sym w.3 ∙ white_line row w.0 (row_all size g (c / size.w) 0 long low white) w.1 (c % size.w) k ∙ sym (white c inside)
       | inr black ↦
-          let high : 1 ≤ slice_index w.0 (c % size.w) = black_line row w.0 (row_all size g (c / size.w) 1 long low black) (w.2 ∙ sym row_long) w.1 (c % size.w) k in
+          let high : 1 ≤ slice_index w.0 (c % size.w) =
+          black_line row w.0 (row_all size g (c / size.w) 1 long low black) (w.2 ∙ sym row_long) w.1 (c % size.w) k in
           let is = w.3 in
           let one : v ≡ 1 = omega arith in
           one ∙ sym (black c inside)
@@ -121,4 +123,4 @@ plain_passes size g budget extent good plain =
     let p : Pattern = clued_by size g in
     let rules = known (line_rules p) (line_rules-lawful p extent) in
     ap is_one (found_at_once (line_rules p) budget g rules (record { grid = good.grid; good = is_solution-from p g good })
-    (λ c v lt few here. plain_alone size g (closure (line_rules p) (line_rules p).start) c v extent good.grid.each_cell plain (closed_start (line_rules p) rules) lt few here))
+    (λ c v. plain_alone size g (closure (line_rules p) (line_rules p).start) c v extent good.grid.each_cell plain (closed_start (line_rules p) rules)))

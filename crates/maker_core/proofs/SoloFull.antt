@@ -64,7 +64,8 @@ module _ (c r : ℕ) (x : Bool) (g : List ℕ) (size : IsSoloSize c r) (solution
   all_given-found budget = start_found (houses_rules (all_given c r x g)) (houses_lawful (all_given c r x g) solo) g solves inside budget
 
 -- what is left of the puzzle when givens were taken away is a puzzle
-pub thinned-solo : (c r : ℕ) (x : Bool) (p : Solo) (g : List ℕ) → IsSoloSize c r → IsSoloSolution (all_given c r x g) g → IsThinnedFrom solo_game p (all_given c r x g) → IsSolo p
+pub thinned-solo : (c r : ℕ) (x : Bool) (p : Solo) (g : List ℕ) → IsSoloSize c r → IsSoloSolution (all_given c r x g) g
+    → IsThinnedFrom solo_game p (all_given c r x g) → IsSolo p
 thinned-solo c r x p g size solution w = record {
   c_low = rw w.frame.c size.c_low;
   r_low = rw w.frame.r size.r_low;

@@ -17,7 +17,7 @@ use crate::thinning::unique::is_unique;
 use crate::tries::{Fillings, first_passing};
 use fields_core::LightRules;
 use gameid_core::LightPuzzle;
-use grid_core::{Grid, Size};
+use grid_core::Size;
 use rand_core::Rng;
 use std::alloc::{AllocError, Global};
 

@@ -101,10 +101,9 @@ pub fn make_pattern<G: Rng>(
     };
     let answer = first_passing(alloc, &bitmaps, rng, limits.tries)?;
     let puzzle = puzzle_of(alloc, size, &answer)?;
-    let kept = Vec::new(alloc);
     Ok(Made {
         puzzle,
         answer,
-        kept,
+        kept: Vec::new(alloc),
     })
 }

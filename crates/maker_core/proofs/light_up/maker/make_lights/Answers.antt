@@ -18,11 +18,13 @@ returns-clause-made g c =
       numbers = subst (IsThinnedFrom light_game p) (c.in_ok-puzzle.ensures ∙ ap (light_puzzle_of a.size) first.filled) thinned.within;
       filled = given ∙ ap (λ (f : Lighting). f.bulbs) first.filled;
       size_asked = thinned.within.frame.size ∙ size_is a.size c.in_ok-filling.filling c.in_ok-puzzle.puzzle c.in_ok-puzzle.ensures;
-      only = rw given (only_is (light_rules p) (IsLightSolution p) (λ h s. s.grid) (λ h grid. (rule-from-test p h grid, test-from-rule p h grid)) _ thinned.only);
+      only = rw given (only_is (light_rules p) (IsLightSolution p) (λ h s. s.grid)
+          (λ h grid. (rule-from-test p h grid, test-from-rule p h grid)) _ thinned.only);
       verdict = rw given thinned.found;
       reasons = rw given thinned.reasons;
     }
 
 pub returns-clause-drawn : goal.returns-clause-drawn
 returns-clause-drawn g c =
-    draws_first _ _ _ _ _ c.in_ok-filling.ensures.first (c.in_ok-thin.ensures.drawn ∙ ap (λ p. stream_after_clues light_game p (g.G.Rng.stream c.first_passing.new.rng)) c.in_ok-puzzle.ensures)
+    draws_first _ _ _ _ _ c.in_ok-filling.ensures.first
+    (c.in_ok-thin.ensures.drawn ∙ ap (λ p. stream_after_clues light_game p (g.G.Rng.stream c.first_passing.new.rng)) c.in_ok-puzzle.ensures)

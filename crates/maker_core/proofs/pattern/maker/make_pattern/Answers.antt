@@ -17,7 +17,7 @@ returns-clause-made g c =
       clues = puzzle.puzzle;
       only = only.0;
       verdict = only.1;
-      unthinned = c.new-kept.ensures.items;
+      unthinned = c.new.ensures.items;
     }
 
 pub returns-clause-drawn : goal.returns-clause-drawn

@@ -34,7 +34,8 @@ returns-clause-made g c =
       rows = frame.r;
       diagonals = frame.x;
       givens = rw given within;
-      only = rw given (only_by_rules p c.in-Some.answer (thinned-solo a.c a.r a.x p c.in-Some.answer (c.if-not-is_size.ensures.0 refl) solution within) thinned.only);
+      only = rw given (only_by_rules p c.in-Some.answer
+          (thinned-solo a.c a.r a.x p c.in-Some.answer (c.if-not-is_size.ensures.0 refl) solution within) thinned.only);
       verdict = rw given thinned.found;
       reasons = rw (given, sym (same_given p a.c a.r a.x c.in-Some.answer frame.c frame.r frame.x)) thinned.reasons;
     }

@@ -8,7 +8,8 @@ returns-clause-made g c =
     let a = c.args in
     let made = c.in_ok-camp.ensures in
     let puzzle = c.in_ok-puzzle.ensures in
-    let only = tents_only a.size c.in_ok-camp.camp c.in_ok-puzzle.puzzle puzzle made.known.2 (λ q h grid. (solution-from-camp q h grid, camp-from-solution q h grid)) a.limits.budget
+    let only = tents_only a.size c.in_ok-camp.camp c.in_ok-puzzle.puzzle puzzle made.known.2
+    (λ q h grid. (solution-from-camp q h grid, camp-from-solution q h grid)) a.limits.budget
     (subst (λ (p : Tents). HasOne (tent_rules p) a.limits.budget) (sym puzzle) (made.known.3 refl)) in
     record {
       k = made.first.k;
