@@ -16,13 +16,6 @@ no_bulb_on : (p : Light) (g : List ℕ) (c : ℕ) → is_lit p g ≡ true → c 
 unfolding black_right
 no_bulb_on p g c lit lt off = grind (arith, all_below-at (black_right p g) (light_cells p) c (lit-parts p g lit).black lt)
 
-pub black_passes : (p : Light) (g : List ℕ) (budget : ℕ) → IsLawful (light_rules p) → IsGrid (light_cells p) 2 g → is_lit p g ≡ true
-    → ((c : ℕ) → white p c ≡ false) → has_one (light_rules p) budget ≡ true
-black_passes p g budget laws grid lit black =
-    ap is_one (found_at_once (light_rules p) budget g (known (light_rules p) laws) (record { grid = grid; good = lit })
-    (λ c v lt few here. start_black p c v (black c) few (closure_inside (light_rules p) (light_rules p).start c v here)
-    ∙ sym (no_bulb_on p g c lit lt (black c))))
-
 -- ---- the puzzle of a filling
 pub size_is : (size : Extent) (f : Lighting) (p : Light) → p ≡ light_puzzle_of size f → p.size ≡ size
 unfolding light_puzzle_of with_numbers lights_of
@@ -44,6 +37,9 @@ pub all_black : (size : Extent) (f : Lighting) (budget : ℕ) (p : Light) → p 
     → AreAll 1 f.black → has_one (light_rules p) budget ≡ true
 unfolding light_puzzle_of with_numbers lights_of
 all_black size f budget p is laws lit black =
-    rw is (black_passes (light_puzzle_of size f) f.bulbs budget (rw is at laws) lit.bulbs lit.solved (none_white size f lit.black.each_cell black))
+    let none : (c : ℕ) → white p c ≡ false = λ c. rw is (none_white size f lit.black.each_cell black c) in
+    let good : is_lit p f.bulbs ≡ true = rw is lit.solved in
+    ap is_one (found_at_once (light_rules p) budget f.bulbs (known (light_rules p) laws) (record { grid = rw is lit.bulbs; good = good })
+    (λ c v lt few here. start_black p c v (none c) few (closure_inside (light_rules p) (light_rules p).start c v here) ∙ sym (no_bulb_on p f.bulbs c good lt (none c))))
 
 pub ruleset black_laws = (all_black, light-lawful)
