@@ -1,9 +1,9 @@
 //! Fillings of Light Up: black cells, bulbs, and the numbers that they give.
 
-ghost use Rattle.std.specs.Prelude.{◌≡◌, ◌≤◌, ◌<◌, ◌*◌, ℕ, true, false, All, IfOk, length, replicate};
+ghost use Rattle.std.specs.Prelude.{◌≡◌, ◌≤◌, ◌<◌, ◌*◌, true, All, IfOk, length, replicate};
 ghost use Rattle.grid_core.specs.Grids.{IsGrid};
 ghost use Rattle.gameid_core.specs.Puzzles.{IsWide};
-ghost use Rattle.fields_core.specs.Light.{light_cells, white, is_lit};
+ghost use Rattle.fields_core.specs.Light.{light_cells, is_lit};
 ghost use Rattle.maker_core.specs.Draws.{AreAll, IsDrawnBy};
 ghost use Rattle.maker_core.specs.LightFilling.{IsLit, bulbs_after, light_filling, light_puzzle_of, lights_of, lit_up, white_places, with_numbers};
 

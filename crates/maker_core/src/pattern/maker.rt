@@ -5,7 +5,7 @@ ghost use Rattle.grid_core.specs.Grids.{IsGrid};
 ghost use Rattle.pattern_core.specs.LineRules.{line_rules};
 ghost use Rattle.pattern_core.specs.Solutions.{IsPatternSolution};
 ghost use Rattle.maker_core.specs.declared.made.MakeFault.TheVariants.{Exhausted, SizeRange};
-ghost use Rattle.maker_core.specs.Draws.{AreAll, AllFail, DrawsAll, DrawsFirst};
+ghost use Rattle.maker_core.specs.Draws.{AllFail, DrawsAll, DrawsFirst};
 ghost use Rattle.maker_core.specs.Made.{HasOne};
 ghost use Rattle.maker_core.specs.PatternMaking.{MakesPattern, clued_by, pattern_tries};
 
