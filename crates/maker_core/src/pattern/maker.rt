@@ -27,9 +27,7 @@ pub(crate) fn puzzle_of(alloc: Global, size: Size, grid: &Grid) -> Result<Patter
     ensures puzzle { IfOk result (λ p. p ≡ clued_by size grid.now) }
     ensures solved { IfOk result (λ p. IsPatternSolution p grid.now) }
 {
-    let puzzle = PatternPuzzle::of_grid(alloc, size, grid)?;
-    let _size = puzzle.size();
-    Ok(puzzle)
+    PatternPuzzle::of_grid(alloc, size, grid)
 }
 
 /// Grids whose cells are drawn one by one.

@@ -35,9 +35,7 @@ fn puzzle_of(alloc: Global, size: Size, camp: &Camp) -> Result<TentsPuzzle, Allo
     requires tents { IsGrid (size.w * size.h) 2 camp.now.tents }
     ensures { IfOk result (λ p. p ≡ tents_puzzle_of size camp.now) }
 {
-    let puzzle = TentsPuzzle::of_parts(alloc, size, &camp.trees, &camp.tents)?;
-    let _size = puzzle.size();
-    Ok(puzzle)
+    TentsPuzzle::of_parts(alloc, size, &camp.trees, &camp.tents)
 }
 
 /// Camps that are pitched at random.
