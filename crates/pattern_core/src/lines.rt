@@ -261,6 +261,14 @@ impl Rules for PatternLines {
     }
 
     #[tactic(auto, using(crate::proofs::LineSteps::cell_laws))]
+    fn read(&self, house: usize, board: &Board, sets: &mut [u32]) {
+        let size = self.size();
+        for k in 0..sets.len() {
+            sets[k] = board.bits(line_place(size, house, k));
+        }
+    }
+
+    #[tactic(auto, using(crate::proofs::LineSteps::cell_laws))]
     fn keep(
         &self,
         house: usize,

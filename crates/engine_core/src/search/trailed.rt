@@ -8,7 +8,6 @@ ghost use Rattle.engine_core.specs.Puzzle.{needs_of, IsBoardOf};
 ghost use Rattle.engine_core.specs.Sets.{IsBitsOf};
 ghost use Rattle.engine_core.specs.Trail.{AreLost, back_at, change_at, left_by, IsFurther, IsBack, Visits};
 ghost use Rattle.engine_core.specs.Working.{StillServes};
-ghost use Rattle.engine_core.specs.Keeping.{AreSetsOf};
 
 use crate::houses::sets::cell_bits;
 use crate::rules::Rules;
@@ -163,7 +162,7 @@ impl Trailed {
         ensures follows { R.follows rules.now scratch.new (has self.new.board) }
         ensures keeps { StillServes R.serves scratch.old scratch.new }
     {
-        remember(rules, house, &self.board, sets);
+        rules.read(house, &self.board, sets);
         if !rules.keep(house, sets, kept, scratch) {
             return false;
         }
@@ -256,16 +255,4 @@ pub(crate) fn left_of(set: u32, kept: u32) -> u32
     ensures { result ≡ bit_and set kept }
 {
     set & kept
-}
-
-/// Writes down the set of each cell of the house.
-fn remember<R: Rules>(rules: &R, house: usize, board: &Board, sets: &mut [u32])
-    requires house_in { house < (R.puzzle rules.now).houses }
-    requires board_of { IsBoardOf (R.puzzle rules.now) board.now }
-    requires room { length sets.old ≡ length ((R.puzzle rules.now).scope house) }
-    ensures sets { AreSetsOf (R.puzzle rules.now) house (has board.now) sets.new }
-{
-    for k in 0..sets.len() {
-        sets[k] = cell_bits(board, rules.scope(house, k));
-    }
 }

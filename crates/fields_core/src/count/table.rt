@@ -16,7 +16,7 @@ ghost use Rattle.fields_core.specs.CountLists.{bounded, bounds_of};
 use crate::count::list::{Bounds, CountList};
 use crate::count::tally::Tally;
 use crate::count::visit::{keep_cells, visit_house};
-use engine_core::{Houses, mark_if};
+use engine_core::{Houses, gather, mark_if};
 use grid_core::Board;
 use std::alloc::{AllocError, Global};
 use std::marker::Model;
@@ -69,7 +69,9 @@ impl CountTable {
     /// The places of a house.
     fn places(&self, house: usize) -> &[u32]
         requires { house < length self.now.houses }
-        ensures { result.now ≡ (count_house_of self.now.houses house).places }
+        ensures places { result.now ≡ (count_house_of self.now.houses house).places }
+        ensures within { (k : ℕ) → k < length result.now
+            → slice_index result.now k < self.now.cells }
     {
         self.houses.places(house)
     }
@@ -99,6 +101,20 @@ impl CountTable {
     {
         let places = self.places(house);
         places[k] as usize
+    }
+
+    /// Writes down the sets of the house's cells.
+    pub(crate) fn read(&self, house: usize, board: &Board, sets: &mut [u32])
+        requires house_in { house < length self.now.houses }
+        requires cells { cells_of board.now ≡ self.now.cells }
+        requires values { board.now.values ≡ 2 }
+        requires room { length sets.old
+            ≡ length (count_house_of self.now.houses house).places }
+        ensures { (blocked : ℕ → Bool) (is_solution : List ℕ → Bool)
+            → AreSetsOf (table_puzzle blocked is_solution self.now) house (has board.now)
+            sets.new }
+    {
+        gather(board, self.places(house), sets);
     }
 
     /// The least house at or after `from` that has the place.

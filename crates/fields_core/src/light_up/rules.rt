@@ -148,6 +148,10 @@ impl Rules for LightRules {
         self.table.visit(house, board)
     }
 
+    fn read(&self, house: usize, board: &Board, sets: &mut [u32]) {
+        self.table.read(house, board, sets);
+    }
+
     fn keep(&self, house: usize, sets: &[u32], kept: &mut [u32], tallies: &mut Vec<Tally>) -> bool {
         self.table.keep(house, sets, kept, tallies)
     }

@@ -185,6 +185,10 @@ impl Rules for TentRules {
         self.table.visit(house, board)
     }
 
+    fn read(&self, house: usize, board: &Board, sets: &mut [u32]) {
+        self.table.read(house, board, sets);
+    }
+
     fn keep(&self, house: usize, sets: &[u32], kept: &mut [u32], work: &mut TentWork) -> bool {
         self.table.keep(house, sets, kept, &work.tallies)
     }

@@ -7,12 +7,12 @@ use Rattle.engine_core.proofs.TrailLemmas.{further-more}
 use Rattle.engine_core.proofs.search.trailed.Trailed.visit_cells.Goals as goal
 use Rattle.engine_core.proofs.search.trailed.Trailed.visit_cells.Goals.{After-keep, After-left_of-left, then-left-sets, else-left-sets}
 
--- the sets that were remembered
-are : (g : _) (c : After-keep g) → AreSetsOf (g.R.Rules.puzzle c.args.rules.now) c.args.house (has c.args.self.now.board) c.remember.new.sets
-are g c = rw (← c.self.view_is) c.remember.ensures.sets
+-- the sets that were read
+are : (g : _) (c : After-keep g) → AreSetsOf (g.R.Rules.puzzle c.args.rules.now) c.args.house (has c.args.self.now.board) c.read.new.sets
+are g c = rw (← c.self.view_is) c.read.ensures
 
 -- what the cell of this turn is to have left
-left : (g : _) (c : After-left_of-left g) → AreSetsOf (g.R.Rules.puzzle c.args.rules.now) c.args.house (has c.args.self.now.board) c.remember.new.sets
+left : (g : _) (c : After-left_of-left g) → AreSetsOf (g.R.Rules.puzzle c.args.rules.now) c.args.house (has c.args.self.now.board) c.read.new.sets
     → IsBitsOf (after (g.R.Rules.puzzle c.args.rules.now) c.args.house (has c.args.self.now.board) (slice_index ((g.R.Rules.puzzle c.args.rules.now).scope c.args.house) c.loop-k.k))
     (g.R.Rules.puzzle c.args.rules.now).values c.left_of-left.result
 left g c are =
@@ -77,10 +77,10 @@ loop-k-preserved g c =
 
 pub returns-clause-left : goal.returns-clause-left
 returns-clause-left g c =
-    let all : c.loop-k.k ≡ length ((g.R.Rules.puzzle c.args.rules.now).scope c.args.house) = omega (arith, c.requires.sets_room, c.remember.auto.sets) in
+    let all : c.loop-k.k ≡ length ((g.R.Rules.puzzle c.args.rules.now).scope c.args.house) = omega (arith, c.requires.sets_room, c.read.auto.sets) in
     upto-all _ (g.met.R.Rules.lawful c.args.rules.now) c.args.house _ _ c.requires.house_in (rw all at c.loop-k.invariant.upto)
 
 pub returns-clause-lost : goal.returns-clause-lost
 returns-clause-lost g c =
-    let all : c.loop-k.k ≡ length ((g.R.Rules.puzzle c.args.rules.now).scope c.args.house) = omega (arith, c.requires.sets_room, c.remember.auto.sets) in
+    let all : c.loop-k.k ≡ length ((g.R.Rules.puzzle c.args.rules.now).scope c.args.house) = omega (arith, c.requires.sets_room, c.read.auto.sets) in
     rw all at c.loop-k.invariant.lost
