@@ -1,4 +1,11 @@
 -- Laws of lists that are the pieces of one.
+use Rattle.std.specs.List.{filter}
+use Rattle.std.proofs.lemmas.List.{append-nil, get_or_append_left, get_or_read}
+use Rattle.std.proofs.lemmas.List.Edits.{between_more}
+use Rattle.std.proofs.lemmas.List.Elements.{filter-append}
+use Rattle.std.proofs.lemmas.List.Sums.{count_by-le-length, length-filter}
+use Rattle.engine_core.specs.HouseList.{IsGrown, Listed}
+use Rattle.engine_core.proofs.Common.{append_assoc, eq-eqb, eqb, length-append, ne_eqb, not, ◌∙◌}
 use Rattle.engine_core.proofs.Common.{AreEnds, IsListed, List, [], ap, arith, begin_of, between, between_is, between_to_end, common_steps}
 use Rattle.engine_core.proofs.Common.{drop-append-le, get_or, last_end, length, length-between, listed, pieces, refl, suc, sum_by, sum_by-cons, sym}
 use Rattle.engine_core.proofs.Common.{take-append-le, zero, ℕ, ◌++◌, ◌+◌, ◌-◌, ◌<◌, ◌^◌, ◌∷◌, ◌≡◌, ◌≤◌}
@@ -27,13 +34,13 @@ pub length-pieces : (xs : List ℕ) (from : ℕ) (ends : List ℕ) → length (p
 length-pieces xs from [] = refl
 length-pieces xs from (e ∷ ends) = ap suc (length-pieces xs e ends)
 
-pub pieces-push : (xs : List ℕ) (x from : ℕ) (ends : List ℕ) → AreEnds (length xs) from ends → pieces (xs ++ x ∷ []) from ends ≡ pieces xs from ends
-pieces-push xs x from [] e = refl
-pieces-push xs x from (end ∷ ends) (low, e) = grind (arith, common_steps, between_is, last-le, take-append-le, pieces-push xs x end ends)
+pub pieces-more : (xs ys : List ℕ) (from : ℕ) (ends : List ℕ) → AreEnds (length xs) from ends → pieces (xs ++ ys) from ends ≡ pieces xs from ends
+pieces-more xs ys from [] e = refl
+pieces-more xs ys from (end ∷ ends) (low, e) = grind (arith, common_steps, between_is, last-le, take-append-le, pieces-more xs ys end ends)
 
-pub listed-push : (xs ends : List ℕ) (x : ℕ) → AreEnds (length xs) 0 ends
-    → listed (xs ++ x ∷ []) ends ≡ record { closed = (listed xs ends).closed; begun = (listed xs ends).begun ++ x ∷ [] }
-listed-push xs ends x e = rw (pieces-push xs x 0 ends e, drop-append-le (last_end 0 ends) xs (x ∷ []) ((last-le (length xs) 0 ends e).1)) refl
+pub listed-more : (xs ends ys : List ℕ) → AreEnds (length xs) 0 ends
+    → listed (xs ++ ys) ends ≡ record { closed = (listed xs ends).closed; begun = (listed xs ends).begun ++ ys }
+listed-more xs ends ys e = rw (pieces-more xs ys 0 ends e, drop-append-le (last_end 0 ends) xs ys ((last-le (length xs) 0 ends e).1)) refl
 
 pub listed-close : (xs ends : List ℕ) → listed xs (ends ++ length xs ∷ []) ≡ record { closed = (listed xs ends).closed ++ (listed xs ends).begun ∷ []; begun = [] }
 listed-close xs ends = grind (arith, common_steps, between_to_end, last-close, pieces-close)
@@ -78,3 +85,45 @@ total-closed xs ends n e is = let t = total-is xs 0 ends e in omega arith
 -- all closed lists have fewer than 2^32 places together
 pub few-listed : (xs ends : List ℕ) → IsListed xs ends → sum_by length (listed xs ends).closed < 2 ^ 32
 few-listed xs ends l = grind (arith, common_steps, last-le, total-is)
+
+-- a closed list ends no earlier than it begins, and within the places
+pub closed-ends : (xs ends : List ℕ) (l : Listed) (h end : ℕ) → AreEnds (length xs) 0 ends → listed xs ends ≡ l → h < length l.closed → end ≡ get_or ends h end
+    → (begin_of 0 ends h ≤ end) × (end ≤ length xs)
+closed-ends xs ends l h end e is lt at =
+    let long = ap (λ (v : Listed). length v.closed) is in
+    let there : h < length ends = closed-in xs ends h (omega arith) in
+    let w = piece-ends (length xs) 0 ends h e there in
+    let same = get_or_read ends h end there at 0 in
+    (omega (arith, w.0), omega (arith, w.1))
+
+-- ---- a part of a list once more at its end, without a place
+abbrev others : ℕ → List ℕ → List ℕ
+others but xs = filter (λ d. not (eqb d but)) xs
+
+others-next : (but from k x : ℕ) (xs : List ℕ) → from ≤ k → k < length xs → x ≡ get_or xs k x → others but (between from (k + 1) xs) ≡ others but (between from k xs) ++ others but (x ∷ [])
+others-next but from k x xs low lt is = rw (between_more xs from k x low lt, ← is) (filter-append (λ d. not (eqb d but)) (between from k xs) (x ∷ []))
+
+pub others-skip : (xs ys : List ℕ) (but from k x : ℕ) → from ≤ k → k < length xs → ys ≡ xs ++ filter (λ d. not (eqb d but)) (between from k xs) → x ≡ get_or ys k x → x ≡ but
+    → ys ≡ xs ++ filter (λ d. not (eqb d but)) (between from (k + 1) xs)
+others-skip xs ys but from k x low lt e is same =
+    let at = is ∙ ap (λ l. get_or l k x) e ∙ get_or_append_left xs (others but (between from k xs)) x k lt in
+    rw (others-next but from k x xs low lt at, eq-eqb x but same, append-nil) e
+
+pub others-push : (xs ys : List ℕ) (but from k x : ℕ) → from ≤ k → k < length xs → ys ≡ xs ++ filter (λ d. not (eqb d but)) (between from k xs) → x ≡ get_or ys k x → (x ≡ but → ⊥)
+    → ys ++ x ∷ [] ≡ xs ++ filter (λ d. not (eqb d but)) (between from (k + 1) xs)
+others-push xs ys but from k x low lt e is other =
+    let at = is ∙ ap (λ l. get_or l k x) e ∙ get_or_append_left xs (others but (between from k xs)) x k lt in
+    rw (others-next but from k x xs low lt at, ne_eqb x but other) (ap (λ l. l ++ x ∷ []) e ∙ append_assoc xs (others but (between from k xs)) (x ∷ []))
+
+pub others-grown : (xs ys : List ℕ) (but from k end : ℕ) → k ≤ end → end ≤ length xs → ys ≡ xs ++ filter (λ d. not (eqb d but)) (between from k xs) → IsGrown xs (end - from) ys
+others-grown xs ys but from k end le within e = record {
+  more = filter (λ d. not (eqb d but)) (between from k xs);
+  added = e;
+  few = omega (arith, length-filter (λ d. not (eqb d but)) (between from k xs), count_by-le-length (λ d. not (eqb d but)) (between from k xs), length-between xs from k (omega arith));
+}
+
+pub grown-listed : (xs ys ends : List ℕ) (n : ℕ) → IsListed xs ends → IsGrown xs n ys → length xs + n < 2 ^ 32 → IsListed ys ends
+grown-listed xs ys ends n l g room =
+    let long : length ys ≡ length xs + length g.more = ap length g.added ∙ length-append xs g.more in
+    let few = g.few in
+    record { are_ends = ends-more (length xs) (length ys) 0 ends (omega arith) l.are_ends; few_places = omega arith; few_lists = l.few_lists }

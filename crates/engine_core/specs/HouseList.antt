@@ -1,5 +1,5 @@
 -- Lists of places, one after another in one list.
-use Rattle.std.specs.Prelude.{ℕ, zero, suc, ◌<◌, ◌≤◌, ◌^◌, List, [], ◌∷◌, drop, length}
+use Rattle.std.specs.Prelude.{ℕ, zero, suc, ◌≡◌, ◌+◌, ◌<◌, ◌≤◌, ◌^◌, List, [], ◌∷◌, ◌++◌, drop, length}
 use Rattle.std.specs.List.{between}
 
 -- the lists that are closed, and what is begun of the next
@@ -36,3 +36,9 @@ pub record IsListed (places ends : List ℕ) : Type 0 where
   pub are_ends : AreEnds (length places) 0 ends
   pub few_places : length places < 2 ^ 32
   pub few_lists : length ends < 2 ^ 32
+
+-- the list has so many numbers more at its end, or fewer
+pub record IsGrown (old : List ℕ) (most : ℕ) (new : List ℕ) : Type 0 where
+  pub more : List ℕ
+  pub added : new ≡ old ++ more
+  pub few : length more ≤ most

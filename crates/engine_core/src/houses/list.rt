@@ -1,9 +1,9 @@
 //! Houses as lists of places, one after another.
 #![tactic(auto, using(crate::proofs::LawSets::house_list_laws))]
 
-ghost use Rattle.std.specs.Prelude.{◌≡◌, ◌+◌, ◌<◌, ◌≤◌, ◌^◌, false, ◌++◌, ◌∷◌, [], IfOk, OnOk, length, slice_index_or, sum_by};
+ghost use Rattle.std.specs.Prelude.{◌≡◌, ◌+◌, ◌-◌, ◌<◌, ◌≤◌, ◌^◌, ◌==◌, true, false, not, ◌++◌, ◌∷◌, [], filter, IfOk, OnOk, length, slice_index_or, sum_by};
 ghost use Rattle.std.specs.List.{between};
-ghost use Rattle.engine_core.specs.HouseList.{begin_of, last_end, pieces, AreEnds};
+ghost use Rattle.engine_core.specs.HouseList.{begin_of, last_end, pieces, AreEnds, IsGrown};
 
 use std::alloc::{AllocError, Global};
 use std::marker::Model;
@@ -58,6 +58,44 @@ impl HouseList {
         Ok(())
     }
 
+    /// Adds the places of a closed list to the begun one.
+    ///
+    /// # Errors
+    ///
+    /// When memory was refused, or there would be 2^32 places.
+    pub fn push_list(&mut self, house: usize) -> Result<(), AllocError>
+        requires { house < length self.old.closed }
+        ensures { OnOk result (self.new ≡ record self.old {
+            begun = self.old.begun ++ slice_index_or self.old.closed house [] }) }
+    {
+        let from = begin(&self.ends, house);
+        let end = self.ends[house] as usize;
+        if !has_room(&self.places, end - from) {
+            return Err(AllocError);
+        }
+        self.places.extend_from_within(from..end)?;
+        Ok(())
+    }
+
+    /// Adds the places of a closed list to the begun one, but for the place `but`.
+    ///
+    /// # Errors
+    ///
+    /// When memory was refused, or there would be 2^32 places.
+    pub fn push_others(&mut self, house: usize, but: usize) -> Result<(), AllocError>
+        requires { house < length self.old.closed }
+        ensures { OnOk result (self.new ≡ record self.old {
+            begun = self.old.begun
+                ++ filter (λ d. not (d == but)) (slice_index_or self.old.closed house []) }) }
+    {
+        let from = begin(&self.ends, house);
+        let end = self.ends[house] as usize;
+        if !has_room(&self.places, end - from) {
+            return Err(AllocError);
+        }
+        copy_others(&mut self.places, from, end, but)
+    }
+
     /// Closes the begun list, and begins the next.
     ///
     /// # Errors
@@ -84,6 +122,15 @@ impl HouseList {
         ends.len()
     }
 
+    /// How many places the begun list has: fewer than 2^32.
+    pub fn begun(&self) -> usize
+        ensures begun { result ≡ length self.now.begun }
+        ensures few { result < 2 ^ 32 }
+    {
+        let places: &[u32] = &self.places;
+        places.len() - last(&self.ends)
+    }
+
     /// The places of all closed lists together: fewer than 2^32.
     pub fn total(&self) -> usize
         ensures total { result ≡ sum_by length self.now.closed }
@@ -106,6 +153,37 @@ fn is_long(list: &[u32]) -> bool
     ensures { result ≡ false → length list.now + 1 < 2 ^ 32 }
 {
     list.len() >= u32::MAX as usize
+}
+
+/// Whether the list may have so many places more, no more than it has.
+fn has_room(list: &[u32], more: usize) -> bool
+    requires { more ≤ length list.now }
+    ensures { result ≡ true → length list.now + more < 2 ^ 32 }
+{
+    list.len() + more <= u32::MAX as usize
+}
+
+/// Adds the places from one number of the list to another at its end once more, but for the place `but`.
+fn copy_others(
+    places: &mut Vec<u32>,
+    from: usize,
+    end: usize,
+    but: usize,
+) -> Result<(), AllocError>
+    requires ascending { from ≤ end }
+    requires within { end ≤ length places.old.items }
+    ensures copied { OnOk result (places.new.items ≡ places.old.items
+        ++ filter (λ d. not (d == but)) (between from end places.old.items)) }
+    ensures kept { IsGrown places.old.items (end - from) places.new.items }
+{
+    for k in from..end {
+        let place = places[k];
+        if place as usize == but {
+            continue;
+        }
+        places.push(place)?;
+    }
+    Ok(())
 }
 
 /// Where a list begins: where the one before ends.

@@ -41,3 +41,18 @@ fn a_table_finds_the_houses_of_a_place(rt: HostRuntime) -> Result<(), Fail> {
     assert_eq!(rt; table.next_at(0, 1), None);
     Ok(())
 }
+
+#[test]
+fn a_list_is_begun_by_those_that_are_closed(rt: HostRuntime) -> Result<(), Fail> {
+    let mut list = three_houses(rt.alloc())?;
+    list.push_list(0)?;
+    list.push_others(1, 2)?;
+    assert_eq!(rt; list.begun(), 3);
+    list.close()?;
+    assert_eq!(rt; list.begun(), 0);
+    let places = list.places(3);
+    assert_eq!(rt; places.len(), 3);
+    assert_eq!(rt; places[1], 2);
+    assert_eq!(rt; places[2], 1);
+    Ok(())
+}

@@ -1,6 +1,6 @@
 //! Count houses one after another, before they are a table.
 
-ghost use Rattle.std.specs.Prelude.{◌≡◌, ◌<◌, ◌^◌, ◌∷◌, [], IfOk, OnOk, length};
+ghost use Rattle.std.specs.Prelude.{◌≡◌, ◌<◌, ◌^◌, ◌==◌, not, ◌∷◌, [], filter, IfOk, OnOk, length, slice_index_or};
 ghost use Rattle.fields_core.specs.CountLists.{IsBegun, IsHouseClosed};
 
 use crate::count::run::Run;
@@ -52,6 +52,34 @@ impl CountList {
         Ok(())
     }
 
+    /// Adds the cells of a house that is ended to the house that is begun.
+    pub(crate) fn push_house(&mut self, house: usize) -> Result<(), AllocError>
+        requires { house < length self.old.list.closed }
+        ensures { OnOk result (IsBegun self.old self.new
+            (slice_index_or self.old.list.closed house [])) }
+    {
+        self.list.push_list(house)?;
+        Ok(())
+    }
+
+    /// Adds the cells of a house that is ended to the house that is begun, but for the cell at `but`.
+    pub(crate) fn push_others(&mut self, house: usize, but: usize) -> Result<(), AllocError>
+        requires { house < length self.old.list.closed }
+        ensures { OnOk result (IsBegun self.old self.new
+            (filter (λ d. not (d == but)) (slice_index_or self.old.list.closed house []))) }
+    {
+        self.list.push_others(house, but)?;
+        Ok(())
+    }
+
+    /// How many houses are ended.
+    pub(crate) fn len(&self) -> usize
+        ensures len { result ≡ length self.now.list.closed }
+        ensures few { result < 2 ^ 32 }
+    {
+        self.list.len()
+    }
+
     /// Ends the house that is begun: it holds at least `least` and at most `most` ones.
     pub(crate) fn close(&mut self, least: u32, most: u32) -> Result<(), AllocError>
         ensures { OnOk result (IsHouseClosed self.old self.new least most) }
@@ -65,10 +93,7 @@ impl CountList {
     pub(crate) fn close_some(&mut self) -> Result<(), AllocError>
         ensures { OnOk result (IsHouseClosed self.old self.new 1 (length self.old.list.begun)) }
     {
-        let before = self.list.total();
-        self.list.close()?;
-        let most = (self.list.total() - before) as u32;
-        self.bounds.push(Bounds { least: 1, most })?;
-        Ok(())
+        let most = self.list.begun() as u32;
+        self.close(1, most)
     }
 }
