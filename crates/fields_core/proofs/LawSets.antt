@@ -9,10 +9,10 @@ use Rattle.fields_core.proofs.LightCounting.{light-counting}
 use Rattle.fields_core.proofs.LightFaultLemmas.{fault-not, lit-from}
 use Rattle.fields_core.proofs.LightLines.{cell-at, white-at}
 use Rattle.fields_core.proofs.LightRuleLemmas.{rule-from-test, test-from-rule}
-use Rattle.fields_core.proofs.LightSeen.{column-run-in, row-run-in, seen-in-row}
+use Rattle.fields_core.proofs.LightSeen.{black-unseen, seen-in-column, seen-in-row}
 use Rattle.fields_core.proofs.LightSight.{count-bulb, count-dark, count-edge, count-start, some-column}
 use Rattle.fields_core.proofs.RuleLemmas.{after-is, light-houses, same-shape, start-all, start-blocked}
-use Rattle.fields_core.proofs.RunLemmas.{column-made, few-cells, row-made, run-black, run-long, run-white}
+use Rattle.fields_core.proofs.RunLemmas.{column-made, few-cells, row-made, run-long, run-white}
 use Rattle.fields_core.proofs.TentCounting.{tent-counting}
 use Rattle.fields_core.proofs.TentLines.{far-below, line-all, line-more, line-skip, line-start, none-below, touch-columns, touch-rows}
 use Rattle.fields_core.proofs.TentNext.{barred-alone, barred-tree, next-joined, next-none, passed-bare, passed-early, passed-edge, passed-start, tree-found, treeless-all}
@@ -36,13 +36,15 @@ pub ruleset light_cells_laws = (white-at)
 
 pub ruleset light_check_laws = (lit-from, all_below-from, ne_eqb, eq-eqb, cell-at)
 
-pub ruleset light_houses_laws = (column-black, column-edge, column-after, some-column, row-black, row-edge, row-after, begun-none, begun-same, step-none, step-skip, begun-more, step-keep, take_all)
+pub ruleset light_houses_laws = (begun-none, begun-same, step-none, step-skip, begun-more, step-keep, take_all)
+
+pub ruleset light_lit_laws = (below-none, below-more, append_assoc, append-nil, map-append)
 
 pub ruleset light_rules_laws = (light-counting, as-many, bounded-listed, fault-not, light-houses, after-is, start-all)
 
-pub ruleset light_run_laws = (run-long, few-cells, run-black, run-white)
+pub ruleset light_run_laws = (column-black, column-edge, column-after, some-column, row-black, row-edge, row-after, run-long, few-cells, run-white)
 
-pub ruleset light_sight_laws = (count-start, count-edge, count-dark, count-bulb, row-run-in, seen-in-row, column-run-in)
+pub ruleset light_sight_laws = (count-start, count-edge, count-dark, count-bulb, black-unseen, seen-in-row, seen-in-column)
 
 pub ruleset run_laws = (run-long, row-made, column-made, mul-le-mul_right)
 

@@ -14,6 +14,7 @@ pub mod StepLaws
 pub mod RunLemmas
 pub mod LightCounting
 pub mod LightSeen
+pub mod LightLatest
 pub mod RuleLemmas
 pub mod TentLines
 pub mod BelowLemmas

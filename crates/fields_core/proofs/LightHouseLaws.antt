@@ -1,10 +1,10 @@
 -- The houses of Light Up are houses, and each solution meets them.
-use Rattle.std.proofs.Common.{◌≡◌, ℕ, zero, suc, ◌+◌, ◌-◌, ◌*◌, ◌/◌, ◌%◌, ◌<◌, ◌≤◌, min, max, Bool, true, false, ◌||◌, eqb, ltb, cond, List, [], ◌∷◌, ◌++◌, length, slice_index, refl, sym, ap, ◌∙◌, inl, inr, arith, le-leb}
-use Rattle.std.proofs.lemmas.Bool.{cases_Bool, cases_lt, cases_eq, or_left, or_right, or_cases, or_parts, and_from, and_parts, false_from_ne_true, eqb-true, eq-eqb, lt-ltb, ltb-true}
+use Rattle.std.proofs.Common.{◌≡◌, ℕ, zero, suc, ◌+◌, ◌-◌, ◌*◌, ◌/◌, ◌%◌, ◌<◌, ◌≤◌, min, max, Bool, true, false, not, ◌||◌, eqb, ltb, cond, List, [], ◌∷◌, ◌++◌, length, slice_index, refl, sym, ap, ◌∙◌, inl, inr, arith, le-leb}
+use Rattle.std.proofs.lemmas.Bool.{cases_Bool, cases_lt, cases_eq, or_left, or_right, or_cases, or_parts, and_from, and_parts, false_from_ne_true, eqb-true, eq-eqb, lt-ltb, ltb-true, true≢false}
 use Rattle.std.specs.List.{filter, count_by}
 use Rattle.std.proofs.lemmas.List.{get_or_past}
 use Rattle.std.proofs.lemmas.List.Elements.{filter_agree}
-use Rattle.std.proofs.Math.Nat.{mul-le-mul_right}
+use Rattle.std.proofs.Math.Nat.{div-eq_of_lt, mul-le-mul_right}
 use Rattle.grid_core.specs.Extent.{Extent}
 use Rattle.grid_core.specs.Regions.{row_places, column_places}
 use Rattle.grid_core.proofs.RegionLemmas.{row-at, column-at}
@@ -15,9 +15,9 @@ use Rattle.engine_core.specs.PlaceLaws.{AreDistinct, distinct-from, different-fr
 use Rattle.grid_core.specs.Grids.{IsGrid}
 use Rattle.fields_core.specs.CountHouse.{CountHouse, count_house_of, houses_below, meets, IsHouse}
 use Rattle.fields_core.specs.Light.{light_cells, white, bulb, clear, joined_in_row, joined_in_column}
-use Rattle.fields_core.specs.LightHouses.{row_run, begins_row_run}
+use Rattle.fields_core.specs.LightHouses.{row_run, column_run, begins_row_run, begins_column_run}
 use Rattle.fields_core.proofs.HouseLists.{row-long, column-long}
-use Rattle.fields_core.proofs.TentBeside.{cell-parts}
+use Rattle.fields_core.proofs.TentBeside.{cell-below, cell-parts, whole-cell}
 use Rattle.fields_core.proofs.PlaceLists.{ones-bulbs}
 use Rattle.std.proofs.lemmas.Grind.{common_steps}
 
@@ -131,6 +131,10 @@ pub row-self : (p : Light) (c : ℕ) → white p c ≡ true → joined_in_row p 
 unfolding joined_in_row
 row-self p c on = grind (arith, common_steps, and_from, eq-eqb, clear-from)
 
+pub column-self : (p : Light) (c : ℕ) → white p c ≡ true → joined_in_column p c c ≡ true
+unfolding joined_in_column
+column-self p c on = grind (arith, common_steps, and_from, eq-eqb, clear-from)
+
 -- the run of a row goes on at a white cell, unless one begins there
 module _ (p : Light) (c d : ℕ) (some : 0 < p.size.w) (next : c + 1 ≡ d) (before : white p c ≡ true) (on : white p d ≡ true) (inner : d % p.size.w ≡ 0 → ⊥) where
   parts : (c / p.size.w ≡ d / p.size.w) × (c % p.size.w ≡ d % p.size.w - 1)
@@ -157,9 +161,68 @@ module _ (p : Light) (c d : ℕ) (some : 0 < p.size.w) (next : c + 1 ≡ d) (bef
       same : (e : ℕ) → joined_in_row p c e ≡ joined_in_row p d e
       same e = grind (arith, common_steps, cases_Bool, row-both, row-next, false_from_ne_true, back)
 
-pub row-run-on : (p : Light) (d : ℕ) (row : List ℕ) → 0 < p.size.w → false ≡ begins_row_run p d → ((c : ℕ) → c + 1 ≡ d → white p c ≡ true → row ≡ row_run p c) → white p d ≡ true → row ≡ row_run p d
+not-false : (t : Bool) → not t ≡ false → t ≡ true
+not-false true e = refl
+not-false false e = absurd (true≢false e)
+
+-- a white cell where none begins comes after a white one
+pub row-before : (p : Light) (d : ℕ) → begins_row_run p d ≡ false → white p d ≡ true → (d % p.size.w ≡ 0 → ⊥) × (white p (d - 1) ≡ true)
 unfolding begins_row_run
-row-run-on p d row some off run on = grind (arith, common_steps, or_parts, eq-eqb, row-run-next)
+row-before p d off on =
+    let parts = or_parts (eqb (d % p.size.w) 0) (not (white p (d - 1))) (rw on at off) in
+    (λ e. true≢false (sym (eq-eqb (d % p.size.w) 0 e) ∙ parts.0), not-false (white p (d - 1)) parts.1)
+
+pub row-run-on : (p : Light) (d : ℕ) → 0 < p.size.w → begins_row_run p d ≡ false → white p d ≡ true → (c : ℕ) × (c + 1 ≡ d) × (white p c ≡ true) × (row_run p c ≡ row_run p d)
+row-run-on p d some off on =
+    let v = row-before p d off on in
+    let next : d - 1 + 1 ≡ d = omega (arith, positive v.0) in
+    (d - 1, next, v.1, row-run-next p (d - 1) d some next v.1 on v.0)
+  where
+    positive : (d % p.size.w ≡ 0 → ⊥) → 0 < d
+    positive ne = elim (cases_eq d 0) [
+      | inl none ↦ absurd (ne (rw none (omega arith)))
+      | inr more ↦ omega arith
+    ]
+
+-- and the run of a column
+module _ (p : Light) (c d : ℕ) (some : 0 < p.size.w) (next : c + p.size.w ≡ d) (before : white p c ≡ true) (on : white p d ≡ true) where
+  below : (d / p.size.w ≡ c / p.size.w + 1) × (d % p.size.w ≡ c % p.size.w)
+  below = rw (sym next) (cell-below p.size.w c some)
+
+  column-next : joined_in_column p c d ≡ true
+  unfolding joined_in_column
+  column-next = and_from _ _ (eq-eqb (c % p.size.w) (d % p.size.w) (sym below.1)) (clear-from _ (c / p.size.w) (d / p.size.w) (λ i low high. elim (cases_eq i (c / p.size.w)) [
+    | inl here ↦ let e : i * p.size.w + c % p.size.w ≡ c = rw here (sym (whole-cell p.size.w c)) in rw e before
+    | inr there ↦
+        let w = below in
+        let last : i ≡ d / p.size.w = omega (arith, there) in
+        let e : i * p.size.w + c % p.size.w ≡ d = rw (last, sym w.1) (sym (whole-cell p.size.w d)) in
+        rw e on
+  ]))
+
+  pub column-run-next : column_run p c ≡ column_run p d
+  unfolding column_run
+  column-run-next = filter_agree (joined_in_column p c) (joined_in_column p d) same (column_places p.size (c % p.size.w)) ∙ ap (λ x. filter (joined_in_column p d) (column_places p.size x)) (sym below.1)
+    where
+      back : joined_in_column p d c ≡ true
+      back = column-both p c d c column-next (column-self p c before)
+
+      same : (e : ℕ) → joined_in_column p c e ≡ joined_in_column p d e
+      same e = grind (arith, common_steps, cases_Bool, column-both, column-next, false_from_ne_true, back)
+
+pub column-run-on : (p : Light) (d : ℕ) → 0 < p.size.w → begins_column_run p d ≡ false → white p d ≡ true → (c : ℕ) × (c + p.size.w ≡ d) × (white p c ≡ true) × (column_run p c ≡ column_run p d)
+unfolding begins_column_run
+column-run-on p d some off on =
+    let parts = or_parts (eqb (d / p.size.w) 0) (not (white p (d - p.size.w))) (rw on at off) in
+    let before = not-false (white p (d - p.size.w)) parts.1 in
+    let next : d - p.size.w + p.size.w ≡ d = omega (arith, low parts.0) in
+    (d - p.size.w, next, before, column-run-next p (d - p.size.w) d some next before on)
+  where
+    low : eqb (d / p.size.w) 0 ≡ false → p.size.w ≤ d
+    low ne = elim (cases_lt d p.size.w) [
+      | inl top ↦ absurd (true≢false (sym (eq-eqb (d / p.size.w) 0 (div-eq_of_lt {n = d} {m = p.size.w} top)) ∙ ne))
+      | inr inner ↦ inner
+    ]
 
 -- a white cell lies in the grid
 pub white-in : (p : Light) (c : ℕ) → length p.cells ≡ light_cells p → white p c ≡ true → c < light_cells p
@@ -170,11 +233,11 @@ white-in p c long on = grind (arith, common_steps, cases_lt, get_or_past)
 pub row-distinct : (size : Extent) (y : ℕ) → AreDistinct (row_places size y)
 row-distinct size y = grind (arith, common_steps, distinct-from, row-long, row-at)
 
+pub mul-inj : (j k w : ℕ) → 0 < w → j * w ≡ k * w → j ≡ k
+mul-inj j k w pos e = grind (arith, common_steps, cases_lt, mul-le-mul_right)
+
 pub column-distinct : (size : Extent) (x : ℕ) → 0 < size.w → AreDistinct (column_places size x)
 column-distinct size x pos = distinct-from (column_places size x) (λ j k lj lk e.
     let long = column-long size x in
     let f : j * size.w + x ≡ k * size.w + x = column-at size x j (omega arith) ∙ e ∙ sym (column-at size x k (omega arith)) in
     mul-inj j k size.w pos (omega arith))
-  where
-    mul-inj : (j k w : ℕ) → 0 < w → j * w ≡ k * w → j ≡ k
-    mul-inj j k w pos e = grind (arith, common_steps, cases_lt, mul-le-mul_right)

@@ -1,59 +1,129 @@
--- A cell sees a bulb exactly if another cell of its two runs has one.
-use Rattle.std.proofs.Common.{◌≡◌, ℕ, ◌<◌, Bool, true, false, not, ◌&&◌, ◌||◌, eqb, List, slice_index, length, sym, ap, subst, ◌∙◌, inl, inr, arith}
-use Rattle.std.specs.List.{list_any}
-use Rattle.std.proofs.lemmas.Bool.{cases_Bool, or_left, or_right, or_cases, and_from, and_parts, eq-eqb, ne_eqb, not-true, true≢false}
+-- A cell sees a bulb exactly if a walk from it along its row or its column comes to one before a black cell.
+use Rattle.std.proofs.Common.{◌≡◌, ◌≢◌, ℕ, ◌+◌, ◌-◌, ◌*◌, ◌/◌, ◌%◌, ◌<◌, ◌≤◌, Bool, true, false, not, ◌&&◌, ◌||◌, eqb, List, slice_index, length, min, max, sym, ap, ◌∙◌, inl, inr, arith}
+use Rattle.std.proofs.lemmas.Bool.{cases_lt, cases_eq, or_left, or_right, or_cases, and_from, and_parts, eq-eqb, ne_eqb, not-true, true≢false, false_from_ne_true}
+use Rattle.std.proofs.Math.Nat.{mod-lt}
+use Rattle.std.proofs.lemmas.Nat.{mul-add-lt}
 use Rattle.grid_core.proofs.CandidateLemmas.{any_below-here, any_below-some}
-use Rattle.engine_core.specs.Puzzle.{has_place}
-use Rattle.engine_core.specs.PlaceLaws.{has_place-here}
-use Rattle.gameid_core.specs.Puzzles.{Light, IsLight}
-use Rattle.fields_core.specs.Light.{light_cells, joined_in_row, joined_in_column, sees, sees_bulb}
-use Rattle.fields_core.specs.LightHouses.{row_run, column_run}
-use Rattle.fields_core.proofs.LightSight.{bulb-in, some-column}
-use Rattle.fields_core.proofs.LightCounting.{light-board, row-kind, column-kind, in-row-run, in-column-run, row-run-joined, column-run-joined}
-use Rattle.fields_core.proofs.BelowLemmas.{any-here, any-some}
-use Rattle.std.proofs.lemmas.Grind.{common_steps}
+use Rattle.gameid_core.specs.Puzzles.{Light}
+use Rattle.fields_core.specs.Light.{light_cells, white, bulb, clear, joined_in_row, joined_in_column, sees, sees_bulb}
+use Rattle.fields_core.specs.Runs.{Shines, ShinesAlong, SeesAlong}
+use Rattle.fields_core.proofs.LightHouseLaws.{clear-at, clear-from, mul-inj, row-parts, column-parts}
+use Rattle.fields_core.proofs.RunLemmas.{clear-same, row-cell-joined, column-cell-joined}
+use Rattle.fields_core.proofs.TentBeside.{row-in}
 
--- another cell than the place, with a bulb
-abbrev pub other_bulb : List ℕ → ℕ → ℕ → Bool
-other_bulb g c d = not (eqb d c) && eqb (slice_index g d) 1
+-- ---- walks from the number `at`
+module _ (white bulb : ℕ → Bool) (at : ℕ) where
+  pub after-black : (high k : ℕ) → at < k → ((i : ℕ) → at < i → i < k → bulb i ≡ false) → white k ≡ false → Shines white bulb at (at + 1) high false
+  after-black high k past dark off = λ i low lt joined. elim (cases_lt i k) [
+    | inl below ↦ dark i (omega arith) below
+    | inr above ↦ absurd (true≢false (sym (clear-at white at i k joined (omega arith) (omega arith)) ∙ off))
+  ]
 
-swapped : (c d : ℕ) → not (eqb d c) ≡ true → not (eqb c d) ≡ true
-swapped c d off = ap not (ne_eqb c d (λ e. true≢false (sym (eq-eqb d c (sym e)) ∙ not-true (eqb d c) off)))
+  pub after-bulb : (high k : ℕ) → at < k → k < high → ((i : ℕ) → at ≤ i → i < k → white i ≡ true) → white k ≡ true → bulb k ≡ true → Shines white bulb at (at + 1) high true
+  after-bulb high k past lt pass here on = (k, omega arith, lt, clear-from white at k (λ i a b. elim (cases_lt i k) [
+    | inl below ↦ pass i (omega arith) below
+    | inr above ↦ let e : k ≡ i = omega arith in ap white (sym e) ∙ here
+  ]), on)
 
-seen-there : (p : Light) (g : List ℕ) (c d : ℕ) → length g ≡ light_cells p → other_bulb g c d ≡ true → (joined_in_row p c d || joined_in_column p c d) ≡ true → sees_bulb p g c ≡ true
+  pub before-black : (k : ℕ) → k < at → ((i : ℕ) → k < i → i < at → bulb i ≡ false) → white k ≡ false → Shines white bulb at 0 at false
+  before-black k past dark off = λ i low lt joined. elim (cases_lt k i) [
+    | inl above ↦ dark i above lt
+    | inr below ↦ absurd (true≢false (sym (clear-at white at i k joined (omega arith) (omega arith)) ∙ off))
+  ]
+
+  pub before-bulb : (k : ℕ) → k < at → ((i : ℕ) → k < i → i ≤ at → white i ≡ true) → white k ≡ true → bulb k ≡ true → Shines white bulb at 0 at true
+  before-bulb k past pass here on = (k, omega arith, past, clear-from white at k (λ i a b. elim (cases_lt k i) [
+    | inl above ↦ pass i above (omega arith)
+    | inr below ↦ let e : k ≡ i = omega arith in ap white (sym e) ∙ here
+  ]), on)
+
+  pub along-before : (len : ℕ) → at < len → Shines white bulb at 0 at true → ShinesAlong white bulb at len true
+  along-before len lt s = (s.0, omega (arith, s.2), (λ e. omega (arith, s.2)), s.3, s.4)
+
+  pub along-after : (len : ℕ) (b : Bool) → Shines white bulb at 0 at false → Shines white bulb at (at + 1) len b → ShinesAlong white bulb at len b
+  along-after len true none s = (s.0, s.2, (λ e. omega (arith, s.1)), s.3, s.4)
+  along-after len false none s = λ i lt ne joined. elim (cases_lt i at) [
+    | inl before ↦ none i (omega arith) before joined
+    | inr after ↦ s i (omega arith) lt joined
+  ]
+
+-- ---- the line of a cell
+whole : (c w : ℕ) → c ≡ c / w * w + c % w
+whole c w = omega arith
+
+pub row-sees : (p : Light) (g : List ℕ) (c w : ℕ) (b : Bool) → 0 < w → w ≡ p.size.w → c < light_cells p
+    → ShinesAlong (λ i. white p (c - c % w + i * 1)) (λ i. bulb g (c - c % w + i * 1)) (c % w) w b → SeesAlong (joined_in_row p) (light_cells p) g c b
+row-sees p g c w b some e in_grid s = by b s
+  where
+    same : (i : ℕ) → c - c % w + i * 1 ≡ c / p.size.w * p.size.w + i
+    same i = rw (sym e) (let f = whole c w in omega arith)
+
+    test : (i : ℕ) → clear (λ k. white p (c - c % w + k * 1)) (c % w) i ≡ clear (λ k. white p (c / p.size.w * p.size.w + k)) (c % p.size.w) i
+    test i = clear-same _ _ (c % w) i (λ k. ap (white p) (same k)) ∙ ap (λ n. clear (λ k. white p (c / p.size.w * p.size.w + k)) (c % n) i) e
+
+    by : (b : Bool) → ShinesAlong (λ i. white p (c - c % w + i * 1)) (λ i. bulb g (c - c % w + i * 1)) (c % w) w b → SeesAlong (joined_in_row p) (light_cells p) g c b
+    by true s = (c - c % w + s.0 * 1, rw (same s.0) (let lt : s.0 < p.size.w = rw (sym e) s.1 in omega (arith, mul-add-lt (c / p.size.w) p.size.w s.0 p.size.h (row-in p.size.w p.size.h c (rw (sym e) some) in_grid) lt)), (λ f. s.2 (let v = whole c w in omega arith)),
+        ap (joined_in_row p c) (same s.0) ∙ row-cell-joined p c s.0 (rw (sym e) s.1) ∙ sym (test s.0) ∙ s.3, s.4)
+    by false s = λ d lt ne on.
+        let v = row-parts p c d on in
+        let here : c - c % w + d % w * 1 ≡ d = same (d % w) ∙ rw (v.0, e) (sym (whole d p.size.w)) in
+        ap (bulb g) (sym here) ∙ s (d % w) (mod-lt d some) (λ f. ne (let u = whole c w in let t = here in omega arith)) (test (d % w) ∙ rw e v.1)
+
+pub column-sees : (p : Light) (g : List ℕ) (c w h : ℕ) (b : Bool) → 0 < w → w ≡ p.size.w → h ≡ p.size.h
+    → ShinesAlong (λ i. white p (c % w + i * w)) (λ i. bulb g (c % w + i * w)) (c / w) h b → SeesAlong (joined_in_column p) (light_cells p) g c b
+column-sees p g c w h b some e f s = by b s
+  where
+    same : (i : ℕ) → c % w + i * w ≡ i * p.size.w + c % p.size.w
+    same i = rw (sym e) (omega arith)
+
+    test : (i : ℕ) → clear (λ k. white p (c % w + k * w)) (c / w) i ≡ clear (λ k. white p (k * p.size.w + c % p.size.w)) (c / p.size.w) i
+    test i = clear-same _ _ (c / w) i (λ k. ap (white p) (same k)) ∙ ap (λ n. clear (λ k. white p (k * p.size.w + c % p.size.w)) (c / n) i) e
+
+    by : (b : Bool) → ShinesAlong (λ i. white p (c % w + i * w)) (λ i. bulb g (c % w + i * w)) (c / w) h b → SeesAlong (joined_in_column p) (light_cells p) g c b
+    by true s = (c % w + s.0 * w, rw (same s.0) (let lt : s.0 < p.size.h = rw (sym f) s.1 in omega (arith, mul-add-lt s.0 p.size.w (c % p.size.w) p.size.h lt (mod-lt c (rw (sym e) some)))), (λ t. s.2 (mul-inj s.0 (c / w) w some (let v = whole c w in omega arith))),
+        ap (joined_in_column p c) (same s.0) ∙ column-cell-joined p c s.0 (rw (sym e) some) ∙ sym (test s.0) ∙ s.3, s.4)
+    by false s = λ d lt ne on.
+        let v = column-parts p c d on in
+        let here : c % w + d / w * w ≡ d = same (d / w) ∙ rw (v.0, e) (sym (whole d p.size.w)) in
+        ap (bulb g) (sym here) ∙ s (d / w) (rw f (row-in w p.size.h d some (rw e lt))) (λ t. ne (sym here ∙ ap (λ y. c % w + y * w) t ∙ (let u = whole c w in omega arith))) (test (d / w) ∙ rw e v.1)
+
+-- ---- both lines
+swapped : (c d : ℕ) → d ≢ c → not (eqb c d) ≡ true
+swapped c d off = ap not (ne_eqb c d (λ e. off (sym e)))
+
+seen-there : (p : Light) (g : List ℕ) (c d : ℕ) → d < light_cells p → d ≢ c → (joined_in_row p c d || joined_in_column p c d) ≡ true → bulb g d ≡ true → sees_bulb p g c ≡ true
 unfolding sees_bulb sees
-seen-there p g c d long on joined =
-    let w = and_parts (not (eqb d c)) (eqb (slice_index g d) 1) on in
-    any_below-here (λ e. (not (eqb c e) && (joined_in_row p c e || joined_in_column p c e)) && eqb (slice_index g e) 1) (light_cells p) d (bulb-in g (light_cells p) d long w.1)
-    (and_from _ _ (and_from _ _ (swapped c d w.0) joined) w.1)
+seen-there p g c d lt off joined on =
+    any_below-here (λ e. (not (eqb c e) && (joined_in_row p c e || joined_in_column p c e)) && eqb (slice_index g e) 1) (light_cells p) d lt
+    (and_from _ _ (and_from _ _ (swapped c d off) joined) on)
 
-pub seen-in-row : (p : Light) (g : List ℕ) (c : ℕ) → length g ≡ light_cells p → list_any (other_bulb g c) (row_run p c) ≡ true → true ≡ sees_bulb p g c
-seen-in-row p g c long on = grind (arith, common_steps, any-some, seen-there, or_left, row-run-joined)
+pub seen-in-row : (p : Light) (g : List ℕ) (c : ℕ) → SeesAlong (joined_in_row p) (light_cells p) g c true → sees_bulb p g c ≡ true
+seen-in-row p g c s = seen-there p g c s.0 s.1 s.2 (or_left (joined_in_row p c s.0) (joined_in_column p c s.0) s.3) s.4
 
-pub seen-in-column : (p : Light) (g : List ℕ) (c : ℕ) → c < light_cells p → length g ≡ light_cells p → list_any (other_bulb g c) (row_run p c) ≡ false → list_any (other_bulb g c) (column_run p c) ≡ sees_bulb p g c
+unseen : (p : Light) (g : List ℕ) (c : ℕ) → ((d : ℕ) → d < light_cells p → d ≢ c → (joined_in_row p c d || joined_in_column p c d) ≡ true → bulb g d ≡ false) → sees_bulb p g c ≡ false
 unfolding sees_bulb sees
-seen-in-column p g c lt long none = same (list_any (other_bulb g c) (column_run p c)) _
-    (λ on. let w = any-some (other_bulb g c) (column_run p c) on in
-    seen-there p g c w.0 long w.2 (or_right (joined_in_row p c w.0) (joined_in_column p c w.0) (column-run-joined p c w.0 w.1)))
-    (λ on.
+unseen p g c none = false_from_ne_true _ (λ on.
     let w = any_below-some (λ e. (not (eqb c e) && (joined_in_row p c e || joined_in_column p c e)) && eqb (slice_index g e) 1) (light_cells p) on in
     let both = and_parts (not (eqb c w.0) && (joined_in_row p c w.0 || joined_in_column p c w.0)) (eqb (slice_index g w.0) 1) w.2 in
     let apart = and_parts (not (eqb c w.0)) (joined_in_row p c w.0 || joined_in_column p c w.0) both.0 in
-    let there = and_from (not (eqb w.0 c)) (eqb (slice_index g w.0) 1) (swapped w.0 c apart.0) both.1 in
-    let pos = some-column p c lt in
-    elim (or_cases (joined_in_row p c w.0) (joined_in_column p c w.0) apart.1) [
-      | inl row ↦ absurd (true≢false (sym (any-here (other_bulb g c) (row_run p c) w.0 (in-row-run p c w.0 pos row) there) ∙ none))
-      | inr column ↦ any-here (other_bulb g c) (column_run p c) w.0 (in-column-run p c w.0 pos w.1 column) there
-    ])
-  where
-    same : (a b : Bool) → (a ≡ true → b ≡ true) → (b ≡ true → a ≡ true) → a ≡ b
-    same a b there back = grind (arith, common_steps, cases_Bool a, cases_Bool b)
+    true≢false (sym both.1 ∙ none w.0 w.1 (λ e. true≢false (sym (eq-eqb c w.0 (sym e)) ∙ not-true (eqb c w.0) apart.0)) apart.1))
 
--- ---- the cells of a run lie in the grid
-pub row-run-in : (p : Light) (g : List ℕ) (c : ℕ) (run : List ℕ) → run ≡ row_run p c → IsLight p → length g ≡ light_cells p → (k : ℕ) → k < length run → slice_index run k < length g
-row-run-in p g c run e is long k lt =
-    let w = (row-kind p c (light-board p is)).is_house.within (slice_index run k) (subst (λ l. has_place l (slice_index run k) ≡ true) e (has_place-here run k lt)) in omega arith
+pub seen-in-column : (p : Light) (g : List ℕ) (c : ℕ) (b : Bool) → SeesAlong (joined_in_row p) (light_cells p) g c false → SeesAlong (joined_in_column p) (light_cells p) g c b → b ≡ sees_bulb p g c
+seen-in-column p g c true row s = sym (seen-there p g c s.0 s.1 s.2 (or_right (joined_in_row p c s.0) (joined_in_column p c s.0) s.3) s.4)
+seen-in-column p g c false row s = sym (unseen p g c (λ d lt ne joined. elim (or_cases (joined_in_row p c d) (joined_in_column p c d) joined) [
+  | inl a ↦ row d lt ne a
+  | inr a ↦ s d lt ne a
+]))
 
-pub column-run-in : (p : Light) (g : List ℕ) (c : ℕ) (run : List ℕ) → run ≡ column_run p c → IsLight p → length g ≡ light_cells p → (k : ℕ) → k < length run → slice_index run k < length g
-column-run-in p g c run e is long k lt =
-    let w = (column-kind p c (light-board p is)).is_house.within (slice_index run k) (subst (λ l. has_place l (slice_index run k) ≡ true) e (has_place-here run k lt)) in omega arith
+-- a black cell sees none
+pub black-unseen : (p : Light) (g : List ℕ) (c : ℕ) → white p c ≡ false → sees_bulb p g c ≡ false
+black-unseen p g c off = unseen p g c (λ d lt ne joined. elim (or_cases (joined_in_row p c d) (joined_in_column p c d) joined) [
+  | inl row ↦
+      let v = row-parts p c d row in
+      let on = clear-at (λ x. white p (c / p.size.w * p.size.w + x)) (c % p.size.w) (d % p.size.w) (c % p.size.w) v.1 (omega arith) (omega arith) in
+      absurd (true≢false (sym on ∙ ap (white p) (sym (whole c p.size.w)) ∙ off))
+  | inr column ↦
+      let v = column-parts p c d column in
+      let on = clear-at (λ y. white p (y * p.size.w + c % p.size.w)) (c / p.size.w) (d / p.size.w) (c / p.size.w) v.1 (omega arith) (omega arith) in
+      absurd (true≢false (sym on ∙ ap (white p) (sym (whole c p.size.w)) ∙ off))
+])

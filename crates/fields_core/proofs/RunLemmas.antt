@@ -1,7 +1,7 @@
 -- The run around a cell of a line is what has only white cells between it and the cell.
-use Rattle.std.proofs.Common.{◌≡◌, ℕ, zero, suc, ◌+◌, ◌-◌, ◌*◌, ◌/◌, ◌%◌, ◌<◌, ◌≤◌, ◌^◌, min, max, Bool, true, false, cond, List, [], ◌∷◌, ◌++◌, length, slice_index, map, refl, sym, ap, ◌∙◌, inl, inr, add-one, arith}
+use Rattle.std.proofs.Common.{◌≡◌, ℕ, zero, suc, ◌+◌, ◌-◌, ◌*◌, ◌/◌, ◌%◌, ◌<◌, ◌≤◌, ◌^◌, min, max, Bool, true, false, not, ◌||◌, eqb, cond, List, [], ◌∷◌, ◌++◌, length, slice_index, map, refl, sym, ap, ◌∙◌, inl, inr, add-one, arith}
 use Rattle.std.specs.List.{filter, range_with_len}
-use Rattle.std.proofs.lemmas.Bool.{cases_Bool, cases_lt, true≢false, false_from_ne_true, eq-eqb}
+use Rattle.std.proofs.lemmas.Bool.{and_parts, cases_Bool, cases_lt, true≢false, false_from_ne_true, eq-eqb, eqb-true, not-true, or_cases}
 use Rattle.std.proofs.lemmas.Nat.{div-mul-add, mod-mul-add}
 use Rattle.std.proofs.lemmas.List.FromFn.{length-map-range_with_len, get_or-map-range_with_len}
 use Rattle.std.proofs.Math.Nat.{mod-lt, mul-le-mul_right}
@@ -11,8 +11,8 @@ use Rattle.gameid_core.specs.Puzzles.{Light, IsLight}
 use Rattle.std.proofs.lemmas.List.{append-nil}
 use Rattle.std.proofs.lemmas.List.Elements.{filter-append}
 use Rattle.fields_core.specs.Light.{light_cells, white, clear, joined_in_row, joined_in_column}
-use Rattle.fields_core.specs.LightHouses.{row_run, column_run}
-use Rattle.fields_core.specs.Runs.{RunsBack, RunsOn}
+use Rattle.fields_core.specs.LightHouses.{row_run, column_run, begins_row_run, begins_column_run}
+use Rattle.fields_core.specs.Runs.{RunsOn}
 use Rattle.grid_core.proofs.RegionLemmas.{row-at, column-at}
 use Rattle.fields_core.proofs.HouseLists.{row-long, column-long}
 use Rattle.fields_core.proofs.LightHouseLaws.{clear-at, clear-from}
@@ -55,31 +55,24 @@ passing-range test start end (suc n) low before inside past =
       ]
     ]
 
--- ---- the run around a number
-pub run-black : (test : ℕ → Bool) (len at : ℕ) → test at ≡ false → filter (clear test at) (range_with_len 0 len) ≡ []
-run-black test len at off =
-    let z : min len 0 - 0 ≡ 0 = omega arith in
-    rw z at (passing-range (clear test at) 0 0 len (omega arith) (λ i low. absurd (omega arith)) (λ i a b. absurd (omega arith))
-    (λ i a b. false_from_ne_true (clear test at i) (λ on. true≢false (sym (clear-at test at i at on (omega arith) (omega arith)) ∙ off))))
-
-pub run-white : (test : ℕ → Bool) (len at start end : ℕ) → test at ≡ true → RunsBack test at start → RunsOn test len at end
-    → filter (clear test at) (range_with_len 0 len) ≡ range_with_len start (end - start)
-run-white test len at start end here back on =
-    let low = back.low in
+-- ---- the run that begins at a number
+pub run-white : (test : ℕ → Bool) (len at end : ℕ) → test at ≡ true → ((i : ℕ) → suc i ≡ at → test i ≡ false) → RunsOn test len at end
+    → filter (clear test at) (range_with_len 0 len) ≡ range_with_len at (end - at)
+run-white test len at end here edge on =
     let past = on.past in
     let high = on.high in
     let z : min len end ≡ end = omega arith in
-    rw z at (passing-range (clear test at) start end len (omega arith)
-    (λ i below. false_from_ne_true (clear test at i) (λ joined. blocked i below joined start refl))
+    rw z at (passing-range (clear test at) at end len (omega arith)
+    (λ i below. false_from_ne_true (clear test at i) (λ joined. blocked i below joined at refl))
     (λ i above below. clear-from test at i (λ k a b. inside i k above below a b))
     (λ i above below. false_from_ne_true (clear test at i) (λ joined.
     true≢false (sym (clear-at test at i end joined (omega arith) (omega arith)) ∙ on.edge (omega arith)))))
   where
-    blocked : (i : ℕ) → i < start → clear test at i ≡ true → (s : ℕ) → s ≡ start → ⊥
+    blocked : (i : ℕ) → i < at → clear test at i ≡ true → (s : ℕ) → s ≡ at → ⊥
     blocked i below joined zero e = omega arith
-    blocked i below joined (suc s) e = let low = back.low in true≢false (sym (clear-at test at i s joined (omega arith) (omega arith)) ∙ back.edge s e)
+    blocked i below joined (suc s) e = true≢false (sym (clear-at test at i s joined (omega arith) (omega arith)) ∙ edge s e)
 
-    inside : (i k : ℕ) → start ≤ i → i < end → min at i ≤ k → k ≤ max at i → test k ≡ true
+    inside : (i k : ℕ) → at ≤ i → i < end → min at i ≤ k → k ≤ max at i → test k ≡ true
     inside i k above below a b = grind (arith, common_steps, cases_lt)
 
 -- ---- the same along two ways of numbering one line
@@ -108,18 +101,18 @@ pub line-run : (joined : ℕ → Bool) (test along_test : ℕ → Bool) (at len 
 line-run joined test along_test at len place along same_place same_test is = grind (arith, common_steps, map-same, filter-same, clear-same, filter-map)
 
 -- ---- the run of a row and of a column
-row-cell-joined : (p : Light) (c x : ℕ) → x < p.size.w → joined_in_row p c (c / p.size.w * p.size.w + x) ≡ clear (λ i. white p (c / p.size.w * p.size.w + i)) (c % p.size.w) x
+pub row-cell-joined : (p : Light) (c x : ℕ) → x < p.size.w → joined_in_row p c (c / p.size.w * p.size.w + x) ≡ clear (λ i. white p (c / p.size.w * p.size.w + i)) (c % p.size.w) x
 unfolding joined_in_row
 row-cell-joined p c x lt = grind (arith, common_steps, div-mul-add, mod-mul-add, eq-eqb)
 
-column-cell-joined : (p : Light) (c y : ℕ) → 0 < p.size.w → joined_in_column p c (y * p.size.w + c % p.size.w) ≡ clear (λ i. white p (i * p.size.w + c % p.size.w)) (c / p.size.w) y
+pub column-cell-joined : (p : Light) (c y : ℕ) → 0 < p.size.w → joined_in_column p c (y * p.size.w + c % p.size.w) ≡ clear (λ i. white p (i * p.size.w + c % p.size.w)) (c / p.size.w) y
 unfolding joined_in_column
 column-cell-joined p c y pos = grind (arith, common_steps, mod-lt, div-mul-add, mod-mul-add, eq-eqb)
 
-pub row-run-is : (p : Light) (c w : ℕ) → w ≡ p.size.w
-    → map (λ i. c - c % w + i * 1) (filter (clear (λ i. white p (c - c % w + i * 1)) (c % w)) (range_with_len 0 w)) ≡ row_run p c
+pub row-run-is : (p : Light) (c w x : ℕ) → w ≡ p.size.w → c % p.size.w ≡ x
+    → map (λ i. c - x + i * 1) (filter (clear (λ i. white p (c - x + i * 1)) x) (range_with_len 0 w)) ≡ row_run p c
 unfolding row_run
-row-run-is p c w e = rw e
+row-run-is p c w x e f = rw (e, sym f)
     (line-run (joined_in_row p c) (λ i. white p (c / p.size.w * p.size.w + i)) (λ i. white p (c - c % p.size.w + i * 1)) (c % p.size.w) p.size.w
     (λ x. c / p.size.w * p.size.w + x) (λ i. c - c % p.size.w + i * 1) same (λ i. ap (white p) (same i)) (λ i lt. row-cell-joined p c i lt))
   where
@@ -135,6 +128,36 @@ column-run-is p c w h pos e f = rw (e, f)
   where
     same : (i : ℕ) → c % p.size.w + i * p.size.w ≡ i * p.size.w + c % p.size.w
     same i = omega arith
+
+-- the cell before the first of a run is black
+pub row-begun : (p : Light) (c x i : ℕ) → begins_row_run p c ≡ true → c % p.size.w ≡ x → suc i ≡ x → white p (c - x + i * 1) ≡ false
+unfolding begins_row_run
+row-begun p c x i on e f =
+    let parts = and_parts (white p c) (eqb (c % p.size.w) 0 || not (white p (c - 1))) on in
+    let here : c - x + i * 1 ≡ c - 1 = let whole : c ≡ c / p.size.w * p.size.w + c % p.size.w = omega arith in omega arith in
+    rw here (elim (or_cases (eqb (c % p.size.w) 0) (not (white p (c - 1))) parts.1) [
+      | inl edge ↦ let z = eqb-true (c % p.size.w) 0 edge in absurd (omega arith)
+      | inr black ↦ not-true (white p (c - 1)) black
+    ])
+
+pub column-begun : (p : Light) (c w i : ℕ) → w ≡ p.size.w → begins_column_run p c ≡ true → suc i ≡ c / w → white p (c % w + i * w) ≡ false
+unfolding begins_column_run
+column-begun p c w i e on f =
+    let parts = and_parts (white p c) (eqb (c / p.size.w) 0 || not (white p (c - p.size.w))) on in
+    let here : c % w + i * w ≡ c - w = let whole : c ≡ c / w * w + c % w = omega arith in let more : suc i * w ≡ i * w + w = omega arith in let g = ap (λ n. n * w) f in omega arith in
+    rw (here, e) (elim (or_cases (eqb (c / p.size.w) 0) (not (white p (c - p.size.w))) parts.1) [
+      | inl edge ↦ let z = eqb-true (c / p.size.w) 0 edge in let y : c / w ≡ 0 = rw e z in absurd (omega arith)
+      | inr black ↦ not-true (white p (c - p.size.w)) black
+    ])
+
+-- the first of a run is white
+pub row-begun-white : (p : Light) (c : ℕ) → begins_row_run p c ≡ true → white p c ≡ true
+unfolding begins_row_run
+row-begun-white p c on = (and_parts (white p c) _ on).0
+
+pub column-begun-white : (p : Light) (c : ℕ) → begins_column_run p c ≡ true → white p c ≡ true
+unfolding begins_column_run
+column-begun-white p c on = (and_parts (white p c) _ on).0
 
 -- ---- the cells of a run
 pub run-long : (f : ℕ → ℕ) (start n : ℕ) (xs : List ℕ) → map f (range_with_len start n) ≡ xs → n ≡ length xs

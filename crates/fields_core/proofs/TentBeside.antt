@@ -24,6 +24,10 @@ cell-below w c pos = cell-parts w (c / w + 1) (c % w) (c + w) (mod-lt c pos) (le
 pub cell-after : (w c : ℕ) → c % w + 1 < w → ((c + 1) / w ≡ c / w) × ((c + 1) % w ≡ c % w + 1)
 cell-after w c lt = cell-parts w (c / w) (c % w + 1) (c + 1) lt (let e = whole-cell w c in omega arith)
 
+-- the first cell of the next row
+pub cell-turn : (w c : ℕ) → c % w + 1 ≡ w → (c + 1) % w ≡ 0
+cell-turn w c e = (cell-parts w (c / w + 1) 0 (c + 1) (omega arith) (let f = whole-cell w c in let g : (c / w + 1) * w ≡ c / w * w + w = omega arith in omega arith)).1
+
 pub row-in : (w h c : ℕ) → 0 < w → c < w * h → c / w < h
 row-in w h c pos lt = (div-lt_iff_lt-mul pos).1 (omega arith)
 

@@ -1,11 +1,6 @@
--- Runs of numbers that pass a test.
-use Rattle.std.specs.Prelude.{◌≡◌, ℕ, suc, ◌<◌, ◌≤◌, Bool, true, false}
-
--- the numbers from start to the one before `at` pass, and the one before start does not
-pub record RunsBack (test : ℕ → Bool) (at start : ℕ) : Type 0 where
-  pub low : start ≤ at
-  pub pass : (i : ℕ) → start ≤ i → i < at → test i ≡ true
-  pub edge : (i : ℕ) → suc i ≡ start → test i ≡ false
+-- Runs of numbers that pass a test, and which of the numbers of a line see others. No public contract uses these words.
+use Rattle.std.specs.Prelude.{◌≡◌, ◌≢◌, ℕ, ◌+◌, ◌<◌, ◌≤◌, Bool, true, false, List}
+use Rattle.fields_core.specs.Light.{bulb, clear}
 
 -- the numbers after `at` pass, up to the one before the end; the end does not, if it is below len
 pub record RunsOn (test : ℕ → Bool) (len at end : ℕ) : Type 0 where
@@ -13,3 +8,24 @@ pub record RunsOn (test : ℕ → Bool) (len at end : ℕ) : Type 0 where
   pub high : end ≤ len
   pub pass : (i : ℕ) → at < i → i < end → test i ≡ true
   pub edge : end < len → test end ≡ false
+
+-- whether one of the numbers from low to the one before high has a bulb, and from `at` to it all are white
+abbrev pub Shines : (ℕ → Bool) → (ℕ → Bool) → ℕ → ℕ → ℕ → Bool → Type 0
+Shines white bulb at low high true =
+    (i : ℕ) × (low ≤ i) × (i < high) × (clear white at i ≡ true) × (bulb i ≡ true)
+Shines white bulb at low high false =
+    (i : ℕ) → low ≤ i → i < high → clear white at i ≡ true → bulb i ≡ false
+
+-- the same of all other numbers below len
+abbrev pub ShinesAlong : (ℕ → Bool) → (ℕ → Bool) → ℕ → ℕ → Bool → Type 0
+ShinesAlong white bulb at len true =
+    (i : ℕ) × (i < len) × (i ≢ at) × (clear white at i ≡ true) × (bulb i ≡ true)
+ShinesAlong white bulb at len false =
+    (i : ℕ) → i < len → i ≢ at → clear white at i ≡ true → bulb i ≡ false
+
+-- whether another cell that is joined to the cell has a bulb
+abbrev pub SeesAlong : (ℕ → ℕ → Bool) → ℕ → List ℕ → ℕ → Bool → Type 0
+SeesAlong joined cells g c true =
+    (d : ℕ) × (d < cells) × (d ≢ c) × (joined c d ≡ true) × (bulb g d ≡ true)
+SeesAlong joined cells g c false =
+    (d : ℕ) → d < cells → d ≢ c → joined c d ≡ true → bulb g d ≡ false

@@ -4,6 +4,8 @@ pub(crate) mod cells;
 pub(crate) mod check;
 pub(crate) mod fault;
 pub(crate) mod houses;
+pub(crate) mod lit;
 pub(crate) mod rules;
 pub(crate) mod run;
 pub(crate) mod sight;
+pub(crate) mod sizes;

@@ -1,28 +1,114 @@
 //! Which bulbs a cell sees, and how many stand beside it.
 #![tactic(auto, using(crate::proofs::LawSets::light_sight_laws))]
 
-ghost use Rattle.std.specs.Prelude.{◌≡◌, ℕ, ◌<◌, ◌&&◌, ◌==◌, not, length, slice_index};
-ghost use Rattle.std.specs.List.{list_any};
+ghost use Rattle.std.specs.Prelude.{◌≡◌, ℕ, ◌+◌, ◌*◌, ◌<◌, true};
 ghost use Rattle.grid_core.specs.Grids.{IsGrid};
-ghost use Rattle.fields_core.specs.Light.{light_cells, bulb, sees_bulb, bulbs_beside};
+ghost use Rattle.fields_core.specs.Light.{light_cells, white, bulb, joined_in_row, joined_in_column, sees_bulb, bulbs_beside};
+ghost use Rattle.fields_core.specs.Runs.{Shines, ShinesAlong, SeesAlong};
 
-use crate::count::run::Run;
-use crate::light_up::run::{run_in_column, run_in_row};
+use crate::count::run::along;
+use crate::light_up::cells::{columns, is_white, rows};
 use gameid_core::LightPuzzle;
 use grid_core::{Grid, step};
 
-/// Whether another cell of the run than the place has a bulb.
-fn has_other_bulb(grid: &Grid, run: &Run, place: usize) -> bool
-    requires { (k : ℕ) → k < length run.now → slice_index run.now k < length grid.now }
-    ensures { result ≡ list_any (λ d. not (d == place) && bulb grid.now d) run.now }
+/// A row or a column. The cell of number `i` along it is `first + i * stride`.
+#[derive(Clone, Copy)]
+struct Line {
+    first: usize,
+    stride: usize,
+    len: usize,
+}
+
+/// Whether a bulb stands before the white cell of number `at` along the line, with only white cells between.
+fn shines_before(puzzle: &LightPuzzle, grid: &Grid, line: Line, at: usize) -> bool
+    requires fits { IsGrid (light_cells puzzle.now) 2 grid.now }
+    requires within { (i : ℕ) → i < line.len
+        → line.first + i * line.stride < light_cells puzzle.now }
+    requires at_in { at < line.len }
+    requires white { white puzzle.now (line.first + at * line.stride) ≡ true }
+    ensures { Shines (λ i. white puzzle.now (line.first + i * line.stride))
+        (λ i. bulb grid.now (line.first + i * line.stride)) at 0 at result }
 {
-    for k in 0..run.len() {
-        let other = run.place(k);
-        if other != place && grid.get(other) == 1 {
+    let _size = puzzle.size();
+    for passed in 0..at {
+        let other = along(line.first, line.stride, at - 1 - passed);
+        if !is_white(puzzle, other) {
+            return false;
+        }
+        if grid.get(other) == 1 {
             return true;
         }
     }
     false
+}
+
+/// Whether a bulb stands after the white cell of number `at` along the line, with only white cells between.
+fn shines_after(puzzle: &LightPuzzle, grid: &Grid, line: Line, at: usize) -> bool
+    requires fits { IsGrid (light_cells puzzle.now) 2 grid.now }
+    requires within { (i : ℕ) → i < line.len
+        → line.first + i * line.stride < light_cells puzzle.now }
+    requires at_in { at < line.len }
+    requires white { white puzzle.now (line.first + at * line.stride) ≡ true }
+    ensures { Shines (λ i. white puzzle.now (line.first + i * line.stride))
+        (λ i. bulb grid.now (line.first + i * line.stride)) at (at + 1) line.len result }
+{
+    let _size = puzzle.size();
+    for after in at + 1..line.len {
+        let other = along(line.first, line.stride, after);
+        if !is_white(puzzle, other) {
+            return false;
+        }
+        if grid.get(other) == 1 {
+            return true;
+        }
+    }
+    false
+}
+
+/// Whether the white cell of number `at` along the line sees a bulb of the line.
+fn shines_along(puzzle: &LightPuzzle, grid: &Grid, line: Line, at: usize) -> bool
+    requires fits { IsGrid (light_cells puzzle.now) 2 grid.now }
+    requires within { (i : ℕ) → i < line.len
+        → line.first + i * line.stride < light_cells puzzle.now }
+    requires at_in { at < line.len }
+    requires white { white puzzle.now (line.first + at * line.stride) ≡ true }
+    ensures { ShinesAlong (λ i. white puzzle.now (line.first + i * line.stride))
+        (λ i. bulb grid.now (line.first + i * line.stride)) at line.len result }
+{
+    shines_before(puzzle, grid, line, at) || shines_after(puzzle, grid, line, at)
+}
+
+/// Whether the white cell sees a bulb of its row.
+fn sees_in_row(puzzle: &LightPuzzle, grid: &Grid, place: usize) -> bool
+    requires fits { IsGrid (light_cells puzzle.now) 2 grid.now }
+    requires place_in { place < light_cells puzzle.now }
+    requires white { white puzzle.now place ≡ true }
+    ensures { SeesAlong (joined_in_row puzzle.now) (light_cells puzzle.now) grid.now place result }
+{
+    let w = columns(puzzle);
+    let x = place % w;
+    let line = Line {
+        first: place - x,
+        stride: 1,
+        len: w,
+    };
+    shines_along(puzzle, grid, line, x)
+}
+
+/// Whether the white cell sees a bulb of its column.
+fn sees_in_column(puzzle: &LightPuzzle, grid: &Grid, place: usize) -> bool
+    requires fits { IsGrid (light_cells puzzle.now) 2 grid.now }
+    requires place_in { place < light_cells puzzle.now }
+    requires white { white puzzle.now place ≡ true }
+    ensures { SeesAlong (joined_in_column puzzle.now) (light_cells puzzle.now) grid.now place result }
+{
+    let w = columns(puzzle);
+    let line = Line {
+        first: place % w,
+        stride: w,
+        len: rows(puzzle),
+    };
+    shines_along(puzzle, grid, line, place / w)
 }
 
 /// Whether the cell sees a bulb: one in another white cell of its row or column, with only white cells between. The grid has
@@ -32,9 +118,8 @@ pub fn sees_a_bulb(puzzle: &LightPuzzle, grid: &Grid, place: usize) -> bool
     requires place_in { place < light_cells puzzle.now }
     ensures { result ≡ sees_bulb puzzle.now grid.now place }
 {
-    let _size = puzzle.size();
-    has_other_bulb(grid, &run_in_row(puzzle, place), place)
-        || has_other_bulb(grid, &run_in_column(puzzle, place), place)
+    is_white(puzzle, place)
+        && (sees_in_row(puzzle, grid, place) || sees_in_column(puzzle, grid, place))
 }
 
 /// How many bulbs stand beside the cell, in cells that share a side with it. The grid has 1 at a bulb and 0 elsewhere.

@@ -1,0 +1,9 @@
+use Rattle.std.proofs.Common.{sym, ◌∙◌, arith}
+use Rattle.fields_core.proofs.TentBeside.{cell-after, cell-turn}
+use Rattle.fields_core.proofs.light_up.cells.next_column.Goals as goal
+
+pub returns-then-x-w : goal.returns-then-x-w
+returns-then-x-w c = λ d e. cell-turn c.args.puzzle.now.size.w d (let v = c.columns-w.ensures.value in omega arith)
+
+pub returns-else-x-w : goal.returns-else-x-w
+returns-else-x-w c = λ d e. (cell-after c.args.puzzle.now.size.w d (let v = c.columns-w.ensures.value in omega arith)).1 ∙ omega arith

@@ -1,0 +1,7 @@
+use Rattle.fields_core.specs.CountHouse.{houses_below}
+use Rattle.fields_core.specs.CountLists.{IsAdded}
+use Rattle.fields_core.specs.LightHouses.{number_house}
+use Rattle.fields_core.proofs.light_up.houses.push_numbers.Given as goal
+
+abbrev pub invariant-loop-place : goal.invariant-loop-place
+invariant-loop-place l = IsAdded l.fn.houses l.houses (houses_below (number_house l.puzzle) l.place)

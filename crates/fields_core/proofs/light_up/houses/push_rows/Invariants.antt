@@ -1,0 +1,11 @@
+use Rattle.std.proofs.Common.{◌≡◌, ◌%◌}
+use Rattle.fields_core.specs.CountHouse.{houses_below}
+use Rattle.fields_core.specs.CountLists.{IsAdded}
+use Rattle.fields_core.specs.LightHouses.{row_house}
+use Rattle.fields_core.proofs.light_up.houses.push_rows.Given as goal
+
+abbrev pub invariant-loop-place : goal.invariant-loop-place
+invariant-loop-place l = record {
+  added : IsAdded l.fn.houses l.houses (houses_below (row_house l.puzzle) l.place);
+  column : l.place % l.puzzle.size.w ≡ l.x;
+}
