@@ -31,11 +31,11 @@ fn shines_before(puzzle: &LightPuzzle, grid: &Grid, line: Line, at: usize) -> bo
 {
     let _size = puzzle.size();
     for passed in 0..at {
-        let other = along(line.first, line.stride, at - 1 - passed);
-        if !is_white(puzzle, other) {
+        let before = along(line.first, line.stride, at - 1 - passed);
+        if !is_white(puzzle, before) {
             return false;
         }
-        if grid.get(other) == 1 {
+        if grid.get(before) == 1 {
             return true;
         }
     }
@@ -53,12 +53,12 @@ fn shines_after(puzzle: &LightPuzzle, grid: &Grid, line: Line, at: usize) -> boo
         (λ i. bulb grid.now (line.first + i * line.stride)) at (at + 1) line.len result }
 {
     let _size = puzzle.size();
-    for after in at + 1..line.len {
-        let other = along(line.first, line.stride, after);
-        if !is_white(puzzle, other) {
+    for next in at + 1..line.len {
+        let after = along(line.first, line.stride, next);
+        if !is_white(puzzle, after) {
             return false;
         }
-        if grid.get(other) == 1 {
+        if grid.get(after) == 1 {
             return true;
         }
     }
