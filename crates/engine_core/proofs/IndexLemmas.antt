@@ -62,13 +62,6 @@ module _ (places : List ℕ) (k : ℕ) (lt : k < length places) where
   pub not_taken : AreDifferent places → (c : ℕ) → c ≡ slice_index places k → has_place (take k places) c ≡ false
   not_taken different c is = grind (arith, common_steps, taken-at c, different, cases_Bool (has_place (take k places) c))
 
--- the count of a place goes up where it is the k-th
-pub counted-more : (places : List ℕ) (k : ℕ) → AreDifferent places → k < length places → (counts old : List ℕ)
-    → ((c : ℕ) → c < length counts → slice_index counts c ≡ slice_index old c + cond (has_place (take k places) c) 1 0)
-    → (c : ℕ) → c < length counts
-    → slice_index (set counts (slice_index places k) (slice_index counts (slice_index places k) + 1)) c ≡ slice_index old c + cond (has_place (take (k + 1) places) c) 1 0
-counted-more places k different lt counts old before c lc = grind (arith, common_steps, cases_eq c (slice_index places k), before c lc, not_taken places k lt different c, taken-here places k lt c, taken-other places k lt c)
-
 -- ---- the houses of all places are no more than the places of all houses
 lengths_sum : (scopes : List (List ℕ)) → sum_below (λ h. length (scope_of scopes h)) (length scopes) ≡ sum_by length scopes
 unfolding sum_below

@@ -29,6 +29,7 @@ pub mod CountLemmas
 pub mod EndLemmas
 pub mod SearchingLemmas
 pub mod PieceLemmas
+pub mod PlaceCounts
 pub mod IndexLemmas
 pub mod KthLemmas
 pub mod LawSets

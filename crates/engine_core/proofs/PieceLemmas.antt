@@ -1,11 +1,11 @@
 -- Laws of lists that are the pieces of one.
-use Rattle.std.specs.List.{filter}
+use Rattle.std.specs.List.{concat, filter}
 use Rattle.std.proofs.lemmas.List.{append-nil, get_or_append_left, get_or_read}
-use Rattle.std.proofs.lemmas.List.Edits.{between_more}
+use Rattle.std.proofs.lemmas.List.Edits.{between_more, between_none}
 use Rattle.std.proofs.lemmas.List.Elements.{filter-append}
 use Rattle.std.proofs.lemmas.List.Sums.{count_by-le-length, length-filter}
 use Rattle.engine_core.specs.HouseList.{IsGrown, Listed}
-use Rattle.engine_core.proofs.Common.{append_assoc, eq-eqb, eqb, length-append, ne_eqb, not, ◌∙◌}
+use Rattle.engine_core.proofs.Common.{append_assoc, drop, eq-eqb, eqb, length-append, ne_eqb, not, take, ◌∙◌}
 use Rattle.engine_core.proofs.Common.{AreEnds, IsListed, List, [], ap, arith, begin_of, between, between_is, between_to_end, common_steps}
 use Rattle.engine_core.proofs.Common.{drop-append-le, get_or, last_end, length, length-between, listed, pieces, refl, suc, sum_by, sum_by-cons, sym}
 use Rattle.engine_core.proofs.Common.{take-append-le, zero, ℕ, ◌++◌, ◌+◌, ◌-◌, ◌<◌, ◌^◌, ◌∷◌, ◌≡◌, ◌≤◌}
@@ -85,6 +85,38 @@ total-closed xs ends n e is = let t = total-is xs 0 ends e in omega arith
 -- all closed lists have fewer than 2^32 places together
 pub few-listed : (xs ends : List ℕ) → IsListed xs ends → sum_by length (listed xs ends).closed < 2 ^ 32
 few-listed xs ends l = grind (arith, common_steps, last-le, total-is)
+
+-- a part is its first and its second part
+drop-none : (m : ℕ) → drop {A = ℕ} m [] ≡ []
+drop-none zero = refl
+drop-none (suc m) = refl
+
+take-none : (m : ℕ) → take {A = ℕ} m [] ≡ []
+take-none zero = refl
+take-none (suc m) = refl
+
+drop-past : (xs : List ℕ) (a n : ℕ) → drop n (drop a xs) ≡ drop (a + n) xs
+drop-past xs zero n = let z : 0 + n ≡ n = omega arith in rw z refl
+drop-past [] (suc a) n = drop-none n ∙ sym (drop-none (suc a + n))
+drop-past (x ∷ xs) (suc a) n = let z : suc a + n ≡ suc (a + n) = omega arith in rw z (drop-past xs a n)
+
+take-split : (n m : ℕ) (xs : List ℕ) → take (n + m) xs ≡ take n xs ++ take m (drop n xs)
+take-split zero m xs = let z : 0 + m ≡ m = omega arith in rw z refl
+take-split (suc n) m [] = take-none (suc n + m) ∙ sym (take-none m)
+take-split (suc n) m (x ∷ xs) = let z : suc n + m ≡ suc (n + m) = omega arith in rw z (ap (λ l. x ∷ l) (take-split n m xs))
+
+between-split : (xs : List ℕ) (a b c : ℕ) → a ≤ b → b ≤ c → between a c xs ≡ between a b xs ++ between b c xs
+between-split xs a b c low high =
+    let whole : b - a + (c - b) ≡ c - a = omega arith in
+    let past : a + (b - a) ≡ b = omega arith in
+    rw (sym whole) (take-split (b - a) (c - b) (drop a xs)) ∙ ap (λ l. take (b - a) (drop a xs) ++ take (c - b) l) (drop-past xs a (b - a) ∙ ap (λ n. drop n xs) past)
+
+-- the pieces together are what they are pieces of
+pub pieces-joined : (xs : List ℕ) (from : ℕ) (ends : List ℕ) → AreEnds (length xs) from ends → between from (last_end from ends) xs ≡ concat (pieces xs from ends)
+pieces-joined xs from [] e = between_none xs from
+pieces-joined xs from (end ∷ ends) (low, e) =
+    let w = last-le (length xs) end ends e in
+    between-split xs from end (last_end end ends) low w.0 ∙ ap (λ l. between from end xs ++ l) (pieces-joined xs end ends e)
 
 -- a closed list ends no earlier than it begins, and within the places
 pub closed-ends : (xs ends : List ℕ) (l : Listed) (h end : ℕ) → AreEnds (length xs) 0 ends → listed xs ends ≡ l → h < length l.closed → end ≡ get_or ends h end

@@ -1,5 +1,5 @@
 -- Tables of houses: which places each house has, and which houses have a place.
-use Rattle.std.specs.Prelude.{◌≡◌, ℕ, suc, ◌+◌, ◌<◌, ◌≤◌, true, false, cond, Option, Some, None, List, [], length, slice_index, slice_index_or}
+use Rattle.std.specs.Prelude.{◌≡◌, ℕ, suc, ◌+◌, ◌<◌, ◌≤◌, true, false, Option, Some, None, List, [], length, slice_index, slice_index_or}
 use Rattle.std.specs.List.{between}
 use Rattle.grid_core.specs.Candidates.{count_below, sum_below}
 use Rattle.engine_core.specs.Puzzle.{has_place}
@@ -88,10 +88,6 @@ IsUnfilled scopes starts houses = IsIndex (length starts) scopes (length scopes)
 abbrev pub houses_from : List ℕ → List ℕ → ℕ → List ℕ
 houses_from starts houses place =
     between (slice_index starts place) (slice_index starts (place + 1)) houses
-
--- one more at each of the places
-abbrev pub counted_on : List ℕ → List ℕ → ℕ → ℕ
-counted_on counts places c = slice_index counts c + cond (has_place places c) 1 0
 
 -- the sum of each number with those before it
 abbrev pub sum_to : List ℕ → ℕ → ℕ

@@ -2,7 +2,7 @@
 #![tactic(auto, using(crate::proofs::LawSets::house_list_laws))]
 
 ghost use Rattle.std.specs.Prelude.{◌≡◌, ◌+◌, ◌-◌, ◌<◌, ◌≤◌, ◌^◌, ◌==◌, true, false, not, ◌++◌, ◌∷◌, [], filter, IfOk, OnOk, length, slice_index_or, sum_by};
-ghost use Rattle.std.specs.List.{between};
+ghost use Rattle.std.specs.List.{between, concat};
 ghost use Rattle.engine_core.specs.HouseList.{begin_of, last_end, pieces, AreEnds, IsGrown};
 
 use std::alloc::{AllocError, Global};
@@ -137,6 +137,13 @@ impl HouseList {
         ensures few { result < 2 ^ 32 }
     {
         last(&self.ends)
+    }
+
+    /// The places of all closed lists, one list after another.
+    pub(crate) fn all(&self) -> &[u32]
+        ensures { result.now ≡ concat self.now.closed }
+    {
+        part(&self.places, 0, last(&self.ends))
     }
 
     /// The places of a closed list.

@@ -1,24 +1,25 @@
 //! Houses, and which of them have a place.
 #![tactic(auto, using(crate::proofs::LawSets::house_index_laws))]
 
-ghost use Rattle.std.specs.Prelude.{◌≡◌, ℕ, suc, ◌+◌, ◌<◌, ◌≤◌, ◌^◌, IfOk, length, sum_by, slice_index};
+ghost use Rattle.std.specs.Prelude.{◌≡◌, ℕ, suc, ◌+◌, ◌<◌, ◌≤◌, ◌^◌, ◌==◌, IfOk, count_by, length, sum_by, slice_index};
 ghost use Rattle.grid_core.specs.Candidates.{sum_below};
 ghost use Rattle.engine_core.specs.Puzzle.{has_place, IsNext, IsKth, longest};
 ghost use Rattle.engine_core.specs.House.{AreDifferent};
-ghost use Rattle.engine_core.specs.HouseIndex.{AreScopes, scope_of, start_at, AreHousesAt, IsIndex, IsRoom, IsPut, IsFirstFrom, AreAt, counted_on, number_in, IsUnfilled, houses_from, sum_to};
+ghost use Rattle.engine_core.specs.HouseIndex.{AreScopes, scope_of, start_at, AreHousesAt, IsIndex, IsRoom, IsPut, IsFirstFrom, AreAt, number_in, IsUnfilled, houses_from, sum_to};
 
 use crate::houses::list::{HouseList, part};
 use std::alloc::{AllocError, Global};
 use std::marker::Model;
 
-/// Adds one to the count of each of the places.
-fn count_house(counts: &mut [u32], places: &[u32])
+/// Counts how often each place is one of these.
+fn count_places(counts: &mut [u32], places: &[u32])
     requires within { (k : ℕ) → k < length places.now
         → slice_index places.now k < length counts.old }
-    requires different { AreDifferent places.now }
-    requires few { (c : ℕ) → c < length counts.old → slice_index counts.old c + 1 < 2 ^ 32 }
+    requires few { length places.now < 2 ^ 32 }
+    requires none { (c : ℕ) → c < length counts.old → slice_index counts.old c ≡ 0 }
     ensures as_many { length counts.new ≡ length counts.old }
-    ensures counted { AreAt (length counts.old) (counted_on counts.old places.now) counts.new }
+    ensures counted { AreAt (length counts.old) (λ c. count_by (λ d. d == c) places.now)
+        counts.new }
 {
     for k in 0..places.len() {
         counts[places[k] as usize] += 1;
@@ -28,13 +29,12 @@ fn count_house(counts: &mut [u32], places: &[u32])
 /// Counts for each place the houses that have it.
 fn count_houses(counts: &mut [u32], list: &HouseList)
     requires scopes { AreScopes (length counts.old) list.now.closed }
+    requires few { sum_by length list.now.closed < 2 ^ 32 }
     requires none { (c : ℕ) → c < length counts.old → slice_index counts.old c ≡ 0 }
     ensures as_many { length counts.new ≡ length counts.old }
     ensures counted { AreAt (length counts.old) (number_in list.now.closed) counts.new }
 {
-    for house in 0..list.len() {
-        count_house(counts, list.places(house));
-    }
+    count_places(counts, list.all());
 }
 
 /// Writes in place of each number its sum with those before it, and gives the sum of all.

@@ -1,0 +1,9 @@
+use Rattle.engine_core.proofs.Common.{eqb, length, slice_index, take, ℕ, ◌<◌, ◌≡◌}
+use Rattle.std.specs.List.{count_by}
+use Rattle.engine_core.proofs.houses.table.count_places.Given as goal
+
+abbrev pub invariant-loop-k : goal.invariant-loop-k
+invariant-loop-k l = record {
+  as_many : length l.counts ≡ length l.fn.counts;
+  counted : (c : ℕ) → c < length l.counts → slice_index l.counts c ≡ count_by (λ d. eqb d c) (take l.k l.places);
+}
