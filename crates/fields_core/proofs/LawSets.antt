@@ -14,7 +14,7 @@ use Rattle.fields_core.proofs.LightSight.{count-bulb, count-dark, count-edge, co
 use Rattle.fields_core.proofs.RuleLemmas.{after-is, light-houses, same-shape, start-all, start-blocked}
 use Rattle.fields_core.proofs.RunLemmas.{column-made, few-cells, row-made, run-long, run-white}
 use Rattle.fields_core.proofs.TentCounting.{tent-counting}
-use Rattle.fields_core.proofs.TentLines.{far-below, line-all, line-more, line-skip, line-start, none-below, touch-columns, touch-rows}
+use Rattle.fields_core.proofs.TentLines.{line-all, line-more, line-skip, line-start}
 use Rattle.fields_core.proofs.TentNext.{barred-alone, barred-tree, next-joined, next-none, passed-bare, passed-early, passed-edge, passed-start, tree-found, treeless-all}
 use Rattle.fields_core.proofs.TentNumbers.{count-none, listed-all, listed-skip}
 use Rattle.fields_core.proofs.TentPairLemmas.{count-is, listed-tents, others-unpaired, short-unpaired, whole-pairs}
@@ -58,4 +58,4 @@ pub ruleset tent_pairs_laws = (next-joined, listed-skip, listed-all, passed-star
 
 pub ruleset tent_rules_laws = (tent-counting, as-many, bounded-listed, camp-not, after-is, tent-table, barred-tree, barred-alone, tree-found, treeless-all, start-blocked, same-shape, start-all)
 
-pub ruleset tent_touch_laws = (eq-eqb, touch-rows, touch-columns, far-below, none-below)
+pub ruleset tent_touch_laws = (eq-eqb, ne_eqb)

@@ -1,14 +1,16 @@
 -- The tents of a line, and the cells that a cell can touch.
-use Rattle.std.proofs.Common.{◌≡◌, ℕ, ◌+◌, ◌-◌, ◌*◌, ◌/◌, ◌%◌, ◌<◌, ◌≤◌, Bool, true, false, ◌&&◌, leb, List, length, slice_index, take, refl, sym, ap, ◌∙◌, arith, leb-true}
+use Rattle.std.proofs.Common.{◌≡◌, ℕ, zero, suc, ◌+◌, ◌-◌, ◌*◌, ◌/◌, ◌%◌, ◌<◌, ◌≤◌, ◌⊎◌, inl, inr, min, Bool, true, false, not, ◌&&◌, eqb, leb, List, length, slice_index, take, refl, sym, ap, ◌∙◌, arith, leb-true, le-leb}
 use Rattle.std.specs.List.{count_by}
-use Rattle.std.proofs.lemmas.Bool.{cases_lt, and_parts, and_from, and_left, true≢false, false_from_ne_true, eq-eqb, ne_eqb}
+use Rattle.std.proofs.lemmas.Bool.{cases_Bool, cases_lt, and_parts, and_from, and_left, true≢false, false_from_ne_true, eq-eqb, ne_eqb}
 use Rattle.std.proofs.lemmas.List.{take_all}
 use Rattle.std.proofs.lemmas.List.Sums.{count_by_more_yes, count_by_more_no}
-use Rattle.std.proofs.Math.Nat.{mul-le-mul_right}
+use Rattle.std.proofs.Math.Nat.{mul-le-mul_right, mod-lt}
+use Rattle.std.proofs.lemmas.Nat.{div-add-mod', div-mul-add, mod-mul-add, le-div}
 use Rattle.grid_core.specs.Extent.{Extent}
 use Rattle.grid_core.specs.Candidates.{any_below}
 use Rattle.grid_core.proofs.CandidateLemmas.{any_below-some, any_below-here}
 use Rattle.fields_core.specs.Tents.{tent, touches, are_near}
+use Rattle.fields_core.specs.TentTouching.{IsTentAmong, IsWindow}
 use Rattle.std.proofs.lemmas.Grind.{common_steps}
 
 -- so many of the first cells of a line have a tent
@@ -32,42 +34,140 @@ line-all g line n m tents before long ge = before.same ∙ ap (count_by (tent g)
 near-parts : (a b : ℕ) → are_near a b ≡ true → (a ≤ b + 1) × (b ≤ a + 1)
 near-parts a b on = let w = and_parts (leb a (b + 1)) (leb b (a + 1)) on in (leb-true a (b + 1) w.0, leb-true b (a + 1) w.1)
 
-reach : (w a b : ℕ) → 0 < w → a / w ≤ b / w + 1 → a % w ≤ b % w + 1 → a ≤ b + w + 1
-reach w a b pos rows columns = grind (arith, common_steps, mul-le-mul_right)
+-- it lies in the row, and each of its cells is near
+record HasEnds (w a first end : ℕ) : Type 0 where
+  pub near_first : a ≤ first + 1
+  pub at_first : first ≤ a
+  pub at_end : a < end
+  pub near_end : end ≤ a + 2
+  pub row_first : a / w * w ≤ first
+  pub row_end : end ≤ a / w * w + w
 
-pub touch-reach : (size : Extent) (a b : ℕ) → 0 < size.w → touches size a b ≡ true → (a ≤ b + size.w + 1) × (b ≤ a + size.w + 1)
+-- a cell of the window, or of the same columns in the row above or below
+pub record IsNearWindow (w first end d : ℕ) : Type 0 where
+  pub side : ((first ≤ d) × (d < end)) ⊎ (((first - w ≤ d) × (d < end - w)) ⊎ ((first + w ≤ d) × (d < end + w)))
+
+not-same : (a b : ℕ) → not (eqb a b) ≡ true → a ≡ b → ⊥
+not-same a b off e = grind (arith, common_steps)
+
+near-from : (a b : ℕ) → a ≤ b + 1 → b ≤ a + 1 → are_near a b ≡ true
+near-from a b p q = and_from (leb a (b + 1)) (leb b (a + 1)) (le-leb a (b + 1) p) (le-leb b (a + 1) q)
+
+-- a cell of row v and column u is touched where both are near
+touch-from : (size : Extent) (a d v u : ℕ) → d ≡ v * size.w + u → u < size.w → (d ≡ a → ⊥) → a / size.w ≤ v + 1 → v ≤ a / size.w + 1 → a % size.w ≤ u + 1 → u ≤ a % size.w + 1 → touches size a d ≡ true
 unfolding touches
-touch-reach size a b pos on = grind (arith, common_steps, and_parts, near-parts, reach)
+touch-from size a d v u e lt other p q r s =
+    let row : d / size.w ≡ v = ap (λ n. n / size.w) e ∙ div-mul-add v size.w u lt in
+    let column : d % size.w ≡ u = ap (λ n. n % size.w) e ∙ mod-mul-add v size.w u lt in
+    rw (row, column) (grind (arith, common_steps, near-from, and_from, ne_eqb))
 
-pub far-apart : (size : Extent) (g : List ℕ) (a b : ℕ) → 0 < size.w → (a ≤ b + size.w + 1 → b ≤ a + size.w + 1 → ⊥) → (touches size a b && tent g b) ≡ false
-far-apart size g a b pos far = and_left (touches size a b) (tent g b) (false_from_ne_true (touches size a b) (λ on. let w = touch-reach size a b pos on in far w.0 w.1))
+row-before : (y w : ℕ) → 1 ≤ y → (y - 1) * w + w ≡ y * w
+row-before (suc v) w p = let e : suc v - 1 ≡ v = omega arith in rw e (omega arith)
+row-before zero w p = absurd (omega arith)
 
--- ---- two cells, by their rows and columns
-pub touch-rows : (size : Extent) (a b ra rb : ℕ) (close : Bool) → ra ≡ a / size.w → rb ≡ b / size.w → close ≡ are_near ra rb → close ≡ false → false ≡ touches size a b
-unfolding touches
-touch-rows size a b ra rb close ea eb is far = grind (arith, common_steps, false_from_ne_true, and_parts)
-
-pub touch-columns : (size : Extent) (a b ra rb ca cb : ℕ) (rows columns : Bool) → (a ≡ b → ⊥) → ra ≡ a / size.w → rb ≡ b / size.w → ca ≡ a % size.w → cb ≡ b % size.w
-    → rows ≡ are_near ra rb → rows ≡ true → columns ≡ are_near ca cb → columns ≡ touches size a b
-unfolding touches
-touch-columns size a b ra rb ca cb rows columns other ea eb fa fb is near at = grind (arith, common_steps, ne_eqb)
-
--- ---- the cells before and after those that a cell can reach
-pub none-below : (test : ℕ → Bool) (n : ℕ) → ((k : ℕ) → k < n → test k ≡ false) → false ≡ any_below test n
+none-below : (test : ℕ → Bool) (n : ℕ) → ((k : ℕ) → k < n → test k ≡ false) → false ≡ any_below test n
 none-below test n none = sym (false_from_ne_true (any_below test n) (λ on. let w = any_below-some test n on in true≢false (sym w.2 ∙ none w.0 w.1)))
+
+-- a row that ends past the first is not the first
+second-row : (y w : ℕ) → w < y * w + w → 1 ≤ y
+second-row zero w lt = absurd (omega arith)
+second-row (suc y) w lt = omega arith
+
+one-row : (y w : ℕ) → 1 ≤ y → w ≤ y * w
+one-row zero w p = absurd (omega arith)
+one-row (suc y) w p = omega arith
+
+module _ (size : Extent) (a first end : ℕ) (pos : 0 < size.w) (window : IsWindow size.w a first end) where
+  here : a ≡ a / size.w * size.w + a % size.w
+  here = sym (div-add-mod' a size.w)
+
+  low : a % size.w < size.w
+  low = mod-lt a pos
+
+  ends : HasEnds size.w a first end
+  ends = elim window.left [
+    | inl l ↦ elim window.right [
+      | inl r ↦ record { near_first = omega arith; at_first = omega arith; at_end = omega arith; near_end = omega arith; row_first = omega (arith, here); row_end = omega (arith, here) }
+      | inr r ↦ record { near_first = omega arith; at_first = omega arith; at_end = omega arith; near_end = omega arith; row_first = omega (arith, here); row_end = omega (arith, here, low) }
+    ]
+    | inr l ↦ elim window.right [
+      | inl r ↦ record { near_first = omega arith; at_first = omega arith; at_end = omega arith; near_end = omega arith; row_first = omega (arith, here); row_end = omega (arith, here) }
+      | inr r ↦ record { near_first = omega arith; at_first = omega arith; at_end = omega arith; near_end = omega arith; row_first = omega (arith, here); row_end = omega (arith, here, low) }
+    ]
+  ]
+
+  pub touch-beside : (d : ℕ) → first ≤ d → d < end → (d ≡ a → ⊥) → touches size a d ≡ true
+  touch-beside d p q other =
+      let e = ends in
+      touch-from size a d (a / size.w) (d - a / size.w * size.w) (omega arith) (omega arith) other (omega arith) (omega arith) (omega (arith, here)) (omega (arith, here))
+
+  pub touch-above : (d : ℕ) → first - size.w ≤ d → d < end - size.w → touches size a d ≡ true
+  touch-above d p q =
+      let e = ends in
+      let row : 1 ≤ a / size.w = second-row (a / size.w) size.w (omega arith) in
+      let back = row-before (a / size.w) size.w row in
+      let third : size.w ≤ first = omega (arith, one-row (a / size.w) size.w row) in
+      touch-from size a d (a / size.w - 1) (d - (a / size.w - 1) * size.w) (omega arith) (omega arith) (omega arith) (omega arith) (omega arith) (omega (arith, here)) (omega (arith, here))
+
+  pub touch-below : (d : ℕ) → first + size.w ≤ d → d < end + size.w → touches size a d ≡ true
+  touch-below d p q =
+      let e = ends in
+      let next : (a / size.w + 1) * size.w ≡ a / size.w * size.w + size.w = omega arith in
+      touch-from size a d (a / size.w + 1) (d - (a / size.w + 1) * size.w) (omega arith) (omega arith) (omega arith) (omega arith) (omega arith) (omega (arith, here)) (omega (arith, here))
+
+  -- the cells of another row at the same columns
+  inside : (u : ℕ) → u < size.w → a % size.w ≤ u + 1 → u ≤ a % size.w + 1 → (first ≤ a / size.w * size.w + u) × (a / size.w * size.w + u < end)
+  inside u lt p q = (elim window.left [ inl l ↦ omega (arith, here) | inr l ↦ omega (arith, here) ], elim window.right [ inl r ↦ omega (arith, here) | inr r ↦ omega (arith, here) ])
+
+  -- a cell that is touched is another one of the three windows
+  pub is-touched : (d : ℕ) → touches size a d ≡ true → (d ≡ a → ⊥) × IsNearWindow size.w first end d
+  unfolding touches
+  is-touched d on =
+      let w = and_parts (not (eqb a d)) _ on in
+      let v = and_parts (are_near (a / size.w) (d / size.w)) _ w.1 in
+      let rows = near-parts (a / size.w) (d / size.w) v.0 in
+      let columns = near-parts (a % size.w) (d % size.w) v.1 in
+      let there : d ≡ d / size.w * size.w + d % size.w = sym (div-add-mod' d size.w) in
+      let at = inside (d % size.w) (mod-lt d pos) (omega arith) (omega arith) in (
+        (λ e. not-same a d w.0 (sym e)),
+        elim (cases_lt (d / size.w) (a / size.w)) [
+          | inl less ↦ let up = row-before (a / size.w) size.w (omega arith) in
+              let same : d / size.w ≡ a / size.w - 1 = omega arith in
+              let back : d / size.w * size.w + size.w ≡ a / size.w * size.w = rw same up in
+              record { side = inr (inl (omega (arith, there), omega (arith, there))) }
+          | inr more ↦ elim (cases_lt (a / size.w) (d / size.w)) [
+            | inl less ↦ let next : d / size.w * size.w ≡ (a / size.w + 1) * size.w = ap (λ n. n * size.w) (omega arith) in
+                record { side = inr (inr (omega (arith, there), omega (arith, there))) }
+            | inr rest ↦ let next : d / size.w * size.w ≡ a / size.w * size.w = ap (λ n. n * size.w) (omega arith) in
+                record { side = inl (omega (arith, there), omega (arith, there)) }
+          ]
+        ],
+      )
+
+  module _ (g : List ℕ) (n : ℕ) where
+    pub touched : (from to : ℕ) (found : Bool) → IsTentAmong g a from to found → found ≡ true → to ≤ n → ((d : ℕ) → from ≤ d → d < to → (d ≡ a → ⊥) → touches size a d ≡ true)
+        → found ≡ any_below (λ d. touches size a d && tent g d) n
+    touched from to found among is within near =
+        let w = among.some is in
+        is ∙ sym (any_below-here (λ d. touches size a d && tent g d) n w.0 (omega (arith, w.2)) (and_from _ _ (near w.0 w.1 w.2 w.3) w.4))
+
+    pub untouched : (from to last : ℕ) (found : Bool) → IsTentAmong g a first end false → IsTentAmong g a from to false → IsTentAmong g a (first + size.w) last found
+        → from ≡ first - size.w → to ≡ end - size.w → last ≡ min n (end + size.w) → found ≡ false → found ≡ any_below (λ d. touches size a d && tent g d) n
+    untouched from to last found beside above below ef et el off = off ∙ none-below _ n (λ d lt. and_left-or d lt)
+      where
+        and_left-or : (d : ℕ) → d < n → (touches size a d && tent g d) ≡ false
+        and_left-or d lt = elim (cases_Bool (touches size a d)) [
+          | inr apart ↦ and_left (touches size a d) (tent g d) apart
+          | inl on ↦
+              let w = is-touched d on in
+              rw on (elim w.1.side [
+                | inl s ↦ beside.none refl d s.0 s.1 w.0
+                | inr r ↦ elim r [
+                  | inl s ↦ above.none refl d (omega (arith, s.0)) (omega (arith, s.1)) w.0
+                  | inr s ↦ below.none off d s.0 (omega (arith, s.1)) w.0
+                ]
+              ])
+        ]
 
 pub some-wide : (size : Extent) (a : ℕ) → a < size.w * size.h → 0 < size.w
 some-wide size a lt = grind (arith, common_steps)
-
-pub far-below : (size : Extent) (g : List ℕ) (a w d : ℕ) → w ≡ size.w → a < size.w * size.h → d < a - (w + 1) → (touches size a d && tent g d) ≡ false
-far-below size g a w d e lt far = far-apart size g a d (some-wide size a lt) (λ x y. omega arith)
-
-far-above : (size : Extent) (g : List ℕ) (a w d : ℕ) → w ≡ size.w → a < size.w * size.h → a + (w + 1) < d → (touches size a d && tent g d) ≡ false
-far-above size g a w d e lt far = far-apart size g a d (some-wide size a lt) (λ x y. omega arith)
-
-pub none-past : (size : Extent) (g : List ℕ) (a w n at : ℕ) → w ≡ size.w → a < size.w * size.h → a + (w + 1) < at → ((d : ℕ) → d < at → (touches size a d && tent g d) ≡ false)
-    → false ≡ any_below (λ d. touches size a d && tent g d) n
-none-past size g a w n at e lt far before = grind (arith, common_steps, none-below, cases_lt, far-above)
-
-pub some-touched : (size : Extent) (g : List ℕ) (a n d v : ℕ) → d < n → touches size a d ≡ true → v ≡ slice_index g d → v ≡ 1 → true ≡ any_below (λ d. touches size a d && tent g d) n
-some-touched size g a n d v lt on at one = sym (any_below-here (λ d. touches size a d && tent g d) n d lt (and_from _ _ on (eq-eqb (slice_index g d) 1 (sym at ∙ one))))

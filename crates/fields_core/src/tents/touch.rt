@@ -1,21 +1,13 @@
 //! Cells that share a side or a corner.
 #![tactic(auto, using(crate::proofs::LawSets::tent_touch_laws))]
 
-ghost use Rattle.std.specs.Prelude.{◌≡◌, ◌*◌, ◌/◌, ◌%◌, ◌<◌, ◌^◌, ◌&&◌};
+ghost use Rattle.std.specs.Prelude.{◌≡◌, ◌*◌, ◌/◌, ◌%◌, ◌<◌, ◌≤◌, ◌^◌, ◌&&◌, length};
 ghost use Rattle.grid_core.specs.Candidates.{any_below};
 ghost use Rattle.grid_core.specs.Grids.{IsGrid};
-ghost use Rattle.fields_core.specs.Tents.{are_near, tent, touches};
+ghost use Rattle.fields_core.specs.Tents.{tent, touches};
+ghost use Rattle.fields_core.specs.TentTouching.{IsTentAmong, IsWindow};
 
 use grid_core::{Grid, Size};
-
-/// Whether two numbers differ by one at most.
-fn are_close(a: usize, b: usize) -> bool
-    requires a_small { a < 2 ^ 32 }
-    requires b_small { b < 2 ^ 32 }
-    ensures { result ≡ are_near a b }
-{
-    a <= b + 1 && b <= a + 1
-}
 
 /// The row of a cell.
 pub(crate) fn row_in(size: Size, place: usize) -> usize
@@ -35,16 +27,32 @@ pub(crate) fn column_in(size: Size, place: usize) -> usize
     place % usize::from(size.w())
 }
 
-/// Whether two cells share a side or a corner.
-#[tactic(auto, using(crate::proofs::LawSets::tent_touch_laws), unfolding(crate::specs::Tents::touches))]
-fn are_touching(size: Size, a: usize, b: usize) -> bool
-    requires a_in { a < size.w * size.h }
-    requires b_in { b < size.w * size.h }
-    ensures { result ≡ touches size a b }
+/// Whether a cell but the place has a tent, of those from one cell to before another.
+fn has_tent_among(grid: &Grid, place: usize, from: usize, end: usize) -> bool
+    requires { end ≤ length grid.now }
+    ensures { IsTentAmong grid.now place from end result }
 {
-    a != b
-        && are_close(row_in(size, a), row_in(size, b))
-        && are_close(column_in(size, a), column_in(size, b))
+    for other in from..end {
+        if other != place && grid.get(other) == 1 {
+            return true;
+        }
+    }
+    false
+}
+
+/// The cells of the place's row that are no further from it than one column: the first, and the end.
+fn window(size: Size, place: usize) -> (usize, usize)
+    requires { place < size.w * size.h }
+    ensures window { IsWindow size.w place result.0 result.1 }
+    ensures within { result.1 ≤ size.w * size.h }
+{
+    let w = usize::from(size.w());
+    let column = place % w;
+    let first = if column > 0 { place - 1 } else { place };
+    if column + 1 < w {
+        return (first, place + 2);
+    }
+    (first, place + 1)
 }
 
 /// Whether the cell shares a side or a corner with another cell that has a tent. The grid has 1 at a tent and 0 elsewhere.
@@ -53,18 +61,10 @@ pub fn touches_tent(size: Size, grid: &Grid, place: usize) -> bool
     requires place_in { place < size.w * size.h }
     ensures { result ≡ any_below (λ d. touches size place d && tent grid.now d) (size.w * size.h) }
 {
-    let reach = usize::from(size.w()) + 1;
-    let cells = size.cells();
-    for other in place.saturating_sub(reach)..cells {
-        if other > place + reach {
-            return false;
-        }
-        if grid.get(other) != 1 {
-            continue;
-        }
-        if are_touching(size, place, other) {
-            return true;
-        }
-    }
-    false
+    let w = usize::from(size.w());
+    let (first, end) = window(size, place);
+    let last = size.cells().min(end + w);
+    has_tent_among(grid, place, first, end)
+        || has_tent_among(grid, place, first.saturating_sub(w), end.saturating_sub(w))
+        || has_tent_among(grid, place, first + w, last)
 }

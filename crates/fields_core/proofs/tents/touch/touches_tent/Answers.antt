@@ -1,13 +1,47 @@
-use Rattle.std.proofs.Common.{◌*◌, sym, ◌∙◌, arith}
-use Rattle.fields_core.proofs.TentLines.{none-past, some-touched}
+use Rattle.std.proofs.Common.{◌≡◌, ◌+◌, ◌-◌, ◌*◌, min, inl, inr, true≢false, sym, ap, ◌∙◌, arith}
+use Rattle.std.proofs.lemmas.Bool.{cases_Bool}
+use Rattle.fields_core.proofs.TentLines.{some-wide, touched, untouched, touch-beside, touch-above, touch-below}
+use Rattle.fields_core.proofs.tents.touch.touches_tent.Goals.{then-has_tent_among, else-has_tent_among}
 use Rattle.fields_core.proofs.tents.touch.touches_tent.Goals as goal
 
-pub returns-then-other-place : goal.returns-then-other-place
-returns-then-other-place c =
-    none-past c.args.size c.args.grid.now c.args.place c.from-reach.result (c.args.size.w * c.args.size.h) c.loop-other.other (c.from-reach.ensures ∙ c.w.ensures.value) c.requires.place_in c.if-other-place.true c.loop-other.invariant
+pub returns-then-has_tent_among-2 : goal.returns-then-has_tent_among-2
+returns-then-has_tent_among-2 c =
+    let size = c.args.size in
+    let a = c.args.place in
+    let n = size.w * size.h in
+    let pos = some-wide size a c.requires.place_in in
+    let window = c.window-first.ensures.window in
+    let within = c.window-first.ensures.within in
+    let w_is : c.from-w.result ≡ size.w = c.from-w.ensures ∙ c.w.ensures.value in
+    elim c.if-has_tent_among.branch [
+      | then-has_tent_among w ↦ w.value-is ∙ touched size a _ _ pos window c.args.grid.now n _ _ _ c.has_tent_among.ensures w.if-has_tent_among.true within (touch-beside size a _ _ pos window)
+      | else-has_tent_among w ↦
+          let first = w.saturating_sub.ensures ∙ ap (λ n. c.window-first.result.0 - n) w_is in
+          let end = w.saturating_sub-else-has_tent_among.ensures ∙ ap (λ n. c.window-first.result.1 - n) w_is in
+          w.value-is ∙ touched size a _ _ pos window c.args.grid.now n _ _ _ w.has_tent_among-else-has_tent_among.ensures (sym w.value-is ∙ c.if-has_tent_among-2.true) (omega arith)
+          (λ d p q _. touch-above size a _ _ pos window d (omega arith) (omega arith))
+    ]
 
-pub returns-then-are_touching : goal.returns-then-are_touching
-returns-then-are_touching c =
-    some-touched c.args.size c.args.grid.now c.args.place (c.args.size.w * c.args.size.h) c.loop-other.other c.get.result
-    (omega (arith, c.cells-cells.ensures.value, c.loop-other-test.true))
-    (sym c.are_touching.ensures ∙ c.if-are_touching.true) c.get.ensures c.if-get-ne1.false
+pub returns-else-has_tent_among-2 : goal.returns-else-has_tent_among-2
+returns-else-has_tent_among-2 c =
+    let size = c.args.size in
+    let a = c.args.place in
+    let n = size.w * size.h in
+    let pos = some-wide size a c.requires.place_in in
+    let window = c.window-first.ensures.window in
+    let w_is : c.from-w.result ≡ size.w = c.from-w.ensures ∙ c.w.ensures.value in
+    let found = c.has_tent_among-else-has_tent_among-2.result in
+    let below = rw w_is at c.has_tent_among-else-has_tent_among-2.ensures in
+    let last = c.min-last.ensures in
+    elim c.if-has_tent_among.branch [
+      | then-has_tent_among w ↦ absurd (true≢false (sym w.if-has_tent_among.true ∙ sym w.value-is ∙ c.if-has_tent_among-2.false))
+      | else-has_tent_among w ↦
+          let first = w.saturating_sub.ensures ∙ ap (λ n. c.window-first.result.0 - n) w_is in
+          let end = w.saturating_sub-else-has_tent_among.ensures ∙ ap (λ n. c.window-first.result.1 - n) w_is in
+          let beside = rw w.if-has_tent_among.false at c.has_tent_among.ensures in
+          let above = rw (sym w.value-is ∙ c.if-has_tent_among-2.false) at w.has_tent_among-else-has_tent_among.ensures in
+          elim (cases_Bool found) [
+            | inl on ↦ touched size a _ _ pos window c.args.grid.now n _ _ found below on (omega arith) (λ d p q _. touch-below size a _ _ pos window d p (omega arith))
+            | inr off ↦ untouched size a _ _ pos window c.args.grid.now n _ _ _ found beside above below first end (omega arith) off
+          ]
+    ]

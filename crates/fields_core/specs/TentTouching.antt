@@ -1,0 +1,16 @@
+-- Tents among the cells near a cell. No public contract uses these words.
+use Rattle.std.specs.Prelude.{◌≡◌, ℕ, ◌+◌, ◌%◌, ◌<◌, ◌≤◌, ◌⊎◌, Bool, true, false, List}
+use Rattle.fields_core.specs.Tents.{tent}
+
+-- whether a cell but the place has a tent, of those from one cell to before another
+pub record IsTentAmong (g : List ℕ) (place from end : ℕ) (found : Bool) : Type 0 where
+  pub some : found ≡ true
+      → (d : ℕ) × (from ≤ d) × (d < end) × (d ≡ place → ⊥) × (tent g d ≡ true)
+  pub none : found ≡ false → (d : ℕ) → from ≤ d → d < end → (d ≡ place → ⊥)
+      → tent g d ≡ false
+
+-- from the first to before the end are the cells of a cell's row that are no further from it than
+-- one column
+pub record IsWindow (w a first end : ℕ) : Type 0 where
+  pub left : ((0 < a % w) × (first + 1 ≡ a)) ⊎ ((a % w ≡ 0) × (first ≡ a))
+  pub right : ((a % w + 1 < w) × (end ≡ a + 2)) ⊎ ((w ≤ a % w + 1) × (end ≡ a + 1))
