@@ -1,46 +1,46 @@
--- A board read cell by cell: the cells not yet read have 0 alone, so that no house counts them.
-use Rattle.std.proofs.Common.{◌≡◌, ℕ, zero, suc, ◌+◌, ◌<◌, ◌≤◌, ◌^◌, ◌&&◌, cond, eqb, ltb, List, length, refl, arith}
+-- A board read cell by cell: the cells not yet read have both values.
+use Rattle.std.proofs.Common.{◌≡◌, ℕ, zero, suc, ◌+◌, ◌<◌, ◌≤◌, ◌^◌, ◌&&◌, cond, true, eqb, ltb, List, length, refl, arith}
 use Rattle.std.proofs.Math.Path.{fun_ext}
 use Rattle.std.proofs.lemmas.Bool.{cases_lt, lt-ltb, le-ltb, ltb-true, eqb-true, and_parts, false_from_ne_true}
 use Rattle.grid_core.specs.Board.{Layout, has, cells_of}
 use Rattle.grid_core.specs.Candidates.{Candidates, IsWithin}
 use Rattle.grid_core.proofs.BoardLemmas.{has-within}
 use Rattle.engine_core.specs.Sets.{has_bit, IsBitsOf, IsChange}
-use Rattle.fields_core.specs.CountHouse.{CountHouse, IsHouse}
-use Rattle.fields_core.specs.Tallies.{IsTally, tally_at, AreTallied}
+use Rattle.fields_core.specs.CountHouse.{CountHouse, IsHouse, count_house_of}
+use Rattle.fields_core.specs.Tallies.{IsTally, open_tally, tally_at, AreTallied}
 use Rattle.fields_core.specs.declared.count.tally.Tally.{Tally}
 use Rattle.fields_core.proofs.CountTallies.{AreCounted}
-use Rattle.fields_core.proofs.PlaceLists.{count-none}
+use Rattle.fields_core.proofs.PlaceLists.{count-none, count-every}
 use Rattle.std.proofs.lemmas.Grind.{common_steps}
 
--- the bits of 0 alone
-first : (v : ℕ) → v < 2 → has_bit 1 v ≡ eqb v 0
-first zero low = refl
-first (suc zero) low = refl
-first (suc (suc v)) low = absurd (omega arith)
+-- the bits of both values
+both : (v : ℕ) → v < 2 → has_bit 3 v ≡ true
+both zero low = refl
+both (suc zero) low = refl
+both (suc (suc v)) low = absurd (omega arith)
 
 abbrev pub read_below : ℕ → Candidates → ℕ → Candidates
-read_below cells K n c v = cond (ltb c n) (K c v) (ltb c cells && eqb v 0)
+read_below cells K n c v = cond (ltb c n) (K c v) (ltb c cells && ltb v 2)
 
--- no cell is read: no house counts any
+-- no cell is read: each has both values
 module _ (cells : ℕ) (K : Candidates) where
-  unread : (c v : ℕ) → c < cells → read_below cells K 0 c v ≡ eqb v 0
-  unread c v lt = rw (le-ltb c 0 (omega arith), lt-ltb c cells lt) refl
+  unread : (c v : ℕ) → c < cells → v < 2 → read_below cells K 0 c v ≡ true
+  unread c v lt low = rw (le-ltb c 0 (omega arith), lt-ltb c cells lt, lt-ltb v 2 low) refl
 
-  unread-tally : (house : CountHouse) → IsHouse cells house → IsTally (read_below cells K 0) house.places (record { must = 0; may = 0; empty = 0 })
-  unread-tally house is = grind (arith, common_steps, count-none)
+  unread-tally : (house : CountHouse) → IsHouse cells house → IsTally (read_below cells K 0) house.places (open_tally house.places)
+  unread-tally house is = grind (arith, common_steps, unread, count-none, count-every)
 
   pub unread-tallied : (scopes : List (List ℕ)) (houses : List CountHouse) (tallies : List Tally) → AreCounted cells scopes houses → length houses ≤ length tallies
-      → ((h : ℕ) → h < length tallies → tally_at tallies h ≡ record { must = 0; may = 0; empty = 0 }) → AreTallied cells houses tallies (read_below cells K 0)
-  unread-tallied scopes houses tallies table long none = grind (arith, common_steps, and_parts, le-ltb, ltb-true, eqb-true, unread-tally)
+      → ((h : ℕ) → h < length houses → tally_at tallies h ≡ open_tally (count_house_of houses h).places) → AreTallied cells houses tallies (read_below cells K 0)
+  unread-tallied scopes houses tallies table long all = grind (arith, common_steps, and_parts, le-ltb, ltb-true, unread-tally)
 
   -- the next cell is read
-  pub read-change : (n bits : ℕ) → n < cells → IsWithin cells 2 K → IsBitsOf (K n) 2 bits → IsChange cells 2 (read_below cells K n) (read_below cells K (n + 1)) n 1 bits
-  read-change n bits lt within is = grind (arith, common_steps, le-ltb, lt-ltb, cases_lt)
+  pub read-change : (n bits : ℕ) → n < cells → IsWithin cells 2 K → IsBitsOf (K n) 2 bits → IsChange cells 2 (read_below cells K n) (read_below cells K (n + 1)) n 3 bits
+  read-change n bits lt within is = grind (arith, common_steps, le-ltb, lt-ltb, cases_lt, both)
 
-  -- the next cell has 0 alone, as if it were not read
-  pub read-zero : (n : ℕ) → n < cells → IsWithin cells 2 K → IsBitsOf (K n) 2 1 → read_below cells K n ≡ read_below cells K (n + 1)
-  read-zero n lt within is = grind (arith, common_steps, fun_ext, cases_lt, lt-ltb, le-ltb, false_from_ne_true, eqb-true)
+  -- the next cell has both values, as if it were not read
+  pub read-both : (n : ℕ) → n < cells → IsWithin cells 2 K → IsBitsOf (K n) 2 3 → read_below cells K n ≡ read_below cells K (n + 1)
+  read-both n lt within is = grind (arith, common_steps, fun_ext, cases_lt, lt-ltb, le-ltb, false_from_ne_true, both)
 
   -- all cells are read
   pub read-whole : (n : ℕ) → cells ≤ n → IsWithin cells 2 K → read_below cells K n ≡ K

@@ -32,6 +32,14 @@ count-some test xs d on passes = let some = ltb-true 0 (count_by test xs) (some-
 pub count-none : (test : ℕ → Bool) (xs : List ℕ) → ((d : ℕ) → has_place xs d ≡ true → test d ≡ false) → count_by test xs ≡ 0
 count-none test xs none = let few = ltb-false 0 (count_by test xs) (some-counted test xs ∙ any-none test xs none) in omega arith
 
+pub count-every : (test : ℕ → Bool) (xs : List ℕ) → ((d : ℕ) → has_place xs d ≡ true → test d ≡ true) → count_by test xs ≡ length xs
+unfolding has_place
+count-every test [] all = refl
+count-every test (x ∷ xs) all =
+    let rest = count-every test xs (λ d on. all d (grind (arith, common_steps, on))) in
+    let first = all x (grind (arith, common_steps)) in
+    omega (arith, count-cons test x xs, ap num first)
+
 -- of different places, one at most passes where no two do
 pub count-one : (test : ℕ → Bool) (xs : List ℕ) → AreDistinct xs → ((d e : ℕ) → has_place xs d ≡ true → has_place xs e ≡ true → test d ≡ true → test e ≡ true → d ≡ e) → count_by test xs ≤ 1
 count-one test xs distinct same = elim (cases_lt 1 (length (filter test xs))) [

@@ -48,6 +48,10 @@ kept_of t b bits =
 abbrev pub tally_at : List Tally → ℕ → Tally
 tally_at tallies h = slice_index_or tallies h (record { must = 0; may = 0; empty = 0 })
 
+-- the tally of cells that have both values
+abbrev pub open_tally : List ℕ → Tally
+open_tally places = record { must = 0; may = length places; empty = 0 }
+
 -- each house of a board of so many cells, of two values, is counted
 pub record AreTallied (cells : ℕ) (houses : List CountHouse) (tallies : List Tally)
     (K : Candidates)

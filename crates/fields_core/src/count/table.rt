@@ -10,7 +10,7 @@ ghost use Rattle.engine_core.specs.Sets.{IsChange};
 ghost use Rattle.engine_core.specs.Keeping.{AreSetsOf, IsKept};
 ghost use Rattle.engine_core.specs.Waiting.{words_of, is_waiting, AreCalled};
 ghost use Rattle.fields_core.specs.CountHouse.{CountedHouses, IsHouse, AreHouses, count_house_of, strikes_of, after_house, table_puzzle};
-ghost use Rattle.fields_core.specs.Tallies.{AreTalliesOf};
+ghost use Rattle.fields_core.specs.Tallies.{AreTalliesOf, open_tally, tally_at};
 ghost use Rattle.fields_core.specs.CountLists.{bounded, bounds_of};
 
 use crate::count::list::{Bounds, CountList};
@@ -72,6 +72,7 @@ impl CountTable {
         ensures places { result.now ≡ (count_house_of self.now.houses house).places }
         ensures within { (k : ℕ) → k < length result.now
             → slice_index result.now k < self.now.cells }
+        ensures few { length result.now < 2 ^ 32 }
     {
         self.houses.places(house)
     }
@@ -177,11 +178,23 @@ impl CountTable {
     pub(crate) fn tallies(&self, alloc: Global) -> Result<Vec<Tally>, AllocError>
         ensures { IfOk result (λ tallies. length tallies.items ≡ length self.now.houses) }
     {
-        vec![in alloc; Tally::none(); self.len()]
+        vec![in alloc; Tally::of_open(0); self.len()]
     }
 
-    /// Counts the cells of each house: none where each cell has 0 alone, and then one cell after the
-    /// other has its own set, if that is another.
+    /// Counts the cells of each house as if each of them had both values.
+    fn count_open(&self, tallies: &mut [Tally])
+        requires { length self.now.houses ≤ length tallies.old }
+        ensures counted { (h : ℕ) → h < length self.now.houses
+            → tally_at tallies.new h ≡ open_tally (count_house_of self.now.houses h).places }
+        ensures as_many { length tallies.new ≡ length tallies.old }
+    {
+        for house in 0..self.len() {
+            tallies[house] = Tally::of_open(self.places(house).len() as u32);
+        }
+    }
+
+    /// Counts the cells of each house: as if each had both values, and then one cell after the other has its own set, if
+    /// that is another.
     pub(crate) fn follow(&self, board: &Board, tallies: &mut [Tally])
         requires cells { cells_of board.now ≡ self.now.cells }
         requires values { board.now.values ≡ 2 }
@@ -189,11 +202,11 @@ impl CountTable {
         ensures tallied { AreTalliesOf self.now tallies.new (has board.now) }
         ensures as_many { length tallies.new ≡ length tallies.old }
     {
-        tallies.fill(Tally::none());
+        self.count_open(tallies);
         for place in 0..self.houses.cells() {
             let bits = board.bits(place);
-            if bits != 1 {
-                self.change(place, 1, bits, tallies);
+            if bits != 3 {
+                self.change(place, 3, bits, tallies);
             }
         }
     }

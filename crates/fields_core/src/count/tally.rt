@@ -25,13 +25,13 @@ fn number(holds: bool) -> u32
 }
 
 impl Tally {
-    /// Of no cell.
-    pub(crate) fn none() -> Tally
-        ensures { result ≡ record { must = 0; may = 0; empty = 0 } }
+    /// Of so many cells that have both values.
+    pub(crate) fn of_open(cells: u32) -> Tally
+        ensures { result ≡ record { must = 0; may = cells; empty = 0 } }
     {
         Tally {
             must: 0,
-            may: 0,
+            may: cells,
             empty: 0,
         }
     }

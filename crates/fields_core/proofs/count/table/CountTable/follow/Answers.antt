@@ -1,22 +1,18 @@
-use Rattle.std.proofs.Common.{◌≡◌, ◌<◌, length, replicate, subst, ap, ◌∙◌, arith, rules}
-use Rattle.std.proofs.lemmas.List.{get_or-replicate}
+use Rattle.std.proofs.Common.{◌≡◌, ◌<◌, length, subst, ap, ◌∙◌, arith}
 use Rattle.grid_core.specs.Board.{has}
 use Rattle.fields_core.specs.CountHouse.{CountedHouses}
-use Rattle.fields_core.specs.Tallies.{tally_at, AreTallied}
+use Rattle.fields_core.specs.Tallies.{AreTallied}
 use Rattle.fields_core.proofs.CountListLemmas.{counted-table}
-use Rattle.fields_core.proofs.CountFollow.{board-within, bits-are, unread-tallied, read-change, read-zero, read-whole}
+use Rattle.fields_core.proofs.CountFollow.{board-within, bits-are, unread-tallied, read-change, read-both, read-whole}
 use Rattle.fields_core.proofs.count.table.CountTable.follow.Goals as goal
-use Rattle.fields_core.proofs.count.table.CountTable.follow.Goals.{then-bits-ne1, else-bits-ne1}
+use Rattle.fields_core.proofs.count.table.CountTable.follow.Goals.{then-bits-ne3, else-bits-ne3}
 
 pub loop-place-init : goal.loop-place-init
-loop-place-init c =
-    let made : c.fill.new.self ≡ replicate (length c.args.tallies.now) c.none.result = search rules in
-    let long : length c.fill.new.self ≡ length c.args.tallies.now = c.fill.ensures.len in (
-      unread-tallied c.args.self.now.cells (has c.args.board.now) _ c.args.self.now.houses c.fill.new.self
-          (counted-table _ _ _ c.args.self.now c.self.invariant.0 c.self.invariant.1 c.self.view_is) (omega (arith, long, c.requires.long))
-          (λ h lt. ap (λ l. tally_at l h) made ∙ get_or-replicate (length c.args.tallies.now) h c.none.result (record { must = 0; may = 0; empty = 0 }) (omega (arith, long)) ∙ c.none.ensures),
-      long,
-    )
+loop-place-init c = (
+  unread-tallied c.args.self.now.cells (has c.args.board.now) _ c.args.self.now.houses c.count_open.new.tallies
+      (counted-table _ _ _ c.args.self.now c.self.invariant.0 c.self.invariant.1 c.self.view_is) (omega (arith, c.count_open.ensures.as_many, c.requires.long)) c.count_open.ensures.counted,
+  c.count_open.ensures.as_many,
+)
 
 pub change-requires : goal.change-requires
 change-requires c = (
@@ -35,14 +31,14 @@ loop-place-preserved c =
     omega (arith, c.loop-place-test.true, c.cells-place-end.ensures, ap (λ (t : CountedHouses). t.cells) c.self.view_is) in
     let within = board-within c.args.board.now c.args.self.now.cells c.requires.cells c.requires.values in
     let bits = bits-are c.args.board.now c.loop-place.place c.bits-bits.result c.requires.values c.bits-bits.ensures.small c.bits-bits.ensures.same in
-    elim c.if-bits-ne1.branch [
-      | then-bits-ne1 w ↦ rw w.tallies-is (
+    elim c.if-bits-ne3.branch [
+      | then-bits-ne3 w ↦ rw w.tallies-is (
         w.change.ensures.tallied _ _ c.loop-place.invariant.0 (read-change c.args.self.now.cells (has c.args.board.now) c.loop-place.place c.bits-bits.result lt within bits),
         w.change.ensures.as_many ∙ c.loop-place.invariant.1,
       )
-      | else-bits-ne1 w ↦ rw w.tallies-is (
+      | else-bits-ne3 w ↦ rw w.tallies-is (
         subst (AreTallied c.args.self.now.cells c.args.self.now.houses c.loop-place.tallies)
-            (read-zero c.args.self.now.cells (has c.args.board.now) c.loop-place.place lt within (rw w.if-bits-ne1.false at bits)) c.loop-place.invariant.0,
+            (read-both c.args.self.now.cells (has c.args.board.now) c.loop-place.place lt within (rw w.if-bits-ne3.false at bits)) c.loop-place.invariant.0,
         c.loop-place.invariant.1,
       )
     ]

@@ -14,3 +14,8 @@ pub returns-clause-within : goal.returns-clause-within
 returns-clause-within c = λ k lt.
     let house = (counted-table _ _ _ c.args.self.now c.self.invariant.0 c.self.invariant.1 c.self.view_is).each c.args.house c.requires in
     rw (returns-clause-places c) (house.within _ (has_place-here _ k (rw (returns-clause-places c) at lt)))
+
+pub returns-clause-few : goal.returns-clause-few
+returns-clause-few c =
+    let house = (counted-table _ _ _ c.args.self.now c.self.invariant.0 c.self.invariant.1 c.self.view_is).each c.args.house c.requires in
+    rw (returns-clause-places c) house.few_places
