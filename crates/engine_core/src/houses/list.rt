@@ -66,7 +66,8 @@ impl HouseList {
     pub fn push_list(&mut self, house: usize) -> Result<(), AllocError>
         requires { house < length self.old.closed }
         ensures { OnOk result (self.new ≡ record self.old {
-            begun = self.old.begun ++ slice_index_or self.old.closed house [] }) }
+          begun = self.old.begun ++ slice_index_or self.old.closed house [];
+        }) }
     {
         let from = begin(&self.ends, house);
         let end = self.ends[house] as usize;
@@ -85,8 +86,9 @@ impl HouseList {
     pub fn push_others(&mut self, house: usize, but: usize) -> Result<(), AllocError>
         requires { house < length self.old.closed }
         ensures { OnOk result (self.new ≡ record self.old {
-            begun = self.old.begun
-                ++ filter (λ d. not (d == but)) (slice_index_or self.old.closed house []) }) }
+          begun = self.old.begun
+              ++ filter (λ d. not (d == but)) (slice_index_or self.old.closed house []);
+        }) }
     {
         let from = begin(&self.ends, house);
         let end = self.ends[house] as usize;
@@ -171,12 +173,7 @@ fn has_room(list: &[u32], more: usize) -> bool
 }
 
 /// Adds the places from one number of the list to another at its end once more, but for the place `but`.
-fn copy_others(
-    places: &mut Vec<u32>,
-    from: usize,
-    end: usize,
-    but: usize,
-) -> Result<(), AllocError>
+fn copy_others(places: &mut Vec<u32>, from: usize, end: usize, but: usize) -> Result<(), AllocError>
     requires ascending { from ≤ end }
     requires within { end ≤ length places.old.items }
     ensures copied { OnOk result (places.new.items ≡ places.old.items

@@ -15,11 +15,11 @@ use grid_core::Board;
 use std::alloc::{AllocError, Global};
 use std::marker::Model;
 
-/// A board and its trail.
+/// A board and its trail: the cells that changed, in four bytes each, and their sets.
 #[derive(Drop)]
 pub(crate) struct Trailed {
     board: Board,
-    changes: Vec<(usize, u32)>,
+    changes: Vec<(u32, u32)>,
     len: usize,
 }
 
@@ -50,7 +50,7 @@ impl Trailed {
     {
         Ok(Trailed {
             board: Board::new(alloc, cells, values)?,
-            changes: vec![in alloc; (0usize, 0u32); cells * usize::from(values)]?,
+            changes: vec![in alloc; (0u32, 0u32); cells * usize::from(values)]?,
             len: 0,
         })
     }
@@ -83,7 +83,7 @@ impl Trailed {
         ensures place { result ≡ (change_at self.now.changes number).0 }
         ensures within { result < cells_of self.now.board }
     {
-        self.changes[number].0
+        self.changes[number].0 as usize
     }
 
     /// Begins with the board that a search starts from.
@@ -202,7 +202,7 @@ impl Trailed {
         ensures keeps { StillServes R.serves scratch.old scratch.new }
     {
         self.board.retain(place, left);
-        self.changes[self.len] = (place, before);
+        self.changes[self.len] = (place as u32, before);
         self.len += 1;
         rules.change(place, before, left, scratch);
     }
@@ -242,7 +242,8 @@ impl Trailed {
     {
         while self.len > mark {
             self.len -= 1;
-            let (place, set) = self.changes[self.len];
+            let (cell, set) = self.changes[self.len];
+            let place = cell as usize;
             let before = cell_bits(&self.board, place);
             self.board.restore_set(place, set);
             rules.change(place, before, cell_bits(&self.board, place), scratch);
