@@ -2,7 +2,7 @@
 
 use crate::light_up::cells::{cells, columns, is_white, rows};
 use gameid_core::LightPuzzle;
-use grid_core::{column_place, row_place};
+use grid_core::row_place;
 
 /// How many houses there are, and how many cells they have together, or somewhat more.
 #[derive(Clone, Copy)]
@@ -12,14 +12,9 @@ pub(crate) struct Sizes {
 }
 
 impl Sizes {
-    /// Counts a cell of a line after so many white cells, and says how many then stand in a row. A
-    /// longer run is the house of one cell more, and each of its cells sees one more. A black cell
-    /// has up to two cells beside it in a line.
-    fn count(&mut self, run: usize, white: bool) -> usize {
-        if !white {
-            self.cells = self.cells.saturating_add(2);
-            return 0;
-        }
+    /// Counts a white cell after so many others of its run, and says how many the run then has. A
+    /// longer run is the house of one cell more, and each of its cells sees one more.
+    fn lengthen(&mut self, run: usize) -> usize {
         if run == 0 {
             self.houses = self.houses.saturating_add(1);
         }
@@ -28,23 +23,26 @@ impl Sizes {
         longer
     }
 
-    /// Of all houses: those of the runs, and one for each other cell.
+    /// Of all houses: those of the runs, and one for each other cell. A black cell has up to four
+    /// cells beside it.
     pub(crate) fn of(puzzle: &LightPuzzle) -> Sizes {
         let size = puzzle.size();
         let mut sizes = Sizes {
             houses: cells(puzzle),
             cells: 0,
         };
+        let mut down = [0; 120];
         for y in 0..rows(puzzle) {
-            let mut run = 0;
+            let mut row = 0;
             for x in 0..columns(puzzle) {
-                run = sizes.count(run, is_white(puzzle, row_place(size, y, x)));
-            }
-        }
-        for x in 0..columns(puzzle) {
-            let mut run = 0;
-            for y in 0..rows(puzzle) {
-                run = sizes.count(run, is_white(puzzle, column_place(size, x, y)));
+                if is_white(puzzle, row_place(size, y, x)) {
+                    row = sizes.lengthen(row);
+                    down[x] = sizes.lengthen(down[x]);
+                } else {
+                    sizes.cells = sizes.cells.saturating_add(4);
+                    row = 0;
+                    down[x] = 0;
+                }
             }
         }
         sizes
