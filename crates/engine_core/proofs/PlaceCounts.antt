@@ -1,7 +1,7 @@
 -- How many of some lists have a place, by the places of all.
-use Rattle.engine_core.proofs.Common.{AreDifferent, AreScopes, List, [], ap, arith, cases_Bool, cases_eq, cases_lt, common_steps, cond, eq-eqb, eqb, eqb-true, false, get_or, get_or-set_at}
-use Rattle.engine_core.proofs.Common.{has_place, inl, inr, length, length-append, ne_eqb, number_at, refl, scope_of, set, slice_index, suc, sum_by, sum_by-cons, sym, take, true, zero, ℕ}
-use Rattle.engine_core.proofs.Common.{◌++◌, ◌+◌, ◌-◌, ◌<◌, ◌||◌, ◌∙◌, ◌∷◌, ◌≡◌, ◌≤◌}
+use Rattle.engine_core.proofs.Common.{AreScopes, List, [], ap, arith, cases_eq, cases_lt, common_steps, cond, eq-eqb, eqb, false}
+use Rattle.engine_core.proofs.Common.{has_place, inl, inr, length, length-append, ne_eqb, number_at, refl, set, slice_index, suc, sum_by, sum_by-cons, sym, take, zero, ℕ}
+use Rattle.engine_core.proofs.Common.{◌+◌, ◌-◌, ◌<◌, ◌∙◌, ◌∷◌, ◌≡◌, ◌≤◌}
 use Rattle.std.specs.List.{concat, count_by}
 use Rattle.std.proofs.lemmas.List.{get_or_append_left, get_or-append_right}
 use Rattle.std.proofs.lemmas.List.Sums.{count_by-le-length, count_by_more_no, count_by_more_yes, sum_by-append}

@@ -127,9 +127,7 @@ module _ (K : Candidates) (places : List ℕ) (k v : ℕ) (different : AreDiffer
       ∙ ap (λ n. must_of K places + n) (by v low refl)
     where
       by : (u : ℕ) → u < 2 → u ≡ v → num (not (fixed cell 0)) ≡ u
-      by zero l e = rw (own-is _ e) refl
-      by (suc zero) l e = rw (own-alone 0 (λ z. absurd (omega arith))) refl
-      by (suc (suc u)) l e = absurd (omega arith)
+      by u l e = grind (arith, common_steps, cases_eq u 0, own-is, own-alone)
 
   may-fixed : may_of fixed places + num (K cell 1) ≡ may_of K places + v
   may-fixed =
@@ -137,9 +135,7 @@ module _ (K : Candidates) (places : List ℕ) (k v : ℕ) (different : AreDiffer
       ∙ ap (λ n. may_of K places + n) (by v low refl)
     where
       by : (u : ℕ) → u < 2 → u ≡ v → num (fixed cell 1) ≡ u
-      by zero l e = rw (own-alone 1 (λ o. absurd (omega arith))) refl
-      by (suc zero) l e = rw (own-is _ e) refl
-      by (suc (suc u)) l e = absurd (omega arith)
+      by u l e = grind (arith, common_steps, cases_eq u 0, own-is, own-alone)
 
   full-fixed : IsFull K places → IsFull fixed places
   full-fixed full j lj = grind (arith, common_steps, cases_eq, slice_index, own-is)

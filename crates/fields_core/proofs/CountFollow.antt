@@ -1,7 +1,7 @@
 -- A board read cell by cell: the cells not yet read have both values.
-use Rattle.std.proofs.Common.{◌≡◌, ℕ, zero, suc, ◌+◌, ◌<◌, ◌≤◌, ◌^◌, ◌&&◌, cond, true, eqb, ltb, List, length, refl, arith}
+use Rattle.std.proofs.Common.{◌≡◌, ℕ, ◌+◌, ◌<◌, ◌≤◌, ◌^◌, ◌&&◌, cond, true, ltb, List, length, refl, arith}
 use Rattle.std.proofs.Math.Path.{fun_ext}
-use Rattle.std.proofs.lemmas.Bool.{cases_lt, lt-ltb, le-ltb, ltb-true, eqb-true, and_parts, false_from_ne_true}
+use Rattle.std.proofs.lemmas.Bool.{cases_lt, lt-ltb, le-ltb, ltb-true, and_parts, false_from_ne_true, cases_eq}
 use Rattle.grid_core.specs.Board.{Layout, has, cells_of}
 use Rattle.grid_core.specs.Candidates.{Candidates, IsWithin}
 use Rattle.grid_core.proofs.BoardLemmas.{has-within}
@@ -15,9 +15,7 @@ use Rattle.std.proofs.lemmas.Grind.{common_steps}
 
 -- the bits of both values
 both : (v : ℕ) → v < 2 → has_bit 3 v ≡ true
-both zero low = refl
-both (suc zero) low = refl
-both (suc (suc v)) low = absurd (omega arith)
+both v low = grind (arith, common_steps, cases_eq v 0, cases_eq v 1)
 
 abbrev pub read_below : ℕ → Candidates → ℕ → Candidates
 read_below cells K n c v = cond (ltb c n) (K c v) (ltb c cells && ltb v 2)

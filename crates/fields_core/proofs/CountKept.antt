@@ -87,8 +87,7 @@ module _ (cells : ℕ) (house : CountHouse) (K : Candidates) (t : Tally) (is : I
       at_bound u = ((eqb u 1) && (eqb t.must house.most)) || ((eqb u 0) && (eqb t.may house.least))
 
       true-by : (b : Bool) → (b ≡ false → ⊥) → b ≡ true
-      true-by true never = refl
-      true-by false never = absurd (never refl)
+      true-by b never = grind (arith, common_steps, cases_Bool b)
 
       by : K (at k) v ≡ true → lacks_filling t (bounds_of house) ≡ false → ((is_open K (at k) && at_bound v) ≡ true) ⊎ ((is_open K (at k) && at_bound v) ≡ false) → not (struck k v) ≡ not (is_open K (at k) && at_bound v)
       by on fills (inl reached) = ap not (true-by (struck k v) (λ off. gone (shown_from_test _ _ k v off)) ∙ sym reached)
@@ -165,11 +164,7 @@ module _ (cells : ℕ) (house : CountHouse) (K : Candidates) (t : Tally) (is : I
 
 -- ---- the bits of a cell
 all-set : (bits : ℕ) → bits < 4 → eqb bits 3 ≡ (has_bit bits 0 && has_bit bits 1)
-all-set zero lt = refl
-all-set (suc zero) lt = refl
-all-set (suc (suc zero)) lt = refl
-all-set (suc (suc (suc zero))) lt = refl
-all-set (suc (suc (suc (suc bits)))) lt = absurd (omega arith)
+all-set bits lt = grind (arith, common_steps, cases_eq bits 0, cases_eq bits 1, cases_eq bits 2, cases_eq bits 3)
 
 kept-table : (none few most : Bool) (bits v : ℕ) → bits < 4 → v < 2
     → has_bit (cond none 0 (cond (eqb bits 3) (num (not few) + 2 * num (not most)) bits)) v ≡ (has_bit bits v && (not none && not (eqb bits 3 && (((eqb v 1) && most) || ((eqb v 0) && few)))))
@@ -222,9 +217,7 @@ module _ (cells : ℕ) (house : CountHouse) (K : Candidates) (t : Tally) (is : I
       same v = before.rest (slice_index house.places n) v (λ k low e. let d = is.different k n (omega arith) lt e in absurd (omega arith))
 
       by : (a b s : Bool) → b ≡ (a && s) → (a && not (true && not b)) ≡ (a && s)
-      by true true s e = e
-      by true false s e = e
-      by false b s e = refl
+      by a b s e = grind (arith, common_steps, cases_Bool a)
 
   pub kept-whole : (L : Candidates) (n : ℕ) → IsTally K house.places t → IsWithin cells 2 K → IsKeptBelow house t K L n → n ≤ length house.places → length house.places ≤ n → L ≡ after_house house K
   kept-whole L n tally within below le ge = after-by cells house K t is tally L within (λ k v lt low. below.here k v (omega arith) low)

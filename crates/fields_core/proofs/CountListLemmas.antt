@@ -1,6 +1,6 @@
 -- Lists of count houses, as they are made.
-use Rattle.std.proofs.Common.{◌≡◌, ℕ, zero, suc, ◌+◌, ◌<◌, ◌≤◌, List, [], ◌∷◌, ◌++◌, length, map, slice_index, Bool, Option, take, refl, sym, ap, subst, ◌∙◌, arith, add-one}
-use Rattle.std.proofs.lemmas.List.{append-nil, append_assoc, length-map, map-append, take_more, take_all}
+use Rattle.std.proofs.Common.{◌≡◌, ℕ, zero, suc, ◌+◌, List, [], ◌∷◌, ◌++◌, length, map, slice_index, Bool, Option, refl, sym, ap, subst, ◌∙◌, arith, add-one}
+use Rattle.std.proofs.lemmas.List.{append-nil, append_assoc, length-map, map-append}
 use Rattle.std.proofs.Math.Path.{fun_ext}
 use Rattle.engine_core.specs.Puzzle.{has_place, IsNext, IsKth}
 use Rattle.engine_core.specs.HouseIndex.{scope_of, AreScopes}
@@ -21,13 +21,6 @@ begun-more a b c xs ys p q = grind (arith, common_steps, append_assoc)
 
 pub begun-same : (a b : CountList) (xs ys : List ℕ) → IsBegun a b xs → xs ≡ ys → IsBegun a b ys
 begun-same a b xs ys p e = rw e at p
-
--- one more cell of a list
-pub begun-next : (a b c : CountList) (xs : List ℕ) (n x : ℕ) → n < length xs → x ≡ slice_index xs n → IsBegun a b (take n xs) → IsBegun b c (x ∷ []) → IsBegun a c (take (n + 1) xs)
-begun-next a b c xs n x lt at p q = begun-same a c (take n xs ++ x ∷ []) (take (n + 1) xs) (begun-more a b c (take n xs) (x ∷ []) p q) (ap (λ v. take n xs ++ v ∷ []) at ∙ sym (take_more xs n 0 lt))
-
-pub begun-all : (a b : CountList) (xs : List ℕ) (n : ℕ) → IsBegun a b (take n xs) → length xs ≤ n → IsBegun a b xs
-begun-all a b xs n p ge = begun-same a b (take n xs) xs p (take_all n xs ge)
 
 -- ---- more houses
 pub added-none : (list : CountList) (houses : List CountHouse) → list.list.begun ≡ [] → houses ≡ [] → IsAdded list list houses

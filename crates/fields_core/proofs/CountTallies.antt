@@ -1,8 +1,8 @@
 -- What is counted of the cells of count houses.
 use Rattle.std.proofs.lemmas.Grind.{common_steps}
-use Rattle.std.proofs.Common.{◌≡◌, ℕ, zero, suc, ◌+◌, ◌-◌, ◌<◌, ◌≤◌, ◌^◌, Bool, true, false, not, ◌&&◌, eqb, cond, List, length, slice_index, set, take, refl, sym, ◌∙◌, ap, ap₂, subst, inl, inr, arith}
+use Rattle.std.proofs.Common.{◌≡◌, ℕ, ◌+◌, ◌-◌, ◌<◌, ◌≤◌, ◌^◌, Bool, true, false, not, ◌&&◌, eqb, cond, List, length, slice_index, set, take, refl, sym, ◌∙◌, ap, ap₂, subst, inl, inr, arith}
 use Rattle.std.specs.List.{count_by}
-use Rattle.std.proofs.lemmas.Bool.{cases_Bool, cases_eq, true≢false, false≢true}
+use Rattle.std.proofs.lemmas.Bool.{cases_Bool, cases_eq, true≢false}
 use Rattle.std.proofs.lemmas.List.{length-set, get_or-set_same, get_or-set_other}
 use Rattle.std.proofs.lemmas.List.Sums.{sum_by_more, count_by-le-length}
 use Rattle.grid_core.specs.Candidates.{Candidates, IsWithin}
@@ -10,7 +10,7 @@ use Rattle.engine_core.specs.Puzzle.{has_place}
 use Rattle.engine_core.specs.PlaceLaws.{AreDistinct, distinct-from}
 use Rattle.engine_core.specs.HouseIndex.{scope_of, number_at, AreHousesAt}
 use Rattle.engine_core.proofs.IndexLemmas.{counted, numbered}
-use Rattle.engine_core.specs.Sets.{has_bit, IsChange}
+use Rattle.engine_core.specs.Sets.{has_bit, IsBitsOf, IsChange}
 use Rattle.fields_core.specs.Count.{is_empty}
 use Rattle.fields_core.specs.CountHouse.{CountHouse, IsHouse, count_house_of, strikes_of, after_house}
 use Rattle.fields_core.specs.Tallies.{IsTally, has_strikes, moved_tally, CanMove, tally_at, AreTallied}
@@ -46,36 +46,19 @@ tallied-whole K places n must may empty t ge = grind (arith, common_steps)
 
 -- no bit of two is set
 none-set : (bits : ℕ) → bits < 4 → eqb bits 0 ≡ (not (has_bit bits 0) && not (has_bit bits 1))
-none-set zero lt = refl
-none-set (suc zero) lt = refl
-none-set (suc (suc zero)) lt = refl
-none-set (suc (suc (suc zero))) lt = refl
-none-set (suc (suc (suc (suc bits)))) lt = absurd (omega arith)
+none-set bits lt = grind (arith, common_steps, cases_eq bits 0, cases_eq bits 1, cases_eq bits 2, cases_eq bits 3)
 
 -- one count after a cell changed
 one-moved : (p q : ℕ → Bool) (place : ℕ) → ((c : ℕ) → (c ≡ place → ⊥) → q c ≡ p c) → (places : List ℕ) → has_place places place ≡ true → AreDistinct places
     → (n a b : ℕ) → n ≡ count_by p places → a ≡ num (p place) → b ≡ num (q place) → (a ≤ n) × (n - a + b ≡ count_by q places)
 one-moved p q place others places on different n a b is before after = grind (arith, common_steps, count-there, count-at)
 
+-- what the bits of a cell count for
+bits-counted : (K : Candidates) (c bits : ℕ) → IsBitsOf (K c) 2 bits
+    → (num (not (has_bit bits 0)) ≡ num (not (K c 0))) × (num (has_bit bits 1) ≡ num (K c 1)) × (num (eqb bits 0) ≡ num (is_empty K c))
+bits-counted K c bits is = grind (arith, common_steps, none-set)
+
 module _ (cells : ℕ) (K L : Candidates) (place before after : ℕ) (change : IsChange cells 2 K L place before after) (places : List ℕ) (t : Tally) (is : IsTally K places t) where
-  must_before : num (not (has_bit before 0)) ≡ num (not (K place 0))
-  must_before = ap (λ b. num (not b)) (change.before_is.same 0 (omega arith))
-
-  must_after : num (not (has_bit after 0)) ≡ num (not (L place 0))
-  must_after = ap (λ b. num (not b)) (change.after_is.same 0 (omega arith))
-
-  may_before : num (has_bit before 1) ≡ num (K place 1)
-  may_before = ap num (change.before_is.same 1 (omega arith))
-
-  may_after : num (has_bit after 1) ≡ num (L place 1)
-  may_after = ap num (change.after_is.same 1 (omega arith))
-
-  empty_before : num (eqb before 0) ≡ num (is_empty K place)
-  empty_before = ap num (none-set before (let s = change.before_is.small in omega arith) ∙ ap₂ (λ a b. not a && not b) (change.before_is.same 0 (omega arith)) (change.before_is.same 1 (omega arith)))
-
-  empty_after : num (eqb after 0) ≡ num (is_empty L place)
-  empty_after = ap num (none-set after (let s = change.after_is.small in omega arith) ∙ ap₂ (λ a b. not a && not b) (change.after_is.same 0 (omega arith)) (change.after_is.same 1 (omega arith)))
-
   other : (c : ℕ) → (c ≡ place → ⊥) → (v : ℕ) → L c v ≡ K c v
   other c ne v = change.others c v ne
 
@@ -85,15 +68,15 @@ module _ (cells : ℕ) (K L : Candidates) (place before after : ℕ) (change : I
   module _ (on : has_place places place ≡ true) (different : AreDistinct places) where
     must_moved : (num (not (has_bit before 0)) ≤ t.must) × ((moved_tally t before after).must ≡ count_by (λ c. not (L c 0)) places)
     must_moved = one-moved (λ c. not (K c 0)) (λ c. not (L c 0)) place (λ c ne. ap not (other c ne 0))
-        places on different t.must _ _ is.must_is must_before must_after
+        places on different t.must _ _ is.must_is (bits-counted K place before change.before_is).0 (bits-counted L place after change.after_is).0
 
     may_moved : (num (has_bit before 1) ≤ t.may) × ((moved_tally t before after).may ≡ count_by (λ c. L c 1) places)
     may_moved = one-moved (λ c. K c 1) (λ c. L c 1) place (λ c ne. other c ne 1)
-        places on different t.may _ _ is.may_is may_before may_after
+        places on different t.may _ _ is.may_is (bits-counted K place before change.before_is).1 (bits-counted L place after change.after_is).1
 
     empty_moved : (num (eqb before 0) ≤ t.empty) × ((moved_tally t before after).empty ≡ count_by (is_empty L) places)
     empty_moved = one-moved (is_empty K) (is_empty L) place (λ c ne. ap₂ (λ a b. not a && not b) (other c ne 0) (other c ne 1))
-        places on different t.empty _ _ is.empty_is empty_before empty_after
+        places on different t.empty _ _ is.empty_is (bits-counted K place before change.before_is).2 (bits-counted L place after change.after_is).2
 
     pub tally-moved : IsTally L places (moved_tally t before after)
     tally-moved = record { must_is = must_moved.1; may_is = may_moved.1; empty_is = empty_moved.1 }
@@ -206,9 +189,7 @@ unfolding after_house
 idle-house cells house K t is within tally off c v on = by (K c v) (strikes_of house K c v) on (ap (λ (L : Candidates). L c v) (after-idle cells house K t is tally within off))
   where
     by : (a b : Bool) → a ≡ true → a ≡ (a && not b) → b ≡ false
-    by true false e f = refl
-    by true true e f = absurd (true≢false f)
-    by false b e f = absurd (false≢true e)
+    by a b e f = grind (arith, common_steps, cases_Bool a, cases_Bool b)
 
 pub moved-end : (old new : List Tally) (listed : List ℕ) (before after n : ℕ) → AreMovedBelow old new listed before after n → n ≤ length listed → length listed ≤ n → AreMovedBelow old new listed before after (length listed)
 moved-end old new listed before after n m le ge = let e : n ≡ length listed = omega arith in subst (AreMovedBelow old new listed before after) e m

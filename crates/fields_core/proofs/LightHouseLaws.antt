@@ -142,14 +142,7 @@ module _ (p : Light) (c d : ℕ) (some : 0 < p.size.w) (next : c + 1 ≡ d) (bef
 
   row-next : joined_in_row p c d ≡ true
   unfolding joined_in_row
-  row-next = and_from _ _ (eq-eqb (c / p.size.w) (d / p.size.w) parts.0) (clear-from _ (c % p.size.w) (d % p.size.w) (λ i low high. elim (cases_eq i (c % p.size.w)) [
-    | inl here ↦ let e : c / p.size.w * p.size.w + i ≡ c = omega arith in rw e before
-    | inr there ↦
-        let w = parts in
-        let last : i ≡ d % p.size.w = omega (arith, there, inner) in
-        let e : c / p.size.w * p.size.w + i ≡ d = rw (w.0, last) (omega arith) in
-        rw e on
-  ]))
+  row-next = grind (arith, common_steps, and_from, eq-eqb, parts, clear-from, cases_eq)
 
   row-run-next : row_run p c ≡ row_run p d
   unfolding row_run
@@ -162,15 +155,12 @@ module _ (p : Light) (c d : ℕ) (some : 0 < p.size.w) (next : c + 1 ≡ d) (bef
       same e = grind (arith, common_steps, cases_Bool, row-both, row-next, false_from_ne_true, back)
 
 not-false : (t : Bool) → not t ≡ false → t ≡ true
-not-false true e = refl
-not-false false e = absurd (true≢false e)
+not-false t e = grind (arith, common_steps, cases_Bool t)
 
 -- a white cell where none begins comes after a white one
 pub row-before : (p : Light) (d : ℕ) → begins_row_run p d ≡ false → white p d ≡ true → (d % p.size.w ≡ 0 → ⊥) × (white p (d - 1) ≡ true)
 unfolding begins_row_run
-row-before p d off on =
-    let parts = or_parts (eqb (d % p.size.w) 0) (not (white p (d - 1))) (rw on at off) in
-    (λ e. true≢false (sym (eq-eqb (d % p.size.w) 0 e) ∙ parts.0), not-false (white p (d - 1)) parts.1)
+row-before p d off on = grind (arith, common_steps, parts, or_parts, eq-eqb, not-false)
 
 pub row-run-on : (p : Light) (d : ℕ) → 0 < p.size.w → begins_row_run p d ≡ false → white p d ≡ true → (c : ℕ) × (c + 1 ≡ d) × (white p c ≡ true) × (row_run p c ≡ row_run p d)
 row-run-on p d some off on =
@@ -191,14 +181,7 @@ module _ (p : Light) (c d : ℕ) (some : 0 < p.size.w) (next : c + p.size.w ≡ 
 
   column-next : joined_in_column p c d ≡ true
   unfolding joined_in_column
-  column-next = and_from _ _ (eq-eqb (c % p.size.w) (d % p.size.w) (sym below.1)) (clear-from _ (c / p.size.w) (d / p.size.w) (λ i low high. elim (cases_eq i (c / p.size.w)) [
-    | inl here ↦ let e : i * p.size.w + c % p.size.w ≡ c = rw here (sym (whole-cell p.size.w c)) in rw e before
-    | inr there ↦
-        let w = below in
-        let last : i ≡ d / p.size.w = omega (arith, there) in
-        let e : i * p.size.w + c % p.size.w ≡ d = rw (last, sym w.1) (sym (whole-cell p.size.w d)) in
-        rw e on
-  ]))
+  column-next = grind (arith, common_steps, and_from, eq-eqb, below, clear-from, cases_eq, whole-cell)
 
   pub column-run-next : column_run p c ≡ column_run p d
   unfolding column_run
@@ -237,7 +220,4 @@ pub mul-inj : (j k w : ℕ) → 0 < w → j * w ≡ k * w → j ≡ k
 mul-inj j k w pos e = grind (arith, common_steps, cases_lt, mul-le-mul_right)
 
 pub column-distinct : (size : Extent) (x : ℕ) → 0 < size.w → AreDistinct (column_places size x)
-column-distinct size x pos = distinct-from (column_places size x) (λ j k lj lk e.
-    let long = column-long size x in
-    let f : j * size.w + x ≡ k * size.w + x = column-at size x j (omega arith) ∙ e ∙ sym (column-at size x k (omega arith)) in
-    mul-inj j k size.w pos (omega arith))
+column-distinct size x pos = grind (arith, common_steps, distinct-from, column-long, column-at, mul-inj)

@@ -1,13 +1,14 @@
 -- Where the houses of runs stand in a list of houses, and which of them a walk over the cells has come to.
-use Rattle.std.proofs.Common.{◌≡◌, ℕ, zero, suc, ◌+◌, ◌-◌, ◌*◌, ◌/◌, ◌%◌, ◌<◌, ◌≤◌, Bool, true, false, not, eqb, cond, List, [], ◌∷◌, ◌++◌, length, get_or, map, set, slice_index, refl, sym, ap, subst, ◌∙◌, inl, inr, arith, add-one}
-use Rattle.std.proofs.lemmas.Bool.{cases_Bool, cases_lt, cases_eq, true≢false, or_parts, eq-eqb}
+use Rattle.std.proofs.Common.{◌≡◌, ℕ, zero, suc, ◌+◌, ◌%◌, ◌<◌, ◌≤◌, Bool, true, false, not, eqb, cond, List, [], ◌∷◌, ◌++◌, length, get_or, map, set, slice_index, refl, sym, ap, subst, ◌∙◌, inl, inr, arith}
+use Rattle.std.proofs.lemmas.Bool.{cases_lt}
 use Rattle.std.proofs.lemmas.List.{length-append, length-map, map-append, append_assoc, get_or_append_left, get_or-append-add, get_or-set_other, get_or-set_same}
 use Rattle.std.proofs.Math.ListN.{length-set}
 use Rattle.std.specs.List.{filter}
 use Rattle.std.proofs.Math.Nat.{mod-lt, mul-le-mul_right}
 use Rattle.gameid_core.specs.Puzzles.{Light}
+use Rattle.std.proofs.lemmas.Grind.{common_steps}
 use Rattle.fields_core.specs.CountHouse.{CountHouse, houses_below, one_at_least, one_at_most}
-use Rattle.fields_core.specs.CountLists.{bounds_of, house_places, IsAdded}
+use Rattle.fields_core.specs.CountLists.{house_places, IsAdded}
 use Rattle.fields_core.specs.declared.count.list.CountList.{CountList}
 use Rattle.fields_core.specs.Light.{light_cells, white}
 use Rattle.fields_core.specs.LightHouses.{row_run, column_run, seen_from, begins_row_run, begins_column_run, row_house, column_house, lit_house}
@@ -15,20 +16,13 @@ use Rattle.fields_core.specs.LightRuns.{IsListAt, AreRunsListed, AreRowsListed, 
 use Rattle.fields_core.proofs.CountListLemmas.{added-none, below-more}
 use Rattle.fields_core.proofs.LightHouseLaws.{column-run-on, row-run-on}
 use Rattle.fields_core.proofs.TentBeside.{cell-below, whole-cell}
-use Rattle.std.proofs.lemmas.Grind.{common_steps}
 
 -- ---- a list among more
 pub listed-before : (xs ys : List (List ℕ)) (n : ℕ) (places : List ℕ) → IsListAt xs n places → IsListAt (xs ++ ys) n places
-listed-before xs ys n places is = record {
-  within = let lt = is.within in omega (arith, length-append xs ys);
-  same = get_or_append_left xs ys [] n is.within ∙ is.same;
-}
+listed-before xs ys n places is = grind (arith, common_steps, length-append, get_or_append_left)
 
 listed-behind : (xs ys : List (List ℕ)) (n : ℕ) (places : List ℕ) → IsListAt ys n places → IsListAt (xs ++ ys) (length xs + n) places
-listed-behind xs ys n places is = record {
-  within = let lt = is.within in omega (arith, length-append xs ys);
-  same = get_or-append-add xs ys n [] ∙ is.same;
-}
+listed-behind xs ys n places is = grind (arith, common_steps, length-append, get_or-append-add)
 
 -- ---- the house of a number among those below
 below-at : (f : ℕ → List CountHouse) (n c : ℕ) (house : CountHouse) → c < n → f c ≡ house ∷ [] → IsListAt (map house_places (houses_below f n)) (length (houses_below f c)) house.places
@@ -61,79 +55,44 @@ runs-few begins run (suc n) =
     omega (arith, length-append (houses_below (λ c. cond (begins c) (one_at_most (run c) ∷ []) []) n) (cond (begins n) (one_at_most (run n) ∷ []) []))
   where
     few : (b : Bool) → length (cond b (one_at_most (run n) ∷ []) []) ≤ 1
-    few true = omega arith
-    few false = omega arith
+    few b = grind (arith, common_steps)
 
 -- ---- the walk over the cells
 length-more : (house : ℕ → List CountHouse) (n : ℕ) → length (houses_below house (n + 1)) ≡ length (houses_below house n) + length (house n)
 length-more house n = ap length (below-more house n) ∙ length-append (houses_below house n) (house n)
 
-row-one : (p : Light) (c : ℕ) (b : Bool) → begins_row_run p c ≡ b → length (row_house p c) ≡ cond b 1 0
-row-one p c true e = rw e refl
-row-one p c false e = rw e refl
-
-column-one : (p : Light) (c : ℕ) (b : Bool) → begins_column_run p c ≡ b → length (column_house p c) ≡ cond b 1 0
-column-one p c true e = rw e refl
-column-one p c false e = rw e refl
-
-pub rows-first : (p : Light) (lists : List (List ℕ)) (first last : ℕ) → IsRowsAt p lists first last first 0
-unfolding houses_below
-rows-first p lists first last = record { after = omega arith; before = λ c e. absurd (omega arith) }
+begun-one : (b begins : Bool) (house : CountHouse) → begins ≡ b → length (cond begins (house ∷ []) []) ≡ cond b 1 0
+begun-one true begins house e = rw e refl
+begun-one false begins house e = rw e refl
 
 pub rows-begun : (p : Light) (lists : List (List ℕ)) (first last next place : ℕ) → AreRowsListed p lists first → place < light_cells p → begins_row_run p place ≡ true
     → IsRowsAt p lists first last next place → IsRowsAt p lists first next (next + 1) (place + 1)
-rows-begun p lists first last next place listed lt on is = record {
-  after = let e = is.after in omega (arith, length-more (row_house p) place, row-one p place true on);
-  before = λ c e white. let here : place ≡ c = omega arith in rw (sym here, is.after) (listed place lt on);
-}
+rows-begun p lists first last next place listed lt on is = grind (arith, common_steps, length-more, begun-one)
 
 pub rows-same : (p : Light) (lists : List (List ℕ)) (first last next place : ℕ) → 0 < p.size.w → begins_row_run p place ≡ false
     → IsRowsAt p lists first last next place → IsRowsAt p lists first last next (place + 1)
 rows-same p lists first last next place some off is = record {
-  after = let e = is.after in omega (arith, length-more (row_house p) place, row-one p place false off);
+  after = let e = is.after in omega (arith, length-more (row_house p) place, begun-one false (begins_row_run p place) (one_at_most (row_run p place)) off);
   before = λ c e white.
       let here : c ≡ place = omega arith in
       let v = row-run-on p c some (rw here off) white in
       rw v.3 at (is.before v.0 (v.1 ∙ here) v.2);
 }
 
-pub columns-first : (p : Light) (lists : List (List ℕ)) (first : ℕ) (last : List ℕ) → p.size.w ≤ length last → IsColumnsAt p lists first last first 0
-unfolding houses_below
-columns-first p lists first last wide = record { wide = wide; after = omega arith; before = λ c lt. absurd (omega arith) }
-
 -- two cells of a column are a row apart
 apart : (w c d : ℕ) → c < d → d < c + w → c % w ≡ d % w → ⊥
-apart w c d low high e =
-    let u = whole-cell w c in
-    let v = whole-cell w d in
-    elim (cases_lt (c / w) (d / w)) [
-      | inl less ↦ let m : suc (c / w) * w ≤ d / w * w = mul-le-mul_right w less in omega arith
-      | inr more ↦ let m : d / w * w ≤ c / w * w = mul-le-mul_right w more in omega arith
-    ]
+apart w c d low high e = grind (arith, common_steps, whole-cell, cases_lt, mul-le-mul_right)
 
 pub columns-begun : (p : Light) (lists : List (List ℕ)) (first : ℕ) (last : List ℕ) (next place x : ℕ) → AreColumnsListed p lists first → place < light_cells p → begins_column_run p place ≡ true
     → place % p.size.w ≡ x → 0 < p.size.w
     → IsColumnsAt p lists first last next place → IsColumnsAt p lists first (set last x next) (next + 1) (place + 1)
-columns-begun p lists first last next place x listed lt on e some is = record {
-  wide = let wide = is.wide in omega (arith, length-set last x next);
-  after = let f = is.after in omega (arith, length-more (column_house p) place, column-one p place true on);
-  before = λ c less near white. elim (cases_lt c place) [
-    | inl old ↦
-        let other : get_or (set last x next) (c % p.size.w) 0 ≡ get_or last (c % p.size.w) 0 =
-            get_or-set_other last x (c % p.size.w) next 0 (λ f. apart p.size.w c place old (omega arith) (f ∙ sym e)) in
-        rw other (is.before c old (omega arith) white)
-    | inr new ↦
-        let here : c ≡ place = omega arith in
-        let same : get_or (set last x next) x 0 ≡ next = get_or-set_same last x next 0 (let wide = is.wide in omega (arith, mod-lt place some)) in
-        rw (here, e, same, is.after) (listed place lt on)
-  ];
-}
+columns-begun p lists first last next place x listed lt on e some is = grind (arith, common_steps, length-set, length-more, begun-one, cases_lt, get_or-set_other, apart, get_or-set_same, mod-lt)
 
 pub columns-same : (p : Light) (lists : List (List ℕ)) (first : ℕ) (last : List ℕ) (next place : ℕ) → 0 < p.size.w → begins_column_run p place ≡ false
     → IsColumnsAt p lists first last next place → IsColumnsAt p lists first last next (place + 1)
 columns-same p lists first last next place some off is = record {
   wide = is.wide;
-  after = let f = is.after in omega (arith, length-more (column_house p) place, column-one p place false off);
+  after = let f = is.after in omega (arith, length-more (column_house p) place, begun-one false (begins_column_run p place) (one_at_most (column_run p place)) off);
   before = λ c less near white. elim (cases_lt c place) [
     | inl old ↦ is.before c old (omega arith) white
     | inr new ↦
@@ -151,8 +110,7 @@ row-at p lists more all first last next place e on is = rw e (listed-before list
 
 pub column-at : (p : Light) (lists more all : List (List ℕ)) (first : ℕ) (last : List ℕ) (next place x : ℕ) → all ≡ lists ++ more → 0 < p.size.w → white p place ≡ true → place % p.size.w ≡ x
     → IsColumnsAt p lists first last next (place + 1) → IsListAt all (slice_index last x) (column_run p place)
-column-at p lists more all first last next place x f some on e is =
-    rw f (listed-before lists more (slice_index last x) (column_run p place) (rw e at (is.before place (omega arith) (omega arith) on)))
+column-at p lists more all first last next place x f some on e is = grind (arith, common_steps, listed-before)
 
 -- the house of a white cell
 pub lit-added : (p : Light) (a b : CountList) (row column place : ℕ) → white p place ≡ true → IsListAt a.list.closed row (row_run p place) → IsListAt a.list.closed column (column_run p place)
@@ -172,8 +130,4 @@ columns-few p lists first last next place is = let e = is.after in omega (arith,
 
 -- the houses of one more cell
 pub added-next : (a b d : CountList) (f : ℕ → List CountHouse) (n : ℕ) → IsAdded a b (houses_below f n) → IsAdded b d (f n) → IsAdded a d (houses_below f (n + 1))
-added-next a b d f n p q = rw (below-more f n) (record {
-  closed = q.closed ∙ ap (λ l. l ++ map house_places (f n)) p.closed ∙ append_assoc a.list.closed _ _ ∙ ap (λ l. a.list.closed ++ l) (sym (map-append house_places (houses_below f n) (f n)));
-  begun = q.begun;
-  bounds = q.bounds ∙ ap (λ l. l ++ map bounds_of (f n)) p.bounds ∙ append_assoc a.bounds.items _ _ ∙ ap (λ l. a.bounds.items ++ l) (sym (map-append bounds_of (houses_below f n) (f n)));
-})
+added-next a b d f n p q = grind (arith, common_steps, below-more, append_assoc, map-append)

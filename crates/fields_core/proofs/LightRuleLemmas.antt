@@ -1,7 +1,7 @@
 -- In Light Up the test of a solution is the rule.
-use Rattle.std.proofs.Common.{◌≡◌, ℕ, zero, suc, ◌+◌, ◌*◌, ◌/◌, ◌%◌, ◌<◌, ◌≤◌, min, max, Bool, true, false, not, ◌&&◌, ◌||◌, eqb, List, get_or, slice_index, Option, Some, None, refl, sym, ◌∙◌, inl, inr, arith}
+use Rattle.std.proofs.Common.{◌≡◌, ℕ, ◌+◌, ◌*◌, ◌/◌, ◌%◌, ◌<◌, ◌≤◌, min, max, Bool, true, false, not, ◌&&◌, ◌||◌, eqb, List, get_or, slice_index, Option, Some, None, refl, sym, ◌∙◌, inl, inr, arith}
 use Rattle.std.specs.Prelude.{◌↔◌}
-use Rattle.std.proofs.lemmas.Bool.{cases_lt, cases_Bool, or_left, or_right, or_cases, and_from, and_parts, true≢false, ne_eqb, eqb-true, eq-eqb, not-true}
+use Rattle.std.proofs.lemmas.Bool.{cases_lt, cases_Bool, or_left, or_right, or_cases, and_from, and_parts, true≢false, ne_eqb, eqb-true, eq-eqb, not-true, cases_eq}
 use Rattle.std.proofs.lemmas.Nat.{div-mul-add, mod-mul-add, le-div}
 use Rattle.std.proofs.Math.Nat.{mul-le-mul_right, mod-lt, div-mul-le_self}
 use Rattle.grid_core.specs.Grids.{IsGrid}
@@ -134,9 +134,7 @@ test-from-rule p g grid s = lit-from p g
     (all_below-from (lit_right p g) (light_cells p) lit)
   where
     none-at : (v : ℕ) → v < 2 → eqb v 1 ≡ false → eqb v 0 ≡ true
-    none-at zero lt off = refl
-    none-at (suc zero) lt off = absurd (true≢false off)
-    none-at (suc (suc v)) lt off = absurd (omega arith)
+    none-at v lt off = grind (arith, common_steps, cases_eq v 0, cases_eq v 1, eq-eqb)
 
     black : (c : ℕ) → c < light_cells p → (white p c || eqb (slice_index g c) 0) ≡ true
     black c lt = grind (arith, common_steps, cases_Bool, or_left, slice_index, or_right, none-at)

@@ -1,10 +1,11 @@
 -- A cell sees a bulb exactly if a walk from it along its row or its column comes to one before a black cell.
-use Rattle.std.proofs.Common.{◌≡◌, ◌≢◌, ℕ, ◌+◌, ◌-◌, ◌*◌, ◌/◌, ◌%◌, ◌<◌, ◌≤◌, Bool, true, false, not, ◌&&◌, ◌||◌, eqb, List, slice_index, length, min, max, sym, ap, ◌∙◌, inl, inr, arith}
-use Rattle.std.proofs.lemmas.Bool.{cases_lt, cases_eq, or_left, or_right, or_cases, and_from, and_parts, eq-eqb, ne_eqb, not-true, true≢false, false_from_ne_true}
+use Rattle.std.proofs.Common.{◌≡◌, ◌≢◌, ℕ, ◌+◌, ◌-◌, ◌*◌, ◌/◌, ◌%◌, ◌<◌, ◌≤◌, Bool, true, false, not, ◌&&◌, ◌||◌, eqb, List, slice_index, sym, ap, ◌∙◌, inl, inr, arith}
+use Rattle.std.proofs.lemmas.Bool.{cases_lt, or_left, or_right, or_cases, and_from, and_parts, eq-eqb, ne_eqb, not-true, true≢false, false_from_ne_true}
 use Rattle.std.proofs.Math.Nat.{mod-lt}
 use Rattle.std.proofs.lemmas.Nat.{mul-add-lt}
 use Rattle.grid_core.proofs.CandidateLemmas.{any_below-here, any_below-some}
 use Rattle.gameid_core.specs.Puzzles.{Light}
+use Rattle.std.proofs.lemmas.Grind.{common_steps}
 use Rattle.fields_core.specs.Light.{light_cells, white, bulb, clear, joined_in_row, joined_in_column, sees, sees_bulb}
 use Rattle.fields_core.specs.Runs.{Shines, ShinesAlong, SeesAlong}
 use Rattle.fields_core.proofs.LightHouseLaws.{clear-at, clear-from, mul-inj, row-parts, column-parts}
@@ -20,10 +21,7 @@ module _ (white bulb : ℕ → Bool) (at : ℕ) where
   ]
 
   pub after-bulb : (high k : ℕ) → at < k → k < high → ((i : ℕ) → at ≤ i → i < k → white i ≡ true) → white k ≡ true → bulb k ≡ true → Shines white bulb at (at + 1) high true
-  after-bulb high k past lt pass here on = (k, omega arith, lt, clear-from white at k (λ i a b. elim (cases_lt i k) [
-    | inl below ↦ pass i (omega arith) below
-    | inr above ↦ let e : k ≡ i = omega arith in ap white (sym e) ∙ here
-  ]), on)
+  after-bulb high k past lt pass here on = grind (arith, common_steps, clear-from, cases_lt)
 
   pub before-black : (k : ℕ) → k < at → ((i : ℕ) → k < i → i < at → bulb i ≡ false) → white k ≡ false → Shines white bulb at 0 at false
   before-black k past dark off = λ i low lt joined. elim (cases_lt k i) [
@@ -32,10 +30,7 @@ module _ (white bulb : ℕ → Bool) (at : ℕ) where
   ]
 
   pub before-bulb : (k : ℕ) → k < at → ((i : ℕ) → k < i → i ≤ at → white i ≡ true) → white k ≡ true → bulb k ≡ true → Shines white bulb at 0 at true
-  before-bulb k past pass here on = (k, omega arith, past, clear-from white at k (λ i a b. elim (cases_lt k i) [
-    | inl above ↦ pass i above (omega arith)
-    | inr below ↦ let e : k ≡ i = omega arith in ap white (sym e) ∙ here
-  ]), on)
+  before-bulb k past pass here on = grind (arith, common_steps, clear-from, cases_lt)
 
   pub along-before : (len : ℕ) → at < len → Shines white bulb at 0 at true → ShinesAlong white bulb at len true
   along-before len lt s = (s.0, omega (arith, s.2), (λ e. omega (arith, s.2)), s.3, s.4)
@@ -62,8 +57,13 @@ row-sees p g c w b some e in_grid s = by b s
     test i = clear-same _ _ (c % w) i (λ k. ap (white p) (same k)) ∙ ap (λ n. clear (λ k. white p (c / p.size.w * p.size.w + k)) (c % n) i) e
 
     by : (b : Bool) → ShinesAlong (λ i. white p (c - c % w + i * 1)) (λ i. bulb g (c - c % w + i * 1)) (c % w) w b → SeesAlong (joined_in_row p) (light_cells p) g c b
-    by true s = (c - c % w + s.0 * 1, rw (same s.0) (let lt : s.0 < p.size.w = rw (sym e) s.1 in omega (arith, mul-add-lt (c / p.size.w) p.size.w s.0 p.size.h (row-in p.size.w p.size.h c (rw (sym e) some) in_grid) lt)), (λ f. s.2 (let v = whole c w in omega arith)),
-        ap (joined_in_row p c) (same s.0) ∙ row-cell-joined p c s.0 (rw (sym e) s.1) ∙ sym (test s.0) ∙ s.3, s.4)
+    by true s = (
+      c - c % w + s.0 * 1,
+      rw (same s.0) (let lt : s.0 < p.size.w = rw (sym e) s.1 in omega (arith, mul-add-lt (c / p.size.w) p.size.w s.0 p.size.h (row-in p.size.w p.size.h c (rw (sym e) some) in_grid) lt)),
+      (λ f. s.2 (let v = whole c w in omega arith)),
+      ap (joined_in_row p c) (same s.0) ∙ row-cell-joined p c s.0 (rw (sym e) s.1) ∙ sym (test s.0) ∙ s.3,
+      s.4,
+    )
     by false s = λ d lt ne on.
         let v = row-parts p c d on in
         let here : c - c % w + d % w * 1 ≡ d = same (d % w) ∙ rw (v.0, e) (sym (whole d p.size.w)) in
@@ -80,8 +80,13 @@ column-sees p g c w h b some e f s = by b s
     test i = clear-same _ _ (c / w) i (λ k. ap (white p) (same k)) ∙ ap (λ n. clear (λ k. white p (k * p.size.w + c % p.size.w)) (c / n) i) e
 
     by : (b : Bool) → ShinesAlong (λ i. white p (c % w + i * w)) (λ i. bulb g (c % w + i * w)) (c / w) h b → SeesAlong (joined_in_column p) (light_cells p) g c b
-    by true s = (c % w + s.0 * w, rw (same s.0) (let lt : s.0 < p.size.h = rw (sym f) s.1 in omega (arith, mul-add-lt s.0 p.size.w (c % p.size.w) p.size.h lt (mod-lt c (rw (sym e) some)))), (λ t. s.2 (mul-inj s.0 (c / w) w some (let v = whole c w in omega arith))),
-        ap (joined_in_column p c) (same s.0) ∙ column-cell-joined p c s.0 (rw (sym e) some) ∙ sym (test s.0) ∙ s.3, s.4)
+    by true s = (
+      c % w + s.0 * w,
+      rw (same s.0) (let lt : s.0 < p.size.h = rw (sym f) s.1 in omega (arith, mul-add-lt s.0 p.size.w (c % p.size.w) p.size.h lt (mod-lt c (rw (sym e) some)))),
+      (λ t. s.2 (mul-inj s.0 (c / w) w some (let v = whole c w in omega arith))),
+      ap (joined_in_column p c) (same s.0) ∙ column-cell-joined p c s.0 (rw (sym e) some) ∙ sym (test s.0) ∙ s.3,
+      s.4,
+    )
     by false s = λ d lt ne on.
         let v = column-parts p c d on in
         let here : c % w + d / w * w ≡ d = same (d / w) ∙ rw (v.0, e) (sym (whole d p.size.w)) in
@@ -102,11 +107,7 @@ seen-in-row p g c s = seen-there p g c s.0 s.1 s.2 (or_left (joined_in_row p c s
 
 unseen : (p : Light) (g : List ℕ) (c : ℕ) → ((d : ℕ) → d < light_cells p → d ≢ c → (joined_in_row p c d || joined_in_column p c d) ≡ true → bulb g d ≡ false) → sees_bulb p g c ≡ false
 unfolding sees_bulb sees
-unseen p g c none = false_from_ne_true _ (λ on.
-    let w = any_below-some (λ e. (not (eqb c e) && (joined_in_row p c e || joined_in_column p c e)) && eqb (slice_index g e) 1) (light_cells p) on in
-    let both = and_parts (not (eqb c w.0) && (joined_in_row p c w.0 || joined_in_column p c w.0)) (eqb (slice_index g w.0) 1) w.2 in
-    let apart = and_parts (not (eqb c w.0)) (joined_in_row p c w.0 || joined_in_column p c w.0) both.0 in
-    true≢false (sym both.1 ∙ none w.0 w.1 (λ e. true≢false (sym (eq-eqb c w.0 (sym e)) ∙ not-true (eqb c w.0) apart.0)) apart.1))
+unseen p g c none = grind (arith, common_steps, false_from_ne_true, any_below-some, and_parts, eq-eqb, not-true)
 
 pub seen-in-column : (p : Light) (g : List ℕ) (c : ℕ) (b : Bool) → SeesAlong (joined_in_row p) (light_cells p) g c false → SeesAlong (joined_in_column p) (light_cells p) g c b → b ≡ sees_bulb p g c
 seen-in-column p g c true row s = sym (seen-there p g c s.0 s.1 s.2 (or_right (joined_in_row p c s.0) (joined_in_column p c s.0) s.3) s.4)

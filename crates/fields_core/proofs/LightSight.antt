@@ -54,8 +54,7 @@ count-dark g size place n d e dark = rw (add-one n, ← e)
 pub count-bulb : (g : List ℕ) (size : Extent) (place n d : ℕ) → Some d ≡ step size place n → slice_index g d ≡ 1
     → count_by (bulb g) (steps size place (n + 1)) ≡ count_by (bulb g) (steps size place n) + 1
 unfolding steps
-count-bulb g size place n d e on = rw (add-one n, ← e)
-    (rw (eq-eqb (slice_index g d) 1 on) at (count-append (bulb g) (steps size place n) (d ∷ [])) ∙ omega arith)
+count-bulb g size place n d e on = grind (arith, common_steps, eq-eqb, count-append)
 
 pub some-column : (p : Light) (c : ℕ) → c < light_cells p → 0 < p.size.w
 some-column p c lt = grind (arith, common_steps)

@@ -15,8 +15,7 @@ abbrev pub num : Bool → ℕ
 num b = cond b 1 0
 
 pub num-most : (b : Bool) → num b ≤ 1
-num-most true = omega arith
-num-most false = omega arith
+num-most b = grind (arith, common_steps, cases_Bool b)
 
 pub count-cons : (test : ℕ → Bool) (x : ℕ) (xs : List ℕ) → count_by test (x ∷ xs) ≡ cond (test x) 1 0 + count_by test xs
 count-cons test x xs = sum_by-cons (λ c. cond (test c) 1 0) x xs

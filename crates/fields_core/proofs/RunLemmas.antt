@@ -1,5 +1,5 @@
 -- The run around a cell of a line is what has only white cells between it and the cell.
-use Rattle.std.proofs.Common.{◌≡◌, ℕ, zero, suc, ◌+◌, ◌-◌, ◌*◌, ◌/◌, ◌%◌, ◌<◌, ◌≤◌, ◌^◌, min, max, Bool, true, false, not, ◌||◌, eqb, cond, List, [], ◌∷◌, ◌++◌, length, slice_index, map, refl, sym, ap, ◌∙◌, inl, inr, add-one, arith}
+use Rattle.std.proofs.Common.{◌≡◌, ℕ, zero, suc, ◌+◌, ◌-◌, ◌*◌, ◌/◌, ◌%◌, ◌<◌, ◌≤◌, ◌^◌, min, max, Bool, true, false, cond, List, [], ◌∷◌, ◌++◌, length, slice_index, map, refl, sym, ap, ◌∙◌, inl, inr, add-one, arith}
 use Rattle.std.specs.List.{filter, range_with_len}
 use Rattle.std.proofs.lemmas.Bool.{and_parts, cases_Bool, cases_lt, true≢false, false_from_ne_true, eq-eqb, eqb-true, not-true, or_cases}
 use Rattle.std.proofs.lemmas.Nat.{div-mul-add, mod-mul-add}
@@ -132,32 +132,11 @@ column-run-is p c w h pos e f = rw (e, f)
 -- the cell before the first of a run is black
 pub row-begun : (p : Light) (c x i : ℕ) → begins_row_run p c ≡ true → c % p.size.w ≡ x → suc i ≡ x → white p (c - x + i * 1) ≡ false
 unfolding begins_row_run
-row-begun p c x i on e f =
-    let parts = and_parts (white p c) (eqb (c % p.size.w) 0 || not (white p (c - 1))) on in
-    let here : c - x + i * 1 ≡ c - 1 = let whole : c ≡ c / p.size.w * p.size.w + c % p.size.w = omega arith in omega arith in
-    rw here (elim (or_cases (eqb (c % p.size.w) 0) (not (white p (c - 1))) parts.1) [
-      | inl edge ↦ let z = eqb-true (c % p.size.w) 0 edge in absurd (omega arith)
-      | inr black ↦ not-true (white p (c - 1)) black
-    ])
+row-begun p c x i on e f = grind (arith, common_steps, and_parts, or_cases, eqb-true, not-true)
 
 pub column-begun : (p : Light) (c w i : ℕ) → w ≡ p.size.w → begins_column_run p c ≡ true → suc i ≡ c / w → white p (c % w + i * w) ≡ false
 unfolding begins_column_run
-column-begun p c w i e on f =
-    let parts = and_parts (white p c) (eqb (c / p.size.w) 0 || not (white p (c - p.size.w))) on in
-    let here : c % w + i * w ≡ c - w = let whole : c ≡ c / w * w + c % w = omega arith in let more : suc i * w ≡ i * w + w = omega arith in let g = ap (λ n. n * w) f in omega arith in
-    rw (here, e) (elim (or_cases (eqb (c / p.size.w) 0) (not (white p (c - p.size.w))) parts.1) [
-      | inl edge ↦ let z = eqb-true (c / p.size.w) 0 edge in let y : c / w ≡ 0 = rw e z in absurd (omega arith)
-      | inr black ↦ not-true (white p (c - p.size.w)) black
-    ])
-
--- the first of a run is white
-pub row-begun-white : (p : Light) (c : ℕ) → begins_row_run p c ≡ true → white p c ≡ true
-unfolding begins_row_run
-row-begun-white p c on = (and_parts (white p c) _ on).0
-
-pub column-begun-white : (p : Light) (c : ℕ) → begins_column_run p c ≡ true → white p c ≡ true
-unfolding begins_column_run
-column-begun-white p c on = (and_parts (white p c) _ on).0
+column-begun p c w i e on f = grind (arith, common_steps, and_parts, or_cases, eqb-true, not-true)
 
 -- ---- the cells of a run
 pub run-long : (f : ℕ → ℕ) (start n : ℕ) (xs : List ℕ) → map f (range_with_len start n) ≡ xs → n ≡ length xs
@@ -168,14 +147,10 @@ run-at first stride start n k xs e lt = grind (arith, common_steps, run-long, ge
 
 -- the cells of a row and of a column
 pub row-made : (size : Extent) (y w : ℕ) → w ≡ size.w → map (λ i. y * w + i * 1) (range_with_len 0 (w - 0)) ≡ row_places size y
-row-made size y w e =
-    let z : size.w - 0 ≡ size.w = omega arith in
-    rw (e, z) (map-same (λ i. y * size.w + i * 1) (λ x. y * size.w + x) (range_with_len 0 size.w) (λ i. omega arith))
+row-made size y w e = grind (arith, common_steps, map-same)
 
 pub column-made : (size : Extent) (x w h : ℕ) → w ≡ size.w → h ≡ size.h → map (λ i. x + i * w) (range_with_len 0 (h - 0)) ≡ column_places size x
-column-made size x w h e f =
-    let z : size.h - 0 ≡ size.h = omega arith in
-    rw (e, f, z) (map-same (λ i. x + i * size.w) (λ y. y * size.w + x) (range_with_len 0 size.h) (λ i. omega arith))
+column-made size x w h e f = grind (arith, common_steps, map-same)
 
 pub row-cell : (size : Extent) (y k : ℕ) → y < size.h → k < length (row_places size y) → slice_index (row_places size y) k < size.w * size.h
 row-cell size y k lt low = grind (arith, common_steps, row-long, row-at, mul-le-mul_right)

@@ -1,5 +1,5 @@
 -- The count houses of Tents keep to what every rule set of count houses keeps to.
-use Rattle.std.proofs.Common.{◌≡◌, ℕ, zero, suc, ◌+◌, ◌*◌, ◌/◌, ◌%◌, ◌<◌, ◌≤◌, true, not, ◌&&◌, ◌||◌, eqb, ltb, List, [], ◌∷◌, length, get_or, slice_index, map, refl, sym, ap, ◌∙◌, inl, inr, arith, le-leb}
+use Rattle.std.proofs.Common.{◌≡◌, ℕ, zero, suc, ◌+◌, ◌*◌, ◌/◌, ◌%◌, ◌<◌, ◌≤◌, true, not, ◌&&◌, ◌||◌, eqb, ltb, List, [], ◌∷◌, length, get_or, slice_index, map, sym, ap, ◌∙◌, inl, inr, arith, le-leb}
 use Rattle.std.specs.List.{filter, range_with_len, list_any}
 use Rattle.std.proofs.lemmas.Bool.{cases_eq, cases_lt, or_cases, and_from, and_parts, true≢false, false_from_ne_true, eqb-true, eq-eqb, ne_eqb, not-true, ltb-true}
 use Rattle.std.proofs.lemmas.List.{get_or_past, length-map, get_or-map}
@@ -237,6 +237,4 @@ tent-counting p is = record {
 }
   where
     zero-from : (v : ℕ) → v < 2 → (v ≡ 1 → ⊥) → v ≡ 0
-    zero-from zero lt none = refl
-    zero-from (suc zero) lt none = absurd (none refl)
-    zero-from (suc (suc v)) lt none = absurd (omega arith)
+    zero-from v lt none = grind (arith, common_steps, cases_eq v 0)

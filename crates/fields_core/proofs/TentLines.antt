@@ -4,8 +4,8 @@ use Rattle.std.specs.List.{count_by}
 use Rattle.std.proofs.lemmas.Bool.{cases_Bool, cases_lt, and_parts, and_from, and_left, true≢false, false_from_ne_true, eq-eqb, ne_eqb}
 use Rattle.std.proofs.lemmas.List.{take_all}
 use Rattle.std.proofs.lemmas.List.Sums.{count_by_more_yes, count_by_more_no}
-use Rattle.std.proofs.Math.Nat.{mul-le-mul_right, mod-lt}
-use Rattle.std.proofs.lemmas.Nat.{div-add-mod', div-mul-add, mod-mul-add, le-div}
+use Rattle.std.proofs.Math.Nat.{mod-lt}
+use Rattle.std.proofs.lemmas.Nat.{div-add-mod', div-mul-add, mod-mul-add}
 use Rattle.grid_core.specs.Extent.{Extent}
 use Rattle.grid_core.specs.Candidates.{any_below}
 use Rattle.grid_core.proofs.CandidateLemmas.{any_below-some, any_below-here}
@@ -56,10 +56,7 @@ near-from a b p q = and_from (leb a (b + 1)) (leb b (a + 1)) (le-leb a (b + 1) p
 -- a cell of row v and column u is touched where both are near
 touch-from : (size : Extent) (a d v u : ℕ) → d ≡ v * size.w + u → u < size.w → (d ≡ a → ⊥) → a / size.w ≤ v + 1 → v ≤ a / size.w + 1 → a % size.w ≤ u + 1 → u ≤ a % size.w + 1 → touches size a d ≡ true
 unfolding touches
-touch-from size a d v u e lt other p q r s =
-    let row : d / size.w ≡ v = ap (λ n. n / size.w) e ∙ div-mul-add v size.w u lt in
-    let column : d % size.w ≡ u = ap (λ n. n % size.w) e ∙ mod-mul-add v size.w u lt in
-    rw (row, column) (grind (arith, common_steps, near-from, and_from, ne_eqb))
+touch-from size a d v u e lt other p q r s = grind (arith, common_steps, div-mul-add, mod-mul-add, near-from, and_from, ne_eqb)
 
 row-before : (y w : ℕ) → 1 ≤ y → (y - 1) * w + w ≡ y * w
 row-before (suc v) w p = let e : suc v - 1 ≡ v = omega arith in rw e (omega arith)
@@ -85,16 +82,7 @@ module _ (size : Extent) (a first end : ℕ) (pos : 0 < size.w) (window : IsWind
   low = mod-lt a pos
 
   ends : HasEnds size.w a first end
-  ends = elim window.left [
-    | inl l ↦ elim window.right [
-      | inl r ↦ record { near_first = omega arith; at_first = omega arith; at_end = omega arith; near_end = omega arith; row_first = omega (arith, here); row_end = omega (arith, here) }
-      | inr r ↦ record { near_first = omega arith; at_first = omega arith; at_end = omega arith; near_end = omega arith; row_first = omega (arith, here); row_end = omega (arith, here, low) }
-    ]
-    | inr l ↦ elim window.right [
-      | inl r ↦ record { near_first = omega arith; at_first = omega arith; at_end = omega arith; near_end = omega arith; row_first = omega (arith, here); row_end = omega (arith, here) }
-      | inr r ↦ record { near_first = omega arith; at_first = omega arith; at_end = omega arith; near_end = omega arith; row_first = omega (arith, here); row_end = omega (arith, here, low) }
-    ]
-  ]
+  ends = grind (arith, common_steps, here, low)
 
   pub touch-beside : (d : ℕ) → first ≤ d → d < end → (d ≡ a → ⊥) → touches size a d ≡ true
   touch-beside d p q other =

@@ -1,5 +1,5 @@
 -- Runs of numbers that pass a test, and which of the numbers of a line see others. No public contract uses these words.
-use Rattle.std.specs.Prelude.{◌≡◌, ◌≢◌, ℕ, ◌+◌, ◌<◌, ◌≤◌, Bool, true, false, List}
+use Rattle.std.specs.Prelude.{◌≡◌, ◌≢◌, ℕ, ◌<◌, ◌≤◌, Bool, true, false, List}
 use Rattle.fields_core.specs.Light.{bulb, clear}
 
 -- the numbers after `at` pass, up to the one before the end; the end does not, if it is below len

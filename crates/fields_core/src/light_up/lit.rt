@@ -81,7 +81,7 @@ fn push_lit(
     requires none_begun { houses.old.list.begun ≡ [] }
     ensures { OnOk result (IsAdded houses.old houses.new (one_at_least
         (slice_index_or houses.old.list.closed row []
-            ++ filter (λ d. not (d == place)) (slice_index_or houses.old.list.closed column [])) ∷ [])) }
+        ++ filter (λ d. not (d == place)) (slice_index_or houses.old.list.closed column [])) ∷ [])) }
 {
     houses.push_house(row)?;
     houses.push_others(column, place)?;
@@ -105,7 +105,10 @@ pub(crate) fn push_lits(
     ensures { OnOk result (IsAdded houses.old houses.new
         (houses_below (lit_house puzzle.now) (light_cells puzzle.now))) }
 {
-    let mut row = Rows { last: 0, next: rows };
+    let mut row = Rows {
+        last: 0,
+        next: rows,
+    };
     let mut column = Columns {
         last: [0; 120],
         next: columns,

@@ -1,4 +1,4 @@
-use Rattle.std.proofs.Common.{◌≡◌, ◌++◌, [], length, map, sym, ap, ◌∙◌, arith}
+use Rattle.std.proofs.Common.{[], map, sym, arith}
 use Rattle.std.proofs.lemmas.List.{append-nil}
 use Rattle.fields_core.specs.CountHouse.{houses_below}
 use Rattle.fields_core.specs.CountLists.{house_places}

@@ -1,4 +1,4 @@
-use Rattle.std.proofs.Common.{◌≡◌, ◌+◌, ◌-◌, ◌*◌, min, inl, inr, true≢false, sym, ap, ◌∙◌, arith}
+use Rattle.std.proofs.Common.{◌≡◌, ◌-◌, ◌*◌, inl, inr, true≢false, sym, ap, ◌∙◌, arith}
 use Rattle.std.proofs.lemmas.Bool.{cases_Bool}
 use Rattle.fields_core.proofs.TentLines.{some-wide, touched, untouched, touch-beside, touch-above, touch-below}
 use Rattle.fields_core.proofs.tents.touch.touches_tent.Goals.{then-has_tent_among, else-has_tent_among}

@@ -1,6 +1,6 @@
 use Rattle.engine_core.proofs.Common.{AreSetsOf, IsBitsOf, after, arith, has, length, slice_index, ◌+◌, ◌<◌, ◌≡◌}
 use Rattle.engine_core.proofs.KeepLemmas.{kept-none, kept-left}
-use Rattle.engine_core.proofs.LostLemmas.{lost-differ, lost-more, lost-none, lost-same}
+use Rattle.engine_core.proofs.LostLemmas.{lost-differ, lost-more, lost-same}
 use Rattle.engine_core.proofs.QueueLemmas.{scope-in, within_of}
 use Rattle.engine_core.proofs.ScopeLemmas.{IsUpto, upto-next, upto-cell, upto-left, upto-same, upto-all}
 use Rattle.engine_core.proofs.TrailLemmas.{further-more}

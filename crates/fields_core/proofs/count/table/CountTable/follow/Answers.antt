@@ -1,4 +1,4 @@
-use Rattle.std.proofs.Common.{◌≡◌, ◌<◌, length, subst, ap, ◌∙◌, arith}
+use Rattle.std.proofs.Common.{◌<◌, subst, ap, ◌∙◌, arith}
 use Rattle.grid_core.specs.Board.{has}
 use Rattle.fields_core.specs.CountHouse.{CountedHouses}
 use Rattle.fields_core.specs.Tallies.{AreTallied}
