@@ -32,11 +32,13 @@ pub use Rattle.grid_core.proofs.CandidateLemmas.{least_below-passes, same_from_i
 pub use Rattle.grid_core.proofs.CandidateLemmas.{total-pos, within_inside}
 pub use Rattle.grid_core.proofs.GridLemmas.{grid_of-at, grid_of-full, grid_of-inside, is_full-count, length-grid_of, only-at, only-has, only-here}
 pub use Rattle.grid_core.proofs.GridLemmas.{only-inside, only-other, single-at, total-only}
+pub use Rattle.grid_core.proofs.PieceLemmas.{ends-close, ends-more, last-close, last-le, length-pieces, piece-at, piece-ends, pieces-close, pieces-more}
 pub use Rattle.grid_core.specs.Board.{Layout, SameShape, cells_of}
 unfoldable pub use Rattle.grid_core.specs.Board.{has}
 pub use Rattle.grid_core.specs.Candidates.{Candidates, IsInside, IsWithin}
 unfoldable pub use Rattle.grid_core.specs.Candidates.{all_of, any_below, better, count_below, grid_of, is_dead, is_full, least_below, only, pick}
 unfoldable pub use Rattle.grid_core.specs.Candidates.{single, sum_below, total, with_set, without}
+pub use Rattle.grid_core.specs.Pieces.{AreEnds, last_end, pieces}
 unfoldable pub use Rattle.grid_core.specs.Regions.{step}
 pub use Rattle.engine_core.specs.Closing.{HasStruck}
 unfoldable pub use Rattle.engine_core.specs.Closing.{closure, replay, round, rounds, sweeps_of}
@@ -53,7 +55,7 @@ pub use Rattle.engine_core.specs.House.{AreDifferent, IsDecided}
 unfoldable pub use Rattle.engine_core.specs.House.{kept_in}
 pub use Rattle.engine_core.specs.HouseIndex.{AreHousesAt, AreScopes, IsFirstFrom, IsIndex, IsPut, IsRoom, number_at, scope_of, start_at}
 pub use Rattle.engine_core.specs.HouseLaws.{bits-of_values, kept-decided, sets-bits, sets-of_values, visited-after}
-pub use Rattle.engine_core.specs.HouseList.{AreEnds, IsListed, begin_of, last_end, listed, pieces}
+pub use Rattle.engine_core.specs.HouseList.{IsListed, listed}
 pub use Rattle.engine_core.specs.HousesLaws.{bound_enough, by_houses-lawful, counted_twice, from_first}
 pub use Rattle.engine_core.specs.Keeping.{AreSetsOf, IsKept}
 pub use Rattle.engine_core.specs.Neighbours.{differ, neighbours}

@@ -1,4 +1,4 @@
--- Laws of lists that are the pieces of one.
+-- Laws of lists of places that are the pieces of one list.
 use Rattle.std.specs.List.{concat, filter}
 use Rattle.std.proofs.lemmas.List.{append-nil, get_or_append_left, get_or_read}
 use Rattle.std.proofs.lemmas.List.Edits.{between_more, between_none}
@@ -6,37 +6,9 @@ use Rattle.std.proofs.lemmas.List.Elements.{filter-append}
 use Rattle.std.proofs.lemmas.List.Sums.{count_by-le-length, length-filter}
 use Rattle.engine_core.specs.HouseList.{IsGrown, Listed}
 use Rattle.engine_core.proofs.Common.{append_assoc, drop, eq-eqb, eqb, length-append, ne_eqb, not, take, ◌∙◌}
-use Rattle.engine_core.proofs.Common.{AreEnds, IsListed, List, [], ap, arith, begin_of, between, between_is, between_to_end, common_steps}
+use Rattle.engine_core.proofs.Common.{AreEnds, IsListed, List, [], ap, arith, between, between_is, between_to_end, common_steps}
 use Rattle.engine_core.proofs.Common.{drop-append-le, get_or, last_end, length, length-between, listed, pieces, refl, suc, sum_by, sum_by-cons, sym}
-use Rattle.engine_core.proofs.Common.{take-append-le, zero, ℕ, ◌++◌, ◌+◌, ◌-◌, ◌<◌, ◌^◌, ◌∷◌, ◌≡◌, ◌≤◌}
-
-pub last-le : (n from : ℕ) (ends : List ℕ) → AreEnds n from ends → (from ≤ last_end from ends) × (last_end from ends ≤ n)
-last-le n from [] e = (omega arith, e)
-last-le n from (end ∷ ends) (le, e) = let w = last-le n end ends e in let a = w.0 in (omega arith, w.1)
-
-pub ends-more : (n m from : ℕ) (ends : List ℕ) → n ≤ m → AreEnds n from ends → AreEnds m from ends
-ends-more n m from [] le e = omega arith
-ends-more n m from (end ∷ ends) le (low, e) = (low, ends-more n m end ends le e)
-
-pub ends-close : (n from : ℕ) (ends : List ℕ) → AreEnds n from ends → AreEnds n from (ends ++ n ∷ [])
-ends-close n from [] e = (e, omega arith)
-ends-close n from (end ∷ ends) (low, e) = (low, ends-close n end ends e)
-
-pub last-close : (from end : ℕ) (ends : List ℕ) → last_end from (ends ++ end ∷ []) ≡ end
-last-close from end [] = refl
-last-close from end (e ∷ ends) = last-close e end ends
-
-pub pieces-close : (xs : List ℕ) (from end : ℕ) (ends : List ℕ) → pieces xs from (ends ++ end ∷ []) ≡ pieces xs from ends ++ between (last_end from ends) end xs ∷ []
-pieces-close xs from end [] = refl
-pieces-close xs from end (e ∷ ends) = ap (λ ps. between from e xs ∷ ps) (pieces-close xs e end ends)
-
-pub length-pieces : (xs : List ℕ) (from : ℕ) (ends : List ℕ) → length (pieces xs from ends) ≡ length ends
-length-pieces xs from [] = refl
-length-pieces xs from (e ∷ ends) = ap suc (length-pieces xs e ends)
-
-pub pieces-more : (xs ys : List ℕ) (from : ℕ) (ends : List ℕ) → AreEnds (length xs) from ends → pieces (xs ++ ys) from ends ≡ pieces xs from ends
-pieces-more xs ys from [] e = refl
-pieces-more xs ys from (end ∷ ends) (low, e) = grind (arith, common_steps, between_is, last-le, take-append-le, pieces-more xs ys end ends)
+use Rattle.engine_core.proofs.Common.{ends-more, last-close, last-le, length-pieces, piece-ends, pieces-close, pieces-more, zero, ℕ, ◌++◌, ◌+◌, ◌-◌, ◌<◌, ◌^◌, ◌∷◌, ◌≡◌, ◌≤◌}
 
 pub listed-more : (xs ends ys : List ℕ) → AreEnds (length xs) 0 ends
     → listed (xs ++ ys) ends ≡ record { closed = (listed xs ends).closed; begun = (listed xs ends).begun ++ ys }
@@ -44,25 +16,6 @@ listed-more xs ends ys e = rw (pieces-more xs ys 0 ends e, drop-append-le (last_
 
 pub listed-close : (xs ends : List ℕ) → listed xs (ends ++ length xs ∷ []) ≡ record { closed = (listed xs ends).closed ++ (listed xs ends).begun ∷ []; begun = [] }
 listed-close xs ends = grind (arith, common_steps, between_to_end, last-close, pieces-close)
-
-pub piece-at : (xs : List ℕ) (from : ℕ) (ends : List ℕ) (h : ℕ) → h < length ends → get_or (pieces xs from ends) h [] ≡ between (begin_of from ends h) (get_or ends h 0) xs
-piece-at xs from [] h lt = absurd (omega arith)
-piece-at xs from (end ∷ ends) zero lt = refl
-piece-at xs from (end ∷ ends) (suc h) lt = piece-at xs end ends h (omega arith)
-
-pub begin-is : (from : ℕ) (ends : List ℕ) (h : ℕ) → h < length ends → begin_of from ends (suc h) ≡ get_or ends h 0
-begin-is from [] h lt = absurd (omega arith)
-begin-is from (end ∷ ends) zero lt = refl
-begin-is from (end ∷ ends) (suc h) lt = begin-is end ends h (omega arith)
-
-pub piece-ends : (n from : ℕ) (ends : List ℕ) (h : ℕ) → AreEnds n from ends → h < length ends → (begin_of from ends h ≤ get_or ends h 0) × (get_or ends h 0 ≤ n)
-piece-ends n from [] h e lt = absurd (omega arith)
-piece-ends n from (end ∷ ends) zero (low, e) lt = let w = last-le n end ends e in let a = w.0 in let b = w.1 in (low, omega arith)
-piece-ends n from (end ∷ ends) (suc h) (low, e) lt = piece-ends n end ends h e (omega arith)
-
-pub begin-after : (from : ℕ) (ends : List ℕ) (h : ℕ) → (h ≡ 0 → ⊥) → h < length ends → get_or ends (h - 1) 0 ≡ begin_of from ends h
-begin-after from ends zero ne lt = absurd (ne refl)
-begin-after from ends (suc h) ne lt = let e : suc h - 1 ≡ h = omega arith in rw e (sym (begin-is from ends h (omega arith)))
 
 pub closed-in : (xs ends : List ℕ) (h : ℕ) → h < length (listed xs ends).closed → h < length ends
 closed-in xs ends h lt = let e = length-pieces xs 0 ends in omega arith
@@ -120,7 +73,7 @@ pieces-joined xs from (end ∷ ends) (low, e) =
 
 -- a closed list ends no earlier than it begins, and within the places
 pub closed-ends : (xs ends : List ℕ) (l : Listed) (h end : ℕ) → AreEnds (length xs) 0 ends → listed xs ends ≡ l → h < length l.closed → end ≡ get_or ends h end
-    → (begin_of 0 ends h ≤ end) × (end ≤ length xs)
+    → (get_or (0 ∷ ends) h 0 ≤ end) × (end ≤ length xs)
 closed-ends xs ends l h end e is lt at =
     let long = ap (λ (v : Listed). length v.closed) is in
     let there : h < length ends = closed-in xs ends h (omega arith) in

@@ -1,5 +1,6 @@
 -- What a rule set means, and what every rule set keeps to.
 use Rattle.std.specs.Prelude.{◌≡◌, ℕ, zero, suc, max, Option, Some, None, ◌==◌, ◌||◌, ◌+◌, ◌-◌, ◌*◌, ◌<◌, ◌≤◌, Bool, true, false, not, cond, ◌&&◌, List, [], ◌∷◌, length, slice_index}
+use Rattle.std.specs.List.{list_any}
 use Rattle.grid_core.specs.Candidates.{Candidates, IsInside, IsWithin, single, count_below, sum_below}
 use Rattle.grid_core.specs.Board.{Layout, cells_of}
 use Rattle.grid_core.specs.Grids.{IsGrid}
@@ -20,8 +21,7 @@ pub record Puzzle : Type 0 where
 
 -- the list has the place
 unfoldable pub has_place : List ℕ → ℕ → Bool
-has_place [] place = false
-has_place (x ∷ xs) place = (x == place) || has_place xs place
+has_place xs place = list_any (λ x. x == place) xs
 
 -- a list of one value for each cell
 abbrev pub IsGridOf : Puzzle → List ℕ → Type 0

@@ -8,10 +8,11 @@ use Rattle.engine_core.specs.Queue.{IsRested, IsWoken, IsSweep, IsEnded, waits_f
 use Rattle.engine_core.specs.Trail.{Trail, is_since}
 use Rattle.engine_core.specs.Waiting.{words_of, is_waiting, AreCalled}
 use Rattle.engine_core.specs.declared.mode.Closed.{Closed}
-use Rattle.engine_core.specs.declared.closing.work.Made.{Made}
+use Rattle.engine_core.specs.declared.closing.work.Needed.{Needed}
 
-abbrev pub needs_made : Made → Needs
-needs_made m =
+-- what the record says
+abbrev pub needs_in : Needed → Needs
+needs_in m =
     record {
       cells = m.cells;
       values = m.values;

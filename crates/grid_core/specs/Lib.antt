@@ -1,5 +1,6 @@
 pub mod Extent
 pub mod Grids
+pub mod Pieces
 pub mod Candidates
 pub mod Board
 pub mod Regions

@@ -8,7 +8,7 @@ ghost use Rattle.engine_core.specs.Puzzle.{needs_of, FitsIn, IsBoardOf, IsGridOf
 ghost use Rattle.engine_core.specs.Queue.{but, IsAnyOf};
 ghost use Rattle.engine_core.specs.Waiting.{is_waiting};
 ghost use Rattle.engine_core.specs.Trail.{AreLost, IsBack, IsFurther, Visits, is_emptied_since};
-ghost use Rattle.engine_core.specs.Working.{needs_made, IsAlong, IsSameButWaits, WorkWaits, HasTraceRoom, WakesAt, Settles, WakesSince, StillFollows};
+ghost use Rattle.engine_core.specs.Working.{needs_in, IsAlong, IsSameButWaits, WorkWaits, HasTraceRoom, WakesAt, Settles, WakesSince, StillFollows};
 
 use crate::closing::step::{settle, wait_from};
 use crate::closing::waits::{next_around, next_waiting, unmark, words_for};
@@ -19,9 +19,9 @@ use grid_core::{Board, Grid};
 use std::alloc::{AllocError, Global};
 use std::marker::Model;
 
-/// What memory was taken for.
+/// What memory is taken for.
 #[derive(Clone, Copy)]
-pub(crate) struct Made {
+pub(crate) struct Needed {
     pub cells: usize,
     pub values: u8,
     pub houses: usize,
@@ -33,7 +33,7 @@ pub(crate) struct Made {
 /// mark for each house, and in a queue room for the houses visited.
 #[derive(Drop)]
 pub(crate) struct Work<R: Rules> {
-    made: Made,
+    made: Needed,
     scratch: R::Scratch,
     sets: Vec<u32>,
     kept: Vec<u32>,
@@ -43,12 +43,12 @@ pub(crate) struct Work<R: Rules> {
 
 impl<R: Rules> Model for Work<R> {
     ghost use Rattle.engine_core.specs.Mode.{is_queue};
-    ghost use Rattle.engine_core.specs.Working.{Working, needs_made, IsWorkOf};
+    ghost use Rattle.engine_core.specs.Working.{Working, needs_in, IsWorkOf};
 
     ghost Value = { Working R.Scratch };
 
     ghost view = { λ w. record {
-      made = needs_made w.made;
+      made = needs_in w.made;
       trace = w.trace.items;
       waits = w.waits.items;
       sets = w.sets.items;
@@ -56,8 +56,8 @@ impl<R: Rules> Model for Work<R> {
       scratch = w.scratch;
     } };
 
-    ghost invariant = { λ w. IsWorkOf (is_queue R.MODE) (needs_made w.made) w.trace.items
-        w.waits.items w.sets.items w.kept.items × R.serves w.scratch (needs_made w.made) };
+    ghost invariant = { λ w. IsWorkOf (is_queue R.MODE) (needs_in w.made) w.trace.items
+        w.waits.items w.sets.items w.kept.items × R.serves w.scratch (needs_in w.made) };
 }
 
 impl<R: Rules> Work<R> {
@@ -82,8 +82,8 @@ impl<R: Rules> Work<R> {
     }
 
     /// What the memory was taken for.
-    pub(crate) fn made(&self) -> Made
-        ensures { needs_made result ≡ self.now.made }
+    pub(crate) fn made(&self) -> Needed
+        ensures { needs_in result ≡ self.now.made }
     {
         self.made
     }
@@ -271,10 +271,10 @@ impl<R: Rules> Work<R> {
 }
 
 /// What the rules need memory for.
-pub(crate) fn needs<R: Rules>(rules: &R) -> Made
-    ensures { needs_made result ≡ needs_of (R.puzzle rules.now) }
+pub(crate) fn needs<R: Rules>(rules: &R) -> Needed
+    ensures { needs_in result ≡ needs_of (R.puzzle rules.now) }
 {
-    Made {
+    Needed {
         cells: rules.cells(),
         values: rules.values(),
         houses: rules.houses(),

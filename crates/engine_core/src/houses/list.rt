@@ -1,9 +1,10 @@
 //! Houses as lists of places, one after another.
 #![tactic(auto, using(crate::proofs::LawSets::house_list_laws))]
 
-ghost use Rattle.std.specs.Prelude.{◌≡◌, ◌+◌, ◌-◌, ◌<◌, ◌≤◌, ◌^◌, ◌==◌, true, false, not, ◌++◌, ◌∷◌, [], filter, IfOk, OnOk, length, slice_index_or, sum_by};
+ghost use Rattle.std.specs.Prelude.{◌≡◌, ◌+◌, ◌-◌, ◌<◌, ◌≤◌, ◌^◌, ◌==◌, true, false, not, ◌++◌, ◌∷◌, [], filter, IfOk, OnOk, length, slice_index, slice_index_or, sum_by};
 ghost use Rattle.std.specs.List.{between, concat};
-ghost use Rattle.engine_core.specs.HouseList.{begin_of, last_end, pieces, AreEnds, IsGrown};
+ghost use Rattle.grid_core.specs.Pieces.{last_end, pieces, AreEnds};
+ghost use Rattle.engine_core.specs.HouseList.{IsGrown};
 
 use std::alloc::{AllocError, Global};
 use std::marker::Model;
@@ -193,7 +194,7 @@ fn copy_others(places: &mut Vec<u32>, from: usize, end: usize, but: usize) -> Re
 /// Where a list begins: where the one before ends.
 fn begin(ends: &[u32], house: usize) -> usize
     requires { house < length ends.now }
-    ensures { result ≡ begin_of 0 ends.now house }
+    ensures { result ≡ slice_index (0 ∷ ends.now) house }
 {
     if house == 0 {
         0

@@ -18,7 +18,8 @@ pub(crate) struct Clues {
 impl Model for Clues {
     ghost use Rattle.std.specs.Prelude.{length};
     ghost use Rattle.gameid_core.specs.PatternText.{SoFar};
-    ghost use Rattle.gameid_core.specs.Clues.{AreEnds, cut_at};
+    ghost use Rattle.grid_core.specs.Pieces.{AreEnds};
+    ghost use Rattle.gameid_core.specs.Clues.{cut_at};
 
     ghost Value = { SoFar };
 

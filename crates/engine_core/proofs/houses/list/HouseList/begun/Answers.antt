@@ -1,5 +1,4 @@
-use Rattle.engine_core.proofs.Common.{arith}
-use Rattle.engine_core.proofs.PieceLemmas.{last-le}
+use Rattle.engine_core.proofs.Common.{arith, last-le}
 use Rattle.engine_core.proofs.houses.list.HouseList.begun.Goals as goal
 
 pub overflow_sub-result : goal.overflow_sub-result
