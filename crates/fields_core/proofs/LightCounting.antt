@@ -14,7 +14,7 @@ use Rattle.gameid_core.specs.Puzzles.{Light, IsLight, IsLightCell}
 use Rattle.gameid_core.specs.declared.light_up.cell.LightCell.{LightCell}
 use Rattle.gameid_core.specs.declared.light_up.cell.LightCell.TheVariants.{White, Black, Numbered}
 use Rattle.fields_core.specs.CountHouse.{exactly, one_at_most, one_at_least, IsCounting}
-use Rattle.fields_core.specs.Light.{light_cells, white, bulb, joined_in_row, joined_in_column, sees, sees_bulb, bulbs_beside, black_right, number_right, bulb_right, lit_right, is_lit}
+use Rattle.fields_core.specs.Light.{light_cells, white, bulb, joined_in_row, joined_in_column, sees, sees_bulb, bulbs_beside, black_right, number_right, bulb_right, lit_right, solves_lights}
 use Rattle.fields_core.specs.LightHouses.{row_run, column_run, seen_from, begins_row_run, begins_column_run, numbered, number_house, row_house, column_house, lit_house, light_houses}
 use Rattle.fields_core.proofs.LightFaultLemmas.{lit-parts}
 use Rattle.fields_core.proofs.LightSight.{bulb-in, row-of, column-of}
@@ -36,7 +36,7 @@ pub filter-few : (test : ℕ → Bool) (xs : List ℕ) → length (filter test x
 filter-few test xs = let a = length-filter test xs in let b = count_by-le-length test xs in omega arith
 
 -- bulbs stand on white cells
-bulb-white : (p : Light) (g : List ℕ) → IsGrid (light_cells p) 2 g → is_lit p g ≡ true → (d : ℕ) → bulb g d ≡ true → white p d ≡ true
+bulb-white : (p : Light) (g : List ℕ) → IsGrid (light_cells p) 2 g → solves_lights p g ≡ true → (d : ℕ) → bulb g d ≡ true → white p d ≡ true
 unfolding black_right
 bulb-white p g grid good d on =
     elim (or_cases (white p d) (eqb (slice_index g d) 0) (all_below-at (black_right p g) (light_cells p) d (lit-parts p g good).black (bulb-in g (light_cells p) d grid.each_cell on))) [
@@ -45,7 +45,7 @@ bulb-white p g grid good d on =
     ]
 
 -- no bulb sees another
-no-sight : (p : Light) (g : List ℕ) → IsGrid (light_cells p) 2 g → is_lit p g ≡ true → (d e : ℕ) → bulb g d ≡ true → bulb g e ≡ true
+no-sight : (p : Light) (g : List ℕ) → IsGrid (light_cells p) 2 g → solves_lights p g ≡ true → (d e : ℕ) → bulb g d ≡ true → bulb g e ≡ true
     → (joined_in_row p d e || joined_in_column p d e) ≡ true → d ≡ e
 unfolding bulb_right sees_bulb sees
 no-sight p g grid good d e bd be joined = elim (cases_eq d e) [
@@ -58,17 +58,17 @@ no-sight p g grid good d e bd be joined = elim (cases_eq d e) [
 ]
 
 -- ---- the houses of numbers
-number-kind : (p : Light) (c : ℕ) → IsBoard p → c < light_cells p → EachOf (IsMet (light_cells p) (is_lit p)) (number_house p c)
+number-kind : (p : Light) (c : ℕ) → IsBoard p → c < light_cells p → EachOf (IsMet (light_cells p) (solves_lights p)) (number_house p c)
 unfolding number_right
 number-kind p c board lt = by (get_or p.cells c Black) refl
   where
     places : List ℕ
     places = filter (white p) (steps p.size c 4)
 
-    by : (cell : LightCell) → get_or p.cells c Black ≡ cell → EachOf (IsMet (light_cells p) (is_lit p)) (numbered cell (filter (white p) (steps p.size c 4)))
-    by White e = each-none (IsMet (light_cells p) (is_lit p))
-    by Black e = each-none (IsMet (light_cells p) (is_lit p))
-    by (Numbered n) e = each-one (IsMet (light_cells p) (is_lit p)) (exactly n (filter (white p) (steps p.size c 4))) (met-from (light_cells p) (is_lit p) (exactly n (filter (white p) (steps p.size c 4)))
+    by : (cell : LightCell) → get_or p.cells c Black ≡ cell → EachOf (IsMet (light_cells p) (solves_lights p)) (numbered cell (filter (white p) (steps p.size c 4)))
+    by White e = each-none (IsMet (light_cells p) (solves_lights p))
+    by Black e = each-none (IsMet (light_cells p) (solves_lights p))
+    by (Numbered n) e = each-one (IsMet (light_cells p) (solves_lights p)) (exactly n (filter (white p) (steps p.size c 4))) (met-from (light_cells p) (solves_lights p) (exactly n (filter (white p) (steps p.size c 4)))
         (λ d on. white-in p d board.long (place-filter (white p) (steps p.size c 4) d on).1)
         (distinct-filter (white p) (steps p.size c 4) (steps-distinct p.size c 4 board.some (omega arith)))
         (let a = filter-few (white p) (steps p.size c 4) in let b = steps-few p.size c 4 in omega arith)
@@ -105,16 +105,16 @@ column-run-distinct p c board = distinct-filter (joined_in_column p c) (column_p
 -- cells of which each sees each hold one bulb at most
 run-kind : (p : Light) (run : List ℕ) → AreDistinct run → length run ≤ 256 → ((d : ℕ) → has_place run d ≡ true → d < light_cells p)
     → ((d e : ℕ) → has_place run d ≡ true → has_place run e ≡ true → (joined_in_row p d e || joined_in_column p d e) ≡ true)
-    → IsMet (light_cells p) (is_lit p) (one_at_most run)
-run-kind p run distinct few within joined = met-from (light_cells p) (is_lit p) (one_at_most run) within distinct (omega arith) (omega arith) (omega arith)
+    → IsMet (light_cells p) (solves_lights p) (one_at_most run)
+run-kind p run distinct few within joined = met-from (light_cells p) (solves_lights p) (one_at_most run) within distinct (omega arith) (omega arith) (omega arith)
     (λ g grid good. (omega arith, count-one (bulb g) run distinct (λ d e md me bd be. no-sight p g grid good d e bd be (joined d e md me))))
 
-pub row-kind : (p : Light) (c : ℕ) → IsBoard p → IsMet (light_cells p) (is_lit p) (one_at_most (row_run p c))
+pub row-kind : (p : Light) (c : ℕ) → IsBoard p → IsMet (light_cells p) (solves_lights p) (one_at_most (row_run p c))
 row-kind p c board = run-kind p (row_run p c) (row-run-distinct p c) (row-run-few p c board)
     (λ d on. white-in p d board.long (row-white-end p c d board.some (row-run-joined p c d on)))
     (λ d e md me. or_left _ _ (row-both p c d e (row-run-joined p c d md) (row-run-joined p c e me)))
 
-pub column-kind : (p : Light) (c : ℕ) → IsBoard p → IsMet (light_cells p) (is_lit p) (one_at_most (column_run p c))
+pub column-kind : (p : Light) (c : ℕ) → IsBoard p → IsMet (light_cells p) (solves_lights p) (one_at_most (column_run p c))
 column-kind p c board = run-kind p (column_run p c) (column-run-distinct p c board) (column-run-few p c board)
     (λ d on. white-in p d board.long (column-white-end p c d board.some (column-run-joined p c d on)))
     (λ d e md me. or_right _ _ (column-both p c d e (column-run-joined p c d md) (column-run-joined p c e me)))
@@ -128,9 +128,9 @@ pub in-column-run : (p : Light) (c d : ℕ) → 0 < p.size.w → d < light_cells
 unfolding column_run
 in-column-run p c d pos lt on = grind (arith, common_steps, column-of, place-kept, has_place-here, column-long)
 
-lit-kind : (p : Light) (c : ℕ) → IsBoard p → c < light_cells p → white p c ≡ true → IsMet (light_cells p) (is_lit p) (one_at_least (seen_from p c))
+lit-kind : (p : Light) (c : ℕ) → IsBoard p → c < light_cells p → white p c ≡ true → IsMet (light_cells p) (solves_lights p) (one_at_least (seen_from p c))
 unfolding seen_from lit_right sees_bulb sees
-lit-kind p c board lt on = met-from (light_cells p) (is_lit p) (one_at_least (row_run p c ++ filter (λ d. not (eqb d c)) (column_run p c)))
+lit-kind p c board lt on = met-from (light_cells p) (solves_lights p) (one_at_least (row_run p c ++ filter (λ d. not (eqb d c)) (column_run p c)))
     (λ d m. elim (place-append (row_run p c) others d m) [
       | inl a ↦ (row-kind p c board).is_house.within d a
       | inr b ↦ (column-kind p c board).is_house.within d (place-filter (λ d. not (eqb d c)) (column_run p c) d b).0
@@ -159,7 +159,7 @@ lit-kind p c board lt on = met-from (light_cells p) (is_lit p) (one_at_least (ro
     distinct : AreDistinct (row_run p c ++ filter (λ d. not (eqb d c)) (column_run p c))
     distinct = distinct-append (row_run p c) (filter (λ d. not (eqb d c)) (column_run p c)) (row-run-distinct p c) (distinct-filter (λ d. not (eqb d c)) (column_run p c) (column-run-distinct p c board)) apart
 
-    some-bulb : (g : List ℕ) → IsGrid (light_cells p) 2 g → is_lit p g ≡ true → (d : ℕ) × (has_place (row_run p c ++ filter (λ d. not (eqb d c)) (column_run p c)) d ≡ true) × (bulb g d ≡ true)
+    some-bulb : (g : List ℕ) → IsGrid (light_cells p) 2 g → solves_lights p g ≡ true → (d : ℕ) × (has_place (row_run p c ++ filter (λ d. not (eqb d c)) (column_run p c)) d ≡ true) × (bulb g d ≡ true)
     some-bulb g grid good = elim (or_cases (not (white p c)) _ (all_below-at (lit_right p g) (light_cells p) c (lit-parts p g good).lit lt)) [
       | inl black ↦ absurd (true≢false (sym on ∙ not-true (white p c) black))
       | inr lit ↦ elim (or_cases (bulb g c) _ lit) [
@@ -180,12 +180,12 @@ lit-kind p c board lt on = met-from (light_cells p) (is_lit p) (one_at_least (ro
       ]
     ]
 
-each-met : (p : Light) → IsBoard p → EachOf (IsMet (light_cells p) (is_lit p)) (light_houses p)
+each-met : (p : Light) → IsBoard p → EachOf (IsMet (light_cells p) (solves_lights p)) (light_houses p)
 unfolding light_houses
-each-met p board = each-append (IsMet (light_cells p) (is_lit p)) _ _ (each-below (IsMet (light_cells p) (is_lit p)) (number_house p) (light_cells p) (λ c lt. number-kind p c board lt))
-    (each-append (IsMet (light_cells p) (is_lit p)) _ _ (each-below (IsMet (light_cells p) (is_lit p)) (row_house p) (light_cells p) (λ c lt. each-if (IsMet (light_cells p) (is_lit p)) (begins_row_run p c) _ (λ _. row-kind p c board)))
-    (each-append (IsMet (light_cells p) (is_lit p)) _ _ (each-below (IsMet (light_cells p) (is_lit p)) (column_house p) (light_cells p) (λ c lt. each-if (IsMet (light_cells p) (is_lit p)) (begins_column_run p c) _ (λ _. column-kind p c board)))
-    (each-below (IsMet (light_cells p) (is_lit p)) (lit_house p) (light_cells p) (λ c lt. each-if (IsMet (light_cells p) (is_lit p)) (white p c) _ (λ on. lit-kind p c board lt on)))))
+each-met p board = each-append (IsMet (light_cells p) (solves_lights p)) _ _ (each-below (IsMet (light_cells p) (solves_lights p)) (number_house p) (light_cells p) (λ c lt. number-kind p c board lt))
+    (each-append (IsMet (light_cells p) (solves_lights p)) _ _ (each-below (IsMet (light_cells p) (solves_lights p)) (row_house p) (light_cells p) (λ c lt. each-if (IsMet (light_cells p) (solves_lights p)) (begins_row_run p c) _ (λ _. row-kind p c board)))
+    (each-append (IsMet (light_cells p) (solves_lights p)) _ _ (each-below (IsMet (light_cells p) (solves_lights p)) (column_house p) (light_cells p) (λ c lt. each-if (IsMet (light_cells p) (solves_lights p)) (begins_column_run p c) _ (λ _. column-kind p c board)))
+    (each-below (IsMet (light_cells p) (solves_lights p)) (lit_house p) (light_cells p) (λ c lt. each-if (IsMet (light_cells p) (solves_lights p)) (white p c) _ (λ on. lit-kind p c board lt on)))))
 
 -- ---- a puzzle's board
 number-few : (cells : List LightCell) (c n : ℕ) → AllByRecursion IsLightCell cells → get_or cells c Black ≡ Numbered n → n ≤ 4
@@ -196,7 +196,7 @@ number-few (cell ∷ cells) (suc c) n all e = number-few cells c n all.1 e
 pub light-board : (p : Light) → IsLight p → IsBoard p
 light-board p is = grind (arith, common_steps, number-few)
 
-pub light-counting : (p : Light) → IsLight p → IsCounting (light_cells p) (λ c. not (white p c)) (light_houses p) (is_lit p)
+pub light-counting : (p : Light) → IsLight p → IsCounting (light_cells p) (λ c. not (white p c)) (light_houses p) (solves_lights p)
 unfolding black_right
 light-counting p is = record {
   few_cells = let b = light-board p is in let a : p.size.w * p.size.h ≤ 256 * p.size.h = mul-le-mul_right p.size.h b.w_few in let h = b.h_few in omega arith;

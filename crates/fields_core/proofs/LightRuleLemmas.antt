@@ -9,7 +9,7 @@ use Rattle.grid_core.proofs.CandidateLemmas.{all_below-at, all_below-from, any_b
 use Rattle.gameid_core.specs.Puzzles.{Light}
 use Rattle.gameid_core.specs.declared.light_up.cell.LightCell.{LightCell}
 use Rattle.gameid_core.specs.declared.light_up.cell.LightCell.TheVariants.{White, Black, Numbered}
-use Rattle.fields_core.specs.Light.{light_cells, white, bulb, bulbs_beside, number_is, joined_in_row, joined_in_column, sees, sees_bulb, black_right, number_right, bulb_right, lit_right, is_lit}
+use Rattle.fields_core.specs.Light.{light_cells, white, bulb, bulbs_beside, number_is, joined_in_row, joined_in_column, sees, sees_bulb, black_right, number_right, bulb_right, lit_right, solves_lights}
 use Rattle.fields_core.specs.LightSolutions.{light_row, light_column, IsFromTo, AreJoined, Sees, SeesBulb, IsLightSolution}
 use Rattle.fields_core.specs.LightFaults.{IsLightFault}
 use Rattle.fields_core.specs.declared.light_up.fault.LightFault.{LightFault}
@@ -101,7 +101,7 @@ alone on seen none = grind (arith, common_steps, cases_Bool on, cases_Bool seen)
 not-alone : (on seen : Bool) → not (on && seen) ≡ true → on ≡ true → seen ≡ true → ⊥
 not-alone on seen right a b = grind (arith, common_steps)
 
-pub rule-from-test : (p : Light) (g : List ℕ) → IsGrid (light_cells p) 2 g → is_lit p g ≡ true → IsLightSolution p g
+pub rule-from-test : (p : Light) (g : List ℕ) → IsGrid (light_cells p) 2 g → solves_lights p g ≡ true → IsLightSolution p g
 unfolding black_right number_right bulb_right lit_right
 rule-from-test p g grid on =
     let parts = lit-parts p g on in
@@ -124,7 +124,7 @@ rule-from-test p g grid on =
       ];
     }
 
-pub test-from-rule : (p : Light) (g : List ℕ) → IsGrid (light_cells p) 2 g → IsLightSolution p g → is_lit p g ≡ true
+pub test-from-rule : (p : Light) (g : List ℕ) → IsGrid (light_cells p) 2 g → IsLightSolution p g → solves_lights p g ≡ true
 unfolding black_right number_right bulb_right lit_right
 test-from-rule p g grid s = lit-from p g
     (all_below-from (black_right p g) (light_cells p) black)

@@ -14,7 +14,7 @@ use Rattle.gameid_core.specs.Puzzles.{Light}
 use Rattle.fields_core.specs.CountHouse.{CountHouse, CountedHouses, count_house_of, start_of, after_house, count_puzzle}
 use Rattle.fields_core.specs.CountLaws.{after-house}
 use Rattle.fields_core.specs.LightHouses.{light_houses}
-use Rattle.fields_core.specs.Ruled.{light_table}
+use Rattle.fields_core.specs.Lawful.{light_table}
 use Rattle.std.proofs.lemmas.Grind.{common_steps}
 
 pub light-houses : (t : CountedHouses) (p q : Light) → t ≡ light_table p → p ≡ q → t.houses ≡ light_houses q

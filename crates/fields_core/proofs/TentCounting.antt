@@ -18,8 +18,8 @@ use Rattle.engine_core.specs.Filling.{Set, has_value}
 use Rattle.engine_core.specs.FillingLaws.{filling_from_test, has_value_below}
 use Rattle.gameid_core.specs.Puzzles.{Tents, IsTents, AreCounts, line_cells}
 use Rattle.fields_core.specs.CountHouse.{exactly, one_at_most, one_at_least, IsCounting}
-use Rattle.fields_core.specs.Tents.{tent_cells, tree, tent, are_near, touches, tents_in_column, tents_in_row, tree_right, touch_right, column_right, row_right, names_none_twice, leaves_none_out, trees_beside, can_be_paired, is_camp}
-use Rattle.fields_core.specs.TentHouses.{column_of_tents, row_of_tents, free_beside, tree_house, square_house, tent_houses, is_bare}
+use Rattle.fields_core.specs.Tents.{tent_cells, tree, tent, are_near, touches, tents_in_column, tents_in_row, tree_right, touch_right, column_right, row_right, names_none_twice, leaves_none_out, trees_beside, can_be_paired, solves_tents}
+use Rattle.fields_core.specs.TentHouses.{column_of_tents, row_of_tents, free_beside, tree_house, square_house, tent_houses, is_barred}
 use Rattle.fields_core.proofs.HouseLists.{row-long, column-long}
 use Rattle.fields_core.proofs.PlaceLists.{count-some, count-one}
 use Rattle.fields_core.proofs.StepLaws.{steps-distinct, steps-few}
@@ -37,8 +37,8 @@ pub record CampParts (p : Tents) (g : List ℕ) : Type 0 where
   pub rows : all_below (row_right p g) p.size.h ≡ true
   pub paired : can_be_paired p g ≡ true
 
-pub camp-parts : (p : Tents) (g : List ℕ) → is_camp p g ≡ true → CampParts p g
-unfolding is_camp
+pub camp-parts : (p : Tents) (g : List ℕ) → solves_tents p g ≡ true → CampParts p g
+unfolding solves_tents
 camp-parts p g on = grind (arith, common_steps, and_parts)
 
 -- what is used of a puzzle
@@ -56,16 +56,16 @@ column-within p x d lt on = grind (arith, common_steps, has_place-at, column-lon
 row-within : (p : Tents) (y d : ℕ) → y < p.size.h → has_place (row_places p.size y) d ≡ true → d < tent_cells p
 row-within p y d lt on = grind (arith, common_steps, has_place-at, row-long, row-at, mul-le-mul_right)
 
-column-kind : (p : Tents) (x : ℕ) → IsField p → x < p.size.w → IsMet (tent_cells p) (is_camp p) (exactly (slice_index p.counts x) (column_places p.size x))
+column-kind : (p : Tents) (x : ℕ) → IsField p → x < p.size.w → IsMet (tent_cells p) (solves_tents p) (exactly (slice_index p.counts x) (column_places p.size x))
 unfolding column_right
-column-kind p x field lt = met-from (tent_cells p) (is_camp p) _ (λ d on. column-within p x d lt on) (column-distinct p.size x field.some)
+column-kind p x field lt = met-from (tent_cells p) (solves_tents p) _ (λ d on. column-within p x d lt on) (column-distinct p.size x field.some)
     (omega (arith, column-long p.size x, field.h_few)) (omega (arith, field.number x)) (omega (arith, field.number x)) (λ g grid good.
     let e = eqb-true (tents_in_column p.size g x) (slice_index p.counts x) (all_below-at (column_right p g) p.size.w x (camp-parts p g good).columns lt) in
     (omega arith, omega arith))
 
-row-kind : (p : Tents) (y : ℕ) → IsField p → y < p.size.h → IsMet (tent_cells p) (is_camp p) (exactly (slice_index p.counts (p.size.w + y)) (row_places p.size y))
+row-kind : (p : Tents) (y : ℕ) → IsField p → y < p.size.h → IsMet (tent_cells p) (solves_tents p) (exactly (slice_index p.counts (p.size.w + y)) (row_places p.size y))
 unfolding row_right
-row-kind p y field lt = met-from (tent_cells p) (is_camp p) _ (λ d on. row-within p y d lt on) (row-distinct p.size y)
+row-kind p y field lt = met-from (tent_cells p) (solves_tents p) _ (λ d on. row-within p y d lt on) (row-distinct p.size y)
     (omega (arith, row-long p.size y, field.w_few)) (omega (arith, field.number (p.size.w + y))) (omega (arith, field.number (p.size.w + y))) (λ g grid good.
     let e = eqb-true (tents_in_row p.size g y) (slice_index p.counts (p.size.w + y)) (all_below-at (row_right p g) p.size.h y (camp-parts p g good).rows lt) in
     (omega arith, omega arith))
@@ -112,7 +112,7 @@ pub in-range : (n c : ℕ) → c < n → has_place (range_with_len 0 n) c ≡ tr
 in-range n c lt = rw (let z : 0 + c ≡ c = omega arith in get_or-range_with_len 0 n c 0 lt ∙ z) at (has_place-here (range_with_len 0 n) c (omega (arith, length-range_with_len 0 n)))
 
 -- a tree has a tent beside it
-tree-tent : (p : Tents) (g : List ℕ) → IsGrid (tent_cells p) 2 g → is_camp p g ≡ true → (c : ℕ) → c < tent_cells p → tree p c ≡ true → (t : ℕ) × (t < tent_cells p) × (tent g t ≡ true) × (has_place (steps p.size t 4) c ≡ true)
+tree-tent : (p : Tents) (g : List ℕ) → IsGrid (tent_cells p) 2 g → solves_tents p g ≡ true → (c : ℕ) → c < tent_cells p → tree p c ≡ true → (t : ℕ) × (t < tent_cells p) × (tent g t ≡ true) × (has_place (steps p.size t 4) c ≡ true)
 unfolding tents_of
 tree-tent p g grid good c lt on =
     let v = given p g (camp-parts p g good).paired in
@@ -125,7 +125,7 @@ tree-tent p g grid good c lt on =
     (t, tent-in g (tent_cells p) t grid.each_cell member.1, member.1, rw w.2 at (is.each w.0 k).2)
 
 -- a tent has a tree beside it
-tent-tree : (p : Tents) (g : List ℕ) → IsGrid (tent_cells p) 2 g → is_camp p g ≡ true → (t : ℕ) → tent g t ≡ true → (c : ℕ) × (tree p c ≡ true) × (has_place (steps p.size t 4) c ≡ true)
+tent-tree : (p : Tents) (g : List ℕ) → IsGrid (tent_cells p) 2 g → solves_tents p g ≡ true → (t : ℕ) → tent g t ≡ true → (c : ℕ) × (tree p c ≡ true) × (has_place (steps p.size t 4) c ≡ true)
 unfolding tents_of
 tent-tree p g grid good t on =
     let v = given p g (camp-parts p g good).paired in
@@ -136,15 +136,15 @@ tent-tree p g grid good t on =
     (slice_index v.0 w.0, e.1, rw w.2 at e.2)
 
 -- no tent stands on a tree
-tree-bare : (p : Tents) (g : List ℕ) → is_camp p g ≡ true → (c : ℕ) → c < tent_cells p → tree p c ≡ true → slice_index g c ≡ 0
+tree-bare : (p : Tents) (g : List ℕ) → solves_tents p g ≡ true → (c : ℕ) → c < tent_cells p → tree p c ≡ true → slice_index g c ≡ 0
 unfolding tree_right
 tree-bare p g good c lt on = elim (or_cases (not (tree p c)) (eqb (slice_index g c) 0) (all_below-at (tree_right p g) (tent_cells p) c (camp-parts p g good).trees lt)) [
   | inl bare ↦ absurd (true≢false (sym on ∙ not-true (tree p c) bare))
   | inr none ↦ eqb-true (slice_index g c) 0 none
 ]
 
-tree-kind : (p : Tents) (c : ℕ) → IsField p → c < tent_cells p → tree p c ≡ true → IsMet (tent_cells p) (is_camp p) (one_at_least (free_beside p c))
-tree-kind p c field lt on = met-from (tent_cells p) (is_camp p) _
+tree-kind : (p : Tents) (c : ℕ) → IsField p → c < tent_cells p → tree p c ≡ true → IsMet (tent_cells p) (solves_tents p) (one_at_least (free_beside p c))
+tree-kind p c field lt on = met-from (tent_cells p) (solves_tents p) _
     (λ d m. beside-in p.size c d field.some lt (place-filter (λ d. not (tree p d)) (steps p.size c 4) d m).0)
     (distinct-filter (λ d. not (tree p d)) (steps p.size c 4) (steps-distinct p.size c 4 field.some (omega arith))) few (omega arith) few (λ g grid good.
     let w = tree-tent p g grid good c lt on in
@@ -170,7 +170,7 @@ in-square : (w c d : ℕ) → c % w + 1 < w → has_place (square_at w c) d ≡ 
 unfolding has_place
 in-square w c d lt on = grind (arith, common_steps, or_cases, eqb-true, cell-after, cell-below)
 
-square-apart : (p : Tents) (g : List ℕ) → IsGrid (tent_cells p) 2 g → is_camp p g ≡ true → (c d e : ℕ) → IsInSquare p.size.w c d → IsInSquare p.size.w c e → tent g d ≡ true → tent g e ≡ true → d ≡ e
+square-apart : (p : Tents) (g : List ℕ) → IsGrid (tent_cells p) 2 g → solves_tents p g ≡ true → (c d e : ℕ) → IsInSquare p.size.w c d → IsInSquare p.size.w c e → tent g d ≡ true → tent g e ≡ true → d ≡ e
 unfolding touch_right touches
 square-apart p g grid good c d e sd se td te = elim (cases_eq d e) [
   | inl same ↦ same
@@ -188,8 +188,8 @@ square-distinct : (w c : ℕ) → 1 < w → AreDistinct (square_at w c)
 unfolding has_place
 square-distinct w c two = grind (arith, common_steps, ne_eqb)
 
-square-kind : (p : Tents) (c : ℕ) → IsField p → c % p.size.w + 1 < p.size.w → c / p.size.w + 1 < p.size.h → IsMet (tent_cells p) (is_camp p) (one_at_most (square_at p.size.w c))
-square-kind p c field right bottom = met-from (tent_cells p) (is_camp p) _
+square-kind : (p : Tents) (c : ℕ) → IsField p → c % p.size.w + 1 < p.size.w → c / p.size.w + 1 < p.size.h → IsMet (tent_cells p) (solves_tents p) (one_at_most (square_at p.size.w c))
+square-kind p c field right bottom = met-from (tent_cells p) (solves_tents p) _
     (λ d on. let s = in-square p.size.w c d right on in let a = s.row_high in cell-in p.size.w p.size.h d field.some (omega arith))
     distinct (omega arith) (omega arith) (omega arith) (λ g grid good. (
       omega arith,
@@ -201,12 +201,12 @@ square-kind p c field right bottom = met-from (tent_cells p) (is_camp p) _
     distinct = square-distinct p.size.w c (omega arith)
 
 -- ---- all houses
-each-met : (p : Tents) → IsField p → EachOf (IsMet (tent_cells p) (is_camp p)) (tent_houses p)
+each-met : (p : Tents) → IsField p → EachOf (IsMet (tent_cells p) (solves_tents p)) (tent_houses p)
 unfolding tent_houses
-each-met p field = each-append (IsMet (tent_cells p) (is_camp p)) _ _ (each-below (IsMet (tent_cells p) (is_camp p)) (column_of_tents p) p.size.w (λ x lt. each-one (IsMet (tent_cells p) (is_camp p)) _ (column-kind p x field lt)))
-    (each-append (IsMet (tent_cells p) (is_camp p)) _ _ (each-below (IsMet (tent_cells p) (is_camp p)) (row_of_tents p) p.size.h (λ y lt. each-one (IsMet (tent_cells p) (is_camp p)) _ (row-kind p y field lt)))
-    (each-append (IsMet (tent_cells p) (is_camp p)) _ _ (each-below (IsMet (tent_cells p) (is_camp p)) (tree_house p) (tent_cells p) (λ c lt. each-if (IsMet (tent_cells p) (is_camp p)) (tree p c) _ (λ on. tree-kind p c field lt on)))
-    (each-below (IsMet (tent_cells p) (is_camp p)) (square_house p) (tent_cells p) (λ c lt. each-if (IsMet (tent_cells p) (is_camp p)) (ltb (c % p.size.w + 1) p.size.w && ltb (c / p.size.w + 1) p.size.h) _ (λ on.
+each-met p field = each-append (IsMet (tent_cells p) (solves_tents p)) _ _ (each-below (IsMet (tent_cells p) (solves_tents p)) (column_of_tents p) p.size.w (λ x lt. each-one (IsMet (tent_cells p) (solves_tents p)) _ (column-kind p x field lt)))
+    (each-append (IsMet (tent_cells p) (solves_tents p)) _ _ (each-below (IsMet (tent_cells p) (solves_tents p)) (row_of_tents p) p.size.h (λ y lt. each-one (IsMet (tent_cells p) (solves_tents p)) _ (row-kind p y field lt)))
+    (each-append (IsMet (tent_cells p) (solves_tents p)) _ _ (each-below (IsMet (tent_cells p) (solves_tents p)) (tree_house p) (tent_cells p) (λ c lt. each-if (IsMet (tent_cells p) (solves_tents p)) (tree p c) _ (λ on. tree-kind p c field lt on)))
+    (each-below (IsMet (tent_cells p) (solves_tents p)) (square_house p) (tent_cells p) (λ c lt. each-if (IsMet (tent_cells p) (solves_tents p)) (ltb (c % p.size.w + 1) p.size.w && ltb (c / p.size.w + 1) p.size.h) _ (λ on.
     let w = and_parts (ltb (c % p.size.w + 1) p.size.w) (ltb (c / p.size.w + 1) p.size.h) on in
     square-kind p c field (ltb-true (c % p.size.w + 1) p.size.w w.0) (ltb-true (c / p.size.w + 1) p.size.h w.1))))))
 
@@ -222,8 +222,8 @@ counts-few size line (n ∷ counts) (suc k) w h all = counts-few size (line + 1)
 pub tent-field : (p : Tents) → IsTents p → IsField p
 tent-field p is = grind (arith, common_steps, counts-few)
 
-pub tent-counting : (p : Tents) → IsTents p → IsCounting (tent_cells p) (is_bare p) (tent_houses p) (is_camp p)
-unfolding is_bare
+pub tent-counting : (p : Tents) → IsTents p → IsCounting (tent_cells p) (is_barred p) (tent_houses p) (solves_tents p)
+unfolding is_barred
 tent-counting p is = record {
   few_cells = let b = tent-field p is in let a : p.size.w * p.size.h ≤ 256 * p.size.h = mul-le-mul_right p.size.h b.w_few in let h = b.h_few in omega arith;
   are_houses = λ h lt. (each-met p (tent-field p is) h lt).is_house;

@@ -10,7 +10,7 @@ use Rattle.engine_core.proofs.IndexLemmas.{counted}
 use Rattle.gameid_core.specs.Puzzles.{Tents}
 use Rattle.fields_core.specs.Tents.{tent_cells, tree}
 use Rattle.fields_core.specs.TentPairs.{trees_of, tree_count, tree_beside, may_pair}
-use Rattle.fields_core.specs.TentHouses.{is_bare}
+use Rattle.fields_core.specs.TentHouses.{is_barred}
 use Rattle.fields_core.proofs.StepLaws.{some-inj, ascends, steps-some}
 use Rattle.fields_core.proofs.BelowLemmas.{any-here, any-none}
 use Rattle.fields_core.proofs.TentBeside.{steps-has}
@@ -82,10 +82,10 @@ treeless-all p c n passed ge = sym (any-none (tree p) (steps p.size c 4) (λ d o
 pub tree-found : (p : Tents) (c n other : ℕ) → n < 4 → Some other ≡ step p.size c n → tree p other ≡ true → true ≡ list_any (tree p) (steps p.size c 4)
 tree-found p c n other lt at on = sym (any-here (tree p) (steps p.size c 4) other (steps-has p.size c 4 n other lt (sym at)) on)
 
-pub barred-tree : (p : Tents) (c : ℕ) → tree p c ≡ true → true ≡ is_bare p c
-unfolding is_bare
+pub barred-tree : (p : Tents) (c : ℕ) → tree p c ≡ true → true ≡ is_barred p c
+unfolding is_barred
 barred-tree p c on = rw on refl
 
-pub barred-alone : (p : Tents) (c : ℕ) (beside : Bool) → tree p c ≡ false → beside ≡ list_any (tree p) (steps p.size c 4) → not beside ≡ is_bare p c
-unfolding is_bare
+pub barred-alone : (p : Tents) (c : ℕ) (beside : Bool) → tree p c ≡ false → beside ≡ list_any (tree p) (steps p.size c 4) → not beside ≡ is_barred p c
+unfolding is_barred
 barred-alone p c beside off is = rw (off, is) refl

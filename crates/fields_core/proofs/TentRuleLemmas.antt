@@ -7,11 +7,11 @@ use Rattle.grid_core.proofs.CandidateLemmas.{all_below-at, all_below-from, any_b
 use Rattle.engine_core.specs.PlaceLaws.{has_place-here, different-from}
 use Rattle.gameid_core.specs.Puzzles.{Tents}
 use Rattle.fields_core.specs.CountHouse.{CountedHouses}
-use Rattle.fields_core.specs.Tents.{tent_cells, tree, tent, touches, tents_in_column, tents_in_row, tree_right, touch_right, column_right, row_right, can_be_paired, is_camp}
+use Rattle.fields_core.specs.Tents.{tent_cells, tree, tent, touches, tents_in_column, tents_in_row, tree_right, touch_right, column_right, row_right, can_be_paired, solves_tents}
 use Rattle.fields_core.specs.TentHouses.{tent_houses}
 use Rattle.fields_core.specs.TentSolutions.{IsPairedBy, IsTentSolution}
 use Rattle.fields_core.specs.TentFaults.{IsTentFault}
-use Rattle.fields_core.specs.Ruled.{tent_table}
+use Rattle.fields_core.specs.Lawful.{tent_table}
 use Rattle.fields_core.specs.declared.tents.fault.TentFault.{TentFault}
 use Rattle.fields_core.specs.declared.tents.fault.TentFault.TheVariants.{Tree, Touch, Column, Row, Match}
 use Rattle.fields_core.proofs.LightFaultLemmas.{first-breaks}
@@ -21,12 +21,12 @@ use Rattle.fields_core.proofs.TentPairLemmas.{tents-distinct, tent-listed, liste
 use Rattle.std.proofs.lemmas.Grind.{common_steps}
 
 pub camp-from : (p : Tents) (g : List ℕ) → all_below (tree_right p g) (tent_cells p) ≡ true → all_below (touch_right p g) (tent_cells p) ≡ true
-    → all_below (column_right p g) p.size.w ≡ true → all_below (row_right p g) p.size.h ≡ true → true ≡ can_be_paired p g → is_camp p g ≡ true
-unfolding is_camp
+    → all_below (column_right p g) p.size.w ≡ true → all_below (row_right p g) p.size.h ≡ true → true ≡ can_be_paired p g → solves_tents p g ≡ true
+unfolding solves_tents
 camp-from p g a b c d e = and_from _ _ a (and_from _ _ b (and_from _ _ c (and_from _ _ d (sym e))))
 
-pub camp-not : (p : Tents) (g : List ℕ) (fault : TentFault) → IsTentFault p g (Some fault) → false ≡ is_camp p g
-camp-not p g fault is = sym (false_from_ne_true (is_camp p g) (λ on. broken fault is (camp-parts p g on)))
+pub camp-not : (p : Tents) (g : List ℕ) (fault : TentFault) → IsTentFault p g (Some fault) → false ≡ solves_tents p g
+camp-not p g fault is = sym (false_from_ne_true (solves_tents p g) (λ on. broken fault is (camp-parts p g on)))
   where
     broken : (f : TentFault) → IsTentFault p g (Some f) → CampParts p g → ⊥
     broken (Tree c) is parts = first-breaks _ _ c is parts.trees
@@ -73,7 +73,7 @@ no-two touch tent_on off on = grind (arith, common_steps)
 alone : (tent_on touched : Bool) → (tent_on ≡ true → touched ≡ false) → not (tent_on && touched) ≡ true
 alone tent_on touched none = grind (arith, common_steps, cases_Bool tent_on)
 
-pub solution-from-camp : (p : Tents) (g : List ℕ) → IsGrid (tent_cells p) 2 g → is_camp p g ≡ true → IsTentSolution p g
+pub solution-from-camp : (p : Tents) (g : List ℕ) → IsGrid (tent_cells p) 2 g → solves_tents p g ≡ true → IsTentSolution p g
 unfolding tree_right touch_right column_right row_right
 solution-from-camp p g grid on =
     let parts = camp-parts p g on in
@@ -94,7 +94,7 @@ solution-from-camp p g grid on =
       paired = gives-tree p g w.0 grid.each_cell w.1;
     }
 
-pub camp-from-solution : (p : Tents) (g : List ℕ) → IsGrid (tent_cells p) 2 g → IsTentSolution p g → is_camp p g ≡ true
+pub camp-from-solution : (p : Tents) (g : List ℕ) → IsGrid (tent_cells p) 2 g → IsTentSolution p g → solves_tents p g ≡ true
 unfolding tree_right touch_right column_right row_right
 camp-from-solution p g grid s = grind (arith, common_steps, camp-from, all_below-from, eq-eqb, pairs-from, slice_index, cases_Bool, or_left, or_right, false_from_ne_true, any_below-some, and_parts)
 

@@ -71,8 +71,8 @@ lit_right p g c = not (white p c) || (bulb g c || sees_bulb p g c)
 
 -- bulbs stand on white cells alone; each numbered black cell has that many bulbs beside it; no bulb sees a bulb; each
 -- white cell holds a bulb or sees one
-unfoldable pub is_lit : Light → List ℕ → Bool
-is_lit p g =
+unfoldable pub solves_lights : Light → List ℕ → Bool
+solves_lights p g =
     all_below (black_right p g) (light_cells p)
     && (all_below (number_right p g) (light_cells p)
     && (all_below (bulb_right p g) (light_cells p)

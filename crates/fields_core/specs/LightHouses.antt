@@ -6,7 +6,7 @@ use Rattle.gameid_core.specs.Puzzles.{Light}
 use Rattle.gameid_core.specs.declared.light_up.cell.LightCell.{LightCell}
 use Rattle.gameid_core.specs.declared.light_up.cell.LightCell.TheVariants.{White, Black, Numbered}
 use Rattle.fields_core.specs.CountHouse.{CountHouse, exactly, one_at_most, one_at_least, houses_below, count_puzzle}
-use Rattle.fields_core.specs.Light.{light_cells, white, joined_in_row, joined_in_column, is_lit}
+use Rattle.fields_core.specs.Light.{light_cells, white, joined_in_row, joined_in_column, solves_lights}
 
 -- the run of white cells of the row that the cell is in, from the left; and of the column, from the top
 unfoldable pub row_run : Light → ℕ → List ℕ
@@ -56,4 +56,4 @@ light_houses p =
 
 -- what the rules of Light Up mean to a search
 abbrev pub light_rules : Light → Puzzle
-light_rules p = count_puzzle (light_cells p) (λ c. not (white p c)) (light_houses p) (is_lit p)
+light_rules p = count_puzzle (light_cells p) (λ c. not (white p c)) (light_houses p) (solves_lights p)

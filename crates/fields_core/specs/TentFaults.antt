@@ -3,13 +3,13 @@ use Rattle.std.specs.Prelude.{◌≡◌, ℕ, true, false, List, Option, Some, N
 use Rattle.grid_core.specs.Candidates.{all_below}
 use Rattle.gameid_core.specs.Puzzles.{Tents}
 use Rattle.fields_core.specs.Firsts.{IsFirst}
-use Rattle.fields_core.specs.Tents.{tent_cells, tree_right, touch_right, column_right, row_right, can_be_paired, is_camp}
+use Rattle.fields_core.specs.Tents.{tent_cells, tree_right, touch_right, column_right, row_right, can_be_paired, solves_tents}
 use Rattle.fields_core.specs.declared.tents.fault.TentFault.{TentFault}
 use Rattle.fields_core.specs.declared.tents.fault.TentFault.TheVariants.{Tree, Touch, Column, Row, Match}
 
 -- nothing, where the grid is a solution; else the first broken rule, the rules before it being kept
 abbrev pub IsTentFault : Tents → List ℕ → Option TentFault → Type 0
-IsTentFault p g None = is_camp p g ≡ true
+IsTentFault p g None = solves_tents p g ≡ true
 IsTentFault p g (Some (Tree c)) = IsFirst (tree_right p g) (tent_cells p) c
 IsTentFault p g (Some (Touch c)) =
     (all_below (tree_right p g) (tent_cells p) ≡ true)

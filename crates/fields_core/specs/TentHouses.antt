@@ -5,7 +5,7 @@ use Rattle.grid_core.specs.Regions.{beside, row_places, column_places}
 use Rattle.engine_core.specs.Puzzle.{Puzzle}
 use Rattle.gameid_core.specs.Puzzles.{Tents}
 use Rattle.fields_core.specs.CountHouse.{CountHouse, exactly, one_at_most, one_at_least, houses_below, count_puzzle}
-use Rattle.fields_core.specs.Tents.{tent_cells, tree, is_camp}
+use Rattle.fields_core.specs.Tents.{tent_cells, tree, solves_tents}
 
 -- a column, and a row, has its number of tents
 abbrev pub column_of_tents : Tents → ℕ → List CountHouse
@@ -38,9 +38,9 @@ tent_houses p =
     ++ houses_below (square_house p) (tent_cells p)))
 
 -- a tree, and a cell with no tree beside it, has no tent
-unfoldable pub is_bare : Tents → ℕ → Bool
-is_bare p c = tree p c || not (list_any (tree p) (beside p.size c))
+unfoldable pub is_barred : Tents → ℕ → Bool
+is_barred p c = tree p c || not (list_any (tree p) (beside p.size c))
 
 -- what the rules of Tents mean to a search
 abbrev pub tent_rules : Tents → Puzzle
-tent_rules p = count_puzzle (tent_cells p) (is_bare p) (tent_houses p) (is_camp p)
+tent_rules p = count_puzzle (tent_cells p) (is_barred p) (tent_houses p) (solves_tents p)

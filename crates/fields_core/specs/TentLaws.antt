@@ -2,16 +2,16 @@
 use Rattle.std.proofs.Common.{arith}
 use Rattle.engine_core.specs.Puzzle.{IsLawful, Needs, FitsIn}
 use Rattle.fields_core.specs.CountLaws.{count-lawful}
-use Rattle.fields_core.specs.Tents.{tent_cells, is_camp}
-use Rattle.fields_core.specs.TentHouses.{tent_houses, is_bare, tent_rules}
-use Rattle.fields_core.specs.Ruled.{RuledTents}
+use Rattle.fields_core.specs.Tents.{tent_cells, solves_tents}
+use Rattle.fields_core.specs.TentHouses.{tent_houses, is_barred, tent_rules}
+use Rattle.fields_core.specs.Lawful.{LawfulTents}
 use Rattle.fields_core.specs.TentScratches.{ServesTents}
 use Rattle.fields_core.specs.declared.tents.rules.TentWork.{TentWork}
 
-pub tent-lawful : (r : RuledTents) → IsLawful (tent_rules r.tents)
+pub tent-lawful : (r : LawfulTents) → IsLawful (tent_rules r.tents)
 tent-lawful r =
     let p = r.tents in
-    count-lawful (tent_cells p) (is_bare p) (tent_houses p) (is_camp p) r.counting
+    count-lawful (tent_cells p) (is_barred p) (tent_houses p) (solves_tents p) r.counting
 
 -- room for a pairing of the cells serves rules with as many cells
 pub serves-smaller-tents : (work : TentWork) (need had : Needs)

@@ -69,8 +69,8 @@ can_be_paired p g =
     some_filling (map (trees_beside p) (filter (tent g) (range_with_len 0 (tent_cells p))))
     (λ chosen. names_none_twice chosen && leaves_none_out p chosen)
 
-unfoldable pub is_camp : Tents → List ℕ → Bool
-is_camp p g =
+unfoldable pub solves_tents : Tents → List ℕ → Bool
+solves_tents p g =
     all_below (tree_right p g) (tent_cells p)
     && (all_below (touch_right p g) (tent_cells p)
     && (all_below (column_right p g) p.size.w

@@ -53,7 +53,7 @@ pub use Rattle.fields_core.proofs.TentBeside.{beside-in}
 pub use Rattle.fields_core.proofs.TentCounting.{tent-in}
 pub use Rattle.fields_core.proofs.TentRuleLemmas.{camp-from-solution, solution-from-camp}
 unfoldable pub use Rattle.fields_core.specs.CountHouse.{start_of}
-pub use Rattle.fields_core.specs.Light.{bulb, bulbs_beside, is_lit, light_cells, number_is}
+pub use Rattle.fields_core.specs.Light.{bulb, bulbs_beside, solves_lights, light_cells, number_is}
 unfoldable pub use Rattle.fields_core.specs.Light.{black_right, bulb_right, joined_in_column, joined_in_row, lit_right, number_right, sees, sees_bulb}
 unfoldable pub use Rattle.fields_core.specs.Light.{white}
 pub use Rattle.fields_core.specs.LightHouses.{light_rules}

@@ -1,7 +1,7 @@
 -- What is drawn for a filling of Light Up is its definition.
 use Rattle.maker_core.proofs.Common.{◌≡◌, ℕ, ◌*◌, ◌<◌, true, List, false, arith, map, length, refl, sym, ap, ◌∙◌, get_or_default, get_or-map}
 use Rattle.maker_core.proofs.Common.{get_or_past, length-map, All, IsPermutation, slice_index, ◌==◌, if◌then◌else◌, range_with_len, LightCell, Stream}
-use Rattle.maker_core.proofs.Common.{Extent, Light, White, Black, light_cells, white, is_lit, white-in, AreAll, shuffled_list, lights_of}
+use Rattle.maker_core.proofs.Common.{Extent, Light, White, Black, light_cells, white, solves_lights, white-in, AreAll, shuffled_list, lights_of}
 use Rattle.maker_core.proofs.Common.{white_places, bulbs_after, numbered_cell, with_numbers, Lighting, light_puzzle_of}
 use Rattle.maker_core.proofs.LightSight.{same_white}
 use Rattle.maker_core.proofs.LightSolved.{order_white, lit_solved}
@@ -23,7 +23,7 @@ order_within p items new order s t w long k d lt =
     rw (get_or_default order k d 0 lt) (white-in p (slice_index order k) long on)
 
 pub lit_up_solved : (p : Light) (items new order g : List ℕ) (s t : Stream) → IsShuffled p items new order s t → length p.cells ≡ light_cells p
-    → g ≡ bulbs_after p order (length order) → is_lit (with_numbers p g) g ≡ true
+    → g ≡ bulbs_after p order (length order) → solves_lights (with_numbers p g) g ≡ true
 lit_up_solved p items new order g s t w long is = lit_solved p order g long (mixed_order p items new order s t w) is
 
 -- black cells alone

@@ -1,6 +1,6 @@
 -- A puzzle of black cells alone passes; and what is known of the puzzle of a filling.
 use Rattle.maker_core.proofs.Common.{◌≡◌, ℕ, ◌<◌, true, false, not, List, slice_index, sym, ap, ◌∙◌, arith, Extent, IsGrid, all_below-at, Light}
-use Rattle.maker_core.proofs.Common.{IsLawful, closure_inside, start_of, light_cells, white, black_right, is_lit, light_rules, lit-parts, Lighting}
+use Rattle.maker_core.proofs.Common.{IsLawful, closure_inside, start_of, light_cells, white, black_right, solves_lights, light_rules, lit-parts, Lighting}
 use Rattle.maker_core.proofs.Common.{AreAll, IsLit, light-lawful, lights_of, light_puzzle_of, with_numbers, is_one, has_one, HasOne, TellsOne, IsOnly}
 use Rattle.maker_core.proofs.FoundAtOnce.{found_at_once}
 use Rattle.maker_core.proofs.FullStart.{known}
@@ -12,7 +12,7 @@ start_black : (p : Light) (c v : ℕ) → white p c ≡ false → v < 2 → star
 unfolding start_of
 start_black p c v off few on = grind arith
 
-no_bulb_on : (p : Light) (g : List ℕ) (c : ℕ) → is_lit p g ≡ true → c < light_cells p → white p c ≡ false → slice_index g c ≡ 0
+no_bulb_on : (p : Light) (g : List ℕ) (c : ℕ) → solves_lights p g ≡ true → c < light_cells p → white p c ≡ false → slice_index g c ≡ 0
 unfolding black_right
 no_bulb_on p g c lit lt off = grind (arith, all_below-at (black_right p g) (light_cells p) c (lit-parts p g lit).black lt)
 
@@ -38,7 +38,7 @@ pub all_black : (size : Extent) (f : Lighting) (budget : ℕ) (p : Light) → p 
 unfolding light_puzzle_of with_numbers lights_of
 all_black size f budget p is laws lit black =
     let none : (c : ℕ) → white p c ≡ false = λ c. rw is (none_white size f lit.black.each_cell black c) in
-    let good : is_lit p f.bulbs ≡ true = rw is lit.solved in
+    let good : solves_lights p f.bulbs ≡ true = rw is lit.solved in
     ap is_one (found_at_once (light_rules p) budget f.bulbs (known (light_rules p) laws) (record { grid = rw is lit.bulbs; good = good })
     (λ c v lt few here. start_black p c v (none c) few (closure_inside (light_rules p) (light_rules p).start c v here) ∙ sym (no_bulb_on p f.bulbs c good lt (none c))))
 

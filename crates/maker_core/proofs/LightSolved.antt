@@ -5,7 +5,7 @@ use Rattle.maker_core.proofs.Common.{replicate, ◌||◌, slice_index, slice_set
 use Rattle.maker_core.proofs.Common.{false_from_ne_true, or_cases, or_left, or_right, filter_passes, All-contains, Contains-get_or}
 use Rattle.maker_core.proofs.Common.{Contains-permutation, IsPermutation-sym, range_with_len, get_or_default, all_below-from, IsGrid, Light, LightCell}
 use Rattle.maker_core.proofs.Common.{White, Black, Numbered, light_cells, white, bulb, bulbs_beside, number_is, sees, sees_bulb, black_right}
-use Rattle.maker_core.proofs.Common.{number_right, bulb_right, lit_right, is_lit, lit-from, white-in, bulb-in, white_places, bulbs_after, with_numbers}
+use Rattle.maker_core.proofs.Common.{number_right, bulb_right, lit_right, solves_lights, lit-from, white-in, bulb-in, white_places, bulbs_after, with_numbers}
 use Rattle.maker_core.proofs.FilteredRanges.{passes_kept}
 use Rattle.maker_core.proofs.LightSight.{bulbs_after-grid, number_at, same_white, same_seen, sees_back, sees_itself, seen_bulb, bulb_seen}
 use Rattle.maker_core.proofs.WrittenGrids.{no_one, old_stays}
@@ -70,7 +70,7 @@ number_met : (cell : LightCell) (white_cell : Bool) (n : ℕ) → cell ≡ (if w
 number_met cell b n e = grind arith
 
 pub lights_solved : (p : Light) (order g : List ℕ) (k : ℕ) → length p.cells ≡ light_cells p → IsGrid (light_cells p) 2 g → IsPlanted p order g k
-    → ((c : ℕ) → white p c ≡ true → (j : ℕ) × (j < k) × (slice_index order j ≡ c)) → is_lit (with_numbers p g) g ≡ true
+    → ((c : ℕ) → white p c ≡ true → (j : ℕ) × (j < k) × (slice_index order j ≡ c)) → solves_lights (with_numbers p g) g ≡ true
 unfolding with_numbers black_right number_right bulb_right lit_right
 lights_solved p order g k long grid w each =
     lit-from (with_numbers p g) g
@@ -106,7 +106,7 @@ order_each p order long mixed c on =
     (w.0, w.1, get_or_default order w.0 0 c w.1 ∙ w.2)
 
 pub lit_solved : (p : Light) (order g : List ℕ) → length p.cells ≡ light_cells p → IsPermutation (white_places p) order → g ≡ bulbs_after p order (length order)
-    → is_lit (with_numbers p g) g ≡ true
+    → solves_lights (with_numbers p g) g ≡ true
 lit_solved p order g long mixed is =
     rw is (lights_solved p order (bulbs_after p order (length order)) (length order) long (bulbs_after-grid p order (length order))
     (planted p order (order_white p order mixed) long (length order) (let z : length order ≤ length order = omega arith in z))

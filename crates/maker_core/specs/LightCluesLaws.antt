@@ -15,7 +15,7 @@ use Rattle.gameid_core.specs.Puzzles.{Light}
 use Rattle.gameid_core.specs.declared.light_up.cell.LightCell.{LightCell}
 use Rattle.gameid_core.specs.declared.light_up.cell.LightCell.TheVariants.{White, Black, Numbered}
 use Rattle.engine_core.specs.Verdict.{Solves}
-use Rattle.fields_core.specs.Light.{light_cells, is_white, white, joined_in_row, joined_in_column, sees, sees_bulb, bulbs_beside, number_is, black_right, number_right, bulb_right, lit_right, is_lit}
+use Rattle.fields_core.specs.Light.{light_cells, is_white, white, joined_in_row, joined_in_column, sees, sees_bulb, bulbs_beside, number_is, black_right, number_right, bulb_right, lit_right, solves_lights}
 use Rattle.fields_core.specs.LightHouses.{row_run, column_run, seen_from, begins_row_run, begins_column_run, numbered, number_house, row_house, column_house, lit_house, light_houses, light_rules}
 use Rattle.fields_core.proofs.LightFaultLemmas.{lit-from, lit-parts}
 use Rattle.maker_core.specs.Thinning.{IsThinnedFrom, IsGame}
@@ -50,7 +50,7 @@ number_stays (Numbered n) b bulbs clues right = ap (λ cell. number_is cell bulb
 
 lit_stays : (p : Light) (cells : List LightCell) (g : List ℕ) → map is_white p.cells ≡ map is_white cells
     → ((place n : ℕ) → number_clue (slice_index_or p.cells place Black) ≡ Some n → number_clue (slice_index_or cells place Black) ≡ Some n)
-    → is_lit (with_cells p.size cells) g ≡ true → is_lit p g ≡ true
+    → solves_lights (with_cells p.size cells) g ≡ true → solves_lights p g ≡ true
 unfolding with_cells number_right black_right bulb_right lit_right sees_bulb sees joined_in_row joined_in_column
 lit_stays p cells g same clues lit =
     let parts = lit-parts (with_cells p.size cells) g lit in
@@ -65,8 +65,8 @@ lit_stays p cells g same clues lit =
     whites c = ap (λ wh. wh c) (same_white p (with_cells p.size cells) same)
 
 -- each solution of a puzzle with more numbers is one of the puzzle
-pub lit_by_fewer : (p q : Light) (g : List ℕ) → IsThinnedFrom light_game p q → is_lit q g ≡ true → is_lit p g ≡ true
-lit_by_fewer p q g w lit = lit_stays p q.cells g w.frame.black w.clues (subst (λ x. is_lit x g ≡ true) (resized p q w.frame) lit)
+pub lit_by_fewer : (p q : Light) (g : List ℕ) → IsThinnedFrom light_game p q → solves_lights q g ≡ true → solves_lights p g ≡ true
+lit_by_fewer p q g w lit = lit_stays p q.cells g w.frame.black w.clues (subst (λ x. solves_lights x g ≡ true) (resized p q w.frame) lit)
 
 solutions_stay : (p q : Light) (g : List ℕ) → IsThinnedFrom light_game p q → Solves (light_rules q) g → Solves (light_rules p) g
 unfolding with_cells

@@ -6,7 +6,7 @@ use Rattle.grid_core.specs.Grids.{IsGrid}
 use Rattle.gameid_core.specs.Puzzles.{Light}
 use Rattle.gameid_core.specs.declared.light_up.cell.LightCell.{LightCell}
 use Rattle.gameid_core.specs.declared.light_up.cell.LightCell.TheVariants.{White, Black, Numbered}
-use Rattle.fields_core.specs.Light.{light_cells, white, bulb, sees_bulb, bulbs_beside, is_lit}
+use Rattle.fields_core.specs.Light.{light_cells, white, bulb, sees_bulb, bulbs_beside, solves_lights}
 use Rattle.fields_core.specs.LightHouses.{light_rules}
 use Rattle.maker_core.specs.declared.light_up.lighting.Lighting.{Lighting}
 use Rattle.maker_core.specs.Draws.{Making, black_cells, shuffled_list}
@@ -63,4 +63,4 @@ light_passes size budget filling = has_one (light_rules (light_puzzle_of size fi
 pub record IsLit (size : Extent) (filling : Lighting) : Type 0 where
   pub black : IsGrid (size.w * size.h) 2 filling.black
   pub bulbs : IsGrid (size.w * size.h) 2 filling.bulbs
-  pub solved : is_lit (light_puzzle_of size filling) filling.bulbs ≡ true
+  pub solved : solves_lights (light_puzzle_of size filling) filling.bulbs ≡ true

@@ -3,7 +3,7 @@
 ghost use Rattle.std.specs.Prelude.{◌≡◌, ◌*◌, true};
 ghost use Rattle.grid_core.specs.Grids.{IsGrid};
 ghost use Rattle.solo_core.specs.Solutions.{IsSoloSolution};
-ghost use Rattle.fields_core.specs.Light.{is_lit};
+ghost use Rattle.fields_core.specs.Light.{solves_lights};
 ghost use Rattle.maker_core.specs.TentFilling.{EachFilling, IsSolvedCamp};
 ghost use Rattle.maker_core.specs.Thinning.{KeepsSolutions, LeavesNoIdleClue};
 ghost use Rattle.maker_core.specs.SoloClues.{solo_game};
@@ -13,7 +13,7 @@ ghost use Rattle.maker_core.specs.LightClues.{light_game};
 #[tactic(auto, using(crate::proofs::IdleClues::fewer_laws))]
 pub fn fewer_clues_keep_solutions()
     ensures solo { KeepsSolutions solo_game IsSoloSolution }
-    ensures lights { KeepsSolutions light_game (λ p g. is_lit p g ≡ true) }
+    ensures lights { KeepsSolutions light_game (λ p g. solves_lights p g ≡ true) }
 {}
 
 /// Where each clue that was left in a puzzle is needed, the puzzle has two solutions once any of them are taken away.

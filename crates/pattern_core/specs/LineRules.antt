@@ -30,7 +30,7 @@ line_rules p = record {
 }
 
 -- a puzzle whose sides are in their range
-pub record Ruled : Type 0 where
+pub record LawfulPattern : Type 0 where
   pub pattern : Pattern
   pub extent : IsExtent pattern.size
 

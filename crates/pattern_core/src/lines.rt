@@ -38,9 +38,9 @@ pub struct PatternLines {
 impl Model for PatternLines {
     ghost use Rattle.gameid_core.specs.Puzzles.{IsPattern};
     ghost use Rattle.pattern_core.specs.LineClues.{pattern_of};
-    ghost use Rattle.pattern_core.specs.LineRules.{Ruled};
+    ghost use Rattle.pattern_core.specs.LineRules.{LawfulPattern};
 
-    ghost Value = { Ruled };
+    ghost Value = { LawfulPattern };
 
     ghost view = { λ r. record { pattern = pattern_of r.size r.clues.items; extent = r.extent } };
 

@@ -23,7 +23,7 @@ use Rattle.engine_core.specs.Verdict.{Outcome.OneGrid, Outcome.NoGrid, Outcome.T
 use Rattle.maker_core.specs.Made.{IsOnlySolution}
 use Rattle.maker_core.specs.Thinning.{HasTwo}
 use Rattle.solo_core.proofs.SinglesLemmas.{singles_in_houses}
-use Rattle.puzzles.specs.Common.{IsSolo, Solo, max_id, light_rules, tent_rules, line_rules, crossings_rules, houses_rules, singles_rules}
+use Rattle.puzzles.specs.Common.{IsRight, IsSolo, Solo, max_id, light_rules, tent_rules, line_rules, crossings_rules, houses_rules, singles_rules}
 use Rattle.puzzles.specs.Common.{IdFault, grid_text, SizeRead, IsPrinted, Game, HasOneReading, verdict_of, Solves, Outcome, Puzzle, is_settled, walk, Kept}
 use Rattle.puzzles.specs.Answers.{Answer, Text}
 use Rattle.puzzles.specs.Each.{HasAnswers}
@@ -31,7 +31,7 @@ use Rattle.puzzles.specs.Games.{played}
 use Rattle.puzzles.specs.Playing.{Playing}
 use Rattle.puzzles.specs.SoloPlayed.{solo_sets}
 use Rattle.puzzles.specs.Makings.{exhausted_answer, Wanted}
-use Rattle.puzzles.specs.Replies.{one_answer, IsRight, verdict_answer, refused}
+use Rattle.puzzles.specs.Replies.{one_answer, verdict_answer, refused}
 use Rattle.puzzles.specs.Allowed.{IsSolved, SolvesId, ChecksGrid, ChecksId, GradesId, AllowsSolve}
 use Rattle.puzzles.specs.CheckAnswers.{checked as correct_or, without_returns}
 use Rattle.puzzles.specs.LawsOfCommands.{ArePassed, HasOneAnswer}

@@ -15,13 +15,13 @@ use Rattle.engine_core.proofs.JudgeLemmas.{grid-fits}
 use Rattle.engine_core.proofs.WalkLemmas.{walk-unfold, walk_closed-dead, walk_closed-wrong}
 use Rattle.maker_core.proofs.FoundAtOnce.{found_at_once, found_one}
 use Rattle.maker_core.proofs.FullStart.{known}
-use Rattle.puzzles.specs.Common.{Candidates, IsInside, grid_of, only, HasOneReading, IdFault, Puzzle, IsLawful, IsClosed, is_settled, Solves}
+use Rattle.puzzles.specs.Common.{IsRight, Candidates, IsInside, grid_of, only, HasOneReading, IdFault, Puzzle, IsLawful, IsClosed, is_settled, Solves}
 use Rattle.puzzles.specs.Common.{verdict_of, Outcome, Mark, walk}
 use Rattle.puzzles.specs.Answers.{Answer, Begins, Text}
 use Rattle.puzzles.specs.Grades.{HasOneSolution, IsRightGrade, Settling, TellsGrade, first_settled, grade_by, grade_status, grade_text, listed_grade, rule_set_text, searched_grade}
 use Rattle.puzzles.specs.Allowed.{AllowsId}
 use Rattle.puzzles.specs.LawsOfCommands.{GoesAlong, NamesRules, is_within_search}
-use Rattle.puzzles.specs.Replies.{refused, fault_text, IsRight, verdict_answer}
+use Rattle.puzzles.specs.Replies.{refused, fault_text, verdict_answer}
 use Rattle.puzzles.specs.declared.grade.Grade.{Grade}
 use Rattle.puzzles.specs.declared.grade.Grade.TheVariants.{ByRules, BySearch}
 use Rattle.puzzles.specs.declared.grade.RuleSet.{RuleSet}

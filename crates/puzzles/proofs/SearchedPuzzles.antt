@@ -13,13 +13,13 @@ use Rattle.fields_core.proofs.LightCounting.{light-counting}
 use Rattle.fields_core.proofs.LightRuleLemmas as light
 use Rattle.fields_core.proofs.TentCounting.{tent-counting}
 use Rattle.fields_core.proofs.TentRuleLemmas as tents
-use Rattle.puzzles.specs.Common.{Extent, grid_text, IsLight, IsPattern, IsSolo, IsTents, Light, Pattern, Solo, Tents, Puzzle, IsLawful, Outcome}
+use Rattle.puzzles.specs.Common.{IsRight, Extent, grid_text, IsLight, IsPattern, IsSolo, IsTents, Light, Pattern, Solo, Tents, Puzzle, IsLawful, Outcome}
 use Rattle.puzzles.specs.Common.{verdict_of, IsTrueOf, Solves, Mark, walk, is_solution-from, is_solution-is, line_rules-lawful, line_rules}
 use Rattle.puzzles.specs.Common.{IsPatternSolution, crossings_rules, houses_rules, rules_of, singles_rules, rule_from_test, test_from_rule}
 use Rattle.puzzles.specs.Common.{IsSoloSolution, light_rules, IsLightSolution, tent_rules, IsTentSolution}
 use Rattle.puzzles.specs.Answers.{Answer, Text}
 use Rattle.puzzles.specs.Allowed.{IsSolved}
-use Rattle.puzzles.specs.Replies.{IsRight, verdict_answer}
+use Rattle.puzzles.specs.Replies.{verdict_answer}
 use Rattle.puzzles.specs.Grades.{HasOneSolution}
 use Rattle.puzzles.specs.LawsOfCommands.{HasOneAnswer}
 

@@ -2,12 +2,12 @@
 use Rattle.std.specs.Prelude.{◌⊎◌, Result, Ok, ◌≡◌, List, ℕ, Bool, is_ok, true, false, Option, Some, None}
 use Rattle.std.specs.Str.Lines.{lines}
 use Rattle.gameid_core.specs.declared.id.game.Game.TheVariants as game
-use Rattle.puzzles.specs.Common.{Extent, IdFault, grid_text, Game, Solo, SizeRead, Puzzle, verdict_of}
+use Rattle.puzzles.specs.Common.{IsRight, Extent, IdFault, grid_text, Game, Solo, SizeRead, Puzzle, verdict_of}
 use Rattle.puzzles.specs.Answers.{Answer, Text}
 use Rattle.puzzles.specs.Games.{played}
 use Rattle.puzzles.specs.Playing.{GameOf, Playing}
 use Rattle.puzzles.specs.SoloPlayed.{after_singles}
-use Rattle.puzzles.specs.Replies.{IsRefused, refused_words, IsRight, verdict_answer}
+use Rattle.puzzles.specs.Replies.{IsRefused, refused_words, verdict_answer}
 use Rattle.puzzles.specs.CheckAnswers.{AllowsGrid}
 use Rattle.puzzles.specs.Grades.{IsGradeOf, Settling, TellsGrade, last_tried, listed_grade, only_set}
 use Rattle.puzzles.specs.Traces.{TellsSweeps}

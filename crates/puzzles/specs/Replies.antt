@@ -68,15 +68,6 @@ grid_of printing p g = grid_text (printing.cell_text p g) (printing.extent p)
 abbrev pub two_grids : {P : Type 0} → printed.Ghosts P → P → List ℕ → List ℕ → Answer
 two_grids printing p g h = several_answer (grid_of printing p g) (grid_of printing p h)
 
--- no grid is a solution; this one is and no other; both are, and they differ; nothing, or that this
--- one is
-abbrev pub IsRight : (List ℕ → Type 0) → Outcome → Type 0
-IsRight solves NoGrid = (g : List ℕ) → solves g → ⊥
-IsRight solves (OneGrid g) = solves g × ((h : List ℕ) → solves h → g ≡ h)
-IsRight solves (TwoGrids g h) = solves g × solves h × (g ≢ h)
-IsRight solves (OutOfBudget None) = ⊤
-IsRight solves (OutOfBudget (Some g)) = solves g
-
 -- the verdict with its grids, printed so
 abbrev pub verdict_answer : (List ℕ → Text) → Outcome → Answer
 verdict_answer printed NoGrid = none_answer

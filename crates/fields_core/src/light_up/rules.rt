@@ -7,7 +7,7 @@ ghost use Rattle.grid_core.specs.Board.{has, SameShape};
 ghost use Rattle.fields_core.specs.CountHouse.{start_of};
 ghost use Rattle.fields_core.specs.Light.{light_cells, white};
 ghost use Rattle.fields_core.specs.LightHouses.{light_rules};
-ghost use Rattle.fields_core.specs.Ruled.{IsLightCounting};
+ghost use Rattle.fields_core.specs.Lawful.{IsLightCounting};
 
 use crate::count::table::CountTable;
 use crate::count::tally::Tally;
@@ -30,9 +30,9 @@ pub struct LightRules {
 
 impl Model for LightRules {
     ghost use Rattle.std.specs.Prelude.{◌≡◌};
-    ghost use Rattle.fields_core.specs.Ruled.{RuledLight, light_table};
+    ghost use Rattle.fields_core.specs.Lawful.{LawfulLight, light_table};
 
-    ghost Value = { RuledLight };
+    ghost Value = { LawfulLight };
 
     ghost view = { λ r. record { light = r.puzzle; counting = r.counting } };
 
@@ -76,7 +76,7 @@ fn start_lights(puzzle: &LightPuzzle, board: &mut Board)
 impl Rules for LightRules {
     ghost use Rattle.std.specs.Prelude.{vec_len};
     ghost use Rattle.std.proofs.Common.{arith};
-    ghost use Rattle.fields_core.specs.Ruled.{light_table};
+    ghost use Rattle.fields_core.specs.Lawful.{light_table};
     ghost use Rattle.fields_core.specs.Tallies.{AreTalliesOf};
     ghost use Rattle.fields_core.specs.LightLaws.{light-lawful};
 

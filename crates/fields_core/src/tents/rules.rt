@@ -8,9 +8,9 @@ ghost use Rattle.engine_core.specs.declared.mode.Mode.TheVariants.{Sweep};
 ghost use Rattle.grid_core.specs.Board.{has, SameShape};
 ghost use Rattle.fields_core.specs.CountHouse.{start_of};
 ghost use Rattle.fields_core.specs.Tents.{tent_cells, tree};
-ghost use Rattle.fields_core.specs.TentHouses.{is_bare, tent_rules};
+ghost use Rattle.fields_core.specs.TentHouses.{is_barred, tent_rules};
 ghost use Rattle.fields_core.specs.TentScratches.{ServesTents};
-ghost use Rattle.fields_core.specs.Ruled.{IsTentCounting};
+ghost use Rattle.fields_core.specs.Lawful.{IsTentCounting};
 
 use crate::count::table::CountTable;
 use crate::count::tally::Tally;
@@ -41,9 +41,9 @@ pub struct TentWork {
 
 impl Model for TentRules {
     ghost use Rattle.std.specs.Prelude.{◌≡◌};
-    ghost use Rattle.fields_core.specs.Ruled.{RuledTents, tent_table};
+    ghost use Rattle.fields_core.specs.Lawful.{LawfulTents, tent_table};
 
-    ghost Value = { RuledTents };
+    ghost Value = { LawfulTents };
 
     ghost view = { λ r. record { tents = r.puzzle; counting = r.counting } };
 
@@ -87,7 +87,7 @@ fn is_beside_a_tree(puzzle: &TentsPuzzle, place: usize) -> bool
 /// Whether the cell can have no tent: it has a tree, or no tree beside it.
 fn is_barred(puzzle: &TentsPuzzle, place: usize) -> bool
     requires { place < tent_cells puzzle.now }
-    ensures { result ≡ is_bare puzzle.now place }
+    ensures { result ≡ is_barred puzzle.now place }
 {
     is_tree(puzzle, place) || !is_beside_a_tree(puzzle, place)
 }
@@ -97,7 +97,7 @@ fn is_barred(puzzle: &TentsPuzzle, place: usize) -> bool
 fn start_tents(puzzle: &TentsPuzzle, board: &mut Board)
     requires cells { length board.old.sets ≡ tent_cells puzzle.now }
     requires values { board.old.values ≡ 2 }
-    ensures start { has board.new ≡ start_of (tent_cells puzzle.now) (is_bare puzzle.now) }
+    ensures start { has board.new ≡ start_of (tent_cells puzzle.now) (is_barred puzzle.now) }
     ensures shape { SameShape board.old board.new }
 {
     board.fill();
@@ -110,7 +110,7 @@ fn start_tents(puzzle: &TentsPuzzle, board: &mut Board)
 }
 
 impl Rules for TentRules {
-    ghost use Rattle.fields_core.specs.Ruled.{tent_table};
+    ghost use Rattle.fields_core.specs.Lawful.{tent_table};
     ghost use Rattle.fields_core.specs.Tallies.{AreTalliesOf};
     ghost use Rattle.fields_core.specs.TentLaws.{tent-lawful, serves-smaller-tents};
 

@@ -3,7 +3,7 @@
 ghost use Rattle.std.specs.Prelude.{◌≡◌, ◌≤◌, ◌<◌, ◌*◌, true, All, IfOk, length, replicate};
 ghost use Rattle.grid_core.specs.Grids.{IsGrid};
 ghost use Rattle.gameid_core.specs.Puzzles.{IsWide};
-ghost use Rattle.fields_core.specs.Light.{light_cells, is_lit};
+ghost use Rattle.fields_core.specs.Light.{light_cells, solves_lights};
 ghost use Rattle.maker_core.specs.Draws.{AreAll, IsDrawnBy};
 ghost use Rattle.maker_core.specs.LightFilling.{IsLit, bulbs_after, light_filling, light_puzzle_of, lights_of, lit_up, white_places, with_numbers};
 
@@ -89,7 +89,7 @@ fn number_cells(puzzle: &mut LightPuzzle, grid: &Grid)
 fn light_up<G: Rng>(alloc: Global, rng: &mut G, puzzle: &LightPuzzle) -> Result<Grid, AllocError>
     ensures drawn { IfOk result (IsDrawnBy (lit_up puzzle.now) G.stream rng.old rng.new) }
     ensures grid { IfOk result (λ grid. IsGrid (light_cells puzzle.now) 2 grid) }
-    ensures solved { IfOk result (λ grid. is_lit (with_numbers puzzle.now grid) grid ≡ true) }
+    ensures solved { IfOk result (λ grid. solves_lights (with_numbers puzzle.now grid) grid ≡ true) }
 {
     let mut order = white_cells(alloc, puzzle)?;
     shuffle(rng, &mut order);
