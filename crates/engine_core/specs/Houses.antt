@@ -1,6 +1,6 @@
 -- Puzzles of houses: each house strikes in its own places, by a decision of its own.
 use Rattle.std.specs.Prelude.{◌≡◌, ℕ, ◌+◌, ◌*◌, ◌<◌, ◌≤◌, Bool, true, false, not, ◌&&◌, ◌==◌, List, [], map, length, get_or, slice_index, slice_index_or}
-use Rattle.grid_core.specs.Candidates.{Candidates, IsInside, IsWithin, single}
+use Rattle.grid_core.specs.Candidates.{Candidates, IsInside, IsWithin, single, max_cells, max_values}
 use Rattle.grid_core.specs.Grids.{IsGrid}
 use Rattle.engine_core.specs.Puzzle.{Puzzle}
 use Rattle.engine_core.specs.Filling.{Set, has_value}
@@ -81,8 +81,8 @@ pub record IsSound (s : Setting) (house : House) : Type 0 where
 -- what the rest of a puzzle keeps to
 pub record IsSetting (s : Setting) : Type 0 where
   pub some_values : 1 ≤ s.values
-  pub few_values : s.values ≤ 31
-  pub few_cells : s.cells ≤ 65536
+  pub few_values : s.values ≤ max_values
+  pub few_cells : s.cells ≤ max_cells
   pub start_within : IsWithin s.cells s.values s.start
   pub solutions_start : (g : List ℕ) → IsGrid s.cells s.values g → s.is_solution g ≡ true
       → IsInside (single g) s.start

@@ -1,7 +1,7 @@
 -- What a rule set means, and what every rule set keeps to.
 use Rattle.std.specs.Prelude.{◌≡◌, ℕ, zero, suc, max, Option, Some, None, ◌==◌, ◌||◌, ◌+◌, ◌-◌, ◌*◌, ◌<◌, ◌≤◌, Bool, true, false, not, cond, ◌&&◌, List, [], ◌∷◌, length, slice_index}
 use Rattle.std.specs.List.{list_any}
-use Rattle.grid_core.specs.Candidates.{Candidates, IsInside, IsWithin, single, count_below, sum_below}
+use Rattle.grid_core.specs.Candidates.{Candidates, IsInside, IsWithin, single, count_below, sum_below, max_cells, max_values}
 use Rattle.grid_core.specs.Board.{Layout, cells_of}
 use Rattle.grid_core.specs.Grids.{IsGrid}
 
@@ -71,8 +71,8 @@ pub record IsLawful (p : Puzzle) : Type 0 where
       → p.houses + sum_below (λ c. (p.values - 1) * share p c) p.cells ≤ p.bound
   pub bound_of_sweeps : p.by_queue ≡ false → p.cells * (p.values - 1) + 1 ≤ p.bound
   pub some_values : 1 ≤ p.values
-  pub few_values : p.values ≤ 31
-  pub few_cells : p.cells ≤ 65536
+  pub few_values : p.values ≤ max_values
+  pub few_cells : p.cells ≤ max_cells
   pub start_within : IsWithin p.cells p.values p.start
   -- a house has different places of the board
   pub scope_within : (h c : ℕ) → h < p.houses → has_place (p.scope h) c ≡ true

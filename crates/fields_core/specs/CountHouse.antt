@@ -1,6 +1,6 @@
 -- Tables of count houses, and the rule sets that they make.
 use Rattle.std.specs.Prelude.{◌≡◌, ℕ, zero, suc, ◌+◌, ◌<◌, ◌≤◌, ◌^◌, Bool, true, false, not, ◌&&◌, ◌==◌, List, [], ◌++◌, length, map, slice_index, slice_index_or}
-use Rattle.grid_core.specs.Candidates.{Candidates, all_of}
+use Rattle.grid_core.specs.Candidates.{Candidates, all_of, max_cells}
 use Rattle.grid_core.specs.Grids.{IsGrid}
 use Rattle.engine_core.specs.Puzzle.{Puzzle, has_place}
 use Rattle.engine_core.specs.Filling.{strikes_by_fillings}
@@ -90,7 +90,7 @@ table_puzzle blocked is_solution table = count_puzzle table.cells blocked table.
 pub record IsCounting (cells : ℕ) (blocked : ℕ → Bool) (houses : List CountHouse)
     (is_solution : List ℕ → Bool)
     : Type 0 where
-  pub few_cells : cells ≤ 65536
+  pub few_cells : cells ≤ max_cells
   pub are_houses : AreHouses cells houses
   pub blocked_zero : (g : List ℕ) → IsGrid cells 2 g → is_solution g ≡ true
       → (c : ℕ) → c < cells → blocked c ≡ true → slice_index g c ≡ 0

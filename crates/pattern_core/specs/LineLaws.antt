@@ -9,7 +9,7 @@ use Rattle.std.proofs.lemmas.Simd.{map-map}
 use Rattle.std.proofs.lemmas.List.FromFn.{length-map-range_with_len, get_or-map-range_with_len}
 use Rattle.std.proofs.Math.Nat.{mul-le-mul_right}
 use Rattle.grid_core.specs.Extent.{Extent, IsExtent}
-use Rattle.grid_core.specs.Candidates.{IsInside, all_of, single, sum_below, count_below}
+use Rattle.grid_core.specs.Candidates.{IsInside, all_of, single, sum_below, count_below, max_cells}
 use Rattle.grid_core.specs.Grids.{IsGrid, row_cells, column_cells}
 use Rattle.grid_core.specs.Regions.{row_places, column_places}
 use Rattle.grid_core.proofs.CandidateLemmas.{all_below-at, all_below-from, count_below-few, count_below-or}
@@ -149,7 +149,7 @@ all-within : (cells values c v : ℕ) → all_of cells values c v ≡ true → (
 unfolding all_of
 all-within cells values c v on = let w = and_parts _ _ on in (ltb-true c cells w.0, ltb-true v values w.1)
 
-pub few_cells : (size : Extent) → IsExtent size → size.w * size.h ≤ 65536
+pub few_cells : (size : Extent) → IsExtent size → size.w * size.h ≤ max_cells
 few_cells size e = grind (arith, common_steps, cases_Bool, mul-le-mul_right)
 
 pub line_rules-lawful : (p : Pattern) → IsExtent p.size → IsLawful (line_rules p)

@@ -1,6 +1,7 @@
 //! The levels of a search: a board with its trail, and a frame for each cell whose values are being tried.
 
 ghost use Rattle.std.specs.Prelude.{◌≡◌, ◌-◌, ◌≤◌, ◌<◌, IfOk, length};
+ghost use Rattle.grid_core.specs.Candidates.{max_cells, max_values};
 ghost use Rattle.grid_core.specs.Board.{cells_of, SameShape};
 ghost use Rattle.engine_core.specs.Frames.{AreReady, IsTurn, AreAlong, frame_at};
 
@@ -33,9 +34,9 @@ impl Levels {
     ///
     /// When memory was refused.
     pub(crate) fn new(alloc: Global, cells: usize, values: u8) -> Result<Levels, AllocError>
-        requires few_cells { cells ≤ 65536 }
+        requires few_cells { cells ≤ max_cells }
         requires some { 1 ≤ values }
-        requires few { values ≤ 31 }
+        requires few { values ≤ max_values }
         ensures cells { IfOk result (λ levels. cells_of levels.trailed.board ≡ cells) }
         ensures values { IfOk result (λ levels. levels.trailed.board.values ≡ values) }
         ensures frames { IfOk result (λ levels. length levels.frames.items ≡ cells) }

@@ -3,7 +3,7 @@
 
 ghost use Rattle.std.specs.Prelude.{◌≡◌, ◌≢◌, ℕ, ◌+◌, ◌*◌, ◌<◌, ◌≤◌, IfOk, bit_and, length, true, false};
 ghost use Rattle.grid_core.specs.Board.{has, cells_of, SameShape};
-ghost use Rattle.grid_core.specs.Candidates.{count_below, only};
+ghost use Rattle.grid_core.specs.Candidates.{count_below, only, max_cells, max_values};
 ghost use Rattle.engine_core.specs.Puzzle.{needs_of, IsBoardOf};
 ghost use Rattle.engine_core.specs.Sets.{IsBitsOf};
 ghost use Rattle.engine_core.specs.Trail.{AreLost, back_at, change_at, left_by, IsFurther, IsBack, Visits};
@@ -42,9 +42,9 @@ impl Trailed {
     ///
     /// When memory was refused.
     pub(crate) fn new(alloc: Global, cells: usize, values: u8) -> Result<Trailed, AllocError>
-        requires few_cells { cells ≤ 65536 }
+        requires few_cells { cells ≤ max_cells }
         requires some { 1 ≤ values }
-        requires few { values ≤ 31 }
+        requires few { values ≤ max_values }
         ensures cells { IfOk result (λ trailed. cells_of trailed.board ≡ cells) }
         ensures values { IfOk result (λ trailed. trailed.board.values ≡ values) }
     {

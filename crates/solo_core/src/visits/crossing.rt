@@ -2,6 +2,7 @@
 #![tactic(auto, using(crate::proofs::CrossingLemmas::part_laws))]
 
 ghost use Rattle.std.specs.Prelude.{◌≡◌, ℕ, ◌≤◌, ◌&&◌, ◌||◌, not, length};
+ghost use Rattle.grid_core.specs.Candidates.{max_values};
 ghost use Rattle.solo_core.specs.Common.{has_bit as is_set, IsDecided};
 ghost use Rattle.solo_core.specs.Crossing.{part_has, in_block_alone, in_line_alone, strikes_by_parts};
 
@@ -10,7 +11,7 @@ use engine_core::has_bit;
 /// Decides what is kept of the sets of a crossing. The first `block` of its cells are the block's, of which those whose
 /// bit is set in `shared` are the line's too; the others are the line's alone.
 pub(crate) fn keep_crossing(block: usize, shared: u32, sets: &[u32], kept: &mut [u32])
-    requires few { block ≤ 31 }
+    requires few { block ≤ max_values }
     requires as_many { length kept.old ≡ length sets.now }
     ensures { (values : ℕ)
         → IsDecided values (strikes_by_parts block (is_set shared)) sets.now kept.new }
@@ -25,7 +26,7 @@ pub(crate) fn keep_crossing(block: usize, shared: u32, sets: &[u32], kept: &mut 
 
 /// Whether the cell is in the block outside the line.
 fn is_block_alone(block: usize, shared: u32, k: usize) -> bool
-    requires { block ≤ 31 }
+    requires { block ≤ max_values }
     ensures { result ≡ in_block_alone block (is_set shared) k }
 {
     k < block && !has_bit(shared, k as u8)
@@ -33,7 +34,7 @@ fn is_block_alone(block: usize, shared: u32, k: usize) -> bool
 
 /// The values of the block outside the line.
 fn values_in_block(block: usize, shared: u32, sets: &[u32]) -> u32
-    requires { block ≤ 31 }
+    requires { block ≤ max_values }
     ensures { (v : ℕ) → is_set result v
         ≡ part_has (in_block_alone block (is_set shared)) sets.now v }
 {

@@ -1,6 +1,7 @@
 //! What a visit of a house keeps: the values that fillings without repeat have.
 
 ghost use Rattle.std.specs.Prelude.{◌≡◌, ℕ, ◌<◌, ◌≤◌, ◌&&◌, length};
+ghost use Rattle.grid_core.specs.Candidates.{max_values};
 ghost use Rattle.solo_core.specs.Common.{strikes_by_fillings, has_bit as is_set, IsDecided};
 ghost use Rattle.solo_core.specs.Common.{IsPairing, no_repeat, has_in};
 ghost use Rattle.solo_core.specs.Peeled.{AreAlone, IsRest, IsPaired, HasSetOfCell, KeepsReaching};
@@ -22,7 +23,7 @@ use grid_core::{Paired, Pairing};
 /// first filling, each time to a value that the cell of the last could have instead: the cells on the way change their
 /// values in turn.
 pub(crate) fn keep_houses(values: u8, sets: &[u32], kept: &mut [u32], pairing: &mut Pairing)
-    requires few { values ≤ 31 }
+    requires few { values ≤ max_values }
     requires square { length sets.now ≡ values }
     requires as_many { length kept.old ≡ length sets.now }
     requires room { values ≤ pairing.old.room }
@@ -36,7 +37,7 @@ pub(crate) fn keep_houses(values: u8, sets: &[u32], kept: &mut [u32], pairing: &
 
 /// Decides what is kept of a house in which the cells with these bits are alone.
 fn keep_peeled(values: u8, alone: u32, kept: &mut [u32], pairing: &mut Pairing)
-    requires few { values ≤ 31 }
+    requires few { values ≤ max_values }
     requires square { length kept.old ≡ values }
     requires alone { AreAlone values kept.old alone }
     requires room { values ≤ pairing.old.room }
@@ -52,7 +53,7 @@ fn keep_peeled(values: u8, alone: u32, kept: &mut [u32], pairing: &mut Pairing)
 
 /// Decides what is kept of a house in which all cells but these are alone.
 fn keep_rest(values: u8, rest: &[u8], kept: &mut [u32], pairing: &mut Pairing)
-    requires few { values ≤ 31 }
+    requires few { values ≤ max_values }
     requires square { length kept.old ≡ values }
     requires alone { IsRest values kept.old rest.now }
     requires room { values ≤ pairing.old.room }
@@ -71,7 +72,7 @@ fn keep_rest(values: u8, rest: &[u8], kept: &mut [u32], pairing: &mut Pairing)
 
 /// Decides what is kept of a house in which these cells are paired, and the others are alone.
 fn keep_paired(values: u8, rest: &[u8], paired: &[u8], kept: &mut [u32])
-    requires few { values ≤ 31 }
+    requires few { values ≤ max_values }
     requires square { length kept.old ≡ values }
     requires alone { IsRest values kept.old rest.now }
     requires paired { IsPaired values kept.old rest.now paired.now }
@@ -101,7 +102,7 @@ fn write_own_sets(sets: &[u32], mates: &[u8], reach: &mut [u32])
 
 /// Keeps of each set the values that reach the cell's own.
 fn keep_reached(values: u8, mates: &[u8], reach: &[u32], kept: &mut [u32])
-    requires few { values ≤ 31 }
+    requires few { values ≤ max_values }
     requires square { length kept.old ≡ values }
     requires reached { length reach.now ≡ values }
     requires paired { IsPairing (has_in kept.old) (length kept.old) (length kept.old) mates.now }
@@ -115,7 +116,7 @@ fn keep_reached(values: u8, mates: &[u8], reach: &[u32], kept: &mut [u32])
 
 /// The values of the set that reach the value `own`.
 fn reaching(values: u8, set: u32, own: usize, reach: &[u32]) -> u32
-    requires few { values ≤ 31 }
+    requires few { values ≤ max_values }
     requires reached { length reach.now ≡ values }
     requires own_in { own < values }
     ensures { (v : ℕ) → v < values → is_set result v ≡ (is_set set v && has_in reach.now v own) }

@@ -1,6 +1,7 @@
 //! The cells of a house and their values as two sides to be paired.
 
 ghost use Rattle.std.specs.Prelude.{◌≡◌, ℕ, ◌<◌, ◌≤◌, length, slice_index};
+ghost use Rattle.grid_core.specs.Candidates.{max_values};
 ghost use Rattle.solo_core.specs.Bits.{has_in};
 
 use crate::visits::bits::next_bit;
@@ -12,7 +13,7 @@ pub(crate) struct Joined<'a> {
     pub(crate) sets: &'a [u32],
     pub(crate) rest: &'a [u8],
     pub(crate) values: u8,
-    ghost few: { values ≤ 31 },
+    ghost few: { values ≤ max_values },
     ghost rest_in: { (i : ℕ) → i < length rest.now → slice_index rest.now i < length sets.now },
 }
 

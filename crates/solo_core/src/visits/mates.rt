@@ -2,6 +2,7 @@
 #![tactic(auto, using(crate::proofs::LawSets::mates_laws))]
 
 ghost use Rattle.std.specs.Prelude.{◌≡◌, ℕ, ◌<◌, ◌≤◌, true, length, slice_index};
+ghost use Rattle.grid_core.specs.Candidates.{max_values};
 ghost use Rattle.solo_core.specs.Common.{AreDifferent, has_bit as is_set, IsPairing, has_in};
 ghost use Rattle.solo_core.specs.Peeled.{IsRest, IsPaired, IsShort, HasMate, GotMates, KeepMates, AgreeBelow, rest_of as rest_cells};
 
@@ -17,7 +18,7 @@ pub(crate) const MANY: usize = 32;
 
 /// The cells whose bit is not set.
 pub(crate) fn rest_of(len: usize, alone: u32) -> ArrayVec<u8, MANY>
-    requires { len ≤ 31 }
+    requires { len ≤ max_values }
     ensures rest { result.items ≡ rest_cells len alone }
     ensures few { length result.items ≤ len }
 {
@@ -39,7 +40,7 @@ pub(crate) fn pair_rest(
     pairing: &mut Pairing,
     paired: &mut [u8],
 ) -> Paired
-    requires few { values ≤ 31 }
+    requires few { values ≤ max_values }
     requires rest_in { (i : ℕ) → i < length rest.now → slice_index rest.now i < length sets.now }
     requires lefts { length rest.now ≤ pairing.old.room }
     requires rights { values ≤ pairing.old.room }
@@ -73,7 +74,7 @@ fn copy_mates(values: u8, pairing: &Pairing, paired: &mut [u8])
 
 /// Writes for each cell its value: its own, where it is alone, and else the one that it is paired with.
 pub(crate) fn write_mates(values: u8, sets: &[u32], rest: &[u8], paired: &[u8], mates: &mut [u8])
-    requires few { values ≤ 31 }
+    requires few { values ≤ max_values }
     requires as_many { length mates.old ≡ length sets.now }
     requires alone { IsRest values sets.now rest.now }
     requires paired { IsPaired values sets.now rest.now paired.now }
@@ -85,7 +86,7 @@ pub(crate) fn write_mates(values: u8, sets: &[u32], rest: &[u8], paired: &[u8], 
 
 /// Writes for each cell the least value of its set.
 fn write_own(values: u8, sets: &[u32], mates: &mut [u8])
-    requires few { values ≤ 31 }
+    requires few { values ≤ max_values }
     requires as_many { length mates.old ≡ length sets.now }
     ensures as_many { length mates.new ≡ length sets.now }
     ensures own { HasMate values sets.now mates.new }
@@ -97,7 +98,7 @@ fn write_own(values: u8, sets: &[u32], mates: &mut [u8])
 
 /// The least value of the set, where it has one.
 fn lowest(values: u8, set: u32) -> u8
-    requires { values ≤ 31 }
+    requires { values ≤ max_values }
     ensures { (v : ℕ) → v < values → is_set set v ≡ true → is_set set result ≡ true }
 {
     next_bit(set, 0, usize::from(values)).unwrap_or(0) as u8

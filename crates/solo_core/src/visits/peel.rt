@@ -2,6 +2,7 @@
 #![tactic(auto, using(crate::proofs::LawSets::peel_laws))]
 
 ghost use Rattle.std.specs.Prelude.{◌≡◌, ℕ, ◌≤◌, ◌||◌, true, length};
+ghost use Rattle.grid_core.specs.Candidates.{max_values};
 ghost use Rattle.engine_core.specs.Sets.{has_bit as is_set};
 ghost use Rattle.solo_core.specs.Peeled.{IsPeeled, AreAlone, AreCounts, AddsSingle, AddsShared, AreDropped};
 
@@ -19,7 +20,7 @@ struct Counts {
 /// one with some value, until there is no such cell. Tells by bits which cells then have a value alone that no
 /// other cell has. Every filling without repeat stays.
 pub(crate) fn peel(values: u8, sets: &mut [u32]) -> u32
-    requires few { values ≤ 31 }
+    requires few { values ≤ max_values }
     requires square { length sets.old ≡ values }
     ensures peeled { IsPeeled values sets.old sets.new }
     ensures alone { AreAlone values sets.new result }
@@ -82,7 +83,7 @@ fn count(sets: &[u32]) -> Counts
 
 /// Strikes from each set what the counts say, and counts again.
 fn narrow_all(values: u8, counts: Counts, sets: &mut [u32]) -> Counts
-    requires few { values ≤ 31 }
+    requires few { values ≤ max_values }
     requires square { length sets.old ≡ values }
     requires counts { AreCounts sets.old (length sets.old) counts.some counts.single counts.shared }
     ensures peeled { IsPeeled values sets.old sets.new }
@@ -99,7 +100,7 @@ fn narrow_all(values: u8, counts: Counts, sets: &mut [u32]) -> Counts
 
 /// The values of the set that no other cell has, if it has such; else those that no cell has alone, if it has such.
 fn narrow(values: u8, counts: Counts, set: u32) -> u32
-    requires { values ≤ 31 }
+    requires { values ≤ max_values }
     ensures inside { (v : ℕ) → is_set result v ≡ true → is_set set v ≡ true }
     ensures dropped { AreDropped values counts.single counts.shared set result }
 {
@@ -113,7 +114,7 @@ fn narrow(values: u8, counts: Counts, set: u32) -> u32
 
 /// The cells that have a value alone that no other has.
 fn alone_cells(values: u8, counts: Counts, sets: &[u32]) -> u32
-    requires few { values ≤ 31 }
+    requires few { values ≤ max_values }
     requires square { length sets.now ≡ values }
     requires counts { AreCounts sets.now (length sets.now) counts.some counts.single counts.shared }
     ensures { AreAlone values sets.now result }

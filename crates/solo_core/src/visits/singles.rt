@@ -2,6 +2,7 @@
 #![tactic(auto, using(crate::proofs::SinglesLemmas::decided_broken))]
 
 ghost use Rattle.std.specs.Prelude.{◌≡◌, ℕ, ◌<◌, ◌≤◌, length, slice_index};
+ghost use Rattle.grid_core.specs.Candidates.{max_values};
 ghost use Rattle.solo_core.specs.Common.{any_below, has_bit as is_set, IsDecided, has_in};
 ghost use Rattle.solo_core.specs.Singles.{is_elsewhere as some_elsewhere, is_only_place as only_place, taken_elsewhere, needed_for_other, has_only_bit, has_other_bit, has_empty_cell as some_empty, has_lost_value as some_lost, is_broken as some_broken, stays_in, strikes_by_singles};
 
@@ -11,7 +12,7 @@ use engine_core::has_bit;
 /// Decides what is kept of the sets of a house: a value is struck from a cell where another cell has only that value,
 /// where the cell is the only place of another value, where some cell has no value, or where some value has no place.
 pub(crate) fn keep_singles(values: u8, sets: &[u32], kept: &mut [u32])
-    requires few { values ≤ 31 }
+    requires few { values ≤ max_values }
     requires as_many { length kept.old ≡ length sets.now }
     ensures { IsDecided values (strikes_by_singles values) sets.now kept.new }
 {
@@ -34,7 +35,7 @@ pub(crate) fn clear(kept: &mut [u32])
 
 /// The values of the cell that are neither taken by another cell nor given up for another value.
 fn keep_cell(values: u8, sets: &[u32], place: usize) -> u32
-    requires few { values ≤ 31 }
+    requires few { values ≤ max_values }
     requires place_in { place < length sets.now }
     ensures { (v : ℕ) → v < values → is_set result v ≡ stays_in values sets.now place v }
 {
@@ -48,7 +49,7 @@ fn keep_cell(values: u8, sets: &[u32], place: usize) -> u32
 
 /// Whether the cell has the value, and it is neither taken by another cell nor given up for another value.
 fn stays(values: u8, sets: &[u32], place: usize, value: u8) -> bool
-    requires few { values ≤ 31 }
+    requires few { values ≤ max_values }
     requires place_in { place < length sets.now }
     requires value_in { value < values }
     ensures { result ≡ stays_in values sets.now place value }
@@ -60,7 +61,7 @@ fn stays(values: u8, sets: &[u32], place: usize, value: u8) -> bool
 
 /// Whether another cell has only the value.
 pub(crate) fn is_taken(values: u8, sets: &[u32], place: usize, value: u8) -> bool
-    requires few { values ≤ 31 }
+    requires few { values ≤ max_values }
     requires value_in { value < values }
     ensures { result ≡ taken_elsewhere (length sets.now) values (has_in sets.now) place value }
 {
@@ -69,7 +70,7 @@ pub(crate) fn is_taken(values: u8, sets: &[u32], place: usize, value: u8) -> boo
 
 /// Whether the set has the value and no other.
 fn has_only(values: u8, set: u32, value: u8) -> bool
-    requires few { values ≤ 31 }
+    requires few { values ≤ max_values }
     requires value_in { value < values }
     ensures { result ≡ has_only_bit values set value }
 {
@@ -78,7 +79,7 @@ fn has_only(values: u8, set: u32, value: u8) -> bool
 
 /// Whether the set has a value other than this one.
 fn has_other(values: u8, set: u32, value: u8) -> bool
-    requires few { values ≤ 31 }
+    requires few { values ≤ max_values }
     ensures { result ≡ has_other_bit values set value }
 {
     (0..values).any(|other| other != value && has_bit(set, other))
@@ -86,7 +87,7 @@ fn has_other(values: u8, set: u32, value: u8) -> bool
 
 /// Whether the cell is the only place of another value.
 fn is_needed(values: u8, sets: &[u32], place: usize, value: u8) -> bool
-    requires few { values ≤ 31 }
+    requires few { values ≤ max_values }
     requires place_in { place < length sets.now }
     ensures { result ≡ needed_for_other (length sets.now) values (has_in sets.now) place value }
 {
@@ -95,7 +96,7 @@ fn is_needed(values: u8, sets: &[u32], place: usize, value: u8) -> bool
 
 /// Whether the cell has the value and no other cell has it.
 fn is_only_place(sets: &[u32], place: usize, value: u8) -> bool
-    requires few { value < 31 }
+    requires few { value < max_values }
     requires place_in { place < length sets.now }
     ensures { result ≡ only_place (length sets.now) (has_in sets.now) place value }
 {
@@ -104,7 +105,7 @@ fn is_only_place(sets: &[u32], place: usize, value: u8) -> bool
 
 /// Whether another cell has the value.
 fn is_elsewhere(sets: &[u32], place: usize, value: u8) -> bool
-    requires few { value < 31 }
+    requires few { value < max_values }
     ensures { result ≡ some_elsewhere (length sets.now) (has_in sets.now) place value }
 {
     (0..sets.len()).any(|j| j != place && has_bit(sets[j], value))
@@ -112,7 +113,7 @@ fn is_elsewhere(sets: &[u32], place: usize, value: u8) -> bool
 
 /// Whether some cell has no value, or some value no place.
 fn is_broken(values: u8, sets: &[u32]) -> bool
-    requires few { values ≤ 31 }
+    requires few { values ≤ max_values }
     ensures { result ≡ some_broken (length sets.now) values (has_in sets.now) }
 {
     has_empty_cell(values, sets) || has_lost_value(values, sets)
@@ -120,7 +121,7 @@ fn is_broken(values: u8, sets: &[u32]) -> bool
 
 /// Whether some cell has no value.
 fn has_empty_cell(values: u8, sets: &[u32]) -> bool
-    requires few { values ≤ 31 }
+    requires few { values ≤ max_values }
     ensures { result ≡ some_empty (length sets.now) values (has_in sets.now) }
 {
     (0..sets.len()).any(|j| !has_some(values, sets[j]))
@@ -128,7 +129,7 @@ fn has_empty_cell(values: u8, sets: &[u32]) -> bool
 
 /// Whether the set has a value.
 fn has_some(values: u8, set: u32) -> bool
-    requires few { values ≤ 31 }
+    requires few { values ≤ max_values }
     ensures { result ≡ any_below (is_set set) values }
 {
     (0..values).any(|value| has_bit(set, value))
@@ -136,7 +137,7 @@ fn has_some(values: u8, set: u32) -> bool
 
 /// Whether some value has no place.
 fn has_lost_value(values: u8, sets: &[u32]) -> bool
-    requires few { values ≤ 31 }
+    requires few { values ≤ max_values }
     ensures { result ≡ some_lost (length sets.now) values (has_in sets.now) }
 {
     (0..values).any(|value| !has_place(sets, value))
@@ -144,7 +145,7 @@ fn has_lost_value(values: u8, sets: &[u32]) -> bool
 
 /// Whether some cell has the value.
 fn has_place(sets: &[u32], value: u8) -> bool
-    requires few { value < 31 }
+    requires few { value < max_values }
     ensures { result ≡ any_below (λ j. has_in sets.now j value) (length sets.now) }
 {
     (0..sets.len()).any(|j| has_bit(sets[j], value))

@@ -2,6 +2,7 @@
 #![tactic(auto, using(crate::proofs::LawSets::turning_laws))]
 
 ghost use Rattle.std.specs.Prelude.{◌≡◌, ℕ, ◌<◌, ◌≤◌, true, length, slice_index};
+ghost use Rattle.grid_core.specs.Candidates.{max_values};
 ghost use Rattle.solo_core.specs.Bits.{HasMore, HasBefore};
 ghost use Rattle.solo_core.specs.Ways.{HasValuesOf, StaysAfter, StaysBefore, LiesOnRounds};
 
@@ -16,7 +17,7 @@ struct Ends {
 
 /// Whether each value of these cells, paired so, leads to the first one's mate and back, as far as that is found soon.
 pub(crate) fn lie_on_rounds(values: u8, sets: &[u32], rest: &[u8], mates: &[u8]) -> bool
-    requires few { values ≤ 31 }
+    requires few { values ≤ max_values }
     requires rest_in { (i : ℕ) → i < length rest.now → slice_index rest.now i < length sets.now }
     requires as_many { length mates.now ≡ length rest.now }
     requires small { (i : ℕ) → i < length rest.now → slice_index mates.now i < values }
@@ -58,7 +59,7 @@ fn values_of(sets: &[u32], rest: &[u8]) -> u32
 
 /// Goes on by one step of each cell, one after another.
 fn spread(values: u8, sets: &[u32], rest: &[u8], mates: &[u8], ends: Ends) -> Ends
-    requires few { values ≤ 31 }
+    requires few { values ≤ max_values }
     requires rest_in { (i : ℕ) → i < length rest.now → slice_index rest.now i < length sets.now }
     requires as_many { length mates.now ≡ length rest.now }
     requires small { (i : ℕ) → i < length rest.now → slice_index mates.now i < values }
