@@ -6,7 +6,7 @@ use Rattle.std.proofs.lemmas.List.Elements.{filter-append}
 use Rattle.std.proofs.lemmas.List.Sums.{count_by-le-length, length-filter}
 use Rattle.engine_core.specs.HouseList.{IsGrown, Listed}
 use Rattle.engine_core.proofs.Common.{append_assoc, drop, eq-eqb, eqb, length-append, ne_eqb, not, take, ◌∙◌}
-use Rattle.engine_core.proofs.Common.{AreEnds, IsListed, List, [], ap, arith, between, between_is, between_to_end, common_steps}
+use Rattle.engine_core.proofs.Common.{AreEnds, IsListed, List, [], ap, arith, between, between_to_end, common_steps}
 use Rattle.engine_core.proofs.Common.{drop-append-le, get_or, last_end, length, length-between, listed, pieces, refl, suc, sum_by, sum_by-cons, sym}
 use Rattle.engine_core.proofs.Common.{ends-more, last-close, last-le, length-pieces, piece-ends, pieces-close, pieces-more, zero, ℕ, ◌++◌, ◌+◌, ◌-◌, ◌<◌, ◌^◌, ◌∷◌, ◌≡◌, ◌≤◌}
 

@@ -1,5 +1,5 @@
 -- What a rule set means, and what every rule set keeps to.
-use Rattle.std.specs.Prelude.{◌≡◌, ℕ, zero, suc, max, Option, Some, None, ◌==◌, ◌||◌, ◌+◌, ◌-◌, ◌*◌, ◌<◌, ◌≤◌, Bool, true, false, not, cond, ◌&&◌, List, [], ◌∷◌, length, slice_index}
+use Rattle.std.specs.Prelude.{◌≡◌, ℕ, zero, suc, max, Option, Some, None, ◌==◌, ◌+◌, ◌-◌, ◌*◌, ◌<◌, ◌≤◌, Bool, true, false, not, cond, ◌&&◌, List, length, slice_index}
 use Rattle.std.specs.List.{list_any}
 use Rattle.grid_core.specs.Candidates.{Candidates, IsInside, IsWithin, single, count_below, sum_below, max_cells, max_values}
 use Rattle.grid_core.specs.Board.{Layout, cells_of}

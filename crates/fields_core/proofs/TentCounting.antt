@@ -16,7 +16,8 @@ use Rattle.engine_core.specs.Puzzle.{has_place}
 use Rattle.engine_core.specs.PlaceLaws.{has_place-at, has_place-here, AreDistinct, place-filter, place-kept, distinct-filter}
 use Rattle.engine_core.specs.Filling.{Set, has_value}
 use Rattle.engine_core.specs.FillingLaws.{filling_from_test, has_value_below}
-use Rattle.gameid_core.specs.Puzzles.{Tents, IsTents, AreCounts, line_cells}
+use Rattle.grid_core.specs.Lines.{line_cells}
+use Rattle.gameid_core.specs.Puzzles.{Tents, IsTents, AreCounts}
 use Rattle.fields_core.specs.CountHouse.{exactly, one_at_most, one_at_least, IsCounting}
 use Rattle.fields_core.specs.Tents.{tent_cells, tree, tent, are_near, touches, tents_in_column, tents_in_row, tree_right, touch_right, column_right, row_right, names_none_twice, leaves_none_out, trees_beside, can_be_paired, solves_tents}
 use Rattle.fields_core.specs.TentHouses.{column_of_tents, row_of_tents, free_beside, tree_house, square_house, tent_houses, is_barred}

@@ -6,17 +6,18 @@ use Rattle.std.proofs.lemmas.List.FromFn.{length-map-range_with_len}
 use Rattle.std.proofs.lemmas.List.Elements.{recursion_from_All}
 use Rattle.grid_core.specs.Extent.{Extent, IsExtent}
 use Rattle.grid_core.specs.Grids.{IsGrid}
-use Rattle.gameid_core.specs.Puzzles.{IsTents, AreCounts, lines_of}
-use Rattle.gameid_core.specs.Lines.{line_list, ones, lines_ones}
-use Rattle.gameid_core.proofs.LineLaws.{length_line}
+use Rattle.grid_core.specs.Lines.{lines_of, line_numbers}
+use Rattle.gameid_core.specs.Puzzles.{IsTents, AreCounts}
+use Rattle.gameid_core.specs.Lines.{ones, lines_ones}
+use Rattle.grid_core.proofs.LineLemmas.{length-line_numbers}
 
 ones_few : (cells : List ℕ) → ones cells ≤ length cells
 ones_few [] = omega arith
 ones_few (b ∷ cells) = grind (arith, ones_few cells)
 
-are_ones : (size : Extent) (g : List ℕ) (line n : ℕ) → AreCounts size line (map (λ i. ones (line_list size g i)) (range_with_len line n))
+are_ones : (size : Extent) (g : List ℕ) (line n : ℕ) → AreCounts size line (map (λ i. ones (line_numbers size g i)) (range_with_len line n))
 are_ones size g line zero = tt
-are_ones size g line (suc n) = grind (arith, common_steps, are_ones size g (line + 1) n, ones_few, length_line)
+are_ones size g line (suc n) = grind (arith, common_steps, are_ones size g (line + 1) n, ones_few, length-line_numbers)
 
 -- trees, and the ones of the lines, are a puzzle
 pub ones_lawful : (size : Extent) (trees tents counts kept : List ℕ) → IsExtent size → 2 ≤ size.w → 2 ≤ size.h → IsGrid (size.w * size.h) 2 trees → kept ≡ trees → counts ≡ lines_ones size tents → IsTents (record { size = size; trees = kept; counts = counts })

@@ -8,7 +8,8 @@ use Rattle.std.proofs.lemmas.List.{append-nil}
 use Rattle.grid_core.specs.Extent.{Extent, IsExtent}
 use Rattle.gameid_core.specs.Words.{begins, value, IsNumeral, words}
 use Rattle.gameid_core.specs.Steps.{reading}
-use Rattle.gameid_core.specs.Puzzles.{line_cells, used, IsPattern, IsClue, AreClues, lines_of, Pattern}
+use Rattle.grid_core.specs.Lines.{line_cells, lines_of}
+use Rattle.gameid_core.specs.Puzzles.{used, IsPattern, IsClue, AreClues, Pattern}
 use Rattle.gameid_core.specs.PatternText.{clue_number, clue_token, pattern_step, pattern_end, clues_text, clues_at, pattern_of, SpellsPattern}
 use Rattle.gameid_core.specs.OneText.{HasOneReading}
 use Rattle.gameid_core.proofs.OneReading.{reading_of}

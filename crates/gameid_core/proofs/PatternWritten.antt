@@ -7,7 +7,8 @@ use Rattle.std.proofs.lemmas.Fmt.{digits_value-decimal}
 use Rattle.grid_core.specs.Extent.{Extent, IsExtent, max_side}
 use Rattle.gameid_core.specs.Words.{value, IsNumeral, IsPlain}
 use Rattle.gameid_core.specs.SizeText.{size_text}
-use Rattle.gameid_core.specs.Puzzles.{Pattern, IsPattern, IsClue, AreClues, line_cells, used}
+use Rattle.grid_core.specs.Lines.{line_cells}
+use Rattle.gameid_core.specs.Puzzles.{Pattern, IsPattern, IsClue, AreClues, used}
 use Rattle.gameid_core.specs.PatternText.{SpellsPattern, IsWrittenPattern, clue_text, pattern_text, clues_text}
 use Rattle.gameid_core.specs.Head.{max_id}
 use Rattle.gameid_core.specs.OneText.{HasOneText}

@@ -5,9 +5,10 @@ use Rattle.gameid_core.specs.BlackRuns.{run_of, runs_after, runs}
 use Rattle.std.specs.List.{AllByRecursion, range_with_len}
 use Rattle.std.proofs.lemmas.List.FromFn.{length-map-range_with_len}
 use Rattle.grid_core.specs.Extent.{Extent, IsExtent}
-use Rattle.gameid_core.specs.Puzzles.{IsPattern, IsClue, AreClues, line_cells, lines_of, used}
-use Rattle.gameid_core.specs.Lines.{line_list, lines_runs}
-use Rattle.gameid_core.proofs.LineLaws.{length_line}
+use Rattle.grid_core.specs.Lines.{line_cells, lines_of, line_numbers}
+use Rattle.gameid_core.specs.Puzzles.{IsPattern, IsClue, AreClues, used}
+use Rattle.gameid_core.specs.Lines.{lines_runs}
+use Rattle.grid_core.proofs.LineLemmas.{length-line_numbers}
 
 -- a white cell cuts a line in two
 pub runs_after-cut : (k : ℕ) (f g : List ℕ) → runs_after k (f ++ 0 ∷ g) ≡ runs_after k f ++ runs g
@@ -49,10 +50,10 @@ runs_used k (suc b ∷ cells) = omega (arith, runs_used (suc k) cells)
 pub runs_fit : (cells : List ℕ) → IsClue (length cells) (runs cells)
 runs_fit cells = grind (arith, common_steps, runs_positive, runs_used)
 
-runs_line_fits : (size : Extent) (g : List ℕ) (line : ℕ) → IsClue (line_cells size line) (runs (line_list size g line))
-runs_line_fits size g line = grind (arith, common_steps, length_line, runs_fit)
+runs_line_fits : (size : Extent) (g : List ℕ) (line : ℕ) → IsClue (line_cells size line) (runs (line_numbers size g line))
+runs_line_fits size g line = grind (arith, common_steps, length-line_numbers, runs_fit)
 
-are_runs : (size : Extent) (g : List ℕ) (line n : ℕ) → AreClues size line (map (λ i. runs (line_list size g i)) (range_with_len line n))
+are_runs : (size : Extent) (g : List ℕ) (line n : ℕ) → AreClues size line (map (λ i. runs (line_numbers size g i)) (range_with_len line n))
 are_runs size g line zero = tt
 are_runs size g line (suc n) = (runs_line_fits size g line, are_runs size g (line + 1) n)
 

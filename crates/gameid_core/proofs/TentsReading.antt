@@ -11,7 +11,8 @@ use Rattle.gameid_core.specs.declared.id.fault.IdFault.{IdFault}
 use Rattle.gameid_core.specs.declared.id.fault.IdFault.TheVariants.{TooMany, TooFew}
 use Rattle.gameid_core.specs.Words.{begins, joins, words, digits_front, value}
 use Rattle.gameid_core.specs.Steps.{reading}
-use Rattle.gameid_core.specs.Puzzles.{line_cells, lines_of, IsWide, IsTents, AreCounts}
+use Rattle.grid_core.specs.Lines.{line_cells, lines_of}
+use Rattle.gameid_core.specs.Puzzles.{IsWide, IsTents, AreCounts}
 use Rattle.gameid_core.specs.TentsText.{TentsToken, blanks_and_tree, tents_token_byte, tents_token_cells, IsTentsToken, TentsSoFar, cells_in, tents_run, run_cells, tents_count, tents_step, tents_end, tents_at}
 use Rattle.gameid_core.proofs.Tokens.{front_turn, cuts_single, words_nil, words_first, words_single}
 use Rattle.gameid_core.proofs.Results.{bind_ok}

@@ -9,7 +9,8 @@ use Rattle.grid_core.specs.Extent.{Extent}
 use Rattle.gameid_core.specs.declared.id.fault.IdFault.{IdFault}
 use Rattle.gameid_core.specs.Words.{IsNumeral, begins, words, value}
 use Rattle.gameid_core.specs.Steps.{reading}
-use Rattle.gameid_core.specs.Puzzles.{AreCounts, IsTents, line_cells, lines_of, Tents}
+use Rattle.grid_core.specs.Lines.{line_cells, lines_of}
+use Rattle.gameid_core.specs.Puzzles.{AreCounts, IsTents, Tents}
 use Rattle.gameid_core.specs.TentsText.{TentsSoFar, TentsToken, blanks_and_tree, only_blanks, tents_token_byte, tents_token_cells, IsTentsToken, cells_in, tents_run, run_cells, tents_step, tents_end, tents_at, SpellsTents, tents_of}
 use Rattle.gameid_core.specs.OneText.{HasOneReading}
 use Rattle.gameid_core.proofs.OneReading.{reading_of}

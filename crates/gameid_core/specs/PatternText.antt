@@ -11,7 +11,8 @@ use Rattle.gameid_core.specs.Words.{IsNumeral, IsPlain, begins, words, value}
 use Rattle.gameid_core.specs.Steps.{◌>>=◌, reading}
 use Rattle.gameid_core.specs.Head.{extent_of, head_of, max_id}
 use Rattle.gameid_core.specs.SizeText.{size_text, IsSizeText}
-use Rattle.gameid_core.specs.Puzzles.{Pattern, IsPattern, line_cells, lines_of, used}
+use Rattle.grid_core.specs.Lines.{line_cells, lines_of}
+use Rattle.gameid_core.specs.Puzzles.{Pattern, IsPattern, used}
 
 -- What a text spells ------------------------------------------------------------------------------
 

@@ -1,17 +1,11 @@
 -- What the puzzles are, without where they lie in memory.
-use Rattle.std.specs.Prelude.{◌≡◌, ℕ, Bool, ◌+◌, ◌*◌, ◌<◌, ◌≤◌, List, [], ◌∷◌, length, nat_lt, if◌then◌else◌}
+use Rattle.std.specs.Prelude.{◌≡◌, ℕ, Bool, ◌+◌, ◌*◌, ◌<◌, ◌≤◌, List, [], ◌∷◌, length}
 use Rattle.std.specs.List.{AllByRecursion}
 use Rattle.grid_core.specs.Extent.{Extent, IsExtent}
+use Rattle.grid_core.specs.Lines.{line_cells, lines_of}
 use Rattle.gameid_core.specs.declared.light_up.cell.LightCell.{LightCell}
 use Rattle.gameid_core.specs.declared.light_up.cell.LightCell.TheVariants.{White, Black, Numbered}
 use Rattle.gameid_core.specs.Head.{max_numbers}
-
--- the cells of a line: columns first, then rows
-abbrev pub line_cells : Extent → ℕ → ℕ
-line_cells size line = if nat_lt line size.w then size.h else size.w
-
-abbrev pub lines_of : Extent → ℕ
-lines_of size = size.w + size.h
 
 pub record Pattern : Type 0 where
   pub size : Extent

@@ -2,4 +2,3 @@
 
 pub(crate) mod black_runs;
 pub(crate) mod ones;
-pub(crate) mod places;

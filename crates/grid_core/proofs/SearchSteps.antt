@@ -5,7 +5,7 @@ use Rattle.std.specs.List.{list_any}
 use Rattle.std.specs.List.Sorted.{IsStrictlyIncreasing}
 use Rattle.std.proofs.lemmas.Bool.{cases_eq, cases_lt}
 use Rattle.std.proofs.lemmas.Grind.{common_steps}
-use Rattle.std.proofs.lemmas.List.{get_or_default, length-append, length-drop, length-map, get_or-drop, get_or-map}
+use Rattle.std.proofs.lemmas.List.{get_or_default, length-append, length-drop, length-map, get_or-map}
 use Rattle.std.proofs.Math.Seq.{get_or-append_seam}
 use Rattle.grid_core.specs.Pairings.{IsShortSet}
 use Rattle.grid_core.specs.Augmenting.{MatesView, AreJoined, ReachedView, IsFree, IsFreeFor, IsBlocked, IsReach, IsMateOfLater, ReachesOwners, Extends, IsClosed}

@@ -1,5 +1,5 @@
 -- A short set rules out every choice of different joined rights.
-use Rattle.std.proofs.Common.{◌≡◌, ℕ, ◌<◌, ◌≤◌, Bool, true, eqb, ltb, List, length, get_or, map, sym, ◌∙◌, ap, arith, ◌&&◌}
+use Rattle.std.proofs.Common.{◌≡◌, ℕ, ◌<◌, ◌≤◌, Bool, true, eqb, ltb, List, length, get_or, map, ◌∙◌, ap, arith, ◌&&◌}
 use Rattle.std.specs.Prelude.{Contains, filter}
 use Rattle.std.specs.List.{IsDistinct, list_any, range_with_len}
 use Rattle.std.specs.Set.{is_member}

@@ -4,5 +4,6 @@ pub mod Pieces
 pub mod Candidates
 pub mod Board
 pub mod Regions
+pub mod Lines
 pub mod Pairings
 pub mod Augmenting

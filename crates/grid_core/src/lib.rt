@@ -1,9 +1,10 @@
-//! Sizes, grids, boards, the regions of a grid, and pairings.
+//! Sizes, grids, boards, the regions and lines of a grid, and pairings.
 #![tactic(auto)]
 
 mod augmenting;
 mod board;
 mod grid;
+mod lines;
 mod mates;
 mod pairing;
 mod reached;
@@ -12,6 +13,7 @@ mod size;
 
 pub use board::Board;
 pub use grid::Grid;
+pub use lines::{line_count, line_len, line_number, line_place};
 pub use pairing::{Edges, Paired, Pairing};
 pub use regions::{beside, block_place, column_place, diagonal_place, row_place, step};
 pub use size::{MAX_SIDE, Size};

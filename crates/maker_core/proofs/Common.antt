@@ -66,8 +66,9 @@ unfoldable pub use Rattle.fields_core.specs.Tents.{touches}
 pub use Rattle.gameid_core.proofs.LineLaws.{at_column, at_row}
 pub use Rattle.gameid_core.specs.BlackRuns.{run_of, runs}
 unfoldable pub use Rattle.gameid_core.specs.BlackRuns.{runs_after}
-pub use Rattle.gameid_core.specs.Lines.{line_list, lines_ones, ones}
-pub use Rattle.gameid_core.specs.Puzzles.{IsSolo, Light, Pattern, Solo, Tents, lines_of, solo_n, solo_puzzle}
+pub use Rattle.gameid_core.specs.Lines.{lines_ones, ones}
+pub use Rattle.grid_core.specs.Lines.{lines_of, line_numbers, line_places}
+pub use Rattle.gameid_core.specs.Puzzles.{IsSolo, Light, Pattern, Solo, Tents, solo_n, solo_puzzle}
 pub use Rattle.gameid_core.specs.declared.light_up.cell.LightCell.{LightCell}
 pub use Rattle.gameid_core.specs.declared.light_up.cell.LightCell.TheVariants.{Black, Numbered, White}
 pub use Rattle.grid_core.proofs.CandidateLemmas.{all_below-at, all_below-from, any_below-here, any_below-none, any_below-some, count_below-few}
@@ -80,10 +81,11 @@ pub use Rattle.grid_core.specs.Extent.{Extent, IsExtent}
 pub use Rattle.grid_core.specs.Grids.{IsGrid, column_cells, row_cells}
 pub use Rattle.grid_core.specs.Regions.{beside, column_places, row_places, steps}
 pub use Rattle.pattern_core.specs.Faults.{IsCheck}
-pub use Rattle.pattern_core.specs.LineLaws.{cell_in_grid, different_places, has_runs-is, is_solution-from, is_solution-is, length-line_places}
-pub use Rattle.pattern_core.specs.LineLaws.{line_rules-lawful, place_in_row}
+pub use Rattle.grid_core.proofs.LineLemmas.{length-line_places, place_in_row}
+pub use Rattle.pattern_core.specs.LineLaws.{cell_in_grid, different_places, has_runs-is, is_solution-from, is_solution-is}
+pub use Rattle.pattern_core.specs.LineLaws.{line_rules-lawful}
 pub use Rattle.pattern_core.specs.LineRules.{line_rules}
-pub use Rattle.pattern_core.specs.Lines.{clue_of, has_runs, line_places}
+pub use Rattle.pattern_core.specs.Lines.{clue_of, has_runs}
 pub use Rattle.pattern_core.specs.Solutions.{IsPatternSolution}
 pub use Rattle.pattern_core.specs.declared.fault.PatternFault.{PatternFault}
 pub use Rattle.rand.proofs.ShuffleLemmas.{last_below, rest_below, rising_more, rising_one, rising_positive}

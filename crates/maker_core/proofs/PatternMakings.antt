@@ -1,7 +1,7 @@
 -- The puzzle of a grid has the runs of its lines as clues, and the grid is a solution of it.
 use Rattle.maker_core.proofs.Common.{◌≡◌, ℕ, ◌+◌, ◌-◌, ◌*◌, ◌<◌, List, [], length, map, get_or, subst, refl, sym, ap, ◌∙◌, arith, inl, inr}
 use Rattle.maker_core.proofs.Common.{range_with_len, slice_index_or, IsTrue, ◌↔◌, cases_lt, lt-ltb, le-ltb, fill_by_all, Extent, IsGrid, row_cells}
-use Rattle.maker_core.proofs.Common.{column_cells, runs, line_list, Pattern, lines_of, line_rules, IsPatternSolution, HasOne, TellsOne, IsOnlySolution}
+use Rattle.maker_core.proofs.Common.{column_cells, runs, line_numbers, Pattern, lines_of, line_rules, IsPatternSolution, HasOne, TellsOne, IsOnlySolution}
 use Rattle.maker_core.proofs.Common.{clued_by}
 use Rattle.maker_core.proofs.OnlySolutions.{one_is}
 
@@ -15,9 +15,9 @@ pub record HasRuns (size : Extent) (g : List ℕ) (p : Pattern) : Type 0 where
 pub each_line : {A : Type 0} (of : List ℕ → A) (none : A) (size : Extent) (g : List ℕ) (xs : List A) → length xs ≡ lines_of size
     → ((x : ℕ) → x < size.w → get_or xs x none ≡ of (column_cells size g x))
     → ((y : ℕ) → y < size.h → get_or xs (size.w + y) none ≡ of (row_cells size g y))
-    → xs ≡ map (λ line. of (line_list size g line)) (range_with_len 0 (lines_of size))
+    → xs ≡ map (λ line. of (line_numbers size g line)) (range_with_len 0 (lines_of size))
 each_line of none size g xs long columns rows =
-    fill_by_all (λ line. of (line_list size g line)) xs (lines_of size) none long (λ line lt. elim (cases_lt line size.w) [
+    fill_by_all (λ line. of (line_numbers size g line)) xs (lines_of size) none long (λ line lt. elim (cases_lt line size.w) [
       | inl column ↦ columns line column ∙ rw (lt-ltb line size.w column) refl
       | inr row ↦
           let back : size.w + (line - size.w) ≡ line = omega arith in

@@ -10,7 +10,8 @@ use Rattle.grid_core.specs.Extent.{Extent}
 use Rattle.grid_core.specs.Candidates.{Candidates}
 use Rattle.grid_core.proofs.BoardLemmas.{has-within}
 use Rattle.grid_core.proofs.CandidateLemmas.{any_below-some}
-use Rattle.gameid_core.specs.Puzzles.{Pattern, IsPattern, IsClue, AreClues, line_cells, lines_of, used}
+use Rattle.grid_core.specs.Lines.{line_cells, lines_of, line_places}
+use Rattle.gameid_core.specs.Puzzles.{Pattern, IsPattern, IsClue, AreClues, used}
 use Rattle.engine_core.specs.Filling.{strikes_by_fillings}
 use Rattle.engine_core.specs.House.{sets_at, kept_in}
 use Rattle.engine_core.specs.HouseLaws.{visited-after, kept-decided, bits-of_values, sets-of_values}
@@ -18,10 +19,10 @@ use Rattle.engine_core.specs.Keeping.{AreSetsOf, IsKept}
 use Rattle.engine_core.specs.Puzzle.{IsBoardOf, after}
 use Rattle.engine_core.specs.Sets.{set_of_bits, IsBitsOf}
 use Rattle.engine_core.proofs.QueueLemmas.{within_of}
-use Rattle.pattern_core.specs.Lines.{line_places, has_runs, clue_of, IsDecidedBy}
+use Rattle.pattern_core.specs.Lines.{has_runs, clue_of, IsDecidedBy}
 use Rattle.pattern_core.specs.LineRules.{line_rules}
 use Rattle.pattern_core.specs.LineLaws.{different_places}
-use Rattle.pattern_core.proofs.LineSteps.{line_short}
+use Rattle.grid_core.proofs.LineLemmas.{line_short}
 
 -- where every bit is kept, the board stays
 all_stays : (b : Layout) (places sets : List ℕ) → ((k : ℕ) → k < length places → IsBitsOf (has b (slice_index places k)) b.values (slice_index sets k))

@@ -5,11 +5,10 @@ use Rattle.std.proofs.lemmas.Bool.{cases_Bool, cases_lt, true≢false, or_left, 
 use Rattle.std.proofs.lemmas.Nat.{div-add-mod'}
 use Rattle.std.proofs.Math.Nat.{mul-le-mul_right, mod-lt}
 use Rattle.grid_core.specs.Extent.{Extent}
-use Rattle.gameid_core.specs.Puzzles.{lines_of}
+use Rattle.grid_core.specs.Lines.{lines_of, line_places}
 use Rattle.engine_core.specs.Puzzle.{has_place, IsNext, IsKth}
 use Rattle.engine_core.proofs.KthLemmas.{next-kth, next-number}
 use Rattle.grid_core.specs.Candidates.{count_below}
-use Rattle.pattern_core.specs.Lines.{line_places}
 use Rattle.pattern_core.specs.LineLaws.{column_has, row_has, lines_with, two_lines}
 
 module _ (size : Extent) (w place from : ℕ) (same : w ≡ size.w) (within : place < size.w * size.h) where

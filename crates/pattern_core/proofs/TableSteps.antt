@@ -1,22 +1,20 @@
 -- The steps of the table, at a place of the line.
 use Rattle.std.proofs.lemmas.Bool.{cases_Bool}
 use Rattle.std.proofs.lemmas.Grind.{common_steps}
-use Rattle.std.proofs.Common.{bit_and, ◌≡◌, ◌∙◌, ℕ, zero, suc, ◌+◌, ◌%◌, ◌<◌, ◌≤◌, Bool, true, false, ◌&&◌, eqb, List, [], ◌∷◌, length, get_or, drop, set, refl, sym, ap, ap₂, arith, inl, inr}
+use Rattle.std.proofs.Common.{bit_and, ◌≡◌, ◌∙◌, ℕ, zero, suc, ◌+◌, ◌<◌, ◌≤◌, Bool, true, false, ◌&&◌, eqb, List, [], ◌∷◌, length, get_or, drop, set, refl, sym, ap, ap₂, arith, inl, inr}
 use Rattle.std.specs.List.{AllByRecursion}
 use Rattle.std.proofs.Math.Path.{fun_ext}
 use Rattle.std.proofs.Math.Bool.{and-true}
-use Rattle.std.proofs.lemmas.Bool.{cases_eq, ne_eqb, and_parts, and_from, eqb-true, true≢false, false_from_ne_true}
+use Rattle.std.proofs.lemmas.Bool.{cases_eq, and_parts, and_from, eqb-true, true≢false, false_from_ne_true}
 use Rattle.std.proofs.lemmas.List.{length-map, get_or-map, get_or-set_same, get_or-set_other, length-set, drop_all, drop_more, drop-drop, get_or-drop}
 use Rattle.grid_core.specs.Candidates.{any_below}
 use Rattle.grid_core.proofs.BoardLemmas.{bits_both}
 use Rattle.grid_core.proofs.CandidateLemmas.{any_below-some, any_below-here, any_below-same}
 use Rattle.engine_core.specs.Filling.{Set, some_filling, strikes_by_fillings}
-use Rattle.engine_core.specs.FillingLaws.{filling_from_test, test_from_filling}
 use Rattle.engine_core.specs.Sets.{has_bit, set_of_bits}
 use Rattle.engine_core.specs.House.{IsDecided}
-use Rattle.engine_core.proofs.BitLemmas.{bits-of_zero}
 use Rattle.pattern_core.specs.Lines.{has_runs}
-use Rattle.pattern_core.specs.Track.{spelled, Track, IsBelow, track_of, leads, some_leads, set_for, stays, goes_on, ahead, led, any_cells, cell_is, sets_of, AreRows, AreKept}
+use Rattle.pattern_core.specs.Track.{spelled, Track, IsBelow, track_of, leads, some_leads, set_for, ahead, led, any_cells, cell_is, sets_of, AreRows, AreKept}
 use Rattle.pattern_core.proofs.Leads.{same_tests, leads_next, leads_here, ways_on}
 use Rattle.pattern_core.proofs.SpelledRuns.{strikes_by_track}
 

@@ -1,47 +1,29 @@
 -- The rules of lines are lawful, by the laws of fillings and the places of lines.
 use Rattle.std.proofs.lemmas.Bool.{cases_Bool}
 use Rattle.std.proofs.lemmas.Grind.{common_steps}
-use Rattle.std.proofs.Common.{◌≡◌, ℕ, zero, suc, ◌+◌, ◌-◌, ◌*◌, ◌/◌, ◌%◌, ◌<◌, ◌≤◌, true, not, ◌&&◌, eqb, List, length, slice_index, map, refl, sym, ap, ◌∙◌, arith, inl, inr, ◌⊎◌}
-use Rattle.std.proofs.lemmas.Bool.{cases_lt, true≢false, true_from_ne_false, and_parts, and_from, eqb-true, eq-eqb, ltb-true, lt-ltb, le-ltb}
+use Rattle.std.proofs.Common.{◌≡◌, ℕ, zero, suc, ◌+◌, ◌-◌, ◌*◌, ◌/◌, ◌%◌, ◌<◌, ◌≤◌, true, not, ◌&&◌, eqb, List, slice_index, refl, sym, ap, ◌∙◌, arith, inl, inr, ◌⊎◌}
+use Rattle.std.proofs.lemmas.Bool.{cases_lt, true≢false, true_from_ne_false, and_parts, and_from, eqb-true, eq-eqb, ltb-true, lt-ltb}
 use Rattle.std.specs.Cmp.Lexicographic.{same_text, other_text}
 use Rattle.std.proofs.lemmas.Nat.{mod-mul-add, div-mul-add}
-use Rattle.std.proofs.lemmas.Simd.{map-map}
-use Rattle.std.proofs.lemmas.List.FromFn.{length-map-range_with_len, get_or-map-range_with_len}
+use Rattle.std.proofs.lemmas.List.FromFn.{length-map-range_with_len}
 use Rattle.std.proofs.Math.Nat.{mul-le-mul_right}
 use Rattle.grid_core.specs.Extent.{Extent, IsExtent}
-use Rattle.grid_core.specs.Candidates.{IsInside, all_of, single, sum_below, count_below, max_cells}
-use Rattle.grid_core.specs.Grids.{IsGrid, row_cells, column_cells}
-use Rattle.grid_core.specs.Regions.{row_places, column_places}
+use Rattle.grid_core.specs.Candidates.{IsInside, all_of, single, sum_below, count_below}
+use Rattle.grid_core.specs.Grids.{IsGrid}
 use Rattle.grid_core.proofs.CandidateLemmas.{all_below-at, all_below-from, count_below-few, count_below-or}
 use Rattle.grid_core.proofs.GridLemmas.{single-is}
-use Rattle.gameid_core.specs.Puzzles.{Pattern, lines_of, line_cells}
+use Rattle.grid_core.proofs.LineLemmas.{column-places, row-places, length-line_places, place_in_column, place_in_row, line_numbers-column, line_numbers-row, line_numbers-places, few_cells}
+use Rattle.grid_core.specs.Lines.{lines_of, line_places, line_numbers}
+use Rattle.gameid_core.specs.Puzzles.{Pattern}
 use Rattle.gameid_core.specs.BlackRuns.{runs}
 use Rattle.engine_core.specs.Puzzle.{IsLawful, after, has_place, share}
 use Rattle.engine_core.specs.PlaceLaws.{has_place-at, has_place-here}
 use Rattle.engine_core.specs.Filling.{strikes_by_fillings}
 use Rattle.engine_core.specs.House.{strikes_at, AreDifferent}
 use Rattle.engine_core.specs.HouseLaws.{strikes_at-inside, strikes_at-in_scope, by_fillings-monotone, by_fillings-settled, by_fillings-closed}
-use Rattle.pattern_core.specs.Lines.{line_places, line_numbers, clue_of, HasClue, has_runs}
+use Rattle.pattern_core.specs.Lines.{clue_of, HasClue, has_runs}
 use Rattle.pattern_core.specs.LineRules.{is_pattern_solution, line_rules}
 use Rattle.pattern_core.specs.Solutions.{IsPatternSolution}
-
--- ---- the places of a line
-pub column-places : (size : Extent) (line : ℕ) → line < size.w → line_places size line ≡ column_places size line
-unfolding line_places
-column-places size line lt = rw (lt-ltb line size.w lt) refl
-
-pub row-places : (size : Extent) (line : ℕ) → size.w ≤ line → line_places size line ≡ row_places size (line - size.w)
-unfolding line_places
-row-places size line le = rw (le-ltb line size.w le) refl
-
-pub length-line_places : (size : Extent) (line : ℕ) → length (line_places size line) ≡ line_cells size line
-length-line_places size line = grind (arith, common_steps, cases_Bool, cases_lt, column-places, le-ltb, length-map-range_with_len, lt-ltb, row-places)
-
-pub place_in_column : (size : Extent) (line k : ℕ) → line < size.w → k < size.h → slice_index (line_places size line) k ≡ k * size.w + line
-place_in_column size line k lt within = grind (arith, common_steps, cases_Bool, column-places, get_or-map-range_with_len)
-
-pub place_in_row : (size : Extent) (line k : ℕ) → size.w ≤ line → k < size.w → slice_index (line_places size line) k ≡ (line - size.w) * size.w + k
-place_in_row size line k le within = grind (arith, common_steps, cases_Bool, get_or-map-range_with_len, row-places)
 
 -- a cell in column x and row y lies in the grid, and no other column and row have its place
 pub cell_in_grid : (size : Extent) (x y : ℕ) → x < size.w → y < size.h → y * size.w + x < size.w * size.h
@@ -105,18 +87,6 @@ pub has_runs-from : (clue cells : List ℕ) → runs cells ≡ clue → has_runs
 unfolding has_runs
 has_runs-from clue cells is = true_from_ne_false (has_runs clue cells) (λ off. other_text (runs cells) clue (sym off) is)
 
-pub line_numbers-column : (size : Extent) (g : List ℕ) (line : ℕ) → line < size.w → line_numbers size g line ≡ column_cells size g line
-unfolding line_numbers
-line_numbers-column size g line lt = rw (lt-ltb line size.w lt) refl
-
-pub line_numbers-row : (size : Extent) (g : List ℕ) (line : ℕ) → size.w ≤ line → line_numbers size g line ≡ row_cells size g (line - size.w)
-unfolding line_numbers
-line_numbers-row size g line le = rw (le-ltb line size.w le) refl
-
--- the numbers of a line are those at its places
-pub line_numbers-places : (size : Extent) (g : List ℕ) (line : ℕ) → map (slice_index g) (line_places size line) ≡ line_numbers size g line
-line_numbers-places size g line = grind (arith, common_steps, cases_Bool, cases_lt, column-places, line_numbers-column, line_numbers-row, map-map, row-places)
-
 pub solution_from_lines : (p : Pattern) (g : List ℕ) → IsGrid (p.size.w * p.size.h) 2 g → ((line : ℕ) → line < lines_of p.size → HasClue p g line) → IsPatternSolution p g
 solution_from_lines p g grid each = grind (arith, common_steps, cases_Bool, line_numbers-column, line_numbers-row)
 
@@ -148,9 +118,6 @@ single-all cells values g grid = grind (arith, common_steps, cases_Bool, single-
 all-within : (cells values c v : ℕ) → all_of cells values c v ≡ true → (c < cells) × (v < values)
 unfolding all_of
 all-within cells values c v on = let w = and_parts _ _ on in (ltb-true c cells w.0, ltb-true v values w.1)
-
-pub few_cells : (size : Extent) → IsExtent size → size.w * size.h ≤ max_cells
-few_cells size e = grind (arith, common_steps, cases_Bool, mul-le-mul_right)
 
 pub line_rules-lawful : (p : Pattern) → IsExtent p.size → IsLawful (line_rules p)
 unfolding after

@@ -2,12 +2,13 @@
 use Rattle.std.specs.Prelude.{◌≡◌, ℕ, ◌+◌, ◌*◌, ◌==◌, Bool, true, List}
 use Rattle.grid_core.specs.Extent.{IsExtent}
 use Rattle.grid_core.specs.Candidates.{Candidates, all_below, all_of}
-use Rattle.gameid_core.specs.Puzzles.{Pattern, lines_of}
+use Rattle.grid_core.specs.Lines.{lines_of, line_places, line_numbers}
+use Rattle.gameid_core.specs.Puzzles.{Pattern}
 use Rattle.engine_core.specs.Puzzle.{Puzzle}
 use Rattle.engine_core.specs.Filling.{strikes_by_fillings}
 use Rattle.engine_core.specs.House.{strikes_at}
 use Rattle.engine_core.specs.Waiting.{is_waiting, AreCalled}
-use Rattle.pattern_core.specs.Lines.{line_places, line_numbers, clue_of, has_runs, IsFresh}
+use Rattle.pattern_core.specs.Lines.{clue_of, has_runs, IsFresh}
 
 -- whether each line's runs are its clue
 unfoldable pub is_pattern_solution : Pattern → List ℕ → Bool

@@ -1,23 +1,13 @@
--- Lines of either kind: the columns from the left, and then the rows from the top.
-use Rattle.std.specs.Prelude.{◌≡◌, ℕ, ◌+◌, ◌-◌, ◌<◌, ◌≤◌, Bool, true, List, [], length, nat_eq, nat_lt, if◌then◌else◌, slice_index_or}
+-- The clues of lines, and what their runs are.
+use Rattle.std.specs.Prelude.{◌≡◌, ℕ, ◌+◌, ◌<◌, ◌≤◌, Bool, true, List, [], length, nat_eq, slice_index_or}
 use Rattle.std.specs.Cmp.Lexicographic.{pointwise}
 use Rattle.std.specs.List.{AllByRecursion}
 use Rattle.grid_core.specs.Candidates.{Candidates}
-use Rattle.grid_core.specs.Extent.{Extent}
-use Rattle.grid_core.specs.Grids.{row_cells, column_cells}
-use Rattle.grid_core.specs.Regions.{row_places, column_places}
+use Rattle.grid_core.specs.Lines.{line_numbers}
 use Rattle.gameid_core.specs.Puzzles.{Pattern, used}
 use Rattle.gameid_core.specs.BlackRuns.{runs}
 use Rattle.engine_core.specs.Filling.{strikes_by_fillings}
 use Rattle.engine_core.specs.House.{IsDecided}
-
--- the places of a line's cells
-unfoldable pub line_places : Extent → ℕ → List ℕ
-line_places size line = if nat_lt line size.w then column_places size line else row_places size (line - size.w)
-
--- the numbers of a line's cells
-unfoldable pub line_numbers : Extent → List ℕ → ℕ → List ℕ
-line_numbers size g line = if nat_lt line size.w then column_cells size g line else row_cells size g (line - size.w)
 
 -- the clue of a line
 abbrev pub clue_of : Pattern → ℕ → List ℕ

@@ -5,10 +5,9 @@ ghost use Rattle.grid_core.specs.Grids.{IsGrid};
 ghost use Rattle.pattern_core.specs.Faults.{IsCheck};
 
 use crate::fault::PatternFault;
-use crate::line_cells::lines;
 use crate::line_clue::LineClue;
 use gameid_core::PatternPuzzle;
-use grid_core::Grid;
+use grid_core::{Grid, line_count};
 
 /// The first line whose black runs aren't its clue, the columns from the left before the rows from the top; `None`
 /// where the grid is a solution. The grid has a number below 2 for each cell: 0 for white and 1 for black.
@@ -22,7 +21,7 @@ pub fn check_pattern(puzzle: &PatternPuzzle, grid: &Grid) -> Option<PatternFault
 {
     let size = puzzle.size();
     let w = usize::from(size.w());
-    for line in 0..lines(size) {
+    for line in 0..line_count(size) {
         if LineClue::new(puzzle, line).is_met(size, grid, line) {
             continue;
         }

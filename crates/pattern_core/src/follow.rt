@@ -2,15 +2,14 @@
 
 ghost use Rattle.std.specs.Prelude.{◌≡◌, ◌<◌, ◌*◌};
 ghost use Rattle.grid_core.specs.Grids.{IsGrid};
-ghost use Rattle.gameid_core.specs.Puzzles.{lines_of};
-ghost use Rattle.pattern_core.specs.Lines.{line_numbers, has_runs};
+ghost use Rattle.grid_core.specs.Lines.{lines_of, line_numbers};
+ghost use Rattle.pattern_core.specs.Lines.{has_runs};
 ghost use Rattle.pattern_core.specs.Track.{AreLed, set_for};
 
-use crate::line_cells::{line_len, number_at};
 use crate::places::Places;
 use crate::table::ways_of;
 use crate::track::{SpelledClue, Steps};
-use grid_core::{Grid, Size};
+use grid_core::{Grid, Size, line_len, line_number};
 
 /// Which places are reached by a cell with this number, by those that are reached before it.
 fn led_on<P: Places>(steps: Steps<P>, number: u8, reached: P) -> P
@@ -34,7 +33,7 @@ pub(crate) fn follows<P: Places>(
     let steps = clue.steps();
     let mut reached = P::first();
     for k in 0..line_len(size, line) {
-        reached = led_on(steps, number_at(size, grid, line, k), reached);
+        reached = led_on(steps, line_number(size, grid, line, k), reached);
     }
     reached.both(steps.ends).is_some()
 }

@@ -2,8 +2,9 @@
 
 ghost use Rattle.std.specs.Prelude.{◌≡◌, ◌<◌, ◌≤◌, ◌*◌, true, false, length};
 ghost use Rattle.grid_core.specs.Grids.{IsGrid};
-ghost use Rattle.gameid_core.specs.Puzzles.{lines_of, IsPattern};
-ghost use Rattle.pattern_core.specs.Lines.{line_numbers, clue_of, has_runs, IsDecidedBy, IsRoomy};
+ghost use Rattle.grid_core.specs.Lines.{lines_of, line_numbers};
+ghost use Rattle.gameid_core.specs.Puzzles.{IsPattern};
+ghost use Rattle.pattern_core.specs.Lines.{clue_of, has_runs, IsDecidedBy, IsRoomy};
 ghost use Rattle.pattern_core.specs.LineClues.{numbers_in};
 
 use crate::follow::follows;

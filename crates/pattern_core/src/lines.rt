@@ -3,7 +3,7 @@
 ghost use Rattle.std.specs.Prelude.{◌≡◌, ℕ, ◌+◌, ◌<◌, ◌≤◌, IfOk, true, false, length, refl};
 ghost use Rattle.grid_core.specs.Extent.{IsExtent};
 ghost use Rattle.grid_core.specs.Board.{has, cells_of, SameShape};
-ghost use Rattle.gameid_core.specs.Puzzles.{lines_of};
+ghost use Rattle.grid_core.specs.Lines.{lines_of};
 ghost use Rattle.grid_core.specs.Candidates.{Candidates};
 ghost use Rattle.engine_core.specs.Closing.{HasStruck};
 ghost use Rattle.engine_core.specs.Puzzle.{IsBoardOf, after};
@@ -13,12 +13,12 @@ ghost use Rattle.pattern_core.specs.Lines.{clue_of, IsFresh};
 ghost use Rattle.pattern_core.specs.LineClues.{numbers_in};
 ghost use Rattle.pattern_core.specs.LineRules.{line_rules, GoesAlong, CallsLine};
 
-use crate::line_cells::{line_len, line_place, lines, write_places};
+use crate::line_cells::write_places;
 use crate::line_clue::{LONGEST, LineClue, Rows};
 use crate::table::BOTH;
 use engine_core::{Mode, Rules, apply, gather, mark};
 use gameid_core::PatternPuzzle;
-use grid_core::{Board, Grid, Size};
+use grid_core::{Board, Grid, Size, line_count, line_len, line_place};
 use std::alloc::{AllocError, Global};
 use std::marker::Model;
 
@@ -26,8 +26,8 @@ use std::marker::Model;
 const VALUES: u8 = 2;
 
 /// The rules of one puzzle, to be searched: each column and each row strikes what no filling with its clue's runs
-/// has. They keep a copy of what they need of the puzzle. A visit takes no memory. It goes over the cells of the line four
-/// times: to name them, to gather their sets, and twice to decide; and a fifth time to strike, if there is anything.
+/// has. They keep a copy of what they need of the puzzle. A search reads the sets of a line's cells and decides in two passes
+/// over them what is kept. A visit takes no memory.
 #[derive(Drop)]
 pub struct PatternLines {
     size: Size,
@@ -86,7 +86,7 @@ impl PatternLines {
         ensures { IfOk result (λ rules. rules.pattern ≡ puzzle.now) }
     {
         let size = puzzle.size();
-        let count = lines(size);
+        let count = line_count(size);
         let mut clues = Vec::with_capacity(alloc, count)?;
         for line in 0..count {
             clues.push(LineClue::new(puzzle, line))?;
@@ -194,19 +194,19 @@ impl Rules for PatternLines {
     }
 
     fn houses(&self) -> usize {
-        lines(self.size())
+        line_count(self.size())
     }
 
     fn bound(&self) -> usize {
         self.houses() + self.cells()
     }
 
-    #[tactic(auto, using(crate::proofs::LineSteps::cell_laws))]
+    #[tactic(auto, using(grid_core::proofs::LineLemmas::line_laws))]
     fn scope_len(&self, house: usize) -> usize {
         line_len(self.size(), house)
     }
 
-    #[tactic(auto, using(crate::proofs::LineSteps::cell_laws))]
+    #[tactic(auto, using(grid_core::proofs::LineLemmas::line_laws))]
     fn scope(&self, house: usize, k: usize) -> usize {
         line_place(self.size(), house, k)
     }
@@ -260,7 +260,7 @@ impl Rules for PatternLines {
         )
     }
 
-    #[tactic(auto, using(crate::proofs::LineSteps::cell_laws))]
+    #[tactic(auto, using(grid_core::proofs::LineLemmas::line_laws))]
     fn read(&self, house: usize, board: &Board, sets: &mut [u32]) {
         let size = self.size();
         for k in 0..sets.len() {
@@ -268,7 +268,7 @@ impl Rules for PatternLines {
         }
     }
 
-    #[tactic(auto, using(crate::proofs::LineSteps::cell_laws))]
+    #[tactic(auto, using(grid_core::proofs::LineLemmas::line_laws))]
     fn keep(
         &self,
         house: usize,

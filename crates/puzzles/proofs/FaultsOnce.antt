@@ -18,7 +18,8 @@ use Rattle.fields_core.specs.declared.tents.fault.TentFault.TheVariants as tent
 use Rattle.fields_core.proofs.LightFaultLemmas.{first-breaks, lit-from, lit-parts}
 use Rattle.fields_core.proofs.TentCounting.{camp-parts}
 use Rattle.fields_core.proofs.TentRuleLemmas.{camp-from}
-use Rattle.pattern_core.specs.Lines.{HasClue, clue_of, has_runs, line_numbers}
+use Rattle.grid_core.specs.Lines.{line_numbers}
+use Rattle.pattern_core.specs.Lines.{HasClue, clue_of, has_runs}
 use Rattle.pattern_core.specs.declared.fault.PatternFault.{PatternFault}
 use Rattle.pattern_core.specs.declared.fault.PatternFault.TheVariants as pattern
 use Rattle.solo_core.specs.Cells.{solo_cells}

@@ -13,7 +13,8 @@ pub use Rattle.gameid_core.specs.GridReading.{IsAsShown, IsPrinted, hides_nothin
 pub use Rattle.gameid_core.specs.GridTexts.{grid_text, light_cell, pattern_cell, solo_cell, solo_extent, tents_cell}
 pub use Rattle.gameid_core.specs.Head.{SizeRead, extent_of, in_range, max_id, max_numbers, size_of}
 pub use Rattle.gameid_core.specs.OneText.{HasOneReading}
-pub use Rattle.gameid_core.specs.Puzzles.{IsLight, IsPattern, IsSolo, IsTents, Light, Pattern, Solo, Tents, lines_of, solo_n}
+pub use Rattle.grid_core.specs.Lines.{lines_of}
+pub use Rattle.gameid_core.specs.Puzzles.{IsLight, IsPattern, IsSolo, IsTents, Light, Pattern, Solo, Tents, solo_n}
 pub use Rattle.gameid_core.specs.declared.id.fault.IdFault.{IdFault}
 pub use Rattle.gameid_core.specs.declared.id.game.Game.{Game}
 pub use Rattle.grid_core.specs.Candidates.{Candidates, IsInside, count_below, grid_of, only, pick}

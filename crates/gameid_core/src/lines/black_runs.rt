@@ -3,12 +3,11 @@
 ghost use Rattle.std.specs.Prelude.{◌≡◌, ◌<◌, ◌*◌, ℕ, suc, List, [], ◌∷◌, ◌++◌, length, replicate, OnOk, IfOk};
 ghost use Rattle.grid_core.specs.Extent.{IsExtent};
 ghost use Rattle.gameid_core.specs.BlackRuns.{run_of, runs};
-ghost use Rattle.gameid_core.specs.Puzzles.{lines_of};
-ghost use Rattle.gameid_core.specs.Lines.{line_list, lines_runs};
+ghost use Rattle.grid_core.specs.Lines.{lines_of, line_numbers};
+ghost use Rattle.gameid_core.specs.Lines.{lines_runs};
 
-use crate::lines::places::{cell_of, cells_of, lines};
 use crate::pattern::clues::Clues;
-use grid_core::{Grid, Size};
+use grid_core::{Grid, Size, line_count, line_len, line_number};
 use std::alloc::{AllocError, Global};
 
 /// What the runs of a line are, by the cells that come first: none, a white cell, black cells up to
@@ -41,11 +40,11 @@ fn push_runs(clues: &mut Clues, size: Size, grid: &Grid, line: usize) -> Result<
     requires cells { length grid.now ≡ size.w * size.h }
     requires line { line < lines_of size }
     ensures { OnOk result (clues.new
-        ≡ record clues.old { clue = clues.old.clue ++ runs (line_list size grid.now line) }) }
+        ≡ record clues.old { clue = clues.old.clue ++ runs (line_numbers size grid.now line) }) }
 {
     let mut count = 0;
-    for k in 0..cells_of(size, line) {
-        if cell_of(size, grid, line, usize::from(k)) == 0 {
+    for k in 0..line_len(size, line) {
+        if line_number(size, grid, line, k) == 0 {
             push_run_of(clues, count)?;
             count = 0;
             continue;
@@ -62,7 +61,7 @@ pub(crate) fn runs_of_lines(alloc: Global, size: Size, grid: &Grid) -> Result<Cl
     ensures runs { IfOk result (λ c. c.clues ≡ lines_runs size grid.now) }
     ensures lawful { IsExtent size }
 {
-    let lines = lines(size);
+    let lines = line_count(size);
     let mut clues = Clues::new(alloc, lines, size.cells() + lines / 2)?;
     for line in 0..lines {
         push_runs(&mut clues, size, grid, line)?;

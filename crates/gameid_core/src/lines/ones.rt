@@ -2,11 +2,10 @@
 
 ghost use Rattle.std.specs.Prelude.{◌≡◌, ◌<◌, ◌*◌, length, IfOk};
 ghost use Rattle.grid_core.specs.Extent.{IsExtent};
-ghost use Rattle.gameid_core.specs.Puzzles.{lines_of};
-ghost use Rattle.gameid_core.specs.Lines.{line_list, lines_ones, ones};
+ghost use Rattle.grid_core.specs.Lines.{lines_of, line_numbers};
+ghost use Rattle.gameid_core.specs.Lines.{lines_ones, ones};
 
-use crate::lines::places::{cell_of, cells_of, lines};
-use grid_core::{Grid, Size};
+use grid_core::{Grid, Size, line_count, line_len, line_number};
 use std::alloc::{AllocError, Global};
 
 /// How many cells of a line are 1.
@@ -14,11 +13,11 @@ use std::alloc::{AllocError, Global};
 fn ones_of(size: Size, grid: &Grid, line: usize) -> u8
     requires cells { length grid.now ≡ size.w * size.h }
     requires line { line < lines_of size }
-    ensures { result ≡ ones (line_list size grid.now line) }
+    ensures { result ≡ ones (line_numbers size grid.now line) }
 {
     let mut count = 0;
-    for k in 0..cells_of(size, line) {
-        if cell_of(size, grid, line, usize::from(k)) == 1 {
+    for k in 0..line_len(size, line) {
+        if line_number(size, grid, line, k) == 1 {
             count += 1;
         }
     }
@@ -32,7 +31,7 @@ pub(crate) fn ones_of_lines(alloc: Global, size: Size, grid: &Grid) -> Result<Ve
     ensures ones { IfOk result (λ v. v.items ≡ lines_ones size grid.now) }
     ensures lawful { IsExtent size }
 {
-    let lines = lines(size);
+    let lines = line_count(size);
     let mut counts = Vec::with_capacity(alloc, lines)?;
     for line in 0..lines {
         counts.push(ones_of(size, grid, line))?;

@@ -3,7 +3,8 @@
 ghost use Rattle.std.specs.Prelude.{◌≡◌, ◌<◌, ◌+◌, ◌*◌, ℕ, length, [], slice_index, slice_index_or, IfOk};
 ghost use Rattle.grid_core.specs.Grids.{IsGrid, row_cells, column_cells};
 ghost use Rattle.gameid_core.specs.BlackRuns.{runs};
-ghost use Rattle.gameid_core.specs.Puzzles.{Pattern, IsPattern, lines_of, pattern_puzzle};
+ghost use Rattle.grid_core.specs.Lines.{lines_of};
+ghost use Rattle.gameid_core.specs.Puzzles.{Pattern, IsPattern, pattern_puzzle};
 
 use crate::lines::black_runs::runs_of_lines;
 use crate::pattern::clues::Clues;

@@ -18,11 +18,10 @@ ghost use Rattle.grid_core.specs.Extent.{Extent};
 use crate::id::fault::IdFault;
 use crate::id::game::Game;
 use crate::id::head::read_head;
-use crate::lines::places::{cells_of, lines};
 use crate::pattern::clues::Clues;
 use crate::pattern::puzzle::PatternPuzzle;
 use crate::text::number::{first_of, leading_number, starts_with_digit};
-use grid_core::Size;
+use grid_core::{Size, line_count, line_len};
 use std::alloc::Global;
 
 /// The cells of a line, the clues as far as they are read, and the cells that the numbers of its
@@ -93,7 +92,7 @@ fn clues(alloc: Global, size: Size, base: usize, description: &[u8]) -> Result<C
     requires { base + length description.now < 2 ^ 32 }
     ensures { Gives (λ c. c.clues) result (clues_at size base description.now) }
 {
-    let lines = lines(size);
+    let lines = line_count(size);
     let mut clues = Clues::new(alloc, lines, description.len().div_ceil(2))?;
     let mut before = 0;
     let mut rest = description;
@@ -108,7 +107,7 @@ fn clues(alloc: Global, size: Size, base: usize, description: &[u8]) -> Result<C
         } else {
             let at = base + (description.len() - rest.len());
             let line = LineSoFar {
-                cells: cells_of(size, clues.len()),
+                cells: line_len(size, clues.len()) as u8,
                 clues: &clues,
                 before,
             };

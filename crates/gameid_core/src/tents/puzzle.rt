@@ -3,7 +3,8 @@
 ghost use Rattle.std.specs.Prelude.{◌≡◌, ◌<◌, ◌≤◌, ◌+◌, ◌*◌, ℕ, IsTrue, IfOk, length, slice_index, ◌↔◌};
 ghost use Rattle.grid_core.specs.Grids.{IsGrid, row_cells, column_cells};
 ghost use Rattle.gameid_core.specs.Lines.{ones};
-ghost use Rattle.gameid_core.specs.Puzzles.{Tents, IsTents, lines_of, tents_puzzle};
+ghost use Rattle.grid_core.specs.Lines.{lines_of};
+ghost use Rattle.gameid_core.specs.Puzzles.{Tents, IsTents, tents_puzzle};
 
 use crate::lines::ones::{numbers_of, ones_of_lines};
 use grid_core::{Grid, Size};

@@ -15,11 +15,10 @@ ghost use Rattle.gameid_core.specs.FirstTokens.{TakesNumber};
 use crate::id::fault::IdFault;
 use crate::id::game::Game;
 use crate::id::head::read_head;
-use crate::lines::places::{cells_of, lines};
 use crate::tents::puzzle::TentsPuzzle;
 use crate::text::number::{first_of, leading_number, starts_with_digit};
 use crate::text::runs::push_run;
-use grid_core::Size;
+use grid_core::{Size, line_count, line_len};
 use std::alloc::{AllocError, Global};
 
 /// Adds so many blanks, and a tree if it is told to.
@@ -67,14 +66,14 @@ fn count_at<'a>(
     if places.len() <= size.cells() {
         return Err(IdFault::TooFew);
     }
-    if counts.len() == lines(size) {
+    if counts.len() == line_count(size) {
         return Err(IdFault::TooMany);
     }
     if !starts_with_digit(after) {
         return Err(IdFault::BadByte(at));
     }
     let (number, rest) = leading_number(after);
-    if number > u32::from(cells_of(size, counts.len())) {
+    if number as usize > line_len(size, counts.len()) {
         return Err(IdFault::NumberRange(at + 1));
     }
     Ok((number as u8, rest))
@@ -92,7 +91,7 @@ fn parts(
     ensures { Gives (λ x. record { places = x.0.items; counts = x.1.items }) result
         (tents_at size base description.now) }
 {
-    let lines = lines(size);
+    let lines = line_count(size);
     let mut places = Vec::with_capacity(alloc, size.cells() + 1)?;
     let mut counts = Vec::with_capacity(alloc, lines)?;
     let mut rest = description;

@@ -1,9 +1,9 @@
 use Rattle.std.proofs.Common.{◌≡◌, ◌∙◌, get_or, ap, arith}
-use Rattle.pattern_core.specs.Lines.{line_numbers}
+use Rattle.grid_core.specs.Lines.{line_numbers}
 use Rattle.pattern_core.specs.Track.{along, leads, set_for, led}
 use Rattle.pattern_core.proofs.Follows.{follow_next, follow_end}
 use Rattle.pattern_core.proofs.TableSteps.{at_first}
-use Rattle.pattern_core.proofs.LineSteps.{length-line_numbers}
+use Rattle.grid_core.proofs.LineLemmas.{length-line_numbers}
 use Rattle.pattern_core.proofs.follow.follows.Goals as goal
 
 pub loop-k-init : goal.loop-k-init
@@ -17,7 +17,7 @@ loop-k-preserved g c =
     let t = along g.P.Places.has c.steps-steps.result in
     let cells = line_numbers c.args.size c.args.grid.now c.args.line in
     let long = length-line_numbers c.args.size c.args.grid.now c.args.line in
-    let number : c.number_at.result ≡ get_or cells c.loop-k.k 0 = c.number_at.ensures.value in
+    let number : c.line_number.result ≡ get_or cells c.loop-k.k 0 = c.line_number.ensures in
     follow_next g.P.Places.room t c.steps-steps.ensures.below cells c.loop-k.k (has c.loop-k.reached) (has c.led_on-reached.result)
     (omega (arith, long, c.line_len-k-end.ensures.cells, c.loop-k-test.true))
     (λ p lt. c.led_on-reached.ensures p lt ∙ ap (λ n. led t (set_for n) (has c.loop-k.reached) p) number)

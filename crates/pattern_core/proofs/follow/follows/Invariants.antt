@@ -1,6 +1,6 @@
 use Rattle.std.proofs.Common.{◌≡◌, ◌&&◌, drop}
 use Rattle.grid_core.specs.Candidates.{any_below}
-use Rattle.pattern_core.specs.Lines.{line_numbers}
+use Rattle.grid_core.specs.Lines.{line_numbers}
 use Rattle.pattern_core.specs.Track.{along, leads}
 use Rattle.pattern_core.proofs.follow.follows.Given as goal
 

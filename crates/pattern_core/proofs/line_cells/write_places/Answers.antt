@@ -1,7 +1,7 @@
 use Rattle.std.proofs.Common.{arith}
 use Rattle.std.proofs.lemmas.Grind.{elements}
-use Rattle.pattern_core.proofs.LineSteps.{cell_laws}
+use Rattle.grid_core.proofs.LineLemmas.{line_laws}
 use Rattle.pattern_core.proofs.line_cells.write_places.Goals as goal
 
 pub returns-clause-written : goal.returns-clause-written
-returns-clause-written c = grind (arith, elements, cell_laws)
+returns-clause-written c = grind (arith, elements, line_laws)

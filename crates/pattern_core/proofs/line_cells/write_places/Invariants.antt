@@ -1,6 +1,5 @@
 use Rattle.std.proofs.Common.{◌≡◌, ℕ, ◌*◌, ◌<◌, length, slice_index}
-use Rattle.gameid_core.specs.Puzzles.{line_cells}
-use Rattle.pattern_core.specs.Lines.{line_places}
+use Rattle.grid_core.specs.Lines.{line_cells, line_places}
 use Rattle.pattern_core.proofs.line_cells.write_places.Given as goal
 
 abbrev pub invariant-loop-k : goal.invariant-loop-k

@@ -8,17 +8,17 @@ pub returns-then-places-cells : goal.returns-then-places-cells
 unfolding tents_count
 returns-then-places-cells c = grind (arith, cuts_some 44 c.args.after.now)
 
-pub returns-then-counts-lines : goal.returns-then-counts-lines
+pub returns-then-counts-line_count : goal.returns-then-counts-line_count
 unfolding tents_count
-returns-then-counts-lines c = grind (arith, cuts_some 44 c.args.after.now)
+returns-then-counts-line_count c = grind (arith, cuts_some 44 c.args.after.now)
 
 pub returns-then-not-starts_with_digit : goal.returns-then-not-starts_with_digit
 unfolding tents_count
 returns-then-not-starts_with_digit c = grind (arith, cuts_single 44 c.args.after.now)
 
-pub returns-then-number-from : goal.returns-then-number-from
+pub returns-then-number-line_len : goal.returns-then-number-line_len
 unfolding tents_count
-returns-then-number-from c = grind (arith, cuts_joined 44 c.args.after.now, front_some c.args.after.now)
+returns-then-number-line_len c = grind (arith, cuts_joined 44 c.args.after.now, front_some c.args.after.now)
 
 pub returns : goal.returns
 unfolding tents_count

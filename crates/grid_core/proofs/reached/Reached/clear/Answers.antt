@@ -1,4 +1,4 @@
-use Rattle.std.proofs.Common.{◌-◌, arith}
+use Rattle.std.proofs.Common.{arith}
 use Rattle.grid_core.proofs.ReachedLemmas.{AreReached-pop, last_in}
 use Rattle.grid_core.proofs.reached.Reached.clear.Goals as goal
 

@@ -1,6 +1,6 @@
 use Rattle.std.proofs.Common.{[], ◌∙◌, sym, ap, arith}
 use Rattle.std.proofs.lemmas.List.{get_or-map, length-map}
-use Rattle.gameid_core.specs.Puzzles.{lines_of}
+use Rattle.grid_core.specs.Lines.{lines_of}
 use Rattle.pattern_core.specs.Lines.{clue_of}
 use Rattle.pattern_core.specs.LineClues.{numbers_in}
 use Rattle.pattern_core.specs.LineRules.{LawfulPattern}

@@ -1,5 +1,6 @@
 use Rattle.std.proofs.Common.{◌≡◌, ℕ, ◌<◌, true}
-use Rattle.pattern_core.specs.Lines.{clue_of, has_runs, line_numbers}
+use Rattle.grid_core.specs.Lines.{line_numbers}
+use Rattle.pattern_core.specs.Lines.{clue_of, has_runs}
 use Rattle.pattern_core.proofs.lines.PatternLinesRules.accept.Given as goal
 
 abbrev pub invariant-loop-line : goal.invariant-loop-line

@@ -1,5 +1,5 @@
 use Rattle.std.proofs.Common.{◌∙◌, ap}
-use Rattle.gameid_core.specs.Puzzles.{line_cells}
+use Rattle.grid_core.specs.Lines.{line_cells}
 use Rattle.pattern_core.proofs.Fresh.{fresh_idle}
 use Rattle.pattern_core.proofs.lines.PatternLinesRules.calls.Goals as goal
 
