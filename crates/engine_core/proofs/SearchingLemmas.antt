@@ -37,14 +37,14 @@ after_grids x0 x1 f g n x5 ms going = grind (arith, common_steps, true≢false)
 
 module _ {p : Puzzle} {from at : Progress} {all : List Mark} {trials : ℕ} (levels : Levels) (grids : Grids) (s : IsSearching p from all trials (marks_of p levels at grids) at) where
   -- a trial is made
-  pub searching-trial : {now : Levels} {cell : ℕ} {at' : Progress} (to : Levels) (grids' : Grids) → IsTrial p (pending_of p levels) now cell → at.stop ≡ false
+  pub searching-trial : {now : Levels} {cell : ℕ} {at' : Progress} (to : Levels) (grids' : Grids) → IsTrial p (pending_of p levels) now cell → at.has_second ≡ false
       → trials < from.budget → CountsClosing p now at.turns at'.turns → at'.deepest ≡ max at.deepest now.depth
       → marks_from p now at grids ≡ marks_of p to at' grids' → IsSearching p from all (trials + 1) (marks_of p to at' grids') at'
   searching-trial {now = now} {at' = at'} to grids' t going less turned deeper after =
       let b = from.budget - (trials + 1) in
       let left : from.budget - trials ≡ suc b = omega arith in
-      let here = ap (λ ms. found_marks at.stop at.found grids.first grids.second ++ ms) t.marks_are in
-      let next = after_grids at.stop at.found grids.first grids.second now.depth (board_in now) (walk_of p now) going in
+      let here = ap (λ ms. found_marks at.has_second at.found grids.first grids.second ++ ms) t.marks_are in
+      let next = after_grids at.has_second at.found grids.first grids.second now.depth (board_in now) (walk_of p now) going in
       let answer = next.0 b in
       let trial = next.1 b in
       let rest : tried (from.budget - trials) None (marks_of p levels at grids) ≡ (now.depth, board_in now) ∷ tried b None (marks_of p to at' grids') = cc in
@@ -65,25 +65,25 @@ module _ {p : Puzzle} {from at : Progress} {all : List Mark} {trials : ℕ} (lev
   ended v says none = grind (arith, common_steps)
 
   -- a trial more than the budget allows
-  pub ended-out : {now : Levels} {cell : ℕ} → IsTrial p (pending_of p levels) now cell → at.stop ≡ false → trials ≡ from.budget
+  pub ended-out : {now : Levels} {cell : ℕ} → IsTrial p (pending_of p levels) now cell → at.has_second ≡ false → trials ≡ from.budget
       → IsSearched p from.budget all from (searched_at at (verdict.GaveUp at.found) trials) grids.first grids.second
   ended-out {now = now} t going spent =
       let left : from.budget - trials ≡ 0 = omega arith in
-      let here = ap (λ ms. found_marks at.stop at.found grids.first grids.second ++ ms) t.marks_are in
-      let next = after_grids at.stop at.found grids.first grids.second now.depth (board_in now) (walk_of p now) going in
+      let here = ap (λ ms. found_marks at.has_second at.found grids.first grids.second ++ ms) t.marks_are in
+      let next = after_grids at.has_second at.found grids.first grids.second now.depth (board_in now) (walk_of p now) going in
       ended (verdict.GaveUp at.found) (let e = next.2 in cc) (let e = next.3 in cc)
 
   -- a second grid was found
-  pub ended-two : at.stop ≡ true → IsSearched p from.budget all from (searched_at at verdict.Several trials) grids.first grids.second
+  pub ended-two : at.has_second ≡ true → IsSearched p from.budget all from (searched_at at verdict.Several trials) grids.first grids.second
   unfolding outcome tried
   ended-two both = ended verdict.Several (rw both refl) (rw both refl)
 
   -- no level is left
-  pub ended-one : levels.depth ≡ 0 → at.stop ≡ false → at.found ≡ true → IsSearched p from.budget all from (searched_at at verdict.One trials) grids.first grids.second
+  pub ended-one : levels.depth ≡ 0 → at.has_second ≡ false → at.found ≡ true → IsSearched p from.budget all from (searched_at at verdict.One trials) grids.first grids.second
   unfolding outcome tried levels_of pending
   ended-one none going old = ended verdict.One (rw (none, going, old) refl) (rw (none, going, old) refl)
 
-  pub ended-none : levels.depth ≡ 0 → at.stop ≡ false → at.found ≡ false → IsSearched p from.budget all from (searched_at at verdict.None trials) grids.first grids.second
+  pub ended-none : levels.depth ≡ 0 → at.has_second ≡ false → at.found ≡ false → IsSearched p from.budget all from (searched_at at verdict.None trials) grids.first grids.second
   unfolding outcome tried levels_of pending
   ended-none none going new = ended verdict.None (rw (none, going, new) refl) (rw (none, going, new) refl)
 

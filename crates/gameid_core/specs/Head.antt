@@ -81,7 +81,7 @@ size_of game text = do
       else (if in_range game s.w s.h then Ok (record { w = s.w; h = s.h; x = s.x })
       else Err SizeRange)
 
--- the columns and rows of cells
+-- the columns and rows of cells, in each game but Solo
 abbrev pub extent_of : SizeRead → Extent
 extent_of size = record { w = size.w; h = size.h }
 

@@ -6,7 +6,7 @@
 //! The rows are filled from the last cell backwards; then one word, the places that can be reached, goes forwards, and a
 //! value of a cell stays where the two meet. What a cell's set lets a line do is looked up by the set.
 
-ghost use Rattle.std.specs.Prelude.{◌≡◌, ℕ, ◌<◌, ◌≤◌, ◌&&◌, false, length, slice_index};
+ghost use Rattle.std.specs.Prelude.{◌≡◌, ◌<◌, false, length};
 ghost use Rattle.std.specs.List.{AllByRecursion};
 ghost use Rattle.engine_core.specs.Sets.{has_bit};
 ghost use Rattle.pattern_core.specs.Lines.{IsDecidedBy};

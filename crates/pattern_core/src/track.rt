@@ -2,7 +2,7 @@
 //! black cell or the white cell after a run takes it one place on, and before a run it may stay where it is for any
 //! number of white cells.
 
-ghost use Rattle.std.specs.Prelude.{◌≡◌, ℕ, ◌<◌, ◌≤◌, true, length, slice_index, ◌++◌, [], ◌∷◌, replicate};
+ghost use Rattle.std.specs.Prelude.{◌≡◌, ℕ, ◌<◌, true, ◌++◌, [], ◌∷◌, replicate};
 ghost use Rattle.std.specs.List.{AllByRecursion};
 ghost use Rattle.gameid_core.specs.Puzzles.{used};
 ghost use Rattle.pattern_core.specs.Lines.{IsRoomy, IsRoomyFrom};

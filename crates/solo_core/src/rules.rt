@@ -3,7 +3,7 @@
 ghost use Rattle.std.specs.Prelude.{◌≡◌, ℕ, ◌<◌, ◌≤◌, IfOk, true, false, length, vec_len, refl};
 ghost use Rattle.std.proofs.Props.{props};
 ghost use Rattle.grid_core.specs.Board.{has, SameShape};
-ghost use Rattle.solo_core.specs.Common.{IsSolo, solo_n, IsBoardOf, Needs, after};
+ghost use Rattle.solo_core.specs.Common.{IsSolo, solo_n, IsBoardOf, after};
 ghost use Rattle.engine_core.specs.Closing.{HasStruck};
 ghost use Rattle.engine_core.specs.declared.mode.Mode.TheVariants.{Queue};
 ghost use Rattle.solo_core.specs.RuleSets.{rules_of, rules_by};

@@ -1,7 +1,7 @@
 //! The walk over trials, level by level.
 #![tactic(auto, using(crate::proofs::LawSets::walk_laws))]
 
-ghost use Rattle.std.specs.Prelude.{max, ◌≡◌, ◌+◌, ◌≤◌, length, false, [], None};
+ghost use Rattle.std.specs.Prelude.{max, ◌≡◌, ◌+◌, ◌<◌, ◌≤◌, ◌^◌, length, false, [], None};
 ghost use Rattle.grid_core.specs.Board.{SameShape};
 ghost use Rattle.grid_core.specs.Candidates.{pick};
 ghost use Rattle.engine_core.specs.Queue.{IsClosedBut};
@@ -29,17 +29,22 @@ pub enum Verdict {
     },
 }
 
-/// How far a search is, and how many trials it may make. The board was closed before the cell that is named as changed
-/// lost values. No cell before `from` is one to branch on. A search stops at its second grid. `turns` counts the visits or
-/// sweeps of all closings so far, and `deepest` the trials that were open at once.
+/// How far a search is.
 #[derive(Clone, Copy)]
 pub(crate) struct Progress {
+    /// How many trials it may still make.
     pub budget: u64,
+    /// The cell that lost values since the board was closed; `None` if nothing is known of the board.
     pub changed: Option<usize>,
+    /// No cell before this one is one to branch on.
     pub from: usize,
+    /// Whether a first grid was found.
     pub found: bool,
-    pub stop: bool,
+    /// Whether a second grid was found: then the search ends.
+    pub has_second: bool,
+    /// The visits or sweeps of all closings so far.
     pub turns: u128,
+    /// The most trials that were open at once.
     pub deepest: usize,
 }
 
@@ -58,9 +63,8 @@ fn descend<R: Rules>(
     requires ready { AreReady (R.puzzle rules.now) levels.old }
     requires single { levels.old.depth ≤ singles (R.puzzle rules.now) (board_in levels.old) }
     requires long { AreGrids (R.puzzle rules.now).cells grids.old }
-    requires going { at.stop ≡ false }
-    requires turns_room { at.turns + 18446744073709551616
-        ≤ 340282366920938463463374607431768211456 }
+    requires going { at.has_second ≡ false }
+    requires turns_room { at.turns + 2 ^ 64 ≤ 2 ^ 128 }
     ensures turned { CountsClosing (R.puzzle rules.now) levels.old at.turns result.turns }
     ensures budget { result.budget ≡ at.budget }
     ensures deepest { result.deepest ≡ at.deepest }
@@ -84,7 +88,7 @@ fn descend<R: Rules>(
         Judged::Solved => Progress {
             turns,
             found: true,
-            stop: at.found,
+            has_second: at.found,
             ..at
         },
         Judged::Split(cell) => {
@@ -131,8 +135,8 @@ fn search<R: Rules>(
     requires along { AreAlong (R.puzzle rules.now) (R.follows rules.now) work.old levels.old }
     requires ready { AreReady (R.puzzle rules.now) levels.old }
     requires long { AreGrids (R.puzzle rules.now).cells grids.old }
-    requires going { from.stop ≡ false }
-    requires turns_room { from.turns ≤ 18446744073709551615 }
+    requires going { from.has_second ≡ false }
+    requires turns_room { from.turns < 2 ^ 64 }
     ensures searched { Searches (R.puzzle rules.now) levels.old grids.old from result grids.new }
     ensures trials { result.trials ≤ from.budget }
     ensures few { result.deepest ≤ max from.deepest (R.puzzle rules.now).cells }
@@ -155,7 +159,7 @@ fn search<R: Rules>(
                 at.changed = Some(cell);
                 at.from = if rules.values() == 2 { cell } else { 0 };
                 at = descend(rules, levels, work, grids, at);
-                if at.stop {
+                if at.has_second {
                     return ended(at, Verdict::Several, trials);
                 }
             }
@@ -191,13 +195,13 @@ pub(crate) fn walk_board<R: Rules>(
         changed: None,
         from: 0,
         found: false,
-        stop: false,
+        has_second: false,
         turns: 0,
         deepest: 0,
     };
     levels.depth = 0;
     let at = descend(rules, levels, work, grids, from);
-    if at.stop {
+    if at.has_second {
         return ended(at, Verdict::Several, 0);
     }
     search(rules, levels, work, grids, at)

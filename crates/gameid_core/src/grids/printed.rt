@@ -2,7 +2,7 @@
 ghost use Rattle.std.specs.Prelude.{◌≡◌, ◌*◌, ◌<◌, ◌++◌, ℕ, List, length, OnOk, string_bytes};
 ghost use Rattle.grid_core.specs.Extent.{Extent, IsExtent};
 ghost use Rattle.grid_core.specs.Grids.{IsGrid};
-ghost use Rattle.gameid_core.specs.Puzzles.{Pattern, Solo, Light, Tents, solo_n};
+ghost use Rattle.gameid_core.specs.Puzzles.{solo_n};
 ghost use Rattle.gameid_core.specs.GridTexts.{pattern_cell, solo_cell, light_cell, tents_cell, solo_extent};
 
 use crate::light_up::cell::LightCell;

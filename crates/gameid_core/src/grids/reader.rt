@@ -1,5 +1,5 @@
 //! Grids read from what is printed of them.
-ghost use Rattle.std.specs.Prelude.{◌≡◌, ◌+◌, ◌*◌, ◌<◌, ◌≤◌, ◌++◌, ◌⊎◌, ◌↔◌, IsTrue, ℕ, List, Some, IfOk, IfSome, MatchOption, length, slice_index};
+ghost use Rattle.std.specs.Prelude.{◌≡◌, ◌+◌, ◌*◌, ◌<◌, ◌++◌, ◌⊎◌, ◌↔◌, IsTrue, ℕ, List, Some, IfOk, IfSome, MatchOption, length};
 ghost use Rattle.gameid_core.specs.GridReading.{IsAsShown, IsReadOf, FitUpTo, AgreeUpTo, IsPrinted};
 ghost use Rattle.gameid_core.specs.GridTexts.{row_text, grid_text};
 

@@ -1,11 +1,11 @@
 //! The written text of a puzzle of Light Up.
 
-ghost use Rattle.std.specs.Prelude.{◌≡◌, ◌≤◌, ◌++◌, length, string_bytes, OnOk, IfOk, IfSome, ◌<◌, MatchOption, List, ℕ};
+ghost use Rattle.std.specs.Prelude.{◌≡◌, ◌≤◌, ◌++◌, length, string_bytes, OnOk, IfOk, IfSome, ◌<◌, MatchOption};
 ghost use Rattle.std.specs.List.{AllByRecursion};
 ghost use Rattle.gameid_core.specs.declared.light_up.cell.LightCell.TheVariants.{White};
 ghost use Rattle.gameid_core.specs.Head.{max_id};
 ghost use Rattle.gameid_core.specs.OneText.{HasOneText};
-ghost use Rattle.gameid_core.specs.Puzzles.{Light, IsLight, IsLightCell};
+ghost use Rattle.gameid_core.specs.Puzzles.{IsLight, IsLightCell};
 ghost use Rattle.gameid_core.specs.LightText.{IsWrittenLight, IsBlackByte, SpellsLight, light_cells_text, light_text};
 
 use crate::light_up::cell::LightCell;

@@ -1,10 +1,10 @@
 //! The written text of a puzzle of Pattern.
 
-ghost use Rattle.std.specs.Prelude.{◌≡◌, ◌≤◌, ◌++◌, map, string_bytes, length, OnOk, IfOk, List, ℕ};
+ghost use Rattle.std.specs.Prelude.{◌≡◌, ◌≤◌, ◌++◌, map, string_bytes, length, OnOk, IfOk};
 ghost use Rattle.std.specs.List.{join_with_byte};
 ghost use Rattle.gameid_core.specs.Head.{max_id};
 ghost use Rattle.gameid_core.specs.OneText.{HasOneText};
-ghost use Rattle.gameid_core.specs.Puzzles.{Pattern, IsPattern};
+ghost use Rattle.gameid_core.specs.Puzzles.{IsPattern};
 ghost use Rattle.gameid_core.specs.PatternText.{IsWrittenPattern, clue_text, pattern_text, SpellsPattern};
 
 use crate::pattern::puzzle::PatternPuzzle;

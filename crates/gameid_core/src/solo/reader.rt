@@ -1,6 +1,6 @@
 //! Reading game IDs of Solo.
 
-ghost use Rattle.std.specs.Prelude.{◌≡◌, ◌↔◌, [], ◌⊎◌, ℕ, List, ◌<◌, ◌≤◌, ◌+◌, ◌*◌, ◌^◌, ◌∷◌, ◌&&◌, true, nat_le, length, IfOk, IfErr, Ok, Err};
+ghost use Rattle.std.specs.Prelude.{◌≡◌, ◌↔◌, [], ℕ, List, ◌<◌, ◌≤◌, ◌+◌, ◌*◌, ◌^◌, ◌∷◌, ◌&&◌, true, nat_le, length, IfOk, IfErr, Ok, Err};
 ghost use Rattle.gameid_core.specs.Steps.{Gives, Fails};
 ghost use Rattle.gameid_core.specs.Words.{begins, words};
 ghost use Rattle.gameid_core.specs.FirstTokens.{TakesRun};

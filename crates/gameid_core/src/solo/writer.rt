@@ -1,9 +1,9 @@
 //! The written text of a puzzle of Solo.
 
-ghost use Rattle.std.specs.Prelude.{◌≡◌, ◌≤◌, ◌++◌, length, false, string_bytes, OnOk, IfOk, List, ℕ};
+ghost use Rattle.std.specs.Prelude.{◌≡◌, ◌≤◌, ◌++◌, length, false, string_bytes, OnOk, IfOk};
 ghost use Rattle.gameid_core.specs.Head.{max_id};
 ghost use Rattle.gameid_core.specs.OneText.{HasOneText};
-ghost use Rattle.gameid_core.specs.Puzzles.{Solo, IsSolo};
+ghost use Rattle.gameid_core.specs.Puzzles.{IsSolo};
 ghost use Rattle.gameid_core.specs.SizeText.{solo_size_text};
 ghost use Rattle.gameid_core.specs.SoloText.{IsWrittenSolo, before_given, cells_text, solo_text, SpellsSolo};
 

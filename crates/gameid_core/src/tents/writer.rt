@@ -4,7 +4,7 @@ ghost use Rattle.std.specs.Prelude.{◌≡◌, ◌≤◌, ◌<◌, ◌++◌, ◌
 ghost use Rattle.std.specs.List.{flat_map};
 ghost use Rattle.gameid_core.specs.Head.{max_id};
 ghost use Rattle.gameid_core.specs.OneText.{HasOneText};
-ghost use Rattle.gameid_core.specs.Puzzles.{Tents, IsTents};
+ghost use Rattle.gameid_core.specs.Puzzles.{IsTents};
 ghost use Rattle.gameid_core.specs.TentsText.{IsWrittenTents, SpellsTents, blanks_and_tree, tents_text, tents_token_byte, trees_text};
 
 use crate::tents::puzzle::TentsPuzzle;

@@ -33,24 +33,24 @@ overflow_add-levels g c =
 pub returns-in-Dead-clause-marks : goal.returns-in-Dead-clause-marks
 returns-in-Dead-clause-marks g c =
     let told = ended-told (g.R.Rules.puzzle c.args.rules.now) _ _ _ _ _ _ c.close-closed.ensures.ended in
-    found-none c.args.at.stop c.args.at.found _ _ _ _ _ _ c.requires.going (λ _. refl) (descend-dead _ _ _ _ _ (descent g (goal.at.returns-in-Dead-clause-marks g c).After-close-closed) (told.0.0 c.in-Dead.is))
+    found-none c.args.at.has_second c.args.at.found _ _ _ _ _ _ c.requires.going (λ _. refl) (descend-dead _ _ _ _ _ (descent g (goal.at.returns-in-Dead-clause-marks g c).After-close-closed) (told.0.0 c.in-Dead.is))
 
 pub returns-in-Nothing-clause-marks : goal.returns-in-Nothing-clause-marks
 returns-in-Nothing-clause-marks g c =
     let next = descend-nothing _ _ _ _ _ c.args.grids.now.first (descent g (goal.at.returns-in-Nothing-clause-marks g c).After-close-closed) (rw c.board.ensures at c.in-Nothing.ensures.judged) in
-    found-none c.args.at.stop c.args.at.found _ _ _ _ _ _ c.requires.going c.in-Nothing.ensures.kept next
+    found-none c.args.at.has_second c.args.at.found _ _ _ _ _ _ c.requires.going c.in-Nothing.ensures.kept next
 
 pub returns-in-Solved-clause-marks : goal.returns-in-Solved-clause-marks
 returns-in-Solved-clause-marks g c =
     let next = descend-solved _ _ _ _ _ _ (descent g (goal.at.returns-in-Solved-clause-marks g c).After-close-closed) (rw c.board.ensures at c.in-Solved.ensures.judged) in
-    found-solved c.args.at.stop c.args.at.found _ _ _ _ _ _ c.requires.going c.in-Solved.ensures.kept next
+    found-solved c.args.at.has_second c.args.at.found _ _ _ _ _ _ c.requires.going c.in-Solved.ensures.kept next
 
 pub returns-in-Split-clause-marks : goal.returns-in-Split-clause-marks
 returns-in-Split-clause-marks g c =
     let d = descent g (goal.at.returns-in-Split-clause-marks g c).After-close-closed in
     let room = open-room _ _ _ (opened g (goal.at.returns-in-Split-clause-marks g c).In-Split d) in
     let next = descend-split _ _ _ _ _ _ _ c.args.grids.now.first d (rw c.board.ensures at c.in-Split.ensures.judged) (omega (arith, c.requires.ready.room)) c.mark.ensures.len in
-    found-none c.args.at.stop c.args.at.found _ _ _ _ _ _ c.requires.going c.in-Split.ensures.kept next
+    found-none c.args.at.has_second c.args.at.found _ _ _ _ _ _ c.requires.going c.in-Split.ensures.kept next
 
 pub returns-in-Split-clause-ready : goal.returns-in-Split-clause-ready
 returns-in-Split-clause-ready g c =

@@ -12,7 +12,7 @@ invariant-loop-levels g l =
       trials : l.trials ≤ l.from.budget;
       ready : AreReady p l.levels;
       long : AreGrids p.cells l.grids;
-      going : l.at.stop ≡ false;
+      going : l.at.has_second ≡ false;
       frames : length l.levels.frames.items ≡ length l.fn.levels.frames.items;
       shape : SameShape l.fn.levels.trailed.board l.levels.trailed.board;
       along : AreAlong p (g.R.Rules.follows l.rules) l.work l.levels;
