@@ -1,6 +1,7 @@
 //! The clue of a line, spelled in words of 64 bits where they have room for it.
 
 ghost use Rattle.std.specs.Prelude.{◌≡◌, ◌<◌, ◌≤◌, ◌*◌, true, false, length};
+ghost use Rattle.grid_core.specs.Extent.{max_side};
 ghost use Rattle.grid_core.specs.Grids.{IsGrid};
 ghost use Rattle.grid_core.specs.Lines.{lines_of, line_numbers};
 ghost use Rattle.gameid_core.specs.Puzzles.{IsPattern};
@@ -71,7 +72,7 @@ impl LineClue {
 
     /// Keeps of each cell of a line the values that some filling with the clue's runs has there, as `table::keep` says.
     pub(crate) fn keep(&self, sets: &mut [u32], rows: &mut Rows) -> bool
-        requires { length sets.old ≤ 120 }
+        requires { length sets.old ≤ max_side }
         ensures decided { IsDecidedBy (numbers_in self.now) sets.old sets.new }
         ensures unchanged { result ≡ false → sets.new ≡ sets.old }
     {

@@ -1,7 +1,7 @@
 //! The lines of a puzzle as the houses of a search: the columns from the left, and then the rows from the top.
 
 ghost use Rattle.std.specs.Prelude.{◌≡◌, ◌+◌, ◌<◌, ◌≤◌, IfOk, true, false, length, refl};
-ghost use Rattle.grid_core.specs.Extent.{IsExtent};
+ghost use Rattle.grid_core.specs.Extent.{IsExtent, max_side};
 ghost use Rattle.grid_core.specs.Board.{has, cells_of, SameShape};
 ghost use Rattle.grid_core.specs.Lines.{lines_of};
 ghost use Rattle.grid_core.specs.Candidates.{Candidates};
@@ -127,8 +127,8 @@ impl PatternLines {
     ) -> bool
         requires line { line < lines_of self.now.pattern.size }
         requires board_of { IsBoardOf (line_rules self.now.pattern) board.old }
-        requires places { length places.old ≡ 120 }
-        requires sets { length sets.old ≡ 120 }
+        requires places { length places.old ≡ max_side }
+        requires sets { length sets.old ≡ max_side }
         ensures left { has board.new ≡ after (line_rules self.now.pattern) line (has board.old) }
         ensures shape { SameShape board.old board.new }
         ensures unchanged { result ≡ false → has board.new ≡ has board.old }
