@@ -15,24 +15,24 @@ unfolding black_cells
 black_cells-more black k d s t u xs before drawn = rw (add-one, sym before, sym drawn) refl
 
 -- the cells below `place` hold what was drawn, and the generator stands after those draws
-pub record IsDrawn (black cells place : ℕ) (s now : Stream) (grid : List ℕ) : Type 0 where
+pub record IsPartDrawn (black cells place : ℕ) (s now : Stream) (grid : List ℕ) : Type 0 where
   pub long : length grid ≡ cells
   pub drawn : ◌≡◌ {A = List ℕ × Stream} (take place grid, now) (black_cells black place s)
   pub white : black ≡ 0 → (k : ℕ) → k < place → slice_index grid k ≡ 0
   pub full : black ≡ 100 → (k : ℕ) → k < place → slice_index grid k ≡ 1
 
-pub IsDrawn-none : (black cells : ℕ) (s : Stream) (grid : List ℕ) → length grid ≡ cells → IsDrawn black cells 0 s s grid
-IsDrawn-none black cells s grid long = record {
+pub IsPartDrawn-none : (black cells : ℕ) (s : Stream) (grid : List ℕ) → length grid ≡ cells → IsPartDrawn black cells 0 s s grid
+IsPartDrawn-none black cells s grid long = record {
   long = long;
   drawn = black_cells-none black s;
   white = λ e k lt. absurd (omega arith);
   full = λ e k lt. absurd (omega arith);
 }
 
-pub IsDrawn-more : (black cells place d v : ℕ) (s now u : Stream) (grid : List ℕ)
-    → IsDrawn black cells place s now grid → ◌≡◌ {A = ℕ × Stream} (d, u) (draw_below 100 now) → d < 100 → v ≡ cond (nat_lt d black) 1 0 → place < cells
-    → IsDrawn black cells (place + 1) s u (slice_set grid place v)
-IsDrawn-more black cells place d v s now u grid before draw below value within =
+pub IsPartDrawn-more : (black cells place d v : ℕ) (s now u : Stream) (grid : List ℕ)
+    → IsPartDrawn black cells place s now grid → ◌≡◌ {A = ℕ × Stream} (d, u) (draw_below 100 now) → d < 100 → v ≡ cond (nat_lt d black) 1 0 → place < cells
+    → IsPartDrawn black cells (place + 1) s u (slice_set grid place v)
+IsPartDrawn-more black cells place d v s now u grid before draw below value within =
     let inside : place < length grid = omega (arith, before.long) in
     record {
       long = grind (arith, common_steps, before.long);
@@ -43,9 +43,9 @@ IsDrawn-more black cells place d v s now u grid before draw below value within =
       full = λ e k lt. grind (arith, elements, before.full e k);
     }
 
-pub IsDrawn-all : (black cells : ℕ) (s now : Stream) (grid : List ℕ) → IsDrawn black cells cells s now grid
+pub IsPartDrawn-all : (black cells : ℕ) (s now : Stream) (grid : List ℕ) → IsPartDrawn black cells cells s now grid
     → ◌≡◌ {A = List ℕ × Stream} (grid, now) (black_cells black cells s)
-IsDrawn-all black cells s now grid all =
+IsPartDrawn-all black cells s now grid all =
     rw (take_all cells grid (omega (arith, all.long))) at all.drawn
 
 -- one more cell, of 0 or 1

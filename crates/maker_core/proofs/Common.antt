@@ -123,16 +123,16 @@ pub use Rattle.maker_core.specs.SoloMaking.{IsSoloSize, NoneFound, solo_filling,
 pub use Rattle.maker_core.specs.SoloOrders.{AreOrders, IsLineOrder, IsOrder}
 pub use Rattle.maker_core.specs.SoloXFilling.{first_grid, flipped_by_draw, top_row_given, x_filling}
 pub use Rattle.maker_core.specs.Switch.{HasOther, cell_of}
-pub use Rattle.maker_core.specs.TentFilling.{is_free, may_pitch, pitch, take_cell, tents_pass}
-unfoldable pub use Rattle.maker_core.specs.TentFilling.{camp_after, free_cells_beside, no_camp, tent_filling, tents_puzzle_of}
+pub use Rattle.maker_core.specs.TentFilling.{is_free, may_have_tent, place_tent, take_cell, tents_pass}
+unfoldable pub use Rattle.maker_core.specs.TentFilling.{tents_after, free_cells_beside, no_tents, tent_filling, tents_puzzle_of}
 pub use Rattle.maker_core.specs.TentMaking.{tents_tries}
-pub use Rattle.maker_core.specs.TentSteps.{IsPitched, IsTaken}
-pub use Rattle.maker_core.specs.Thinning.{AreReasons, Game, HasTwo, IsGame, IsOnly, IsReason, IsThinnedFrom, LeavesNoIdleClue, clue_places, has_clue}
+pub use Rattle.maker_core.specs.TentSteps.{IsPlaced, IsTaken}
+pub use Rattle.maker_core.specs.Thinning.{AreReasons, CluedGame, HasTwo, IsGame, IsOnly, IsReason, IsThinnedFrom, LeavesNoIdleClue, clue_places, has_clue}
 pub use Rattle.maker_core.specs.Thinning.{stream_after_clues}
 pub use Rattle.maker_core.specs.ThinningSteps.{IsAsked, IsLeft, IsThinning, IsTold, IsVerdict}
 unfoldable pub use Rattle.maker_core.specs.ThinningSteps.{reasons_from}
-pub use Rattle.maker_core.specs.declared.light_up.lighting.Lighting.{Lighting}
+pub use Rattle.maker_core.specs.declared.light_up.filling.LightFilling.{LightFilling}
 pub use Rattle.maker_core.specs.declared.made.Kept.{Kept}
 pub use Rattle.maker_core.specs.declared.made.Why.{Why}
 pub use Rattle.maker_core.specs.declared.made.Why.TheVariants.{Budget, Needed}
-pub use Rattle.maker_core.specs.declared.tents.camp.Camp.{Camp}
+pub use Rattle.maker_core.specs.declared.tents.filling.TentFilling.{TentFilling}

@@ -1,12 +1,12 @@
 -- A puzzle that lacks a needed clue is within the puzzle without that clue alone.
 use Rattle.maker_core.proofs.Common.{clue_is, solved_by_fewer, lit_by_fewer, numbered_is, ◌≡◌, ℕ, ◌<◌, false, Some, List, length, get_or, map, sym}
-use Rattle.maker_core.proofs.Common.{◌∙◌, subst, arith, All, Contains, cases_eq, get_or-map, length-map, Game, IsGame, has_clue, IsThinnedFrom, HasTwo}
+use Rattle.maker_core.proofs.Common.{◌∙◌, subst, arith, All, Contains, cases_eq, get_or-map, length-map, CluedGame, IsGame, has_clue, IsThinnedFrom, HasTwo}
 use Rattle.maker_core.proofs.Common.{IsReason, AreReasons, LeavesNoIdleClue, Kept, Needed}
 use Rattle.maker_core.proofs.WrittenGrids.{set_back}
 use Rattle.maker_core.proofs.FilteredRanges.{passes_kept}
 use Rattle.maker_core.proofs.ThinningTurns.{some_of, two_in}
 
-lacking_within : {A : Type 0} (game : Game A) → IsGame game → (p q : A) (place n : ℕ) → IsThinnedFrom game q p → game.clue p place ≡ Some n → has_clue game q place ≡ false
+lacking_within : {A : Type 0} (game : CluedGame A) → IsGame game → (p q : A) (place n : ℕ) → IsThinnedFrom game q p → game.clue p place ≡ Some n → has_clue game q place ≡ false
     → IsThinnedFrom game q (game.without p place)
 lacking_within game laws p q place n w e lacks = record {
   frame = laws.same_through _ _ _ w.frame (laws.same_back _ _ (laws.without_frame p place n e));
@@ -14,7 +14,7 @@ lacking_within game laws p q place n w e lacks = record {
 }
 
 -- the reason of a clue that is left
-needed_at : {A : Type 0} (game : Game A) (budget : ℕ) (all p : A) (kept : List Kept) (place : ℕ) → AreReasons game budget all p kept → All (λ k. k.why ≡ Needed) kept
+needed_at : {A : Type 0} (game : CluedGame A) (budget : ℕ) (all p : A) (kept : List Kept) (place : ℕ) → AreReasons game budget all p kept → All (λ k. k.why ≡ Needed) kept
     → Contains (map (λ k. k.place) kept) place → HasTwo (game.rules (game.without p place))
 needed_at game budget all p kept place reasons needed listed =
     let entry : Kept = record { place = place; why = Needed } in
@@ -22,7 +22,7 @@ needed_at game budget all p kept place reasons needed listed =
     let here : (get_or kept listed.0 entry).place ≡ place = sym (get_or-map (λ k. k.place) kept listed.0 entry place below) ∙ listed.2 in
     subst (λ x. IsReason game budget all p x Needed) here (subst (λ w. IsReason game budget all p (get_or kept listed.0 entry).place w) (needed listed.0 entry below) (reasons.reasons listed.0 entry below))
 
-pub none_is_idle : {A : Type 0} (game : Game A) → IsGame game → LeavesNoIdleClue game
+pub none_is_idle : {A : Type 0} (game : CluedGame A) → IsGame game → LeavesNoIdleClue game
 none_is_idle game laws budget all p q kept place reasons needed w has lacks =
     let n = some_of (game.clue p place) has in
     let listed = passes_kept (has_clue game p) (game.cells p) place (laws.clue_in p place n.0 n.1) has in

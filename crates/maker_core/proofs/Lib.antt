@@ -8,7 +8,7 @@ pub mod LightSight
 pub mod LightSolved
 pub mod PatternMakings
 pub mod PlainPattern
-pub mod TentCamps
+pub mod TentFillings
 pub mod TentMakings
 pub mod TentsSolved
 pub mod Shuffles

@@ -1,6 +1,6 @@
 -- A puzzle of black cells alone passes; and what is known of the puzzle of a filling.
 use Rattle.maker_core.proofs.Common.{◌≡◌, ℕ, ◌<◌, true, false, not, List, slice_index, sym, ap, ◌∙◌, arith, Extent, IsGrid, all_below-at, Light}
-use Rattle.maker_core.proofs.Common.{IsLawful, closure_inside, start_of, light_cells, white, black_right, solves_lights, light_rules, lit-parts, Lighting}
+use Rattle.maker_core.proofs.Common.{IsLawful, closure_inside, start_of, light_cells, white, black_right, solves_lights, light_rules, lit-parts, LightFilling}
 use Rattle.maker_core.proofs.Common.{AreAll, IsLit, light-lawful, lights_of, light_puzzle_of, with_numbers, is_one, has_one, HasOne, TellsOne, IsOnly}
 use Rattle.maker_core.proofs.FoundAtOnce.{found_at_once}
 use Rattle.maker_core.proofs.FullStart.{known}
@@ -17,14 +17,14 @@ unfolding black_right
 no_bulb_on p g c lit lt off = grind (arith, all_below-at (black_right p g) (light_cells p) c (lit-parts p g lit).black lt)
 
 -- ---- the puzzle of a filling
-pub size_is : (size : Extent) (f : Lighting) (p : Light) → p ≡ light_puzzle_of size f → p.size ≡ size
+pub size_is : (size : Extent) (f : LightFilling) (p : Light) → p ≡ light_puzzle_of size f → p.size ≡ size
 unfolding light_puzzle_of with_numbers lights_of
 size_is size f p is = ap (λ (r : Light). r.size) is
 
-pub all_numbers : (size : Extent) (f : Lighting) (p : Light) → p ≡ light_puzzle_of size f → IsLit size f → p ≡ with_numbers p f.bulbs
+pub all_numbers : (size : Extent) (f : LightFilling) (p : Light) → p ≡ light_puzzle_of size f → IsLit size f → p ≡ with_numbers p f.bulbs
 all_numbers size f p is lit = rw is (numbers_again size f lit.black.each_cell)
 
-pub lit_one : (size : Extent) (f : Lighting) (budget : ℕ) (p : Light) → p ≡ light_puzzle_of size f → IsLit size f
+pub lit_one : (size : Extent) (f : LightFilling) (budget : ℕ) (p : Light) → p ≡ light_puzzle_of size f → IsLit size f
     → HasOne (light_rules (light_puzzle_of size f)) budget → IsOnly (light_rules p) f.bulbs × TellsOne (light_rules p) budget f.bulbs
 unfolding light_puzzle_of with_numbers lights_of
 lit_one size f budget p is lit one = rw is (one_grid (light_rules (light_puzzle_of size f)) f.bulbs budget one (record { grid = lit.bulbs; good = lit.solved }))
@@ -33,7 +33,7 @@ lit_one size f budget p is lit one = rw is (one_grid (light_rules (light_puzzle_
 pub ruleset lit_laws = (all_numbers, lit_one)
 
 -- black cells alone pass
-pub all_black : (size : Extent) (f : Lighting) (budget : ℕ) (p : Light) → p ≡ light_puzzle_of size f → IsLawful (light_rules p) → IsLit size f
+pub all_black : (size : Extent) (f : LightFilling) (budget : ℕ) (p : Light) → p ≡ light_puzzle_of size f → IsLawful (light_rules p) → IsLit size f
     → AreAll 1 f.black → has_one (light_rules p) budget ≡ true
 unfolding light_puzzle_of with_numbers lights_of
 all_black size f budget p is laws lit black =

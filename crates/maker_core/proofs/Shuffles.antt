@@ -16,11 +16,11 @@ unfolding next_u32
 words_left s words = record { below = λ calls. words.below (u32_call ∷ calls) }
 
 -- a number below a range, and words after it
-pub record IsDrawn (range : ℕ) (draw : ℕ × Stream) : Type 0 where
+pub record IsDrawnBelow (range : ℕ) (draw : ℕ × Stream) : Type 0 where
   pub below : draw.0 < range
   pub words : HasWords draw.1
 
-pub draw_is : (range : ℕ) (s : Stream) → 0 < range → range ≤ 2 ^ 32 → HasWords s → IsDrawn range (canon (2 ^ 32) next_u32 range s)
+pub draw_is : (range : ℕ) (s : Stream) → 0 < range → range ≤ 2 ^ 32 → HasWords s → IsDrawnBelow range (canon (2 ^ 32) next_u32 range s)
 unfolding canon
 draw_is range s some within words =
     let w = (next_u32 s).0 in
@@ -30,7 +30,7 @@ draw_is range s some within words =
     let room : (w + 1) * range ≤ 2 ^ 32 * range = mul-le (w + 1) range (2 ^ 32) range (omega arith) (omega arith) in
     let under : high < range = div_below (w * range) (2 ^ 32) range (omega arith) (omega arith) in
     let left = words_left s words in
-    cond_both (nat_lt (2 ^ 32 - range) low) _ _ (IsDrawn range)
+    cond_both (nat_lt (2 ^ 32 - range) low) _ _ (IsDrawnBelow range)
     (λ carried. record {
       below = if_below (nat_le (2 ^ 32) (low + (next_u32 (next_u32 s).1).0 * range / 2 ^ 32)) _ (high + 1) high range refl
           (carry_room (2 ^ 32) range w high low fits (div-add-mod' (w * range) (2 ^ 32)) (ltb-true (2 ^ 32 - range) low carried) within) under;
@@ -71,23 +71,23 @@ refill_is c s is words within =
     let m : ℕ = c.n + 1 in
     let chunk : IsChunk m (chunk_of m) = chunk_is m within in
     let positive : 0 < (chunk_of m).0 = rw chunk.product (rising_positive m (chunk_of m).1 (omega arith)) in
-    let drawn : IsDrawn (chunk_of m).0 (canon (2 ^ 32) next_u32 (chunk_of m).0 s) = draw_is (chunk_of m).0 s positive (let w = chunk.within in omega arith) words in
+    let drawn : IsDrawnBelow (chunk_of m).0 (canon (2 ^ 32) next_u32 (chunk_of m).0 s) = draw_is (chunk_of m).0 s positive (let w = chunk.within in omega arith) words in
     cond_both (c.left == 0) _ _ (IsRefilled c.n)
     (λ none. record { some = chunk.some; room = rw (← chunk.product) drawn.below; words = drawn.words })
     (λ left. let low : 0 < c.left = grind arith in record { some = low; room = is.room low; words = words })
 
 -- an index of at most n, and a chooser for higher ones
-record IsNext (n : ℕ) (d : ℕ × Chooser × Stream) : Type 0 where
+record IsDrawnNext (n : ℕ) (d : ℕ × Chooser × Stream) : Type 0 where
   index : d.0 ≤ n
   bound : d.1.n ≡ n + 1
   chooser : IsChooser d.1
   words : HasWords d.2
 
-next_is : (c : Chooser) (s : Stream) → IsChooser c → HasWords s → c.n + 1 < 2 ^ 32 → IsNext c.n (chooser_next c s)
+next_is : (c : Chooser) (s : Stream) → IsChooser c → HasWords s → c.n + 1 < 2 ^ 32 → IsDrawnNext c.n (chooser_next c s)
 next_is c s is words within =
     let r : ℕ × ℕ × Stream = chooser_refill c s in
     let filled : IsRefilled c.n r = refill_is c s is words within in
-    cond_both (r.1 == 1) _ _ (IsNext c.n)
+    cond_both (r.1 == 1) _ _ (IsDrawnNext c.n)
     (λ last. record {
       index = let low = last_below r.0 (c.n + 1) (rw (eqb-true r.1 1 last) at filled.room) in omega arith;
       bound = refl;
@@ -124,7 +124,7 @@ swaps_are items s words few (suc k) within =
     let p : List ℕ × Chooser × Stream = narrow_swaps items (chooser_at 0) s k in
     let before : IsSwapped items k p = swaps_are items s words few k (omega arith) in
     let long = length_permutation items p.0 before.permutation in
-    let next : IsNext p.1.n (chooser_next p.1 p.2) = next_is p.1 p.2 before.chooser before.words (omega arith) in
+    let next : IsDrawnNext p.1.n (chooser_next p.1 p.2) = next_is p.1 p.2 before.chooser before.words (omega arith) in
     record {
       permutation = IsPermutation-trans items p.0 _ before.permutation
           (IsPermutation-swap p.0 _ p.1.n (chooser_next p.1 p.2).0 (omega arith) (omega arith) refl);
@@ -134,15 +134,15 @@ swaps_are items s words few (suc k) within =
     }
 
 -- ---- the numbers below n in a shuffled order
-pub record IsShuffled (n : ℕ) (p : List ℕ × Stream) : Type 0 where
+pub record IsShuffledOrder (n : ℕ) (p : List ℕ × Stream) : Type 0 where
   pub order : IsOrder n p.0
   pub words : HasWords p.1
 
-pub order_is : (n : ℕ) (s : Stream) → n < 2 ^ 32 - 1 → HasWords s → IsShuffled n (shuffled_order n s)
+pub order_is : (n : ℕ) (s : Stream) → n < 2 ^ 32 - 1 → HasWords s → IsShuffledOrder n (shuffled_order n s)
 order_is n s few words =
     let items : List ℕ = range_with_len 0 n in
     let len : length items ≡ n = length-range_with_len 0 n in
     let swapped = swaps_are items s words (omega arith) (length items - 0) (omega arith) in
-    cond_both (nat_lt (length items) (2 ^ 32 - 1)) _ _ (IsShuffled n)
+    cond_both (nat_lt (length items) (2 ^ 32 - 1)) _ _ (IsShuffledOrder n)
     (λ narrow. record { order = order_from_permutation n _ swapped.permutation; words = swapped.words })
     (λ wide. absurd (true≢false (sym (lt-ltb (length items) (2 ^ 32 - 1) (omega arith)) ∙ wide)))

@@ -3,16 +3,16 @@ use Rattle.maker_core.proofs.Common.{◌≡◌, ℕ, ◌+◌, ◌*◌, ◌<◌, 
 use Rattle.maker_core.proofs.Common.{subst, ◌∙◌, arith, inl, inr, ◌==◌, slice_index, filter, range_with_len, elements, length-filter, map-map, Extent}
 use Rattle.maker_core.proofs.Common.{IsGrid, steps, row_places, column_places, any_below-none, at_column, at_row, lines_ones, ones, has_place, tent}
 use Rattle.maker_core.proofs.Common.{touches, tents_in_column, tents_in_row, IsTentSolution, steps-some, step-up, step-left, step-right, step-down}
-use Rattle.maker_core.proofs.Common.{beside-in, tent-in, Camp, IsOrder, no_camp, tents_puzzle_of, IsPitched, IsTaken}
+use Rattle.maker_core.proofs.Common.{beside-in, tent-in, TentFilling, IsOrder, no_tents, tents_puzzle_of, IsPlaced, IsTaken}
 use Rattle.maker_core.proofs.WrittenGrids.{grid_with, new_or_old, no_one, zeros-grid}
-use Rattle.maker_core.proofs.TentCamps.{free_place}
+use Rattle.maker_core.proofs.TentFillings.{free_place}
 
 -- what the first k cells of the order made
-pub record IsCamp (size : Extent) (order : List ℕ) (k : ℕ) (camp : Camp) : Type 0 where
-  pub trees_grid : IsGrid (size.w * size.h) 2 camp.trees
-  pub tents_grid : IsGrid (size.w * size.h) 2 camp.tents
-  pub taken : (d : ℕ) → tent camp.tents d ≡ true → (j : ℕ) × (j < k) × (slice_index order j ≡ d)
-  pub solved : IsTentSolution (tents_puzzle_of size camp) camp.tents
+pub record IsFillingAfter (size : Extent) (order : List ℕ) (k : ℕ) (filling : TentFilling) : Type 0 where
+  pub trees_grid : IsGrid (size.w * size.h) 2 filling.trees
+  pub tents_grid : IsGrid (size.w * size.h) 2 filling.tents
+  pub taken : (d : ℕ) → tent filling.tents d ≡ true → (j : ℕ) × (j < k) × (slice_index order j ≡ d)
+  pub solved : IsTentSolution (tents_puzzle_of size filling) filling.tents
 
 -- ---- cells
 none_itself : (size : Extent) (c : ℕ) → 1 ≤ size.w → has_place (steps size c 4) c ≡ true → ⊥
@@ -44,9 +44,9 @@ row_count size g y lt =
     ∙ ap ones (map-map (slice_index g) (λ x. y * size.w + x) (range_with_len 0 size.w)) ∙ sym (at_row ones 0 size g y lt)
 
 -- ---- no cell, and a cell that is left
-pub camp_none : (size : Extent) (order : List ℕ) (camp : Camp) → camp ≡ no_camp size → IsCamp size order 0 camp
-unfolding no_camp tents_puzzle_of
-camp_none size order camp is =
+pub filling_none : (size : Extent) (order : List ℕ) (filling : TentFilling) → filling ≡ no_tents size → IsFillingAfter size order 0 filling
+unfolding no_tents tents_puzzle_of
+filling_none size order filling is =
     let n : ℕ = size.w * size.h in
     rw is (record {
       trees_grid = zeros-grid n;
@@ -70,7 +70,7 @@ camp_none size order camp is =
 
 -- ---- a tent more
 -- the cell, its tree and what stood before
-record IsNew (size : Extent) (old : Camp) (c t : ℕ) : Type 0 where
+record IsNew (size : Extent) (old : TentFilling) (c t : ℕ) : Type 0 where
   c_in : c < size.w * size.h
   t_in : t < size.w * size.h
   c_new : tent old.tents c ≡ true → ⊥
@@ -81,8 +81,8 @@ record IsNew (size : Extent) (old : Camp) (c t : ℕ) : Type 0 where
   beside : has_place (steps size c 4) t ≡ true
   alone : (d : ℕ) → tent old.tents d ≡ true → touches size c d ≡ false
 
-new_from : (size : Extent) (order : List ℕ) (k c : ℕ) (old new : Camp) → 1 ≤ size.w → IsOrder (size.w * size.h) order → k < size.w * size.h → c ≡ slice_index order k
-    → IsCamp size order k old → (p : IsPitched size old c new) → IsNew size old c p.tree
+new_from : (size : Extent) (order : List ℕ) (k c : ℕ) (old new : TentFilling) → 1 ≤ size.w → IsOrder (size.w * size.h) order → k < size.w * size.h → c ≡ slice_index order k
+    → IsFillingAfter size order k old → (p : IsPlaced size old c new) → IsNew size old c p.tree
 new_from size order k c old new w ordered lt at before p =
     let free = free_place size old c p.tree p.free in
     let may = p.may in
@@ -101,10 +101,10 @@ new_from size order k c old new w ordered lt at before p =
           grind (arith, any_below-none (λ d. touches size c d && tent old.tents d) (size.w * size.h));
     }
 
-camp_more : (size : Extent) (order : List ℕ) (k c : ℕ) (old new : Camp) → IsCamp size order k old → (p : IsPitched size old c new) → IsNew size old c p.tree
-    → c ≡ slice_index order k → IsCamp size order (k + 1) new
+filling_more : (size : Extent) (order : List ℕ) (k c : ℕ) (old new : TentFilling) → IsFillingAfter size order k old → (p : IsPlaced size old c new) → IsNew size old c p.tree
+    → c ≡ slice_index order k → IsFillingAfter size order (k + 1) new
 unfolding tents_puzzle_of
-camp_more size order k c old new w p n at =
+filling_more size order k c old new w p n at =
     let cells : ℕ = size.w * size.h in
     let s = w.solved in
     let t : ℕ = p.tree in
@@ -139,13 +139,13 @@ camp_more size order k c old new w p n at =
       };
     }
 
-pub camp_step : (size : Extent) (order : List ℕ) (k c : ℕ) (old new : Camp) → 1 ≤ size.w → IsOrder (size.w * size.h) order → k < size.w * size.h → c ≡ slice_index order k
-    → IsCamp size order k old → IsTaken size old c new → IsCamp size order (k + 1) new
-camp_step size order k c old new w ordered lt at before (inl same) = rw same (record {
+pub filling_step : (size : Extent) (order : List ℕ) (k c : ℕ) (old new : TentFilling) → 1 ≤ size.w → IsOrder (size.w * size.h) order → k < size.w * size.h → c ≡ slice_index order k
+    → IsFillingAfter size order k old → IsTaken size old c new → IsFillingAfter size order (k + 1) new
+filling_step size order k c old new w ordered lt at before (inl same) = rw same (record {
   trees_grid = before.trees_grid;
   tents_grid = before.tents_grid;
   taken = λ d on. let t = before.taken d on in (t.0, omega (arith, t.1), t.2);
   solved = before.solved;
 })
-camp_step size order k c old new w ordered lt at before (inr p) =
-    camp_more size order k c old new before p (new_from size order k c old new w ordered lt at before p) at
+filling_step size order k c old new w ordered lt at before (inr p) =
+    filling_more size order k c old new before p (new_from size order k c old new w ordered lt at before p) at

@@ -3,7 +3,7 @@ use Rattle.maker_core.proofs.Common.{◌≡◌, ℕ, suc, ◌+◌, ◌<◌, ◌�
 use Rattle.maker_core.proofs.Common.{take, drop, replicate, refl, add-one, sym, ◌∙◌, ap, subst, arith, length-take, ◌⊎◌, inl, inr, filter, All}
 use Rattle.maker_core.proofs.Common.{Contains, IsPermutation, range_with_len, take_more, drop_all, append-nil, get_or-replicate, get_or_past}
 use Rattle.maker_core.proofs.Common.{length-replicate, All-contains, All-cons, All-nil, filter_passes, Contains-permutation, IsPermutation-sym}
-use Rattle.maker_core.proofs.Common.{IsDistinct-IsPermutation, nat_eq_equiv, Kept, Why, TellsOne, Game, IsGame, has_clue, clue_places, IsOnly}
+use Rattle.maker_core.proofs.Common.{IsDistinct-IsPermutation, nat_eq_equiv, Kept, Why, TellsOne, CluedGame, IsGame, has_clue, clue_places, IsOnly}
 use Rattle.maker_core.proofs.Common.{IsReason, AreReasons, IsTold, IsThinning, reasons_from, distinct_filtered_range}
 use Rattle.maker_core.proofs.FilteredRanges.{passes_kept}
 use Rattle.maker_core.proofs.ThinningTurns.{some_of, none_of, within_itself}
@@ -42,7 +42,7 @@ pub no_reason : (o : Option Why) → ((why : Why) → o ≡ Some why → ⊥) �
 no_reason None never = refl
 no_reason (Some why) never = absurd (never why refl)
 
-module _ {A : Type 0} (game : Game A) (budget : ℕ) (all p : A) where
+module _ {A : Type 0} (game : CluedGame A) (budget : ℕ) (all p : A) where
   -- what is told of the cells from `a` on
   abbrev AreTold : List (Option Why) → ℕ → Type 0
   AreTold whys a = (k i : ℕ) → k ≡ a + i → IsTold game budget all p k (get_or whys i None)
@@ -63,7 +63,7 @@ module _ {A : Type 0} (game : Game A) (budget : ℕ) (all p : A) where
       All-cons (λ k. IsReason game budget all p k.place k.why) _ _ (told a 0 (omega arith)).1 (told_reasons whys (suc a) (λ k i e. told k (suc i) (omega arith)))
 
 -- all clues were tried
-module _ {A : Type 0} (game : Game A) (laws : IsGame game) (budget : ℕ) (all p : A) (answer : List ℕ) (whys : List (Option Why))
+module _ {A : Type 0} (game : CluedGame A) (laws : IsGame game) (budget : ℕ) (all p : A) (answer : List ℕ) (whys : List (Option Why))
     (order : List ℕ) (k : ℕ) (over : length order ≤ k) (left : IsThinning game budget all p whys (drop k order)) where
   now : IsThinning game budget all p whys []
   now = subst (IsThinning game budget all p whys) (drop_all k order over) left
@@ -88,7 +88,7 @@ module _ {A : Type 0} (game : Game A) (laws : IsGame game) (budget : ℕ) (all p
       subst (λ g. IsOnly (game.rules p) g × TellsOne (game.rules p) budget g) same (now.one.only, now.one.found)
 
 -- before any clue is tried
-pub thinning_start : {A : Type 0} (game : Game A) → IsGame game → (budget : ℕ) (p : A) (answer order : List ℕ) (whys : List (Option Why))
+pub thinning_start : {A : Type 0} (game : CluedGame A) → IsGame game → (budget : ℕ) (p : A) (answer order : List ℕ) (whys : List (Option Why))
     → IsOnly (game.rules p) answer → TellsOne (game.rules p) budget answer → IsPermutation (clue_places game p) order → whys ≡ replicate (game.cells p) None → IsThinning game budget p p whys order
 thinning_start game laws budget p answer order whys only found mixed blank = record {
   within = within_itself game laws p;

@@ -5,7 +5,7 @@ use Rattle.maker_core.proofs.Common.{◌≡◌, ℕ, List, Option, None, Bool, s
 use Rattle.maker_core.proofs.Common.{get_or, set, drop, ◌+◌, refl, ◌∙◌, ap, arith, ◌⊎◌, inl, inr, add-one, Puzzle, Needs, FitsIn, needs_of, Outcome}
 use Rattle.maker_core.proofs.Common.{outcome, IsTrueOf, walk, IsAnswer, IsVerdict, IsAsked, IsLeft, IsTold, IsThinning, Why, Needed, Budget, is_some}
 use Rattle.maker_core.proofs.Common.{Contains, IsDistinct, cases_eq, get_or-set_other, length-set, Contains-append_right, get_or-set_at, drop-cons}
-use Rattle.maker_core.proofs.Common.{HasOne, Game, IsGame, IsThinnedFrom, HasTwo, IsReason}
+use Rattle.maker_core.proofs.Common.{HasOne, CluedGame, IsGame, IsThinnedFrom, HasTwo, IsReason}
 use Rattle.maker_core.proofs.FilteredRanges.{head_apart}
 
 pub needed : (p : Puzzle) (budget : ℕ) (first second : Option (List ℕ)) (o : Outcome) (why : Why) → why ≡ Needed
@@ -36,7 +36,7 @@ contains_rest xs x q apart (suc k, below, is) = (k, omega arith, is)
 fits_through : (a b c : Needs) → FitsIn a b → FitsIn b c → FitsIn a c
 fits_through a b c first second = grind arith
 
-module _ {A : Type 0} (game : Game A) (laws : IsGame game) where
+module _ {A : Type 0} (game : CluedGame A) (laws : IsGame game) where
   pub within_itself : (p : A) → IsThinnedFrom game p p
   within_itself p = record { frame = laws.same_itself p; clues = λ place n e. e }
 

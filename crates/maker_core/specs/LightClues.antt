@@ -6,7 +6,7 @@ use Rattle.gameid_core.specs.declared.light_up.cell.LightCell.TheVariants.{White
 use Rattle.fields_core.specs.Light.{is_white}
 use Rattle.fields_core.specs.LightHouses.{light_rules}
 use Rattle.maker_core.specs.LightFilling.{with_numbers}
-use Rattle.maker_core.specs.Thinning.{Game}
+use Rattle.maker_core.specs.Thinning.{CluedGame}
 
 -- the clue of a cell
 abbrev pub number_clue : LightCell → Option ℕ
@@ -20,7 +20,7 @@ pub record SameLight (p q : Light) : Type 0 where
   pub black : map is_white p.cells ≡ map is_white q.cells
 
 -- a cell without its number is black
-abbrev pub light_game : Game Light
+abbrev pub light_game : CluedGame Light
 light_game = record {
   cells = λ p. length p.cells;
   same_frame = SameLight;

@@ -8,7 +8,7 @@ use Rattle.gameid_core.specs.declared.light_up.cell.LightCell.{LightCell}
 use Rattle.gameid_core.specs.declared.light_up.cell.LightCell.TheVariants.{White, Black, Numbered}
 use Rattle.fields_core.specs.Light.{light_cells, white, bulb, sees_bulb, bulbs_beside, solves_lights}
 use Rattle.fields_core.specs.LightHouses.{light_rules}
-use Rattle.maker_core.specs.declared.light_up.lighting.Lighting.{Lighting}
+use Rattle.maker_core.specs.declared.light_up.filling.LightFilling.{LightFilling}
 use Rattle.maker_core.specs.Draws.{Making, black_cells, shuffled_list}
 use Rattle.maker_core.specs.Made.{has_one}
 
@@ -45,22 +45,22 @@ lit_up p s =
     (bulbs_after p shuffled.0 (length shuffled.0), shuffled.1)
 
 -- black cells are drawn one by one; then the white cells are lit up
-unfoldable pub light_filling : Extent → ℕ → Making Lighting
+unfoldable pub light_filling : Extent → ℕ → Making LightFilling
 light_filling size black s =
     let drawn = black_cells black (size.w * size.h) s in
     let lit = lit_up (lights_of size drawn.0) drawn.1 in
     (record { black = drawn.0; bulbs = lit.0 }, lit.1)
 
 -- its puzzle with all clues
-unfoldable pub light_puzzle_of : Extent → Lighting → Light
+unfoldable pub light_puzzle_of : Extent → LightFilling → Light
 light_puzzle_of size filling = with_numbers (lights_of size filling.black) filling.bulbs
 
 -- a filling passes where the verdict of its puzzle is one
-abbrev pub light_passes : Extent → ℕ → Lighting → Bool
+abbrev pub light_passes : Extent → ℕ → LightFilling → Bool
 light_passes size budget filling = has_one (light_rules (light_puzzle_of size filling)) budget
 
 -- black cells and bulbs of so many cells; the bulbs solve its puzzle
-pub record IsLit (size : Extent) (filling : Lighting) : Type 0 where
+pub record IsLit (size : Extent) (filling : LightFilling) : Type 0 where
   pub black : IsGrid (size.w * size.h) 2 filling.black
   pub bulbs : IsGrid (size.w * size.h) 2 filling.bulbs
   pub solved : solves_lights (light_puzzle_of size filling) filling.bulbs ≡ true

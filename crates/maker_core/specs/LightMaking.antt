@@ -10,7 +10,7 @@ use Rattle.maker_core.specs.LightClues.{light_game}
 use Rattle.maker_core.specs.LightFilling.{light_filling, light_passes, light_puzzle_of, with_numbers}
 use Rattle.maker_core.specs.Made.{TellsOne, IsOnlySolution}
 use Rattle.maker_core.specs.Thinning.{AreReasons, IsThinnedFrom, stream_after_clues}
-use Rattle.maker_core.specs.declared.light_up.lighting.Lighting.{Lighting}
+use Rattle.maker_core.specs.declared.light_up.filling.LightFilling.{LightFilling}
 use Rattle.maker_core.specs.declared.made.Kept.{Kept}
 use Rattle.maker_core.specs.declared.made.Limits.{Limits}
 use Rattle.maker_core.specs.declared.made.Made.{Made}
@@ -30,7 +30,7 @@ pub record IsLightMade (size : Extent) (black budget tries : ℕ) (s : Stream)
   pub reasons : AreReasons light_game budget (with_numbers p g) p kept
 
 -- what a maker tries and gives within its limits: the numbers of the first filling that passes are shuffled
-abbrev pub light_tries : Extent → ℕ → Limits → Tries Lighting
+abbrev pub light_tries : Extent → ℕ → Limits → Tries LightFilling
 light_tries size black limits = record {
   make = light_filling size black;
   passes = light_passes size limits.budget;

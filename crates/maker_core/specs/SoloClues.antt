@@ -3,7 +3,7 @@ use Rattle.std.specs.Prelude.{◌≡◌, ℕ, zero, suc, Option, Some, None, len
 use Rattle.gameid_core.specs.Puzzles.{Solo}
 use Rattle.solo_core.specs.RuleSets.{houses_rules}
 use Rattle.maker_core.specs.SoloFilling.{all_given}
-use Rattle.maker_core.specs.Thinning.{Game}
+use Rattle.maker_core.specs.Thinning.{CluedGame}
 
 -- the clue of a cell, which holds 0 where it has none
 abbrev pub given_clue : ℕ → Option ℕ
@@ -17,7 +17,7 @@ pub record SameSolo (p q : Solo) : Type 0 where
   pub x : p.x ≡ q.x
   pub cells : length p.givens ≡ length q.givens
 
-abbrev pub solo_game : Game Solo
+abbrev pub solo_game : CluedGame Solo
 solo_game = record {
   cells = λ p. length p.givens;
   same_frame = SameSolo;

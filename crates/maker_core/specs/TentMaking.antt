@@ -8,7 +8,7 @@ use Rattle.fields_core.specs.TentSolutions.{IsTentSolution}
 use Rattle.maker_core.specs.Draws.{Tries, IsFirstPassing, filling_at}
 use Rattle.maker_core.specs.Made.{TellsOne, IsOnlySolution}
 use Rattle.maker_core.specs.TentFilling.{tent_filling, tents_puzzle_of, tents_pass}
-use Rattle.maker_core.specs.declared.tents.camp.Camp.{Camp}
+use Rattle.maker_core.specs.declared.tents.filling.TentFilling.{TentFilling}
 use Rattle.maker_core.specs.declared.made.Kept.{Kept}
 use Rattle.maker_core.specs.declared.made.Limits.{Limits}
 use Rattle.maker_core.specs.declared.made.Made.{Made}
@@ -32,12 +32,12 @@ pub record IsTentsMade (size : Extent) (budget tries : ℕ) (s : Stream)
   pub unthinned : kept ≡ []
 
 -- what a maker tries and gives within its limits
-abbrev pub tents_tries : Extent → Limits → Tries Camp
+abbrev pub tents_tries : Extent → Limits → Tries TentFilling
 tents_tries size limits = record {
   make = tent_filling size;
   passes = tents_pass size limits.budget;
   count = limits.tries;
-  ends = λ camp s. s;
+  ends = λ filling s. s;
 }
 
 abbrev pub MakesTents : Extent → Limits → Stream → Made Tents → Type 0

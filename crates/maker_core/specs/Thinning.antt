@@ -11,7 +11,7 @@ use Rattle.maker_core.specs.declared.made.Kept.{Kept}
 use Rattle.maker_core.specs.declared.made.Made.{Made}
 
 -- a game whose puzzles have clues in cells
-pub record Game (A : Type 0) : Type 1 where
+pub record CluedGame (A : Type 0) : Type 1 where
   -- how many cells a puzzle has
   pub cells : A → ℕ
   -- the two puzzles are the same but for their clues
@@ -26,26 +26,26 @@ pub record Game (A : Type 0) : Type 1 where
   pub rules : A → Puzzle
 
 -- whether the cell has a clue, and the cells that have one, by place
-abbrev pub has_clue : {A : Type 0} → Game A → A → ℕ → Bool
+abbrev pub has_clue : {A : Type 0} → CluedGame A → A → ℕ → Bool
 has_clue game p place = is_some (game.clue p place)
 
-abbrev pub clue_places : {A : Type 0} → Game A → A → List ℕ
+abbrev pub clue_places : {A : Type 0} → CluedGame A → A → List ℕ
 clue_places game p = filter (has_clue game p) (range_with_len 0 (game.cells p))
 
 -- they are shuffled; and the stream that is left then
-abbrev pub shuffled_clues : {A : Type 0} → Game A → A → Making (List ℕ)
+abbrev pub shuffled_clues : {A : Type 0} → CluedGame A → A → Making (List ℕ)
 shuffled_clues game p = shuffled_list (clue_places game p)
 
-abbrev pub stream_after_clues : {A : Type 0} → Game A → A → Stream → Stream
+abbrev pub stream_after_clues : {A : Type 0} → CluedGame A → A → Stream → Stream
 stream_after_clues game p s = (shuffled_clues game p s).1
 
 -- each clue of p is a clue of q
-pub record IsThinnedFrom {A : Type 0} (game : Game A) (p q : A) : Type 0 where
+pub record IsThinnedFrom {A : Type 0} (game : CluedGame A) (p q : A) : Type 0 where
   pub frame : game.same_frame p q
   pub clues : (place n : ℕ) → game.clue p place ≡ Some n → game.clue q place ≡ Some n
 
 -- each solution of a puzzle with more clues is one of the puzzle
-abbrev pub KeepsSolutions : {A : Type 0} → Game A → (A → List ℕ → Type 0) → Type 0
+abbrev pub KeepsSolutions : {A : Type 0} → CluedGame A → (A → List ℕ → Type 0) → Type 0
 KeepsSolutions {A} game solves = (p q : A) (g : List ℕ)
     → IsThinnedFrom game p q → solves q g → solves p g
 
@@ -68,7 +68,7 @@ pub record GivesUp (rules : Puzzle) (budget : ℕ) : Type 0 where
 
 -- the search gives up on some puzzle that hasn't the clue of the cell: one with each other clue of p and no clue but
 -- those of `all`
-pub record IsHard {A : Type 0} (game : Game A) (budget : ℕ) (all p : A)
+pub record IsHard {A : Type 0} (game : CluedGame A) (budget : ℕ) (all p : A)
     (place : ℕ) : Type 0 where
   pub thicker : A
   pub lacks : game.clue thicker place ≡ None
@@ -77,23 +77,23 @@ pub record IsHard {A : Type 0} (game : Game A) (budget : ℕ) (all p : A)
   pub gave_up : GivesUp (game.rules thicker) budget
 
 -- the clue of the cell was left for this reason
-abbrev pub IsReason : {A : Type 0} → Game A → ℕ → A → A → ℕ → Why → Type 0
+abbrev pub IsReason : {A : Type 0} → CluedGame A → ℕ → A → A → ℕ → Why → Type 0
 IsReason game budget all p place Needed = HasTwo (game.rules (game.without p place))
 IsReason game budget all p place Budget = IsHard game budget all p place
 
 -- an entry for each clue of p, by place, with the reason why it was left
-pub record AreReasons {A : Type 0} (game : Game A) (budget : ℕ) (all p : A)
+pub record AreReasons {A : Type 0} (game : CluedGame A) (budget : ℕ) (all p : A)
     (kept : List Kept) : Type 0 where
   pub places : map (λ k. k.place) kept ≡ clue_places game p
   pub reasons : All (λ k. IsReason game budget all p k.place k.why) kept
 
 -- so it is of a puzzle that was made, among those of its clues that the answer tells
-abbrev pub HasReasons : {A : Type 0} → Game A → ℕ → List ℕ → Made A → Type 0
+abbrev pub HasReasons : {A : Type 0} → CluedGame A → ℕ → List ℕ → Made A → Type 0
 HasReasons game budget answer made =
     AreReasons game budget (game.all_clues made.puzzle answer) made.puzzle made.kept.items
 
 -- where each clue that was left is needed, every puzzle without one of them has two solutions
-abbrev pub LeavesNoIdleClue : {A : Type 0} → Game A → Type 0
+abbrev pub LeavesNoIdleClue : {A : Type 0} → CluedGame A → Type 0
 LeavesNoIdleClue {A} game = (budget : ℕ) (all p q : A) (kept : List Kept) (place : ℕ)
     → AreReasons game budget all p kept → All (λ k. k.why ≡ Needed) kept
     → IsThinnedFrom game q p
@@ -101,7 +101,7 @@ LeavesNoIdleClue {A} game = (budget : ℕ) (all p q : A) (kept : List Kept) (pla
     → HasTwo (game.rules q)
 
 -- what fewer clues change: no solution is lost, and a search needs no more memory
-pub record IsGame {A : Type 0} (game : Game A) : Type 0 where
+pub record IsGame {A : Type 0} (game : CluedGame A) : Type 0 where
   pub same_itself : (p : A) → game.same_frame p p
   pub same_back : (p q : A) → game.same_frame p q → game.same_frame q p
   pub same_through : (p q r : A)

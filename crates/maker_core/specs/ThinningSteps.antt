@@ -3,7 +3,7 @@ use Rattle.std.specs.Prelude.{◌≡◌, ℕ, suc, true, Option, Some, None, Lis
 use Rattle.std.specs.List.{IsDistinct}
 use Rattle.engine_core.specs.Puzzle.{Puzzle}
 use Rattle.maker_core.specs.Made.{HasOne}
-use Rattle.maker_core.specs.Thinning.{Game, has_clue, IsThinnedFrom, HasTwo, GivesUp, IsReason}
+use Rattle.maker_core.specs.Thinning.{CluedGame, has_clue, IsThinnedFrom, HasTwo, GivesUp, IsReason}
 use Rattle.maker_core.specs.declared.made.Why.{Why}
 use Rattle.maker_core.specs.declared.made.Why.TheVariants.{Needed, Budget}
 use Rattle.maker_core.specs.declared.made.Kept.{Kept}
@@ -14,23 +14,23 @@ IsVerdict rules budget Needed = HasTwo rules
 IsVerdict rules budget Budget = GivesUp rules budget
 
 -- the clue is gone, or the puzzle is as it was
-abbrev pub IsLeft : {A : Type 0} → Game A → ℕ → A → A → Option Why → Type 0
+abbrev pub IsLeft : {A : Type 0} → CluedGame A → ℕ → A → A → Option Why → Type 0
 IsLeft game place old new None = new ≡ game.without old place
 IsLeft game place old new (Some why) = new ≡ old
 
 -- the verdict without the clue is one, or the reason
-abbrev pub IsAsked : {A : Type 0} → Game A → ℕ → ℕ → A → Option Why → Type 0
+abbrev pub IsAsked : {A : Type 0} → CluedGame A → ℕ → ℕ → A → Option Why → Type 0
 IsAsked game budget place p None = HasOne (game.rules (game.without p place)) budget
 IsAsked game budget place p (Some why) = IsVerdict (game.rules (game.without p place)) budget why
 
 -- what is told of a cell whose clue was tried: it has none, or the reason
-abbrev pub IsTold : {A : Type 0} → Game A → ℕ → A → A → ℕ → Option Why → Type 0
+abbrev pub IsTold : {A : Type 0} → CluedGame A → ℕ → A → A → ℕ → Option Why → Type 0
 IsTold game budget all p place None = game.clue p place ≡ None
 IsTold game budget all p place (Some why) =
     (has_clue game p place ≡ true) × IsReason game budget all p place why
 
 -- the clues of these cells are still to be tried, and all others are told of
-pub record IsThinning {A : Type 0} (game : Game A) (budget : ℕ) (all p : A)
+pub record IsThinning {A : Type 0} (game : CluedGame A) (budget : ℕ) (all p : A)
     (whys : List (Option Why)) (rest : List ℕ) : Type 0 where
   pub within : IsThinnedFrom game p all
   pub one : HasOne (game.rules p) budget

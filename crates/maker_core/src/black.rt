@@ -9,7 +9,7 @@ use grid_core::Grid;
 use rand_core::Rng;
 use std::alloc::{AllocError, Global};
 
-/// A grid of so many cells, by place: 1 for a black cell, where a draw below 100 is less than `black`, and else 0.
+/// A grid of so many cells, by place: 1 for a black cell, if a draw below 100 is less than `black`, and else 0.
 ///
 /// # Errors
 ///

@@ -1,6 +1,6 @@
 //! Draws from a generator, as fillings and thinnings use them.
 
-ghost use Rattle.std.specs.Prelude.{◌≡◌, ◌<◌, IfOk, IsPermutation};
+ghost use Rattle.std.specs.Prelude.{◌<◌, IfOk, IsPermutation};
 ghost use Rattle.std.specs.List.{range_with_len};
 ghost use Rattle.maker_core.specs.Draws.{AreDrawnBy, IsDrawnBy, draw_below, shuffled_list, shuffled_order};
 ghost use Rattle.maker_core.specs.SoloOrders.{IsOrder};

@@ -4,19 +4,19 @@ ghost use Rattle.std.specs.Prelude.{◌≡◌, ◌*◌, true};
 ghost use Rattle.grid_core.specs.Grids.{IsGrid};
 ghost use Rattle.solo_core.specs.Solutions.{IsSoloSolution};
 ghost use Rattle.fields_core.specs.Light.{solves_lights};
-ghost use Rattle.maker_core.specs.TentFilling.{EachFilling, IsSolvedCamp};
+ghost use Rattle.maker_core.specs.TentFilling.{EachFilling, IsSolvedFilling};
 ghost use Rattle.maker_core.specs.Thinning.{KeepsSolutions, LeavesNoIdleClue};
 ghost use Rattle.maker_core.specs.SoloClues.{solo_game};
 ghost use Rattle.maker_core.specs.LightClues.{light_game};
 
-/// Where each clue of a puzzle is a clue of another one, each solution of the other one is one of the puzzle.
+/// If each clue of a puzzle is a clue of another one, each solution of the other one is one of the puzzle.
 #[tactic(auto, using(crate::proofs::IdleClues::fewer_laws))]
 pub fn fewer_clues_keep_solutions()
     ensures solo { KeepsSolutions solo_game IsSoloSolution }
     ensures lights { KeepsSolutions light_game (λ p g. solves_lights p g ≡ true) }
 {}
 
-/// Where each clue that was left in a puzzle is needed, the puzzle has two solutions once any of them are taken away.
+/// If each clue that was left in a puzzle is needed, the puzzle has two solutions once any of them are taken away.
 pub fn needed_clues_are_not_idle()
     ensures solo { LeavesNoIdleClue solo_game }
     ensures lights { LeavesNoIdleClue light_game }
@@ -24,6 +24,6 @@ pub fn needed_clues_are_not_idle()
 
 /// Each filling of Tents, over any stream of 32-bit words, is a grid of trees and tents that solves its own puzzle.
 pub fn fillings_of_tents_are_solutions()
-    ensures trees { EachFilling (λ size camp. IsGrid (size.w * size.h) 2 camp.trees) }
-    ensures solved { EachFilling IsSolvedCamp }
+    ensures trees { EachFilling (λ size filling. IsGrid (size.w * size.h) 2 filling.trees) }
+    ensures solved { EachFilling IsSolvedFilling }
 {}

@@ -2,5 +2,4 @@
 
 pub(crate) mod clues;
 pub(crate) mod filling;
-pub(crate) mod lighting;
 pub(crate) mod maker;

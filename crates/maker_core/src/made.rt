@@ -38,7 +38,7 @@ pub struct Kept {
 pub struct Made<P> {
     pub puzzle: P,
     pub answer: Grid,
-    /// One for each clue that was left, by place; empty where clues are not thinned.
+    /// One for each clue that was left, by place; empty if clues are not thinned.
     pub kept: Vec<Kept>,
 }
 

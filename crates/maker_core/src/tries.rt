@@ -8,8 +8,8 @@ use crate::made::MakeFault;
 use rand_core::Rng;
 use std::alloc::{AllocError, Global};
 
-/// Fillings that a maker draws, of which some pass.
-pub(crate) trait Fillings {
+/// What a maker tries: fillings that it draws, of which some pass.
+pub(crate) trait Attempts {
     type Filling: Drop;
 
     // How they are drawn, which pass, and how many are tried.
@@ -28,7 +28,7 @@ pub(crate) trait Fillings {
 
 /// The first of so many fillings that passes, or `Exhausted`. The generator is left where the last filling left it.
 #[tactic(auto, unfolding(crate::specs::Draws::stream_after))]
-pub(crate) fn first_passing<F: Fillings, G: Rng>(
+pub(crate) fn first_passing<F: Attempts, G: Rng>(
     alloc: Global,
     fillings: &F,
     rng: &mut G,

@@ -195,8 +195,8 @@ tents_extent text read e =
 abbrev MadeBy : {A : Type 0} → (Extent → Making A) → Type 0
 MadeBy {A = A} make = A
 
-abbrev Camp : Type 0
-Camp = MadeBy tent_filling
+abbrev TentFilling : Type 0
+TentFilling = MadeBy tent_filling
 
 -- what `fillings_of_tents_are_solutions` says
 pub record AreFilled : Type 0 where
@@ -204,55 +204,55 @@ pub record AreFilled : Type 0 where
   pub solved : (size : Extent) (s : Stream) (k : ℕ) → IsExtent size → HasWords s
       → IsTentSolution (tents_puzzle_of size (filling_at (tent_filling size) k s)) (filling_at (tent_filling size) k s).tents
 
-tents_lawful : (size : Extent) (camp : Camp) → IsTentsExtent size → IsGrid (size.w * size.h) 2 camp.trees → IsTents (tents_puzzle_of size camp)
+tents_lawful : (size : Extent) (filling : TentFilling) → IsTentsExtent size → IsGrid (size.w * size.h) 2 filling.trees → IsTents (tents_puzzle_of size filling)
 unfolding tents_puzzle_of
-tents_lawful size camp large trees =
+tents_lawful size filling large trees =
     let w = large.w_four in
     let h = large.h_four in
-    ones_lawful size camp.trees camp.tents (lines_ones size camp.tents) camp.trees large.extent (omega arith) (omega arith) trees refl refl
+    ones_lawful size filling.trees filling.tents (lines_ones size filling.tents) filling.trees large.extent (omega arith) (omega arith) trees refl refl
 
 module _ (filled : AreFilled) (size : Extent) (large : IsTentsExtent size) (budget tries : ℕ) (s : Stream) (words : HasWords s) where
-  abbrev camp_of : ℕ → Camp
-  camp_of k = filling_at (tent_filling size) k s
+  abbrev filling_of : ℕ → TentFilling
+  filling_of k = filling_at (tent_filling size) k s
 
-  abbrev camp_puzzle : ℕ → Tents
-  camp_puzzle k = tents_puzzle_of size (camp_of k)
+  abbrev puzzle_at : ℕ → Tents
+  puzzle_at k = tents_puzzle_of size (filling_of k)
 
-  camp_lawful : (k : ℕ) → IsTents (camp_puzzle k)
-  camp_lawful k = tents_lawful size (camp_of k) large (filled.trees size s k large.extent words)
+  puzzle_lawful : (k : ℕ) → IsTents (puzzle_at k)
+  puzzle_lawful k = tents_lawful size (filling_of k) large (filled.trees size s k large.extent words)
 
   tents_made : (k : ℕ) → IsFirstPassing (tent_filling size) (tents_pass size budget) s tries k
-      → IsTentsMade size budget tries s (camp_puzzle k) (camp_of k).tents []
+      → IsTentsMade size budget tries s (puzzle_at k) (filling_of k).tents []
   tents_made k first = record {
     k = k;
     first = first;
     clues = refl;
     filled = refl;
-    size_asked = tents_size size (camp_of k) (camp_puzzle k) refl;
+    size_asked = tents_size size (filling_of k) (puzzle_at k) refl;
     only = only.0;
     verdict = only.1;
     unthinned = refl;
   }
     where
-      only : IsOnlySolution (IsTentSolution (camp_puzzle k)) (camp_of k).tents × TellsOne (tent_rules (camp_puzzle k)) budget (camp_of k).tents
-      only = tents_only size (camp_of k) (camp_puzzle k) refl (filled.solved size s k large.extent words)
+      only : IsOnlySolution (IsTentSolution (puzzle_at k)) (filling_of k).tents × TellsOne (tent_rules (puzzle_at k)) budget (filling_of k).tents
+      only = tents_only size (filling_of k) (puzzle_at k) refl (filled.solved size s k large.extent words)
           (λ q h grid. (tents.solution-from-camp q h grid, tents.camp-from-solution q h grid)) budget
-          (has_one (tent_rules (camp_puzzle k)) (tents_searched (camp_puzzle k) (camp_lawful k)).lawful budget first.passing)
+          (has_one (tent_rules (puzzle_at k)) (tents_searched (puzzle_at k) (puzzle_lawful k)).lawful budget first.passing)
 
 pub made_tents : AreFilled → (text : Text) (seed budget tries black : ℕ) → HasOneAnswer (AllowsMade game.Tents text seed budget tries black)
 made_tents filled text seed budget tries black = made_once (played game.Tents) (wanted seed budget tries black) text (λ read is.
     let size : Extent = extent_of read in
     let s = seed_stream seed in
     let large = tents_extent text read is in
-    making_once (tent_filling size) (tents_pass size budget) s tries _ (λ camp. handed_answer (played game.Tents) (tents_puzzle_of size camp) camp.tents)
+    making_once (tent_filling size) (tents_pass size budget) s tries _ (λ filling. handed_answer (played game.Tents) (tents_puzzle_of size filling) filling.tents)
     (λ a h. (h.made.k, h.made.first, h.told ∙ ap₂ (handed_answer (played game.Tents)) h.made.clues h.made.filled))
     (λ k first.
-    let camp : Camp = filling_at (tent_filling size) k s in
+    let filling : TentFilling = filling_at (tent_filling size) k s in
     record {
-      puzzle = tents_puzzle_of size camp;
-      solution = camp.tents;
+      puzzle = tents_puzzle_of size filling;
+      solution = filling.tents;
       kept = [];
       made = tents_made filled size large budget tries s (seed_words seed) k first;
-      spelled = (tents_is_written (tents_puzzle_of size camp) (camp_lawful filled size large budget tries s (seed_words seed) k)).spells;
+      spelled = (tents_is_written (tents_puzzle_of size filling) (puzzle_lawful filled size large budget tries s (seed_words seed) k)).spells;
       told = refl;
     }))

@@ -9,12 +9,18 @@ ghost use Rattle.maker_core.specs.LightFilling.{IsLit, bulbs_after, light_fillin
 
 use crate::black::draw_black;
 use crate::draws::shuffle;
-use crate::light_up::lighting::Lighting;
 use fields_core::{count_beside, is_white, sees_a_bulb};
 use gameid_core::{LightCell, LightPuzzle};
 use grid_core::{Grid, Size};
 use rand_core::Rng;
 use std::alloc::{AllocError, Global};
+
+/// Black cells and bulbs by place, 1 in each grid and 0 elsewhere.
+#[derive(Drop)]
+pub(crate) struct LightFilling {
+    pub black: Grid,
+    pub bulbs: Grid,
+}
 
 /// The puzzle without numbers that has these black cells, 1 for black.
 #[tactic(auto, using(crate::proofs::LightCells::blackened))]
@@ -83,8 +89,8 @@ fn number_cells(puzzle: &mut LightPuzzle, grid: &Grid)
     }
 }
 
-/// Takes the white cells of a puzzle without numbers, listed by place and shuffled, in turn, and puts a bulb into each
-/// that neither holds nor sees one. The grid solves the puzzle with the numbers that it gives.
+/// Takes the white cells of a puzzle without numbers, listed by place and shuffled, in turn. Each that neither holds nor
+/// sees a bulb gets one. The grid solves the puzzle with the numbers that it gives.
 #[tactic(auto, unfolding(crate::specs::LightFilling::lit_up))]
 fn light_up<G: Rng>(alloc: Global, rng: &mut G, puzzle: &LightPuzzle) -> Result<Grid, AllocError>
     ensures drawn { IfOk result (IsDrawnBy (lit_up puzzle.now) G.stream rng.old rng.new) }
@@ -98,8 +104,8 @@ fn light_up<G: Rng>(alloc: Global, rng: &mut G, puzzle: &LightPuzzle) -> Result<
     Ok(grid)
 }
 
-/// A filling of Light Up: black cells are drawn one by one; then the white cells, listed by place and shuffled, are taken
-/// in turn, and each that neither holds nor sees one gets a bulb.
+/// A filling of Light Up. Black cells are drawn one by one; then the white cells, listed by place and shuffled, are taken
+/// in turn. Each that neither holds nor sees a bulb gets one.
 ///
 /// # Errors
 ///
@@ -109,7 +115,7 @@ pub(crate) fn fill_lights<G: Rng>(
     rng: &mut G,
     size: Size,
     black: u8,
-) -> Result<Lighting, AllocError>
+) -> Result<LightFilling, AllocError>
     requires { IsWide size }
     ensures drawn { IfOk result
         (IsDrawnBy (light_filling size black) G.stream rng.old rng.new) }
@@ -119,7 +125,7 @@ pub(crate) fn fill_lights<G: Rng>(
     let black = draw_black(alloc, rng, size.cells(), black)?;
     let puzzle = with_black_cells(alloc, size, &black)?;
     let bulbs = light_up(alloc, rng, &puzzle)?;
-    Ok(Lighting { black, bulbs })
+    Ok(LightFilling { black, bulbs })
 }
 
 /// The puzzle of a filling, with a number on every black cell.
@@ -127,7 +133,7 @@ pub(crate) fn fill_lights<G: Rng>(
 pub(crate) fn puzzle_of(
     alloc: Global,
     size: Size,
-    filling: &Lighting,
+    filling: &LightFilling,
 ) -> Result<LightPuzzle, AllocError>
     requires wide { IsWide size }
     requires lit { IsLit size filling.now }

@@ -9,12 +9,11 @@ ghost use Rattle.maker_core.specs.LightFilling.{IsLit, light_puzzle_of};
 ghost use Rattle.maker_core.specs.LightMaking.{MakesLights, light_tries};
 ghost use Rattle.maker_core.specs.Made.{HasOne};
 
-use crate::light_up::filling::{fill_lights, puzzle_of};
-use crate::light_up::lighting::Lighting;
+use crate::light_up::filling::{LightFilling, fill_lights, puzzle_of};
 use crate::made::{Limits, Made, MakeFault};
 use crate::thinning::thin::thin;
 use crate::thinning::unique::is_unique;
-use crate::tries::{Fillings, first_passing};
+use crate::tries::{Attempts, first_passing};
 use fields_core::LightRules;
 use gameid_core::LightPuzzle;
 use grid_core::Size;
@@ -37,8 +36,8 @@ struct LitGrids {
     ghost wide: { IsWide size },
 }
 
-impl Fillings for LitGrids {
-    type Filling = Lighting;
+impl Attempts for LitGrids {
+    type Filling = LightFilling;
 
     ghost tries = { λ t. light_tries t.size t.black t.limits };
 
@@ -47,7 +46,7 @@ impl Fillings for LitGrids {
         × (t.black ≡ 100 → passes ≡ true) };
 
     #[tactic(auto, using(crate::proofs::LightMakings::black_laws))]
-    fn draw<G: Rng>(&self, alloc: Global, rng: &mut G) -> Result<(Lighting, bool), AllocError> {
+    fn draw<G: Rng>(&self, alloc: Global, rng: &mut G) -> Result<(LightFilling, bool), AllocError> {
         let filling = fill_lights(alloc, rng, self.size, self.black)?;
         let rules = LightRules::new(alloc, &puzzle_of(alloc, self.size, &filling)?)?;
         let passes = is_unique(alloc, &rules, self.limits.budget)?;
@@ -57,20 +56,21 @@ impl Fillings for LitGrids {
 
 /// A puzzle of Light Up with exactly one solution, which is `answer`: 1 at a bulb and 0 elsewhere.
 ///
-/// Each try fills a grid: each cell in turn is black where a draw below 100 is less than `black`; then the white cells,
-/// listed by place and shuffled, are taken in turn, and each that neither holds nor sees a bulb gets one. Every black
-/// cell gets the number of the bulbs beside it. The first filling whose puzzle the search finds to have one solution,
-/// within the budget of trials, is taken; one of black cells alone passes, so with `black` 100 the first try does. The
-/// numbers are then tried once each, in a shuffled order, and each is taken away where the search still finds one
-/// solution. `kept` has an entry for each number that is left, by place: `Needed` where without it there are two
-/// solutions, `Budget` where the search without it gave up.
+/// Each try fills a grid. Each cell in turn is black if a draw below 100 is less than `black`. The white cells, listed by
+/// place and shuffled, are then taken in turn. Each that neither holds nor sees a bulb gets one. Every black cell gets the
+/// number of the bulbs beside it. The first filling whose puzzle the search finds to have one solution, within the budget
+/// of trials, is taken. One of black cells alone passes, so with `black` 100 the first try does.
+///
+/// The numbers are then tried once each, in a shuffled order. Each is taken away if the search still finds one solution.
+/// `kept` has an entry for each number that is left, by place. It is `Needed` if there are two solutions without the
+/// number, and `Budget` if the search without it gave up.
 ///
 /// The generator is left where the last filling, and then the shuffle of the numbers, left it.
 ///
 /// # Errors
 ///
-/// `SizeRange` where a side is below 2, tested first; `Exhausted` where no filling of the tries passes, and at once where
-/// there are no tries; `Memory` where memory was refused.
+/// `SizeRange` if a side is below 2, tested first. `Exhausted` if no filling of the tries passes, and at once if there are
+/// no tries. `Memory` if memory was refused.
 #[tactic(auto, using(crate::proofs::LightMakings::lit_laws))]
 pub fn make_lights<G: Rng>(
     alloc: Global,

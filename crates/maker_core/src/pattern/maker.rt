@@ -13,7 +13,7 @@ use crate::black::draw_black;
 use crate::made::{Limits, Made, MakeFault};
 use crate::pattern::switch::has_switch;
 use crate::thinning::unique::is_unique;
-use crate::tries::{Fillings, first_passing};
+use crate::tries::{Attempts, first_passing};
 use gameid_core::PatternPuzzle;
 use grid_core::{Grid, Size};
 use pattern_core::PatternLines;
@@ -38,7 +38,7 @@ struct Bitmaps {
     limits: Limits,
 }
 
-impl Fillings for Bitmaps {
+impl Attempts for Bitmaps {
     type Filling = Grid;
 
     ghost tries = { λ t. pattern_tries t.size t.black t.limits };
@@ -62,17 +62,16 @@ impl Fillings for Bitmaps {
 
 /// A puzzle of Pattern with exactly one solution, which is `answer`: 0 for a white cell and 1 for a black one.
 ///
-/// Each try fills a grid: each cell in turn is black where a draw below 100 is less than `black`. The clues are the
-/// runs of its lines. The first filling whose puzzle the search finds to have one solution, within the budget of trials,
-/// is the puzzle made; a grid of one colour passes, so with `black` 0 or 100 the first try does. `kept` is empty, since
-/// the clues are not thinned.
+/// Each try fills a grid: each cell in turn is black if a draw below 100 is less than `black`. The clues are the runs of
+/// its lines. The first filling whose puzzle the search finds to have one solution, within the budget of trials, is taken.
+/// A grid of one colour passes, so with `black` 0 or 100 the first try does. `kept` is empty, since the clues are not
+/// thinned.
 ///
 /// The generator is left where the last filling left it.
 ///
 /// # Errors
 ///
-/// `Exhausted` where no filling of the tries passes, and at once where there are no tries; `Memory` where memory was
-/// refused.
+/// `Exhausted` if no filling of the tries passes, and at once if there are no tries. `Memory` if memory was refused.
 pub fn make_pattern<G: Rng>(
     alloc: Global,
     size: Size,

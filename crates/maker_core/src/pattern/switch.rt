@@ -1,10 +1,10 @@
-//! A second solution close to a grid of Pattern, by four cells: in one row the first cell of a black run turns white and
-//! the white cell after the run turns black, and in another row the same two columns turn the other way.
+//! A second solution close to a grid of Pattern, by four cells. In one row the first cell of a black run turns white and
+//! the white cell after the run turns black. In another row the same two columns turn the other way.
 //!
-//! Most grids whose search would give up have one, and it is found in a thousandth of the time. That one is found
-//! wherever there is one is not promised: it saves searches, and no more.
+//! Most grids whose search would give up have one, and it is found in a thousandth of the time. No promise is made that
+//! each is found: it saves searches, and no more.
 
-ghost use Rattle.std.specs.Prelude.{◌≡◌, ◌≢◌, ℕ, ◌*◌, ◌<◌, ◌≤◌, ◌&&◌, ◌||◌, ◌==◌, ◌-◌, true, length, slice_index, slice_set};
+ghost use Rattle.std.specs.Prelude.{◌≡◌, ◌*◌, ◌<◌, true, length, slice_index, slice_set};
 ghost use Rattle.grid_core.specs.Grids.{IsGrid};
 ghost use Rattle.maker_core.specs.Switch.{HasOther, cell_of, run_begins, IsRunEnd};
 

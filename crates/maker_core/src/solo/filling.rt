@@ -15,9 +15,9 @@ use grid_core::Grid;
 use rand_core::Rng;
 use std::alloc::{AllocError, Global};
 
-/// A grid that has every number once in each row, column and block, of `c` columns and `r` rows of sub-blocks: the
-/// numbers, the bands of `c` rows, the rows of each band, the stacks of `r` columns and the columns of each stack of one
-/// such grid are shuffled in turn. A cell holds the number v as v - 1.
+/// A grid of `c` columns and `r` rows of sub-blocks that has every number once in each row, column and block. Of one such
+/// grid the numbers, the bands of `c` rows and the rows of each band are shuffled in turn. Then so are the stacks of `r`
+/// columns and the columns of each stack. A cell holds the number v as v - 1.
 ///
 /// # Errors
 ///

@@ -7,7 +7,7 @@ ghost use Rattle.maker_core.specs.Flips.{line_from, flipped};
 use grid_core::Grid;
 use std::alloc::{AllocError, Global};
 
-/// A grid of `n` columns and `n` rows, flipped left to right where `across`, and top to bottom where `down`.
+/// A grid of `n` columns and `n` rows, flipped left to right if `across`, and top to bottom if `down`.
 ///
 /// # Errors
 ///
@@ -44,7 +44,7 @@ fn number_at(n: usize, grid: &Grid, across: bool, down: bool, place: usize) -> u
     grid.get(y * n + x)
 }
 
-/// The line that comes to a line of `n`: itself, or where they are flipped the one as far from the other end.
+/// The line that comes to a line of `n`: itself, or if they are flipped the one as far from the other end.
 fn line_from(flips: bool, n: usize, line: usize) -> usize
     requires { line < n }
     ensures { result ≡ line_from flips n line }

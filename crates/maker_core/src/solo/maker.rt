@@ -11,30 +11,32 @@ use crate::made::{Limits, Made, MakeFault};
 use crate::solo::filling::{fill_plain, full_puzzle};
 use crate::solo::x_filling::fill_x;
 use crate::thinning::thin::thin;
-use crate::tries::{Fillings, first_passing};
+use crate::tries::{Attempts, first_passing};
 use gameid_core::{MAX_NUMBERS, SoloPuzzle};
 use grid_core::Grid;
 use rand_core::Rng;
 use std::alloc::{AllocError, Global};
 
-/// A puzzle of Solo of `c` columns and `r` rows of sub-blocks with exactly one solution, which is `answer`: a cell
-/// holds the number v as v - 1. With `x` it is one of Solo X, in which both diagonals, too, hold every number once.
+/// A puzzle of Solo of `c` columns and `r` rows of sub-blocks with exactly one solution, which is `answer`. A cell holds
+/// the number v as v - 1. With `x` it is one of Solo X, in which both diagonals, too, hold every number once.
 ///
-/// A try of plain Solo fills a grid: a grid with every number once in each row, column and block whose numbers, bands of
+/// A try of plain Solo shuffles a grid that has every number once in each row, column and block. Its numbers, bands of
 /// `c` rows, rows in each band, stacks of `r` columns and columns in each stack are shuffled in turn. A try of Solo X
-/// searches, with the budget, the puzzle whose top row is a shuffled list of the numbers and which has no other given; by
-/// a draw below 4 the first grid found is flipped left to right (1, 3) and top to bottom (2, 3). Where no grid is found
-/// nothing is drawn and the try fails. With all cells given a filling has one solution, which the search finds without a
-/// trial, so the first filling that is there is the last. The givens are then tried once each, in a shuffled order, and
-/// each is taken away where the search still finds one solution. `kept` has an entry for each given that is left, by
-/// place: `Needed` where without it there are two solutions, `Budget` where the search without it gave up.
+/// searches, with the budget, the puzzle whose top row is a shuffled list of the numbers, without other givens. By a draw
+/// below 4 the first grid found is flipped left to right (1, 3) and top to bottom (2, 3). If no grid is found, nothing is
+/// drawn and the try fails. A puzzle that gives all cells has one solution, found without a trial, so the first filling
+/// is taken.
+///
+/// The givens are then tried once each, in a shuffled order. Each is taken away if the search still finds one solution.
+/// `kept` has an entry for each given that is left, by place. It is `Needed` if there are two solutions without the
+/// given, and `Budget` if the search without it gave up.
 ///
 /// The generator is left where the last filling, and then the shuffle of the givens, left it.
 ///
 /// # Errors
 ///
-/// `SizeRange` where `c` or `r` is below 2 or there are more than 31 numbers, tested first; `Exhausted` where no try has a
-/// filling, so at once where there are no tries, and else in Solo X alone; `Memory` where memory was refused.
+/// `SizeRange` if `c` or `r` is below 2 or there are more than 31 numbers, tested first. `Exhausted` if no try has a
+/// filling: at once if there are no tries, and else in Solo X alone. `Memory` if memory was refused.
 pub fn make_solo<G: Rng>(
     alloc: Global,
     c: u8,
@@ -66,7 +68,7 @@ pub fn make_solo<G: Rng>(
     Ok(thin(alloc, puzzle, answer, rng, limits.budget)?)
 }
 
-/// Grids of a size, of Solo X or plain Solo, where a search finds them.
+/// Grids of a size, of plain Solo, or of Solo X if a search finds them.
 #[derive(Drop)]
 struct SoloGrids {
     c: u8,
@@ -76,7 +78,7 @@ struct SoloGrids {
     ghost fits: { IsSoloSize c r },
 }
 
-impl Fillings for SoloGrids {
+impl Attempts for SoloGrids {
     type Filling = Option<Grid>;
 
     ghost tries = { λ t. solo_tries t.c t.r t.x t.limits };

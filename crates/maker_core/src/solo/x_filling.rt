@@ -1,6 +1,6 @@
 //! The filling of Solo X.
 
-ghost use Rattle.std.specs.Prelude.{◌≡◌, ◌*◌, ◌≤◌, true, Some, length, List, ℕ, IfOk, IfSome};
+ghost use Rattle.std.specs.Prelude.{◌≡◌, ◌*◌, ◌≤◌, true, Some, length, IfOk, IfSome};
 ghost use Rattle.gameid_core.specs.Head.{max_numbers};
 ghost use Rattle.solo_core.specs.Solutions.{IsSoloSolution};
 ghost use Rattle.maker_core.specs.SoloOrders.{IsOrder};
@@ -18,10 +18,10 @@ use rand_core::Rng;
 use solo_core::SoloHouses;
 use std::alloc::{AllocError, Global};
 
-/// A grid that keeps to the rules of Solo X, of `c` columns and `r` rows of sub-blocks: the puzzle whose top row is a
-/// shuffled list of the numbers, and which has no other given, is searched with the budget; the first grid found is
-/// flipped left to right, top to bottom, both ways or not at all, as a draw below 4 says. None is given, and nothing drawn
-/// after the shuffle, where no grid was found. A cell holds the number v as v - 1.
+/// A grid of `c` columns and `r` rows of sub-blocks that keeps to the rules of Solo X. The puzzle whose top row is a
+/// shuffled list of the numbers, without other givens, is searched with the budget. The first grid found is flipped left
+/// to right, top to bottom, both ways or not at all, as a draw below 4 says. If no grid was found, none is given, and
+/// nothing drawn after the shuffle. A cell holds the number v as v - 1.
 ///
 /// # Errors
 ///

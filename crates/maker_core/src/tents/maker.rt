@@ -6,14 +6,13 @@ ghost use Rattle.fields_core.specs.TentHouses.{tent_rules};
 ghost use Rattle.maker_core.specs.declared.made.MakeFault.TheVariants.{Exhausted, SizeRange};
 ghost use Rattle.maker_core.specs.Draws.{AllFail, DrawsAll, DrawsFirst};
 ghost use Rattle.maker_core.specs.Made.{HasOne};
-ghost use Rattle.maker_core.specs.TentFilling.{IsSolvedCamp, tents_puzzle_of};
+ghost use Rattle.maker_core.specs.TentFilling.{IsSolvedFilling, tents_puzzle_of};
 ghost use Rattle.maker_core.specs.TentMaking.{IsTentSize, MakesTents, tents_tries};
 
 use crate::made::{Limits, Made, MakeFault};
-use crate::tents::camp::Camp;
-use crate::tents::filling::fill_tents;
+use crate::tents::filling::{TentFilling, fill_tents};
 use crate::thinning::unique::is_unique;
-use crate::tries::{Fillings, first_passing};
+use crate::tries::{Attempts, first_passing};
 use fields_core::TentRules;
 use gameid_core::TentsPuzzle;
 use grid_core::Size;
@@ -27,56 +26,56 @@ fn is_tent_size(size: Size) -> bool
     size.w() >= 4 && size.h() >= 4
 }
 
-/// The puzzle of a camp: its trees, and how many tents each line has.
+/// The puzzle of a filling: its trees, and how many tents each line has.
 #[tactic(auto, using(crate::proofs::TentMakings::tents_is))]
-fn puzzle_of(alloc: Global, size: Size, camp: &Camp) -> Result<TentsPuzzle, AllocError>
+fn puzzle_of(alloc: Global, size: Size, filling: &TentFilling) -> Result<TentsPuzzle, AllocError>
     requires size { IsTentSize size }
-    requires trees { IsGrid (size.w * size.h) 2 camp.now.trees }
-    requires tents { IsGrid (size.w * size.h) 2 camp.now.tents }
-    ensures { IfOk result (λ p. p ≡ tents_puzzle_of size camp.now) }
+    requires trees { IsGrid (size.w * size.h) 2 filling.now.trees }
+    requires tents { IsGrid (size.w * size.h) 2 filling.now.tents }
+    ensures { IfOk result (λ p. p ≡ tents_puzzle_of size filling.now) }
 {
-    TentsPuzzle::of_parts(alloc, size, &camp.trees, &camp.tents)
+    TentsPuzzle::of_parts(alloc, size, &filling.trees, &filling.tents)
 }
 
-/// Camps that are pitched at random.
+/// Fillings of Tents, each from a shuffled list of the cells.
 #[derive(Drop)]
-struct Camps {
+struct TentFillings {
     size: Size,
     limits: Limits,
     ghost fits: { IsTentSize size },
 }
 
-impl Fillings for Camps {
-    type Filling = Camp;
+impl Attempts for TentFillings {
+    type Filling = TentFilling;
 
     ghost tries = { λ t. tents_tries t.size t.limits };
 
-    ghost known = { λ t camp passes. IsGrid (t.size.w * t.size.h) 2 camp.trees
-        × IsGrid (t.size.w * t.size.h) 2 camp.tents × IsSolvedCamp t.size camp
-        × (passes ≡ true → HasOne (tent_rules (tents_puzzle_of t.size camp)) t.limits.budget) };
+    ghost known = { λ t filling passes. IsGrid (t.size.w * t.size.h) 2 filling.trees
+        × IsGrid (t.size.w * t.size.h) 2 filling.tents × IsSolvedFilling t.size filling
+        × (passes ≡ true → HasOne (tent_rules (tents_puzzle_of t.size filling)) t.limits.budget) };
 
-    fn draw<G: Rng>(&self, alloc: Global, rng: &mut G) -> Result<(Camp, bool), AllocError> {
-        let camp = fill_tents(alloc, rng, self.size)?;
-        let rules = TentRules::new(alloc, &puzzle_of(alloc, self.size, &camp)?)?;
+    fn draw<G: Rng>(&self, alloc: Global, rng: &mut G) -> Result<(TentFilling, bool), AllocError> {
+        let filling = fill_tents(alloc, rng, self.size)?;
+        let rules = TentRules::new(alloc, &puzzle_of(alloc, self.size, &filling)?)?;
         let passes = is_unique(alloc, &rules, self.limits.budget)?;
-        Ok((camp, passes))
+        Ok((filling, passes))
     }
 }
 
 /// A puzzle of Tents with exactly one solution, which is `answer`: 1 at a tent and 0 elsewhere.
 ///
-/// Each try fills a grid: the cells, listed by place and shuffled, are taken in turn; while fewer tents stand than a fifth
-/// of the cells, each without a tree that touches no tent and has cells beside it with neither tree nor tent becomes a
-/// tent, and of those cells (up, left, right, down) one that is drawn becomes a tree. The numbers of the puzzle are the
-/// tents of each column and row. The first filling whose puzzle the search finds to have one solution, within the budget
-/// of trials, is the puzzle made. `kept` is empty, since the clues are not thinned.
+/// Each try fills a grid. The cells, listed by place and shuffled, are taken in turn while fewer tents stand than a fifth
+/// of the cells, rounded down. A cell is free if it has neither tree nor tent. One becomes a tent if it has no tree,
+/// touches no tent and has a free cell beside it. Of its free cells (up, left, right, down) one that is drawn becomes a
+/// tree. The numbers of the puzzle are the tents of each column and row. The first filling whose puzzle the search finds
+/// to have one solution, within the budget of trials, is taken. `kept` is empty, since the clues are not thinned.
 ///
 /// The generator is left where the last filling left it.
 ///
 /// # Errors
 ///
-/// `SizeRange` where a side is below 4, tested first; `Exhausted` where no filling of the tries passes, and at once where
-/// there are no tries; `Memory` where memory was refused.
+/// `SizeRange` if a side is below 4, tested first. `Exhausted` if no filling of the tries passes, and at once if there are
+/// no tries. `Memory` if memory was refused.
 pub fn make_tents<G: Rng>(
     alloc: Global,
     size: Size,
@@ -95,12 +94,12 @@ pub fn make_tents<G: Rng>(
     if !is_tent_size(size) {
         return Err(MakeFault::SizeRange);
     }
-    let camps = Camps { size, limits };
-    let camp = first_passing(alloc, &camps, rng, limits.tries)?;
-    let puzzle = puzzle_of(alloc, size, &camp)?;
+    let fillings = TentFillings { size, limits };
+    let filling = first_passing(alloc, &fillings, rng, limits.tries)?;
+    let puzzle = puzzle_of(alloc, size, &filling)?;
     Ok(Made {
         puzzle,
-        answer: camp.tents,
+        answer: filling.tents,
         kept: Vec::new(alloc),
     })
 }

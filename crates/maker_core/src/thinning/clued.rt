@@ -2,17 +2,17 @@
 
 ghost use Rattle.std.specs.Prelude.{◌≡◌, ◌<◌, Some, IfOk, IsTrue, ℕ};
 ghost use Rattle.engine_core.specs.Puzzle.{Puzzle};
-ghost use Rattle.maker_core.specs.Thinning.{Game, IsGame, has_clue};
+ghost use Rattle.maker_core.specs.Thinning.{CluedGame, IsGame, has_clue};
 
 use std::alloc::{AllocError, Global};
 
 /// A puzzle with clues in cells, which can be taken away and put back.
 pub(crate) trait Clued: Drop {
-    /// What a search goes by: rules, which is asked where a search is made.
+    /// What a search goes by. That these are rules is asked where one is made.
     type Search: Drop;
 
     // What the clues are, and what the puzzle means to a search.
-    ghost game: { Game Self };
+    ghost game: { CluedGame Self };
 
     // What those rules mean.
     ghost meaning: { Self.Search → Puzzle };

@@ -1,11 +1,11 @@
 //! Taking clues away while the puzzle keeps its one solution.
 
-ghost use Rattle.std.specs.Prelude.{◌≡◌, ◌<◌, [], IfOk, OnOk, IsTrue, IsPermutation};
+ghost use Rattle.std.specs.Prelude.{◌≡◌, IfOk, OnOk, IsTrue, IsPermutation};
 ghost use Rattle.engine_core.specs.Puzzle.{FitsIn, needs_of};
 ghost use Rattle.maker_core.specs.Thinning.{has_clue, clue_places, shuffled_clues, stream_after_clues, IsThinnedFrom, IsOnly, HasReasons};
 ghost use Rattle.maker_core.specs.Draws.{AreDrawnBy};
 ghost use Rattle.maker_core.specs.Made.{HasOne, TellsOne};
-ghost use Rattle.maker_core.specs.ThinningSteps.{IsLeft, IsAsked, IsThinning, reasons_from};
+ghost use Rattle.maker_core.specs.ThinningSteps.{IsLeft, IsAsked, reasons_from};
 
 use crate::draws::shuffle;
 use crate::made::{Kept, Made, Why};
@@ -15,8 +15,8 @@ use grid_core::Grid;
 use rand_core::Rng;
 use std::alloc::{AllocError, Global};
 
-/// Takes the clues of a puzzle with all clues away, one after the other in an order that is drawn, and leaves those
-/// without which the search finds more solutions than the answer or gives up.
+/// Tries the clues of a puzzle with all clues once each, in an order that is drawn, and takes away those that it can do
+/// without. A clue is left if without it the search finds more solutions than the answer or gives up.
 ///
 /// # Errors
 ///
@@ -88,7 +88,7 @@ fn shuffled_clues<P: Clued, G: Rng>(
     Ok(order)
 }
 
-/// Takes a clue away for good where the puzzle without it has one solution still; else leaves it and says why.
+/// Takes a clue away for good if the puzzle without it still has one solution; else leaves it and says why.
 fn try_clue<P: Clued>(
     alloc: Global,
     puzzle: &mut P,

@@ -1,5 +1,5 @@
 use Rattle.maker_core.proofs.Common.{◌∙◌, ap, subst, light_rules, IsLightSolution, rule-from-test, test-from-rule}
-use Rattle.maker_core.proofs.Common.{light_game, Lighting, light_puzzle_of, IsThinnedFrom, stream_after_clues}
+use Rattle.maker_core.proofs.Common.{light_game, LightFilling, light_puzzle_of, IsThinnedFrom, stream_after_clues}
 use Rattle.maker_core.proofs.LightMakings.{size_is}
 use Rattle.maker_core.proofs.OnlySolutions.{only_is}
 use Rattle.maker_core.proofs.FirstTries.{draws_first}
@@ -16,7 +16,7 @@ returns-clause-made g c =
       k = first.k;
       first = first.first;
       numbers = subst (IsThinnedFrom light_game p) (c.in_ok-puzzle.ensures ∙ ap (light_puzzle_of a.size) first.filled) thinned.within;
-      filled = given ∙ ap (λ (f : Lighting). f.bulbs) first.filled;
+      filled = given ∙ ap (λ (f : LightFilling). f.bulbs) first.filled;
       size_asked = thinned.within.frame.size ∙ size_is a.size c.in_ok-filling.filling c.in_ok-puzzle.puzzle c.in_ok-puzzle.ensures;
       only = rw given (only_is (light_rules p) (IsLightSolution p) (λ h s. s.grid)
           (λ h grid. (rule-from-test p h grid, test-from-rule p h grid)) _ thinned.only);

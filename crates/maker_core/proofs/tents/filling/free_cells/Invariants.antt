@@ -2,4 +2,4 @@ use Rattle.maker_core.proofs.Common.{◌≡◌, filter, steps, is_free}
 use Rattle.maker_core.proofs.tents.filling.free_cells.Given as goal
 
 abbrev pub invariant-loop-direction : goal.invariant-loop-direction
-invariant-loop-direction l = l.places.items ≡ filter (is_free l.fn.camp) (steps l.fn.size l.fn.place l.direction)
+invariant-loop-direction l = l.places.items ≡ filter (is_free l.fn.filling) (steps l.fn.size l.fn.place l.direction)

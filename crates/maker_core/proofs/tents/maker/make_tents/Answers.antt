@@ -1,4 +1,4 @@
-use Rattle.maker_core.proofs.Common.{refl, sym, ◌∙◌, ap, subst, Tents, tent_rules, HasOne, solution-from-camp, camp-from-solution, Camp, tents_puzzle_of}
+use Rattle.maker_core.proofs.Common.{refl, sym, ◌∙◌, ap, subst, Tents, tent_rules, HasOne, solution-from-camp, camp-from-solution, TentFilling, tents_puzzle_of}
 use Rattle.maker_core.proofs.TentMakings.{tents_size, tents_only}
 use Rattle.maker_core.proofs.FirstTries.{draws_first}
 use Rattle.maker_core.proofs.tents.maker.make_tents.Goals as goal
@@ -6,21 +6,21 @@ use Rattle.maker_core.proofs.tents.maker.make_tents.Goals as goal
 pub returns-clause-made : goal.returns-clause-made
 returns-clause-made g c =
     let a = c.args in
-    let made = c.in_ok-camp.ensures in
+    let made = c.in_ok-filling.ensures in
     let puzzle = c.in_ok-puzzle.ensures in
-    let only = tents_only a.size c.in_ok-camp.camp c.in_ok-puzzle.puzzle puzzle made.known.2
+    let only = tents_only a.size c.in_ok-filling.filling c.in_ok-puzzle.puzzle puzzle made.known.2
     (λ q h grid. (solution-from-camp q h grid, camp-from-solution q h grid)) a.limits.budget
     (subst (λ (p : Tents). HasOne (tent_rules p) a.limits.budget) (sym puzzle) (made.known.3 refl)) in
     record {
       k = made.first.k;
       first = made.first.first;
       clues = puzzle ∙ ap (tents_puzzle_of a.size) made.first.filled;
-      filled = ap (λ (camp : Camp). camp.tents) made.first.filled;
-      size_asked = tents_size a.size c.in_ok-camp.camp c.in_ok-puzzle.puzzle puzzle;
+      filled = ap (λ (filling : TentFilling). filling.tents) made.first.filled;
+      size_asked = tents_size a.size c.in_ok-filling.filling c.in_ok-puzzle.puzzle puzzle;
       only = only.0;
       verdict = only.1;
       unthinned = c.new.ensures.items;
     }
 
 pub returns-clause-drawn : goal.returns-clause-drawn
-returns-clause-drawn g c = draws_first _ _ _ _ _ c.in_ok-camp.ensures.first refl
+returns-clause-drawn g c = draws_first _ _ _ _ _ c.in_ok-filling.ensures.first refl
