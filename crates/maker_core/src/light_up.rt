@@ -1,5 +1,4 @@
 //! Making puzzles of Light Up.
 
-pub(crate) mod clues;
 pub(crate) mod filling;
 pub(crate) mod maker;

@@ -1,6 +1,5 @@
 //! Making puzzles of Solo.
 
-pub(crate) mod clues;
 pub(crate) mod filling;
 pub(crate) mod flip;
 pub(crate) mod maker;
