@@ -1,6 +1,5 @@
 -- What taking a cell does, as the definitions say it.
-use Rattle.maker_core.proofs.Common.{cases_eq}
-use Rattle.maker_core.proofs.Common.{step-keep, step-none, step-skip, replicate, add-one, ◌≡◌, ℕ, ◌+◌, ◌*◌, ◌<◌, ◌≤◌, true, List, length, refl, sym}
+use Rattle.maker_core.proofs.Common.{cases_eq, step-keep, step-none, step-skip, replicate, add-one, ◌≡◌, ℕ, ◌+◌, ◌*◌, ◌<◌, ◌≤◌, true, List, length, refl, sym}
 use Rattle.maker_core.proofs.Common.{ap, subst, ◌∙◌, arith, slice_index, slice_set, filter, Stream, Extent, steps, has_place, has_place-here}
 use Rattle.maker_core.proofs.Common.{place-filter, beside-in, filter-few, steps-few, TentFilling, shuffled_order, no_tents, is_free, free_cells_beside}
 use Rattle.maker_core.proofs.Common.{may_have_tent, take_cell, tents_after, tent_filling, IsPlaced}

@@ -31,8 +31,7 @@ free_cells_beside size filling c = filter (is_free filling) (beside size c)
 abbrev pub touches_tent : Extent → List ℕ → ℕ → Bool
 touches_tent size tents c = any_below (λ d. touches size c d && tent tents d) (size.w * size.h)
 
--- Fewer tents stand than a fifth of the cells, rounded down. The cell has no tree, touches no tent and has free cells
--- beside it.
+-- fewer tents stand than a fifth of the cells, rounded down; the cell has no tree, touches no tent, has free cells beside
 abbrev pub may_have_tent : Extent → TentFilling → ℕ → Bool
 may_have_tent size filling c =
     nat_lt filling.placed (size.w * size.h / 5)
