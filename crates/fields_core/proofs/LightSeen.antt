@@ -1,5 +1,5 @@
 -- A cell sees a bulb exactly if a walk from it along its row or its column comes to one before a black cell.
-use Rattle.std.proofs.Common.{◌≡◌, ◌≢◌, ℕ, ◌+◌, ◌-◌, ◌*◌, ◌/◌, ◌%◌, ◌<◌, ◌≤◌, Bool, true, false, not, ◌&&◌, ◌||◌, eqb, List, slice_index, sym, ap, ◌∙◌, inl, inr, arith}
+use Rattle.std.proofs.Common.{◌≡◌, ◌≢◌, ◌⊎◌, ℕ, ◌+◌, ◌-◌, ◌*◌, ◌/◌, ◌%◌, ◌<◌, ◌≤◌, Bool, true, false, not, ◌&&◌, ◌||◌, eqb, List, slice_index, sym, ap, ◌∙◌, inl, inr, arith}
 use Rattle.std.proofs.lemmas.Bool.{cases_lt, or_left, or_right, or_cases, and_from, and_parts, eq-eqb, ne_eqb, not-true, true≢false, false_from_ne_true}
 use Rattle.std.proofs.Math.Nat.{mod-lt}
 use Rattle.std.proofs.lemmas.Nat.{mul-add-lt}
@@ -12,35 +12,13 @@ use Rattle.fields_core.proofs.LightHouseLaws.{clear-at, clear-from, mul-inj, row
 use Rattle.fields_core.proofs.RunLemmas.{clear-same, row-cell-joined, column-cell-joined}
 use Rattle.fields_core.proofs.TentBeside.{row-in}
 
--- ---- walks from the number `at`
-module _ (white bulb : ℕ → Bool) (at : ℕ) where
-  pub after-black : (high k : ℕ) → at < k → ((i : ℕ) → at < i → i < k → bulb i ≡ false) → white k ≡ false → Shines white bulb at (at + 1) high false
-  after-black high k past dark off = λ i low lt joined. elim (cases_lt i k) [
-    | inl below ↦ dark i (omega arith) below
-    | inr above ↦ absurd (true≢false (sym (clear-at white at i k joined (omega arith) (omega arith)) ∙ off))
-  ]
+-- ---- a walk from the number `at`, down or up, that has passed as many numbers as from low to next, and is at k
+module _ (white bulb : ℕ → Bool) (at low high next k : ℕ) (from : low ≤ next) (to : next < high) (side : ((high ≡ at) × (k + next + 1 ≡ low + at)) ⊎ ((low ≡ at + 1) × (k ≡ next))) where
+  pub walk-black : ((i : ℕ) → low ≤ i → i < high → at + low ≤ i + next → i + low ≤ at + next → bulb i ≡ false) → white k ≡ false → Shines white bulb at low high false
+  walk-black dark off = λ i low_in lt joined. grind (arith, common_steps, clear-at white at i k joined, dark i, cases_lt)
 
-  pub after-bulb : (high k : ℕ) → at < k → k < high → ((i : ℕ) → at ≤ i → i < k → white i ≡ true) → white k ≡ true → bulb k ≡ true → Shines white bulb at (at + 1) high true
-  after-bulb high k past lt pass here on = grind (arith, common_steps, clear-from, cases_lt)
-
-  pub before-black : (k : ℕ) → k < at → ((i : ℕ) → k < i → i < at → bulb i ≡ false) → white k ≡ false → Shines white bulb at 0 at false
-  before-black k past dark off = λ i low lt joined. elim (cases_lt k i) [
-    | inl above ↦ dark i above lt
-    | inr below ↦ absurd (true≢false (sym (clear-at white at i k joined (omega arith) (omega arith)) ∙ off))
-  ]
-
-  pub before-bulb : (k : ℕ) → k < at → ((i : ℕ) → k < i → i ≤ at → white i ≡ true) → white k ≡ true → bulb k ≡ true → Shines white bulb at 0 at true
-  before-bulb k past pass here on = grind (arith, common_steps, clear-from, cases_lt)
-
-  pub along-before : (len : ℕ) → at < len → Shines white bulb at 0 at true → ShinesAlong white bulb at len true
-  along-before len lt s = (s.0, omega (arith, s.2), (λ e. omega (arith, s.2)), s.3, s.4)
-
-  pub along-after : (len : ℕ) (b : Bool) → Shines white bulb at 0 at false → Shines white bulb at (at + 1) len b → ShinesAlong white bulb at len b
-  along-after len true none s = (s.0, s.2, (λ e. omega (arith, s.1)), s.3, s.4)
-  along-after len false none s = λ i lt ne joined. elim (cases_lt i at) [
-    | inl before ↦ none i (omega arith) before joined
-    | inr after ↦ s i (omega arith) lt joined
-  ]
+  pub walk-bulb : ((i : ℕ) → low ≤ i → i < high → at + low ≤ i + next → i + low ≤ at + next → white i ≡ true) → white at ≡ true → white k ≡ true → bulb k ≡ true → Shines white bulb at low high true
+  walk-bulb pass start here on = (k, grind arith, grind arith, clear-from white at k (λ i low_in high_in. grind (arith, common_steps, pass i, cases_lt)), on)
 
 -- ---- the line of a cell
 whole : (c w : ℕ) → c ≡ c / w * w + c % w

@@ -1,7 +1,7 @@
 //! Which bulbs a cell sees, and how many stand beside it.
 #![tactic(auto, using(crate::proofs::LawSets::light_sight_laws))]
 
-ghost use Rattle.std.specs.Prelude.{◌≡◌, ℕ, ◌+◌, ◌*◌, ◌<◌, true};
+ghost use Rattle.std.specs.Prelude.{◌≡◌, ◌⊎◌, ℕ, ◌+◌, ◌*◌, ◌<◌, ◌≤◌, true};
 ghost use Rattle.grid_core.specs.Grids.{IsGrid};
 ghost use Rattle.fields_core.specs.Light.{light_cells, white, bulb, joined_in_row, joined_in_column, sees_bulb, bulbs_beside};
 ghost use Rattle.fields_core.specs.Runs.{Shines, ShinesAlong, SeesAlong};
@@ -19,46 +19,31 @@ struct Line {
     len: usize,
 }
 
-/// Whether a bulb stands before the white cell of number `at` along the line, with only white cells between.
-fn shines_before(puzzle: &LightPuzzle, grid: &Grid, line: Line, at: usize) -> bool
+/// Whether a bulb of the line shines on the white cell of number `at` from one side, with only white cells between. The
+/// side has the numbers from `low` to the one before `high`, and the nearest comes first.
+fn shines(puzzle: &LightPuzzle, grid: &Grid, line: Line, at: usize, low: usize, high: usize) -> bool
     requires fits { IsGrid (light_cells puzzle.now) 2 grid.now }
     requires within { (i : ℕ) → i < line.len
         → line.first + i * line.stride < light_cells puzzle.now }
     requires at_in { at < line.len }
+    requires high_in { high ≤ line.len }
+    requires beside { (high ≡ at) ⊎ (low ≡ at + 1) }
     requires white { white puzzle.now (line.first + at * line.stride) ≡ true }
     ensures { Shines (λ i. white puzzle.now (line.first + i * line.stride))
-        (λ i. bulb grid.now (line.first + i * line.stride)) at 0 at result }
+        (λ i. bulb grid.now (line.first + i * line.stride)) at low high result }
 {
     let _size = puzzle.size();
-    for passed in 0..at {
-        let before = along(line.first, line.stride, at - 1 - passed);
-        if !is_white(puzzle, before) {
+    for next in low..high {
+        let number = if at < low {
+            next
+        } else {
+            low + (high - 1 - next)
+        };
+        let place = along(line.first, line.stride, number);
+        if !is_white(puzzle, place) {
             return false;
         }
-        if grid.get(before) == 1 {
-            return true;
-        }
-    }
-    false
-}
-
-/// Whether a bulb stands after the white cell of number `at` along the line, with only white cells between.
-fn shines_after(puzzle: &LightPuzzle, grid: &Grid, line: Line, at: usize) -> bool
-    requires fits { IsGrid (light_cells puzzle.now) 2 grid.now }
-    requires within { (i : ℕ) → i < line.len
-        → line.first + i * line.stride < light_cells puzzle.now }
-    requires at_in { at < line.len }
-    requires white { white puzzle.now (line.first + at * line.stride) ≡ true }
-    ensures { Shines (λ i. white puzzle.now (line.first + i * line.stride))
-        (λ i. bulb grid.now (line.first + i * line.stride)) at (at + 1) line.len result }
-{
-    let _size = puzzle.size();
-    for next in at + 1..line.len {
-        let after = along(line.first, line.stride, next);
-        if !is_white(puzzle, after) {
-            return false;
-        }
-        if grid.get(after) == 1 {
+        if grid.get(place) == 1 {
             return true;
         }
     }
@@ -75,7 +60,7 @@ fn shines_along(puzzle: &LightPuzzle, grid: &Grid, line: Line, at: usize) -> boo
     ensures { ShinesAlong (λ i. white puzzle.now (line.first + i * line.stride))
         (λ i. bulb grid.now (line.first + i * line.stride)) at line.len result }
 {
-    shines_before(puzzle, grid, line, at) || shines_after(puzzle, grid, line, at)
+    shines(puzzle, grid, line, at, 0, at) || shines(puzzle, grid, line, at, at + 1, line.len)
 }
 
 /// Whether the white cell sees a bulb of its row.

@@ -1,0 +1,9 @@
+use Rattle.std.proofs.Common.{◌≡◌, ℕ, ◌+◌, ◌*◌, ◌<◌, ◌≤◌, true, false}
+use Rattle.fields_core.specs.Light.{white, bulb}
+use Rattle.fields_core.proofs.light_up.sight.shines.Given as goal
+
+abbrev pub invariant-loop-next : goal.invariant-loop-next
+invariant-loop-next l = record {
+  pass : (i : ℕ) → l.low ≤ i → i < l.high → l.at + l.low ≤ i + l.next → i + l.low ≤ l.at + l.next → white l.puzzle (l.line.first + i * l.line.stride) ≡ true;
+  dark : (i : ℕ) → l.low ≤ i → i < l.high → l.at + l.low ≤ i + l.next → i + l.low ≤ l.at + l.next → bulb l.grid (l.line.first + i * l.line.stride) ≡ false;
+}
