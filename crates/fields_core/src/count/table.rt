@@ -14,7 +14,7 @@ ghost use Rattle.fields_core.specs.Tallies.{AreTalliesOf, open_tally, tally_at};
 ghost use Rattle.fields_core.specs.CountLists.{bounded, bounds_of};
 
 use crate::count::list::{Bounds, CountList};
-use crate::count::tally::Tally;
+use crate::count::tally::{BOTH, Tally};
 use crate::count::visit::{keep_cells, visit_house};
 use engine_core::{Houses, gather, mark_if};
 use grid_core::Board;
@@ -205,8 +205,8 @@ impl CountTable {
         self.count_open(tallies);
         for place in 0..self.houses.cells() {
             let bits = board.bits(place);
-            if bits != 3 {
-                self.change(place, 3, bits, tallies);
+            if bits != BOTH {
+                self.change(place, BOTH, bits, tallies);
             }
         }
     }

@@ -9,6 +9,9 @@ use crate::count::list::Bounds;
 use engine_core::has_bit;
 use grid_core::Board;
 
+/// The set with both values, as bits.
+pub(crate) const BOTH: u32 = 3;
+
 /// How many of a house's cells have no 0, how many have a 1, and how many have neither.
 #[derive(Clone, Copy)]
 pub struct Tally {
@@ -67,7 +70,7 @@ impl Tally {
         if self.has_no_filling(bounds) {
             return 0;
         }
-        if bits != 3 {
+        if bits != BOTH {
             return bits;
         }
         number(self.may != bounds.least) + 2 * number(self.must != bounds.most)

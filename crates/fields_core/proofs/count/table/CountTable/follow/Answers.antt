@@ -5,7 +5,7 @@ use Rattle.fields_core.specs.Tallies.{AreTallied}
 use Rattle.fields_core.proofs.CountListLemmas.{counted-table}
 use Rattle.fields_core.proofs.CountFollow.{board-within, bits-are, unread-tallied, read-change, read-both, read-whole}
 use Rattle.fields_core.proofs.count.table.CountTable.follow.Goals as goal
-use Rattle.fields_core.proofs.count.table.CountTable.follow.Goals.{then-bits-ne3, else-bits-ne3}
+use Rattle.fields_core.proofs.count.table.CountTable.follow.Goals.{then-bits-ne-BOTH, else-bits-ne-BOTH}
 
 pub loop-place-init : goal.loop-place-init
 loop-place-init c = (
@@ -31,14 +31,14 @@ loop-place-preserved c =
     omega (arith, c.loop-place-test.true, c.cells-place-end.ensures, ap (λ (t : CountedHouses). t.cells) c.self.view_is) in
     let within = board-within c.args.board.now c.args.self.now.cells c.requires.cells c.requires.values in
     let bits = bits-are c.args.board.now c.loop-place.place c.bits-bits.result c.requires.values c.bits-bits.ensures.small c.bits-bits.ensures.same in
-    elim c.if-bits-ne3.branch [
-      | then-bits-ne3 w ↦ rw w.tallies-is (
+    elim c.if-bits-ne-BOTH.branch [
+      | then-bits-ne-BOTH w ↦ rw w.tallies-is (
         w.change.ensures.tallied _ _ c.loop-place.invariant.0 (read-change c.args.self.now.cells (has c.args.board.now) c.loop-place.place c.bits-bits.result lt within bits),
         w.change.ensures.as_many ∙ c.loop-place.invariant.1,
       )
-      | else-bits-ne3 w ↦ rw w.tallies-is (
+      | else-bits-ne-BOTH w ↦ rw w.tallies-is (
         subst (AreTallied c.args.self.now.cells c.args.self.now.houses c.loop-place.tallies)
-            (read-both c.args.self.now.cells (has c.args.board.now) c.loop-place.place lt within (rw w.if-bits-ne3.false at bits)) c.loop-place.invariant.0,
+            (read-both c.args.self.now.cells (has c.args.board.now) c.loop-place.place lt within (rw w.if-bits-ne-BOTH.false at bits)) c.loop-place.invariant.0,
         c.loop-place.invariant.1,
       )
     ]
