@@ -4,7 +4,7 @@ use Rattle.std.proofs.lemmas.Bool.{and_from, and_parts, true≢false, false_from
 use Rattle.grid_core.specs.Candidates.{all_below}
 use Rattle.grid_core.proofs.CandidateLemmas.{all_below-at}
 use Rattle.gameid_core.specs.Puzzles.{Light}
-use Rattle.fields_core.specs.Firsts.{IsFirst}
+use Rattle.fields_core.specs.FirstWrong.{IsFirstWrong}
 use Rattle.fields_core.specs.Light.{light_cells, black_right, number_right, bulb_right, lit_right, solves_lights}
 use Rattle.fields_core.specs.LightFaults.{IsLightFault}
 use Rattle.fields_core.specs.declared.light_up.fault.LightFault.{LightFault}
@@ -26,7 +26,7 @@ pub lit-parts : (p : Light) (g : List ℕ) → solves_lights p g ≡ true → Li
 unfolding solves_lights
 lit-parts p g on = grind (arith, common_steps, and_parts)
 
-pub first-breaks : (right : ℕ → Bool) (n c : ℕ) → IsFirst right n c → all_below right n ≡ true → ⊥
+pub first-breaks : (right : ℕ → Bool) (n c : ℕ) → IsFirstWrong right n c → all_below right n ≡ true → ⊥
 first-breaks right n c first on = true≢false (sym (all_below-at right n c on first.below) ∙ first.wrong)
 
 pub fault-not : (p : Light) (g : List ℕ) (fault : LightFault) → IsLightFault p g (Some fault) → false ≡ solves_lights p g

@@ -3,12 +3,12 @@ use Rattle.std.specs.Prelude.{◌≡◌, ℕ, ◌<◌, Bool, true, false, Option
 use Rattle.grid_core.specs.Candidates.{all_below}
 
 -- the least number below n at which the test fails
-pub record IsFirst (right : ℕ → Bool) (n c : ℕ) : Type 0 where
+pub record IsFirstWrong (right : ℕ → Bool) (n c : ℕ) : Type 0 where
   pub below : c < n
   pub wrong : right c ≡ false
   pub before : (d : ℕ) → d < c → right d ≡ true
 
 -- the answer is the least number below n at which the test fails, or none
-abbrev pub IsFirstWrong : (ℕ → Bool) → ℕ → Option ℕ → Type 0
-IsFirstWrong right n None = all_below right n ≡ true
-IsFirstWrong right n (Some c) = IsFirst right n c
+abbrev pub IsFirstWrongOrNone : (ℕ → Bool) → ℕ → Option ℕ → Type 0
+IsFirstWrongOrNone right n None = all_below right n ≡ true
+IsFirstWrongOrNone right n (Some c) = IsFirstWrong right n c

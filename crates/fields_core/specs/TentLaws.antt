@@ -5,7 +5,7 @@ use Rattle.fields_core.specs.CountLaws.{count-lawful}
 use Rattle.fields_core.specs.Tents.{tent_cells, solves_tents}
 use Rattle.fields_core.specs.TentHouses.{tent_houses, is_barred, tent_rules}
 use Rattle.fields_core.specs.Lawful.{LawfulTents}
-use Rattle.fields_core.specs.TentScratches.{ServesTents}
+use Rattle.fields_core.specs.PairingScratches.{ServesTents}
 use Rattle.fields_core.specs.declared.tents.rules.TentWork.{TentWork}
 
 pub tent-lawful : (r : LawfulTents) → IsLawful (tent_rules r.tents)

@@ -8,7 +8,7 @@ use Rattle.puzzles.specs.Common.{IsGrid, IsSolo, Light, Pattern, Solo, Tents, li
 use Rattle.puzzles.specs.Common.{has_runs-from, has_runs-is, line_of_solution, solution_from_lines, AllStand, FallsFirst, Stands, IsFirstFault, Repeats}
 use Rattle.puzzles.specs.Common.{RepeatsFirst, fault_of, given_from_test, test_from_given, test_from_rule, given_stands}
 use Rattle.grid_core.proofs.CandidateLemmas.{all_below-at}
-use Rattle.fields_core.specs.Firsts.{IsFirst, IsFirstWrong}
+use Rattle.fields_core.specs.FirstWrong.{IsFirstWrong, IsFirstWrongOrNone}
 use Rattle.fields_core.specs.Light.{light_cells, black_right, number_right, bulb_right, lit_right}
 use Rattle.fields_core.specs.Tents.{tent_cells, tree_right, touch_right, column_right, row_right, can_be_paired}
 use Rattle.fields_core.specs.declared.light_up.fault.LightFault.{LightFault}
@@ -33,12 +33,12 @@ use Rattle.solo_core.specs.declared.houses.house.SoloHouse.TheVariants.{Row, Col
 use Rattle.solo_core.proofs.RepeatLemmas.{first_fault, first_house, no_test, solved}
 
 -- ---- the first number at which a test fails
-pub first_of : (right : ℕ → Bool) (n : ℕ) → (o : Option ℕ) × IsFirstWrong right n o
+pub first_of : (right : ℕ → Bool) (n : ℕ) → (o : Option ℕ) × IsFirstWrongOrNone right n o
 unfolding all_below
 first_of right zero = (None, refl)
 first_of right (suc n) = by (first_of right n).0 (first_of right n).1 (right n) refl
   where
-    by : (o : Option ℕ) → IsFirstWrong right n o → (b : Bool) → right n ≡ b → (o : Option ℕ) × IsFirstWrong right (suc n) o
+    by : (o : Option ℕ) → IsFirstWrongOrNone right n o → (b : Bool) → right n ≡ b → (o : Option ℕ) × IsFirstWrongOrNone right (suc n) o
     by (Some c) first b is = (Some c, record { below = let low = first.below in omega arith; wrong = first.wrong; before = first.before })
     by None all true is = (None, and_from (all_below right n) (right n) all is)
     by None all false is = (Some n, record { below = omega arith; wrong = is; before = λ d lt. all_below-at right n d all lt })
@@ -48,7 +48,7 @@ pub least_once : (right wrong : ℕ → Type 0) → ((n : ℕ) → right n → w
     → ((i : ℕ) → i < k → right i) → j ≡ k
 least_once right wrong h1 j k h2 h3 h4 h5 = grind (arith, common_steps, cases_lt)
 
-first_once : (right : ℕ → Bool) (n c d : ℕ) → IsFirst right n c → IsFirst right n d → c ≡ d
+first_once : (right : ℕ → Bool) (n c d : ℕ) → IsFirstWrong right n c → IsFirstWrong right n d → c ≡ d
 first_once right n c d x y =
     least_once (λ k. right k ≡ true) (λ k. right k ≡ false) (λ k on off. true≢false (sym on ∙ off)) c d x.wrong y.wrong x.before y.before
 
@@ -60,13 +60,13 @@ record Test (F : Type 0) : Type 0 where
 
 abbrev IsFirstOf : {F : Type 0} → List (Test F) → Option F → Option F → Type 0
 IsFirstOf [] end o = o ≡ end
-IsFirstOf (t ∷ rest) end o = ((c : ℕ) × (o ≡ Some (t.fault c)) × IsFirst t.right t.count c) ⊎ ((all_below t.right t.count ≡ true) × IsFirstOf rest end o)
+IsFirstOf (t ∷ rest) end o = ((c : ℕ) × (o ≡ Some (t.fault c)) × IsFirstWrong t.right t.count c) ⊎ ((all_below t.right t.count ≡ true) × IsFirstOf rest end o)
 
 some_of : {F : Type 0} (tests : List (Test F)) (end : Option F) → (o : Option F) × IsFirstOf tests end o
 some_of [] end = (end, refl)
 some_of {F = F} (t ∷ rest) end = by (first_of t.right t.count) (some_of rest end)
   where
-    by : (o : Option ℕ) × IsFirstWrong t.right t.count o → (o : Option F) × IsFirstOf rest end o → (o : Option F) × IsFirstOf (t ∷ rest) end o
+    by : (o : Option ℕ) × IsFirstWrongOrNone t.right t.count o → (o : Option F) × IsFirstOf rest end o → (o : Option F) × IsFirstOf (t ∷ rest) end o
     by (Some c, first) later = (Some (t.fault c), inl (c, refl, first))
     by (None, all) later = (later.0, inr (all, later.1))
 
@@ -154,13 +154,13 @@ module _ (p : Pattern) (g : List ℕ) where
   unfolding right_line
   pattern_some grid = by (first_of right_line (lines_of p.size))
     where
-      first_wrong : (line : ℕ) → IsFirst right_line (lines_of p.size) line → IsFirstWrongLine p g line
+      first_wrong : (line : ℕ) → IsFirstWrong right_line (lines_of p.size) line → IsFirstWrongLine p g line
       first_wrong line first = record {
         wrong = λ has. true≢false (sym (has_runs-from (clue_of p line) (line_numbers p.size g line) has) ∙ first.wrong);
         before = λ earlier lt. has_runs-is (clue_of p earlier) (line_numbers p.size g earlier) (first.before earlier lt);
       }
 
-      by : (o : Option ℕ) × IsFirstWrong right_line (lines_of p.size) o → (fault : Option PatternFault) × IsCheck p g fault
+      by : (o : Option ℕ) × IsFirstWrongOrNone right_line (lines_of p.size) o → (fault : Option PatternFault) × IsCheck p g fault
       by (None, all) = (
         None,
         solution_from_lines p g grid (λ line lt. has_runs-is (clue_of p line) (line_numbers p.size g line) (all_below-at right_line (lines_of p.size) line all lt)),
@@ -200,7 +200,7 @@ module _ (p : Solo) (ok : IsSolo p) (g : List ℕ) where
   unfolding fine house_at
   solo_some grid = by (first_of (given_stands p g) (solo_cells p)) (first_of fine (length (houses_of p)))
     where
-      by : (o : Option ℕ) × IsFirstWrong (given_stands p g) (solo_cells p) o → (o : Option ℕ) × IsFirstWrong fine (length (houses_of p)) o
+      by : (o : Option ℕ) × IsFirstWrongOrNone (given_stands p g) (solo_cells p) o → (o : Option ℕ) × IsFirstWrongOrNone fine (length (houses_of p)) o
           → (fault : Option SoloFault) × IsFirstFault p g fault
       by (Some c, first) house = (
         Some (solo.Given c),

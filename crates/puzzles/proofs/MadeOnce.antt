@@ -21,7 +21,7 @@ use Rattle.gameid_core.proofs.RunsFit.{runs_lawful}
 use Rattle.gameid_core.proofs.TentsWritten.{tents_is_written}
 use Rattle.engine_core.specs.Verdict.{Outcome.OneGrid}
 use Rattle.engine_core.proofs.VerdictLemmas.{outcome-true}
-use Rattle.fields_core.specs.Firsts.{IsFirstWrong}
+use Rattle.fields_core.specs.FirstWrong.{IsFirstWrongOrNone}
 use Rattle.fields_core.proofs.TentRuleLemmas as tents
 use Rattle.maker_core.specs.Draws.{HasWords, IsFirstPassing, Making, NonePasses, filling_at, stream_after}
 use Rattle.maker_core.specs.Made.{HasOne, IsOnlySolution, TellsOne, is_one}
@@ -62,7 +62,7 @@ module _ {A : Type 0} (make : Making A) (passes : A → Bool) (s : Stream) (trie
   pub first_or_none : ((k : ℕ) × IsFirstPassing make passes s tries k) ⊎ NonePasses make passes s tries
   first_or_none = by (first_of (λ j. not (passes (filling_at make j s))) tries)
     where
-      by : (o : Option ℕ) × IsFirstWrong (λ j. not (passes (filling_at make j s))) tries o → ((k : ℕ) × IsFirstPassing make passes s tries k) ⊎ NonePasses make passes s tries
+      by : (o : Option ℕ) × IsFirstWrongOrNone (λ j. not (passes (filling_at make j s))) tries o → ((k : ℕ) × IsFirstPassing make passes s tries k) ⊎ NonePasses make passes s tries
       by (Some k, first) = inl (
         k,
         record {

@@ -6,6 +6,10 @@ ghost use Rattle.gameid_core.specs.Puzzles.{IsLight};
 ghost use Rattle.fields_core.specs.Light.{light_cells, white};
 
 use gameid_core::{LightCell, LightPuzzle};
+use grid_core::MAX_SIDE;
+
+/// The most cells of a row or a column.
+pub(crate) const LONGEST: usize = MAX_SIDE as usize;
 
 /// Whether the cell is white.
 pub fn is_white(puzzle: &LightPuzzle, place: usize) -> bool

@@ -9,19 +9,19 @@ ghost use Rattle.fields_core.specs.LightHouses.{lit_house};
 ghost use Rattle.fields_core.specs.LightRuns.{AreRowsListed, AreColumnsListed, IsRowsAt, IsColumnsAt};
 
 use crate::count::list::CountList;
-use crate::light_up::cells::{cells, is_white, next_column};
+use crate::light_up::cells::{LONGEST, cells, is_white, next_column};
 use crate::light_up::run::{begins_in_column, begins_in_row};
 use gameid_core::LightPuzzle;
 use std::alloc::AllocError;
 
 /// While the cells are taken by place: the house of the run of a row that began last, and that of the next to begin.
 #[derive(Clone, Copy)]
-struct Rows {
+struct RowRuns {
     last: usize,
     next: usize,
 }
 
-impl Rows {
+impl RowRuns {
     /// Goes on to the white cell, which is in column `x`.
     fn pass(&mut self, puzzle: &LightPuzzle, x: usize, place: usize)
         requires place_in { place < light_cells puzzle.now }
@@ -43,12 +43,12 @@ impl Rows {
 /// While the cells are taken by place: for each column the house of the run that began last in it, and the house of the
 /// next run of a column to begin.
 #[derive(Drop)]
-struct Columns {
-    last: [usize; 120],
+struct ColumnRuns {
+    last: [usize; LONGEST],
     next: usize,
 }
 
-impl Columns {
+impl ColumnRuns {
     /// Goes on to the white cell, which is in column `x`.
     fn pass(&mut self, puzzle: &LightPuzzle, x: usize, place: usize)
         requires place_in { place < light_cells puzzle.now }
@@ -105,12 +105,12 @@ pub(crate) fn push_lits(
     ensures { OnOk result (IsAdded houses.old houses.new
         (houses_below (lit_house puzzle.now) (light_cells puzzle.now))) }
 {
-    let mut row = Rows {
+    let mut row = RowRuns {
         last: 0,
         next: rows,
     };
-    let mut column = Columns {
-        last: [0; 120],
+    let mut column = ColumnRuns {
+        last: [0; LONGEST],
         next: columns,
     };
     let mut x = 0;

@@ -1,6 +1,6 @@
 //! How many count houses a puzzle of Light Up has.
 
-use crate::light_up::cells::{cells, columns, is_white, rows};
+use crate::light_up::cells::{LONGEST, cells, columns, is_white, rows};
 use gameid_core::LightPuzzle;
 use grid_core::row_place;
 
@@ -31,7 +31,7 @@ impl Sizes {
             houses: cells(puzzle),
             cells: 0,
         };
-        let mut down = [0; 120];
+        let mut down = [0; LONGEST];
         for y in 0..rows(puzzle) {
             let mut row = 0;
             for x in 0..columns(puzzle) {

@@ -4,14 +4,14 @@
 ghost use Rattle.std.specs.Prelude.{◌≡◌, ℕ, ◌<◌, ◌↔◌, IfOk, None, count_by, length, slice_index};
 ghost use Rattle.grid_core.specs.Grids.{IsGrid};
 ghost use Rattle.fields_core.specs.TentFaults.{IsTentFault};
-ghost use Rattle.fields_core.specs.TentScratches.{HasRoom};
+ghost use Rattle.fields_core.specs.PairingScratches.{HasRoom};
 ghost use Rattle.fields_core.specs.TentSolutions.{IsTentSolution};
 ghost use Rattle.fields_core.specs.Tents.{tent_cells, tent, tree_right, touch_right, column_right, row_right};
 
 use crate::count::run::Run;
 use crate::tents::cells::{cells, column_number, columns, is_tree, row_number, rows};
 use crate::tents::fault::TentFault;
-use crate::tents::pairs::{TentScratch, are_paired};
+use crate::tents::pairs::{PairingScratch, are_paired};
 use crate::tents::touch::touches_tent;
 use gameid_core::TentsPuzzle;
 use grid_core::Grid;
@@ -78,7 +78,7 @@ fn is_row_right(puzzle: &TentsPuzzle, grid: &Grid, y: usize) -> bool
 pub(crate) fn find_fault(
     puzzle: &TentsPuzzle,
     grid: &Grid,
-    scratch: &mut TentScratch,
+    scratch: &mut PairingScratch,
 ) -> Option<TentFault>
     requires fits { IsGrid (tent_cells puzzle.now) 2 grid.now }
     requires room { HasRoom scratch.old (tent_cells puzzle.now) }
@@ -129,7 +129,7 @@ pub fn check_tents(
     ensures fault { IfOk result (λ fault. IsTentFault puzzle.now grid.now fault) }
     ensures solution { IfOk result (λ fault. (fault ≡ None) ↔ IsTentSolution puzzle.now grid.now) }
 {
-    let mut scratch = TentScratch::new(alloc, cells(puzzle))?;
+    let mut scratch = PairingScratch::new(alloc, cells(puzzle))?;
     let fault = find_fault(puzzle, grid, &mut scratch);
     Ok(fault)
 }

@@ -7,7 +7,7 @@ ghost use Rattle.grid_core.specs.Grids.{IsGrid};
 ghost use Rattle.engine_core.specs.Puzzle.{IsNext};
 ghost use Rattle.fields_core.specs.Tents.{tent_cells, tent, can_be_paired};
 ghost use Rattle.fields_core.specs.TentPairs.{tree_beside, tree_count, may_pair, AreNumbered, AreIn};
-ghost use Rattle.fields_core.specs.TentScratches.{HasRoom};
+ghost use Rattle.fields_core.specs.PairingScratches.{HasRoom};
 
 use crate::tents::cells::{cells, is_tree};
 use gameid_core::TentsPuzzle;
@@ -16,18 +16,18 @@ use std::alloc::{AllocError, Global};
 
 /// What tents are paired with trees in: room for a pairing, for the places of the tents, and for a number of each cell.
 #[derive(Drop)]
-pub struct TentScratch {
+pub struct PairingScratch {
     pub(crate) pairing: Pairing,
     pub(crate) tents: Vec<usize>,
     pub(crate) numbers: Vec<usize>,
 }
 
-impl TentScratch {
+impl PairingScratch {
     /// Room for grids of so many cells.
-    pub(crate) fn new(alloc: Global, cells: usize) -> Result<TentScratch, AllocError>
+    pub(crate) fn new(alloc: Global, cells: usize) -> Result<PairingScratch, AllocError>
         ensures { IfOk result (λ scratch. HasRoom scratch cells) }
     {
-        Ok(TentScratch {
+        Ok(PairingScratch {
             pairing: Pairing::new(alloc, cells)?,
             tents: vec![in alloc; 0; cells]?,
             numbers: vec![in alloc; 0; cells]?,
@@ -162,7 +162,7 @@ fn pair(
 }
 
 /// Whether the tents can be paired one to one with the trees so that each tent is beside its own tree.
-pub(crate) fn are_paired(puzzle: &TentsPuzzle, grid: &Grid, scratch: &mut TentScratch) -> bool
+pub(crate) fn are_paired(puzzle: &TentsPuzzle, grid: &Grid, scratch: &mut PairingScratch) -> bool
     requires fits { IsGrid (tent_cells puzzle.now) 2 grid.now }
     requires room { HasRoom scratch.old (tent_cells puzzle.now) }
     ensures paired { result ≡ can_be_paired puzzle.now grid.now }

@@ -9,7 +9,7 @@ ghost use Rattle.grid_core.specs.Board.{has, SameShape};
 ghost use Rattle.fields_core.specs.CountHouse.{start_of};
 ghost use Rattle.fields_core.specs.Tents.{tent_cells, tree};
 ghost use Rattle.fields_core.specs.TentHouses.{is_barred, tent_rules};
-ghost use Rattle.fields_core.specs.TentScratches.{ServesTents};
+ghost use Rattle.fields_core.specs.PairingScratches.{ServesTents};
 ghost use Rattle.fields_core.specs.Lawful.{IsTentCounting};
 
 use crate::count::table::CountTable;
@@ -17,7 +17,7 @@ use crate::count::tally::Tally;
 use crate::tents::cells::{cells, is_tree};
 use crate::tents::check::find_fault;
 use crate::tents::houses::houses_of_tents;
-use crate::tents::pairs::TentScratch;
+use crate::tents::pairs::PairingScratch;
 use engine_core::{Mode, Rules};
 use gameid_core::TentsPuzzle;
 use grid_core::{Board, Grid, step};
@@ -35,7 +35,7 @@ pub struct TentRules {
 /// What searches of Tents work in: what a grid is tested in, and the tallies of the houses.
 #[derive(Drop)]
 pub struct TentWork {
-    pub(crate) pairs: TentScratch,
+    pub(crate) pairs: PairingScratch,
     pub(crate) tallies: Vec<Tally>,
 }
 
@@ -176,7 +176,7 @@ impl Rules for TentRules {
 
     fn scratch(&self, alloc: Global) -> Result<TentWork, AllocError> {
         Ok(TentWork {
-            pairs: TentScratch::new(alloc, cells(&self.puzzle))?,
+            pairs: PairingScratch::new(alloc, cells(&self.puzzle))?,
             tallies: self.table.tallies(alloc)?,
         })
     }

@@ -1,7 +1,7 @@
 use Rattle.fields_core.proofs.LightLatest.{columns-begun, columns-same}
 use Rattle.fields_core.proofs.LightSight.{some-column}
 use Rattle.std.proofs.Common.{sym, ◌∙◌}
-use Rattle.fields_core.proofs.light_up.lit.Columns.pass.Goals as goal
+use Rattle.fields_core.proofs.light_up.lit.ColumnRuns.pass.Goals as goal
 
 pub returns : goal.returns
 returns c = λ lists first listed. columns-begun c.args.puzzle.now lists first c.args.self.now.last c.args.self.now.next c.args.place c.args.x listed c.requires.place_in (sym c.begins_in_column.ensures ∙ c.if-not-begins_in_column.false)

@@ -1,7 +1,7 @@
 use Rattle.fields_core.proofs.LightLatest.{rows-begun, rows-same}
 use Rattle.fields_core.proofs.LightSight.{some-column}
 use Rattle.std.proofs.Common.{sym, ◌∙◌}
-use Rattle.fields_core.proofs.light_up.lit.Rows.pass.Goals as goal
+use Rattle.fields_core.proofs.light_up.lit.RowRuns.pass.Goals as goal
 
 pub returns : goal.returns
 returns c = λ lists first listed. rows-begun c.args.puzzle.now lists first c.args.self.now.last c.args.self.now.next c.args.place listed c.requires.place_in (sym c.begins_in_row.ensures ∙ c.if-not-begins_in_row.false)
