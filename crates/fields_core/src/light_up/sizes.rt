@@ -23,8 +23,7 @@ impl Sizes {
         longer
     }
 
-    /// Of all houses: those of the runs, and one for each other cell. A black cell has up to four
-    /// cells beside it.
+    /// Of all houses: those of the runs, and one of each cell. A black cell has up to four cells beside it.
     pub(crate) fn of(puzzle: &LightPuzzle) -> Sizes {
         let size = puzzle.size();
         let mut sizes = Sizes {

@@ -37,7 +37,7 @@ pub(crate) fn is_tree(puzzle: &TentsPuzzle, place: usize) -> bool
     puzzle.tree(place)
 }
 
-/// The number of tents that the column has.
+/// The number of tents that the column is to have.
 pub(crate) fn column_number(puzzle: &TentsPuzzle, x: usize) -> u8
     requires { x < puzzle.now.size.w }
     ensures { result ≡ slice_index puzzle.now.counts x }
@@ -45,7 +45,7 @@ pub(crate) fn column_number(puzzle: &TentsPuzzle, x: usize) -> u8
     puzzle.count(x)
 }
 
-/// The number of tents that the row has.
+/// The number of tents that the row is to have.
 pub(crate) fn row_number(puzzle: &TentsPuzzle, y: usize) -> u8
     requires { y < puzzle.now.size.h }
     ensures { result ≡ slice_index puzzle.now.counts (puzzle.now.size.w + y) }

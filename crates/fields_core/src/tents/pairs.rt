@@ -127,7 +127,7 @@ fn number_trees(puzzle: &TentsPuzzle, numbers: &mut [usize]) -> usize
     trees
 }
 
-/// Whether the tents can be paired one to one with the trees, by this pairing, list of tents and numbers of trees.
+/// Whether the tents can be paired one to one with the trees, each beside its own. The last three are room.
 fn pair(
     puzzle: &TentsPuzzle,
     grid: &Grid,

@@ -27,7 +27,7 @@ pub(crate) fn column_in(size: Size, place: usize) -> usize
     place % usize::from(size.w())
 }
 
-/// Whether a cell but the place has a tent, of those from one cell to before another.
+/// Whether a cell other than `place` has a tent, of those from `from` to the one before `end`.
 fn has_tent_among(grid: &Grid, place: usize, from: usize, end: usize) -> bool
     requires { end ≤ length grid.now }
     ensures { IsTentAmong grid.now place from end result }
@@ -40,7 +40,7 @@ fn has_tent_among(grid: &Grid, place: usize, from: usize, end: usize) -> bool
     false
 }
 
-/// The cells of the place's row that are no further from it than one column: the first, and the end.
+/// The cells of the place's row that are at most one column from it: the first, and the one after the last.
 fn window(size: Size, place: usize) -> (usize, usize)
     requires { place < size.w * size.h }
     ensures window { IsWindow size.w place result.0 result.1 }
