@@ -19,25 +19,32 @@ struct Line {
     len: usize,
 }
 
-/// Whether a bulb of the line shines on the white cell of number `at` from one side, with only white cells between. The
-/// side has the numbers from `low` to the one before `high`, and the nearest comes first.
-fn shines(puzzle: &LightPuzzle, grid: &Grid, line: Line, at: usize, low: usize, high: usize) -> bool
+/// One side of a cell: the numbers along its line from `low` to the one before `high`.
+#[derive(Clone, Copy)]
+struct Side {
+    low: usize,
+    high: usize,
+}
+
+/// Whether a bulb on that side of the white cell of number `at` shines on it, with only white cells between. The nearest
+/// is looked at first.
+fn shines(puzzle: &LightPuzzle, grid: &Grid, line: Line, at: usize, side: Side) -> bool
     requires fits { IsGrid (light_cells puzzle.now) 2 grid.now }
     requires within { (i : ℕ) → i < line.len
         → line.first + i * line.stride < light_cells puzzle.now }
     requires at_in { at < line.len }
-    requires high_in { high ≤ line.len }
-    requires beside { (high ≡ at) ⊎ (low ≡ at + 1) }
+    requires high_in { side.high ≤ line.len }
+    requires beside { (side.high ≡ at) ⊎ (side.low ≡ at + 1) }
     requires white { white puzzle.now (line.first + at * line.stride) ≡ true }
     ensures { Shines (λ i. white puzzle.now (line.first + i * line.stride))
-        (λ i. bulb grid.now (line.first + i * line.stride)) at low high result }
+        (λ i. bulb grid.now (line.first + i * line.stride)) at side.low side.high result }
 {
     let _size = puzzle.size();
-    for next in low..high {
-        let number = if at < low {
+    for next in side.low..side.high {
+        let number = if at < side.low {
             next
         } else {
-            low + (high - 1 - next)
+            side.low + (side.high - 1 - next)
         };
         let place = along(line.first, line.stride, number);
         if !is_white(puzzle, place) {
@@ -60,7 +67,12 @@ fn shines_along(puzzle: &LightPuzzle, grid: &Grid, line: Line, at: usize) -> boo
     ensures { ShinesAlong (λ i. white puzzle.now (line.first + i * line.stride))
         (λ i. bulb grid.now (line.first + i * line.stride)) at line.len result }
 {
-    shines(puzzle, grid, line, at, 0, at) || shines(puzzle, grid, line, at, at + 1, line.len)
+    let before = Side { low: 0, high: at };
+    let after = Side {
+        low: at + 1,
+        high: line.len,
+    };
+    shines(puzzle, grid, line, at, before) || shines(puzzle, grid, line, at, after)
 }
 
 /// Whether the white cell sees a bulb of its row.
