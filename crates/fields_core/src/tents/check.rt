@@ -1,12 +1,12 @@
 //! The check of a grid of Tents.
 #![tactic(auto, using(crate::proofs::LawSets::tent_check_laws))]
 
-ghost use Rattle.std.specs.Prelude.{◌≡◌, ℕ, ◌<◌, ◌↔◌, IfOk, None, count_by, length, slice_index};
+ghost use Rattle.std.specs.Prelude.{◌≡◌, ℕ, ◌<◌, ◌==◌, ◌↔◌, IfOk, None, count_by, length, slice_index};
 ghost use Rattle.grid_core.specs.Grids.{IsGrid};
 ghost use Rattle.fields_core.specs.TentFaults.{IsTentFault};
 ghost use Rattle.fields_core.specs.PairingScratches.{HasRoom};
 ghost use Rattle.fields_core.specs.TentSolutions.{IsTentSolution};
-ghost use Rattle.fields_core.specs.Tents.{tent_cells, tent, tree_right, touch_right, column_right, row_right};
+ghost use Rattle.fields_core.specs.Tents.{tent_cells, tent, tree_right, touch_right};
 
 use crate::count::run::Run;
 use crate::tents::cells::{cells, column_number, columns, is_tree, row_number, rows};
@@ -52,29 +52,16 @@ fn count_tents(grid: &Grid, run: &Run) -> usize
     tents
 }
 
-/// Whether the column has its number of tents.
-#[tactic(auto, using(crate::proofs::LawSets::tent_check_laws), unfolding(crate::specs::Tents::column_right))]
-fn is_column_right(puzzle: &TentsPuzzle, grid: &Grid, x: usize) -> bool
-    requires fits { IsGrid (tent_cells puzzle.now) 2 grid.now }
-    requires x_in { x < puzzle.now.size.w }
-    ensures { result ≡ column_right puzzle.now grid.now x }
+/// Whether as many tents stand in the run as the number says.
+fn has_tents(grid: &Grid, run: &Run, number: u8) -> bool
+    requires { (k : ℕ) → k < length run.now → slice_index run.now k < length grid.now }
+    ensures { result ≡ (count_by (tent grid.now) run.now == number) }
 {
-    let tents = count_tents(grid, &Run::column(puzzle.size(), x));
-    tents == usize::from(column_number(puzzle, x))
-}
-
-/// Whether the row has its number of tents.
-#[tactic(auto, using(crate::proofs::LawSets::tent_check_laws), unfolding(crate::specs::Tents::row_right))]
-fn is_row_right(puzzle: &TentsPuzzle, grid: &Grid, y: usize) -> bool
-    requires fits { IsGrid (tent_cells puzzle.now) 2 grid.now }
-    requires y_in { y < puzzle.now.size.h }
-    ensures { result ≡ row_right puzzle.now grid.now y }
-{
-    let tents = count_tents(grid, &Run::row(puzzle.size(), y));
-    tents == usize::from(row_number(puzzle, y))
+    count_tents(grid, run) == usize::from(number)
 }
 
 /// What is wrong with a grid of Tents.
+#[tactic(auto, using(crate::proofs::LawSets::tent_check_laws), unfolding(crate::specs::Tents::column_right, crate::specs::Tents::row_right))]
 pub(crate) fn find_fault(
     puzzle: &TentsPuzzle,
     grid: &Grid,
@@ -85,6 +72,7 @@ pub(crate) fn find_fault(
     ensures fault { IsTentFault puzzle.now grid.now result }
     ensures room { (n : ℕ) → HasRoom scratch.old n → HasRoom scratch.new n }
 {
+    let size = puzzle.size();
     for place in 0..cells(puzzle) {
         if !is_tree_right(puzzle, grid, place) {
             return Some(TentFault::Tree(place));
@@ -96,12 +84,12 @@ pub(crate) fn find_fault(
         }
     }
     for x in 0..columns(puzzle) {
-        if !is_column_right(puzzle, grid, x) {
+        if !has_tents(grid, &Run::column(size, x), column_number(puzzle, x)) {
             return Some(TentFault::Column(x));
         }
     }
     for y in 0..rows(puzzle) {
-        if !is_row_right(puzzle, grid, y) {
+        if !has_tents(grid, &Run::row(size, y), row_number(puzzle, y)) {
             return Some(TentFault::Row(y));
         }
     }
