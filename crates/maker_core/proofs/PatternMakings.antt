@@ -1,6 +1,6 @@
 -- The puzzle of a grid has the runs of its lines as clues, and the grid is a solution of it.
 use Rattle.maker_core.proofs.Common.{◌≡◌, ℕ, ◌+◌, ◌-◌, ◌*◌, ◌<◌, List, [], length, map, get_or, subst, refl, sym, ap, ◌∙◌, arith, inl, inr}
-use Rattle.maker_core.proofs.Common.{range_with_len, slice_index_or, IsTrue, ◌↔◌, cases_lt, lt-ltb, le-ltb, fill_by_all, Extent, IsGrid, row_cells}
+use Rattle.maker_core.proofs.Common.{range_with_len, slice_index_or, IsTrue, ◌↔◌, cases_lt, line_numbers-column, line_numbers-row, fill_by_all, Extent, IsGrid, row_cells}
 use Rattle.maker_core.proofs.Common.{column_cells, runs, line_numbers, Pattern, lines_of, line_rules, IsPatternSolution, HasOne, TellsOne, IsOnlySolution}
 use Rattle.maker_core.proofs.Common.{clued_by}
 use Rattle.maker_core.proofs.OnlySolutions.{one_is}
@@ -18,10 +18,10 @@ pub each_line : {A : Type 0} (of : List ℕ → A) (none : A) (size : Extent) (g
     → xs ≡ map (λ line. of (line_numbers size g line)) (range_with_len 0 (lines_of size))
 each_line of none size g xs long columns rows =
     fill_by_all (λ line. of (line_numbers size g line)) xs (lines_of size) none long (λ line lt. elim (cases_lt line size.w) [
-      | inl column ↦ columns line column ∙ rw (lt-ltb line size.w column) refl
+      | inl column ↦ columns line column ∙ ap of (sym (line_numbers-column size g line column))
       | inr row ↦
           let back : size.w + (line - size.w) ≡ line = omega arith in
-          ap (λ n. get_or xs n none) (sym back) ∙ rows (line - size.w) (omega arith) ∙ rw (le-ltb line size.w row) refl
+          ap (λ n. get_or xs n none) (sym back) ∙ rows (line - size.w) (omega arith) ∙ ap of (sym (line_numbers-row size g line row))
     ])
 
 pub pattern_is : (size : Extent) (g : List ℕ) (p : Pattern) → length p.clues ≡ lines_of p.size → HasRuns size g p → p ≡ clued_by size g
