@@ -134,21 +134,21 @@ pub record CheckedPuzzle {P : Type 0} (play : Playing P) (p : P) : Type 0 where
   pub shown : (g : List ℕ) → play.game.solves p g → IsAsShown (play.hides p) (play.value_count p) (play.extent p) g
 
 -- the answers that tell a fault
-module _ {F : Type 0} (is : Option F → Type 0) (fault_text : F → Text) where
-  told_some : (fault : Option F) × is fault → (a : Answer) × IsFaultTold is fault_text a
-  told_some fault = (checked (option_map fault_text fault.0), record { fault = fault.0; first = fault.1; told = refl })
+module _ {F : Type 0} (is : Option F → Type 0) (rule_text : F → Text) where
+  told_some : (fault : Option F) × is fault → (a : Answer) × IsFaultTold is rule_text a
+  told_some fault = (checked (option_map rule_text fault.0), record { fault = fault.0; first = fault.1; told = refl })
 
-  told_alone : ((a b : Option F) → is a → is b → a ≡ b) → (a b : Answer) → IsFaultTold is fault_text a → IsFaultTold is fault_text b → a ≡ b
-  told_alone alone a b x y = x.told ∙ ap (λ (f : Option F). checked (option_map fault_text f)) (alone x.fault y.fault x.first y.first) ∙ sym y.told
+  told_alone : ((a b : Option F) → is a → is b → a ≡ b) → (a b : Answer) → IsFaultTold is rule_text a → IsFaultTold is rule_text b → a ≡ b
+  told_alone alone a b x y = x.told ∙ ap (λ (f : Option F). checked (option_map rule_text f)) (alone x.fault y.fault x.first y.first) ∙ sym y.told
 
-  told_sound : (a : Answer) → IsFaultTold is fault_text a → a.status ≡ 0 → is None
+  told_sound : (a : Answer) → IsFaultTold is rule_text a → a.status ≡ 0 → is None
   told_sound a x fine = subst is (no_fault x.fault (sym (ap (λ (c : Answer). c.status) x.told) ∙ fine)) x.first
     where
-      no_fault : (fault : Option F) → (checked (option_map fault_text fault)).status ≡ 0 → fault ≡ None
+      no_fault : (fault : Option F) → (checked (option_map rule_text fault)).status ≡ 0 → fault ≡ None
       no_fault None e = refl
       no_fault (Some f) e = absurd (omega (arith, e))
 
-  told_right : is None → IsFaultTold is fault_text (checked None)
+  told_right : is None → IsFaultTold is rule_text (checked None)
   told_right first = record { fault = None; first = first; told = refl }
 
 shows_all : (values : ℕ) (size : Extent) (g : List ℕ) → IsGrid (size.w * size.h) values g → IsAsShown hides_nothing values size g

@@ -36,7 +36,7 @@ use Rattle.puzzles.specs.Allowed.{IsSolved, SolvesId, ChecksGrid, ChecksId, Grad
 use Rattle.puzzles.specs.CheckAnswers.{checked as correct_or, without_returns}
 use Rattle.puzzles.specs.LawsOfCommands.{ArePassed, HasOneAnswer}
 use Rattle.puzzles.specs.Grades.{HasOneSolution, IsRightGrade, Settling, grade_by, listed_grade, only_set, searched_grade}
-use Rattle.puzzles.specs.declared.grade.Telling.{Telling}
+use Rattle.puzzles.specs.declared.grade.GradeOptions.{GradeOptions}
 use Rattle.puzzles.specs.declared.grade.Grade.TheVariants.{ByRules}
 use Rattle.puzzles.specs.declared.grade.RuleSet.TheVariants.{Singles, Houses, Crossings, Lines, Local}
 use Rattle.puzzles.proofs.GradedAlike.{status_one, told_status, graded_one, settled_found, settled_by_stronger, is_within, own_named, weaker_named}
@@ -208,10 +208,10 @@ listed_right solves (first ∷ rest) search budget each searched = by (is_settle
 -- with enough budget a search tells the one solution of a puzzle whose grade names a rule set or a search
 pub with_enough : {P : Type 0} (play : Playing P) (reading : HasOneReading play.game.spells play.game.reading)
     → ((id : Text) (p : P) → play.game.spells id p → SearchedPuzzle (play.game.rules p) (play.game.solves p))
-    → (telling : Telling) (id : Text) (graded : Answer) → GradesId play.game telling id graded → graded.status ≡ 0
+    → (options : GradeOptions) (id : Text) (graded : Answer) → GradesId play.game options id graded → graded.status ≡ 0
     → (enough : ℕ) × (grid : Text) × ((budget : ℕ) → enough ≤ budget → (said : Answer) → SolvesId play budget id said ↔ (said ≡ one_answer grid))
-with_enough play reading searched telling id graded (inl refusal) fine = absurd (omega (arith, fine, ap (λ (a : Answer). a.status) refusal.told))
-with_enough play reading searched telling id graded (inr answered) fine =
+with_enough play reading searched options id graded (inl refusal) fine = absurd (omega (arith, fine, ap (λ (a : Answer). a.status) refusal.told))
+with_enough play reading searched options id graded (inr answered) fine =
     let p = answered.puzzle in
     let one = graded_one (play.game.solves p) _ answered.allowed.right (sym answered.allowed.told.status ∙ fine) in (
       trials_in (walk (play.game.rules p) 0 (play.game.rules p).start),

@@ -26,7 +26,7 @@ use Rattle.puzzles.specs.Playing.{GameOf}
 use Rattle.puzzles.specs.Allowed.{IsGradeBy}
 use Rattle.puzzles.specs.Traces.{IsTrace}
 use Rattle.puzzles.specs.declared.grade.RuleSet.{RuleSet}
-use Rattle.puzzles.specs.declared.grade.Telling.{Telling}
+use Rattle.puzzles.specs.declared.grade.GradeOptions.{GradeOptions}
 use Rattle.puzzles.specs.TracePieces.{BeginsTrace, PutsTrace}
 use Rattle.puzzles.proofs.RunLemmas.{tells_as}
 
@@ -120,24 +120,24 @@ pub told_as : {S : Type 0} (takes : S → Text → S → Type 0) (grade : Grade)
 told_as takes grade traced some all s t status more told = tells_as takes (TellsGrade grade traced some) (TellsGrade grade traced all) s t status
     (λ a h. record { lines = h.lines; trace = trace_as traced some all h.lines (more h.lines) h.trace; text = h.text; status = h.status }) told
 
-module _ {P : Type 0} (game : GameOf P) (p : P) (telling : Telling) {S : Type 0} (takes : S → Text → S → Type 0) (s t : S) (status : ℕ) where
+module _ {P : Type 0} (game : GameOf P) (p : P) (options : GradeOptions) {S : Type 0} (takes : S → Text → S → Type 0) (s t : S) (status : ℕ) where
   -- what is told of a list of rule sets
   abbrev pub TellsBy : List Settling → Type 0
-  TellsBy sets = Tells takes (IsGradeBy game p sets telling) s t status
+  TellsBy sets = Tells takes (IsGradeBy game p sets options) s t status
 
   -- the last in the list
-  pub told_last : (grade : Grade) (set : RuleSet) (rules : Puzzle) → grade ≡ listed_grade (only_set set rules) (game.rules p) telling.budget
-      → IsRightGrade (game.solves p) grade → Tells takes (TellsGrade grade telling.traced (game.tells p rules)) s t status → TellsBy (only_set set rules)
+  pub told_last : (grade : Grade) (set : RuleSet) (rules : Puzzle) → grade ≡ listed_grade (only_set set rules) (game.rules p) options.budget
+      → IsRightGrade (game.solves p) grade → Tells takes (TellsGrade grade options.traced (game.tells p rules)) s t status → TellsBy (only_set set rules)
   told_last grade set rules e right told = rw (← e, ← last_of_one (game.rules p) set rules)
-      (rightly takes (game.solves p) grade telling.traced (game.tells p rules) s t status right told)
+      (rightly takes (game.solves p) grade options.traced (game.tells p rules) s t status right told)
 
   -- the first in the list settles the puzzle
   pub told_first : (q : Puzzle) (set : RuleSet) (rules : Puzzle) (rest : List Settling) → q ≡ rules → is_settled q ≡ true
-      → ((g : List ℕ) → Solves rules g ↔ game.solves p g) → HasOneSolution (Solves q) → Tells takes (TellsGrade (ByRules set) telling.traced (game.tells p q)) s t status
+      → ((g : List ℕ) → Solves rules g ↔ game.solves p g) → HasOneSolution (Solves q) → Tells takes (TellsGrade (ByRules set) options.traced (game.tells p q)) s t status
       → TellsBy (record { set = set; rules = rules } ∷ rest)
   told_first q set rules rest e settled same one told =
       let is : is_settled rules ≡ true = ap is_settled (sym e) ∙ settled in
-      rw is (rightly takes (game.solves p) (ByRules set) telling.traced (game.tells p rules) s t status
+      rw is (rightly takes (game.solves p) (ByRules set) options.traced (game.tells p rules) s t status
       (right_by rules q (game.solves p) (ByRules set) e same one) (rw e at told))
 
   -- the first of two or more in the list doesn't

@@ -13,7 +13,7 @@ use Rattle.puzzles.specs.Grades.{IsGradeOf, Settling, TellsGrade, last_tried, li
 use Rattle.puzzles.specs.Traces.{TellsSweeps}
 use Rattle.puzzles.specs.declared.grade.Attempt.{Attempt}
 use Rattle.puzzles.specs.declared.grade.Grade.{Grade}
-use Rattle.puzzles.specs.declared.grade.Telling.{Telling}
+use Rattle.puzzles.specs.declared.grade.GradeOptions.{GradeOptions}
 use Rattle.puzzles.specs.Makings.{IsHandedOut, Wanted}
 use Rattle.puzzles.specs.Seeds.{seed_stream}
 use Rattle.puzzles.specs.Each.{AllowsEach}
@@ -71,27 +71,27 @@ abbrev pub is_read : Game → Text → Bool
 is_read game id = is_ok ((played game).game.reading id)
 
 -- the grade by these rule sets in turn is told, and the closing by the rules that were tried last
-abbrev pub IsGradeBy : {P : Type 0} → GameOf P → P → List Settling → Telling → Answer → Type 0
-IsGradeBy game p sets telling =
-    IsGradeOf (game.solves p) (listed_grade sets (game.rules p) telling.budget) telling.traced
+abbrev pub IsGradeBy : {P : Type 0} → GameOf P → P → List Settling → GradeOptions → Answer → Type 0
+IsGradeBy game p sets options =
+    IsGradeOf (game.solves p) (listed_grade sets (game.rules p) options.budget) options.traced
     (game.tells p (last_tried (game.rules p) sets))
 
 -- the same by one rule set
 abbrev pub IsGradeAfter : {P : Type 0} → GameOf P → P → Attempt → Puzzle → Answer → Type 0
-IsGradeAfter game p attempt rules = IsGradeBy game p (only_set attempt.set rules) attempt.wanted
+IsGradeAfter game p attempt rules = IsGradeBy game p (only_set attempt.set rules) attempt.options
 
 abbrev pub grade_after : {P : Type 0} → GameOf P → P → Attempt → Puzzle → Grade
 grade_after game p attempt rules =
-    listed_grade (only_set attempt.set rules) (game.rules p) attempt.wanted.budget
+    listed_grade (only_set attempt.set rules) (game.rules p) attempt.options.budget
 
 -- a grade is told, and the closing by these rules
 abbrev pub GradeTold : {P : Type 0} → GameOf P → P → Attempt → Grade → Puzzle → Answer → Type 0
 GradeTold game p attempt given rules =
-    TellsGrade given attempt.wanted.traced (game.tells p rules)
+    TellsGrade given attempt.options.traced (game.tells p rules)
 
 abbrev pub IsToldBySweeps : Attempt → Grade → Puzzle → Answer → Type 0
 IsToldBySweeps attempt given rules =
-    TellsGrade given attempt.wanted.traced (TellsSweeps rules)
+    TellsGrade given attempt.options.traced (TellsSweeps rules)
 
 -- what is told of closings by such lines is told of the puzzle
 abbrev pub AreTold : {P : Type 0} → GameOf P → P → (Puzzle → Text → Type 0) → Type 0
@@ -99,15 +99,15 @@ AreTold game p tells = (rules : Puzzle) (lines : Text) → tells rules lines
     → game.tells p rules lines
 
 -- the same by the rule sets of the game
-abbrev pub IsGraded : {P : Type 0} → GameOf P → Telling → P → Answer → Type 0
-IsGraded game telling p = IsGradeBy game p (game.sets p) telling
+abbrev pub IsGraded : {P : Type 0} → GameOf P → GradeOptions → P → Answer → Type 0
+IsGraded game options p = IsGradeBy game p (game.sets p) options
 
-abbrev pub IsGradedAfterSingles : Solo → Telling → Answer → Type 0
-IsGradedAfterSingles p telling = IsGradeBy (played game.Solo).game p (after_singles p) telling
+abbrev pub IsGradedAfterSingles : Solo → GradeOptions → Answer → Type 0
+IsGradedAfterSingles p options = IsGradeBy (played game.Solo).game p (after_singles p) options
 
 -- the grade of the puzzle that an ID spells
-abbrev pub GradesId : {P : Type 0} → GameOf P → Telling → Text → Answer → Type 0
-GradesId game telling id = AnswersId game id (IsGraded game telling)
+abbrev pub GradesId : {P : Type 0} → GameOf P → GradeOptions → Text → Answer → Type 0
+GradesId game options id = AnswersId game id (IsGraded game options)
 
 -- the answers that `grade` allows to an ID of the game, with a trace or without one
 abbrev pub AllowsGrade : Game → Text → ℕ → Bool → Answer → Type 0

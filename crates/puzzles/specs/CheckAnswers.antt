@@ -27,11 +27,11 @@ abbrev pub place_text : ℕ → ℕ → Text
 place_text columns place = decimal (place % columns) ++ codes "," ++ decimal (place / columns)
 
 -- the first broken rule of the grid is told, or that there is none
-pub record IsFaultTold {F : Type 0} (is : Option F → Type 0) (fault_text : F → Text)
+pub record IsFaultTold {F : Type 0} (is : Option F → Type 0) (rule_text : F → Text)
     (answer : Answer) : Type 0 where
   pub fault : Option F
   pub first : is fault
-  pub told : answer ≡ checked (option_map fault_text fault)
+  pub told : answer ≡ checked (option_map rule_text fault)
 
 -- The input isn't too long, and without its returns it is the printed form of that grid, with or
 -- without the last line end. The grid is 0 wherever what is printed shows nothing of the number.

@@ -40,7 +40,7 @@ pub data Asked : Type 0 where
 abbrev pub asked_in : Request → Asked
 asked_in (request.Solve task id) = solve task.game (option_map (λ s. s.now) id) task.budget
 asked_in (request.Check game id) = check game id.now
-asked_in (request.Grade game id telling) = grade game id.now telling.budget telling.traced
+asked_in (request.Grade game id options) = grade game id.now options.budget options.traced
 asked_in (request.Generate game size recipe) =
     generate game size.now recipe.seed recipe.limits.budget recipe.limits.tries recipe.black.value
 

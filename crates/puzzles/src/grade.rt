@@ -55,20 +55,20 @@ impl RuleSet {
     }
 }
 
-/// What is wanted of a grade: how many trials a search may have, and whether a trace follows.
+/// The options of a grade: how many trials a search may have, and whether a trace follows.
 #[derive(Clone, Copy)]
-pub struct Telling {
+pub struct GradeOptions {
     pub budget: u64,
     pub traced: bool,
 }
 
-/// One rule set that is tried on a puzzle: its name, what is wanted of the grade, and where memory
-/// comes from.
+/// One rule set that is tried on a puzzle: its name, the grade's options, and where memory comes
+/// from.
 #[derive(Clone, Copy)]
 pub struct Attempt {
     pub alloc: Global,
     pub set: RuleSet,
-    pub wanted: Telling,
+    pub options: GradeOptions,
 }
 
 /// What a puzzle is graded as.
@@ -155,7 +155,7 @@ impl Attempt {
         ensures left { LeavesSink O.Sink output.new result }
     {
         let mut text = grade_line(self.alloc, grade)?;
-        if self.wanted.traced {
+        if self.options.traced {
             store.close(rules);
             put_visits(puzzle, store.trace(), &mut text, output)?;
         }
@@ -179,7 +179,7 @@ impl Attempt {
         ensures left { LeavesSink O.Sink output.new result }
     {
         let mut text = grade_line(self.alloc, grade)?;
-        if self.wanted.traced {
+        if self.options.traced {
             store.close(rules);
             push_sweeps(&mut text, store.sweeps())?;
         }
@@ -250,10 +250,9 @@ pub trait Graded: Solvable {
     ///
     /// When memory was refused, or the sink failed. A beginning of the text was put then, or
     /// nothing.
-    fn tell<O: Sink>(&self, alloc: Global, wanted: Telling, output: &mut O) -> Ended
+    fn tell<O: Sink>(&self, alloc: Global, options: GradeOptions, output: &mut O) -> Ended
         requires { O.has_failed output.old ≡ false }
-        ensures told { Told O.takes
-            (IsGraded Self.game wanted self.now)
+        ensures told { Told O.takes (IsGraded Self.game options self.now)
             output.old output.new result }
         ensures left { LeavesSink O.Sink output.new result };
 }
@@ -262,15 +261,15 @@ pub trait Graded: Solvable {
 fn grade_one<P: Graded + Drop, O: Sink>(
     alloc: Global,
     id: &[u8],
-    wanted: Telling,
+    options: GradeOptions,
     output: &mut O,
 ) -> Ended
     requires { O.has_failed output.old ≡ false }
-    ensures told { Told O.takes (GradesId P.game wanted id.now) output.old output.new result }
+    ensures told { Told O.takes (GradesId P.game options id.now) output.old output.new result }
     ensures left { LeavesSink O.Sink output.new result }
 {
     match P::read_id(alloc, id) {
-        Ok(puzzle) => puzzle.tell(alloc, wanted, output),
+        Ok(puzzle) => puzzle.tell(alloc, options, output),
         Err(IdFault::Memory) => Err(Stop::Memory),
         Err(fault) => refuse(alloc, fault, output),
     }
@@ -288,13 +287,13 @@ pub fn grade_id<O: Sink>(
     alloc: Global,
     game: Game,
     id: &[u8],
-    wanted: Telling,
+    options: GradeOptions,
     output: &mut O,
 ) -> Ended
     requires { O.has_failed output.old ≡ false }
-    ensures told { Told O.takes (GradesId (played game).game wanted id.now)
+    ensures told { Told O.takes (GradesId (played game).game options id.now)
         output.old output.new result }
     ensures left { LeavesSink O.Sink output.new result }
 {
-    by_game!(game, grade_one::<_, O>(alloc, id, wanted, output))
+    by_game!(game, grade_one::<_, O>(alloc, id, options, output))
 }

@@ -55,8 +55,8 @@ fn answer<I: Source, O: Sink>(
     if let Some(Request::Solve { task, id: None }) = request {
         return solve_lines(alloc, task, input, output);
     }
-    if let Some(Request::Grade { game, id, telling }) = request {
-        return grade_id(alloc, game, id.as_bytes(), telling, output);
+    if let Some(Request::Grade { game, id, options }) = request {
+        return grade_id(alloc, game, id.as_bytes(), options, output);
     }
     if let Some(Request::Check { game, id }) = request {
         return check_id(alloc, game, id.as_bytes(), input, output);

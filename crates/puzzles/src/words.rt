@@ -10,7 +10,7 @@ ghost use Rattle.puzzles.specs.CommandLine.{required_word, text_option, flag, so
 use crate::games::{game_named, usual_black};
 use crate::generate::Recipe;
 use crate::generate::percent::Percent;
-use crate::grade::Telling;
+use crate::grade::GradeOptions;
 use crate::solve::Task;
 use clap::error::ErrorKind;
 use clap::{Arg, ArgAction, ArgMatches, Command};
@@ -43,7 +43,7 @@ pub enum Request<'a> {
     Grade {
         game: Game,
         id: &'a str,
-        telling: Telling,
+        options: GradeOptions,
     },
     Generate {
         game: Game,
@@ -76,7 +76,7 @@ fn flag_argument<'a>(alloc: Global, name: &'a str) -> Arg<'a>
     text_argument(alloc, name).action(ArgAction::SetTrue)
 }
 
-/// `solve GAME [ID] [--budget N]`
+/// `solve GAME [ID] [--budget B]`
 fn solve_command<'a>(alloc: Global) -> Result<Command<'a>, AllocError>
     ensures app { IfOk result (λ c. app_of c ≡ solve_app) }
     ensures local { IfOk result (λ c. (fields_of c).has_globals ≡ false) }
@@ -97,7 +97,7 @@ fn check_command<'a>(alloc: Global) -> Result<Command<'a>, AllocError>
         .arg(required_argument(alloc, "id"))
 }
 
-/// `grade GAME ID [--budget N] [--trace]`
+/// `grade GAME ID [--budget B] [--trace]`
 fn grade_command<'a>(alloc: Global) -> Result<Command<'a>, AllocError>
     ensures app { IfOk result (λ c. app_of c ≡ grade_app) }
     ensures local { IfOk result (λ c. (fields_of c).has_globals ≡ false) }
@@ -109,7 +109,7 @@ fn grade_command<'a>(alloc: Global) -> Result<Command<'a>, AllocError>
         .arg(flag_argument(alloc, "trace"))
 }
 
-/// `generate GAME SIZE --seed N`: what a generated puzzle cannot do without.
+/// `generate GAME SIZE --seed S`: what a generated puzzle cannot do without.
 fn generate_needs<'a>(alloc: Global) -> Result<Command<'a>, AllocError>
     ensures app { IfOk result (λ c. app_of c ≡ generate_needs_app) }
     ensures local { IfOk result (λ c. (fields_of c).has_globals ≡ false) }
@@ -120,7 +120,7 @@ fn generate_needs<'a>(alloc: Global) -> Result<Command<'a>, AllocError>
         .arg(text_argument(alloc, "seed").required(true))
 }
 
-/// What a puzzle is generated of, with `[--budget N] [--tries N] [--black N]`.
+/// What a puzzle is generated of, with `[--budget B] [--tries T] [--black P]`.
 fn generate_command<'a>(alloc: Global) -> Result<Command<'a>, AllocError>
     ensures app { IfOk result (λ c. app_of c ≡ generate_app) }
     ensures local { IfOk result (λ c. (fields_of c).has_globals ≡ false) }
@@ -256,8 +256,8 @@ fn grade_request<'a>(matches: &ArgMatches<'a>) -> Option<Request<'a>>
     let id = text_of(matches, "id")?;
     let budget = budget_from(matches)?;
     let traced = trace_from(matches);
-    let telling = Telling { budget, traced };
-    Some(Request::Grade { game, id, telling })
+    let options = GradeOptions { budget, traced };
+    Some(Request::Grade { game, id, options })
 }
 
 /// The seed that the words name.

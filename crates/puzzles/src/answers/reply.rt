@@ -75,7 +75,8 @@ fn push_fault(text: &mut String, fault: IdFault) -> Result<(), AllocError>
     }
 }
 
-/// The answer to an ID or a size with that first fault, in the memory of a text.
+/// The answer to an ID with that first fault, or to a size that `generate` refuses: `refused: `,
+/// what is said of the fault, and a line end. It is made in the memory of a text.
 ///
 /// # Errors
 ///

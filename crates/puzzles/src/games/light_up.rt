@@ -10,7 +10,7 @@ use crate::ends::Sink;
 use crate::generate::Recipe;
 use crate::generate::makable::{Makable, Unmade};
 use crate::generate::seed::generator;
-use crate::grade::{Attempt, Graded, RuleSet, Telling};
+use crate::grade::{Attempt, GradeOptions, Graded, RuleSet};
 use crate::played::Played;
 use crate::solve::solvable::Solvable;
 use fields_core::{LightFault, LightRules, check_lights};
@@ -55,10 +55,10 @@ impl Checked for LightPuzzle {
 }
 
 impl Graded for LightPuzzle {
-    fn tell<O: Sink>(&self, alloc: Global, wanted: Telling, output: &mut O) -> Ended {
+    fn tell<O: Sink>(&self, alloc: Global, options: GradeOptions, output: &mut O) -> Ended {
         let local = self.rules(alloc)?;
         let set = RuleSet::Local;
-        let attempt = Attempt { alloc, set, wanted };
+        let attempt = Attempt { alloc, set, options };
         attempt.tell_by_sweeps(self, &local, output)
     }
 }

@@ -12,7 +12,7 @@ use crate::generate::Recipe;
 use crate::generate::makable::{Makable, Unmade};
 use crate::generate::seed::generator;
 use crate::grade::named::{Named, push_house};
-use crate::grade::{Attempt, Graded, RuleSet, Telling};
+use crate::grade::{Attempt, GradeOptions, Graded, RuleSet};
 use crate::played::Played;
 use crate::solve::solvable::Solvable;
 use gameid_core::{Game, IdFault, PatternPuzzle, read_pattern, read_size, write_pattern};
@@ -55,10 +55,10 @@ impl Checked for PatternPuzzle {
 }
 
 impl Graded for PatternPuzzle {
-    fn tell<O: Sink>(&self, alloc: Global, wanted: Telling, output: &mut O) -> Ended {
+    fn tell<O: Sink>(&self, alloc: Global, options: GradeOptions, output: &mut O) -> Ended {
         let lines = self.rules(alloc)?;
         let set = RuleSet::Lines;
-        let attempt = Attempt { alloc, set, wanted };
+        let attempt = Attempt { alloc, set, options };
         attempt.tell_by_visits(self, &lines, output)
     }
 }

@@ -15,7 +15,7 @@ use crate::generate::makable::{Makable, Unmade};
 use crate::generate::seed::generator;
 use crate::grade::named::{Named, push_scope};
 use crate::grade::settling::settles;
-use crate::grade::{Attempt, Grade, Graded, RuleSet, Telling};
+use crate::grade::{Attempt, Grade, GradeOptions, Graded, RuleSet};
 use crate::played::Played;
 use crate::solve::solvable::Solvable;
 use engine_core::Store;
@@ -62,16 +62,16 @@ impl Checked for SoloPuzzle {
 }
 
 impl Graded for SoloPuzzle {
-    fn tell<O: Sink>(&self, alloc: Global, wanted: Telling, output: &mut O) -> Ended {
+    fn tell<O: Sink>(&self, alloc: Global, options: GradeOptions, output: &mut O) -> Ended {
         let singles = SoloSingles::new(alloc, self)?;
         let mut store = Store::new(alloc, &singles)?;
         if settles(&mut store, &singles) {
             let set = RuleSet::Singles;
             let grade = Grade::ByRules(set);
-            let attempt = Attempt { alloc, set, wanted };
+            let attempt = Attempt { alloc, set, options };
             return attempt.tell_with_visits(grade, self, &singles, &mut store, output);
         }
-        tell_by_houses(alloc, self, wanted, output)
+        tell_by_houses(alloc, self, options, output)
     }
 }
 
@@ -79,11 +79,11 @@ impl Graded for SoloPuzzle {
 fn tell_by_houses<O: Sink>(
     alloc: Global,
     puzzle: &SoloPuzzle,
-    wanted: Telling,
+    options: GradeOptions,
     output: &mut O,
 ) -> Ended
     requires { O.has_failed output.old ≡ false }
-    ensures told { Told O.takes (IsGradedAfterSingles puzzle.now wanted)
+    ensures told { Told O.takes (IsGradedAfterSingles puzzle.now options)
         output.old output.new result }
     ensures left { LeavesSink O.Sink output.new result }
 {
@@ -92,12 +92,12 @@ fn tell_by_houses<O: Sink>(
     if settles(&mut store, &houses) {
         let set = RuleSet::Houses;
         let grade = Grade::ByRules(set);
-        let attempt = Attempt { alloc, set, wanted };
+        let attempt = Attempt { alloc, set, options };
         return attempt.tell_with_visits(grade, puzzle, &houses, &mut store, output);
     }
     let crossings = SoloCrossings::new(alloc, puzzle)?;
     let set = RuleSet::Crossings;
-    let attempt = Attempt { alloc, set, wanted };
+    let attempt = Attempt { alloc, set, options };
     attempt.tell_by_visits(puzzle, &crossings, output)
 }
 

@@ -69,7 +69,7 @@ impl Attempt {
         if settles(store, rules) {
             Ok(Grade::ByRules(self.set))
         } else {
-            search_grade(self.alloc, puzzle, self.wanted.budget)
+            search_grade(self.alloc, puzzle, self.options.budget)
         }
     }
 }

@@ -23,8 +23,8 @@ pub returns-in-Some-Grade-clause-ran : goal.returns-in-Some-Grade-clause-ran
 returns-in-Some-Grade-clause-ran g c =
     let a = c.in-Some-Grade in
     let f = rw a.is at a.field-0-is in
-    let asked : Some (grade a.game c.as_bytes.result.now a.telling.budget a.telling.traced) ≡ asked_of (map string_bytes c.args.words.now) =
-    ap (λ t. Some (grade a.game t a.telling.budget a.telling.traced)) c.as_bytes.ensures.value ∙ sym (ap (λ r. Some (asked_in r)) f) ∙ sym (ap (option_map asked_in) a.is) ∙ c.in_ok-request.ensures in
+    let asked : Some (grade a.game c.as_bytes.result.now a.options.budget a.options.traced) ≡ asked_of (map string_bytes c.args.words.now) =
+    ap (λ t. Some (grade a.game t a.options.budget a.options.traced)) c.as_bytes.ensures.value ∙ sym (ap (λ r. Some (asked_in r)) f) ∙ sym (ap (option_map asked_in) a.is) ∙ c.in_ok-request.ensures in
     ran_by_telling g.I.Source g.O.Sink _ c.args.input.now c.args.output.now c.grade_id.new.output _ _
     (g.met.I.Source.gives_nothing c.args.input.now) (λ input b told. subst (λ (q : Option Asked). Allows q input b) asked told) c.grade_id.ensures.told
 

@@ -30,14 +30,14 @@ pub returns-then-settles-clause-told : goal.returns-then-settles-clause-told
 returns-then-settles-clause-told g c =
     let p = c.args.puzzle.now in
     let ok = subst IsSolo c.in_ok-houses.ensures.copied c.in_ok-houses.houses.is_solo in
-    told_first (played Solo).game p c.args.wanted g.O.Sink.takes _ _ _ _ Houses (houses_rules p) (only_set Crossings (crossings_rules p)) c.in_ok-houses.ensures.rules
+    told_first (played Solo).game p c.args.options g.O.Sink.takes _ _ _ _ Houses (houses_rules p) (only_set Crossings (crossings_rules p)) c.in_ok-houses.ensures.rules
     (sym c.if-settles.ensures.settled) (solo_accepted p ok _ _) (c.if-settles.ensures.one refl) c.tell_with_visits.ensures.told
 
 pub returns-clause-told : goal.returns-clause-told
 returns-clause-told g c =
     let p = c.args.puzzle.now in
-    told_later (played Solo).game p c.args.wanted g.O.Sink.takes _ _ _ _ Houses (houses_rules p) _ [] c.in_ok-houses.ensures.rules (sym c.if-settles.ensures.settled)
-    (told_by (played Solo).game p c.args.wanted g.O.Sink.takes _ _ _ _ (crossings_rules p) Crossings c.in_ok-crossings.ensures.rules c.tell_by_visits.ensures.told)
+    told_later (played Solo).game p c.args.options g.O.Sink.takes _ _ _ _ Houses (houses_rules p) _ [] c.in_ok-houses.ensures.rules (sym c.if-settles.ensures.settled)
+    (told_by (played Solo).game p c.args.options g.O.Sink.takes _ _ _ _ (crossings_rules p) Crossings c.in_ok-crossings.ensures.rules c.tell_by_visits.ensures.told)
 
 pub returns-in_err-crossings-clause-left : goal.returns-in_err-crossings-clause-left
 returns-in_err-crossings-clause-left g c = left_alone _ _ _ c.requires c.from_residual-in_err-crossings.ensures

@@ -12,7 +12,7 @@ returns-in_err-put_visits-clause-told g c =
     let name = g.P.Named.name_of c.args.puzzle.now in
     let visits = c.trace.result.now in
     told_as g.O.Sink.takes _ _ (TellsVisits name r) _ _ _ _ (g.met.P.Named.by_visits c.args.puzzle.now r)
-    (told_begun g.O.Sink.takes g.met.O.Sink.takes_nothing g.met.O.Sink.takes_both c.args.grade c.args.self.wanted.traced (TellsVisits name r) _ _ _ _ c.in_ok-text.ensures
+    (told_begun g.O.Sink.takes g.met.O.Sink.takes_nothing g.met.O.Sink.takes_both c.args.grade c.args.self.options.traced (TellsVisits name r) _ _ _ _ c.in_ok-text.ensures
     (record {
       lines = visits_text name visits;
       trace = is_traced _ (TellsVisits name r) _ c.if-self.true (record { visits = visits; closing = search rules; told = refl });
@@ -24,7 +24,7 @@ pub returns-clause-told : goal.returns-clause-told
 returns-clause-told g c =
     let r = g.R.Rules.puzzle c.args.rules.now in
     let tells = TellsVisits (g.P.Named.name_of c.args.puzzle.now) r in
-    let puts : PutsTrace g.O.Sink.takes c.args.self.wanted.traced tells c.args.output.now (string_bytes c.in_ok-text.text) (string_bytes c.if-self.text) c.if-self.output =
+    let puts : PutsTrace g.O.Sink.takes c.args.self.options.traced tells c.args.output.now (string_bytes c.in_ok-text.text) (string_bytes c.if-self.text) c.if-self.output =
     elim c.if-self.branch [
       | then-self+in_ok-put_visits w ↦ rw (w.output-is, w.text-is) (record {
         lines = visits_text (g.P.Named.name_of c.args.puzzle.now) w.trace.result.now;

@@ -20,11 +20,11 @@ pub returns-then-settles-clause-told : goal.returns-then-settles-clause-told
 returns-then-settles-clause-told g c =
     let p = c.args.self.now in
     let ok = subst IsSolo c.in_ok-singles.ensures.copied c.in_ok-singles.singles.is_solo in
-    told_first (played Solo).game p c.args.wanted g.O.Sink.takes _ _ _ _ Singles (singles_rules p) (after_singles p) c.in_ok-singles.ensures.rules
+    told_first (played Solo).game p c.args.options g.O.Sink.takes _ _ _ _ Singles (singles_rules p) (after_singles p) c.in_ok-singles.ensures.rules
     (sym c.if-settles.ensures.settled) (solo_accepted p ok _ _) (c.if-settles.ensures.one refl) c.tell_with_visits.ensures.told
 
 pub returns-clause-told : goal.returns-clause-told
 returns-clause-told g c =
     let p = c.args.self.now in
-    told_later (played Solo).game p c.args.wanted g.O.Sink.takes _ _ _ _ Singles (singles_rules p) _ (only_set Crossings (crossings_rules p)) c.in_ok-singles.ensures.rules
+    told_later (played Solo).game p c.args.options g.O.Sink.takes _ _ _ _ Singles (singles_rules p) _ (only_set Crossings (crossings_rules p)) c.in_ok-singles.ensures.rules
     (sym c.if-settles.ensures.settled) c.tell_by_houses.ensures.told
