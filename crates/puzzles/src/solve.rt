@@ -1,5 +1,5 @@
 //! The answers of `solve`.
-ghost use Rattle.std.specs.Prelude.{◌≡◌, ◌<◌, ◌*◌, List, ℕ, IfOk};
+ghost use Rattle.std.specs.Prelude.{◌≡◌, ◌*◌, ℕ, IfOk};
 ghost use Rattle.puzzles.specs.Common.{FitsIn, needs_of, IsTrueOf, verdict_of};
 ghost use Rattle.puzzles.specs.Each.{HasAnswers};
 ghost use Rattle.puzzles.specs.Allowed.{AllowsSolve, SolvesId};

@@ -1,5 +1,5 @@
 //! The answers of `check`.
-ghost use Rattle.std.specs.Prelude.{◌≡◌, ◌≤◌, ◌++◌, Some, None, IfOk, OnOk, codes, decimal, string_bytes};
+ghost use Rattle.std.specs.Prelude.{◌≡◌, ◌≤◌, ◌++◌, Some, None, IfOk, codes, decimal};
 ghost use Rattle.puzzles.specs.CheckAnswers.{checked, place_text};
 ghost use Rattle.puzzles.specs.Replies.{refused, answer_in};
 

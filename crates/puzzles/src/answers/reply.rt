@@ -1,6 +1,5 @@
 //! A text with the status that goes with it.
-ghost use Rattle.std.specs.Prelude.{◌≡◌, ◌*◌, [], ◌≢◌, ◌++◌, ◌<◌, IfOk, OnOk, codes, decimal, string_bytes};
-ghost use Rattle.gameid_core.specs.declared.id.fault.IdFault.TheVariants.{Memory};
+ghost use Rattle.std.specs.Prelude.{◌≡◌, ◌++◌, IfOk, OnOk, string_bytes};
 ghost use Rattle.puzzles.specs.Answers.{IsGridFor, answer_with};
 ghost use Rattle.puzzles.specs.Replies.{answer_in, code_of, fault_text, grid_of, refused, two_grids};
 

@@ -1,7 +1,6 @@
 //! Lines that come in chunks, of which no more than an ID's length is kept.
-ghost use Rattle.std.specs.Prelude.{◌≡◌, ◌<◌, ◌≤◌, ◌++◌, ◌∷◌, [], List, ℕ, OnOk, MatchOption, ◌==◌, length};
+ghost use Rattle.std.specs.Prelude.{◌≡◌, ◌++◌, ◌∷◌, [], List, ℕ, OnOk, ◌==◌, length};
 ghost use Rattle.std.specs.Str.Lines.{strip_carriage_return};
-ghost use Rattle.gameid_core.specs.Head.{max_id};
 ghost use Rattle.puzzles.specs.Batches.{IsLine, Holds, next_tail};
 
 use gameid_core::MAX_ID;

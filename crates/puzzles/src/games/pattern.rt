@@ -1,6 +1,6 @@
 //! Pattern, as the commands play it.
 ghost use Rattle.std.specs.Prelude.{◌+◌};
-ghost use Rattle.puzzles.specs.Common.{Pattern, line_rules};
+ghost use Rattle.puzzles.specs.Common.{line_rules};
 ghost use Rattle.puzzles.specs.PatternPlayed.{pattern_name, pattern_played};
 
 use crate::answers::check_reply::{correct_reply, wrong_line_reply};

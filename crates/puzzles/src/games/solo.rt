@@ -1,7 +1,7 @@
 //! Solo, as the commands play it. It is graded by three rule sets in turn, and else by a search.
 ghost use Rattle.std.specs.Prelude.{◌≡◌, false, length};
 ghost use Rattle.puzzles.specs.Allowed.{IsGradedAfterSingles};
-ghost use Rattle.puzzles.specs.Common.{Solo, houses_rules, scopes_of};
+ghost use Rattle.puzzles.specs.Common.{houses_rules, scopes_of};
 ghost use Rattle.puzzles.specs.SoloPlayed.{solo_name, solo_played};
 ghost use Rattle.puzzles.specs.Stops.{LeavesSink, Told};
 
