@@ -1,5 +1,15 @@
 //! What ties the commands to one another. These calls do nothing: their contracts are the laws.
+ghost use Rattle.std.specs.Prelude.{ℕ};
+ghost use Rattle.puzzles.specs.Common.{Game};
+ghost use Rattle.puzzles.specs.Allowed.{AllowsSolve};
+ghost use Rattle.puzzles.specs.Each.{HasAnswers};
 ghost use Rattle.puzzles.specs.LawsOfCommands.{FixedRequestsHaveOneAnswer, CorrectGridsAreSolutions, CorrectGridsAreTheOneTold, SolvedGridsPass, GradedPuzzlesHaveOne, GradesGoWithVerdicts, RuleSetsNeedNoTrial, LightsNeedTheirClues, MadePuzzlesAreSolved, SoloNeedsItsClues, RewritingKeepsChecking, RewritingKeepsGrading, RewritingKeepsPuzzles, RewritingKeepsSolving};
+
+/// Each text has an answer of `solve`, for each game and budget: it spells a puzzle or has a fault,
+/// and the verdict of a puzzle's walk is right of its solutions.
+pub fn each_text_has_an_answer()
+    ensures { (game : Game) (budget : ℕ) → HasAnswers (AllowsSolve game budget) }
+{}
 
 /// A `solve`, a `check`, a `grade` without a trace, a `generate` of Pattern or Tents and words that
 /// are refused have exactly one answer that is allowed, on each input.

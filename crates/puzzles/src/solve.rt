@@ -1,7 +1,6 @@
 //! The answers of `solve`.
-ghost use Rattle.std.specs.Prelude.{◌≡◌, ◌*◌, ℕ, IfOk};
+ghost use Rattle.std.specs.Prelude.{◌≡◌, ◌*◌, IfOk};
 ghost use Rattle.puzzles.specs.Common.{FitsIn, needs_of, IsTrueOf, verdict_of};
-ghost use Rattle.puzzles.specs.Each.{HasAnswers};
 ghost use Rattle.puzzles.specs.Allowed.{AllowsSolve, SolvesId};
 ghost use Rattle.puzzles.specs.Replies.{answer_in, verdict_told};
 
@@ -118,10 +117,3 @@ impl Stores {
         by_game!(task.game, solve_one::<_>(alloc, &mut self._, id, budget, text))
     }
 }
-
-/// Each text has an answer, for each game and budget: it spells a puzzle or has a fault, and the
-/// verdict of a puzzle's walk is right of its solutions. This call does nothing: its contract is
-/// the law.
-pub fn each_text_has_an_answer()
-    ensures { (game : Game) (budget : ℕ) → HasAnswers (AllowsSolve game budget) }
-{}
