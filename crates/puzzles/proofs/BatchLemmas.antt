@@ -6,11 +6,10 @@ use Rattle.std.specs.List.{All, slice_split}
 use Rattle.std.proofs.lemmas.List.Splits.{slice_split_at, slice_split_none, length-slice_split}
 use Rattle.std.proofs.lemmas.List.Elements.{All-push, All-nil}
 use Rattle.std.specs.Str.Lines.{lines, lines_of_parts, strip_carriage_return}
-use Rattle.puzzles.specs.Answers.{Answer, PutBegun, Text, Begins, IsInput, answer_with}
+use Rattle.puzzles.specs.Answers.{Answer, PutBegun, Text, Begins, IsInput, answer_with, code_of}
 use Rattle.puzzles.specs.Each.{AllowsEach, Answered, Begun, HasAnswers, Stopped, both, silence}
 use Rattle.puzzles.specs.Batches.{Batched, Holds}
 use Rattle.puzzles.specs.Texts.{Given}
-use Rattle.puzzles.specs.Replies.{code_of}
 use Rattle.puzzles.specs.declared.batch.Batch.{Batch}
 use Rattle.puzzles.specs.Runs.{Ran}
 use Rattle.puzzles.specs.declared.ends.Sink as sinks

@@ -8,10 +8,9 @@ use Rattle.gameid_core.specs.Head.{max_id}
 use Rattle.puzzles.specs.declared.batch.lines.Tail.{Tail}
 use Rattle.puzzles.specs.declared.batch.lines.Tail.TheVariants.{Nothing, Return, More}
 use Rattle.puzzles.specs.declared.batch.lines.Line.{Line}
-use Rattle.puzzles.specs.Answers.{Answer, Text}
+use Rattle.puzzles.specs.Answers.{Answer, Text, code_of}
 use Rattle.puzzles.specs.Each.{AllowsEach, Answered, Begun, HasAnswers, Stopped, both}
 use Rattle.puzzles.specs.Texts.{Given}
-use Rattle.puzzles.specs.Replies.{code_of}
 use Rattle.puzzles.specs.Allowed.{AllowsSolve}
 use Rattle.puzzles.specs.declared.answers.status.Status.{Status}
 use Rattle.puzzles.specs.declared.batch.Batch.{Batch}

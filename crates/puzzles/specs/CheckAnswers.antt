@@ -1,9 +1,10 @@
 -- What `check` takes for a grid, and what it answers to an input, given a puzzle.
 use Rattle.std.specs.Prelude.{◌∷◌, ◌==◌, ◌&&◌, [], Bool, false, if◌then◌else◌, ◌≡◌, ◌≤◌, ◌⊎◌, ◌++◌, ◌/◌, ◌%◌, ℕ, List, Option, Some, None, length, codes, decimal, option_map}
 use Rattle.puzzles.specs.Common.{Extent, IsPrinted, IsAsShown, grid_text}
-use Rattle.puzzles.specs.Answers.{Text, Answer}
+use Rattle.puzzles.specs.Answers.{Text, Answer, answer_with, code_of}
 use Rattle.puzzles.specs.Replies.{refused}
 use Rattle.puzzles.specs.Texts.{text_limit}
+use Rattle.puzzles.specs.declared.answers.status.Status.TheVariants.{Fine, Wrong}
 
 -- a line end, byte 10, comes first
 abbrev pub begins_with_line_end : Text → Bool
@@ -19,8 +20,8 @@ without_returns (byte ∷ rest) =
 
 -- nothing is wrong; or this is
 abbrev pub checked : Option Text → Answer
-checked None = record { text = codes "correct\n"; status = 0 }
-checked (Some fault) = record { text = codes "wrong: " ++ fault ++ codes "\n"; status = 1 }
+checked None = answer_with (codes "correct\n") (code_of Fine)
+checked (Some fault) = answer_with (codes "wrong: " ++ fault ++ codes "\n") (code_of Wrong)
 
 -- a place of a grid with so many columns: its column and its row
 abbrev pub place_text : ℕ → ℕ → Text

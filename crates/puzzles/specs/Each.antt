@@ -1,11 +1,12 @@
 -- The answers to lines, in turn.
 use Rattle.std.specs.Prelude.{◌≡◌, ◌++◌, ℕ, List, [], ◌∷◌, max}
-use Rattle.puzzles.specs.Answers.{Answer, BeginsAnswer, Text}
+use Rattle.puzzles.specs.Answers.{Answer, BeginsAnswer, Text, answer_with, code_of}
+use Rattle.puzzles.specs.declared.answers.status.Status.TheVariants.{Fine}
 use Rattle.std.specs.Str.Lines.{lines}
 
 -- nothing is said
 abbrev pub silence : Answer
-silence = record { text = []; status = 0 }
+silence = answer_with [] (code_of Fine)
 
 -- one answer after the other, with the greater status
 abbrev pub both : Answer → Answer → Answer

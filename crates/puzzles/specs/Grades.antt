@@ -3,8 +3,9 @@
 use Rattle.std.specs.Prelude.{◌≡◌, ◌≢◌, ◌++◌, ℕ, Bool, List, [], ◌∷◌, if◌then◌else◌, codes, decimal, ⊤}
 use Rattle.engine_core.specs.Verdict.{Outcome.NoGrid, Outcome.OneGrid, Outcome.TwoGrids, Outcome.OutOfBudget, trials_in}
 use Rattle.puzzles.specs.Common.{Puzzle, is_settled, Outcome, verdict_of, walk}
-use Rattle.puzzles.specs.Answers.{Answer, Text}
+use Rattle.puzzles.specs.Answers.{Answer, Text, code_of}
 use Rattle.puzzles.specs.Traces.{IsTrace}
+use Rattle.puzzles.specs.declared.answers.status.Status.TheVariants as status
 use Rattle.puzzles.specs.declared.grade.Grade.{Grade}
 use Rattle.puzzles.specs.declared.grade.Grade.TheVariants.{ByRules, BySearch, NoSolution, SeveralSolutions, GaveUp}
 use Rattle.puzzles.specs.declared.grade.RuleSet.{RuleSet}
@@ -79,11 +80,11 @@ grade_text SeveralSolutions = codes "several"
 grade_text GaveUp = codes "gave up"
 
 abbrev pub grade_status : Grade → ℕ
-grade_status (ByRules set) = 0
-grade_status (BySearch trials) = 0
-grade_status NoSolution = 1
-grade_status SeveralSolutions = 3
-grade_status GaveUp = 4
+grade_status (ByRules set) = code_of status.Fine
+grade_status (BySearch trials) = code_of status.Fine
+grade_status NoSolution = code_of status.Wrong
+grade_status SeveralSolutions = code_of status.Several
+grade_status GaveUp = code_of status.GaveUp
 
 -- the grade's line, and the lines of a trace
 pub record TellsGrade (grade : Grade) (traced : Bool) (tells : Text → Type 0)

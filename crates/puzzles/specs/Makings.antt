@@ -2,7 +2,8 @@
 use Rattle.std.specs.Prelude.{◌≡◌, ◌++◌, ℕ, Bool, false, List, codes}
 use Rattle.maker_core.specs.Draws.{Making, NonePasses}
 use Rattle.puzzles.specs.Common.{Stream, SizeRead, NoneFound, Kept}
-use Rattle.puzzles.specs.Answers.{Answer, Text}
+use Rattle.puzzles.specs.Answers.{Answer, Text, answer_with, code_of}
+use Rattle.puzzles.specs.declared.answers.status.Status.TheVariants.{Fine, GaveUp}
 
 -- What a puzzle is made by: the words of the seed's generator, the trials of each verdict, the
 -- fillings that may be made, and the percentage of black cells.
@@ -14,11 +15,11 @@ pub record Wanted : Type 0 where
 
 -- a puzzle by its written ID, with its solution
 abbrev pub made_answer : Text → Text → Answer
-made_answer id grid = record { text = id ++ codes "\n" ++ grid; status = 0 }
+made_answer id grid = answer_with (id ++ codes "\n" ++ grid) (code_of Fine)
 
 -- no try made a puzzle with one solution
 abbrev pub exhausted_answer : Answer
-exhausted_answer = record { text = codes "exhausted\n"; status = 4 }
+exhausted_answer = answer_with (codes "exhausted\n") (code_of GaveUp)
 
 -- a puzzle is told that was made with that solution and with what is known of each clue that was
 -- left; its ID spells it

@@ -1,24 +1,15 @@
--- What is said: the statuses of answers, what is said of a refusal, and the answers of `solve`,
--- given how their grids are printed.
-use Rattle.std.specs.Prelude.{ℕ, ◌≡◌, ◌++◌, [], Result, Err, codes, decimal, List, string_bytes, ◌≢◌, Some, None, ⊤}
+-- What is said of a refusal, and the answers of `solve`, given how their grids are printed.
+use Rattle.std.specs.Prelude.{ℕ, ◌≡◌, ◌++◌, [], Result, Err, codes, decimal, List, string_bytes, Some, None}
 use Rattle.gameid_core.specs.declared.id.fault.IdFault.TheVariants.{TooLong, SeedId, NoColon, BadSize, Variant, SizeRange, BadByte, NumberRange, LineTooFull, TooFew, TooMany, Memory}
 use Rattle.gameid_core.specs.declared.grids.printed.Printed as printed
 use Rattle.engine_core.specs.Verdict.{Outcome.NoGrid, Outcome.OneGrid, Outcome.TwoGrids, Outcome.OutOfBudget}
 use Rattle.puzzles.specs.Common.{IdFault, grid_text, Puzzle, Outcome, verdict_of}
-use Rattle.puzzles.specs.declared.answers.status.Status.{Status}
 use Rattle.puzzles.specs.declared.answers.status.Status.TheVariants.{Fine, Wrong, Refused, Several, GaveUp}
-use Rattle.puzzles.specs.Answers.{Answer, Text}
+use Rattle.puzzles.specs.Answers.{Answer, Text, answer_with, code_of}
 use Rattle.puzzles.specs.declared.answers.reply.Reply.{Reply}
 
-abbrev pub code_of : Status → ℕ
-code_of Fine = 0
-code_of Wrong = 1
-code_of Refused = 2
-code_of Several = 3
-code_of GaveUp = 4
-
 abbrev pub refused : Text → Answer
-refused cause = record { text = codes "refused: " ++ cause ++ codes "\n"; status = 2 }
+refused cause = answer_with (codes "refused: " ++ cause ++ codes "\n") (code_of Refused)
 
 abbrev pub refused_words : Answer
 refused_words = refused (codes "words")
@@ -45,21 +36,21 @@ pub record IsRefused {P : Type 0} (reading : Result P IdFault) (answer : Answer)
   pub told : answer ≡ refused (fault_text fault)
 
 abbrev pub answer_in : Reply → Answer
-answer_in r = record { text = string_bytes r.text; status = code_of r.status }
+answer_in r = answer_with (string_bytes r.text) (code_of r.status)
 
 abbrev pub none_answer : Answer
-none_answer = record { text = codes "none\n"; status = 1 }
+none_answer = answer_with (codes "none\n") (code_of Wrong)
 
 abbrev pub one_answer : Text → Answer
-one_answer grid = record { text = codes "one\n" ++ grid; status = 0 }
+one_answer grid = answer_with (codes "one\n" ++ grid) (code_of Fine)
 
 abbrev pub several_answer : Text → Text → Answer
 several_answer first second =
-    record { text = codes "several\n" ++ first ++ codes "\n" ++ second; status = 3 }
+    answer_with (codes "several\n" ++ first ++ codes "\n" ++ second) (code_of Several)
 
 -- with nothing where no grid was found
 abbrev pub gave_up_answer : Text → Answer
-gave_up_answer grid = record { text = codes "gave up\n" ++ grid; status = 4 }
+gave_up_answer grid = answer_with (codes "gave up\n" ++ grid) (code_of GaveUp)
 
 -- how a grid of a puzzle is printed, and the answer with two of them
 abbrev pub grid_of : {P : Type 0} → printed.Ghosts P → P → List ℕ → Text

@@ -1,8 +1,8 @@
 //! Many IDs, one a line.
 ghost use Rattle.std.specs.Prelude.{◌≡◌, ◌∷◌, [], max, true, false, IfOk, IfErr, OnErr, OnOk};
-ghost use Rattle.puzzles.specs.Answers.{PutBegun, Text};
+ghost use Rattle.puzzles.specs.Answers.{PutBegun, Text, code_of};
 ghost use Rattle.puzzles.specs.Batches.{AllowsLines, EndsIn, EndsWith, GoesOn, StopsIn, StopsReading, TakesTask, AllowsTask, Holds, IsLine};
-ghost use Rattle.puzzles.specs.Replies.{answer_in, code_of};
+ghost use Rattle.puzzles.specs.Replies.{answer_in};
 ghost use Rattle.puzzles.specs.Runs.{AreNew};
 ghost use Rattle.puzzles.specs.Stops.{LeavesEnds, Runs, StopsWith, is_broken};
 ghost use Rattle.puzzles.specs.declared.answers.status.Status.TheVariants.{Fine};

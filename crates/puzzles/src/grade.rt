@@ -4,7 +4,8 @@ ghost use Rattle.puzzles.specs.Common.{Solves, needs_of, FitsIn};
 ghost use Rattle.puzzles.specs.Games.{played};
 ghost use Rattle.puzzles.specs.Grades.{grade_status, grade_text, rule_set_text};
 ghost use Rattle.puzzles.specs.Allowed.{AreTold, GradeTold, GradesId, IsGradeAfter, IsGraded, IsToldBySweeps};
-ghost use Rattle.puzzles.specs.Replies.{code_of, refused, fault_text};
+ghost use Rattle.puzzles.specs.Answers.{code_of};
+ghost use Rattle.puzzles.specs.Replies.{refused, fault_text};
 ghost use Rattle.puzzles.specs.Stops.{LeavesSink, Told};
 ghost use Rattle.puzzles.specs.Traces.{TellsSweeps};
 

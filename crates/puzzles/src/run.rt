@@ -8,7 +8,7 @@ ghost use Rattle.puzzles.specs.Runs.{AreNew, IsBroken, Ran};
 ghost use Rattle.puzzles.specs.Stops.{LeavesEnds, Runs};
 
 use crate::answers::reply::{Reply, words_reply};
-use crate::answers::status::{Ended, NO_MEMORY, Status};
+use crate::answers::status::{BROKEN, Ended, NO_MEMORY, Status};
 use crate::batch::solve_lines;
 use crate::check::check_id;
 use crate::ends::output::deliver;
@@ -76,11 +76,11 @@ pub fn run<I: Source, O: Sink>(alloc: Global, words: &[String], input: &mut I, o
     requires output_fine { O.has_failed output.old ≡ false }
     ensures ran { Ran I.Source O.Sink (Allows (request_of words.now))
         input.old input.new output.old output.new result }
-    ensures status { result ≤ 6 }
+    ensures status { result ≤ BROKEN }
     ensures sound { result ≤ NO_MEMORY
         → (I.has_failed input.new ≡ false) × (O.has_failed output.new ≡ false) }
     ensures sent { result < NO_MEMORY → O.is_flushed output.new ≡ true }
-    ensures broken { result ≡ 6 → IsBroken I.Source input.new (O.has_failed output.new) }
+    ensures broken { result ≡ BROKEN → IsBroken I.Source input.new (O.has_failed output.new) }
     ensures unread { reads_input (request_of words.now) ≡ false → I.call_count input.new ≡ 0 }
     ensures ended { reads_input (request_of words.now) ≡ true → result < NO_MEMORY
         → I.has_ended input.new ≡ true }

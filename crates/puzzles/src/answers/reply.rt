@@ -1,7 +1,7 @@
 //! A text with the status that goes with it.
 ghost use Rattle.std.specs.Prelude.{◌≡◌, ◌++◌, IfOk, OnOk, string_bytes};
-ghost use Rattle.puzzles.specs.Answers.{IsGridFor, answer_with};
-ghost use Rattle.puzzles.specs.Replies.{answer_in, code_of, fault_text, grid_of, refused, two_grids};
+ghost use Rattle.puzzles.specs.Answers.{IsGridFor, answer_with, code_of};
+ghost use Rattle.puzzles.specs.Replies.{answer_in, fault_text, grid_of, refused, two_grids};
 
 use crate::answers::decimal::push_numbered;
 use crate::answers::status::Status;

@@ -1,7 +1,6 @@
 //! How a run ends: the status of its answer, or why it stopped before that was whole.
 ghost use Rattle.std.specs.Prelude.{◌≡◌, max};
-ghost use Rattle.puzzles.specs.Replies.{code_of};
-ghost use Rattle.puzzles.specs.Stops.{status_of};
+ghost use Rattle.puzzles.specs.Answers.{code_of, status_of};
 ghost use Rattle.puzzles.specs.declared.answers.status.Stop.TheVariants.{Memory};
 
 use std::alloc::AllocError;

@@ -3,7 +3,7 @@ use Rattle.puzzles.specs.Batches.{AllowsTask}
 use Rattle.puzzles.proofs.BatchLemmas.{ran_answered, ran_begun, ran_stopped}
 use Rattle.puzzles.proofs.GameFacts.{answers}
 use Rattle.puzzles.proofs.RunLemmas.{is_late}
-use Rattle.puzzles.specs.Replies.{code_of}
+use Rattle.puzzles.specs.Answers.{code_of}
 use Rattle.puzzles.proofs.batch.answer_lines.Goals as goal
 
 pub returns-in_err-take_input-clause-ran : goal.returns-in_err-take_input-clause-ran
