@@ -9,13 +9,14 @@ use Rattle.maker_core.specs.LightMaking.{IsLightMade}
 use Rattle.maker_core.specs.SoloClues.{solo_game}
 use Rattle.maker_core.specs.declared.made.Why.TheVariants.{Needed}
 use Rattle.puzzles.specs.Common.{Stream, Extent, Game, IsPrinted, Light, Solo, IsSoloMade, Kept}
-use Rattle.puzzles.specs.Answers.{Answer, Text, Begins}
+use Rattle.puzzles.specs.Answers.{Answer, Text, Begins, code_of}
 use Rattle.puzzles.specs.Games.{played, puzzle_of}
 use Rattle.puzzles.specs.Allowed.{Allows, AllowsCheck, AllowsSolve, AllowsGrade, is_read, AllowsMade}
 use Rattle.puzzles.specs.Requests.{Asked, solve, check, grade, generate}
 use Rattle.puzzles.specs.CheckAnswers.{checked, without_returns}
 use Rattle.puzzles.specs.Replies.{one_answer, several_answer}
 use Rattle.puzzles.specs.Grades.{rule_set_text}
+use Rattle.puzzles.specs.declared.answers.status.Status.TheVariants.{Fine, Wrong, Several, GaveUp}
 use Rattle.puzzles.specs.declared.grade.RuleSet.{RuleSet}
 use Rattle.puzzles.specs.declared.grade.RuleSet.TheVariants.{Singles, Houses, Crossings, Lines, Local}
 use Rattle.puzzles.specs.Makings.{made_answer}
@@ -64,9 +65,10 @@ Passes checks input = (said : Answer) → checks input said ↔ (said ≡ checke
 
 -- the one grid that is told passes; and so do both of two, which are printed differently
 pub record ArePassed (checks : Text → Answer → Type 0) (solved : Answer) : Type 0 where
-  pub one : solved.status ≡ 0 → (grid : Text) × (solved ≡ one_answer grid) × Passes checks grid
-  pub several : solved.status ≡ 3 → (first : Text) × (second : Text)
-      × (solved ≡ several_answer first second)
+  pub one : solved.status ≡ code_of Fine
+      → (grid : Text) × (solved ≡ one_answer grid) × Passes checks grid
+  pub several : solved.status ≡ code_of Several
+      → (first : Text) × (second : Text) × (solved ≡ several_answer first second)
       × (first ≢ second) × Passes checks first × Passes checks second
 
 abbrev pub SolvedGridsPass : Type 0
@@ -77,22 +79,23 @@ SolvedGridsPass = (game : Game) (id : Text) (budget : ℕ) (solved : Answer)
 -- where an input is correct, the ID is never told to have no solution, whatever the budget
 abbrev pub CorrectGridsAreSolutions : Type 0
 CorrectGridsAreSolutions = (game : Game) (id input : Text) (budget : ℕ) (given solved : Answer)
-    → AllowsCheck game id input given → given.status ≡ 0 → AllowsSolve game budget id solved
-    → solved.status ≢ 1
+    → AllowsCheck game id input given → given.status ≡ code_of Fine
+    → AllowsSolve game budget id solved → solved.status ≢ code_of Wrong
 
 -- where the ID is told to have one, the input is that grid's printed form, but for its line ends
 abbrev pub CorrectGridsAreTheOneTold : Type 0
 CorrectGridsAreTheOneTold = (game : Game) (id input grid : Text) (budget : ℕ)
     (given solved : Answer)
-    → AllowsCheck game id input given → given.status ≡ 0 → AllowsSolve game budget id solved
-    → solved ≡ one_answer grid → IsPrinted (without_returns input) grid
+    → AllowsCheck game id input given → given.status ≡ code_of Fine
+    → AllowsSolve game budget id solved → solved ≡ one_answer grid
+    → IsPrinted (without_returns input) grid
 
--- Statuses with the same budget: each of a grade but 0 is that of the verdict, and each of a
--- verdict but 4 is the grade's. So `none` and `several` of the one exclude every other verdict of
--- the other.
+-- Statuses with the same budget: each of a grade but `Fine` is that of the verdict, and each of a
+-- verdict but `GaveUp` is the grade's. So `none` and `several` of the one exclude every other
+-- verdict of the other.
 pub record GoesAlong (graded solved : ℕ) : Type 0 where
-  pub by_grade : graded ≢ 0 → graded ≡ solved
-  pub by_verdict : solved ≢ 4 → graded ≡ solved
+  pub by_grade : graded ≢ code_of Fine → graded ≡ solved
+  pub by_verdict : solved ≢ code_of GaveUp → graded ≡ solved
 
 abbrev pub GradesGoWithVerdicts : Type 0
 GradesGoWithVerdicts = (game : Game) (id : Text) (budget : ℕ) (traced : Bool)
@@ -110,7 +113,8 @@ pub record IsOneWithEnough (game : Game) (id : Text) : Type 0 where
 -- a grade that names a rule set or a search is that of such an ID
 abbrev pub GradedPuzzlesHaveOne : Type 0
 GradedPuzzlesHaveOne = (game : Game) (id : Text) (budget : ℕ) (traced : Bool) (graded : Answer)
-    → AllowsGrade game id budget traced graded → graded.status ≡ 0 → IsOneWithEnough game id
+    → AllowsGrade game id budget traced graded → graded.status ≡ code_of Fine
+    → IsOneWithEnough game id
 
 -- what the rule set strikes, the rules of its game's search strike too
 abbrev pub is_within_search : RuleSet → Bool
@@ -130,7 +134,7 @@ abbrev pub RuleSetsNeedNoTrial : Type 0
 RuleSetsNeedNoTrial = (game : Game) (id : Text) (budget : ℕ) (traced : Bool)
     (solved graded : Answer)
     → AllowsSolve game 0 id solved → AllowsGrade game id budget traced graded → NamesRules graded
-    ↔ (solved.status ≡ 0)
+    ↔ (solved.status ≡ code_of Fine)
 
 -- An ID is handed out with a grid. The ID is read, with that budget the one answer to it is that
 -- this grid is the solution, and the grid passes.
@@ -144,7 +148,7 @@ pub record IsSolvedAsMade (game : Game) (budget : ℕ) (answer : Answer) : Type 
 
 abbrev pub MadePuzzlesAreSolved : Type 0
 MadePuzzlesAreSolved = (game : Game) (size : Text) (seed budget tries black : ℕ) (answer : Answer)
-    → AllowsMade game size seed budget tries black answer → answer.status ≡ 0
+    → AllowsMade game size seed budget tries black answer → answer.status ≡ code_of Fine
     → IsSolvedAsMade game budget answer
 
 -- the clue of that cell was left since it is needed
@@ -157,14 +161,14 @@ SoloNeedsItsClues = (c r : ℕ) (x : Bool) (budget tries : ℕ) (s : Stream) (p 
     (kept : List Kept) (place : ℕ)
     → IsSoloMade c r x budget tries s p g kept → IsNeeded kept place
     → (id : Text) (any : ℕ) (said : Answer) → SpellsSolo id (solo_game.without p place)
-    → AllowsSolve game.Solo any id said → said.status ≢ 0
+    → AllowsSolve game.Solo any id said → said.status ≢ code_of Fine
 
 abbrev pub LightsNeedTheirClues : Type 0
 LightsNeedTheirClues = (size : Extent) (black budget tries : ℕ) (s : Stream) (p : Light)
     (g : List ℕ) (kept : List Kept) (place : ℕ)
     → IsLightMade size black budget tries s p g kept → IsNeeded kept place
     → (id : Text) (any : ℕ) (said : Answer) → SpellsLight id (light_game.without p place)
-    → AllowsSolve game.LightUp any id said → said.status ≢ 0
+    → AllowsSolve game.LightUp any id said → said.status ≢ code_of Fine
 
 -- one answer is allowed, and no other
 pub record HasOneAnswer (allows : Answer → Type 0) : Type 0 where
