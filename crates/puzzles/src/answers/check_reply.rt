@@ -54,11 +54,9 @@ pub fn wrong_reply(alloc: Global, rule: &str) -> Result<Reply, AllocError>
 pub fn wrong_line_reply(alloc: Global, kind: &str, line: usize) -> Result<Reply, AllocError>
     ensures { IfOk result (λ r. answer_in r ≡ checked (Some (kind.now ++ decimal line))) }
 {
-    let mut text = String::from_str(alloc, "wrong: ")?;
-    push_numbered(&mut text, kind, line)?;
-    text.push_str("\n")?;
-    let status = Status::Wrong;
-    Ok(Reply { text, status })
+    let mut rule = String::new(alloc);
+    push_numbered(&mut rule, kind, line)?;
+    wrong_reply(alloc, rule.as_str())
 }
 
 /// The answer to a grid that breaks a rule at a place of so many columns: the place's column, a
@@ -77,12 +75,9 @@ pub fn wrong_place_reply(
     ensures { IfOk result
         (λ r. answer_in r ≡ checked (Some (kind.now ++ place_text columns place))) }
 {
-    let mut text = String::from_str(alloc, "wrong: ")?;
-    text.push_str(kind)?;
-    push_number(&mut text, place % columns)?;
-    text.push_str(",")?;
-    push_number(&mut text, place / columns)?;
-    text.push_str("\n")?;
-    let status = Status::Wrong;
-    Ok(Reply { text, status })
+    let mut rule = String::from_str(alloc, kind)?;
+    push_number(&mut rule, place % columns)?;
+    rule.push_str(",")?;
+    push_number(&mut rule, place / columns)?;
+    wrong_reply(alloc, rule.as_str())
 }
