@@ -10,10 +10,10 @@ ghost use Rattle.puzzles.specs.Stops.{LeavesEnds, Runs};
 pub mod checked;
 
 use crate::answers::check_reply::grid_refused;
-use crate::answers::reply::{Reply, id_refused};
+use crate::answers::reply::Reply;
 use crate::answers::status::{Ended, Stop};
 use crate::check::checked::Checked;
-use crate::ends::output::deliver;
+use crate::ends::output::{deliver, refuse};
 use crate::ends::text::{read_whole, without_returns};
 use crate::ends::{Sink, Source};
 use crate::games::by_game;
@@ -72,10 +72,7 @@ fn check_one<P: Checked + Drop, I: Source, O: Sink>(
     match P::read_id(alloc, id) {
         Ok(puzzle) => check_input(alloc, &puzzle, input, output),
         Err(IdFault::Memory) => Err(Stop::Memory),
-        Err(fault) => {
-            let reply = id_refused(String::new(alloc), fault)?;
-            deliver(output, &reply)
-        }
+        Err(fault) => refuse(alloc, fault, output),
     }
 }
 

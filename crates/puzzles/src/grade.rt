@@ -5,7 +5,6 @@ ghost use Rattle.puzzles.specs.Games.{played};
 ghost use Rattle.puzzles.specs.Grades.{grade_status, grade_text, rule_set_text};
 ghost use Rattle.puzzles.specs.Allowed.{AreTold, GradeTold, GradesId, IsGradeAfter, IsGraded, IsToldBySweeps};
 ghost use Rattle.puzzles.specs.Answers.{code_of};
-ghost use Rattle.puzzles.specs.Replies.{refused, fault_text};
 ghost use Rattle.puzzles.specs.Stops.{LeavesSink, Told};
 ghost use Rattle.puzzles.specs.Traces.{TellsSweeps};
 
@@ -13,10 +12,10 @@ pub mod named;
 pub mod settling;
 pub mod trace;
 
-use crate::answers::reply::{Reply, id_refused};
+use crate::answers::reply::Reply;
 use crate::answers::status::{Ended, Status, Stop};
 use crate::ends::Sink;
-use crate::ends::output::deliver;
+use crate::ends::output::{deliver, refuse};
 use crate::games::by_game;
 use crate::grade::named::Named;
 use crate::grade::trace::{push_sweeps, put_visits};
@@ -119,17 +118,6 @@ fn grade_line(alloc: Global, grade: Grade) -> Result<String, AllocError>
     }
     text.push_str("\n")?;
     Ok(text)
-}
-
-/// Refuses an ID with that first fault.
-fn refuse<O: Sink>(alloc: Global, fault: IdFault, output: &mut O) -> Ended
-    requires { O.has_failed output.old ≡ false }
-    ensures told { Told O.takes (λ a. a ≡ refused (fault_text fault)) output.old output.new
-        result }
-    ensures left { LeavesSink O.Sink output.new result }
-{
-    let reply = id_refused(String::new(alloc), fault)?;
-    deliver(output, &reply)
 }
 
 impl Attempt {

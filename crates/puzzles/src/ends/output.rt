@@ -1,12 +1,14 @@
 //! Texts on their way to a sink.
 ghost use Rattle.std.specs.Prelude.{◌≡◌, true, false, OnOk, OnErr};
 ghost use Rattle.puzzles.specs.Answers.{Delivers, PutBegun};
-ghost use Rattle.puzzles.specs.Replies.{answer_in};
-ghost use Rattle.puzzles.specs.Stops.{LeavesSink, status_in};
+ghost use Rattle.puzzles.specs.Replies.{answer_in, fault_text, refused};
+ghost use Rattle.puzzles.specs.Stops.{LeavesSink, Told, status_in};
 
-use crate::answers::reply::Reply;
+use crate::answers::reply::{Reply, id_refused};
 use crate::answers::status::{Ended, Stop};
 use crate::ends::Sink;
+use gameid_core::IdFault;
+use std::alloc::Global;
 
 /// An end failed.
 #[derive(Drop)]
@@ -55,4 +57,15 @@ pub fn deliver<O: Sink>(output: &mut O, reply: &Reply) -> Ended
         }
         Err(_) => Err(Stop::Broken),
     }
+}
+
+/// Refuses an ID with that first fault.
+pub(crate) fn refuse<O: Sink>(alloc: Global, fault: IdFault, output: &mut O) -> Ended
+    requires { O.has_failed output.old ≡ false }
+    ensures told { Told O.takes (λ a. a ≡ refused (fault_text fault)) output.old output.new
+        result }
+    ensures left { LeavesSink O.Sink output.new result }
+{
+    let reply = id_refused(String::new(alloc), fault)?;
+    deliver(output, &reply)
 }
