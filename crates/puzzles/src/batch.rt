@@ -48,6 +48,7 @@ fn line_reply(
 }
 
 impl Batch {
+    /// A batch that has taken nothing.
     fn new(alloc: Global) -> Batch
         ensures line { Holds result.line [] }
         ensures status { result.status ≡ Fine }

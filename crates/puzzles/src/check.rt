@@ -56,7 +56,7 @@ fn check_input<P: Checked, I: Source, O: Sink>(
     deliver(output, &reply)
 }
 
-/// The same for the puzzle of an ID. A fault of the ID is told, and then the input stays unread.
+/// Checks the grid of the input against the puzzle of an ID, as `check_id` says.
 fn check_one<P: Checked + Drop, I: Source, O: Sink>(
     alloc: Global,
     id: &[u8],

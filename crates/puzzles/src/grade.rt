@@ -206,7 +206,7 @@ impl Attempt {
         self.tell_with_visits(grade, puzzle, rules, &mut store, output)
     }
 
-    /// The same by rules that are closed by sweeps.
+    /// Tells the grade as `tell_by_visits` does, by rules that are closed by sweeps.
     pub(crate) fn tell_by_sweeps<P: Solvable, R: Rules, O: Sink>(
         self,
         puzzle: &P,

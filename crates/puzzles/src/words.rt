@@ -199,7 +199,7 @@ fn number(text: &str, most: u64) -> Option<u64>
     }
 }
 
-/// The same of a text, and another number where there is no text.
+/// The number of a text as `number` gives it, or another one where there is no text.
 fn number_or(text: Option<&str>, most: u64, otherwise: u64) -> Option<u64>
     requires { otherwise ≤ most }
     ensures value { result ≡ number_or otherwise most (option_map (λ s. s.now) text.entry) }

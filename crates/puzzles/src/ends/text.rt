@@ -20,7 +20,7 @@ struct Kept {
 }
 
 impl Kept {
-    /// More bytes.
+    /// Takes more bytes.
     fn take(&mut self, chunk: &[u8]) -> Result<(), AllocError>
         ensures { OnOk result ((seen : List ℕ) → IsKept self.old seen
             → IsKept self.new (seen ++ chunk.now)) }
