@@ -18,7 +18,7 @@ use Rattle.fields_core.proofs.TentLines.{line-all, line-more, line-skip, line-st
 use Rattle.fields_core.proofs.TentNext.{barred-alone, barred-tree, next-joined, next-none, passed-bare, passed-early, passed-edge, passed-start, tree-found, treeless-all}
 use Rattle.fields_core.proofs.TentNumbers.{count-none, listed-all, listed-skip}
 use Rattle.fields_core.proofs.TentPairLemmas.{count-is, listed-tents, others-unpaired, short-unpaired, whole-pairs}
-use Rattle.fields_core.proofs.TentRuleLemmas.{camp-from, camp-from-solution, camp-not, solution-from-camp, tent-table}
+use Rattle.fields_core.proofs.TentRuleLemmas.{tents-from, tents-from-solution, tents-not, solution-from-tents, tent-table}
 use Rattle.grid_core.proofs.CandidateLemmas.{all_below-from}
 use Rattle.std.proofs.lemmas.Bool.{eq-eqb, ne_eqb}
 use Rattle.std.proofs.Math.Nat.{mul-le-mul_right}
@@ -30,7 +30,7 @@ pub ruleset count_visit_laws = (striking-first, kept-first)
 
 pub ruleset house_list_laws = (below-none, below-more, append_assoc, append-nil, map-append)
 
-pub ruleset laws_laws = (rule-from-test, test-from-rule, solution-from-camp, camp-from-solution)
+pub ruleset laws_laws = (rule-from-test, test-from-rule, solution-from-tents, tents-from-solution)
 
 pub ruleset light_cells_laws = (white-at)
 
@@ -50,12 +50,12 @@ pub ruleset run_laws = (run-long, row-made, column-made, mul-le-mul_right)
 
 pub ruleset tally_laws = (tallied-first, tallied-more, tallied-whole)
 
-pub ruleset tent_check_laws = (line-start, line-skip, line-more, line-all, camp-from, all_below-from, ne_eqb, eq-eqb)
+pub ruleset tent_check_laws = (line-start, line-skip, line-more, line-all, tents-from, all_below-from, ne_eqb, eq-eqb)
 
 pub ruleset tent_houses_laws = (begun-none, begun-same, step-none, step-skip, begun-more, step-keep)
 
 pub ruleset tent_pairs_laws = (next-joined, listed-skip, listed-all, passed-start, passed-edge, passed-bare, passed-early, next-none, count-none, others-unpaired, listed-tents, count-is, whole-pairs, short-unpaired)
 
-pub ruleset tent_rules_laws = (tent-counting, as-many, bounded-listed, camp-not, after-is, tent-table, barred-tree, barred-alone, tree-found, treeless-all, start-blocked, same-shape, start-all)
+pub ruleset tent_rules_laws = (tent-counting, as-many, bounded-listed, tents-not, after-is, tent-table, barred-tree, barred-alone, tree-found, treeless-all, start-blocked, same-shape, start-all)
 
 pub ruleset tent_touch_laws = (eq-eqb, ne_eqb)

@@ -31,16 +31,16 @@ use Rattle.fields_core.proofs.TentBeside.{cell-below, cell-after, cell-in, besid
 use Rattle.std.proofs.lemmas.Grind.{common_steps}
 
 -- the parts of a solution
-pub record CampParts (p : Tents) (g : List ℕ) : Type 0 where
+pub record TentParts (p : Tents) (g : List ℕ) : Type 0 where
   pub trees : all_below (tree_right p g) (tent_cells p) ≡ true
   pub touch : all_below (touch_right p g) (tent_cells p) ≡ true
   pub columns : all_below (column_right p g) p.size.w ≡ true
   pub rows : all_below (row_right p g) p.size.h ≡ true
   pub paired : can_be_paired p g ≡ true
 
-pub camp-parts : (p : Tents) (g : List ℕ) → solves_tents p g ≡ true → CampParts p g
+pub tents-parts : (p : Tents) (g : List ℕ) → solves_tents p g ≡ true → TentParts p g
 unfolding solves_tents
-camp-parts p g on = grind (arith, common_steps, and_parts)
+tents-parts p g on = grind (arith, common_steps, and_parts)
 
 -- what is used of a puzzle
 pub record IsField (p : Tents) : Type 0 where
@@ -61,14 +61,14 @@ column-kind : (p : Tents) (x : ℕ) → IsField p → x < p.size.w → IsMet (te
 unfolding column_right
 column-kind p x field lt = met-from (tent_cells p) (solves_tents p) _ (λ d on. column-within p x d lt on) (column-distinct p.size x field.some)
     (omega (arith, column-long p.size x, field.h_few)) (omega (arith, field.number x)) (omega (arith, field.number x)) (λ g grid good.
-    let e = eqb-true (tents_in_column p.size g x) (slice_index p.counts x) (all_below-at (column_right p g) p.size.w x (camp-parts p g good).columns lt) in
+    let e = eqb-true (tents_in_column p.size g x) (slice_index p.counts x) (all_below-at (column_right p g) p.size.w x (tents-parts p g good).columns lt) in
     (omega arith, omega arith))
 
 row-kind : (p : Tents) (y : ℕ) → IsField p → y < p.size.h → IsMet (tent_cells p) (solves_tents p) (exactly (slice_index p.counts (p.size.w + y)) (row_places p.size y))
 unfolding row_right
 row-kind p y field lt = met-from (tent_cells p) (solves_tents p) _ (λ d on. row-within p y d lt on) (row-distinct p.size y)
     (omega (arith, row-long p.size y, field.w_few)) (omega (arith, field.number (p.size.w + y))) (omega (arith, field.number (p.size.w + y))) (λ g grid good.
-    let e = eqb-true (tents_in_row p.size g y) (slice_index p.counts (p.size.w + y)) (all_below-at (row_right p g) p.size.h y (camp-parts p g good).rows lt) in
+    let e = eqb-true (tents_in_row p.size g y) (slice_index p.counts (p.size.w + y)) (all_below-at (row_right p g) p.size.h y (tents-parts p g good).rows lt) in
     (omega arith, omega arith))
 
 -- ---- trees and their tents
@@ -116,7 +116,7 @@ in-range n c lt = rw (let z : 0 + c ≡ c = omega arith in get_or-range_with_len
 tree-tent : (p : Tents) (g : List ℕ) → IsGrid (tent_cells p) 2 g → solves_tents p g ≡ true → (c : ℕ) → c < tent_cells p → tree p c ≡ true → (t : ℕ) × (t < tent_cells p) × (tent g t ≡ true) × (has_place (steps p.size t 4) c ≡ true)
 unfolding tents_of
 tree-tent p g grid good c lt on =
-    let v = given p g (camp-parts p g good).paired in
+    let v = given p g (tents-parts p g good).paired in
     let is = v.1 in
     let w = has_place-at v.0 c (is.none_out c lt on) in
     let k : w.0 < length (tents_of p g) = omega (arith, w.1, is.long) in
@@ -129,7 +129,7 @@ tree-tent p g grid good c lt on =
 tent-tree : (p : Tents) (g : List ℕ) → IsGrid (tent_cells p) 2 g → solves_tents p g ≡ true → (t : ℕ) → tent g t ≡ true → (c : ℕ) × (tree p c ≡ true) × (has_place (steps p.size t 4) c ≡ true)
 unfolding tents_of
 tent-tree p g grid good t on =
-    let v = given p g (camp-parts p g good).paired in
+    let v = given p g (tents-parts p g good).paired in
     let is = v.1 in
     let tents = filter (tent g) (range_with_len 0 (tent_cells p)) in
     let w = has_place-at tents t (place-kept (tent g) (range_with_len 0 (tent_cells p)) t (in-range (tent_cells p) t (tent-in g (tent_cells p) t grid.each_cell on)) on) in
@@ -139,7 +139,7 @@ tent-tree p g grid good t on =
 -- no tent stands on a tree
 tree-bare : (p : Tents) (g : List ℕ) → solves_tents p g ≡ true → (c : ℕ) → c < tent_cells p → tree p c ≡ true → slice_index g c ≡ 0
 unfolding tree_right
-tree-bare p g good c lt on = elim (or_cases (not (tree p c)) (eqb (slice_index g c) 0) (all_below-at (tree_right p g) (tent_cells p) c (camp-parts p g good).trees lt)) [
+tree-bare p g good c lt on = elim (or_cases (not (tree p c)) (eqb (slice_index g c) 0) (all_below-at (tree_right p g) (tent_cells p) c (tents-parts p g good).trees lt)) [
   | inl bare ↦ absurd (true≢false (sym on ∙ not-true (tree p c) bare))
   | inr none ↦ eqb-true (slice_index g c) 0 none
 ]
@@ -182,7 +182,7 @@ square-apart p g grid good c d e sd se td te = elim (cases_eq d e) [
       (and_from _ _ (le-leb (d / p.size.w) (e / p.size.w + 1) (omega arith)) (le-leb (e / p.size.w) (d / p.size.w + 1) (omega arith)))
       (and_from _ _ (le-leb (d % p.size.w) (e % p.size.w + 1) (omega arith)) (le-leb (e % p.size.w) (d % p.size.w + 1) (omega arith)))) in
       let some = any_below-here (λ f. (not (eqb d f) && (are_near (d / p.size.w) (f / p.size.w) && are_near (d % p.size.w) (f % p.size.w))) && tent g f) (tent_cells p) e (tent-in g (tent_cells p) e grid.each_cell te) (and_from _ _ near te) in
-      absurd (true≢false (sym (and_from _ _ td some) ∙ not-true _ (all_below-at (touch_right p g) (tent_cells p) d (camp-parts p g good).touch (tent-in g (tent_cells p) d grid.each_cell td))))
+      absurd (true≢false (sym (and_from _ _ td some) ∙ not-true _ (all_below-at (touch_right p g) (tent_cells p) d (tents-parts p g good).touch (tent-in g (tent_cells p) d grid.each_cell td))))
 ]
 
 square-distinct : (w c : ℕ) → 1 < w → AreDistinct (square_at w c)

@@ -16,19 +16,19 @@ use Rattle.fields_core.specs.declared.tents.fault.TentFault.{TentFault}
 use Rattle.fields_core.specs.declared.tents.fault.TentFault.TheVariants.{Tree, Touch, Column, Row, Match}
 use Rattle.fields_core.proofs.LightFaultLemmas.{first-breaks}
 use Rattle.fields_core.proofs.BelowLemmas.{index_of, index-is, distinct-none-twice}
-use Rattle.fields_core.proofs.TentCounting.{CampParts, camp-parts, tents_of, IsGiven, given, tent-in}
+use Rattle.fields_core.proofs.TentCounting.{TentParts, tents-parts, tents_of, IsGiven, given, tent-in}
 use Rattle.fields_core.proofs.TentPairLemmas.{tents-distinct, tent-listed, listed-tent, pairs-from}
 use Rattle.std.proofs.lemmas.Grind.{common_steps}
 
-pub camp-from : (p : Tents) (g : List ℕ) → all_below (tree_right p g) (tent_cells p) ≡ true → all_below (touch_right p g) (tent_cells p) ≡ true
+pub tents-from : (p : Tents) (g : List ℕ) → all_below (tree_right p g) (tent_cells p) ≡ true → all_below (touch_right p g) (tent_cells p) ≡ true
     → all_below (column_right p g) p.size.w ≡ true → all_below (row_right p g) p.size.h ≡ true → true ≡ can_be_paired p g → solves_tents p g ≡ true
 unfolding solves_tents
-camp-from p g a b c d e = and_from _ _ a (and_from _ _ b (and_from _ _ c (and_from _ _ d (sym e))))
+tents-from p g a b c d e = and_from _ _ a (and_from _ _ b (and_from _ _ c (and_from _ _ d (sym e))))
 
-pub camp-not : (p : Tents) (g : List ℕ) (fault : TentFault) → IsTentFault p g (Some fault) → false ≡ solves_tents p g
-camp-not p g fault is = sym (false_from_ne_true (solves_tents p g) (λ on. broken fault is (camp-parts p g on)))
+pub tents-not : (p : Tents) (g : List ℕ) (fault : TentFault) → IsTentFault p g (Some fault) → false ≡ solves_tents p g
+tents-not p g fault is = sym (false_from_ne_true (solves_tents p g) (λ on. broken fault is (tents-parts p g on)))
   where
-    broken : (f : TentFault) → IsTentFault p g (Some f) → CampParts p g → ⊥
+    broken : (f : TentFault) → IsTentFault p g (Some f) → TentParts p g → ⊥
     broken (Tree c) is parts = first-breaks _ _ c is parts.trees
     broken (Touch c) is parts = first-breaks _ _ c is.1 parts.touch
     broken (Column x) is parts = first-breaks _ _ x is.2 parts.columns
@@ -73,10 +73,10 @@ no-two touch tent_on off on = grind (arith, common_steps)
 alone : (tent_on touched : Bool) → (tent_on ≡ true → touched ≡ false) → not (tent_on && touched) ≡ true
 alone tent_on touched none = grind (arith, common_steps, cases_Bool tent_on)
 
-pub solution-from-camp : (p : Tents) (g : List ℕ) → IsGrid (tent_cells p) 2 g → solves_tents p g ≡ true → IsTentSolution p g
+pub solution-from-tents : (p : Tents) (g : List ℕ) → IsGrid (tent_cells p) 2 g → solves_tents p g ≡ true → IsTentSolution p g
 unfolding tree_right touch_right column_right row_right
-solution-from-camp p g grid on =
-    let parts = camp-parts p g on in
+solution-from-tents p g grid on =
+    let parts = tents-parts p g on in
     let w = given p g parts.paired in
     record {
       grid = grid;
@@ -94,11 +94,11 @@ solution-from-camp p g grid on =
       paired = gives-tree p g w.0 grid.each_cell w.1;
     }
 
-pub camp-from-solution : (p : Tents) (g : List ℕ) → IsGrid (tent_cells p) 2 g → IsTentSolution p g → solves_tents p g ≡ true
+pub tents-from-solution : (p : Tents) (g : List ℕ) → IsGrid (tent_cells p) 2 g → IsTentSolution p g → solves_tents p g ≡ true
 unfolding tree_right touch_right column_right row_right
-camp-from-solution p g grid s = grind (arith, common_steps, camp-from, all_below-from, eq-eqb, pairs-from, slice_index, cases_Bool, or_left, or_right, false_from_ne_true, any_below-some, and_parts)
+tents-from-solution p g grid s = grind (arith, common_steps, tents-from, all_below-from, eq-eqb, pairs-from, slice_index, cases_Bool, or_left, or_right, false_from_ne_true, any_below-some, and_parts)
 
 -- ---- nothing is wrong exactly with solutions
 pub none-exactly : (p : Tents) (g : List ℕ) (fault : Option TentFault) → IsGrid (tent_cells p) 2 g → IsTentFault p g fault → (fault ≡ None) ↔ IsTentSolution p g
-none-exactly p g None grid is = (λ _. solution-from-camp p g grid is, λ _. refl)
-none-exactly p g (Some f) grid is = (λ e. cc, λ s. absurd (true≢false (sym (camp-from-solution p g grid s) ∙ sym (camp-not p g f is))))
+none-exactly p g None grid is = (λ _. solution-from-tents p g grid is, λ _. refl)
+none-exactly p g (Some f) grid is = (λ e. cc, λ s. absurd (true≢false (sym (tents-from-solution p g grid s) ∙ sym (tents-not p g f is))))

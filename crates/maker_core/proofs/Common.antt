@@ -51,7 +51,7 @@ pub use Rattle.fields_core.proofs.LightSight.{bulb-in}
 pub use Rattle.fields_core.proofs.StepLaws.{step-down, step-left, step-right, step-up, steps-few, steps-some}
 pub use Rattle.fields_core.proofs.TentBeside.{beside-in}
 pub use Rattle.fields_core.proofs.TentCounting.{tent-in}
-pub use Rattle.fields_core.proofs.TentRuleLemmas.{camp-from-solution, solution-from-camp}
+pub use Rattle.fields_core.proofs.TentRuleLemmas.{tents-from-solution, solution-from-tents}
 unfoldable pub use Rattle.fields_core.specs.CountHouse.{start_of}
 pub use Rattle.fields_core.specs.Light.{bulb, bulbs_beside, solves_lights, light_cells, number_is}
 unfoldable pub use Rattle.fields_core.specs.Light.{black_right, bulb_right, joined_in_column, joined_in_row, lit_right, number_right, sees, sees_bulb}

@@ -227,7 +227,7 @@ tents_checked p ok = record {
   some = λ g grid. told_some (IsTentFault p g) (tent_fault p) (tent_some p g);
   alone = λ g. told_alone (IsTentFault p g) (tent_fault p) (tent_alone p g);
   sound = λ g a grid told fine. (tents.none-exactly p g None grid (told_sound (IsTentFault p g) (tent_fault p) a told fine)).0 refl;
-  right = λ g s. told_right (IsTentFault p g) (tent_fault p) (tents.camp-from-solution p g s.grid s);
+  right = λ g s. told_right (IsTentFault p g) (tent_fault p) (tents.tents-from-solution p g s.grid s);
   shown = λ g s. record { grid = s.grid; hidden = tent_hidden p g s };
 }
 

@@ -16,8 +16,8 @@ use Rattle.fields_core.specs.declared.light_up.fault.LightFault.TheVariants as l
 use Rattle.fields_core.specs.declared.tents.fault.TentFault.{TentFault}
 use Rattle.fields_core.specs.declared.tents.fault.TentFault.TheVariants as tent
 use Rattle.fields_core.proofs.LightFaultLemmas.{first-breaks, lit-from, lit-parts}
-use Rattle.fields_core.proofs.TentCounting.{camp-parts}
-use Rattle.fields_core.proofs.TentRuleLemmas.{camp-from}
+use Rattle.fields_core.proofs.TentCounting.{tents-parts}
+use Rattle.fields_core.proofs.TentRuleLemmas.{tents-from}
 use Rattle.grid_core.specs.Lines.{line_numbers}
 use Rattle.pattern_core.specs.Lines.{HasClue, clue_of, has_runs}
 use Rattle.pattern_core.specs.declared.fault.PatternFault.{PatternFault}
@@ -124,7 +124,7 @@ module _ (p : Tents) (g : List ℕ) where
   tent_to (Some (tent.Row k)) is = inr (is.0, inr (is.1, inr (is.2, inl (k, refl, is.3))))
   tent_to (Some tent.Match) is = inr (is.0, inr (is.1, inr (is.2, inr (is.3, sym (ap tent_end is.4)))))
   tent_to None is =
-      let parts = camp-parts p g is in
+      let parts = tents-parts p g is in
       inr (parts.trees, inr (parts.touch, inr (parts.columns, inr (parts.rows, sym (ap tent_end parts.paired)))))
 
   tent_from : (o : Option TentFault) → IsFirstOf tent_tests (tent_end (can_be_paired p g)) o → IsTentFault p g o
@@ -136,7 +136,7 @@ module _ (p : Tents) (g : List ℕ) where
   tent_from o (inr (a, inr (t, inr (c, inr (r, e))))) = subst (IsTentFault p g) (sym e) (by (can_be_paired p g) refl)
     where
       by : (b : Bool) → can_be_paired p g ≡ b → IsTentFault p g (tent_end b)
-      by true is = camp-from p g a t c r (sym is)
+      by true is = tents-from p g a t c r (sym is)
       by false is = (a, t, c, r, is)
 
   pub tent_some : (fault : Option TentFault) × IsTentFault p g fault

@@ -236,7 +236,7 @@ module _ (filled : AreFilled) (size : Extent) (large : IsTentsExtent size) (budg
     where
       only : IsOnlySolution (IsTentSolution (puzzle_at k)) (filling_of k).tents × TellsOne (tent_rules (puzzle_at k)) budget (filling_of k).tents
       only = tents_only size (filling_of k) (puzzle_at k) refl (filled.solved size s k large.extent words)
-          (λ q h grid. (tents.solution-from-camp q h grid, tents.camp-from-solution q h grid)) budget
+          (λ q h grid. (tents.solution-from-tents q h grid, tents.tents-from-solution q h grid)) budget
           (has_one (tent_rules (puzzle_at k)) (tents_searched (puzzle_at k) (puzzle_lawful k)).lawful budget first.passing)
 
 pub made_tents : AreFilled → (text : Text) (seed budget tries black : ℕ) → HasOneAnswer (AllowsMade game.Tents text seed budget tries black)

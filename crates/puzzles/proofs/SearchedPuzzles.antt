@@ -58,7 +58,7 @@ pub light_accepted : (p : Light) (g : List ℕ) → Solves (light_rules p) g ↔
 light_accepted p g = (λ s. light.rule-from-test p g s.grid s.good, λ s. record { grid = s.grid; good = light.test-from-rule p g s.grid s })
 
 pub tents_accepted : (p : Tents) (g : List ℕ) → Solves (tent_rules p) g ↔ IsTentSolution p g
-tents_accepted p g = (λ s. tents.solution-from-camp p g s.grid s.good, λ s. record { grid = s.grid; good = tents.camp-from-solution p g s.grid s })
+tents_accepted p g = (λ s. tents.solution-from-tents p g s.grid s.good, λ s. record { grid = s.grid; good = tents.tents-from-solution p g s.grid s })
 
 pub pattern_searched : (p : Pattern) → IsPattern p → SearchedPuzzle (line_rules p) (IsPatternSolution p)
 pattern_searched p ok = record { lawful = line_rules-lawful p ok.size; accepted = pattern_accepted p }

@@ -1,4 +1,4 @@
-use Rattle.maker_core.proofs.Common.{refl, sym, ◌∙◌, ap, subst, Tents, tent_rules, HasOne, solution-from-camp, camp-from-solution, TentFilling, tents_puzzle_of}
+use Rattle.maker_core.proofs.Common.{refl, sym, ◌∙◌, ap, subst, Tents, tent_rules, HasOne, solution-from-tents, tents-from-solution, TentFilling, tents_puzzle_of}
 use Rattle.maker_core.proofs.TentMakings.{tents_size, tents_only}
 use Rattle.maker_core.proofs.FirstTries.{draws_first}
 use Rattle.maker_core.proofs.tents.maker.make_tents.Goals as goal
@@ -9,7 +9,7 @@ returns-clause-made g c =
     let made = c.in_ok-filling.ensures in
     let puzzle = c.in_ok-puzzle.ensures in
     let only = tents_only a.size c.in_ok-filling.filling c.in_ok-puzzle.puzzle puzzle made.known.2
-    (λ q h grid. (solution-from-camp q h grid, camp-from-solution q h grid)) a.limits.budget
+    (λ q h grid. (solution-from-tents q h grid, tents-from-solution q h grid)) a.limits.budget
     (subst (λ (p : Tents). HasOne (tent_rules p) a.limits.budget) (sym puzzle) (made.known.3 refl)) in
     record {
       k = made.first.k;
