@@ -62,9 +62,11 @@ pub struct GradeOptions {
     pub traced: bool,
 }
 
-/// One rule set that is tried on a puzzle: its name, and the grade's options.
+/// One rule set that is tried on a puzzle: its name, the grade's options, and where memory comes
+/// from.
 #[derive(Clone, Copy)]
 pub struct Attempt {
+    pub alloc: Global,
     pub set: RuleSet,
     pub options: GradeOptions,
 }
@@ -127,7 +129,6 @@ impl Attempt {
     /// nothing.
     pub fn tell_with_visits<R: Rules, P: Named, O: Sink>(
         self,
-        alloc: Global,
         grade: Grade,
         puzzle: &P,
         rules: &R,
@@ -142,7 +143,7 @@ impl Attempt {
             output.old output.new result }
         ensures left { LeavesSink O.Sink output.new result }
     {
-        let mut text = grade_line(alloc, grade)?;
+        let mut text = grade_line(self.alloc, grade)?;
         if self.options.traced {
             store.close(rules);
             put_visits(puzzle, store.trace(), &mut text, output)?;
@@ -154,7 +155,6 @@ impl Attempt {
     /// Tells a grade and, if a trace is asked for, the sweeps of a closing by these rules.
     fn tell_with_sweeps<R: Rules, O: Sink>(
         self,
-        alloc: Global,
         grade: Grade,
         rules: &R,
         store: &mut Store<R>,
@@ -167,7 +167,7 @@ impl Attempt {
             output.old output.new result }
         ensures left { LeavesSink O.Sink output.new result }
     {
-        let mut text = grade_line(alloc, grade)?;
+        let mut text = grade_line(self.alloc, grade)?;
         if self.options.traced {
             store.close(rules);
             push_sweeps(&mut text, store.sweeps())?;
@@ -185,7 +185,6 @@ impl Attempt {
     /// nothing.
     pub fn tell_by_visits<P: Solvable + Named, R: Rules, O: Sink>(
         self,
-        alloc: Global,
         puzzle: &P,
         rules: &R,
         output: &mut O,
@@ -202,15 +201,14 @@ impl Attempt {
             output.old output.new result }
         ensures left { LeavesSink O.Sink output.new result }
     {
-        let mut store = Store::new(alloc, rules)?;
-        let grade = self.grade(alloc, puzzle, rules, &mut store)?;
-        self.tell_with_visits(alloc, grade, puzzle, rules, &mut store, output)
+        let mut store = Store::new(self.alloc, rules)?;
+        let grade = self.grade(puzzle, rules, &mut store)?;
+        self.tell_with_visits(grade, puzzle, rules, &mut store, output)
     }
 
     /// Tells the grade as `tell_by_visits` does, by rules that are closed by sweeps.
     pub(crate) fn tell_by_sweeps<P: Solvable, R: Rules, O: Sink>(
         self,
-        alloc: Global,
         puzzle: &P,
         rules: &R,
         output: &mut O,
@@ -227,9 +225,9 @@ impl Attempt {
             output.old output.new result }
         ensures left { LeavesSink O.Sink output.new result }
     {
-        let mut store = Store::new(alloc, rules)?;
-        let grade = self.grade(alloc, puzzle, rules, &mut store)?;
-        self.tell_with_sweeps(alloc, grade, rules, &mut store, output)
+        let mut store = Store::new(self.alloc, rules)?;
+        let grade = self.grade(puzzle, rules, &mut store)?;
+        self.tell_with_sweeps(grade, rules, &mut store, output)
     }
 }
 

@@ -58,8 +58,8 @@ impl Graded for PatternPuzzle {
     fn tell<O: Sink>(&self, alloc: Global, options: GradeOptions, output: &mut O) -> Ended {
         let lines = self.rules(alloc)?;
         let set = RuleSet::Lines;
-        let attempt = Attempt { set, options };
-        attempt.tell_by_visits(alloc, self, &lines, output)
+        let attempt = Attempt { alloc, set, options };
+        attempt.tell_by_visits(self, &lines, output)
     }
 }
 

@@ -61,8 +61,8 @@ impl Graded for TentsPuzzle {
     fn tell<O: Sink>(&self, alloc: Global, options: GradeOptions, output: &mut O) -> Ended {
         let local = self.rules(alloc)?;
         let set = RuleSet::Local;
-        let attempt = Attempt { set, options };
-        attempt.tell_by_sweeps(alloc, self, &local, output)
+        let attempt = Attempt { alloc, set, options };
+        attempt.tell_by_sweeps(self, &local, output)
     }
 }
 

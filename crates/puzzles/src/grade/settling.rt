@@ -51,7 +51,6 @@ impl Attempt {
     /// The grade of a puzzle by these rules, the last in the list, and else by a search.
     pub fn grade<P: Solvable, R: Rules>(
         self,
-        alloc: Global,
         puzzle: &P,
         rules: &R,
         store: &mut Store<R>,
@@ -70,7 +69,7 @@ impl Attempt {
         if settles(store, rules) {
             Ok(Grade::ByRules(self.set))
         } else {
-            search_grade(alloc, puzzle, self.options.budget)
+            search_grade(self.alloc, puzzle, self.options.budget)
         }
     }
 }
