@@ -57,8 +57,11 @@ impl Checked for LightPuzzle {
 impl Graded for LightPuzzle {
     fn tell<O: Sink>(&self, alloc: Global, options: GradeOptions, output: &mut O) -> Ended {
         let local = self.rules(alloc)?;
-        let set = RuleSet::Local;
-        let attempt = Attempt { alloc, set, options };
+        let attempt = Attempt {
+            alloc,
+            set: RuleSet::Local,
+            options,
+        };
         attempt.tell_by_sweeps(self, &local, output)
     }
 }

@@ -57,8 +57,11 @@ impl Checked for PatternPuzzle {
 impl Graded for PatternPuzzle {
     fn tell<O: Sink>(&self, alloc: Global, options: GradeOptions, output: &mut O) -> Ended {
         let lines = self.rules(alloc)?;
-        let set = RuleSet::Lines;
-        let attempt = Attempt { alloc, set, options };
+        let attempt = Attempt {
+            alloc,
+            set: RuleSet::Lines,
+            options,
+        };
         attempt.tell_by_visits(self, &lines, output)
     }
 }

@@ -68,7 +68,11 @@ impl Graded for SoloPuzzle {
         if settles(&mut store, &singles) {
             let set = RuleSet::Singles;
             let grade = Grade::ByRules(set);
-            let attempt = Attempt { alloc, set, options };
+            let attempt = Attempt {
+                alloc,
+                set,
+                options,
+            };
             return attempt.tell_with_visits(grade, self, &singles, &mut store, output);
         }
         tell_by_houses(alloc, self, options, output)
@@ -92,12 +96,19 @@ fn tell_by_houses<O: Sink>(
     if settles(&mut store, &houses) {
         let set = RuleSet::Houses;
         let grade = Grade::ByRules(set);
-        let attempt = Attempt { alloc, set, options };
+        let attempt = Attempt {
+            alloc,
+            set,
+            options,
+        };
         return attempt.tell_with_visits(grade, puzzle, &houses, &mut store, output);
     }
     let crossings = SoloCrossings::new(alloc, puzzle)?;
-    let set = RuleSet::Crossings;
-    let attempt = Attempt { alloc, set, options };
+    let attempt = Attempt {
+        alloc,
+        set: RuleSet::Crossings,
+        options,
+    };
     attempt.tell_by_visits(puzzle, &crossings, output)
 }
 

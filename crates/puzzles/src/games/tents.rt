@@ -60,8 +60,11 @@ impl Checked for TentsPuzzle {
 impl Graded for TentsPuzzle {
     fn tell<O: Sink>(&self, alloc: Global, options: GradeOptions, output: &mut O) -> Ended {
         let local = self.rules(alloc)?;
-        let set = RuleSet::Local;
-        let attempt = Attempt { alloc, set, options };
+        let attempt = Attempt {
+            alloc,
+            set: RuleSet::Local,
+            options,
+        };
         attempt.tell_by_sweeps(self, &local, output)
     }
 }
