@@ -9,7 +9,8 @@ use Rattle.fields_core.specs.TentHouses.{tent_houses, is_barred}
 
 -- the count houses keep to what those of every game keep to
 abbrev pub IsLightCounting : Light → Type 0
-IsLightCounting p = IsCounting (light_cells p) (λ c. not (white p c)) (light_houses p) (solves_lights p)
+IsLightCounting p =
+    IsCounting (light_cells p) (λ c. not (white p c)) (light_houses p) (solves_lights p)
 
 abbrev pub IsTentCounting : Tents → Type 0
 IsTentCounting p = IsCounting (tent_cells p) (is_barred p) (tent_houses p) (solves_tents p)

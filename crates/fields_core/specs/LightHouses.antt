@@ -56,4 +56,5 @@ light_houses p =
 
 -- what the rules of Light Up mean to a search
 abbrev pub light_rules : Light → Puzzle
-light_rules p = count_puzzle (light_cells p) (λ c. not (white p c)) (light_houses p) (solves_lights p)
+light_rules p =
+    count_puzzle (light_cells p) (λ c. not (white p c)) (light_houses p) (solves_lights p)

@@ -77,7 +77,8 @@ pub record Tries (A : Type 0) : Type 0 where
   pub ends : A → Stream → Stream
 
 -- the filling is the first that passes, and that stream is left after it
-pub record IsFirst {A : Type 0} (t : Tries A) (s : Stream) (filling : A) (left : Stream) : Type 0 where
+pub record IsFirst {A : Type 0} (t : Tries A) (s : Stream) (filling : A) (left : Stream)
+    : Type 0 where
   pub k : ℕ
   pub first : IsFirstPassing t.make t.passes s t.count k
   pub filled : filling ≡ filling_at t.make k s

@@ -45,7 +45,8 @@ place_tent size filling c s =
     let free = free_cells_beside size filling c in
     let draw = draw_below (length free) s in
     let trees = slice_set filling.trees (slice_index free draw.0) 1 in
-    (record { trees = trees; tents = slice_set filling.tents c 1; placed = suc filling.placed }, draw.1)
+    let tents = slice_set filling.tents c 1 in
+    (record { trees = trees; tents = tents; placed = suc filling.placed }, draw.1)
 
 -- the cell is taken
 abbrev pub take_cell : Extent → TentFilling → ℕ → Making TentFilling

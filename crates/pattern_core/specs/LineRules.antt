@@ -12,7 +12,8 @@ use Rattle.pattern_core.specs.Lines.{clue_of, has_runs, IsFresh}
 
 -- whether each line's runs are its clue
 unfoldable pub is_pattern_solution : Pattern → List ℕ → Bool
-is_pattern_solution p g = all_below (λ line. has_runs (clue_of p line) (line_numbers p.size g line)) (lines_of p.size)
+is_pattern_solution p g =
+    all_below (λ line. has_runs (clue_of p line) (line_numbers p.size g line)) (lines_of p.size)
 
 -- the cells' values are 0 for white and 1 for black; a search starts from full sets; a line strikes what no filling
 -- with its clue's runs has

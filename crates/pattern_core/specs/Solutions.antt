@@ -8,8 +8,10 @@ use Rattle.gameid_core.specs.BlackRuns.{runs}
 -- the lengths of the maximal black runs of each column, downwards, and of each row, rightwards, are its clue
 pub record IsPatternSolution (p : Pattern) (g : List ℕ) : Type 0 where
   pub grid : IsGrid (p.size.w * p.size.h) 2 g
-  pub columns : (x : ℕ) → x < p.size.w → runs (column_cells p.size g x) ≡ slice_index_or p.clues x []
-  pub rows : (y : ℕ) → y < p.size.h → runs (row_cells p.size g y) ≡ slice_index_or p.clues (p.size.w + y) []
+  pub columns : (x : ℕ) → x < p.size.w
+      → runs (column_cells p.size g x) ≡ slice_index_or p.clues x []
+  pub rows : (y : ℕ) → y < p.size.h
+      → runs (row_cells p.size g y) ≡ slice_index_or p.clues (p.size.w + y) []
 
 -- the grids that the rules accept are the solutions of the puzzle
 abbrev pub AcceptsSolutions : Pattern → Puzzle → Type 0

@@ -37,7 +37,13 @@ track_of cells = record {
 
 -- the steps along a clue, as sets of places, of which `has` tells what they have
 abbrev pub along : {A : Type 0} → (A → ℕ → Bool) → Steps A → Track
-along has steps = record { stay = has steps.stay; white = has steps.white; black = has steps.black; ends = has steps.ends }
+along has steps =
+    record {
+      stay = has steps.stay;
+      white = has steps.white;
+      black = has steps.black;
+      ends = has steps.ends;
+    }
 
 -- no line goes on from so far a place
 pub record IsBelow (n : ℕ) (t : Track) : Type 0 where
@@ -112,17 +118,21 @@ sets_of sets = map (set_of_bits 2) sets
 
 -- the rows of the table from `from` on: row i has the places along the clue from which there is a way to an end, by the
 -- cells from i on
-pub record AreRows {A : Type 0} (has : A → ℕ → Bool) (t : Track) (sets : List ℕ) (rows : List A) (from : ℕ) : Type 0 where
+pub record AreRows {A : Type 0} (has : A → ℕ → Bool) (t : Track) (sets : List ℕ) (rows : List A)
+    (from : ℕ) : Type 0 where
   pub room : length sets < length rows
-  pub row : (i p : ℕ) (row : A) → from ≤ i → i ≤ length sets → has (get_or rows i row) p ≡ some_leads t (drop i (sets_of sets)) any_cells p
+  pub row : (i p : ℕ) (row : A) → from ≤ i → i ≤ length sets
+      → has (get_or rows i row) p ≡ some_leads t (drop i (sets_of sets)) any_cells p
 
 -- the bits kept of the cells before `upto` are those that some filling shows
 pub record AreKept (t : Track) (sets kept : List ℕ) (upto : ℕ) : Type 0 where
   pub as_many : length kept ≡ length sets
-  pub bits : (k v : ℕ) → k < upto → v < 2 → has_bit (get_or kept k 0) v ≡ (has_bit (get_or sets k 0) v && some_leads t (sets_of sets) (cell_is k v) 0)
+  pub bits : (k v : ℕ) → k < upto → v < 2 → has_bit (get_or kept k 0) v
+      ≡ (has_bit (get_or sets k 0) v && some_leads t (sets_of sets) (cell_is k v) 0)
 
 -- what is spelled so far: its white places, its black ones, and the place after it
-pub record IsSpelling {A : Type 0} (has : A → ℕ → Bool) (cells : List ℕ) (white black next : A) : Type 0 where
+pub record IsSpelling {A : Type 0} (has : A → ℕ → Bool) (cells : List ℕ)
+    (white black next : A) : Type 0 where
   pub whites : (p : ℕ) → has white p ≡ (get_or cells p 2 == 0)
   pub blacks : (p : ℕ) → has black p ≡ (get_or cells p 2 == 1)
   pub nexts : (p : ℕ) → has next p ≡ (p == length cells)
@@ -131,7 +141,8 @@ abbrev pub Spells : {A : Type 0} → (A → ℕ → Bool) → List ℕ → Spell
 Spells has cells s = IsSpelling has cells s.white s.black s.next
 
 -- what is spelled gets these cells more, where it has room for so many and one
-abbrev pub AddsCells : {A : Type 0} → (A → ℕ → Bool) → ℕ → ℕ → List ℕ → Spelling A → Spelling A → Type 0
+abbrev pub AddsCells : {A : Type 0} → (A → ℕ → Bool) → ℕ → ℕ → List ℕ → Spelling A → Spelling A
+    → Type 0
 AddsCells has room n more old new = (cells : List ℕ) → suc (length cells + n) < room
     → Spells has cells old → Spells has (cells ++ more) new
 

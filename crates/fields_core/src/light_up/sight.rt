@@ -97,7 +97,8 @@ fn sees_in_column(puzzle: &LightPuzzle, grid: &Grid, place: usize) -> bool
     requires fits { IsGrid (light_cells puzzle.now) 2 grid.now }
     requires place_in { place < light_cells puzzle.now }
     requires white { white puzzle.now place ≡ true }
-    ensures { SeesAlong (joined_in_column puzzle.now) (light_cells puzzle.now) grid.now place result }
+    ensures { SeesAlong (joined_in_column puzzle.now) (light_cells puzzle.now) grid.now place
+        result }
 {
     let w = columns(puzzle);
     let line = Line {

@@ -95,7 +95,8 @@ fn number_cells(puzzle: &mut LightPuzzle, grid: &Grid)
 fn light_up<G: Rng>(alloc: Global, rng: &mut G, puzzle: &LightPuzzle) -> Result<Grid, AllocError>
     ensures drawn { IfOk result (IsDrawnBy (lit_up puzzle.now) G.stream rng.old rng.new) }
     ensures grid { IfOk result (λ grid. IsGrid (light_cells puzzle.now) 2 grid) }
-    ensures solved { IfOk result (λ grid. solves_lights (with_numbers puzzle.now grid) grid ≡ true) }
+    ensures solved { IfOk result
+        (λ grid. solves_lights (with_numbers puzzle.now grid) grid ≡ true) }
 {
     let mut order = white_cells(alloc, puzzle)?;
     shuffle(rng, &mut order);
