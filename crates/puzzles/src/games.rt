@@ -16,12 +16,23 @@ use pattern_core::PatternLines;
 use solo_core::SoloHouses;
 
 /// The memory of the last searches of each game, for the next ones that it is enough for.
-#[derive(Default, Drop)]
+#[derive(Default)]
 pub struct Stores {
     pub solo: Option<Store<SoloHouses>>,
     pub pattern: Option<Store<PatternLines>>,
     pub lights: Option<Store<LightRules>>,
     pub tents: Option<Store<TentRules>>,
+}
+
+impl Drop for Stores {
+    fn drop(self) {
+        let Stores {
+            solo,
+            pattern,
+            lights,
+            tents,
+        } = self;
+    }
 }
 
 /// A call at a game, where `_` stands for the type of its puzzles, and for its field of stores.
