@@ -12,12 +12,18 @@
 # A line of a session that is run neither here nor named below, and a block of any other kind, is a failure.
 set -u
 
-# These lines are NOT run. The first two prove all crates, which takes from a quarter of an hour to some hours; Debian has no
-# Spark, on which the third runs.
+# These lines are NOT run. The first two prove all crates, which takes from a quarter of an hour to some hours. The others are of
+# Dask: two run until they are stopped, and the job needs these two. outside/dask_job.py runs that job.
+dask='/usr/bin/python3 examples/dask/job.py --lines 25 tcp://127.0.0.1:8786'
 not_run=(
     '(cd crates/puzzles && rt run -- solve pattern 5x1:1/1//1/1/2.2)'
     'rt ci'
-    'spark-submit job.py ids.txt answers'
+    'sudo apt-get install python3-distributed'
+    'dask scheduler --host 127.0.0.1 --port 8786 --no-dashboard'
+    'dask worker tcp://127.0.0.1:8786 --nworkers 4 --nthreads 1 --no-dashboard'
+    "$dask ids.txt solve pattern --budget 20000 > answers.txt"
+    "$dask ids.txt grade pattern -- {} > grades.txt"
+    "$dask seeds.txt generate tents 8x8 --seed {} > made.txt"
 )
 documents=(README.md docs/USE.md)
 tools=(python3 node parallel xargs)
