@@ -1,23 +1,22 @@
 #!/usr/bin/env python3
 """Runs two builds of the program on the same puzzles, and prints for each group what one puzzle costs in each.
 
-usage: compare.py NEW OLD [GROUP..]     NEW and OLD as `rt run` leaves a program; GROUP begins a group's name, as solo-3x3
-
 A group is some puzzles of a game and a size that the collection's own programs make (Debian's package sgt-puzzles; where
-they are not installed, `NEW generate` makes them; where that takes minutes, they are of Solo by holes in a filling), fed to
+they are not installed, `generate` of PROGRAM makes them; where that takes minutes, they are of Solo by holes in a filling), fed to
 `solve` in one run. Both programs run in turn on one core, a few rounds each. The least user time counts, less that of a run
 without input; small groups are fed several times over. Where valgrind is there, instructions are counted by callgrind on the
 group's first puzzles. The last groups time `generate`.
 Times are held against no limit: the exit status is 1 only where the answers differ.
 """
 import os
-import pathlib
 import resource
 import shutil
 import subprocess
 import sys
 
-import ids
+sys.dont_write_bytecode = True
+import ids  # noqa: E402
+import words  # noqa: E402
 
 # Game, size, what the collection's program is told beside the size, and how many puzzles.
 GROUPS = (
@@ -34,43 +33,44 @@ MADE = [("tents", "20x20"), ("lightup", "14x14"), ("pattern", "30x30"), ("solo",
 SEEDS = range(1, 9)
 MAKING_SECONDS = 60  # for the puzzles of one group
 RUN_SECONDS = 120  # for one puzzle of `generate`
+GROUP_SECONDS = 3600  # for one run of `solve`
 ENOUGH_SECONDS = 0.3  # a small group is fed over and over until a run takes so long
 LONG_SECONDS = 5  # a run that takes so long is made once
 ROUNDS = 5
 COUNTED = 5  # puzzles under callgrind
 
 
-def run(words, text=b"", limit=None):
+def run(line, text=b"", limit=GROUP_SECONDS):
     """User seconds, output and status."""
     before = resource.getrusage(resource.RUSAGE_CHILDREN).ru_utime
-    done = subprocess.run(words, input=text, capture_output=True, check=False, timeout=limit)
+    done = subprocess.run(line, input=text, capture_output=True, check=False, timeout=limit)
     return resource.getrusage(resource.RUSAGE_CHILDREN).ru_utime - before, (done.stdout, done.returncode)
 
 
-def least(words, text, rounds):
+def least(lines, text, rounds):
     """The least user seconds of each command line, run in turn, and its answer."""
-    results = [run(line, text) for line in words]
+    results = [run(line, text) for line in lines]
     times, answers = [result[0] for result in results], [result[1] for result in results]
     for _ in range(0 if max(times) > LONG_SECONDS else rounds - 1):
-        for at, line in enumerate(words):
+        for at, line in enumerate(lines):
             times[at] = min(times[at], run(line, text)[0])
     return times, answers
 
 
-def instructions(words, text):
+def instructions(line, text):
     """Instructions of one run under callgrind; nothing where there is no valgrind."""
     if not shutil.which("valgrind"):
         return None
     counter = ["valgrind", "--tool=callgrind", "--callgrind-out-file=/dev/null"]
-    done = subprocess.run([*counter, *words], input=text, capture_output=True, check=False)
-    counts = [line.rpartition(":")[2] for line in done.stderr.decode().split("\n") if "Collected" in line]
+    done = subprocess.run([*counter, *line], input=text, capture_output=True, check=False, timeout=GROUP_SECONDS)
+    counts = [told.rpartition(":")[2] for told in done.stderr.decode().split("\n") if "Collected" in told]
     return int(counts[0]) if counts else None
 
 
-def counted(words, found):
+def counted(lines, found):
     """Instructions for one puzzle in each program, and what the second needs for one of the first."""
     first = found[:COUNTED]
-    counts = [(instructions(line, "\n".join([*first, ""]).encode()), instructions(line, b"")) for line in words]
+    counts = [(instructions(line, "\n".join([*first, ""]).encode()), instructions(line, b"")) for line in lines]
     if any(whole is None or empty is None for whole, empty in counts):
         return "- | - | -"
     new, old = [(whole - empty) / len(first) for whole, empty in counts]
@@ -84,15 +84,15 @@ def compare_solving(programs, game, size, more, count):
     if not found:
         print(f"| {name} | no puzzle was made in {MAKING_SECONDS} s |", flush=True)
         return True
-    words = [[program, "solve", game] for program in programs]
+    lines = [[program, "solve", game] for program in programs]
     once = "\n".join([*found, ""]).encode()
-    quickest = max(min(run(line, once)[0] for line in words), 0.001)
+    quickest = max(min(run(line, once)[0] for line in lines), 0.001)
     times = max(1, int(ENOUGH_SECONDS / quickest))
-    empty, _ = least(words, b"", ROUNDS)
-    taken, answers = least(words, once * times, ROUNDS)
+    empty, _ = least(lines, b"", ROUNDS)
+    taken, answers = least(lines, once * times, ROUNDS)
     new, old = [1e6 * max(took - start, 0) / (len(found) * times) for took, start in zip(taken, empty)]
     same = answers[0] == answers[1]
-    print(f"| {name} | {len(found)} by {maker} | {new:.1f} | {old:.1f} | {old / max(new, 0.001):.2f} | {counted(words, found)} "
+    print(f"| {name} | {len(found)} by {maker} | {new:.1f} | {old:.1f} | {old / max(new, 0.001):.2f} | {counted(lines, found)} "
           f"| {'same' if same else 'DIFFERENT'} |", flush=True)
     return same
 
@@ -116,10 +116,11 @@ def compare_making(programs, game, size):
 
 
 def main():
-    if len(sys.argv) < 3:
-        sys.exit(__doc__)
-    programs = [str(pathlib.Path(word).resolve()) for word in sys.argv[1:3]]
-    wanted = tuple(sys.argv[3:]) or ("",)
+    form = words.form(__doc__)
+    form.add_argument("old", metavar="OLD", type=words.program, help="the build that PROGRAM is compared with")
+    form.add_argument("groups", metavar="GROUP", nargs="*", help="how a group's name begins, as solo-3x3; else all")
+    asked = form.parse_args()
+    programs, wanted = [asked.program, asked.old], tuple(asked.groups) or ("",)
     os.sched_setaffinity(0, {max(os.sched_getaffinity(0))})
     print(f"load of the machine at the start: {os.getloadavg()[0]:.1f} on {os.cpu_count()} cores")
     print("| Group | Puzzles | New, us a puzzle | Old | Old / new | New, instructions a puzzle | Old | Old / new | Answers |")
@@ -129,4 +130,5 @@ def main():
     sys.exit(0 if all(same) else 1)
 
 
-main()
+if __name__ == "__main__":
+    words.begin(main)

@@ -1,11 +1,11 @@
 #!/usr/bin/env python3
 """What the gate costs: runs .ci/run at the top of the repository and prints processor minutes by crate.
 
-    bench/gate.py            (Linux; its own output goes to standard error, the gate's to standard output)
-
+It needs Linux, and the kit on the path. Its own output goes to standard error, the gate's to standard output.
 Each second it reads the processor time of every prover's process from /proc. What a process uses in its last second
 is lost, so a sum is some percent low. A crate's part is its proof, its tests, or its wrong bodies.
 """
+import argparse
 import os
 import subprocess
 import sys
@@ -13,6 +13,7 @@ import time
 
 TICKS = os.sysconf("SC_CLK_TCK")
 PARTS = ("proof", "tests", "wrong bodies")
+GATE_HOURS = 12
 
 
 def part_of(words, folder):
@@ -42,12 +43,16 @@ def sample(seen):
 
 
 def main():
+    argparse.ArgumentParser(description=__doc__, formatter_class=argparse.RawDescriptionHelpFormatter).parse_args()
     top = os.path.dirname(os.path.dirname(os.path.abspath(__file__)))
     start, seen = time.time(), {}
     gate = subprocess.Popen(["bash", f"{top}/.ci/run"], cwd=top)
     while gate.poll() is None:
         sample(seen)
         time.sleep(1)
+        if time.time() - start > GATE_HOURS * 3600:
+            gate.terminate()
+            sys.exit(f"gate.py: no end within {GATE_HOURS} hours")
     sums = {}
     for crate, part, used in seen.values():
         sums[crate, part] = sums.get((crate, part), 0) + used / 60

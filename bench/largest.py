@@ -1,8 +1,6 @@
 #!/usr/bin/env python3
 """Prints what the largest puzzles of each game cost: seconds of processor time, and the peak of memory.
 
-usage: largest.py PROGRAM     PROGRAM as `rt run` leaves it: crates/puzzles/out/puzzles
-
 One run of `solve` is made for each puzzle, so the time to start the program is in the number. A puzzle whose search would be
 long is solved with `--budget 0`, so that only the first closing counts. A peak below this script's own is what was last seen of
 the process while it ran (Linux). Nothing is asserted.
@@ -14,9 +12,13 @@ import sys
 import tempfile
 import time
 
+sys.dont_write_bytecode = True
+import words  # noqa: E402
+
 SIDE = 120
 CELLS = SIDE * SIDE
 POLL_SECONDS = 0.0005
+RUN_SECONDS = 600
 
 
 def run_of_letters(count):
@@ -67,13 +69,16 @@ def high_water(process):
     return int(sizes[0]) if sizes else 0
 
 
-def measured(words):
+def measured(line):
     """The first line of the answer, its status, seconds of processor time, and kilobytes at the peak."""
     own = resource.getrusage(resource.RUSAGE_SELF).ru_maxrss
     with tempfile.TemporaryFile() as output:
-        started, ended, seen = subprocess.Popen(words, stdin=subprocess.DEVNULL, stdout=output), 0, 0
+        started, ended, seen = subprocess.Popen(line, stdin=subprocess.DEVNULL, stdout=output), 0, 0
+        end = time.monotonic() + RUN_SECONDS
         while not ended:
             time.sleep(POLL_SECONDS)
+            if time.monotonic() > end:
+                started.kill()
             seen = max(seen, high_water(started.pid))
             ended, status, used = os.wait4(started.pid, os.WNOHANG)
         started.returncode = os.waitstatus_to_exitcode(status)
@@ -85,15 +90,15 @@ def measured(words):
 
 
 def main():
-    if len(sys.argv) < 2:
-        sys.exit(__doc__)
+    program = words.form(__doc__).parse_args().program
     print("| Game | Puzzle | Bytes of the ID | Answer | Status | Seconds | Peak, MB |")
     print("|---|---|---|---|---|---|---|", flush=True)
     for name, game, text, more in puzzles():
-        answer, status, seconds, peak = measured([sys.argv[1], "solve", game, text, *more])
-        size, words = text.split(":", 1)[0], " ".join([name, *more])
-        print(f"| {game} {size} | {words} | {len(text):,} | {answer} | {status} | {seconds:.3f} | {peak / 1024:.1f} |",
+        answer, status, seconds, peak = measured([program, "solve", game, text, *more])
+        size, called = text.split(":", 1)[0], " ".join([name, *more])
+        print(f"| {game} {size} | {called} | {len(text):,} | {answer} | {status} | {seconds:.3f} | {peak / 1024:.1f} |",
               flush=True)
 
 
-main()
+if __name__ == "__main__":
+    words.begin(main)

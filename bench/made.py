@@ -1,16 +1,18 @@
 #!/usr/bin/env python3
 """Times `generate`, and prints what it answers in how many seconds, by size and by the share of black cells.
 
-usage: made.py PROGRAM [SEEDS [LIMIT [GAME]]]     PROGRAM as `rt run` leaves it: crates/puzzles/out/puzzles
-
-Each kind is made for the seeds from 1 to SEEDS (3 where nothing is said), one run of the program each, so the time to start
-it is in the number. A run of more than LIMIT seconds (60 where nothing is said) is stopped. A cell is the middle one of the
+Each kind is made for the seeds from 1 to SEEDS (3 if left out), one run of the program each, so the time to start
+it is in the number. A run of more than LIMIT seconds (60 if left out) is stopped. A cell is the middle one of the
 times in seconds; `exhausted` stands before it where that run made no puzzle, and `over LIMIT` where it was stopped. Of runs that
 differ in that the number that made a puzzle is added. `-` is not tried: no smaller size made one. Nothing is asserted.
 """
+import os
 import subprocess
 import sys
 import time
+
+sys.dont_write_bytecode = True
+import words  # noqa: E402
 
 # The sizes of a game, ascending, and the values of --black, or none.
 KINDS = [
@@ -22,15 +24,15 @@ KINDS = [
 ]
 
 
-def made(words, limit):
+def made(line, limit):
     """The seconds of a run, and how it ended: 0 made, 1 exhausted, 2 stopped."""
     start = time.perf_counter()
     try:
-        done = subprocess.run(words, capture_output=True, check=False, timeout=limit)
+        done = subprocess.run(line, capture_output=True, check=False, timeout=limit)
     except subprocess.TimeoutExpired:
         return 2, limit
     if done.returncode not in (0, 4):
-        sys.exit(f"{' '.join(words)}: status {done.returncode}")
+        sys.exit(f"{' '.join(line)}: status {done.returncode}")
     return (1 if done.returncode else 0), time.perf_counter() - start
 
 
@@ -42,24 +44,26 @@ def cell(runs, limit):
     return text if good in (0, len(runs)) else f"{text} ({good} of {len(runs)})"
 
 
-def measured(program, words, seeds, limit):
+def measured(program, kind, seeds, limit):
     """Runs for the seeds, until more than half of them were stopped."""
     runs = []
     for seed in range(1, seeds + 1):
-        runs.append(made([program, "generate", *words, "--seed", str(seed)], limit))
+        runs.append(made([program, "generate", *kind, "--seed", str(seed)], limit))
         if sum(1 for ended, _ in runs if ended == 2) > seeds // 2:
             return [(2, limit)] * seeds
     return runs
 
 
 def main():
-    if len(sys.argv) < 2:
-        sys.exit(__doc__)
-    program = sys.argv[1]
-    seeds = int(sys.argv[2]) if len(sys.argv) > 2 else 3
-    limit = float(sys.argv[3]) if len(sys.argv) > 3 else 60
+    form = words.form(__doc__)
+    form.add_argument("seeds", metavar="SEEDS", type=words.count, nargs="?", default=3)
+    form.add_argument("limit", metavar="LIMIT", type=words.count, nargs="?", default=60, help="seconds")
+    form.add_argument("game", metavar="GAME", nargs="?", choices=sorted({kind[0] for kind in KINDS}), help="this game alone")
+    asked = form.parse_args()
+    program, seeds, limit = asked.program, asked.seeds, asked.limit
+    print(f"load of the machine at the start: {os.getloadavg()[0]:.1f} on {os.cpu_count()} cores\n")
     for game, sizes, shares in KINDS:
-        if len(sys.argv) > 4 and game != sys.argv[4]:
+        if asked.game not in (None, game):
             continue
         heads = [f"--black {share}" for share in shares if share] or ["seconds"]
         print(f"| {game} | " + " | ".join(heads) + " |")
@@ -78,4 +82,5 @@ def main():
         print()
 
 
-main()
+if __name__ == "__main__":
+    words.begin(main)

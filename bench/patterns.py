@@ -1,8 +1,6 @@
 #!/usr/bin/env python3
 """Times `solve pattern` on the clues of made-up bitmaps, and prints microseconds per puzzle.
 
-usage: patterns.py PROGRAM [COUNT]     PROGRAM as `rt run` leaves it: crates/puzzles/out/puzzles
-
 The bitmaps are of blobs, as drawings are: a cell is black where a few random circles cover it. One run of the program
 is made for each puzzle, so the time to start it is in the number; it is printed beside, as that of a 1 by 1 puzzle.
 Nothing is asserted: a puzzle that is given up counts as one that is solved.
@@ -11,6 +9,11 @@ import random
 import subprocess
 import sys
 import time
+
+sys.dont_write_bytecode = True
+import words  # noqa: E402
+
+RUN_SECONDS = 600
 
 
 def bitmap(draws, side):
@@ -38,15 +41,17 @@ def seconds(program, ids):
     start = time.perf_counter()
     answers = {}
     for text in ids:
-        done = subprocess.run([program, "solve", "pattern", text], capture_output=True, check=False)
+        done = subprocess.run([program, "solve", "pattern", text], capture_output=True, check=False, timeout=RUN_SECONDS)
         first = done.stdout.split(b"\n", 1)[0].decode()
         answers[first] = answers.get(first, 0) + 1
     return time.perf_counter() - start, answers
 
 
 def main():
-    program = sys.argv[1]
-    count = int(sys.argv[2]) if len(sys.argv) > 2 else 100
+    form = words.form(__doc__)
+    form.add_argument("count", metavar="COUNT", type=words.count, nargs="?", default=100, help="puzzles of each size (100)")
+    asked = form.parse_args()
+    program, count = asked.program, asked.count
     seconds(program, ["1x1:/"] * count)
     empty, _ = seconds(program, ["1x1:/"] * count)
     print(f"starting alone: {1e6 * empty / count:.0f} microseconds")
@@ -57,4 +62,5 @@ def main():
         print(f"{side}x{side}: {1e6 * taken / count:.0f} microseconds per puzzle, {answers}")
 
 
-main()
+if __name__ == "__main__":
+    words.begin(main)

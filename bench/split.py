@@ -148,4 +148,4 @@ def measure(bench, address, jobs):
 
 
 if __name__ == "__main__":
-    sys.exit(main())
+    words.begin(main)

@@ -1,16 +1,16 @@
 #!/usr/bin/env python3
 """Counts the trials that real puzzles need, by `grade`, and prints a table: what to think of in choosing `--budget`.
 
-usage: trials.py PROGRAM [COUNT [BUDGET]]     PROGRAM as `rt run` leaves it: crates/puzzles/out/puzzles
-
-COUNT puzzles of each kind (50 where nothing is said) are those of the collection's own programs, or of `generate` where they are
-not installed. A puzzle that needs more trials than BUDGET (1,000,000 where nothing is said) counts as that many and one.
+COUNT puzzles of each kind (50 if left out) are those of the collection's own programs, or of `generate` where they are
+not installed. A puzzle that needs more trials than BUDGET (1,000,000 if left out) counts as that many and one.
 """
 import collections
 import subprocess
 import sys
 
-import ids
+sys.dont_write_bytecode = True
+import ids  # noqa: E402
+import words  # noqa: E402
 
 # Game, size, and what the collection's program is told beside the size: its letters for how hard a puzzle is to be.
 KINDS = [
@@ -19,23 +19,25 @@ KINDS = [
     ("tents", "8x8", "dt"), ("tents", "15x15", "de"), ("tents", "15x15", "dt"), ("tents", "20x20", "de"), ("tents", "20x20", "dt"),
 ]
 MAKING_SECONDS = 60  # for the puzzles of one kind
+RUN_SECONDS = 3600
 
 
 def trials(program, game, text, budget):
     """The trials of an ID's whole walk; 0 where a rule set alone solves it, one past the budget where it gave up."""
-    done = subprocess.run([program, "grade", game, text, "--budget", str(budget)], capture_output=True, check=False)
-    words = done.stdout.decode().split()
+    line = [program, "grade", game, text, "--budget", str(budget)]
+    done = subprocess.run(line, capture_output=True, check=False, timeout=RUN_SECONDS)
+    told = done.stdout.decode().split()
     if done.returncode not in (0, 4):
-        sys.exit(f"{game} {text}: {' '.join(words)}, status {done.returncode}")
-    return budget + 1 if words[0] == "gave" else int(words[1]) if words[0] == "search" else 0
+        sys.exit(f"{game} {text}: {' '.join(told)}, status {done.returncode}")
+    return budget + 1 if told[0] == "gave" else int(told[1]) if told[0] == "search" else 0
 
 
 def main():
-    if len(sys.argv) < 2:
-        sys.exit(__doc__)
-    program = sys.argv[1]
-    count = int(sys.argv[2]) if len(sys.argv) > 2 else 50
-    budget = int(sys.argv[3]) if len(sys.argv) > 3 else 1_000_000
+    form = words.form(__doc__)
+    form.add_argument("count", metavar="COUNT", type=words.count, nargs="?", default=50)
+    form.add_argument("budget", metavar="BUDGET", type=words.count, nargs="?", default=1_000_000)
+    asked = form.parse_args()
+    program, count, budget = asked.program, asked.count, asked.budget
     print("| Puzzles | Number | Without a trial | Median | Nine of ten need at most | Most |")
     print("|---|---|---|---|---|---|", flush=True)
     makers = collections.Counter()
@@ -50,4 +52,5 @@ def main():
     print(f"kinds by maker: {dict(makers)}")
 
 
-main()
+if __name__ == "__main__":
+    words.begin(main)

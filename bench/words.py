@@ -1,6 +1,8 @@
 """What the words of the other scripts have in common."""
 import argparse
 import os
+import subprocess
+import sys
 
 
 def program(word):
@@ -22,3 +24,13 @@ def form(text):
     made = argparse.ArgumentParser(description=text, formatter_class=argparse.RawDescriptionHelpFormatter)
     made.add_argument("program", metavar="PROGRAM", type=program, help="as `rt run` leaves it: crates/puzzles/out/puzzles")
     return made
+
+
+def begin(main):
+    """Runs a script, and tells in words what stopped it."""
+    try:
+        sys.exit(main())
+    except KeyboardInterrupt:
+        sys.exit(130)
+    except (OSError, subprocess.SubprocessError) as fault:
+        sys.exit(f"{os.path.basename(sys.argv[0])}: {fault}")

@@ -1,16 +1,32 @@
 #!/usr/bin/env python3
 """Grades made puzzles of Solo by the three rule sets as docs/RULES.md states them, and compares the program's grades.
 
-usage: crossings.py PROGRAM [SIZE [SEEDS]]     PROGRAM as `rt run` leaves it; 3x3 and 50, so seeds 1 to 50
-
+Seeds go from 1 to SEEDS. A seed whose puzzle takes more than two minutes is passed over, and counted.
 The rule sets are plain programs here: sets of numbers for each cell, and visits of all houses until nothing is struck. A grade
 has to be the first rule set that leaves one number in each cell, and a grid without repeats; else it has to be a search.
 Prints how many of each grade there were, and what differs; the exit status is 1 where anything does.
 """
+import argparse
 import collections
+import os
 import re
 import subprocess
 import sys
+
+RUN_SECONDS = 120
+
+
+def program(word):
+    if not (os.path.isfile(word) and os.access(word, os.X_OK)):
+        raise argparse.ArgumentTypeError(f"no program that can be run: {word}")
+    return os.path.abspath(word)
+
+
+def size(word):
+    found = re.fullmatch(r"(\d+)x(\d+)(x?)", word)
+    if not found or min(int(found[1]), int(found[2])) < 2:
+        raise argparse.ArgumentTypeError(f"no size of Solo, as 3x3 or 2x3x: {word}")
+    return word
 
 
 def lines_and_blocks(c, r, x):
@@ -123,25 +139,40 @@ def givens_of(description):
     return cells
 
 
+def told(words):
+    """What the program answers: its lines and its status; nothing where it takes too long."""
+    try:
+        done = subprocess.run(words, capture_output=True, text=True, check=False, timeout=RUN_SECONDS)
+    except subprocess.TimeoutExpired:
+        return None
+    return done.stdout.split("\n"), done.returncode
+
+
 def main():
-    if len(sys.argv) not in (2, 3, 4):
-        sys.exit(__doc__)
-    program = sys.argv[1]
-    size = sys.argv[2] if len(sys.argv) > 2 else "3x3"
-    seeds = int(sys.argv[3]) if len(sys.argv) > 3 else 50
-    c, r = map(int, re.match(r"(\d+)x(\d+)", size).groups())
-    counts, faults = collections.Counter(), 0
-    for seed in range(1, seeds + 1):
-        made = subprocess.run([program, "generate", "solo", size, "--seed", str(seed)], capture_output=True, text=True)
-        puzzle = made.stdout.split("\n")[0]
-        told = subprocess.run([program, "grade", "solo", puzzle], capture_output=True, text=True).stdout.strip()
-        own = own_grade(c, r, size.endswith("x"), givens_of(puzzle.split(":")[1]))
+    form = argparse.ArgumentParser(description=__doc__, formatter_class=argparse.RawDescriptionHelpFormatter)
+    form.add_argument("program", metavar="PROGRAM", type=program, help="as `rt run` leaves it: crates/puzzles/out/puzzles")
+    form.add_argument("size", metavar="SIZE", type=size, nargs="?", default="3x3", help="of Solo or Solo X (3x3)")
+    form.add_argument("seeds", metavar="SEEDS", type=int, nargs="?", default=50, help="how many (50)")
+    asked = form.parse_args()
+    c, r = map(int, re.match(r"(\d+)x(\d+)", asked.size).groups())
+    counts, faults, passed = collections.Counter(), 0, 0
+    for seed in range(1, asked.seeds + 1):
+        made = told([asked.program, "generate", "solo", asked.size, "--seed", str(seed)])
+        graded = made and made[1] == 0 and told([asked.program, "grade", "solo", made[0][0]])
+        if not graded:
+            if made and made[1] not in (0, 4):
+                sys.exit(f"crossings.py: generate solo {asked.size}: {made[0][0]}, status {made[1]}")
+            passed += 1
+            continue
+        puzzle, grade = made[0][0], graded[0][0]
+        own = own_grade(c, r, asked.size.endswith("x"), givens_of(puzzle.split(":")[1]))
         counts[own] += 1
-        if told.split(" ")[0] != own:
+        if grade.split(" ")[0] != own:
             faults += 1
-            print(f"seed {seed}: {puzzle} is told as {told!r}, and is {own}")
-    print(f"{seeds} puzzles of {size}:", ", ".join(f"{n} {name}" for name, n in sorted(counts.items())), f"; {faults} faults")
-    sys.exit(1 if faults else 0)
+            print(f"seed {seed}: {puzzle} is told as {grade!r}, and is {own}")
+    kinds = ", ".join(f"{n} {name}" for name, n in sorted(counts.items()))
+    print(f"{sum(counts.values())} puzzles of {asked.size}: {kinds}; {passed} passed over, {faults} faults")
+    sys.exit(1 if faults or not counts else 0)
 
 
 if __name__ == "__main__":

@@ -1,17 +1,18 @@
 #!/usr/bin/env python3
 """Runs built programs with each allocation of the process refused in turn.
 
-usage: refuse_growths.py PROGRAM          PROGRAM as `rt run` leaves it: crates/puzzles/out/puzzles
-       refuse_growths.py --tests TESTS..  TESTS as `rt test` leaves them: crates/gameid_core/out/gameid_core_tests
-
 Each run of the program must answer as it does with ample memory, or end with status 5 after a beginning of that answer
 and with nothing on standard error. Each test must pass, or end with want of memory as its result and nothing else.
 The shim below stands between a program and the C library; it is compiled with cc.
 """
+import argparse
+import os
 import pathlib
 import subprocess
 import sys
 import tempfile
+
+RUN_SECONDS = 120
 
 SHIM = r"""
 #define _GNU_SOURCE
@@ -127,8 +128,14 @@ RUNS = [
 ]
 
 
+def program(word):
+    if not (os.path.isfile(word) and os.access(word, os.X_OK)):
+        raise argparse.ArgumentTypeError(f"no program that can be run: {word}")
+    return os.path.abspath(word)
+
+
 def run(words, given, environment):
-    done = subprocess.run(words, input=given.encode(), capture_output=True, check=False, env=environment)
+    done = subprocess.run(words, input=given.encode(), capture_output=True, check=False, env=environment, timeout=RUN_SECONDS)
     return done.stdout.decode(), done.returncode, done.stderr.decode()
 
 
@@ -164,15 +171,15 @@ def count(results, is_right, name):
     return passed, failed
 
 
-def jobs(words):
+def jobs(programs, are_tests):
     """A name, a command line, an input and a judge for each run or test."""
-    if words[0] != "--tests":
+    if not are_tests:
         for line, given, text, status in RUNS:
             judge = lambda number, found, ample, t=text, s=status: is_right_run(number, found, ample, t, s)
-            yield line, [words[0], *line.split()], given, judge
+            yield line, [programs[0], *line.split()], given, judge
         return
-    for program in words[1:]:
-        listed = subprocess.run([program, "--list"], capture_output=True, check=True, text=True).stdout
+    for program in programs:
+        listed = subprocess.run([program, "--list"], capture_output=True, check=True, text=True, timeout=RUN_SECONDS).stdout
         for line in listed.splitlines():
             if line.endswith(": test"):
                 name = line.removesuffix(": test")
@@ -180,18 +187,27 @@ def jobs(words):
 
 
 def main():
-    if len(sys.argv) < 2 or sys.argv[1:] == ["--tests"]:
-        sys.exit(__doc__)
-    folder = pathlib.Path(tempfile.mkdtemp())
-    source, shim, counted = folder / "shim.c", folder / "shim.so", folder / "count"
-    source.write_text(SHIM.replace("FILE_WRITE", WRITE))
-    subprocess.run(["cc", "-shared", "-fPIC", "-o", shim, source, "-ldl"], check=True)
-    passed = failed = 0
-    for name, words, given, is_right in jobs(sys.argv[1:]):
-        right, wrong = count(refusals(words, given, shim, counted), is_right, name)
-        passed, failed = passed + right, failed + wrong
+    form = argparse.ArgumentParser(description=__doc__, formatter_class=argparse.RawDescriptionHelpFormatter)
+    form.add_argument("--tests", action="store_true",
+                      help="the programs are tests, as `rt test` leaves them: crates/gameid_core/out/gameid_core_tests")
+    form.add_argument("programs", metavar="PROGRAM", type=program, nargs="+", help="as `rt run` leaves it: crates/puzzles/out/puzzles")
+    asked = form.parse_args()
+    if len(asked.programs) > 1 and not asked.tests:
+        form.error("one program, or tests by --tests")
+    with tempfile.TemporaryDirectory() as folder:
+        source, shim, counted = [pathlib.Path(folder) / name for name in ("shim.c", "shim.so", "count")]
+        source.write_text(SHIM.replace("FILE_WRITE", WRITE))
+        passed = failed = 0
+        try:
+            subprocess.run(["cc", "-shared", "-fPIC", "-o", shim, source, "-ldl"], check=True, timeout=RUN_SECONDS)
+            for name, words, given, is_right in jobs(asked.programs, asked.tests):
+                right, wrong = count(refusals(words, given, shim, counted), is_right, name)
+                passed, failed = passed + right, failed + wrong
+        except (OSError, subprocess.SubprocessError) as fault:
+            sys.exit(f"refuse_growths.py: {fault}")
     print(f"{passed} passed, {failed} failed")
-    sys.exit(1 if failed else 0)
+    sys.exit(1 if failed or not passed else 0)
 
 
-main()
+if __name__ == "__main__":
+    main()

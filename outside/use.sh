@@ -28,10 +28,12 @@ not_run=(
 documents=(README.md docs/USE.md)
 tools=(python3 node parallel xargs)
 
-if [ $# -ne 1 ] || [ ! -x "$1" ]; then
-    sed -n '2,/^set/{s/^# \{0,1\}//p}' "$0" >&2
-    exit 2
-fi
+help() {
+    sed -n '2,/^set/{s/^# \{0,1\}//p}' "$0"
+}
+case ${1-} in -h | --help) help; exit 0 ;; esac
+[ $# -eq 1 ] || { help >&2; exit 2; }
+[ -f "$1" ] && [ -x "$1" ] || { echo "use.sh: no program that can be run: $1" >&2; exit 2; }
 program=$(realpath "$1")
 top=$(realpath "$(dirname "$0")/..")
 for tool in "${tools[@]}"; do
