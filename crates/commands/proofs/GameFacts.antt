@@ -1,6 +1,6 @@
 -- What the laws rest on, for each game; and what is told of an ID beside its verdict: a grid that is told passes, what is
 -- handed out is solved, and an input that is correct is a solution.
-use Rattle.std.proofs.Common.{◌≡◌, ◌≢◌, ◌<◌, length, true≢false, ◌∙◌, ℕ, List, Result, sym, ap, subst, arith, inl, inr, Some, None, Err, true, refl, drop, ◌∷◌, Bool, false, [], if◌then◌else◌}
+use Rattle.std.proofs.Common.{◌≡◌, ◌≢◌, ◌⊎◌, ◌<◌, length, true≢false, ◌∙◌, ℕ, List, Result, sym, ap, subst, arith, inl, inr, Some, None, Err, true, refl, drop, ◌∷◌, Bool, false, [], if◌then◌else◌}
 use Rattle.std.proofs.lemmas.Bool.{false_from_ne_true}
 use Rattle.std.proofs.lemmas.Grind.{common_steps}
 use Rattle.std.specs.Prelude.{◌↔◌, is_ok, ◌≤◌}
@@ -31,10 +31,10 @@ use Rattle.commands.specs.Games.{played}
 use Rattle.commands.specs.Playing.{Playing}
 use Rattle.commands.specs.SoloPlayed.{solo_sets}
 use Rattle.commands.specs.Makings.{exhausted_answer, Wanted}
-use Rattle.commands.specs.Replies.{one_answer, verdict_answer, refused}
+use Rattle.commands.specs.Replies.{gave_up_answer, one_answer, verdict_answer, refused}
 use Rattle.commands.specs.Allowed.{IsSolved, SolvesId, ChecksGrid, ChecksId, GradesId, AllowsSolve}
 use Rattle.commands.specs.CheckAnswers.{checked as correct_or, without_returns}
-use Rattle.commands.specs.LawsOfCommands.{ArePassed, HasOneAnswer}
+use Rattle.commands.specs.LawsOfCommands.{ArePassed, HasOneAnswer, Passes}
 use Rattle.commands.specs.Grades.{HasOneSolution, IsRightGrade, Settling, grade_by, listed_grade, only_set, searched_grade}
 use Rattle.commands.specs.declared.grade.GradeOptions.{GradeOptions}
 use Rattle.commands.specs.declared.grade.Grade.TheVariants.{ByRules}
@@ -100,15 +100,16 @@ module _ {P : Type 0} (play : Playing P) (reading : HasOneReading play.game.spel
       allowed (inl x) = absurd (reading.apart id p x.fault s x.first)
       allowed (inr x) = correct.0 (subst (λ q. ChecksGrid play q (printed p g) said) (reading.one id x.puzzle p x.spelled s) x.allowed)
 
-  -- neither one grid is told nor two
-  other_status : (id : Text) (solved said : Answer) → solved ≡ said → said.status ≢ 0 → said.status ≢ 3 → ArePassed (ChecksId play id) solved
-  other_status id solved said told none nor = record {
+  -- no grid is told
+  other_status : (id : Text) (solved said : Answer) → solved ≡ said → said.status ≢ 0 → said.status ≢ 3 → said.status ≢ 4 → ArePassed (ChecksId play id) solved
+  other_status id solved said told none nor neither = record {
     one = λ e. absurd (none (sym (same_status _ _ told) ∙ e));
     several = λ e. absurd (nor (sym (same_status _ _ told) ∙ e));
+    gave_up = λ e. absurd (neither (sym (same_status _ _ told) ∙ e));
   }
 
   pub passed : (id : Text) (budget : ℕ) (solved : Answer) → SolvesId play budget id solved → ArePassed (ChecksId play id) solved
-  passed id budget solved (inl x) = other_status id solved _ x.told (omega arith) (omega arith)
+  passed id budget solved (inl x) = other_status id solved _ x.told (omega arith) (omega arith) (omega arith)
   passed id budget solved (inr x) = by (verdict_of (play.game.rules x.puzzle) budget) x.allowed.right x.allowed.told
     where
       differ : (g h : List ℕ) → play.game.solves x.puzzle g → play.game.solves x.puzzle h → (g ≢ h) → printed x.puzzle g ≢ printed x.puzzle h
@@ -117,11 +118,20 @@ module _ {P : Type 0} (play : Playing P) (reading : HasOneReading play.game.spel
           other (printed_once (play.hides x.puzzle) (play.value_count x.puzzle) (play.extent x.puzzle) (play.cell_text x.puzzle) checked.once g h (checked.shown g a) (checked.shown h b)
           (printed x.puzzle g) (inl refl) (inl same))
 
+      found_so_far : {grid : Text} → solved ≡ gave_up_answer grid
+          → (solved ≡ gave_up_answer []) ⊎ ((found : Text) × (solved ≡ gave_up_answer found) × Passes (ChecksId play id) found) → ArePassed (ChecksId play id) solved
+      found_so_far told passes = record {
+        one = λ e. absurd (let s = same_status _ _ told in omega (arith, e, s));
+        several = λ e. absurd (let s = same_status _ _ told in omega (arith, e, s));
+        gave_up = λ e. passes;
+      }
+
       by : (o : Outcome) → IsRight (play.game.solves x.puzzle) o → solved ≡ verdict_answer (printed x.puzzle) o → ArePassed (ChecksId play id) solved
-      by NoGrid right told = other_status id solved _ told (omega arith) (omega arith)
+      by NoGrid right told = other_status id solved _ told (omega arith) (omega arith) (omega arith)
       by (OneGrid g) right told = record {
         one = λ e. (printed x.puzzle g, told, passes_as id x.puzzle x.spelled g right.0);
         several = λ e. absurd (let s = same_status _ _ told in omega (arith, e, s));
+        gave_up = λ e. absurd (let s = same_status _ _ told in omega (arith, e, s));
       }
       by (TwoGrids g h) right told = record {
         one = λ e. absurd (let s = same_status _ _ told in omega (arith, e, s));
@@ -133,9 +143,10 @@ module _ {P : Type 0} (play : Playing P) (reading : HasOneReading play.game.spel
           passes_as id x.puzzle x.spelled g right.0,
           passes_as id x.puzzle x.spelled h right.1,
         );
+        gave_up = λ e. absurd (let s = same_status _ _ told in omega (arith, e, s));
       }
-      by (OutOfBudget None) right told = other_status id solved _ told (omega arith) (omega arith)
-      by (OutOfBudget (Some g)) right told = other_status id solved _ told (omega arith) (omega arith)
+      by (OutOfBudget None) right told = found_so_far told (inl told)
+      by (OutOfBudget (Some g)) right told = found_so_far told (inr (printed x.puzzle g, told, passes_as id x.puzzle x.spelled g right))
 
 -- what is said of an ID where an input is correct
 pub record GoesWithCorrect (input : Text) (solved : Answer) : Type 0 where

@@ -11,3 +11,5 @@ pub mod SearchedPuzzles
 pub mod GradeLemmas
 pub mod GameFacts
 pub mod MadeOnce
+pub mod LeastBudgets
+pub mod MadeAlike

@@ -1,20 +1,23 @@
 -- What ties the commands to one another: what they say of one ID and of what one of them hands out,
 -- and how many answers a request allows.
-use Rattle.std.specs.Prelude.{◌≡◌, ◌↔◌, ℕ, Bool, Some, ◌≢◌, None, ◌≤◌, ◌++◌, true, false, codes, List, Contains, Option}
+use Rattle.std.specs.Prelude.{◌≡◌, ◌↔◌, ◌⊎◌, ℕ, Bool, Some, ◌≢◌, None, ◌<◌, ◌≤◌, ◌++◌, [], true, false, codes, decimal, List, Contains, Option}
 use Rattle.gameid_core.specs.declared.id.game.Game.TheVariants as game
 use Rattle.gameid_core.specs.LightText.{SpellsLight}
 use Rattle.gameid_core.specs.SoloText.{SpellsSolo}
-use Rattle.maker_core.specs.LightClues.{light_game}
+use Rattle.maker_core.specs.LightClues.{SameLight, light_game}
 use Rattle.maker_core.specs.LightMaking.{IsLightMade}
 use Rattle.maker_core.specs.SoloClues.{solo_game}
 use Rattle.maker_core.specs.declared.made.Why.TheVariants.{Needed}
-use Rattle.commands.specs.Common.{Stream, Extent, Game, IsPrinted, Light, Solo, IsSoloMade, Kept}
+use Rattle.commands.specs.Common.{Stream, Extent, Game, IsPrinted, Light, Solo, IsSoloMade, Kept, grid_text, solo_cell, solo_extent}
 use Rattle.commands.specs.Answers.{Answer, Text, Begins, code_of}
 use Rattle.commands.specs.Games.{played, puzzle_of}
+use Rattle.commands.specs.LightPlayed.{light_played}
+use Rattle.commands.specs.Playing.{Playing}
+use Rattle.commands.specs.SoloPlayed.{solo_played}
 use Rattle.commands.specs.Allowed.{Allows, AllowsCheck, AllowsSolve, AllowsGrade, is_read, AllowsMade}
 use Rattle.commands.specs.Asked.{Asked, solve, check, grade, generate}
 use Rattle.commands.specs.CheckAnswers.{checked, without_returns}
-use Rattle.commands.specs.Replies.{one_answer, several_answer}
+use Rattle.commands.specs.Replies.{gave_up_answer, one_answer, several_answer}
 use Rattle.commands.specs.Grades.{rule_set_text}
 use Rattle.commands.specs.declared.answers.status.Status.TheVariants.{Fine, Wrong, Several, GaveUp}
 use Rattle.commands.specs.declared.grade.RuleSet.{RuleSet}
@@ -63,13 +66,16 @@ RewritingKeepsGrading = (game : Game) (id other : Text) → Rewrites game id oth
 abbrev pub Passes : (Text → Answer → Type 0) → Text → Type 0
 Passes checks input = (said : Answer) → checks input said ↔ (said ≡ checked None)
 
--- the one grid that is told passes; and so do both of two, which are printed differently
+-- The one grid that is told passes. So do both of two, which are printed differently, and so does a
+-- grid that was found before the search gave up.
 pub record ArePassed (checks : Text → Answer → Type 0) (solved : Answer) : Type 0 where
   pub one : solved.status ≡ code_of Fine
       → (grid : Text) × (solved ≡ one_answer grid) × Passes checks grid
   pub several : solved.status ≡ code_of Several
       → (first : Text) × (second : Text) × (solved ≡ several_answer first second)
       × (first ≢ second) × Passes checks first × Passes checks second
+  pub gave_up : solved.status ≡ code_of GaveUp → (solved ≡ gave_up_answer [])
+      ⊎ ((grid : Text) × (solved ≡ gave_up_answer grid) × Passes checks grid)
 
 abbrev pub SolvedGridsPass : Type 0
 SolvedGridsPass = (game : Game) (id : Text) (budget : ℕ) (solved : Answer)
@@ -136,6 +142,32 @@ RuleSetsNeedNoTrial = (game : Game) (id : Text) (budget : ℕ) (traced : Bool)
     → AllowsSolve game 0 id solved → AllowsGrade game id budget traced graded → NamesRules graded
     ↔ (solved.status ≡ code_of Fine)
 
+-- so many trials are the least budget with which the one answer to the ID tells one solution
+pub record IsLeastBudget (game : Game) (id : Text) (trials : ℕ) : Type 0 where
+  pub enough : (said : Answer) → AllowsSolve game trials id said → said.status ≡ code_of Fine
+  pub least : (budget : ℕ) → budget < trials → (said : Answer) → AllowsSolve game budget id said
+      → said.status ≢ code_of Fine
+
+-- the first line of the answer names a search of so many trials, or any rule set
+abbrev pub NamesSearch : ℕ → Answer → Type 0
+NamesSearch trials answer = Begins (codes "search " ++ decimal trials ++ codes "\n") answer.text
+
+abbrev pub NamesSet : Answer → Type 0
+NamesSet answer = (set : RuleSet) × Begins (rule_set_text set ++ codes "\n") answer.text
+
+-- An answer that begins with `search` names the least budget, which is within that of the grade.
+-- Where there is such a least budget, the answer names it, or a rule set.
+pub record NamesLeastBudget (game : Game) (id : Text) (budget : ℕ) (graded : Answer)
+    : Type 0 where
+  pub told : Begins (codes "search ") graded.text
+      → (trials : ℕ) × NamesSearch trials graded × IsLeastBudget game id trials × (trials ≤ budget)
+  pub only : (trials : ℕ) → IsLeastBudget game id trials → trials ≤ budget
+      → NamesSet graded ⊎ NamesSearch trials graded
+
+abbrev pub SearchesNameLeastBudgets : Type 0
+SearchesNameLeastBudgets = (game : Game) (id : Text) (budget : ℕ) (traced : Bool) (graded : Answer)
+    → AllowsGrade game id budget traced graded → NamesLeastBudget game id budget graded
+
 -- An ID is handed out with a grid. The ID is read, with that budget the one answer to it is that
 -- this grid is the solution, and the grid passes.
 pub record IsSolvedAsMade (game : Game) (budget : ℕ) (answer : Answer) : Type 0 where
@@ -189,3 +221,45 @@ is_fixed _ = true
 abbrev pub FixedRequestsHaveOneAnswer : Type 0
 FixedRequestsHaveOneAnswer = (asked : Option Asked) (input : Text) → is_fixed asked ≡ true
     → HasOneAnswer (Allows asked input)
+
+-- what a puzzle is told as that is handed out with a solution
+abbrev pub handed_out : {P : Type 0} → Playing P → P → List ℕ → Answer
+handed_out play p g =
+    made_answer (play.game.written p) (grid_text (play.cell_text p g) (play.extent p))
+
+-- two answers hand out puzzles that are alike, with one solution
+pub record HandOutAlike {P : Type 0} (play : Playing P) (alike : P → P → Type 0)
+    (one other : Answer) : Type 0 where
+  pub first : P
+  pub second : P
+  pub solution : List ℕ
+  pub same : alike first second
+  pub first_told : one ≡ handed_out play first solution
+  pub second_told : other ≡ handed_out play second solution
+
+-- The two answers have the same status. Where they hand out puzzles, these are alike, with one
+-- solution; where not, the answers are the same.
+pub record DifferInClues {P : Type 0} (play : Playing P) (alike : P → P → Type 0)
+    (one other : Answer) : Type 0 where
+  pub status : one.status ≡ other.status
+  pub others : one.status ≢ code_of Fine → one ≡ other
+  pub made : one.status ≡ code_of Fine → HandOutAlike play alike one other
+
+-- each grid is printed the same for both
+abbrev pub PrintAlike : Solo → Solo → Type 0
+PrintAlike p q = (g : List ℕ)
+    → grid_text (solo_cell p g) (solo_extent p) ≡ grid_text (solo_cell q g) (solo_extent q)
+
+-- two answers to one making of Solo have the same printed grid
+abbrev pub SoloDiffersInGivens : Type 0
+SoloDiffersInGivens = (size : Text) (seed budget tries black : ℕ) (one other : Answer)
+    → AllowsMade game.Solo size seed budget tries black one
+    → AllowsMade game.Solo size seed budget tries black other
+    → DifferInClues solo_played PrintAlike one other
+
+-- two answers to one making of Light Up have the same size, black cells and bulbs
+abbrev pub LightsDifferInNumbers : Type 0
+LightsDifferInNumbers = (size : Text) (seed budget tries black : ℕ) (one other : Answer)
+    → AllowsMade game.LightUp size seed budget tries black one
+    → AllowsMade game.LightUp size seed budget tries black other
+    → DifferInClues light_played SameLight one other

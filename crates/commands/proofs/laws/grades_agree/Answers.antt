@@ -7,6 +7,7 @@ use Rattle.commands.specs.Allowed.{AllowsGrade, AllowsSolve}
 use Rattle.commands.specs.LawsOfCommands.{GoesAlong, IsOneWithEnough, NamesRules}
 use Rattle.commands.proofs.GameFacts.{facts, with_enough}
 use Rattle.commands.proofs.GradedAlike.{both_answers, goes_along, named_alike, refusals_along, refusals_apart, status_alike}
+use Rattle.commands.proofs.LeastBudgets.{least_budgets}
 use Rattle.commands.proofs.laws.grades_agree.Goals as goal
 
 statuses : (g : Game) (id : Text) (budget : ℕ) (traced : Bool) (solved graded : Answer)
@@ -33,6 +34,9 @@ returns-clause-statuses c = statuses
 
 pub returns-clause-enough : goal.returns-clause-enough
 returns-clause-enough c = enough
+
+pub returns-clause-least : goal.returns-clause-least
+returns-clause-least c = least_budgets
 
 pub returns-clause-rule_sets : goal.returns-clause-rule_sets
 returns-clause-rule_sets c = rule_sets

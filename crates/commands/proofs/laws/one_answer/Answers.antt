@@ -10,6 +10,7 @@ use Rattle.commands.specs.Replies.{refused_words}
 use Rattle.commands.specs.Asked.{Asked, solve, check, grade, generate}
 use Rattle.commands.proofs.CheckedPuzzles.{check_same, check_some}
 use Rattle.commands.proofs.GameFacts.{facts, solving, listed_right}
+use Rattle.commands.proofs.MadeAlike.{lights_differ, solo_differs}
 use Rattle.commands.proofs.MadeOnce.{AreFilled, made_pattern, made_tents}
 use Rattle.commands.proofs.Readings.{each_once, grade_once, id_once, one_of_same, told_once}
 use Rattle.commands.proofs.laws.one_answer.Goals as goal
@@ -27,7 +28,7 @@ grading game id budget =
     (listed_right (of.solves p) (of.sets p) (of.rules p) budget ((facts game).listed id p s) ((facts game).searched id p s)))
 
 pub returns : goal.returns
-returns c = record { fixed = by }
+returns c = record { fixed = by; solo = solo_differs; lights = lights_differ }
   where
     filled : AreFilled
     filled = record { trees = c.fillings_of_tents_are_solutions.ensures.trees; solved = c.fillings_of_tents_are_solutions.ensures.solved }
