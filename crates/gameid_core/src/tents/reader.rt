@@ -21,28 +21,6 @@ use crate::text::runs::push_run;
 use grid_core::{Size, line_count, line_len};
 use std::alloc::{AllocError, Global};
 
-/// The cells of a description as far as they are read, 1 for a tree, and the counts of lines.
-struct TentsSoFar {
-    places: Vec<u8>,
-    counts: Vec<u8>,
-}
-
-impl Drop for TentsSoFar {
-    fn drop(self) {
-        let TentsSoFar { places, counts } = self;
-    }
-}
-
-impl TentsSoFar {
-    /// The cells, and the counts.
-    fn into_lists(self) -> (Vec<u8>, Vec<u8>)
-        ensures { (result.0 ≡ self.places) × (result.1 ≡ self.counts) }
-    {
-        let TentsSoFar { places, counts } = self;
-        (places, counts)
-    }
-}
-
 /// Adds so many blanks, and a tree if it is told to.
 fn push_places(places: &mut Vec<u8>, blanks: usize, tree: bool) -> Result<(), AllocError>
     ensures { OnOk result (places.new.items ≡ places.old.items ++ run_cells blanks tree) }
@@ -103,41 +81,44 @@ fn count_at<'a>(
 
 /// The places and counts of a description, which begins at that place of the ID.
 #[tactic(auto, using(crate::proofs::TentsReading::turns), unfolding(crate::specs::Steps::reading))]
-fn parts(alloc: Global, size: Size, base: usize, description: &[u8]) -> Result<TentsSoFar, IdFault>
+fn parts(
+    alloc: Global,
+    size: Size,
+    base: usize,
+    description: &[u8],
+) -> Result<(Vec<u8>, Vec<u8>), IdFault>
     requires { base + length description.now < 2 ^ 32 }
-    ensures { Gives (λ x. record { places = x.places.items; counts = x.counts.items }) result
+    ensures { Gives (λ x. record { places = x.0.items; counts = x.1.items }) result
         (tents_at size base description.now) }
 {
     let lines = line_count(size);
-    let mut parts = TentsSoFar {
-        places: Vec::with_capacity(alloc, size.cells() + 1)?,
-        counts: Vec::with_capacity(alloc, lines)?,
-    };
+    let mut places = Vec::with_capacity(alloc, size.cells() + 1)?;
+    let mut counts = Vec::with_capacity(alloc, lines)?;
     let mut rest = description;
     while let Some((first, after)) = first_of(rest) {
         let at = base + (description.len() - rest.len());
         if first == b',' {
-            let (count, after) = count_at(size, at, &parts.places, &parts.counts, after)?;
-            parts.counts.push(count)?;
+            let (count, after) = count_at(size, at, &places, &counts, after)?;
+            counts.push(count)?;
             rest = after;
         } else {
-            if !parts.counts.is_empty() {
+            if !counts.is_empty() {
                 return Err(IdFault::BadByte(at));
             }
             let (blanks, tree) = run_of(at, first)?;
             let more = blanks + usize::from(tree);
             let most = size.cells() + usize::from(tree);
-            if parts.places.len() + more > most {
+            if places.len() + more > most {
                 return Err(IdFault::TooMany);
             }
-            push_places(&mut parts.places, blanks, tree)?;
+            push_places(&mut places, blanks, tree)?;
             rest = after;
         }
     }
-    if parts.counts.len() != lines {
+    if counts.len() != lines {
         return Err(IdFault::TooFew);
     }
-    Ok(parts)
+    Ok((places, counts))
 }
 
 /// The puzzle that the text spells, or its first fault, as reading gives it.
@@ -148,8 +129,7 @@ fn read(alloc: Global, text: &[u8]) -> Result<TentsPuzzle, IdFault>
 {
     let head = read_head(Game::Tents, text)?;
     let size = Size::new(head.w, head.h).unwrap();
-    let parts = parts(alloc, size, head.description, &text[head.description..])?;
-    let (mut places, counts) = parts.into_lists();
+    let (mut places, counts) = parts(alloc, size, head.description, &text[head.description..])?;
     places.truncate(size.cells());
     Ok(TentsPuzzle::of_lists(size, places, counts))
 }

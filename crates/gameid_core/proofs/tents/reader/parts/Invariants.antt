@@ -7,8 +7,8 @@ use Rattle.gameid_core.proofs.tents.reader.parts.Given as goal
 abbrev pub invariant-loop-first : goal.invariant-loop-first
 invariant-loop-first l = record {
   short : length l.rest ≤ length l.description;
-  few : length l.parts.places.items ≤ l.size.w * l.size.h + 1;
-  so_far : reads l.size (place l.base (length l.description) l.rest) l.parts.places.items l.parts.counts.items l.rest ≡ tents_at l.size l.base l.description;
+  few : length l.places.items ≤ l.size.w * l.size.h + 1;
+  so_far : reads l.size (place l.base (length l.description) l.rest) l.places.items l.counts.items l.rest ≡ tents_at l.size l.base l.description;
 }
 
 abbrev pub decreases-loop-first : goal.decreases-loop-first
