@@ -9,8 +9,9 @@ usage: promises.py [--help]
   by themselves or with their type; of the program those of PROGRAM below.
 - Each wrong body has one line `# refused by: FUNCTION.CLAUSE`, and there is such a clause: see the next paragraph.
 
-FUNCTION is `f`, `T::f`, or `T::f of U` for U's own f of the trait T; CLAUSE is the name of an `ensures` of it, or of the trait's f.
-No CLAUSE stands for the `ensures` that has no name, `invariant` for that of the function's type, and `from_gives` for From's.
+FUNCTION is `f`, `T::f`, or `T::f of U` for U's own f of the trait T. CLAUSE is the name of an `ensures` of it, or of the trait's f; or
+of a `requires` that the wrong body does not meet. FUNCTION alone stands for the `ensures` that has no name. `invariant` stands for
+the one of the function's type, and `from_gives` for what an `impl` of `From` says that it gives.
 
 In a second column `T::f`, or `T::f.clause`, names the call f of T; after it a bare `g` names T's call g too, and the function g.
 "the calls of `T`", or of `T`, `U` and `V`, are all calls of each. Families that a row names by a phrase are in FAMILIES.
@@ -94,8 +95,8 @@ def clauses(crate):
             if head := re.match(r" *(?:pub(?:\(crate\))? )?fn (\w+)", line):
                 function = trait, kind, head[1]
                 found.setdefault(function, set())
-            elif clause := re.match(r" *ensures(?: (\w+))? \{", line):
-                found[function].add(clause[1] or "")
+            elif clause := re.match(r" *(?:ensures(?: (\w+))?|requires (\w+)) \{", line):
+                found[function].add(clause[1] or clause[2] or "")
             elif ghost := re.match(r" *ghost (invariant|from_gives) =", line):
                 found[None, kind, None].add(ghost[1])
     return found
