@@ -1,7 +1,7 @@
 //! Long IDs, and large grids.
 
 use super::{fault_or_want, long_text, written_again};
-use crate::{Game, IdFault};
+use gameid_core::{Game, IdFault};
 use std::test::Fail;
 
 #[test]

@@ -1,10 +1,15 @@
+//! Game IDs and printed grids.
+
 mod grids;
 mod ids;
 mod limits;
 mod puzzles;
 mod sizes;
 
-use super::*;
+use gameid_core::{
+    Game, IdFault, read_lights, read_pattern, read_solo, read_tents, write_lights, write_pattern,
+    write_solo, write_tents,
+};
 use std::alloc::{AllocError, Global};
 
 /// The fault of an ID, if it has one.

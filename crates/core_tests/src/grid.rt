@@ -1,7 +1,12 @@
+//! Grids, boards, lines, regions and pairings.
+
 ghost use Rattle.std.specs.Prelude.{◌==◌, get_or};
 ghost use Rattle.std.specs.Int.{bit_at};
 
-use super::*;
+use grid_core::{
+    Board, Edges, Grid, Paired, Pairing, Size, beside, block_place, column_place, diagonal_place,
+    row_place, step,
+};
 use std::test::Fail;
 
 #[test]

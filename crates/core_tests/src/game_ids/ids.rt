@@ -1,7 +1,7 @@
 //! IDs that are read, refused and written.
 
 use super::{fault_or_want, written_again};
-use crate::{Game, IdFault};
+use gameid_core::{Game, IdFault};
 use std::test::Fail;
 
 #[test]

@@ -1,6 +1,6 @@
 //! Puzzles that are made, set, read and copied.
 
-use crate::*;
+use gameid_core::*;
 use grid_core::{Grid, Size};
 use std::alloc::{AllocError, Global};
 use std::test::Fail;

@@ -1,6 +1,6 @@
 //! Printed grids.
 
-use crate::*;
+use gameid_core::*;
 use std::alloc::Global;
 use std::test::Fail;
 

@@ -1,7 +1,7 @@
 //! Sizes, and faults before the colon.
 
 use super::fault_of;
-use crate::{Game, IdFault, read_size};
+use gameid_core::{Game, IdFault, read_size};
 
 #[test]
 fn faults_before_the_colon(rt: HostRuntime) {
