@@ -4,6 +4,8 @@
 #![tactic(auto)]
 
 #[cfg(test)]
+mod engine;
+#[cfg(test)]
 mod game_ids;
 #[cfg(test)]
 mod grid;
