@@ -9,9 +9,9 @@ usage: promises.py [--help]
   by themselves or with their type; of the program those of PROGRAM below.
 - Each wrong body has one line `# refused by: FUNCTION.CLAUSE`, and there is such a clause: see the next paragraph.
 
-FUNCTION is `f`, `T::f`, or `T::f of U` for U's own f of the trait T. CLAUSE is the name of an `ensures` of it, or of the trait's f;
-or of a `requires` that the wrong body does not meet. FUNCTION alone stands for the `ensures` that has no name. `invariant` is
-the one of the function's type, and `from_gives` what an `impl` of `From` says that it gives.
+FUNCTION is `f`, `T::f`, or `T::f of U` for U's own f of the trait T. CLAUSE is the name of an `ensures` of it, or of the
+trait's f, or of a `requires` that the wrong body does not meet. FUNCTION alone stands for the `ensures` that has no name.
+`invariant` is the one of the function's type, and `from_gives` what an `impl` of `From` says that it gives.
 
 In a second column `T::f`, or `T::f.clause`, names the call f of T; after it a bare `g` names T's call g too, and the function g.
 "the calls of `T`", or of `T`, `U` and `V`, are all calls of each. Families that a row names by a phrase are in FAMILIES.
