@@ -73,7 +73,7 @@ module _ (game : Game) (id : Text) (p : puzzle_of game) (s : (played game).game.
   tells_one budget said (inl x) fine = absurd ((facts game).reading.apart id p x.fault s x.first)
   tells_one budget said (inr x) fine =
       let mine = subst (λ q. IsSolved ((played game).game.solves q) ((played game).game.rules q) ((played game).cell_text q) ((played game).extent q) budget said)
-          ((facts game).reading.one id x.puzzle p x.spelled s) x.allowed in
+      ((facts game).reading.one id x.puzzle p x.spelled s) x.allowed in
       status_one (verdict_of rules budget) (sym (told_status printed (verdict_of rules budget)) ∙ sym (ap (λ (a : Answer). a.status) mine.told) ∙ fine)
 
   one_is : (budget : ℕ) (g : List ℕ) → verdict_of rules budget ≡ OneGrid g → HasOneSolution ((played game).game.solves p)
@@ -106,12 +106,14 @@ module _ (game : Game) (id : Text) (p : puzzle_of game) (s : (played game).game.
       let has = solving game n id in
       let found = tells_one n has.answer has.allowed (least.enough has.answer has.allowed) in
       let one = one_is n found.0 found.1 in
-      let room = room_for (walk rules 0 rules.start) n None found.0 found.1 in
-      (one, elim (eq-or-lt_of_le room) [
-        | inl same ↦ same
-        | inr less ↦ absurd (let at = solving game (trials_of rules) id in
-            least.least (trials_of rules) less at.answer at.allowed (tells_fine one (trials_of rules) (omega arith) at.answer at.allowed))
-      ])
+      let room = room_for (walk rules 0 rules.start) n None found.0 found.1 in (
+        one,
+        elim (eq-or-lt_of_le room) [
+          | inl same ↦ same
+          | inr less ↦ absurd (let at = solving game (trials_of rules) id in
+              least.least (trials_of rules) less at.answer at.allowed (tells_fine one (trials_of rules) (omega arith) at.answer at.allowed))
+        ],
+      )
 
   module _ (budget : ℕ) (traced : Bool) (tells : Text → Type 0) (graded : Answer)
       (told : TellsGrade (listed_grade ((played game).game.sets p) rules budget) traced tells graded) where

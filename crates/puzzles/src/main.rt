@@ -10,7 +10,7 @@ pub mod words;
 use crate::ends::read_end::ReadEnd;
 use crate::ends::write_end::WriteEnd;
 use crate::run::run;
-use commands::answers::status::NO_MEMORY;
+use commands::NO_MEMORY;
 use std::env;
 use std::io::ErrorKind;
 use std::process::ExitCode;

@@ -10,15 +10,10 @@ ghost use Rattle.commands.specs.Stops.{LeavesEnds, Runs};
 use crate::ends::read_end::ReadEnd;
 use crate::ends::write_end::WriteEnd;
 use crate::words::{Request, read_words};
-use commands::answers::reply::{Reply, words_reply};
-use commands::answers::status::{BROKEN, Ended, NO_MEMORY, Status};
-use commands::batch::solve_lines;
-use commands::check::check_id;
-use commands::ends::output::deliver;
-use commands::ends::{Sink, Source};
-use commands::games::Stores;
-use commands::generate::generated;
-use commands::grade::grade_id;
+use commands::{
+    BROKEN, Ended, NO_MEMORY, Reply, Sink, Source, Status, Stores, check_id, deliver, generated,
+    grade_id, solve_lines, words_reply,
+};
 use std::alloc::{AllocError, Global};
 
 /// The answer to a request that is made whole before it is put, and leaves the input unread.

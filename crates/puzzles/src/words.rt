@@ -9,11 +9,7 @@ ghost use Rattle.puzzles.specs.CommandLine.{required_word, text_option, flag, so
 
 use clap::error::ErrorKind;
 use clap::{Arg, ArgAction, ArgMatches, Command};
-use commands::games::{game_named, usual_black};
-use commands::generate::Recipe;
-use commands::generate::percent::Percent;
-use commands::grade::GradeOptions;
-use commands::solve::Task;
+use commands::{GradeOptions, Percent, Recipe, Task, game_named, usual_black};
 use gameid_core::Game;
 use maker_core::Limits;
 use std::alloc::{AllocError, Global};

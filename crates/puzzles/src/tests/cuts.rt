@@ -5,7 +5,7 @@ use crate::run::run_on_bytes;
 use crate::tests::fakes::{Chunks, Endless, Slow, texts};
 use crate::tests::rows::Row;
 use crate::tests::seen::observe;
-use commands::ends::Source;
+use commands::Source;
 use std::test::Fail;
 
 /// Three lines, without a line end after the last.

@@ -6,7 +6,7 @@ use crate::tests::fakes::{Endless, Slow, texts};
 use crate::tests::rows::Row;
 use crate::tests::runs::GRADES;
 use crate::tests::seen::{observe, outcome};
-use commands::answers::decimal::push_number;
+use commands::push_number;
 use engine_core::{Rules, Store};
 use fields_core::LightRules;
 use gameid_core::{read_lights, read_pattern, read_solo};

@@ -3,7 +3,7 @@ use crate::ends::read_end::ReadEnd;
 use crate::ends::write_end::WriteEnd;
 use crate::run::{run, run_on_bytes};
 use crate::tests::fakes::{Slow, texts};
-use commands::ends::{Sink, Source};
+use commands::{Sink, Source};
 use std::alloc::{AllocError, Global};
 use std::io::Read;
 
