@@ -136,16 +136,16 @@ def body_faults(named_by):
 
 
 def rows(text):
-    """The cells of each row of a table of promises, with the number of its line."""
-    inside = False
+    """The three cells of each row of a table of promises, with the number of its line. A table of laws has no third column."""
+    columns = 0
     for number, line in enumerate(text.splitlines(), 1):
         cells = [cell.strip() for cell in line.split("|")[1:-1]]
-        if len(cells) != 3:
-            inside = False
-        elif cells[2].startswith("Wrong bodies"):
-            inside = True
-        elif inside and not line.startswith("|---"):
-            yield number, cells
+        if cells[:2] == ["Promise", "Contract"]:
+            columns = len(cells)
+        elif not columns or len(cells) != columns:
+            columns = 0
+        elif not line.startswith("|---"):
+            yield number, (cells + [NO_BODY[0]])[:3]
 
 
 def named(cell):
