@@ -1,13 +1,13 @@
 -- Words and lemmas of std and of the crates below, and words of this crate, as its proofs use them.
 pub use Rattle.std.proofs.Common.{Bool, IfSome, List, None, Option, Some, [], add-one, ap, append_assoc, arith, bit_and, cond, count_ones, drop, eqb}
-pub use Rattle.std.proofs.Common.{false, get_or, if◌then◌else◌, inl, inr, is_some, length, length-append, length-set, ltb, map, max, not}
+pub use Rattle.std.proofs.Common.{false, get_or, if◌then◌else◌, inl, inr, is_some, length, length-append, length-set, ltb, max, not}
 pub use Rattle.std.proofs.Common.{option_to_list, refl, replicate, rules, set, slice_index, subst, suc, sym, take, true, w32, w64, zero, ℕ, ◌%◌, ◌&&◌}
 pub use Rattle.std.proofs.Common.{◌*◌, ◌++◌, ◌+◌, ◌-◌, ◌/◌, ◌<◌, ◌==◌, ◌^◌, ◌||◌, ◌↔◌, ◌∙◌, ◌∷◌, ◌≡◌, ◌≢◌, ◌≤◌, ◌⊎◌}
 pub use Rattle.std.proofs.Math.Nat.{div-div-eq-div-mul, div-le_self, mul-le-mul_right, mul-suc, pow-succ'}
 pub use Rattle.std.proofs.Math.Path.{fun_ext}
 pub use Rattle.std.proofs.Math.Seq.{take-suc-set}
 pub use Rattle.std.proofs.lemmas.Bool.{and_from, and_left, and_parts, and_right, cases_Bool, cases_eq, cases_lt, cond-false, cond-true, eq-eqb}
-pub use Rattle.std.proofs.lemmas.Bool.{eqb-false, eqb-true, false_from_ne_true, le-leb, le-ltb, leb-true, lt-leb, lt-ltb, ne_eqb, not-true}
+pub use Rattle.std.proofs.lemmas.Bool.{eqb-true, false_from_ne_true, le-leb, le-ltb, leb-true, lt-leb, lt-ltb, ne_eqb, not-true}
 pub use Rattle.std.proofs.lemmas.Bool.{not_from_false, not_from_true, or_cases, or_left, or_right, true≢false}
 pub use Rattle.std.proofs.lemmas.Cmp.{upto}
 pub use Rattle.std.proofs.lemmas.Grind.{common_steps, get_or-set_at}
@@ -15,14 +15,14 @@ pub use Rattle.std.proofs.lemmas.List.{drop-append-le, get_or-replicate, get_or-
 pub use Rattle.std.proofs.lemmas.List.{length-take-le, length_push, map-id, places, take-append-le, take_all, take_at, take_more}
 pub use Rattle.std.proofs.lemmas.List.Edits.{get_or-between, length-between}
 pub use Rattle.std.proofs.lemmas.List.Elements.{All-from_get_or}
-pub use Rattle.std.proofs.lemmas.List.FromFn.{get_or-map-range_with_len, length-map-range_with_len, map-range_with_len_more}
+pub use Rattle.std.proofs.lemmas.List.FromFn.{map-range_with_len_more}
 pub use Rattle.std.proofs.lemmas.List.Sums.{sum_by-cons}
 pub use Rattle.std.proofs.lemmas.Nat.{and_le_l, one_shl, or_lt, pow-add, pow_below, pow_pos}
 pub use Rattle.std.proofs.lemmas.Nat.Bits.{bit_at-lt, bit_at-pow_other, bit_at-pow_same, bit_at-trailing_zeros, bit_at-zero, bit_at_above}
 pub use Rattle.std.proofs.lemmas.Nat.Bits.{bit_at_clear_other, bit_at_clear_same, bit_at_set_other, bit_at_set_same, same_from_bits_below}
-pub use Rattle.std.proofs.lemmas.Slice.{between_is, between_to_end}
+pub use Rattle.std.proofs.lemmas.Slice.{between_to_end}
 pub use Rattle.std.specs.Int.{bit_at, trailing_zeros}
-pub use Rattle.std.specs.List.{AllByRecursion, between, length_refill, range_with_len}
+pub use Rattle.std.specs.List.{AllByRecursion, between, range_with_len}
 pub use Rattle.std.specs.Prelude.{bit_or, nat_le, sum_by}
 pub use Rattle.grid_core.proofs.BoardLemmas.{bits_both, bits_either, count_ones-bits, has-within}
 pub use Rattle.grid_core.proofs.CandidateLemmas.{all_below-from, any_below-here, any_below-none, any_below-some, count_below-any, count_below-bound}
@@ -36,7 +36,7 @@ pub use Rattle.grid_core.proofs.PieceLemmas.{ends-close, ends-more, last-close, 
 pub use Rattle.grid_core.specs.Board.{Layout, SameShape, cells_of}
 unfoldable pub use Rattle.grid_core.specs.Board.{has}
 pub use Rattle.grid_core.specs.Candidates.{Candidates, IsInside, IsWithin}
-unfoldable pub use Rattle.grid_core.specs.Candidates.{all_of, any_below, better, count_below, grid_of, is_dead, is_full, least_below, only, pick}
+unfoldable pub use Rattle.grid_core.specs.Candidates.{any_below, better, count_below, grid_of, is_dead, is_full, least_below, only, pick}
 unfoldable pub use Rattle.grid_core.specs.Candidates.{single, sum_below, total, with_set, without}
 pub use Rattle.grid_core.specs.Pieces.{AreEnds, last_end, pieces}
 unfoldable pub use Rattle.grid_core.specs.Regions.{step}
@@ -45,22 +45,18 @@ unfoldable pub use Rattle.engine_core.specs.Closing.{closure, replay, round, rou
 pub use Rattle.engine_core.specs.ClosingList.{HasLost, IsAlive, IsCalledFor, IsCalledNext, IsClosing, IsClosingList, IsClosingSweeps, IsDead, Reaches}
 pub use Rattle.engine_core.specs.Counts.{IsClosedIn, IsTurns, boards_of}
 unfoldable pub use Rattle.engine_core.specs.Counts.{deepest_of}
-pub use Rattle.engine_core.specs.Filling.{Fills, Set, has_value, strikes_by_fillings}
-pub use Rattle.engine_core.specs.FillingLaws.{has_value_below, shown_from_test, test_from_shown}
+pub use Rattle.engine_core.specs.FillingLaws.{shown_from_test, test_from_shown}
 pub use Rattle.engine_core.specs.Frames.{AreAlong, AreGrids, AreReady, CountsClosing, IsFull, IsOpen, IsReady, IsSearched, IsTrial, IsWalked, Judges}
 pub use Rattle.engine_core.specs.Frames.{Says, board_in, found_marks, found_of, frame_at, level_at, marks_from, marks_of, pending_in, pending_of}
 pub use Rattle.engine_core.specs.Frames.{searched_at, walk_of}
 unfoldable pub use Rattle.engine_core.specs.Frames.{levels_of, singles}
-pub use Rattle.engine_core.specs.House.{AreDifferent, IsDecided}
+pub use Rattle.engine_core.specs.House.{AreDifferent}
 unfoldable pub use Rattle.engine_core.specs.House.{kept_in}
 pub use Rattle.engine_core.specs.HouseIndex.{AreHousesAt, AreScopes, IsFirstFrom, IsIndex, IsPut, IsRoom, number_at, scope_of, start_at}
-pub use Rattle.engine_core.specs.HouseLaws.{bits-of_values, kept-decided, sets-bits, sets-of_values, visited-after}
+pub use Rattle.engine_core.specs.HouseLaws.{sets-bits}
 pub use Rattle.engine_core.specs.HouseList.{IsListed, listed}
 pub use Rattle.engine_core.specs.HousesLaws.{bound_enough, by_houses-lawful, counted_twice, from_first}
 pub use Rattle.engine_core.specs.Keeping.{AreSetsOf, IsKept}
-pub use Rattle.engine_core.specs.Neighbours.{differ, neighbours}
-unfoldable pub use Rattle.engine_core.specs.Neighbours.{is_row}
-pub use Rattle.engine_core.specs.NeighboursLaws.{pair-cases, pair-different, pair-first, pair-second, row-parts}
 pub use Rattle.engine_core.specs.PlaceLaws.{has_place-at, has_place-here}
 pub use Rattle.engine_core.specs.Puzzle.{FitsIn, IsBoardOf, IsClosed, IsGridOf, IsIdle, IsInsideAt, IsKth, IsLawful, IsNext, Needs, Puzzle, needs_of}
 unfoldable pub use Rattle.engine_core.specs.Puzzle.{after, has_place, longest, share}
@@ -69,7 +65,6 @@ unfoldable pub use Rattle.engine_core.specs.Queue.{but, counts_of, visits_left, 
 pub use Rattle.engine_core.specs.Search.{Level}
 unfoldable pub use Rattle.engine_core.specs.Search.{branches_from, pending}
 pub use Rattle.engine_core.specs.Sets.{IsBitsOf, IsChange, has_bit}
-unfoldable pub use Rattle.engine_core.specs.Sets.{set_of_bits}
 pub use Rattle.engine_core.specs.Stored.{is_settled}
 pub use Rattle.engine_core.specs.Trail.{AreLost, IsBack, IsFurther, IsTrail, Trail, back_at, change_at, given_back, is_emptied_since, is_since}
 unfoldable pub use Rattle.engine_core.specs.Trail.{left_by, put_back}

@@ -14,7 +14,6 @@ pub mod KeepLemmas
 pub mod LostLemmas
 pub mod StoreLemmas
 pub mod HouseLemmas
-pub mod NeighboursLemmas
 pub mod WalkLemmas
 pub mod PickLemmas
 pub mod VerdictLemmas

@@ -26,5 +26,3 @@ pub mod Frames
 pub mod Stored
 pub mod Working
 pub mod StoreParts
-pub mod Neighbours
-pub mod NeighboursLaws

@@ -23,6 +23,3 @@ pub use rules::Rules;
 pub use search::trials::trials_made_are_the_first;
 pub use search::walk::Verdict;
 pub use store::{Sizes, Store};
-
-#[cfg(test)]
-mod tests;

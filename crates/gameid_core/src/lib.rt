@@ -38,6 +38,3 @@ pub use solo::writer::{one_written_text_of_solo, write_solo};
 pub use tents::puzzle::TentsPuzzle;
 pub use tents::reader::{first_fault_of_tents, one_reading_of_tents, read_tents};
 pub use tents::writer::{one_written_text_of_tents, write_tents};
-
-#[cfg(test)]
-mod tests;

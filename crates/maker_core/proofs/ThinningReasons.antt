@@ -63,11 +63,12 @@ module _ {A : Type 0} (game : CluedGame A) (budget : ℕ) (all p : A) where
       All-cons (λ k. IsReason game budget all p k.place k.why) _ _ (told a 0 (omega arith)).1 (told_reasons whys (suc a) (λ k i e. told k (suc i) (omega arith)))
 
 -- all clues were tried
-module _ {A : Type 0} (game : CluedGame A) (laws : IsGame game) (budget : ℕ) (all p : A) (answer : List ℕ) (whys : List (Option Why))
-    (order : List ℕ) (k : ℕ) (over : length order ≤ k) (left : IsThinning game budget all p whys (drop k order)) where
-  now : IsThinning game budget all p whys []
-  now = subst (IsThinning game budget all p whys) (drop_all k order over) left
+pub all_tried : {A : Type 0} (game : CluedGame A) (budget : ℕ) (all p : A) (whys : List (Option Why)) (order : List ℕ) (k : ℕ) → length order ≤ k
+    → IsThinning game budget all p whys (drop k order) → IsThinning game budget all p whys []
+all_tried game budget all p whys order k over left = subst (IsThinning game budget all p whys) (drop_all k order over) left
 
+module _ {A : Type 0} (game : CluedGame A) (laws : IsGame game) (budget : ℕ) (all p : A) (answer : List ℕ) (whys : List (Option Why))
+    (now : IsThinning game budget all p whys []) where
   all_told : AreTold game budget all p whys 0
   all_told k i e = let same : k ≡ i = omega arith in rw same (by (now.told i))
     where

@@ -8,7 +8,8 @@ use Rattle.std.specs.Option.{option_map_or}
 use Rattle.clap.specs.Walk.{Row, Text, first_of}
 use Rattle.gameid_core.specs.declared.id.game.Game.{Game}
 use Rattle.puzzles.specs.CommandLine.{parsed}
-use Rattle.puzzles.specs.Games.{game_of, usual_black}
+use Rattle.commands.specs.Asked.{Asked, solve, check, grade, generate}
+use Rattle.commands.specs.Games.{game_of, usual_black}
 use Rattle.puzzles.specs.declared.words.Request.{Request}
 use Rattle.puzzles.specs.declared.words.Request.TheVariants as request
 
@@ -25,17 +26,6 @@ number_of most text = if is_number text && nat_le (digits_value 10 text) most
 abbrev pub number_or : ℕ → ℕ → Option (List ℕ) → Option ℕ
 number_or otherwise most None = Some otherwise
 number_or otherwise most (Some text) = number_of most text
-
--- a request, apart from where its texts lie in memory
-pub data Asked : Type 0 where
-  -- game, ID where there is one, budget
-  solve : Game → Option Text → ℕ → Asked
-  -- game, ID
-  check : Game → Text → Asked
-  -- game, ID, budget, whether the trace is wanted
-  grade : Game → Text → ℕ → Bool → Asked
-  -- game, size, seed, budget, tries, percentage of black
-  generate : Game → Text → ℕ → ℕ → ℕ → ℕ → Asked
 
 abbrev pub asked_in : Request → Asked
 asked_in (request.Solve task id) = solve task.game (option_map (λ s. s.now) id) task.budget

@@ -1,25 +1,16 @@
 //! Solves logic puzzles by their game IDs.
 #![tactic(auto)]
 
-pub mod answers;
-pub mod batch;
-pub mod check;
 pub mod ends;
-pub mod games;
-pub mod generate;
-pub mod grade;
-pub mod laws;
-pub mod played;
 pub mod run;
-pub mod solve;
 #[cfg(test)]
 mod tests;
 pub mod words;
 
-use crate::answers::status::NO_MEMORY;
 use crate::ends::read_end::ReadEnd;
 use crate::ends::write_end::WriteEnd;
 use crate::run::run;
+use commands::NO_MEMORY;
 use std::env;
 use std::io::ErrorKind;
 use std::process::ExitCode;

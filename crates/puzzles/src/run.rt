@@ -1,24 +1,19 @@
 //! One run of the program.
 ghost use Rattle.std.specs.Prelude.{◌≡◌, ◌<◌, ◌≤◌, true, false, option_map, IfOk};
-ghost use Rattle.puzzles.specs.Answers.{BeginsAnswer, Text, answer_with};
-ghost use Rattle.puzzles.specs.Allowed.{Allows, is_put_whole, reads_input};
-ghost use Rattle.puzzles.specs.Replies.{answer_in};
+ghost use Rattle.commands.specs.Answers.{BeginsAnswer, Text, answer_with};
+ghost use Rattle.commands.specs.Allowed.{Allows, is_put_whole, reads_input};
+ghost use Rattle.commands.specs.Replies.{answer_in};
 ghost use Rattle.puzzles.specs.Requests.{asked_in, request_of};
-ghost use Rattle.puzzles.specs.Runs.{AreNew, IsBroken, Ran};
-ghost use Rattle.puzzles.specs.Stops.{LeavesEnds, Runs};
+ghost use Rattle.commands.specs.Runs.{AreNew, IsBroken, Ran};
+ghost use Rattle.commands.specs.Stops.{LeavesEnds, Runs};
 
-use crate::answers::reply::{Reply, words_reply};
-use crate::answers::status::{BROKEN, Ended, NO_MEMORY, Status};
-use crate::batch::solve_lines;
-use crate::check::check_id;
-use crate::ends::output::deliver;
 use crate::ends::read_end::ReadEnd;
 use crate::ends::write_end::WriteEnd;
-use crate::ends::{Sink, Source};
-use crate::games::Stores;
-use crate::generate::generated;
-use crate::grade::grade_id;
 use crate::words::{Request, read_words};
+use commands::{
+    BROKEN, Ended, NO_MEMORY, Reply, Sink, Source, Status, Stores, check_id, deliver, generated,
+    grade_id, solve_lines, words_reply,
+};
 use std::alloc::{AllocError, Global};
 
 /// The answer to a request that is made whole before it is put, and leaves the input unread.

@@ -7,13 +7,9 @@ ghost use Rattle.clap.specs.Matches.{found_of};
 ghost use Rattle.clap.specs.declared.builder.command.Command.TheViews.{out-Command as fields_of};
 ghost use Rattle.puzzles.specs.CommandLine.{required_word, text_option, flag, solve_app, check_app, grade_app, generate_needs_app, generate_app, bare_app, puzzles_app, parsed};
 
-use crate::games::{game_named, usual_black};
-use crate::generate::Recipe;
-use crate::generate::percent::Percent;
-use crate::grade::GradeOptions;
-use crate::solve::Task;
 use clap::error::ErrorKind;
 use clap::{Arg, ArgAction, ArgMatches, Command};
+use commands::{GradeOptions, Percent, Recipe, Task, game_named, usual_black};
 use gameid_core::Game;
 use maker_core::Limits;
 use std::alloc::{AllocError, Global};

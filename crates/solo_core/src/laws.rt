@@ -8,6 +8,26 @@ ghost use Rattle.solo_core.specs.Meanings.{AcceptsSolutions, StrikesAsMuch, List
 ghost use Rattle.solo_core.specs.RuleSets.{houses_rules, singles_rules, crossings_rules};
 ghost use Rattle.solo_core.specs.Scopes.{scopes_of};
 
+use crate::rules::{SoloCrossings, SoloHouses, SoloRules, SoloSingles};
+use crate::strikes::{Crossings, Fillings, Singles};
+use engine_core::Rules;
+
+/// What the rules by singles mean: those of the puzzle that they keep.
+pub fn rules_of_singles(rules: &SoloSingles)
+    ensures { ⟦<SoloRules<Singles> as Rules>⟧.puzzle rules.now ≡ singles_rules rules.now.puzzle }
+{}
+
+/// What the rules by fillings of houses mean.
+pub fn rules_of_houses(rules: &SoloHouses)
+    ensures { ⟦<SoloRules<Fillings> as Rules>⟧.puzzle rules.now ≡ houses_rules rules.now.puzzle }
+{}
+
+/// What the rules by houses and crossings mean.
+pub fn rules_of_crossings(rules: &SoloCrossings)
+    ensures { ⟦<SoloRules<Crossings> as Rules>⟧.puzzle rules.now
+        ≡ crossings_rules rules.now.puzzle }
+{}
+
 /// The grids that the rules of each rule set accept are the solutions of the puzzle.
 pub fn accepted_are_solutions()
     ensures houses { (p : Solo) → IsSolo p → AcceptsSolutions p (houses_rules p) }

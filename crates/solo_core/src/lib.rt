@@ -18,7 +18,7 @@ pub use houses::scopes::scope_of;
 pub use laws::{
     accepted_are_solutions, bounds_are, crossings_strike_what_houses_strike,
     houses_are_lines_and_blocks, houses_strike_what_singles_strike, rules_are_lawful,
-    scopes_are_houses_and_crossings,
+    rules_of_crossings, rules_of_houses, rules_of_singles, scopes_are_houses_and_crossings,
 };
 pub use rules::{SoloCrossings, SoloHouses, SoloRules, SoloSingles, SoloWork};
 pub use strikes::{Crossings, Fillings, Singles, Strikes};

@@ -9,10 +9,16 @@ use std::marker::Model;
 
 /// Clues that are whole, and the numbers so far of the next. All numbers stand in one list, and
 /// where those of each whole clue end in another.
-#[derive(Debug, Drop)]
+#[derive(Debug)]
 pub(crate) struct Clues {
     numbers: Vec<u8>,
     ends: Vec<usize>,
+}
+
+impl Drop for Clues {
+    fn drop(self) {
+        let Clues { numbers, ends } = self;
+    }
 }
 
 impl Model for Clues {

@@ -7,7 +7,7 @@ ghost use Rattle.maker_core.specs.declared.made.MakeFault.TheVariants.{Exhausted
 ghost use Rattle.maker_core.specs.Draws.{AllFail, DrawsAll, DrawsFirst};
 ghost use Rattle.maker_core.specs.LightFilling.{IsLit, light_puzzle_of};
 ghost use Rattle.maker_core.specs.LightMaking.{MakesLights, light_tries};
-ghost use Rattle.maker_core.specs.Made.{HasOne};
+ghost use Rattle.maker_core.specs.Made.{HasOne, has_one};
 
 use crate::light_up::filling::{LightFilling, fill_lights, puzzle_of};
 use crate::made::{Limits, Made, MakeFault};
@@ -48,10 +48,28 @@ impl Attempts for LitGrids {
     #[tactic(auto, using(crate::proofs::LightMakings::black_laws))]
     fn draw<G: Rng>(&self, alloc: Global, rng: &mut G) -> Result<(LightFilling, bool), AllocError> {
         let filling = fill_lights(alloc, rng, self.size, self.black)?;
-        let rules = LightRules::new(alloc, &puzzle_of(alloc, self.size, &filling)?)?;
-        let passes = is_unique(alloc, &rules, self.limits.budget)?;
+        let passes = is_alone(alloc, self.size, &filling, self.limits.budget)?;
         Ok((filling, passes))
     }
+}
+
+/// Whether the verdict of the filling's puzzle is one.
+fn is_alone(
+    alloc: Global,
+    size: Size,
+    filling: &LightFilling,
+    budget: u64,
+) -> Result<bool, AllocError>
+    requires wide { IsWide size }
+    requires lit { IsLit size filling.now }
+    ensures verdict { IfOk result
+        (λ alone. alone ≡ has_one (light_rules (light_puzzle_of size filling.now)) budget) }
+    ensures only { IfOk result (λ alone. alone ≡ true
+        → HasOne (light_rules (light_puzzle_of size filling.now)) budget) }
+{
+    let puzzle = puzzle_of(alloc, size, filling)?;
+    let rules = LightRules::new(alloc, &puzzle)?;
+    is_unique(alloc, &rules, budget)
 }
 
 /// A puzzle of Light Up with exactly one solution, which is `answer`: 1 at a bulb and 0 elsewhere.

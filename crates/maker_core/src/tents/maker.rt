@@ -5,7 +5,7 @@ ghost use Rattle.grid_core.specs.Grids.{IsGrid};
 ghost use Rattle.fields_core.specs.TentHouses.{tent_rules};
 ghost use Rattle.maker_core.specs.declared.made.MakeFault.TheVariants.{Exhausted, SizeRange};
 ghost use Rattle.maker_core.specs.Draws.{AllFail, DrawsAll, DrawsFirst};
-ghost use Rattle.maker_core.specs.Made.{HasOne};
+ghost use Rattle.maker_core.specs.Made.{HasOne, has_one};
 ghost use Rattle.maker_core.specs.TentFilling.{IsSolvedFilling, tents_puzzle_of};
 ghost use Rattle.maker_core.specs.TentMaking.{IsTentSize, MakesTents, tents_tries};
 
@@ -56,10 +56,29 @@ impl Attempts for TentFillings {
 
     fn draw<G: Rng>(&self, alloc: Global, rng: &mut G) -> Result<(TentFilling, bool), AllocError> {
         let filling = fill_tents(alloc, rng, self.size)?;
-        let rules = TentRules::new(alloc, &puzzle_of(alloc, self.size, &filling)?)?;
-        let passes = is_unique(alloc, &rules, self.limits.budget)?;
+        let passes = is_alone(alloc, self.size, &filling, self.limits.budget)?;
         Ok((filling, passes))
     }
+}
+
+/// Whether the verdict of the filling's puzzle is one.
+fn is_alone(
+    alloc: Global,
+    size: Size,
+    filling: &TentFilling,
+    budget: u64,
+) -> Result<bool, AllocError>
+    requires size { IsTentSize size }
+    requires trees { IsGrid (size.w * size.h) 2 filling.now.trees }
+    requires tents { IsGrid (size.w * size.h) 2 filling.now.tents }
+    ensures verdict { IfOk result
+        (λ alone. alone ≡ has_one (tent_rules (tents_puzzle_of size filling.now)) budget) }
+    ensures only { IfOk result (λ alone. alone ≡ true
+        → HasOne (tent_rules (tents_puzzle_of size filling.now)) budget) }
+{
+    let puzzle = puzzle_of(alloc, size, filling)?;
+    let rules = TentRules::new(alloc, &puzzle)?;
+    is_unique(alloc, &rules, budget)
 }
 
 /// A puzzle of Tents with exactly one solution, which is `answer`: 1 at a tent and 0 elsewhere.

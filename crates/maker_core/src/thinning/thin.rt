@@ -1,11 +1,11 @@
 //! Taking clues away while the puzzle keeps its one solution.
 
-ghost use Rattle.std.specs.Prelude.{◌≡◌, IfOk, OnOk, IsTrue, IsPermutation};
+ghost use Rattle.std.specs.Prelude.{◌≡◌, [], IfOk, OnOk, IsTrue, IsPermutation};
 ghost use Rattle.engine_core.specs.Puzzle.{FitsIn, needs_of};
 ghost use Rattle.maker_core.specs.Thinning.{has_clue, clue_places, shuffled_clues, stream_after_clues, IsThinnedFrom, IsOnly, HasReasons};
 ghost use Rattle.maker_core.specs.Draws.{AreDrawnBy};
 ghost use Rattle.maker_core.specs.Made.{HasOne, TellsOne};
-ghost use Rattle.maker_core.specs.ThinningSteps.{IsLeft, IsAsked, reasons_from};
+ghost use Rattle.maker_core.specs.ThinningSteps.{IsLeft, IsAsked, IsThinning, reasons_from};
 
 use crate::draws::shuffle;
 use crate::made::{Kept, Made, Why};
@@ -43,13 +43,8 @@ where
     ensures reasons { IfOk result (HasReasons P.game budget answer) }
 {
     let mut puzzle = puzzle;
-    let rules = puzzle.search(alloc)?;
-    let mut store = Store::new(alloc, &rules)?;
     let order = shuffled_clues(alloc, &puzzle, rng)?;
-    let mut whys = vec![in alloc; None; puzzle.cells()]?;
-    for &place in &order {
-        whys[place] = try_clue(alloc, &mut puzzle, &mut store, place, budget)?;
-    }
+    let whys = try_clues(alloc, &mut puzzle, &order, budget)?;
     let kept = reasons(alloc, &whys)?;
     Ok(Made {
         puzzle,
@@ -86,6 +81,30 @@ fn shuffled_clues<P: Clued, G: Rng>(
     let mut order = clue_list(alloc, puzzle)?;
     shuffle(rng, &mut order);
     Ok(order)
+}
+
+/// Tries the clues in this order. Gives for each cell why its clue is left, if it is.
+fn try_clues<P: Clued>(
+    alloc: Global,
+    puzzle: &mut P,
+    order: &[usize],
+    budget: u64,
+) -> Result<Vec<Option<Why>>, AllocError>
+where
+    P::Search: Rules,
+    requires means { (rules : P.Search) → P.Search.puzzle rules ≡ P.meaning rules }
+    requires one { HasOne (P.game.rules puzzle.old) budget }
+    requires order { IsPermutation (clue_places P.game puzzle.old) order.now }
+    ensures { IfOk result
+        (λ whys. IsThinning P.game budget puzzle.old puzzle.new whys.items []) }
+{
+    let rules = puzzle.search(alloc)?;
+    let mut store = Store::new(alloc, &rules)?;
+    let mut whys = vec![in alloc; None; puzzle.cells()]?;
+    for &place in order {
+        whys[place] = try_clue(alloc, puzzle, &mut store, place, budget)?;
+    }
+    Ok(whys)
 }
 
 /// Takes a clue away for good if the puzzle without it still has one solution; else leaves it and says why.

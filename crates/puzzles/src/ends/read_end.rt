@@ -3,7 +3,7 @@ ghost use Rattle.std.specs.Prelude.{◌≡◌, false};
 ghost use Rattle.puzzles.specs.StdEndLaws.{gave_nothing, gave_both};
 ghost use Rattle.puzzles.specs.StdEnds.{Gave, reader_of, read_count, read_has_failed, read_has_ended};
 
-use crate::ends::Source;
+use commands::Source;
 use std::io::Read;
 
 /// A source over a reader: one `read` for each `fetch`.

@@ -3,7 +3,7 @@ ghost use Rattle.std.specs.Prelude.{◌≡◌, false};
 ghost use Rattle.puzzles.specs.StdEndLaws.{took_nothing, took_both};
 ghost use Rattle.puzzles.specs.StdEnds.{Took, writer_of, write_has_failed, write_is_flushed};
 
-use crate::ends::Sink;
+use commands::Sink;
 use std::io::Write;
 
 /// A sink over a writer: one `write` for each `put`, and one `flush` for each `finish`.

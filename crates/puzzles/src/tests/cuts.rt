@@ -1,11 +1,11 @@
 //! Runs over readers and writers that cut, fail or never end. What they are to write follows from
 //! the rules and the formats by hand.
-use crate::ends::Source;
 use crate::ends::read_end::ReadEnd;
 use crate::run::run_on_bytes;
 use crate::tests::fakes::{Chunks, Endless, Slow, texts};
 use crate::tests::rows::Row;
 use crate::tests::seen::observe;
+use commands::Source;
 use std::test::Fail;
 
 /// Three lines, without a line end after the last.

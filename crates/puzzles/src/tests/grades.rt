@@ -2,11 +2,11 @@
 ghost use Rattle.std.specs.Prelude.{IfOk};
 ghost use Rattle.engine_core.specs.Puzzle.{IsBoardOf};
 
-use crate::answers::decimal::push_number;
 use crate::tests::fakes::{Endless, Slow, texts};
 use crate::tests::rows::Row;
 use crate::tests::runs::GRADES;
 use crate::tests::seen::{observe, outcome};
+use commands::push_number;
 use engine_core::{Rules, Store};
 use fields_core::LightRules;
 use gameid_core::{read_lights, read_pattern, read_solo};

@@ -1,9 +1,9 @@
 //! Runs of the program over readers and writers of the tests' own.
 use crate::ends::read_end::ReadEnd;
 use crate::ends::write_end::WriteEnd;
-use crate::ends::{Sink, Source};
 use crate::run::{run, run_on_bytes};
 use crate::tests::fakes::{Slow, texts};
+use commands::{Sink, Source};
 use std::alloc::{AllocError, Global};
 use std::io::Read;
 

@@ -1,46 +1,17 @@
-use Rattle.maker_core.proofs.Common.{◌≡◌, Option, None, replicate, rules, sym, ap, ◌∙◌, subst, IsPermutation, reasons_from, clue_places, Why}
-use Rattle.maker_core.proofs.ThinningReasons.{thinning_start, answer_left, reasons_left}
-use Rattle.maker_core.proofs.ThinningTurns.{contains_head, next_turn, turn, turn_in_room, thinning_turn}
+use Rattle.maker_core.proofs.Common.{◌∙◌, ap, reasons_from}
+use Rattle.maker_core.proofs.ThinningReasons.{answer_left, reasons_left}
 use Rattle.maker_core.proofs.thinning.thin.thin.Goals as goal
 
-pub loop-place-init : goal.loop-place-init
-loop-place-init g c =
-    let blank : c.in_ok-whys.whys.items ≡ replicate {A = Option Why} c.cells.result None = search rules in
-    record {
-      thinning = thinning_start g.P.Clued.game g.met.P.Clued.lawful _ _ _ _ _ c.requires.only c.requires.found
-          (subst (IsPermutation (clue_places g.P.Clued.game c.args.puzzle)) (sym c.deref-place-items.ensures.value) c.in_ok-order.ensures.permutation)
-          (blank ∙ ap (λ n. replicate {A = Option Why} n None) c.cells.ensures);
-      fits = search rules;
-    }
-
-pub loop-place-preserved : goal.loop-place-preserved
-loop-place-preserved g c =
-    let now = next_turn g.P.Clued.game g.met.P.Clued.lawful _ _ _ _ _ _ c.loop-place-test.true c.loop-place.invariant.thinning in
-    let made = c.in_ok-whys-2.ensures in
-    record {
-      thinning = thinning_turn g.P.Clued.game g.met.P.Clued.lawful _ _ _ _ _ _ now _ _ made.left made.asked;
-      fits = rw made.made ((turn g.P.Clued.game g.met.P.Clued.lawful _ _ _ _ _ _ now _ _ made.left made.asked).fits _ c.loop-place.invariant.fits);
-    }
-
-pub try_clue-requires-clause-clue : goal.try_clue-requires-clause-clue
-try_clue-requires-clause-clue g c =
-    (next_turn g.P.Clued.game g.met.P.Clued.lawful _ _ _ _ _ _ c.loop-place-test.true c.loop-place.invariant.thinning).waiting _ (contains_head _ _)
-
-pub index_mut-requires : goal.index_mut-requires
-index_mut-requires g c =
-    let now = next_turn g.P.Clued.game g.met.P.Clued.lawful _ _ _ _ _ _ c.loop-place-test.true c.loop-place.invariant.thinning in
-    let below = turn_in_room g.P.Clued.game g.met.P.Clued.lawful _ _ _ _ _ _ now in
-    search rules
+pub try_clues-requires-clause-one : goal.try_clues-requires-clause-one
+try_clues-requires-clause-one g c = record { answer = _; found = c.requires.found; only = c.requires.only }
 
 pub returns-clause-only : goal.returns-clause-only
-returns-clause-only g c =
-    (answer_left g.P.Clued.game g.met.P.Clued.lawful _ _ _ _ _ _ _ c.loop-place-test.false c.loop-place.invariant.thinning c.requires.only).0
+returns-clause-only g c = (answer_left g.P.Clued.game g.met.P.Clued.lawful _ _ _ _ _ c.in_ok-whys.ensures c.requires.only).0
 
 pub returns-clause-found : goal.returns-clause-found
-returns-clause-found g c =
-    (answer_left g.P.Clued.game g.met.P.Clued.lawful _ _ _ _ _ _ _ c.loop-place-test.false c.loop-place.invariant.thinning c.requires.only).1
+returns-clause-found g c = (answer_left g.P.Clued.game g.met.P.Clued.lawful _ _ _ _ _ c.in_ok-whys.ensures c.requires.only).1
 
 pub returns-clause-reasons : goal.returns-clause-reasons
 returns-clause-reasons g c =
-    reasons_left g.P.Clued.game g.met.P.Clued.lawful _ _ _ _ _ _ _ c.loop-place-test.false c.loop-place.invariant.thinning _ c.requires.all
+    reasons_left g.P.Clued.game g.met.P.Clued.lawful _ _ _ _ _ c.in_ok-whys.ensures _ c.requires.all
     (c.in_ok-kept.ensures ∙ ap (reasons_from 0) c.deref.ensures.value)

@@ -1,0 +1,232 @@
+-- What grades mean of the games' own solutions, and how their texts and traces are told.
+use Rattle.std.proofs.Common.{length, ◌≡◌, ◌∙◌, ℕ, zero, suc, Bool, true, false, ◌==◌, List, [], ◌∷◌, Option, Some, None, refl, sym, ap, subst, inl, inr, arith, ◌++◌, ◌≤◌, append_assoc, append-nil, codes, true≢false, map, length-append}
+use Rattle.std.proofs.lemmas.Grind.{common_steps}
+use Rattle.std.specs.Prelude.{◌↔◌}
+use Rattle.std.proofs.lemmas.Bool.{and_parts, ne_eqb, eqb-true}
+use Rattle.std.proofs.lemmas.List.{length-map}
+use Rattle.grid_core.specs.Candidates.{all_below, any_below, is_dead, is_full}
+use Rattle.engine_core.specs.Closing.{closure}
+use Rattle.engine_core.specs.Filling.{strikes_by_fillings}
+use Rattle.engine_core.specs.House.{Decision}
+use Rattle.engine_core.specs.Walk.{Mark.Trial, Mark.Found, walk_closed}
+use Rattle.engine_core.specs.Verdict.{Outcome.OneGrid, outcome, spent, trials_in}
+use Rattle.solo_core.specs.Houses.{houses_of}
+use Rattle.solo_core.specs.NoRepeat.{no_repeat}
+use Rattle.solo_core.specs.RuleSets.{crossings_of, deciding, filled_houses, house_at, house_by}
+use Rattle.solo_core.specs.Singles.{strikes_by_singles}
+use Rattle.solo_core.specs.declared.houses.scope.SoloScope.TheVariants.{House}
+use Rattle.commands.specs.Common.{Candidates, count_below, grid_of, Solo, Puzzle, is_settled, Mark, IsFound, walk, Outcome, Solves, verdict_of}
+use Rattle.commands.specs.Common.{crossing_scopes, crossings_rules, houses_rules, scopes_of, singles_rules, solo_n}
+use Rattle.commands.specs.Grades.{HasOneSolution, IsGradeOf, IsRightGrade, TellsGrade, grade_by, searched_grade, Settling, last_tried, listed_grade, only_set, grade_status, grade_text}
+use Rattle.commands.specs.Answers.{Text, Answer, Delivers}
+use Rattle.commands.specs.Stops.{Tells}
+use Rattle.commands.specs.declared.grade.Grade.{Grade}
+use Rattle.commands.specs.declared.grade.Grade.TheVariants.{ByRules, BySearch, NoSolution, SeveralSolutions, GaveUp}
+use Rattle.commands.specs.Playing.{GameOf}
+use Rattle.commands.specs.Allowed.{IsGradeBy}
+use Rattle.commands.specs.Traces.{IsTrace}
+use Rattle.commands.specs.declared.grade.RuleSet.{RuleSet}
+use Rattle.commands.specs.declared.grade.GradeOptions.{GradeOptions}
+use Rattle.commands.specs.TracePieces.{BeginsTrace, PutsTrace}
+use Rattle.commands.proofs.RunLemmas.{tells_as}
+
+-- where one grid is found, all trials of the walk were made
+pub spent_whole : (budget : ℕ) (found : Option (List ℕ)) (marks : List Mark) (g : List ℕ) → outcome budget found marks ≡ OneGrid g
+    → spent budget found marks ≡ trials_in marks
+unfolding outcome spent trials_in
+spent_whole budget found [] g e = refl
+spent_whole budget None (Found h ∷ marks) g e = spent_whole budget (Some h) marks g e
+spent_whole budget (Some first) (Found h ∷ marks) g e = absurd cc
+spent_whole zero found (Trial depth board ∷ marks) g e = absurd cc
+spent_whole (suc budget) found (Trial depth board ∷ marks) g e = ap suc (spent_whole budget found marks g e)
+
+pub grade_is : (rules : Puzzle) (budget : ℕ) (verdict : Outcome) → verdict_of rules budget ≡ verdict
+    → grade_by (trials_in (walk rules 0 rules.start)) verdict ≡ searched_grade rules budget
+unfolding searched_grade
+grade_is rules budget verdict e = ap (grade_by (trials_in (walk rules 0 rules.start))) (sym e)
+
+-- numbers that are 1 are not 0
+none_zero : (f : ℕ → ℕ) (n : ℕ) → all_below (λ c. f c == 1) n ≡ true → any_below (λ c. f c == 0) n ≡ false
+unfolding all_below any_below
+none_zero f zero e = refl
+none_zero f (suc n) e =
+    let parts = and_parts (all_below (λ c. f c == 1) n) (f n == 1) e in
+    rw (none_zero f n parts.0) (one (f n) parts.1)
+  where
+    one : (k : ℕ) → (k == 1) ≡ true → (k == 0) ≡ false
+    one k h = let is = eqb-true k 1 h in ne_eqb k 0 (λ z. absurd (omega arith))
+
+-- a full board is not dead
+full_alive : (cells values : ℕ) (K : Candidates) → is_full cells values K ≡ true → is_dead cells values K ≡ false
+unfolding is_full is_dead
+full_alive cells values K e = none_zero (λ c. count_below (K c) values) cells e
+
+-- the walk from a full board whose grid is a solution finds that grid
+pub full_walk : (p : Puzzle) (walk_of : Candidates → List Mark) (E : Candidates) → is_full p.cells p.values E ≡ true
+    → p.is_solution (grid_of p.cells p.values E) ≡ true → walk_closed p walk_of 0 E ≡ Found (grid_of p.cells p.values E) ∷ []
+unfolding walk_closed
+full_walk p walk_of E full good = rw (full_alive p.cells p.values E full) (rw full (rw good refl))
+
+-- a puzzle that is settled has the grid of its closure as its one solution
+pub settled_has_one : (p : Puzzle) → walk p 0 p.start ≡ walk_closed p (walk p 1) 0 (closure p p.start)
+    → ((g : List ℕ) → IsFound g (walk p 0 p.start) ↔ Solves p g) → is_settled p ≡ true → HasOneSolution (Solves p)
+settled_has_one p goes_on finds settled =
+    let parts = and_parts (is_full p.cells p.values (closure p p.start)) (p.is_solution (grid_of p.cells p.values (closure p p.start))) settled in
+    let g : List ℕ = grid_of p.cells p.values (closure p p.start) in
+    let whole : walk p 0 p.start ≡ Found g ∷ [] = goes_on ∙ full_walk p (walk p 1) (closure p p.start) parts.0 parts.1 in (
+      g,
+      (finds g).0 (subst (IsFound g) (sym whole) (inl refl)),
+      λ h solves. only (subst (IsFound h) whole ((finds h).1 solves)),
+    )
+  where
+    only : {g h : List ℕ} → IsFound h (Found g ∷ []) → g ≡ h
+    only (inl e) = e
+    only (inr none) = absurd none
+
+-- a grade that is right of the one is right of the other, where they are the same
+pub right_as : (A B : List ℕ → Type 0) (grade : Grade) → ((g : List ℕ) → A g ↔ B g) → IsRightGrade A grade → IsRightGrade B grade
+right_as A B (ByRules set) same right = (right.0, (same right.0).0 right.1, λ h solves. right.2 h ((same h).1 solves))
+right_as A B (BySearch trials) same right = (right.0, (same right.0).0 right.1, λ h solves. right.2 h ((same h).1 solves))
+right_as A B NoSolution same right = λ g solves. right g ((same g).1 solves)
+right_as A B SeveralSolutions same right = (right.0, right.1, (same right.0).0 right.2, (same right.1).0 right.3, right.4)
+right_as A B GaveUp same right = tt
+
+-- a grade that is told of a puzzle, and is right, is told rightly
+rightly : {S : Type 0} (takes : S → Text → S → Type 0) (solves : List ℕ → Type 0) (grade : Grade) (traced : Bool) (tells : Text → Type 0)
+    (s t : S) (status : ℕ) → IsRightGrade solves grade → Tells takes (TellsGrade grade traced tells) s t status
+    → Tells takes (IsGradeOf solves grade traced tells) s t status
+rightly takes solves grade traced tells s t status right told =
+    tells_as takes (TellsGrade grade traced tells) (IsGradeOf solves grade traced tells) s t status (λ a t. record { right = right; told = t }) told
+
+-- the grids that rules accept are the solutions, and a grade is right of both
+pub right_by : (p q : Puzzle) (solves : List ℕ → Type 0) (grade : Grade) → q ≡ p → ((g : List ℕ) → Solves p g ↔ solves g)
+    → IsRightGrade (Solves q) grade → IsRightGrade solves grade
+right_by p q solves grade e same right = right_as (Solves p) solves grade same (subst (λ (r : Puzzle). IsRightGrade (Solves r) grade) e right)
+
+pub accepted_by : (p q : Puzzle) (solves : List ℕ → Type 0) → q ≡ p → ((g : List ℕ) → Solves p g ↔ solves g) → (g : List ℕ) → Solves q g ↔ solves g
+accepted_by p q solves e same = subst (λ (r : Puzzle). (g : List ℕ) → Solves r g ↔ solves g) (sym e) same
+
+-- the last rules in the list were tried last, whether they settle the puzzle or not
+pub last_of_one : (before : Puzzle) (set : RuleSet) (rules : Puzzle) → rules ≡ last_tried before (only_set set rules)
+last_of_one before set rules = grind (arith, common_steps)
+
+-- lines that tell a closing in one way tell it in another
+trace_as : (traced : Bool) (some all : Text → Type 0) (lines : Text) → (some lines → all lines) → IsTrace traced some lines → IsTrace traced all lines
+trace_as true some all lines more h = more h
+trace_as false some all lines more h = h
+
+pub told_as : {S : Type 0} (takes : S → Text → S → Type 0) (grade : Grade) (traced : Bool) (some all : Text → Type 0) (s t : S) (status : ℕ) → ((lines : Text) → some lines → all lines)
+    → Tells takes (TellsGrade grade traced some) s t status → Tells takes (TellsGrade grade traced all) s t status
+told_as takes grade traced some all s t status more told = tells_as takes (TellsGrade grade traced some) (TellsGrade grade traced all) s t status
+    (λ a h. record { lines = h.lines; trace = trace_as traced some all h.lines (more h.lines) h.trace; text = h.text; status = h.status }) told
+
+module _ {P : Type 0} (game : GameOf P) (p : P) (options : GradeOptions) {S : Type 0} (takes : S → Text → S → Type 0) (s t : S) (status : ℕ) where
+  -- what is told of a list of rule sets
+  abbrev pub TellsBy : List Settling → Type 0
+  TellsBy sets = Tells takes (IsGradeBy game p sets options) s t status
+
+  -- the last in the list
+  pub told_last : (grade : Grade) (set : RuleSet) (rules : Puzzle) → grade ≡ listed_grade (only_set set rules) (game.rules p) options.budget
+      → IsRightGrade (game.solves p) grade → Tells takes (TellsGrade grade options.traced (game.tells p rules)) s t status → TellsBy (only_set set rules)
+  told_last grade set rules e right told = rw (← e, ← last_of_one (game.rules p) set rules)
+      (rightly takes (game.solves p) grade options.traced (game.tells p rules) s t status right told)
+
+  -- the first in the list settles the puzzle
+  pub told_first : (q : Puzzle) (set : RuleSet) (rules : Puzzle) (rest : List Settling) → q ≡ rules → is_settled q ≡ true
+      → ((g : List ℕ) → Solves rules g ↔ game.solves p g) → HasOneSolution (Solves q) → Tells takes (TellsGrade (ByRules set) options.traced (game.tells p q)) s t status
+      → TellsBy (record { set = set; rules = rules } ∷ rest)
+  told_first q set rules rest e settled same one told =
+      let is : is_settled rules ≡ true = ap is_settled (sym e) ∙ settled in
+      rw is (rightly takes (game.solves p) (ByRules set) options.traced (game.tells p rules) s t status
+      (right_by rules q (game.solves p) (ByRules set) e same one) (rw e at told))
+
+  -- the first of two or more in the list doesn't
+  pub told_later : (q : Puzzle) (set : RuleSet) (rules : Puzzle) (next : Settling) (rest : List Settling) → q ≡ rules → is_settled q ≡ false
+      → TellsBy (next ∷ rest) → TellsBy (record { set = set; rules = rules } ∷ next ∷ rest)
+  told_later q set rules next rest e unsettled told =
+      let is : is_settled rules ≡ false = ap is_settled (sym e) ∙ unsettled in rw is told
+
+  -- rules that were made for a puzzle are its own
+  pub told_by : (q r : Puzzle) (set : RuleSet) → q ≡ r → TellsBy (only_set set q) → TellsBy (only_set set r)
+  told_by q r set e told = subst (λ (x : Puzzle). TellsBy (only_set set x)) e told
+
+module _ {S : Type 0} (takes : S → Text → S → Type 0) (nothing : (s : S) → takes s [] s) (both : (s t u : S) (a b : Text) → takes s a t → takes t b u → takes s (a ++ b) u)
+    (grade : Grade) (traced : Bool) (tells : Text → Type 0) where
+  -- the rest was delivered
+  pub told_whole : (s t u : S) (line rest : Text) (a : Answer) (status : ℕ) → line ≡ grade_text grade ++ codes "\n" → PutsTrace takes traced tells s line rest t
+      → Delivers takes t a u status → a.text ≡ rest → a.status ≡ grade_status grade → Tells takes (TellsGrade grade traced tells) s u status
+  told_whole s t u line rest a status is p d same ends = record {
+    written = p.put.done ++ d.written;
+    took = both s t u p.put.done d.written p.put.took d.took;
+    begun = inr (
+      record { text = line ++ p.lines; status = grade_status grade },
+      record { lines = p.lines; trace = p.trace; text = ap (λ (l : Text). l ++ p.lines) is; status = refl },
+      (
+        d.begun.0,
+        p.put.split ∙ ap (λ (l : Text). p.put.done ++ l) (sym same ∙ d.begun.1) ∙ sym (append_assoc p.put.done d.written d.begun.0),
+      ),
+    );
+    whole = λ small. record {
+      lines = p.lines;
+      trace = p.trace;
+      text = ap (λ (l : Text). p.put.done ++ l) ((d.whole small).0 ∙ same) ∙ sym p.put.split ∙ ap (λ (l : Text). l ++ p.lines) is;
+      status = (d.whole small).1 ∙ ends;
+    };
+  }
+
+  -- a beginning was put
+  pub told_begun : (s u : S) (line : Text) (status : ℕ) → line ≡ grade_text grade ++ codes "\n" → BeginsTrace takes traced tells s line u → 5 ≤ status
+      → Tells takes (TellsGrade grade traced tells) s u status
+  told_begun s u line status is p high = record {
+    written = p.begun.done;
+    took = p.begun.took;
+    begun = inr (
+      record { text = line ++ p.lines; status = grade_status grade },
+      record { lines = p.lines; trace = p.trace; text = ap (λ (l : Text). l ++ p.lines) is; status = refl },
+      p.begun.begun,
+    );
+    whole = λ small. absurd (omega arith);
+  }
+
+  -- nothing was put before
+  pub nothing_put : (s : S) (line text lines : Text) → IsTrace traced tells lines → text ≡ line ++ lines → PutsTrace takes traced tells s line text s
+  nothing_put s line text lines trace added = record { lines = lines; trace = trace; put = record { done = []; took = nothing s; split = sym added } }
+
+-- a trace was asked for
+pub is_traced : (traced : Bool) (tells : Text → Type 0) (lines : Text) → traced ≡ true → tells lines → IsTrace traced tells lines
+is_traced true tells lines e told = told
+is_traced false tells lines e told = absurd (true≢false (sym e))
+
+-- no trace was asked for
+pub untraced : {S : Type 0} (takes : S → Text → S → Type 0) (traced : Bool) (tells : Text → Type 0) (s : S) (text : Text) → takes s [] s → traced ≡ false
+    → PutsTrace takes traced tells s text text s
+untraced takes traced tells s text nothing is = record { lines = []; trace = none traced is; put = record { done = []; took = nothing; split = append-nil text } }
+  where
+    none : (b : Bool) → b ≡ false → IsTrace b tells []
+    none true e = absurd (true≢false e)
+    none false e = refl
+
+-- what the rule sets of Solo visit has a name: houses first, and then crossings
+over_houses : (decides : Decision) (p : Solo) → length (deciding decides p) ≤ length (scopes_of p)
+over_houses decides p =
+    omega (arith, length-map (houses_of p) (house_by decides p), length-append (map House (houses_of p)) (crossing_scopes p), length-map (houses_of p) House)
+
+pub singles_named : (p : Solo) → (singles_rules p).houses ≤ length (scopes_of p)
+singles_named p = over_houses (strikes_by_singles (solo_n p)) p
+
+pub houses_named : (p : Solo) → (houses_rules p).houses ≤ length (scopes_of p)
+houses_named p = over_houses (strikes_by_fillings no_repeat) p
+
+pub crossings_named : (p : Solo) → (crossings_rules p).houses ≤ length (scopes_of p)
+crossings_named p =
+    omega (
+      arith,
+      length-append (filled_houses p) (crossings_of p),
+      length-map (houses_of p) (house_by (strikes_by_fillings no_repeat) p),
+      length-map (crossing_scopes p) (house_at p),
+      length-append (map House (houses_of p)) (crossing_scopes p),
+      length-map (houses_of p) House,
+    )
+
+pub named : (p : Solo) (q rules : Puzzle) → q ≡ rules → rules.houses ≤ length (scopes_of p) → q.houses ≤ length (scopes_of p)
+named p q rules e few = subst (λ (r : Puzzle). r.houses ≤ length (scopes_of p)) (sym e) few

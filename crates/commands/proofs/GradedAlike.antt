@@ -1,0 +1,265 @@
+-- A puzzle is settled exactly where its verdict without a trial is one, and its grade goes along with its verdict; and so what is
+-- told of the two.
+use Rattle.std.proofs.Common.{◌≡◌, ◌∙◌, ◌⊎◌, ◌<◌, ℕ, zero, suc, Bool, true, false, List, [], ◌∷◌, ◌++◌, Option, None, refl, sym, ap, subst, inl, inr, arith, ◌≢◌, Result, if◌then◌else◌, codes, slice_index, true≢false}
+use Rattle.std.proofs.lemmas.Grind.{common_steps}
+use Rattle.std.proofs.lemmas.Bool.{and_parts, and_from}
+use Rattle.std.specs.Prelude.{◌↔◌, ◌+◌, ◌*◌}
+use Rattle.grid_core.specs.Candidates.{is_full}
+use Rattle.grid_core.proofs.CandidateLemmas.{count_below-one, least_below-passes}
+use Rattle.grid_core.proofs.GridLemmas.{is_full-count, grid_of-at}
+use Rattle.engine_core.specs.Closing.{closure}
+use Rattle.engine_core.specs.Verdict.{Outcome.OneGrid, Outcome.NoGrid, outcome, Outcome.TwoGrids, Outcome.OutOfBudget, trials_in}
+use Rattle.engine_core.specs.Walk.{Mark.Trial, walk_closed, branches, branch_at, at_cell}
+use Rattle.engine_core.proofs.ClosingLemmas.{closure_inside, closure_closed, closure_largest}
+use Rattle.engine_core.proofs.JudgeLemmas.{grid-fits}
+use Rattle.engine_core.proofs.WalkLemmas.{walk-unfold, walk_closed-dead, walk_closed-wrong}
+use Rattle.maker_core.proofs.FoundAtOnce.{found_at_once, found_one}
+use Rattle.maker_core.proofs.FullStart.{known}
+use Rattle.commands.specs.Common.{IsRight, Candidates, IsInside, grid_of, only, HasOneReading, IdFault, Puzzle, IsLawful, IsClosed, is_settled, Solves}
+use Rattle.commands.specs.Common.{verdict_of, Outcome, Mark, walk}
+use Rattle.commands.specs.Answers.{Answer, Begins, Text}
+use Rattle.commands.specs.Grades.{HasOneSolution, IsRightGrade, Settling, TellsGrade, first_settled, grade_by, grade_status, grade_text, listed_grade, rule_set_text, searched_grade}
+use Rattle.commands.specs.Allowed.{AllowsId}
+use Rattle.commands.specs.LawsOfCommands.{GoesAlong, NamesRules, is_within_search}
+use Rattle.commands.specs.Replies.{refused, fault_text, verdict_answer}
+use Rattle.commands.specs.declared.grade.Grade.{Grade}
+use Rattle.commands.specs.declared.grade.Grade.TheVariants.{ByRules, BySearch}
+use Rattle.commands.specs.declared.grade.RuleSet.{RuleSet}
+use Rattle.commands.specs.declared.grade.RuleSet.TheVariants.{Singles, Houses, Crossings, Lines, Local}
+use Rattle.commands.proofs.GradeLemmas.{full_walk}
+
+-- the branches of a cell begin with a trial, or there are none
+begins_with_trial : (walk_of : Candidates → List Mark) (d : ℕ) (E : Candidates) (cell n : ℕ)
+    → (branches walk_of d E cell n ≡ []) ⊎ ((depth : ℕ) × (board : Candidates) × (rest : List Mark) × (branches walk_of d E cell n ≡ Trial depth board ∷ rest))
+unfolding branches branch_at
+begins_with_trial walk_of d E cell zero = inl refl
+begins_with_trial walk_of d E cell (suc n) = elim (begins_with_trial walk_of d E cell n) [
+  | inl none ↦ by (E cell n) refl none
+  | inr w ↦ inr (w.0, w.1, w.2 ++ branch_at walk_of d E cell n, ap (λ (m : List Mark). m ++ branch_at walk_of d E cell n) w.3)
+]
+  where
+    by : (b : Bool) → E cell n ≡ b → branches walk_of d E cell n ≡ []
+        → (branches walk_of d E cell n ++ branch_at walk_of d E cell n ≡ [])
+        ⊎ ((depth : ℕ) × (board : Candidates) × (rest : List Mark) × (branches walk_of d E cell n ++ branch_at walk_of d E cell n ≡ Trial depth board ∷ rest))
+    by true on none = inr (suc d, only E cell n, walk_of (only E cell n), ap (λ (m : List Mark). m ++ branch_at walk_of d E cell n) none ∙ rw on refl)
+    by false off none = inl (ap (λ (m : List Mark). m ++ branch_at walk_of d E cell n) none ∙ rw off refl)
+
+-- without a trial nothing is found below an open board
+none_below : (p : Puzzle) (walk_of : Candidates → List Mark) (d : ℕ) (E : Candidates) (o : Option ℕ) (g : List ℕ)
+    → outcome 0 None (at_cell p walk_of d E o) ≡ OneGrid g → ⊥
+unfolding at_cell outcome
+none_below p walk_of d E o g h1 = grind (arith, common_steps, begins_with_trial)
+
+module _ (p : Puzzle) (laws : IsLawful p) where
+  start_walk : walk p 0 p.start ≡ walk_closed p (walk p 1) 0 (closure p p.start)
+  start_walk = walk-unfold p 0 p.start laws.start_within
+
+  pub settled_found : is_settled p ≡ true → (budget : ℕ) → verdict_of p budget ≡ OneGrid (grid_of p.cells p.values (closure p p.start))
+  settled_found h1 budget = grind (arith, common_steps, and_parts, found_one, full_walk, start_walk)
+
+  nothing : (marks : List Mark) (g : List ℕ) → walk p 0 p.start ≡ marks → marks ≡ [] → verdict_of p 0 ≡ OneGrid g → ⊥
+  unfolding outcome
+  nothing marks g is none e = let empty : NoGrid ≡ OneGrid g = sym (ap (outcome 0 None) (is ∙ none)) ∙ e in cc
+
+  pub one_settled : (g : List ℕ) → verdict_of p 0 ≡ OneGrid g → is_settled p ≡ true
+  unfolding walk_closed
+  one_settled g h1 = grind (arith, common_steps, and_from, none_below, nothing, start_walk, walk_closed-dead, walk_closed-wrong)
+
+-- what the weaker rules settle, the stronger ones settle
+module _ (weak strong : Puzzle) (weak_laws : IsLawful weak) (strong_laws : IsLawful strong)
+    (same_cells : strong.cells ≡ weak.cells) (same_values : strong.values ≡ weak.values) (same_start : strong.start ≡ weak.start)
+    (solves_too : (g : List ℕ) → Solves weak g → Solves strong g)
+    (closes_too : (K : Candidates) → IsClosed strong K → IsClosed weak K) where
+  inside_weak : IsInside (closure strong strong.start) (closure weak weak.start)
+  inside_weak = closure_largest weak weak_laws (closure strong strong.start) weak.start
+      (closes_too (closure strong strong.start) (closure_closed strong strong.start strong_laws.start_within))
+      (subst (IsInside (closure strong strong.start)) same_start (closure_inside strong strong.start))
+
+  pub settled_by_stronger : is_settled weak ≡ true → is_settled strong ≡ true
+  settled_by_stronger settled =
+      let parts = and_parts (is_full weak.cells weak.values (closure weak weak.start)) (weak.is_solution (grid_of weak.cells weak.values (closure weak weak.start))) settled in
+      one_settled strong strong_laws (grid_of weak.cells weak.values (closure weak weak.start))
+      (found_at_once strong 0 (grid_of weak.cells weak.values (closure weak weak.start)) (known strong strong_laws) (solved parts.0 parts.1)
+      (λ c v lc lv on.
+      let here = inside_weak c v on in
+      let lw : c < weak.cells = omega (arith, same_cells, lc) in
+      let one = is_full-count weak.cells weak.values (closure weak weak.start) c parts.0 lw in
+      let least = least_below-passes (closure weak weak.start c) weak.values (omega (arith, one)) in
+      count_below-one (closure weak weak.start c) weak.values v _ (omega (arith, one)) (omega (arith, same_values, lv)) least.0 here least.1
+      ∙ sym (grid_of-at weak.cells weak.values (closure weak weak.start) c lw)))
+    where
+      solved : is_full weak.cells weak.values (closure weak weak.start) ≡ true → weak.is_solution (grid_of weak.cells weak.values (closure weak weak.start)) ≡ true
+          → Solves strong (grid_of weak.cells weak.values (closure weak weak.start))
+      solved full good = solves_too (grid_of weak.cells weak.values (closure weak weak.start)) (record {
+        grid = grid-fits weak (closure weak weak.start) (grid_of weak.cells weak.values (closure weak weak.start)) weak.cells weak.values refl refl full refl;
+        good = good;
+      })
+
+-- ---- two commands that answer to one ID
+module _ {P : Type 0} {of : Text → Result P IdFault} {spells : Text → P → Type 0} (reading : HasOneReading spells of) where
+  -- what holds of refusals, and of the answers to each puzzle, holds of the answers to an ID
+  pub both_answers : (first second : P → Answer → Type 0) (holds : Answer → Answer → Type 0) (id : Text) (a b : Answer)
+      → ((causes others : Text) → holds (refused causes) (refused others))
+      → ((p : P) → spells id p → first p a → second p b → holds a b)
+      → AllowsId (of id) (spells id) first a → AllowsId (of id) (spells id) second b → holds a b
+  both_answers first second holds id a b refusals answers (inl x) (inl y) =
+      subst (λ c. holds c b) (sym x.told) (subst (holds (refused (fault_text x.fault))) (sym y.told) (refusals (fault_text x.fault) (fault_text y.fault)))
+  both_answers first second holds id a b refusals answers (inl x) (inr y) = absurd (reading.apart id y.puzzle x.fault y.spelled x.first)
+  both_answers first second holds id a b refusals answers (inr x) (inl y) = absurd (reading.apart id x.puzzle y.fault x.spelled y.first)
+  both_answers first second holds id a b refusals answers (inr x) (inr y) =
+      answers x.puzzle x.spelled x.allowed (subst (λ p. second p b) (reading.one id y.puzzle x.puzzle y.spelled x.spelled) y.allowed)
+
+-- ---- statuses
+pub verdict_status : Outcome → ℕ
+verdict_status NoGrid = 1
+verdict_status (OneGrid g) = 0
+verdict_status (TwoGrids g h) = 3
+verdict_status (OutOfBudget found) = 4
+
+pub told_status : (printed : List ℕ → Text) (o : Outcome) → (verdict_answer printed o).status ≡ verdict_status o
+unfolding verdict_status
+told_status printed (OutOfBudget None) = refl
+told_status printed o = refl
+
+-- a grade by a search has the verdict's status
+by_status : (trials : ℕ) (o : Outcome) → grade_status (grade_by trials o) ≡ verdict_status o
+unfolding verdict_status
+by_status trials (OutOfBudget found) = refl
+by_status trials o = refl
+
+one_status : (o : Outcome) (g : List ℕ) → o ≡ OneGrid g → 0 ≡ verdict_status o
+unfolding verdict_status
+one_status o g e = sym (ap verdict_status e)
+
+pub status_one : (o : Outcome) → verdict_status o ≡ 0 → (g : List ℕ) × (o ≡ OneGrid g)
+unfolding verdict_status
+status_one (OneGrid g) e = (g, refl)
+status_one o e = absurd (omega (arith, e))
+
+-- ---- what a grade means beside a verdict
+-- a grade that names a rule set or a search is that of a puzzle with one solution
+pub graded_one : (solves : List ℕ → Type 0) (grade : Grade) → IsRightGrade solves grade → grade_status grade ≡ 0 → HasOneSolution solves
+graded_one solves (ByRules set) right e = right
+graded_one solves (BySearch trials) right e = right
+graded_one solves grade right e = absurd (omega (arith, e))
+
+-- a verdict that is right of a puzzle with one solution is that one, or that the search gave up
+one_or_out : (solves : List ℕ → Type 0) (o : Outcome) → IsRight solves o → HasOneSolution solves → verdict_status o ≢ 4 → 0 ≡ verdict_status o
+unfolding verdict_status
+one_or_out solves o h1 h2 h3 = grind (arith, common_steps)
+
+-- a list of rule sets gives the name of one, or the grade by the search
+named_or_searched : (sets : List Settling) (otherwise : Grade) → ((set : RuleSet) × (first_settled sets otherwise ≡ ByRules set)) ⊎ (first_settled sets otherwise ≡ otherwise)
+named_or_searched [] otherwise = inr refl
+named_or_searched (first ∷ rest) otherwise = by (is_settled first.rules) (named_or_searched rest otherwise)
+  where
+    by : (b : Bool) → ((set : RuleSet) × (first_settled rest otherwise ≡ ByRules set)) ⊎ (first_settled rest otherwise ≡ otherwise)
+        → ((set : RuleSet) × ((if b then ByRules first.set else first_settled rest otherwise) ≡ ByRules set))
+        ⊎ ((if b then ByRules first.set else first_settled rest otherwise) ≡ otherwise)
+    by true later = inl (first.set, refl)
+    by false later = later
+
+pub goes_along : (sets : List Settling) (search : Puzzle) (solves : List ℕ → Type 0) (budget : ℕ)
+    → IsRight solves (verdict_of search budget) → IsRightGrade solves (listed_grade sets search budget)
+    → GoesAlong (grade_status (listed_grade sets search budget)) (verdict_status (verdict_of search budget))
+unfolding searched_grade
+goes_along sets search solves budget verdict grade = by (named_or_searched sets (searched_grade search budget))
+  where
+    by_search : grade_status (searched_grade search budget) ≡ verdict_status (verdict_of search budget)
+    by_search = by_status (trials_in (walk search 0 search.start)) (verdict_of search budget)
+
+    by : ((set : RuleSet) × (listed_grade sets search budget ≡ ByRules set)) ⊎ (listed_grade sets search budget ≡ searched_grade search budget)
+        → GoesAlong (grade_status (listed_grade sets search budget)) (verdict_status (verdict_of search budget))
+    by (inr is) = let same = ap grade_status is ∙ by_search in record { by_grade = λ _. same; by_verdict = λ _. same }
+    by (inl named) =
+        let zero_status = ap grade_status named.1 in
+        let one = graded_one solves (listed_grade sets search budget) grade zero_status in
+        record { by_grade = λ other. absurd (other zero_status); by_verdict = λ left. zero_status ∙ one_or_out solves (verdict_of search budget) verdict one left }
+
+-- ---- which rule sets need no trial
+-- whether a grade is by a rule set that strikes no more than the search's rules
+pub is_within : Grade → Bool
+is_within (ByRules set) = is_within_search set
+is_within grade = false
+
+searched_apart : (trials : ℕ) (o : Outcome) → is_within (grade_by trials o) ≡ false
+unfolding is_within
+searched_apart trials (OutOfBudget found) = refl
+searched_apart trials o = refl
+
+-- rule sets that may strike more than the search's rules
+abbrev pub AreBeyond : List Settling → Type 0
+AreBeyond [] = Unit {0}
+AreBeyond (first ∷ rest) = (is_within_search first.set ≡ false) × AreBeyond rest
+
+module _ (search : Puzzle) (budget : ℕ) where
+  beyond : (sets : List Settling) → AreBeyond sets → is_within (listed_grade sets search budget) ≡ false
+  unfolding searched_grade is_within
+  beyond [] none = searched_apart (trials_in (walk search 0 search.start)) (verdict_of search budget)
+  beyond (first ∷ rest) none = by (is_settled first.rules) (beyond rest none.1)
+    where
+      by : (b : Bool) → is_within (listed_grade rest search budget) ≡ false → is_within (if b then ByRules first.set else listed_grade rest search budget) ≡ false
+      by true later = none.0
+      by false later = later
+
+  -- the search's own rules, and after them others that may strike more
+  pub own_named : (set : RuleSet) (rest : List Settling) → is_within_search set ≡ true → AreBeyond rest
+      → is_within (listed_grade (record { set = set; rules = search } ∷ rest) search budget) ≡ is_settled search
+  unfolding is_within
+  own_named set rest h1 h2 = grind (arith, common_steps, beyond, is_within)
+
+  -- one more rule set before the others, where what it settles the search's rules settle
+  pub weaker_named : (set : RuleSet) (weak : Puzzle) (rest : List Settling) → is_within_search set ≡ true → (is_settled weak ≡ true → is_settled search ≡ true)
+      → is_within (listed_grade rest search budget) ≡ is_settled search → is_within (listed_grade (record { set = set; rules = weak } ∷ rest) search budget) ≡ is_settled search
+  unfolding is_within
+  weaker_named set weak rest h1 h2 h3 = grind (arith, common_steps, is_within)
+
+-- ---- what is told
+-- the first two bytes of a text
+marks : Text → ℕ
+marks text = slice_index text 0 + 1000 * slice_index text 1
+
+named_is : (grade : Grade) (lines rest : Text) (set : RuleSet) → is_within_search set ≡ true
+    → grade_text grade ++ codes "\n" ++ lines ≡ (rule_set_text set ++ codes "\n") ++ rest → is_within grade ≡ true
+unfolding is_within marks
+named_is grade lines rest set h1 h2 = grind (arith, common_steps, marks, true≢false)
+
+names_it : (grade : Grade) (lines : Text) → is_within grade ≡ true
+    → (set : RuleSet) × (is_within_search set ≡ true) × Begins (rule_set_text set ++ codes "\n") (grade_text grade ++ codes "\n" ++ lines)
+unfolding is_within
+names_it (ByRules Singles) lines e = (Singles, e, (lines, refl))
+names_it (ByRules Houses) lines e = (Houses, e, (lines, refl))
+names_it (ByRules Crossings) lines e = absurd (true≢false (sym e))
+names_it (ByRules Lines) lines e = (Lines, e, (lines, refl))
+names_it (ByRules Local) lines e = (Local, e, (lines, refl))
+names_it grade lines e = absurd cc
+
+-- a refusal names no rule set
+none_named : (cause : Text) → NamesRules (refused cause) → ⊥
+unfolding marks
+none_named cause (Crossings, within, (rest, e)) = absurd (true≢false (sym within))
+none_named cause (set, within, (rest, e)) = absurd (omega (arith, ap marks e))
+
+pub refusals_apart : (first second : Text) → NamesRules (refused second) ↔ ((refused first).status ≡ 0)
+refusals_apart first second = (λ named. absurd (none_named second named), λ e. absurd (omega (arith, e)))
+
+pub refusals_along : (first second : Text) → GoesAlong (refused second).status (refused first).status
+refusals_along first second = record { by_grade = λ _. refl; by_verdict = λ _. refl }
+
+module _ (traced : Bool) (tells : Text → Type 0) (printed : List ℕ → Text) (solved graded : Answer) where
+  pub status_alike : (grade : Grade) (o : Outcome) → GoesAlong (grade_status grade) (verdict_status o) → TellsGrade grade traced tells graded
+      → solved ≡ verdict_answer printed o → GoesAlong graded.status solved.status
+  status_alike grade o along told is = rw (told.status, is, told_status printed o) along
+
+  pub named_alike : (grade : Grade) (rules : Puzzle) → IsLawful rules → is_within grade ≡ is_settled rules → TellsGrade grade traced tells graded
+      → solved ≡ verdict_answer printed (verdict_of rules 0) → NamesRules graded ↔ (solved.status ≡ 0)
+  named_alike grade rules laws within told is = (
+    λ named. let by : is_within grade ≡ true = named_is grade told.lines named.2.0 named.0 named.1 (sym told.text ∙ named.2.1) in
+        is_status ∙ sym (one_status (verdict_of rules 0) _ (settled_found rules laws (sym within ∙ by) 0)),
+    λ zero_status. let one = status_one (verdict_of rules 0) (sym is_status ∙ zero_status) in
+        let w = names_it grade told.lines (within ∙ one_settled rules laws one.0 one.1) in
+        (w.0, w.1, subst (Begins (rule_set_text w.0 ++ codes "\n")) (sym told.text) w.2),
+  )
+    where
+      is_status : solved.status ≡ verdict_status (verdict_of rules 0)
+      is_status = ap (λ (a : Answer). a.status) is ∙ told_status printed (verdict_of rules 0)

@@ -1,0 +1,165 @@
+-- A grade names a search by the trials of the whole walk, which are the least budget with which the verdict is one.
+use Rattle.std.proofs.Common.{◌≡◌, ◌∙◌, ◌⊎◌, ◌<◌, ◌≤◌, ◌≢◌, ℕ, zero, suc, Bool, List, [], ◌∷◌, ◌++◌, Option, Some, None, refl, sym, ap, subst, inl, inr, arith, codes, decimal, slice_index, append_assoc}
+use Rattle.std.proofs.Math.Nat.{eq-or-lt_of_le}
+use Rattle.std.specs.Prelude.{◌+◌}
+use Rattle.engine_core.specs.Verdict.{Outcome.OneGrid, Outcome.NoGrid, outcome, Outcome.TwoGrids, Outcome.OutOfBudget, trials_in}
+use Rattle.engine_core.specs.Walk.{Mark.Found, Mark.Trial}
+use Rattle.commands.specs.Common.{IsRight, Game, Outcome, Mark, Puzzle, grid_text, verdict_of, walk}
+use Rattle.commands.specs.Answers.{Answer, Begins, Text}
+use Rattle.commands.specs.Allowed.{AllowsGrade, AllowsSolve, IsGraded, IsSolved}
+use Rattle.commands.specs.Games.{played, puzzle_of}
+use Rattle.commands.specs.Grades.{HasOneSolution, TellsGrade, grade_by, grade_text, listed_grade, rule_set_text, searched_grade}
+use Rattle.commands.specs.LawsOfCommands.{IsLeastBudget, NamesLeastBudget, NamesSearch, NamesSet}
+use Rattle.commands.specs.Replies.{refused, verdict_answer}
+use Rattle.commands.specs.declared.grade.Grade.{Grade}
+use Rattle.commands.specs.declared.grade.Grade.TheVariants.{ByRules, BySearch}
+use Rattle.commands.specs.declared.grade.RuleSet.{RuleSet}
+use Rattle.commands.specs.declared.grade.RuleSet.TheVariants.{Singles, Houses, Crossings, Lines, Local}
+use Rattle.commands.proofs.GameFacts.{facts, found_alone, solving}
+use Rattle.commands.proofs.GradedAlike.{named_or_searched, status_one, told_status}
+use Rattle.commands.proofs.SearchedPuzzles.{found_with_enough, verdict_right}
+
+-- the third byte of a text: of all grades only a search has an 'a' there
+third : Text → ℕ
+third text = slice_index text 2
+
+searching : (grade : Grade) (lines rest : Text) → grade_text grade ++ codes "\n" ++ lines ≡ codes "search " ++ rest → (trials : ℕ) × (grade ≡ BySearch trials)
+unfolding third
+searching (BySearch trials) lines rest e = (trials, refl)
+searching (ByRules Singles) lines rest e = absurd (omega (arith, ap third e))
+searching (ByRules Houses) lines rest e = absurd (omega (arith, ap third e))
+searching (ByRules Crossings) lines rest e = absurd (omega (arith, ap third e))
+searching (ByRules Lines) lines rest e = absurd (omega (arith, ap third e))
+searching (ByRules Local) lines rest e = absurd (omega (arith, ap third e))
+searching grade lines rest e = absurd (omega (arith, ap third e))
+
+no_refusal : (cause rest : Text) → (refused cause).text ≡ codes "search " ++ rest → ⊥
+unfolding third
+no_refusal cause rest e = absurd (omega (arith, ap third e))
+
+counted : Grade → ℕ
+counted (BySearch trials) = trials
+counted grade = 0
+
+-- a grade by a verdict that names a search is by one grid
+by_one : (trials : ℕ) (o : Outcome) (n : ℕ) → grade_by trials o ≡ BySearch n → (g : List ℕ) × (o ≡ OneGrid g) × (trials ≡ n)
+unfolding counted
+by_one trials (OneGrid g) n e = (g, refl, ap counted e)
+by_one trials NoGrid n e = absurd cc
+by_one trials (TwoGrids g h) n e = absurd cc
+by_one trials (OutOfBudget found) n e = absurd cc
+
+-- one grid is told only where the budget is enough for all trials
+room_for : (marks : List Mark) (budget : ℕ) (found : Option (List ℕ)) (g : List ℕ) → outcome budget found marks ≡ OneGrid g → trials_in marks ≤ budget
+unfolding outcome trials_in
+room_for [] budget found g e = omega arith
+room_for (Found h ∷ marks) budget None g e = room_for marks budget (Some h) g e
+room_for (Found h ∷ marks) budget (Some first) g e = absurd cc
+room_for (Trial depth board ∷ marks) zero found g e = absurd cc
+room_for (Trial depth board ∷ marks) (suc budget) found g e = let room = room_for marks budget found g e in omega (arith, room)
+
+trials_of : Puzzle → ℕ
+trials_of rules = trials_in (walk rules 0 rules.start)
+
+module _ (game : Game) (id : Text) (p : puzzle_of game) (s : (played game).game.spells id p) where
+  abbrev rules : Puzzle
+  rules = (played game).game.rules p
+
+  abbrev printed : List ℕ → Text
+  printed g = grid_text ((played game).cell_text p g) ((played game).extent p)
+
+  -- an answer of status 0 tells the verdict one
+  tells_one : (budget : ℕ) (said : Answer) → AllowsSolve game budget id said → said.status ≡ 0 → (g : List ℕ) × (verdict_of rules budget ≡ OneGrid g)
+  tells_one budget said (inl x) fine = absurd ((facts game).reading.apart id p x.fault s x.first)
+  tells_one budget said (inr x) fine =
+      let mine = subst (λ q. IsSolved ((played game).game.solves q) ((played game).game.rules q) ((played game).cell_text q) ((played game).extent q) budget said)
+      ((facts game).reading.one id x.puzzle p x.spelled s) x.allowed in
+      status_one (verdict_of rules budget) (sym (told_status printed (verdict_of rules budget)) ∙ sym (ap (λ (a : Answer). a.status) mine.told) ∙ fine)
+
+  one_is : (budget : ℕ) (g : List ℕ) → verdict_of rules budget ≡ OneGrid g → HasOneSolution ((played game).game.solves p)
+  one_is budget g e =
+      let right = subst (IsRight ((played game).game.solves p)) e (verdict_right rules ((played game).game.solves p) ((facts game).searched id p s) budget) in
+      (g, right.0, right.1)
+
+  -- with a budget for all trials each answer tells the one solution
+  tells_fine : HasOneSolution ((played game).game.solves p) → (budget : ℕ) → trials_of rules ≤ budget → (said : Answer) → AllowsSolve game budget id said → said.status ≡ 0
+  unfolding trials_of
+  tells_fine one budget room said allowed = ap (λ (a : Answer). a.status)
+      ((found_alone (played game) (facts game).reading id p budget one.0 said s
+      (found_with_enough rules ((played game).game.solves p) ((facts game).searched id p s) one budget room) (one.1, λ h other. sym (one.2 h other))).0 allowed)
+
+  -- and with a smaller one none does
+  tells_less : (budget : ℕ) → budget < trials_of rules → (said : Answer) → AllowsSolve game budget id said → said.status ≢ 0
+  unfolding trials_of
+  tells_less budget less said allowed fine =
+      let one = tells_one budget said allowed fine in
+      let room = room_for (walk rules 0 rules.start) budget None one.0 one.1 in
+      absurd (omega (arith, less, room))
+
+  least_is : HasOneSolution ((played game).game.solves p) → IsLeastBudget game id (trials_of rules)
+  least_is one = record { enough = tells_fine one (trials_of rules) (omega arith); least = tells_less }
+
+  -- where there is a least budget, it is that of all trials
+  only_least : (n : ℕ) → IsLeastBudget game id n → HasOneSolution ((played game).game.solves p) × (trials_of rules ≡ n)
+  unfolding trials_of
+  only_least n least =
+      let has = solving game n id in
+      let found = tells_one n has.answer has.allowed (least.enough has.answer has.allowed) in
+      let one = one_is n found.0 found.1 in
+      let room = room_for (walk rules 0 rules.start) n None found.0 found.1 in (
+        one,
+        elim (eq-or-lt_of_le room) [
+          | inl same ↦ same
+          | inr less ↦ absurd (let at = solving game (trials_of rules) id in
+              least.least (trials_of rules) less at.answer at.allowed (tells_fine one (trials_of rules) (omega arith) at.answer at.allowed))
+        ],
+      )
+
+  module _ (budget : ℕ) (traced : Bool) (tells : Text → Type 0) (graded : Answer)
+      (told : TellsGrade (listed_grade ((played game).game.sets p) rules budget) traced tells graded) where
+    abbrev grade : Grade
+    grade = listed_grade ((played game).game.sets p) rules budget
+
+    text_of : (given : Grade) → grade ≡ given → graded.text ≡ grade_text given ++ codes "\n" ++ told.lines
+    text_of given is = told.text ∙ ap (λ (g : Grade). grade_text g ++ codes "\n" ++ told.lines) is
+
+    names : (trials : ℕ) → grade ≡ BySearch trials → NamesSearch trials graded
+    names trials is = (told.lines, text_of (BySearch trials) is ∙ ap (λ (t : Text). codes "search " ++ t) (sym (append_assoc (decimal trials) (codes "\n") told.lines)))
+
+    pub searched_told : (rest : Text) → graded.text ≡ codes "search " ++ rest
+        → (trials : ℕ) × NamesSearch trials graded × IsLeastBudget game id trials × (trials ≤ budget)
+    unfolding searched_grade trials_of
+    searched_told rest e = by (searching grade told.lines rest (sym told.text ∙ e))
+      where
+        by : (trials : ℕ) × (grade ≡ BySearch trials) → (trials : ℕ) × NamesSearch trials graded × IsLeastBudget game id trials × (trials ≤ budget)
+        by (trials, is) = elim (named_or_searched ((played game).game.sets p) (searched_grade rules budget)) [
+          | inl named ↦ absurd (let bad : ByRules named.0 ≡ BySearch trials = sym named.1 ∙ is in cc)
+          | inr same ↦
+              let one = by_one (trials_of rules) (verdict_of rules budget) trials (sym same ∙ is) in
+              let room = room_for (walk rules 0 rules.start) budget None one.0 one.1 in (
+                trials,
+                names trials is,
+                subst (IsLeastBudget game id) one.2 (least_is (one_is budget one.0 one.1)),
+                subst (λ n. n ≤ budget) one.2 room,
+              )
+        ]
+
+    pub least_told : (n : ℕ) → IsLeastBudget game id n → n ≤ budget → NamesSet graded ⊎ NamesSearch n graded
+    unfolding searched_grade trials_of
+    least_told n least room = elim (named_or_searched ((played game).game.sets p) (searched_grade rules budget)) [
+      | inl named ↦ inl (named.0, (told.lines, text_of (ByRules named.0) named.1 ∙ sym (append_assoc (rule_set_text named.0) (codes "\n") told.lines)))
+      | inr same ↦
+          let one = only_least n least in
+          let found = found_with_enough rules ((played game).game.solves p) ((facts game).searched id p s) one.0 budget (subst (λ k. k ≤ budget) (sym one.1) room) in
+          inr (names n (same ∙ ap (grade_by (trials_of rules)) found ∙ ap BySearch one.1))
+    ]
+
+pub least_budgets : (game : Game) (id : Text) (budget : ℕ) (traced : Bool) (graded : Answer) → AllowsGrade game id budget traced graded → NamesLeastBudget game id budget graded
+least_budgets game id budget traced graded (inl x) = record {
+  told = λ b. absurd (no_refusal _ b.0 (sym (ap (λ (a : Answer). a.text) x.told) ∙ b.1));
+  only = λ n least room. absurd (omega (arith, least.enough graded (inl x), ap (λ (a : Answer). a.status) x.told));
+}
+least_budgets game id budget traced graded (inr x) = record {
+  told = λ b. searched_told game id x.puzzle x.spelled budget traced _ graded x.allowed.told b.0 b.1;
+  only = least_told game id x.puzzle x.spelled budget traced _ graded x.allowed.told;
+}

@@ -1,0 +1,258 @@
+-- How many answers a making without thinning allows: one, since the first filling that passes is one alone.
+use Rattle.std.proofs.Common.{ℕ, ◌/◌, ◌%◌, ◌^◌, ◌<◌, List, arith, ◌≡◌, ◌∙◌, ◌*◌, ◌≤◌, ◌⊎◌, ◌&&◌, Bool, true, false, not, [], Option, Some, None, Result, Ok, Err, refl, sym, ap, ap₂, subst, inl, inr, true≢false}
+use Rattle.std.proofs.lemmas.Nat.{mod_below}
+use Rattle.std.specs.Prelude.{nat_le, if◌then◌else◌}
+use Rattle.std.proofs.lemmas.Bool.{and_parts, leb-true, not-false, not-true}
+use Rattle.rand_core.specs.Steps.{state_after, steps_u32, stream_of}
+use Rattle.rand_chacha.specs.Block.{block_word}
+use Rattle.rand_chacha.specs.ChaCha.{ChaCha, next_word, of_seed}
+use Rattle.grid_core.proofs.CandidateLemmas.{all_below-at}
+use Rattle.gameid_core.specs.BlackRuns.{runs}
+use Rattle.gameid_core.specs.Lines.{lines_ones, lines_runs}
+use Rattle.gameid_core.specs.declared.id.fault.IdFault.TheVariants.{SizeRange}
+use Rattle.gameid_core.specs.declared.id.game.Game.TheVariants as game
+use Rattle.gameid_core.proofs.HeadLaws.{size_take}
+use Rattle.gameid_core.proofs.LineLaws.{at_column, at_row}
+use Rattle.gameid_core.proofs.OneReading.{reading_of}
+use Rattle.gameid_core.proofs.OnesFit.{ones_lawful}
+use Rattle.gameid_core.proofs.PatternWritten.{pattern_is_written}
+use Rattle.gameid_core.proofs.Results.{bind_ok, chosen, ok_is, taken}
+use Rattle.gameid_core.proofs.RunsFit.{runs_lawful}
+use Rattle.gameid_core.proofs.TentsWritten.{tents_is_written}
+use Rattle.engine_core.specs.Verdict.{Outcome.OneGrid}
+use Rattle.engine_core.proofs.VerdictLemmas.{outcome-true}
+use Rattle.fields_core.specs.FirstWrong.{IsFirstWrongOrNone}
+use Rattle.fields_core.proofs.TentRuleLemmas as tents
+use Rattle.maker_core.specs.Draws.{HasWords, IsFirstPassing, Making, NonePasses, filling_at, stream_after}
+use Rattle.maker_core.specs.Made.{HasOne, IsOnlySolution, TellsOne, is_one}
+use Rattle.maker_core.specs.PatternMaking.{IsPatternMade, clued_by, pattern_filling, pattern_passes}
+use Rattle.maker_core.specs.TentMaking.{IsTentsMade}
+use Rattle.maker_core.specs.TentFilling.{tent_filling, tents_pass, tents_puzzle_of}
+use Rattle.maker_core.proofs.BlackCells.{black_cells-grid}
+use Rattle.maker_core.proofs.PatternMakings.{pattern_only, pattern_solved}
+use Rattle.maker_core.proofs.TentMakings.{tents_only, tents_size}
+use Rattle.commands.specs.Common.{Stream, Extent, IsExtent, max_side, IsGrid, grid_text, SizeRead, extent_of}
+use Rattle.commands.specs.Common.{size_of, HasOneReading, IsTents, Tents, IdFault, IsLawful, Puzzle, Outcome, IsTrueOf, verdict_of}
+use Rattle.commands.specs.Common.{is_solution-from, is_solution-is, line_rules-lawful, line_rules, IsPatternSolution, tent_rules, IsTentSolution}
+use Rattle.commands.specs.Seeds.{seed_key, seed_stream}
+use Rattle.commands.specs.Answers.{Answer, Text}
+use Rattle.commands.specs.Games.{played}
+use Rattle.commands.specs.Playing.{Playing}
+use Rattle.commands.specs.TentsPlayed.{tents_sizes}
+use Rattle.commands.specs.Allowed.{AllowsMade, AllowsOfSize, MakesOf, wanted}
+use Rattle.commands.specs.Makings.{IsExhausted, Wanted, exhausted_answer, made_answer}
+use Rattle.commands.specs.LawsOfCommands.{HasOneAnswer}
+use Rattle.commands.proofs.FaultsOnce.{first_of, least_once}
+use Rattle.commands.proofs.Readings.{id_once}
+use Rattle.commands.proofs.SearchedPuzzles.{tents_searched}
+
+block_below : (n : ℕ) (key : List ℕ) (counter nonce k : ℕ) → block_word n key counter nonce k < 2 ^ 32
+unfolding block_word
+block_below n key counter nonce k = mod_below _ (2 ^ 32) (omega arith)
+
+step_below : (n : ℕ) (g : ChaCha) → (next_word n g).0 < 2 ^ 32
+step_below n g = block_below n g.key (g.word_pos / 16) g.stream (g.word_pos % 16)
+
+pub seed_words : (seed : ℕ) → HasWords (seed_stream seed)
+unfolding stream_of
+seed_words seed = record { below = λ calls. step_below 4 (state_after (steps_u32 (next_word 4)) calls (of_seed (seed_key seed))) }
+
+-- ---- the first filling that passes
+module _ {A : Type 0} (make : Making A) (passes : A → Bool) (s : Stream) (tries : ℕ) where
+  pub first_or_none : ((k : ℕ) × IsFirstPassing make passes s tries k) ⊎ NonePasses make passes s tries
+  first_or_none = by (first_of (λ j. not (passes (filling_at make j s))) tries)
+    where
+      by : (o : Option ℕ) × IsFirstWrongOrNone (λ j. not (passes (filling_at make j s))) tries o → ((k : ℕ) × IsFirstPassing make passes s tries k) ⊎ NonePasses make passes s tries
+      by (Some k, first) = inl (
+        k,
+        record {
+          within = first.below;
+          passing = not-false (passes (filling_at make k s)) first.wrong;
+          failing = λ j lt. not-true (passes (filling_at make j s)) (first.before j lt);
+        },
+      )
+      by (None, all) = inr (record { failing = λ j lt. not-true (passes (filling_at make j s)) (all_below-at (λ j. not (passes (filling_at make j s))) tries j all lt) })
+
+  pub first_once : (j k : ℕ) → IsFirstPassing make passes s tries j → IsFirstPassing make passes s tries k → j ≡ k
+  first_once j k a b = least_once (λ n. passes (filling_at make n s) ≡ false) (λ n. passes (filling_at make n s) ≡ true) (λ n off on. true≢false (sym on ∙ off)) j k
+      a.passing b.passing a.failing b.failing
+
+  pub first_not_none : (k : ℕ) → IsFirstPassing make passes s tries k → NonePasses make passes s tries → ⊥
+  first_not_none k a none = true≢false (sym a.passing ∙ none.failing k a.within)
+
+  -- so one answer is allowed, where what is handed out is of the first filling that passes
+  pub making_once : (handed : Answer → Type 0) (told : A → Answer)
+      → ((a : Answer) → handed a → (k : ℕ) × IsFirstPassing make passes s tries k × (a ≡ told (filling_at make k s)))
+      → ((k : ℕ) → IsFirstPassing make passes s tries k → handed (told (filling_at make k s)))
+      → HasOneAnswer (λ a. handed a ⊎ IsExhausted make passes s tries a)
+  making_once handed told of by = elim first_or_none [
+    | inl first ↦ record { answer = told (filling_at make first.0 s); allowed = inl (by first.0 first.1); only = some first.0 first.1 }
+    | inr none ↦ record { answer = exhausted_answer; allowed = inr (record { none = none; told = refl }); only = exhausted none }
+  ]
+    where
+      some : (k : ℕ) → IsFirstPassing make passes s tries k → (other : Answer) → handed other ⊎ IsExhausted make passes s tries other → told (filling_at make k s) ≡ other
+      some k first other (inl h) = let x = of other h in ap (λ (n : ℕ). told (filling_at make n s)) (first_once k x.0 first x.1) ∙ sym x.2
+      some k first other (inr none) = absurd (first_not_none k first none.none)
+
+      exhausted : NonePasses make passes s tries → (other : Answer) → handed other ⊎ IsExhausted make passes s tries other → exhausted_answer ≡ other
+      exhausted none other (inl h) = let x = of other h in absurd (first_not_none x.0 x.1 none)
+      exhausted none other (inr also) = sym also.told
+
+-- a text is one size, or has one fault
+size_reading : (sizes : Text → Result SizeRead IdFault) → HasOneReading (λ text size. sizes text ≡ Ok size) sizes
+size_reading sizes = reading_of (λ text size. sizes text ≡ Ok size) sizes (λ text size is. is) (λ text size is. is)
+
+made_once : {P : Type 0} (play : Playing P) (w : Wanted) (text : Text) → ((read : SizeRead) → play.game.sizes text ≡ Ok read → HasOneAnswer (AllowsOfSize play w read))
+    → HasOneAnswer (MakesOf play w text)
+made_once play w text each = id_once (size_reading play.game.sizes) text (AllowsOfSize play w) each
+
+abbrev handed_answer : {P : Type 0} → Playing P → P → List ℕ → Answer
+handed_answer play p g = made_answer (play.game.written p) (grid_text (play.cell_text p g) (play.extent p))
+
+-- ---- what a search finds
+one_found : (o : Outcome) → is_one o ≡ true → (g : List ℕ) × (o ≡ OneGrid g)
+one_found (OneGrid g) e = (g, refl)
+one_found o e = absurd (true≢false (sym e))
+
+has_one : (rules : Puzzle) → IsLawful rules → (budget : ℕ) → is_one (verdict_of rules budget) ≡ true → HasOne rules budget
+has_one rules laws budget one =
+    let found = one_found (verdict_of rules budget) one in
+    record { answer = found.0; found = found.1; only = subst (IsTrueOf rules) found.1 (outcome-true rules laws budget) }
+
+is_extent : (least w h : ℕ) → 1 ≤ least → (nat_le least w && nat_le least h && nat_le w max_side && nat_le h max_side) ≡ true → IsExtent (record { w = w; h = h })
+is_extent least w h low e =
+    let a = and_parts (nat_le least w && nat_le least h && nat_le w max_side) (nat_le h max_side) e in
+    let b = and_parts (nat_le least w && nat_le least h) (nat_le w max_side) a.0 in
+    let c = and_parts (nat_le least w) (nat_le least h) b.0 in
+    let wide = leb-true _ _ c.0 in
+    let high = leb-true _ _ c.1 in
+    record { w_low = omega arith; w_high = leb-true _ _ b.1; h_low = omega arith; h_high = leb-true _ _ a.1 }
+
+-- ---- a filling of Pattern that passes is the one solution of its puzzle
+module _ (size : Extent) (extent : IsExtent size) (black budget tries : ℕ) (s : Stream) where
+  abbrev grid_of : ℕ → List ℕ
+  grid_of k = filling_at (pattern_filling size black) k s
+
+  pub pattern_made : (k : ℕ) → IsFirstPassing (pattern_filling size black) (pattern_passes size budget) s tries k
+      → IsPatternMade size black budget tries s (clued_by size (grid_of k)) (grid_of k) []
+  pattern_made k first = record {
+    k = k;
+    first = first;
+    filled = refl;
+    clues = refl;
+    only = only.0;
+    verdict = only.1;
+    unthinned = refl;
+  }
+    where
+      solved : IsPatternSolution (clued_by size (grid_of k)) (grid_of k)
+      solved = pattern_solved size (grid_of k) (clued_by size (grid_of k))
+          (record { sized = refl; columns = λ x lt. at_column runs [] size (grid_of k) x lt; rows = λ y lt. at_row runs [] size (grid_of k) y lt })
+          (black_cells-grid black (size.w * size.h) (stream_after (pattern_filling size black) k s))
+
+      only : IsOnlySolution (IsPatternSolution (clued_by size (grid_of k))) (grid_of k) × TellsOne (line_rules (clued_by size (grid_of k))) budget (grid_of k)
+      only = pattern_only (clued_by size (grid_of k)) (grid_of k) (λ q h grid. (is_solution-is q h grid, is_solution-from q h)) budget
+          (has_one (line_rules (clued_by size (grid_of k))) (line_rules-lawful (clued_by size (grid_of k)) extent) budget first.passing) solved
+
+pub made_pattern : (text : Text) (seed budget tries black : ℕ) → HasOneAnswer (AllowsMade game.Pattern text seed budget tries black)
+made_pattern text seed budget tries black = made_once (played game.Pattern) (wanted seed budget tries black) text (λ read is.
+    let size : Extent = extent_of read in
+    let s = seed_stream seed in
+    let extent = is_extent 1 read.w read.h (omega arith) (size_take game.Pattern text read is).1 in
+    making_once (pattern_filling size black) (pattern_passes size budget) s tries _ (λ g. handed_answer (played game.Pattern) (clued_by size g) g)
+    (λ a h. (h.made.k, h.made.first, h.told ∙ ap₂ (handed_answer (played game.Pattern)) (h.made.clues ∙ ap (clued_by size) h.made.filled) h.made.filled))
+    (λ k first.
+    let g : List ℕ = filling_at (pattern_filling size black) k s in
+    record {
+      puzzle = clued_by size g;
+      solution = g;
+      kept = [];
+      made = pattern_made size extent black budget tries s k first;
+      spelled = (pattern_is_written (clued_by size g) (runs_lawful size g (lines_runs size g) extent refl)).spells;
+      told = refl;
+    }))
+
+-- ---- a filling of Tents that passes is the one solution of its puzzle
+record IsTentsExtent (size : Extent) : Type 0 where
+  extent : IsExtent size
+  w_four : 4 ≤ size.w
+  h_four : 4 ≤ size.h
+
+tents_extent : (text : Text) (read : SizeRead) → tents_sizes text ≡ Ok read → IsTentsExtent (extent_of read)
+tents_extent text read e =
+    let sized = bind_ok (size_of game.Tents text) (λ s. if nat_le 4 s.w && nat_le 4 s.h then taken s else Err SizeRange) read e in
+    let large = chosen (nat_le 4 sized.0.w && nat_le 4 sized.0.h) (taken sized.0) (Err SizeRange) (taken read) sized.2 in
+    elim large [
+      | inl four ↦ subst (λ (s : SizeRead). IsTentsExtent (extent_of s)) (ok_is sized.0 read four.1) (record {
+        extent = is_extent 2 sized.0.w sized.0.h (omega arith) (size_take game.Tents text sized.0 sized.1).1;
+        w_four = leb-true _ _ (and_parts (nat_le 4 sized.0.w) (nat_le 4 sized.0.h) four.0).0;
+        h_four = leb-true _ _ (and_parts (nat_le 4 sized.0.w) (nat_le 4 sized.0.h) four.0).1;
+      })
+      | inr small ↦ absurd (let bad : Err SizeRange ≡ taken read = small.1 in cc)
+    ]
+
+-- what fillings of Tents are; `maker_core` keeps the name of their type to itself
+abbrev MadeBy : {A : Type 0} → (Extent → Making A) → Type 0
+MadeBy {A = A} make = A
+
+abbrev TentFilling : Type 0
+TentFilling = MadeBy tent_filling
+
+-- what `fillings_of_tents_are_solutions` says
+pub record AreFilled : Type 0 where
+  pub trees : (size : Extent) (s : Stream) (k : ℕ) → IsExtent size → HasWords s → IsGrid (size.w * size.h) 2 (filling_at (tent_filling size) k s).trees
+  pub solved : (size : Extent) (s : Stream) (k : ℕ) → IsExtent size → HasWords s
+      → IsTentSolution (tents_puzzle_of size (filling_at (tent_filling size) k s)) (filling_at (tent_filling size) k s).tents
+
+tents_lawful : (size : Extent) (filling : TentFilling) → IsTentsExtent size → IsGrid (size.w * size.h) 2 filling.trees → IsTents (tents_puzzle_of size filling)
+unfolding tents_puzzle_of
+tents_lawful size filling large trees =
+    let w = large.w_four in
+    let h = large.h_four in
+    ones_lawful size filling.trees filling.tents (lines_ones size filling.tents) filling.trees large.extent (omega arith) (omega arith) trees refl refl
+
+module _ (filled : AreFilled) (size : Extent) (large : IsTentsExtent size) (budget tries : ℕ) (s : Stream) (words : HasWords s) where
+  abbrev filling_of : ℕ → TentFilling
+  filling_of k = filling_at (tent_filling size) k s
+
+  abbrev puzzle_at : ℕ → Tents
+  puzzle_at k = tents_puzzle_of size (filling_of k)
+
+  puzzle_lawful : (k : ℕ) → IsTents (puzzle_at k)
+  puzzle_lawful k = tents_lawful size (filling_of k) large (filled.trees size s k large.extent words)
+
+  tents_made : (k : ℕ) → IsFirstPassing (tent_filling size) (tents_pass size budget) s tries k
+      → IsTentsMade size budget tries s (puzzle_at k) (filling_of k).tents []
+  tents_made k first = record {
+    k = k;
+    first = first;
+    clues = refl;
+    filled = refl;
+    size_asked = tents_size size (filling_of k) (puzzle_at k) refl;
+    only = only.0;
+    verdict = only.1;
+    unthinned = refl;
+  }
+    where
+      only : IsOnlySolution (IsTentSolution (puzzle_at k)) (filling_of k).tents × TellsOne (tent_rules (puzzle_at k)) budget (filling_of k).tents
+      only = tents_only size (filling_of k) (puzzle_at k) refl (filled.solved size s k large.extent words)
+          (λ q h grid. (tents.solution-from-tents q h grid, tents.tents-from-solution q h grid)) budget
+          (has_one (tent_rules (puzzle_at k)) (tents_searched (puzzle_at k) (puzzle_lawful k)).lawful budget first.passing)
+
+pub made_tents : AreFilled → (text : Text) (seed budget tries black : ℕ) → HasOneAnswer (AllowsMade game.Tents text seed budget tries black)
+made_tents filled text seed budget tries black = made_once (played game.Tents) (wanted seed budget tries black) text (λ read is.
+    let size : Extent = extent_of read in
+    let s = seed_stream seed in
+    let large = tents_extent text read is in
+    making_once (tent_filling size) (tents_pass size budget) s tries _ (λ filling. handed_answer (played game.Tents) (tents_puzzle_of size filling) filling.tents)
+    (λ a h. (h.made.k, h.made.first, h.told ∙ ap₂ (handed_answer (played game.Tents)) h.made.clues h.made.filled))
+    (λ k first.
+    let filling : TentFilling = filling_at (tent_filling size) k s in
+    record {
+      puzzle = tents_puzzle_of size filling;
+      solution = filling.tents;
+      kept = [];
+      made = tents_made filled size large budget tries s (seed_words seed) k first;
+      spelled = (tents_is_written (tents_puzzle_of size filling) (puzzle_lawful filled size large budget tries s (seed_words seed) k)).spells;
+      told = refl;
+    }))

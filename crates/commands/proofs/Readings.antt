@@ -1,0 +1,114 @@
+-- What is answered to an ID, where a text spells one puzzle or has one fault, and never both.
+use Rattle.std.proofs.Common.{◌≡◌, Result, Err, ◌≢◌, ◌<◌, ℕ, length, inl, Ok, refl, ◌∙◌, ◌++◌, false, List, [], ◌∷◌, codes, sym, ap, ap₂, subst, inr}
+use Rattle.std.specs.Prelude.{IfOk, ◌↔◌}
+use Rattle.gameid_core.specs.Steps.{Fails}
+use Rattle.gameid_core.specs.declared.id.fault.IdFault.TheVariants.{Memory, TooLong}
+use Rattle.commands.specs.Common.{HasOneReading, IdFault, max_id, Game}
+use Rattle.commands.specs.Answers.{Text, Answer}
+use Rattle.commands.specs.Games.{played}
+use Rattle.commands.specs.Allowed.{AllowsId, AllowsSolve}
+use Rattle.commands.specs.Replies.{refused, fault_text, answer_in}
+use Rattle.commands.specs.declared.answers.reply.Reply.{Reply}
+use Rattle.commands.specs.Each.{AllowsEach, both, silence}
+use Rattle.commands.specs.Grades.{IsGradeOf, IsRightGrade, grade_status, grade_text}
+use Rattle.commands.specs.LawsOfCommands.{HasOneAnswer, IsRewritten}
+use Rattle.commands.specs.declared.grade.Grade.{Grade}
+
+first_fault : {P : Type 0} (fault : IdFault) (reading : Result P IdFault) → fault ≢ Memory → Fails fault reading → reading ≡ Err fault
+first_fault Memory reading other fails = absurd (other refl)
+first_fault fault reading other fails = fails
+
+-- by what the reader ensures
+pub refused_id : {P : Type 0} (spells : P → Type 0) (allows : P → Answer → Type 0) (reading : Result P IdFault) (fault : IdFault) (answer : Answer)
+    → fault ≢ Memory → Fails fault reading → answer ≡ refused (fault_text fault) → AllowsId reading spells allows answer
+refused_id spells allows reading fault answer other fails told = inl (record { fault = fault; first = first_fault fault reading other fails; told = told })
+
+-- an over-long text is refused as too long
+pub too_long_id : {E : Type 0} (game : Game) (budget : ℕ) (result : Result Reply E)
+    → ((text : Text) → max_id < length text → (played game).game.reading text ≡ Err TooLong)
+    → IfOk result (λ r. answer_in r ≡ refused (fault_text TooLong))
+    → IfOk result (λ r. (id : Text) → max_id < length id → AllowsSolve game budget id (answer_in r))
+too_long_id game budget (Ok r) long told = λ id more. inl (record { fault = TooLong; first = long id more; told = told })
+too_long_id game budget (Err e) long told = tt
+
+abbrev pub AreSame : (Answer → Type 0) → Type 0
+AreSame allows = (a b : Answer) → allows a → allows b → a ≡ b
+
+pub one_of_same : (allows : Answer → Type 0) → (a : Answer) × allows a → AreSame allows → HasOneAnswer allows
+one_of_same allows some same = record { answer = some.0; allowed = some.1; only = λ other is. same some.0 other some.1 is }
+
+pub told_once : (answer : Answer) → HasOneAnswer (λ a. a ≡ answer)
+told_once answer = record { answer = answer; allowed = refl; only = λ other is. sym is }
+
+module _ {P : Type 0} {of : Text → Result P IdFault} {spells : Text → P → Type 0} (reading : HasOneReading spells of) where
+  pub id_once : (id : Text) (allows : P → Answer → Type 0) → ((p : P) → spells id p → HasOneAnswer (allows p)) → HasOneAnswer (AllowsId (of id) (spells id) allows)
+  id_once id allows each = elim (reading.either id) [
+    | inl s ↦ record {
+      answer = (each s.0 s.1).answer;
+      allowed = inr (record { puzzle = s.0; spelled = s.1; allowed = (each s.0 s.1).allowed });
+      only = spelled s.0 s.1;
+    }
+    | inr f ↦ record {
+      answer = refused (fault_text f.0);
+      allowed = inl (record { fault = f.0; first = f.1; told = refl });
+      only = faulty f.0 f.1;
+    }
+  ]
+    where
+      spelled : (p : P) (s : spells id p) (other : Answer) → AllowsId (of id) (spells id) allows other → (each p s).answer ≡ other
+      spelled p s other (inl x) = absurd (reading.apart id p x.fault s x.first)
+      spelled p s other (inr x) = (each p s).only other (subst (λ q. allows q other) (reading.one id x.puzzle p x.spelled s) x.allowed)
+
+      faults : (f h : IdFault) → ◌≡◌ {A = Result P IdFault} (Err f) (Err h) → f ≡ h
+      faults f h e = cc
+
+      faulty : (f : IdFault) → of id ≡ Err f → (other : Answer) → AllowsId (of id) (spells id) allows other → refused (fault_text f) ≡ other
+      faulty f first other (inl x) = ap (λ (h : IdFault). refused (fault_text h)) (faults f x.fault (sym first ∙ x.first)) ∙ sym x.told
+      faulty f first other (inr x) = absurd (reading.apart id x.puzzle f x.spelled first)
+
+-- a grade without a trace
+pub grade_once : (solves : List ℕ → Type 0) (grade : Grade) (tells : Text → Type 0) → IsRightGrade solves grade → HasOneAnswer (IsGradeOf solves grade false tells)
+grade_once solves grade tells right = record {
+  answer = record { text = grade_text grade ++ codes "\n" ++ []; status = grade_status grade };
+  allowed = record { right = right; told = record { lines = []; trace = refl; text = refl; status = refl } };
+  only = λ other is. ap₂ (λ (t : Text) (s : ℕ). record { text = t; status = s })
+      (ap (λ (lines : Text). grade_text grade ++ codes "\n" ++ lines) (sym is.told.trace) ∙ sym is.told.text) (sym is.told.status);
+}
+
+-- the answers to lines, in turn
+pub each_once : (allows : Text → Answer → Type 0) → ((text : Text) → HasOneAnswer (allows text)) → (texts : List Text) → HasOneAnswer (AllowsEach allows texts)
+each_once allows one [] = record { answer = silence; allowed = refl; only = λ other is. sym is }
+each_once allows one (text ∷ texts) =
+    let here = one text in
+    let rest = each_once allows one texts in
+    record {
+      answer = both here.answer rest.answer;
+      allowed = (here.answer, rest.answer, here.allowed, rest.allowed, refl);
+      only = λ other is. ap₂ both (here.only is.0 is.2) (rest.only is.1 is.3) ∙ sym is.4;
+    }
+
+-- a reading, what it spells and what is written
+module _ {P : Type 0} {of : Text → Result P IdFault} {spells : Text → P → Type 0} (written : P → Text) (reading : HasOneReading spells of)
+    (again : (text : Text) (p : P) → spells text p → spells (written p) p) where
+  carried : (id other : Text) (p : P) → spells id p → spells other p → (allows : P → Answer → Type 0) (a : Answer)
+      → AllowsId (of id) (spells id) allows a → AllowsId (of other) (spells other) allows a
+  carried id other p s t allows a (inl refused) = absurd (reading.apart id p refused.fault s refused.first)
+  carried id other p s t allows a (inr answered) = inr (record {
+    puzzle = p;
+    spelled = t;
+    allowed = subst (λ q. allows q a) (reading.one id answered.puzzle p answered.spelled s) answered.allowed;
+  })
+
+  spells_written : (id other : Text) (r : IsRewritten spells written id other) → spells other r.puzzle
+  spells_written id other r = subst (λ t. spells t r.puzzle) (sym r.is_written) (again id r.puzzle r.spelled)
+
+  pub answered_alike : (id other : Text) → IsRewritten spells written id other → (allows : P → Answer → Type 0) (a : Answer)
+      → AllowsId (of id) (spells id) allows a ↔ AllowsId (of other) (spells other) allows a
+  answered_alike id other r allows a =
+      let t = spells_written id other r in
+      (carried id other r.puzzle r.spelled t allows a, carried other id r.puzzle t r.spelled allows a)
+
+  pub spelled_alike : (id other : Text) → IsRewritten spells written id other → (q : P) → spells id q ↔ spells other q
+  spelled_alike id other r q =
+      let t = spells_written id other r in
+      (λ s. subst (spells other) (reading.one id r.puzzle q r.spelled s) t, λ s. subst (spells id) (reading.one other r.puzzle q t s) r.spelled)

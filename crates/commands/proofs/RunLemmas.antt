@@ -1,0 +1,145 @@
+-- Runs that deliver one answer, and those that end before their answers are whole.
+use Rattle.std.proofs.Common.{[], refl, ◌≡◌, ◌≤◌, ℕ, Bool, Result, Ok, Err, sym, subst, inl, inr, arith, false, true≢false, ◌++◌, ◌-◌, List, take, drop, length, ap, ◌∙◌, append_assoc, append-nil, ◌⊎◌, true}
+use Rattle.std.specs.Result.{IsErr, IsErrAnd}
+use Rattle.std.proofs.lemmas.List.{take-append-drop}
+use Rattle.std.proofs.lemmas.Grind.{common_steps}
+use Rattle.commands.specs.Answers.{Answer, BeginsAnswer, Text, Delivers, PutBegun, PutUpTo, IsInput, status_of}
+use Rattle.commands.specs.Stops.{IsSinkAfter, Tells, status_in}
+use Rattle.commands.specs.declared.answers.status.Status.{Status}
+use Rattle.commands.specs.declared.answers.status.Stop.{Stop}
+use Rattle.commands.specs.declared.answers.status.Stop.TheVariants.{Memory, Broken}
+use Rattle.commands.specs.Runs.{Ran}
+use Rattle.commands.specs.declared.ends.Sink as sinks
+use Rattle.commands.specs.declared.ends.Source as sources
+
+-- an exit with that stop
+pub status_is : (r : Result Status Stop) (Q : ℕ → Type 0) (stop : Stop) → Q (status_of stop) → IsErr r × IsErrAnd r (λ e. e ≡ stop) → Q (status_in r)
+status_is (Ok u) Q stop q h = absurd (true≢false (sym h.0))
+status_is (Err e) Q stop q h = subst (λ (x : Stop). Q (status_of x)) (sym h.1) q
+
+-- how the sink stands where memory was wanted and nothing was put
+pub left_alone : (r : Result Status Stop) (failed flushed : Bool) → failed ≡ false → IsErr r × IsErrAnd r (λ e. e ≡ Memory) → IsSinkAfter (status_in r) failed flushed
+left_alone r failed flushed fine h = status_is r (λ n. IsSinkAfter n failed flushed) Memory
+    (record { within = omega arith; sound = λ _. fine; sent = λ low. absurd (omega arith); broken = λ six. absurd (omega arith) }) h
+
+-- a stop is no whole answer
+pub late : (stop : Stop) → 5 ≤ status_of stop
+late Memory = omega arith
+late Broken = omega arith
+
+pub is_late : (r : Result Status Stop) (stop : Stop) → IsErr r × IsErrAnd r (λ e. e ≡ stop) → 5 ≤ status_in r
+is_late r stop h = status_is r (λ n. 5 ≤ n) stop (late stop) h
+
+-- what begins an answer of one kind begins one of another that follows from it
+begins_as : (A B : Answer → Type 0) (w : Text) → ((a : Answer) → A a → B a) → BeginsAnswer A w → BeginsAnswer B w
+begins_as A B w follows (inl none) = inl none
+begins_as A B w follows (inr some) = inr (some.0, follows some.0 some.1, some.2)
+
+-- what is told as one thing is told as another that follows from it
+pub tells_as : {S : Type 0} (takes : S → Text → S → Type 0) (A B : Answer → Type 0) (s t : S) (status : ℕ) → ((a : Answer) → A a → B a)
+    → Tells takes A s t status → Tells takes B s t status
+tells_as takes A B s t status follows told = record {
+  written = told.written;
+  took = told.took;
+  begun = begins_as A B _ follows told.begun;
+  whole = λ small. follows _ (told.whole small);
+}
+
+-- nothing was written
+pub tells_nothing : {S : Type 0} (takes : S → Text → S → Type 0) (allows : Answer → Type 0) (s : S) (status : ℕ) → takes s [] s → 5 ≤ status → Tells takes allows s s status
+tells_nothing takes allows s status nothing high = record { written = []; took = nothing; begun = inl refl; whole = λ small. absurd (omega arith) }
+
+rest_is : (rest : List ℕ) (n m : ℕ) → m ≡ length rest → take (m - n) (drop n rest) ≡ drop n rest
+rest_is rest n m e = grind (arith, common_steps)
+
+module _ {S : Type 0} (takes : S → List ℕ → S → Type 0) (nothing : (s : S) → takes s [] s) (both : (s t u : S) (a b : List ℕ) → takes s a t → takes t b u → takes s (a ++ b) u) where
+  -- after one more put, which took n bytes
+  pub put_more : (s t u : S) (bytes rest : List ℕ) (n m : ℕ) → m ≡ length rest → PutUpTo takes s bytes rest t
+      → takes t (take n rest) u → PutUpTo takes s bytes (take (m - n) (drop n rest)) u
+  put_more s t u bytes rest n m e so_far took = record {
+    done = so_far.done ++ take n rest;
+    took = both s t u so_far.done (take n rest) so_far.took took;
+    split = so_far.split ∙ ap (λ l. so_far.done ++ l) (sym (take-append-drop n rest)) ∙ sym (append_assoc so_far.done (take n rest) (drop n rest)) ∙ ap (λ l. (so_far.done ++ take n rest) ++ l) (sym (rest_is rest n m e));
+  }
+
+  -- after a put that failed
+  pub put_failed : (s t u : S) (bytes rest : List ℕ) → PutUpTo takes s bytes rest t → takes t [] u → PutBegun takes s bytes u
+  put_failed s t u bytes rest so_far took = record {
+    done = so_far.done ++ [];
+    took = both s t u so_far.done [] so_far.took took;
+    begun = (rest, so_far.split ∙ ap (λ l. l ++ rest) (sym (append-nil so_far.done)));
+  }
+
+  -- all was put, and then the finishing took nothing more
+  pub delivers_all : (s t u : S) (a : Answer) (bytes : List ℕ) (status : ℕ) → bytes ≡ a.text → (status ≡ a.status) ⊎ (status ≡ 6)
+      → takes s bytes t → takes t [] u → Delivers takes s a u status
+  delivers_all s t u a bytes status e is took more = record {
+    written = bytes ++ [];
+    took = both s t u bytes [] took more;
+    begun = ([], sym (append-nil (bytes ++ []) ∙ append-nil bytes ∙ e));
+    whole = λ small. (
+      append-nil bytes ∙ e,
+      elim is [
+        | inl same ↦ same
+        | inr broken ↦ absurd (omega arith)
+      ],
+    );
+  }
+
+module _ {I O : Type 0} (source : sources.Ghosts I) (sink : sinks.Ghosts O)
+    (allows : Text → Answer → Type 0) where
+  -- nothing was read, and what was written may be left on every input
+  pub ran_by_telling : (i : I) (o p : O) (tells : Answer → Type 0) (status : ℕ) → source.gives i [] i → ((input : Text) (a : Answer) → tells a → allows input a)
+      → Tells sink.takes tells o p status → Ran source sink allows i i o p status
+  ran_by_telling i o p tells status nothing allowed t = record {
+    read = [];
+    written = t.written;
+    gave = nothing;
+    took = t.took;
+    leaves = record {
+      begun = λ input _. begins_as tells (allows input) _ (allowed input) t.begun;
+      whole = λ small input _. allowed input _ (t.whole small);
+    };
+  }
+
+  -- the same of an answer that is allowed on every input
+  pub ran_by_reply : (i : I) (o p : O) (a : Answer) (status : ℕ) → source.gives i [] i → ((input : Text) → allows input a)
+      → Delivers sink.takes o a p status → Ran source sink allows i i o p status
+  ran_by_reply i o p a status nothing allowed d = ran_by_telling i o p (λ b. (input : Text) → allows input b) status nothing (λ input b told. told input) (record {
+    written = d.written;
+    took = d.took;
+    begun = inr (a, allowed, d.begun);
+    whole = λ small input. rw ((d.whole small).0, (d.whole small).1) (allowed input);
+  })
+
+  -- bytes were read, and nothing was written
+  pub ran_unwritten : (i j : I) (o : O) (seen : Text) (status : ℕ) → 5 ≤ status → source.gives i seen j → sink.takes o [] o → Ran source sink allows i j o o status
+  ran_unwritten i j o seen status high gave took = record {
+    read = seen;
+    written = [];
+    gave = gave;
+    took = took;
+    leaves = record { begun = λ input _. inl refl; whole = λ low. absurd (omega arith) };
+  }
+
+-- what a reader over memory gave is the beginning of its bytes, and all of them where its end was met
+pub input_known : (ended was : Bool) (bytes start read left : Text) → start ≡ bytes → was ≡ false
+    → (start ≡ read ++ left) × (was ≡ false → ended ≡ true → left ≡ []) → IsInput ended read bytes
+input_known true was bytes start read left same fresh g = sym same ∙ g.0 ∙ ap (λ l. read ++ l) (g.1 fresh refl) ∙ append-nil read
+input_known false was bytes start read left same fresh g = (left, sym same ∙ g.0)
+
+module _ {I O : Type 0} (source : sources.Ghosts I) (sink : sinks.Ghosts O)
+    (some all : Text → Answer → Type 0) where
+  -- a run that leaves what some allow leaves what all allow
+  pub ran_more : (i j : I) (o p : O) (status : ℕ) → ((input : Text) (a : Answer) → some input a → all input a)
+      → Ran source sink some i j o p status → Ran source sink all i j o p status
+  ran_more i j o p status more r = record {
+    read = r.read;
+    written = r.written;
+    gave = r.gave;
+    took = r.took;
+    leaves = record {
+      begun = λ input is. begins_as (some input) (all input) _ (more input) (r.leaves.begun input is);
+      whole = λ low input is. more input _ (r.leaves.whole low input is);
+    };
+  }

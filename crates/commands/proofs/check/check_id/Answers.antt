@@ -1,0 +1,16 @@
+use Rattle.commands.proofs.check.check_id.Goals as goal
+
+pub returns-in-Solo : goal.returns-in-Solo
+returns-in-Solo g c = let e = c.in-Solo.is in record { ran = rw e c.check_one.ensures.ran; left = rw e c.check_one.ensures.left }
+
+pub returns-in-Pattern : goal.returns-in-Pattern
+returns-in-Pattern g c =
+    let e = c.in-Pattern.is in record { ran = rw e c.check_one-in-Pattern.ensures.ran; left = rw e c.check_one-in-Pattern.ensures.left }
+
+pub returns-in-LightUp : goal.returns-in-LightUp
+returns-in-LightUp g c =
+    let e = c.in-LightUp.is in record { ran = rw e c.check_one-in-LightUp.ensures.ran; left = rw e c.check_one-in-LightUp.ensures.left }
+
+pub returns-in-Tents : goal.returns-in-Tents
+returns-in-Tents g c =
+    let e = c.in-Tents.is in record { ran = rw e c.check_one-in-Tents.ensures.ran; left = rw e c.check_one-in-Tents.ensures.left }

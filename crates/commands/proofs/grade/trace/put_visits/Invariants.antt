@@ -1,0 +1,15 @@
+use Rattle.std.proofs.Common.{◌≡◌, ◌++◌, ◌+◌, ◌<◌, false, string_bytes, string_len, slice_index}
+use Rattle.commands.specs.Answers.{PutUpTo}
+use Rattle.gameid_core.specs.GridTexts.{each_below}
+use Rattle.commands.specs.Traces.{line_of}
+use Rattle.commands.specs.TracePieces.{PutInPieces}
+use Rattle.commands.specs.declared.grade.trace.TheConstants.{PIECE, LINE}
+use Rattle.commands.proofs.grade.trace.put_visits.Given as goal
+
+abbrev pub invariant-loop-number : goal.invariant-loop-number
+invariant-loop-number g l = PutUpTo g.O.Sink.takes l.fn.output
+    (string_bytes l.fn.text ++ each_below (λ k. line_of (g.P.Named.name_of l.puzzle (slice_index l.visits k))) l.number-index) (string_bytes l.text) l.output
+    × (g.O.Sink.has_failed l.output ≡ false)
+    × (string_len l.fn.text < PIECE → string_len l.text < PIECE)
+    × (string_len l.fn.text < PIECE → PutInPieces g.O.Sink.takes (PIECE + LINE) l.fn.output
+    (string_bytes l.fn.text ++ each_below (λ k. line_of (g.P.Named.name_of l.puzzle (slice_index l.visits k))) l.number-index) (string_bytes l.text) l.output)

@@ -1,0 +1,5 @@
+use Rattle.commands.proofs.GameFacts.{answers}
+use Rattle.commands.proofs.laws.each_text_has_an_answer.Goals as goal
+
+pub returns : goal.returns
+returns c = answers

@@ -1,0 +1,46 @@
+use Rattle.std.proofs.Common.{◌≡◌, ℕ, true, false, Option, Some, None, sym, true≢false}
+use Rattle.std.specs.Str.Lines.{lines}
+use Rattle.gameid_core.specs.declared.id.game.Game.{Game}
+use Rattle.gameid_core.specs.declared.id.game.Game.TheVariants.{Solo, Pattern, LightUp, Tents}
+use Rattle.commands.specs.Answers.{Text}
+use Rattle.commands.specs.Allowed.{AllowsCheck, AllowsGrade, Allows, AllowsSolve}
+use Rattle.commands.specs.Games.{played}
+use Rattle.commands.specs.LawsOfCommands.{HasOneAnswer, is_fixed}
+use Rattle.commands.specs.Replies.{refused_words}
+use Rattle.commands.specs.Asked.{Asked, solve, check, grade, generate}
+use Rattle.commands.proofs.CheckedPuzzles.{check_same, check_some}
+use Rattle.commands.proofs.GameFacts.{facts, solving, listed_right}
+use Rattle.commands.proofs.MadeAlike.{lights_differ, solo_differs}
+use Rattle.commands.proofs.MadeOnce.{AreFilled, made_pattern, made_tents}
+use Rattle.commands.proofs.Readings.{each_once, grade_once, id_once, one_of_same, told_once}
+use Rattle.commands.proofs.laws.one_answer.Goals as goal
+
+checking : (game : Game) (id input : Text) → HasOneAnswer (AllowsCheck game id input)
+checking game id input =
+    id_once (facts game).reading id _ (λ p s.
+    let checked = (facts game).checked id p s in
+    one_of_same _ (check_some (played game) p checked input) (check_same (played game) p checked input))
+
+grading : (game : Game) (id : Text) (budget : ℕ) → HasOneAnswer (AllowsGrade game id budget false)
+grading game id budget =
+    let of = (played game).game in
+    id_once (facts game).reading id _ (λ p s. grade_once (of.solves p) _ _
+    (listed_right (of.solves p) (of.sets p) (of.rules p) budget ((facts game).listed id p s) ((facts game).searched id p s)))
+
+pub returns : goal.returns
+returns c = record { fixed = by; solo = solo_differs; lights = lights_differ }
+  where
+    filled : AreFilled
+    filled = record { trees = c.fillings_of_tents_are_solutions.ensures.trees; solved = c.fillings_of_tents_are_solutions.ensures.solved }
+
+    by : (asked : Option Asked) (input : Text) → is_fixed asked ≡ true → HasOneAnswer (Allows asked input)
+    by None input fixed = told_once refused_words
+    by (Some (solve game (Some id) budget)) input fixed = solving game budget id
+    by (Some (solve game None budget)) input fixed = each_once (AllowsSolve game budget) (solving game budget) (lines input)
+    by (Some (check game id)) input fixed = checking game id input
+    by (Some (grade game id budget false)) input fixed = grading game id budget
+    by (Some (grade game id budget true)) input fixed = absurd (true≢false (sym fixed))
+    by (Some (generate Pattern size seed budget tries black)) input fixed = made_pattern size seed budget tries black
+    by (Some (generate Solo size seed budget tries black)) input fixed = absurd (true≢false (sym fixed))
+    by (Some (generate LightUp size seed budget tries black)) input fixed = absurd (true≢false (sym fixed))
+    by (Some (generate Tents size seed budget tries black)) input fixed = made_tents filled size seed budget tries black

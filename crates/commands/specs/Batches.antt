@@ -1,0 +1,99 @@
+-- What is kept of a line that is being read, and a batch, between two bytes of its input. No
+-- contract of a run uses these words.
+use Rattle.std.specs.Borrow.{Bor}
+use Rattle.std.specs.Prelude.{◌≡◌, ◌==◌, ◌<◌, ℕ, List, Option, MatchOption, [], ◌∷◌, length, take, drop, if◌then◌else◌, ◌++◌, false}
+use Rattle.std.specs.List.{All}
+use Rattle.std.specs.Str.Lines.{lines}
+use Rattle.gameid_core.specs.Head.{max_id}
+use Rattle.commands.specs.declared.batch.lines.Tail.{Tail}
+use Rattle.commands.specs.declared.batch.lines.Tail.TheVariants.{Nothing, Return, More}
+use Rattle.commands.specs.declared.batch.lines.Line.{Line}
+use Rattle.commands.specs.Answers.{Answer, Text, code_of}
+use Rattle.commands.specs.Each.{AllowsEach, Answered, Begun, HasAnswers, Stopped, both}
+use Rattle.commands.specs.Texts.{Given}
+use Rattle.commands.specs.Allowed.{AllowsSolve}
+use Rattle.commands.specs.declared.answers.status.Status.{Status}
+use Rattle.commands.specs.declared.batch.Batch.{Batch}
+use Rattle.commands.specs.declared.solve.Task.{Task}
+
+-- what the bytes after those that are kept come to
+abbrev pub tail_of : List ℕ → Tail
+tail_of [] = Nothing
+tail_of (x ∷ []) = if x == 13 then Return else More
+tail_of (x ∷ y ∷ rest) = More
+
+-- the same with one more byte
+abbrev pub next_tail : Tail → ℕ → Tail
+next_tail Nothing byte = if byte == 13 then Return else More
+next_tail _ byte = More
+
+-- the state stands for these bytes, all that came since the last line, of which no more than so
+-- many are kept
+pub record HoldsUpTo (most : ℕ) (line : Line) (piece : List ℕ) : Type 0 where
+  pub kept : line.kept.items ≡ take most piece
+  pub tail : line.tail ≡ tail_of (drop most piece)
+
+-- no more than the bytes of an ID are kept
+abbrev pub Holds : Line → List ℕ → Type 0
+Holds line piece = HoldsUpTo max_id line piece
+
+-- the line is there with these bytes, or they are too many for an ID
+abbrev pub IsLine : Option (Bor (List ℕ)) → List ℕ → Type 0
+IsLine line bytes = MatchOption line (max_id < length bytes) (λ l. l.now ≡ bytes)
+
+-- what is allowed to a line of the task
+abbrev pub AllowsTask : Task → Text → Answer → Type 0
+AllowsTask task = AllowsSolve task.game task.budget
+
+-- what is allowed to all lines of an input
+abbrev pub AllowsLines : Task → Text → Answer → Type 0
+AllowsLines task input = AllowsEach (AllowsTask task) (lines input)
+
+-- After these bytes of the input, the answers to all lines that ended are written, and what came
+-- since is held: whatever follows, the rest of the answer is that to what is held and what follows.
+pub record Batched {S : Type 0} (takes : S → Text → S → Type 0) (allows : Text → Answer → Type 0)
+    (start : S) (batch : Batch) (seen : Text) (now : S) : Type 0 where
+  pub piece : Text
+  pub written : Text
+  pub holds : Holds batch.line piece
+  pub in_line : All (λ b. (b == 10) ≡ false) piece
+  pub took : takes start written now
+  pub goes_on : (rest : Text) (z : Answer) → AllowsEach allows (lines (piece ++ rest)) z
+      → AllowsEach allows (lines (seen ++ rest))
+      (both (record { text = written; status = code_of batch.status }) z)
+
+module _ {S : Type 0} (takes : S → Text → S → Type 0) (task : Task) where
+  -- Whatever came before, with more bytes the batch is the next one.
+  abbrev pub GoesOn : Batch → Batch → Text → S → S → Type 0
+  GoesOn batch next more now new = (start : S) (seen : Text)
+      → Batched takes (AllowsTask task) start batch seen now
+      → Batched takes (AllowsTask task) start next (seen ++ more) new
+
+  -- Whatever came before, with more bytes what was written begins an answer.
+  abbrev pub StopsIn : Batch → Text → S → S → Type 0
+  StopsIn batch more now new = HasAnswers (AllowsTask task) → (start : S) (seen : Text)
+      → Batched takes (AllowsTask task) start batch seen now
+      → Stopped takes (AllowsTask task) start (seen ++ more) new
+
+  -- Whatever came before, what was written is an answer to it; or begins one.
+  abbrev pub EndsWith : Batch → Status → S → S → Type 0
+  EndsWith batch status now new = (start : S) (seen : Text)
+      → Batched takes (AllowsTask task) start batch seen now
+      → Answered takes (AllowsTask task) start (code_of status) seen new
+
+  abbrev pub EndsIn : Batch → S → S → Type 0
+  EndsIn batch now new = HasAnswers (AllowsTask task) → (start : S) (seen : Text)
+      → Batched takes (AllowsTask task) start batch seen now
+      → Begun takes (AllowsTask task) start seen new
+
+-- The bytes that the source gave between two moments were taken, of a task; or so far as what was
+-- written says, where its lines have answers.
+module _ {I S : Type 0} (gives : I → Text → I → Type 0) (takes : S → Text → S → Type 0)
+    (task : Task) where
+  abbrev pub TakesTask : I → S → Batch → I → S → Type 0
+  TakesTask from start batch to now =
+      Given gives from to (λ seen. Batched takes (AllowsTask task) start batch seen now)
+
+  abbrev pub StopsReading : I → S → I → S → Type 0
+  StopsReading from start to now = HasAnswers (AllowsTask task)
+      → Given gives from to (λ seen. Stopped takes (AllowsTask task) start seen now)

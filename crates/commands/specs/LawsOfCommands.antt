@@ -1,0 +1,265 @@
+-- What ties the commands to one another: what they say of one ID and of what one of them hands out,
+-- and how many answers a request allows.
+use Rattle.std.specs.Prelude.{◌≡◌, ◌↔◌, ◌⊎◌, ℕ, Bool, Some, ◌≢◌, None, ◌<◌, ◌≤◌, ◌++◌, [], true, false, codes, decimal, List, Contains, Option}
+use Rattle.gameid_core.specs.declared.id.game.Game.TheVariants as game
+use Rattle.gameid_core.specs.LightText.{SpellsLight}
+use Rattle.gameid_core.specs.SoloText.{SpellsSolo}
+use Rattle.maker_core.specs.LightClues.{SameLight, light_game}
+use Rattle.maker_core.specs.LightMaking.{IsLightMade}
+use Rattle.maker_core.specs.SoloClues.{solo_game}
+use Rattle.maker_core.specs.declared.made.Why.TheVariants.{Needed}
+use Rattle.commands.specs.Common.{Stream, Extent, Game, IsPrinted, Light, Solo, IsSoloMade, Kept, grid_text, solo_cell, solo_extent}
+use Rattle.commands.specs.Answers.{Answer, Text, Begins, code_of}
+use Rattle.commands.specs.Games.{played, puzzle_of}
+use Rattle.commands.specs.LightPlayed.{light_played}
+use Rattle.commands.specs.Playing.{Playing}
+use Rattle.commands.specs.SoloPlayed.{solo_played}
+use Rattle.commands.specs.Allowed.{Allows, AllowsCheck, AllowsSolve, AllowsGrade, is_read, AllowsMade}
+use Rattle.commands.specs.Asked.{Asked, solve, check, grade, generate}
+use Rattle.commands.specs.CheckAnswers.{checked, without_returns}
+use Rattle.commands.specs.Replies.{gave_up_answer, one_answer, several_answer}
+use Rattle.commands.specs.Grades.{rule_set_text}
+use Rattle.commands.specs.declared.answers.status.Status.TheVariants.{Fine, Wrong, Several, GaveUp}
+use Rattle.commands.specs.declared.grade.RuleSet.{RuleSet}
+use Rattle.commands.specs.declared.grade.RuleSet.TheVariants.{Singles, Houses, Crossings, Lines, Local}
+use Rattle.commands.specs.Makings.{made_answer}
+
+-- the first text spells a puzzle, and the second is the ID that is written for it
+pub record IsRewritten {P : Type 0} (spells : Text → P → Type 0) (written : P → Text)
+    (id other : Text) : Type 0 where
+  pub puzzle : P
+  pub spelled : spells id puzzle
+  pub is_written : other ≡ written puzzle
+
+abbrev pub Rewrites : Game → Text → Text → Type 0
+Rewrites game = IsRewritten (played game).game.spells (played game).game.written
+
+-- the two texts spell the same puzzles of the game
+abbrev pub SpellTheSame : Game → Text → Text → Type 0
+SpellTheSame game id other = (p : puzzle_of game)
+    → (played game).game.spells id p ↔ (played game).game.spells other p
+
+-- the two requests allow the same answers, whatever the input
+abbrev pub AllowTheSame : Asked → Asked → Type 0
+AllowTheSame first second = (input : Text) (answer : Answer) → Allows (Some first) input answer
+    ↔ Allows (Some second) input answer
+
+-- an ID that is rewritten spells what it did, and each command that names it answers as before
+abbrev pub RewritingKeepsPuzzles : Type 0
+RewritingKeepsPuzzles = (game : Game) (id other : Text) → Rewrites game id other
+    → SpellTheSame game id other
+
+abbrev pub RewritingKeepsSolving : Type 0
+RewritingKeepsSolving = (game : Game) (id other : Text) → Rewrites game id other
+    → (budget : ℕ) → AllowTheSame (solve game (Some id) budget) (solve game (Some other) budget)
+
+abbrev pub RewritingKeepsChecking : Type 0
+RewritingKeepsChecking = (game : Game) (id other : Text) → Rewrites game id other
+    → AllowTheSame (check game id) (check game other)
+
+abbrev pub RewritingKeepsGrading : Type 0
+RewritingKeepsGrading = (game : Game) (id other : Text) → Rewrites game id other
+    → (budget : ℕ) (traced : Bool) → AllowTheSame (grade game id budget traced)
+    (grade game other budget traced)
+
+-- of this input `correct` is allowed, and nothing else
+abbrev pub Passes : (Text → Answer → Type 0) → Text → Type 0
+Passes checks input = (said : Answer) → checks input said ↔ (said ≡ checked None)
+
+-- The one grid that is told passes. So do both of two, which are printed differently, and so does a
+-- grid that was found before the search gave up.
+pub record ArePassed (checks : Text → Answer → Type 0) (solved : Answer) : Type 0 where
+  pub one : solved.status ≡ code_of Fine
+      → (grid : Text) × (solved ≡ one_answer grid) × Passes checks grid
+  pub several : solved.status ≡ code_of Several
+      → (first : Text) × (second : Text) × (solved ≡ several_answer first second)
+      × (first ≢ second) × Passes checks first × Passes checks second
+  pub gave_up : solved.status ≡ code_of GaveUp → (solved ≡ gave_up_answer [])
+      ⊎ ((grid : Text) × (solved ≡ gave_up_answer grid) × Passes checks grid)
+
+abbrev pub SolvedGridsPass : Type 0
+SolvedGridsPass = (game : Game) (id : Text) (budget : ℕ) (solved : Answer)
+    → AllowsSolve game budget id solved
+    → ArePassed (AllowsCheck game id) solved
+
+-- where an input is correct, the ID is never told to have no solution, whatever the budget
+abbrev pub CorrectGridsAreSolutions : Type 0
+CorrectGridsAreSolutions = (game : Game) (id input : Text) (budget : ℕ) (given solved : Answer)
+    → AllowsCheck game id input given → given.status ≡ code_of Fine
+    → AllowsSolve game budget id solved → solved.status ≢ code_of Wrong
+
+-- where the ID is told to have one, the input is that grid's printed form, but for its line ends
+abbrev pub CorrectGridsAreTheOneTold : Type 0
+CorrectGridsAreTheOneTold = (game : Game) (id input grid : Text) (budget : ℕ)
+    (given solved : Answer)
+    → AllowsCheck game id input given → given.status ≡ code_of Fine
+    → AllowsSolve game budget id solved → solved ≡ one_answer grid
+    → IsPrinted (without_returns input) grid
+
+-- Statuses with the same budget: each of a grade but `Fine` is that of the verdict, and each of a
+-- verdict but `GaveUp` is the grade's. So `none` and `several` of the one exclude every other
+-- verdict of the other.
+pub record GoesAlong (graded solved : ℕ) : Type 0 where
+  pub by_grade : graded ≢ code_of Fine → graded ≡ solved
+  pub by_verdict : solved ≢ code_of GaveUp → graded ≡ solved
+
+abbrev pub GradesGoWithVerdicts : Type 0
+GradesGoWithVerdicts = (game : Game) (id : Text) (budget : ℕ) (traced : Bool)
+    (solved graded : Answer)
+    → AllowsSolve game budget id solved → AllowsGrade game id budget traced graded
+    → GoesAlong graded.status solved.status
+
+-- with enough budget the one answer to the ID is that this grid is the solution
+pub record IsOneWithEnough (game : Game) (id : Text) : Type 0 where
+  pub enough : ℕ
+  pub grid : Text
+  pub told : (budget : ℕ) → enough ≤ budget → (said : Answer) → AllowsSolve game budget id said
+      ↔ (said ≡ one_answer grid)
+
+-- a grade that names a rule set or a search is that of such an ID
+abbrev pub GradedPuzzlesHaveOne : Type 0
+GradedPuzzlesHaveOne = (game : Game) (id : Text) (budget : ℕ) (traced : Bool) (graded : Answer)
+    → AllowsGrade game id budget traced graded → graded.status ≡ code_of Fine
+    → IsOneWithEnough game id
+
+-- what the rule set strikes, the rules of its game's search strike too
+abbrev pub is_within_search : RuleSet → Bool
+is_within_search Singles = true
+is_within_search Houses = true
+is_within_search Crossings = false
+is_within_search Lines = true
+is_within_search Local = true
+
+-- the first line of the answer names such a rule set
+abbrev pub NamesRules : Answer → Type 0
+NamesRules answer = (set : RuleSet) × (is_within_search set ≡ true)
+    × Begins (rule_set_text set ++ codes "\n") answer.text
+
+-- it does exactly where a search without a trial tells the one solution
+abbrev pub RuleSetsNeedNoTrial : Type 0
+RuleSetsNeedNoTrial = (game : Game) (id : Text) (budget : ℕ) (traced : Bool)
+    (solved graded : Answer)
+    → AllowsSolve game 0 id solved → AllowsGrade game id budget traced graded → NamesRules graded
+    ↔ (solved.status ≡ code_of Fine)
+
+-- so many trials are the least budget with which the one answer to the ID tells one solution
+pub record IsLeastBudget (game : Game) (id : Text) (trials : ℕ) : Type 0 where
+  pub enough : (said : Answer) → AllowsSolve game trials id said → said.status ≡ code_of Fine
+  pub least : (budget : ℕ) → budget < trials → (said : Answer) → AllowsSolve game budget id said
+      → said.status ≢ code_of Fine
+
+-- the first line of the answer names a search of so many trials, or any rule set
+abbrev pub NamesSearch : ℕ → Answer → Type 0
+NamesSearch trials answer = Begins (codes "search " ++ decimal trials ++ codes "\n") answer.text
+
+abbrev pub NamesSet : Answer → Type 0
+NamesSet answer = (set : RuleSet) × Begins (rule_set_text set ++ codes "\n") answer.text
+
+-- An answer that begins with `search` names the least budget, which is within that of the grade.
+-- Where there is such a least budget, the answer names it, or a rule set.
+pub record NamesLeastBudget (game : Game) (id : Text) (budget : ℕ) (graded : Answer)
+    : Type 0 where
+  pub told : Begins (codes "search ") graded.text
+      → (trials : ℕ) × NamesSearch trials graded × IsLeastBudget game id trials × (trials ≤ budget)
+  pub only : (trials : ℕ) → IsLeastBudget game id trials → trials ≤ budget
+      → NamesSet graded ⊎ NamesSearch trials graded
+
+abbrev pub SearchesNameLeastBudgets : Type 0
+SearchesNameLeastBudgets = (game : Game) (id : Text) (budget : ℕ) (traced : Bool) (graded : Answer)
+    → AllowsGrade game id budget traced graded → NamesLeastBudget game id budget graded
+
+-- An ID is handed out with a grid. The ID is read, with that budget the one answer to it is that
+-- this grid is the solution, and the grid passes.
+pub record IsSolvedAsMade (game : Game) (budget : ℕ) (answer : Answer) : Type 0 where
+  pub id : Text
+  pub grid : Text
+  pub told : answer ≡ made_answer id grid
+  pub read : is_read game id ≡ true
+  pub solved : (said : Answer) → AllowsSolve game budget id said ↔ (said ≡ one_answer grid)
+  pub passes : Passes (AllowsCheck game id) grid
+
+abbrev pub MadePuzzlesAreSolved : Type 0
+MadePuzzlesAreSolved = (game : Game) (size : Text) (seed budget tries black : ℕ) (answer : Answer)
+    → AllowsMade game size seed budget tries black answer → answer.status ≡ code_of Fine
+    → IsSolvedAsMade game budget answer
+
+-- the clue of that cell was left since it is needed
+abbrev pub IsNeeded : List Kept → ℕ → Type 0
+IsNeeded kept place = Contains kept (record { place = place; why = Needed })
+
+-- an ID of a made puzzle without a clue that is needed has never one solution, whatever the budget
+abbrev pub SoloNeedsItsClues : Type 0
+SoloNeedsItsClues = (c r : ℕ) (x : Bool) (budget tries : ℕ) (s : Stream) (p : Solo) (g : List ℕ)
+    (kept : List Kept) (place : ℕ)
+    → IsSoloMade c r x budget tries s p g kept → IsNeeded kept place
+    → (id : Text) (any : ℕ) (said : Answer) → SpellsSolo id (solo_game.without p place)
+    → AllowsSolve game.Solo any id said → said.status ≢ code_of Fine
+
+abbrev pub LightsNeedTheirClues : Type 0
+LightsNeedTheirClues = (size : Extent) (black budget tries : ℕ) (s : Stream) (p : Light)
+    (g : List ℕ) (kept : List Kept) (place : ℕ)
+    → IsLightMade size black budget tries s p g kept → IsNeeded kept place
+    → (id : Text) (any : ℕ) (said : Answer) → SpellsLight id (light_game.without p place)
+    → AllowsSolve game.LightUp any id said → said.status ≢ code_of Fine
+
+-- one answer is allowed, and no other
+pub record HasOneAnswer (allows : Answer → Type 0) : Type 0 where
+  pub answer : Answer
+  pub allowed : allows answer
+  pub only : (other : Answer) → allows other → answer ≡ other
+
+-- The request has an answer that its words and the input fix. A trace is open, and so is which
+-- clues of a made puzzle of Solo or Light Up are left.
+abbrev pub is_fixed : Option Asked → Bool
+is_fixed (Some (grade game id budget true)) = false
+is_fixed (Some (generate game.Solo size seed budget tries black)) = false
+is_fixed (Some (generate game.LightUp size seed budget tries black)) = false
+is_fixed _ = true
+
+-- a solve, a check, a grade without a trace, a making of Pattern or Tents, and words that are
+-- refused, on any input
+abbrev pub FixedRequestsHaveOneAnswer : Type 0
+FixedRequestsHaveOneAnswer = (asked : Option Asked) (input : Text) → is_fixed asked ≡ true
+    → HasOneAnswer (Allows asked input)
+
+-- what a puzzle is told as that is handed out with a solution
+abbrev pub handed_out : {P : Type 0} → Playing P → P → List ℕ → Answer
+handed_out play p g =
+    made_answer (play.game.written p) (grid_text (play.cell_text p g) (play.extent p))
+
+-- two answers hand out puzzles that are alike, with one solution
+pub record HandOutAlike {P : Type 0} (play : Playing P) (alike : P → P → Type 0)
+    (one other : Answer) : Type 0 where
+  pub first : P
+  pub second : P
+  pub solution : List ℕ
+  pub same : alike first second
+  pub first_told : one ≡ handed_out play first solution
+  pub second_told : other ≡ handed_out play second solution
+
+-- The two answers have the same status. Where they hand out puzzles, these are alike, with one
+-- solution; where not, the answers are the same.
+pub record DifferInClues {P : Type 0} (play : Playing P) (alike : P → P → Type 0)
+    (one other : Answer) : Type 0 where
+  pub status : one.status ≡ other.status
+  pub others : one.status ≢ code_of Fine → one ≡ other
+  pub made : one.status ≡ code_of Fine → HandOutAlike play alike one other
+
+-- each grid is printed the same for both
+abbrev pub PrintAlike : Solo → Solo → Type 0
+PrintAlike p q = (g : List ℕ)
+    → grid_text (solo_cell p g) (solo_extent p) ≡ grid_text (solo_cell q g) (solo_extent q)
+
+-- two answers to one making of Solo have the same printed grid
+abbrev pub SoloDiffersInGivens : Type 0
+SoloDiffersInGivens = (size : Text) (seed budget tries black : ℕ) (one other : Answer)
+    → AllowsMade game.Solo size seed budget tries black one
+    → AllowsMade game.Solo size seed budget tries black other
+    → DifferInClues solo_played PrintAlike one other
+
+-- two answers to one making of Light Up have the same size, black cells and bulbs
+abbrev pub LightsDifferInNumbers : Type 0
+LightsDifferInNumbers = (size : Text) (seed budget tries black : ℕ) (one other : Answer)
+    → AllowsMade game.LightUp size seed budget tries black one
+    → AllowsMade game.LightUp size seed budget tries black other
+    → DifferInClues light_played SameLight one other

@@ -1,0 +1,73 @@
+-- What is said of a refusal, and the answers of `solve`, given how their grids are printed.
+use Rattle.std.specs.Prelude.{ℕ, ◌≡◌, ◌++◌, [], Result, Err, codes, decimal, List, string_bytes, Some, None}
+use Rattle.gameid_core.specs.declared.id.fault.IdFault.TheVariants.{TooLong, SeedId, NoColon, BadSize, Variant, SizeRange, BadByte, NumberRange, LineTooFull, TooFew, TooMany, Memory}
+use Rattle.gameid_core.specs.declared.grids.printed.Printed as printed
+use Rattle.engine_core.specs.Verdict.{Outcome.NoGrid, Outcome.OneGrid, Outcome.TwoGrids, Outcome.OutOfBudget}
+use Rattle.commands.specs.Common.{IdFault, grid_text, Puzzle, Outcome, verdict_of}
+use Rattle.commands.specs.declared.answers.status.Status.TheVariants.{Fine, Wrong, Refused, Several, GaveUp}
+use Rattle.commands.specs.Answers.{Answer, Text, answer_with, code_of}
+use Rattle.commands.specs.declared.answers.reply.Reply.{Reply}
+
+abbrev pub refused : Text → Answer
+refused cause = answer_with (codes "refused: " ++ cause ++ codes "\n") (code_of Refused)
+
+abbrev pub refused_words : Answer
+refused_words = refused (codes "words")
+
+-- Want of memory is no fault of a text, and nothing is said of it.
+abbrev pub fault_text : IdFault → Text
+fault_text TooLong = codes "too long"
+fault_text SeedId = codes "seed id"
+fault_text NoColon = codes "no colon"
+fault_text BadSize = codes "bad size"
+fault_text Variant = codes "variant"
+fault_text SizeRange = codes "size range"
+fault_text (BadByte place) = codes "bad byte at " ++ decimal place
+fault_text (NumberRange place) = codes "number range at " ++ decimal place
+fault_text (LineTooFull line) = codes "line " ++ decimal line ++ codes " too full"
+fault_text TooFew = codes "too few"
+fault_text TooMany = codes "too many"
+fault_text Memory = []
+
+-- the ID has that first fault, and it is told
+pub record IsRefused {P : Type 0} (reading : Result P IdFault) (answer : Answer) : Type 0 where
+  pub fault : IdFault
+  pub first : reading ≡ Err fault
+  pub told : answer ≡ refused (fault_text fault)
+
+abbrev pub answer_in : Reply → Answer
+answer_in r = answer_with (string_bytes r.text) (code_of r.status)
+
+abbrev pub none_answer : Answer
+none_answer = answer_with (codes "none\n") (code_of Wrong)
+
+abbrev pub one_answer : Text → Answer
+one_answer grid = answer_with (codes "one\n" ++ grid) (code_of Fine)
+
+abbrev pub several_answer : Text → Text → Answer
+several_answer first second =
+    answer_with (codes "several\n" ++ first ++ codes "\n" ++ second) (code_of Several)
+
+-- with nothing where no grid was found
+abbrev pub gave_up_answer : Text → Answer
+gave_up_answer grid = answer_with (codes "gave up\n" ++ grid) (code_of GaveUp)
+
+-- how a grid of a puzzle is printed, and the answer with two of them
+abbrev pub grid_of : {P : Type 0} → printed.Ghosts P → P → List ℕ → Text
+grid_of printing p g = grid_text (printing.cell_text p g) (printing.extent p)
+
+abbrev pub two_grids : {P : Type 0} → printed.Ghosts P → P → List ℕ → List ℕ → Answer
+two_grids printing p g h = several_answer (grid_of printing p g) (grid_of printing p h)
+
+-- the verdict with its grids, printed so
+abbrev pub verdict_answer : (List ℕ → Text) → Outcome → Answer
+verdict_answer printed NoGrid = none_answer
+verdict_answer printed (OneGrid g) = one_answer (printed g)
+verdict_answer printed (TwoGrids g h) = several_answer (printed g) (printed h)
+verdict_answer printed (OutOfBudget None) = gave_up_answer []
+verdict_answer printed (OutOfBudget (Some g)) = gave_up_answer (printed g)
+
+-- the same by the walk of the rules with the budget
+abbrev pub verdict_told : {P : Type 0} → printed.Ghosts P → P → Puzzle → ℕ → Answer
+verdict_told printing p rules budget =
+    verdict_answer (grid_of printing p) (verdict_of rules budget)

@@ -1,0 +1,57 @@
+-- Solo, as the commands know it.
+use Rattle.std.specs.Prelude.{◌++◌, ◌∷◌, ℕ, List, codes, decimal, slice_index_or}
+use Rattle.gameid_core.specs.SoloText.{SpellsSolo, solo_of, solo_text}
+use Rattle.gameid_core.specs.declared.id.game.Game.TheVariants as game
+use Rattle.solo_core.specs.declared.fault.SoloFault.{SoloFault}
+use Rattle.solo_core.specs.declared.fault.SoloFault.TheVariants as solo
+use Rattle.solo_core.specs.declared.houses.house.SoloHouse.TheVariants.{Row}
+use Rattle.solo_core.specs.declared.houses.scope.SoloScope.TheVariants.{House}
+use Rattle.commands.specs.Common.{IsFirstFault, IsSoloMade, IsSoloSolution, Solo, crossings_rules, hides_nothing, houses_rules}
+use Rattle.commands.specs.Common.{scopes_of, singles_rules, size_of, solo_cell, solo_extent, solo_n}
+use Rattle.commands.specs.Answers.{Text}
+use Rattle.commands.specs.CheckAnswers.{IsFaultTold, place_text}
+use Rattle.commands.specs.Grades.{Settling, only_set}
+use Rattle.commands.specs.Makings.{IsUnfilled}
+use Rattle.commands.specs.Playing.{Playing}
+use Rattle.commands.specs.Traces.{TellsVisits, scope_text}
+use Rattle.commands.specs.declared.grade.RuleSet.TheVariants.{Crossings, Houses, Singles}
+
+abbrev pub solo_fault : Solo → SoloFault → Text
+solo_fault p (solo.Given place) = codes "given " ++ place_text (solo_n p) place
+solo_fault p (solo.Row y) = codes "row " ++ decimal y
+solo_fault p (solo.Column x) = codes "column " ++ decimal x
+solo_fault p (solo.Block b) = codes "block " ++ decimal b
+solo_fault p (solo.Diagonal d) = codes "diagonal " ++ decimal d
+
+-- the rule sets that are tried, in order
+abbrev pub after_singles : Solo → List Settling
+after_singles p =
+    record { set = Houses; rules = houses_rules p } ∷ only_set Crossings (crossings_rules p)
+
+abbrev pub solo_sets : Solo → List Settling
+solo_sets p = record { set = Singles; rules = singles_rules p } ∷ after_singles p
+
+-- what a rule set of Solo visits under the number
+abbrev pub solo_name : Solo → ℕ → Text
+solo_name p h = scope_text (slice_index_or (scopes_of p) h (House (Row 0)))
+
+abbrev pub solo_played : Playing Solo
+solo_played = record {
+  extent = solo_extent;
+  value_count = solo_n;
+  cell_text = solo_cell;
+  hides = λ p. hides_nothing;
+  game = record {
+    reading = solo_of;
+    spells = SpellsSolo;
+    written = solo_text;
+    solves = IsSoloSolution;
+    rules = houses_rules;
+    told = λ p g. IsFaultTold (IsFirstFault p g) (solo_fault p);
+    sets = solo_sets;
+    tells = λ p. TellsVisits (solo_name p);
+    sizes = size_of game.Solo;
+    makes = λ size w. IsSoloMade size.w size.h size.x w.budget w.tries w.stream;
+    gives_up = λ size w. IsUnfilled size w.budget w.tries w.stream;
+  };
+}

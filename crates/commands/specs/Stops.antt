@@ -1,0 +1,74 @@
+-- How the steps of a run end, and what they have written then. No contract of a run uses these
+-- words.
+use Rattle.std.specs.Prelude.{◌≡◌, ◌<◌, ◌≤◌, ℕ, Bool, true, false, Result, Ok, Err}
+use Rattle.commands.specs.Answers.{Answer, BeginsAnswer, Text, code_of, status_of}
+use Rattle.commands.specs.Runs.{IsBroken, Ran}
+use Rattle.commands.specs.declared.answers.status.Status.{Status}
+use Rattle.commands.specs.declared.answers.status.Stop.{Stop}
+use Rattle.commands.specs.declared.answers.status.Stop.TheVariants.{Memory, Broken}
+use Rattle.commands.specs.declared.ends.Sink as sinks
+use Rattle.commands.specs.declared.ends.Source as sources
+
+-- the cause is a failing end, and not want of memory
+abbrev pub is_broken : Stop → Bool
+is_broken Memory = false
+is_broken Broken = true
+
+-- How a step that stopped leaves the ends: for a failing end one is broken, and for want of memory
+-- none has failed.
+pub record StopsWith {I : Type 0} (source : sources.Ghosts I) (stop : Stop) (input : I)
+    (output_failed : Bool) : Type 0 where
+  pub memory : is_broken stop ≡ false
+      → (source.has_failed input ≡ false) × (output_failed ≡ false)
+  pub cause : is_broken stop ≡ true → IsBroken source input output_failed
+
+-- the status that was found, or that of the stop
+abbrev pub status_in : Result Status Stop → ℕ
+status_in (Ok status) = code_of status
+status_in (Err stop) = status_of stop
+
+-- What was written, and the status: a beginning of an allowed answer, or nothing, and with the
+-- status of an answer an allowed answer whole.
+pub record Tells {S : Type 0} (takes : S → Text → S → Type 0) (allows : Answer → Type 0)
+    (old new : S) (status : ℕ) : Type 0 where
+  pub written : Text
+  pub took : takes old written new
+  pub begun : BeginsAnswer allows written
+  pub whole : status < status_of Memory → allows (record { text = written; status = status })
+
+-- How the sink stands after that status: with that of a failing end it failed, and with any other
+-- not; with that of an answer it sent all on.
+pub record IsSinkAfter (status : ℕ) (failed flushed : Bool) : Type 0 where
+  pub within : status ≤ status_of Broken
+  pub sound : status ≤ status_of Memory → failed ≡ false
+  pub sent : status < status_of Memory → flushed ≡ true
+  pub broken : status ≡ status_of Broken → failed ≡ true
+
+-- the same of a step with that result
+abbrev pub Told : {S : Type 0} → (S → Text → S → Type 0) → (Answer → Type 0) → S → S
+    → Result Status Stop → Type 0
+Told takes allows old new result = Tells takes allows old new (status_in result)
+
+abbrev pub LeavesSink : {S : Type 0} → sinks.Ghosts S → S → Result Status Stop → Type 0
+LeavesSink sink new result =
+    IsSinkAfter (status_in result) (sink.has_failed new) (sink.is_flushed new)
+
+-- what a step with that result did to the ends of a run
+abbrev pub Runs : {I O : Type 0} → sources.Ghosts I → sinks.Ghosts O → (Text → Answer → Type 0)
+    → I → I → O → O → Result Status Stop → Type 0
+Runs source sink allows i j o p result = Ran source sink allows i j o p (status_in result)
+
+-- How a step that reads its input, or not, leaves the ends with a result. With the status of a
+-- failing end one is broken, and else neither failed. With that of an answer the output was sent on
+-- whole, and the input read to its end, or not at all.
+pub record LeavesEnds {I O : Type 0} (source : sources.Ghosts I) (sink : sinks.Ghosts O)
+    (reads : Bool) (input : I) (output : O) (result : Result Status Stop) : Type 0 where
+  pub within : status_in result ≤ status_of Broken
+  pub sound : status_in result ≤ status_of Memory
+      → (source.has_failed input ≡ false) × (sink.has_failed output ≡ false)
+  pub sent : status_in result < status_of Memory → sink.is_flushed output ≡ true
+  pub broken : status_in result ≡ status_of Broken
+      → IsBroken source input (sink.has_failed output)
+  pub unread : reads ≡ false → source.call_count input ≡ 0
+  pub ended : reads ≡ true → status_in result < status_of Memory
+      → source.has_ended input ≡ true

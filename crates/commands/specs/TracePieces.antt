@@ -1,0 +1,61 @@
+-- How a trace is put in pieces. No contract of a run uses these words: they serve the steps that
+-- put it.
+use Rattle.std.specs.Prelude.{◌≡◌, ◌<◌, ◌+◌, ◌⊎◌, ◌++◌, ◌∷◌, ℕ, Bool, List, String, [], length, string_bytes, string_len}
+use Rattle.commands.specs.Answers.{Text, PutUpTo, PutBegun}
+use Rattle.commands.specs.Traces.{IsTrace, visits_text}
+use Rattle.commands.specs.declared.grade.trace.TheConstants.{LINE, PIECE}
+
+-- the sink took a text and the lines of its trace, up to a rest
+pub record PutsTrace {S : Type 0} (takes : S → Text → S → Type 0) (traced : Bool)
+    (tells : Text → Type 0) (old : S) (text rest : Text) (new : S) : Type 0 where
+  pub lines : Text
+  pub trace : IsTrace traced tells lines
+  pub put : PutUpTo takes old (text ++ lines) rest new
+
+-- the sink took a beginning of a text and the lines of its trace
+pub record BeginsTrace {S : Type 0} (takes : S → Text → S → Type 0) (traced : Bool)
+    (tells : Text → Type 0) (old : S) (text : Text) (new : S) : Type 0 where
+  pub lines : Text
+  pub trace : IsTrace traced tells lines
+  pub begun : PutBegun takes old (text ++ lines) new
+
+-- The sink took nothing and the text is kept, or the sink took all of it.
+abbrev pub KeptOrPut : {S : Type 0} → (S → Text → S → Type 0) → S → Text → Text → S → Type 0
+KeptOrPut takes old text rest new = ((rest ≡ text) × (new ≡ old))
+    ⊎ ((rest ≡ []) × takes old text new)
+
+-- the text of pieces of which the last stands first
+abbrev pub joined : List Text → Text
+joined [] = []
+joined (piece ∷ before) = joined before ++ piece
+
+-- The sink took these pieces in turn, of which the last stands first, and each has fewer bytes than
+-- so many.
+abbrev pub TakesPieces : {S : Type 0} → (S → Text → S → Type 0) → ℕ → S → List Text → S → Type 0
+TakesPieces takes most old [] new = new ≡ old
+TakesPieces {S} takes most old (piece ∷ before) new = (between : S)
+    × TakesPieces takes most old before between × takes between piece new × (length piece < most)
+
+-- the sink took the text up to the rest, in pieces that each have fewer bytes than so many
+pub record PutInPieces {S : Type 0} (takes : S → Text → S → Type 0) (most : ℕ) (old : S)
+    (text rest : Text) (new : S) : Type 0 where
+  pub pieces : List Text
+  pub took : TakesPieces takes most old pieces new
+  pub split : text ≡ joined pieces ++ rest
+
+-- a text and then a line for each visit
+abbrev pub with_visits : {Z : Type 0} → String Z → (ℕ → Text) → List ℕ → Text
+with_visits text name visits = string_bytes text ++ visits_text name visits
+
+module _ {S Z : Type 0} (takes : S → Text → S → Type 0) (name : ℕ → Text) (visits : List ℕ) where
+  -- all of that was put up to a rest; in pieces, after a short text; a beginning of it was put
+  abbrev pub VisitsPut : S → String Z → String Z → S → Type 0
+  VisitsPut old text rest new =
+      PutUpTo takes old (with_visits text name visits) (string_bytes rest) new
+
+  abbrev pub VisitsInPieces : S → String Z → String Z → S → Type 0
+  VisitsInPieces old text rest new = string_len text < PIECE
+      → PutInPieces takes (PIECE + LINE) old (with_visits text name visits) (string_bytes rest) new
+
+  abbrev pub VisitsBegun : S → String Z → S → Type 0
+  VisitsBegun old text new = PutBegun takes old (with_visits text name visits) new

@@ -1,0 +1,254 @@
+//! Many IDs, one a line.
+ghost use Rattle.std.specs.Prelude.{◌≡◌, ◌∷◌, [], max, true, false, IfOk, IfErr, OnErr, OnOk};
+ghost use Rattle.commands.specs.Answers.{PutBegun, Text, code_of};
+ghost use Rattle.commands.specs.Batches.{AllowsLines, EndsIn, EndsWith, GoesOn, StopsIn, StopsReading, TakesTask, AllowsTask, Holds, IsLine};
+ghost use Rattle.commands.specs.Replies.{answer_in};
+ghost use Rattle.commands.specs.Runs.{AreNew};
+ghost use Rattle.commands.specs.Stops.{LeavesEnds, Runs, StopsWith, is_broken};
+ghost use Rattle.commands.specs.declared.answers.status.Status.TheVariants.{Fine};
+
+pub mod lines;
+
+use crate::answers::reply::{Reply, id_refused};
+use crate::answers::status::{Ended, Status, Stop};
+use crate::batch::lines::Line;
+use crate::ends::output::put_all;
+use crate::ends::{CALL_LIMIT, CHUNK, Sink, Source};
+use crate::games::Stores;
+use crate::solve::Task;
+use gameid_core::IdFault;
+use std::alloc::{AllocError, Global};
+use std::mem::replace;
+
+/// The line that is being read, the memory of the searches and of the answers' texts, and the
+/// greatest status so far.
+#[derive(Drop)]
+pub struct Batch {
+    line: Line,
+    stores: Stores,
+    text: String,
+    status: Status,
+}
+
+/// The answer to a line, or to an over-long one, in the memory of a text.
+fn line_reply(
+    alloc: Global,
+    stores: &mut Stores,
+    task: Task,
+    line: Option<&[u8]>,
+    text: String,
+) -> Result<Reply, AllocError>
+    ensures { IfOk result
+        (λ r. (id : Text) → IsLine line.entry id → AllowsTask task id (answer_in r)) }
+{
+    match line {
+        Some(id) => stores.solve_id(alloc, task, id, text),
+        None => id_refused(text, IdFault::TooLong),
+    }
+}
+
+impl Batch {
+    /// A batch that has taken nothing.
+    fn new(alloc: Global) -> Batch
+        ensures line { Holds result.line [] }
+        ensures status { result.status ≡ Fine }
+    {
+        Batch {
+            line: Line::new(alloc),
+            stores: Stores::default(),
+            text: String::new(alloc),
+            status: Status::Fine,
+        }
+    }
+
+    /// Puts the text of a reply, and keeps the greater status.
+    fn put_reply<O: Sink>(&mut self, reply: &Reply, output: &mut O) -> Result<(), Stop>
+        requires { O.has_failed output.old ≡ false }
+        ensures put { OnOk result (O.takes output.old (answer_in reply.now).text output.new) }
+        ensures fine { OnOk result (O.has_failed output.new ≡ false) }
+        ensures status { OnOk result
+            (code_of self.new.status ≡ max (code_of self.old.status) (code_of reply.now.status)) }
+        ensures begun { OnErr result
+            (PutBegun O.takes output.old (answer_in reply.now).text output.new) }
+        ensures cause { IfErr result (λ e. (O.has_failed output.new ≡ true)
+            × (is_broken e ≡ true)) }
+    {
+        match put_all(output, reply.text.as_bytes()) {
+            Ok(()) => {
+                self.status = self.status.greater(reply.status);
+                Ok(())
+            }
+            Err(_) => Err(Stop::Broken),
+        }
+    }
+
+    /// Puts the answer to a line that ended, and keeps the memory of its text for the next one.
+    fn answer_line<O: Sink>(
+        &mut self,
+        alloc: Global,
+        task: Task,
+        output: &mut O,
+    ) -> Result<(), Stop>
+        requires { O.has_failed output.old ≡ false }
+        ensures fine { OnOk result (O.has_failed output.new ≡ false) }
+        ensures goes_on { OnOk result
+            (GoesOn O.takes task self.old self.new (10 ∷ []) output.old output.new) }
+        ensures stopped { OnErr result
+            (StopsIn O.takes task self.old (10 ∷ []) output.old output.new) }
+        ensures cause { IfErr result (λ e. O.has_failed output.new ≡ is_broken e) }
+    {
+        let text = replace(&mut self.text, String::new(alloc));
+        let line = self.line.ended();
+        let reply = line_reply(alloc, &mut self.stores, task, line, text)?;
+        self.put_reply(&reply, output)?;
+        self.text = reply.text;
+        self.line.clear();
+        Ok(())
+    }
+
+    /// Takes one byte of the input.
+    fn take_byte<O: Sink>(
+        &mut self,
+        alloc: Global,
+        task: Task,
+        byte: u8,
+        output: &mut O,
+    ) -> Result<(), Stop>
+        requires { O.has_failed output.old ≡ false }
+        ensures fine { OnOk result (O.has_failed output.new ≡ false) }
+        ensures goes_on { OnOk result
+            (GoesOn O.takes task self.old self.new (byte ∷ []) output.old output.new) }
+        ensures stopped { OnErr result
+            (StopsIn O.takes task self.old (byte ∷ []) output.old output.new) }
+        ensures cause { IfErr result (λ e. O.has_failed output.new ≡ is_broken e) }
+    {
+        if byte == b'\n' {
+            return self.answer_line(alloc, task, output);
+        }
+        self.line.push(byte)?;
+        Ok(())
+    }
+
+    /// Takes a chunk of the input.
+    fn take_chunk<O: Sink>(
+        &mut self,
+        alloc: Global,
+        task: Task,
+        chunk: &[u8],
+        output: &mut O,
+    ) -> Result<(), Stop>
+        requires { O.has_failed output.old ≡ false }
+        ensures fine { OnOk result (O.has_failed output.new ≡ false) }
+        ensures goes_on { OnOk result
+            (GoesOn O.takes task self.old self.new chunk.now output.old output.new) }
+        ensures stopped { OnErr result
+            (StopsIn O.takes task self.old chunk.now output.old output.new) }
+        ensures cause { IfErr result (λ e. O.has_failed output.new ≡ is_broken e) }
+    {
+        for byte in chunk {
+            self.take_byte(alloc, task, *byte, output)?;
+        }
+        Ok(())
+    }
+
+    /// Puts the answer to a last line that the end of the input ended.
+    fn answer_last<O: Sink>(
+        &mut self,
+        alloc: Global,
+        task: Task,
+        output: &mut O,
+    ) -> Result<(), Stop>
+        requires { O.has_failed output.old ≡ false }
+        ensures fine { OnOk result (O.has_failed output.new ≡ false) }
+        ensures whole { OnOk result
+            (EndsWith O.takes task self.old self.new.status output.old output.new) }
+        ensures begun { OnErr result (EndsIn O.takes task self.old output.old output.new) }
+        ensures cause { IfErr result (λ e. O.has_failed output.new ≡ is_broken e) }
+    {
+        if self.line.is_empty() {
+            return Ok(());
+        }
+        let text = replace(&mut self.text, String::new(alloc));
+        let line = self.line.last();
+        let reply = line_reply(alloc, &mut self.stores, task, line, text)?;
+        self.put_reply(&reply, output)?;
+        Ok(())
+    }
+}
+
+/// Takes the input to its end.
+fn take_input<I: Source, O: Sink>(
+    alloc: Global,
+    task: Task,
+    batch: &mut Batch,
+    input: &mut I,
+    output: &mut O,
+) -> Result<(), Stop>
+    requires new { AreNew I.Source O.Sink input.old output.old }
+    requires no_line { Holds batch.old.line [] }
+    requires no_status { batch.old.status ≡ Fine }
+    ensures input { OnOk result (I.has_failed input.new ≡ false) }
+    ensures ended { OnOk result (I.has_ended input.new ≡ true) }
+    ensures output { OnOk result (O.has_failed output.new ≡ false) }
+    ensures taken { OnOk result (TakesTask I.gives O.takes task
+        input.old output.old batch.new input.new output.new) }
+    ensures stopped { OnErr result (StopsReading I.gives O.takes task
+        input.old output.old input.new output.new) }
+    ensures left { IfErr result
+        (λ e. StopsWith I.Source e input.new (O.has_failed output.new)) }
+{
+    let mut buffer = [0u8; CHUNK];
+    for _turn in 0..CALL_LIMIT {
+        match input.fetch(&mut buffer) {
+            Some(0) => return Ok(()),
+            Some(count) => batch.take_chunk(alloc, task, &buffer[..count], output)?,
+            None => return Err(Stop::Broken),
+        }
+    }
+    Err(Stop::Broken)
+}
+
+/// Answers the lines of the input as `solve_lines` says, in the memory of a batch that has taken
+/// nothing.
+fn answer_lines<I: Source, O: Sink>(
+    alloc: Global,
+    task: Task,
+    batch: &mut Batch,
+    input: &mut I,
+    output: &mut O,
+) -> Ended
+    requires new { AreNew I.Source O.Sink input.old output.old }
+    requires no_line { Holds batch.old.line [] }
+    requires no_status { batch.old.status ≡ Fine }
+    ensures ran { Runs I.Source O.Sink (AllowsLines task)
+        input.old input.new output.old output.new result }
+    ensures left { LeavesEnds I.Source O.Sink true input.new output.new result }
+{
+    take_input(alloc, task, batch, input, output)?;
+    batch.answer_last(alloc, task, output)?;
+    if output.finish() {
+        Ok(batch.status)
+    } else {
+        Err(Stop::Broken)
+    }
+}
+
+/// Answers the lines of the input in order, each as an ID of the game, and gives the greatest of
+/// the answers' statuses, or `Fine` if there is no line. A line ends at `\n`, and the last one also
+/// at the end of the input if it isn't empty; one `\r` before the `\n` is no part of it. A line of
+/// more than `MAX_ID` bytes is refused as too long. One line is held at a time, and each answer is
+/// put at once.
+pub fn solve_lines<I: Source, O: Sink>(
+    alloc: Global,
+    task: Task,
+    input: &mut I,
+    output: &mut O,
+) -> Ended
+    requires { AreNew I.Source O.Sink input.old output.old }
+    ensures ran { Runs I.Source O.Sink (AllowsLines task)
+        input.old input.new output.old output.new result }
+    ensures left { LeavesEnds I.Source O.Sink true input.new output.new result }
+{
+    let mut batch = Batch::new(alloc);
+    answer_lines(alloc, task, &mut batch, input, output)
+}

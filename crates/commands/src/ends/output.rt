@@ -1,0 +1,71 @@
+//! Texts on their way to a sink.
+ghost use Rattle.std.specs.Prelude.{◌≡◌, true, false, OnOk, OnErr};
+ghost use Rattle.commands.specs.Answers.{Delivers, PutBegun};
+ghost use Rattle.commands.specs.Replies.{answer_in, fault_text, refused};
+ghost use Rattle.commands.specs.Stops.{LeavesSink, Told, status_in};
+
+use crate::answers::reply::{Reply, id_refused};
+use crate::answers::status::{Ended, Stop};
+use crate::ends::Sink;
+use gameid_core::IdFault;
+use std::alloc::Global;
+
+/// An end failed.
+#[derive(Drop)]
+pub struct Broken;
+
+/// Puts all of the bytes, in as many calls as the sink needs.
+///
+/// # Errors
+///
+/// Where the sink failed. It took a beginning of the bytes then.
+pub fn put_all<O: Sink>(output: &mut O, bytes: &[u8]) -> Result<(), Broken>
+    requires { O.has_failed output.old ≡ false }
+    ensures ok { OnOk result (O.takes output.old bytes.now output.new) }
+    ensures fine { OnOk result (O.has_failed output.new ≡ false) }
+    ensures err { OnErr result (PutBegun O.takes output.old bytes.now output.new) }
+    ensures failed { OnErr result (O.has_failed output.new ≡ true) }
+{
+    let mut rest = bytes;
+    while !rest.is_empty() {
+        match output.put(rest) {
+            Some(count) => rest = &rest[count..],
+            None => return Err(Broken),
+        }
+    }
+    Ok(())
+}
+
+/// Puts the text of a reply and finishes, and gives its status.
+///
+/// # Errors
+///
+/// Where the sink failed. It took a beginning of the text then.
+pub fn deliver<O: Sink>(output: &mut O, reply: &Reply) -> Ended
+    requires { O.has_failed output.old ≡ false }
+    ensures delivers { Delivers O.takes output.old (answer_in reply.now) output.new
+        (status_in result) }
+    ensures left { LeavesSink O.Sink output.new result }
+{
+    match put_all(output, reply.text.as_bytes()) {
+        Ok(()) => {
+            if output.finish() {
+                Ok(reply.status)
+            } else {
+                Err(Stop::Broken)
+            }
+        }
+        Err(_) => Err(Stop::Broken),
+    }
+}
+
+/// Refuses an ID with that first fault.
+pub(crate) fn refuse<O: Sink>(alloc: Global, fault: IdFault, output: &mut O) -> Ended
+    requires { O.has_failed output.old ≡ false }
+    ensures told { Told O.takes (λ a. a ≡ refused (fault_text fault)) output.old output.new
+        result }
+    ensures left { LeavesSink O.Sink output.new result }
+{
+    let reply = id_refused(String::new(alloc), fault)?;
+    deliver(output, &reply)
+}

@@ -1,0 +1,94 @@
+//! Pattern, as the commands play it.
+ghost use Rattle.std.specs.Prelude.{◌+◌};
+ghost use Rattle.commands.specs.Common.{line_rules};
+ghost use Rattle.commands.specs.PatternPlayed.{pattern_name, pattern_played};
+
+use crate::answers::check_reply::{correct_reply, wrong_line_reply};
+use crate::answers::reply::Reply;
+use crate::answers::status::Ended;
+use crate::check::checked::Checked;
+use crate::ends::Sink;
+use crate::generate::Recipe;
+use crate::generate::makable::{Makable, Unmade};
+use crate::generate::seed::generator;
+use crate::grade::named::{Named, push_house};
+use crate::grade::{Attempt, GradeOptions, Graded, RuleSet};
+use crate::played::Played;
+use crate::solve::solvable::Solvable;
+use gameid_core::{Game, IdFault, PatternPuzzle, read_pattern, read_size, write_pattern};
+use grid_core::{Grid, Size};
+use maker_core::{Made, make_pattern};
+use pattern_core::{PatternFault, PatternLines, check_pattern};
+use solo_core::SoloHouse;
+use std::alloc::{AllocError, Global};
+
+impl Played for PatternPuzzle {
+    ghost game = { pattern_played.game };
+
+    fn read_id(alloc: Global, id: &[u8]) -> Result<PatternPuzzle, IdFault> {
+        read_pattern(alloc, id)
+    }
+
+    fn write_id(&self, alloc: Global) -> Result<String, AllocError> {
+        write_pattern(alloc, self)
+    }
+}
+
+impl Solvable for PatternPuzzle {
+    type Search = PatternLines;
+
+    ghost meaning = { λ search. line_rules search.pattern };
+
+    fn rules(&self, alloc: Global) -> Result<PatternLines, AllocError> {
+        PatternLines::new(alloc, self)
+    }
+}
+
+impl Checked for PatternPuzzle {
+    fn check_reply(&self, alloc: Global, grid: &Grid) -> Result<Reply, AllocError> {
+        match check_pattern(self, grid) {
+            None => correct_reply(alloc),
+            Some(PatternFault::Column(x)) => wrong_line_reply(alloc, "column ", x),
+            Some(PatternFault::Row(y)) => wrong_line_reply(alloc, "row ", y),
+        }
+    }
+}
+
+impl Graded for PatternPuzzle {
+    fn tell<O: Sink>(&self, alloc: Global, options: GradeOptions, output: &mut O) -> Ended {
+        let lines = self.rules(alloc)?;
+        let attempt = Attempt {
+            alloc,
+            set: RuleSet::Lines,
+            options,
+        };
+        attempt.tell_by_visits(self, &lines, output)
+    }
+}
+
+impl Named for PatternPuzzle {
+    ghost named = { λ p. p.size.w + p.size.h };
+
+    ghost name_of = { pattern_name };
+
+    fn push_name(&self, number: usize, text: &mut String) -> Result<(), AllocError> {
+        let w = usize::from(self.size().w());
+        if number < w {
+            push_house(text, SoloHouse::Column(number))
+        } else {
+            push_house(text, SoloHouse::Row(number - w))
+        }
+    }
+
+    ghost by_visits = { λ p rules lines told. told };
+}
+
+impl Makable for PatternPuzzle {
+    fn make(alloc: Global, size: &[u8], recipe: Recipe) -> Result<Made<PatternPuzzle>, Unmade> {
+        let (w, h, _) = read_size(Game::Pattern, size)?;
+        let size = Size::new(w, h).unwrap();
+        let mut rng = generator(recipe.seed);
+        let black = recipe.black.value;
+        Ok(make_pattern(alloc, size, black, &mut rng, recipe.limits)?)
+    }
+}

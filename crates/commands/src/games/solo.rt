@@ -1,0 +1,133 @@
+//! Solo, as the commands play it. It is graded by three rule sets in turn, and else by a search.
+ghost use Rattle.std.specs.Prelude.{◌≡◌, false, length};
+ghost use Rattle.commands.specs.Allowed.{IsGradedAfterSingles};
+ghost use Rattle.commands.specs.Common.{houses_rules, scopes_of};
+ghost use Rattle.commands.specs.SoloPlayed.{solo_name, solo_played};
+ghost use Rattle.commands.specs.Stops.{LeavesSink, Told};
+
+use crate::answers::check_reply::{correct_reply, wrong_line_reply, wrong_place_reply};
+use crate::answers::reply::Reply;
+use crate::answers::status::Ended;
+use crate::check::checked::Checked;
+use crate::ends::Sink;
+use crate::generate::Recipe;
+use crate::generate::makable::{Makable, Unmade};
+use crate::generate::seed::generator;
+use crate::grade::named::{Named, push_scope};
+use crate::grade::settling::settles;
+use crate::grade::{Attempt, Grade, GradeOptions, Graded, RuleSet};
+use crate::played::Played;
+use crate::solve::solvable::Solvable;
+use engine_core::Store;
+use gameid_core::{Game, IdFault, Printed, SoloPuzzle, read_size, read_solo, write_solo};
+use grid_core::Grid;
+use maker_core::{Made, make_solo};
+use solo_core::{SoloCrossings, SoloFault, SoloHouses, SoloSingles, check_solo, scope_of};
+use std::alloc::{AllocError, Global};
+
+impl Played for SoloPuzzle {
+    ghost game = { solo_played.game };
+
+    fn read_id(alloc: Global, id: &[u8]) -> Result<SoloPuzzle, IdFault> {
+        read_solo(alloc, id)
+    }
+
+    fn write_id(&self, alloc: Global) -> Result<String, AllocError> {
+        write_solo(alloc, self)
+    }
+}
+
+impl Solvable for SoloPuzzle {
+    type Search = SoloHouses;
+
+    ghost meaning = { λ search. houses_rules search.puzzle };
+
+    fn rules(&self, alloc: Global) -> Result<SoloHouses, AllocError> {
+        SoloHouses::new(alloc, self)
+    }
+}
+
+impl Checked for SoloPuzzle {
+    fn check_reply(&self, alloc: Global, grid: &Grid) -> Result<Reply, AllocError> {
+        let columns = self.columns();
+        match check_solo(self, grid) {
+            None => correct_reply(alloc),
+            Some(SoloFault::Given(place)) => wrong_place_reply(alloc, "given ", columns, place),
+            Some(SoloFault::Row(y)) => wrong_line_reply(alloc, "row ", y),
+            Some(SoloFault::Column(x)) => wrong_line_reply(alloc, "column ", x),
+            Some(SoloFault::Block(b)) => wrong_line_reply(alloc, "block ", b),
+            Some(SoloFault::Diagonal(d)) => wrong_line_reply(alloc, "diagonal ", d),
+        }
+    }
+}
+
+impl Graded for SoloPuzzle {
+    fn tell<O: Sink>(&self, alloc: Global, options: GradeOptions, output: &mut O) -> Ended {
+        let singles = SoloSingles::new(alloc, self)?;
+        let mut store = Store::new(alloc, &singles)?;
+        if settles(&mut store, &singles) {
+            let set = RuleSet::Singles;
+            let grade = Grade::ByRules(set);
+            let attempt = Attempt {
+                alloc,
+                set,
+                options,
+            };
+            return attempt.tell_with_visits(grade, self, &singles, &mut store, output);
+        }
+        tell_by_houses(alloc, self, options, output)
+    }
+}
+
+/// Tells the grade of a puzzle that single values and places do not settle.
+fn tell_by_houses<O: Sink>(
+    alloc: Global,
+    puzzle: &SoloPuzzle,
+    options: GradeOptions,
+    output: &mut O,
+) -> Ended
+    requires { O.has_failed output.old ≡ false }
+    ensures told { Told O.takes (IsGradedAfterSingles puzzle.now options)
+        output.old output.new result }
+    ensures left { LeavesSink O.Sink output.new result }
+{
+    let houses = SoloHouses::new(alloc, puzzle)?;
+    let mut store = Store::new(alloc, &houses)?;
+    if settles(&mut store, &houses) {
+        let set = RuleSet::Houses;
+        let grade = Grade::ByRules(set);
+        let attempt = Attempt {
+            alloc,
+            set,
+            options,
+        };
+        return attempt.tell_with_visits(grade, puzzle, &houses, &mut store, output);
+    }
+    let crossings = SoloCrossings::new(alloc, puzzle)?;
+    let attempt = Attempt {
+        alloc,
+        set: RuleSet::Crossings,
+        options,
+    };
+    attempt.tell_by_visits(puzzle, &crossings, output)
+}
+
+impl Named for SoloPuzzle {
+    ghost named = { λ p. length (scopes_of p) };
+
+    ghost name_of = { solo_name };
+
+    fn push_name(&self, number: usize, text: &mut String) -> Result<(), AllocError> {
+        push_scope(text, scope_of(self, number))
+    }
+
+    ghost by_visits = { λ p rules lines told. told };
+}
+
+impl Makable for SoloPuzzle {
+    fn make(alloc: Global, size: &[u8], recipe: Recipe) -> Result<Made<SoloPuzzle>, Unmade> {
+        let (c, r, x) = read_size(Game::Solo, size)?;
+        let mut rng = generator(recipe.seed);
+        Ok(make_solo(alloc, c, r, x, &mut rng, recipe.limits)?)
+    }
+}

@@ -1,0 +1,79 @@
+//! Tents, as the commands play it.
+ghost use Rattle.commands.specs.Common.{tent_rules};
+ghost use Rattle.commands.specs.TentsPlayed.{tents_played};
+
+use crate::answers::check_reply::{
+    correct_reply, wrong_line_reply, wrong_place_reply, wrong_reply,
+};
+use crate::answers::reply::Reply;
+use crate::answers::status::Ended;
+use crate::check::checked::Checked;
+use crate::ends::Sink;
+use crate::generate::Recipe;
+use crate::generate::makable::{Makable, Unmade};
+use crate::generate::seed::generator;
+use crate::grade::{Attempt, GradeOptions, Graded, RuleSet};
+use crate::played::Played;
+use crate::solve::solvable::Solvable;
+use fields_core::{TentFault, TentRules, check_tents};
+use gameid_core::{Game, IdFault, Printed, TentsPuzzle, read_size, read_tents, write_tents};
+use grid_core::{Grid, Size};
+use maker_core::{Made, make_tents};
+use std::alloc::{AllocError, Global};
+
+impl Played for TentsPuzzle {
+    ghost game = { tents_played.game };
+
+    fn read_id(alloc: Global, id: &[u8]) -> Result<TentsPuzzle, IdFault> {
+        read_tents(alloc, id)
+    }
+
+    fn write_id(&self, alloc: Global) -> Result<String, AllocError> {
+        write_tents(alloc, self)
+    }
+}
+
+impl Solvable for TentsPuzzle {
+    type Search = TentRules;
+
+    ghost meaning = { λ search. tent_rules search.tents };
+
+    fn rules(&self, alloc: Global) -> Result<TentRules, AllocError> {
+        TentRules::new(alloc, self)
+    }
+}
+
+impl Checked for TentsPuzzle {
+    fn check_reply(&self, alloc: Global, grid: &Grid) -> Result<Reply, AllocError> {
+        let columns = self.columns();
+        match check_tents(alloc, self, grid)? {
+            None => correct_reply(alloc),
+            Some(TentFault::Tree(place)) => wrong_place_reply(alloc, "tree ", columns, place),
+            Some(TentFault::Touch(place)) => wrong_place_reply(alloc, "touch ", columns, place),
+            Some(TentFault::Column(x)) => wrong_line_reply(alloc, "column ", x),
+            Some(TentFault::Row(y)) => wrong_line_reply(alloc, "row ", y),
+            Some(TentFault::Match) => wrong_reply(alloc, "match"),
+        }
+    }
+}
+
+impl Graded for TentsPuzzle {
+    fn tell<O: Sink>(&self, alloc: Global, options: GradeOptions, output: &mut O) -> Ended {
+        let local = self.rules(alloc)?;
+        let attempt = Attempt {
+            alloc,
+            set: RuleSet::Local,
+            options,
+        };
+        attempt.tell_by_sweeps(self, &local, output)
+    }
+}
+
+impl Makable for TentsPuzzle {
+    fn make(alloc: Global, size: &[u8], recipe: Recipe) -> Result<Made<TentsPuzzle>, Unmade> {
+        let (w, h, _) = read_size(Game::Tents, size)?;
+        let size = Size::new(w, h).unwrap();
+        let mut rng = generator(recipe.seed);
+        Ok(make_tents(alloc, size, &mut rng, recipe.limits)?)
+    }
+}

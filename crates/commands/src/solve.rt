@@ -1,0 +1,119 @@
+//! The answers of `solve`.
+ghost use Rattle.std.specs.Prelude.{◌≡◌, ◌*◌, IfOk};
+ghost use Rattle.commands.specs.Common.{FitsIn, needs_of, IsTrueOf, verdict_of};
+ghost use Rattle.commands.specs.Allowed.{AllowsSolve, SolvesId};
+ghost use Rattle.commands.specs.Replies.{answer_in, verdict_told};
+
+pub mod solvable;
+
+use crate::answers::reply::{Reply, grid_reply, id_refused, several_reply, words_reply};
+use crate::answers::status::Status;
+use crate::games::{Stores, by_game};
+use crate::solve::solvable::Solvable;
+use engine_core::{Rules, Store, Verdict};
+use gameid_core::{Game, IdFault, Printed};
+use std::alloc::{AllocError, Global};
+
+/// The memory that is kept, where it is enough for the rules, or new memory.
+fn store_for<R: Rules>(
+    alloc: Global,
+    kept: &mut Option<Store<R>>,
+    rules: &R,
+) -> Result<Store<R>, AllocError>
+    ensures { IfOk result (λ store. FitsIn (needs_of (R.puzzle rules.now)) store.made) }
+{
+    match kept.take() {
+        Some(store) if store.fits(rules) => Ok(store),
+        _ => Store::new(alloc, rules),
+    }
+}
+
+/// The answer that tells the verdict of a search by the rules, in the memory of a text.
+fn verdict_reply<P: Printed, R: Rules>(
+    store: &mut Store<R>,
+    puzzle: &P,
+    rules: &R,
+    budget: u64,
+    text: String,
+) -> Result<Reply, AllocError>
+    requires fits { FitsIn (needs_of (R.puzzle rules.now)) store.old.made }
+    requires cells { (R.puzzle rules.now).cells ≡ (P.extent puzzle.now).w
+        * (P.extent puzzle.now).h }
+    requires values { (R.puzzle rules.now).values ≡ P.value_count puzzle.now }
+    ensures told { IfOk result
+        (λ r. answer_in r ≡ verdict_told P.Printed puzzle.now (R.puzzle rules.now) budget) }
+    ensures right { IfOk result
+        (λ r. IsTrueOf (R.puzzle rules.now) (verdict_of (R.puzzle rules.now) budget)) }
+{
+    match store.solve(rules, budget) {
+        Verdict::None => words_reply(text, "none\n", Status::Wrong),
+        Verdict::One => {
+            let found = store.first().unwrap();
+            grid_reply(text, "one\n", Status::Fine, puzzle, found)
+        }
+        Verdict::Several => {
+            let first = store.first().unwrap();
+            several_reply(text, puzzle, first, store.second().unwrap())
+        }
+        Verdict::GaveUp { found: true } => {
+            let found = store.first().unwrap();
+            grid_reply(text, "gave up\n", Status::GaveUp, puzzle, found)
+        }
+        Verdict::GaveUp { found: false } => words_reply(text, "gave up\n", Status::GaveUp),
+    }
+}
+
+/// The answer to an ID that is to be solved, as `solve_id` says.
+fn solve_one<P: Solvable + Drop>(
+    alloc: Global,
+    kept: &mut Option<Store<P::Search>>,
+    id: &[u8],
+    budget: u64,
+    text: String,
+) -> Result<Reply, AllocError>
+where
+    P::Search: Rules,
+    requires means { (rules : P.Search) → P.Search.puzzle rules ≡ P.meaning rules }
+    ensures { IfOk result (λ r. SolvesId P.Played budget id.now (answer_in r)) }
+{
+    match P::read_id(alloc, id) {
+        Ok(puzzle) => {
+            let rules = puzzle.rules(alloc)?;
+            let mut store = store_for(alloc, kept, &rules)?;
+            let reply = verdict_reply(&mut store, &puzzle, &rules, budget, text)?;
+            *kept = Some(store);
+            Ok(reply)
+        }
+        Err(IdFault::Memory) => Err(AllocError),
+        Err(fault) => id_refused(text, fault),
+    }
+}
+
+/// What is asked of an ID that is to be solved: its game, and how many trials there may be.
+#[derive(Clone, Copy)]
+pub struct Task {
+    pub game: Game,
+    pub budget: u64,
+}
+
+impl Stores {
+    /// The answer to an ID that is to be solved: its first fault, or the verdict with its grids, in
+    /// the memory of `text`, of which nothing else stays. The search works in the memory of the
+    /// stores where that is enough, and in new memory where not, which is left there for the next.
+    ///
+    /// # Errors
+    ///
+    /// When memory was refused.
+    pub fn solve_id(
+        &mut self,
+        alloc: Global,
+        task: Task,
+        id: &[u8],
+        text: String,
+    ) -> Result<Reply, AllocError>
+        ensures { IfOk result (λ r. AllowsSolve task.game task.budget id.now (answer_in r)) }
+    {
+        let budget = task.budget;
+        by_game!(task.game, solve_one::<_>(alloc, &mut self._, id, budget, text))
+    }
+}

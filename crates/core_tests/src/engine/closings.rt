@@ -1,0 +1,232 @@
+//! Closings of the tests' rules in both modes, compared with rounds computed plainly.
+
+ghost use Rattle.std.specs.Prelude.{◌≡◌, ◌<◌, ◌≤◌};
+ghost use Rattle.grid_core.specs.Board.{cells_of};
+ghost use Rattle.engine_core.specs.Puzzle.{FitsIn, needs_of};
+
+use super::neighbours::Neighbours;
+use super::swept::Swept;
+use engine_core::{Closing, Rules, Sizes, Store};
+use grid_core::Board;
+use std::alloc::{AllocError, Global};
+use std::test::Fail;
+
+const CELLS: usize = 5;
+
+const VALUES: usize = 3;
+
+/// Whether each cell still has each value.
+type Plain = [[bool; VALUES]; CELLS];
+
+/// The start board of the row: all values, and the given ones alone at the ends.
+fn plain_start(values: u8, first: u8, last: u8) -> Plain {
+    let [values, first, last] = [values, first, last].map(usize::from);
+    let mut sets = [[false; VALUES]; CELLS];
+    for (cell, set) in sets.iter_mut().enumerate() {
+        for (value, there) in set.iter_mut().enumerate() {
+            let given = (cell != 0 || value == first) && (cell != CELLS - 1 || value == last);
+            *there = value < values && given;
+        }
+    }
+    sets
+}
+
+/// Whether the neighbour's set has another value.
+fn has_another(set: &[bool; VALUES], value: usize) -> bool {
+    set.iter()
+        .enumerate()
+        .any(|(other, there)| other != value && *there)
+}
+
+/// What one round leaves: all houses strike from the same board.
+fn plain_round(sets: &Plain) -> Plain {
+    let mut left = *sets;
+    for cell in 0..CELLS {
+        for value in 0..VALUES {
+            if cell > 0 && !has_another(&sets[cell - 1], value) {
+                left[cell][value] = false;
+            }
+            if cell + 1 < CELLS && !has_another(&sets[cell + 1], value) {
+                left[cell][value] = false;
+            }
+        }
+    }
+    left
+}
+
+/// As many rounds as the board can have values.
+fn plain_closure(sets: &Plain) -> Plain {
+    let mut left = *sets;
+    for _ in 0..CELLS * VALUES {
+        left = plain_round(&left);
+    }
+    left
+}
+
+/// Whether some cell has no value.
+fn is_dead(sets: &Plain) -> bool {
+    sets.iter().any(|set| set.iter().all(|there| !*there))
+}
+
+/// Whether the board is the plain one.
+fn agrees(board: &Board, plain: &Plain, values: u8) -> bool
+    requires cells { cells_of board.now ≡ 5 }
+    requires values { board.now.values ≡ values }
+    requires few { values ≤ 3 }
+{
+    for cell in 0..CELLS {
+        for value in 0..values {
+            if board.has(cell, value) != plain[cell][usize::from(value)] {
+                return false;
+            }
+        }
+    }
+    true
+}
+
+/// Closes the start board, and says whether the answer, the board and what was written down are as they should be.
+fn closes_as<R: Rules>(
+    store: &mut Store<R>,
+    rules: &R,
+    plain: &Plain,
+    values: u8,
+    queue: bool,
+) -> bool
+    requires fits { FitsIn (needs_of (R.puzzle rules.now)) store.old.made }
+    requires cells { (R.puzzle rules.now).cells ≡ 5 }
+    requires values { (R.puzzle rules.now).values ≡ values }
+    requires few { values ≤ 3 }
+    ensures { store.new.made ≡ store.old.made }
+{
+    let dead = store.close(rules) == Closing::Dead;
+    let (trace, sweeps) = (store.trace().len(), store.sweeps());
+    let (steps, others) = if queue {
+        (trace, sweeps)
+    } else {
+        (sweeps, trace)
+    };
+    let left = dead || agrees(store.board(), plain, values);
+    dead == is_dead(plain) && left && steps >= 1 && steps <= rules.bound() && others == 0
+}
+
+/// The same of a new store, and whether it settles the board.
+fn closes_anew<R: Rules>(
+    alloc: Global,
+    rules: &R,
+    plain: &Plain,
+    values: u8,
+    queue: bool,
+) -> Result<(bool, bool), AllocError>
+    requires cells { (R.puzzle rules.now).cells ≡ 5 }
+    requires values { (R.puzzle rules.now).values ≡ values }
+    requires few { values ≤ 3 }
+{
+    let mut store = Store::new(alloc, rules)?;
+    let closes = closes_as(&mut store, rules, plain, values, queue);
+    Ok((closes, store.settles(rules)))
+}
+
+/// Values, the given ends, and whether the closure settles the row.
+const ROWS: [(u8, u8, u8, bool); 6] = [
+    (2, 0, 0, true),
+    (2, 1, 1, true),
+    (2, 0, 1, false),
+    (3, 0, 0, false),
+    (3, 2, 1, false),
+    (1, 0, 0, false),
+];
+
+#[test]
+fn a_queue_reaches_the_plain_closure(rt: HostRuntime) -> Result<(), Fail> {
+    for (values, first, last, settles) in ROWS {
+        assert!(rt; 1 <= values && values <= 3 && first < values && last < values);
+        let rules = Neighbours {
+            cells: CELLS,
+            values,
+            first,
+            last,
+        };
+        let plain = plain_closure(&plain_start(values, first, last));
+        let told = closes_anew(rt.alloc(), &rules, &plain, values, true)?;
+        assert_eq!(rt; told, (true, settles), "{values} {first} {last}");
+    }
+    Ok(())
+}
+
+#[test]
+fn sweeps_reach_the_plain_closure(rt: HostRuntime) -> Result<(), Fail> {
+    for (values, first, last, settles) in ROWS {
+        assert!(rt; 1 <= values && values <= 3 && first < values && last < values);
+        let row = Neighbours {
+            cells: CELLS,
+            values,
+            first,
+            last,
+        };
+        let rules = Swept { row };
+        let plain = plain_closure(&plain_start(values, first, last));
+        let told = closes_anew(rt.alloc(), &rules, &plain, values, false)?;
+        assert_eq!(rt; told, (true, settles), "{values} {first} {last}");
+    }
+    Ok(())
+}
+
+/// The sizes of a new store of the rules, and whether it has room for them and for others.
+fn room<R: Rules>(alloc: Global, rules: &R, others: &R) -> Result<(Sizes, [bool; 2]), AllocError> {
+    let store = Store::new(alloc, rules)?;
+    Ok((store.sizes(), [store.fits(rules), store.fits(others)]))
+}
+
+#[test]
+fn sizes_are_those_of_the_rules(rt: HostRuntime) -> Result<(), Fail> {
+    let rules = Neighbours {
+        cells: CELLS,
+        values: 3,
+        first: 0,
+        last: 0,
+    };
+    let shorter = Neighbours {
+        cells: 4,
+        values: 3,
+        first: 0,
+        last: 0,
+    };
+    let mut sizes = Sizes {
+        frames: 5,
+        trail: 15,
+        trace: 15,
+        queue: 4,
+        scope: 2,
+    };
+    let told = room(rt.alloc(), &rules, &shorter)?;
+    assert_eq!(rt; told, (sizes, [true, false]));
+    (sizes.trace, sizes.queue) = (0, 0);
+    let (swept, shorter) = (Swept { row: rules }, Swept { row: shorter });
+    let told = room(rt.alloc(), &swept, &shorter)?;
+    assert_eq!(rt; told, (sizes, [true, false]));
+    Ok(())
+}
+
+/// A closing of the start board without a value of two of its cells: how it ended, whether the board is full then, and
+/// whether the middle cell has 0.
+fn closed_inside(alloc: Global) -> Result<(Closing, [bool; 2]), AllocError> {
+    let rules = Neighbours {
+        cells: CELLS,
+        values: 3,
+        first: 0,
+        last: 0,
+    };
+    let mut store = Store::new(alloc, &rules)?;
+    let mut board = Board::new(alloc, CELLS, 3)?;
+    rules.start(&mut board);
+    let _there = board.strike(1, 1);
+    let _there = board.strike(3, 2);
+    let closing = store.close_from(&rules, &board);
+    Ok((closing, [store.board().is_full(), store.board().has(2, 0)]))
+}
+
+#[test]
+fn a_board_inside_the_start_is_closed(rt: HostRuntime) -> Result<(), Fail> {
+    assert_eq!(rt; closed_inside(rt.alloc())?, (Closing::Open, [true, true]));
+    Ok(())
+}

@@ -1,0 +1,131 @@
+//! Searches of the tests' rules, in both modes, with several budgets.
+
+ghost use Rattle.std.specs.Prelude.{◌≡◌};
+ghost use Rattle.engine_core.specs.Puzzle.{FitsIn, needs_of};
+
+use super::neighbours::Neighbours;
+use super::swept::Swept;
+use engine_core::{Rules, Store, Verdict};
+use grid_core::Grid;
+use std::alloc::{AllocError, Global};
+use std::test::Fail;
+
+/// Values, the given ends, the budget, the verdict, the number of trials and the most that were open at once.
+const RUNS: [(u8, u8, u8, u64, (Verdict, u64, usize)); 8] = [
+    (2, 0, 0, 0, (Verdict::One, 0, 0)),
+    (2, 0, 1, 9, (Verdict::None, 0, 0)),
+    (3, 0, 0, 9, (Verdict::Several, 4, 3)),
+    (3, 0, 0, 4, (Verdict::Several, 4, 3)),
+    (3, 0, 0, 3, (Verdict::GaveUp { found: true }, 3, 3)),
+    (3, 0, 0, 2, (Verdict::GaveUp { found: false }, 2, 2)),
+    (3, 0, 0, 0, (Verdict::GaveUp { found: false }, 0, 0)),
+    (1, 0, 0, 9, (Verdict::None, 0, 0)),
+];
+
+/// The first two rows of five cells with three values whose ends are 0.
+const FIRST: [u8; 5] = [0, 1, 0, 1, 0];
+
+const SECOND: [u8; 5] = [0, 1, 0, 2, 0];
+
+/// Whether the grid is there and holds these numbers.
+fn holds(grid: Option<&Grid>, numbers: &[u8; 5]) -> bool {
+    let Some(grid) = grid else {
+        return false;
+    };
+    if grid.len() != 5 {
+        return false;
+    }
+    for place in 0..5 {
+        if grid.get(place) != numbers[place] {
+            return false;
+        }
+    }
+    true
+}
+
+/// Whether a search with the budget gives this verdict after so many trials, with so many open at once. Each closing
+/// of these rules makes one visit or sweep at least.
+fn gives<R: Rules>(
+    store: &mut Store<R>,
+    rules: &R,
+    budget: u64,
+    wanted: (Verdict, u64, usize),
+) -> bool
+    requires { FitsIn (needs_of (R.puzzle rules.now)) store.old.made }
+    ensures { store.new.made ≡ store.old.made }
+{
+    let (verdict, trials, deepest) = wanted;
+    store.solve(rules, budget) == verdict
+        && store.trials() == trials
+        && store.deepest() == deepest
+        && store.turns() > u128::from(trials)
+}
+
+/// The same of a new store.
+fn gives_anew<R: Rules>(
+    alloc: Global,
+    rules: &R,
+    budget: u64,
+    wanted: (Verdict, u64, usize),
+) -> Result<bool, AllocError> {
+    let mut store = Store::new(alloc, rules)?;
+    Ok(gives(&mut store, rules, budget, wanted))
+}
+
+#[test]
+fn searches_stop_at_the_very_trial(rt: HostRuntime) -> Result<(), Fail> {
+    for (values, first, last, budget, wanted) in RUNS {
+        assert!(rt; 1 <= values && values <= 3 && first < values && last < values);
+        let row = Neighbours {
+            cells: 5,
+            values,
+            first,
+            last,
+        };
+        assert!(rt;
+            gives_anew(rt.alloc(), &row, budget, wanted)?,
+            "{values} {last} {budget}"
+        );
+        let rules = Swept { row };
+        assert!(rt;
+            gives_anew(rt.alloc(), &rules, budget, wanted)?,
+            "{values} {last} {budget} swept"
+        );
+    }
+    Ok(())
+}
+
+/// Which grids are lent: the first row, the second row, and whether each is there at all.
+fn lent<R: Rules>(store: &Store<R>) -> [bool; 4] {
+    [
+        holds(store.first(), &FIRST),
+        holds(store.second(), &SECOND),
+        store.first().is_some(),
+        store.second().is_some(),
+    ]
+}
+
+/// What a store has counted: trials, turns, and the most trials that were open at once.
+fn counted<R: Rules>(store: &Store<R>) -> (u64, u128, usize) {
+    (store.trials(), store.turns(), store.deepest())
+}
+
+#[test]
+fn two_grids_are_lent(rt: HostRuntime) -> Result<(), Fail> {
+    let rules = Neighbours {
+        cells: 5,
+        values: 3,
+        first: 0,
+        last: 0,
+    };
+    let mut store = Store::new(rt.alloc(), &rules)?;
+    assert_eq!(rt; lent(&store), [false, false, false, false]);
+    assert_eq!(rt; store.solve(&rules, 9), Verdict::Several);
+    assert_eq!(rt; lent(&store), [true, true, true, true]);
+    assert_eq!(rt; store.solve(&rules, 3), Verdict::GaveUp { found: true });
+    assert_eq!(rt; lent(&store), [true, false, true, false]);
+    let _open = store.close(&rules);
+    assert_eq!(rt; lent(&store), [false, false, false, false]);
+    assert_eq!(rt; counted(&store), (0, 0, 0));
+    Ok(())
+}

@@ -1,0 +1,58 @@
+//! Game IDs and printed grids.
+
+mod grids;
+mod ids;
+mod limits;
+mod puzzles;
+mod sizes;
+
+use gameid_core::{
+    Game, IdFault, read_lights, read_pattern, read_solo, read_tents, write_lights, write_pattern,
+    write_solo, write_tents,
+};
+use std::alloc::{AllocError, Global};
+
+/// The fault of an ID, if it has one.
+fn fault_of(alloc: Global, game: Game, text: &[u8]) -> Option<IdFault> {
+    match game {
+        Game::Solo => read_solo(alloc, text).err(),
+        Game::Pattern => read_pattern(alloc, text).err(),
+        Game::LightUp => read_lights(alloc, text).err(),
+        Game::Tents => read_tents(alloc, text).err(),
+    }
+}
+
+/// The fault of an ID, if it has one, or want of memory.
+fn fault_or_want(alloc: Global, game: Game, text: &[u8]) -> Result<Option<IdFault>, IdFault> {
+    match fault_of(alloc, game, text) {
+        Some(IdFault::Memory) => Err(IdFault::Memory),
+        fault => Ok(fault),
+    }
+}
+
+/// The written ID of the puzzle that an ID spells.
+fn written_again(alloc: Global, game: Game, text: &[u8]) -> Result<String, IdFault> {
+    let written = match game {
+        Game::Solo => write_solo(alloc, &read_solo(alloc, text)?)?,
+        Game::Pattern => write_pattern(alloc, &read_pattern(alloc, text)?)?,
+        Game::LightUp => write_lights(alloc, &read_lights(alloc, text)?)?,
+        Game::Tents => write_tents(alloc, &read_tents(alloc, text)?)?,
+    };
+    Ok(written)
+}
+
+/// A text of a front, so many copies of a piece, and an end.
+fn long_text(
+    alloc: Global,
+    front: &str,
+    piece: &str,
+    count: usize,
+    end: &str,
+) -> Result<Vec<u8>, AllocError> {
+    let mut text = front.as_bytes().to_vec(alloc)?;
+    for _ in 0..count {
+        text.extend_from_slice(piece.as_bytes())?;
+    }
+    text.extend_from_slice(end.as_bytes())?;
+    Ok(text)
+}

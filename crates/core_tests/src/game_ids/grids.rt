@@ -1,0 +1,63 @@
+//! Printed grids.
+
+use gameid_core::*;
+use std::alloc::Global;
+use std::test::Fail;
+
+/// What is printed of the one grid of the puzzle whose printed form the text is, if there is one.
+fn printed_again<P: Readable>(
+    alloc: Global,
+    puzzle: &P,
+    text: &str,
+) -> Result<Option<String>, IdFault> {
+    let Some(grid) = read_grid(alloc, puzzle, text.as_bytes().to_vec(alloc)?)? else {
+        return Ok(None);
+    };
+    let mut printed = String::new(alloc);
+    push_grid(&mut printed, puzzle, &grid)?;
+    Ok(Some(printed))
+}
+
+/// The same of the puzzle that an ID spells.
+fn printed_of(alloc: Global, game: Game, id: &str, text: &str) -> Result<Option<String>, IdFault> {
+    let id = id.as_bytes();
+    match game {
+        Game::Solo => printed_again(alloc, &read_solo(alloc, id)?, text),
+        Game::Pattern => printed_again(alloc, &read_pattern(alloc, id)?, text),
+        Game::LightUp => printed_again(alloc, &read_lights(alloc, id)?, text),
+        Game::Tents => printed_again(alloc, &read_tents(alloc, id)?, text),
+    }
+}
+
+#[test]
+fn grids_are_read_and_printed(rt: HostRuntime) -> Result<(), Fail> {
+    let solo = "2x2:1b4i3_2a";
+    let whole = "1 2 3 4\n3 4 1 2\n2 1 4 3\n4 3 2 1";
+    let ended = "1 2 3 4\n3 4 1 2\n2 1 4 3\n4 3 2 1\n";
+    let five = "1 2 3 5\n3 4 1 2\n2 1 4 3\n4 3 2 1\n";
+    let zero = "1 2 03 4\n3 4 1 2\n2 1 4 3\n4 3 2 1\n";
+    let lights = "3x3:aBBa1aBb";
+    let tents = "3x3:aaaaa,2,0,2,2,0,2";
+    for (game, id, text, want) in [
+        (Game::Pattern, "2x1:1//1", "#.", "#.\n"),
+        (Game::Pattern, "2x1:1//1", "#.\n", "#.\n"),
+        (Game::Pattern, "2x1:1//1", "#", "none"),
+        (Game::Pattern, "2x1:1//1", "#.\n#.\n", "none"),
+        (Game::Pattern, "2x1:1//1", "#.\n\n", "none"),
+        (Game::Solo, solo, whole, ended),
+        (Game::Solo, solo, five, "none"),
+        (Game::Solo, solo, zero, "none"),
+        (Game::LightUp, lights, ".##\nO1.\n#.O", ".##\nO1.\n#.O\n"),
+        (Game::LightUp, lights, ".##\nO2.\n#.O", "none"),
+        (Game::Tents, tents, "^T^\nT.T\n^T^", "^T^\nT.T\n^T^\n"),
+        (Game::Tents, tents, "^T^\nT.T\n^.^", "none"),
+    ] {
+        let found = printed_of(rt.alloc(), game, id, text)?;
+        let told = match &found {
+            Some(printed) => printed.as_str(),
+            None => "none",
+        };
+        assert_eq!(rt; told, want, "{game:?} {id} {text}");
+    }
+    Ok(())
+}

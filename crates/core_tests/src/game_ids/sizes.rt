@@ -1,0 +1,66 @@
+//! Sizes, and faults before the colon.
+
+use super::fault_of;
+use gameid_core::{Game, IdFault, read_size};
+
+#[test]
+fn faults_before_the_colon(rt: HostRuntime) {
+    for (fault, texts) in [
+        (IdFault::NoColon, ""),
+        (IdFault::NoColon, "2x2"),
+        (IdFault::SeedId, "3x3#12 3x3#12:p"),
+        (
+            IdFault::BadSize,
+            "02x2:p 2x02:p 0x2:p 2x:p 9x:p 2xx2:p :p x2:p",
+        ),
+        (
+            IdFault::Variant,
+            "2x2k:p 2x2xx:p 2x2xj:p 2x2kx:p 121x121d:p 9j:p",
+        ),
+        (IdFault::SizeRange, "121x2:p 99999999999999999999x2:p"),
+    ] {
+        for text in texts.split(' ') {
+            for game in [Game::Solo, Game::Pattern, Game::LightUp, Game::Tents] {
+                let found = fault_of(rt.alloc(), game, text.as_bytes());
+                assert_eq!(rt; found, Some(fault), "{game:?} {text}");
+            }
+        }
+    }
+}
+
+#[test]
+fn sizes_are_read(rt: HostRuntime) {
+    for (game, text, size) in [
+        (Game::Solo, "2x3", Ok((2, 3, false))),
+        (Game::Solo, "3", Ok((3, 3, false))),
+        (Game::Solo, "2x3x", Ok((2, 3, true))),
+        (Game::Solo, "3x", Err(IdFault::BadSize)),
+        (Game::Solo, "2x3xx", Err(IdFault::Variant)),
+        (Game::Solo, "2x3x2", Err(IdFault::Variant)),
+        (Game::Solo, "2x3x:", Err(IdFault::Variant)),
+        (Game::LightUp, "2x3x", Err(IdFault::Variant)),
+        (Game::Tents, "2x64:", Err(IdFault::Variant)),
+        (Game::Tents, "x2", Err(IdFault::BadSize)),
+        (Game::Solo, "1x4", Err(IdFault::SizeRange)),
+        (Game::Solo, "4x1x", Err(IdFault::SizeRange)),
+        (Game::Solo, "2x15", Ok((2, 15, false))),
+        (Game::Solo, "15x2x", Ok((15, 2, true))),
+        (Game::Solo, "2x16", Err(IdFault::SizeRange)),
+        (Game::Solo, "8x4x", Err(IdFault::SizeRange)),
+        (Game::Pattern, "1", Ok((1, 1, false))),
+        (Game::Pattern, "119x120", Ok((119, 120, false))),
+        (Game::Pattern, "120", Ok((120, 120, false))),
+        (Game::Pattern, "121x1", Err(IdFault::SizeRange)),
+        (Game::Pattern, "1x121", Err(IdFault::SizeRange)),
+        (Game::LightUp, "1x2", Err(IdFault::SizeRange)),
+        (Game::LightUp, "2x119", Ok((2, 119, false))),
+        (Game::LightUp, "120x2", Ok((120, 2, false))),
+        (Game::LightUp, "121x2", Err(IdFault::SizeRange)),
+        (Game::Tents, "2x1", Err(IdFault::SizeRange)),
+        (Game::Tents, "119x2", Ok((119, 2, false))),
+        (Game::Tents, "2x120", Ok((2, 120, false))),
+        (Game::Tents, "2x121", Err(IdFault::SizeRange)),
+    ] {
+        assert_eq!(rt; read_size(game, text.as_bytes()), size, "{game:?} {text}");
+    }
+}

@@ -1,0 +1,11 @@
+//! The tests of the libraries, each library's in a module.
+//!
+//! They stand above the libraries, so that no crate with code is proved twice.
+#![tactic(auto)]
+
+#[cfg(test)]
+mod engine;
+#[cfg(test)]
+mod game_ids;
+#[cfg(test)]
+mod grid;

@@ -1,8 +1,0 @@
-use Rattle.maker_core.proofs.Common.{drop, FitsIn, needs_of, IsThinning}
-use Rattle.maker_core.proofs.thinning.thin.thin.Given as goal
-
-abbrev pub invariant-loop-place : goal.invariant-loop-place
-invariant-loop-place g l = record {
-  thinning : IsThinning g.P.Clued.game l.budget l.fn.puzzle l.puzzle l.whys.items (drop l.place-index l.place-items);
-  fits : FitsIn (needs_of (g.P.Clued.game.rules l.puzzle)) l.store.made;
-}

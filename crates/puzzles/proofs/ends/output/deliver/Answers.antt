@@ -1,9 +1,0 @@
-use Rattle.std.proofs.Common.{refl, inl, inr}
-use Rattle.puzzles.proofs.RunLemmas.{delivers_all}
-use Rattle.puzzles.proofs.ends.output.deliver.Goals as goal
-
-pub returns-then-finish-clause-delivers : goal.returns-then-finish-clause-delivers
-returns-then-finish-clause-delivers g c = delivers_all g.O.Sink.takes g.met.O.Sink.takes_nothing g.met.O.Sink.takes_both _ _ _ _ _ _ c.as_bytes.ensures.value (inl refl) c.in-Ok.ensures.ok c.if-finish.ensures.bytes
-
-pub returns-else-finish-clause-delivers : goal.returns-else-finish-clause-delivers
-returns-else-finish-clause-delivers g c = delivers_all g.O.Sink.takes g.met.O.Sink.takes_nothing g.met.O.Sink.takes_both _ _ _ _ _ _ c.as_bytes.ensures.value (inr refl) c.in-Ok.ensures.ok c.if-finish.ensures.bytes

@@ -1,5 +1,0 @@
-use Rattle.gameid_core.proofs.LightTexts.{light_reading}
-use Rattle.puzzles.proofs.games.light_up.LightPuzzlePlayed.read_id.Goals as goal
-
-pub returns-clause-apart : goal.returns-clause-apart
-returns-clause-apart c = light_reading.apart c.args.id.now

@@ -1,5 +1,0 @@
-use Rattle.gameid_core.proofs.PatternTexts.{pattern_reading}
-use Rattle.puzzles.proofs.games.pattern.PatternPuzzlePlayed.read_id.Goals as goal
-
-pub returns-clause-apart : goal.returns-clause-apart
-returns-clause-apart c = pattern_reading.apart c.args.id.now

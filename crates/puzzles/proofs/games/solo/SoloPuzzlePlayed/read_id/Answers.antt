@@ -1,5 +1,0 @@
-use Rattle.gameid_core.proofs.SoloTexts.{solo_reading}
-use Rattle.puzzles.proofs.games.solo.SoloPuzzlePlayed.read_id.Goals as goal
-
-pub returns-clause-apart : goal.returns-clause-apart
-returns-clause-apart c = solo_reading.apart c.args.id.now

@@ -1,5 +1,0 @@
-use Rattle.puzzles.proofs.SearchedPuzzles.{solo_accepted}
-use Rattle.puzzles.proofs.games.solo.SoloPuzzleSolvable.rules.Goals as goal
-
-pub returns-clause-solutions : goal.returns-clause-solutions
-returns-clause-solutions c = solo_accepted c.args.self.now c.new.ensures.lawful _ _

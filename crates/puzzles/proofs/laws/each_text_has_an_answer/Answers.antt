@@ -1,5 +1,0 @@
-use Rattle.puzzles.proofs.GameFacts.{answers}
-use Rattle.puzzles.proofs.laws.each_text_has_an_answer.Goals as goal
-
-pub returns : goal.returns
-returns c = answers
