@@ -9,3 +9,5 @@ mod engine;
 mod game_ids;
 #[cfg(test)]
 mod grid;
+#[cfg(test)]
+mod pattern;
