@@ -1,8 +1,5 @@
 //! Visits of the lines of Pattern, and the check of a grid.
 
-ghost use Rattle.std.specs.Prelude.{IfOk};
-ghost use Rattle.grid_core.specs.Grids.{IsGrid};
-
 mod boards;
 mod listing;
 mod rows;
@@ -41,17 +38,24 @@ fn lines_are_houses(rt: HostRuntime) -> Result<(), Fail> {
     Ok(())
 }
 
-/// What the check says of a grid for the puzzle with the ID. The cells at these places are black.
-fn fault_of(alloc: Global, id: &str, black: &[usize]) -> Result<Option<PatternFault>, Fail> {
+/// What the check says of a grid for the puzzle with the ID; nothing where it is no grid of two values. The cells at these
+/// places are black.
+fn fault_of(
+    alloc: Global,
+    id: &str,
+    black: &[usize],
+) -> Result<Option<Option<PatternFault>>, Fail> {
     let puzzle = read_pattern(alloc, id.as_bytes())?;
-    let grid = grid_of(alloc, puzzle.size().cells(), black)?;
-    Ok(check_pattern(&puzzle, &grid))
+    let cells = puzzle.size().cells();
+    let grid = grid_of(alloc, cells, black)?;
+    if !grid.fits(cells, 2) {
+        return Ok(None);
+    }
+    Ok(Some(check_pattern(&puzzle, &grid)))
 }
 
 /// A grid of so many cells, with ones at these places.
-fn grid_of(alloc: Global, cells: usize, ones: &[usize]) -> Result<Grid, AllocError>
-    ensures { IfOk result (λ grid. IsGrid cells 2 grid) }
-{
+fn grid_of(alloc: Global, cells: usize, ones: &[usize]) -> Result<Grid, AllocError> {
     let mut grid = Grid::new(alloc, cells)?;
     for place in ones {
         if *place < grid.len() {
@@ -70,7 +74,11 @@ fn the_first_wrong_line(rt: HostRuntime) -> Result<(), Fail> {
         ("2x2:1/2/2/1", &[0, 1, 3], None),
         ("2x2:1/2/1/2", &[0, 1, 3], Some(PatternFault::Row(0))),
     ] {
-        assert_eq!(rt; fault_of(rt.alloc(), id, black)?, fault, "{id} {black:?}");
+        assert_eq!(rt;
+            fault_of(rt.alloc(), id, black)?,
+            Some(fault),
+            "{id} {black:?}"
+        );
     }
     Ok(())
 }

@@ -5,7 +5,7 @@
 //! cell beside it. No ID has a line that is too short for its clue; among the boards of a longer one it is that whose
 //! last cells are white.
 
-ghost use Rattle.std.specs.Prelude.{◌≡◌, ◌≤◌, length};
+ghost use Rattle.std.specs.Prelude.{◌≡◌, ◌≤◌, ◌+◌, length};
 ghost use Rattle.grid_core.specs.Board.{SameShape, cells_of};
 ghost use Rattle.engine_core.specs.Puzzle.{IsBoardOf};
 ghost use Rattle.pattern_core.specs.LineRules.{line_rules};
