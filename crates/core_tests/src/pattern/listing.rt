@@ -42,7 +42,7 @@ fn show(line: u32, shown: &mut [u32]) {
 }
 
 /// For each cell of a line of fewer than 32 cells, the values that some filling with the clue's runs has there.
-pub(crate) fn keep(sets: &[u32], clue: &[u8], kept: &mut [u32]) {
+pub fn keep(sets: &[u32], clue: &[u8], kept: &mut [u32]) {
     kept.fill(0);
     for line in 0..1u32 << sets.len().min(31) {
         if is_allowed(line, sets) && has_runs(line, sets.len(), clue) {

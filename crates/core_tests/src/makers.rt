@@ -1,9 +1,11 @@
-mod clues;
-mod makers;
+//! Puzzles that are made.
+
+mod games;
 mod solo;
 mod switch;
+mod thinning;
 
-use crate::made::{Limits, Made, MakeFault};
+use maker_core::{Limits, Made, MakeFault};
 use rand_chacha::ChaCha8Rng;
 use rand_core::SeedableRng;
 

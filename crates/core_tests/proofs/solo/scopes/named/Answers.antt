@@ -3,7 +3,7 @@ use Rattle.solo_core.specs.Common.{Solo, solo_n, houses_of}
 use Rattle.solo_core.specs.BoundLaws.{count_x}
 use Rattle.solo_core.specs.Scopes.{crossing_scopes}
 use Rattle.solo_core.proofs.HouseLemmas.{all-length, scopes-length}
-use Rattle.solo_core.proofs.tests.scopes.named.Goals as goal
+use Rattle.core_tests.proofs.solo.scopes.named.Goals as goal
 
 pub scope_of-requires : goal.scope_of-requires
 scope_of-requires c =
