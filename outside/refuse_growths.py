@@ -2,7 +2,7 @@
 """Runs built programs with each allocation of the process refused in turn.
 
 usage: refuse_growths.py PROGRAM          PROGRAM as `rt run` leaves it: crates/puzzles/out/puzzles
-       refuse_growths.py --tests TESTS..  TESTS as `rt test` leaves them: crates/gameid_core/out/gameid_core_tests
+       refuse_growths.py --tests TESTS..  TESTS as `rt test` leaves them: crates/core_tests/out/core_tests_tests
 
 Each run of the program must answer as it does with ample memory, or end with status 5 after a beginning of that answer
 and with nothing on standard error. Each test must pass, or end with want of memory as its result and nothing else.
