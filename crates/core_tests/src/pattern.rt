@@ -21,20 +21,31 @@ fn one_row(alloc: Global, cells: usize, clue: &str) -> Result<PatternPuzzle, Fai
     Ok(read_pattern(alloc, text.as_bytes())?)
 }
 
-#[test]
-fn lines_are_houses(rt: HostRuntime) -> Result<(), Fail> {
-    let puzzle = read_pattern(rt.alloc(), b"3x2:2/1/1/1.1/2")?;
-    let rules = PatternLines::new(rt.alloc(), &puzzle)?;
-    assert_eq!(rt; (rules.cells(), rules.houses(), rules.bound()), (6, 5, 11));
-    assert!(rt; 4 < rules.houses());
-    assert_eq!(rt; (rules.scope_len(2), rules.scope_len(4)), (2, 3));
-    assert!(rt; 5 < rules.cells());
-    let found = [
+/// The rules of the puzzle with the ID.
+fn rules_of(alloc: Global, id: &str) -> Result<PatternLines, Fail> {
+    let puzzle = read_pattern(alloc, id.as_bytes())?;
+    Ok(PatternLines::new(alloc, &puzzle)?)
+}
+
+/// The cells of houses 2 and 4, and the first houses of cell 5 from 0, from 3 and from 5 on; nothing if there are none.
+fn houses_of(rules: &PatternLines) -> Option<([usize; 2], [Option<usize>; 3])> {
+    if rules.houses() <= 4 || rules.cells() <= 5 {
+        return None;
+    }
+    let cells = [rules.scope_len(2), rules.scope_len(4)];
+    let houses = [
         rules.house_at(5, 0),
         rules.house_at(5, 3),
         rules.house_at(5, 5),
     ];
-    assert_eq!(rt; found, [Some(2), Some(4), None]);
+    Some((cells, houses))
+}
+
+#[test]
+fn lines_are_houses(rt: HostRuntime) -> Result<(), Fail> {
+    let rules = rules_of(rt.alloc(), "3x2:2/1/1/1.1/2")?;
+    assert_eq!(rt; (rules.cells(), rules.houses(), rules.bound()), (6, 5, 11));
+    assert_eq!(rt; houses_of(&rules), Some(([2, 3], [Some(2), Some(4), None])));
     Ok(())
 }
 

@@ -68,16 +68,25 @@ fn a_corner_with_two_bulbs_closes(rt: HostRuntime) -> Result<(), Fail> {
     Ok(())
 }
 
+/// How many cells each of the eight houses has, if there are so many, and whether cells 1 and 2 stand in their houses.
+fn houses_of(rules: &LightRules) -> Option<([usize; 8], [bool; 2])> {
+    if rules.houses() != 8 {
+        return None;
+    }
+    let mut cells = [0; 8];
+    for house in 0..8 {
+        cells[house] = rules.scope_len(house);
+    }
+    let first = stands_in(rules, 1, &[0, 1, 3, 5, 7]);
+    let second = stands_in(rules, 2, &[0, 2, 4, 6, 7]);
+    Some((cells, [first, second]))
+}
+
 #[test]
 fn houses_of_light_up(rt: HostRuntime) -> Result<(), Fail> {
     let rules = rules_of(rt.alloc(), "2x2:2c")?;
-    assert_eq!(rt; rules.houses(), 8);
-    for (house, cells) in [2, 1, 2, 2, 1, 2, 2, 3].iter().enumerate() {
-        assert!(rt; house < rules.houses());
-        assert_eq!(rt; rules.scope_len(house), *cells, "house {house}");
-    }
-    assert!(rt; stands_in(&rules, 1, &[0, 1, 3, 5, 7]));
-    assert!(rt; stands_in(&rules, 2, &[0, 2, 4, 6, 7]));
+    let told = houses_of(&rules);
+    assert_eq!(rt; told, Some(([2, 1, 2, 2, 1, 2, 2, 3], [true, true])));
     Ok(())
 }
 
@@ -87,12 +96,17 @@ fn black_cells(alloc: Global) -> Result<LightPuzzle, Fail> {
     Ok(read_lights(alloc, text.as_bytes())?)
 }
 
+/// How many cells and houses it has, and whether the houses close the board without bulbs.
+fn closed(alloc: Global, puzzle: &LightPuzzle) -> Result<(usize, usize, bool), AllocError> {
+    let rules = LightRules::new(alloc, puzzle)?;
+    let closes = close_to(alloc, &rules, &[])?;
+    Ok((rules.cells(), rules.houses(), closes))
+}
+
 #[test]
 fn a_wide_grid_of_black_cells(rt: HostRuntime) -> Result<(), Fail> {
     let puzzle = black_cells(rt.alloc())?;
     assert_eq!(rt; checked(rt.alloc(), &puzzle, &[])?, Some(None));
-    let rules = LightRules::new(rt.alloc(), &puzzle)?;
-    assert_eq!(rt; (rules.cells(), rules.houses()), (240, 0));
-    assert!(rt; close_to(rt.alloc(), &rules, &[])?);
+    assert_eq!(rt; closed(rt.alloc(), &puzzle)?, (240, 0, true));
     Ok(())
 }

@@ -74,12 +74,17 @@ fn no_trees(alloc: Global) -> Result<TentsPuzzle, Fail> {
     Ok(read_tents(alloc, text.as_bytes())?)
 }
 
+/// How many houses it has, and whether they close the board without tents.
+fn closed(alloc: Global, puzzle: &TentsPuzzle) -> Result<(usize, bool), AllocError> {
+    let rules = TentRules::new(alloc, puzzle)?;
+    let closes = close_to(alloc, &rules, &[])?;
+    Ok((rules.houses(), closes))
+}
+
 #[test]
 fn a_wide_grid_without_trees(rt: HostRuntime) -> Result<(), Fail> {
     let puzzle = no_trees(rt.alloc())?;
     assert_eq!(rt; checked(rt.alloc(), &puzzle, &[])?, Some(None));
-    let rules = TentRules::new(rt.alloc(), &puzzle)?;
-    assert_eq!(rt; rules.houses(), 241);
-    assert!(rt; close_to(rt.alloc(), &rules, &[])?);
+    assert_eq!(rt; closed(rt.alloc(), &puzzle)?, (241, true));
     Ok(())
 }

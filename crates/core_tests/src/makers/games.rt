@@ -74,11 +74,16 @@ fn numbers(made: &Made<LightPuzzle>) -> [u32; 3] {
     [kept, taken, wrong]
 }
 
+/// The same of a puzzle of 6 by 6 cells.
+fn numbers_of(alloc: Global) -> Result<[u32; 3], MakeFault> {
+    let size = Size::new(6, 6).unwrap();
+    let made = lights(alloc, size, 30, limits(1_000, 1_000))?;
+    Ok(numbers(&made))
+}
+
 #[test]
 fn numbers_that_are_taken_away_leave_black_cells(rt: HostRuntime) -> Result<(), Fail> {
-    let size = Size::new(6, 6).unwrap();
-    let made = lights(rt.alloc(), size, 30, limits(1_000, 1_000))?;
-    let [kept, taken, wrong] = numbers(&made);
+    let [kept, taken, wrong] = numbers_of(rt.alloc())?;
     assert!(rt; kept > 0 && taken > 0);
     assert_eq!(rt; wrong, 0);
     Ok(())
@@ -103,16 +108,21 @@ fn counted(made: &Made<TentsPuzzle>) -> Option<(u32, u32)> {
     Some((standing, trees))
 }
 
+/// The same of what is made of a size.
+fn counted_of(alloc: Global, size: Size) -> Result<Option<(u32, u32)>, MakeFault> {
+    let made = tents(alloc, size, 1_000)?;
+    Ok(counted(&made))
+}
+
 #[test]
 fn tents_have_trees(rt: HostRuntime) -> Result<(), Fail> {
     let (size, small) = (Size::new(6, 6).unwrap(), Size::new(3, 3).unwrap());
-    let made = tents(rt.alloc(), size, 1_000)?;
-    let (standing, trees) = counted(&made).unwrap_or((0, 0));
+    let (standing, trees) = counted_of(rt.alloc(), size)?.unwrap_or((0, 0));
     assert!(rt; 1 <= standing && standing <= 7);
     assert_eq!(rt; trees, standing);
-    for (size, why) in [(size, MakeFault::Exhausted), (small, MakeFault::SizeRange)] {
-        let none = tents(rt.alloc(), size, 0);
-        assert_eq!(rt; fault(none)?, Some(why), "{size:?}");
-    }
+    let none = tents(rt.alloc(), size, 0);
+    assert_eq!(rt; fault(none)?, Some(MakeFault::Exhausted));
+    let narrow = tents(rt.alloc(), small, 0);
+    assert_eq!(rt; fault(narrow)?, Some(MakeFault::SizeRange));
     Ok(())
 }

@@ -52,12 +52,16 @@ fn checked(alloc: Global, grid: &Grid) -> Result<Option<SoloFault>, AllocError> 
     Ok(check_solo(&puzzle, grid))
 }
 
+/// How many cells the answer of a puzzle of 2 by 3 blocks has, and what the check says of it. Its only try takes the first
+/// filling.
+fn first_filling(alloc: Global) -> Result<(usize, Option<SoloFault>), Fail> {
+    let made = made(alloc, (2, 3), false, limits(0, 1))?;
+    Ok((made.answer.len(), checked(alloc, &made.answer)?))
+}
+
 #[test]
 fn a_filling_of_two_by_three_blocks_is_a_solution(rt: HostRuntime) -> Result<(), Fail> {
-    // the first filling is the answer
-    let made = made(rt.alloc(), (2, 3), false, limits(0, 1))?;
-    assert_eq!(rt; made.answer.len(), 36);
-    assert_eq!(rt; checked(rt.alloc(), &made.answer)?, None);
+    assert_eq!(rt; first_filling(rt.alloc())?, (36, None));
     Ok(())
 }
 
@@ -91,32 +95,52 @@ fn searched(
     Ok((verdict, is_same(store.first(), answer)))
 }
 
+/// What is told of a puzzle of 2 by 2 blocks.
+#[derive(Clone, Copy)]
+struct Told {
+    /// It is one of Solo X.
+    x: bool,
+    /// Each given was left for the reason.
+    kept: bool,
+    /// What the check says of the answer.
+    fault: Option<SoloFault>,
+    /// The verdict of a search, and whether it found the answer.
+    found: (Verdict, bool),
+}
+
+/// What is told of one that is made in one try.
+fn told_of(alloc: Global, x: bool, budget: u64, why: Why) -> Result<Told, Fail> {
+    let made = made(alloc, (2, 2), x, limits(budget, 1))?;
+    let found = searched(alloc, &made.puzzle, &made.answer, budget)?;
+    Ok(Told {
+        x: made.puzzle.x(),
+        kept: all_kept(&made, why),
+        fault: check_solo(&made.puzzle, &made.answer),
+        found,
+    })
+}
+
 #[test]
 fn no_budget_leaves_givens_for_want_of_it(rt: HostRuntime) -> Result<(), Fail> {
-    let made = made(rt.alloc(), (2, 2), false, limits(0, 1))?;
-    assert!(rt; all_kept(&made, Why::Budget));
-    assert_eq!(rt; check_solo(&made.puzzle, &made.answer), None);
-    let found = searched(rt.alloc(), &made.puzzle, &made.answer, 0)?;
-    assert_eq!(rt; found, (Verdict::One, true));
+    let told = told_of(rt.alloc(), false, 0, Why::Budget)?;
+    assert!(rt; told.kept && !told.x);
+    assert_eq!(rt; (told.fault, told.found), (None, (Verdict::One, true)));
     Ok(())
 }
 
 #[test]
 fn enough_budget_leaves_givens_that_are_needed(rt: HostRuntime) -> Result<(), Fail> {
-    let made = made(rt.alloc(), (2, 2), false, limits(100_000, 1))?;
-    assert!(rt; all_kept(&made, Why::Needed));
-    assert_eq!(rt; check_solo(&made.puzzle, &made.answer), None);
+    let told = told_of(rt.alloc(), false, 100_000, Why::Needed)?;
+    assert!(rt; told.kept && !told.x);
+    assert_eq!(rt; (told.fault, told.found), (None, (Verdict::One, true)));
     Ok(())
 }
 
 #[test]
 fn solo_x_has_numbers_once_on_its_diagonals(rt: HostRuntime) -> Result<(), Fail> {
-    let made = made(rt.alloc(), (2, 2), true, limits(100_000, 1))?;
-    assert!(rt; made.puzzle.x());
-    assert!(rt; all_kept(&made, Why::Needed));
-    assert_eq!(rt; check_solo(&made.puzzle, &made.answer), None);
-    let found = searched(rt.alloc(), &made.puzzle, &made.answer, 100_000)?;
-    assert_eq!(rt; found, (Verdict::One, true));
+    let told = told_of(rt.alloc(), true, 100_000, Why::Needed)?;
+    assert!(rt; told.kept && told.x);
+    assert_eq!(rt; (told.fault, told.found), (None, (Verdict::One, true)));
     Ok(())
 }
 

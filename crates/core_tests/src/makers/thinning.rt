@@ -92,11 +92,18 @@ fn goes_on_without_number(alloc: Global, budget: u64) -> Result<bool, AllocError
     goes_as_new(alloc, &corner(alloc, false)?, &mut used, budget)
 }
 
+/// Whether it does where the given of a cell of this puzzle of Solo is taken away.
+fn goes_on_without(alloc: Global, id: &str, place: usize) -> Result<bool, Fail> {
+    let mut puzzle = read_solo(alloc, id.as_bytes())?;
+    Ok(goes_on_without_given(alloc, &mut puzzle, place, 3)?)
+}
+
 #[test]
 fn a_used_store_serves_thinner_puzzles(rt: HostRuntime) -> Result<(), Fail> {
-    let mut solo = read_solo(rt.alloc(), b"2x2:1_2_3_4_3_4_1_2h")?;
-    assert!(rt; goes_on_without_given(rt.alloc(), &mut solo, 5, 3)?);
-    assert!(rt; !goes_on_without_given(rt.alloc(), &mut solo, 8, 3)?);
+    for (place, goes_on) in [(5, true), (8, false)] {
+        let told = goes_on_without(rt.alloc(), "2x2:1_2_3_4_3_4_1_2h", place)?;
+        assert_eq!(rt; told, goes_on, "{place}");
+    }
     assert!(rt; goes_on_without_number(rt.alloc(), 2)?);
     Ok(())
 }

@@ -63,6 +63,17 @@ fn struck(
     Ok(Some([first, white, second]))
 }
 
+/// The same of a row of so many cells with this clue.
+fn struck_of(
+    alloc: Global,
+    cells: usize,
+    clue: &str,
+    (from, to): (usize, usize),
+) -> Result<Option<[bool; 3]>, Fail> {
+    let puzzle = one_row(alloc, cells, clue)?;
+    Ok(struck(alloc, &puzzle, from, to)?)
+}
+
 #[test]
 fn long_runs_overlap_themselves(rt: HostRuntime) -> Result<(), Fail> {
     for (cells, clue, (from, to)) in [
@@ -74,8 +85,7 @@ fn long_runs_overlap_themselves(rt: HostRuntime) -> Result<(), Fail> {
         (120, "120", (0, 120)),
         (64, "1.1.1.1.1.1.1.1.1.1.1.1.1.1.1.1", (0, 0)),
     ] {
-        let puzzle = one_row(rt.alloc(), cells, clue)?;
-        let told = struck(rt.alloc(), &puzzle, from, to)?;
+        let told = struck_of(rt.alloc(), cells, clue, (from, to))?;
         assert_eq!(rt; told, Some([from < to, true, false]), "{cells} {clue}");
     }
     Ok(())
