@@ -1,22 +1,29 @@
 #!/usr/bin/env bash
-# Runs every command line that README.md and docs/USE.md show, and compares what comes with what they show.
+# Runs the command lines that README.md, docs/USE.md and docs/CONTRIBUTING.md show, and compares what comes with what they show.
 #
 # usage: outside/use.sh PROGRAM     PROGRAM as `rt run` leaves it: crates/puzzles/out/puzzles
 #
-# It needs bash, python3, node, GNU parallel and xargs (of Debian: nodejs, parallel, findutils), and installs nothing.
-# Code stands in fenced blocks of two kinds, and nowhere else:
+# It needs bash, tar, python3, node, GNU parallel and xargs (of Debian: nodejs, parallel, findutils), and installs nothing.
+# Code stands in fenced blocks of three kinds, and nowhere else:
 #   console       a session: `$ ` begins a command line, `> ` goes on with it, and all other lines are what it writes, to
 #                 standard output and standard error together
 #   python NAME   a file of that name; and so js NAME
-# Each document has a temporary folder and one shell, in which its lines run in order, so that `$?` and variables last.
+#   text          what is only read
+# Each document has a temporary folder, a copy of the repository without its `out` folders, and one shell, in which its lines run in order, so that `$?` and variables last.
 # A line of a session that is run neither here nor named below, and a block of any other kind, is a failure.
 set -u
 
-# These lines are NOT run. The first two prove all crates, which takes from a quarter of an hour to some hours. The others are of
-# Dask: two run until they are stopped, and the job needs these two. outside/dask_job.py runs that job.
+# These lines are NOT run. Those with `rt` take more than a minute, some of them hours: they prove crates, or build the program.
+# The others are of Dask: two run until they are stopped, and the job needs these two. outside/dask_job.py runs that job.
 dask='/usr/bin/python3 examples/dask/job.py --lines 25 tcp://127.0.0.1:8786'
 not_run=(
+    '(cd crates/puzzles && rt try -- solve pattern 5x1:1/1//1/1/2.2)'
     '(cd crates/puzzles && rt run -- solve pattern 5x1:1/1//1/1/2.2)'
+    '(cd crates/grid_core && rt check)'
+    '(cd crates/grid_core && rt check --only grid_core::board::Board::has_empty_cell)'
+    '(cd crates/grid_core && rt check --only grid_core::board::Board::has_empty_cell --allow-holes)'
+    '(cd crates/core_tests && rt try --test -- sizes_have_bounds)'
+    '(cd crates/core_tests && rt test)'
     'rt ci'
     'sudo apt-get install python3-distributed'
     'dask scheduler --host 127.0.0.1 --port 8786 --no-dashboard'
@@ -25,8 +32,8 @@ not_run=(
     "$dask ids.txt grade pattern -- {} > grades.txt"
     "$dask seeds.txt generate tents 8x8 --seed {} > made.txt"
 )
-documents=(README.md docs/USE.md)
-tools=(python3 node parallel xargs)
+documents=(README.md docs/USE.md docs/CONTRIBUTING.md)
+tools=(python3 node parallel xargs tar)
 
 help() {
     sed -n '2,/^set/{s/^# \{0,1\}//p}' "$0"
@@ -89,6 +96,7 @@ read_document() {
             case $kind/$line in
                 */'```') kind='' ;;
                 console/*) take_line "$line" "$1:$number" ;;
+                text/*) ;;
                 *) printf '%s\n' "$line" >> "$2/$kind" ;;
             esac
             continue
@@ -96,6 +104,7 @@ read_document() {
         case $line in
             '```console') kind=console opened=${#commands[@]} ;;
             '```python '* | '```js '*) kind=${line#* } ;;
+            '```text') kind=text ;;
             '```'*) fail "$1:$number: a block of no kind that is run: $line" ;;
             '    $ '* | *'`puzzles '* | *'`$ '*) fail "$1:$number: a command line outside of a block: $line" ;;
         esac
@@ -139,7 +148,9 @@ mkdir "$folder/bin"
 cp "$program" "$folder/bin/puzzles"
 for document in "${documents[@]}"; do
     place=$folder/$(basename "$document" .md)
-    mkdir -p "$place/at/crates/puzzles/out" "$place/outputs"
+    mkdir -p "$place/at" "$place/outputs"
+    tar -C "$top" --exclude=./.git --exclude='./crates/*/out' -cf - . | tar -C "$place/at" -xf -
+    mkdir -p "$place/at/crates/puzzles/out"
     cp "$program" "$place/at/crates/puzzles/out/puzzles"
     read_document "$document" "$place/at"
     run_commands "$place/at" "$place/outputs"

@@ -1,0 +1,137 @@
+#!/usr/bin/env python3
+"""Looks at the documents: README.md, docs/, and the README.md of other folders.
+
+- Each link leads to a file, and to a heading in it. Each place of the repository that is named in code marks is there.
+- Tables that stand in two documents agree: words, limits, commands and statuses of README.md and docs/FORMATS.md.
+- A line has at most 130 columns and a sentence at most 25 words, outside of tables, code and the theorem that is quoted.
+- Each script that a document names can be run, prints a text of its own by --help, and meets a wrong word without a traceback.
+
+Prints what is not so; the exit status is 1 if anything is.
+"""
+import argparse
+import os
+import pathlib
+import re
+import subprocess
+import sys
+
+TOP = pathlib.Path(__file__).resolve().parent.parent
+COLUMNS, WORDS = 130, 25
+HELP_SECONDS = 60
+PLACE = re.compile(r"(?:docs|bench|outside|examples|page|crates|\.ci)/[\w./-]*\w")
+NUMBER = re.compile(r"\d[\d,]*")
+
+
+def documents():
+    return sorted(path for path in [*TOP.glob("*.md"), *TOP.glob("docs/*.md"), *TOP.glob("*/README.md")])
+
+
+def plain_lines(text):
+    """The lines outside of fenced code, with their numbers."""
+    fenced = False
+    for number, line in enumerate(text.split("\n"), 1):
+        if line.startswith("```"):
+            fenced = not fenced
+        elif not fenced:
+            yield number, line
+
+
+def anchors(path):
+    """The headings of a document, as links name them."""
+    heads = (line.lstrip("#").strip() for _, line in plain_lines(path.read_text()) if line.startswith("#"))
+    return {re.sub(r"[^\w\- ]", "", head.lower()).replace(" ", "-") for head in heads}
+
+
+def links(path):
+    """What is wrong with the links of a document, and with the places that it names."""
+    for number, line in plain_lines(path.read_text()):
+        for target in re.findall(r"\]\(([^)]+)\)", line):
+            name, _, anchor = target.partition("#")
+            found = (path.parent / name).resolve() if name else path
+            if "://" not in target and not found.exists():
+                yield f"{path.relative_to(TOP)}:{number}: no such file: {target}"
+            elif anchor and anchor not in anchors(found):
+                yield f"{path.relative_to(TOP)}:{number}: no such heading: {target}"
+        for span in re.findall(r"`([^`]+)`", line):
+            word = span.split(" ")[0]
+            if PLACE.fullmatch(word) and not re.search(r"NAME|/out/", word) and not [*TOP.glob(word), *TOP.glob(f"{word}.*")]:
+                yield f"{path.relative_to(TOP)}:{number}: no such place: {word}"
+
+
+def lengths(path):
+    """Lines and sentences that are too long."""
+    paragraph, first = "", 0
+    for number, line in [*plain_lines(path.read_text()), (0, "")]:
+        is_prose = line.strip() and not line.strip().startswith(("|", "#", ">"))
+        if is_prose and len(line) > COLUMNS:
+            yield f"{path.relative_to(TOP)}:{number}: {len(line)} columns"
+        if is_prose and not re.match(r"\s*(- |\d+\. )", line):
+            first, paragraph = first or number, f"{paragraph} {line.strip()}"
+            continue
+        for sentence in re.split(r"(?<=[.!?])\s+", re.sub(r"`[^`]*`", "x", paragraph).replace("*", "")):
+            if len(sentence.split()) > WORDS:
+                yield f"{path.relative_to(TOP)}:{first}: {len(sentence.split())} words: {sentence.strip()[:80]}"
+        paragraph, first = (re.sub(r"^\s*(- |\d+\. )", "", line), number) if is_prose else ("", 0)
+
+
+def rows(path, head):
+    """The rows of the tables under a heading, by their first cell."""
+    found, is_under = {}, False
+    for _, line in plain_lines((TOP / path).read_text()):
+        if line.startswith("#"):
+            is_under = line == head
+        elif is_under and line.startswith("| "):
+            first, *others = [cell.strip() for cell in line.strip("|").split(" | ")]
+            found[first] = others
+    return found
+
+
+def twice():
+    """What the two tables say that stand in README.md and in docs/FORMATS.md, by a name."""
+    spans = re.compile(r"`([^`]+)`")
+    words = [rows("README.md", "## Commands"), rows("docs/FORMATS.md", "## 8. Commands and words")]
+    for name in ("`--budget B`", "`--seed S`", "`--tries T`", "`--black P`"):
+        yield name, *[NUMBER.findall(" ".join(table.get(name, ["no row"]))) for table in words]
+    for name in ("`solve`", "`check`", "`grade`", "`generate`"):
+        yield name, *[spans.findall(table.get(name, ["no row"])[0]) for table in words]
+    limits = [words[0], rows("docs/FORMATS.md", "## 1. Game IDs: the part before the colon")]
+    for name in ("Solo", "Pattern", "Light Up, Tents"):
+        yield name, *[NUMBER.findall(table.get(name, ["no row"])[-1]) for table in limits]
+    here, there = [rows("README.md", "## Answers and statuses"), rows("docs/FORMATS.md", "## 7. Statuses")]
+    yield "statuses", [name for name in here if name.isdigit()], [name for name in there if name.isdigit()]
+    for name in there:
+        told, meant = [set(spans.findall(table.get(name, [""])[0])) for table in (here, there)]
+        yield f"status {name}", sorted(told & meant), sorted(meant)
+
+
+def scripts():
+    """What is wrong with the scripts that a document names."""
+    text = "".join(path.read_text() for path in documents())
+    names = sorted({name for name in re.findall(r"(?:bench|outside|examples|page)/[\w/]+\.(?:py|sh)", text) if (TOP / name).exists()})
+    names += [f"bench/{name}" for name in re.findall(r"^\| `(\w+\.py)", (TOP / "bench" / "README.md").read_text(), re.M)]
+    for name in sorted(set(names)):
+        if not os.access(TOP / name, os.X_OK):
+            yield f"{name}: can't be run"
+            continue
+        for word, is_right in (("--help", lambda status: status == 0), ("--no-such-word", lambda status: status != 0)):
+            try:
+                done = subprocess.run([TOP / name, word], capture_output=True, text=True, stdin=subprocess.DEVNULL, check=False,
+                                      timeout=HELP_SECONDS)
+            except (OSError, subprocess.TimeoutExpired) as fault:
+                yield f"{name} {word}: {fault}"
+                continue
+            if not is_right(done.returncode) or "Traceback" in done.stderr or not done.stdout + done.stderr:
+                yield f"{name} {word}: status {done.returncode}: {(done.stderr or done.stdout).strip()[-100:]}"
+
+
+def main():
+    argparse.ArgumentParser(description=__doc__, formatter_class=argparse.RawDescriptionHelpFormatter).parse_args()
+    faults = [fault for path in documents() for look in (links, lengths) for fault in look(path)]
+    faults += [f"{name}: README.md has {here}, docs/FORMATS.md {there}" for name, here, there in twice() if here != there]
+    faults += scripts()
+    print("\n".join([*faults, f"{len(documents())} documents, {len(faults)} faults"]))
+    return 1 if faults else 0
+
+
+if __name__ == "__main__":
+    sys.exit(main())
