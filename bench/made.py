@@ -1,13 +1,13 @@
 #!/usr/bin/env python3
 """Times `generate`, and prints what it answers in how many seconds, by size and by the share of black cells.
 
-usage: made.py PROGRAM [SEEDS [LIMIT [GAME]]]     PROGRAM as `rt run` leaves it: crates/puzzles/out/puzzles
-
-Each kind is made for the seeds from 1 to SEEDS (3 where nothing is said), one run of the program each, so the time to start
-it is in the number. A run of more than LIMIT seconds (60 where nothing is said) is stopped. A cell is the middle one of the
-times in seconds; `exhausted` stands before it where that run made no puzzle, and `over LIMIT` where it was stopped. Of runs that
-differ in that the number that made a puzzle is added. `-` is not tried: no smaller size made one. Nothing is asserted.
+Each kind is made for the seeds from 1 to SEEDS, one run of the program each, so the time to start it is in the number. A run of
+more than LIMIT seconds is stopped. A cell is the middle one of the times in seconds; `exhausted` stands before it where that run
+made no puzzle, and `over LIMIT` where it was stopped. Of runs that differ in that the number that made a puzzle is added. `-` is
+not tried: no smaller size made one. Nothing is asserted.
 """
+import argparse
+import shutil
 import subprocess
 import sys
 import time
@@ -53,13 +53,17 @@ def measured(program, words, seeds, limit):
 
 
 def main():
-    if len(sys.argv) < 2:
-        sys.exit(__doc__)
-    program = sys.argv[1]
-    seeds = int(sys.argv[2]) if len(sys.argv) > 2 else 3
-    limit = float(sys.argv[3]) if len(sys.argv) > 3 else 60
+    parser = argparse.ArgumentParser(description=__doc__, formatter_class=argparse.RawDescriptionHelpFormatter)
+    parser.add_argument("program", metavar="PROGRAM", help="as `rt run` leaves it: crates/puzzles/out/puzzles")
+    parser.add_argument("seeds", nargs="?", type=int, default=3, metavar="SEEDS", help="seeds of each kind (default 3)")
+    parser.add_argument("limit", nargs="?", type=float, default=60, metavar="LIMIT", help="seconds of a run (default 60)")
+    parser.add_argument("game", nargs="?", choices=sorted({game for game, _, _ in KINDS}), help="this game alone")
+    words = parser.parse_args()
+    seeds, limit, program = words.seeds, words.limit, shutil.which(words.program)
+    if not program:
+        sys.exit(f"no program: {words.program}")
     for game, sizes, shares in KINDS:
-        if len(sys.argv) > 4 and game != sys.argv[4]:
+        if words.game not in (None, game):
             continue
         heads = [f"--black {share}" for share in shares if share] or ["seconds"]
         print(f"| {game} | " + " | ".join(heads) + " |")
@@ -78,4 +82,5 @@ def main():
         print()
 
 
-main()
+if __name__ == "__main__":
+    main()

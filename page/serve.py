@@ -190,6 +190,7 @@ class Page(http.server.BaseHTTPRequestHandler):
 
     def reply(self, status, body, kind="application/json"):
         more = {"Retry-After": "2"} if status == 503 else {}
+        self.request_version = "HTTP/1.0"  # a request without a version gets a head all the same
         self.send_response(status)
         for name, text in {**HEADERS, **more, "Content-Type": kind, "Content-Length": str(len(body))}.items():
             self.send_header(name, text)
