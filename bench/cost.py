@@ -14,7 +14,7 @@ import time
 
 BUDGETS = ["10000", "20000", ""]  # "" is the default
 CLOCK = 60.0  # seconds of a run
-GRADING_BUDGET = 1_000_000
+GRADING_BUDGET = 1_000_000  # some seconds
 POLL_SECONDS = 0.002
 
 
@@ -39,15 +39,15 @@ def hardest(program, count):
     maker = shutil.which("sgt-tents", path=os.environ["PATH"] + ":/usr/games")
     found = (-1, "")
     for seed in range(1, count + 1 if maker else 0):
-        made = subprocess.run([maker, "--generate", "1", f"20x20dt#{seed}"], capture_output=True, text=True, check=True, timeout=CLOCK)
+        words = [maker, "--generate", "1", f"20x20dt#{seed}"]
+        made = subprocess.run(words, capture_output=True, text=True, check=True, timeout=CLOCK)
         text = "20x20:" + made.stdout.strip().partition(":")[2]
         words = [program, "grade", "tents", "--budget", str(GRADING_BUDGET), "--", text]
-        try:
-            done = subprocess.run(words, stdin=subprocess.DEVNULL, capture_output=True, text=True, check=False, timeout=CLOCK)
-        except subprocess.TimeoutExpired:
-            return text, f"over {GRADING_BUDGET:,}"
+        done = subprocess.run(words, stdin=subprocess.DEVNULL, capture_output=True, text=True, check=False, timeout=CLOCK)
         grade = done.stdout.split()
-        found = max(found, (int(grade[1]) if grade[0] == "search" else 0 if done.returncode == 0 else GRADING_BUDGET, text))
+        if done.returncode == 4:
+            return text, f"over {GRADING_BUDGET:,}"
+        found = max(found, (int(grade[1]) if grade[0] == "search" else 0, text))
     return found[1], f"{found[0]:,}"
 
 
@@ -82,7 +82,8 @@ def run(words):
 def main():
     parser = argparse.ArgumentParser(description=__doc__, formatter_class=argparse.RawDescriptionHelpFormatter)
     parser.add_argument("program", metavar="PROGRAM", help="as `rt run` leaves it: crates/puzzles/out/puzzles")
-    parser.add_argument("count", nargs="?", type=int, default=40, metavar="COUNT", help="Tents to choose the hardest from (default 40)")
+    parser.add_argument("count", nargs="?", type=int, default=40, metavar="COUNT",
+                        help="Tents to choose the hardest from (default 40)")
     words = parser.parse_args()
     program = shutil.which(words.program) or sys.exit(f"no program: {words.program}")
     puzzles = [("lightup", white(side), "white") for side in (10, 30, 60, 120)]
