@@ -3,7 +3,8 @@
 #
 # usage: outside/use.sh PROGRAM     PROGRAM as `rt run` leaves it: crates/puzzles/out/puzzles
 #
-# It needs bash, python3, node, GNU parallel and xargs (of Debian: nodejs, parallel, findutils), and installs nothing.
+# It needs bash, python3, node, curl, GNU parallel and xargs (of Debian: nodejs, curl, parallel, findutils), and installs
+# nothing. The port 8018 must be free.
 # Code stands in fenced blocks of two kinds, and nowhere else:
 #   console       a session: `$ ` begins a command line, `> ` goes on with it, and all other lines are what it writes, to
 #                 standard output and standard error together
@@ -13,14 +14,15 @@
 set -u
 
 # These lines are NOT run. The first two prove all crates, which takes from a quarter of an hour to some hours; Debian has no
-# Spark, on which the third runs.
+# Spark, on which the third runs. The fourth runs until it is stopped; docs/USE.md has it once more, with its end.
 not_run=(
     '(cd crates/puzzles && rt run -- solve pattern 5x1:1/1//1/1/2.2)'
     'rt ci'
     'spark-submit job.py ids.txt answers'
+    'page/serve.py ~/.local/bin/puzzles'
 )
 documents=(README.md docs/USE.md)
-tools=(python3 node parallel xargs)
+tools=(python3 node curl parallel xargs)
 
 if [ $# -ne 1 ] || [ ! -x "$1" ]; then
     sed -n '2,/^set/{s/^# \{0,1\}//p}' "$0" >&2
@@ -133,6 +135,7 @@ for document in "${documents[@]}"; do
     place=$folder/$(basename "$document" .md)
     mkdir -p "$place/at/crates/puzzles/out" "$place/outputs"
     cp "$program" "$place/at/crates/puzzles/out/puzzles"
+    cp -r "$top/page" "$place/at/page"
     read_document "$document" "$place/at"
     run_commands "$place/at" "$place/outputs"
     compare "$place/outputs"

@@ -10,26 +10,18 @@ const RULES = {
   lightup: "Light each white cell. No bulb lights another. A number counts the bulbs beside it.",
   tents: "Each tree has a tent of its own beside it. No two tents touch. The numbers count the tents.",
 };
-const GRADES = {
-  singles: "Easy: each step finds a cell with one number left, or a number with one cell left.",
-  houses: "Medium: each step looks at one row, column or block.",
-  crossings: "Hard: some steps look at a block together with a row or column.",
-  lines: "No guesses: each step looks at one row or column.",
-  local: "No guesses: each step looks at one clue or one line.",
-};
+const GRADES = { singles: "Easy: each step finds a cell with one number left, or a number with one cell left.",
+  houses: "Medium: each step looks at one row, column or block.", crossings: "Hard: some steps look at a block and a line.",
+  lines: "No guesses: each step looks at one row or column.", local: "No guesses: each step looks at one clue or line." };
 const REFUSED = {
   "seed id": "This is a seed of another program, not a puzzle. The ID of the puzzle itself has a colon after the size.",
   "no colon": "An ID is a size, a colon and a description, as in 3x3:aBBa1aBb.",
   "bad size": "An ID begins with its size, as 10x10: does. Solo of 9 by 9 cells is 3x3:.",
   variant: "Something stands between the size and the colon. This variant of the game isn’t known here.",
   "size range": "The size is too small or too large. Is this the ID of another game?",
-  "bad byte": "The marked character means nothing there.",
-  "number range": "The marked number is too small or too large.",
-  line: "The marked clue doesn’t fit its line.",
-  "too few": "The description ends too soon.",
-  "too many": "The description goes on for too long.",
-  "too long": "An ID has at most 65,536 bytes.",
-  "field id": "An ID is one line without control characters.",
+  "bad byte": "The marked character means nothing there.", "number range": "The marked number is too small or too large.",
+  line: "The marked clue doesn’t fit its line.", "field id": "An ID is one line without control characters.",
+  "too few": "The ID ends too soon.", "too many": "The ID goes on for too long.", "too long": "An ID has at most 65,536 bytes.",
 };
 const BROKEN = { number: "a number hasn’t its bulbs beside it", seen: "a bulb lights another", dark: "a cell is dark",
   touch: "two tents touch", match: "tents and trees can’t be paired one to one" };
@@ -69,9 +61,9 @@ function draw(p, name) {
   const grid = element("div", { role: "grid", class: `board ${p.game}`, "aria-label": `${name}, ${p.w} columns, ${p.h} rows` },
     ...(tents ? [] : heads), ...lines, ...(tents ? heads : []));
   const room = (lists, size) => (tents ? 1 : Math.max(0, ...(lists || []).map((list) => 0.4 + size(list)))); // in cells
-  grid.style.setProperty("--w", p.w);
-  grid.style.setProperty("--wide", p.w + room(p.rows, (list) => list.join("").length * 0.3 + list.length * 0.3));
-  grid.style.setProperty("--tall", p.h + room(p.columns, (list) => list.length * 0.6));
+  const sizes = { "--w": p.w, "--wide": p.w + room(p.rows, (list) => list.join("").length * 0.3 + list.length * 0.3),
+    "--tall": p.h + room(p.columns, (list) => list.length * 0.6) };
+  for (const [key, size] of Object.entries(sizes)) grid.style.setProperty(key, size);
   return { grid, cells, columns, rows };
 }
 
@@ -151,7 +143,7 @@ function key(event) {
   event.preventDefault();
 }
 
-function show(game, text, name) {
+function show(game, text, name, seed) {
   [puzzle, id, past] = [read(game, text), text, []];
   drawn = draw(puzzle, name);
   drawn.cells[Math.max(0, puzzle.fixed.indexOf(""))].tabIndex = 0;
@@ -169,7 +161,7 @@ function show(game, text, name) {
   $("keys").textContent = puzzle.block ? "Choose a cell and a number. Keys: arrows, digits, Delete."
     : `Click for ${VALUES[game][1]}, dot, blank; right click for a dot; drag to paint. Keys: arrows, Space, X for a dot, Delete.`;
   $("more").hidden = true;
-  $("id").value = text;
+  [$("id").value, $("seed").value] = [text, seed];
   refuse("");
   say("");
   become(puzzle.fixed.map(() => 0));
@@ -196,7 +188,7 @@ async function generate() {
   const black = side < 10 ? "20" : side < 14 ? "25" : side < 30 ? "30" : "35"; // with fewer a large one has several solutions
   const told = await ask("generate", { game, size, seed, ...(game === "lightup" ? { black } : {}) });
   if (told && told.verdict === "exhausted") return say("No puzzle came of this seed. Try another.", "bad");
-  return told && show(game, told.id, `${game} of seed ${seed}`);
+  return told && show(game, told.id, `${game} of seed ${seed}`, seed);
 }
 
 // Says why an ID was refused, and marks the place that is named.
@@ -218,7 +210,7 @@ function refuse(why, text = "") {
 // An ID is tried by a check of no grid, which searches nothing: if that grid is what is refused, the ID is good.
 async function open() {
   const game = chosen(), text = ($("id").value = $("id").value.trim()), told = await ask("check", { game, id: text, grid: "" });
-  if (told && told.refused === "grid") show(game, text, `${game} by its ID`);
+  if (told && told.refused === "grid") show(game, text, `${game} by its ID`, "");
   else if (told) refuse(told.refused, text);
 }
 
@@ -227,7 +219,7 @@ async function check() {
   const told = await ask("check", { game: puzzle.game, id, grid: print(puzzle, state) });
   if (!told) return undefined;
   if (told.verdict === "correct") return say("Correct.", "good");
-  const [kind, where = ""] = told.fault.split(" "), [x, y] = where.split(",").map((number) => Number(number) + 1);
+  const [kind, where = ""] = told.fault.split(" "), [x, y] = where.split(",").map((n) => Number(n) + 1);
   const line = `${kind} ${x} ${puzzle.block ? "has a number twice" : "isn’t as its clue says"}`;
   become(state, places(puzzle, told.fault));
   return say(`Not yet: ${BROKEN[kind] || line}${y ? `, at row ${y} and column ${x}` : ""}.`, "bad");
@@ -261,7 +253,8 @@ function setGame(game) {
   document.querySelector(`#games [value=${game}]`).checked = true;
   $("size").replaceChildren(...SIZES[game].split(" ").map((size) => {
     const [a, b] = size.match(/\d+/g), sides = game === "solo" ? [a * b, a * b] : [a, b];
-    return new Option(sides.join(" × ") + (size.endsWith("x") ? " X" : ""), size, false, USUAL.includes(size));
+    const name = sides.join(" × ") + (size.endsWith("x") ? " X" : "");
+    return new Option(name, size, false, USUAL.includes(size));
   }));
 }
 
@@ -274,7 +267,8 @@ for (const [form, act] of Object.entries({ make: generate, open })) {
   $(form).addEventListener("submit", (event) => { event.preventDefault(); act(); });
 }
 const undo = () => past.length && (say(""), become(past.pop())), clear = () => change(state.map(() => 0));
-for (const [name, act] of Object.entries({ check, solve, grade, undo, clear })) $(name).addEventListener("click", () => puzzle && act());
+const onClick = (name, act) => $(name).addEventListener("click", () => puzzle && act());
+for (const [name, act] of Object.entries({ check, solve, grade, undo, clear })) onClick(name, act);
 $("another").addEventListener("click", another);
 $("size").addEventListener("change", another);
 $("games").addEventListener("change", () => { setGame(chosen()); another(); });

@@ -41,7 +41,7 @@ HEADERS = {
 
 
 class Told(Exception):
-    """Told in place of an answer: a status, and why. It is 503 for `clock`, `busy`, and `program` (a signal, or a status over 4)."""
+    """Told in place of an answer: a status, and why. 503 is for `clock`, `busy`, and `program` (a signal, a status over 4)."""
 
 
 class Worker:
