@@ -20,16 +20,19 @@ WAIT = 30  # seconds of any wait
 WIDTHS = [(390, 844), (1280, 800)]
 GAMES = [  # game, size, seed, black cells as the page asks for
     ("solo", "3x3", "7", None), ("pattern", "10x10", "3", None), ("lightup", "7x7", "5", "20"), ("tents", "8x8", "2", None)]
+GRADES = {"singles": "Easy", "houses": "Medium", "crossings": "Hard", "lines": "No guesses", "local": "No guesses"}
 SIGNS = {"pattern": "#", "lightup": "O", "tents": "^"}
 BROKEN = [  # game, ID, the text that is marked
     ("solo", "3x3:a8_4a!7d", "!"), ("pattern", "2x2:1/é/1/1", "é"), ("solo", "2x2:1_5n", "5"),
     ("pattern", "3x1:1/1/1/2.1", "2.1"), ("tents", "2x2:_c,0,1,1,9", "9")]
-HOSTILE = ["--budget=5", "--", "<img src=x onerror=document.title='hurt'>", "';\"\\%s{}", "\u202e𝟙𝟚x3:", "z" * 200_000, "3x3#1", " "]
+HOSTILE = ["--budget=5", "--", "<img src=x onerror=document.title='hurt'>", "';\"\\%s{}", "\u202e𝟙𝟚x3:", "z" * 200_000,
+           "3x3#1", " ", "2x2:\r\n\0"]
 
 
 def missing():
     """What the browser part needs and this machine hasn't."""
-    needed = {"chromium": shutil.which("chromium"), "chromium-driver": shutil.which("chromedriver"), "python3-selenium": webdriver}
+    needed = {"chromium": shutil.which("chromium"), "chromium-driver": shutil.which("chromedriver"),
+              "python3-selenium": webdriver}
     return [name for name, there in needed.items() if not there]
 
 
@@ -44,7 +47,8 @@ class Page:
         if os.geteuid() == 0:
             options.add_argument("--no-sandbox")  # which Chromium's sandbox asks of root
         options.set_capability("goog:loggingPrefs", {"browser": "ALL"})
-        self.driver, self.url = webdriver.Chrome(options=options, service=Service(shutil.which("chromedriver"))), url
+        service = Service(shutil.which("chromedriver"), env={**os.environ, "TMPDIR": profile})
+        self.driver, self.url = webdriver.Chrome(options=options, service=service), url
         self.driver.set_page_load_timeout(WAIT)
         self.driver.set_script_timeout(WAIT)
 
@@ -96,9 +100,10 @@ class Page:
 
 def try_page(server, tally, pictures):
     """Each game as a person plays it; broken IDs; texts of any kind in any field."""
-    with tempfile.TemporaryDirectory() as profile:
-        page = Page(server.url, profile)
+    with tempfile.TemporaryDirectory(ignore_cleanup_errors=True) as profile:
+        page = None
         try:
+            page = Page(server.url, profile)
             page.size(*WIDTHS[1])
             for game, size, seed, black in GAMES:
                 play(page, server, tally, game, size, seed, black)
@@ -106,14 +111,15 @@ def try_page(server, tally, pictures):
             for game, text, mark in BROKEN:
                 broken(page, tally, game, text, mark)
             hostile(page, tally)
-            blocked = [line["message"] for line in page.driver.get_log("browser") if "Failed to load resource" not in line["message"]]
-            tally.same("the browser's complaints", blocked, [])
+            said = [line["message"] for line in page.driver.get_log("browser")]
+            tally.same("the browser's complaints", [line for line in said if "Failed to load resource" not in line], [])
             if pictures:
                 leave(page, server, Path(pictures))
         except WebDriverException as fault:
             tally.same("the browser", f"{type(fault).__name__}: {fault.msg}", "no fault")
         finally:
-            page.driver.quit()
+            if page:
+                page.driver.quit()
 
 
 def play(page, server, tally, game, size, seed, black):
@@ -134,17 +140,20 @@ def play(page, server, tally, game, size, seed, black):
     tally.same(f"{game}: check of a wrong cell", said.startswith("Not yet: "), True)
     grid = printed(page, game, made["grids"][0])
     _, _, told = server.ask("check", {"game": game, "id": made["id"], "grid": grid})
-    tally.same(f"{game}: the marks", page.marked(), named(told.get("fault", ""), size, len(made["grids"][0][0].split()) if game == "solo" else len(made["grids"][0][0]), game))
+    tally.same(f"{game}: the marks", page.marked(), named(told.get("fault", ""), size, len(made["grids"][0])))
     page.click("#clear")
     tally.same(f"{game}: solve", page.answer("#solve"), "The only solution. Undo brings your grid back.")
-    tally.same(f"{game}: what solve shows", printed(page, game, made["grids"][0]), "".join(row + "\n" for row in made["grids"][0]))
+    solution = "".join(row + "\n" for row in made["grids"][0])
+    tally.same(f"{game}: what solve shows", printed(page, game, made["grids"][0]), solution)
+    page.click("#undo")
+    tally.same(f"{game}: undo takes it back", printed(page, game, made["grids"][0]) == solution, False)
     _, _, told = server.ask("grade", {"game": game, "id": made["id"]})
-    first = {"singles": "Easy", "houses": "Medium", "crossings": "Hard", "lines": "No guesses", "local": "No guesses"}.get(told["grade"], "Guesses are needed")
-    tally.same(f"{game}: grade", page.answer("#grade").split(":")[0], first)
+    wanted = GRADES.get(told["grade"], "Guesses are needed")
+    tally.same(f"{game}: grade", page.answer("#grade").partition(":")[0], wanted)
 
 
 def write(page, game, signs, rows):
-    """Fills in a solution: Solo by a click and digits, Tents by the keyboard alone, the others by clicks. Gives the filled cells."""
+    """Fills in a solution: Solo by clicks and digits, Tents by keys alone, the others by clicks. Gives the filled cells."""
     cells, wide = page.cells(), len(signs) // rows
     places = [place for place, sign in enumerate(signs)
               if (game == "solo" and not cells[place].text) or sign == SIGNS.get(game)]
@@ -185,7 +194,7 @@ def printed(page, game, grid):
     return "".join(text[k:k + len(grid[0])] + "\n" for k in range(0, len(text), len(grid[0])))
 
 
-def named(fault, size, wide, game):
+def named(fault, size, wide):
     """The places that the text of a broken rule names, in a square grid."""
     kind, _, where = fault.partition(" ")
     numbers = [int(number) for number in where.split(",") if number]

@@ -43,7 +43,8 @@ function element(name, attributes, ...inside) {
 
 // A grid as it is before anything stands in it: its cells, and the clues of its columns and rows.
 function draw(p, name) {
-  const tents = p.game === "tents", thick = p.block || (p.game === "pattern" ? { w: 5, h: 5 } : { w: p.w, h: p.h }), cells = [];
+  const tents = p.game === "tents", cells = [];
+  const thick = p.block || (p.game === "pattern" ? { w: 5, h: 5 } : { w: p.w, h: p.h });
   const clues = (lists, role, side) => (lists || []).map((list, k) => element(
     "div", { role, class: "clue", "aria-label": `${side} ${k + 1}: ${list.join(" ") || "none"}` },
     ...(list.length ? list : [0]).map((number) => element("span", {}, number))));
@@ -57,7 +58,8 @@ function draw(p, name) {
     });
     return element("div", { role: "row" }, ...(rows.length && !tents ? [rows[y]] : []), ...inside, ...(tents ? [rows[y]] : []));
   });
-  const heads = rows.length ? [element("div", { role: "row" }, ...(tents ? [] : [element("div", {})]), ...columns)] : [];
+  const corner = tents ? [] : [element("div", { role: "presentation" })];
+  const heads = rows.length ? [element("div", { role: "row" }, ...corner, ...columns)] : [];
   const grid = element("div", { role: "grid", class: `board ${p.game}`, "aria-label": `${name}, ${p.w} columns, ${p.h} rows` },
     ...(tents ? [] : heads), ...lines, ...(tents ? heads : []));
   const room = (lists, size) => (tents ? 1 : Math.max(0, ...(lists || []).map((list) => 0.4 + size(list)))); // in cells
@@ -88,8 +90,7 @@ function fill({ cells, columns, rows }, p, values, marked, why) {
 }
 
 function say(text, kind = "") {
-  $("answer").textContent = text;
-  $("answer").className = kind;
+  [$("answer").textContent, $("answer").className] = [text, kind];
 }
 
 function become(next, marked = []) {
