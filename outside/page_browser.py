@@ -74,8 +74,8 @@ class Page:
         self.driver.execute_script("arguments[0].scrollIntoView({ block: 'center' })", button)
         button.click()
 
-    def until(self, seen):
-        WebDriverWait(self.driver, WAIT, poll_frequency=0.05).until(lambda _: seen())
+    def until(self, what, seen):
+        WebDriverWait(self.driver, WAIT, poll_frequency=0.05).until(lambda _: seen(), what)
 
     def put(self, selector, text):
         """As one that pastes."""
@@ -88,13 +88,13 @@ class Page:
     def open(self, game="", text=""):
         self.driver.get("about:blank")
         self.driver.get(f"{self.url}#{game}/{text}" if text else self.url)
-        self.until(lambda: self.cells() and (not text or self.one("#id").get_property("value") == text))
+        self.until(f"opens {game} {text}", lambda: self.cells() and (not text or self.one("#id").get_property("value") == text))
 
     def answer(self, button):
         """What is said after a button, which takes away what was said before."""
         self.driver.execute_script("document.getElementById('answer').textContent = ''")
         self.click(button)
-        self.until(lambda: self.text("#answer"))
+        self.until(f"answers {button}", lambda: self.text("#answer"))
         return self.text("#answer")
 
 
@@ -127,11 +127,11 @@ def play(page, server, tally, game, size, seed, black):
     _, _, made = server.ask("generate", {"game": game, "size": size, "seed": seed, **({"black": black} if black else {})})
     page.open()
     page.click(f"#games label:has([value={game}])")
-    page.until(lambda: page.all(f"#stage .{game}"))
-    page.click(f"#size [value='{size}']")
+    page.until(f"shows {game}", lambda: page.all(f"#stage .{game}"))
+    tally.same(f"{game}: the size", page.one("#size").get_property("value"), size)
     page.put("#seed", seed)
     page.click("#make button:not(#another)")
-    page.until(lambda: page.one("#id").get_property("value") == made["id"])
+    page.until(f"makes {game} {size} of {seed}", lambda: page.one("#id").get_property("value") == made["id"])
     signs = [sign for row in made["grids"][0] for sign in (row.split() if game == "solo" else row)]
     asked = write(page, game, signs, len(made["grids"][0]))
     tally.same(f"{game}: check of the solution", page.answer("#check"), "Correct.")
@@ -225,10 +225,10 @@ def broken(page, tally, game, text, mark):
     """An ID that is refused: the page marks the place, and keeps its board."""
     page.open()
     page.click(f"#games label:has([value={game}])")
-    page.until(lambda: page.all(f"#stage .{game}"))
+    page.until(f"shows {game}", lambda: page.all(f"#stage .{game}"))
     page.put("#id", text)
     page.click("#open button")
-    page.until(lambda: page.text("#fault"))
+    page.until(f"refuses {text}", lambda: page.text("#fault"))
     tally.same(f"{game} {text}", [found.text for found in page.all("#fault mark")], [mark])
     tally.same(f"{game} {text}: the board", len(page.all("#stage .board")), 1)
 
@@ -243,7 +243,7 @@ def hostile(page, tally):
             before = page.driver.execute_script(parts)
             page.put(field, text)
             page.click(button)
-            page.until(lambda said=said: page.text(said))
+            page.until(f"answers {text[:30]} in {field}", lambda said=said: page.text(said))
             tally.same(f"{text[:30]} in {field}: new elements", page.driver.execute_script(parts) - before in range(4), True)
             tally.same(f"{text[:30]} in {field}: images, title", (len(page.all("img")), page.driver.title), (0, "puzzles"))
 

@@ -2,7 +2,7 @@ import { done, light, places, print, read, rowsOf, scan } from "./puzzle.js";
 
 const SIZES = { solo: "2x2 2x3 3x3 3x3x 3x4 4x4", pattern: "5x5 10x10 15x15 20x20 30x30",
   lightup: "5x5 7x7 10x10 14x14 20x20 30x30", tents: "5x5 8x8 10x10 15x15 20x20" };
-const USUAL = ["3x3", "10x10", "7x7", "8x8"];
+const USUAL = { solo: "3x3", pattern: "10x10", lightup: "7x7", tents: "8x8" };
 const VALUES = { pattern: ["blank", "black", "dot"], lightup: ["blank", "bulb", "dot"], tents: ["blank", "tent", "dot"] };
 const RULES = {
   solo: "Each row, column, block and shaded diagonal has each number once.",
@@ -144,7 +144,7 @@ function key(event) {
   event.preventDefault();
 }
 
-function show(game, text, name, seed) {
+function show(game, text, name) {
   [puzzle, id, past] = [read(game, text), text, []];
   drawn = draw(puzzle, name);
   drawn.cells[Math.max(0, puzzle.fixed.indexOf(""))].tabIndex = 0;
@@ -162,7 +162,7 @@ function show(game, text, name, seed) {
   $("keys").textContent = puzzle.block ? "Choose a cell and a number. Keys: arrows, digits, Delete."
     : `Click for ${VALUES[game][1]}, dot, blank; right click for a dot; drag to paint. Keys: arrows, Space, X for a dot, Delete.`;
   $("more").hidden = true;
-  [$("id").value, $("seed").value] = [text, seed];
+  $("id").value = text;
   refuse("");
   say("");
   become(puzzle.fixed.map(() => 0));
@@ -189,7 +189,7 @@ async function generate() {
   const black = side < 10 ? "20" : side < 14 ? "25" : side < 30 ? "30" : "35"; // with fewer a large one has several solutions
   const told = await ask("generate", { game, size, seed, ...(game === "lightup" ? { black } : {}) });
   if (told && told.verdict === "exhausted") return say("No puzzle came of this seed. Try another.", "bad");
-  return told && show(game, told.id, `${game} of seed ${seed}`, seed);
+  return told && show(game, told.id, `${game} of seed ${seed}`);
 }
 
 // Says why an ID was refused, and marks the place that is named.
@@ -210,9 +210,12 @@ function refuse(why, text = "") {
 
 // An ID is tried by a check of no grid, which searches nothing: if that grid is what is refused, the ID is good.
 async function open() {
-  const game = chosen(), text = ($("id").value = $("id").value.trim()), told = await ask("check", { game, id: text, grid: "" });
-  if (told && told.refused === "grid") show(game, text, `${game} by its ID`, "");
-  else if (told) refuse(told.refused, text);
+  const game = chosen(), text = ($("id").value = $("id").value.trim());
+  const told = await ask("check", { game, id: text, grid: "" });
+  if (told && told.refused === "grid") {
+    show(game, text, `${game} by its ID`);
+    $("seed").value = "";
+  } else if (told) refuse(told.refused, text);
 }
 
 async function check() {
@@ -240,7 +243,7 @@ async function solve() {
   }));
   if (told.verdict === "one") return say("The only solution. Undo brings your grid back.", "good");
   if (first) $("more").scrollIntoView({ block: "nearest", behavior: "smooth" });
-  const two = ` Two are below. They differ in the ${differ.size} marked cells.`, one = " One solution is below. There may be more.";
+  const two = ` Two are below. They differ in the ${differ.size} marked cells.`, one = " One solution is below.";
   return say(UNSOLVED[told.verdict] + (second ? two : first ? one : ""));
 }
 
@@ -255,7 +258,7 @@ function setGame(game) {
   $("size").replaceChildren(...SIZES[game].split(" ").map((size) => {
     const [a, b] = size.match(/\d+/g), sides = game === "solo" ? [a * b, a * b] : [a, b];
     const name = sides.join(" × ") + (size.endsWith("x") ? " X" : "");
-    return new Option(name, size, false, USUAL.includes(size));
+    return new Option(name, size, false, size === USUAL[game]);
   }));
 }
 
