@@ -11,3 +11,9 @@ pub mod SearchedPuzzles
 pub mod GradeLemmas
 pub mod GameFacts
 pub mod MadeOnce
+pub mod ShuffledLists
+pub mod ThinnedExists
+pub mod ClosingExists
+pub mod SoloFillings
+pub mod LightFillings
+pub mod RequestsAnswered

@@ -13,6 +13,7 @@ use Rattle.commands.specs.Answers.{Answer, Text, Begins, code_of}
 use Rattle.commands.specs.Games.{played, puzzle_of}
 use Rattle.commands.specs.Allowed.{Allows, AllowsCheck, AllowsSolve, AllowsGrade, is_read, AllowsMade}
 use Rattle.commands.specs.Asked.{Asked, solve, check, grade, generate}
+use Rattle.commands.specs.Each.{HasAnswers}
 use Rattle.commands.specs.CheckAnswers.{checked, without_returns}
 use Rattle.commands.specs.Replies.{one_answer, several_answer}
 use Rattle.commands.specs.Grades.{rule_set_text}
@@ -189,3 +190,7 @@ is_fixed _ = true
 abbrev pub FixedRequestsHaveOneAnswer : Type 0
 FixedRequestsHaveOneAnswer = (asked : Option Asked) (input : Text) → is_fixed asked ≡ true
     → HasOneAnswer (Allows asked input)
+
+-- for each request, and on each input, some answer is allowed
+abbrev pub EachRequestHasAnAnswer : Type 0
+EachRequestHasAnAnswer = (asked : Option Asked) → HasAnswers (Allows asked)
