@@ -1,5 +1,5 @@
 -- A lawful rule set has visits that close each of its boards, or sweeps that do: those that its closing would make.
-use Rattle.std.proofs.Common.{Bool, List, [], add-one, arith, false, inl, inr, length, length-append, refl, sym, true, zero, suc, ℕ, ◌+◌, ◌<◌, ◌∙◌, ◌≡◌, ◌≤◌, ◌++◌, ◌∷◌, ◌||◌}
+use Rattle.std.proofs.Common.{Bool, List, [], add-one, arith, false, inl, inr, length, length-append, refl, sym, true, zero, suc, ℕ, ◌+◌, ◌<◌, ◌∙◌, ◌≡◌, ◌≤◌, ◌++◌, ◌∷◌}
 use Rattle.std.proofs.lemmas.Bool.{cases_Bool, true≢false}
 use Rattle.grid_core.specs.Candidates.{Candidates, IsWithin, any_below, is_dead, total}
 use Rattle.grid_core.proofs.CandidateLemmas.{any_below-none, any_below-some, within_inside}

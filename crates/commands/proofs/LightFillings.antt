@@ -2,16 +2,18 @@
 use Rattle.maker_core.proofs.Common.{◌≡◌, ◌∙◌, ℕ, zero, suc, ◌*◌, ◌^◌, ◌-◌, ◌<◌, ◌≤◌, ◌==◌, Bool, true, false, List, Option, Some, length, get_or, refl, sym, ap, subst, arith}
 use Rattle.maker_core.proofs.Common.{mul-le, if◌then◌else◌, length-filter, count_by-le-length, length-map, length-map-range_with_len, length-range_with_len}
 use Rattle.maker_core.proofs.Common.{All-from_get_or, recursion_from_All, AllByRecursion, range_with_len, Extent, Stream, Light, LightCell, Black, Numbered, White}
-use Rattle.maker_core.proofs.Common.{HasWords, IsFirstPassing, IsLit, IsThinnedFrom, Kept, black_cells, bulbs_after, filling_at, light_cells, light_filling, light_game}
+use Rattle.maker_core.proofs.Common.{HasWords, IsFirstPassing, IsLit, IsThinnedFrom, black_cells, bulbs_after, filling_at, light_cells, light_filling, light_game}
 use Rattle.maker_core.proofs.Common.{light_is_game, light_passes, light_puzzle_of, light_rules, lights_of, numbered_cell, shuffled_list, stream_after, white, white_places, with_numbers}
-use Rattle.maker_core.proofs.Common.{IsLightSolution, LightFilling, bulbs_beside, cases_lt, get_or_past, inl, inr}
+use Rattle.maker_core.proofs.Common.{IsLightSolution, bulbs_beside, cases_lt, get_or_past, inl, inr}
 use Rattle.std.proofs.lemmas.Option.{none-some}
 use Rattle.engine_core.specs.Verdict.{Outcome.OneGrid}
 use Rattle.gameid_core.specs.Puzzles.{IsLight, IsLightCell, IsWide}
 use Rattle.fields_core.specs.Light.{is_white}
+use Rattle.maker_core.specs.Draws.{Making}
 use Rattle.maker_core.specs.LightClues.{number_clue}
 use Rattle.maker_core.specs.LightFilling.{lit_up}
 use Rattle.maker_core.specs.LightMaking.{IsLightMade}
+use Rattle.maker_core.specs.declared.made.Kept.{Kept}
 use Rattle.maker_core.proofs.BlackCells.{black_cells-grid}
 use Rattle.maker_core.proofs.LightCells.{bulbs_few}
 use Rattle.maker_core.proofs.LightMakings.{all_numbers, lit_one, size_is}
@@ -22,6 +24,13 @@ use Rattle.commands.proofs.SearchedPuzzles.{light_searched, right_of}
 use Rattle.commands.proofs.ShuffledLists.{IsShuffled, black_words, shuffled_is}
 use Rattle.commands.proofs.ThinnedExists.{IsThinnedTo, thinned}
 
+-- what fillings of Light Up are; `maker_core` keeps the name of their type to itself
+abbrev MadeBy : {A : Type 0} → (Extent → ℕ → Making A) → Type 0
+MadeBy {A = A} make = A
+
+abbrev LightFilling : Type 0
+LightFilling = MadeBy light_filling
+
 -- ---- one filling
 whites_few : (p : Light) → length (white_places p) ≤ light_cells p
 unfolding white_places
@@ -30,7 +39,6 @@ whites_few p =
     omega (arith, length-filter (white p) (range_with_len 0 (light_cells p)), length-range_with_len 0 (light_cells p), all)
 
 module _ (size : Extent) (wide : IsWide size) (black : ℕ) where
-  -- what the words of a stream are filled to; `maker_core` keeps the name of the type of fillings to itself
   lit_words : (p : Light) (s : Stream) → light_cells p < 2 ^ 32 - 1 → HasWords s → IsShuffled (white_places p) (shuffled_list (white_places p) s)
   lit_words p s few words = shuffled_is (white_places p) s (let w = whites_few p in omega arith) words
 

@@ -1,5 +1,5 @@
 -- Each request has an answer on each input.
-use Rattle.std.proofs.Common.{◌≡◌, ◌∙◌, ◌≤◌, ◌<◌, ◌*◌, ◌++◌, ◌&&◌, ℕ, Bool, true, false, List, [], ◌∷◌, Option, Some, None, Result, Ok, codes, refl, sym, subst, inl, inr, arith, suc, zero, if◌then◌else◌, true≢false}
+use Rattle.std.proofs.Common.{◌≡◌, ◌*◌, ◌++◌, ◌&&◌, ℕ, Bool, true, false, List, [], ◌∷◌, Option, Some, None, Ok, codes, refl, sym, inl, inr, arith, suc, zero, if◌then◌else◌, true≢false}
 use Rattle.std.proofs.lemmas.Bool.{and_parts, leb-true}
 use Rattle.std.specs.Prelude.{nat_le}
 use Rattle.std.specs.Str.Lines.{lines}
@@ -12,23 +12,23 @@ use Rattle.gameid_core.proofs.SoloCanon.{solo_is_written}
 use Rattle.maker_core.specs.Draws.{IsFirstPassing, NonePasses, filling_at}
 use Rattle.maker_core.specs.LightFilling.{light_filling, light_passes}
 use Rattle.maker_core.specs.SoloMaking.{IsSoloSize, solo_filling, solo_passes}
-use Rattle.commands.specs.Common.{Extent, Game, IsLawful, Puzzle, SizeRead, Stream, extent_of, grid_text, is_settled, max_side, size_of, line_rules, light_rules, tent_rules, houses_rules}
+use Rattle.commands.specs.Common.{Extent, Game, IsLawful, Puzzle, SizeRead, Stream, extent_of, is_settled, max_side, size_of, line_rules, light_rules, tent_rules, houses_rules, singles_rules, crossings_rules}
 use Rattle.commands.specs.Answers.{Answer, Text}
-use Rattle.commands.specs.Allowed.{Allows, AllowsCheck, AllowsGrade, AllowsMade, AllowsOfSize, AllowsSolve, MakesOf, wanted}
+use Rattle.commands.specs.Allowed.{Allows, AllowsCheck, AllowsGrade, AllowsMade, AllowsOfSize, AllowsSolve, wanted}
 use Rattle.commands.specs.Asked.{Asked, check, generate, grade, solve}
 use Rattle.commands.specs.Games.{played, puzzle_of}
-use Rattle.commands.specs.Grades.{Settling, grade_status, grade_text, last_tried, listed_grade}
-use Rattle.commands.specs.Makings.{Wanted, exhausted_answer}
-use Rattle.commands.specs.Playing.{Playing}
+use Rattle.commands.specs.Grades.{Settling, grade_status, grade_text, last_tried, listed_grade, only_set}
+use Rattle.commands.specs.Makings.{exhausted_answer}
 use Rattle.commands.specs.PatternPlayed.{pattern_name}
 use Rattle.commands.specs.Replies.{refused_words}
 use Rattle.commands.specs.Seeds.{seed_stream}
-use Rattle.commands.specs.SoloPlayed.{solo_name}
+use Rattle.commands.specs.SoloPlayed.{solo_name, solo_sets}
+use Rattle.commands.specs.declared.grade.RuleSet.TheVariants.{Lines, Local}
 use Rattle.commands.specs.Traces.{IsTrace, TellsSweeps, TellsVisits, sweeps_text, visits_text}
 use Rattle.commands.proofs.BatchLemmas.{each_has}
 use Rattle.commands.proofs.CheckedPuzzles.{check_some}
 use Rattle.commands.proofs.ClosingExists.{sweeps_close, visits_close}
-use Rattle.commands.proofs.GameFacts.{EachSearched, answers, facts, listed_right}
+use Rattle.commands.proofs.GameFacts.{answers, facts, listed_right}
 use Rattle.commands.proofs.LightFillings.{light_thinned}
 use Rattle.commands.proofs.MadeOnce.{AreFilled, first_or_none, handed_answer, is_extent, made_pattern, made_tents, seed_words, size_reading}
 use Rattle.commands.proofs.Readings.{id_some}
@@ -69,16 +69,20 @@ traced : (g : Game) (id : Text) (p : puzzle_of g) → (played g).game.spells id 
     → (lines : Text) × (played g).game.tells p (last_tried ((played g).game.rules p) ((played g).game.sets p)) lines
 traced game.Pattern id p s =
     let told = visits_told (pattern_name p) (line_rules p) ((facts game.Pattern).searched id p s).lawful refl in
-    last_told (TellsVisits (pattern_name p)) (line_rules p) _ told (told, tt)
+    last_told (TellsVisits (pattern_name p)) (line_rules p) (only_set Lines (line_rules p)) told (told, tt)
 traced game.Solo id p s =
     let listed = (facts game.Solo).listed id p s in
     let told = λ (rules : Puzzle) (laws : IsLawful rules) (queue : rules.by_queue ≡ true). visits_told (solo_name p) rules laws queue in
-    last_told (TellsVisits (solo_name p)) (houses_rules p) _ (told _ listed.1.0.lawful refl)
-    (told _ listed.0.lawful refl, (told _ listed.1.0.lawful refl, (told _ listed.1.1.0.lawful refl, tt)))
+    let singles = told (singles_rules p) listed.0.lawful refl in
+    let houses = told (houses_rules p) listed.1.0.lawful refl in
+    let crossings = told (crossings_rules p) listed.1.1.0.lawful refl in
+    last_told (TellsVisits (solo_name p)) (houses_rules p) (solo_sets p) houses (singles, (houses, (crossings, tt)))
 traced game.LightUp id p s =
-    let told = sweeps_told (light_rules p) ((facts game.LightUp).searched id p s).lawful refl in last_told TellsSweeps (light_rules p) _ told (told, tt)
+    let told = sweeps_told (light_rules p) ((facts game.LightUp).searched id p s).lawful refl in
+    last_told TellsSweeps (light_rules p) (only_set Local (light_rules p)) told (told, tt)
 traced game.Tents id p s =
-    let told = sweeps_told (tent_rules p) ((facts game.Tents).searched id p s).lawful refl in last_told TellsSweeps (tent_rules p) _ told (told, tt)
+    let told = sweeps_told (tent_rules p) ((facts game.Tents).searched id p s).lawful refl in
+    last_told TellsSweeps (tent_rules p) (only_set Local (tent_rules p)) told (told, tt)
 
 -- ---- the commands
 pub graded : (g : Game) (id : Text) (budget : ℕ) (trace : Bool) → (a : Answer) × AllowsGrade g id budget trace a

@@ -1,12 +1,13 @@
 -- Each filling of Solo over a stream of words is a grid that keeps to the rules; and the first that is there can be thinned.
 use Rattle.maker_core.proofs.Common.{◌≡◌, ◌∙◌, ℕ, zero, suc, ◌*◌, ◌^◌, ◌-◌, ◌<◌, Bool, true, false, List, [], Option, Some, None, refl, subst, add-one, arith}
 use Rattle.maker_core.proofs.Common.{mul-le, IfSome, IsTrueOf, Outcome, Solves, Stream, verdict_of, outcome-true, Solo, IsSolo, IsSoloSolution}
-use Rattle.maker_core.proofs.Common.{houses_lawful, houses_rules, HasWords, IsFirstPassing, Kept, IsLineOrder, IsSoloSize, AreReasons}
+use Rattle.maker_core.proofs.Common.{houses_lawful, houses_rules, HasWords, IsFirstPassing, IsLineOrder, IsSoloSize, AreReasons}
 use Rattle.maker_core.proofs.Common.{all_given, filling_at, first_grid, flipped_by_draw, lines_of_groups, shuffled_order, solo_filling, solo_game, solo_is_game, is_some}
 use Rattle.maker_core.proofs.Common.{stream_after, top_row_given, x_filling, true≢false}
 use Rattle.engine_core.specs.Verdict.{Outcome.NoGrid, Outcome.OneGrid, Outcome.TwoGrids, Outcome.OutOfBudget}
 use Rattle.maker_core.specs.SoloFilling.{line_order, plain_filling}
 use Rattle.maker_core.specs.SoloMaking.{IsSoloMade, solo_passes}
+use Rattle.maker_core.specs.declared.made.Kept.{Kept}
 use Rattle.maker_core.proofs.Shuffles.{IsShuffledOrder, draw_is, order_is}
 use Rattle.maker_core.proofs.SoloFull.{all_given-found, all_given-only, found_passes, only_by_rules, same_given, thinned-solo}
 use Rattle.maker_core.proofs.SoloOrderLemmas.{AreGrouped, AreGrouped-more, grouped-none, line_order_from_groups}

@@ -2,9 +2,12 @@
 -- that the verdict tells.
 use Rattle.maker_core.proofs.Common.{◌≡◌, ◌∙◌, ℕ, List, [], ◌∷◌, Option, Some, None, replicate, set, refl, sym, inl, inr, arith, cases_eq}
 use Rattle.maker_core.proofs.Common.{IsPermutation-refl, outcome-true, IsLawful, IsTrueOf, Outcome, Solves, verdict_of, CluedGame, IsGame, IsThinnedFrom}
-use Rattle.maker_core.proofs.Common.{clue_places, AreReasons, IsOnly, TellsOne, IsAsked, IsLeft, IsThinning, reasons_from, Kept, Why, Needed, Budget}
+use Rattle.maker_core.proofs.Common.{clue_places, AreReasons, IsOnly, TellsOne, IsAsked, IsLeft, IsThinning, reasons_from}
 use Rattle.std.proofs.lemmas.Option.{none-some}
 use Rattle.engine_core.specs.Verdict.{Outcome.NoGrid, Outcome.OneGrid, Outcome.TwoGrids, Outcome.OutOfBudget}
+use Rattle.maker_core.specs.declared.made.Kept.{Kept}
+use Rattle.maker_core.specs.declared.made.Why.{Why}
+use Rattle.maker_core.specs.declared.made.Why.TheVariants.{Budget, Needed}
 use Rattle.maker_core.proofs.ThinningReasons.{answer_left, reasons_left, thinning_start}
 use Rattle.maker_core.proofs.ThinningTurns.{contains_head, some_of, thinning_turn}
 
