@@ -71,13 +71,13 @@ pub thinned : {A : Type 0} (game : CluedGame A) → IsGame game → (budget : �
 thinned game laws budget all answer lawful whole only found =
     let start = thinning_start game laws budget all answer (clue_places game all) (replicate (game.cells all) None) only found (IsPermutation-refl (clue_places game all)) refl in
     let t = thin game laws budget all answer lawful only (clue_places game all) all (replicate (game.cells all) None) start in
-    let left = answer_left game laws budget all t.0 answer t.1 [] 0 (omega arith) t.2 only in (
+    let left = answer_left game laws budget all t.0 answer t.1 t.2 only in (
       t.0,
       reasons_from 0 t.1,
       record {
         within = t.2.within;
         only = left.0;
         found = left.1;
-        reasons = reasons_left game laws budget all t.0 answer t.1 [] 0 (omega arith) t.2 (reasons_from 0 t.1) whole refl;
+        reasons = reasons_left game laws budget all t.0 answer t.1 t.2 (reasons_from 0 t.1) whole refl;
       },
     )
