@@ -1,8 +1,10 @@
 #!/usr/bin/env python3
 """What the gate costs: runs .ci/run at the top of the repository and prints processor minutes by crate.
 
+With names of crates it runs `rt ci` for these and those below them alone.
+
 It needs Linux, and the kit on the path. Its own output goes to standard error, the gate's to standard output.
-Each second it reads the processor time of every prover's process from /proc. What a process uses in its last second
+Each second it reads the processor time of the gate's own provers from /proc. What a process uses in its last second
 is lost, so a sum is some percent low. A crate's part is its proof, its tests, or its wrong bodies.
 """
 import argparse
@@ -22,18 +24,34 @@ def part_of(words, folder):
     return "tests" if "--test" in words else "proof"
 
 
-def sample(seen):
-    """Notes of each prover's process its crate, its part and its processor seconds so far."""
-    for name in os.listdir("/proc"):
-        if not name.isdigit():
+def stat_of(name):
+    """What the system says of a process, after its name: its state, the process that it comes of, and so on."""
+    with open(f"/proc/{name}/stat") as file:
+        return file.read().rpartition(")")[2].split()
+
+
+def below(process):
+    """The processes that come of this one."""
+    children, found = {}, [str(process)]
+    for name in filter(str.isdigit, os.listdir("/proc")):
+        try:
+            children.setdefault(stat_of(name)[1], []).append(name)
+        except OSError:  # it has ended
             continue
+    for name in found:
+        found += children.get(name, [])
+    return found
+
+
+def sample(seen, gate):
+    """Notes of each prover's process its crate, its part and its processor seconds so far."""
+    for name in below(gate):
         try:
             with open(f"/proc/{name}/cmdline", "rb") as file:
                 words = file.read().decode(errors="replace").split("\0")
             if "--crate-name" not in words:
                 continue
-            with open(f"/proc/{name}/stat") as file:
-                fields = file.read().rpartition(")")[2].split()
+            fields = stat_of(name)
             part = part_of(words, os.readlink(f"/proc/{name}/cwd"))
         except OSError:  # it has ended
             continue
@@ -43,12 +61,14 @@ def sample(seen):
 
 
 def main():
-    argparse.ArgumentParser(description=__doc__, formatter_class=argparse.RawDescriptionHelpFormatter).parse_args()
+    parser = argparse.ArgumentParser(description=__doc__, formatter_class=argparse.RawDescriptionHelpFormatter)
+    parser.add_argument("crates", nargs="*", metavar="CRATE")
+    crates = parser.parse_args().crates
     top = os.path.dirname(os.path.dirname(os.path.abspath(__file__)))
     start, seen = time.time(), {}
-    gate = subprocess.Popen(["bash", f"{top}/.ci/run"], cwd=top)
+    gate = subprocess.Popen(["rt", "ci", *crates] if crates else ["bash", f"{top}/.ci/run"], cwd=top)
     while gate.poll() is None:
-        sample(seen)
+        sample(seen, gate.pid)
         time.sleep(1)
         if time.time() - start > GATE_HOURS * 3600:
             gate.terminate()

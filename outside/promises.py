@@ -8,6 +8,7 @@ usage: promises.py [--help]
 - Each public call has its row: it is named in a second column. Public calls are the `pub fn`s that a library's lib.rt hands on,
   by themselves or with their type; of the program those of PROGRAM below.
 - Each wrong body has one line `# refused by: FUNCTION.CLAUSE`, and there is such a clause: see the next paragraph.
+- In a second column `f.clause`, `T::f` and `T::f.clause` are there in some crate.
 
 FUNCTION is `f`, `T::f`, or `T::f of U` for U's own f of the trait T. CLAUSE is the name of an `ensures` of it, or of the
 trait's f, or of a `requires` that the wrong body does not meet. FUNCTION alone stands for the `ensures` that has no name.
@@ -135,6 +136,20 @@ def body_faults(named_by):
                     yield f"{where} no such clause: {line.removeprefix(REFUSED_BY)}"
 
 
+def contract_faults(text):
+    """What second columns name by a dot or by a type, and is in no crate."""
+    there = collections.defaultdict(set)
+    for crate in sorted((TOP / "crates").iterdir()):
+        for (trait, kind, name), found in clauses(crate).items():
+            for whole in {name, *(f"{owner}::{name}" for owner in (trait, kind) if owner)}:
+                there[whole] |= found
+    for number, line in enumerate(text.splitlines(), 1):
+        for span in re.findall(r"`([^`]+)`", "".join(line.split("|")[2:3])):
+            form = re.fullmatch(r"(\w+::\w+|\w+(?=\.))(?:\.(\w+))?", span)
+            if form and (form[1] not in there or form[2] and form[2] not in there[form[1]]):
+                yield f"line {number}: no such function or clause: {span}"
+
+
 def rows(text):
     """The three cells of each row of a table of promises, with the number of its line. A table of laws has no third column."""
     columns = 0
@@ -201,10 +216,11 @@ def main(words):
         print(f"promises.py: takes no words but --help: {' '.join(words)}", file=sys.stderr)
         return 2
     try:
-        table = list(rows((TOP / "docs" / "PROMISES.md").read_text()))
+        text = (TOP / "docs" / "PROMISES.md").read_text()
+        table = list(rows(text))
         calls = [(crate, *call) for crate in sorted((TOP / "crates").iterdir()) for call in public_calls(crate)]
         named_by = collections.Counter()
-        faults = [*row_faults(table, named_by), *body_faults(named_by), *call_faults(table, calls)]
+        faults = [*row_faults(table, named_by), *body_faults(named_by), *contract_faults(text), *call_faults(table, calls)]
     except (OSError, UnicodeDecodeError) as fault:
         print(f"promises.py: can't read the tree: {fault}", file=sys.stderr)
         return 2

@@ -6,7 +6,7 @@ use Rattle.commands.specs.Common.{IsRight, Extent, IdFault, grid_text, Game, Sol
 use Rattle.commands.specs.Answers.{Answer, Text}
 use Rattle.commands.specs.Games.{played}
 use Rattle.commands.specs.Playing.{GameOf, Playing}
-use Rattle.commands.specs.SoloPlayed.{after_singles}
+use Rattle.commands.specs.SoloPlayed.{after_houses, after_singles}
 use Rattle.commands.specs.Replies.{IsRefused, refused_words, verdict_answer}
 use Rattle.commands.specs.CheckAnswers.{AllowsGrid}
 use Rattle.commands.specs.Grades.{IsGradeOf, Settling, TellsGrade, last_tried, listed_grade, only_set}
@@ -104,6 +104,9 @@ IsGraded game options p = IsGradeBy game p (game.sets p) options
 
 abbrev pub IsGradedAfterSingles : Solo → GradeOptions → Answer → Type 0
 IsGradedAfterSingles p options = IsGradeBy (played game.Solo).game p (after_singles p) options
+
+abbrev pub IsGradedAfterHouses : Solo → GradeOptions → Answer → Type 0
+IsGradedAfterHouses p options = IsGradeBy (played game.Solo).game p (after_houses p) options
 
 -- the grade of the puzzle that an ID spells
 abbrev pub GradesId : {P : Type 0} → GameOf P → GradeOptions → Text → Answer → Type 0

@@ -24,9 +24,11 @@ solo_fault p (solo.Block b) = codes "block " ++ decimal b
 solo_fault p (solo.Diagonal d) = codes "diagonal " ++ decimal d
 
 -- the rule sets that are tried, in order
+abbrev pub after_houses : Solo → List Settling
+after_houses p = only_set Crossings (crossings_rules p)
+
 abbrev pub after_singles : Solo → List Settling
-after_singles p =
-    record { set = Houses; rules = houses_rules p } ∷ only_set Crossings (crossings_rules p)
+after_singles p = record { set = Houses; rules = houses_rules p } ∷ after_houses p
 
 abbrev pub solo_sets : Solo → List Settling
 solo_sets p = record { set = Singles; rules = singles_rules p } ∷ after_singles p

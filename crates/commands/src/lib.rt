@@ -22,7 +22,7 @@ pub use ends::{CALL_LIMIT, CHUNK, Sink, Source};
 pub use games::{Stores, game_named, usual_black};
 pub use generate::percent::Percent;
 pub use generate::{Recipe, generated};
-pub use grade::{GradeOptions, grade_id};
+pub use grade::{GradeOptions, RuleSet, grade_id};
 pub use laws::{
     each_text_has_an_answer, grades_agree, made_puzzles_are_solved, one_answer,
     rewritten_ids_are_the_same, solved_grids_pass,

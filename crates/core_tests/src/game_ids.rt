@@ -30,15 +30,30 @@ fn fault_or_want(alloc: Global, game: Game, text: &[u8]) -> Result<Option<IdFaul
     }
 }
 
+fn solo_again(alloc: Global, text: &[u8]) -> Result<String, IdFault> {
+    Ok(write_solo(alloc, &read_solo(alloc, text)?)?)
+}
+
+fn pattern_again(alloc: Global, text: &[u8]) -> Result<String, IdFault> {
+    Ok(write_pattern(alloc, &read_pattern(alloc, text)?)?)
+}
+
+fn lights_again(alloc: Global, text: &[u8]) -> Result<String, IdFault> {
+    Ok(write_lights(alloc, &read_lights(alloc, text)?)?)
+}
+
+fn tents_again(alloc: Global, text: &[u8]) -> Result<String, IdFault> {
+    Ok(write_tents(alloc, &read_tents(alloc, text)?)?)
+}
+
 /// The written ID of the puzzle that an ID spells.
 fn written_again(alloc: Global, game: Game, text: &[u8]) -> Result<String, IdFault> {
-    let written = match game {
-        Game::Solo => write_solo(alloc, &read_solo(alloc, text)?)?,
-        Game::Pattern => write_pattern(alloc, &read_pattern(alloc, text)?)?,
-        Game::LightUp => write_lights(alloc, &read_lights(alloc, text)?)?,
-        Game::Tents => write_tents(alloc, &read_tents(alloc, text)?)?,
-    };
-    Ok(written)
+    match game {
+        Game::Solo => solo_again(alloc, text),
+        Game::Pattern => pattern_again(alloc, text),
+        Game::LightUp => lights_again(alloc, text),
+        Game::Tents => tents_again(alloc, text),
+    }
 }
 
 /// A text of a front, so many copies of a piece, and an end.

@@ -7,72 +7,107 @@ use grid_core::{
     Board, Edges, Grid, Paired, Pairing, Size, beside, block_place, column_place, diagonal_place,
     row_place, step,
 };
+use std::alloc::{AllocError, Global};
 use std::test::Fail;
 
 #[test]
 fn sizes_have_bounds(rt: HostRuntime) {
-    for (w, h, cells) in [(1, 1, 1), (5, 1, 5), (119, 120, 14_280), (120, 120, 14_400)] {
+    for (w, h, cells) in [
+        (1, 1, Some(1)),
+        (5, 1, Some(5)),
+        (119, 120, Some(14_280)),
+        (120, 120, Some(14_400)),
+        (0, 1, None),
+        (1, 0, None),
+        (121, 1, None),
+        (1, 121, None),
+        (255, 255, None),
+    ] {
         assert_eq!(rt;
             Size::new(w, h).map(|size| size.cells()),
-            Some(cells),
+            cells,
             "{w} by {h}"
         );
     }
-    for (w, h) in [(0, 1), (1, 0), (121, 1), (1, 121), (255, 255)] {
-        assert_eq!(rt; Size::new(w, h), None, "{w} by {h}");
-    }
+}
+
+/// The numbers of a grid of three cells at first, how many there are, and whether they are below 1.
+fn new_grid(alloc: Global) -> Result<([u8; 3], usize, [bool; 2]), AllocError> {
+    let grid = Grid::new(alloc, 3)?;
+    let numbers = [grid.get(0), grid.get(1), grid.get(2)];
+    Ok((numbers, grid.len(), [grid.fits(3, 1), grid.fits(2, 1)]))
+}
+
+/// The number of a cell that is set to 4, how many cells there are then, and whether all are below 5 and below 4.
+fn grid_with_a_four(alloc: Global) -> Result<(u8, usize, [bool; 2]), AllocError> {
+    let mut grid = Grid::new(alloc, 3)?;
+    grid.set(1, 4);
+    Ok((grid.get(1), grid.len(), [grid.fits(3, 5), grid.fits(3, 4)]))
 }
 
 #[test]
 fn a_grid_keeps_its_numbers(rt: HostRuntime) -> Result<(), Fail> {
-    let mut grid = Grid::new(rt.alloc(), 3)?;
-    assert_eq!(rt; grid.len(), 3);
-    for place in 0..3 {
-        assert!(rt; place < grid.len());
-        assert_eq!(rt; grid.get(place), 0);
-    }
-    assert!(rt; grid.fits(3, 1));
-    assert!(rt; !grid.fits(2, 1));
-    grid.set(1, 4);
-    assert_eq!(rt; grid.len(), 3);
-    assert_eq!(rt; grid.get(1), 4);
-    assert!(rt; grid.fits(3, 5));
-    assert!(rt; !grid.fits(3, 4));
+    assert_eq!(rt; new_grid(rt.alloc())?, ([0, 0, 0], 3, [true, false]));
+    assert_eq!(rt; grid_with_a_four(rt.alloc())?, (4, 3, [true, false]));
     Ok(())
+}
+
+/// Of a board of one cell with two values, from which 1 is struck twice: how many values there are at first, whether it
+/// is full then and after the first strike, whether each strike strikes, and which values are left.
+fn one_lost(alloc: Global) -> Result<(usize, [bool; 2], [bool; 2], [bool; 2]), AllocError> {
+    let mut board = Board::new(alloc, 1, 2)?;
+    let (count, full) = (board.count(0), board.is_full());
+    let strikes = board.strike(0, 1);
+    let full_then = board.is_full();
+    let again = board.strike(0, 1);
+    let left = [board.has(0, 0), board.has(0, 1)];
+    Ok((count, [full, full_then], [strikes, again], left))
+}
+
+/// Of a board like that, from which both values are struck: whether the second strike strikes, whether the cell is empty
+/// then, whether it has a value that was restored, and how many values it has when it is filled again.
+fn both_lost(alloc: Global) -> Result<([bool; 3], usize), AllocError> {
+    let mut board = Board::new(alloc, 1, 2)?;
+    board.strike(0, 1);
+    let strikes = board.strike(0, 0);
+    let empty = board.has_empty_cell();
+    board.restore(0, 1);
+    let restored = board.has(0, 1);
+    board.fill();
+    Ok(([strikes, empty, restored], board.count(0)))
 }
 
 #[test]
 fn a_board_loses_and_regains_values(rt: HostRuntime) -> Result<(), Fail> {
-    let mut board = Board::new(rt.alloc(), 1, 2)?;
-    assert_eq!(rt; board.count(0), 2);
-    assert!(rt; !board.is_full());
-    assert!(rt; board.strike(0, 1));
-    assert!(rt; board.is_full());
-    assert!(rt; !board.strike(0, 1));
-    assert!(rt; board.has(0, 0));
-    assert!(rt; !board.has(0, 1));
-    assert!(rt; board.strike(0, 0));
-    assert!(rt; board.has_empty_cell());
-    board.restore(0, 1);
-    assert!(rt; board.has(0, 1));
-    board.fill();
-    assert_eq!(rt; board.count(0), 2);
+    let (count, full, strikes, left) = one_lost(rt.alloc())?;
+    assert_eq!(rt; (count, full), (2, [false, true]));
+    assert_eq!(rt; (strikes, left), ([true, false], [true, false]));
+    assert_eq!(rt; both_lost(rt.alloc())?, ([true, true, true], 2));
     Ok(())
+}
+
+/// A board keeps 30 alone of 31 values in its last cell, and another takes it over: how many values the last cell of the one
+/// and the first and the last of the other have; whether that last cell has 30, whether the board is full, and whether it has
+/// an empty cell.
+fn taken_over(alloc: Global) -> Result<Option<([usize; 3], [bool; 3])>, AllocError> {
+    let mut board = Board::new(alloc, 3, 31)?;
+    let mut other = Board::new(alloc, 3, 31)?;
+    if !other.has(2, 30) {
+        return Ok(None);
+    }
+    other.keep_only(2, 30);
+    let kept = other.count(2);
+    board.copy_from(&other);
+    Ok(Some((
+        [kept, board.count(0), board.count(2)],
+        [board.has(2, 30), board.is_full(), board.has_empty_cell()],
+    )))
 }
 
 #[test]
 fn a_board_takes_over_another(rt: HostRuntime) -> Result<(), Fail> {
-    let mut board = Board::new(rt.alloc(), 3, 31)?;
-    let mut other = Board::new(rt.alloc(), 3, 31)?;
-    assert!(rt; other.has(2, 30));
-    other.keep_only(2, 30);
-    assert_eq!(rt; other.count(2), 1);
-    board.copy_from(&other);
-    assert_eq!(rt; board.count(0), 31);
-    assert_eq!(rt; board.count(2), 1);
-    assert!(rt; board.has(2, 30));
-    assert!(rt; !board.is_full());
-    assert!(rt; !board.has_empty_cell());
+    let told = taken_over(rt.alloc())?;
+    assert_eq!(rt; told, Some(([1, 31, 1], [true, false, false])));
     Ok(())
 }
 
@@ -118,7 +153,7 @@ fn diagonals_go_down_from_both_corners(rt: HostRuntime) {
 }
 
 /// Three lefts, each with the rights that it is joined to of three rights, as bits.
-#[derive(Drop)]
+#[derive(Clone, Copy)]
 struct Joined {
     rights: [u8; 3],
 }
@@ -149,18 +184,24 @@ impl Edges for Joined {
     }
 }
 
+/// The mates of the lefts, if all have one, and how many lefts are short before and after.
+fn mates(alloc: Global, edges: &Joined) -> Result<Option<([usize; 3], [usize; 2])>, AllocError> {
+    let mut pairing = Pairing::new(alloc, 3)?;
+    let before = pairing.short().len();
+    if pairing.run(edges) != Paired::All {
+        return Ok(None);
+    }
+    let mates = [pairing.mate(0), pairing.mate(1), pairing.mate(2)];
+    Ok(Some((mates, [before, pairing.short().len()])))
+}
+
 #[test]
 fn lefts_with_rights_enough_are_paired(rt: HostRuntime) -> Result<(), Fail> {
-    let mut pairing = Pairing::new(rt.alloc(), 3)?;
-    assert_eq!(rt; pairing.short().len(), 0);
     let edges = Joined {
         rights: [0b001, 0b011, 0b110],
     };
-    assert_eq!(rt; pairing.run(&edges), Paired::All);
-    for left in 0..3 {
-        assert_eq!(rt; pairing.mate(left), left, "mate of {left}");
-    }
-    assert_eq!(rt; pairing.short().len(), 0);
+    let told = mates(rt.alloc(), &edges)?;
+    assert_eq!(rt; told, Some(([0, 1, 2], [0, 0])));
     Ok(())
 }
 

@@ -6,6 +6,14 @@
 #[cfg(test)]
 mod engine;
 #[cfg(test)]
+mod fields;
+#[cfg(test)]
 mod game_ids;
 #[cfg(test)]
 mod grid;
+#[cfg(test)]
+mod makers;
+#[cfg(test)]
+mod pattern;
+#[cfg(test)]
+mod solo;

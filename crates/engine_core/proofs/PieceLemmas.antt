@@ -1,14 +1,12 @@
 -- Laws of lists of places that are the pieces of one list.
 use Rattle.std.specs.List.{concat, filter}
-use Rattle.std.proofs.lemmas.List.{append-nil, get_or_append_left, get_or_read}
+use Rattle.std.proofs.lemmas.List.{append-nil, get_or_append_left}
 use Rattle.std.proofs.lemmas.List.Edits.{between_more, between_none}
 use Rattle.std.proofs.lemmas.List.Elements.{filter-append}
-use Rattle.std.proofs.lemmas.List.Sums.{count_by-le-length, length-filter}
-use Rattle.engine_core.specs.HouseList.{IsGrown, Listed}
 use Rattle.engine_core.proofs.Common.{append_assoc, drop, eq-eqb, eqb, length-append, ne_eqb, not, take, ◌∙◌}
-use Rattle.engine_core.proofs.Common.{AreEnds, IsListed, List, [], ap, arith, between, between_to_end, common_steps}
+use Rattle.engine_core.proofs.Common.{AreEnds, List, [], ap, arith, between, between_to_end, common_steps}
 use Rattle.engine_core.proofs.Common.{drop-append-le, get_or, last_end, length, length-between, listed, pieces, refl, suc, sum_by, sum_by-cons, sym}
-use Rattle.engine_core.proofs.Common.{ends-more, last-close, last-le, length-pieces, piece-ends, pieces-close, pieces-more, zero, ℕ, ◌++◌, ◌+◌, ◌-◌, ◌<◌, ◌^◌, ◌∷◌, ◌≡◌, ◌≤◌}
+use Rattle.engine_core.proofs.Common.{last-close, last-le, length-pieces, pieces-close, pieces-more, zero, ℕ, ◌++◌, ◌+◌, ◌-◌, ◌<◌, ◌∷◌, ◌≡◌, ◌≤◌}
 
 pub listed-more : (xs ends ys : List ℕ) → AreEnds (length xs) 0 ends
     → listed (xs ++ ys) ends ≡ record { closed = (listed xs ends).closed; begun = (listed xs ends).begun ++ ys }
@@ -34,10 +32,6 @@ total-is xs from (end ∷ ends) (low, e) =
 
 pub total-closed : (xs ends : List ℕ) (n : ℕ) → AreEnds (length xs) 0 ends → n ≡ last_end 0 ends → n ≡ sum_by length (listed xs ends).closed
 total-closed xs ends n e is = let t = total-is xs 0 ends e in omega arith
-
--- all closed lists have fewer than 2^32 places together
-pub few-listed : (xs ends : List ℕ) → IsListed xs ends → sum_by length (listed xs ends).closed < 2 ^ 32
-few-listed xs ends l = grind (arith, common_steps, last-le, total-is)
 
 -- a part is its first and its second part
 drop-none : (m : ℕ) → drop {A = ℕ} m [] ≡ []
@@ -71,16 +65,6 @@ pieces-joined xs from (end ∷ ends) (low, e) =
     let w = last-le (length xs) end ends e in
     between-split xs from end (last_end end ends) low w.0 ∙ ap (λ l. between from end xs ++ l) (pieces-joined xs end ends e)
 
--- a closed list ends no earlier than it begins, and within the places
-pub closed-ends : (xs ends : List ℕ) (l : Listed) (h end : ℕ) → AreEnds (length xs) 0 ends → listed xs ends ≡ l → h < length l.closed → end ≡ get_or ends h end
-    → (get_or (0 ∷ ends) h 0 ≤ end) × (end ≤ length xs)
-closed-ends xs ends l h end e is lt at =
-    let long = ap (λ (v : Listed). length v.closed) is in
-    let there : h < length ends = closed-in xs ends h (omega arith) in
-    let w = piece-ends (length xs) 0 ends h e there in
-    let same = get_or_read ends h end there at 0 in
-    (omega (arith, w.0), omega (arith, w.1))
-
 -- ---- a part of a list once more at its end, without a place
 abbrev others : ℕ → List ℕ → List ℕ
 others but xs = filter (λ d. not (eqb d but)) xs
@@ -100,15 +84,6 @@ others-push xs ys but from k x low lt e is other =
     let at = is ∙ ap (λ l. get_or l k x) e ∙ get_or_append_left xs (others but (between from k xs)) x k lt in
     rw (others-next but from k x xs low lt at, ne_eqb x but other) (ap (λ l. l ++ x ∷ []) e ∙ append_assoc xs (others but (between from k xs)) (x ∷ []))
 
-pub others-grown : (xs ys : List ℕ) (but from k end : ℕ) → k ≤ end → end ≤ length xs → ys ≡ xs ++ filter (λ d. not (eqb d but)) (between from k xs) → IsGrown xs (end - from) ys
-others-grown xs ys but from k end le within e = record {
-  more = filter (λ d. not (eqb d but)) (between from k xs);
-  added = e;
-  few = omega (arith, length-filter (λ d. not (eqb d but)) (between from k xs), count_by-le-length (λ d. not (eqb d but)) (between from k xs), length-between xs from k (omega arith));
-}
-
-pub grown-listed : (xs ys ends : List ℕ) (n : ℕ) → IsListed xs ends → IsGrown xs n ys → length xs + n < 2 ^ 32 → IsListed ys ends
-grown-listed xs ys ends n l g room =
-    let long : length ys ≡ length xs + length g.more = ap length g.added ∙ length-append xs g.more in
-    let few = g.few in
-    record { are_ends = ends-more (length xs) (length ys) 0 ends (omega arith) l.are_ends; few_places = omega arith; few_lists = l.few_lists }
+-- a list with more at its end is no shorter
+pub others-grown : (xs ys zs : List ℕ) → ys ≡ xs ++ zs → length xs ≤ length ys
+others-grown xs ys zs e = let long = ap length e ∙ length-append xs zs in omega arith

@@ -1,6 +1,6 @@
 -- What is counted of the cells of count houses.
 use Rattle.std.proofs.lemmas.Grind.{common_steps}
-use Rattle.std.proofs.Common.{◌≡◌, ℕ, ◌+◌, ◌-◌, ◌<◌, ◌≤◌, ◌^◌, Bool, true, false, not, ◌&&◌, eqb, cond, List, length, slice_index, set, take, refl, sym, ◌∙◌, ap, ap₂, subst, inl, inr, arith}
+use Rattle.std.proofs.Common.{◌≡◌, ℕ, ◌+◌, ◌-◌, ◌<◌, ◌≤◌, Bool, true, false, not, ◌&&◌, eqb, cond, List, length, slice_index, set, take, refl, sym, ◌∙◌, ap, ap₂, subst, inl, inr, arith}
 use Rattle.std.specs.List.{count_by}
 use Rattle.std.proofs.lemmas.Bool.{cases_Bool, cases_eq, true≢false}
 use Rattle.std.proofs.lemmas.List.{length-set, get_or-set_same, get_or-set_other}
@@ -82,7 +82,7 @@ module _ (cells : ℕ) (K L : Candidates) (place before after : ℕ) (change : I
     tally-moved = record { must_is = must_moved.1; may_is = may_moved.1; empty_is = empty_moved.1 }
 
     -- no count passes the number of cells
-    pub can-move : length places < 2 ^ 32 → CanMove t before after
+    pub can-move : length places ≤ 512 → CanMove t before after
     can-move few = record {
       must_before = must_moved.0;
       may_before = may_moved.0;

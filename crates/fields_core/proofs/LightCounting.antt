@@ -9,13 +9,17 @@ use Rattle.grid_core.specs.Grids.{IsGrid}
 use Rattle.grid_core.specs.Regions.{row_places, column_places, steps}
 use Rattle.grid_core.proofs.CandidateLemmas.{all_below-at, any_below-here, any_below-some}
 use Rattle.engine_core.specs.Puzzle.{has_place}
+use Rattle.engine_core.specs.HouseIndex.{AreFew}
 use Rattle.engine_core.specs.PlaceLaws.{has_place-here, AreDistinct, place-filter, place-kept, place-append, place-front, place-back, distinct-filter, distinct-append}
 use Rattle.gameid_core.specs.Puzzles.{Light, IsLight, IsLightCell}
 use Rattle.gameid_core.specs.declared.light_up.cell.LightCell.{LightCell}
 use Rattle.gameid_core.specs.declared.light_up.cell.LightCell.TheVariants.{White, Black, Numbered}
 use Rattle.fields_core.specs.CountHouse.{exactly, one_at_most, one_at_least, IsCounting}
+use Rattle.fields_core.specs.CountLists.{AreListed}
+use Rattle.fields_core.specs.declared.count.list.CountList.{CountList}
 use Rattle.fields_core.specs.Light.{light_cells, white, bulb, joined_in_row, joined_in_column, sees, sees_bulb, bulbs_beside, black_right, number_right, bulb_right, lit_right, solves_lights}
 use Rattle.fields_core.specs.LightHouses.{row_run, column_run, seen_from, begins_row_run, begins_column_run, numbered, number_house, row_house, column_house, lit_house, light_houses}
+use Rattle.fields_core.proofs.CountListLemmas.{four-few, if-few, listed-few}
 use Rattle.fields_core.proofs.LightFaultLemmas.{lit-parts}
 use Rattle.fields_core.proofs.LightSight.{bulb-in, row-of, column-of}
 use Rattle.fields_core.proofs.HouseLists.{row-long, column-long}
@@ -86,11 +90,11 @@ pub column-run-joined : (p : Light) (c d : ℕ) → has_place (column_run p c) d
 unfolding column_run
 column-run-joined p c d on = (place-filter (joined_in_column p c) (column_places p.size (c % p.size.w)) d on).1
 
-row-run-few : (p : Light) (c : ℕ) → IsBoard p → length (row_run p c) ≤ 256
+pub row-run-few : (p : Light) (c : ℕ) → IsBoard p → length (row_run p c) ≤ 256
 unfolding row_run
 row-run-few p c board = let a = filter-few (joined_in_row p c) (row_places p.size (c / p.size.w)) in let b = row-long p.size (c / p.size.w) in let w = board.w_few in omega arith
 
-column-run-few : (p : Light) (c : ℕ) → IsBoard p → length (column_run p c) ≤ 256
+pub column-run-few : (p : Light) (c : ℕ) → IsBoard p → length (column_run p c) ≤ 256
 unfolding column_run
 column-run-few p c board = let a = filter-few (joined_in_column p c) (column_places p.size (c % p.size.w)) in let b = column-long p.size (c % p.size.w) in let w = board.h_few in omega arith
 
@@ -207,3 +211,20 @@ light-counting p is = record {
   ];
   meets_each = λ g grid good h lt. (each-met p (light-board p is) h lt).met g grid good;
 }
+
+-- ---- few houses
+pub number-one : (p : Light) (c : ℕ) → length (number_house p c) ≤ 1
+number-one p c = by (get_or p.cells c Black) (filter (white p) (steps p.size c 4))
+  where
+    by : (cell : LightCell) (places : List ℕ) → length (numbered cell places) ≤ 1
+    by White places = omega arith
+    by Black places = omega arith
+    by (Numbered n) places = omega arith
+
+pub light-few : (p : Light) (list : CountList) → IsLight p → AreListed list (light_houses p) → AreFew list.list.closed
+unfolding light_houses
+light-few p list is are =
+    let counting = light-counting p is in
+    let few = four-few (number_house p) (row_house p) (column_house p) (lit_house p) (light_cells p) (light_cells p) (light_cells p) (light_cells p)
+    (number-one p) (λ c. if-few (begins_row_run p c) _) (λ c. if-few (begins_column_run p c) _) (λ c. if-few (white p c) _) in
+    listed-few list (light_houses p) (light_cells p) are counting.are_houses (omega (arith, few, counting.few_cells))

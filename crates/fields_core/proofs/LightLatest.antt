@@ -13,7 +13,7 @@ use Rattle.fields_core.specs.declared.count.list.CountList.{CountList}
 use Rattle.fields_core.specs.Light.{light_cells, white}
 use Rattle.fields_core.specs.LightHouses.{row_run, column_run, seen_from, begins_row_run, begins_column_run, row_house, column_house, lit_house}
 use Rattle.fields_core.specs.LightRuns.{IsListAt, AreRunsListed, AreRowsListed, AreColumnsListed, IsRowsAt, IsColumnsAt}
-use Rattle.fields_core.proofs.CountListLemmas.{added-none, below-more}
+use Rattle.fields_core.proofs.CountListLemmas.{added-none, below-few, below-more, if-few}
 use Rattle.fields_core.proofs.LightHouseLaws.{column-run-on, row-run-on}
 use Rattle.fields_core.proofs.TentBeside.{cell-below, whole-cell}
 
@@ -44,18 +44,6 @@ pub runs-added : (a b : CountList) (begins : ℕ → Bool) (run : ℕ → List �
 runs-added a b begins run cells more added = λ c lt on.
     listed-before b.list.closed more _ (run c) (rw added.closed (listed-behind a.list.closed (map house_places (houses_below (λ c. cond (begins c) (one_at_most (run c) ∷ []) []) cells)) _ (run c)
     (below-at (λ c. cond (begins c) (one_at_most (run c) ∷ []) []) cells c (one_at_most (run c)) lt (rw on refl))))
-
--- few runs begin
-pub runs-few : (begins : ℕ → Bool) (run : ℕ → List ℕ) (n : ℕ) → length (houses_below (λ c. cond (begins c) (one_at_most (run c) ∷ []) []) n) ≤ n
-unfolding houses_below
-runs-few begins run zero = omega arith
-runs-few begins run (suc n) =
-    let rest = runs-few begins run n in
-    let one = few (begins n) in
-    omega (arith, length-append (houses_below (λ c. cond (begins c) (one_at_most (run c) ∷ []) []) n) (cond (begins n) (one_at_most (run n) ∷ []) []))
-  where
-    few : (b : Bool) → length (cond b (one_at_most (run n) ∷ []) []) ≤ 1
-    few b = grind (arith, common_steps)
 
 -- ---- the walk over the cells
 length-more : (house : ℕ → List CountHouse) (n : ℕ) → length (houses_below house (n + 1)) ≡ length (houses_below house n) + length (house n)
@@ -123,10 +111,10 @@ lit-none p a place none off = added-none a (lit_house p place) none (rw off refl
 
 -- the numbers of houses are small
 pub rows-few : (p : Light) (lists : List (List ℕ)) (first last next place : ℕ) → IsRowsAt p lists first last next place → next ≤ first + place
-rows-few p lists first last next place is = let e = is.after in omega (arith, runs-few (begins_row_run p) (row_run p) place)
+rows-few p lists first last next place is = let e = is.after in omega (arith, below-few (row_house p) place (λ c. if-few (begins_row_run p c) _))
 
 pub columns-few : (p : Light) (lists : List (List ℕ)) (first : ℕ) (last : List ℕ) (next place : ℕ) → IsColumnsAt p lists first last next place → next ≤ first + place
-columns-few p lists first last next place is = let e = is.after in omega (arith, runs-few (begins_column_run p) (column_run p) place)
+columns-few p lists first last next place is = let e = is.after in omega (arith, below-few (column_house p) place (λ c. if-few (begins_column_run p c) _))
 
 -- the houses of one more cell
 pub added-next : (a b d : CountList) (f : ℕ → List CountHouse) (n : ℕ) → IsAdded a b (houses_below f n) → IsAdded b d (f n) → IsAdded a d (houses_below f (n + 1))

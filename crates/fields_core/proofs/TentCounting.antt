@@ -13,14 +13,18 @@ use Rattle.grid_core.specs.Candidates.{all_below}
 use Rattle.grid_core.proofs.RegionLemmas.{row-at, column-at}
 use Rattle.grid_core.proofs.CandidateLemmas.{all_below-at, any_below-here}
 use Rattle.engine_core.specs.Puzzle.{has_place}
+use Rattle.engine_core.specs.HouseIndex.{AreFew}
 use Rattle.engine_core.specs.PlaceLaws.{has_place-at, has_place-here, AreDistinct, place-filter, place-kept, distinct-filter}
 use Rattle.engine_core.specs.Filling.{Set, has_value}
 use Rattle.engine_core.specs.FillingLaws.{filling_from_test, has_value_below}
 use Rattle.grid_core.specs.Lines.{line_cells}
 use Rattle.gameid_core.specs.Puzzles.{Tents, IsTents, AreCounts}
 use Rattle.fields_core.specs.CountHouse.{exactly, one_at_most, one_at_least, IsCounting}
+use Rattle.fields_core.specs.CountLists.{AreListed}
+use Rattle.fields_core.specs.declared.count.list.CountList.{CountList}
 use Rattle.fields_core.specs.Tents.{tent_cells, tree, tent, are_near, touches, tents_in_column, tents_in_row, tree_right, touch_right, column_right, row_right, names_none_twice, leaves_none_out, trees_beside, can_be_paired, solves_tents}
 use Rattle.fields_core.specs.TentHouses.{column_of_tents, row_of_tents, free_beside, tree_house, square_house, tent_houses, is_barred}
+use Rattle.fields_core.proofs.CountListLemmas.{four-few, if-few, listed-few}
 use Rattle.fields_core.proofs.HouseLists.{row-long, column-long}
 use Rattle.fields_core.proofs.PlaceLists.{count-some, count-one}
 use Rattle.fields_core.proofs.StepLaws.{steps-distinct, steps-few}
@@ -144,6 +148,9 @@ tree-bare p g good c lt on = elim (or_cases (not (tree p c)) (eqb (slice_index g
   | inr none ↦ eqb-true (slice_index g c) 0 none
 ]
 
+pub free-few : (p : Tents) (c : ℕ) → length (free_beside p c) ≤ 4
+free-few p c = omega (arith, filter-few (λ d. not (tree p d)) (steps p.size c 4), steps-few p.size c 4)
+
 tree-kind : (p : Tents) (c : ℕ) → IsField p → c < tent_cells p → tree p c ≡ true → IsMet (tent_cells p) (solves_tents p) (one_at_least (free_beside p c))
 tree-kind p c field lt on = met-from (tent_cells p) (solves_tents p) _
     (λ d m. beside-in p.size c d field.some lt (place-filter (λ d. not (tree p d)) (steps p.size c 4) d m).0)
@@ -154,7 +161,7 @@ tree-kind p c field lt on = met-from (tent_cells p) (solves_tents p) _
     (count-some (tent g) (free_beside p c) w.0 m w.2, count_by-le-length (tent g) (free_beside p c)))
   where
     few : length (free_beside p c) ≤ 512
-    few = let a = filter-few (λ d. not (tree p d)) (steps p.size c 4) in let b = steps-few p.size c 4 in omega arith
+    few = omega (arith, free-few p c)
 
 -- ---- squares
 abbrev square_at : ℕ → ℕ → List ℕ
@@ -239,3 +246,13 @@ tent-counting p is = record {
   where
     zero-from : (v : ℕ) → v < 2 → (v ≡ 1 → ⊥) → v ≡ 0
     zero-from v lt none = grind (arith, common_steps, cases_eq v 0)
+
+-- ---- few houses
+pub tent-few : (p : Tents) (list : CountList) → IsTents p → AreListed list (tent_houses p) → AreFew list.list.closed
+unfolding tent_houses
+tent-few p list is are =
+    let counting = tent-counting p is in
+    let field = tent-field p is in
+    let few = four-few (column_of_tents p) (row_of_tents p) (tree_house p) (square_house p) p.size.w p.size.h (tent_cells p) (tent_cells p)
+    (λ x. omega arith) (λ y. omega arith) (λ c. if-few (tree p c) _) (λ c. if-few (ltb (c % p.size.w + 1) p.size.w && ltb (c / p.size.w + 1) p.size.h) _) in
+    listed-few list (tent_houses p) (tent_cells p) are counting.are_houses (omega (arith, few, field.w_few, field.h_few, counting.few_cells))

@@ -47,11 +47,11 @@ strikes_of house =
 unfoldable pub after_house : CountHouse → Candidates → Candidates
 after_house house K c v = K c v && not (strikes_of house K c v)
 
--- different cells of a board, and small numbers
+-- different cells of a board, few of them, and small numbers
 pub record IsHouse (cells : ℕ) (house : CountHouse) : Type 0 where
   pub within : (c : ℕ) → has_place house.places c ≡ true → c < cells
   pub different : AreDifferent house.places
-  pub few_places : length house.places < 2 ^ 32
+  pub few_places : length house.places ≤ 512
   pub least_small : house.least < 2 ^ 32
   pub most_small : house.most < 2 ^ 32
 

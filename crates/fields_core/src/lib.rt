@@ -20,6 +20,3 @@ pub use tents::check::check_tents;
 pub use tents::fault::TentFault;
 pub use tents::rules::TentRules;
 pub use tents::touch::touches_tent;
-
-#[cfg(test)]
-mod tests;

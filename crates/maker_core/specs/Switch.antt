@@ -1,4 +1,4 @@
--- A second solution close to a grid of Pattern. The working words of the search for one: no public contract uses them.
+-- A second solution close to a grid of Pattern. `HasOther` is what `has_switch` promises; the rest serves private functions.
 use Rattle.std.specs.Prelude.{◌≡◌, ◌≢◌, ℕ, ◌-◌, ◌<◌, ◌≤◌, Bool, not, ◌&&◌, ◌||◌, ◌==◌, List, slice_index}
 use Rattle.grid_core.specs.Extent.{Extent}
 use Rattle.grid_core.specs.Regions.{row_places}

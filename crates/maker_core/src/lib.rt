@@ -18,8 +18,6 @@ pub use laws::{
 pub use light_up::maker::make_lights;
 pub use made::{Kept, Limits, Made, MakeFault, Why};
 pub use pattern::maker::make_pattern;
+pub use pattern::switch::has_switch;
 pub use solo::maker::make_solo;
 pub use tents::maker::make_tents;
-
-#[cfg(test)]
-mod tests;

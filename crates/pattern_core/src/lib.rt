@@ -8,8 +8,6 @@ mod laws;
 mod line_cells;
 mod line_clue;
 mod lines;
-#[cfg(test)]
-mod listing;
 mod places;
 mod table;
 mod track;
@@ -18,6 +16,3 @@ pub use check::check_pattern;
 pub use fault::PatternFault;
 pub use laws::{accepted_are_solutions, rules_are_lawful};
 pub use lines::{LineScratch, PatternLines};
-
-#[cfg(test)]
-mod tests;

@@ -25,23 +25,24 @@ required_option name = record (text_option name) { required = true }
 abbrev pub flag : Text → Rule
 flag name = record (text_option name) { action = Some SetTrue }
 
+-- a command whose first word names a game
+abbrev pub game_app : Text → App
+game_app name = with_rule (new_app name) (required_word (codes "game"))
+
 -- `solve GAME [ID] [--budget B]`
 abbrev pub solve_app : App
-solve_app = with_rule (with_rule (with_rule (new_app (codes "solve"))
-    (required_word (codes "game")))
+solve_app = with_rule (with_rule (game_app (codes "solve"))
     (optional_word (codes "id")))
     (text_option (codes "budget"))
 
 -- `check GAME ID`
 abbrev pub check_app : App
-check_app = with_rule (with_rule (new_app (codes "check"))
-    (required_word (codes "game")))
+check_app = with_rule (game_app (codes "check"))
     (required_word (codes "id"))
 
 -- `grade GAME ID [--budget B] [--trace]`
 abbrev pub grade_app : App
-grade_app = with_rule (with_rule (with_rule (with_rule (new_app (codes "grade"))
-    (required_word (codes "game")))
+grade_app = with_rule (with_rule (with_rule (game_app (codes "grade"))
     (required_word (codes "id")))
     (text_option (codes "budget")))
     (flag (codes "trace"))
@@ -49,8 +50,7 @@ grade_app = with_rule (with_rule (with_rule (with_rule (new_app (codes "grade"))
 -- `generate GAME SIZE --seed S [--budget B] [--tries T] [--black P]`: what must be there, and the
 -- whole
 abbrev pub generate_needs_app : App
-generate_needs_app = with_rule (with_rule (with_rule (new_app (codes "generate"))
-    (required_word (codes "game")))
+generate_needs_app = with_rule (with_rule (game_app (codes "generate"))
     (required_word (codes "size")))
     (required_option (codes "seed"))
 
@@ -70,9 +70,11 @@ bare_app = on_top (λ s. record s {
   subcommand_required = true;
 }) (new_app (codes "puzzles"))
 
+abbrev pub solving_app : App
+solving_app = with_subcommand (with_subcommand bare_app solve_app.top) check_app.top
+
 abbrev pub puzzles_app : App
-puzzles_app = with_subcommand (with_subcommand (with_subcommand (with_subcommand bare_app
-    solve_app.top) check_app.top) grade_app.top) generate_app.top
+puzzles_app = with_subcommand (with_subcommand solving_app grade_app.top) generate_app.top
 
 -- nothing where a fault was found
 abbrev pub unless_fault : {X : Type 0} → Kinds → Option X → Option X

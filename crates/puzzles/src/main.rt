@@ -1,6 +1,7 @@
 //! Solves logic puzzles by their game IDs.
 #![tactic(auto)]
 
+pub mod command_line;
 pub mod ends;
 pub mod run;
 #[cfg(test)]

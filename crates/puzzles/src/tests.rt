@@ -10,4 +10,5 @@ mod rows;
 mod runs;
 mod seen;
 mod spent;
+mod traces;
 mod words;

@@ -1,14 +1,14 @@
 //! What the words of a command line ask for.
 ghost use Rattle.puzzles.specs.Requests.{number_of, number_or, asked_in, game_in, budget_in, solve_in, check_in, trace_in, grade_in, seed_in, tries_in, black_in, generate_in, asked_by, asked_of};
-ghost use Rattle.std.specs.Prelude.{◌≡◌, ◌≤◌, IfSome, IfOk, option_and_then, option_map, map, string_bytes, false};
-ghost use Rattle.clap.specs.Walk.{rule_of, first_of, rows_of};
-ghost use Rattle.clap.specs.Simple.{app_of, subcommand_rows_of};
+ghost use Rattle.std.specs.Prelude.{◌≡◌, ◌≤◌, IfSome, IfOk, option_and_then, option_map, map, string_bytes};
+ghost use Rattle.clap.specs.Walk.{first_of, rows_of};
+ghost use Rattle.clap.specs.Simple.{subcommand_rows_of};
 ghost use Rattle.clap.specs.Matches.{found_of};
-ghost use Rattle.clap.specs.declared.builder.command.Command.TheViews.{out-Command as fields_of};
-ghost use Rattle.puzzles.specs.CommandLine.{required_word, text_option, flag, solve_app, check_app, grade_app, generate_needs_app, generate_app, bare_app, puzzles_app, parsed};
+ghost use Rattle.puzzles.specs.CommandLine.{parsed};
 
+use crate::command_line::puzzles_command;
+use clap::ArgMatches;
 use clap::error::ErrorKind;
-use clap::{Arg, ArgAction, ArgMatches, Command};
 use commands::{GradeOptions, Percent, Recipe, Task, game_named, usual_black};
 use gameid_core::Game;
 use maker_core::Limits;
@@ -46,109 +46,6 @@ pub enum Request<'a> {
         size: &'a str,
         recipe: Recipe,
     },
-}
-
-/// A word that has to stand at its place.
-fn required_argument<'a>(alloc: Global, id: &'a str) -> Arg<'a>
-    ensures rule { rule_of result ≡ required_word id.entry.now }
-    ensures local { result.global ≡ false }
-{
-    Arg::new(alloc, id).required(true)
-}
-
-/// An option that is followed by its text.
-fn text_argument<'a>(alloc: Global, name: &'a str) -> Arg<'a>
-    ensures rule { rule_of result ≡ text_option name.entry.now }
-    ensures local { result.global ≡ false }
-{
-    Arg::new(alloc, name).long(name)
-}
-
-/// An option that stands alone.
-fn flag_argument<'a>(alloc: Global, name: &'a str) -> Arg<'a>
-    ensures rule { rule_of result ≡ flag name.entry.now }
-    ensures local { result.global ≡ false }
-{
-    text_argument(alloc, name).action(ArgAction::SetTrue)
-}
-
-/// `solve GAME [ID] [--budget B]`
-fn solve_command<'a>(alloc: Global) -> Result<Command<'a>, AllocError>
-    ensures app { IfOk result (λ c. app_of c ≡ solve_app) }
-    ensures local { IfOk result (λ c. (fields_of c).has_globals ≡ false) }
-{
-    Command::new(alloc, "solve")
-        .arg(required_argument(alloc, "game"))?
-        .arg(Arg::new(alloc, "id"))?
-        .arg(text_argument(alloc, "budget"))
-}
-
-/// `check GAME ID`
-fn check_command<'a>(alloc: Global) -> Result<Command<'a>, AllocError>
-    ensures app { IfOk result (λ c. app_of c ≡ check_app) }
-    ensures local { IfOk result (λ c. (fields_of c).has_globals ≡ false) }
-{
-    Command::new(alloc, "check")
-        .arg(required_argument(alloc, "game"))?
-        .arg(required_argument(alloc, "id"))
-}
-
-/// `grade GAME ID [--budget B] [--trace]`
-fn grade_command<'a>(alloc: Global) -> Result<Command<'a>, AllocError>
-    ensures app { IfOk result (λ c. app_of c ≡ grade_app) }
-    ensures local { IfOk result (λ c. (fields_of c).has_globals ≡ false) }
-{
-    Command::new(alloc, "grade")
-        .arg(required_argument(alloc, "game"))?
-        .arg(required_argument(alloc, "id"))?
-        .arg(text_argument(alloc, "budget"))?
-        .arg(flag_argument(alloc, "trace"))
-}
-
-/// `generate GAME SIZE --seed S`: what a generated puzzle cannot do without.
-fn generate_needs<'a>(alloc: Global) -> Result<Command<'a>, AllocError>
-    ensures app { IfOk result (λ c. app_of c ≡ generate_needs_app) }
-    ensures local { IfOk result (λ c. (fields_of c).has_globals ≡ false) }
-{
-    Command::new(alloc, "generate")
-        .arg(required_argument(alloc, "game"))?
-        .arg(required_argument(alloc, "size"))?
-        .arg(text_argument(alloc, "seed").required(true))
-}
-
-/// What a puzzle is generated of, with `[--budget B] [--tries T] [--black P]`.
-fn generate_command<'a>(alloc: Global) -> Result<Command<'a>, AllocError>
-    ensures app { IfOk result (λ c. app_of c ≡ generate_app) }
-    ensures local { IfOk result (λ c. (fields_of c).has_globals ≡ false) }
-{
-    generate_needs(alloc)?
-        .arg(text_argument(alloc, "budget"))?
-        .arg(text_argument(alloc, "tries"))?
-        .arg(text_argument(alloc, "black"))
-}
-
-/// The program without its commands. It has no help and no version, and wants a command.
-fn bare_command<'a>(alloc: Global) -> Command<'a>
-    ensures app { app_of result ≡ bare_app }
-    ensures local { (fields_of result).has_globals ≡ false }
-{
-    Command::new(alloc, "puzzles")
-        .no_binary_name(true)
-        .disable_help_flag(true)
-        .disable_help_subcommand(true)
-        .disable_version_flag(true)
-        .subcommand_required(true)
-}
-
-/// The program with its four commands.
-fn puzzles_command<'a>(alloc: Global) -> Result<Command<'a>, AllocError>
-    ensures { IfOk result (λ c. app_of c ≡ puzzles_app) }
-{
-    bare_command(alloc)
-        .subcommand(solve_command(alloc)?)?
-        .subcommand(check_command(alloc)?)?
-        .subcommand(grade_command(alloc)?)?
-        .subcommand(generate_command(alloc)?)
 }
 
 /// What was found in the words, or nothing where they are refused.

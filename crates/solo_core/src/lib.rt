@@ -22,6 +22,3 @@ pub use laws::{
 };
 pub use rules::{SoloCrossings, SoloHouses, SoloRules, SoloSingles, SoloWork};
 pub use strikes::{Crossings, Fillings, Singles, Strikes};
-
-#[cfg(test)]
-mod tests;

@@ -1,6 +1,6 @@
 //! Solo, as the commands play it. It is graded by three rule sets in turn, and else by a search.
 ghost use Rattle.std.specs.Prelude.{◌≡◌, false, length};
-ghost use Rattle.commands.specs.Allowed.{IsGradedAfterSingles};
+ghost use Rattle.commands.specs.Allowed.{IsGradedAfterHouses, IsGradedAfterSingles};
 ghost use Rattle.commands.specs.Common.{houses_rules, scopes_of};
 ghost use Rattle.commands.specs.SoloPlayed.{solo_name, solo_played};
 ghost use Rattle.commands.specs.Stops.{LeavesSink, Told};
@@ -103,6 +103,21 @@ fn tell_by_houses<O: Sink>(
         };
         return attempt.tell_with_visits(grade, puzzle, &houses, &mut store, output);
     }
+    tell_by_crossings(alloc, puzzle, options, output)
+}
+
+/// Tells the grade of a puzzle that whole houses do not settle.
+fn tell_by_crossings<O: Sink>(
+    alloc: Global,
+    puzzle: &SoloPuzzle,
+    options: GradeOptions,
+    output: &mut O,
+) -> Ended
+    requires { O.has_failed output.old ≡ false }
+    ensures told { Told O.takes (IsGradedAfterHouses puzzle.now options)
+        output.old output.new result }
+    ensures left { LeavesSink O.Sink output.new result }
+{
     let crossings = SoloCrossings::new(alloc, puzzle)?;
     let attempt = Attempt {
         alloc,

@@ -126,6 +126,30 @@ fn closes_anew<R: Rules>(
     Ok((closes, store.settles(rules)))
 }
 
+/// The same of a row, if it can be, closed by a queue or by sweeps.
+fn row_closes(
+    alloc: Global,
+    (values, first, last): (u8, u8, u8),
+    queue: bool,
+) -> Result<Option<(bool, bool)>, AllocError> {
+    if values < 1 || values > 3 || first >= values || last >= values {
+        return Ok(None);
+    }
+    let plain = plain_closure(&plain_start(values, first, last));
+    let row = Neighbours {
+        cells: CELLS,
+        values,
+        first,
+        last,
+    };
+    let told = if queue {
+        closes_anew(alloc, &row, &plain, values, true)?
+    } else {
+        closes_anew(alloc, &Swept { row }, &plain, values, false)?
+    };
+    Ok(Some(told))
+}
+
 /// Values, the given ends, and whether the closure settles the row.
 const ROWS: [(u8, u8, u8, bool); 6] = [
     (2, 0, 0, true),
@@ -139,16 +163,8 @@ const ROWS: [(u8, u8, u8, bool); 6] = [
 #[test]
 fn a_queue_reaches_the_plain_closure(rt: HostRuntime) -> Result<(), Fail> {
     for (values, first, last, settles) in ROWS {
-        assert!(rt; 1 <= values && values <= 3 && first < values && last < values);
-        let rules = Neighbours {
-            cells: CELLS,
-            values,
-            first,
-            last,
-        };
-        let plain = plain_closure(&plain_start(values, first, last));
-        let told = closes_anew(rt.alloc(), &rules, &plain, values, true)?;
-        assert_eq!(rt; told, (true, settles), "{values} {first} {last}");
+        let told = row_closes(rt.alloc(), (values, first, last), true)?;
+        assert_eq!(rt; told, Some((true, settles)), "{values} {first} {last}");
     }
     Ok(())
 }
@@ -156,17 +172,8 @@ fn a_queue_reaches_the_plain_closure(rt: HostRuntime) -> Result<(), Fail> {
 #[test]
 fn sweeps_reach_the_plain_closure(rt: HostRuntime) -> Result<(), Fail> {
     for (values, first, last, settles) in ROWS {
-        assert!(rt; 1 <= values && values <= 3 && first < values && last < values);
-        let row = Neighbours {
-            cells: CELLS,
-            values,
-            first,
-            last,
-        };
-        let rules = Swept { row };
-        let plain = plain_closure(&plain_start(values, first, last));
-        let told = closes_anew(rt.alloc(), &rules, &plain, values, false)?;
-        assert_eq!(rt; told, (true, settles), "{values} {first} {last}");
+        let told = row_closes(rt.alloc(), (values, first, last), false)?;
+        assert_eq!(rt; told, Some((true, settles)), "{values} {first} {last}");
     }
     Ok(())
 }
@@ -177,9 +184,9 @@ fn room<R: Rules>(alloc: Global, rules: &R, others: &R) -> Result<(Sizes, [bool;
     Ok((store.sizes(), [store.fits(rules), store.fits(others)]))
 }
 
-#[test]
-fn sizes_are_those_of_the_rules(rt: HostRuntime) -> Result<(), Fail> {
-    let rules = Neighbours {
+/// The same of a row of five cells and others of four, closed by a queue or by sweeps.
+fn room_of_rows(alloc: Global, queue: bool) -> Result<(Sizes, [bool; 2]), AllocError> {
+    let row = Neighbours {
         cells: CELLS,
         values: 3,
         first: 0,
@@ -191,19 +198,25 @@ fn sizes_are_those_of_the_rules(rt: HostRuntime) -> Result<(), Fail> {
         first: 0,
         last: 0,
     };
-    let mut sizes = Sizes {
-        frames: 5,
-        trail: 15,
-        trace: 15,
-        queue: 4,
-        scope: 2,
-    };
-    let told = room(rt.alloc(), &rules, &shorter)?;
-    assert_eq!(rt; told, (sizes, [true, false]));
-    (sizes.trace, sizes.queue) = (0, 0);
-    let (swept, shorter) = (Swept { row: rules }, Swept { row: shorter });
-    let told = room(rt.alloc(), &swept, &shorter)?;
-    assert_eq!(rt; told, (sizes, [true, false]));
+    if queue {
+        return room(alloc, &row, &shorter);
+    }
+    room(alloc, &Swept { row }, &Swept { row: shorter })
+}
+
+#[test]
+fn sizes_are_those_of_the_rules(rt: HostRuntime) -> Result<(), Fail> {
+    for (queue, trace, most) in [(true, 15, 4), (false, 0, 0)] {
+        let sizes = Sizes {
+            frames: 5,
+            trail: 15,
+            trace,
+            queue: most,
+            scope: 2,
+        };
+        let told = room_of_rows(rt.alloc(), queue)?;
+        assert_eq!(rt; told, (sizes, [true, false]), "{queue}");
+    }
     Ok(())
 }
 

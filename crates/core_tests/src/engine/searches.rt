@@ -72,25 +72,32 @@ fn gives_anew<R: Rules>(
     Ok(gives(&mut store, rules, budget, wanted))
 }
 
+/// The same of a row, if it can be, closed by a queue and by sweeps.
+fn both_give(
+    alloc: Global,
+    (values, first, last): (u8, u8, u8),
+    budget: u64,
+    wanted: (Verdict, u64, usize),
+) -> Result<Option<[bool; 2]>, AllocError> {
+    if values < 1 || values > 3 || first >= values || last >= values {
+        return Ok(None);
+    }
+    let row = Neighbours {
+        cells: 5,
+        values,
+        first,
+        last,
+    };
+    let queue = gives_anew(alloc, &row, budget, wanted)?;
+    let sweeps = gives_anew(alloc, &Swept { row }, budget, wanted)?;
+    Ok(Some([queue, sweeps]))
+}
+
 #[test]
 fn searches_stop_at_the_very_trial(rt: HostRuntime) -> Result<(), Fail> {
     for (values, first, last, budget, wanted) in RUNS {
-        assert!(rt; 1 <= values && values <= 3 && first < values && last < values);
-        let row = Neighbours {
-            cells: 5,
-            values,
-            first,
-            last,
-        };
-        assert!(rt;
-            gives_anew(rt.alloc(), &row, budget, wanted)?,
-            "{values} {last} {budget}"
-        );
-        let rules = Swept { row };
-        assert!(rt;
-            gives_anew(rt.alloc(), &rules, budget, wanted)?,
-            "{values} {last} {budget} swept"
-        );
+        let told = both_give(rt.alloc(), (values, first, last), budget, wanted)?;
+        assert_eq!(rt; told, Some([true, true]), "{values} {last} {budget}");
     }
     Ok(())
 }
@@ -105,27 +112,50 @@ fn lent<R: Rules>(store: &Store<R>) -> [bool; 4] {
     ]
 }
 
-/// What a store has counted: trials, turns, and the most trials that were open at once.
-fn counted<R: Rules>(store: &Store<R>) -> (u64, u128, usize) {
-    (store.trials(), store.turns(), store.deepest())
-}
-
-#[test]
-fn two_grids_are_lent(rt: HostRuntime) -> Result<(), Fail> {
+/// A store of a row of five cells with three values whose ends are 0, after searches with these budgets.
+fn searched(alloc: Global, budgets: &[u64]) -> Result<(Verdict, [bool; 4]), AllocError> {
     let rules = Neighbours {
         cells: 5,
         values: 3,
         first: 0,
         last: 0,
     };
-    let mut store = Store::new(rt.alloc(), &rules)?;
-    assert_eq!(rt; lent(&store), [false, false, false, false]);
-    assert_eq!(rt; store.solve(&rules, 9), Verdict::Several);
-    assert_eq!(rt; lent(&store), [true, true, true, true]);
-    assert_eq!(rt; store.solve(&rules, 3), Verdict::GaveUp { found: true });
-    assert_eq!(rt; lent(&store), [true, false, true, false]);
+    let mut store = Store::new(alloc, &rules)?;
+    let mut verdict = Verdict::None;
+    for budget in budgets {
+        if store.fits(&rules) {
+            verdict = store.solve(&rules, *budget);
+        }
+    }
+    Ok((verdict, lent(&store)))
+}
+
+/// What a closing after a search leaves of it: the grids that are lent, and the trials, turns and most open trials.
+fn closed_after(alloc: Global) -> Result<([bool; 4], (u64, u128, usize)), AllocError> {
+    let rules = Neighbours {
+        cells: 5,
+        values: 3,
+        first: 0,
+        last: 0,
+    };
+    let mut store = Store::new(alloc, &rules)?;
+    store.solve(&rules, 3);
     let _open = store.close(&rules);
-    assert_eq!(rt; lent(&store), [false, false, false, false]);
-    assert_eq!(rt; counted(&store), (0, 0, 0));
+    let counted = (store.trials(), store.turns(), store.deepest());
+    Ok((lent(&store), counted))
+}
+
+#[test]
+fn two_grids_are_lent(rt: HostRuntime) -> Result<(), Fail> {
+    let (several, first) = (Verdict::Several, Verdict::GaveUp { found: true });
+    for (budgets, verdict, lent) in [
+        (&[][..], Verdict::None, [false, false, false, false]),
+        (&[9], several, [true, true, true, true]),
+        (&[9, 3], first, [true, false, true, false]),
+    ] {
+        let told = searched(rt.alloc(), budgets)?;
+        assert_eq!(rt; told, (verdict, lent), "{budgets:?}");
+    }
+    assert_eq!(rt; closed_after(rt.alloc())?, ([false; 4], (0, 0, 0)));
     Ok(())
 }

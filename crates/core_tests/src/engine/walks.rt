@@ -255,22 +255,33 @@ fn both_go_as_the_walks(alloc: Global, row: Neighbours) -> Result<[bool; 2], All
     Ok([queued, swept])
 }
 
+/// Whether they do for each pair of ends.
+fn all_go_as_the_walks(alloc: Global, cells: usize, values: u8) -> Result<bool, AllocError> {
+    if cells < 2 || cells > 6 || values < 1 || values > 3 {
+        return Ok(false);
+    }
+    for ends in 0..values * values {
+        let row = Neighbours {
+            cells,
+            values,
+            first: ends / values,
+            last: ends % values,
+        };
+        if both_go_as_the_walks(alloc, row)? != [true, true] {
+            return Ok(false);
+        }
+    }
+    Ok(true)
+}
+
 #[test]
 fn searches_go_as_the_plain_walk(rt: HostRuntime) -> Result<(), Fail> {
-    for cells in 2..=6usize {
-        for values in 1..=3u8 {
-            for ends in 0..values * values {
-                let (first, last) = (ends / values, ends % values);
-                assert!(rt; 2 <= cells && cells <= 6 && first < values && last < values);
-                let row = Neighbours {
-                    cells,
-                    values,
-                    first,
-                    last,
-                };
-                let same = both_go_as_the_walks(rt.alloc(), row)?;
-                assert_eq!(rt; same, [true, true], "{cells} {values} {first} {last}");
-            }
+    for cells in 2..=6 {
+        for values in 1..=3 {
+            assert!(rt;
+                all_go_as_the_walks(rt.alloc(), cells, values)?,
+                "{cells} {values}"
+            );
         }
     }
     Ok(())

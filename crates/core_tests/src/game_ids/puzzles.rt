@@ -16,6 +16,20 @@ fn grid_of(alloc: Global, numbers: &[u8]) -> Result<Grid, AllocError> {
     Ok(grid)
 }
 
+/// The ID of the puzzle of a grid, if there are numbers enough below 2. The first of them are the grid's.
+fn id_of_grid(alloc: Global, size: Size, numbers: &[u8]) -> Result<Option<String>, AllocError> {
+    let cells = size.cells();
+    if numbers.len() < cells {
+        return Ok(None);
+    }
+    let grid = grid_of(alloc, &numbers[..cells])?;
+    if !grid.fits(cells, 2) {
+        return Ok(None);
+    }
+    let puzzle = PatternPuzzle::of_grid(alloc, size, &grid)?;
+    Ok(Some(write_pattern(alloc, &puzzle)?))
+}
+
 #[test]
 fn puzzles_of_grids(rt: HostRuntime) -> Result<(), Fail> {
     for (w, h, numbers, want) in [
@@ -26,14 +40,42 @@ fn puzzles_of_grids(rt: HostRuntime) -> Result<(), Fail> {
     ] {
         let size = Size::new(w, h);
         assert!(rt; size.is_some());
-        let size = size.unwrap();
-        assert!(rt; size.cells() <= numbers.len());
-        let grid = grid_of(rt.alloc(), &numbers[..size.cells()])?;
-        assert!(rt; grid.fits(size.cells(), 2));
-        let puzzle = PatternPuzzle::of_grid(rt.alloc(), size, &grid)?;
-        assert_eq!(rt; write_pattern(rt.alloc(), &puzzle)?.as_str(), want);
+        let id = id_of_grid(rt.alloc(), size.unwrap(), &numbers)?;
+        assert_eq!(rt; id.as_deref(), Some(want));
     }
     Ok(())
+}
+
+/// The puzzle of trees and tents, if those are grids of the size and it is large enough.
+fn of_parts(
+    alloc: Global,
+    size: Size,
+    trees: &[u8],
+    tents: &[u8],
+) -> Result<Option<TentsPuzzle>, AllocError> {
+    let (trees, tents) = (grid_of(alloc, trees)?, grid_of(alloc, tents)?);
+    let fit = trees.fits(size.cells(), 2) && tents.fits(size.cells(), 2);
+    if size.w() < 2 || size.h() < 2 || !fit {
+        return Ok(None);
+    }
+    Ok(Some(TentsPuzzle::of_parts(alloc, size, &trees, &tents)?))
+}
+
+/// Its ID, its first count, and whether its second cell has a tree.
+fn told_of_parts(
+    alloc: Global,
+    size: Size,
+    trees: &[u8],
+    tents: &[u8],
+) -> Result<Option<(String, u8, bool)>, AllocError> {
+    let Some(puzzle) = of_parts(alloc, size, trees, tents)? else {
+        return Ok(None);
+    };
+    if size.cells() < 2 || puzzle.size() != size {
+        return Ok(None);
+    }
+    let id = write_tents(alloc, &puzzle)?;
+    Ok(Some((id, puzzle.count(0), puzzle.tree(1))))
 }
 
 #[test]
@@ -48,32 +90,44 @@ fn puzzles_of_parts(rt: HostRuntime) -> Result<(), Fail> {
     ] {
         let size = Size::new(w, h);
         assert!(rt; size.is_some());
-        let size = size.unwrap();
-        let trees = grid_of(rt.alloc(), trees)?;
-        let tents = grid_of(rt.alloc(), tents)?;
-        assert!(rt; size.w() >= 2 && size.h() >= 2);
-        assert!(rt; trees.fits(size.cells(), 2));
-        assert!(rt; tents.fits(size.cells(), 2));
-        let puzzle = TentsPuzzle::of_parts(rt.alloc(), size, &trees, &tents)?;
-        assert_eq!(rt; write_tents(rt.alloc(), &puzzle)?.as_str(), want);
-        assert_eq!(rt; puzzle.count(0), first);
-        assert_eq!(rt; puzzle.tree(1), trees.get(1) == 1);
+        let told = told_of_parts(rt.alloc(), size.unwrap(), trees, tents)?;
+        assert!(rt; told.is_some(), "{want}");
+        let (id, count, tree) = told.unwrap();
+        assert_eq!(rt; (id.as_str(), count, tree), (want, first, trees[1] == 1));
     }
     Ok(())
+}
+
+/// Whether a puzzle of Solo has this ID.
+fn is_written(alloc: Global, puzzle: &SoloPuzzle, id: &str) -> Result<bool, AllocError> {
+    Ok(write_solo(alloc, puzzle)?.as_str() == id)
 }
 
 #[test]
 fn solo_cells_are_set(rt: HostRuntime) -> Result<(), Fail> {
     let mut solo = SoloPuzzle::blank(rt.alloc(), 2, 2, false)?;
-    assert_eq!(rt; write_solo(rt.alloc(), &solo)?.as_str(), "2x2:p");
+    assert!(rt; is_written(rt.alloc(), &solo, "2x2:p")?);
     solo.set_given(0, 1);
     solo.set_given(1, 4);
     solo.set_given(15, 3);
-    assert_eq!(rt; write_solo(rt.alloc(), &solo)?.as_str(), "2x2:1_4m3");
+    assert!(rt; is_written(rt.alloc(), &solo, "2x2:1_4m3")?);
     solo.set_given(1, 0);
     assert_eq!(rt; (solo.c(), solo.r(), solo.n(), solo.given(0)), (2, 2, 4, 1));
-    assert_eq!(rt; write_solo(rt.alloc(), &solo)?.as_str(), "2x2:1n3");
+    assert!(rt; is_written(rt.alloc(), &solo, "2x2:1n3")?);
     Ok(())
+}
+
+/// Whether a blank puzzle of 2 by 3 blocks says that it is of Solo X, and its ID.
+fn made(alloc: Global, x: bool) -> Result<(bool, String), AllocError> {
+    let made = SoloPuzzle::blank(alloc, 2, 3, x)?;
+    Ok((made.x(), write_solo(alloc, &made)?))
+}
+
+/// Whether a puzzle that is read and its copy say that they are of Solo X, and the copy's ID.
+fn copied(alloc: Global, id: &str) -> Result<([bool; 2], String), Fail> {
+    let read = read_solo(alloc, id.as_bytes())?;
+    let copied = read.copy(alloc)?;
+    Ok(([read.x(), copied.x()], write_solo(alloc, &copied)?))
 }
 
 #[test]
@@ -82,55 +136,81 @@ fn solo_x_is_made_read_and_copied(rt: HostRuntime) -> Result<(), Fail> {
         (false, "2x3:zj", "2x3:1_6zh"),
         (true, "2x3x:zj", "2x3x:1_6zh"),
     ] {
-        let made = SoloPuzzle::blank(rt.alloc(), 2, 3, x)?;
-        let written = write_solo(rt.alloc(), &made)?;
-        assert_eq!(rt; (made.x(), written.as_str()), (x, blank));
-        let read = read_solo(rt.alloc(), given.as_bytes())?;
-        let copied = read.copy(rt.alloc())?;
-        let written = write_solo(rt.alloc(), &copied)?;
-        assert_eq!(rt; (read.x(), copied.x(), written.as_str()), (x, x, given));
+        let (is_x, id) = made(rt.alloc(), x)?;
+        assert_eq!(rt; (is_x, id.as_str()), (x, blank));
+        let (are_x, id) = copied(rt.alloc(), given)?;
+        assert_eq!(rt; (are_x, id.as_str()), ([x, x], given));
     }
     Ok(())
+}
+
+/// Of a blank puzzle of Light Up, two of whose cells were set: cells 4 and 5, and its ID.
+fn lights_set(alloc: Global) -> Result<([LightCell; 2], String), AllocError> {
+    let mut lights = LightPuzzle::blank(alloc, Size::new(2, 3).unwrap())?;
+    lights.set_cell(1, LightCell::Black);
+    lights.set_cell(5, LightCell::Numbered(3));
+    Ok((
+        [lights.cell(4), lights.cell(5)],
+        write_lights(alloc, &lights)?,
+    ))
 }
 
 #[test]
 fn light_cells_are_set(rt: HostRuntime) -> Result<(), Fail> {
-    let mut lights = LightPuzzle::blank(rt.alloc(), Size::new(2, 3).unwrap())?;
-    assert_eq!(rt; write_lights(rt.alloc(), &lights)?.as_str(), "2x3:f");
-    lights.set_cell(1, LightCell::Black);
-    lights.set_cell(5, LightCell::Numbered(3));
-    assert_eq!(rt;
-        (lights.cell(4), lights.cell(5)),
-        (LightCell::White, LightCell::Numbered(3))
-    );
-    assert_eq!(rt; write_lights(rt.alloc(), &lights)?.as_str(), "2x3:aBc3");
+    let blank = LightPuzzle::blank(rt.alloc(), Size::new(2, 3).unwrap())?;
+    assert_eq!(rt; write_lights(rt.alloc(), &blank)?.as_str(), "2x3:f");
+    let (cells, id) = lights_set(rt.alloc())?;
+    assert_eq!(rt; cells, [LightCell::White, LightCell::Numbered(3)]);
+    assert_eq!(rt; id.as_str(), "2x3:aBc3");
     Ok(())
+}
+
+/// The numbers of a line's clue, if there is that line and it has two at most; 0 for none.
+fn clue_of(puzzle: &PatternPuzzle, line: usize) -> Option<[u8; 2]> {
+    let size = puzzle.size();
+    if line >= usize::from(size.w()) + usize::from(size.h()) {
+        return None;
+    }
+    match puzzle.clue_len(line) {
+        0 => Some([0, 0]),
+        1 => Some([puzzle.clue(line, 0), 0]),
+        2 => Some([puzzle.clue(line, 0), puzzle.clue(line, 1)]),
+        _ => None,
+    }
+}
+
+/// The size of the puzzle with the ID, and the clue of a line.
+fn clue_read(alloc: Global, id: &str, line: usize) -> Result<(u8, u8, Option<[u8; 2]>), Fail> {
+    let puzzle = read_pattern(alloc, id.as_bytes())?;
+    Ok((puzzle.size().w(), puzzle.size().h(), clue_of(&puzzle, line)))
 }
 
 #[test]
 fn clues_are_read(rt: HostRuntime) -> Result<(), Fail> {
-    let puzzle = read_pattern(rt.alloc(), b"3x2:2/02/1/1.1/3")?;
-    assert_eq!(rt; (puzzle.size().w(), puzzle.size().h()), (3, 2));
     for (line, clue) in [[2, 0], [2, 0], [1, 0], [1, 1], [3, 0]].iter().enumerate() {
-        assert!(rt; line < 5);
-        let len = puzzle.clue_len(line);
-        assert_eq!(rt; len, if clue[1] == 0 { 1 } else { 2 }, "line {line}");
-        for k in 0..len {
-            assert!(rt; k < 2);
-            assert_eq!(rt; puzzle.clue(line, k), clue[k], "number {k} of line {line}");
-        }
+        let told = clue_read(rt.alloc(), "3x2:2/02/1/1.1/3", line)?;
+        assert_eq!(rt; told, (3, 2, Some(*clue)), "line {line}");
     }
-    let square = read_pattern(rt.alloc(), b"2:///")?;
-    assert_eq!(rt; (square.size().w(), square.size().h()), (2, 2));
-    assert_eq!(rt; square.clue_len(3), 0);
+    assert_eq!(rt; clue_read(rt.alloc(), "2:///", 3)?, (2, 2, Some([0, 0])));
     Ok(())
+}
+
+/// The ID of a copy of the puzzle of Light Up with the ID.
+fn lights_copied(alloc: Global, id: &str) -> Result<String, Fail> {
+    let copy = read_lights(alloc, id.as_bytes())?.copy(alloc)?;
+    Ok(write_lights(alloc, &copy)?)
+}
+
+/// The same of Tents.
+fn tents_copied(alloc: Global, id: &str) -> Result<String, Fail> {
+    let copy = read_tents(alloc, id.as_bytes())?.copy(alloc)?;
+    Ok(write_tents(alloc, &copy)?)
 }
 
 #[test]
 fn puzzles_are_copied(rt: HostRuntime) -> Result<(), Fail> {
-    let lights = read_lights(rt.alloc(), b"3x3:aBBa1aBb")?.copy(rt.alloc())?;
-    assert_eq!(rt; write_lights(rt.alloc(), &lights)?.as_str(), "3x3:aBBa1aBb");
-    let tents = read_tents(rt.alloc(), b"2x2:_c,0,1,1,0")?.copy(rt.alloc())?;
-    assert_eq!(rt; write_tents(rt.alloc(), &tents)?.as_str(), "2x2:_c,0,1,1,0");
+    let (lights, tents) = ("3x3:aBBa1aBb", "2x2:_c,0,1,1,0");
+    assert_eq!(rt; lights_copied(rt.alloc(), lights)?.as_str(), lights);
+    assert_eq!(rt; tents_copied(rt.alloc(), tents)?.as_str(), tents);
     Ok(())
 }

@@ -2,6 +2,18 @@
 
 use super::fault_of;
 use gameid_core::{Game, IdFault, read_size};
+use std::alloc::Global;
+
+/// The faults of a text as an ID of each game.
+fn faults_of(alloc: Global, text: &str) -> [Option<IdFault>; 4] {
+    let text = text.as_bytes();
+    [
+        fault_of(alloc, Game::Solo, text),
+        fault_of(alloc, Game::Pattern, text),
+        fault_of(alloc, Game::LightUp, text),
+        fault_of(alloc, Game::Tents, text),
+    ]
+}
 
 #[test]
 fn faults_before_the_colon(rt: HostRuntime) {
@@ -20,10 +32,8 @@ fn faults_before_the_colon(rt: HostRuntime) {
         (IdFault::SizeRange, "121x2:p 99999999999999999999x2:p"),
     ] {
         for text in texts.split(' ') {
-            for game in [Game::Solo, Game::Pattern, Game::LightUp, Game::Tents] {
-                let found = fault_of(rt.alloc(), game, text.as_bytes());
-                assert_eq!(rt; found, Some(fault), "{game:?} {text}");
-            }
+            let found = faults_of(rt.alloc(), text);
+            assert_eq!(rt; found, [Some(fault); 4], "{text}");
         }
     }
 }

@@ -1,30 +1,31 @@
 //! Houses as lists of places, one after another.
 #![tactic(auto, using(crate::proofs::LawSets::house_list_laws))]
 
-ghost use Rattle.std.specs.Prelude.{◌≡◌, ◌+◌, ◌-◌, ◌<◌, ◌≤◌, ◌^◌, ◌==◌, true, false, not, ◌++◌, ◌∷◌, [], filter, IfOk, OnOk, length, slice_index, slice_index_or, sum_by};
+ghost use Rattle.std.specs.Prelude.{◌≡◌, ◌<◌, ◌≤◌, ◌^◌, ◌==◌, not, ◌++◌, ◌∷◌, [], filter, IfOk, OnOk, length, slice_index, slice_index_or, sum_by};
 ghost use Rattle.std.specs.List.{between, concat};
 ghost use Rattle.grid_core.specs.Pieces.{last_end, pieces, AreEnds};
-ghost use Rattle.engine_core.specs.HouseList.{IsGrown};
 
 use std::alloc::{AllocError, Global};
 use std::marker::Model;
 
-/// Lists of places: those that are closed, and the begun one. All their places stand in one list, where each of them ends
-/// in another, in four bytes each.
+/// Lists of places: those that are closed, and the begun one. All their places stand in one list, in four bytes each.
+/// Where each closed list ends in it stands in another.
 #[derive(Drop)]
 pub struct HouseList {
     places: Vec<u32>,
-    ends: Vec<u32>,
+    ends: Vec<usize>,
 }
 
 impl Model for HouseList {
-    ghost use Rattle.engine_core.specs.HouseList.{Listed, listed, IsListed};
+    ghost use Rattle.std.specs.Prelude.{length};
+    ghost use Rattle.grid_core.specs.Pieces.{AreEnds};
+    ghost use Rattle.engine_core.specs.HouseList.{Listed, listed};
 
     ghost Value = { Listed };
 
     ghost view = { λ l. listed l.places.items l.ends.items };
 
-    ghost invariant = { λ l. IsListed l.places.items l.ends.items };
+    ghost invariant = { λ l. AreEnds (length l.places.items) 0 l.ends.items };
 }
 
 impl HouseList {
@@ -46,15 +47,12 @@ impl HouseList {
     ///
     /// # Errors
     ///
-    /// When memory was refused, or there are 2^32 - 1 places.
+    /// When memory was refused.
     pub fn push(&mut self, place: usize) -> Result<(), AllocError>
         requires { place < 2 ^ 32 }
         ensures { OnOk result (self.new
             ≡ record self.old { begun = self.old.begun ++ place ∷ [] }) }
     {
-        if is_long(&self.places) {
-            return Err(AllocError);
-        }
         self.places.push(place as u32)?;
         Ok(())
     }
@@ -63,7 +61,7 @@ impl HouseList {
     ///
     /// # Errors
     ///
-    /// When memory was refused, or there would be 2^32 places.
+    /// When memory was refused.
     pub fn push_list(&mut self, house: usize) -> Result<(), AllocError>
         requires { house < length self.old.closed }
         ensures { OnOk result (self.new ≡ record self.old {
@@ -71,10 +69,7 @@ impl HouseList {
         }) }
     {
         let from = begin(&self.ends, house);
-        let end = self.ends[house] as usize;
-        if !has_room(&self.places, end - from) {
-            return Err(AllocError);
-        }
+        let end = self.ends[house];
         self.places.extend_from_within(from..end)?;
         Ok(())
     }
@@ -83,7 +78,7 @@ impl HouseList {
     ///
     /// # Errors
     ///
-    /// When memory was refused, or there would be 2^32 places.
+    /// When memory was refused.
     pub fn push_others(&mut self, house: usize, but: usize) -> Result<(), AllocError>
         requires { house < length self.old.closed }
         ensures { OnOk result (self.new ≡ record self.old {
@@ -92,10 +87,7 @@ impl HouseList {
         }) }
     {
         let from = begin(&self.ends, house);
-        let end = self.ends[house] as usize;
-        if !has_room(&self.places, end - from) {
-            return Err(AllocError);
-        }
+        let end = self.ends[house];
         copy_others(&mut self.places, from, end, but)
     }
 
@@ -103,41 +95,35 @@ impl HouseList {
     ///
     /// # Errors
     ///
-    /// When memory was refused, or there are 2^32 - 1 lists.
+    /// When memory was refused.
     pub fn close(&mut self) -> Result<(), AllocError>
         ensures { OnOk result (self.new
             ≡ record { closed = self.old.closed ++ self.old.begun ∷ []; begun = [] }) }
     {
-        if is_long(&self.ends) {
-            return Err(AllocError);
-        }
         let places: &[u32] = &self.places;
-        self.ends.push(places.len() as u32)?;
+        self.ends.push(places.len())?;
         Ok(())
     }
 
-    /// How many lists are closed: fewer than 2^32.
+    /// How many lists are closed.
     pub fn len(&self) -> usize
-        ensures len { result ≡ length self.now.closed }
-        ensures few { result < 2 ^ 32 }
+        ensures { result ≡ length self.now.closed }
     {
-        let ends: &[u32] = &self.ends;
+        let ends: &[usize] = &self.ends;
         ends.len()
     }
 
-    /// How many places the begun list has: fewer than 2^32.
+    /// How many places the begun list has.
     pub fn begun(&self) -> usize
-        ensures begun { result ≡ length self.now.begun }
-        ensures few { result < 2 ^ 32 }
+        ensures { result ≡ length self.now.begun }
     {
         let places: &[u32] = &self.places;
         places.len() - last(&self.ends)
     }
 
-    /// The places of all closed lists together: fewer than 2^32.
+    /// How many places all closed lists have together.
     pub fn total(&self) -> usize
-        ensures total { result ≡ sum_by length self.now.closed }
-        ensures few { result < 2 ^ 32 }
+        ensures { result ≡ sum_by length self.now.closed }
     {
         last(&self.ends)
     }
@@ -158,28 +144,13 @@ impl HouseList {
     }
 }
 
-/// Whether the list is as long as a list may be.
-fn is_long(list: &[u32]) -> bool
-    ensures { result ≡ false → length list.now + 1 < 2 ^ 32 }
-{
-    list.len() >= u32::MAX as usize
-}
-
-/// Whether the list may have so many places more, no more than it has.
-fn has_room(list: &[u32], more: usize) -> bool
-    requires { more ≤ length list.now }
-    ensures { result ≡ true → length list.now + more < 2 ^ 32 }
-{
-    list.len() + more <= u32::MAX as usize
-}
-
 /// Adds the places from one number of the list to another at its end once more, but for the place `but`.
 fn copy_others(places: &mut Vec<u32>, from: usize, end: usize, but: usize) -> Result<(), AllocError>
     requires ascending { from ≤ end }
     requires within { end ≤ length places.old.items }
     ensures copied { OnOk result (places.new.items ≡ places.old.items
         ++ filter (λ d. not (d == but)) (between from end places.old.items)) }
-    ensures kept { IsGrown places.old.items (end - from) places.new.items }
+    ensures kept { length places.old.items ≤ length places.new.items }
 {
     for k in from..end {
         let place = places[k];
@@ -192,37 +163,36 @@ fn copy_others(places: &mut Vec<u32>, from: usize, end: usize, but: usize) -> Re
 }
 
 /// Where a list begins: where the one before ends.
-fn begin(ends: &[u32], house: usize) -> usize
+fn begin(ends: &[usize], house: usize) -> usize
     requires { house < length ends.now }
     ensures { result ≡ slice_index (0 ∷ ends.now) house }
 {
     if house == 0 {
         0
     } else {
-        ends[house - 1] as usize
+        ends[house - 1]
     }
 }
 
 /// Where the last list ends.
-fn last(ends: &[u32]) -> usize
-    ensures last { result ≡ last_end 0 ends.now }
-    ensures few { result < 2 ^ 32 }
+fn last(ends: &[usize]) -> usize
+    ensures { result ≡ last_end 0 ends.now }
 {
     let count = ends.len();
     if count == 0 {
         0
     } else {
-        ends[count - 1] as usize
+        ends[count - 1]
     }
 }
 
 /// One of the lists.
-fn piece<'a>(places: &'a [u32], ends: &[u32], house: usize) -> &'a [u32]
+fn piece<'a>(places: &'a [u32], ends: &[usize], house: usize) -> &'a [u32]
     requires ends { AreEnds (length places.now) 0 ends.now }
     requires house_in { house < length ends.now }
     ensures { result.now ≡ slice_index_or (pieces places.now 0 ends.now) house [] }
 {
-    part(places, begin(ends, house), ends[house] as usize)
+    part(places, begin(ends, house), ends[house])
 }
 
 /// The part of the list from one number to another.

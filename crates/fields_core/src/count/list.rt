@@ -74,8 +74,7 @@ impl CountList {
 
     /// How many houses are ended.
     pub(crate) fn len(&self) -> usize
-        ensures len { result ≡ length self.now.list.closed }
-        ensures few { result < 2 ^ 32 }
+        ensures { result ≡ length self.now.list.closed }
     {
         self.list.len()
     }
@@ -91,6 +90,7 @@ impl CountList {
 
     /// Ends the house that is begun: it holds a one, and each of its cells may.
     pub(crate) fn close_some(&mut self) -> Result<(), AllocError>
+        requires { length self.old.list.begun < 2 ^ 32 }
         ensures { OnOk result (IsHouseClosed self.old self.new 1 (length self.old.list.begun)) }
     {
         let most = self.list.begun() as u32;

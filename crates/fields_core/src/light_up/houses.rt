@@ -135,6 +135,7 @@ fn push_columns(houses: &mut CountList, puzzle: &LightPuzzle) -> Result<(), Allo
 pub(crate) fn houses_of_lights(alloc: Global, puzzle: &LightPuzzle) -> Result<CountList, AllocError>
     ensures { IfOk result (λ list. AreListed list (light_houses puzzle.now)) }
 {
+    let _cells = cells(puzzle);
     let sizes = Sizes::of(puzzle);
     let mut houses = CountList::new(alloc, sizes.houses, sizes.cells)?;
     push_numbers(&mut houses, puzzle)?;

@@ -78,6 +78,8 @@ fn push_lit(
 ) -> Result<(), AllocError>
     requires row_in { row < length houses.old.list.closed }
     requires column_in { column < length houses.old.list.closed }
+    requires few { length (slice_index_or houses.old.list.closed row [])
+        + length (slice_index_or houses.old.list.closed column []) < 2 ^ 32 }
     requires none_begun { houses.old.list.begun ≡ [] }
     ensures { OnOk result (IsAdded houses.old houses.new (one_at_least
         (slice_index_or houses.old.list.closed row []

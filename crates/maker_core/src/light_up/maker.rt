@@ -4,7 +4,7 @@ ghost use Rattle.std.specs.Prelude.{◌≡◌, ◌≢◌, ◌≤◌, ◌↔◌, 
 ghost use Rattle.gameid_core.specs.Puzzles.{IsWide};
 ghost use Rattle.fields_core.specs.LightHouses.{light_rules};
 ghost use Rattle.maker_core.specs.declared.made.MakeFault.TheVariants.{Exhausted, SizeRange};
-ghost use Rattle.maker_core.specs.Draws.{AllFail, DrawsAll, DrawsFirst};
+ghost use Rattle.maker_core.specs.Draws.{AllFail, AreAll, DrawsAll, DrawsFirst};
 ghost use Rattle.maker_core.specs.LightFilling.{IsLit, light_puzzle_of};
 ghost use Rattle.maker_core.specs.LightMaking.{MakesLights, light_tries};
 ghost use Rattle.maker_core.specs.Made.{HasOne, has_one};
@@ -45,7 +45,6 @@ impl Attempts for LitGrids {
         × (passes ≡ true → HasOne (light_rules (light_puzzle_of t.size filling)) t.limits.budget)
         × (t.black ≡ 100 → passes ≡ true) };
 
-    #[tactic(auto, using(crate::proofs::LightMakings::black_laws))]
     fn draw<G: Rng>(&self, alloc: Global, rng: &mut G) -> Result<(LightFilling, bool), AllocError> {
         let filling = fill_lights(alloc, rng, self.size, self.black)?;
         let passes = is_alone(alloc, self.size, &filling, self.limits.budget)?;
@@ -53,7 +52,8 @@ impl Attempts for LitGrids {
     }
 }
 
-/// Whether the verdict of the filling's puzzle is one.
+/// Whether the verdict of the filling's puzzle is one. That of black cells alone is.
+#[tactic(auto, using(crate::proofs::LightMakings::black_laws))]
 fn is_alone(
     alloc: Global,
     size: Size,
@@ -66,6 +66,7 @@ fn is_alone(
         (λ alone. alone ≡ has_one (light_rules (light_puzzle_of size filling.now)) budget) }
     ensures only { IfOk result (λ alone. alone ≡ true
         → HasOne (light_rules (light_puzzle_of size filling.now)) budget) }
+    ensures full { IfOk result (λ alone. AreAll 1 filling.now.black → alone ≡ true) }
 {
     let puzzle = puzzle_of(alloc, size, filling)?;
     let rules = LightRules::new(alloc, &puzzle)?;

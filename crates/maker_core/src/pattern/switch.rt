@@ -123,7 +123,9 @@ fn run_has_switch(puzzle: &PatternPuzzle, grid: &mut Grid, x: usize, y: usize) -
 }
 
 /// Whether some run may be turned, so that the puzzle has another solution than the grid. The grid is left as it was.
-pub(crate) fn has_switch(puzzle: &PatternPuzzle, grid: &mut Grid) -> bool
+///
+/// A `false` promises nothing: the puzzle may have another solution that no run shows.
+pub fn has_switch(puzzle: &PatternPuzzle, grid: &mut Grid) -> bool
     requires { IsGrid (puzzle.now.size.w * puzzle.now.size.h) 2 grid.old }
     ensures same { grid.new ≡ grid.old }
     ensures other { result ≡ true → HasOther puzzle.now grid.old }

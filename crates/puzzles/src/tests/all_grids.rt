@@ -38,47 +38,59 @@ fn all_grids(size: Size) -> Range<u32> {
     0..1 << size.cells().min(8)
 }
 
-/// Whether both grids have the same numbers.
-fn are_same(one: &Grid, other: &Grid) -> bool {
-    if one.len() != other.len() {
-        return false;
+/// Whether the grid is that of the number.
+fn is_grid_of(alloc: Global, grid: &Grid, size: Size, bits: u32) -> Result<bool, Fail> {
+    let other = grid_of(alloc, size, bits)?;
+    if grid.len() != other.len() {
+        return Ok(false);
     }
-    for place in 0..one.len() {
-        if one.get(place) != other.get(place) {
-            return false;
+    for place in 0..grid.len() {
+        if grid.get(place) != other.get(place) {
+            return Ok(false);
         }
     }
-    true
+    Ok(true)
 }
 
-/// The grids that solve a puzzle of that size, as numbers.
-fn solving(alloc: Global, puzzle: &PatternPuzzle, size: Size) -> Result<Vec<u32>, Fail> {
-    let mut found = Vec::new(alloc);
+/// Whether the grid of the number solves a puzzle of that size.
+fn is_solution(alloc: Global, puzzle: &PatternPuzzle, size: Size, bits: u32) -> Result<bool, Fail> {
+    let grid = grid_of(alloc, size, bits)?;
+    Ok(grid.fits(puzzle.size().cells(), 2) && check_pattern(puzzle, &grid).is_none())
+}
+
+/// How many grids solve a puzzle of that size, and the last of them as a number.
+fn solving(alloc: Global, puzzle: &PatternPuzzle, size: Size) -> Result<(u32, u32), Fail> {
+    let mut found = (0, 0);
     for bits in all_grids(size) {
-        let grid = grid_of(alloc, size, bits)?;
-        if grid.fits(puzzle.size().cells(), 2) && check_pattern(puzzle, &grid).is_none() {
-            found.push(bits)?;
+        if is_solution(alloc, puzzle, size, bits)? {
+            found = (found.0 + 1, bits);
         }
     }
     Ok(found)
 }
 
-/// Whether a search by deduction with enough trials finds what a test of all grids finds.
-fn agree(alloc: Global, size: Size, bits: u32) -> Result<bool, Fail> {
-    let puzzle = puzzle_of(alloc, size, bits)?;
-    let rules = PatternLines::new(alloc, &puzzle)?;
-    let mut store = Store::new(alloc, &rules)?;
-    if !store.fits(&rules) {
-        Err("a store that is enough")?;
-    }
-    let verdict = store.solve(&rules, 1_000);
-    match (solving(alloc, &puzzle, size)?.as_slice(), store.first()) {
-        ([only], Some(grid)) => {
-            Ok(verdict == Verdict::One && are_same(grid, &grid_of(alloc, size, *only)?))
-        }
-        ([_, _, ..], Some(_)) => Ok(verdict == Verdict::Several),
+/// Whether a search by these rules with enough trials finds what a test of all grids found.
+fn finds(
+    alloc: Global,
+    rules: &PatternLines,
+    size: Size,
+    (count, last): (u32, u32),
+) -> Result<bool, Fail> {
+    let mut store = Store::new(alloc, rules)?;
+    let verdict = store.solve(rules, 1_000);
+    match (count, store.first()) {
+        (1, Some(grid)) => Ok(verdict == Verdict::One && is_grid_of(alloc, grid, size, last)?),
+        (2.., Some(_)) => Ok(verdict == Verdict::Several),
         _ => Ok(false),
     }
+}
+
+/// Whether a search by deduction finds what a test of all grids finds.
+fn agree(alloc: Global, size: Size, bits: u32) -> Result<bool, Fail> {
+    let puzzle = puzzle_of(alloc, size, bits)?;
+    let found = solving(alloc, &puzzle, size)?;
+    let rules = PatternLines::new(alloc, &puzzle)?;
+    finds(alloc, &rules, size, found)
 }
 
 #[test]

@@ -1,10 +1,24 @@
 //! What ties the commands to one another, on real runs.
 use crate::run::run_on_bytes;
-use crate::tests::fakes::texts;
+use crate::tests::fakes::{Ends, texts};
 use crate::tests::rows::Row;
 use crate::tests::seen::outcome;
 use std::alloc::{AllocError, Global};
 use std::test::Fail;
+
+/// Whether a run writes this and has this status over a reader of such pieces.
+fn is_same_by(row: &Row, alloc: Global, reads: usize, text: &[u8], status: u8) -> bool {
+    let seen = row.run(alloc, Ends::of(reads, 1_000_000));
+    seen.taken.as_slice() == text && seen.did.status == status
+}
+
+/// Whether the run of a line answers one thing, however its input is cut.
+fn has_one_answer(alloc: Global, line: &str) -> Result<bool, Fail> {
+    let row = Row::read(alloc, line)?;
+    let (text, status) = run_on_bytes(alloc, &row.words, row.input.as_bytes());
+    let by_one = is_same_by(&row, alloc, 1, text.as_slice(), status);
+    Ok(by_one && is_same_by(&row, alloc, 2, text.as_slice(), status))
+}
 
 #[test]
 fn one_answer(rt: HostRuntime) -> Result<(), Fail> {
@@ -16,29 +30,54 @@ fn one_answer(rt: HostRuntime) -> Result<(), Fail> {
         "generate tents 5x4 --seed 4",
         "solve chess",
     ] {
-        let row = Row::read(rt.alloc(), line)?;
-        let (text, status) = run_on_bytes(rt.alloc(), &row.words, row.input.as_bytes());
-        for most in [1, 2] {
-            let seen = row.read_by(rt.alloc(), most, 0);
-            let is_same = seen.writer.taken == text && seen.status == status;
-            assert!(rt; is_same, "{line} by {most}");
-        }
+        assert!(rt; has_one_answer(rt.alloc(), line)?, "{line}");
     }
     Ok(())
 }
 
-/// Whether `grade` goes along with `solve`: any status but 0 of the one and any but 4 of the other
-/// is that of both. With status 0 enough budget finds the one grid, and without a trial `solve`
-/// finds it just where rules are named.
-fn grade_goes_along(alloc: Global, game: &str, id: &str, budget: &str) -> Result<bool, AllocError> {
-    let (_, solved) = outcome(alloc, &["solve", game, id, "--budget", budget])?;
-    let (_, enough) = outcome(alloc, &["solve", game, id])?;
-    let (told, graded) = outcome(alloc, &["grade", game, id, "--budget", budget])?;
+/// The status of a run.
+fn status_of(alloc: Global, words: &[&str]) -> Result<u8, AllocError> {
+    let (_, status) = outcome(alloc, words)?;
+    Ok(status)
+}
+
+/// The status of a grade, and whether it names rules that the searches have too.
+fn graded(alloc: Global, game: &str, id: &str, budget: &str) -> Result<(u8, bool), AllocError> {
+    let (told, status) = outcome(alloc, &["grade", game, id, "--budget", budget])?;
     let named = ["singles\n", "houses\n", "lines\n", "local\n"]
         .iter()
         .any(|set| told.as_slice() == set.as_bytes());
+    Ok((status, named))
+}
+
+/// Whether `grade` goes along with `solve`: any status but 0 of the one and any but 4 of the other
+/// is that of both. With status 0 enough budget finds the one grid, and without a trial `solve`
+/// finds it just where such rules are named.
+fn grade_goes_along(alloc: Global, game: &str, id: &str, budget: &str) -> Result<bool, AllocError> {
+    let solved = status_of(alloc, &["solve", game, id, "--budget", budget])?;
+    let enough = status_of(alloc, &["solve", game, id])?;
+    let (graded, named) = graded(alloc, game, id, budget)?;
     let is_along = graded == solved || graded == 0 && solved == 4;
     Ok(is_along && (graded != 0 || enough == 0) && (budget != "0" || named == (solved == 0)))
+}
+
+/// What a run over this input writes, and its status.
+fn told_on(alloc: Global, words: &[&str], grid: &str) -> Result<(Vec<u8>, u8), AllocError> {
+    let words = texts(alloc, words)?;
+    Ok(run_on_bytes(alloc, &words, grid.as_bytes()))
+}
+
+/// Whether a command says the same of both IDs.
+fn is_same(
+    alloc: Global,
+    command: &str,
+    game: &str,
+    [id, other]: [&str; 2],
+    grid: &str,
+) -> Result<bool, AllocError> {
+    let told = told_on(alloc, &[command, game, id], grid)?;
+    let same = told_on(alloc, &[command, game, other], grid)?;
+    Ok(told == same)
 }
 
 #[test]
@@ -51,11 +90,8 @@ fn rewritten_ids_are_the_same(rt: HostRuntime) -> Result<(), Fail> {
         ("tents", "2:_c,0,01,1,00", "2x2:_c,0,1,1,0", "T^\n..\n"),
     ] {
         for command in ["solve", "check", "grade"] {
-            let words = texts(rt.alloc(), &[command, game, id])?;
-            let others = texts(rt.alloc(), &[command, game, written])?;
-            let told = run_on_bytes(rt.alloc(), &words, grid.as_bytes());
-            let same = run_on_bytes(rt.alloc(), &others, grid.as_bytes());
-            assert!(rt; told == same, "{command} {game} {id}");
+            let is_same = is_same(rt.alloc(), command, game, [id, written], grid)?;
+            assert!(rt; is_same, "{command} {game} {id}");
         }
     }
     Ok(())
@@ -70,6 +106,7 @@ fn grades_agree(rt: HostRuntime) -> Result<(), Fail> {
         ("solo", "2x2:p"),
         ("solo", "2x2:e4a2b1d4"),
         ("solo", "2x2x:1_2_3_4_3k"),
+        ("solo", "2x3x:g2c4c3d1l5b"),
         ("lightup", "2x2:Bc"),
         ("lightup", "2x2:2c"),
         ("tents", "2x2:_c,0,1,1,0"),

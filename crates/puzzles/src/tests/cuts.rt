@@ -2,10 +2,11 @@
 //! the rules and the formats by hand.
 use crate::ends::read_end::ReadEnd;
 use crate::run::run_on_bytes;
-use crate::tests::fakes::{Chunks, Endless, Slow, texts};
+use crate::tests::fakes::{Chunks, Endless, Ends, Slow, texts};
 use crate::tests::rows::Row;
-use crate::tests::seen::observe;
+use crate::tests::seen::{Did, Seen, observe};
 use commands::Source;
+use std::alloc::Global;
 use std::test::Fail;
 
 /// Three lines, without a line end after the last.
@@ -33,6 +34,22 @@ const NO_GRIDS: [&str; 3] = [
 /// An ID that is solved; the program's stored run has these words too.
 const SOLVED: &str = "solve pattern 5x1:1/1//1/1/2.2 > 0 one|##.##|";
 
+/// What the run of a line does over such ends.
+fn seen_over(alloc: Global, line: &str, ends: Ends) -> Result<Seen, Fail> {
+    let row = Row::read(alloc, line)?;
+    Ok(row.run(alloc, ends))
+}
+
+/// What the run of a line does over a reader of such pieces, and whether it writes what it is to.
+fn told_by(alloc: Global, line: &str, reads: usize) -> Result<(Did, bool), Fail> {
+    let row = Row::read(alloc, line)?;
+    let seen = row.run(alloc, Ends::of(reads, 1_000_000));
+    Ok((
+        seen.did,
+        row.is_as_told(seen.taken.as_slice(), seen.did.status),
+    ))
+}
+
 #[test]
 fn inputs_are_read_to_their_ends(rt: HostRuntime) -> Result<(), Fail> {
     for (line, most, reads, writes) in [
@@ -46,12 +63,13 @@ fn inputs_are_read_to_their_ends(rt: HostRuntime) -> Result<(), Fail> {
         (NO_GRIDS[1], 4_096, 6, 1),
         (NO_GRIDS[2], 4_096, 26, 1),
     ] {
-        let row = Row::read(rt.alloc(), line)?;
-        let seen = row.read_by(rt.alloc(), most, 0);
-        assert_eq!(rt; seen.writer.taken.as_slice(), row.text.as_bytes(), "{line}");
-        assert_eq!(rt; seen.status, row.status, "{line}");
-        assert_eq!(rt; seen.reader.calls, reads, "{line} by {most}");
-        assert_eq!(rt; seen.writer.calls, writes, "{line}");
+        let (did, is_told) = told_by(rt.alloc(), line, most)?;
+        assert!(rt; is_told, "{line} by {most}");
+        assert_eq!(rt;
+            (did.reads, did.writes),
+            (reads, writes),
+            "{line} by {most}"
+        );
     }
     Ok(())
 }
@@ -60,11 +78,10 @@ fn inputs_are_read_to_their_ends(rt: HostRuntime) -> Result<(), Fail> {
 fn each_answer_goes_out_in_one_piece(rt: HostRuntime) -> Result<(), Fail> {
     for line in ENDED {
         for most in [1, 2, 3, 4_096] {
-            let row = Row::read(rt.alloc(), line)?;
-            let seen = row.read_by(rt.alloc(), most, 0);
-            assert_eq!(rt; seen.writer.taken.as_slice(), row.text.as_bytes(), "{line}");
-            assert_eq!(rt; (seen.status, seen.writer.flushes), (2, 1), "{line}");
-            assert_eq!(rt; seen.writer.calls, 3, "{line} by {most}");
+            let (did, is_told) = told_by(rt.alloc(), line, most)?;
+            assert!(rt; is_told, "{line} by {most}");
+            assert_eq!(rt; (did.status, did.flushes), (2, 1), "{line}");
+            assert_eq!(rt; did.writes, 3, "{line} by {most}");
         }
     }
     Ok(())
@@ -76,18 +93,19 @@ fn a_failing_reader_leaves_a_beginning(rt: HostRuntime) -> Result<(), Fail> {
         (LINES, 1, 6, ""),
         (LINES, 7, 7, "one\n.\n"),
         (LINES, 8, 17, "one\n.\nrefused: no colon\n"),
-        (RIGHT, 1, 1, ""),
-        (RIGHT, 7, 7, ""),
+        (RIGHT, 1, 73, ""),
         ("check pattern 2x1:1//1 < #. > 6", 1, 1, ""),
     ] {
-        for fails_at in first..last + 1 {
-            let row = Row::read(rt.alloc(), line)?;
-            let seen = row.read_by(rt.alloc(), 1, fails_at);
-            assert_eq!(rt; seen.status, 6, "{line} at {fails_at}");
-            assert!(rt; seen.source_failed && !seen.source_ended && !seen.sink_failed);
-            assert_eq!(rt; seen.reader.calls, fails_at, "{line}");
-            assert_eq!(rt; seen.writer.taken.as_slice(), written.as_bytes(), "{line}");
-            assert_eq!(rt; seen.writer.calls == 0, written.is_empty(), "{line}");
+        for read_fails_at in first..last + 1 {
+            let mut ends = Ends::of(1, 1_000_000);
+            ends.read_fails_at = read_fails_at;
+            let seen = seen_over(rt.alloc(), line, ends)?;
+            let did = seen.did;
+            assert_eq!(rt; did.status, 6, "{line} at {read_fails_at}");
+            assert!(rt; did.source_failed && !did.source_ended && !did.sink_failed);
+            assert_eq!(rt; did.reads, read_fails_at, "{line}");
+            assert_eq!(rt; seen.taken.as_slice(), written.as_bytes(), "{line}");
+            assert_eq!(rt; did.writes == 0, written.is_empty(), "{line}");
         }
     }
     Ok(())
@@ -96,7 +114,7 @@ fn a_failing_reader_leaves_a_beginning(rt: HostRuntime) -> Result<(), Fail> {
 #[test]
 fn a_failing_writer_leaves_a_beginning(rt: HostRuntime) -> Result<(), Fail> {
     // The writer takes so many bytes a call. It fails at a call or at none, and at a flush or not.
-    for (line, most, fails_at, flush_works, written, calls, reads) in [
+    for (line, writes, write_fails_at, flush_works, written, calls, reads) in [
         (LINES, 4_096, 1, true, "", 1, 6),
         (LINES, 4_096, 2, true, "one\n.\n", 2, 7),
         (LINES, 4_096, 3, true, "one\n.\nrefused: no colon\n", 3, 17),
@@ -114,17 +132,22 @@ fn a_failing_writer_leaves_a_beginning(rt: HostRuntime) -> Result<(), Fail> {
         (SOLVED, 4_096, 0, false, "one\n##.##\n", 1, 0),
         (SOLVED, 1, 0, false, "one\n##.##\n", 10, 0),
     ] {
-        let row = Row::read(rt.alloc(), line)?;
-        let writer = Slow::new(rt.alloc(), most, fails_at, flush_works);
-        let seen = row.run(rt.alloc(), 1, 0, writer);
-        assert_eq!(rt; seen.status, 6, "{line} at {fails_at}");
-        assert!(rt; seen.sink_failed, "{line} at {fails_at}");
-        assert_eq!(rt; seen.writer.taken.as_slice(), written.as_bytes(), "{line}");
-        assert_eq!(rt; seen.writer.calls, calls, "{line} at {fails_at}");
-        let is_all = written.len() == row.text.len();
-        assert_eq!(rt; seen.writer.flushes > 0, is_all, "{line} at {fails_at}");
-        assert_eq!(rt; seen.reader.calls, reads, "{line} at {fails_at}");
-        assert_eq!(rt; seen.fetches, reads, "{line} at {fails_at}");
+        let mut ends = Ends::of(1, writes);
+        ends.write_fails_at = write_fails_at;
+        ends.flush_works = flush_works;
+        let seen = seen_over(rt.alloc(), line, ends)?;
+        let did = seen.did;
+        assert_eq!(rt; did.status, 6, "{line} at {write_fails_at}");
+        assert!(rt; did.sink_failed, "{line} at {write_fails_at}");
+        assert_eq!(rt; seen.taken.as_slice(), written.as_bytes(), "{line}");
+        assert_eq!(rt; did.writes, calls, "{line} at {write_fails_at}");
+        let is_all = written == "one\n##.##\n";
+        assert_eq!(rt; did.flushes > 0, is_all, "{line} at {write_fails_at}");
+        assert_eq!(rt;
+            (did.reads, did.fetches),
+            (reads, reads),
+            "{line} at {write_fails_at}"
+        );
     }
     Ok(())
 }
@@ -132,14 +155,14 @@ fn a_failing_writer_leaves_a_beginning(rt: HostRuntime) -> Result<(), Fail> {
 #[test]
 fn an_endless_reader_is_given_up(rt: HostRuntime) -> Result<(), Fail> {
     for words in [&["solve", "pattern"][..], &["check", "pattern", "2x1:1//1"]] {
-        let writer = Slow::new(rt.alloc(), 4_096, 0, true);
+        let writer = Slow::new(rt.alloc(), Ends::of(1, 4_096));
         let words = texts(rt.alloc(), words)?;
-        let seen = observe(rt.alloc(), &words, Endless::new(b'#'), writer);
-        assert_eq!(rt; seen.status, 6);
-        assert!(rt; !seen.source_failed && !seen.source_ended && !seen.sink_failed);
-        assert_eq!(rt; seen.fetches, 1_048_576);
-        assert_eq!(rt; seen.reader.calls, 1_048_576);
-        assert_eq!(rt; seen.writer.calls, 0);
+        let did = observe(rt.alloc(), &words, Endless::new(b'#'), writer).did;
+        assert_eq!(rt; did.status, 6);
+        assert!(rt; !did.source_failed && !did.source_ended && !did.sink_failed);
+        assert_eq!(rt; did.fetches, 1_048_576);
+        assert_eq!(rt; did.reads, 1_048_576);
+        assert_eq!(rt; did.writes, 0);
     }
     Ok(())
 }
@@ -155,6 +178,11 @@ fn a_source_gives_its_bytes(rt: HostRuntime) {
     }
     assert!(rt; source.ended());
     assert!(rt; !source.failed());
+}
+
+#[test]
+fn a_source_fails_as_its_reader(rt: HostRuntime) {
+    let mut buffer = [0u8; 4];
     let mut failing = ReadEnd::new(Chunks::new(b"abcde", 2, 1));
     assert_eq!(rt; failing.fetch(&mut buffer), None);
     assert!(rt; failing.failed());

@@ -3,6 +3,36 @@ use std::alloc::{AllocError, Global};
 use std::io;
 use std::io::{ErrorKind, Read, Write};
 
+/// A reader that counts its calls.
+pub trait Counted {
+    /// How many calls of `read` there were.
+    fn calls(&self) -> u32;
+}
+
+/// How the ends of a run cut: how many bytes a call moves at most, and at which call it fails, where
+/// 0 is none. The writer may fail at a flush.
+#[derive(Clone, Copy)]
+pub struct Ends {
+    pub reads: usize,
+    pub read_fails_at: u32,
+    pub writes: usize,
+    pub write_fails_at: u32,
+    pub flush_works: bool,
+}
+
+impl Ends {
+    /// Ends that move so many bytes a call at most, and never fail.
+    pub fn of(reads: usize, writes: usize) -> Ends {
+        Ends {
+            reads,
+            read_fails_at: 0,
+            writes,
+            write_fails_at: 0,
+            flush_works: true,
+        }
+    }
+}
+
 /// A reader that gives one byte a call, always the same, and never ends.
 #[derive(Drop)]
 pub struct Endless {
@@ -27,6 +57,12 @@ impl Read for Endless {
             }
             None => Ok(0),
         }
+    }
+}
+
+impl Counted for Endless {
+    fn calls(&self) -> u32 {
+        self.calls
     }
 }
 
@@ -65,6 +101,12 @@ impl Read for Chunks<'_> {
     }
 }
 
+impl Counted for Chunks<'_> {
+    fn calls(&self) -> u32 {
+        self.calls
+    }
+}
+
 /// A writer that takes at most so many bytes a call, fails at one call, and may fail to flush.
 #[derive(Drop)]
 pub struct Slow {
@@ -77,15 +119,15 @@ pub struct Slow {
 }
 
 impl Slow {
-    /// A writer that has taken nothing. It fails at no call where `fails_at` is 0.
-    pub fn new(alloc: Global, most: usize, fails_at: u32, flush_works: bool) -> Slow {
+    /// A writer that has taken nothing, and cuts as the ends say.
+    pub fn new(alloc: Global, ends: Ends) -> Slow {
         Slow {
             taken: Vec::new(alloc),
-            most,
-            fails_at,
+            most: ends.writes,
+            fails_at: ends.write_fails_at,
             calls: 0,
             flushes: 0,
-            flush_works,
+            flush_works: ends.flush_works,
         }
     }
 }

@@ -1,215 +1,31 @@
-//! Grades, and traces whose visits and sweeps are made again.
-ghost use Rattle.std.specs.Prelude.{IfOk};
-ghost use Rattle.engine_core.specs.Puzzle.{IsBoardOf};
-
-use crate::tests::fakes::{Endless, Slow, texts};
+//! Grades of made puzzles, and how a grade with a trace goes out.
+use crate::tests::fakes::{Endless, Ends, Slow, texts};
+use crate::tests::makings::parts;
 use crate::tests::rows::Row;
 use crate::tests::runs::GRADES;
-use crate::tests::seen::{observe, outcome};
-use commands::push_number;
-use engine_core::{Rules, Store};
-use fields_core::LightRules;
-use gameid_core::{read_lights, read_pattern, read_solo};
-use grid_core::Board;
-use pattern_core::PatternLines;
+use crate::tests::seen::{Seen, observe, outcome};
+use commands::{RuleSet, push_number};
+use engine_core::{Rules, Store, Verdict};
+use gameid_core::{SoloPuzzle, read_solo};
 use solo_core::{SoloCrossings, SoloHouses, SoloSingles};
 use std::alloc::{AllocError, Global};
+use std::ops::Range;
 use std::test::Fail;
 
-/// Solo 2x2 with all of a solution given.
-const LATIN: &str = "2x2:1_2_3_4_3_4_1_2_2_1_4_3_4_3_2_1";
-
-/// Single values and single places leave cells open here, and whole houses don't.
-const PAIRED: &str = "2x3:5c3c4d1a3g6a6a4c5_2c";
+/// Whether the grade of a line begins with what the line tells where a trace is asked for too. A
+/// refusal ends there: it has no trace.
+fn begins_alike(alloc: Global, line: &str) -> Result<bool, Fail> {
+    let mut row = Row::read(alloc, line)?;
+    row.words.push(String::from_str(alloc, "--trace")?)?;
+    let seen = row.run(alloc, Ends::of(1, 1_000_000));
+    let is_alike = seen.taken.starts_with(row.text.as_bytes()) && seen.did.status == row.status;
+    Ok(is_alike && (seen.taken.len() == row.text.len() || row.status != 2))
+}
 
 #[test]
 fn grades_with_traces_begin_alike(rt: HostRuntime) -> Result<(), Fail> {
     for line in GRADES.lines() {
-        let mut row = Row::read(rt.alloc(), line)?;
-        row.words.push(String::from_str(rt.alloc(), "--trace")?)?;
-        let seen = row.read_by(rt.alloc(), 1, 0);
-        let taken = seen.writer.taken.as_slice();
-        let is_alike = taken.starts_with(row.text.as_bytes()) && seen.status == row.status;
-        assert!(rt; is_alike, "{line}");
-        // A refusal ends there: it has no trace.
-        assert!(rt; taken.len() == row.text.len() || row.status != 2, "{line}");
-    }
-    Ok(())
-}
-
-/// The crossings of Solo 2x2, in the order of their numbers.
-const CROSSINGS: &str = "\
-block 0 row 0|block 0 row 1|block 1 row 0|block 1 row 1|\
-block 2 row 2|block 2 row 3|block 3 row 2|block 3 row 3|\
-block 0 column 0|block 0 column 1|block 1 column 2|block 1 column 3|\
-block 2 column 0|block 2 column 1|block 3 column 2|block 3 column 3";
-
-/// The number of what a line names: a house, where the houses of these kinds follow one another, or
-/// a crossing of Solo 2x2, where those come after so many houses.
-fn number_in(line: &str, kinds: &[&str], per_kind: usize, houses: usize) -> Option<usize> {
-    if let Some(crossing) = CROSSINGS.split('|').position(|name| name == line) {
-        return houses.checked_add(crossing);
-    }
-    let (kind, digit) = line.split_once(' ')?;
-    let number = digit.parse::<usize>().ok()?;
-    let before = kinds.iter().position(|k| *k == kind)?;
-    let house = before.checked_mul(per_kind)?.checked_add(number)?;
-    if digit.len() == 1 && number < per_kind && house < houses {
-        Some(house)
-    } else {
-        None
-    }
-}
-
-/// The start board after visits of these houses.
-fn replayed<R: Rules>(alloc: Global, rules: &R, visits: &[usize]) -> Result<Board, AllocError>
-    ensures { IfOk result (λ board. IsBoardOf (R.puzzle rules.now) board) }
-{
-    let mut board = Board::new(alloc, rules.cells(), rules.values())?;
-    let mut scratch = rules.scratch(alloc)?;
-    rules.start(&mut board);
-    for house in visits {
-        if *house < rules.houses() {
-            rules.visit(*house, &mut board, &mut scratch);
-        }
-    }
-    Ok(board)
-}
-
-/// Whether a closing by the rules leaves the board that these visits leave.
-fn is_closed_by<R: Rules>(alloc: Global, rules: &R, visits: &[usize]) -> Result<bool, AllocError> {
-    let mut store = Store::new(alloc, rules)?;
-    store.close(rules);
-    let board = replayed(alloc, rules, visits)?;
-    for place in 0..rules.cells() {
-        for value in 0..rules.values() {
-            if board.has(place, value) != store.board().has(place, value) {
-                return Ok(false);
-            }
-        }
-    }
-    Ok(true)
-}
-
-/// Whether the visits close the board of a puzzle by these rules, and no visits leave it open, but
-/// where it is full from the start.
-fn closes<R: Rules>(
-    alloc: Global,
-    rules: &R,
-    visits: &[usize],
-    is_full: bool,
-) -> Result<bool, AllocError> {
-    let houses = rules.houses();
-    let are_houses = visits.iter().all(|visit| *visit < houses);
-    let is_closed = is_closed_by(alloc, rules, visits)?;
-    Ok(are_houses && is_closed && is_closed_by(alloc, rules, &[])? == is_full)
-}
-
-/// What a grade with a trace tells after this line.
-fn traced(alloc: Global, [game, id, budget, grade]: [&str; 4]) -> Result<String, Fail> {
-    let (taken, _) = outcome(alloc, &["grade", game, id, "--budget", budget, "--trace"])?;
-    let text = str::from_utf8(taken.as_slice())?;
-    let rest = text.strip_prefix(grade).ok_or("the grade")?;
-    Ok(String::from_str(alloc, rest.strip_prefix('\n').ok_or("a line end")?)?)
-}
-
-/// The visits that these lines tell, of so many houses of each of these kinds, and of crossings.
-fn visits_in(
-    alloc: Global,
-    lines: &str,
-    kinds: &[&str],
-    per_kind: usize,
-    houses: usize,
-) -> Result<Vec<usize>, Fail> {
-    let mut visits = Vec::new(alloc);
-    for line in lines.lines() {
-        visits.push(number_in(line, kinds, per_kind, houses).ok_or("a name")?)?;
-    }
-    Ok(visits)
-}
-
-#[test]
-fn traces_of_pattern_close_their_boards(rt: HostRuntime) -> Result<(), Fail> {
-    let alloc = rt.alloc();
-    for (id, budget, grade) in [
-        ("5x1:1/1//1/1/2.2", "0", "lines"),
-        ("3x2:1/2/1/2/2", "2", "several"),
-        ("3x2:1/2/1/2/2", "0", "gave up"),
-        ("2x1:1/1/1", "0", "none"),
-    ] {
-        let lines = traced(alloc, ["pattern", id, budget, grade])?;
-        let puzzle = read_pattern(alloc, id.as_bytes())?;
-        let columns = usize::from(puzzle.size().w());
-        let rules = PatternLines::new(alloc, &puzzle)?;
-        let visits = visits_in(alloc, &lines, &["column", "row"], columns, rules.houses())?;
-        let is_closed = closes(alloc, &rules, &visits, false)?;
-        assert!(rt; is_closed, "{id} with {budget}");
-    }
-    Ok(())
-}
-
-/// IDs of Solo with their grades, how many houses of a kind there are, and how many houses.
-const SOLOS: [(&str, &str, usize, usize); 6] = [
-    (LATIN, "singles", 4, 12),
-    ("2x2x:1_2_3_4_3k", "singles", 4, 14),
-    (PAIRED, "houses", 6, 18),
-    ("2x2:1o", "gave up", 4, 12),
-    ("2x2:1_1n", "none", 4, 12),
-    ("2x2x:1o", "gave up", 4, 14),
-];
-
-/// Whether the visits that are told of a puzzle of Solo close its board, by the rules of its grade.
-fn solo_closes(alloc: Global, solo: (&str, &str, usize, usize)) -> Result<bool, Fail> {
-    let (id, grade, per_kind, houses) = solo;
-    let lines = traced(alloc, ["solo", id, "0", grade])?;
-    let kinds = ["row", "column", "block", "diagonal"];
-    let visits = visits_in(alloc, &lines, &kinds, per_kind, houses)?;
-    let puzzle = read_solo(alloc, id.as_bytes())?;
-    let is_full = id == LATIN;
-    Ok(match grade {
-        "singles" => closes(alloc, &SoloSingles::new(alloc, &puzzle)?, &visits, is_full)?,
-        "houses" => closes(alloc, &SoloHouses::new(alloc, &puzzle)?, &visits, false)?,
-        _ => closes(alloc, &SoloCrossings::new(alloc, &puzzle)?, &visits, false)?,
-    })
-}
-
-#[test]
-fn traces_of_solo_close_their_boards(rt: HostRuntime) -> Result<(), Fail> {
-    for solo in SOLOS {
-        let is_closed = solo_closes(rt.alloc(), solo)?;
-        assert!(rt; is_closed, "{}", solo.0);
-    }
-    Ok(())
-}
-
-/// The houses of so many sweeps, in their order.
-fn swept(alloc: Global, sweeps: usize, houses: usize) -> Result<Vec<usize>, AllocError> {
-    let mut visits = Vec::new(alloc);
-    for _sweep in 0..sweeps {
-        for house in 0..houses {
-            visits.push(house)?;
-        }
-    }
-    Ok(visits)
-}
-
-#[test]
-fn sweeps_close_their_boards(rt: HostRuntime) -> Result<(), Fail> {
-    let alloc = rt.alloc();
-    // The second has the first beside a part that no deduction decides.
-    for (id, budget, grade) in [
-        ("2x2:2c", "0", "local"),
-        ("5x2:2aBBcBb", "100000", "several"),
-        ("5x2:2aBBcBb", "0", "gave up"),
-        ("2x2:3c", "0", "none"),
-    ] {
-        let lines = traced(alloc, ["lightup", id, budget, grade])?;
-        let number = lines.strip_prefix("sweeps ").ok_or("sweeps")?;
-        let digits = number.strip_suffix('\n').ok_or("a line end")?;
-        let rules = LightRules::new(alloc, &read_lights(alloc, id.as_bytes())?)?;
-        let visits = swept(alloc, digits.parse::<usize>()?, rules.houses())?;
-        let is_closed = closes(alloc, &rules, &visits, false)?;
-        assert!(rt; is_closed, "{id} with {budget}");
+        assert!(rt; begins_alike(rt.alloc(), line)?, "{line}");
     }
     Ok(())
 }
@@ -228,27 +44,135 @@ fn half_given(alloc: Global) -> Result<String, AllocError> {
     Ok(id)
 }
 
-/// A trace of that ID goes out in pieces: a run whose writer fails at one piece writes what comes
-/// before it, and a run with fewer pieces all.
+/// The words that ask for a trace of that ID.
+fn long_words(alloc: Global) -> Result<Vec<String>, AllocError> {
+    let id = half_given(alloc)?;
+    texts(alloc, &["grade", "solo", &id, "--trace"])
+}
+
+/// What these words do where the writer fails at one piece, or at none if that is 0.
+fn seen_failing(alloc: Global, words: &[String], write_fails_at: u32) -> Seen {
+    let mut ends = Ends::of(1, 1_000_000);
+    ends.write_fails_at = write_fails_at;
+    observe(alloc, words, Endless::new(b'#'), Slow::new(alloc, ends))
+}
+
+/// Whether a writer that fails at one piece is left with a beginning of the whole, and with status
+/// 6, or with the whole if there are fewer pieces.
+fn is_cut(alloc: Global, words: &[String], fails_at: u32, pieces: u32, whole: &[u8]) -> bool {
+    let seen = seen_failing(alloc, words, fails_at);
+    let is_whole = seen.taken.len() == whole.len();
+    let is_told = seen.did.status == if is_whole { 0 } else { 6 };
+    whole.starts_with(seen.taken.as_slice()) && is_told && is_whole == (fails_at > pieces)
+}
+
+/// A trace of that ID goes out in pieces.
 #[test]
 fn a_long_trace_goes_out_in_pieces(rt: HostRuntime) -> Result<(), Fail> {
-    let id = half_given(rt.alloc())?;
-    let (whole, status) = outcome(rt.alloc(), &["grade", "solo", &id, "--trace"])?;
-    assert_eq!(rt; status, 0);
-    let words = texts(rt.alloc(), &["grade", "solo", &id, "--trace"])?;
-    let writer = Slow::new(rt.alloc(), 1_000_000, 0, true);
-    let pieces = observe(rt.alloc(), &words, Endless::new(b'#'), writer)
-        .writer
-        .calls;
+    let words = long_words(rt.alloc())?;
+    let whole = seen_failing(rt.alloc(), &words, 0);
+    let pieces = whole.did.writes;
+    assert_eq!(rt; whole.did.status, 0);
     assert!(rt; pieces > 1);
-    for fails_at in 1..8u32 {
-        let writer = Slow::new(rt.alloc(), 1_000_000, fails_at, true);
-        let seen = observe(rt.alloc(), &words, Endless::new(b'#'), writer);
-        let is_whole = seen.writer.taken.len() == whole.len();
-        let is_beginning = whole.starts_with(seen.writer.taken.as_slice());
-        assert!(rt; is_beginning, "at {fails_at}");
-        assert_eq!(rt; seen.status, if is_whole { 0 } else { 6 }, "at {fails_at}");
-        assert_eq!(rt; is_whole, fails_at > pieces, "at {fails_at} of {pieces}");
+    for fails_at in 1..pieces.saturating_add(2) {
+        let is_cut = is_cut(rt.alloc(), &words, fails_at, pieces, whole.taken.as_slice());
+        assert!(rt; is_cut, "at {fails_at} of {pieces}");
     }
+    Ok(())
+}
+
+/// Whether a closing by the rules settles their puzzle.
+fn settles<R: Rules>(alloc: Global, rules: &R) -> Result<bool, AllocError> {
+    let mut store = Store::new(alloc, rules)?;
+    Ok(store.settles(rules))
+}
+
+/// The rule set that a puzzle of Solo is settled by: the first of the three.
+fn settled_by(alloc: Global, puzzle: &SoloPuzzle) -> Result<Option<RuleSet>, AllocError> {
+    if settles(alloc, &SoloSingles::new(alloc, puzzle)?)? {
+        return Ok(Some(RuleSet::Singles));
+    }
+    if settles(alloc, &SoloHouses::new(alloc, puzzle)?)? {
+        return Ok(Some(RuleSet::Houses));
+    }
+    if settles(alloc, &SoloCrossings::new(alloc, puzzle)?)? {
+        return Ok(Some(RuleSet::Crossings));
+    }
+    Ok(None)
+}
+
+/// How many trials a search by houses makes that finds one solution.
+fn trials(alloc: Global, puzzle: &SoloPuzzle) -> Result<u64, Fail> {
+    let rules = SoloHouses::new(alloc, puzzle)?;
+    let mut store = Store::new(alloc, &rules)?;
+    match store.solve(&rules, 100_000) {
+        Verdict::One => Ok(store.trials()),
+        _ => Ok(Err("one solution")?),
+    }
+}
+
+/// Whether this is the grade of a puzzle of Solo that has one solution.
+fn is_grade_of(alloc: Global, puzzle: &SoloPuzzle, told: &str) -> Result<bool, Fail> {
+    match settled_by(alloc, puzzle)? {
+        Some(set) => Ok(told == set.name()),
+        None => {
+            let digits = told.strip_prefix("search ").ok_or("a search")?;
+            Ok(digits.parse::<u64>()? == trials(alloc, puzzle)?)
+        }
+    }
+}
+
+/// The first line that a run writes.
+fn first_line(alloc: Global, words: &[&str]) -> Result<String, Fail> {
+    let (written, _) = outcome(alloc, words)?;
+    let (line, _) = parts(&written);
+    Ok(String::from_str(alloc, str::from_utf8(line)?)?)
+}
+
+/// The ID of the puzzle of Solo 3x3 that is made of a seed.
+fn made_of(alloc: Global, seed: usize) -> Result<String, Fail> {
+    let mut text = String::new(alloc);
+    push_number(&mut text, seed)?;
+    first_line(alloc, &["generate", "solo", "3x3", "--seed", &text])
+}
+
+/// Whether the grade of a puzzle of Solo is the first rule set that settles it, and else that of a
+/// search; and whether it is that of crossings.
+fn is_graded(alloc: Global, id: &str) -> Result<(bool, bool), Fail> {
+    let told = first_line(alloc, &["grade", "solo", id])?;
+    let puzzle = read_solo(alloc, id.as_bytes())?;
+    Ok((
+        is_grade_of(alloc, &puzzle, &told)?,
+        told.as_str() == "crossings",
+    ))
+}
+
+/// The first of these seeds whose puzzle has another grade, and how many have that of crossings.
+fn graded_of(alloc: Global, seeds: Range<usize>) -> Result<(Option<usize>, u32), Fail> {
+    let mut crossed = 0u32;
+    for seed in seeds {
+        let id = made_of(alloc, seed)?;
+        let (is_graded, is_crossed) = is_graded(alloc, &id)?;
+        if !is_graded {
+            return Ok((Some(seed), crossed));
+        }
+        crossed = crossed.saturating_add(u32::from(is_crossed));
+    }
+    Ok((None, crossed))
+}
+
+#[test]
+fn made_puzzles_have_their_grades(rt: HostRuntime) -> Result<(), Fail> {
+    let (other, crossed) = graded_of(rt.alloc(), 1..26)?;
+    assert_eq!(rt; other, None);
+    assert!(rt; crossed > 0);
+    Ok(())
+}
+
+#[test]
+fn later_seeds_have_their_grades(rt: HostRuntime) -> Result<(), Fail> {
+    let (other, crossed) = graded_of(rt.alloc(), 26..51)?;
+    assert_eq!(rt; other, None);
+    assert!(rt; crossed > 0);
     Ok(())
 }

@@ -1,6 +1,7 @@
 //! Whole runs. What they are to write follows from the rules and the formats by hand. A line of a
 //! table has runs that write the same, with ` ; ` between them, as `Row::read` says of each.
 use crate::tests::rows::Row;
+use std::alloc::Global;
 use std::test::Fail;
 
 /// IDs that are solved or refused, with a budget or without one.
@@ -32,8 +33,9 @@ solve pattern 2x2 ; solve pattern '' ; solve solo 2x2 > 2 refused: no colon|
 solve pattern 02x2:p ; solve solo 02x2:p ; solve solo 2x:p ; solve solo 9x:p --budget 0 ; \
     solve solo 2xx2:p --budget 0 > 2 refused: bad size|
 solve pattern 2x2k:p ; solve solo 2x2k:p ; solve solo 9j:p ; solve solo 2x2xx:p --budget 0 ; \
-    solve solo 2x2xj:p --budget 0 ; solve solo 2x2kx:p --budget 0 > 2 refused: variant|
-solve pattern 121x1:p ; solve solo 1x4:p ; solve solo 6x6:p ; solve lightup 1x2:b --budget 0 ; \
+    solve solo 2x2xj:p --budget 0 ; solve solo 2x2kx:p --budget 0 ; \
+    solve pattern 2x2x:/// > 2 refused: variant|
+solve pattern 121x1:p ; solve pattern 121x1:{121}/ ; solve solo 1x4:p ; solve solo 6x6:p ; solve lightup 1x2:b --budget 0 ; \
     solve solo 6x6x:p --budget 0 > 2 refused: size range|
 solve solo 2x2:1_2_3_4_3_4_1_2_2_1_4_3_4_3_2_1 ; solve solo 2x2:1b4i3_2a ; \
     solve solo 2x2:1_2_3_4_3_4_1_2_2_1_4_3_4_3_2_1 --budget 0 \
@@ -89,11 +91,20 @@ const LONG: &str = "\
 solve solo 2x2:{10000}z > 2 refused: too many|
 solve solo 2x2:{16000}9 > 2 refused: number range at 4|
 solve solo {16000}9x2:p > 2 refused: size range|
-solve solo 2x2:{65531}_p \
+solve solo 2x2:{16379}_p ; solve solo 2x2:{16380}_p ; solve solo 2x2:{65531}_p \
     > 3 several|1 2 3 4|3 4 1 2|2 1 4 3|4 3 2 1||1 2 3 4|3 4 1 2|2 3 4 1|4 1 2 3|
 solve solo 2x2:{65532}_p > 2 refused: too long|
 solve pattern 1x1:{16000}01/1 > 0 one|#|
 solve pattern 1x1:{16000}9/1 > 2 refused: line 0 too full|
+";
+
+/// Puzzles of the longest side.
+const LARGE: &str = "\
+solve pattern 120x1:{120}/ > 0 one|{120}.|
+solve lightup 120x2:{240}B > 0 one|{120}#|{120}#|
+solve tents 120x2:zzzzzzzzzo(122:,0) > 0 one|{120}.|{120}.|
+generate pattern 120x120 --seed 1 --black 100 > 0 120x120:(239:120/)120|(120:{120}#|)
+generate pattern 121x120 --seed 1 --black 100 > 2 refused: size range|
 ";
 
 /// Lines of the input, which are IDs.
@@ -171,6 +182,7 @@ pub const GRADES: &str = "\
 grade pattern 5x1:1/1//1/1/2.2 --budget 0 > 0 lines|
 grade solo 2x2:1_2_3_4_3_4_1_2_2_1_4_3_4_3_2_1 --budget 0 > 0 singles|
 grade solo 2x3:5c3c4d1a3g6a6a4c5_2c --budget 0 > 0 houses|
+grade solo 2x3x:g2c4c3d1l5b --budget 0 > 0 crossings|
 grade solo 2x2x:1_2_3_4_3k --budget 0 > 0 singles|
 grade lightup 2x2:2c --budget 0 > 0 local|
 grade tents 2x2:_c,0,1,1,0 --budget 0 > 0 local|
@@ -210,18 +222,39 @@ const REFUSED: &str = "\
     pattern solve 1x1:/ ;  > 2 refused: words|
 ";
 
-#[test]
-fn runs_tell_what_is_allowed(rt: HostRuntime) -> Result<(), Fail> {
-    for table in [
-        SOLVES, CUT, LONG, LINES, CHECKS, UNREAD, GRADES, MAKINGS, REFUSED,
-    ] {
-        for line in table.lines() {
-            let (runs, told) = line.split_once(" > ").ok_or("an answer")?;
-            for asked in runs.split(" ; ") {
-                let row = Row::of(rt.alloc(), asked, told)?;
-                assert!(rt; row.is_told(rt.alloc()), "{asked} > {told}");
-            }
+/// The first run of a line that doesn't write what the line tells.
+fn untold(alloc: Global, line: &str) -> Result<Option<&str>, Fail> {
+    let (runs, told) = line.split_once(" > ").ok_or("an answer")?;
+    for asked in runs.split(" ; ") {
+        let row = Row::of(alloc, asked, told)?;
+        if !row.is_told(alloc) {
+            return Ok(Some(asked));
         }
     }
+    Ok(None)
+}
+
+/// The first run of a table that doesn't write what its line tells.
+fn untold_in(alloc: Global, table: &str) -> Result<Option<&str>, Fail> {
+    for line in table.lines() {
+        if let Some(asked) = untold(alloc, line)? {
+            return Ok(Some(asked));
+        }
+    }
+    Ok(None)
+}
+
+#[test]
+fn runs_tell_what_is_allowed(rt: HostRuntime) -> Result<(), Fail> {
+    for table in [SOLVES, CUT, LINES, CHECKS, UNREAD, GRADES, MAKINGS, REFUSED] {
+        assert_eq!(rt; untold_in(rt.alloc(), table)?, None);
+    }
+    Ok(())
+}
+
+#[test]
+fn long_runs_tell_what_is_allowed(rt: HostRuntime) -> Result<(), Fail> {
+    assert_eq!(rt; untold_in(rt.alloc(), LONG)?, None);
+    assert_eq!(rt; untold_in(rt.alloc(), LARGE)?, None);
     Ok(())
 }

@@ -8,22 +8,23 @@ use solo_core::SoloHouses;
 use std::alloc::{AllocError, Global};
 use std::test::Fail;
 
-/// The trials of searches with these budgets, one after the other over one store, and the most that
-/// were open at once.
-fn counts<R: Rules>(
+/// The first of these budgets with which a search does not make so many trials, of which so many
+/// are open at once at most. The searches are made one after the other over one store.
+fn first_other<R: Rules>(
     alloc: Global,
     rules: &R,
-    budgets: &[u64],
-) -> Result<Vec<(u64, usize)>, AllocError> {
+    spent: &[(u64, u64, usize)],
+) -> Result<Option<u64>, AllocError> {
     let mut store = Store::new(alloc, rules)?;
-    let mut all = Vec::new(alloc);
-    for budget in budgets {
+    for (budget, trials, deepest) in spent {
         if store.fits(rules) {
             let _verdict = store.solve(rules, *budget);
-            all.push((store.trials(), store.deepest()))?;
+        }
+        if store.trials() != *trials || store.deepest() != *deepest {
+            return Ok(Some(*budget));
         }
     }
-    Ok(all)
+    Ok(None)
 }
 
 /// The rules of a puzzle of Pattern.
@@ -31,20 +32,39 @@ fn pattern_rules(alloc: Global, id: &[u8]) -> Result<PatternLines, Fail> {
     Ok(PatternLines::new(alloc, &read_pattern(alloc, id)?)?)
 }
 
+/// The rules of a puzzle of Solo.
+fn solo_rules(alloc: Global, id: &[u8]) -> Result<SoloHouses, Fail> {
+    Ok(SoloHouses::new(alloc, &read_solo(alloc, id)?)?)
+}
+
+/// The rules of a puzzle of Light Up.
+fn light_rules(alloc: Global, id: &[u8]) -> Result<LightRules, Fail> {
+    Ok(LightRules::new(alloc, &read_lights(alloc, id)?)?)
+}
+
 #[test]
-fn trials_are_counted(rt: HostRuntime) -> Result<(), Fail> {
-    let alloc = rt.alloc();
-    let lines = pattern_rules(alloc, b"2x2:1/1/1/1")?;
-    let found = counts(alloc, &lines, &[2, 1, 0, u64::MAX])?;
-    let spent = [(2, 1), (1, 1), (0, 0), (2, 1)];
-    assert_eq!(rt; found.as_slice(), spent.as_slice());
-    let houses = SoloHouses::new(alloc, &read_solo(alloc, b"2x2:p")?)?;
-    let found = counts(alloc, &houses, &[8, 7])?;
-    assert_eq!(rt; found.as_slice(), [(8, 7), (7, 7)].as_slice());
-    let local = LightRules::new(alloc, &read_lights(alloc, b"3x3:aBBa1aBb")?)?;
-    let found = counts(alloc, &local, &[4, 3, 1, 0])?;
-    let spent = [(4, 2), (3, 2), (1, 1), (0, 0)];
-    assert_eq!(rt; found.as_slice(), spent.as_slice());
+fn trials_of_pattern_are_counted(rt: HostRuntime) -> Result<(), Fail> {
+    let lines = pattern_rules(rt.alloc(), b"2x2:1/1/1/1")?;
+    let spent = [(2, 2, 1), (1, 1, 1), (0, 0, 0), (u64::MAX, 2, 1)];
+    let other = first_other(rt.alloc(), &lines, spent.as_slice())?;
+    assert_eq!(rt; other, None);
+    Ok(())
+}
+
+#[test]
+fn trials_of_solo_are_counted(rt: HostRuntime) -> Result<(), Fail> {
+    let houses = solo_rules(rt.alloc(), b"2x2:p")?;
+    let other = first_other(rt.alloc(), &houses, [(8, 8, 7), (7, 7, 7)].as_slice())?;
+    assert_eq!(rt; other, None);
+    Ok(())
+}
+
+#[test]
+fn trials_of_light_up_are_counted(rt: HostRuntime) -> Result<(), Fail> {
+    let local = light_rules(rt.alloc(), b"3x3:aBBa1aBb")?;
+    let spent = [(4, 4, 2), (3, 3, 2), (1, 1, 1), (0, 0, 0)];
+    let other = first_other(rt.alloc(), &local, spent.as_slice())?;
+    assert_eq!(rt; other, None);
     Ok(())
 }
 
@@ -54,9 +74,6 @@ fn sizes_around(alloc: Global, id: &[u8]) -> Result<(Sizes, Verdict, Sizes), Fai
     let rules = pattern_rules(alloc, id)?;
     let mut store = Store::new(alloc, &rules)?;
     let before = store.sizes();
-    if !store.fits(&rules) {
-        Err("a store that is enough")?;
-    }
     let verdict = store.solve(&rules, 2);
     Ok((before, verdict, store.sizes()))
 }
@@ -74,8 +91,19 @@ fn stores_have_their_sizes(rt: HostRuntime) -> Result<(), Fail> {
     assert_eq!(rt; before, sizes);
     assert_eq!(rt; verdict, Verdict::Several);
     assert_eq!(rt; after, sizes);
-    let store = Store::new(rt.alloc(), &pattern_rules(rt.alloc(), b"2x2:1/1/1/1")?)?;
-    assert!(rt; store.fits(&pattern_rules(rt.alloc(), b"2x2:2/2/2/2")?));
-    assert!(rt; !store.fits(&pattern_rules(rt.alloc(), b"2x3:////")?));
+    Ok(())
+}
+
+/// Whether a store that is made for one puzzle of Pattern is enough for another.
+fn is_enough(alloc: Global, made: &[u8], other: &[u8]) -> Result<bool, Fail> {
+    let store = Store::new(alloc, &pattern_rules(alloc, made)?)?;
+    Ok(store.fits(&pattern_rules(alloc, other)?))
+}
+
+#[test]
+fn stores_fit_what_they_are_enough_for(rt: HostRuntime) -> Result<(), Fail> {
+    let made = b"2x2:1/1/1/1".as_slice();
+    assert!(rt; is_enough(rt.alloc(), made, b"2x2:2/2/2/2")?);
+    assert!(rt; !is_enough(rt.alloc(), made, b"2x3:////")?);
     Ok(())
 }

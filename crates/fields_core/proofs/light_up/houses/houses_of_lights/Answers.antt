@@ -1,24 +1,41 @@
-use Rattle.std.proofs.Common.{[], map, sym, arith}
+use Rattle.std.proofs.Common.{[], ap, map, length, sym, arith}
 use Rattle.std.proofs.lemmas.List.{append-nil}
+use Rattle.engine_core.specs.HouseList.{Listed}
 use Rattle.fields_core.specs.CountHouse.{houses_below}
 use Rattle.fields_core.specs.CountLists.{house_places}
 use Rattle.fields_core.specs.Light.{light_cells}
-use Rattle.fields_core.specs.LightHouses.{row_run, column_run, begins_row_run, begins_column_run, column_house, light_houses}
-use Rattle.fields_core.proofs.CountListLemmas.{four-added}
+use Rattle.fields_core.specs.LightHouses.{row_run, column_run, begins_row_run, begins_column_run, number_house, row_house, column_house, light_houses}
+use Rattle.fields_core.proofs.CountListLemmas.{added-few, four-added, if-few}
+use Rattle.fields_core.proofs.LightCounting.{light-counting, number-one}
 use Rattle.fields_core.proofs.LightLatest.{runs-added}
 use Rattle.fields_core.proofs.light_up.houses.houses_of_lights.Goals as goal
 
 pub push_lits-requires-clause-rows : goal.push_lits-requires-clause-rows
 push_lits-requires-clause-rows c =
     let p = c.args.puzzle.now in
-    rw (c.in_ok-push_columns.ensures.closed, c.len-rows.ensures.len)
+    rw (c.in_ok-push_columns.ensures.closed, c.len-rows.ensures)
     (runs-added _ _ (begins_row_run p) (row_run p) (light_cells p) (map house_places (houses_below (column_house p) (light_cells p))) c.in_ok-push_rows.ensures)
 
 pub push_lits-requires-clause-columns : goal.push_lits-requires-clause-columns
 push_lits-requires-clause-columns c =
     let p = c.args.puzzle.now in
-    rw (sym (append-nil c.push_columns.new.houses.list.closed), c.len-columns.ensures.len)
+    rw (sym (append-nil c.push_columns.new.houses.list.closed), c.len-columns.ensures)
     (runs-added _ _ (begins_column_run p) (column_run p) (light_cells p) [] c.in_ok-push_columns.ensures)
+
+pub push_lits-requires-clause-rows_few : goal.push_lits-requires-clause-rows_few
+push_lits-requires-clause-rows_few c =
+    let p = c.args.puzzle.now in
+    let none = ap (λ (list : Listed). length list.closed) c.in_ok-houses.ensures.none in
+    let numbers = added-few _ _ (number_house p) _ c.in_ok-push_numbers.ensures (number-one p) in
+    omega (arith, none, numbers, c.len-rows.ensures, (light-counting p c.cells-cells.ensures.lawful).few_cells)
+
+pub push_lits-requires-clause-columns_few : goal.push_lits-requires-clause-columns_few
+push_lits-requires-clause-columns_few c =
+    let p = c.args.puzzle.now in
+    let none = ap (λ (list : Listed). length list.closed) c.in_ok-houses.ensures.none in
+    let numbers = added-few _ _ (number_house p) _ c.in_ok-push_numbers.ensures (number-one p) in
+    let rows = added-few _ _ (row_house p) _ c.in_ok-push_rows.ensures (λ d. if-few (begins_row_run p d) _) in
+    omega (arith, none, numbers, rows, c.len-columns.ensures, (light-counting p c.cells-cells.ensures.lawful).few_cells)
 
 pub returns : goal.returns
 unfolding light_houses

@@ -3,6 +3,7 @@ use Rattle.fields_core.specs.Light.{white}
 use Rattle.fields_core.specs.LightHouses.{lit_house}
 use Rattle.fields_core.proofs.LightLatest.{added-next, rows-few, rows-same, row-at, columns-few, columns-same, column-at, lit-added, lit-none}
 use Rattle.fields_core.proofs.HouseLists.{column-black, row-black}
+use Rattle.fields_core.proofs.LightCounting.{light-board, row-run-few, column-run-few}
 use Rattle.fields_core.proofs.RunLemmas.{few-cells}
 use Rattle.fields_core.proofs.light_up.lit.push_lits.Goals as goal
 use Rattle.fields_core.proofs.light_up.lit.push_lits.Goals.{then-is_white+in_ok-push_lit, else-is_white}
@@ -27,6 +28,17 @@ push_lit-requires-clause-column_in c =
     (column-at c.args.puzzle.now c.args.houses.now.list.closed _ c.loop-place.houses.list.closed c.args.columns c.pass-then-is_white.new.self.last c.pass-then-is_white.new.self.next c.loop-place.place c.loop-place.x
     c.loop-place.invariant.added.closed (omega (arith, c.cells-place-end.ensures.lawful.size.w_two)) (sym c.is_white.ensures ∙ c.if-is_white.true) c.loop-place.invariant.x
     (c.pass-then-is_white.ensures c.args.houses.now.list.closed c.args.columns c.requires.columns c.loop-place.invariant.column)).within
+
+pub push_lit-requires-clause-few : goal.push_lit-requires-clause-few
+push_lit-requires-clause-few c =
+    let p = c.args.puzzle.now in
+    let lists = c.args.houses.now.list.closed in
+    let l = c.loop-place in
+    let board = light-board p c.cells-place-end.ensures.lawful in
+    let on = sym c.is_white.ensures ∙ c.if-is_white.true in
+    let row = row-at p lists _ l.houses.list.closed c.args.rows _ _ l.place l.invariant.added.closed on (c.pass.ensures lists c.args.rows c.requires.rows l.invariant.row) in
+    let column = column-at p lists _ l.houses.list.closed c.args.columns _ _ l.place l.x l.invariant.added.closed board.some on l.invariant.x (c.pass-then-is_white.ensures lists c.args.columns c.requires.columns l.invariant.column) in
+    rw (row.same, column.same) (omega (arith, row-run-few p l.place board, column-run-few p l.place board))
 
 pub loop-place-preserved : goal.loop-place-preserved
 loop-place-preserved c =

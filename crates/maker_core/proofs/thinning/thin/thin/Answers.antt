@@ -14,4 +14,4 @@ returns-clause-found g c = (answer_left g.P.Clued.game g.met.P.Clued.lawful _ _ 
 pub returns-clause-reasons : goal.returns-clause-reasons
 returns-clause-reasons g c =
     reasons_left g.P.Clued.game g.met.P.Clued.lawful _ _ _ _ _ c.in_ok-whys.ensures _ c.requires.all
-    (c.in_ok-kept.ensures ∙ ap (reasons_from 0) c.deref.ensures.value)
+    (c.in_ok-kept.ensures ∙ ap (reasons_from 0) c.deref-2.ensures.value)

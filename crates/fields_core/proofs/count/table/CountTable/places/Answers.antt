@@ -18,4 +18,4 @@ returns-clause-within c = λ k lt.
 pub returns-clause-few : goal.returns-clause-few
 returns-clause-few c =
     let house = (counted-table _ _ _ c.args.self.now c.self.invariant.0 c.self.invariant.1 c.self.view_is).each c.args.house c.requires in
-    rw (returns-clause-places c) house.few_places
+    rw (returns-clause-places c) (omega (arith, house.few_places))

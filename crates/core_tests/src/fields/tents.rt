@@ -1,0 +1,90 @@
+//! Tents.
+
+use super::{accepts, close_to, grid_of, repeated};
+use engine_core::Rules;
+use fields_core::{TentFault, TentRules, check_tents};
+use gameid_core::{TentsPuzzle, read_tents};
+use std::alloc::{AllocError, Global};
+use std::test::Fail;
+
+/// The rules of the puzzle with the ID.
+fn rules_of(alloc: Global, id: &str) -> Result<TentRules, Fail> {
+    let puzzle = read_tents(alloc, id.as_bytes())?;
+    Ok(TentRules::new(alloc, &puzzle)?)
+}
+
+/// What the check says of a grid with tents at these places; nothing where it is no grid of two values.
+fn checked(
+    alloc: Global,
+    puzzle: &TentsPuzzle,
+    tents: &[usize],
+) -> Result<Option<Option<TentFault>>, AllocError> {
+    let cells = puzzle.size().cells();
+    let grid = grid_of(alloc, cells, tents)?;
+    if !grid.fits(cells, 2) {
+        return Ok(None);
+    }
+    Ok(Some(check_tents(alloc, puzzle, &grid)?))
+}
+
+/// The same for the puzzle with the ID.
+fn fault_of(alloc: Global, id: &str, tents: &[usize]) -> Result<Option<Option<TentFault>>, Fail> {
+    let puzzle = read_tents(alloc, id.as_bytes())?;
+    Ok(checked(alloc, &puzzle, tents)?)
+}
+
+/// Whether the rules of the puzzle with the ID accept it.
+fn accepted(alloc: Global, id: &str, tents: &[usize]) -> Result<Option<bool>, Fail> {
+    let rules = rules_of(alloc, id)?;
+    Ok(accepts(alloc, &rules, tents)?)
+}
+
+#[test]
+fn grids_of_tents(rt: HostRuntime) -> Result<(), Fail> {
+    let camp = "5x3:aiaa,1,0,2,0,0,2,0,1";
+    for (id, tents, fault) in [
+        ("2x2:_c,0,1,1,0", &[1][..], None),
+        ("2x2:_c,0,1,1,0", &[1, 2], Some(TentFault::Touch(1))),
+        ("2x2:_c,0,1,1,0", &[2], Some(TentFault::Column(0))),
+        ("2x2:_c,0,1,1,0", &[0, 1], Some(TentFault::Tree(0))),
+        ("2x2:_c,0,1,0,1", &[1], Some(TentFault::Row(0))),
+        (camp, &[0, 2, 12], Some(TentFault::Match)),
+    ] {
+        assert_eq!(rt;
+            fault_of(rt.alloc(), id, tents)?,
+            Some(fault),
+            "{id} {tents:?}"
+        );
+        let accepted = accepted(rt.alloc(), id, tents)?;
+        assert_eq!(rt; accepted, Some(fault.is_none()), "{id} {tents:?}");
+    }
+    Ok(())
+}
+
+#[test]
+fn a_tree_in_a_corner_closes(rt: HostRuntime) -> Result<(), Fail> {
+    let rules = rules_of(rt.alloc(), "2x2:_c,0,1,1,0")?;
+    assert!(rt; close_to(rt.alloc(), &rules, &[1])?);
+    Ok(())
+}
+
+/// A puzzle of 120 by 2 cells without trees.
+fn no_trees(alloc: Global) -> Result<TentsPuzzle, Fail> {
+    let text = repeated(alloc, "120x2:zzzzzzzzzo", ",0", 122)?;
+    Ok(read_tents(alloc, text.as_bytes())?)
+}
+
+/// How many houses it has, and whether they close the board without tents.
+fn closed(alloc: Global, puzzle: &TentsPuzzle) -> Result<(usize, bool), AllocError> {
+    let rules = TentRules::new(alloc, puzzle)?;
+    let closes = close_to(alloc, &rules, &[])?;
+    Ok((rules.houses(), closes))
+}
+
+#[test]
+fn a_wide_grid_without_trees(rt: HostRuntime) -> Result<(), Fail> {
+    let puzzle = no_trees(rt.alloc())?;
+    assert_eq!(rt; checked(rt.alloc(), &puzzle, &[])?, Some(None));
+    assert_eq!(rt; closed(rt.alloc(), &puzzle)?, (241, true));
+    Ok(())
+}

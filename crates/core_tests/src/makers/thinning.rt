@@ -1,0 +1,128 @@
+//! Clues taken away and put back, and searches of the thinner puzzles.
+
+use engine_core::{Rules, Store, Verdict};
+use fields_core::LightRules;
+use gameid_core::{LightCell, LightPuzzle, SoloPuzzle, read_solo};
+use grid_core::Size;
+use solo_core::SoloHouses;
+use std::alloc::{AllocError, Global};
+use std::test::Fail;
+
+/// A store that has served a search of the rules.
+fn used_store<R: Rules>(alloc: Global, rules: &R, budget: u64) -> Result<Store<R>, AllocError> {
+    let mut store = Store::new(alloc, rules)?;
+    store.solve(rules, budget);
+    Ok(store)
+}
+
+/// What a search of the rules counts in a store that has room for them.
+fn counted<R: Rules>(
+    store: &mut Store<R>,
+    rules: &R,
+    budget: u64,
+) -> Option<(Verdict, u64, u128, usize)> {
+    if !store.fits(rules) {
+        return None;
+    }
+    let verdict = store.solve(rules, budget);
+    Some((verdict, store.trials(), store.turns(), store.deepest()))
+}
+
+/// Whether a search of the rules, in a store that was used, goes as in a new one.
+fn goes_as_new<R: Rules>(
+    alloc: Global,
+    rules: &R,
+    used: &mut Store<R>,
+    budget: u64,
+) -> Result<bool, AllocError> {
+    let again = counted(used, rules, budget);
+    let mut fresh = Store::new(alloc, rules)?;
+    Ok(again.is_some() && again == counted(&mut fresh, rules, budget))
+}
+
+/// The given of a cell, if it has one.
+fn given(puzzle: &SoloPuzzle, place: usize) -> Option<u8> {
+    let n = usize::from(puzzle.n());
+    if place >= n * n || puzzle.given(place) == 0 {
+        return None;
+    }
+    Some(puzzle.given(place))
+}
+
+/// Gives a cell that number, or none.
+fn give(puzzle: &mut SoloPuzzle, place: usize, number: u8) {
+    let n = puzzle.n();
+    if place < usize::from(n) * usize::from(n) && number <= n {
+        puzzle.set_given(place, number);
+    }
+}
+
+/// Whether a search goes as in a new store where the given of a cell is taken away after a search of the puzzle; the given
+/// is put back.
+fn goes_on_without_given(
+    alloc: Global,
+    puzzle: &mut SoloPuzzle,
+    place: usize,
+    budget: u64,
+) -> Result<bool, AllocError> {
+    let mut used = used_store(alloc, &SoloHouses::new(alloc, puzzle)?, budget)?;
+    let Some(number) = given(puzzle, place) else {
+        return Ok(false);
+    };
+    give(puzzle, place, 0);
+    let thinner = SoloHouses::new(alloc, puzzle)?;
+    let same = goes_as_new(alloc, &thinner, &mut used, budget)?;
+    give(puzzle, place, number);
+    Ok(same && given(puzzle, place) == Some(number))
+}
+
+/// The rules of a black cell at the top left, with a 2 or without a number, and three white cells.
+fn corner(alloc: Global, numbered: bool) -> Result<LightRules, AllocError> {
+    let mut puzzle = LightPuzzle::blank(alloc, Size::new(2, 2).unwrap())?;
+    puzzle.set_cell(0, LightCell::Numbered(2));
+    if !numbered {
+        puzzle.set_cell(0, LightCell::Black);
+    }
+    LightRules::new(alloc, &puzzle)
+}
+
+/// Whether a search goes as in a new store where the number of the corner is taken away after a search.
+fn goes_on_without_number(alloc: Global, budget: u64) -> Result<bool, AllocError> {
+    let mut used = used_store(alloc, &corner(alloc, true)?, budget)?;
+    goes_as_new(alloc, &corner(alloc, false)?, &mut used, budget)
+}
+
+/// Whether it does where the given of a cell of this puzzle of Solo is taken away.
+fn goes_on_without(alloc: Global, id: &str, place: usize) -> Result<bool, Fail> {
+    let mut puzzle = read_solo(alloc, id.as_bytes())?;
+    Ok(goes_on_without_given(alloc, &mut puzzle, place, 3)?)
+}
+
+#[test]
+fn a_used_store_serves_thinner_puzzles(rt: HostRuntime) -> Result<(), Fail> {
+    for (place, goes_on) in [(5, true), (8, false)] {
+        let told = goes_on_without(rt.alloc(), "2x2:1_2_3_4_3_4_1_2h", place)?;
+        assert_eq!(rt; told, goes_on, "{place}");
+    }
+    assert!(rt; goes_on_without_number(rt.alloc(), 2)?);
+    Ok(())
+}
+
+/// The verdicts of the corner with its number, and without it in the same store if that has room.
+fn verdicts(alloc: Global, budget: u64) -> Result<(Verdict, Option<Verdict>), AllocError> {
+    let rules = corner(alloc, true)?;
+    let mut store = Store::new(alloc, &rules)?;
+    let numbered = store.solve(&rules, budget);
+    let thinner = corner(alloc, false)?;
+    if !store.fits(&thinner) {
+        return Ok((numbered, None));
+    }
+    Ok((numbered, Some(store.solve(&thinner, budget))))
+}
+
+#[test]
+fn a_black_cell_without_its_number_has_more_solutions(rt: HostRuntime) -> Result<(), Fail> {
+    let told = verdicts(rt.alloc(), 2)?;
+    assert_eq!(rt; told, (Verdict::One, Some(Verdict::Several)));
+    Ok(())
+}

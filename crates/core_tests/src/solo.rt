@@ -1,0 +1,5 @@
+//! Closings of Solo, what the numbers of its houses name, and the check of a grid.
+
+mod checks;
+mod closings;
+mod scopes;

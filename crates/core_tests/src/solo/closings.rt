@@ -1,0 +1,78 @@
+//! Worked examples of closings, and the room of a store.
+
+use engine_core::{Closing, Rules, Sizes, Store};
+use gameid_core::read_solo;
+use solo_core::{Crossings, Fillings, Singles, SoloRules, Strikes};
+use std::alloc::{AllocError, Global};
+use std::test::Fail;
+
+/// In the second row 3 and 4 stand first.
+const PAIR: &[u8] = b"2x2:d3_4j";
+
+/// The 1 of the first block has to stand in the top row.
+const CLAIMED: &[u8] = b"3x3:q1_2_3_4zzh";
+
+/// The rules of the puzzle with the ID.
+fn rules_of<S: Strikes>(alloc: Global, id: &[u8]) -> Result<SoloRules<S>, Fail> {
+    let puzzle = read_solo(alloc, id)?;
+    Ok(SoloRules::<S>::new(alloc, &puzzle)?)
+}
+
+/// Which values a closing leaves the cell, as bits: none where it shows a contradiction.
+fn left_by<R: Rules>(alloc: Global, rules: &R, place: usize) -> Result<u32, AllocError> {
+    let mut store = Store::new(alloc, rules)?;
+    if place >= rules.cells() || store.close(rules) != Closing::Open {
+        return Ok(0);
+    }
+    Ok(store.board().bits(place))
+}
+
+/// The same of the puzzle with the ID.
+fn left<S: Strikes>(alloc: Global, id: &[u8], place: usize) -> Result<u32, Fail> {
+    let rules = rules_of::<S>(alloc, id)?;
+    Ok(left_by(alloc, &rules, place)?)
+}
+
+#[test]
+fn a_pair_is_taken_by_houses_and_not_by_singles(rt: HostRuntime) -> Result<(), Fail> {
+    assert_eq!(rt; left::<Fillings>(rt.alloc(), PAIR, 2)?, 0b1100);
+    assert_eq!(rt; left::<Fillings>(rt.alloc(), PAIR, 6)?, 0b0011);
+    assert_eq!(rt; left::<Singles>(rt.alloc(), PAIR, 2)?, 0b1111);
+    Ok(())
+}
+
+#[test]
+fn what_a_block_claims_is_struck_by_crossings_alone(rt: HostRuntime) -> Result<(), Fail> {
+    for place in 3..6 {
+        assert_eq!(rt;
+            left::<Fillings>(rt.alloc(), CLAIMED, place)?,
+            0b1_1111_1111
+        );
+        assert_eq!(rt;
+            left::<Crossings>(rt.alloc(), CLAIMED, place)?,
+            0b1_1111_1110
+        );
+    }
+    Ok(())
+}
+
+/// The lengths of the lists of a store.
+fn room<S: Strikes>(alloc: Global, id: &[u8]) -> Result<Sizes, Fail> {
+    let rules = rules_of::<S>(alloc, id)?;
+    Ok(Store::new(alloc, &rules)?.sizes())
+}
+
+#[test]
+fn a_store_has_room_for_diagonals_and_crossings(rt: HostRuntime) -> Result<(), Fail> {
+    let mut sizes = Sizes {
+        frames: 16,
+        trail: 64,
+        trace: 238,
+        queue: 14,
+        scope: 4,
+    };
+    assert_eq!(rt; room::<Fillings>(rt.alloc(), b"2x2x:p")?, sizes);
+    (sizes.trace, sizes.queue, sizes.scope) = (604, 28, 6);
+    assert_eq!(rt; room::<Crossings>(rt.alloc(), b"2x2:p")?, sizes);
+    Ok(())
+}

@@ -1,0 +1,262 @@
+//! Traces of grades, whose visits and sweeps are made again.
+ghost use Rattle.std.specs.Prelude.{IfOk};
+ghost use Rattle.engine_core.specs.Puzzle.{IsBoardOf};
+
+use crate::tests::seen::outcome;
+use engine_core::{Rules, Store};
+use fields_core::{LightRules, TentRules};
+use gameid_core::{SoloPuzzle, read_lights, read_pattern, read_solo, read_tents};
+use grid_core::Board;
+use pattern_core::PatternLines;
+use solo_core::{SoloCrossings, SoloHouses, SoloSingles};
+use std::alloc::{AllocError, Global};
+use std::test::Fail;
+
+/// Solo 2x2 with all of a solution given.
+const LATIN: &str = "2x2:1_2_3_4_3_4_1_2_2_1_4_3_4_3_2_1";
+
+/// Single values and single places leave cells open here, and whole houses don't.
+const PAIRED: &str = "2x3:5c3c4d1a3g6a6a4c5_2c";
+
+/// The crossings of Solo 2x2, in the order of their numbers.
+const CROSSINGS: &str = "\
+block 0 row 0|block 0 row 1|block 1 row 0|block 1 row 1|\
+block 2 row 2|block 2 row 3|block 3 row 2|block 3 row 3|\
+block 0 column 0|block 0 column 1|block 1 column 2|block 1 column 3|\
+block 2 column 0|block 2 column 1|block 3 column 2|block 3 column 3";
+
+/// The number of what a line names: a house, where the houses of these kinds follow one another, or
+/// a crossing of Solo 2x2, where those come after so many houses.
+fn number_in(line: &str, kinds: &[&str], per_kind: usize, houses: usize) -> Option<usize> {
+    if let Some(crossing) = CROSSINGS.split('|').position(|name| name == line) {
+        return houses.checked_add(crossing);
+    }
+    let (kind, digit) = line.split_once(' ')?;
+    let number = digit.parse::<usize>().ok()?;
+    let before = kinds.iter().position(|k| *k == kind)?;
+    let house = before.checked_mul(per_kind)?.checked_add(number)?;
+    if digit.len() == 1 && number < per_kind && house < houses {
+        Some(house)
+    } else {
+        None
+    }
+}
+
+/// The start board after visits of these houses.
+fn replayed<R: Rules>(alloc: Global, rules: &R, visits: &[usize]) -> Result<Board, AllocError>
+    ensures { IfOk result (λ board. IsBoardOf (R.puzzle rules.now) board) }
+{
+    let mut board = Board::new(alloc, rules.cells(), rules.values())?;
+    let mut scratch = rules.scratch(alloc)?;
+    rules.start(&mut board);
+    for house in visits {
+        if *house < rules.houses() {
+            rules.visit(*house, &mut board, &mut scratch);
+        }
+    }
+    Ok(board)
+}
+
+/// Whether both boards of a puzzle have the same values in the same cells.
+fn are_same<R: Rules>(rules: &R, one: &Board, other: &Board) -> bool
+    requires one { IsBoardOf (R.puzzle rules.now) one.now }
+    requires other { IsBoardOf (R.puzzle rules.now) other.now }
+{
+    for place in 0..rules.cells() {
+        for value in 0..rules.values() {
+            if one.has(place, value) != other.has(place, value) {
+                return false;
+            }
+        }
+    }
+    true
+}
+
+/// Whether a closing by the rules leaves this board.
+fn closes_to<R: Rules>(alloc: Global, rules: &R, board: &Board) -> Result<bool, AllocError>
+    requires { IsBoardOf (R.puzzle rules.now) board.now }
+{
+    let mut store = Store::new(alloc, rules)?;
+    store.close(rules);
+    Ok(are_same(rules, board, store.board()))
+}
+
+/// Whether a closing by the rules leaves the board that these visits leave.
+fn is_closed_by<R: Rules>(alloc: Global, rules: &R, visits: &[usize]) -> Result<bool, AllocError> {
+    let board = replayed(alloc, rules, visits)?;
+    closes_to(alloc, rules, &board)
+}
+
+/// Whether the visits close the board of a puzzle by these rules, and no visits leave it open, but
+/// where it is full from the start.
+fn closes<R: Rules>(
+    alloc: Global,
+    rules: &R,
+    visits: &[usize],
+    is_full: bool,
+) -> Result<bool, AllocError> {
+    let houses = rules.houses();
+    let are_houses = visits.iter().all(|visit| *visit < houses);
+    let is_closed = is_closed_by(alloc, rules, visits)?;
+    Ok(are_houses && is_closed && is_closed_by(alloc, rules, &[])? == is_full)
+}
+
+/// What a grade with a trace tells after this line.
+fn traced(alloc: Global, [game, id, budget, grade]: [&str; 4]) -> Result<String, Fail> {
+    let (taken, _) = outcome(alloc, &["grade", game, id, "--budget", budget, "--trace"])?;
+    let text = str::from_utf8(taken.as_slice())?;
+    let rest = text.strip_prefix(grade).ok_or("the grade")?;
+    Ok(String::from_str(alloc, rest.strip_prefix('\n').ok_or("a line end")?)?)
+}
+
+/// The visits that these lines tell, of so many houses of each of these kinds, and of crossings.
+fn visits_in(
+    alloc: Global,
+    lines: &str,
+    kinds: &[&str],
+    per_kind: usize,
+    houses: usize,
+) -> Result<Vec<usize>, Fail> {
+    let mut visits = Vec::new(alloc);
+    for line in lines.lines() {
+        visits.push(number_in(line, kinds, per_kind, houses).ok_or("a name")?)?;
+    }
+    Ok(visits)
+}
+
+/// The lines of a puzzle of Pattern, and how many columns it has.
+fn pattern_lines(alloc: Global, id: &str) -> Result<(PatternLines, usize), Fail> {
+    let puzzle = read_pattern(alloc, id.as_bytes())?;
+    let columns = usize::from(puzzle.size().w());
+    Ok((PatternLines::new(alloc, &puzzle)?, columns))
+}
+
+/// Whether the visits that these lines tell close the board of a puzzle of Pattern.
+fn pattern_closes(alloc: Global, id: &str, lines: &str) -> Result<bool, Fail> {
+    let (rules, columns) = pattern_lines(alloc, id)?;
+    let visits = visits_in(alloc, lines, &["column", "row"], columns, rules.houses())?;
+    Ok(closes(alloc, &rules, &visits, false)?)
+}
+
+#[test]
+fn traces_of_pattern_close_their_boards(rt: HostRuntime) -> Result<(), Fail> {
+    for (id, budget, grade) in [
+        ("5x1:1/1//1/1/2.2", "0", "lines"),
+        ("3x2:1/2/1/2/2", "2", "several"),
+        ("3x2:1/2/1/2/2", "0", "gave up"),
+        ("2x1:1/1/1", "0", "none"),
+    ] {
+        let lines = traced(rt.alloc(), ["pattern", id, budget, grade])?;
+        let is_closed = pattern_closes(rt.alloc(), id, &lines)?;
+        assert!(rt; is_closed, "{id} with {budget}");
+    }
+    Ok(())
+}
+
+/// IDs of Solo with their grades, how many houses of a kind there are, and how many houses.
+const SOLOS: [(&str, &str, usize, usize); 6] = [
+    (LATIN, "singles", 4, 12),
+    ("2x2x:1_2_3_4_3k", "singles", 4, 14),
+    (PAIRED, "houses", 6, 18),
+    ("2x2:1o", "gave up", 4, 12),
+    ("2x2:1_1n", "none", 4, 12),
+    ("2x2x:1o", "gave up", 4, 14),
+];
+
+/// Whether these visits close the board of a puzzle of Solo, by the rules of its grade.
+fn solo_closes(
+    alloc: Global,
+    puzzle: &SoloPuzzle,
+    grade: &str,
+    visits: &[usize],
+    is_full: bool,
+) -> Result<bool, AllocError> {
+    match grade {
+        "singles" => closes(alloc, &SoloSingles::new(alloc, puzzle)?, visits, is_full),
+        "houses" => closes(alloc, &SoloHouses::new(alloc, puzzle)?, visits, is_full),
+        _ => closes(alloc, &SoloCrossings::new(alloc, puzzle)?, visits, is_full),
+    }
+}
+
+/// The visits that are told of a puzzle of Solo.
+fn solo_visits(
+    alloc: Global,
+    (id, grade, per_kind, houses): (&str, &str, usize, usize),
+) -> Result<Vec<usize>, Fail> {
+    let lines = traced(alloc, ["solo", id, "0", grade])?;
+    let kinds = ["row", "column", "block", "diagonal"];
+    visits_in(alloc, &lines, &kinds, per_kind, houses)
+}
+
+#[test]
+fn traces_of_solo_close_their_boards(rt: HostRuntime) -> Result<(), Fail> {
+    for solo in SOLOS {
+        let visits = solo_visits(rt.alloc(), solo)?;
+        let (id, grade, _, _) = solo;
+        let puzzle = read_solo(rt.alloc(), id.as_bytes())?;
+        let is_closed = solo_closes(rt.alloc(), &puzzle, grade, &visits, id == LATIN)?;
+        assert!(rt; is_closed, "{id}");
+    }
+    Ok(())
+}
+
+/// The houses of so many sweeps, in their order.
+fn swept(alloc: Global, sweeps: usize, houses: usize) -> Result<Vec<usize>, AllocError> {
+    let mut visits = Vec::new(alloc);
+    for _sweep in 0..sweeps {
+        for house in 0..houses {
+            visits.push(house)?;
+        }
+    }
+    Ok(visits)
+}
+
+/// How many sweeps a grade with a trace tells.
+fn sweeps_told(alloc: Global, words: [&str; 4]) -> Result<usize, Fail> {
+    let lines = traced(alloc, words)?;
+    let number = lines.strip_prefix("sweeps ").ok_or("sweeps")?;
+    let digits = number.strip_suffix('\n').ok_or("a line end")?;
+    Ok(digits.parse::<usize>()?)
+}
+
+/// Whether so many sweeps close the board of a puzzle by these rules, and none leave it open.
+fn sweeps_close<R: Rules>(alloc: Global, rules: &R, sweeps: usize) -> Result<bool, AllocError> {
+    let visits = swept(alloc, sweeps, rules.houses())?;
+    closes(alloc, rules, &visits, false)
+}
+
+/// The rules of a puzzle of Light Up.
+fn light_rules(alloc: Global, id: &str) -> Result<LightRules, Fail> {
+    Ok(LightRules::new(alloc, &read_lights(alloc, id.as_bytes())?)?)
+}
+
+/// The rules of a puzzle of Tents.
+fn tent_rules(alloc: Global, id: &str) -> Result<TentRules, Fail> {
+    Ok(TentRules::new(alloc, &read_tents(alloc, id.as_bytes())?)?)
+}
+
+/// Whether so many sweeps close the board of a puzzle of Light Up or Tents.
+fn game_closes(alloc: Global, game: &str, id: &str, sweeps: usize) -> Result<bool, Fail> {
+    Ok(match game {
+        "lightup" => sweeps_close(alloc, &light_rules(alloc, id)?, sweeps)?,
+        _ => sweeps_close(alloc, &tent_rules(alloc, id)?, sweeps)?,
+    })
+}
+
+#[test]
+fn sweeps_close_their_boards(rt: HostRuntime) -> Result<(), Fail> {
+    // The second has the first beside a part that no deduction decides.
+    for (game, id, budget, grade) in [
+        ("lightup", "2x2:2c", "0", "local"),
+        ("lightup", "5x2:2aBBcBb", "100000", "several"),
+        ("lightup", "5x2:2aBBcBb", "0", "gave up"),
+        ("lightup", "2x2:3c", "0", "none"),
+        ("tents", "2x2:_c,0,1,1,0", "0", "local"),
+        ("tents", "5x3:aiaa,1,0,2,0,0,2,0,1", "0", "none"),
+    ] {
+        let sweeps = sweeps_told(rt.alloc(), [game, id, budget, grade])?;
+        let is_closed = game_closes(rt.alloc(), game, id, sweeps)?;
+        assert!(rt; is_closed, "{game} {id} with {budget}");
+    }
+    Ok(())
+}
