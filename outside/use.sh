@@ -3,7 +3,8 @@
 #
 # usage: outside/use.sh PROGRAM     PROGRAM as `rt run` leaves it: crates/puzzles/out/puzzles
 #
-# It needs bash, tar, python3, node, GNU parallel and xargs (of Debian: nodejs, parallel, findutils), and installs nothing.
+# It needs bash, tar, python3, node, curl, GNU parallel and xargs (of Debian: nodejs, curl, parallel, findutils), and installs
+# nothing. The port 8018 must be free.
 # Code stands in fenced blocks of three kinds, and nowhere else:
 #   console       a session: `$ ` begins a command line, `> ` goes on with it, and all other lines are what it writes, to
 #                 standard output and standard error together
@@ -14,7 +15,8 @@
 set -u
 
 # These lines are NOT run. Those with `rt` take more than a minute, some of them hours: they prove crates, or build the program.
-# The others are of Dask: two run until they are stopped, and the job needs these two. outside/dask_job.py runs that job.
+# The page runs until it is stopped; docs/USE.md has it once more, with its end. The others are of Dask: two run until they are
+# stopped, and the job needs these two. outside/dask_job.py runs that job.
 dask='/usr/bin/python3 examples/dask/job.py --lines 25 tcp://127.0.0.1:8786'
 not_run=(
     '(cd crates/puzzles && rt try -- solve pattern 5x1:1/1//1/1/2.2)'
@@ -25,6 +27,7 @@ not_run=(
     '(cd crates/core_tests && rt try --test -- sizes_have_bounds)'
     '(cd crates/core_tests && rt test)'
     'rt ci'
+    'page/serve.py ~/.local/bin/puzzles'
     'sudo apt-get install python3-distributed'
     'dask scheduler --host 127.0.0.1 --port 8786 --no-dashboard'
     'dask worker tcp://127.0.0.1:8786 --nworkers 4 --nthreads 1 --no-dashboard'
@@ -33,7 +36,7 @@ not_run=(
     "$dask seeds.txt generate tents 8x8 --seed {} > made.txt"
 )
 documents=(README.md docs/USE.md docs/CONTRIBUTING.md)
-tools=(python3 node parallel xargs tar)
+tools=(python3 node curl parallel xargs tar)
 
 help() {
     sed -n '2,/^set/{s/^# \{0,1\}//p}' "$0"

@@ -2,7 +2,7 @@ import { done, light, places, print, read, rowsOf, scan } from "./puzzle.js";
 
 const SIZES = { solo: "2x2 2x3 3x3 3x3x 3x4 4x4", pattern: "5x5 10x10 15x15 20x20 30x30",
   lightup: "5x5 7x7 10x10 14x14 20x20 30x30", tents: "5x5 8x8 10x10 15x15 20x20" };
-const USUAL = ["3x3", "10x10", "7x7", "8x8"];
+const USUAL = { solo: "3x3", pattern: "10x10", lightup: "7x7", tents: "8x8" };
 const VALUES = { pattern: ["blank", "black", "dot"], lightup: ["blank", "bulb", "dot"], tents: ["blank", "tent", "dot"] };
 const RULES = {
   solo: "Each row, column, block and shaded diagonal has each number once.",
@@ -10,26 +10,18 @@ const RULES = {
   lightup: "Light each white cell. No bulb lights another. A number counts the bulbs beside it.",
   tents: "Each tree has a tent of its own beside it. No two tents touch. The numbers count the tents.",
 };
-const GRADES = {
-  singles: "Easy: each step finds a cell with one number left, or a number with one cell left.",
-  houses: "Medium: each step looks at one row, column or block.",
-  crossings: "Hard: some steps look at a block together with a row or column.",
-  lines: "No guesses: each step looks at one row or column.",
-  local: "No guesses: each step looks at one clue or one line.",
-};
+const GRADES = { singles: "Easy: each step finds a cell with one number left, or a number with one cell left.",
+  houses: "Medium: each step looks at one row, column or block.", crossings: "Hard: some steps look at a block and a line.",
+  lines: "No guesses: each step looks at one row or column.", local: "No guesses: each step looks at one clue or line." };
 const REFUSED = {
   "seed id": "This is a seed of another program, not a puzzle. The ID of the puzzle itself has a colon after the size.",
   "no colon": "An ID is a size, a colon and a description, as in 3x3:aBBa1aBb.",
   "bad size": "An ID begins with its size, as 10x10: does. Solo of 9 by 9 cells is 3x3:.",
   variant: "Something stands between the size and the colon. This variant of the game isn’t known here.",
   "size range": "The size is too small or too large. Is this the ID of another game?",
-  "bad byte": "The marked character means nothing there.",
-  "number range": "The marked number is too small or too large.",
-  line: "The marked clue doesn’t fit its line.",
-  "too few": "The description ends too soon.",
-  "too many": "The description goes on for too long.",
-  "too long": "An ID has at most 65,536 bytes.",
-  "field id": "An ID is one line without control characters.",
+  "bad byte": "The marked character means nothing there.", "number range": "The marked number is too small or too large.",
+  line: "The marked clue doesn’t fit its line.", "field id": "An ID is one line without control characters.",
+  "too few": "The ID ends too soon.", "too many": "The ID goes on for too long.", "too long": "An ID has at most 65,536 bytes.",
 };
 const BROKEN = { number: "a number hasn’t its bulbs beside it", seen: "a bulb lights another", dark: "a cell is dark",
   touch: "two tents touch", match: "tents and trees can’t be paired one to one" };
@@ -51,7 +43,8 @@ function element(name, attributes, ...inside) {
 
 // A grid as it is before anything stands in it: its cells, and the clues of its columns and rows.
 function draw(p, name) {
-  const tents = p.game === "tents", thick = p.block || (p.game === "pattern" ? { w: 5, h: 5 } : { w: p.w, h: p.h }), cells = [];
+  const tents = p.game === "tents", cells = [];
+  const thick = p.block || (p.game === "pattern" ? { w: 5, h: 5 } : { w: p.w, h: p.h });
   const clues = (lists, role, side) => (lists || []).map((list, k) => element(
     "div", { role, class: "clue", "aria-label": `${side} ${k + 1}: ${list.join(" ") || "none"}` },
     ...(list.length ? list : [0]).map((number) => element("span", {}, number))));
@@ -65,13 +58,14 @@ function draw(p, name) {
     });
     return element("div", { role: "row" }, ...(rows.length && !tents ? [rows[y]] : []), ...inside, ...(tents ? [rows[y]] : []));
   });
-  const heads = rows.length ? [element("div", { role: "row" }, ...(tents ? [] : [element("div", {})]), ...columns)] : [];
+  const corner = tents ? [] : [element("div", { role: "presentation" })];
+  const heads = rows.length ? [element("div", { role: "row" }, ...corner, ...columns)] : [];
   const grid = element("div", { role: "grid", class: `board ${p.game}`, "aria-label": `${name}, ${p.w} columns, ${p.h} rows` },
     ...(tents ? [] : heads), ...lines, ...(tents ? heads : []));
   const room = (lists, size) => (tents ? 1 : Math.max(0, ...(lists || []).map((list) => 0.4 + size(list)))); // in cells
-  grid.style.setProperty("--w", p.w);
-  grid.style.setProperty("--wide", p.w + room(p.rows, (list) => list.join("").length * 0.3 + list.length * 0.3));
-  grid.style.setProperty("--tall", p.h + room(p.columns, (list) => list.length * 0.6));
+  const sizes = { "--w": p.w, "--wide": p.w + room(p.rows, (list) => list.join("").length * 0.3 + list.length * 0.3),
+    "--tall": p.h + room(p.columns, (list) => list.length * 0.6) };
+  for (const [key, size] of Object.entries(sizes)) grid.style.setProperty(key, size);
   return { grid, cells, columns, rows };
 }
 
@@ -96,8 +90,7 @@ function fill({ cells, columns, rows }, p, values, marked, why) {
 }
 
 function say(text, kind = "") {
-  $("answer").textContent = text;
-  $("answer").className = kind;
+  [$("answer").textContent, $("answer").className] = [text, kind];
 }
 
 function become(next, marked = []) {
@@ -217,9 +210,12 @@ function refuse(why, text = "") {
 
 // An ID is tried by a check of no grid, which searches nothing: if that grid is what is refused, the ID is good.
 async function open() {
-  const game = chosen(), text = ($("id").value = $("id").value.trim()), told = await ask("check", { game, id: text, grid: "" });
-  if (told && told.refused === "grid") show(game, text, `${game} by its ID`);
-  else if (told) refuse(told.refused, text);
+  const game = chosen(), text = ($("id").value = $("id").value.trim());
+  const told = await ask("check", { game, id: text, grid: "" });
+  if (told && told.refused === "grid") {
+    show(game, text, `${game} by its ID`);
+    $("seed").value = "";
+  } else if (told) refuse(told.refused, text);
 }
 
 async function check() {
@@ -227,7 +223,7 @@ async function check() {
   const told = await ask("check", { game: puzzle.game, id, grid: print(puzzle, state) });
   if (!told) return undefined;
   if (told.verdict === "correct") return say("Correct.", "good");
-  const [kind, where = ""] = told.fault.split(" "), [x, y] = where.split(",").map((number) => Number(number) + 1);
+  const [kind, where = ""] = told.fault.split(" "), [x, y] = where.split(",").map((n) => Number(n) + 1);
   const line = `${kind} ${x} ${puzzle.block ? "has a number twice" : "isn’t as its clue says"}`;
   become(state, places(puzzle, told.fault));
   return say(`Not yet: ${BROKEN[kind] || line}${y ? `, at row ${y} and column ${x}` : ""}.`, "bad");
@@ -247,7 +243,7 @@ async function solve() {
   }));
   if (told.verdict === "one") return say("The only solution. Undo brings your grid back.", "good");
   if (first) $("more").scrollIntoView({ block: "nearest", behavior: "smooth" });
-  const two = ` Two are below. They differ in the ${differ.size} marked cells.`, one = " One solution is below. There may be more.";
+  const two = ` Two are below. They differ in the ${differ.size} marked cells.`, one = " One solution is below.";
   return say(UNSOLVED[told.verdict] + (second ? two : first ? one : ""));
 }
 
@@ -261,7 +257,8 @@ function setGame(game) {
   document.querySelector(`#games [value=${game}]`).checked = true;
   $("size").replaceChildren(...SIZES[game].split(" ").map((size) => {
     const [a, b] = size.match(/\d+/g), sides = game === "solo" ? [a * b, a * b] : [a, b];
-    return new Option(sides.join(" × ") + (size.endsWith("x") ? " X" : ""), size, false, USUAL.includes(size));
+    const name = sides.join(" × ") + (size.endsWith("x") ? " X" : "");
+    return new Option(name, size, false, size === USUAL[game]);
   }));
 }
 
@@ -274,7 +271,8 @@ for (const [form, act] of Object.entries({ make: generate, open })) {
   $(form).addEventListener("submit", (event) => { event.preventDefault(); act(); });
 }
 const undo = () => past.length && (say(""), become(past.pop())), clear = () => change(state.map(() => 0));
-for (const [name, act] of Object.entries({ check, solve, grade, undo, clear })) $(name).addEventListener("click", () => puzzle && act());
+const onClick = (name, act) => $(name).addEventListener("click", () => puzzle && act());
+for (const [name, act] of Object.entries({ check, solve, grade, undo, clear })) onClick(name, act);
 $("another").addEventListener("click", another);
 $("size").addEventListener("change", another);
 $("games").addEventListener("change", () => { setGame(chosen()); another(); });

@@ -66,7 +66,8 @@ export function light(p, state) {
 export function done(p, state) {
   const shown = (line) => line.map((place) => (state[place] === 1 ? "#" : " ")).join("");
   const runs = (line) => shown(p.game === "tents" ? line.filter((place) => state[place] === 1) : line).trim().split(/ +/);
-  const says = (lines, clues = []) => clues.map((clue, k) => String(clue.length ? clue : 0) === String(runs(lines[k]).map((run) => run.length)));
+  const same = (line, clue) => String(clue.length ? clue : 0) === String(runs(line).map((run) => run.length));
+  const says = (lines, clues = []) => clues.map((clue, k) => same(lines[k], clue));
   return { columns: says(columnsOf(p), p.columns), rows: says(rowsOf(p), p.rows) };
 }
 

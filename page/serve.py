@@ -41,7 +41,7 @@ HEADERS = {
 
 
 class Told(Exception):
-    """Told in place of an answer: a status, and why. It is 503 for `clock`, `busy`, and `program` (a signal, or a status over 4)."""
+    """Told in place of an answer: a status, and why. 503 is for `clock`, `busy`, and `program` (a signal, a status over 4)."""
 
 
 class Worker:
@@ -190,6 +190,7 @@ class Page(http.server.BaseHTTPRequestHandler):
 
     def reply(self, status, body, kind="application/json"):
         more = {"Retry-After": "2"} if status == 503 else {}
+        self.request_version = "HTTP/1.0"  # a request without a version gets a head all the same
         self.send_response(status)
         for name, text in {**HEADERS, **more, "Content-Type": kind, "Content-Length": str(len(body))}.items():
             self.send_header(name, text)
