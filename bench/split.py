@@ -89,7 +89,8 @@ def lines_of(program, source, count, times):
 
 
 def text_of(taken, count):
-    return f"{taken:.2f} s, {count / taken:,.0f} a second"
+    rate = count / taken
+    return f"{taken:.2f} s, {rate:,.0f} a second" if rate >= 10 else f"{taken:.2f} s, {rate:.2g} a second"
 
 
 def compare(bench, address, jobs, kind):

@@ -3,8 +3,8 @@
 #
 # usage: outside/use.sh PROGRAM     PROGRAM as `rt run` leaves it: crates/puzzles/out/puzzles
 #
-# It needs bash, tar, python3, node, curl, GNU parallel and xargs (of Debian: nodejs, curl, parallel,
-# findutils), and installs nothing. The port 8018 must be free.
+# It needs bash, tar, python3, node, curl, GNU parallel and xargs (of Debian: nodejs, curl, parallel, findutils), and installs
+# nothing. The port 8018 must be free.
 # Code stands in fenced blocks of three kinds, and nowhere else:
 #   console       a session: `$ ` begins a command line, `> ` goes on with it, and all other lines are what it writes, to
 #                 standard output and standard error together
@@ -15,8 +15,8 @@
 set -u
 
 # These lines are NOT run. Those with `rt` take more than a minute, some of them hours: they prove crates, or build the program.
-# One starts the page, which runs until it is stopped; docs/USE.md has it once more, with its end.
-# The others are of Dask: two run until they are stopped, and the job needs these two. outside/dask_job.py runs that job.
+# The page runs until it is stopped; docs/USE.md has it once more, with its end. The others are of Dask: two run until they are
+# stopped, and the job needs these two. outside/dask_job.py runs that job.
 dask='/usr/bin/python3 examples/dask/job.py --lines 25 tcp://127.0.0.1:8786'
 not_run=(
     '(cd crates/puzzles && rt try -- solve pattern 5x1:1/1//1/1/2.2)'
