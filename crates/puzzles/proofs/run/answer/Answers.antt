@@ -1,6 +1,7 @@
 use Rattle.std.proofs.Common.{◌≡◌, ◌∙◌, Option, Some, ap, sym, subst, map, option_map, string_bytes}
 use Rattle.commands.specs.Allowed.{Allows}
-use Rattle.puzzles.specs.Requests.{Asked, check, grade, asked_in, asked_of}
+use Rattle.commands.specs.Asked.{Asked, check, grade}
+use Rattle.puzzles.specs.Requests.{asked_in, asked_of}
 use Rattle.commands.proofs.RunLemmas.{ran_more, ran_by_reply, ran_by_telling, ran_unwritten, is_late}
 use Rattle.puzzles.proofs.run.answer.Goals as goal
 
