@@ -88,7 +88,8 @@ class Page:
     def open(self, game="", text=""):
         self.driver.get("about:blank")
         self.driver.get(f"{self.url}#{game}/{text}" if text else self.url)
-        self.until(f"opens {game} {text}", lambda: self.cells() and (not text or self.one("#id").get_property("value") == text))
+        opened = "#seed:placeholder-shown" if text else "#stage"  # an ID that is shown has no seed
+        self.until(f"opens {game} {text}", lambda: self.cells() and self.all(opened))
 
     def answer(self, button):
         """What is said after a button, which takes away what was said before."""

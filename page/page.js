@@ -267,9 +267,9 @@ function another() {
   return generate();
 }
 
-for (const [form, act] of Object.entries({ make: generate, open })) {
-  $(form).addEventListener("submit", (event) => { event.preventDefault(); act(); });
-}
+const onSubmit = (form, act) => $(form).addEventListener("submit", (event) => { event.preventDefault(); act(); });
+onSubmit("make", generate);
+onSubmit("open", open);
 const undo = () => past.length && (say(""), become(past.pop())), clear = () => change(state.map(() => 0));
 const onClick = (name, act) => $(name).addEventListener("click", () => puzzle && act());
 for (const [name, act] of Object.entries({ check, solve, grade, undo, clear })) onClick(name, act);

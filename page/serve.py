@@ -68,12 +68,9 @@ class Worker:
                 self.child = subprocess.Popen(self.words, stdin=subprocess.PIPE, stdout=subprocess.PIPE, bufsize=0)
                 self.reads = 0
             return self.exchange(text.encode() + b"\n\n", end)
-        except Told:
+        except (Told, OSError) as fault:
             self.stop()
-            raise
-        except OSError:
-            self.stop()
-            raise Told(503, "program") from None
+            raise fault if isinstance(fault, Told) else Told(503, "program") from None
         finally:
             self.lock.release()
 
@@ -98,10 +95,8 @@ def run(*words, grid=""):
     """What a process of its own answers."""
     try:
         done = subprocess.run(words, input=grid.encode(), stdout=subprocess.PIPE, timeout=SECONDS, check=False)
-    except subprocess.TimeoutExpired:
-        raise Told(503, "clock") from None
-    except OSError:
-        raise Told(503, "program") from None
+    except (subprocess.TimeoutExpired, OSError) as fault:
+        raise Told(503, "program" if isinstance(fault, OSError) else "clock") from None
     if done.returncode not in range(5):
         raise Told(503, "program")
     return done.stdout.decode()
@@ -245,15 +240,12 @@ def main():
         server = Server(words.port, program)
     except (Told, OSError, OverflowError) as fault:
         sys.exit(f"{words.program}: not the program puzzles" if isinstance(fault, Told) else f"port {words.port}: {fault}")
-    signal.signal(signal.SIGTERM, lambda *_: sys.exit(0))
+    signal.signal(signal.SIGTERM, signal.default_int_handler)  # as Ctrl-C
     print(f"http://127.0.0.1:{server.server_port}/", flush=True)
-    try:
+    with contextlib.suppress(KeyboardInterrupt):
         server.serve_forever()
-    except KeyboardInterrupt:
-        pass
-    finally:
-        for worker in server.workers.values():
-            worker.stop()
+    for worker in server.workers.values():
+        worker.stop()
 
 
 if __name__ == "__main__":
