@@ -7,6 +7,7 @@ pub use Rattle.std.proofs.lemmas.Grind.{common_steps}
 pub use Rattle.std.proofs.lemmas.List.FromFn.{get_or-map-range_with_len, length-map-range_with_len}
 pub use Rattle.std.specs.List.{range_with_len}
 pub use Rattle.grid_core.proofs.CandidateLemmas.{all_below-from, any_below-here, any_below-none, any_below-some}
+pub use Rattle.grid_core.specs.Board.{SameShape}
 unfoldable pub use Rattle.grid_core.specs.Board.{has}
 pub use Rattle.grid_core.specs.Candidates.{Candidates}
 unfoldable pub use Rattle.grid_core.specs.Candidates.{all_of, any_below, count_below, only}
@@ -14,9 +15,11 @@ pub use Rattle.engine_core.specs.Filling.{Fills, Set, has_value, strikes_by_fill
 pub use Rattle.engine_core.specs.FillingLaws.{has_value_below, shown_from_test, test_from_shown}
 pub use Rattle.engine_core.specs.House.{IsDecided}
 pub use Rattle.engine_core.specs.HouseLaws.{bits-of_values, kept-decided, sets-of_values, visited-after}
+pub use Rattle.engine_core.specs.Puzzle.{IsBoardOf}
 unfoldable pub use Rattle.engine_core.specs.Puzzle.{after, has_place}
 pub use Rattle.engine_core.specs.Sets.{IsBitsOf, has_bit}
 unfoldable pub use Rattle.engine_core.specs.Sets.{set_of_bits}
+pub use Rattle.pattern_core.specs.LineRules.{line_rules}
 pub use Rattle.core_tests.specs.Neighbours.{differ, neighbours}
 unfoldable pub use Rattle.core_tests.specs.Neighbours.{is_row}
 pub use Rattle.core_tests.specs.NeighboursLaws.{pair-cases, pair-different, pair-first, pair-second, row-parts}

@@ -71,7 +71,8 @@ fn told_of_parts(
     let Some(puzzle) = of_parts(alloc, size, trees, tents)? else {
         return Ok(None);
     };
-    if size.cells() < 2 || puzzle.size() != size {
+    let size = puzzle.size();
+    if size.w() < 2 || size.h() < 2 || size.cells() < 2 {
         return Ok(None);
     }
     let id = write_tents(alloc, &puzzle)?;
