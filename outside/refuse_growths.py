@@ -189,7 +189,7 @@ def jobs(programs, are_tests):
 def main():
     form = argparse.ArgumentParser(description=__doc__, formatter_class=argparse.RawDescriptionHelpFormatter)
     form.add_argument("--tests", action="store_true",
-                      help="the programs are tests, as `rt test` leaves them: crates/gameid_core/out/gameid_core_tests")
+                      help="the programs are tests, as `rt test` leaves them: crates/core_tests/out/core_tests_tests")
     form.add_argument("programs", metavar="PROGRAM", type=program, nargs="+", help="as `rt run` leaves it: crates/puzzles/out/puzzles")
     asked = form.parse_args()
     if len(asked.programs) > 1 and not asked.tests:

@@ -28,7 +28,7 @@ lines_last p h = ap lines_of_parts (slice_split_none (λ b. b == 10) p h)
 
 module _ (allows : Text → Answer → Type 0) where
   -- each list of lines has an allowed answer
-  each_has : HasAnswers allows → (ls : List Text) → (a : Answer) × AllowsEach allows ls a
+  pub each_has : HasAnswers allows → (ls : List Text) → (a : Answer) × AllowsEach allows ls a
   each_has answers [] = (silence, refl)
   each_has answers (l ∷ ls) =
       let first = answers l in

@@ -149,7 +149,7 @@ unfolding verdict_status
 one_or_out solves o h1 h2 h3 = grind (arith, common_steps)
 
 -- a list of rule sets gives the name of one, or the grade by the search
-named_or_searched : (sets : List Settling) (otherwise : Grade) → ((set : RuleSet) × (first_settled sets otherwise ≡ ByRules set)) ⊎ (first_settled sets otherwise ≡ otherwise)
+pub named_or_searched : (sets : List Settling) (otherwise : Grade) → ((set : RuleSet) × (first_settled sets otherwise ≡ ByRules set)) ⊎ (first_settled sets otherwise ≡ otherwise)
 named_or_searched [] otherwise = inr refl
 named_or_searched (first ∷ rest) otherwise = by (is_settled first.rules) (named_or_searched rest otherwise)
   where

@@ -1,5 +1,5 @@
 -- A grade names a search by the trials of the whole walk, which are the least budget with which the verdict is one.
-use Rattle.std.proofs.Common.{◌≡◌, ◌∙◌, ◌⊎◌, ◌<◌, ◌≤◌, ◌≢◌, ℕ, zero, suc, Bool, List, [], ◌∷◌, ◌++◌, Option, Some, None, refl, sym, ap, subst, inl, inr, arith, codes, decimal, slice_index, append_assoc}
+use Rattle.std.proofs.Common.{◌≡◌, ◌∙◌, ◌⊎◌, ◌<◌, ◌≤◌, ◌≢◌, ℕ, zero, suc, Bool, List, [], ◌∷◌, ◌++◌, Option, Some, None, refl, sym, ap, subst, inl, inr, arith, codes, decimal, slice_index}
 use Rattle.std.proofs.Math.Nat.{eq-or-lt_of_le}
 use Rattle.std.specs.Prelude.{◌+◌}
 use Rattle.engine_core.specs.Verdict.{Outcome.OneGrid, Outcome.NoGrid, outcome, Outcome.TwoGrids, Outcome.OutOfBudget, trials_in}
@@ -124,7 +124,7 @@ module _ (game : Game) (id : Text) (p : puzzle_of game) (s : (played game).game.
     text_of given is = told.text ∙ ap (λ (g : Grade). grade_text g ++ codes "\n" ++ told.lines) is
 
     names : (trials : ℕ) → grade ≡ BySearch trials → NamesSearch trials graded
-    names trials is = (told.lines, text_of (BySearch trials) is ∙ ap (λ (t : Text). codes "search " ++ t) (sym (append_assoc (decimal trials) (codes "\n") told.lines)))
+    names trials is = (told.lines, text_of (BySearch trials) is)
 
     pub searched_told : (rest : Text) → graded.text ≡ codes "search " ++ rest
         → (trials : ℕ) × NamesSearch trials graded × IsLeastBudget game id trials × (trials ≤ budget)
@@ -147,7 +147,7 @@ module _ (game : Game) (id : Text) (p : puzzle_of game) (s : (played game).game.
     pub least_told : (n : ℕ) → IsLeastBudget game id n → n ≤ budget → NamesSet graded ⊎ NamesSearch n graded
     unfolding searched_grade trials_of
     least_told n least room = elim (named_or_searched ((played game).game.sets p) (searched_grade rules budget)) [
-      | inl named ↦ inl (named.0, (told.lines, text_of (ByRules named.0) named.1 ∙ sym (append_assoc (rule_set_text named.0) (codes "\n") told.lines)))
+      | inl named ↦ inl (named.0, (told.lines, text_of (ByRules named.0) named.1))
       | inr same ↦
           let one = only_least n least in
           let found = found_with_enough rules ((played game).game.solves p) ((facts game).searched id p s) one.0 budget (subst (λ k. k ≤ budget) (sym one.1) room) in

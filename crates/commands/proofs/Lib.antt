@@ -13,3 +13,9 @@ pub mod GameFacts
 pub mod MadeOnce
 pub mod LeastBudgets
 pub mod MadeAlike
+pub mod ShuffledLists
+pub mod ThinnedExists
+pub mod ClosingExists
+pub mod SoloFillings
+pub mod LightFillings
+pub mod RequestsAnswered

@@ -99,14 +99,14 @@ module _ {A : Type 0} (make : Making A) (passes : A → Bool) (s : Stream) (trie
       exhausted none other (inr also) = sym also.told
 
 -- a text is one size, or has one fault
-size_reading : (sizes : Text → Result SizeRead IdFault) → HasOneReading (λ text size. sizes text ≡ Ok size) sizes
+pub size_reading : (sizes : Text → Result SizeRead IdFault) → HasOneReading (λ text size. sizes text ≡ Ok size) sizes
 size_reading sizes = reading_of (λ text size. sizes text ≡ Ok size) sizes (λ text size is. is) (λ text size is. is)
 
 made_once : {P : Type 0} (play : Playing P) (w : Wanted) (text : Text) → ((read : SizeRead) → play.game.sizes text ≡ Ok read → HasOneAnswer (AllowsOfSize play w read))
     → HasOneAnswer (MakesOf play w text)
 made_once play w text each = id_once (size_reading play.game.sizes) text (AllowsOfSize play w) each
 
-abbrev handed_answer : {P : Type 0} → Playing P → P → List ℕ → Answer
+abbrev pub handed_answer : {P : Type 0} → Playing P → P → List ℕ → Answer
 handed_answer play p g = made_answer (play.game.written p) (grid_text (play.cell_text p g) (play.extent p))
 
 -- ---- what a search finds
@@ -114,12 +114,12 @@ one_found : (o : Outcome) → is_one o ≡ true → (g : List ℕ) × (o ≡ One
 one_found (OneGrid g) e = (g, refl)
 one_found o e = absurd (true≢false (sym e))
 
-has_one : (rules : Puzzle) → IsLawful rules → (budget : ℕ) → is_one (verdict_of rules budget) ≡ true → HasOne rules budget
+pub has_one : (rules : Puzzle) → IsLawful rules → (budget : ℕ) → is_one (verdict_of rules budget) ≡ true → HasOne rules budget
 has_one rules laws budget one =
     let found = one_found (verdict_of rules budget) one in
     record { answer = found.0; found = found.1; only = subst (IsTrueOf rules) found.1 (outcome-true rules laws budget) }
 
-is_extent : (least w h : ℕ) → 1 ≤ least → (nat_le least w && nat_le least h && nat_le w max_side && nat_le h max_side) ≡ true → IsExtent (record { w = w; h = h })
+pub is_extent : (least w h : ℕ) → 1 ≤ least → (nat_le least w && nat_le least h && nat_le w max_side && nat_le h max_side) ≡ true → IsExtent (record { w = w; h = h })
 is_extent least w h low e =
     let a = and_parts (nat_le least w && nat_le least h && nat_le w max_side) (nat_le h max_side) e in
     let b = and_parts (nat_le least w && nat_le least h) (nat_le w max_side) a.0 in

@@ -16,6 +16,7 @@ use Rattle.commands.specs.Playing.{Playing}
 use Rattle.commands.specs.SoloPlayed.{solo_played}
 use Rattle.commands.specs.Allowed.{Allows, AllowsCheck, AllowsSolve, AllowsGrade, is_read, AllowsMade}
 use Rattle.commands.specs.Asked.{Asked, solve, check, grade, generate}
+use Rattle.commands.specs.Each.{HasAnswers}
 use Rattle.commands.specs.CheckAnswers.{checked, without_returns}
 use Rattle.commands.specs.Replies.{gave_up_answer, one_answer, several_answer}
 use Rattle.commands.specs.Grades.{rule_set_text}
@@ -221,6 +222,10 @@ is_fixed _ = true
 abbrev pub FixedRequestsHaveOneAnswer : Type 0
 FixedRequestsHaveOneAnswer = (asked : Option Asked) (input : Text) → is_fixed asked ≡ true
     → HasOneAnswer (Allows asked input)
+
+-- for each request, and on each input, some answer is allowed
+abbrev pub EachRequestHasAnAnswer : Type 0
+EachRequestHasAnAnswer = (asked : Option Asked) → HasAnswers (Allows asked)
 
 -- what a puzzle is told as that is handed out with a solution
 abbrev pub handed_out : {P : Type 0} → Playing P → P → List ℕ → Answer

@@ -3,7 +3,7 @@ ghost use Rattle.std.specs.Prelude.{ℕ};
 ghost use Rattle.commands.specs.Common.{Game};
 ghost use Rattle.commands.specs.Allowed.{AllowsSolve};
 ghost use Rattle.commands.specs.Each.{HasAnswers};
-ghost use Rattle.commands.specs.LawsOfCommands.{FixedRequestsHaveOneAnswer, SoloDiffersInGivens, LightsDifferInNumbers};
+ghost use Rattle.commands.specs.LawsOfCommands.{EachRequestHasAnAnswer, FixedRequestsHaveOneAnswer, SoloDiffersInGivens, LightsDifferInNumbers};
 ghost use Rattle.commands.specs.LawsOfCommands.{CorrectGridsAreSolutions, CorrectGridsAreTheOneTold, SolvedGridsPass};
 ghost use Rattle.commands.specs.LawsOfCommands.{GradedPuzzlesHaveOne, GradesGoWithVerdicts, RuleSetsNeedNoTrial, SearchesNameLeastBudgets};
 ghost use Rattle.commands.specs.LawsOfCommands.{LightsNeedTheirClues, MadePuzzlesAreSolved, SoloNeedsItsClues};
@@ -14,6 +14,15 @@ ghost use Rattle.commands.specs.LawsOfCommands.{RewritingKeepsChecking, Rewritin
 pub fn each_text_has_an_answer()
     ensures { (game : Game) (budget : ℕ) → HasAnswers (AllowsSolve game budget) }
 {}
+
+/// Each request has an answer that is allowed, on each input. So a trace that is asked for can be
+/// told, since visits or sweeps close the start board of each puzzle; and of Solo and Light Up a
+/// puzzle can be made, or it can be told that none is.
+pub fn each_request_has_an_answer()
+    ensures { EachRequestHasAnAnswer }
+{
+    maker_core::fillings_of_tents_are_solutions();
+}
 
 /// A `solve`, a `check`, a `grade` without a trace, a `generate` of Pattern or Tents and words that
 /// are refused have exactly one answer that is allowed, on each input. Two answers to one

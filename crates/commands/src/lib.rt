@@ -24,7 +24,7 @@ pub use generate::percent::Percent;
 pub use generate::{Recipe, generated};
 pub use grade::{GradeOptions, RuleSet, grade_id};
 pub use laws::{
-    each_text_has_an_answer, grades_agree, made_puzzles_are_solved, one_answer,
-    rewritten_ids_are_the_same, solved_grids_pass,
+    each_request_has_an_answer, each_text_has_an_answer, grades_agree, made_puzzles_are_solved,
+    one_answer, rewritten_ids_are_the_same, solved_grids_pass,
 };
 pub use solve::Task;

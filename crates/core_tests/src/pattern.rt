@@ -76,15 +76,18 @@ fn grid_of(alloc: Global, cells: usize, ones: &[usize]) -> Result<Grid, AllocErr
     Ok(grid)
 }
 
+/// The ID of a puzzle, the places of black cells, and the fault.
+const GRIDS: [(&str, &[usize], Option<PatternFault>); 5] = [
+    ("2x2:1/2/2/1", &[], Some(PatternFault::Column(0))),
+    ("2x2:1/2/2/1", &[0], Some(PatternFault::Column(1))),
+    ("2x2:1/2/2/1", &[0, 1], Some(PatternFault::Column(1))),
+    ("2x2:1/2/2/1", &[0, 1, 3], None),
+    ("2x2:1/2/1/2", &[0, 1, 3], Some(PatternFault::Row(0))),
+];
+
 #[test]
 fn the_first_wrong_line(rt: HostRuntime) -> Result<(), Fail> {
-    for (id, black, fault) in [
-        ("2x2:1/2/2/1", &[][..], Some(PatternFault::Column(0))),
-        ("2x2:1/2/2/1", &[0], Some(PatternFault::Column(1))),
-        ("2x2:1/2/2/1", &[0, 1], Some(PatternFault::Column(1))),
-        ("2x2:1/2/2/1", &[0, 1, 3], None),
-        ("2x2:1/2/1/2", &[0, 1, 3], Some(PatternFault::Row(0))),
-    ] {
+    for (id, black, fault) in GRIDS {
         assert_eq!(rt;
             fault_of(rt.alloc(), id, black)?,
             Some(fault),

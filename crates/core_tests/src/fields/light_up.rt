@@ -39,17 +39,20 @@ fn accepted(alloc: Global, id: &str, bulbs: &[usize]) -> Result<Option<bool>, Fa
     Ok(accepts(alloc, &rules, bulbs)?)
 }
 
+/// The ID of a puzzle, the places of bulbs, and the fault.
+const GRIDS: [(&str, &[usize], Option<LightFault>); 7] = [
+    ("2x2:2c", &[1, 2], None),
+    ("2x2:2c", &[1], Some(LightFault::Number(0))),
+    ("2x2:2c", &[1, 2, 3], Some(LightFault::Seen(1))),
+    ("2x2:2c", &[0, 1, 2], Some(LightFault::Black(0))),
+    ("2x2:Bc", &[], Some(LightFault::Dark(1))),
+    ("2x2:BBBB", &[], None),
+    ("3x2:aBaBaB", &[0, 2, 4], None),
+];
+
 #[test]
 fn grids_of_light_up(rt: HostRuntime) -> Result<(), Fail> {
-    for (id, bulbs, fault) in [
-        ("2x2:2c", &[1, 2][..], None),
-        ("2x2:2c", &[1], Some(LightFault::Number(0))),
-        ("2x2:2c", &[1, 2, 3], Some(LightFault::Seen(1))),
-        ("2x2:2c", &[0, 1, 2], Some(LightFault::Black(0))),
-        ("2x2:Bc", &[], Some(LightFault::Dark(1))),
-        ("2x2:BBBB", &[], None),
-        ("3x2:aBaBaB", &[0, 2, 4], None),
-    ] {
+    for (id, bulbs, fault) in GRIDS {
         assert_eq!(rt;
             fault_of(rt.alloc(), id, bulbs)?,
             Some(fault),

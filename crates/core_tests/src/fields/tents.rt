@@ -39,17 +39,21 @@ fn accepted(alloc: Global, id: &str, tents: &[usize]) -> Result<Option<bool>, Fa
     Ok(accepts(alloc, &rules, tents)?)
 }
 
+const CAMP: &str = "5x3:aiaa,1,0,2,0,0,2,0,1";
+
+/// The ID of a puzzle, the places of tents, and the fault.
+const GRIDS: [(&str, &[usize], Option<TentFault>); 6] = [
+    ("2x2:_c,0,1,1,0", &[1], None),
+    ("2x2:_c,0,1,1,0", &[1, 2], Some(TentFault::Touch(1))),
+    ("2x2:_c,0,1,1,0", &[2], Some(TentFault::Column(0))),
+    ("2x2:_c,0,1,1,0", &[0, 1], Some(TentFault::Tree(0))),
+    ("2x2:_c,0,1,0,1", &[1], Some(TentFault::Row(0))),
+    (CAMP, &[0, 2, 12], Some(TentFault::Match)),
+];
+
 #[test]
 fn grids_of_tents(rt: HostRuntime) -> Result<(), Fail> {
-    let camp = "5x3:aiaa,1,0,2,0,0,2,0,1";
-    for (id, tents, fault) in [
-        ("2x2:_c,0,1,1,0", &[1][..], None),
-        ("2x2:_c,0,1,1,0", &[1, 2], Some(TentFault::Touch(1))),
-        ("2x2:_c,0,1,1,0", &[2], Some(TentFault::Column(0))),
-        ("2x2:_c,0,1,1,0", &[0, 1], Some(TentFault::Tree(0))),
-        ("2x2:_c,0,1,0,1", &[1], Some(TentFault::Row(0))),
-        (camp, &[0, 2, 12], Some(TentFault::Match)),
-    ] {
+    for (id, tents, fault) in GRIDS {
         assert_eq!(rt;
             fault_of(rt.alloc(), id, tents)?,
             Some(fault),

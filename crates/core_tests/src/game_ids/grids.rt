@@ -29,29 +29,39 @@ fn printed_of(alloc: Global, game: Game, id: &str, text: &str) -> Result<Option<
     }
 }
 
+const SOLO: &str = "2x2:1b4i3_2a";
+
+const WHOLE: &str = "1 2 3 4\n3 4 1 2\n2 1 4 3\n4 3 2 1";
+
+const ENDED: &str = "1 2 3 4\n3 4 1 2\n2 1 4 3\n4 3 2 1\n";
+
+const FIVE: &str = "1 2 3 5\n3 4 1 2\n2 1 4 3\n4 3 2 1\n";
+
+const ZERO: &str = "1 2 03 4\n3 4 1 2\n2 1 4 3\n4 3 2 1\n";
+
+const LIGHTS: &str = "3x3:aBBa1aBb";
+
+const TENTS: &str = "3x3:aaaaa,2,0,2,2,0,2";
+
+/// The ID of a puzzle, a text, and what is printed of its grid if it is one.
+const GRIDS: [(Game, &str, &str, &str); 12] = [
+    (Game::Pattern, "2x1:1//1", "#.", "#.\n"),
+    (Game::Pattern, "2x1:1//1", "#.\n", "#.\n"),
+    (Game::Pattern, "2x1:1//1", "#", "none"),
+    (Game::Pattern, "2x1:1//1", "#.\n#.\n", "none"),
+    (Game::Pattern, "2x1:1//1", "#.\n\n", "none"),
+    (Game::Solo, SOLO, WHOLE, ENDED),
+    (Game::Solo, SOLO, FIVE, "none"),
+    (Game::Solo, SOLO, ZERO, "none"),
+    (Game::LightUp, LIGHTS, ".##\nO1.\n#.O", ".##\nO1.\n#.O\n"),
+    (Game::LightUp, LIGHTS, ".##\nO2.\n#.O", "none"),
+    (Game::Tents, TENTS, "^T^\nT.T\n^T^", "^T^\nT.T\n^T^\n"),
+    (Game::Tents, TENTS, "^T^\nT.T\n^.^", "none"),
+];
+
 #[test]
 fn grids_are_read_and_printed(rt: HostRuntime) -> Result<(), Fail> {
-    let solo = "2x2:1b4i3_2a";
-    let whole = "1 2 3 4\n3 4 1 2\n2 1 4 3\n4 3 2 1";
-    let ended = "1 2 3 4\n3 4 1 2\n2 1 4 3\n4 3 2 1\n";
-    let five = "1 2 3 5\n3 4 1 2\n2 1 4 3\n4 3 2 1\n";
-    let zero = "1 2 03 4\n3 4 1 2\n2 1 4 3\n4 3 2 1\n";
-    let lights = "3x3:aBBa1aBb";
-    let tents = "3x3:aaaaa,2,0,2,2,0,2";
-    for (game, id, text, want) in [
-        (Game::Pattern, "2x1:1//1", "#.", "#.\n"),
-        (Game::Pattern, "2x1:1//1", "#.\n", "#.\n"),
-        (Game::Pattern, "2x1:1//1", "#", "none"),
-        (Game::Pattern, "2x1:1//1", "#.\n#.\n", "none"),
-        (Game::Pattern, "2x1:1//1", "#.\n\n", "none"),
-        (Game::Solo, solo, whole, ended),
-        (Game::Solo, solo, five, "none"),
-        (Game::Solo, solo, zero, "none"),
-        (Game::LightUp, lights, ".##\nO1.\n#.O", ".##\nO1.\n#.O\n"),
-        (Game::LightUp, lights, ".##\nO2.\n#.O", "none"),
-        (Game::Tents, tents, "^T^\nT.T\n^T^", "^T^\nT.T\n^T^\n"),
-        (Game::Tents, tents, "^T^\nT.T\n^.^", "none"),
-    ] {
+    for (game, id, text, want) in GRIDS {
         let found = printed_of(rt.alloc(), game, id, text)?;
         let told = match &found {
             Some(printed) => printed.as_str(),

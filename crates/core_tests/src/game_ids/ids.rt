@@ -4,50 +4,53 @@ use super::{fault_or_want, written_again};
 use gameid_core::{Game, IdFault};
 use std::test::Fail;
 
+/// IDs that are refused.
+const FAULTS: [(Game, &str, IdFault); 40] = [
+    (Game::Solo, "2x2:5o", IdFault::NumberRange(4)),
+    (Game::Solo, "2x2:o", IdFault::TooFew),
+    (Game::Solo, "2x2:", IdFault::TooFew),
+    (Game::Solo, "2x2:q", IdFault::TooMany),
+    (Game::Solo, "2x2:0o", IdFault::BadByte(4)),
+    (Game::Solo, "2x2:p1", IdFault::TooMany),
+    (Game::Solo, "2x2:p5", IdFault::NumberRange(5)),
+    (Game::Solo, "2x2:a1 n", IdFault::BadByte(6)),
+    (Game::Solo, "2x2:12o", IdFault::NumberRange(4)),
+    (Game::Solo, "2x2x:", IdFault::TooFew),
+    (Game::Solo, "2x2x:5o", IdFault::NumberRange(5)),
+    (Game::Solo, "2x2x:xp", IdFault::TooMany),
+    (Game::Solo, "1x4:p", IdFault::SizeRange),
+    (Game::Solo, "6x6:p", IdFault::SizeRange),
+    (Game::Pattern, "3x1:1/1/1/2.1", IdFault::LineTooFull(3)),
+    (Game::Pattern, "2x1:1/1/1.1/", IdFault::LineTooFull(2)),
+    (Game::Pattern, "2x2:1/1/1", IdFault::TooFew),
+    (Game::Pattern, "2x2:1/1/1/1/", IdFault::TooMany),
+    (Game::Pattern, "2x2:1./1/1/1", IdFault::BadByte(5)),
+    (Game::Pattern, "1x1:0/", IdFault::NumberRange(4)),
+    (Game::Pattern, "2x2:1/1/1/1,#", IdFault::BadByte(11)),
+    (Game::Pattern, "2x2:1/1/ 1/1", IdFault::BadByte(8)),
+    (Game::LightUp, "2x2:2d", IdFault::TooMany),
+    (Game::LightUp, "2x2:5c", IdFault::BadByte(4)),
+    (Game::LightUp, "2x2:2c_", IdFault::BadByte(6)),
+    (Game::LightUp, "2x2:BBBBB", IdFault::TooMany),
+    (Game::LightUp, "2x2:BBB", IdFault::TooFew),
+    (Game::Tents, "4x6:z,0,0,0,0,0,0,0,0,0,0", IdFault::TooMany),
+    (Game::Tents, "2x2:_b,0,1,1,0", IdFault::TooFew),
+    (Game::Tents, "2x2:_c,0,1,1", IdFault::TooFew),
+    (Game::Tents, "2x2:_c,0,1,1,0,", IdFault::TooMany),
+    (Game::Tents, "2x2:_c,0,,1,0", IdFault::BadByte(8)),
+    (Game::Tents, "2x2:_c,0,1,1,3", IdFault::NumberRange(13)),
+    (Game::Tents, "2x2:_c,0,1,1,0_", IdFault::BadByte(14)),
+    (Game::Tents, "2x2:_c_,0,1,1,0", IdFault::TooMany),
+    (Game::Tents, "2x2:_B,0,1,1,0", IdFault::BadByte(5)),
+    (Game::Pattern, "2x2x:///", IdFault::Variant),
+    (Game::Pattern, "121x2x:", IdFault::Variant),
+    (Game::LightUp, "2x2x:d", IdFault::Variant),
+    (Game::Tents, "2x2x:_c,0,1,1,0", IdFault::Variant),
+];
+
 #[test]
 fn faults_of_ids(rt: HostRuntime) -> Result<(), Fail> {
-    for (game, text, fault) in [
-        (Game::Solo, "2x2:5o", IdFault::NumberRange(4)),
-        (Game::Solo, "2x2:o", IdFault::TooFew),
-        (Game::Solo, "2x2:", IdFault::TooFew),
-        (Game::Solo, "2x2:q", IdFault::TooMany),
-        (Game::Solo, "2x2:0o", IdFault::BadByte(4)),
-        (Game::Solo, "2x2:p1", IdFault::TooMany),
-        (Game::Solo, "2x2:p5", IdFault::NumberRange(5)),
-        (Game::Solo, "2x2:a1 n", IdFault::BadByte(6)),
-        (Game::Solo, "2x2:12o", IdFault::NumberRange(4)),
-        (Game::Solo, "2x2x:", IdFault::TooFew),
-        (Game::Solo, "2x2x:5o", IdFault::NumberRange(5)),
-        (Game::Solo, "2x2x:xp", IdFault::TooMany),
-        (Game::Solo, "1x4:p", IdFault::SizeRange),
-        (Game::Solo, "6x6:p", IdFault::SizeRange),
-        (Game::Pattern, "3x1:1/1/1/2.1", IdFault::LineTooFull(3)),
-        (Game::Pattern, "2x1:1/1/1.1/", IdFault::LineTooFull(2)),
-        (Game::Pattern, "2x2:1/1/1", IdFault::TooFew),
-        (Game::Pattern, "2x2:1/1/1/1/", IdFault::TooMany),
-        (Game::Pattern, "2x2:1./1/1/1", IdFault::BadByte(5)),
-        (Game::Pattern, "1x1:0/", IdFault::NumberRange(4)),
-        (Game::Pattern, "2x2:1/1/1/1,#", IdFault::BadByte(11)),
-        (Game::Pattern, "2x2:1/1/ 1/1", IdFault::BadByte(8)),
-        (Game::LightUp, "2x2:2d", IdFault::TooMany),
-        (Game::LightUp, "2x2:5c", IdFault::BadByte(4)),
-        (Game::LightUp, "2x2:2c_", IdFault::BadByte(6)),
-        (Game::LightUp, "2x2:BBBBB", IdFault::TooMany),
-        (Game::LightUp, "2x2:BBB", IdFault::TooFew),
-        (Game::Tents, "4x6:z,0,0,0,0,0,0,0,0,0,0", IdFault::TooMany),
-        (Game::Tents, "2x2:_b,0,1,1,0", IdFault::TooFew),
-        (Game::Tents, "2x2:_c,0,1,1", IdFault::TooFew),
-        (Game::Tents, "2x2:_c,0,1,1,0,", IdFault::TooMany),
-        (Game::Tents, "2x2:_c,0,,1,0", IdFault::BadByte(8)),
-        (Game::Tents, "2x2:_c,0,1,1,3", IdFault::NumberRange(13)),
-        (Game::Tents, "2x2:_c,0,1,1,0_", IdFault::BadByte(14)),
-        (Game::Tents, "2x2:_c_,0,1,1,0", IdFault::TooMany),
-        (Game::Tents, "2x2:_B,0,1,1,0", IdFault::BadByte(5)),
-        (Game::Pattern, "2x2x:///", IdFault::Variant),
-        (Game::Pattern, "121x2x:", IdFault::Variant),
-        (Game::LightUp, "2x2x:d", IdFault::Variant),
-        (Game::Tents, "2x2x:_c,0,1,1,0", IdFault::Variant),
-    ] {
+    for (game, text, fault) in FAULTS {
         let found = fault_or_want(rt.alloc(), game, text.as_bytes())?;
         assert_eq!(rt; found, Some(fault), "{game:?} {text}");
     }
@@ -66,24 +69,33 @@ fn answer_of(letter: u8, len: usize) -> Option<IdFault> {
     }
 }
 
+const SIXTEEN: &str = "2x2:1_2_3_4_3_4_1_2_2_1_4_3_4_3_2_1";
+
+const Y: &str = "5x5:y,0,0,0,0,0,0,0,0,0,0";
+
+const Z: &str = "5x5:z_,0,0,0,0,0,0,0,0,0,0";
+
+const ZA: &str = "13x2:za,0,0,0,0,0,0,0,0,0,0,0,0,0,0,0";
+
+const OVER: &str = "4x6:z,0,0,0,0,0,0,0,0,0,0";
+
+/// IDs, and the answers to their cuts, the shortest first.
+const CUTS: [(Game, &str, &str); 10] = [
+    (Game::Pattern, "5x1:1/1//1/1/2.2", "ccccfffffffff..b."),
+    (Game::Solo, SIXTEEN, "ccccfffffffffffffffffffffffffffffff."),
+    (Game::Solo, "2x2x:1_2_3_4l", "cccccffffffff."),
+    (Game::LightUp, "2x2:2c", "ccccff."),
+    (Game::LightUp, "2x2:Bc", "ccccff."),
+    (Game::LightUp, "2x2:1c", "ccccff."),
+    (Game::Tents, Y, "ccccffbfbfbfbfbfbfbfbfbfb."),
+    (Game::Tents, Z, "ccccfffbfbfbfbfbfbfbfbfbfb."),
+    (Game::Tents, ZA, "cccccfffbfbfbfbfbfbfbfbfbfbfbfbfbfbfb."),
+    (Game::Tents, OVER, "ccccfmmmmmmmmmmmmmmmmmmmmm"),
+];
+
 #[test]
 fn cut_ids(rt: HostRuntime) -> Result<(), Fail> {
-    let sixteen = "2x2:1_2_3_4_3_4_1_2_2_1_4_3_4_3_2_1";
-    let (y, z) = ("5x5:y,0,0,0,0,0,0,0,0,0,0", "5x5:z_,0,0,0,0,0,0,0,0,0,0");
-    let za = "13x2:za,0,0,0,0,0,0,0,0,0,0,0,0,0,0,0";
-    let over = "4x6:z,0,0,0,0,0,0,0,0,0,0";
-    for (game, text, answers) in [
-        (Game::Pattern, "5x1:1/1//1/1/2.2", "ccccfffffffff..b."),
-        (Game::Solo, sixteen, "ccccfffffffffffffffffffffffffffffff."),
-        (Game::Solo, "2x2x:1_2_3_4l", "cccccffffffff."),
-        (Game::LightUp, "2x2:2c", "ccccff."),
-        (Game::LightUp, "2x2:Bc", "ccccff."),
-        (Game::LightUp, "2x2:1c", "ccccff."),
-        (Game::Tents, y, "ccccffbfbfbfbfbfbfbfbfbfb."),
-        (Game::Tents, z, "ccccfffbfbfbfbfbfbfbfbfbfb."),
-        (Game::Tents, za, "cccccfffbfbfbfbfbfbfbfbfbfbfbfbfbfbfb."),
-        (Game::Tents, over, "ccccfmmmmmmmmmmmmmmmmmmmmm"),
-    ] {
+    for (game, text, answers) in CUTS {
         let text = text.as_bytes();
         assert_eq!(rt; answers.len(), text.len() + 1);
         for (len, answer) in answers.as_bytes().iter().enumerate() {
@@ -95,34 +107,40 @@ fn cut_ids(rt: HostRuntime) -> Result<(), Fail> {
     Ok(())
 }
 
+const ZEROS: &str = "5:y,00,0,0,0,0,0,0,0,0,05";
+
+const FIVE: &str = "5x5:y,0,0,0,0,0,0,0,0,0,5";
+
+const THIRTEEN: &str = "13x2:za,0,0,0,0,0,0,0,0,0,0,0,0,0,0,13";
+
+/// IDs, and how each is written.
+const WRITTEN: [(Game, &str, &str); 21] = [
+    (Game::Solo, "2:p", "2x2:p"),
+    (Game::Solo, "2x2:__p_", "2x2:p"),
+    (Game::Solo, "2x2:1_1n", "2x2:1_1n"),
+    (Game::Solo, "3x2:ajjkd", "3x2:zj"),
+    (Game::Solo, "2x2:4a_b3a_2_1h", "2x2:4c3a2_1h"),
+    (Game::Solo, "2x5:zzsz10_9_8", "2x5:zzzs10_9_8"),
+    (Game::Solo, "2x2x:p", "2x2x:p"),
+    (Game::Solo, "2x2x:1_2_3_4_3k", "2x2x:1_2_3_4_3k"),
+    (Game::Solo, "3x2x:_ajjkd", "3x2x:zj"),
+    (Game::Pattern, "5x1:1/1//1/1/2.2", "5x1:1/1//1/1/2.2"),
+    (Game::Pattern, "1x1:01/1", "1x1:1/1"),
+    (Game::Pattern, "2:2/2/02/002", "2x2:2/2/2/2"),
+    (Game::LightUp, "2x2:2c", "2x2:2c"),
+    (Game::LightUp, "2:aaBa", "2x2:bBa"),
+    (Game::LightUp, "4x7:azB", "4x7:zaB"),
+    (Game::LightUp, "3x3:aBBa1aBb", "3x3:aBBa1aBb"),
+    (Game::Tents, "2x2:_c,0,1,1,0", "2x2:_c,0,1,1,0"),
+    (Game::Tents, Y, Y),
+    (Game::Tents, Z, Y),
+    (Game::Tents, ZEROS, FIVE),
+    (Game::Tents, THIRTEEN, THIRTEEN),
+];
+
 #[test]
 fn read_and_written(rt: HostRuntime) -> Result<(), Fail> {
-    let (y, z) = ("5x5:y,0,0,0,0,0,0,0,0,0,0", "5x5:z_,0,0,0,0,0,0,0,0,0,0");
-    let (zeros, five) = ("5:y,00,0,0,0,0,0,0,0,0,05", "5x5:y,0,0,0,0,0,0,0,0,0,5");
-    let za = "13x2:za,0,0,0,0,0,0,0,0,0,0,0,0,0,0,13";
-    for (game, text, want) in [
-        (Game::Solo, "2:p", "2x2:p"),
-        (Game::Solo, "2x2:__p_", "2x2:p"),
-        (Game::Solo, "2x2:1_1n", "2x2:1_1n"),
-        (Game::Solo, "3x2:ajjkd", "3x2:zj"),
-        (Game::Solo, "2x2:4a_b3a_2_1h", "2x2:4c3a2_1h"),
-        (Game::Solo, "2x5:zzsz10_9_8", "2x5:zzzs10_9_8"),
-        (Game::Solo, "2x2x:p", "2x2x:p"),
-        (Game::Solo, "2x2x:1_2_3_4_3k", "2x2x:1_2_3_4_3k"),
-        (Game::Solo, "3x2x:_ajjkd", "3x2x:zj"),
-        (Game::Pattern, "5x1:1/1//1/1/2.2", "5x1:1/1//1/1/2.2"),
-        (Game::Pattern, "1x1:01/1", "1x1:1/1"),
-        (Game::Pattern, "2:2/2/02/002", "2x2:2/2/2/2"),
-        (Game::LightUp, "2x2:2c", "2x2:2c"),
-        (Game::LightUp, "2:aaBa", "2x2:bBa"),
-        (Game::LightUp, "4x7:azB", "4x7:zaB"),
-        (Game::LightUp, "3x3:aBBa1aBb", "3x3:aBBa1aBb"),
-        (Game::Tents, "2x2:_c,0,1,1,0", "2x2:_c,0,1,1,0"),
-        (Game::Tents, y, y),
-        (Game::Tents, z, y),
-        (Game::Tents, zeros, five),
-        (Game::Tents, za, za),
-    ] {
+    for (game, text, want) in WRITTEN {
         let written = written_again(rt.alloc(), game, text.as_bytes())?;
         assert_eq!(rt; written.as_str(), want, "{game:?} {text}");
     }

@@ -38,39 +38,42 @@ fn faults_before_the_colon(rt: HostRuntime) {
     }
 }
 
+/// Sizes, and what is read of each.
+const SIZES: [(Game, &str, Result<(u8, u8, bool), IdFault>); 29] = [
+    (Game::Solo, "2x3", Ok((2, 3, false))),
+    (Game::Solo, "3", Ok((3, 3, false))),
+    (Game::Solo, "2x3x", Ok((2, 3, true))),
+    (Game::Solo, "3x", Err(IdFault::BadSize)),
+    (Game::Solo, "2x3xx", Err(IdFault::Variant)),
+    (Game::Solo, "2x3x2", Err(IdFault::Variant)),
+    (Game::Solo, "2x3x:", Err(IdFault::Variant)),
+    (Game::LightUp, "2x3x", Err(IdFault::Variant)),
+    (Game::Tents, "2x64:", Err(IdFault::Variant)),
+    (Game::Tents, "x2", Err(IdFault::BadSize)),
+    (Game::Solo, "1x4", Err(IdFault::SizeRange)),
+    (Game::Solo, "4x1x", Err(IdFault::SizeRange)),
+    (Game::Solo, "2x15", Ok((2, 15, false))),
+    (Game::Solo, "15x2x", Ok((15, 2, true))),
+    (Game::Solo, "2x16", Err(IdFault::SizeRange)),
+    (Game::Solo, "8x4x", Err(IdFault::SizeRange)),
+    (Game::Pattern, "1", Ok((1, 1, false))),
+    (Game::Pattern, "119x120", Ok((119, 120, false))),
+    (Game::Pattern, "120", Ok((120, 120, false))),
+    (Game::Pattern, "121x1", Err(IdFault::SizeRange)),
+    (Game::Pattern, "1x121", Err(IdFault::SizeRange)),
+    (Game::LightUp, "1x2", Err(IdFault::SizeRange)),
+    (Game::LightUp, "2x119", Ok((2, 119, false))),
+    (Game::LightUp, "120x2", Ok((120, 2, false))),
+    (Game::LightUp, "121x2", Err(IdFault::SizeRange)),
+    (Game::Tents, "2x1", Err(IdFault::SizeRange)),
+    (Game::Tents, "119x2", Ok((119, 2, false))),
+    (Game::Tents, "2x120", Ok((2, 120, false))),
+    (Game::Tents, "2x121", Err(IdFault::SizeRange)),
+];
+
 #[test]
 fn sizes_are_read(rt: HostRuntime) {
-    for (game, text, size) in [
-        (Game::Solo, "2x3", Ok((2, 3, false))),
-        (Game::Solo, "3", Ok((3, 3, false))),
-        (Game::Solo, "2x3x", Ok((2, 3, true))),
-        (Game::Solo, "3x", Err(IdFault::BadSize)),
-        (Game::Solo, "2x3xx", Err(IdFault::Variant)),
-        (Game::Solo, "2x3x2", Err(IdFault::Variant)),
-        (Game::Solo, "2x3x:", Err(IdFault::Variant)),
-        (Game::LightUp, "2x3x", Err(IdFault::Variant)),
-        (Game::Tents, "2x64:", Err(IdFault::Variant)),
-        (Game::Tents, "x2", Err(IdFault::BadSize)),
-        (Game::Solo, "1x4", Err(IdFault::SizeRange)),
-        (Game::Solo, "4x1x", Err(IdFault::SizeRange)),
-        (Game::Solo, "2x15", Ok((2, 15, false))),
-        (Game::Solo, "15x2x", Ok((15, 2, true))),
-        (Game::Solo, "2x16", Err(IdFault::SizeRange)),
-        (Game::Solo, "8x4x", Err(IdFault::SizeRange)),
-        (Game::Pattern, "1", Ok((1, 1, false))),
-        (Game::Pattern, "119x120", Ok((119, 120, false))),
-        (Game::Pattern, "120", Ok((120, 120, false))),
-        (Game::Pattern, "121x1", Err(IdFault::SizeRange)),
-        (Game::Pattern, "1x121", Err(IdFault::SizeRange)),
-        (Game::LightUp, "1x2", Err(IdFault::SizeRange)),
-        (Game::LightUp, "2x119", Ok((2, 119, false))),
-        (Game::LightUp, "120x2", Ok((120, 2, false))),
-        (Game::LightUp, "121x2", Err(IdFault::SizeRange)),
-        (Game::Tents, "2x1", Err(IdFault::SizeRange)),
-        (Game::Tents, "119x2", Ok((119, 2, false))),
-        (Game::Tents, "2x120", Ok((2, 120, false))),
-        (Game::Tents, "2x121", Err(IdFault::SizeRange)),
-    ] {
+    for (game, text, size) in SIZES {
         assert_eq!(rt; read_size(game, text.as_bytes()), size, "{game:?} {text}");
     }
 }

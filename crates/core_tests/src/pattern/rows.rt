@@ -74,17 +74,20 @@ fn struck_of(
     Ok(struck(alloc, &puzzle, from, to)?)
 }
 
+/// The cells of a row, its clue, and where white is struck.
+const RUNS: [(usize, &str, (usize, usize)); 7] = [
+    (64, "40", (24, 40)),
+    (64, "62", (2, 62)),
+    (64, "63", (1, 63)),
+    (64, "64", (0, 64)),
+    (120, "100", (20, 100)),
+    (120, "120", (0, 120)),
+    (64, "1.1.1.1.1.1.1.1.1.1.1.1.1.1.1.1", (0, 0)),
+];
+
 #[test]
 fn long_runs_overlap_themselves(rt: HostRuntime) -> Result<(), Fail> {
-    for (cells, clue, (from, to)) in [
-        (64, "40", (24, 40)),
-        (64, "62", (2, 62)),
-        (64, "63", (1, 63)),
-        (64, "64", (0, 64)),
-        (120, "100", (20, 100)),
-        (120, "120", (0, 120)),
-        (64, "1.1.1.1.1.1.1.1.1.1.1.1.1.1.1.1", (0, 0)),
-    ] {
+    for (cells, clue, (from, to)) in RUNS {
         let told = struck_of(rt.alloc(), cells, clue, (from, to))?;
         assert_eq!(rt; told, Some([from < to, true, false]), "{cells} {clue}");
     }

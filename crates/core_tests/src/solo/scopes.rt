@@ -23,20 +23,23 @@ fn scope(block: Option<usize>, line: SoloHouse) -> SoloScope {
     }
 }
 
+/// Numbers, and the block and the line that each names.
+const NAMED: [(usize, Option<usize>, SoloHouse); 10] = [
+    (5, None, SoloHouse::Row(5)),
+    (6, None, SoloHouse::Column(0)),
+    (17, None, SoloHouse::Block(5)),
+    (19, None, SoloHouse::Diagonal(1)),
+    (20, Some(0), SoloHouse::Row(0)),
+    (23, Some(1), SoloHouse::Row(1)),
+    (31, Some(5), SoloHouse::Row(5)),
+    (32, Some(0), SoloHouse::Column(0)),
+    (35, Some(1), SoloHouse::Column(3)),
+    (49, Some(5), SoloHouse::Column(5)),
+];
+
 #[test]
 fn numbers_name_scopes(rt: HostRuntime) -> Result<(), Fail> {
-    for (number, block, line) in [
-        (5, None, SoloHouse::Row(5)),
-        (6, None, SoloHouse::Column(0)),
-        (17, None, SoloHouse::Block(5)),
-        (19, None, SoloHouse::Diagonal(1)),
-        (20, Some(0), SoloHouse::Row(0)),
-        (23, Some(1), SoloHouse::Row(1)),
-        (31, Some(5), SoloHouse::Row(5)),
-        (32, Some(0), SoloHouse::Column(0)),
-        (35, Some(1), SoloHouse::Column(3)),
-        (49, Some(5), SoloHouse::Column(5)),
-    ] {
+    for (number, block, line) in NAMED {
         assert!(rt; number < 50);
         assert_eq!(rt; named(rt.alloc(), number)?, scope(block, line), "{number}");
     }

@@ -167,11 +167,7 @@ fn begin(ends: &[usize], house: usize) -> usize
     requires { house < length ends.now }
     ensures { result ≡ slice_index (0 ∷ ends.now) house }
 {
-    if house == 0 {
-        0
-    } else {
-        ends[house - 1]
-    }
+    if house == 0 { 0 } else { ends[house - 1] }
 }
 
 /// Where the last list ends.
@@ -179,11 +175,7 @@ fn last(ends: &[usize]) -> usize
     ensures { result ≡ last_end 0 ends.now }
 {
     let count = ends.len();
-    if count == 0 {
-        0
-    } else {
-        ends[count - 1]
-    }
+    if count == 0 { 0 } else { ends[count - 1] }
 }
 
 /// One of the lists.

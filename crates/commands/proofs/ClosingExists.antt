@@ -1,0 +1,111 @@
+-- A lawful rule set has visits that close each of its boards, or sweeps that do: those that its closing would make.
+use Rattle.std.proofs.Common.{Bool, List, [], add-one, arith, false, inl, inr, length, length-append, refl, sym, true, zero, suc, ℕ, ◌+◌, ◌<◌, ◌∙◌, ◌≡◌, ◌≤◌, ◌++◌, ◌∷◌}
+use Rattle.std.proofs.lemmas.Bool.{cases_Bool, true≢false}
+use Rattle.grid_core.specs.Candidates.{Candidates, IsWithin, any_below, is_dead, total}
+use Rattle.grid_core.proofs.CandidateLemmas.{any_below-none, any_below-some, within_inside}
+use Rattle.engine_core.specs.Puzzle.{IsLawful, Puzzle, after}
+use Rattle.engine_core.specs.ClosingList.{IsAlive, IsClosingList, IsClosingSweeps}
+use Rattle.engine_core.specs.Queue.{IsRested, IsSweep, IsWoken, but, counts_of, empties, woken}
+use Rattle.engine_core.proofs.ClosingLemmas.{after_inside}
+use Rattle.engine_core.proofs.ListLemmas.{IsRunning, closing-dead, closing-none, closing-open, running-first, running-turn}
+use Rattle.engine_core.proofs.QueueLemmas.{emptied-dead, visits_left-pos}
+use Rattle.engine_core.proofs.SweepLemmas.{IsSweeping, IsSwept, ended-dead, fewer, sweep-alive, sweep-whole, sweeping-first, sweeping-turn, swept-first, swept-open, swept-turn}
+
+-- after a visit all wait that it wakes
+abbrev wakes : Puzzle → ℕ → Candidates → (ℕ → Bool) → ℕ → Bool
+wakes p h K waits = woken p h (counts_of p h K) (after p h K) (but waits h)
+
+woken_is : (p : Puzzle) (h : ℕ) (K : Candidates) (waits : ℕ → Bool) → IsWoken p h K (after p h K) waits (wakes p h K waits)
+woken_is p h K waits = record { fewer = λ j lt on. on; idle = λ j lt off on. absurd (true≢false (sym on ∙ off)) }
+
+all_rested : (p : Puzzle) (K : Candidates) → IsRested p K (λ h. true)
+all_rested p K = λ h c v lt off on. absurd (true≢false off)
+
+visited_within : (p : Puzzle) (h : ℕ) (K : Candidates) → IsWithin p.cells p.values K → IsWithin p.cells p.values (after p h K)
+visited_within p h K within = within_inside p.cells p.values (after p h K) K within (after_inside p h K)
+
+-- ---- sweeps
+-- the board before the house n of a sweep, and which houses wait
+record Sweeping (p : Puzzle) (K : Candidates) (n : ℕ) : Type 0 where
+  board : Candidates
+  waits : ℕ → Bool
+  dead : Bool
+  sweeping : IsSweeping p K n board waits dead
+  within : IsWithin p.cells p.values board
+
+module _ (p : Puzzle) (laws : IsLawful p) where
+  swept : (K : Candidates) → IsAlive p K → IsWithin p.cells p.values K → (n : ℕ) → n ≤ p.houses → Sweeping p K n
+  swept K alive within zero le =
+      record { board = K; waits = λ h. true; dead = false; sweeping = sweeping-first p K (λ h. true) alive (all_rested p K); within = within }
+  swept K alive within (suc n) le =
+      let s : Sweeping p K n = swept K alive within n (omega arith) in
+      let turn = sweeping-turn p laws K n s.board (after p n s.board) s.waits (wakes p n s.board s.waits) s.dead
+      (any_below (empties p n (counts_of p n s.board) (after p n s.board)) (length (p.scope n))) s.sweeping (omega arith) s.within refl
+      (woken_is p n s.board s.waits) (emptied-dead p laws n s.board (after p n s.board) (omega arith) refl) in
+      record { board = _; waits = _; dead = _; sweeping = rw add-one at turn; within = visited_within p n s.board s.within }
+
+  module _ (K0 : Candidates) (by_sweeps : p.by_queue ≡ false) (start : IsWithin p.cells p.values K0) where
+    -- one sweep more closes the board, or leaves fewer values
+    one_sweep : (n : ℕ) (K : Candidates) → IsAlive p K → IsWithin p.cells p.values K → IsSwept p K0 n K
+        → ((L : Candidates) → total p.cells p.values L < total p.cells p.values K → IsAlive p L → IsWithin p.cells p.values L → IsSwept p K0 (n + 1) L
+        → (sweeps : ℕ) × IsClosingSweeps p K0 sweeps)
+        → (sweeps : ℕ) × IsClosingSweeps p K0 sweeps
+    one_sweep n K alive within done again =
+        let s : Sweeping p K p.houses = swept K alive within p.houses (omega arith) in
+        let w : IsSweep p K s.board s.waits true s.dead = sweep-whole p K s.board s.waits true s.dead s.sweeping in
+        elim (cases_Bool s.dead) [
+          | inl dies ↦ (n + 1, ((ended-dead p laws K0 n K s.board s.waits true s.dead by_sweeps start alive done w dies).closing.by_sweeps by_sweeps).1)
+          | inr lives ↦
+              let whole = sweep-alive p K s.board s.waits true s.dead w lives in
+              elim (cases_Bool (any_below s.waits p.houses)) [
+                | inl some ↦
+                    let h = any_below-some s.waits p.houses some in
+                    let lost = w.struck lives h.0 h.1 h.2 in
+                    again s.board (fewer p K s.board within whole lost) (w.dead_is ∙ lives) s.within (swept-turn p K0 n K s.board done within whole lost (w.dead_is ∙ lives))
+                | inr none ↦ (
+                  n + 1,
+                  ((swept-open p laws K0 n K s.board s.waits by_sweeps start alive done whole (w.dead_is ∙ lives) w.rested (any_below-none s.waits p.houses none)).by_sweeps by_sweeps).1,
+                )
+              ]
+        ]
+
+    sweeps_from : (fuel n : ℕ) (K : Candidates) → total p.cells p.values K ≤ fuel → IsAlive p K → IsWithin p.cells p.values K → IsSwept p K0 n K
+        → (sweeps : ℕ) × IsClosingSweeps p K0 sweeps
+    sweeps_from zero n K few alive within done = one_sweep n K alive within done (λ L less a b c. absurd (omega arith))
+    sweeps_from (suc fuel) n K few alive within done = one_sweep n K alive within done (λ L less a b c. sweeps_from fuel (n + 1) L (omega arith) a b c)
+
+    pub sweeps_close : (sweeps : ℕ) × IsClosingSweeps p K0 sweeps
+    sweeps_close = elim (cases_Bool (is_dead p.cells p.values K0)) [
+      | inl dead ↦ (0, ((closing-none p laws K0 start dead).by_sweeps by_sweeps).1)
+      | inr alive ↦ sweeps_from (total p.cells p.values K0) 0 K0 (omega arith) alive start (swept-first p K0 alive)
+    ]
+
+  -- ---- a queue
+  module _ (K0 : Candidates) (by_queue : p.by_queue ≡ true) (start : IsWithin p.cells p.values K0) where
+    -- no house waits, or one visit more leaves a dead board, or there is room for more
+    one_visit : (t : List ℕ) (K : Candidates) (waits : ℕ → Bool) → IsWithin p.cells p.values K → IsRunning p K0 t K waits
+        → ((h : ℕ) (L : Candidates) (left : ℕ → Bool) → length t < p.bound → IsWithin p.cells p.values L → IsRunning p K0 (t ++ h ∷ []) L left
+        → (visits : List ℕ) × IsClosingList p K0 visits)
+        → (visits : List ℕ) × IsClosingList p K0 visits
+    one_visit t K waits within r again = elim (cases_Bool (any_below waits p.houses)) [
+      | inr none ↦ (t, ((closing-open p laws K0 t K waits by_queue start r (any_below-none waits p.houses none)).by_visits by_queue).1)
+      | inl some ↦
+          let w = any_below-some waits p.houses some in
+          elim (cases_Bool (is_dead p.cells p.values (after p w.0 K))) [
+            | inl dead ↦ (t ++ w.0 ∷ [], ((closing-dead p laws K0 t K (after p w.0 K) waits w.0 by_queue start r w.1 w.2 refl dead).by_visits by_queue).1)
+            | inr alive ↦ again w.0 (after p w.0 K) (wakes p w.0 K waits) (omega (arith, visits_left-pos p K waits w.0 w.1 w.2, r.enough)) (visited_within p w.0 K within)
+                (running-turn p laws K0 t K (after p w.0 K) waits (wakes p w.0 K waits) w.0 r w.1 w.2 within refl (woken_is p w.0 K waits) alive)
+          ]
+    ]
+
+    visits_from : (fuel : ℕ) (t : List ℕ) (K : Candidates) (waits : ℕ → Bool) → p.bound ≤ length t + fuel → IsWithin p.cells p.values K → IsRunning p K0 t K waits
+        → (visits : List ℕ) × IsClosingList p K0 visits
+    visits_from zero t K waits room within r = one_visit t K waits within r (λ h L left less a b. absurd (omega arith))
+    visits_from (suc fuel) t K waits room within r = one_visit t K waits within r
+        (λ h L left less a b. visits_from fuel (t ++ h ∷ []) L left (omega (arith, length-append t (h ∷ []))) a b)
+
+    pub visits_close : (visits : List ℕ) × IsClosingList p K0 visits
+    visits_close = elim (cases_Bool (is_dead p.cells p.values K0)) [
+      | inl dead ↦ ([], ((closing-none p laws K0 start dead).by_visits by_queue).1)
+      | inr alive ↦ visits_from p.bound [] K0 (λ h. true) (omega arith) start (running-first p laws K0 (λ h. true) by_queue alive (all_rested p K0))
+    ]

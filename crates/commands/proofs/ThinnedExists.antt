@@ -1,0 +1,83 @@
+-- A puzzle with all its clues can be thinned: a clue is taken away where the verdict without it is one, and else left for the reason
+-- that the verdict tells.
+use Rattle.maker_core.proofs.Common.{◌≡◌, ◌∙◌, ℕ, List, [], ◌∷◌, Option, Some, None, replicate, set, refl, sym, inl, inr, arith, cases_eq}
+use Rattle.maker_core.proofs.Common.{IsPermutation-refl, outcome-true, IsLawful, IsTrueOf, Outcome, Solves, verdict_of, CluedGame, IsGame, IsThinnedFrom}
+use Rattle.maker_core.proofs.Common.{clue_places, AreReasons, IsOnly, TellsOne, IsAsked, IsLeft, IsThinning, reasons_from}
+use Rattle.std.proofs.lemmas.Option.{none-some}
+use Rattle.engine_core.specs.Verdict.{Outcome.NoGrid, Outcome.OneGrid, Outcome.TwoGrids, Outcome.OutOfBudget}
+use Rattle.maker_core.specs.declared.made.Kept.{Kept}
+use Rattle.maker_core.specs.declared.made.Why.{Why}
+use Rattle.maker_core.specs.declared.made.Why.TheVariants.{Budget, Needed}
+use Rattle.maker_core.proofs.ThinningReasons.{answer_left, reasons_left, thinning_start}
+use Rattle.maker_core.proofs.ThinningTurns.{contains_head, some_of, thinning_turn}
+
+module _ {A : Type 0} (game : CluedGame A) (laws : IsGame game) (budget : ℕ) (all : A) (answer : List ℕ) where
+  without_in : (p : A) (place n : ℕ) → IsThinnedFrom game p all → game.clue p place ≡ Some n → IsThinnedFrom game (game.without p place) all
+  without_in p place n w e = record {
+    frame = laws.same_through _ _ _ (laws.without_frame p place n e) w.frame;
+    clues = λ other m had. elim (cases_eq other place) [
+      | inl same ↦ absurd (none-some m (sym (laws.without_it p place) ∙ rw same at had))
+      | inr apart ↦ w.clues other m (sym (laws.others_stay p place other apart) ∙ had)
+    ];
+  }
+
+  -- what becomes of a clue
+  record IsTried (place : ℕ) (p : A) : Type 0 where
+    new : A
+    why : Option Why
+    left : IsLeft game place p new why
+    asked : IsAsked game budget place p why
+
+  by_verdict : (place : ℕ) (p : A) → Solves (game.rules (game.without p place)) answer → (o : Outcome)
+      → verdict_of (game.rules (game.without p place)) budget ≡ o → IsTrueOf (game.rules (game.without p place)) o → IsTried place p
+  by_verdict place p solves NoGrid is sound = absurd (sound answer solves)
+  by_verdict place p solves (OneGrid g) is sound =
+      record { new = game.without p place; why = None; left = refl; asked = record { answer = g; found = is; only = sound } }
+  by_verdict place p solves (TwoGrids g h) is sound = record {
+    new = p;
+    why = Some Needed;
+    left = refl;
+    asked = record { first = g; second = h; first_solves = sound.0; second_solves = sound.1; differ = sound.2 };
+  }
+  by_verdict place p solves (OutOfBudget found) is sound =
+      record { new = p; why = Some Budget; left = refl; asked = record { found = found; verdict = is } }
+
+  module _ (lawful : (p : A) → IsThinnedFrom game p all → IsLawful (game.rules p)) (only : IsOnly (game.rules all) answer) where
+    tried : (place : ℕ) (rest : List ℕ) (p : A) (whys : List (Option Why)) → IsThinning game budget all p whys (place ∷ rest) → IsTried place p
+    tried place rest p whys now =
+        let n = some_of (game.clue p place) (now.waiting place (contains_head rest place)) in
+        let thinner = without_in p place n.0 now.within n.1 in
+        by_verdict place p (laws.solutions_stay (game.without p place) all answer thinner only.0) (verdict_of (game.rules (game.without p place)) budget) refl
+        (outcome-true (game.rules (game.without p place)) (lawful (game.without p place) thinner) budget)
+
+    thin : (rest : List ℕ) (p : A) (whys : List (Option Why)) → IsThinning game budget all p whys rest
+        → (q : A) × (ends : List (Option Why)) × IsThinning game budget all q ends []
+    thin [] p whys now = (p, whys, now)
+    thin (place ∷ rest) p whys now =
+        let t : IsTried place p = tried place rest p whys now in
+        thin rest t.new (set whys place t.why) (thinning_turn game laws budget all p whys place rest now t.new t.why t.left t.asked)
+
+-- some of the clues are left, each for a reason, and the answer is still the one solution
+pub record IsThinnedTo {A : Type 0} (game : CluedGame A) (budget : ℕ) (all : A) (answer : List ℕ) (p : A) (kept : List Kept) : Type 0 where
+  pub within : IsThinnedFrom game p all
+  pub only : IsOnly (game.rules p) answer
+  pub found : TellsOne (game.rules p) budget answer
+  pub reasons : AreReasons game budget (game.all_clues p answer) p kept
+
+pub thinned : {A : Type 0} (game : CluedGame A) → IsGame game → (budget : ℕ) (all : A) (answer : List ℕ)
+    → ((p : A) → IsThinnedFrom game p all → IsLawful (game.rules p)) → all ≡ game.all_clues all answer
+    → IsOnly (game.rules all) answer → TellsOne (game.rules all) budget answer
+    → (p : A) × (kept : List Kept) × IsThinnedTo game budget all answer p kept
+thinned game laws budget all answer lawful whole only found =
+    let start = thinning_start game laws budget all answer (clue_places game all) (replicate (game.cells all) None) only found (IsPermutation-refl (clue_places game all)) refl in
+    let t = thin game laws budget all answer lawful only (clue_places game all) all (replicate (game.cells all) None) start in
+    let left = answer_left game laws budget all t.0 answer t.1 t.2 only in (
+      t.0,
+      reasons_from 0 t.1,
+      record {
+        within = t.2.within;
+        only = left.0;
+        found = left.1;
+        reasons = reasons_left game laws budget all t.0 answer t.1 t.2 (reasons_from 0 t.1) whole refl;
+      },
+    )
