@@ -19,6 +19,7 @@ use commands::ends::{Sink, Source};
 use commands::games::Stores;
 use commands::generate::generated;
 use commands::grade::grade_id;
+use commands::laws::each_request_has_an_answer;
 use std::alloc::{AllocError, Global};
 
 /// The answer to a request that is made whole before it is put, and leaves the input unread.
@@ -51,6 +52,7 @@ fn answer<I: Source, O: Sink>(
     ensures left { LeavesEnds I.Source O.Sink (reads_input (request_of words.now))
         input.new output.new result }
 {
+    each_request_has_an_answer();
     let request = read_words(alloc, words)?;
     if let Some(Request::Solve { task, id: None }) = request {
         return solve_lines(alloc, task, input, output);
@@ -67,8 +69,8 @@ fn answer<I: Source, O: Sink>(
 
 /// Does what the words after the program's name ask for, and gives the status: 0 to 4 where the
 /// whole answer was written, 5 where memory was wanted, and 6 where an end failed, and always where
-/// one did. After 5 and 6 what was written is the beginning of an answer, or nothing. An input that
-/// is read at all is read to its end, unless memory was wanted or an end failed.
+/// one did. After 5 and 6 what was written is the beginning of an answer that is allowed. An input
+/// that is read at all is read to its end, unless memory was wanted or an end failed.
 pub fn run<I: Source, O: Sink>(alloc: Global, words: &[String], input: &mut I, output: &mut O) -> u8
     requires no_calls { I.call_count input.old ≡ 0 }
     requires input_fine { I.has_failed input.old ≡ false }
