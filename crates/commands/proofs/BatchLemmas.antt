@@ -67,7 +67,7 @@ module _ (allows : Text → Answer → Type 0) where
       begun = λ rest.
           let z = each_has answers (lines rest) in
           let text_is : b.written ++ (x.text ++ z.0.text) ≡ (b.written ++ w.done) ++ (w.begun.0 ++ z.0.text) = rw w.begun.1 (simp append_assoc) in
-          inr (_, after_line start now batch seen x b (allowed b.piece b.holds) rest z.0 z.1, (w.begun.0 ++ z.0.text, text_is));
+          (_, after_line start now batch seen x b (allowed b.piece b.holds) rest z.0 z.1, (w.begun.0 ++ z.0.text, text_is));
     }
 
     -- no more was written
@@ -78,7 +78,7 @@ module _ (allows : Text → Answer → Type 0) where
       took = b.took;
       begun = λ rest.
           let z = each_has answers (lines (b.piece ++ (more ++ rest))) in
-          inr (both (answer_with b.written (code_of batch.status)) z.0, rw (append_assoc seen more rest) (b.goes_on (more ++ rest) z.0 z.1), (z.0.text, refl));
+          (both (answer_with b.written (code_of batch.status)) z.0, rw (append_assoc seen more rest) (b.goes_on (more ++ rest) z.0 z.1), (z.0.text, refl));
     }
 
     pub step_in_line : (start now : S) (batch next : Batch) (seen : Text) (byte : ℕ) → (byte == 10) ≡ false → Batched takes allows start batch seen now
@@ -130,7 +130,7 @@ module _ (allows : Text → Answer → Type 0) where
     last_broken start now new batch seen x b some allowed w = record {
       written = b.written ++ w.done;
       took = both_times start now new b.written w.done b.took w.took;
-      begun = inr (_, after_last start now batch seen x b (some b.piece b.holds) (allowed b.piece b.holds), (w.begun.0, rw w.begun.1 (simp append_assoc)));
+      begun = (_, after_last start now batch seen x b (some b.piece b.holds) (allowed b.piece b.holds), (w.begun.0, rw w.begun.1 (simp append_assoc)));
     }
 
     -- no more was written
@@ -224,7 +224,7 @@ module _ {I S : Type 0} (source : sources.Ghosts I) (sink : sinks.Ghosts S) (tak
     gave = gave;
     took = simp append-nil at (takes_both o p q s.written [] s.took more);
     leaves = record {
-      begun = λ input is. inr (answer_with s.written told, rw (← same_input (source.has_ended j) seen input ended is) s.whole, ([], sym (append-nil s.written)));
+      begun = λ input is. (answer_with s.written told, rw (← same_input (source.has_ended j) seen input ended is) s.whole, ([], sym (append-nil s.written)));
       whole = λ low input is. elim is_told [
         | inl same ↦ rw (same, ← same_input (source.has_ended j) seen input ended is) s.whole
         | inr broken ↦ absurd (omega arith)

@@ -19,7 +19,7 @@ use Rattle.commands.specs.Common.{Candidates, count_below, grid_of, Solo, Puzzle
 use Rattle.commands.specs.Common.{crossing_scopes, crossings_rules, houses_rules, scopes_of, singles_rules, solo_n}
 use Rattle.commands.specs.Grades.{HasOneSolution, IsGradeOf, IsRightGrade, TellsGrade, grade_by, searched_grade, Settling, last_tried, listed_grade, only_set, grade_status, grade_text}
 use Rattle.commands.specs.Answers.{Text, Answer, Delivers}
-use Rattle.commands.specs.Stops.{Tells}
+use Rattle.commands.specs.Stops.{TellsIfAny}
 use Rattle.commands.specs.declared.grade.Grade.{Grade}
 use Rattle.commands.specs.declared.grade.Grade.TheVariants.{ByRules, BySearch, NoSolution, SeveralSolutions, GaveUp}
 use Rattle.commands.specs.Playing.{GameOf}
@@ -93,8 +93,8 @@ right_as A B GaveUp same right = tt
 
 -- a grade that is told of a puzzle, and is right, is told rightly
 rightly : {S : Type 0} (takes : S → Text → S → Type 0) (solves : List ℕ → Type 0) (grade : Grade) (traced : Bool) (tells : Text → Type 0)
-    (s t : S) (status : ℕ) → IsRightGrade solves grade → Tells takes (TellsGrade grade traced tells) s t status
-    → Tells takes (IsGradeOf solves grade traced tells) s t status
+    (s t : S) (status : ℕ) → IsRightGrade solves grade → TellsIfAny takes (TellsGrade grade traced tells) s t status
+    → TellsIfAny takes (IsGradeOf solves grade traced tells) s t status
 rightly takes solves grade traced tells s t status right told =
     tells_as takes (TellsGrade grade traced tells) (IsGradeOf solves grade traced tells) s t status (λ a t. record { right = right; told = t }) told
 
@@ -116,24 +116,24 @@ trace_as true some all lines more h = more h
 trace_as false some all lines more h = h
 
 pub told_as : {S : Type 0} (takes : S → Text → S → Type 0) (grade : Grade) (traced : Bool) (some all : Text → Type 0) (s t : S) (status : ℕ) → ((lines : Text) → some lines → all lines)
-    → Tells takes (TellsGrade grade traced some) s t status → Tells takes (TellsGrade grade traced all) s t status
+    → TellsIfAny takes (TellsGrade grade traced some) s t status → TellsIfAny takes (TellsGrade grade traced all) s t status
 told_as takes grade traced some all s t status more told = tells_as takes (TellsGrade grade traced some) (TellsGrade grade traced all) s t status
     (λ a h. record { lines = h.lines; trace = trace_as traced some all h.lines (more h.lines) h.trace; text = h.text; status = h.status }) told
 
 module _ {P : Type 0} (game : GameOf P) (p : P) (options : GradeOptions) {S : Type 0} (takes : S → Text → S → Type 0) (s t : S) (status : ℕ) where
   -- what is told of a list of rule sets
   abbrev pub TellsBy : List Settling → Type 0
-  TellsBy sets = Tells takes (IsGradeBy game p sets options) s t status
+  TellsBy sets = TellsIfAny takes (IsGradeBy game p sets options) s t status
 
   -- the last in the list
   pub told_last : (grade : Grade) (set : RuleSet) (rules : Puzzle) → grade ≡ listed_grade (only_set set rules) (game.rules p) options.budget
-      → IsRightGrade (game.solves p) grade → Tells takes (TellsGrade grade options.traced (game.tells p rules)) s t status → TellsBy (only_set set rules)
+      → IsRightGrade (game.solves p) grade → TellsIfAny takes (TellsGrade grade options.traced (game.tells p rules)) s t status → TellsBy (only_set set rules)
   told_last grade set rules e right told = rw (← e, ← last_of_one (game.rules p) set rules)
       (rightly takes (game.solves p) grade options.traced (game.tells p rules) s t status right told)
 
   -- the first in the list settles the puzzle
   pub told_first : (q : Puzzle) (set : RuleSet) (rules : Puzzle) (rest : List Settling) → q ≡ rules → is_settled q ≡ true
-      → ((g : List ℕ) → Solves rules g ↔ game.solves p g) → HasOneSolution (Solves q) → Tells takes (TellsGrade (ByRules set) options.traced (game.tells p q)) s t status
+      → ((g : List ℕ) → Solves rules g ↔ game.solves p g) → HasOneSolution (Solves q) → TellsIfAny takes (TellsGrade (ByRules set) options.traced (game.tells p q)) s t status
       → TellsBy (record { set = set; rules = rules } ∷ rest)
   told_first q set rules rest e settled same one told =
       let is : is_settled rules ≡ true = ap is_settled (sym e) ∙ settled in
@@ -154,7 +154,7 @@ module _ {S : Type 0} (takes : S → Text → S → Type 0) (nothing : (s : S) �
     (grade : Grade) (traced : Bool) (tells : Text → Type 0) where
   -- the rest was delivered
   pub told_whole : (s t u : S) (line rest : Text) (a : Answer) (status : ℕ) → line ≡ grade_text grade ++ codes "\n" → PutsTrace takes traced tells s line rest t
-      → Delivers takes t a u status → a.text ≡ rest → a.status ≡ grade_status grade → Tells takes (TellsGrade grade traced tells) s u status
+      → Delivers takes t a u status → a.text ≡ rest → a.status ≡ grade_status grade → TellsIfAny takes (TellsGrade grade traced tells) s u status
   told_whole s t u line rest a status is p d same ends = record {
     written = p.put.done ++ d.written;
     took = both s t u p.put.done d.written p.put.took d.took;
@@ -176,7 +176,7 @@ module _ {S : Type 0} (takes : S → Text → S → Type 0) (nothing : (s : S) �
 
   -- a beginning was put
   pub told_begun : (s u : S) (line : Text) (status : ℕ) → line ≡ grade_text grade ++ codes "\n" → BeginsTrace takes traced tells s line u → 5 ≤ status
-      → Tells takes (TellsGrade grade traced tells) s u status
+      → TellsIfAny takes (TellsGrade grade traced tells) s u status
   told_begun s u line status is p high = record {
     written = p.begun.done;
     took = p.begun.took;

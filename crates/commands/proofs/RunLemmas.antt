@@ -4,7 +4,8 @@ use Rattle.std.specs.Result.{IsErr, IsErrAnd}
 use Rattle.std.proofs.lemmas.List.{take-append-drop}
 use Rattle.std.proofs.lemmas.Grind.{common_steps}
 use Rattle.commands.specs.Answers.{Answer, BeginsAnswer, Text, Delivers, PutBegun, PutUpTo, IsInput, status_of}
-use Rattle.commands.specs.Stops.{IsSinkAfter, Tells, status_in}
+use Rattle.commands.specs.Each.{HasAnswers}
+use Rattle.commands.specs.Stops.{BeginsIfAny, IsSinkAfter, RanIfAny, Tells, TellsIfAny, status_in}
 use Rattle.commands.specs.declared.answers.status.Status.{Status}
 use Rattle.commands.specs.declared.answers.status.Stop.{Stop}
 use Rattle.commands.specs.declared.answers.status.Stop.TheVariants.{Memory, Broken}
@@ -32,21 +33,42 @@ is_late r stop h = status_is r (λ n. 5 ≤ n) stop (late stop) h
 
 -- what begins an answer of one kind begins one of another that follows from it
 begins_as : (A B : Answer → Type 0) (w : Text) → ((a : Answer) → A a → B a) → BeginsAnswer A w → BeginsAnswer B w
-begins_as A B w follows (inl none) = inl none
-begins_as A B w follows (inr some) = inr (some.0, follows some.0 some.1, some.2)
+begins_as A B w follows some = (some.0, follows some.0 some.1, some.2)
+
+begins_if_any_as : (A B : Answer → Type 0) (w : Text) → ((a : Answer) → A a → B a) → BeginsIfAny A w → BeginsIfAny B w
+begins_if_any_as A B w follows (inl none) = inl none
+begins_if_any_as A B w follows (inr some) = inr (begins_as A B w follows some)
+
+-- nothing begins each answer
+nothing_begins : (A : Answer → Type 0) → (a : Answer) × A a → BeginsAnswer A []
+nothing_begins A some = (some.0, some.1, (some.0.text, refl))
+
+begins_some : (A : Answer → Type 0) (w : Text) → (a : Answer) × A a → BeginsIfAny A w → BeginsAnswer A w
+begins_some A w some (inl none) = subst (BeginsAnswer A) (sym none) (nothing_begins A some)
+begins_some A w some (inr begun) = begun
 
 -- what is told as one thing is told as another that follows from it
 pub tells_as : {S : Type 0} (takes : S → Text → S → Type 0) (A B : Answer → Type 0) (s t : S) (status : ℕ) → ((a : Answer) → A a → B a)
-    → Tells takes A s t status → Tells takes B s t status
+    → TellsIfAny takes A s t status → TellsIfAny takes B s t status
 tells_as takes A B s t status follows told = record {
   written = told.written;
   took = told.took;
-  begun = begins_as A B _ follows told.begun;
+  begun = begins_if_any_as A B _ follows told.begun;
   whole = λ small. follows _ (told.whole small);
 }
 
+-- some answer is allowed
+pub tells_some : {S : Type 0} (takes : S → Text → S → Type 0) (A : Answer → Type 0) (s t : S) (status : ℕ) → (a : Answer) × A a
+    → TellsIfAny takes A s t status → Tells takes A s t status
+tells_some takes A s t status some told = record {
+  written = told.written;
+  took = told.took;
+  begun = begins_some A told.written some told.begun;
+  whole = told.whole;
+}
+
 -- nothing was written
-pub tells_nothing : {S : Type 0} (takes : S → Text → S → Type 0) (allows : Answer → Type 0) (s : S) (status : ℕ) → takes s [] s → 5 ≤ status → Tells takes allows s s status
+pub tells_nothing : {S : Type 0} (takes : S → Text → S → Type 0) (allows : Answer → Type 0) (s : S) (status : ℕ) → takes s [] s → 5 ≤ status → TellsIfAny takes allows s s status
 tells_nothing takes allows s status nothing high = record { written = []; took = nothing; begun = inl refl; whole = λ small. absurd (omega arith) }
 
 rest_is : (rest : List ℕ) (n m : ℕ) → m ≡ length rest → take (m - n) (drop n rest) ≡ drop n rest
@@ -108,18 +130,45 @@ module _ {I O : Type 0} (source : sources.Ghosts I) (sink : sinks.Ghosts O)
   ran_by_reply i o p a status nothing allowed d = ran_by_telling i o p (λ b. (input : Text) → allows input b) status nothing (λ input b told. told input) (record {
     written = d.written;
     took = d.took;
-    begun = inr (a, allowed, d.begun);
+    begun = (a, allowed, d.begun);
     whole = λ small input. rw ((d.whole small).0, (d.whole small).1) (allowed input);
   })
 
   -- bytes were read, and nothing was written
-  pub ran_unwritten : (i j : I) (o : O) (seen : Text) (status : ℕ) → 5 ≤ status → source.gives i seen j → sink.takes o [] o → Ran source sink allows i j o o status
-  ran_unwritten i j o seen status high gave took = record {
+  pub ran_unwritten : HasAnswers allows → (i j : I) (o : O) (seen : Text) (status : ℕ) → 5 ≤ status → source.gives i seen j → sink.takes o [] o
+      → Ran source sink allows i j o o status
+  ran_unwritten answers i j o seen status high gave took = record {
     read = seen;
     written = [];
     gave = gave;
     took = took;
-    leaves = record { begun = λ input _. inl refl; whole = λ low. absurd (omega arith) };
+    leaves = record { begun = λ input _. nothing_begins (allows input) (answers input); whole = λ low. absurd (omega arith) };
+  }
+
+  -- the same of steps that know of no answer before
+  pub ran_if_any_unwritten : (i j : I) (o : O) (seen : Text) (status : ℕ) → 5 ≤ status → source.gives i seen j → sink.takes o [] o → RanIfAny source sink allows i j o o status
+  ran_if_any_unwritten i j o seen status high gave took =
+      record { read = seen; written = []; gave = gave; took = took; begun = λ input _. inl refl; whole = λ low. absurd (omega arith) }
+
+  pub ran_if_any_by_telling : (i : I) (o p : O) (tells : Answer → Type 0) (status : ℕ) → source.gives i [] i → ((input : Text) (a : Answer) → tells a → allows input a)
+      → TellsIfAny sink.takes tells o p status → RanIfAny source sink allows i i o p status
+  ran_if_any_by_telling i o p tells status nothing allowed t = record {
+    read = [];
+    written = t.written;
+    gave = nothing;
+    took = t.took;
+    begun = λ input _. begins_if_any_as tells (allows input) _ (allowed input) t.begun;
+    whole = λ small input _. allowed input _ (t.whole small);
+  }
+
+  -- where each input has an answer, a beginning of one was written
+  pub ran_some : HasAnswers allows → (i j : I) (o p : O) (status : ℕ) → RanIfAny source sink allows i j o p status → Ran source sink allows i j o p status
+  ran_some answers i j o p status r = record {
+    read = r.read;
+    written = r.written;
+    gave = r.gave;
+    took = r.took;
+    leaves = record { begun = λ input is. begins_some (allows input) r.written (answers input) (r.begun input is); whole = r.whole };
   }
 
 -- what a reader over memory gave is the beginning of its bytes, and all of them where its end was met

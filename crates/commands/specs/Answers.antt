@@ -1,5 +1,5 @@
 -- A text with its status, and which of them a run may leave.
-use Rattle.std.specs.Prelude.{◌≡◌, ◌*◌, ◌<◌, ◌⊎◌, ℕ, Bool, true, false, List, [], ◌++◌}
+use Rattle.std.specs.Prelude.{◌≡◌, ◌*◌, ◌<◌, ℕ, Bool, true, false, List, ◌++◌}
 use Rattle.commands.specs.Common.{Extent, IsGrid}
 use Rattle.commands.specs.declared.answers.status.Status.{Status}
 use Rattle.commands.specs.declared.answers.status.Status.TheVariants.{Fine, Wrong, Refused, Several, GaveUp}
@@ -43,9 +43,9 @@ abbrev pub IsInput : Bool → Text → Text → Type 0
 IsInput true read input = input ≡ read
 IsInput false read input = Begins read input
 
--- nothing was written, or the beginning of an answer
+-- an answer is allowed that begins with what was written
 abbrev pub BeginsAnswer : (Answer → Type 0) → Text → Type 0
-BeginsAnswer allows written = (written ≡ []) ⊎ ((a : Answer) × allows a × Begins written a.text)
+BeginsAnswer allows written = (a : Answer) × allows a × Begins written a.text
 
 -- What a run that read these bytes may leave: for each input that it may have had, a beginning of
 -- an allowed answer, and with the status of an answer that answer whole.

@@ -1,7 +1,7 @@
 -- How the steps of a run end, and what they have written then. No contract of a run uses these
 -- words.
-use Rattle.std.specs.Prelude.{◌≡◌, ◌<◌, ◌≤◌, ℕ, Bool, true, false, Result, Ok, Err}
-use Rattle.commands.specs.Answers.{Answer, BeginsAnswer, Text, code_of, status_of}
+use Rattle.std.specs.Prelude.{◌≡◌, ◌<◌, ◌≤◌, ◌⊎◌, ℕ, Bool, true, false, [], Result, Ok, Err}
+use Rattle.commands.specs.Answers.{Answer, BeginsAnswer, IsInput, Text, code_of, status_of}
 use Rattle.commands.specs.Runs.{IsBroken, Ran}
 use Rattle.commands.specs.declared.answers.status.Status.{Status}
 use Rattle.commands.specs.declared.answers.status.Stop.{Stop}
@@ -27,14 +27,38 @@ abbrev pub status_in : Result Status Stop → ℕ
 status_in (Ok status) = code_of status
 status_in (Err stop) = status_of stop
 
--- What was written, and the status: a beginning of an allowed answer, or nothing, and with the
--- status of an answer an allowed answer whole.
+-- What was written, and the status: the beginning of an allowed answer, and with the status of an
+-- answer an allowed answer whole.
 pub record Tells {S : Type 0} (takes : S → Text → S → Type 0) (allows : Answer → Type 0)
     (old new : S) (status : ℕ) : Type 0 where
   pub written : Text
   pub took : takes old written new
   pub begun : BeginsAnswer allows written
   pub whole : status < status_of Memory → allows (record { text = written; status = status })
+
+-- The same of a step that knows of no answer before it writes: what it wrote may be nothing.
+abbrev pub BeginsIfAny : (Answer → Type 0) → Text → Type 0
+BeginsIfAny allows written = (written ≡ []) ⊎ BeginsAnswer allows written
+
+pub record TellsIfAny {S : Type 0} (takes : S → Text → S → Type 0) (allows : Answer → Type 0)
+    (old new : S) (status : ℕ) : Type 0 where
+  pub written : Text
+  pub took : takes old written new
+  pub begun : BeginsIfAny allows written
+  pub whole : status < status_of Memory → allows (record { text = written; status = status })
+
+pub record RanIfAny {I O : Type 0} (source : sources.Ghosts I) (sink : sinks.Ghosts O)
+    (allows : Text → Answer → Type 0) (old_input new_input : I) (old_output new_output : O)
+    (status : ℕ) : Type 0 where
+  pub read : Text
+  pub written : Text
+  pub gave : source.gives old_input read new_input
+  pub took : sink.takes old_output written new_output
+  pub begun : (input : Text) → IsInput (source.has_ended new_input) read input
+      → BeginsIfAny (allows input) written
+  pub whole : status < status_of Memory → (input : Text)
+      → IsInput (source.has_ended new_input) read input
+      → allows input (record { text = written; status = status })
 
 -- How the sink stands after that status: with that of a failing end it failed, and with any other
 -- not; with that of an answer it sent all on.
@@ -49,6 +73,10 @@ abbrev pub Told : {S : Type 0} → (S → Text → S → Type 0) → (Answer →
     → Result Status Stop → Type 0
 Told takes allows old new result = Tells takes allows old new (status_in result)
 
+abbrev pub ToldIfAny : {S : Type 0} → (S → Text → S → Type 0) → (Answer → Type 0) → S → S
+    → Result Status Stop → Type 0
+ToldIfAny takes allows old new result = TellsIfAny takes allows old new (status_in result)
+
 abbrev pub LeavesSink : {S : Type 0} → sinks.Ghosts S → S → Result Status Stop → Type 0
 LeavesSink sink new result =
     IsSinkAfter (status_in result) (sink.has_failed new) (sink.is_flushed new)
@@ -57,6 +85,11 @@ LeavesSink sink new result =
 abbrev pub Runs : {I O : Type 0} → sources.Ghosts I → sinks.Ghosts O → (Text → Answer → Type 0)
     → I → I → O → O → Result Status Stop → Type 0
 Runs source sink allows i j o p result = Ran source sink allows i j o p (status_in result)
+
+abbrev pub RunsIfAny : {I O : Type 0} → sources.Ghosts I → sinks.Ghosts O
+    → (Text → Answer → Type 0) → I → I → O → O → Result Status Stop → Type 0
+RunsIfAny source sink allows i j o p result =
+    RanIfAny source sink allows i j o p (status_in result)
 
 -- How a step that reads its input, or not, leaves the ends with a result. With the status of a
 -- failing end one is broken, and else neither failed. With that of an answer the output was sent on

@@ -5,7 +5,7 @@ ghost use Rattle.commands.specs.Allowed.{AllowsCheck, ChecksGrid, ChecksId, is_r
 ghost use Rattle.commands.specs.Replies.{answer_in};
 ghost use Rattle.commands.specs.Texts.{IsText};
 ghost use Rattle.commands.specs.Runs.{AreNew};
-ghost use Rattle.commands.specs.Stops.{LeavesEnds, Runs};
+ghost use Rattle.commands.specs.Stops.{LeavesEnds, Runs, RunsIfAny};
 
 pub mod checked;
 
@@ -47,7 +47,7 @@ fn check_input<P: Checked, I: Source, O: Sink>(
     output: &mut O,
 ) -> Ended
     requires { AreNew I.Source O.Sink input.old output.old }
-    ensures ran { Runs I.Source O.Sink (ChecksGrid P.Played puzzle.now)
+    ensures ran { RunsIfAny I.Source O.Sink (ChecksGrid P.Played puzzle.now)
         input.old input.new output.old output.new result }
     ensures left { LeavesEnds I.Source O.Sink true input.new output.new result }
 {
@@ -64,7 +64,7 @@ fn check_one<P: Checked + Drop, I: Source, O: Sink>(
     output: &mut O,
 ) -> Ended
     requires { AreNew I.Source O.Sink input.old output.old }
-    ensures ran { Runs I.Source O.Sink (ChecksId P.Played id.now)
+    ensures ran { RunsIfAny I.Source O.Sink (ChecksId P.Played id.now)
         input.old input.new output.old output.new result }
     ensures left { LeavesEnds I.Source O.Sink (is_ok (P.game.reading id.now))
         input.new output.new result }

@@ -5,7 +5,7 @@ ghost use Rattle.commands.specs.Games.{played};
 ghost use Rattle.commands.specs.Grades.{grade_status, grade_text, rule_set_text};
 ghost use Rattle.commands.specs.Allowed.{AreTold, GradeTold, GradesId, IsGradeAfter, IsGraded, IsToldBySweeps};
 ghost use Rattle.commands.specs.Answers.{code_of};
-ghost use Rattle.commands.specs.Stops.{LeavesSink, Told};
+ghost use Rattle.commands.specs.Stops.{LeavesSink, Told, ToldIfAny};
 ghost use Rattle.commands.specs.Traces.{TellsSweeps};
 
 pub mod named;
@@ -139,7 +139,8 @@ impl Attempt {
         requires queue { (R.puzzle rules.now).by_queue ≡ true }
         requires named { (R.puzzle rules.now).houses ≤ P.named puzzle.now }
         requires not_failed { O.has_failed output.old ≡ false }
-        ensures told { Told O.takes (GradeTold P.game puzzle.now self grade (R.puzzle rules.now))
+        ensures told { ToldIfAny O.takes
+            (GradeTold P.game puzzle.now self grade (R.puzzle rules.now))
             output.old output.new result }
         ensures left { LeavesSink O.Sink output.new result }
     {
@@ -163,7 +164,7 @@ impl Attempt {
         requires fits { FitsIn (needs_of (R.puzzle rules.now)) store.old.made }
         requires sweeps { (R.puzzle rules.now).by_queue ≡ false }
         requires not_failed { O.has_failed output.old ≡ false }
-        ensures told { Told O.takes (IsToldBySweeps self grade (R.puzzle rules.now))
+        ensures told { ToldIfAny O.takes (IsToldBySweeps self grade (R.puzzle rules.now))
             output.old output.new result }
         ensures left { LeavesSink O.Sink output.new result }
     {
@@ -197,7 +198,7 @@ impl Attempt {
         requires accepted { (g : List ℕ)
             → Solves (R.puzzle rules.now) g ↔ P.game.solves puzzle.now g }
         requires not_failed { O.has_failed output.old ≡ false }
-        ensures told { Told O.takes (IsGradeAfter P.game puzzle.now self (R.puzzle rules.now))
+        ensures told { ToldIfAny O.takes (IsGradeAfter P.game puzzle.now self (R.puzzle rules.now))
             output.old output.new result }
         ensures left { LeavesSink O.Sink output.new result }
     {
@@ -221,7 +222,7 @@ impl Attempt {
         requires accepted { (g : List ℕ)
             → Solves (R.puzzle rules.now) g ↔ P.game.solves puzzle.now g }
         requires not_failed { O.has_failed output.old ≡ false }
-        ensures told { Told O.takes (IsGradeAfter P.game puzzle.now self (R.puzzle rules.now))
+        ensures told { ToldIfAny O.takes (IsGradeAfter P.game puzzle.now self (R.puzzle rules.now))
             output.old output.new result }
         ensures left { LeavesSink O.Sink output.new result }
     {
@@ -241,7 +242,7 @@ pub trait Graded: Solvable {
     /// nothing.
     fn tell<O: Sink>(&self, alloc: Global, options: GradeOptions, output: &mut O) -> Ended
         requires { O.has_failed output.old ≡ false }
-        ensures told { Told O.takes (IsGraded Self.game options self.now)
+        ensures told { ToldIfAny O.takes (IsGraded Self.game options self.now)
             output.old output.new result }
         ensures left { LeavesSink O.Sink output.new result };
 }
@@ -254,7 +255,7 @@ fn grade_one<P: Graded + Drop, O: Sink>(
     output: &mut O,
 ) -> Ended
     requires { O.has_failed output.old ≡ false }
-    ensures told { Told O.takes (GradesId P.game options id.now) output.old output.new result }
+    ensures told { ToldIfAny O.takes (GradesId P.game options id.now) output.old output.new result }
     ensures left { LeavesSink O.Sink output.new result }
 {
     match P::read_id(alloc, id) {
@@ -271,7 +272,7 @@ fn grade_one<P: Graded + Drop, O: Sink>(
 ///
 /// # Errors
 ///
-/// When memory was refused, or the sink failed. A beginning of the text was put then, or nothing.
+/// When memory was refused, or the sink failed. A beginning of an allowed answer was put then.
 pub fn grade_id<O: Sink>(
     alloc: Global,
     game: Game,

@@ -11,8 +11,8 @@ use crate::ends::read_end::ReadEnd;
 use crate::ends::write_end::WriteEnd;
 use crate::words::{Request, read_words};
 use commands::{
-    BROKEN, Ended, NO_MEMORY, Reply, Sink, Source, Status, Stores, check_id, deliver, generated,
-    grade_id, solve_lines, words_reply,
+    BROKEN, Ended, NO_MEMORY, Reply, Sink, Source, Status, Stores, check_id, deliver,
+    each_request_has_an_answer, generated, grade_id, solve_lines, words_reply,
 };
 use std::alloc::{AllocError, Global};
 
@@ -46,6 +46,7 @@ fn answer<I: Source, O: Sink>(
     ensures left { LeavesEnds I.Source O.Sink (reads_input (request_of words.now))
         input.new output.new result }
 {
+    each_request_has_an_answer();
     let request = read_words(alloc, words)?;
     if let Some(Request::Solve { task, id: None }) = request {
         return solve_lines(alloc, task, input, output);
@@ -62,8 +63,8 @@ fn answer<I: Source, O: Sink>(
 
 /// Does what the words after the program's name ask for, and gives the status: 0 to 4 where the
 /// whole answer was written, 5 where memory was wanted, and 6 where an end failed, and always where
-/// one did. After 5 and 6 what was written is the beginning of an answer, or nothing. An input that
-/// is read at all is read to its end, unless memory was wanted or an end failed.
+/// one did. After 5 and 6 what was written is the beginning of an answer that is allowed. An input
+/// that is read at all is read to its end, unless memory was wanted or an end failed.
 pub fn run<I: Source, O: Sink>(alloc: Global, words: &[String], input: &mut I, output: &mut O) -> u8
     requires no_calls { I.call_count input.old ≡ 0 }
     requires input_fine { I.has_failed input.old ≡ false }

@@ -2,7 +2,7 @@
 ghost use Rattle.std.specs.Prelude.{◌≡◌, true, false, OnOk, OnErr};
 ghost use Rattle.commands.specs.Answers.{Delivers, PutBegun};
 ghost use Rattle.commands.specs.Replies.{answer_in, fault_text, refused};
-ghost use Rattle.commands.specs.Stops.{LeavesSink, Told, status_in};
+ghost use Rattle.commands.specs.Stops.{LeavesSink, ToldIfAny, status_in};
 
 use crate::answers::reply::{Reply, id_refused};
 use crate::answers::status::{Ended, Stop};
@@ -62,7 +62,7 @@ pub fn deliver<O: Sink>(output: &mut O, reply: &Reply) -> Ended
 /// Refuses an ID with that first fault.
 pub(crate) fn refuse<O: Sink>(alloc: Global, fault: IdFault, output: &mut O) -> Ended
     requires { O.has_failed output.old ≡ false }
-    ensures told { Told O.takes (λ a. a ≡ refused (fault_text fault)) output.old output.new
+    ensures told { ToldIfAny O.takes (λ a. a ≡ refused (fault_text fault)) output.old output.new
         result }
     ensures left { LeavesSink O.Sink output.new result }
 {

@@ -3,7 +3,7 @@ ghost use Rattle.std.specs.Prelude.{◌≡◌, false, length};
 ghost use Rattle.commands.specs.Allowed.{IsGradedAfterHouses, IsGradedAfterSingles};
 ghost use Rattle.commands.specs.Common.{houses_rules, scopes_of};
 ghost use Rattle.commands.specs.SoloPlayed.{solo_name, solo_played};
-ghost use Rattle.commands.specs.Stops.{LeavesSink, Told};
+ghost use Rattle.commands.specs.Stops.{LeavesSink, ToldIfAny};
 
 use crate::answers::check_reply::{correct_reply, wrong_line_reply, wrong_place_reply};
 use crate::answers::reply::Reply;
@@ -87,7 +87,7 @@ fn tell_by_houses<O: Sink>(
     output: &mut O,
 ) -> Ended
     requires { O.has_failed output.old ≡ false }
-    ensures told { Told O.takes (IsGradedAfterSingles puzzle.now options)
+    ensures told { ToldIfAny O.takes (IsGradedAfterSingles puzzle.now options)
         output.old output.new result }
     ensures left { LeavesSink O.Sink output.new result }
 {

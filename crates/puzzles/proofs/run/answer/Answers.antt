@@ -6,11 +6,11 @@ use Rattle.commands.proofs.RunLemmas.{ran_more, ran_by_reply, ran_by_telling, ra
 use Rattle.puzzles.proofs.run.answer.Goals as goal
 
 pub returns-in_err-request-clause-ran : goal.returns-in_err-request-clause-ran
-returns-in_err-request-clause-ran g c = ran_unwritten g.I.Source g.O.Sink _ _ _ _ _ _
+returns-in_err-request-clause-ran g c = ran_unwritten g.I.Source g.O.Sink _ (c.each_request_has_an_answer.ensures (asked_of (map string_bytes c.args.words.now))) _ _ _ _ _
     (is_late _ _ c.from_residual.ensures) (g.met.I.Source.gives_nothing c.args.input.now) (g.met.O.Sink.takes_nothing c.args.output.now)
 
 pub returns-in_err-reply-clause-ran : goal.returns-in_err-reply-clause-ran
-returns-in_err-reply-clause-ran g c = ran_unwritten g.I.Source g.O.Sink _ _ _ _ _ _
+returns-in_err-reply-clause-ran g c = ran_unwritten g.I.Source g.O.Sink _ (c.each_request_has_an_answer.ensures (asked_of (map string_bytes c.args.words.now))) _ _ _ _ _
     (is_late _ _ c.from_residual-in_err-reply.ensures) (g.met.I.Source.gives_nothing c.args.input.now) (g.met.O.Sink.takes_nothing c.args.output.now)
 
 pub returns-clause-ran : goal.returns-clause-ran
