@@ -114,7 +114,7 @@ fn tell_by_crossings<O: Sink>(
     output: &mut O,
 ) -> Ended
     requires { O.has_failed output.old ≡ false }
-    ensures told { Told O.takes (IsGradedAfterHouses puzzle.now options)
+    ensures told { ToldIfAny O.takes (IsGradedAfterHouses puzzle.now options)
         output.old output.new result }
     ensures left { LeavesSink O.Sink output.new result }
 {
