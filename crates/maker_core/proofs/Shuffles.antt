@@ -57,8 +57,8 @@ chunk_is m within = grow_is m 32 m (m + 1) 1 refl (record { product = rising_one
 
 -- ---- the next index
 -- what is left of a draw is below the product of the factors that are left
-record IsChooser (c : Chooser) : Type 0 where
-  room : 0 < c.left → c.chunk < rising (c.n + 1) c.left
+pub record IsChooser (c : Chooser) : Type 0 where
+  pub room : 0 < c.left → c.chunk < rising (c.n + 1) c.left
 
 -- something is left of a draw
 record IsRefilled (n : ℕ) (r : ℕ × ℕ × Stream) : Type 0 where
@@ -105,13 +105,13 @@ next_is c s is words within =
     })
 
 -- ---- the swaps
-record IsSwapped (items : List ℕ) (k : ℕ) (p : List ℕ × Chooser × Stream) : Type 0 where
-  permutation : IsPermutation items p.0
-  bound : p.1.n ≡ k
-  chooser : IsChooser p.1
-  words : HasWords p.2
+pub record IsSwapped (items : List ℕ) (k : ℕ) (p : List ℕ × Chooser × Stream) : Type 0 where
+  pub permutation : IsPermutation items p.0
+  pub bound : p.1.n ≡ k
+  pub chooser : IsChooser p.1
+  pub words : HasWords p.2
 
-swaps_are : (items : List ℕ) (s : Stream) → HasWords s → length items < 2 ^ 32 - 1 → (k : ℕ) → k ≤ length items
+pub swaps_are : (items : List ℕ) (s : Stream) → HasWords s → length items < 2 ^ 32 - 1 → (k : ℕ) → k ≤ length items
     → IsSwapped items k (narrow_swaps items (chooser_at 0) s k)
 unfolding narrow_swaps
 swaps_are items s words few zero within = record {

@@ -1,7 +1,7 @@
 //! Runs over examples, and the program beside slow tests of its own.
 
+mod agreements;
 mod all_grids;
-mod commands;
 mod cuts;
 mod fakes;
 mod grades;

@@ -1,5 +1,5 @@
 //! Numbers in texts.
-ghost use Rattle.std.specs.Prelude.{◌≡◌, ◌+◌, ◌≤◌, ◌++◌, decimal, IsOk, OnOk, length, string_bytes, string_len, string_capacity};
+ghost use Rattle.std.specs.Prelude.{◌≡◌, ◌+◌, ◌≤◌, ◌++◌, decimal, OnOk, length, string_bytes, string_len};
 
 use itoa::Buffer;
 use std::alloc::AllocError;
@@ -12,8 +12,6 @@ use std::alloc::AllocError;
 pub fn push_number(text: &mut String, number: usize) -> Result<(), AllocError>
     ensures number { OnOk result (string_bytes text.new ≡ string_bytes text.old ++ decimal number) }
     ensures short { OnOk result (string_len text.new ≤ string_len text.old + 20) }
-    ensures room { string_len text.old + 20 ≤ string_capacity text.old → IsOk result }
-    ensures capacity { string_capacity text.old ≤ string_capacity text.new }
 {
     let mut buffer = Buffer::new();
     text.push_str(buffer.format(number))

@@ -103,8 +103,8 @@ fn read(alloc: Global, text: &[u8]) -> Result<SoloPuzzle, IdFault>
 ///
 /// The ID's first fault: the tests of the part before the colon come first, in their order and on
 /// the whole ID, and then the first fault that is met in the description from left to right. A
-/// fault's place is the number of bytes of the ID before it. `IdFault::Memory` comes only where
-/// memory was wanted for what was read so far.
+/// fault's place is the number of bytes of the ID before it. `IdFault::Memory` comes only where the
+/// part before the colon has no fault: memory for all cells is taken before the first is read.
 #[tactic(auto, using(crate::proofs::SoloTexts::solo_takes))]
 pub fn read_solo(alloc: Global, text: &[u8]) -> Result<SoloPuzzle, IdFault>
     // What is read is spelled so.
