@@ -1,19 +1,17 @@
 -- A grade names a search by the trials of the whole walk, which are the least budget with which the verdict is one.
-use Rattle.std.proofs.Common.{◌≡◌, ◌∙◌, ◌⊎◌, ◌<◌, ◌≤◌, ◌≢◌, ℕ, zero, suc, Bool, List, [], ◌∷◌, ◌++◌, Option, Some, None, refl, sym, ap, subst, inl, inr, arith, codes, decimal, slice_index}
+use Rattle.std.proofs.Common.{◌≡◌, ◌∙◌, ◌⊎◌, ◌<◌, ◌≤◌, ◌≢◌, ℕ, zero, suc, Bool, List, [], ◌∷◌, ◌++◌, Option, Some, None, refl, sym, ap, subst, inl, inr, arith, codes, slice_index}
 use Rattle.std.proofs.Math.Nat.{eq-or-lt_of_le}
-use Rattle.std.specs.Prelude.{◌+◌}
 use Rattle.engine_core.specs.Verdict.{Outcome.OneGrid, Outcome.NoGrid, outcome, Outcome.TwoGrids, Outcome.OutOfBudget, trials_in}
 use Rattle.engine_core.specs.Walk.{Mark.Found, Mark.Trial}
 use Rattle.commands.specs.Common.{IsRight, Game, Outcome, Mark, Puzzle, grid_text, verdict_of, walk}
-use Rattle.commands.specs.Answers.{Answer, Begins, Text}
-use Rattle.commands.specs.Allowed.{AllowsGrade, AllowsSolve, IsGraded, IsSolved}
+use Rattle.commands.specs.Answers.{Answer, Text}
+use Rattle.commands.specs.Allowed.{AllowsGrade, AllowsSolve, IsSolved}
 use Rattle.commands.specs.Games.{played, puzzle_of}
-use Rattle.commands.specs.Grades.{HasOneSolution, TellsGrade, grade_by, grade_text, listed_grade, rule_set_text, searched_grade}
+use Rattle.commands.specs.Grades.{HasOneSolution, TellsGrade, grade_by, grade_text, listed_grade, searched_grade}
 use Rattle.commands.specs.LawsOfCommands.{IsLeastBudget, NamesLeastBudget, NamesSearch, NamesSet}
-use Rattle.commands.specs.Replies.{refused, verdict_answer}
+use Rattle.commands.specs.Replies.{refused}
 use Rattle.commands.specs.declared.grade.Grade.{Grade}
 use Rattle.commands.specs.declared.grade.Grade.TheVariants.{ByRules, BySearch}
-use Rattle.commands.specs.declared.grade.RuleSet.{RuleSet}
 use Rattle.commands.specs.declared.grade.RuleSet.TheVariants.{Singles, Houses, Crossings, Lines, Local}
 use Rattle.commands.proofs.GameFacts.{facts, found_alone, solving}
 use Rattle.commands.proofs.GradedAlike.{named_or_searched, status_one, told_status}

@@ -1,16 +1,13 @@
 -- Two answers to one making of Solo or Light Up differ only in which clues are left: the first filling that passes is one alone.
-use Rattle.std.proofs.Common.{◌≡◌, ◌≢◌, ◌∙◌, ◌*◌, ℕ, Bool, true, false, List, Option, Some, None, Result, Ok, Err, refl, sym, ap, subst, inl, inr, arith, true≢false}
-use Rattle.std.specs.Prelude.{decimal}
-use Rattle.gameid_core.specs.declared.id.game.Game.TheVariants as game
+use Rattle.std.proofs.Common.{◌≡◌, ◌≢◌, ◌∙◌, ℕ, Bool, true, List, Option, Some, None, Ok, Err, refl, sym, ap, subst, inl, inr, arith, true≢false}
 use Rattle.maker_core.specs.Draws.{filling_at}
 use Rattle.maker_core.specs.LightClues.{SameLight}
 use Rattle.maker_core.specs.LightCluesLaws.{light_is_game}
 use Rattle.maker_core.specs.LightFilling.{light_filling, light_passes, light_puzzle_of}
-use Rattle.maker_core.specs.LightMaking.{IsLightMade}
 use Rattle.maker_core.specs.SoloMaking.{solo_filling, solo_passes}
-use Rattle.commands.specs.Common.{IdFault, IsSoloMade, Kept, Light, NoneFound, SizeRead, Solo, Stream, extent_of, grid_text, solo_cell, solo_extent}
-use Rattle.commands.specs.Answers.{Answer, Text, answer_with, code_of}
-use Rattle.commands.specs.Allowed.{AllowsMade, AllowsOfSize, MakesOf, wanted}
+use Rattle.commands.specs.Common.{IdFault, Light, SizeRead, Solo, extent_of}
+use Rattle.commands.specs.Answers.{Answer, Text}
+use Rattle.commands.specs.Allowed.{AllowsOfSize, MakesOf, wanted}
 use Rattle.commands.specs.LawsOfCommands.{DifferInClues, HandOutAlike, LightsDifferInNumbers, PrintAlike, SoloDiffersInGivens, handed_out}
 use Rattle.commands.specs.LightPlayed.{light_played}
 use Rattle.commands.specs.Makings.{Wanted, exhausted_answer}

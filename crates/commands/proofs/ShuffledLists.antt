@@ -1,8 +1,6 @@
 -- A shuffle brings any list into another order, and leaves a stream of words; and so many draws of black cells leave one.
-use Rattle.maker_core.proofs.Common.{◌≡◌, ℕ, ◌+◌, ◌-◌, ◌*◌, ◌^◌, ◌<◌, ◌≤◌, nat_lt, refl, arith, ◌∙◌, zero, suc, List, length, sym, subst, cond_both}
-use Rattle.maker_core.proofs.Common.{eqb-true, lt-ltb, ltb-false, true≢false, mod_below, Stream, next_u32, canon, HasWords, ◌==◌, IsPermutation}
-use Rattle.maker_core.proofs.Common.{IsPermutation-refl, IsPermutation-swap, IsPermutation-trans, length_permutation, Chooser, chooser_at, chooser_next}
-use Rattle.maker_core.proofs.Common.{chooser_refill, chunk_of, grow, narrow_swaps, rising, last_below, rest_below, rising_more, rising_one, rising_positive}
+use Rattle.maker_core.proofs.Common.{ℕ, ◌-◌, ◌^◌, ◌<◌, nat_lt, arith, ◌∙◌, zero, suc, List, length, sym, cond_both}
+use Rattle.maker_core.proofs.Common.{lt-ltb, true≢false, Stream, HasWords, IsPermutation}
 use Rattle.maker_core.proofs.Common.{black_cells, shuffled_list}
 use Rattle.maker_core.proofs.Shuffles.{draw_is, swaps_are}
 

@@ -1,6 +1,6 @@
 -- A puzzle with all its clues can be thinned: a clue is taken away where the verdict without it is one, and else left for the reason
 -- that the verdict tells.
-use Rattle.maker_core.proofs.Common.{◌≡◌, ◌∙◌, ℕ, List, [], ◌∷◌, Option, Some, None, replicate, set, refl, sym, inl, inr, arith, cases_eq}
+use Rattle.maker_core.proofs.Common.{◌≡◌, ◌∙◌, ℕ, List, [], ◌∷◌, Option, Some, None, replicate, set, refl, sym, inl, inr, cases_eq}
 use Rattle.maker_core.proofs.Common.{IsPermutation-refl, outcome-true, IsLawful, IsTrueOf, Outcome, Solves, verdict_of, CluedGame, IsGame, IsThinnedFrom}
 use Rattle.maker_core.proofs.Common.{clue_places, AreReasons, IsOnly, TellsOne, IsAsked, IsLeft, IsThinning, reasons_from}
 use Rattle.std.proofs.lemmas.Option.{none-some}

@@ -63,7 +63,7 @@ fn solving(alloc: Global, puzzle: &PatternPuzzle, size: Size) -> Result<(u32, u3
     let mut found = (0, 0);
     for bits in all_grids(size) {
         if is_solution(alloc, puzzle, size, bits)? {
-            found = (found.0 + 1, bits);
+            found = (found.0.saturating_add(1), bits);
         }
     }
     Ok(found)
