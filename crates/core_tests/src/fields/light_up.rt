@@ -39,6 +39,18 @@ fn accepted(alloc: Global, id: &str, bulbs: &[usize]) -> Result<Option<bool>, Fa
     Ok(accepts(alloc, &rules, bulbs)?)
 }
 
+/// Whether the check finds this fault, and the rules accept the grid if it is none.
+fn has_fault(
+    alloc: Global,
+    id: &str,
+    bulbs: &[usize],
+    fault: Option<LightFault>,
+) -> Result<bool, Fail> {
+    let found = fault_of(alloc, id, bulbs)?;
+    let accepted = accepted(alloc, id, bulbs)?;
+    Ok(found == Some(fault) && accepted == Some(fault.is_none()))
+}
+
 /// The ID of a puzzle, the places of bulbs, and the fault.
 const GRIDS: [(&str, &[usize], Option<LightFault>); 7] = [
     ("2x2:2c", &[1, 2], None),
@@ -53,13 +65,8 @@ const GRIDS: [(&str, &[usize], Option<LightFault>); 7] = [
 #[test]
 fn grids_of_light_up(rt: HostRuntime) -> Result<(), Fail> {
     for (id, bulbs, fault) in GRIDS {
-        assert_eq!(rt;
-            fault_of(rt.alloc(), id, bulbs)?,
-            Some(fault),
-            "{id} {bulbs:?}"
-        );
-        let accepted = accepted(rt.alloc(), id, bulbs)?;
-        assert_eq!(rt; accepted, Some(fault.is_none()), "{id} {bulbs:?}");
+        let found = has_fault(rt.alloc(), id, bulbs, fault)?;
+        assert!(rt; found, "{id} {fault:?}");
     }
     Ok(())
 }

@@ -39,6 +39,18 @@ fn accepted(alloc: Global, id: &str, tents: &[usize]) -> Result<Option<bool>, Fa
     Ok(accepts(alloc, &rules, tents)?)
 }
 
+/// Whether the check finds this fault, and the rules accept the grid if it is none.
+fn has_fault(
+    alloc: Global,
+    id: &str,
+    tents: &[usize],
+    fault: Option<TentFault>,
+) -> Result<bool, Fail> {
+    let found = fault_of(alloc, id, tents)?;
+    let accepted = accepted(alloc, id, tents)?;
+    Ok(found == Some(fault) && accepted == Some(fault.is_none()))
+}
+
 const CAMP: &str = "5x3:aiaa,1,0,2,0,0,2,0,1";
 
 /// The ID of a puzzle, the places of tents, and the fault.
@@ -54,13 +66,8 @@ const GRIDS: [(&str, &[usize], Option<TentFault>); 6] = [
 #[test]
 fn grids_of_tents(rt: HostRuntime) -> Result<(), Fail> {
     for (id, tents, fault) in GRIDS {
-        assert_eq!(rt;
-            fault_of(rt.alloc(), id, tents)?,
-            Some(fault),
-            "{id} {tents:?}"
-        );
-        let accepted = accepted(rt.alloc(), id, tents)?;
-        assert_eq!(rt; accepted, Some(fault.is_none()), "{id} {tents:?}");
+        let found = has_fault(rt.alloc(), id, tents, fault)?;
+        assert!(rt; found, "{id} {fault:?}");
     }
     Ok(())
 }

@@ -16,18 +16,18 @@ fn grid_of(alloc: Global, numbers: &[u8]) -> Result<Grid, AllocError> {
     Ok(grid)
 }
 
-/// The ID of the puzzle of a grid, if there are numbers enough below 2. The first of them are the grid's.
-fn id_of_grid(alloc: Global, size: Size, numbers: &[u8]) -> Result<Option<String>, AllocError> {
+/// Whether the puzzle of a grid has this ID. The first numbers are the grid's.
+fn is_of_grid(alloc: Global, size: Size, numbers: &[u8], id: &str) -> Result<bool, AllocError> {
     let cells = size.cells();
     if numbers.len() < cells {
-        return Ok(None);
+        return Ok(false);
     }
     let grid = grid_of(alloc, &numbers[..cells])?;
     if !grid.fits(cells, 2) {
-        return Ok(None);
+        return Ok(false);
     }
     let puzzle = PatternPuzzle::of_grid(alloc, size, &grid)?;
-    Ok(Some(write_pattern(alloc, &puzzle)?))
+    Ok(write_pattern(alloc, &puzzle)?.as_str() == id)
 }
 
 #[test]
@@ -40,8 +40,8 @@ fn puzzles_of_grids(rt: HostRuntime) -> Result<(), Fail> {
     ] {
         let size = Size::new(w, h);
         assert!(rt; size.is_some());
-        let id = id_of_grid(rt.alloc(), size.unwrap(), &numbers)?;
-        assert_eq!(rt; id.as_deref(), Some(want));
+        let same = is_of_grid(rt.alloc(), size.unwrap(), &numbers, want)?;
+        assert!(rt; same, "{want}");
     }
     Ok(())
 }
@@ -61,13 +61,13 @@ fn of_parts(
     Ok(Some(TentsPuzzle::of_parts(alloc, size, &trees, &tents)?))
 }
 
-/// Its ID, its first count, and whether its second cell has a tree.
+/// Whether it has this ID, its first count, and whether its second cell has a tree.
 fn told_of_parts(
     alloc: Global,
     size: Size,
-    trees: &[u8],
-    tents: &[u8],
-) -> Result<Option<(String, u8, bool)>, AllocError> {
+    (trees, tents): (&[u8], &[u8]),
+    id: &str,
+) -> Result<Option<(bool, u8, bool)>, AllocError> {
     let Some(puzzle) = of_parts(alloc, size, trees, tents)? else {
         return Ok(None);
     };
@@ -75,26 +75,45 @@ fn told_of_parts(
     if size.w() < 2 || size.h() < 2 || size.cells() < 2 {
         return Ok(None);
     }
-    let id = write_tents(alloc, &puzzle)?;
-    Ok(Some((id, puzzle.count(0), puzzle.tree(1))))
+    let same = write_tents(alloc, &puzzle)?.as_str() == id;
+    Ok(Some((same, puzzle.count(0), puzzle.tree(1))))
 }
+
+/// A size, the trees and the tents of a grid, the first count, whether the second cell has a tree, and the ID.
+const PARTS: [((u8, u8), &[u8], &[u8], u8, bool, &str); 3] = [
+    (
+        (2, 2),
+        &[1, 0, 0, 0],
+        &[0, 1, 0, 0],
+        0,
+        false,
+        "2x2:_c,0,1,1,0",
+    ),
+    (
+        (13, 2),
+        &[0; 26],
+        &[0; 26],
+        0,
+        false,
+        "13x2:za,0,0,0,0,0,0,0,0,0,0,0,0,0,0,0",
+    ),
+    (
+        (3, 2),
+        &[0, 1, 0, 0, 0, 1],
+        &[1, 0, 1, 0, 0, 0],
+        1,
+        true,
+        "3x2:ac_,1,0,1,2,0",
+    ),
+];
 
 #[test]
 fn puzzles_of_parts(rt: HostRuntime) -> Result<(), Fail> {
-    let (corner, beside) = ([1, 0, 0, 0], [0, 1, 0, 0]);
-    let (two, ends) = ([0, 1, 0, 0, 0, 1], [1, 0, 1, 0, 0, 0]);
-    let (none, empty) = ([0; 26], "13x2:za,0,0,0,0,0,0,0,0,0,0,0,0,0,0,0");
-    for (w, h, trees, tents, first, want) in [
-        (2, 2, &corner[..], &beside[..], 0, "2x2:_c,0,1,1,0"),
-        (13, 2, &none[..], &none[..], 0, empty),
-        (3, 2, &two[..], &ends[..], 1, "3x2:ac_,1,0,1,2,0"),
-    ] {
+    for ((w, h), trees, tents, first, tree, id) in PARTS {
         let size = Size::new(w, h);
         assert!(rt; size.is_some());
-        let told = told_of_parts(rt.alloc(), size.unwrap(), trees, tents)?;
-        assert!(rt; told.is_some(), "{want}");
-        let (id, count, tree) = told.unwrap();
-        assert_eq!(rt; (id.as_str(), count, tree), (want, first, trees[1] == 1));
+        let told = told_of_parts(rt.alloc(), size.unwrap(), (trees, tents), id)?;
+        assert_eq!(rt; told, Some((true, first, tree)), "{id}");
     }
     Ok(())
 }
@@ -104,31 +123,38 @@ fn is_written(alloc: Global, puzzle: &SoloPuzzle, id: &str) -> Result<bool, Allo
     Ok(write_solo(alloc, puzzle)?.as_str() == id)
 }
 
-#[test]
-fn solo_cells_are_set(rt: HostRuntime) -> Result<(), Fail> {
-    let mut solo = SoloPuzzle::blank(rt.alloc(), 2, 2, false)?;
-    assert!(rt; is_written(rt.alloc(), &solo, "2x2:p")?);
+/// Whether a blank puzzle has its ID, and so after three cells were set, and after one was taken back; and its columns and
+/// rows of sub-blocks, its numbers, and its first given.
+fn solo_set(alloc: Global) -> Result<([bool; 3], (u8, u8, u8, u8)), AllocError> {
+    let mut solo = SoloPuzzle::blank(alloc, 2, 2, false)?;
+    let blank = is_written(alloc, &solo, "2x2:p")?;
     solo.set_given(0, 1);
     solo.set_given(1, 4);
     solo.set_given(15, 3);
-    assert!(rt; is_written(rt.alloc(), &solo, "2x2:1_4m3")?);
+    let three = is_written(alloc, &solo, "2x2:1_4m3")?;
     solo.set_given(1, 0);
-    assert_eq!(rt; (solo.c(), solo.r(), solo.n(), solo.given(0)), (2, 2, 4, 1));
-    assert!(rt; is_written(rt.alloc(), &solo, "2x2:1n3")?);
+    let two = is_written(alloc, &solo, "2x2:1n3")?;
+    let told = (solo.c(), solo.r(), solo.n(), solo.given(0));
+    Ok(([blank, three, two], told))
+}
+
+#[test]
+fn solo_cells_are_set(rt: HostRuntime) -> Result<(), Fail> {
+    assert_eq!(rt; solo_set(rt.alloc())?, ([true; 3], (2, 2, 4, 1)));
     Ok(())
 }
 
-/// Whether a blank puzzle of 2 by 3 blocks says that it is of Solo X, and its ID.
-fn made(alloc: Global, x: bool) -> Result<(bool, String), AllocError> {
+/// Whether a blank puzzle of 2 by 3 blocks says that it is of Solo X, and whether it has this ID.
+fn made(alloc: Global, x: bool, id: &str) -> Result<[bool; 2], AllocError> {
     let made = SoloPuzzle::blank(alloc, 2, 3, x)?;
-    Ok((made.x(), write_solo(alloc, &made)?))
+    Ok([made.x(), is_written(alloc, &made, id)?])
 }
 
-/// Whether a puzzle that is read and its copy say that they are of Solo X, and the copy's ID.
-fn copied(alloc: Global, id: &str) -> Result<([bool; 2], String), Fail> {
+/// Whether a puzzle that is read and its copy say that they are of Solo X, and whether the copy has its ID.
+fn copied(alloc: Global, id: &str) -> Result<[bool; 3], Fail> {
     let read = read_solo(alloc, id.as_bytes())?;
     let copied = read.copy(alloc)?;
-    Ok(([read.x(), copied.x()], write_solo(alloc, &copied)?))
+    Ok([read.x(), copied.x(), is_written(alloc, &copied, id)?])
 }
 
 #[test]
@@ -137,32 +163,27 @@ fn solo_x_is_made_read_and_copied(rt: HostRuntime) -> Result<(), Fail> {
         (false, "2x3:zj", "2x3:1_6zh"),
         (true, "2x3x:zj", "2x3x:1_6zh"),
     ] {
-        let (is_x, id) = made(rt.alloc(), x)?;
-        assert_eq!(rt; (is_x, id.as_str()), (x, blank));
-        let (are_x, id) = copied(rt.alloc(), given)?;
-        assert_eq!(rt; (are_x, id.as_str()), ([x, x], given));
+        assert_eq!(rt; made(rt.alloc(), x, blank)?, [x, true], "{blank}");
+        assert_eq!(rt; copied(rt.alloc(), given)?, [x, x, true], "{given}");
     }
     Ok(())
 }
 
-/// Of a blank puzzle of Light Up, two of whose cells were set: cells 4 and 5, and its ID.
-fn lights_set(alloc: Global) -> Result<([LightCell; 2], String), AllocError> {
+/// Whether a blank puzzle of Light Up has its ID, and so after two of its cells were set; and cells 4 and 5 then.
+fn lights_set(alloc: Global) -> Result<([bool; 2], [LightCell; 2]), AllocError> {
     let mut lights = LightPuzzle::blank(alloc, Size::new(2, 3).unwrap())?;
+    let blank = write_lights(alloc, &lights)?.as_str() == "2x3:f";
     lights.set_cell(1, LightCell::Black);
     lights.set_cell(5, LightCell::Numbered(3));
-    Ok((
-        [lights.cell(4), lights.cell(5)],
-        write_lights(alloc, &lights)?,
-    ))
+    let set = write_lights(alloc, &lights)?.as_str() == "2x3:aBc3";
+    Ok(([blank, set], [lights.cell(4), lights.cell(5)]))
 }
 
 #[test]
 fn light_cells_are_set(rt: HostRuntime) -> Result<(), Fail> {
-    let blank = LightPuzzle::blank(rt.alloc(), Size::new(2, 3).unwrap())?;
-    assert_eq!(rt; write_lights(rt.alloc(), &blank)?.as_str(), "2x3:f");
-    let (cells, id) = lights_set(rt.alloc())?;
+    let (written, cells) = lights_set(rt.alloc())?;
+    assert_eq!(rt; written, [true, true]);
     assert_eq!(rt; cells, [LightCell::White, LightCell::Numbered(3)]);
-    assert_eq!(rt; id.as_str(), "2x3:aBc3");
     Ok(())
 }
 
@@ -196,22 +217,21 @@ fn clues_are_read(rt: HostRuntime) -> Result<(), Fail> {
     Ok(())
 }
 
-/// The ID of a copy of the puzzle of Light Up with the ID.
-fn lights_copied(alloc: Global, id: &str) -> Result<String, Fail> {
+/// Whether a copy of the puzzle of Light Up with the ID has it too.
+fn lights_copied(alloc: Global, id: &str) -> Result<bool, Fail> {
     let copy = read_lights(alloc, id.as_bytes())?.copy(alloc)?;
-    Ok(write_lights(alloc, &copy)?)
+    Ok(write_lights(alloc, &copy)?.as_str() == id)
 }
 
 /// The same of Tents.
-fn tents_copied(alloc: Global, id: &str) -> Result<String, Fail> {
+fn tents_copied(alloc: Global, id: &str) -> Result<bool, Fail> {
     let copy = read_tents(alloc, id.as_bytes())?.copy(alloc)?;
-    Ok(write_tents(alloc, &copy)?)
+    Ok(write_tents(alloc, &copy)?.as_str() == id)
 }
 
 #[test]
 fn puzzles_are_copied(rt: HostRuntime) -> Result<(), Fail> {
-    let (lights, tents) = ("3x3:aBBa1aBb", "2x2:_c,0,1,1,0");
-    assert_eq!(rt; lights_copied(rt.alloc(), lights)?.as_str(), lights);
-    assert_eq!(rt; tents_copied(rt.alloc(), tents)?.as_str(), tents);
+    assert!(rt; lights_copied(rt.alloc(), "3x3:aBBa1aBb")?);
+    assert!(rt; tents_copied(rt.alloc(), "2x2:_c,0,1,1,0")?);
     Ok(())
 }

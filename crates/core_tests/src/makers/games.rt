@@ -1,27 +1,38 @@
 //! Worked examples of Pattern, Light Up and Tents.
 
+ghost use Rattle.std.specs.Prelude.{◌≤◌};
+
 use super::{fault, generator, limits};
-use gameid_core::{LightCell, LightPuzzle, TentsPuzzle, write_lights, write_pattern};
+use gameid_core::{
+    LightCell, LightPuzzle, PatternPuzzle, TentsPuzzle, write_lights, write_pattern,
+};
 use grid_core::Size;
 use maker_core::{Limits, Made, MakeFault, make_lights, make_pattern, make_tents};
 use std::alloc::Global;
 use std::test::Fail;
 
-/// The ID of a puzzle of Pattern, of 2 by 2 cells, that is made in one try.
-fn pattern_of(alloc: Global, black: u8) -> Result<String, Fail> {
+/// What is made of Pattern, of 2 by 2 cells.
+fn pattern(alloc: Global, black: u8, tries: u32) -> Result<Made<PatternPuzzle>, MakeFault>
+    requires { black ≤ 100 }
+{
     let size = Size::new(2, 2).unwrap();
-    let made = make_pattern(alloc, size, black, &mut generator(), limits(1_000, 1))?;
-    Ok(write_pattern(alloc, &made.puzzle)?)
+    make_pattern(alloc, size, black, &mut generator(), limits(1_000, tries))
+}
+
+/// Whether that of one try has this ID.
+fn is_pattern(alloc: Global, black: u8, id: &str) -> Result<bool, Fail>
+    requires { black ≤ 100 }
+{
+    let made = pattern(alloc, black, 1)?;
+    Ok(write_pattern(alloc, &made.puzzle)?.as_str() == id)
 }
 
 #[test]
 fn a_grid_of_one_colour_is_made_of_pattern(rt: HostRuntime) -> Result<(), Fail> {
-    for (black, id) in [(100, "2x2:2/2/2/2"), (0, "2x2:///")] {
-        assert_eq!(rt; pattern_of(rt.alloc(), black)?.as_str(), id);
-    }
-    let size = Size::new(2, 2).unwrap();
-    let none = make_pattern(rt.alloc(), size, 50, &mut generator(), limits(1_000, 0));
-    assert_eq!(rt; fault(none)?, Some(MakeFault::Exhausted));
+    assert!(rt; is_pattern(rt.alloc(), 100, "2x2:2/2/2/2")?);
+    assert!(rt; is_pattern(rt.alloc(), 0, "2x2:///")?);
+    let none = fault(pattern(rt.alloc(), 50, 0))?;
+    assert_eq!(rt; none, Some(MakeFault::Exhausted));
     Ok(())
 }
 
@@ -31,32 +42,48 @@ fn lights(
     size: Size,
     black: u8,
     limits: Limits,
-) -> Result<Made<LightPuzzle>, MakeFault> {
+) -> Result<Made<LightPuzzle>, MakeFault>
+    requires { black ≤ 100 }
+{
     make_lights(alloc, size, black, &mut generator(), limits)
 }
 
-/// The ID of that of 2 by 2 cells, and how many numbers were left.
-fn lights_of(alloc: Global, black: u8, limits: Limits) -> Result<(String, usize), Fail> {
+/// Whether that of 2 by 2 black cells in one try has this ID, and how many numbers were left.
+fn are_lights(alloc: Global, budget: u64, id: &str) -> Result<(bool, usize), Fail> {
     let size = Size::new(2, 2).unwrap();
-    let made = lights(alloc, size, black, limits)?;
-    Ok((write_lights(alloc, &made.puzzle)?, made.kept.len()))
+    let made = lights(alloc, size, 100, limits(budget, 1))?;
+    let same = write_lights(alloc, &made.puzzle)?.as_str() == id;
+    Ok((same, made.kept.len()))
+}
+
+/// Why nothing was made of a size.
+fn no_lights(
+    alloc: Global,
+    sides: (u8, u8),
+    black: u8,
+    tries: u32,
+) -> Result<Option<MakeFault>, MakeFault>
+    requires { black ≤ 100 }
+{
+    match Size::new(sides.0, sides.1) {
+        Some(size) => fault(lights(alloc, size, black, limits(1_000, tries))),
+        None => Ok(None),
+    }
 }
 
 #[test]
 fn a_grid_of_black_cells_is_made_of_light_up(rt: HostRuntime) -> Result<(), Fail> {
     for budget in [0, 1_000] {
-        let (id, kept) = lights_of(rt.alloc(), 100, limits(budget, 1))?;
-        assert_eq!(rt; (id.as_str(), kept), ("2x2:BBBB", 0), "budget {budget}");
+        let told = are_lights(rt.alloc(), budget, "2x2:BBBB")?;
+        assert_eq!(rt; told, (true, 0));
     }
-    let (square, column) = (Size::new(2, 2).unwrap(), Size::new(1, 4).unwrap());
-    for (size, black, tries, why) in [
-        (square, 0, 2, MakeFault::Exhausted),
-        (square, 100, 0, MakeFault::Exhausted),
-        (column, 100, 0, MakeFault::SizeRange),
-    ] {
-        let made = lights(rt.alloc(), size, black, limits(1_000, tries));
-        assert_eq!(rt; fault(made)?, Some(why), "{size:?} {black}");
-    }
+    let none = [
+        no_lights(rt.alloc(), (2, 2), 0, 2)?,
+        no_lights(rt.alloc(), (2, 2), 100, 0)?,
+        no_lights(rt.alloc(), (1, 4), 100, 0)?,
+    ];
+    let exhausted = Some(MakeFault::Exhausted);
+    assert_eq!(rt; none, [exhausted, exhausted, Some(MakeFault::SizeRange)]);
     Ok(())
 }
 
@@ -120,9 +147,13 @@ fn tents_have_trees(rt: HostRuntime) -> Result<(), Fail> {
     let (standing, trees) = counted_of(rt.alloc(), size)?.unwrap_or((0, 0));
     assert!(rt; 1 <= standing && standing <= 7);
     assert_eq!(rt; trees, standing);
-    let none = tents(rt.alloc(), size, 0);
-    assert_eq!(rt; fault(none)?, Some(MakeFault::Exhausted));
-    let narrow = tents(rt.alloc(), small, 0);
-    assert_eq!(rt; fault(narrow)?, Some(MakeFault::SizeRange));
+    let none = [
+        fault(tents(rt.alloc(), size, 0))?,
+        fault(tents(rt.alloc(), small, 0))?,
+    ];
+    assert_eq!(rt;
+        none,
+        [Some(MakeFault::Exhausted), Some(MakeFault::SizeRange)]
+    );
     Ok(())
 }

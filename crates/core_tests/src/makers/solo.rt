@@ -144,6 +144,16 @@ fn solo_x_has_numbers_once_on_its_diagonals(rt: HostRuntime) -> Result<(), Fail>
     Ok(())
 }
 
+/// Why nothing is made without a budget.
+fn none(
+    alloc: Global,
+    blocks: (u8, u8),
+    x: bool,
+    tries: u32,
+) -> Result<Option<MakeFault>, MakeFault> {
+    fault(made(alloc, blocks, x, limits(0, tries)))
+}
+
 #[test]
 fn sizes_and_tries_are_tested_first(rt: HostRuntime) -> Result<(), Fail> {
     for (blocks, x, tries, why) in [
@@ -153,8 +163,11 @@ fn sizes_and_tries_are_tested_first(rt: HostRuntime) -> Result<(), Fail> {
         // a top row alone leaves two grids, so that a search needs trials
         ((2, 2), true, 2, MakeFault::Exhausted),
     ] {
-        let none = made(rt.alloc(), blocks, x, limits(0, tries));
-        assert_eq!(rt; fault(none)?, Some(why), "{blocks:?} {x} {tries}");
+        assert_eq!(rt;
+            none(rt.alloc(), blocks, x, tries)?,
+            Some(why),
+            "{x} {tries}"
+        );
     }
     Ok(())
 }

@@ -262,22 +262,34 @@ fn row_agrees(
     true
 }
 
-/// The same of all rows of a puzzle.
-fn puzzle_agrees(alloc: Global, rows: Rows) -> Result<bool, Fail> {
-    let rules = rules_of(alloc, rows)?;
-    let mut scratch = rules.scratch(alloc)?;
-    let mut board = Board::new(alloc, rules.cells(), 2)?;
+/// The same of all rows of a puzzle, of which there are no others.
+fn rows_agree(
+    rules: &PatternLines,
+    board: &mut Board,
+    scratch: &mut LineScratch,
+    rows: Rows,
+) -> bool
+    requires { IsBoardOf (line_rules rules.now.pattern) board.old }
+{
     let mut number = 0usize;
     for clue in CLUES {
         if fits(clue, rows.open()) {
             let row = Row { rows, number, clue };
-            if !row_agrees(&rules, &mut board, &mut scratch, row) {
-                return Ok(false);
+            if !row_agrees(rules, board, scratch, row) {
+                return false;
             }
             number = number.saturating_add(1);
         }
     }
-    Ok(rules.houses() == rows.cells() + number.min(CLUES.len()))
+    rules.houses() == rows.cells() + number.min(CLUES.len())
+}
+
+/// The same of a puzzle.
+fn puzzle_agrees(alloc: Global, rows: Rows) -> Result<bool, Fail> {
+    let rules = rules_of(alloc, rows)?;
+    let mut scratch = rules.scratch(alloc)?;
+    let mut board = Board::new(alloc, rules.cells(), 2)?;
+    Ok(rows_agree(&rules, &mut board, &mut scratch, rows))
 }
 
 /// The same of rows of up to six open cells.
