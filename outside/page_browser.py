@@ -61,8 +61,8 @@ class Page:
     def text(self, selector):
         return self.one(selector).text
 
-    def cells(self):
-        return self.all("#stage [role=gridcell]")
+    def cells(self, within="#stage"):
+        return self.all(f"{within} [role=gridcell]")
 
     def marked(self):
         """The places of the cells of the board that are marked."""
@@ -88,8 +88,8 @@ class Page:
     def open(self, game="", text=""):
         self.driver.get("about:blank")
         self.driver.get(f"{self.url}#{game}/{text}" if text else self.url)
-        opened = "#seed:placeholder-shown" if text else "#stage"  # an ID that is shown has no seed
-        self.until(f"opens {game} {text}", lambda: self.cells() and self.all(opened))
+        seed = lambda: self.one("#seed").get_property("value")  # which a puzzle that is opened by its ID hasn't
+        self.until(f"opens {game} {text}", lambda: self.cells() and not (text and seed()))
 
     def answer(self, button):
         """What is said after a button, which takes away what was said before."""
@@ -143,11 +143,10 @@ def play(page, server, tally, game, size, seed, black):
     _, _, told = server.ask("check", {"game": game, "id": made["id"], "grid": grid})
     tally.same(f"{game}: the marks", page.marked(), named(told.get("fault", ""), size, len(made["grids"][0])))
     page.click("#clear")
-    tally.same(f"{game}: solve", page.answer("#solve"), "The only solution. Undo brings your grid back.")
+    tally.same(f"{game}: solve", page.answer("#solve"), "The only solution is below.")
     solution = "".join(row + "\n" for row in made["grids"][0])
-    tally.same(f"{game}: what solve shows", printed(page, game, made["grids"][0]), solution)
-    page.click("#undo")
-    tally.same(f"{game}: undo takes it back", printed(page, game, made["grids"][0]) == solution, False)
+    tally.same(f"{game}: what solve shows", printed(page, game, made["grids"][0], "#more"), solution)
+    tally.same(f"{game}: what solve leaves", printed(page, game, made["grids"][0]) == solution, False)
     _, _, told = server.ask("grade", {"game": game, "id": made["id"]})
     wanted = GRADES.get(told["grade"], "Guesses are needed")
     tally.same(f"{game}: grade", page.answer("#grade").partition(":")[0], wanted)
@@ -184,9 +183,9 @@ def spoil(page, game, signs, places):
         page.cells()[places[0]].send_keys(Keys.DELETE)
 
 
-def printed(page, game, grid):
-    """The board as a grid is printed, from what a screen reader reads of each cell."""
-    said = [cell.get_attribute("aria-label").partition(": ")[2].split(",")[0] for cell in page.cells()]
+def printed(page, game, grid, within="#stage"):
+    """A board as a grid is printed, from what a screen reader reads of each cell."""
+    said = [cell.get_attribute("aria-label").partition(": ")[2].split(",")[0] for cell in page.cells(within)]
     if game == "solo":
         wide = len(grid)
         return "".join(" ".join(said[k:k + wide]) + "\n" for k in range(0, len(said), wide))
@@ -219,7 +218,7 @@ def several(page, tally):
     tally.same("a long search", page.answer("#solve") in (
         "This takes longer than the page allows.", "Too hard to tell within the page’s limit."), True)
     page.open("solo", "2x2:1b4i3_2a")
-    tally.same("a search after it", page.answer("#solve"), "The only solution. Undo brings your grid back.")
+    tally.same("a search after it", page.answer("#solve"), "The only solution is below.")
 
 
 def broken(page, tally, game, text, mark):
