@@ -12,7 +12,7 @@ try:
     from selenium.webdriver.chrome.service import Service
     from selenium.webdriver.common.by import By
     from selenium.webdriver.common.keys import Keys
-    from selenium.webdriver.support.ui import WebDriverWait
+    from selenium.webdriver.support.ui import Select, WebDriverWait
 except ImportError:
     webdriver = None
 
@@ -74,6 +74,9 @@ class Page:
         self.driver.execute_script("arguments[0].scrollIntoView({ block: 'center' })", button)
         button.click()
 
+    def choose(self, game):
+        Select(self.one("#game")).select_by_value(game)
+
     def until(self, what, seen):
         WebDriverWait(self.driver, WAIT, poll_frequency=0.05).until(lambda _: seen(), what)
 
@@ -127,11 +130,11 @@ def play(page, server, tally, game, size, seed, black):
     """Makes a puzzle by its seed, fills in its solution, then breaks it; and has it solved and graded."""
     _, _, made = server.ask("generate", {"game": game, "size": size, "seed": seed, **({"black": black} if black else {})})
     page.open()
-    page.click(f"#games label:has([value={game}])")
+    page.choose(game)
     page.until(f"shows {game}", lambda: page.all(f"#stage .{game}"))
     tally.same(f"{game}: the size", page.one("#size").get_property("value"), size)
     page.put("#seed", seed)
-    page.click("#make button:not(#another)")
+    page.click("#generate")
     page.until(f"makes {game} {size} of {seed}", lambda: page.one("#id").get_property("value") == made["id"])
     signs = [sign for row in made["grids"][0] for sign in (row.split() if game == "solo" else row)]
     asked = write(page, game, signs, len(made["grids"][0]))
@@ -224,7 +227,7 @@ def several(page, tally):
 def broken(page, tally, game, text, mark):
     """An ID that is refused: the page marks the place, and keeps its board."""
     page.open()
-    page.click(f"#games label:has([value={game}])")
+    page.choose(game)
     page.until(f"shows {game}", lambda: page.all(f"#stage .{game}"))
     page.put("#id", text)
     page.click("#open button")
@@ -238,7 +241,7 @@ def hostile(page, tally):
     page.open()
     parts = "return document.querySelectorAll('*').length"
     for text in HOSTILE:
-        for field, button, said in [("#id", "#open button", "#fault"), ("#seed", "#make button:not(#another)", "#answer")]:
+        for field, button, said in [("#id", "#open button", "#fault"), ("#seed", "#generate", "#answer")]:
             page.driver.execute_script("for (const id of ['fault', 'answer']) document.getElementById(id).textContent = ''")
             before = page.driver.execute_script(parts)
             page.put(field, text)

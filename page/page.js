@@ -3,13 +3,14 @@ import { light, places, print, read, rowsOf, scan } from "./puzzle.js";
 const GAMES = {
   solo: { sizes: "2x2 2x3 3x3 3x3x 3x4 4x4", usual: "3x3",
     rule: "Each row, column, block and shaded diagonal has each number once." },
-  pattern: { sizes: "5x5 10x10 15x15 20x20 30x30", usual: "10x10", values: ["blank", "black", "dot"],
+  pattern: { sizes: "5x5 10x10 15x15 20x20 30x30", usual: "10x10", sign: "#",
     rule: "The numbers are the lengths of the black runs of a row or column, in order." },
-  lightup: { sizes: "5x5 7x7 10x10 14x14 20x20 30x30", usual: "7x7", values: ["blank", "bulb", "dot"],
+  lightup: { sizes: "5x5 7x7 10x10 14x14 20x20 30x30", usual: "7x7", sign: "O",
     rule: "Light each white cell. No bulb lights another. A number counts the bulbs beside it." },
-  tents: { sizes: "5x5 8x8 10x10 15x15 20x20", usual: "8x8", values: ["blank", "tent", "dot"],
+  tents: { sizes: "5x5 8x8 10x10 15x15 20x20", usual: "8x8", sign: "^",
     rule: "Each tree has a tent of its own beside it. No two tents touch. The numbers count the tents." },
 };
+const WORDS = { ".": "blank", "•": "dot", "#": "black", O: "bulb", "^": "tent", T: "tree" };
 const GRADES = { singles: "Easy: each step finds a cell with one number left, or a number with one cell left.",
   houses: "Medium: each step looks at one row, column or block.", crossings: "Hard: some steps look at a block and a line.",
   lines: "No guesses: each step looks at one row or column.", local: "No guesses: each step looks at one clue or line." };
@@ -23,8 +24,7 @@ const SOLVED = { one: "The only solution is below.", none: "This puzzle has no s
   several: "This puzzle has several solutions.", "gave up": "Too hard to tell within the page’s limit." };
 
 const $ = (id) => document.getElementById(id);
-const chosen = () => document.querySelector("#games input:checked").value;
-let puzzle, id, grid, cells, state, at, asked = 0;
+let puzzle, id, cells, state, at, asked = 0;
 
 function element(name, attributes, ...inside) {
   const made = document.createElement(name);
@@ -43,33 +43,29 @@ function draw(p, name) {
     ...(list.length ? list : [0]).map((number) => element("span", {}, number))));
   const columns = clues(p.columns, "columnheader", "column"), rows = clues(p.rows, "rowheader", "row");
   const lines = rowsOf(p).map((line, y) => row(rows.slice(y, y + 1), line.map((place, x) => {
-    const names = { left: x % thick.w === 0, top: y % thick.h === 0, right: x === p.w - 1, bottom: y === p.h - 1,
-      crossed: p.crossed && (x === y || x === p.w - 1 - y), cell: true };
-    const shown = Object.keys(names).filter((name) => names[name]).join(" ");
-    return (cells[place] = element("div", { role: "gridcell", class: shown, tabindex: -1 }));
+    const is = { cell: true, left: x % thick.w === 0, top: y % thick.h === 0, right: x === p.w - 1, bottom: y === p.h - 1,
+      crossed: p.crossed && (x === y || x === p.w - 1 - y) };
+    const names = Object.keys(is).filter((name) => is[name]).join(" ");
+    return (cells[place] = element("div", { role: "gridcell", class: names, tabindex: -1 }));
   })));
   const heads = columns.length ? [row([element("div", { role: "presentation" })], columns)] : [];
-  const grid = element("div", { role: "grid", class: `board ${p.game}`, "aria-label": `${name}, ${p.w} columns, ${p.h} rows` },
-    ...beside(heads, lines));
+  const label = `${name}, ${p.w} columns, ${p.h} rows`;
+  const grid = element("div", { role: "grid", class: `board ${p.game}`, "aria-label": label }, ...beside(heads, lines));
   const room = (lists) => (lists.length ? 0.4 + 0.6 * Math.max(...lists.map((list) => list.length)) : 0); // in cells
-  grid.style.setProperty("--w", p.w);
-  grid.style.setProperty("--wide", p.w + room(p.rows));
-  grid.style.setProperty("--tall", p.h + room(p.columns));
+  grid.style = `--w: ${p.w}; --wide: ${p.w + room(p.rows)}; --tall: ${p.h + room(p.columns)}`;
   return [grid, cells];
 }
 
 // Puts what stands there into a drawn grid, and marks cells.
-function fill(cells, p, values, marked, why) {
-  const lit = light(p, values);
+function fill(cells, p, signs, marked, why) {
+  const lit = light(p, signs);
   cells.forEach((cell, place) => {
-    const fixed = p.fixed[place], value = values[place];
-    const text = String(p.block ? fixed || value || "" : fixed.replace(/[#T]/, ""));
-    const given = { solo: `${fixed}, given`, lightup: `black ${text}`, tents: "tree" }[p.game];
-    const what = fixed ? given : p.block ? text || "blank" : GAMES[p.game].values[value];
-    const is = { fixed: fixed !== "", on: !p.block && value === 1, dot: !p.block && value === 2, lit: lit.has(place),
-      marked: marked.has(place) };
+    const sign = signs[place], text = /[\d•]/.test(sign) ? sign : "";
+    const is = { fixed: p.fixed[place] !== "", lit: lit.has(place), marked: marked.has(place) };
     for (const [name, on] of Object.entries(is)) cell.classList.toggle(name, on);
+    cell.dataset.sign = sign;
     if (cell.textContent !== text) cell.textContent = text;
+    const what = WORDS[sign] || (p.game === "lightup" ? `black ${sign}` : is.fixed ? `${sign}, given` : sign);
     const where = `row ${Math.floor(place / p.w) + 1}, column ${(place % p.w) + 1}`;
     cell.ariaLabel = `${where}: ${what}${is.lit ? ", lit" : ""}${is.marked ? `, ${why}` : ""}`;
   });
@@ -86,55 +82,56 @@ function become(next, marked = []) {
   fill(cells, puzzle, state, new Set(marked), "marked");
 }
 
-function put(place, value) {
-  if (puzzle.fixed[place] === "" && state[place] !== value) become(state.with(place, value));
+const clear = () => become(puzzle.fixed.map((sign) => sign || "."));
+const put = (sign) => puzzle.fixed[at] === "" && become(state.with(at, sign));
+function turn(marking) {
+  const turns = marking ? [".", "•"] : [".", GAMES[puzzle.game].sign, "•"];
+  put(turns[(turns.indexOf(state[at]) + 1) % turns.length]);
 }
 
 function choose(place) {
   cells[at].tabIndex = -1;
+  cells[place].tabIndex = 0;
+  cells[place].focus();
   at = place;
-  cells[at].tabIndex = 0;
 }
 
-const turned = (marking) => (marking ? (state[at] === 2 ? 0 : 2) : (state[at] + 1) % 3);
 function press(event) {
-  const place = cells.indexOf(event.target);
   event.preventDefault();
-  if (place < 0) return;
-  choose(place);
-  cells[at].focus();
-  if (!puzzle.block) put(at, turned(event.type === "contextmenu"));
+  if (!cells.includes(event.target)) return;
+  choose(cells.indexOf(event.target));
+  if (!puzzle.block) turn(event.type === "contextmenu");
 }
 
 function key(event) {
-  const x = at % puzzle.w, pressed = event.key, longer = Number(`${state[at]}${pressed}`); // 1 and then 2 is 12
+  const x = at % puzzle.w, pressed = event.key, longer = state[at].replace(".", "") + pressed; // 1 and then 2 is 12
   const steps = { ArrowLeft: x && -1, ArrowRight: Number(x < puzzle.w - 1), ArrowUp: -puzzle.w, ArrowDown: puzzle.w };
   if (event.ctrlKey || event.altKey || event.metaKey) return;
-  if (pressed in steps) {
-    if (cells[at + steps[pressed]]) choose(at + steps[pressed]);
-    cells[at].focus();
-  } else if (pressed === "Delete" || pressed === "Backspace") put(at, 0);
-  else if (puzzle.block && /^\d$/.test(pressed)) put(at, longer <= puzzle.w ? longer : Math.min(pressed, puzzle.w));
-  else if (!puzzle.block && [" ", "Enter", "x"].includes(pressed)) put(at, turned(pressed === "x"));
+  if (pressed in steps) choose(cells[at + steps[pressed]] ? at + steps[pressed] : at);
+  else if (pressed === "Delete" || pressed === "Backspace") put(".");
+  else if (puzzle.block && longer > 0 && longer <= puzzle.w) put(longer);
+  else if (puzzle.block && pressed > 0 && pressed <= puzzle.w) put(pressed);
+  else if (!puzzle.block && [" ", "Enter", "x"].includes(pressed)) turn(pressed === "x");
   else return;
   event.preventDefault();
 }
 
-function show(game, text, name) {
+function show(game, text) {
+  const { rule, sign } = GAMES[game];
   [puzzle, id] = [read(game, text), text];
-  [grid, cells] = draw(puzzle, name);
-  at = Math.max(0, puzzle.fixed.indexOf(""));
-  choose(at);
-  const { rule, values } = GAMES[game];
+  const [grid, made] = draw(puzzle, game);
+  [cells, at] = [made, Math.max(0, puzzle.fixed.indexOf(""))];
+  cells[at].tabIndex = 0;
   $("rule").textContent = puzzle.crossed ? rule : rule.replace(", block and shaded diagonal", " and block");
   $("stage").replaceChildren(grid);
   $("pad").replaceChildren(...(puzzle.block ? rowsOf(puzzle)[0] : []).map((k) => element("button", { value: k + 1 }, k + 1)));
   $("keys").textContent = puzzle.block ? "Choose a cell and a number. Keys: arrows, digits, Delete."
-    : `Click for ${values[1]}, dot, blank; right click for a dot. Keys: arrows, Space, X for a dot, Delete.`;
+    : `Click for ${WORDS[sign]}, dot, blank; right click for a dot. Keys: arrows, Space, X for a dot, Delete.`;
   $("more").replaceChildren();
+  $("act").hidden = false;
   $("id").value = text;
   refuse("");
-  become(puzzle.fixed.map(() => 0));
+  clear();
   history.replaceState(null, "", text.length < 2000 ? `#${game}/${text}` : "#");
 }
 
@@ -151,11 +148,11 @@ async function ask(call, fields, refused = () => say("The program refused this."
 }
 
 async function generate() {
-  const game = chosen(), size = $("size").value, seed = $("seed").value.trim(), side = parseInt(size);
+  const game = $("game").value, size = $("size").value, seed = $("seed").value.trim(), side = parseInt(size);
   const black = side < 10 ? "20" : side < 14 ? "25" : side < 30 ? "30" : "35"; // with fewer a large one has several solutions
   const told = await ask("generate", { game, size, seed, ...(game === "lightup" ? { black } : {}) },
     () => say("A seed is a whole number from 0 to 18,446,744,073,709,551,615.", "bad"));
-  if (told && told.id) show(game, told.id, `${game} of seed ${seed}`);
+  if (told && told.id) show(game, told.id);
   else if (told) say("No puzzle came of this seed. Try another.", "bad");
 }
 
@@ -168,7 +165,7 @@ function another() {
 function refuse(why, text = "") {
   const kind = why.replace(/ (at )?\d.*/, ""), number = parseInt(why.replace(/\D+/, ""));
   $("id").setAttribute("aria-invalid", why !== "");
-  $("fault").replaceChildren(...(why ? [element("p", {}, `This ID is refused: ${REFUSED[kind] || why}.`)] : []));
+  $("fault").replaceChildren(why && `This ID is refused: ${REFUSED[kind] || why}.`);
   if (isNaN(number)) return;
   const clue = number ? text.split("/").slice(0, number).join("/").length + 1 : text.indexOf(":") + 1;
   const byte = new TextDecoder().decode(new TextEncoder().encode(text).slice(0, number)).length;
@@ -180,11 +177,11 @@ function refuse(why, text = "") {
 
 // An ID is tried by a check of no grid, which searches nothing: if that grid is what is refused, the ID is good.
 function open() {
-  const game = chosen(), text = $("id").value.trim();
+  const game = $("game").value, text = $("id").value.trim();
   return ask("check", { game, id: text, grid: "" }, (why) => {
     if (why !== "grid") return refuse(why, text);
     $("seed").value = "";
-    return show(game, text, `${game} by its ID`);
+    return show(game, text);
   });
 }
 
@@ -202,10 +199,10 @@ async function solve() {
   const told = await ask("solve", { game: puzzle.game, id });
   if (!told) return;
   const grids = told.grids.map((rows) => scan(puzzle, rows)), [first, second] = grids;
-  const differ = new Set(second && first.flatMap((value, place) => (value === second[place] ? [] : place)));
-  $("more").replaceChildren(...grids.map((values, k) => {
+  const differ = new Set(second && first.flatMap((sign, place) => (sign === second[place] ? [] : place)));
+  $("more").replaceChildren(...grids.map((signs, k) => {
     const [grid, cells] = draw(puzzle, `solution ${k + 1}`);
-    fill(cells, puzzle, values, differ, "differs");
+    fill(cells, puzzle, signs, differ, "differs");
     return element("figure", {}, grid, element("figcaption", {}, `Solution ${k + 1}`));
   }));
   $("more").scrollIntoView({ block: "nearest", behavior: "smooth" });
@@ -220,7 +217,7 @@ async function grade() {
 }
 
 function setGame(game) {
-  document.querySelector(`#games [value=${game}]`).checked = true;
+  $("game").value = game;
   $("size").replaceChildren(...GAMES[game].sizes.split(" ").map((size) => {
     const [a, b] = size.match(/\d+/g), name = game === "solo" ? `${a * b} × ${a * b}` : `${a} × ${b}`;
     return new Option(name + (size.endsWith("x") ? " X" : ""), size, false, size === GAMES[game].usual);
@@ -228,22 +225,13 @@ function setGame(game) {
   return another();
 }
 
-const clear = () => become(state.map(() => 0));
-for (const [button, act] of Object.entries({ check, solve, grade, clear })) {
-  $(button).addEventListener("click", () => puzzle && act());
-}
-for (const [form, act] of Object.entries({ make: generate, open })) {
-  $(form).addEventListener("submit", (event) => {
-    event.preventDefault();
-    act();
-  });
-}
+const clicks = { check, solve, grade, clear, another, generate, enter: open };
+for (const [button, act] of Object.entries(clicks)) $(button).addEventListener("click", act);
 for (const event of ["click", "contextmenu"]) $("stage").addEventListener(event, press);
 $("stage").addEventListener("keydown", key);
-$("pad").addEventListener("click", (event) => event.target.value && put(at, Number(event.target.value)));
-$("games").addEventListener("change", () => setGame(chosen()));
+$("pad").addEventListener("click", ({ target }) => target.value && put(target.value === state[at] ? "." : target.value));
+$("game").addEventListener("change", () => setGame($("game").value));
 $("size").addEventListener("change", another);
-$("another").addEventListener("click", another);
 
 const [, game = "solo", text] = location.hash.match(/^#(solo|pattern|lightup|tents)\/(.+)$/) || [];
 await setGame(game);

@@ -1,10 +1,9 @@
 // Puzzles without a page: an ID as cells and clues, the printed form of a grid, and what is drawn of the rules.
 // An ID is read here only after the program has taken it, so no fault is looked for.
 //
-// A puzzle has `fixed`: of each cell what the puzzle itself shows there, "" for nothing. A state has of each cell the number
-// (Solo), or 1 for black, a bulb, a tent, and 2 for a visitor's mark "none here".
+// A state has a sign for each cell, as in a printed grid: "." for blank, and "•" for a visitor's mark "none here".
+// A puzzle has `fixed`: the sign of each cell that the puzzle itself fills, and "" of the others.
 
-const SIGNS = { pattern: ".#.", lightup: ".O.", tents: ".^." };
 const blanks = (letter) => Array(letter.charCodeAt(0) - 96).fill("");
 const CELLS = { // what a piece of a description says of its cells
   solo: (piece) => (/\d/.test(piece) ? String(Number(piece)) : blanks(piece)),
@@ -24,26 +23,21 @@ export function read(game, text) {
   return { game, w, h, fixed, columns: clues.slice(0, w), rows: clues.slice(w), block, crossed: crossed !== "" };
 }
 
-export function print(p, state) {
-  const shown = state.map((value, place) => p.fixed[place] || (p.block ? value : SIGNS[p.game][value]));
-  return rowsOf(p).map((row) => row.map((place) => shown[place]).join(p.block ? " " : "") + "\n").join("");
-}
-
-export function scan(p, grid) {
-  const shown = grid.flatMap((row) => (p.block ? row.split(" ") : [...row]));
-  return shown.map((sign, place) => (p.fixed[place] ? 0 : p.block ? Number(sign) : Number("#O^".includes(sign))));
-}
-
 const line = (count, place) => Array.from({ length: count }, (_, k) => place(k));
 export const rowsOf = (p) => line(p.h, (y) => line(p.w, (x) => y * p.w + x));
 const columnsOf = (p) => line(p.w, (x) => line(p.h, (y) => y * p.w + x));
+
+export const scan = (p, rows) => rows.flatMap((row) => row.split(p.block ? " " : ""));
+export function print(p, state) {
+  const rows = rowsOf(p).map((places) => places.map((place) => state[place].replace("•", ".")));
+  return rows.map((row) => row.join(p.block ? " " : "") + "\n").join("");
+}
 
 // The cells of Light Up that a bulb lights.
 export function light(p, state) {
   const lit = new Set();
   for (const cells of p.game === "lightup" ? [...rowsOf(p), ...columnsOf(p)] : []) {
-    const shown = cells.map((place) => (p.fixed[place] ? "#" : SIGNS.lightup[state[place]])).join("");
-    for (const { 0: run, index } of shown.matchAll(/[^#]*O[^#]*/g)) {
+    for (const { 0: run, index } of cells.map((place) => state[place]).join("").matchAll(/[^#\d]*O[^#\d]*/g)) {
       cells.slice(index, index + run.length).forEach((place) => lit.add(place));
     }
   }
