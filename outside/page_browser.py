@@ -91,8 +91,7 @@ class Page:
     def open(self, game="", text=""):
         self.driver.get("about:blank")
         self.driver.get(f"{self.url}#{game}/{text}" if text else self.url)
-        seed = lambda: self.one("#seed").get_property("value")  # which a puzzle that is opened by its ID hasn't
-        self.until(f"opens {game} {text}", lambda: self.cells() and not (text and seed()))
+        self.until(f"opens {game} {text}", self.cells)
 
     def answer(self, button):
         """What is said after a button, which takes away what was said before."""

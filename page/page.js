@@ -1,13 +1,13 @@
 import { light, places, print, read, rowsOf, scan } from "./puzzle.js";
 
 const GAMES = {
-  solo: { sizes: "2x2 2x3 3x3 3x3x 3x4 4x4", usual: "3x3",
+  solo: { name: "Solo", sizes: "2x2 2x3 3x3 3x3x 3x4 4x4", usual: "3x3",
     rule: "Each row, column, block and shaded diagonal has each number once." },
-  pattern: { sizes: "5x5 10x10 15x15 20x20 30x30", usual: "10x10", sign: "#",
+  pattern: { name: "Pattern", sizes: "5x5 10x10 15x15 20x20 30x30", usual: "10x10", sign: "#",
     rule: "The numbers are the lengths of the black runs of a row or column, in order." },
-  lightup: { sizes: "5x5 7x7 10x10 14x14 20x20 30x30", usual: "7x7", sign: "O",
+  lightup: { name: "Light Up", sizes: "5x5 7x7 10x10 14x14 20x20 30x30", usual: "7x7", sign: "O",
     rule: "Light each white cell. No bulb lights another. A number counts the bulbs beside it." },
-  tents: { sizes: "5x5 8x8 10x10 15x15 20x20", usual: "8x8", sign: "^",
+  tents: { name: "Tents", sizes: "5x5 8x8 10x10 15x15 20x20", usual: "8x8", sign: "^",
     rule: "Each tree has a tent of its own beside it. No two tents touch. The numbers count the tents." },
 };
 const WORDS = { ".": "blank", "•": "dot", "#": "black", O: "bulb", "^": "tent", T: "tree" };
@@ -24,7 +24,7 @@ const SOLVED = { one: "The only solution is below.", none: "This puzzle has no s
   several: "This puzzle has several solutions.", "gave up": "Too hard to tell within the page’s limit." };
 
 const $ = (id) => document.getElementById(id);
-let puzzle, id, cells, state, at, asked = 0;
+let puzzle, id, grid, cells, state, at, asked = 0;
 
 function element(name, attributes, ...inside) {
   const made = document.createElement(name);
@@ -43,16 +43,16 @@ function draw(p, name) {
     ...(list.length ? list : [0]).map((number) => element("span", {}, number))));
   const columns = clues(p.columns, "columnheader", "column"), rows = clues(p.rows, "rowheader", "row");
   const lines = rowsOf(p).map((line, y) => row(rows.slice(y, y + 1), line.map((place, x) => {
-    const is = { cell: true, left: x % thick.w === 0, top: y % thick.h === 0, right: x === p.w - 1, bottom: y === p.h - 1,
-      crossed: p.crossed && (x === y || x === p.w - 1 - y) };
-    const names = Object.keys(is).filter((name) => is[name]).join(" ");
-    return (cells[place] = element("div", { role: "gridcell", class: names, tabindex: -1 }));
+    const cell = element("div", { role: "gridcell", class: "cell", tabindex: -1 }), edge = (on) => (on ? "2px" : "0px");
+    cell.style = `--left: ${edge(x % thick.w === 0)}; --right: ${edge(x === p.w - 1)}; --top: ${edge(y % thick.h === 0)};
+      --bottom: ${edge(y === p.h - 1)}`;
+    cell.classList.toggle("crossed", p.crossed && (x === y || x === p.w - 1 - y));
+    return (cells[place] = cell);
   })));
   const heads = columns.length ? [row([element("div", { role: "presentation" })], columns)] : [];
-  const label = `${name}, ${p.w} columns, ${p.h} rows`;
-  const grid = element("div", { role: "grid", class: `board ${p.game}`, "aria-label": label }, ...beside(heads, lines));
+  const grid = element("div", { role: "grid", class: `board ${p.game}`, "aria-label": name }, ...beside(heads, lines));
   const room = (lists) => (lists.length ? 0.4 + 0.6 * Math.max(...lists.map((list) => list.length)) : 0); // in cells
-  grid.style = `--w: ${p.w}; --wide: ${p.w + room(p.rows)}; --tall: ${p.h + room(p.columns)}`;
+  grid.style = `--columns: ${p.w + Number(p.game === "tents")}; --wide: ${p.w + room(p.rows)}; --tall: ${p.h + room(p.columns)}`;
   return [grid, cells];
 }
 
@@ -117,10 +117,10 @@ function key(event) {
 }
 
 function show(game, text) {
-  const { rule, sign } = GAMES[game];
+  const { name, rule, sign } = GAMES[game];
   [puzzle, id] = [read(game, text), text];
-  const [grid, made] = draw(puzzle, game);
-  [cells, at] = [made, Math.max(0, puzzle.fixed.indexOf(""))];
+  [grid, cells] = draw(puzzle, name);
+  at = Math.max(0, puzzle.fixed.indexOf(""));
   cells[at].tabIndex = 0;
   $("rule").textContent = puzzle.crossed ? rule : rule.replace(", block and shaded diagonal", " and block");
   $("stage").replaceChildren(grid);
@@ -128,7 +128,7 @@ function show(game, text) {
   $("keys").textContent = puzzle.block ? "Choose a cell and a number. Keys: arrows, digits, Delete."
     : `Click for ${WORDS[sign]}, dot, blank; right click for a dot. Keys: arrows, Space, X for a dot, Delete.`;
   $("more").replaceChildren();
-  $("act").hidden = false;
+  $("act").inert = false;
   $("id").value = text;
   refuse("");
   clear();
@@ -148,23 +148,18 @@ async function ask(call, fields, refused = () => say("The program refused this."
 }
 
 async function generate() {
-  const game = $("game").value, size = $("size").value, seed = $("seed").value.trim(), side = parseInt(size);
+  const game = $("game").value, size = $("size").value, side = parseInt(size);
+  const seed = $("seed").value.trim() || String(Math.floor(Math.random() * 1000000));
   const black = side < 10 ? "20" : side < 14 ? "25" : side < 30 ? "30" : "35"; // with fewer a large one has several solutions
   const told = await ask("generate", { game, size, seed, ...(game === "lightup" ? { black } : {}) },
     () => say("A seed is a whole number from 0 to 18,446,744,073,709,551,615.", "bad"));
   if (told && told.id) show(game, told.id);
-  else if (told) say("No puzzle came of this seed. Try another.", "bad");
-}
-
-function another() {
-  $("seed").value = Math.floor(Math.random() * 1000000);
-  return generate();
+  if (told) say(told.id ? `This is the puzzle of seed ${seed}.` : `No puzzle came of seed ${seed}. Try another.`);
 }
 
 // Says why an ID was refused, and marks the place that is named: that of a byte, or of the clue of a line.
 function refuse(why, text = "") {
   const kind = why.replace(/ (at )?\d.*/, ""), number = parseInt(why.replace(/\D+/, ""));
-  $("id").setAttribute("aria-invalid", why !== "");
   $("fault").replaceChildren(why && `This ID is refused: ${REFUSED[kind] || why}.`);
   if (isNaN(number)) return;
   const clue = number ? text.split("/").slice(0, number).join("/").length + 1 : text.indexOf(":") + 1;
@@ -172,17 +167,12 @@ function refuse(why, text = "") {
   const at = kind === "line" ? clue : byte, [marked] = text.slice(at).match(kind === "bad byte" ? /^.?/su : /^[\d.]*/);
   const end = at + marked.length, before = text.slice(Math.max(0, at - 24), at);
   $("fault").append(element("code", {}, before, element("mark", {}, marked), text.slice(end, end + 24)));
-  $("id").setSelectionRange(at, end);
 }
 
 // An ID is tried by a check of no grid, which searches nothing: if that grid is what is refused, the ID is good.
 function open() {
   const game = $("game").value, text = $("id").value.trim();
-  return ask("check", { game, id: text, grid: "" }, (why) => {
-    if (why !== "grid") return refuse(why, text);
-    $("seed").value = "";
-    return show(game, text);
-  });
+  return ask("check", { game, id: text, grid: "" }, (why) => (why === "grid" ? show(game, text) : refuse(why, text)));
 }
 
 async function check() {
@@ -206,8 +196,7 @@ async function solve() {
     return element("figure", {}, grid, element("figcaption", {}, `Solution ${k + 1}`));
   }));
   $("more").scrollIntoView({ block: "nearest", behavior: "smooth" });
-  const two = ` Two are below. They differ in the ${differ.size} marked cells.`;
-  say(SOLVED[told.verdict] + (second ? two : first && told.verdict !== "one" ? " One solution is below." : ""));
+  say(SOLVED[told.verdict] + (second ? ` Two are below. They differ in the ${differ.size} marked cells.` : ""));
 }
 
 async function grade() {
@@ -222,20 +211,18 @@ function setGame(game) {
     const [a, b] = size.match(/\d+/g), name = game === "solo" ? `${a * b} × ${a * b}` : `${a} × ${b}`;
     return new Option(name + (size.endsWith("x") ? " X" : ""), size, false, size === GAMES[game].usual);
   }));
-  return another();
 }
 
-const clicks = { check, solve, grade, clear, another, generate, enter: open };
+const clicks = { check, solve, grade, clear, generate, enter: open };
 for (const [button, act] of Object.entries(clicks)) $(button).addEventListener("click", act);
 for (const event of ["click", "contextmenu"]) $("stage").addEventListener(event, press);
 $("stage").addEventListener("keydown", key);
 $("pad").addEventListener("click", ({ target }) => target.value && put(target.value === state[at] ? "." : target.value));
+$("game").append(...Object.entries(GAMES).map(([game, { name }]) => new Option(name, game)));
 $("game").addEventListener("change", () => setGame($("game").value));
-$("size").addEventListener("change", another);
+for (const choice of ["game", "size"]) $(choice).addEventListener("change", generate);
 
-const [, game = "solo", text] = location.hash.match(/^#(solo|pattern|lightup|tents)\/(.+)$/) || [];
-await setGame(game);
-if (text) {
-  $("id").value = text;
-  await open();
-}
+const [, game = "solo", text = ""] = location.hash.match(/^#(solo|pattern|lightup|tents)\/(.+)$/) || [];
+setGame(game);
+$("id").value = text;
+await (text ? open() : generate());

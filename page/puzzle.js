@@ -19,8 +19,7 @@ export function read(game, text) {
   const shown = cells.match(solo ? /[a-z]|\d+/g : /./g).flatMap(CELLS[game]);
   const fixed = Array.from({ length: w * h }, (_, place) => shown[place] || ""); // Tents has a tree after the last cell
   const clues = (game === "pattern" ? cells.split("/") : counts).map((clue) => (clue.match(/\d+/g) || []).map(Number));
-  const block = solo && { w: b, h: a };
-  return { game, w, h, fixed, columns: clues.slice(0, w), rows: clues.slice(w), block, crossed: crossed !== "" };
+  return { game, w, h, fixed, columns: clues.slice(0, w), rows: clues.slice(w), block: solo && { w: b, h: a }, crossed };
 }
 
 const line = (count, place) => Array.from({ length: count }, (_, k) => place(k));

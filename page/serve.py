@@ -11,7 +11,6 @@ import json
 import re
 import shutil
 import signal
-import socket
 import subprocess
 import sys
 import threading
@@ -120,13 +119,12 @@ def answered(server, call, asked):
     game = asked["game"]
     if call == "solve":
         answer = server.workers[game].solve(asked["id"])
-    elif call == "check":
-        answer = run(server.program, call, game, "--", asked["id"], grid=asked["grid"])
-    elif call == "grade":
-        answer = run(server.program, call, f"--budget={BUDGET}", game, "--", asked["id"])
-    else:
+    elif call == "generate":
         more = [f"--{name}={asked[name]}" for name in ("seed", "black") if name in asked]
         answer = run(server.program, call, f"--budget={MAKING_BUDGET}", *more, game, "--", asked["size"])
+    else:
+        more = [f"--budget={BUDGET}"] if call == "grade" else []
+        answer = run(server.program, call, *more, game, "--", asked["id"], grid=asked.get("grid", ""))
     first, _, rest = answer.partition("\n")
     verdict, _, why = first.partition(": ")
     grids = [grid.splitlines() for grid in rest.split("\n\n") if grid]
@@ -146,10 +144,9 @@ class Page(http.server.BaseHTTPRequestHandler):
 
     def do_GET(self):
         name = self.path.partition("?")[0].removeprefix("/") or "index.html"
-        if name in FILES:
-            self.reply(200, FILES[name], KINDS[Path(name).suffix])
-        else:
-            self.send_error(404)
+        if name not in FILES:
+            return self.send_error(404)
+        return self.reply(200, FILES[name], KINDS[Path(name).suffix])
 
     def do_POST(self):
         call = self.path.removeprefix("/")
@@ -211,8 +208,8 @@ class Server(http.server.ThreadingHTTPServer):
 
     def service_actions(self):  # after each request, and each half second
         while self.begun and time.monotonic() - self.begun[0][0] > LIFE:
-            with contextlib.suppress(OSError):  # that it has ended
-                self.begun.pop(0)[1].shutdown(socket.SHUT_RDWR)
+            with contextlib.suppress(OSError):  # if it has ended
+                self.begun.pop(0)[1].shutdown(2)  # in both directions
 
     def handle_error(self, request, client_address):
         if not isinstance(sys.exc_info()[1], OSError):  # that the visitor has gone is no fault
