@@ -12,7 +12,7 @@ try:
     from selenium.webdriver.chrome.service import Service
     from selenium.webdriver.common.by import By
     from selenium.webdriver.common.keys import Keys
-    from selenium.webdriver.support.ui import WebDriverWait
+    from selenium.webdriver.support.ui import Select, WebDriverWait
 except ImportError:
     webdriver = None
 
@@ -61,8 +61,8 @@ class Page:
     def text(self, selector):
         return self.one(selector).text
 
-    def cells(self):
-        return self.all("#stage [role=gridcell]")
+    def cells(self, within="#stage"):
+        return self.all(f"{within} [role=gridcell]")
 
     def marked(self):
         """The places of the cells of the board that are marked."""
@@ -73,6 +73,9 @@ class Page:
         button = self.one(selector)
         self.driver.execute_script("arguments[0].scrollIntoView({ block: 'center' })", button)
         button.click()
+
+    def choose(self, game):
+        Select(self.one("#game")).select_by_value(game)
 
     def until(self, what, seen):
         WebDriverWait(self.driver, WAIT, poll_frequency=0.05).until(lambda _: seen(), what)
@@ -88,8 +91,7 @@ class Page:
     def open(self, game="", text=""):
         self.driver.get("about:blank")
         self.driver.get(f"{self.url}#{game}/{text}" if text else self.url)
-        opened = "#seed:placeholder-shown" if text else "#stage"  # an ID that is shown has no seed
-        self.until(f"opens {game} {text}", lambda: self.cells() and self.all(opened))
+        self.until(f"opens {game} {text}", self.cells)
 
     def answer(self, button):
         """What is said after a button, which takes away what was said before."""
@@ -127,11 +129,11 @@ def play(page, server, tally, game, size, seed, black):
     """Makes a puzzle by its seed, fills in its solution, then breaks it; and has it solved and graded."""
     _, _, made = server.ask("generate", {"game": game, "size": size, "seed": seed, **({"black": black} if black else {})})
     page.open()
-    page.click(f"#games label:has([value={game}])")
+    page.choose(game)
     page.until(f"shows {game}", lambda: page.all(f"#stage .{game}"))
     tally.same(f"{game}: the size", page.one("#size").get_property("value"), size)
     page.put("#seed", seed)
-    page.click("#make button:not(#another)")
+    page.click("#generate")
     page.until(f"makes {game} {size} of {seed}", lambda: page.one("#id").get_property("value") == made["id"])
     signs = [sign for row in made["grids"][0] for sign in (row.split() if game == "solo" else row)]
     asked = write(page, game, signs, len(made["grids"][0]))
@@ -143,11 +145,10 @@ def play(page, server, tally, game, size, seed, black):
     _, _, told = server.ask("check", {"game": game, "id": made["id"], "grid": grid})
     tally.same(f"{game}: the marks", page.marked(), named(told.get("fault", ""), size, len(made["grids"][0])))
     page.click("#clear")
-    tally.same(f"{game}: solve", page.answer("#solve"), "The only solution. Undo brings your grid back.")
+    tally.same(f"{game}: solve", page.answer("#solve"), "The only solution is below.")
     solution = "".join(row + "\n" for row in made["grids"][0])
-    tally.same(f"{game}: what solve shows", printed(page, game, made["grids"][0]), solution)
-    page.click("#undo")
-    tally.same(f"{game}: undo takes it back", printed(page, game, made["grids"][0]) == solution, False)
+    tally.same(f"{game}: what solve shows", printed(page, game, made["grids"][0], "#more"), solution)
+    tally.same(f"{game}: what solve leaves", printed(page, game, made["grids"][0]) == solution, False)
     _, _, told = server.ask("grade", {"game": game, "id": made["id"]})
     wanted = GRADES.get(told["grade"], "Guesses are needed")
     tally.same(f"{game}: grade", page.answer("#grade").partition(":")[0], wanted)
@@ -184,9 +185,9 @@ def spoil(page, game, signs, places):
         page.cells()[places[0]].send_keys(Keys.DELETE)
 
 
-def printed(page, game, grid):
-    """The board as a grid is printed, from what a screen reader reads of each cell."""
-    said = [cell.get_attribute("aria-label").partition(": ")[2].split(",")[0] for cell in page.cells()]
+def printed(page, game, grid, within="#stage"):
+    """A board as a grid is printed, from what a screen reader reads of each cell."""
+    said = [cell.get_attribute("aria-label").partition(": ")[2].split(",")[0] for cell in page.cells(within)]
     if game == "solo":
         wide = len(grid)
         return "".join(" ".join(said[k:k + wide]) + "\n" for k in range(0, len(said), wide))
@@ -219,13 +220,13 @@ def several(page, tally):
     tally.same("a long search", page.answer("#solve") in (
         "This takes longer than the page allows.", "Too hard to tell within the page’s limit."), True)
     page.open("solo", "2x2:1b4i3_2a")
-    tally.same("a search after it", page.answer("#solve"), "The only solution. Undo brings your grid back.")
+    tally.same("a search after it", page.answer("#solve"), "The only solution is below.")
 
 
 def broken(page, tally, game, text, mark):
     """An ID that is refused: the page marks the place, and keeps its board."""
     page.open()
-    page.click(f"#games label:has([value={game}])")
+    page.choose(game)
     page.until(f"shows {game}", lambda: page.all(f"#stage .{game}"))
     page.put("#id", text)
     page.click("#open button")
@@ -239,7 +240,7 @@ def hostile(page, tally):
     page.open()
     parts = "return document.querySelectorAll('*').length"
     for text in HOSTILE:
-        for field, button, said in [("#id", "#open button", "#fault"), ("#seed", "#make button:not(#another)", "#answer")]:
+        for field, button, said in [("#id", "#open button", "#fault"), ("#seed", "#generate", "#answer")]:
             page.driver.execute_script("for (const id of ['fault', 'answer']) document.getElementById(id).textContent = ''")
             before = page.driver.execute_script(parts)
             page.put(field, text)

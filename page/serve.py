@@ -8,9 +8,7 @@ import argparse
 import contextlib
 import http.server
 import json
-import os
 import re
-import select
 import shutil
 import signal
 import subprocess
@@ -23,10 +21,9 @@ BUDGET = 20_000  # trials of a search; nine of ten real puzzles of each kind nee
 MAKING_BUDGET = 1_000  # of each search of `generate`
 SECONDS = 2.0  # of a call; a process that takes longer is killed
 CALLS = 8  # at a time
-CONNECTIONS, LIFE = 64, 10.0  # at a time, and the seconds of each, whatever it does
+LIFE = 10.0  # seconds of a connection, whatever it does
 BODY = 70_000  # bytes
-READS = 1_000_000  # of a worker: past 1,048,576 it ends by itself
-PIECE = 4096  # bytes that one write hands over whole, and that the program asks for in a read
+IDS = 10_000  # of a worker; by itself it ends after 1,048,576 reads, and an ID takes it 17 or so
 
 NEEDED = {"solve": {"game", "id"}, "check": {"game", "id", "grid"}, "grade": {"game", "id"}, "generate": {"game", "size", "seed"}}
 FIELDS = {"game": "solo|pattern|lightup|tents", "id": r"[^\x00-\x1f\x7f\ud800-\udfff]*", "grid": r"[0-9 #.O^T\n]{0,16384}",
@@ -49,13 +46,12 @@ class Worker:
 
     def __init__(self, program, game):
         self.words = [program, "solve", game, "--budget", str(BUDGET)]
-        self.lock, self.child, self.reads = threading.Lock(), None, 0
+        self.lock, self.child, self.asked = threading.Lock(), None, 0
 
     def stop(self):
         if self.child:
             self.child.kill()
-            with contextlib.suppress(OSError):
-                self.child.communicate()
+            self.child.communicate()
         self.child = None
 
     def solve(self, text):
@@ -63,43 +59,43 @@ class Worker:
         if not self.lock.acquire(timeout=SECONDS):
             raise Told(503, "busy")
         try:
-            if self.child is None or self.child.poll() is not None or self.reads > READS:
-                self.stop()
-                self.child = subprocess.Popen(self.words, stdin=subprocess.PIPE, stdout=subprocess.PIPE, bufsize=0)
-                self.reads = 0
-            return self.exchange(text.encode() + b"\n\n", end)
-        except (Told, OSError) as fault:
+            return self.exchange(text, end - time.monotonic())
+        except OSError:
             self.stop()
-            raise fault if isinstance(fault, Told) else Told(503, "program") from None
+            raise Told(503, "program" if time.monotonic() < end else "clock") from None
         finally:
             self.lock.release()
 
-    def exchange(self, unsent, end, mark=b"refused: no colon\n"):
-        answer, source, sink = b"", self.child.stdout.fileno(), self.child.stdin.fileno()
-        while not answer.endswith(b"\n" + mark):
-            wait = max(end - time.monotonic(), 0)
-            readable, writable, _ = select.select([source], [sink] if unsent else [], [], wait)
-            if writable:
-                unsent, self.reads = unsent[os.write(sink, unsent[:PIECE]):], self.reads + 1
-            if readable:
-                piece = os.read(source, 1 << 16)
-                if not piece:
-                    raise Told(503, "program")
-                answer += piece
-            elif not writable:
-                raise Told(503, "clock")
-        return answer.removesuffix(mark).decode()
+    def exchange(self, text, seconds):
+        if self.child is None or self.child.poll() is not None or self.asked == IDS:
+            self.stop()
+            self.child = subprocess.Popen(self.words, stdin=subprocess.PIPE, stdout=subprocess.PIPE, encoding="utf-8", bufsize=1)
+            self.asked = 0
+        clock, answer = threading.Timer(seconds, self.child.kill), ""
+        clock.start()
+        try:
+            self.asked += 1
+            self.child.stdin.write(f"{text}\n\n")
+            for line in self.child.stdout:
+                if answer and line == "refused: no colon\n":
+                    return answer
+                answer += line
+            raise BrokenPipeError
+        finally:
+            clock.cancel()
 
 
 def run(*words, grid=""):
     """What a process of its own answers."""
     try:
-        done = subprocess.run(words, input=grid.encode(), stdout=subprocess.PIPE, timeout=SECONDS, check=False)
-    except (subprocess.TimeoutExpired, OSError) as fault:
-        raise Told(503, "program" if isinstance(fault, OSError) else "clock") from None
+        done = subprocess.run(words, input=grid, stdout=subprocess.PIPE, timeout=SECONDS, check=False, encoding="utf-8")
+    except subprocess.TimeoutExpired:
+        raise Told(503, "clock") from None
+    except (OSError, ValueError):
+        raise Told(503, "program") from None
     if done.returncode not in range(5):
         raise Told(503, "program")
-    return done.stdout.decode()
+    return done.stdout
 
 
 def fields(call, body):
@@ -108,11 +104,11 @@ def fields(call, body):
         asked = json.loads(body.decode())
     except (ValueError, RecursionError):
         raise Told(400, "not JSON") from None
-    more = {"black"} if call == "generate" else set()
-    if not isinstance(asked, dict) or not NEEDED[call] <= set(asked) <= NEEDED[call] | more:
+    if not isinstance(asked, dict) or set(asked) - ({"black"} if call == "generate" else set()) != NEEDED[call]:
         raise Told(400, "fields")
     for name, text in asked.items():
-        asked[name] = text = text.strip("\ufeff \t\r\n") if name == "id" and isinstance(text, str) else text
+        if name == "id" and isinstance(text, str):
+            asked[name] = text = text.strip("\ufeff \t\r\n")
         if not isinstance(text, str) or not re.fullmatch(FIELDS[name], text):
             raise Told(400, f"field {name}")
     return asked
@@ -120,16 +116,15 @@ def fields(call, body):
 
 def answered(server, call, asked):
     """The answer in parts."""
-    game, more = asked["game"], ["--black", asked["black"]] if "black" in asked else []
+    game = asked["game"]
     if call == "solve":
         answer = server.workers[game].solve(asked["id"])
-    elif call == "check":
-        answer = run(server.program, call, game, "--", asked["id"], grid=asked["grid"])
-    elif call == "grade":
-        answer = run(server.program, call, "--budget", str(BUDGET), game, "--", asked["id"])
+    elif call == "generate":
+        more = [f"--{name}={asked[name]}" for name in ("seed", "black") if name in asked]
+        answer = run(server.program, call, f"--budget={MAKING_BUDGET}", *more, game, "--", asked["size"])
     else:
-        more = [*more, "--budget", str(MAKING_BUDGET), "--seed", asked["seed"]]
-        answer = run(server.program, call, *more, game, "--", asked["size"])
+        more = [f"--budget={BUDGET}"] if call == "grade" else []
+        answer = run(server.program, call, *more, game, "--", asked["id"], grid=asked.get("grid", ""))
     first, _, rest = answer.partition("\n")
     verdict, _, why = first.partition(": ")
     grids = [grid.splitlines() for grid in rest.split("\n\n") if grid]
@@ -139,7 +134,7 @@ def answered(server, call, asked):
         return {"verdict": verdict, "fault": why} if why else {"verdict": verdict}
     if call == "grade":
         return {"verdict": first} if first in ("none", "several", "gave up") else {"verdict": "one", "grade": first}
-    return {"verdict": first, "grids": grids} if call == "solve" or not rest else {"verdict": "made", "id": first, "grids": grids}
+    return {"verdict": "made", "id": first, "grids": grids} if call == "generate" and rest else {"verdict": first, "grids": grids}
 
 
 class Page(http.server.BaseHTTPRequestHandler):
@@ -160,12 +155,12 @@ class Page(http.server.BaseHTTPRequestHandler):
             if not self.server.calls.acquire(blocking=False):
                 raise Told(503, "busy")
             try:
-                told = 200, answered(self.server, call, asked)
+                status, parts = 200, answered(self.server, call, asked)
             finally:
                 self.server.calls.release()
-        except Told as why:
-            told = why.args[0], {"failed" if why.args[0] == 503 else "refused": why.args[1]}
-        self.reply(told[0], json.dumps(told[1]).encode())
+        except Told as told:
+            status, parts = told.args[0], {"failed" if told.args[0] == 503 else "refused": told.args[1]}
+        self.reply(status, json.dumps(parts).encode())
 
     def body(self, call):
         size = self.headers.get("Content-Length", "")
@@ -200,28 +195,21 @@ class Page(http.server.BaseHTTPRequestHandler):
 
 
 class Server(http.server.ThreadingHTTPServer):
-    request_queue_size = CONNECTIONS
+    request_queue_size = 64
 
     def __init__(self, port, program):
         super().__init__(("127.0.0.1", port), Page)
         self.program, self.workers = program, {game: Worker(program, game) for game in FIELDS["game"].split("|")}
-        self.calls, self.begun = threading.BoundedSemaphore(CALLS), {}
+        self.calls, self.begun = threading.BoundedSemaphore(CALLS), []
 
     def process_request(self, request, client_address):
-        self.begun[request] = time.monotonic()
-        if len(self.begun) > CONNECTIONS:
-            request.sendall(b"HTTP/1.0 503 Service Unavailable\r\nRetry-After: 2\r\nContent-Length: 0\r\n\r\n")
-            return self.shutdown_request(request)
-        return super().process_request(request, client_address)
+        self.begun.append((time.monotonic(), request))
+        super().process_request(request, client_address)
 
-    def shutdown_request(self, request):
-        self.begun.pop(request, None)
-        super().shutdown_request(request)
-
-    def service_actions(self):  # each half second
-        for request in [request for request, begun in list(self.begun.items()) if time.monotonic() - begun > LIFE]:
-            with contextlib.suppress(OSError):
-                request.shutdown(2)
+    def service_actions(self):  # after each request, and each half second
+        while self.begun and time.monotonic() - self.begun[0][0] > LIFE:
+            with contextlib.suppress(OSError):  # if it has ended
+                self.begun.pop(0)[1].shutdown(2)  # in both directions
 
     def handle_error(self, request, client_address):
         if not isinstance(sys.exc_info()[1], OSError):  # that the visitor has gone is no fault
@@ -233,19 +221,20 @@ def main():
     parser.add_argument("program", nargs="?", default="puzzles", metavar="PROGRAM", help="`puzzles` on the path, if not said")
     parser.add_argument("--port", type=int, default=8017, help="0 for one that is free (default 8017)")
     words = parser.parse_args()
-    program = os.path.abspath(shutil.which(words.program) or words.program)
+    program = shutil.which(words.program)
+    if not program:
+        sys.exit(f"{words.program}: no program")
     try:
-        if run(program, "solve", "pattern", "--", "1x1:/") != "one\n.\n":
-            raise Told(503, "program")
         server = Server(words.port, program)
-    except (Told, OSError, OverflowError) as fault:
-        sys.exit(f"{words.program}: not the program puzzles" if isinstance(fault, Told) else f"port {words.port}: {fault}")
-    signal.signal(signal.SIGTERM, signal.default_int_handler)  # as Ctrl-C
+    except (OSError, OverflowError) as fault:
+        sys.exit(f"port {words.port}: {fault}")
+    signal.signal(signal.SIGTERM, signal.default_int_handler)
     print(f"http://127.0.0.1:{server.server_port}/", flush=True)
     with contextlib.suppress(KeyboardInterrupt):
         server.serve_forever()
     for worker in server.workers.values():
-        worker.stop()
+        with worker.lock:
+            worker.stop()
 
 
 if __name__ == "__main__":
