@@ -60,7 +60,7 @@ fn is_solution(alloc: Global, puzzle: &PatternPuzzle, size: Size, bits: u32) -> 
 
 /// How many grids solve a puzzle of that size, and the last of them as a number.
 fn solving(alloc: Global, puzzle: &PatternPuzzle, size: Size) -> Result<(u32, u32), Fail> {
-    let mut found = (0, 0);
+    let mut found = (0u32, 0);
     for bits in all_grids(size) {
         if is_solution(alloc, puzzle, size, bits)? {
             found = (found.0.saturating_add(1), bits);
