@@ -1,6 +1,6 @@
 //! Grids, boards, lines, regions and pairings.
 
-ghost use Rattle.std.specs.Prelude.{◌==◌, get_or};
+ghost use Rattle.std.specs.Prelude.{◌==◌, ◌<◌, ◌*◌, get_or};
 ghost use Rattle.std.specs.Int.{bit_at};
 
 use grid_core::{
@@ -111,24 +111,43 @@ fn a_board_takes_over_another(rt: HostRuntime) -> Result<(), Fail> {
     Ok(())
 }
 
+/// The four cells beside a place.
+fn all_beside(size: Size, place: usize) -> [Option<usize>; 4]
+    requires { place < size.w * size.h }
+{
+    [
+        beside(size, place, 0),
+        beside(size, place, 1),
+        beside(size, place, 2),
+        beside(size, place, 3),
+    ]
+}
+
+/// The cells that four steps lead to.
+fn all_steps(size: Size, place: usize) -> [Option<usize>; 4]
+    requires { place < size.w * size.h }
+{
+    [
+        step(size, place, 0),
+        step(size, place, 1),
+        step(size, place, 2),
+        step(size, place, 3),
+    ]
+}
+
 #[test]
 fn lines_and_neighbours_are_their_lists(rt: HostRuntime) {
     let size = Size::new(3, 2).unwrap();
-    assert_eq!(rt; row_place(size, 1, 2), 5);
-    assert_eq!(rt; row_place(size, 0, 1), 1);
-    assert_eq!(rt; column_place(size, 2, 1), 5);
-    assert_eq!(rt; column_place(size, 1, 0), 1);
-    for (place, cells) in [
-        (0, [Some(1), Some(3), None, None]),
-        (4, [Some(1), Some(3), Some(5), None]),
-    ] {
-        for (k, cell) in cells.iter().enumerate() {
-            assert_eq!(rt; beside(size, place, k), *cell, "{k} beside {place}");
-        }
-    }
-    for (direction, cell) in [Some(1), Some(3), Some(5), None].iter().enumerate() {
-        assert_eq!(rt; step(size, 4, direction), *cell, "direction {direction}");
-    }
+    let rows = [row_place(size, 1, 2), row_place(size, 0, 1)];
+    let columns = [column_place(size, 2, 1), column_place(size, 1, 0)];
+    assert_eq!(rt; (rows, columns), ([5, 1], [5, 1]));
+    let beside = [all_beside(size, 0), all_beside(size, 4)];
+    let (corner, below) = (
+        [Some(1), Some(3), None, None],
+        [Some(1), Some(3), Some(5), None],
+    );
+    assert_eq!(rt; beside, [corner, below]);
+    assert_eq!(rt; all_steps(size, 4), [Some(1), Some(3), Some(5), None]);
 }
 
 #[test]

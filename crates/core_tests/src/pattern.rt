@@ -77,7 +77,7 @@ fn grid_of(alloc: Global, cells: usize, ones: &[usize]) -> Result<Grid, AllocErr
 }
 
 /// The ID of a puzzle, the places of black cells, and the fault.
-const GRIDS: [(&str, &[usize], Option<PatternFault>); 5] = [
+static GRIDS: [(&str, &[usize], Option<PatternFault>); 5] = [
     ("2x2:1/2/2/1", &[], Some(PatternFault::Column(0))),
     ("2x2:1/2/2/1", &[0], Some(PatternFault::Column(1))),
     ("2x2:1/2/2/1", &[0, 1], Some(PatternFault::Column(1))),
@@ -87,7 +87,7 @@ const GRIDS: [(&str, &[usize], Option<PatternFault>); 5] = [
 
 #[test]
 fn the_first_wrong_line(rt: HostRuntime) -> Result<(), Fail> {
-    for (id, black, fault) in GRIDS {
+    for &(id, black, fault) in GRIDS.iter() {
         assert_eq!(rt;
             fault_of(rt.alloc(), id, black)?,
             Some(fault),

@@ -151,7 +151,7 @@ fn row_closes(
 }
 
 /// Values, the given ends, and whether the closure settles the row.
-const ROWS: [(u8, u8, u8, bool); 6] = [
+static ROWS: [(u8, u8, u8, bool); 6] = [
     (2, 0, 0, true),
     (2, 1, 1, true),
     (2, 0, 1, false),
@@ -162,7 +162,7 @@ const ROWS: [(u8, u8, u8, bool); 6] = [
 
 #[test]
 fn a_queue_reaches_the_plain_closure(rt: HostRuntime) -> Result<(), Fail> {
-    for (values, first, last, settles) in ROWS {
+    for &(values, first, last, settles) in ROWS.iter() {
         let told = row_closes(rt.alloc(), (values, first, last), true)?;
         assert_eq!(rt; told, Some((true, settles)), "{values} {first} {last}");
     }
@@ -171,7 +171,7 @@ fn a_queue_reaches_the_plain_closure(rt: HostRuntime) -> Result<(), Fail> {
 
 #[test]
 fn sweeps_reach_the_plain_closure(rt: HostRuntime) -> Result<(), Fail> {
-    for (values, first, last, settles) in ROWS {
+    for &(values, first, last, settles) in ROWS.iter() {
         let told = row_closes(rt.alloc(), (values, first, last), false)?;
         assert_eq!(rt; told, Some((true, settles)), "{values} {first} {last}");
     }

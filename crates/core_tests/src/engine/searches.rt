@@ -11,7 +11,7 @@ use std::alloc::{AllocError, Global};
 use std::test::Fail;
 
 /// Values, the given ends, the budget, the verdict, the number of trials and the most that were open at once.
-const RUNS: [(u8, u8, u8, u64, (Verdict, u64, usize)); 8] = [
+static RUNS: [(u8, u8, u8, u64, (Verdict, u64, usize)); 8] = [
     (2, 0, 0, 0, (Verdict::One, 0, 0)),
     (2, 0, 1, 9, (Verdict::None, 0, 0)),
     (3, 0, 0, 9, (Verdict::Several, 4, 3)),
@@ -95,7 +95,7 @@ fn both_give(
 
 #[test]
 fn searches_stop_at_the_very_trial(rt: HostRuntime) -> Result<(), Fail> {
-    for (values, first, last, budget, wanted) in RUNS {
+    for &(values, first, last, budget, wanted) in RUNS.iter() {
         let told = both_give(rt.alloc(), (values, first, last), budget, wanted)?;
         assert_eq!(rt; told, Some([true, true]), "{values} {last} {budget}");
     }
@@ -145,14 +145,20 @@ fn closed_after(alloc: Global) -> Result<([bool; 4], (u64, u128, usize)), AllocE
     Ok((lent(&store), counted))
 }
 
+/// The budgets of searches, the verdict of the last, and the grids that are lent after it.
+static LENT: [(&[u64], Verdict, [bool; 4]); 3] = [
+    (&[], Verdict::None, [false, false, false, false]),
+    (&[9], Verdict::Several, [true, true, true, true]),
+    (
+        &[9, 3],
+        Verdict::GaveUp { found: true },
+        [true, false, true, false],
+    ),
+];
+
 #[test]
 fn two_grids_are_lent(rt: HostRuntime) -> Result<(), Fail> {
-    let (several, first) = (Verdict::Several, Verdict::GaveUp { found: true });
-    for (budgets, verdict, lent) in [
-        (&[][..], Verdict::None, [false, false, false, false]),
-        (&[9], several, [true, true, true, true]),
-        (&[9, 3], first, [true, false, true, false]),
-    ] {
+    for &(budgets, verdict, lent) in LENT.iter() {
         let told = searched(rt.alloc(), budgets)?;
         assert_eq!(rt; told, (verdict, lent), "{budgets:?}");
     }

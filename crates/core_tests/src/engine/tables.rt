@@ -28,48 +28,36 @@ fn list_numbers(alloc: Global) -> Result<(usize, usize), AllocError> {
     Ok((list.len(), list.total()))
 }
 
-/// What a table of the list tells.
-#[derive(Clone, Copy)]
-struct Told {
-    cells: usize,
-    houses: usize,
-    total: usize,
-    longest: usize,
-    places: [usize; 2],
-    houses_at: usize,
-    next_at: [Option<usize>; 4],
+/// How many cells and houses a table of the list has, their cells in all, and those of the longest.
+fn table_numbers(alloc: Global) -> Result<[usize; 4], AllocError> {
+    let table = Houses::of(alloc, 3, three_houses(alloc)?)?;
+    Ok([table.cells(), table.len(), table.total(), table.longest()])
 }
 
-/// What the table tells, of two houses and of the cells 2 and 0.
-fn table_told(alloc: Global) -> Result<Told, AllocError> {
+/// How many cells its houses 1 and 2 have and how many houses cell 2; and the first houses of cell 2 from 0, from 1 and from
+/// 2 on, and that of cell 0 from 1 on.
+fn table_lists(alloc: Global) -> Result<([usize; 3], [Option<usize>; 4]), AllocError> {
     let table = Houses::of(alloc, 3, three_houses(alloc)?)?;
-    Ok(Told {
-        cells: table.cells(),
-        houses: table.len(),
-        total: table.total(),
-        longest: table.longest(),
-        places: [table.places(1).len(), table.places(2).len()],
-        houses_at: table.houses_at(2).len(),
-        next_at: [
-            table.next_at(2, 0),
-            table.next_at(2, 1),
-            table.next_at(2, 2),
-            table.next_at(0, 1),
-        ],
-    })
+    let lens = [
+        table.places(1).len(),
+        table.places(2).len(),
+        table.houses_at(2).len(),
+    ];
+    let next = [
+        table.next_at(2, 0),
+        table.next_at(2, 1),
+        table.next_at(2, 2),
+        table.next_at(0, 1),
+    ];
+    Ok((lens, next))
 }
 
 #[test]
 fn a_table_finds_the_houses_of_a_place(rt: HostRuntime) -> Result<(), Fail> {
-    assert_eq!(rt; list_numbers(rt.alloc())?, (3, 4));
-    let told = table_told(rt.alloc())?;
-    assert_eq!(rt; told.cells, 3);
-    assert_eq!(rt; told.houses, 3);
-    assert_eq!(rt; told.total, 4);
-    assert_eq!(rt; told.longest, 2);
-    assert_eq!(rt; told.places, [2, 0]);
-    assert_eq!(rt; told.houses_at, 2);
-    assert_eq!(rt; told.next_at, [Some(0), Some(1), None, None]);
+    let numbers = (list_numbers(rt.alloc())?, table_numbers(rt.alloc())?);
+    assert_eq!(rt; numbers, ((3, 4), [3, 3, 4, 2]));
+    let lists = table_lists(rt.alloc())?;
+    assert_eq!(rt; lists, ([2, 0, 2], [Some(0), Some(1), None, None]));
     Ok(())
 }
 

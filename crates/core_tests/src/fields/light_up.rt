@@ -52,7 +52,7 @@ fn has_fault(
 }
 
 /// The ID of a puzzle, the places of bulbs, and the fault.
-const GRIDS: [(&str, &[usize], Option<LightFault>); 7] = [
+static GRIDS: [(&str, &[usize], Option<LightFault>); 7] = [
     ("2x2:2c", &[1, 2], None),
     ("2x2:2c", &[1], Some(LightFault::Number(0))),
     ("2x2:2c", &[1, 2, 3], Some(LightFault::Seen(1))),
@@ -64,7 +64,7 @@ const GRIDS: [(&str, &[usize], Option<LightFault>); 7] = [
 
 #[test]
 fn grids_of_light_up(rt: HostRuntime) -> Result<(), Fail> {
-    for (id, bulbs, fault) in GRIDS {
+    for &(id, bulbs, fault) in GRIDS.iter() {
         let found = has_fault(rt.alloc(), id, bulbs, fault)?;
         assert!(rt; found, "{id} {fault:?}");
     }

@@ -54,7 +54,7 @@ fn has_fault(
 const CAMP: &str = "5x3:aiaa,1,0,2,0,0,2,0,1";
 
 /// The ID of a puzzle, the places of tents, and the fault.
-const GRIDS: [(&str, &[usize], Option<TentFault>); 6] = [
+static GRIDS: [(&str, &[usize], Option<TentFault>); 6] = [
     ("2x2:_c,0,1,1,0", &[1], None),
     ("2x2:_c,0,1,1,0", &[1, 2], Some(TentFault::Touch(1))),
     ("2x2:_c,0,1,1,0", &[2], Some(TentFault::Column(0))),
@@ -65,7 +65,7 @@ const GRIDS: [(&str, &[usize], Option<TentFault>); 6] = [
 
 #[test]
 fn grids_of_tents(rt: HostRuntime) -> Result<(), Fail> {
-    for (id, tents, fault) in GRIDS {
+    for &(id, tents, fault) in GRIDS.iter() {
         let found = has_fault(rt.alloc(), id, tents, fault)?;
         assert!(rt; found, "{id} {fault:?}");
     }

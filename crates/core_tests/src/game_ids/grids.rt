@@ -58,7 +58,7 @@ const LIGHTS: &str = "3x3:aBBa1aBb";
 const TENTS: &str = "3x3:aaaaa,2,0,2,2,0,2";
 
 /// The ID of a puzzle, a text, and what is printed of its grid if it is one.
-const GRIDS: [(Game, &str, &str, &str); 12] = [
+static GRIDS: [(Game, &str, &str, &str); 12] = [
     (Game::Pattern, "2x1:1//1", "#.", "#.\n"),
     (Game::Pattern, "2x1:1//1", "#.\n", "#.\n"),
     (Game::Pattern, "2x1:1//1", "#", "none"),
@@ -75,7 +75,7 @@ const GRIDS: [(Game, &str, &str, &str); 12] = [
 
 #[test]
 fn grids_are_read_and_printed(rt: HostRuntime) -> Result<(), Fail> {
-    for (game, id, text, want) in GRIDS {
+    for &(game, id, text, want) in GRIDS.iter() {
         let same = is_printed(rt.alloc(), game, (id, text), want)?;
         assert!(rt; same, "{game:?} {id} {text}");
     }

@@ -6,7 +6,7 @@ use std::alloc::Global;
 use std::test::Fail;
 
 /// IDs that are refused.
-const FAULTS: [(Game, &str, IdFault); 40] = [
+static FAULTS: [(Game, &str, IdFault); 40] = [
     (Game::Solo, "2x2:5o", IdFault::NumberRange(4)),
     (Game::Solo, "2x2:o", IdFault::TooFew),
     (Game::Solo, "2x2:", IdFault::TooFew),
@@ -51,7 +51,7 @@ const FAULTS: [(Game, &str, IdFault); 40] = [
 
 #[test]
 fn faults_of_ids(rt: HostRuntime) -> Result<(), Fail> {
-    for (game, text, fault) in FAULTS {
+    for &(game, text, fault) in FAULTS.iter() {
         let found = fault_or_want(rt.alloc(), game, text.as_bytes())?;
         assert_eq!(rt; found, Some(fault), "{game:?} {text}");
     }
@@ -81,7 +81,7 @@ const ZA: &str = "13x2:za,0,0,0,0,0,0,0,0,0,0,0,0,0,0,0";
 const OVER: &str = "4x6:z,0,0,0,0,0,0,0,0,0,0";
 
 /// IDs, and the answers to their cuts, the shortest first.
-const CUTS: [(Game, &str, &str); 10] = [
+static CUTS: [(Game, &str, &str); 10] = [
     (Game::Pattern, "5x1:1/1//1/1/2.2", "ccccfffffffff..b."),
     (Game::Solo, SIXTEEN, "ccccfffffffffffffffffffffffffffffff."),
     (Game::Solo, "2x2x:1_2_3_4l", "cccccffffffff."),
@@ -118,7 +118,7 @@ fn first_wrong_cut(
 
 #[test]
 fn cut_ids(rt: HostRuntime) -> Result<(), Fail> {
-    for (game, text, answers) in CUTS {
+    for &(game, text, answers) in CUTS.iter() {
         let wrong = first_wrong_cut(rt.alloc(), game, text.as_bytes(), answers.as_bytes())?;
         assert_eq!(rt; wrong, None, "{game:?} {text}");
     }
@@ -132,7 +132,7 @@ const FIVE: &str = "5x5:y,0,0,0,0,0,0,0,0,0,5";
 const THIRTEEN: &str = "13x2:za,0,0,0,0,0,0,0,0,0,0,0,0,0,0,13";
 
 /// IDs, and how each is written.
-const WRITTEN: [(Game, &str, &str); 21] = [
+static WRITTEN: [(Game, &str, &str); 21] = [
     (Game::Solo, "2:p", "2x2:p"),
     (Game::Solo, "2x2:__p_", "2x2:p"),
     (Game::Solo, "2x2:1_1n", "2x2:1_1n"),
@@ -163,7 +163,7 @@ fn is_written(alloc: Global, game: Game, text: &str, id: &str) -> Result<bool, I
 
 #[test]
 fn read_and_written(rt: HostRuntime) -> Result<(), Fail> {
-    for (game, text, want) in WRITTEN {
+    for &(game, text, want) in WRITTEN.iter() {
         let same = is_written(rt.alloc(), game, text, want)?;
         assert!(rt; same, "{game:?} {text}");
     }

@@ -32,7 +32,7 @@ const TENTS: Option<IdFault> = Some(IdFault::NumberRange(7));
 const FULL: Option<IdFault> = Some(IdFault::LineTooFull(0));
 
 /// The front of an ID, a piece and how often it stands there, the end, and the fault.
-const TEXTS: [(Game, &str, &str, usize, &str, Option<IdFault>); 38] = [
+static TEXTS: [(Game, &str, &str, usize, &str, Option<IdFault>); 38] = [
     (Game::Solo, "2x2:", "_", 65_530, "p", None),
     (Game::Solo, "2x2:", "_", 65_531, "p", None),
     (Game::Solo, "2x2:", "_", 65_532, "p", LONG),
@@ -75,7 +75,7 @@ const TEXTS: [(Game, &str, &str, usize, &str, Option<IdFault>); 38] = [
 
 #[test]
 fn long_ids(rt: HostRuntime) -> Result<(), Fail> {
-    for (game, front, piece, count, end, fault) in TEXTS {
+    for &(game, front, piece, count, end, fault) in TEXTS.iter() {
         let found = fault_of_long(rt.alloc(), game, (front, piece, count, end))?;
         assert_eq!(rt; found, fault, "{game:?} {front} {count} {end}");
     }

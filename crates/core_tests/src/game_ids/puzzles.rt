@@ -80,7 +80,7 @@ fn told_of_parts(
 }
 
 /// A size, the trees and the tents of a grid, the first count, whether the second cell has a tree, and the ID.
-const PARTS: [((u8, u8), &[u8], &[u8], u8, bool, &str); 3] = [
+static PARTS: [((u8, u8), &[u8], &[u8], u8, bool, &str); 3] = [
     (
         (2, 2),
         &[1, 0, 0, 0],
@@ -109,7 +109,7 @@ const PARTS: [((u8, u8), &[u8], &[u8], u8, bool, &str); 3] = [
 
 #[test]
 fn puzzles_of_parts(rt: HostRuntime) -> Result<(), Fail> {
-    for ((w, h), trees, tents, first, tree, id) in PARTS {
+    for &((w, h), trees, tents, first, tree, id) in PARTS.iter() {
         let size = Size::new(w, h);
         assert!(rt; size.is_some());
         let told = told_of_parts(rt.alloc(), size.unwrap(), (trees, tents), id)?;
@@ -163,8 +163,8 @@ fn solo_x_is_made_read_and_copied(rt: HostRuntime) -> Result<(), Fail> {
         (false, "2x3:zj", "2x3:1_6zh"),
         (true, "2x3x:zj", "2x3x:1_6zh"),
     ] {
-        assert_eq!(rt; made(rt.alloc(), x, blank)?, [x, true], "{blank}");
-        assert_eq!(rt; copied(rt.alloc(), given)?, [x, x, true], "{given}");
+        let told = (made(rt.alloc(), x, blank)?, copied(rt.alloc(), given)?);
+        assert_eq!(rt; told, ([x, true], [x, x, true]), "{given}");
     }
     Ok(())
 }

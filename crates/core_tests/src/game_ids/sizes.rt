@@ -39,7 +39,7 @@ fn faults_before_the_colon(rt: HostRuntime) {
 }
 
 /// Sizes, and what is read of each.
-const SIZES: [(Game, &str, Result<(u8, u8, bool), IdFault>); 29] = [
+static SIZES: [(Game, &str, Result<(u8, u8, bool), IdFault>); 29] = [
     (Game::Solo, "2x3", Ok((2, 3, false))),
     (Game::Solo, "3", Ok((3, 3, false))),
     (Game::Solo, "2x3x", Ok((2, 3, true))),
@@ -73,7 +73,7 @@ const SIZES: [(Game, &str, Result<(u8, u8, bool), IdFault>); 29] = [
 
 #[test]
 fn sizes_are_read(rt: HostRuntime) {
-    for (game, text, size) in SIZES {
+    for &(game, text, size) in SIZES.iter() {
         assert_eq!(rt; read_size(game, text.as_bytes()), size, "{game:?} {text}");
     }
 }

@@ -56,6 +56,11 @@ fn are_lights(alloc: Global, budget: u64, id: &str) -> Result<(bool, usize), Fai
     Ok((same, made.kept.len()))
 }
 
+/// The same without a budget and with one.
+fn both_are_lights(alloc: Global, id: &str) -> Result<[(bool, usize); 2], Fail> {
+    Ok([are_lights(alloc, 0, id)?, are_lights(alloc, 1_000, id)?])
+}
+
 /// Why nothing was made of a size.
 fn no_lights(
     alloc: Global,
@@ -71,18 +76,20 @@ fn no_lights(
     }
 }
 
+/// Why nothing is made of white cells alone, without a try, and of a column.
+fn all_no_lights(alloc: Global) -> Result<[Option<MakeFault>; 3], MakeFault> {
+    let white = no_lights(alloc, (2, 2), 0, 2)?;
+    let untried = no_lights(alloc, (2, 2), 100, 0)?;
+    let narrow = no_lights(alloc, (1, 4), 100, 0)?;
+    Ok([white, untried, narrow])
+}
+
 #[test]
 fn a_grid_of_black_cells_is_made_of_light_up(rt: HostRuntime) -> Result<(), Fail> {
-    for budget in [0, 1_000] {
-        let told = are_lights(rt.alloc(), budget, "2x2:BBBB")?;
-        assert_eq!(rt; told, (true, 0));
-    }
-    let none = [
-        no_lights(rt.alloc(), (2, 2), 0, 2)?,
-        no_lights(rt.alloc(), (2, 2), 100, 0)?,
-        no_lights(rt.alloc(), (1, 4), 100, 0)?,
-    ];
+    let made = both_are_lights(rt.alloc(), "2x2:BBBB")?;
+    assert_eq!(rt; made, [(true, 0), (true, 0)]);
     let exhausted = Some(MakeFault::Exhausted);
+    let none = all_no_lights(rt.alloc())?;
     assert_eq!(rt; none, [exhausted, exhausted, Some(MakeFault::SizeRange)]);
     Ok(())
 }
@@ -141,16 +148,17 @@ fn counted_of(alloc: Global, size: Size) -> Result<Option<(u32, u32)>, MakeFault
     Ok(counted(&made))
 }
 
+/// Why nothing is made of a size without a try.
+fn no_tents(alloc: Global, size: Size) -> Result<Option<MakeFault>, MakeFault> {
+    fault(tents(alloc, size, 0))
+}
+
 #[test]
 fn tents_have_trees(rt: HostRuntime) -> Result<(), Fail> {
     let (size, small) = (Size::new(6, 6).unwrap(), Size::new(3, 3).unwrap());
     let (standing, trees) = counted_of(rt.alloc(), size)?.unwrap_or((0, 0));
-    assert!(rt; 1 <= standing && standing <= 7);
-    assert_eq!(rt; trees, standing);
-    let none = [
-        fault(tents(rt.alloc(), size, 0))?,
-        fault(tents(rt.alloc(), small, 0))?,
-    ];
+    assert!(rt; 1 <= standing && standing <= 7 && trees == standing);
+    let none = [no_tents(rt.alloc(), size)?, no_tents(rt.alloc(), small)?];
     assert_eq!(rt;
         none,
         [Some(MakeFault::Exhausted), Some(MakeFault::SizeRange)]

@@ -57,21 +57,40 @@ fn give(puzzle: &mut SoloPuzzle, place: usize, number: u8) {
     }
 }
 
-/// Whether a search goes as in a new store where the given of a cell is taken away after a search of the puzzle; the given
-/// is put back.
+/// A store that has served a search of the puzzle.
+fn used_by(
+    alloc: Global,
+    puzzle: &SoloPuzzle,
+    budget: u64,
+) -> Result<Store<SoloHouses>, AllocError> {
+    let rules = SoloHouses::new(alloc, puzzle)?;
+    used_store(alloc, &rules, budget)
+}
+
+/// Whether a search of the puzzle, in a store that was used, goes as in a new one.
+fn serves(
+    alloc: Global,
+    puzzle: &SoloPuzzle,
+    used: &mut Store<SoloHouses>,
+    budget: u64,
+) -> Result<bool, AllocError> {
+    let rules = SoloHouses::new(alloc, puzzle)?;
+    goes_as_new(alloc, &rules, used, budget)
+}
+
+/// Whether it does where the given of a cell is taken away after a search of the puzzle; the given is put back.
 fn goes_on_without_given(
     alloc: Global,
     puzzle: &mut SoloPuzzle,
     place: usize,
     budget: u64,
 ) -> Result<bool, AllocError> {
-    let mut used = used_store(alloc, &SoloHouses::new(alloc, puzzle)?, budget)?;
+    let mut used = used_by(alloc, puzzle, budget)?;
     let Some(number) = given(puzzle, place) else {
         return Ok(false);
     };
     give(puzzle, place, 0);
-    let thinner = SoloHouses::new(alloc, puzzle)?;
-    let same = goes_as_new(alloc, &thinner, &mut used, budget)?;
+    let same = serves(alloc, puzzle, &mut used, budget)?;
     give(puzzle, place, number);
     Ok(same && given(puzzle, place) == Some(number))
 }
@@ -108,21 +127,31 @@ fn a_used_store_serves_thinner_puzzles(rt: HostRuntime) -> Result<(), Fail> {
     Ok(())
 }
 
-/// The verdicts of the corner with its number, and without it in the same store if that has room.
-fn verdicts(alloc: Global, budget: u64) -> Result<(Verdict, Option<Verdict>), AllocError> {
-    let rules = corner(alloc, true)?;
-    let mut store = Store::new(alloc, &rules)?;
-    let numbered = store.solve(&rules, budget);
-    let thinner = corner(alloc, false)?;
-    if !store.fits(&thinner) {
-        return Ok((numbered, None));
+/// The verdict of the corner in a store that has room for it.
+fn verdict(
+    alloc: Global,
+    store: &mut Store<LightRules>,
+    numbered: bool,
+    budget: u64,
+) -> Result<Option<Verdict>, AllocError> {
+    let rules = corner(alloc, numbered)?;
+    if !store.fits(&rules) {
+        return Ok(None);
     }
-    Ok((numbered, Some(store.solve(&thinner, budget))))
+    Ok(Some(store.solve(&rules, budget)))
+}
+
+/// The verdicts of the corner with its number, and without it in the same store.
+fn verdicts(alloc: Global, budget: u64) -> Result<[Option<Verdict>; 2], AllocError> {
+    let mut store = used_store(alloc, &corner(alloc, true)?, budget)?;
+    let numbered = verdict(alloc, &mut store, true, budget)?;
+    let without = verdict(alloc, &mut store, false, budget)?;
+    Ok([numbered, without])
 }
 
 #[test]
 fn a_black_cell_without_its_number_has_more_solutions(rt: HostRuntime) -> Result<(), Fail> {
     let told = verdicts(rt.alloc(), 2)?;
-    assert_eq!(rt; told, (Verdict::One, Some(Verdict::Several)));
+    assert_eq!(rt; told, [Some(Verdict::One), Some(Verdict::Several)]);
     Ok(())
 }

@@ -27,7 +27,7 @@ const FIXED: usize = 64;
 /// The most cells of a row.
 const CELLS: usize = OPEN + FIXED;
 
-const CLUES: [&[u8]; 21] = [
+static CLUES: [&[u8]; 21] = [
     &[],
     &[1],
     &[2],
@@ -145,19 +145,25 @@ fn push_clue(text: &mut String, long: Long, clue: &[u8]) -> Result<(), AllocErro
     Ok(())
 }
 
+/// Appends the clue of each row after a `/`: those that fit.
+fn push_clues(text: &mut String, rows: Rows) -> Result<(), AllocError> {
+    for &clue in CLUES.iter() {
+        if fits(clue, rows.open()) {
+            text.push('/')?;
+            push_clue(text, rows.long, clue)?;
+        }
+    }
+    Ok(())
+}
+
 /// The ID of a puzzle with a row for each clue that fits, and with columns that have no clue.
-fn id_of(alloc: Global, rows: Rows) -> Result<String, Fail> {
+fn id_of(alloc: Global, rows: Rows) -> Result<String, AllocError> {
     let count = CLUES.iter().filter(|clue| fits(clue, rows.open())).count();
     let mut text = format!(in alloc; "{}x{count}:", rows.cells())?;
     for _column in 1..rows.cells() {
         text.push('/')?;
     }
-    for clue in CLUES {
-        if fits(clue, rows.open()) {
-            text.push('/')?;
-            push_clue(&mut text, rows.long, clue)?;
-        }
-    }
+    push_clues(&mut text, rows)?;
     Ok(text)
 }
 
@@ -200,6 +206,7 @@ fn listed(rows: Rows, sets: &[u32; CELLS], clue: &[u8]) -> [u32; CELLS] {
 
 /// Gives the cells from a place on these sets.
 fn put(board: &mut Board, from: usize, sets: &[u32])
+    requires few { from + length sets.now ≤ 65536 }
     requires cells { from + length sets.now ≤ cells_of board.old }
     requires values { board.old.values ≡ 2 }
     ensures { SameShape board.old board.new }
@@ -212,7 +219,8 @@ fn put(board: &mut Board, from: usize, sets: &[u32])
 
 /// Whether the cells from a place on have these sets.
 fn holds(board: &Board, from: usize, sets: &[u32]) -> bool
-    requires { from + length sets.now ≤ cells_of board.now }
+    requires few { from + length sets.now ≤ 65536 }
+    requires cells { from + length sets.now ≤ cells_of board.now }
 {
     for k in 0..sets.len() {
         if board.bits(from + k) != sets[k] {
@@ -233,13 +241,13 @@ fn visits_as_listed(
     requires { IsBoardOf (line_rules rules.now.pattern) board.old }
     ensures { SameShape board.old board.new }
 {
-    let (first, cells) = (row.first(), row.rows.cells());
-    if first + cells > rules.cells() || row.house() >= rules.houses() {
+    let (first, house, cells) = (row.first(), row.house(), row.rows.cells());
+    if first + cells > rules.cells() || house >= rules.houses() {
         return false;
     }
     let sets = sets_of(row.rows, number);
     put(board, first, &sets[..cells]);
-    rules.visit(row.house(), board, scratch);
+    rules.visit(house, board, scratch);
     let left = listed(row.rows, &sets, row.clue);
     holds(board, first, &left[..cells])
 }
@@ -272,7 +280,7 @@ fn rows_agree(
     requires { IsBoardOf (line_rules rules.now.pattern) board.old }
 {
     let mut number = 0usize;
-    for clue in CLUES {
+    for &clue in CLUES.iter() {
         if fits(clue, rows.open()) {
             let row = Row { rows, number, clue };
             if !row_agrees(rules, board, scratch, row) {

@@ -75,7 +75,7 @@ fn struck_of(
 }
 
 /// The cells of a row, its clue, and where white is struck.
-const RUNS: [(usize, &str, (usize, usize)); 7] = [
+static RUNS: [(usize, &str, (usize, usize)); 7] = [
     (64, "40", (24, 40)),
     (64, "62", (2, 62)),
     (64, "63", (1, 63)),
@@ -87,7 +87,7 @@ const RUNS: [(usize, &str, (usize, usize)); 7] = [
 
 #[test]
 fn long_runs_overlap_themselves(rt: HostRuntime) -> Result<(), Fail> {
-    for (cells, clue, (from, to)) in RUNS {
+    for &(cells, clue, (from, to)) in RUNS.iter() {
         let told = struck_of(rt.alloc(), cells, clue, (from, to))?;
         assert_eq!(rt; told, Some([from < to, true, false]), "{cells} {clue}");
     }

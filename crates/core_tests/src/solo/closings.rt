@@ -35,8 +35,9 @@ fn left<S: Strikes>(alloc: Global, id: &[u8], place: usize) -> Result<u32, Fail>
 
 #[test]
 fn a_pair_is_taken_by_houses_and_not_by_singles(rt: HostRuntime) -> Result<(), Fail> {
-    assert_eq!(rt; left::<Fillings>(rt.alloc(), PAIR, 2)?, 0b1100);
-    assert_eq!(rt; left::<Fillings>(rt.alloc(), PAIR, 6)?, 0b0011);
+    let first = left::<Fillings>(rt.alloc(), PAIR, 2)?;
+    let second = left::<Fillings>(rt.alloc(), PAIR, 6)?;
+    assert_eq!(rt; (first, second), (0b1100, 0b0011));
     assert_eq!(rt; left::<Singles>(rt.alloc(), PAIR, 2)?, 0b1111);
     Ok(())
 }
@@ -44,14 +45,9 @@ fn a_pair_is_taken_by_houses_and_not_by_singles(rt: HostRuntime) -> Result<(), F
 #[test]
 fn what_a_block_claims_is_struck_by_crossings_alone(rt: HostRuntime) -> Result<(), Fail> {
     for place in 3..6 {
-        assert_eq!(rt;
-            left::<Fillings>(rt.alloc(), CLAIMED, place)?,
-            0b1_1111_1111
-        );
-        assert_eq!(rt;
-            left::<Crossings>(rt.alloc(), CLAIMED, place)?,
-            0b1_1111_1110
-        );
+        let fillings = left::<Fillings>(rt.alloc(), CLAIMED, place)?;
+        let crossings = left::<Crossings>(rt.alloc(), CLAIMED, place)?;
+        assert_eq!(rt; (fillings, crossings), (0b1_1111_1111, 0b1_1111_1110));
     }
     Ok(())
 }

@@ -24,7 +24,7 @@ fn scope(block: Option<usize>, line: SoloHouse) -> SoloScope {
 }
 
 /// Numbers, and the block and the line that each names.
-const NAMED: [(usize, Option<usize>, SoloHouse); 10] = [
+static NAMED: [(usize, Option<usize>, SoloHouse); 10] = [
     (5, None, SoloHouse::Row(5)),
     (6, None, SoloHouse::Column(0)),
     (17, None, SoloHouse::Block(5)),
@@ -39,7 +39,7 @@ const NAMED: [(usize, Option<usize>, SoloHouse); 10] = [
 
 #[test]
 fn numbers_name_scopes(rt: HostRuntime) -> Result<(), Fail> {
-    for (number, block, line) in NAMED {
+    for &(number, block, line) in NAMED.iter() {
         assert!(rt; number < 50);
         assert_eq!(rt; named(rt.alloc(), number)?, scope(block, line), "{number}");
     }
