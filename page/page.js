@@ -164,7 +164,7 @@ function refuse(why, text = "") {
   if (isNaN(number)) return;
   const clue = number ? text.split("/").slice(0, number).join("/").length + 1 : text.indexOf(":") + 1;
   const byte = new TextDecoder().decode(new TextEncoder().encode(text).slice(0, number)).length;
-  const at = kind === "line" ? clue : byte, [marked] = text.slice(at).match(kind === "bad byte" ? /^.?/su : /^[\d.]*/);
+  const at = kind === "line" ? clue : byte, [marked] = text.slice(at).match(kind === "bad byte" ? /^.?/su : /^[\d.]{0,24}/);
   const end = at + marked.length, before = text.slice(Math.max(0, at - 24), at);
   $("fault").append(element("code", {}, before, element("mark", {}, marked), text.slice(end, end + 24)));
 }
@@ -221,6 +221,7 @@ $("pad").addEventListener("click", ({ target }) => target.value && put(target.va
 $("game").append(...Object.entries(GAMES).map(([game, { name }]) => new Option(name, game)));
 $("game").addEventListener("change", () => setGame($("game").value));
 for (const choice of ["game", "size"]) $(choice).addEventListener("change", generate);
+$("seed").addEventListener("keydown", (event) => event.key === "Enter" && generate());
 
 const [, game = "solo", text = ""] = location.hash.match(/^#(solo|pattern|lightup|tents)\/(.+)$/) || [];
 setGame(game);
