@@ -20,7 +20,7 @@ set -u
 dask='/usr/bin/python3 examples/dask/job.py --lines 25 tcp://127.0.0.1:8786'
 not_run=(
     '(cd crates/puzzles && rt try -- solve pattern 5x1:1/1//1/1/2.2)'
-    '(cd crates/puzzles && rt run -- solve pattern 5x1:1/1//1/1/2.2)'
+    '(cd crates/puzzles && rt run --jobs 4 -- solve pattern 5x1:1/1//1/1/2.2)'
     '(cd crates/grid_core && rt check)'
     '(cd crates/grid_core && rt check --only grid_core::board::Board::has_empty_cell)'
     '(cd crates/grid_core && rt check --only grid_core::board::Board::has_empty_cell --allow-holes)'
