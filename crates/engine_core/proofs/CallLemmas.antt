@@ -2,9 +2,10 @@
 use Rattle.engine_core.proofs.Common.{AreCalled, Bool, Candidates, IsIdle, IsWoken, Puzzle, and_from, and_left, and_right, any_below, arith, but}
 use Rattle.engine_core.proofs.Common.{called_for, calls, cases_eq, cases_lt, common_steps, count_below, counts_of, eq-eqb, eqb, eqb-true, false}
 use Rattle.engine_core.proofs.Common.{has_place, le-ltb, lt-ltb, ltb, ne_eqb, not, not_from_false, not_from_true, or_left, or_right, refl}
-use Rattle.engine_core.proofs.Common.{slice_index, true, woken, ℕ, ◌&&◌, ◌+◌, ◌<◌, ◌||◌, ◌≡◌, ◌≤◌}
+use Rattle.engine_core.proofs.Common.{IsBitsOf, IsInside, IsNext, None, Some, any_below, empties, slice_index, true, woken, ℕ, ◌&&◌, ◌+◌, ◌<◌, ◌||◌, ◌≡◌, ◌≤◌}
 use Rattle.engine_core.proofs.IndexLemmas.{counted}
-use Rattle.engine_core.proofs.QueueLemmas.{any_below-more, woken-none}
+use Rattle.engine_core.proofs.QueueLemmas.{any_below-more, empties_else, empties_then, woken-none}
+use Rattle.engine_core.proofs.SetLemmas.{bits-empty, counts-differ, counts-same}
 
 -- where no house is called for, nothing changes
 pub called-none : (p : Puzzle) (K : Candidates) (called waits : ℕ → Bool) → ((j : ℕ) → j < p.houses → called j ≡ false) → AreCalled p K called waits waits
@@ -83,3 +84,52 @@ woken-unstruck p h K K' waits left same clears = grind (arith, common_steps, wok
 pub called-from : (p : Puzzle) (K : Candidates) (called called' before now : ℕ → Bool) → ((j : ℕ) → j < p.houses → before j ≡ false) → ((j : ℕ) → j < p.houses → called j ≡ called' j) → AreCalled p K called before now
     → AreCalled p K called' (λ j. false) now
 called-from p K called called' before now none same a = grind (arith, common_steps)
+
+-- ---- the houses that pass a test, up to a number
+pub before-first : (p : Puzzle) (K : Candidates) (test waits : ℕ → Bool) → AreCalled p K (λ j. test j && ltb j 0) waits waits
+before-first p K test waits = called-none p K _ waits (λ j lt. and_right (test j) _ (le-ltb j 0 (omega arith)))
+
+-- the next one is marked
+pub before-marked : (p : Puzzle) (K : Candidates) (test before now after : ℕ → Bool) (from n : ℕ) → IsNext test p.houses from (Some n) → ((j : ℕ) → after j ≡ (now j || eqb j n))
+    → AreCalled p K (λ j. test j && ltb j from) before now → AreCalled p K (λ j. test j && ltb j (n + 1)) before after
+before-marked p K test before now after from n next marks a =
+    called-same p K _ _ before after (λ j lt. one (test j) j lt) (called-more p K (λ j. test j && ltb j from) (λ j. eqb j n) before now after a (grind (arith, common_steps, or_left, or_right)))
+  where
+    one : (on : Bool) (j : ℕ) → j < p.houses → ((test j && ltb j from) || eqb j n) ≡ (test j && ltb j (n + 1))
+    one on j lt = grind (arith, common_steps, and_from, and_left, and_right, cases_eq, cases_lt, eq-eqb, le-ltb, lt-ltb, ne_eqb, next.3 j)
+
+-- and none is left
+pub before-all : (p : Puzzle) (K : Candidates) (test before now : ℕ → Bool) (from : ℕ) → IsNext test p.houses from None → AreCalled p K (λ j. test j && ltb j from) before now → AreCalled p K test before now
+before-all p K test before now from next a = called-same p K _ _ before now (λ j lt. grind (arith, common_steps, and_from, and_left, cases_lt, lt-ltb, next j)) a
+
+-- ---- the cells of a house one after another, by their sets before and now
+pub record IsMarking (p : Puzzle) (h : ℕ) (K K' : Candidates) (k : ℕ) (before now : ℕ → Bool) (dead : Bool) : Type 0 where
+  pub called : AreCalled p K' (λ j. any_below (calls p h (counts_of p h K) K' j) k) before now
+  pub dead_is : dead ≡ any_below (empties p h (counts_of p h K) K') k
+
+pub marking-first : (p : Puzzle) (h : ℕ) (K K' : Candidates) (waits : ℕ → Bool) → IsMarking p h K K' 0 waits waits false
+unfolding any_below
+marking-first p h K K' waits = record { called = called-first p h K K' waits; dead_is = refl }
+
+module _ (p : Puzzle) (h : ℕ) (K K' : Candidates) (k place set bits : ℕ) (before now : ℕ → Bool) (dead : Bool) (at : place ≡ slice_index (p.scope h) k)
+    (was : IsBitsOf (K (slice_index (p.scope h) k)) p.values set) (is : IsBitsOf (K' place) p.values bits) (inside : IsInside K' K) (m : IsMarking p h K K' k before now dead) where
+  here : IsBitsOf (K' (slice_index (p.scope h) k)) p.values bits
+  here = rw (← at) is
+
+  -- a cell with another set calls for its houses
+  pub marking-then : (after : ℕ → Bool) (dead' : Bool) → (bits ≡ set → ⊥) → AreCalled p K' (λ j. has_place (p.scope j) place) now after → dead' ≡ (dead || eqb bits 0)
+      → IsMarking p h K K' (k + 1) before after dead'
+  unfolding counts_of
+  marking-then after dead' ne a e =
+      let differ = counts-differ _ _ p.values set bits was here (λ v. inside _ v) ne in
+      record {
+        called = called-then p h K K' k place before now after at differ m.called a;
+        dead_is = empties_then p h (counts_of p h K) K' k dead dead' _ e m.dead_is differ (bits-empty _ p.values bits here);
+      }
+
+  -- one with the same set doesn't
+  pub marking-else : bits ≡ set → IsMarking p h K K' (k + 1) before now dead
+  unfolding counts_of
+  marking-else e =
+      let same = counts-same _ _ p.values set bits was here e in
+      record { called = called-else p h K K' k before now same m.called; dead_is = empties_else p h (counts_of p h K) K' k dead dead refl m.dead_is same }

@@ -18,7 +18,7 @@ pub use Rattle.std.proofs.lemmas.List.Elements.{All-from_get_or}
 pub use Rattle.std.proofs.lemmas.List.FromFn.{map-range_with_len_more}
 pub use Rattle.std.proofs.lemmas.List.Sums.{sum_by-cons}
 pub use Rattle.std.proofs.lemmas.Nat.{and_le_l, one_shl, or_lt, pow-add, pow_below, pow_pos}
-pub use Rattle.std.proofs.lemmas.Nat.Bits.{bit_at-lt, bit_at-pow_other, bit_at-pow_same, bit_at-trailing_zeros, bit_at-zero, bit_at_above}
+pub use Rattle.std.proofs.lemmas.Nat.Bits.{bit_at-lt, bit_at-pow_other, bit_at-pow_same, bit_at-trailing_zeros, bit_at_ones, bit_at-zero, bit_at_above}
 pub use Rattle.std.proofs.lemmas.Nat.Bits.{bit_at_clear_other, bit_at_clear_same, bit_at_set_other, bit_at_set_same, same_from_bits_below}
 pub use Rattle.std.proofs.lemmas.Slice.{between_to_end}
 pub use Rattle.std.specs.Int.{bit_at, trailing_zeros}
@@ -46,8 +46,8 @@ pub use Rattle.engine_core.specs.ClosingList.{HasLost, IsAlive, IsCalledFor, IsC
 pub use Rattle.engine_core.specs.Counts.{IsClosedIn, IsTurns, boards_of}
 unfoldable pub use Rattle.engine_core.specs.Counts.{deepest_of}
 pub use Rattle.engine_core.specs.FillingLaws.{shown_from_test, test_from_shown}
-pub use Rattle.engine_core.specs.Frames.{AreAlong, AreGrids, AreReady, CountsClosing, IsFull, IsOpen, IsReady, IsSearched, IsTrial, IsWalked, Judges}
-pub use Rattle.engine_core.specs.Frames.{Says, board_in, found_marks, found_of, frame_at, level_at, marks_from, marks_of, pending_in, pending_of}
+pub use Rattle.engine_core.specs.Frames.{AreGrids, AreReady, CountsClosing, IsFull, IsOpen, IsReady, IsSearched, IsTrial, IsWalked, Judges}
+pub use Rattle.engine_core.specs.Frames.{Says, found_marks, found_of, frame_at, level_at, marks_from, marks_of, pending_in, pending_of}
 pub use Rattle.engine_core.specs.Frames.{searched_at, walk_of}
 unfoldable pub use Rattle.engine_core.specs.Frames.{levels_of, singles}
 pub use Rattle.engine_core.specs.House.{AreDifferent}
@@ -58,17 +58,21 @@ pub use Rattle.engine_core.specs.HouseList.{listed}
 pub use Rattle.engine_core.specs.HousesLaws.{bound_enough, by_houses-lawful, counted_twice, from_first}
 pub use Rattle.engine_core.specs.Keeping.{AreSetsOf, IsKept}
 pub use Rattle.engine_core.specs.PlaceLaws.{has_place-at, has_place-here}
-pub use Rattle.engine_core.specs.Puzzle.{FitsIn, IsBoardOf, IsClosed, IsGridOf, IsIdle, IsInsideAt, IsKth, IsLawful, IsNext, Needs, Puzzle, needs_of}
+pub use Rattle.engine_core.specs.Position.{IsMarked, IsOnward, IsReturned, IsTaken, Standing}
+pub use Rattle.engine_core.specs.Puzzle.{FitsIn, IsBoardOf, IsClosed, IsGridOf, IsIdle, IsInsideAt, IsLawful, IsNext, Needs, Puzzle, needs_of}
 unfoldable pub use Rattle.engine_core.specs.Puzzle.{after, has_place, longest, share}
-pub use Rattle.engine_core.specs.Queue.{IsClosedBut, IsEnded, IsRested, IsSweep, IsWoken, are_emptied, called_for, calls, empties}
+pub use Rattle.engine_core.specs.Queue.{IsClosedBut, IsRested, IsSweep, IsWoken, are_emptied, called_for, calls, empties}
 unfoldable pub use Rattle.engine_core.specs.Queue.{but, counts_of, visits_left, waits_from, woken}
 pub use Rattle.engine_core.specs.Search.{Level}
 unfoldable pub use Rattle.engine_core.specs.Search.{branches_from, pending}
 pub use Rattle.engine_core.specs.Sets.{IsBitsOf, IsChange, has_bit}
 pub use Rattle.engine_core.specs.Stored.{is_settled}
-pub use Rattle.engine_core.specs.Trail.{AreLost, IsBack, IsFurther, IsTrail, Trail, back_at, change_at, given_back, is_emptied_since, is_since}
+pub use Rattle.engine_core.specs.Trail.{AreLost, IsBack, IsFurther, IsTrail, Trail, back_at, change_at, given_back, is_since}
+pub use Rattle.engine_core.specs.Trail.{IsStruck, StillServes, Visits}
 unfoldable pub use Rattle.engine_core.specs.Trail.{left_by, put_back}
 unfoldable pub use Rattle.engine_core.specs.Trials.{trials_of}
+pub use Rattle.engine_core.specs.TrailPosition.{AreMarks, AreRested, GoesOn, IsAlong, IsPlaced, IsStep, IsUnderWay, Placed, board_in, mark_at, standing_by, standing_of}
+pub use Rattle.engine_core.specs.Closer.{BoardAndMarks, IsCloserOf, IsVisited, IsWholeSweep, SameRoom}
 pub use Rattle.engine_core.specs.Verdict.{IsTrueOf, Outcome, Outcome.NoGrid, Outcome.OneGrid, Outcome.OutOfBudget, Outcome.TwoGrids, Solves}
 pub use Rattle.engine_core.specs.Verdict.{says_counts}
 unfoldable pub use Rattle.engine_core.specs.Verdict.{before_grid, before_second, grids_in, outcome, spent, trials_in, tried, within_budget}
@@ -76,4 +80,3 @@ pub use Rattle.engine_core.specs.Waiting.{AreCalled}
 unfoldable pub use Rattle.engine_core.specs.Waiting.{is_waiting}
 pub use Rattle.engine_core.specs.Walk.{AreFoundOnce, IsFewest, IsFound, IsPick, Mark, Mark.Found, Mark.Trial}
 unfoldable pub use Rattle.engine_core.specs.Walk.{at_cell, branch_at, branches, walk, walk_closed, walk_to}
-pub use Rattle.engine_core.specs.Working.{IsAlong, IsSameButWaits, IsWorkOf, StillServes}

@@ -1,21 +1,19 @@
--- What a closing left.
-use Rattle.engine_core.proofs.Common.{Bool, Candidates, CountsClosing, IsClosing, IsDead, IsEnded, List, Puzzle, arith, board_in, closure}
-use Rattle.engine_core.proofs.Common.{common_steps, false, is_dead, length, max, take, ℕ, ◌+◌, ◌↔◌, ◌≡◌, ◌≤◌}
+-- What a closing came to, for a walk that goes on from it.
+use Rattle.engine_core.proofs.Common.{Candidates, CountsClosing, IsClosedIn, IsClosing, IsTaken, List, Puzzle, arith, common_steps, false, length, true, ℕ, ◌+◌, ◌≡◌, ◌≤◌}
 use Rattle.engine_core.specs.declared.mode.Closing.{Closing}
-use Rattle.engine_core.specs.declared.mode.Closing.TheVariants.{Dead}
-use Rattle.engine_core.specs.declared.search.levels.Levels.{Levels}
-use Rattle.engine_core.proofs.CountLemmas.{closed-in}
+use Rattle.engine_core.specs.declared.mode.Closing.TheVariants.{Dead, Open}
 
--- a whole closing
-pub ended-whole : (p : Puzzle) (K E : Candidates) (whole : Bool) (answer : Closing) (trace : List ℕ) (sweeps : ℕ) → IsClosing p K E answer trace sweeps → IsEnded p K E whole answer trace sweeps
-ended-whole p K E whole answer trace sweeps c = grind (arith, common_steps)
+-- where the closure is dead, any board may be left
+pub taken-dead : (p : Puzzle) (K own E : Candidates) (trace : List ℕ) (sweeps : ℕ) → IsClosing p K own Dead trace sweeps → IsTaken p K E Dead
+taken-dead p K own E trace sweeps c = grind (arith, common_steps)
 
--- the answer says whether the board that is left is dead; where it is not, it is the closure
-pub ended-told : (p : Puzzle) (K E : Candidates) (whole : Bool) (answer : Closing) (trace : List ℕ) (sweeps : ℕ) → IsEnded p K E whole answer trace sweeps
-    → ((answer ≡ Dead) ↔ IsDead p E) × (IsDead p E → IsDead p (closure p K)) × (is_dead p.cells p.values E ≡ false → E ≡ closure p K)
-ended-told p K E whole answer trace sweeps e = grind (arith, common_steps)
+pub taken-open : (p : Puzzle) (K E : Candidates) (trace : List ℕ) (sweeps : ℕ) → IsClosing p K E Open trace sweeps → IsTaken p K E Open
+taken-open p K E trace sweeps c = grind (arith, common_steps)
 
 -- its turns are counted
-pub ended-counted : (p : Puzzle) (levels : Levels) (E : Candidates) (whole : Bool) (answer : Closing) (trace : List ℕ) (visits sweeps m before : ℕ) → m ≡ max visits sweeps
-    → IsEnded p (board_in levels) E whole answer (take visits trace) sweeps → visits ≤ length trace → m ≤ 18446744073709551615 → CountsClosing p levels before (before + m)
-ended-counted p levels E whole answer trace visits sweeps m before is c le few = grind (arith, common_steps, closed-in)
+pub closed-in : (p : Puzzle) (K E : Candidates) (answer : Closing) (trace : List ℕ) (sweeps m : ℕ) → IsClosing p K E answer trace sweeps
+    → (p.by_queue ≡ true → length trace ≡ m) → (p.by_queue ≡ false → sweeps ≡ m) → IsClosedIn p K m
+closed-in p K E answer trace sweeps m c visits turns = grind (arith, common_steps)
+
+pub turns-counted : (p : Puzzle) (K : Candidates) (m before : ℕ) → IsClosedIn p K m → m ≤ 18446744073709551615 → CountsClosing p K before (before + m)
+turns-counted p K m before c few = grind (arith, common_steps)

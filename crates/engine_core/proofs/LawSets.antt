@@ -9,7 +9,7 @@ use Rattle.engine_core.proofs.TrialLemmas.{tried-first, trials-counted}
 use Rattle.engine_core.proofs.VerdictLemmas.{spent-le, outcome-true, outcome-counts, spent-counts, found_iff}
 use Rattle.engine_core.proofs.WalkLemmas.{walk-once, walk-unfold}
 use Rattle.engine_core.proofs.CountLemmas.{search-few, spent-tried}
-use Rattle.engine_core.proofs.EndLemmas.{ended-counted}
+use Rattle.engine_core.proofs.EndLemmas.{turns-counted}
 use Rattle.engine_core.proofs.HouseLemmas.{kept-first, kept-inside, kept-more, striking-first, striking-more}
 use Rattle.engine_core.proofs.JudgeLemmas.{grid-fits, grid-long, pick-ends, pick-in, pick-more}
 use Rattle.engine_core.proofs.StoreLemmas.{settled-dead}
@@ -33,6 +33,8 @@ pub ruleset trail_laws = (trail-none, total-bound, put_back-none)
 
 pub ruleset judge_laws = (grid-fits, grid-long, pick-in, pick-more, pick-ends)
 
-pub ruleset walk_laws = (ended-counted)
+pub ruleset walk_laws = (turns-counted)
+
+pub ruleset position_laws = (grid-fits, grid-long)
 
 pub ruleset store_laws = (outcome-true, spent-tried, spent-le, search-few, settled-dead)

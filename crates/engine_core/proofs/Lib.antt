@@ -20,7 +20,6 @@ pub mod VerdictLemmas
 pub mod SearchLemmas
 pub mod TrailLemmas
 pub mod TrialLemmas
-pub mod WorkLemmas
 pub mod RoomLemmas
 pub mod LevelLemmas
 pub mod FrameLemmas
@@ -30,5 +29,5 @@ pub mod SearchingLemmas
 pub mod PieceLemmas
 pub mod PlaceCounts
 pub mod IndexLemmas
-pub mod KthLemmas
+pub mod PositionLemmas
 pub mod LawSets

@@ -1,6 +1,6 @@
 -- The cells that lost a value at a visit, as the trail names them.
 use Rattle.engine_core.proofs.Common.{AreCalled, AreLost, Bool, Candidates, IsBitsOf, IsBoardOf, IsLawful, Layout, Puzzle, Trail, after, and_from, and_parts, any_below, any_below-here, any_below-some, ap, arith}
-use Rattle.engine_core.proofs.Common.{cases_Bool, cases_lt, change_at, common_steps, count_below, count_below-same, counts_of, eq-eqb, false, fun_ext, has, has_place, inl, inr, is_emptied_since, is_since, le-leb, leb-true}
+use Rattle.engine_core.proofs.Common.{cases_Bool, cases_lt, change_at, common_steps, count_below, count_below-same, counts_of, eq-eqb, false, fun_ext, has, has_place, inl, inr, is_since, le-leb, leb-true}
 use Rattle.engine_core.proofs.Common.{left_by, length, nat_le, ne_eqb, not, not_from_false, not_from_true, refl, slice_index, subst, sym, true, true≢false, ℕ, ◌&&◌, ◌+◌, ◌<◌, ◌==◌, ◌||◌}
 use Rattle.engine_core.proofs.Common.{◌∙◌, ◌≡◌, ◌≢◌, ◌≤◌}
 use Rattle.engine_core.proofs.CallLemmas.{called-more, called-same}
@@ -8,7 +8,7 @@ use Rattle.engine_core.proofs.ChangeLemmas.{left-others}
 use Rattle.engine_core.proofs.ClosingLemmas.{after_inside}
 use Rattle.engine_core.proofs.QueueLemmas.{any_below-more}
 use Rattle.engine_core.proofs.ScopeLemmas.{IsUpto, upto-next}
-use Rattle.engine_core.proofs.SetLemmas.{bits-empty, counts-differ}
+use Rattle.engine_core.proofs.SetLemmas.{counts-differ}
 
 -- where nothing changed, nothing was lost
 pub lost-none : (p : Puzzle) (h n : ℕ) (t : Trail) → AreLost p h n t t
@@ -97,12 +97,3 @@ pub since-called : (p : Puzzle) (t : Trail) (K : Candidates) (from n : ℕ) (bef
 since-called p t K from n before now after le first next =
     called-same p K _ _ before after (λ j lt. sym (since-more (λ m. has_place (p.scope j) (change_at t.changes m).0) from n le))
     (called-more p K (is_since p t from n) (λ j. has_place (p.scope j) (change_at t.changes n).0) before now after first next)
-
-pub since-emptied : (p : Puzzle) (t : Trail) (b : Layout) (from n place bits : ℕ) (dead : Bool) → IsBoardOf p t.board → from ≤ n → b ≡ t.board → place ≡ (change_at t.changes n).0
-    → IsBitsOf (has b place) b.values bits → dead ≡ is_emptied_since p t from n → (dead || (bits == 0)) ≡ is_emptied_since p t from (n + 1)
-since-emptied p t b from n place bits dead of le same at is before =
-    let c = (change_at t.changes n).0 in
-    let own : IsBitsOf (has t.board c) t.board.values bits = rw (same, at) at is in
-    let here = bits-empty (has t.board c) p.values bits (subst (λ v. IsBitsOf (has t.board c) v bits) of.same_values own) in
-    ap (λ x. dead || x) here ∙ ap (λ x. x || (count_below (has t.board c) p.values == 0)) before
-    ∙ sym (since-more (λ m. count_below (has t.board (change_at t.changes m).0) p.values == 0) from n le)

@@ -3,12 +3,13 @@ use Rattle.engine_core.proofs.Common.{IsWoken, Layout, List, Option, Puzzle, Sam
 use Rattle.engine_core.proofs.Common.{any_below, any_below-here, any_below-none, any_below-some, ap, are_emptied, arith, but, called_for, cases_Bool}
 use Rattle.engine_core.proofs.Common.{cases_eq, cells_of, common_steps, count_below, count_below-any, count_below-bound, count_below-kept}
 use Rattle.engine_core.proofs.Common.{count_below-le, count_below-lt, count_below-none, count_below-pos, counts_of, empties, eq-eqb, eqb, eqb-true}
-use Rattle.engine_core.proofs.Common.{false, false_from_ne_true, has, has-within, has_place, has_place-at, has_place-here, inl, inr, is_dead}
+use Rattle.engine_core.proofs.Common.{false, false_from_ne_true, has, has_place, has_place-at, has_place-here, inl, inr, is_dead}
 use Rattle.engine_core.proofs.Common.{is_dead-each, is_dead-here, is_dead-inside, is_dead-not, length, mul-le-mul_right, ne_eqb, not, not-true}
 use Rattle.engine_core.proofs.Common.{not_from_false, not_from_true, only, only-here, only-inside, only-other, or_cases, or_left, or_right, refl, set}
 use Rattle.engine_core.proofs.Common.{share, slice_index, sum_below-add, sum_below-le, sym, take, take-suc-set, true, true≢false, visits_left}
 use Rattle.engine_core.proofs.Common.{waits_from, woken, ℕ, ◌&&◌, ◌*◌, ◌++◌, ◌+◌, ◌-◌, ◌<◌, ◌||◌, ◌∙◌, ◌∷◌, ◌≡◌, ◌≤◌}
 use Rattle.engine_core.proofs.ClosingLemmas.{after_inside}
+pub use Rattle.engine_core.specs.PositionLaws.{within_of}
 
 -- the cells of a house are cells of the board
 pub scope-in : (p : Puzzle) (laws : IsLawful p) (h k : ℕ) → h < p.houses → k < length (p.scope h) → slice_index (p.scope h) k < p.cells
@@ -180,9 +181,6 @@ pushed t n h lt = rw add-one (take-suc-set t n h lt)
 
 pub IsBoardOf-same : (p : Puzzle) (b b' : Layout) → IsBoardOf p b → SameShape b b' → IsBoardOf p b'
 IsBoardOf-same p b b' of same = record { same_cells = same.same_cells ∙ of.same_cells; same_values = same.same_values ∙ of.same_values }
-
-pub within_of : (p : Puzzle) (b : Layout) → IsBoardOf p b → IsWithin p.cells p.values (has b)
-within_of p b of = λ c v on. let w = has-within b c v on in (omega (arith, w.0, of.same_cells), omega (arith, w.1, of.same_values))
 
 -- ---- a visit that empties a cell empties one of its own house
 emptied-alive : (p : Puzzle) (laws : IsLawful p) (h : ℕ) (K K' : Candidates) → h < p.houses → is_dead p.cells p.values K ≡ false → K' ≡ after p h K

@@ -26,7 +26,7 @@ singles-room p K cell lt two =
     omega (arith, count_below-bound (λ c. true) p.cells)
 
 pub split-room : (p : Puzzle) (K K' : Candidates) (n cell : ℕ) → IsInside K' K → n ≤ singles p K → is_dead p.cells p.values K' ≡ false → pick p.cells p.values K' ≡ Some cell
-    → IsWithin p.cells p.values K → (is_dead p.cells p.values K' ≡ false → K' ≡ closure p K) → IsOpen p (record { board = K'; cell = cell; next = 0 }) n
+    → IsWithin p.cells p.values K → K' ≡ closure p K → IsOpen p (record { board = K'; cell = cell; next = 0 }) n
 split-room p K K' n cell inside single alive picked within reached = grind (arith, common_steps, closure_closed, singles-inside)
 
 -- its cell is one with fewest values

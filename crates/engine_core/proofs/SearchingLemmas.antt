@@ -1,6 +1,6 @@
 -- A search that is under way: which marks are left, and what was counted of those before.
 use Rattle.engine_core.proofs.Common.{Bool, Candidates, CountsClosing, IsSearched, IsTrial, IsTurns, IsWalked, List, Mark, Mark.Trial, None}
-use Rattle.engine_core.proofs.Common.{Outcome.OutOfBudget, Puzzle, Says, [], ap, append_assoc, arith, board_in, boards_of, common_steps, deepest_of}
+use Rattle.engine_core.proofs.Common.{Outcome.OutOfBudget, Puzzle, Says, Standing, [], ap, append_assoc, arith, boards_of, common_steps, deepest_of}
 use Rattle.engine_core.proofs.Common.{false, found_marks, found_of, length, length_push, levels_of, marks_from, marks_of, max, outcome, pending}
 use Rattle.engine_core.proofs.Common.{pending_of, refl, searched_at, suc, sym, tried, true, true≢false, walk, walk_of, ℕ, ◌++◌, ◌+◌, ◌-◌, ◌<◌, ◌∙◌}
 use Rattle.engine_core.proofs.Common.{◌∷◌, ◌≡◌, ◌≤◌}
@@ -35,42 +35,42 @@ after_grids : (two one : Bool) (f g : List ℕ) (n : ℕ) (K : Candidates) (ms :
 unfolding outcome tried
 after_grids x0 x1 f g n x5 ms going = grind (arith, common_steps, true≢false)
 
-module _ {p : Puzzle} {from at : Progress} {all : List Mark} {trials : ℕ} (levels : Levels) (grids : Grids) (s : IsSearching p from all trials (marks_of p levels at grids) at) where
+module _ {p : Puzzle} {from at : Progress} {all : List Mark} {trials : ℕ} (st : Standing) (levels : Levels) (grids : Grids) (s : IsSearching p from all trials (marks_of p st levels at grids) at) where
   -- a trial is made
-  pub searching-trial : {now : Levels} {cell : ℕ} {at' : Progress} (to : Levels) (grids' : Grids) → IsTrial p (pending_of p levels) now cell → at.has_second ≡ false
-      → trials < from.budget → CountsClosing p now at.turns at'.turns → at'.deepest ≡ max at.deepest now.depth
-      → marks_from p now at grids ≡ marks_of p to at' grids' → IsSearching p from all (trials + 1) (marks_of p to at' grids') at'
-  searching-trial {now = now} {at' = at'} to grids' t going less turned deeper after =
+  pub searching-trial : {mid : Standing} {now : Levels} {cell : ℕ} {at' : Progress} (st' : Standing) (to : Levels) (grids' : Grids) → IsTrial p (pending_of p st levels) mid now cell → at.has_second ≡ false
+      → trials < from.budget → CountsClosing p mid.board at.turns at'.turns → at'.deepest ≡ max at.deepest now.depth
+      → marks_from p mid now at grids ≡ marks_of p st' to at' grids' → IsSearching p from all (trials + 1) (marks_of p st' to at' grids') at'
+  searching-trial {mid = mid} {now = now} {at' = at'} st' to grids' t going less turned deeper after =
       let b = from.budget - (trials + 1) in
       let left : from.budget - trials ≡ suc b = omega arith in
       let here = ap (λ ms. found_marks at.has_second at.found grids.first grids.second ++ ms) t.marks_are in
-      let next = after_grids at.has_second at.found grids.first grids.second now.depth (board_in now) (walk_of p now) going in
+      let next = after_grids at.has_second at.found grids.first grids.second now.depth mid.board (walk_of p mid now) going in
       let answer = next.0 b in
       let trial = next.1 b in
-      let rest : tried (from.budget - trials) None (marks_of p levels at grids) ≡ (now.depth, board_in now) ∷ tried b None (marks_of p to at' grids') = cc in
+      let rest : tried (from.budget - trials) None (marks_of p st levels at grids) ≡ (now.depth, mid.board) ∷ tried b None (marks_of p st' to at' grids') = cc in
       let sum : at'.turns - from.turns ≡ at.turns - from.turns + (at'.turns - at.turns) = (let a = s.grows in let c = turned.grows in omega arith) in
       record {
         answer = s.answer ∙ cc;
-        sofar = s.sofar ++ (now.depth, board_in now) ∷ [];
-        split = s.split ∙ ap (λ ts. s.sofar ++ ts) rest ∙ sym (append_assoc s.sofar ((now.depth, board_in now) ∷ []) _);
-        count = length_push s.sofar (now.depth, board_in now) ∙ ap (λ n. n + 1) s.count;
-        closed = rw (boards-push s.sofar now.depth (board_in now), sum) (turns-push p (boards_of s.sofar) (board_in now) _ _ s.closed turned.closed);
+        sofar = s.sofar ++ (now.depth, mid.board) ∷ [];
+        split = s.split ∙ ap (λ ts. s.sofar ++ ts) rest ∙ sym (append_assoc s.sofar ((now.depth, mid.board) ∷ []) _);
+        count = length_push s.sofar (now.depth, mid.board) ∙ ap (λ n. n + 1) s.count;
+        closed = rw (boards-push s.sofar now.depth mid.board, sum) (turns-push p (boards_of s.sofar) mid.board _ _ s.closed turned.closed);
         grows = let a = s.grows in let c = turned.grows in omega arith;
-        deep = let push = deepest-push s.sofar now.depth (board_in now) in let deep = s.deep in omega arith;
+        deep = let push = deepest-push s.sofar now.depth mid.board in let deep = s.deep in omega arith;
       }
 
   -- ---- how a search ends
-  ended : (v : Verdict) → Says v grids.first grids.second (outcome (from.budget - trials) None (marks_of p levels at grids))
-      → tried (from.budget - trials) None (marks_of p levels at grids) ≡ [] → IsSearched p from.budget all from (searched_at at v trials) grids.first grids.second
+  ended : (v : Verdict) → Says v grids.first grids.second (outcome (from.budget - trials) None (marks_of p st levels at grids))
+      → tried (from.budget - trials) None (marks_of p st levels at grids) ≡ [] → IsSearched p from.budget all from (searched_at at v trials) grids.first grids.second
   ended v says none = grind (arith, common_steps)
 
   -- a trial more than the budget allows
-  pub ended-out : {now : Levels} {cell : ℕ} → IsTrial p (pending_of p levels) now cell → at.has_second ≡ false → trials ≡ from.budget
+  pub ended-out : {mid : Standing} {now : Levels} {cell : ℕ} → IsTrial p (pending_of p st levels) mid now cell → at.has_second ≡ false → trials ≡ from.budget
       → IsSearched p from.budget all from (searched_at at (verdict.GaveUp at.found) trials) grids.first grids.second
-  ended-out {now = now} t going spent =
+  ended-out {mid = mid} {now = now} t going spent =
       let left : from.budget - trials ≡ 0 = omega arith in
       let here = ap (λ ms. found_marks at.has_second at.found grids.first grids.second ++ ms) t.marks_are in
-      let next = after_grids at.has_second at.found grids.first grids.second now.depth (board_in now) (walk_of p now) going in
+      let next = after_grids at.has_second at.found grids.first grids.second now.depth mid.board (walk_of p mid now) going in
       ended (verdict.GaveUp at.found) (let e = next.2 in cc) (let e = next.3 in cc)
 
   -- a second grid was found
@@ -88,7 +88,7 @@ module _ {p : Puzzle} {from at : Progress} {all : List Mark} {trials : ℕ} (lev
   ended-none none going new = ended verdict.None (rw (none, going, new) refl) (rw (none, going, new) refl)
 
 -- the search of a whole board, which was closed first
-pub walked : {p : Puzzle} {marks : List Mark} {levels : Levels} {result : Searched} {grids : Grids} (budget : ℕ) (from : Progress) → from.budget ≡ budget
-    → walk p 0 (board_in levels) ≡ marks → CountsClosing p levels 0 from.turns → from.deepest ≡ 0
-    → IsSearched p from.budget marks from result grids.first grids.second → IsWalked p budget (board_in levels) result grids
+pub walked : {p : Puzzle} {K : Candidates} {marks : List Mark} {result : Searched} {grids : Grids} (budget : ℕ) (from : Progress) → from.budget ≡ budget
+    → walk p 0 K ≡ marks → CountsClosing p K 0 from.turns → from.deepest ≡ 0
+    → IsSearched p from.budget marks from result grids.first grids.second → IsWalked p budget K result grids
 walked budget from is same turned none s = grind (arith, common_steps)

@@ -1,10 +1,15 @@
 -- Marks of houses as the bits of words.
-use Rattle.engine_core.proofs.Common.{Bool, IsNext, List, Some, ap, arith, bit_and, bit_at, bit_at-trailing_zeros, bit_at-zero, bit_at_above}
+use Rattle.engine_core.proofs.Common.{Bool, IsNext, List, Some, ap, arith, bit_and, bit_at, bit_at-trailing_zeros, bit_at-zero, bit_at_above, bit_at_ones}
 use Rattle.engine_core.proofs.Common.{bit_at_clear_other, bit_at_clear_same, bit_at_set_other, bit_at_set_same, bit_or, but, cases_eq, cases_lt}
 use Rattle.engine_core.proofs.Common.{common_steps, div-div-eq-div-mul, div-le_self, eq-eqb, eqb, eqb-true, false, get_or, get_or-replicate}
 use Rattle.engine_core.proofs.Common.{get_or-set_other, get_or-set_same, has_bit, inl, inr, is_waiting, length, ne_eqb, not, pow-add, refl, replicate}
 use Rattle.engine_core.proofs.BitLemmas.{bits-either, bits-of_zero}
-use Rattle.engine_core.proofs.Common.{set, sym, trailing_zeros, true, w64, ℕ, ◌%◌, ◌&&◌, ◌*◌, ◌+◌, ◌-◌, ◌/◌, ◌<◌, ◌^◌, ◌||◌, ◌∙◌, ◌≡◌, ◌≢◌, ◌≤◌}
+use Rattle.std.proofs.Math.Seq.{take-append_seam}
+use Rattle.engine_core.proofs.Common.{set, sym, take, trailing_zeros, true, w64, ◌++◌, ℕ, ◌%◌, ◌&&◌, ◌*◌, ◌+◌, ◌-◌, ◌/◌, ◌<◌, ◌^◌, ◌||◌, ◌∙◌, ◌≡◌, ◌≢◌, ◌≤◌}
+
+-- words that are written back whole
+pub written-back : (n : ℕ) (words rest : List ℕ) → n ≡ length words → take n (words ++ rest) ≡ words
+written-back n words rest e = rw e (take-append_seam words rest)
 
 -- ---- a house's word and bit
 same_house : (j h : ℕ) → j / 64 ≡ h / 64 → j % 64 ≡ h % 64 → j ≡ h
@@ -68,6 +73,10 @@ waiting-unmark waits h j lt = waiting-word (λ x here. x && not here) (λ x. gri
 pub waiting-none : (words j : ℕ) → j / 64 < words → is_waiting (replicate words 0) j ≡ false
 unfolding is_waiting
 waiting-none words j lt = ap (λ (x : ℕ). has_bit x (j % 64)) (get_or-replicate words (j / 64) 0 0 lt) ∙ ap (λ (b : ℕ). eqb b 1) (bit_at-zero (j % 64))
+
+pub waiting-all : (words j : ℕ) → j / 64 < words → is_waiting (replicate words 18446744073709551615) j ≡ true
+unfolding is_waiting
+waiting-all words j lt = ap (λ (x : ℕ). has_bit x (j % 64)) (get_or-replicate words (j / 64) 18446744073709551615 0 lt) ∙ ap (λ (b : ℕ). eqb b 1) (bit_at_ones 64 (j % 64) (omega arith))
 
 -- ---- the bits of a word from one on
 shifted : (word from i : ℕ) → bit_at (word / 2 ^ from) i ≡ bit_at word (from + i)

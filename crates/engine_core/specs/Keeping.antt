@@ -1,5 +1,5 @@
 -- What a visit keeps of the sets of a house's cells, as bits.
-use Rattle.std.specs.Prelude.{◌≡◌, ℕ, ◌<◌, Bool, true, false, not, List, length, slice_index}
+use Rattle.std.specs.Prelude.{◌≡◌, ℕ, ◌<◌, ◌≤◌, Bool, true, false, not, List, length, slice_index, take}
 use Rattle.grid_core.specs.Candidates.{Candidates}
 use Rattle.engine_core.specs.Puzzle.{Puzzle}
 use Rattle.engine_core.specs.Sets.{has_bit, IsBitsOf}
@@ -19,3 +19,11 @@ pub record IsKept (p : Puzzle) (h : ℕ) (K : Candidates) (struck : Bool)
   pub bits : struck ≡ true → (k v : ℕ) → k < length (p.scope h) → v < p.values
       → K (slice_index (p.scope h) k) v ≡ true
       → has_bit (slice_index kept k) v ≡ not (p.strikes h K (slice_index (p.scope h) k) v)
+
+-- at the head of the lists: the sets of the house's cells, and what is kept of them
+pub record IsFiltered (p : Puzzle) (h : ℕ) (K : Candidates) (struck : Bool)
+    (sets kept : List ℕ) : Type 0 where
+  pub sets_long : length (p.scope h) ≤ length sets
+  pub kept_long : length (p.scope h) ≤ length kept
+  pub sets_are : AreSetsOf p h K (take (length (p.scope h)) sets)
+  pub kept_are : IsKept p h K struck (take (length (p.scope h)) kept)

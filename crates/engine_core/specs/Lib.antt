@@ -22,7 +22,11 @@ pub mod Trials
 pub mod Counts
 pub mod Search
 pub mod Trail
+pub mod Needs
+pub mod Position
+pub mod PositionLaws
 pub mod Frames
 pub mod Stored
-pub mod Working
+pub mod TrailPosition
+pub mod Closer
 pub mod StoreParts

@@ -2,7 +2,8 @@
 use Rattle.std.specs.Prelude.{◌≡◌, ◌≢◌, ℕ, Bool, zero, suc, ◌+◌, ◌*◌, ◌^◌, ◌<◌, ◌≤◌, ◌==◌, ◌&&◌, not, nat_le, List, slice_index, length, slice_index_or, if◌then◌else◌}
 use Rattle.grid_core.specs.Board.{Layout, has, SameShape}
 use Rattle.grid_core.specs.Candidates.{Candidates, IsInside, any_below, count_below, total, with_set}
-use Rattle.engine_core.specs.Puzzle.{Puzzle, after, has_place}
+use Rattle.engine_core.specs.Puzzle.{Puzzle, Needs, after, has_place}
+use Rattle.engine_core.specs.ClosingList.{IsAlive}
 use Rattle.engine_core.specs.Queue.{counts_of}
 use Rattle.engine_core.specs.Sets.{has_bit}
 
@@ -75,7 +76,12 @@ abbrev pub is_since : Puzzle → Trail → ℕ → ℕ → ℕ → Bool
 is_since p t from n j =
     any_below (λ m. nat_le from m && has_place (p.scope j) (change_at t.changes m).0) n
 
--- a cell with a change from the number `from` on and below n has no value
-abbrev pub is_emptied_since : Puzzle → Trail → ℕ → ℕ → Bool
-is_emptied_since p t from n = any_below
-    (λ m. nat_le from m && (count_below (has t.board (change_at t.changes m).0) p.values == 0)) n
+-- a visit of h struck values, noted them, and left each cell a value
+pub record IsStruck (p : Puzzle) (h : ℕ) (from to : Trail) : Type 0 where
+  pub left : Visits p h from to
+  pub alive : IsAlive p (has to.board)
+  pub lost : AreLost p h (length (p.scope h)) from to
+
+-- what serves each need that the first served
+abbrev pub StillServes : {S : Type 0} → (S → Needs → Type 0) → S → S → Type 0
+StillServes serves from to = (needs : Needs) → serves from needs → serves to needs

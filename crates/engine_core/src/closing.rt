@@ -1,8 +1,6 @@
-//! Closing a board: visits until no house strikes anything.
+//! Closing a board as its rules say, by plain visits: by a queue or by sweeps.
 
-pub(crate) mod close;
+pub(crate) mod closer;
+pub(crate) mod marking;
 pub(crate) mod queue;
-pub(crate) mod step;
-pub(crate) mod sweep;
-pub(crate) mod waits;
-pub(crate) mod work;
+pub(crate) mod sweeps;

@@ -5,11 +5,14 @@ mod closing;
 mod houses;
 mod laws;
 mod mode;
+mod needs;
 mod rules;
 mod search;
+mod searchable;
 mod store;
+mod trail;
+mod waits;
 
-pub use closing::waits::{mark, mark_if};
 pub use houses::list::HouseList;
 pub use houses::table::Houses;
 pub use houses::visit::{apply, gather, has_bit};
@@ -20,6 +23,11 @@ pub use laws::{
 };
 pub use mode::{Closing, Mode};
 pub use rules::Rules;
+pub use search::position::{Position, Taken};
 pub use search::trials::trials_made_are_the_first;
 pub use search::walk::Verdict;
+pub use searchable::Searchable;
 pub use store::{Sizes, Store};
+pub use trail::position::TrailPosition;
+pub use trail::propagators::Propagators;
+pub use waits::{mark, mark_if};

@@ -1,42 +1,40 @@
 //! Closing by a queue of the houses that wait, which goes around over them.
 
-ghost use Rattle.std.specs.Prelude.{◌≡◌, ◌≤◌, length, true};
+ghost use Rattle.std.specs.Prelude.{◌≡◌, ◌≤◌, length, take, true};
 ghost use Rattle.grid_core.specs.Board.{has};
-ghost use Rattle.engine_core.specs.ClosingList.{IsAlive};
-ghost use Rattle.engine_core.specs.Trail.{IsFurther};
-ghost use Rattle.engine_core.specs.Working.{IsAlong, AreRested, Closes};
+ghost use Rattle.engine_core.specs.ClosingList.{IsAlive, IsClosing};
+ghost use Rattle.engine_core.specs.Puzzle.{needs_of, FitsIn, IsBoardOf};
+ghost use Rattle.engine_core.specs.Queue.{IsRested};
+ghost use Rattle.engine_core.specs.Waiting.{is_waiting};
+ghost use Rattle.engine_core.specs.Closer.{SameRoom};
 
-use crate::closing::work::Work;
-use crate::mode::{Closed, Closing};
+use crate::closing::closer::{Closed, Closer};
+use crate::mode::Closing;
 use crate::rules::Rules;
-use crate::search::trailed::Trailed;
+use crate::waits::next_around;
 
-impl<R: Rules> Work<R> {
+impl<R: Rules> Closer<R> {
     /// Closes the board: visits the houses that wait until none waits or a cell has no value. After each it goes on with
-    /// the next one, and after the last begins again. At first each house waits that strikes anything; it may be more. It
-    /// writes down each house that it visits.
-    pub(crate) fn run_queue(&mut self, rules: &R, trailed: &mut Trailed) -> Closed
-        requires along { IsAlong (R.puzzle rules.now) (R.follows rules.now) self.old
-            trailed.old.board }
+    /// the next one, and after the last begins again. It writes down each house that it visits.
+    pub(crate) fn run_queue(&mut self, rules: &R) -> Closed
+        requires fits { FitsIn (needs_of (R.puzzle rules.now)) self.old.made }
         requires queue { (R.puzzle rules.now).by_queue ≡ true }
-        requires alive { IsAlive (R.puzzle rules.now) (has trailed.old.board) }
-        requires rested { AreRested (R.puzzle rules.now) trailed.old self.old }
-        requires trace_room { (R.puzzle rules.now).bound ≤ length self.old.trace }
-        ensures closing { Closes (R.puzzle rules.now) trailed.old trailed.new result
-            self.new.trace }
+        requires board_of { IsBoardOf (R.puzzle rules.now) self.old.board }
+        requires alive { IsAlive (R.puzzle rules.now) (has self.old.board) }
+        requires rested { IsRested (R.puzzle rules.now) (has self.old.board)
+            (is_waiting self.old.waits) }
+        ensures closing { IsClosing (R.puzzle rules.now) (has self.old.board) (has self.new.board)
+            result.closing (take result.visits self.new.trace) result.sweeps }
         ensures visits { result.visits ≤ length self.new.trace }
-        ensures further { IsFurther trailed.old trailed.new }
-        ensures along { IsAlong (R.puzzle rules.now) (R.follows rules.now) self.new
-            trailed.new.board }
-        ensures made { self.new.made ≡ self.old.made }
+        ensures room { SameRoom self.old self.new }
     {
         let mut visits = 0;
         let mut from = 0;
-        while let Some(house) = self.next_around(rules, from) {
-            self.write(visits, house);
+        while let Some(house) = next_around(&self.waits, from, rules.houses()) {
+            self.trace[visits] = house;
             visits += 1;
             from = house + 1;
-            if self.step(rules, house, trailed) {
+            if self.step(rules, house).dead {
                 return Closed {
                     closing: Closing::Dead,
                     visits,

@@ -1,15 +1,41 @@
-//! A visit of a house in three steps: `gather` reads the sets of its cells, the rules decide what is kept of them, and
+//! A visit of a house in three steps: `gather`, or `read_sets`, reads the sets of its cells, the rules decide what is kept of them, and
 //! `apply` strikes the rest. All strikes of a visit are decided before the first is made.
 #![tactic(auto, using(crate::proofs::LawSets::visit_laws))]
 
-ghost use Rattle.std.specs.Prelude.{◌≡◌, ℕ, ◌<◌, ◌==◌, true, false, map, length, slice_index};
+ghost use Rattle.std.specs.Prelude.{◌≡◌, ℕ, ◌<◌, ◌≤◌, ◌==◌, true, false, map, length, slice_index, take};
 ghost use Rattle.grid_core.specs.Board.{has, cells_of, SameShape};
 ghost use Rattle.engine_core.specs.Closing.{HasStruck};
+ghost use Rattle.engine_core.specs.Keeping.{AreSetsOf};
+ghost use Rattle.engine_core.specs.Puzzle.{IsBoardOf};
 ghost use Rattle.engine_core.specs.Sets.{has_bit as is_set, set_of_bits, IsBitsOf};
 ghost use Rattle.engine_core.specs.House.{sets_at, kept_in};
 
 use crate::houses::sets::cell_bits;
+use crate::rules::Rules;
 use grid_core::Board;
+
+/// Writes down the sets of the house's cells as bits, in the order of its scope.
+pub(crate) fn read_sets<R: Rules>(rules: &R, house: usize, board: &Board, sets: &mut [u32])
+    requires house_in { house < (R.puzzle rules.now).houses }
+    requires board_of { IsBoardOf (R.puzzle rules.now) board.now }
+    requires room { length sets.old ≡ length ((R.puzzle rules.now).scope house) }
+    ensures { AreSetsOf (R.puzzle rules.now) house (has board.now) sets.new }
+{
+    for k in 0..sets.len() {
+        sets[k] = cell_bits(board, rules.scope(house, k));
+    }
+}
+
+/// The same at the head of a longer list.
+pub(crate) fn read_head<R: Rules>(rules: &R, house: usize, board: &Board, sets: &mut [u32])
+    requires house_in { house < (R.puzzle rules.now).houses }
+    requires board_of { IsBoardOf (R.puzzle rules.now) board.now }
+    requires room { length ((R.puzzle rules.now).scope house) ≤ length sets.old }
+    ensures { AreSetsOf (R.puzzle rules.now) house (has board.now)
+        (take (length ((R.puzzle rules.now).scope house)) sets.new) }
+{
+    read_sets(rules, house, board, &mut sets[..rules.scope_len(house)]);
+}
 
 /// Reads the set of each of the places into `sets`: bit `v` of the `k`-th says whether the `k`-th place has the value
 /// `v`.

@@ -2,16 +2,15 @@
 #![tactic(auto, using(crate::proofs::LawSets::walk_laws))]
 
 ghost use Rattle.std.specs.Prelude.{max, ◌≡◌, ◌+◌, ◌<◌, ◌≤◌, ◌^◌, length, false, [], None};
-ghost use Rattle.grid_core.specs.Board.{SameShape};
 ghost use Rattle.grid_core.specs.Candidates.{pick};
+ghost use Rattle.engine_core.specs.Puzzle.{needs_of, FitsIn};
 ghost use Rattle.engine_core.specs.Queue.{IsClosedBut};
-ghost use Rattle.engine_core.specs.Frames.{AreReady, singles, AreGrids, AreAlong, board_in, CountsClosing, SameMarks, searched_at, Searches, IsWalked};
+ghost use Rattle.engine_core.specs.Frames.{AreReady, singles, AreGrids, CountsClosing, SameMarks, searched_at, Searches, IsWalked};
 
-use crate::closing::work::Work;
 use crate::mode::Closing;
-use crate::rules::Rules;
 use crate::search::judge::{Grids, Judged, judge};
 use crate::search::levels::{Frame, Levels};
+use crate::search::position::Position;
 
 /// What a search says of the puzzle.
 #[derive(Clone, Copy, PartialEq, Eq, Debug)]
@@ -49,57 +48,54 @@ pub(crate) struct Progress {
 }
 
 /// Closes the board and judges it: a grid is noted, and a board that must be split gets a frame.
-fn descend<R: Rules>(
-    rules: &R,
+fn descend<P: Position>(
+    rules: &P::Game,
     levels: &mut Levels,
-    work: &mut Work<R>,
+    position: &mut P,
     grids: &mut Grids,
     at: Progress,
 ) -> Progress
-    requires along { AreAlong (R.puzzle rules.now) (R.follows rules.now) work.old levels.old }
-    requires closed_but { IsClosedBut (R.puzzle rules.now) (board_in levels.old) at.changed }
-    requires from_in { at.from ≤ (R.puzzle rules.now).cells }
-    requires none { pick at.from (R.puzzle rules.now).values (board_in levels.old) ≡ None }
-    requires ready { AreReady (R.puzzle rules.now) levels.old }
-    requires single { levels.old.depth ≤ singles (R.puzzle rules.now) (board_in levels.old) }
-    requires long { AreGrids (R.puzzle rules.now).cells grids.old }
+    requires walks { P.walks rules.now position.old }
+    requires closed_but { IsClosedBut (P.puzzle rules.now) (P.stands position.old).board at.changed }
+    requires from_in { at.from ≤ (P.puzzle rules.now).cells }
+    requires none { pick at.from (P.puzzle rules.now).values (P.stands position.old).board ≡ None }
+    requires ready { AreReady (P.puzzle rules.now) (P.stands position.old) levels.old }
+    requires single { levels.old.depth ≤ singles (P.puzzle rules.now) (P.stands position.old).board }
+    requires long { AreGrids (P.puzzle rules.now).cells grids.old }
     requires going { at.has_second ≡ false }
     requires turns_room { at.turns + 2 ^ 64 ≤ 2 ^ 128 }
-    ensures turned { CountsClosing (R.puzzle rules.now) levels.old at.turns result.turns }
+    ensures turned { CountsClosing (P.puzzle rules.now) (P.stands position.old).board at.turns
+        result.turns }
     ensures budget { result.budget ≡ at.budget }
     ensures deepest { result.deepest ≡ at.deepest }
-    ensures marks { SameMarks (R.puzzle rules.now) levels.old at grids.old levels.new result
-        grids.new }
-    ensures ready { AreReady (R.puzzle rules.now) levels.new }
-    ensures long { AreGrids (R.puzzle rules.now).cells grids.new }
+    ensures marks { SameMarks (P.puzzle rules.now) (P.stands position.old) levels.old at grids.old
+        (P.stands position.new) levels.new result grids.new }
+    ensures ready { AreReady (P.puzzle rules.now) (P.stands position.new) levels.new }
+    ensures long { AreGrids (P.puzzle rules.now).cells grids.new }
     ensures deeper { levels.new.depth ≤ levels.old.depth + 1 }
     ensures frames { length levels.new.frames.items ≡ length levels.old.frames.items }
-    ensures shape { SameShape levels.old.trailed.board levels.new.trailed.board }
-    ensures along { AreAlong (R.puzzle rules.now) (R.follows rules.now) work.new levels.new }
-    ensures made { work.new.made ≡ work.old.made }
+    ensures walks { P.walks rules.now position.new }
+    ensures room { P.room position.new ≡ P.room position.old }
 {
-    let closed = work.close(rules, at.changed, &mut levels.trailed, false);
-    let turns = at.turns + closed.visits.max(closed.sweeps) as u128;
-    if let Closing::Dead = closed.closing {
-        return Progress { turns, ..at };
-    }
-    match judge(rules, levels.trailed.board(), work, at, grids) {
-        Judged::Nothing => Progress { turns, ..at },
-        Judged::Solved => Progress {
-            turns,
-            found: true,
-            has_second: at.found,
-            ..at
+    let taken = position.close(rules, at.changed);
+    let turns = at.turns + taken.turns as u128;
+    match taken.closing {
+        Closing::Dead => Progress { turns, ..at },
+        Closing::Open => match judge(rules, position, at, grids) {
+            Judged::Nothing => Progress { turns, ..at },
+            Judged::Solved => Progress {
+                turns,
+                found: true,
+                has_second: at.found,
+                ..at
+            },
+            Judged::Split(cell) => {
+                position.mark(rules, levels.depth);
+                levels.frames[levels.depth] = Frame { cell, next: 0 };
+                levels.depth += 1;
+                Progress { turns, ..at }
+            }
         },
-        Judged::Split(cell) => {
-            levels.frames[levels.depth] = Frame {
-                cell,
-                next: 0,
-                mark: levels.trailed.mark(),
-            };
-            levels.depth += 1;
-            Progress { turns, ..at }
-        }
     }
 }
 
@@ -125,30 +121,30 @@ fn ended(at: Progress, verdict: Verdict, trials: u64) -> Searched
 }
 
 /// Walks on from the levels.
-fn search<R: Rules>(
-    rules: &R,
+fn search<P: Position>(
+    rules: &P::Game,
     levels: &mut Levels,
-    work: &mut Work<R>,
+    position: &mut P,
     grids: &mut Grids,
     from: Progress,
 ) -> Searched
-    requires along { AreAlong (R.puzzle rules.now) (R.follows rules.now) work.old levels.old }
-    requires ready { AreReady (R.puzzle rules.now) levels.old }
-    requires long { AreGrids (R.puzzle rules.now).cells grids.old }
+    requires walks { P.walks rules.now position.old }
+    requires ready { AreReady (P.puzzle rules.now) (P.stands position.old) levels.old }
+    requires long { AreGrids (P.puzzle rules.now).cells grids.old }
     requires going { from.has_second ≡ false }
     requires turns_room { from.turns < 2 ^ 64 }
-    ensures searched { Searches (R.puzzle rules.now) levels.old grids.old from result grids.new }
+    ensures searched { Searches (P.puzzle rules.now) (P.stands position.old) levels.old grids.old from
+        result grids.new }
     ensures trials { result.trials ≤ from.budget }
-    ensures few { result.deepest ≤ max from.deepest (R.puzzle rules.now).cells }
-    ensures long { AreGrids (R.puzzle rules.now).cells grids.new }
+    ensures few { result.deepest ≤ max from.deepest (P.puzzle rules.now).cells }
+    ensures long { AreGrids (P.puzzle rules.now).cells grids.new }
     ensures frames { length levels.new.frames.items ≡ length levels.old.frames.items }
-    ensures shape { SameShape levels.old.trailed.board levels.new.trailed.board }
-    ensures made { work.new.made ≡ work.old.made }
+    ensures room { P.room position.new ≡ P.room position.old }
 {
     let mut at = from;
     let mut trials = 0;
     while levels.depth > 0 {
-        match levels.next_trial(rules, work) {
+        match levels.next_trial(rules, position) {
             None => levels.depth -= 1,
             Some(cell) => {
                 if trials == from.budget {
@@ -157,8 +153,8 @@ fn search<R: Rules>(
                 trials += 1;
                 at.deepest = at.deepest.max(levels.depth);
                 at.changed = Some(cell);
-                at.from = if rules.values() == 2 { cell } else { 0 };
-                at = descend(rules, levels, work, grids, at);
+                at.from = if position.values(rules) == 2 { cell } else { 0 };
+                at = descend(rules, levels, position, grids, at);
                 if at.has_second {
                     return ended(at, Verdict::Several, trials);
                 }
@@ -171,24 +167,24 @@ fn search<R: Rules>(
     ended(at, Verdict::None, trials)
 }
 
-/// Walks over the trials of the board until the verdict is known or the budget is spent. The grids that it finds are
+/// Walks over the trials of the start board until the verdict is known or the budget is spent. The grids that it finds are
 /// written to `grids`.
-pub(crate) fn walk_board<R: Rules>(
-    rules: &R,
+pub(crate) fn walk_board<P: Position>(
+    rules: &P::Game,
     levels: &mut Levels,
-    work: &mut Work<R>,
+    position: &mut P,
     grids: &mut Grids,
     budget: u64,
 ) -> Searched
-    requires along { AreAlong (R.puzzle rules.now) (R.follows rules.now) work.old levels.old }
-    requires frames_room { (R.puzzle rules.now).cells ≤ length levels.old.frames.items }
-    requires long { AreGrids (R.puzzle rules.now).cells grids.old }
-    ensures walked { IsWalked (R.puzzle rules.now) budget (board_in levels.old) result grids.new }
-    ensures few { result.deepest ≤ (R.puzzle rules.now).cells }
-    ensures long { AreGrids (R.puzzle rules.now).cells grids.new }
+    requires fits { FitsIn (needs_of (P.puzzle rules.now)) (P.room position.old) }
+    requires frames_room { (P.puzzle rules.now).cells ≤ length levels.old.frames.items }
+    requires long { AreGrids (P.puzzle rules.now).cells grids.old }
+    ensures walked { IsWalked (P.puzzle rules.now) budget (P.puzzle rules.now).start result
+        grids.new }
+    ensures few { result.deepest ≤ (P.puzzle rules.now).cells }
+    ensures long { AreGrids (P.puzzle rules.now).cells grids.new }
     ensures frames { length levels.new.frames.items ≡ length levels.old.frames.items }
-    ensures shape { SameShape levels.old.trailed.board levels.new.trailed.board }
-    ensures made { work.new.made ≡ work.old.made }
+    ensures room { P.room position.new ≡ P.room position.old }
 {
     let from = Progress {
         budget,
@@ -199,10 +195,11 @@ pub(crate) fn walk_board<R: Rules>(
         turns: 0,
         deepest: 0,
     };
+    position.begin(rules);
     levels.depth = 0;
-    let at = descend(rules, levels, work, grids, from);
+    let at = descend(rules, levels, position, grids, from);
     if at.has_second {
         return ended(at, Verdict::Several, 0);
     }
-    search(rules, levels, work, grids, at)
+    search(rules, levels, position, grids, at)
 }

@@ -7,37 +7,36 @@ pub innermost-top-requires-clause-room : goal.innermost-top-requires-clause-room
 innermost-top-requires-clause-room g c = omega (arith, (top-open c.requires.ready c.requires.deep).1, c.requires.ready.room)
 
 pub undo-requires-clause-marked : goal.undo-requires-clause-marked
-undo-requires-clause-marked g c = rw c.innermost-top.ensures (c.requires.ready.marked _ (let deep = c.requires.deep in omega arith))
+undo-requires-clause-marked g c = let deep = c.requires.deep in omega (arith, c.requires.ready.marked)
 
-pub next_value-requires-clause-place_in : goal.next_value-requires-clause-place_in
-next_value-requires-clause-place_in g c = rw (c.board.ensures, c.undo.ensures.along.board_of.same_cells, c.innermost-top.ensures) (top-open c.requires.ready c.requires.deep).0
+pub next_value-requires-clause-cell_in : goal.next_value-requires-clause-cell_in
+next_value-requires-clause-cell_in g c = rw c.innermost-top.ensures (top-open c.requires.ready c.requires.deep).0
 
 pub index_mut-requires : goal.index_mut-requires
 index_mut-requires g c = omega (arith, (top-open c.requires.ready c.requires.deep).1, c.requires.ready.room, c.args.self.now.frames.ok.0)
 
-pub keep-requires-clause-place_in : goal.keep-requires-clause-place_in
-keep-requires-clause-place_in g c = rw c.innermost-top.ensures (top-open c.requires.ready c.requires.deep).0
+pub leave-requires-clause-cell_in : goal.leave-requires-clause-cell_in
+leave-requires-clause-cell_in g c = rw c.innermost-top.ensures (top-open c.requires.ready c.requires.deep).0
 
-pub keep-requires-clause-several : goal.keep-requires-clause-several
-keep-requires-clause-several g c =
-    rw c.innermost-top.ensures (open-cell _ _ _ (open-back c.requires.ready c.requires.deep (rw c.innermost-top.ensures at c.undo.ensures.back))).two
+pub leave-requires-clause-several : goal.leave-requires-clause-several
+leave-requires-clause-several g c =
+    rw c.innermost-top.ensures (open-cell _ _ _ (open-back c.requires.ready c.requires.deep c.undo.ensures.returned)).two
 
 pub returns-in-None-clause-turn : goal.returns-in-None-clause-turn
 returns-in-None-clause-turn g c =
-    let e = c.innermost-top.ensures in
-    turn-done c.requires.ready c.requires.deep (rw e at c.undo.ensures.back) (rw (e, c.board.ensures, c.values.ensures) at c.in-None.ensures)
+    turn-done c.requires.ready c.requires.deep c.undo.ensures.returned (rw c.innermost-top.ensures at c.in-None.ensures)
 
 pub returns-in-None-clause-ready : goal.returns-in-None-clause-ready
-returns-in-None-clause-ready g c = ready-back c.requires.ready c.requires.deep (rw c.innermost-top.ensures at c.undo.ensures.back)
+returns-in-None-clause-ready g c = ready-back c.requires.ready c.requires.deep c.undo.ensures.returned
 
 pub returns-in-Some-clause-turn : goal.returns-in-Some-clause-turn
 returns-in-Some-clause-turn g c =
     let e = c.innermost-top.ensures in
-    rw e (turn-trial c.requires.ready c.requires.deep (rw e at c.undo.ensures.back) c.in-Some.value (rw (e, c.board.ensures, c.values.ensures) at c.in-Some.ensures)
-    (rw e at c.keep.ensures.left) c.keep.ensures.further (g.met.R.Rules.lawful c.args.rules.now) _ refl refl refl)
+    rw e (turn-trial c.requires.ready c.requires.deep c.undo.ensures.returned c.in-Some.value (rw e at c.in-Some.ensures)
+    (rw e at c.leave.ensures.left) c.leave.ensures.onward (g.met.P.Position.lawful c.args.rules.now) _ refl refl)
 
 pub returns-in-Some-clause-ready : goal.returns-in-Some-clause-ready
 returns-in-Some-clause-ready g c =
     let e = c.innermost-top.ensures in
-    rw e (turn-ready c.requires.ready c.requires.deep (rw e at c.undo.ensures.back) c.in-Some.value (rw (e, c.board.ensures, c.values.ensures) at c.in-Some.ensures)
-    (rw e at c.keep.ensures.left) c.keep.ensures.further)
+    rw e (turn-ready c.requires.ready c.requires.deep c.undo.ensures.returned c.in-Some.value (rw e at c.in-Some.ensures)
+    (rw e at c.leave.ensures.left) c.leave.ensures.onward)

@@ -1,0 +1,36 @@
+use Rattle.engine_core.proofs.Common.{IsBitsOf, arith, has, length, refl, ◌<◌, ◌≡◌}
+use Rattle.engine_core.proofs.CallLemmas.{marking-else, marking-first, marking-then}
+use Rattle.engine_core.proofs.QueueLemmas.{scope-in}
+use Rattle.engine_core.proofs.closing.marking.mark_changed.Goals as goal
+use Rattle.engine_core.proofs.closing.marking.mark_changed.Goals.{then-now-sets, else-now-sets}
+
+pub loop-k-init : goal.loop-k-init
+loop-k-init g c = λ K are inside. marking-first _ _ K _ _
+
+pub cell_bits-now-requires : goal.cell_bits-now-requires
+cell_bits-now-requires g c =
+    rw (c.requires.board_of.same_cells, c.scope-place.ensures)
+    (scope-in _ (g.met.R.Rules.lawful c.args.rules.now) c.args.house c.loop-k.k c.requires.house_in (omega (arith, c.requires.long)))
+
+pub mark_at-requires-clause-place_in : goal.mark_at-requires-clause-place_in
+mark_at-requires-clause-place_in g c =
+    rw c.scope-place.ensures (scope-in _ (g.met.R.Rules.lawful c.args.rules.now) c.args.house c.loop-k.k c.requires.house_in (omega (arith, c.requires.long)))
+
+pub loop-k-preserved : goal.loop-k-preserved
+loop-k-preserved g c = λ K are inside.
+    let p = g.R.Rules.puzzle c.args.rules.now in
+    let i = c.loop-k.invariant K are inside in
+    let was = are.bits c.loop-k.k (omega (arith, c.requires.long)) in
+    let is : IsBitsOf (has c.args.board.now c.scope-place.result) p.values c.cell_bits-now.result = rw (← c.requires.board_of.same_values) c.cell_bits-now.ensures in
+    elim c.if-now-sets.branch [
+      | then-now-sets w ↦ rw (w.waits-is, w.dead-is) (marking-then p c.args.house K _ c.loop-k.k _ _ _ _ _ _ c.scope-place.ensures was is inside i _ _ w.if-now-sets.true (w.mark_at.ensures _) refl)
+      | else-now-sets w ↦ rw (w.waits-is, w.dead-is) (marking-else p c.args.house K _ c.loop-k.k _ _ _ _ _ _ c.scope-place.ensures was is inside i w.if-now-sets.false)
+    ]
+
+pub returns : goal.returns
+returns g c =
+    let all : c.loop-k.k ≡ length ((g.R.Rules.puzzle c.args.rules.now).scope c.args.house) = omega (arith, c.requires.long) in
+    record {
+      called = λ K are inside. (rw all at (c.loop-k.invariant K are inside)).called;
+      dead = λ K are inside. (rw all at (c.loop-k.invariant K are inside)).dead_is;
+    }

@@ -1,0 +1,17 @@
+use Rattle.engine_core.proofs.Common.{GoesOn, IsAlive, IsAlong, board_in, is_waiting, ◌-◌, ◌≤◌}
+use Rattle.engine_core.proofs.SweepLemmas.{IsSweeping}
+use Rattle.engine_core.proofs.trail.position.TrailPosition.sweep.Given as goal
+
+abbrev pub invariant-loop-house : goal.invariant-loop-house
+invariant-loop-house g l =
+    let p = g.R.Rules.puzzle l.rules in
+    record {
+      past : l.from ≤ p.houses;
+      sweeping : IsSweeping p (board_in l.fn.self) l.from (board_in l.self) (is_waiting l.self.waits);
+      alive : IsAlive p (board_in l.self);
+      along : IsAlong p (g.R.Propagators.follows l.rules) l.self;
+      onward : GoesOn l.fn.self l.self;
+    }
+
+abbrev pub decreases-loop-house : goal.decreases-loop-house
+decreases-loop-house g l = (g.R.Rules.puzzle l.rules).houses - l.from

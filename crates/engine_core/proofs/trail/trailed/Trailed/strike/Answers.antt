@@ -1,0 +1,93 @@
+use Rattle.engine_core.proofs.Common.{IsBitsOf, after, arith, cases_eq, counts_of, has, inl, inr, length, slice_index, ◌+◌, ◌<◌, ◌≡◌}
+use Rattle.engine_core.proofs.KeepLemmas.{kept-left, struck-alive, struck-dead, struck-some}
+use Rattle.engine_core.proofs.LostLemmas.{lost-differ, lost-more, lost-same}
+use Rattle.engine_core.proofs.QueueLemmas.{scope-in, within_of}
+use Rattle.engine_core.proofs.ScopeLemmas.{IsUpto, upto-next, upto-cell, upto-left, upto-same, upto-all}
+use Rattle.engine_core.proofs.TrailLemmas.{further-more}
+use Rattle.engine_core.proofs.trail.trailed.Trailed.strike.Goals as goal
+use Rattle.engine_core.proofs.trail.trailed.Trailed.strike.Goals.{After-left_of-left, then-left-sets+else-left-eq0, else-left-sets}
+
+-- the cell of this turn is one of the house
+in_scope : (g : _) (c : After-left_of-left g) → c.loop-k.k < length ((g.R.Rules.puzzle c.args.rules.now).scope c.args.house)
+in_scope g c = omega (arith, c.requires.sets.as_many)
+
+-- what it is to have left
+left : (g : _) (c : After-left_of-left g)
+    → IsBitsOf (after (g.R.Rules.puzzle c.args.rules.now) c.args.house (has c.args.self.now.board) (slice_index ((g.R.Rules.puzzle c.args.rules.now).scope c.args.house) c.loop-k.k))
+    (g.R.Rules.puzzle c.args.rules.now).values c.left_of-left.result
+left g c = rw c.left_of-left.ensures (kept-left _ _ _ _ _ c.requires.sets c.requires.kept c.loop-k.k (in_scope g c))
+
+pub leave-requires-clause-place_in : goal.leave-requires-clause-place_in
+leave-requires-clause-place_in g c =
+    rw c.scope.ensures (scope-in _ (g.met.R.Rules.lawful c.args.rules.now) c.args.house c.loop-k.k c.requires.house_in (omega (arith, c.requires.sets.as_many)))
+
+pub leave-requires-clause-before : goal.leave-requires-clause-before
+leave-requires-clause-before g c =
+    let lt = in_scope g (goal.at.leave-requires-clause-before g c).After-left_of-left in
+    rw (c.scope.ensures, upto-next _ (g.met.R.Rules.lawful c.args.rules.now) c.args.house c.loop-k.k _ _ c.requires.house_in lt c.loop-k.invariant.upto) (c.requires.sets.bits c.loop-k.k lt)
+
+pub leave-requires-clause-left : goal.leave-requires-clause-left
+leave-requires-clause-left g c =
+    let here = (goal.at.leave-requires-clause-left g c).After-left_of-left in
+    let left = left g here in
+    rw (
+      c.scope.ensures,
+      upto-cell _ (g.met.R.Rules.lawful c.args.rules.now) c.args.house c.loop-k.k _ _ _ c.requires.house_in (in_scope g here) (within_of _ _ c.requires.board_of) c.loop-k.invariant.upto left,
+    ) left
+
+pub returns-then-left-eq0-clause-dead : goal.returns-then-left-eq0-clause-dead
+returns-then-left-eq0-clause-dead g c = λ _.
+    let here = (goal.at.returns-then-left-eq0-clause-dead g c).After-left_of-left in
+    struck-dead _ (g.met.R.Rules.lawful c.args.rules.now) c.args.house _ c.loop-k.k c.requires.house_in (in_scope g here) (rw c.if-left-eq0.true at (left g here))
+
+pub loop-k-preserved : goal.loop-k-preserved
+loop-k-preserved g c =
+    let i = c.loop-k.invariant in
+    let grows = i.further.grows in
+    let laws = g.met.R.Rules.lawful c.args.rules.now in
+    let here = (goal.at.loop-k-preserved g c).After-left_of-left in
+    let are = c.requires.sets in
+    let left = left g here in
+    let lt = in_scope g here in
+    let within = within_of _ _ c.requires.board_of in
+    let some = struck-some _ laws c.args.house (has c.args.self.now.board) c.loop-k.k c.requires.house_in lt c.requires.alive (are.bits c.loop-k.k lt) left in
+    elim c.if-left-sets.branch [
+      | then-left-sets+else-left-eq0 w ↦
+          let e = w.leave.ensures in
+          let upto : IsUpto (g.R.Rules.puzzle c.args.rules.now) c.args.house (c.loop-k.k + 1) (has c.args.self.now.board) (has w.leave.new.self.board) = rw (e.left, w.scope.ensures) (upto-left _ laws _ _ _ _ _ c.requires.house_in lt within i.upto left) in
+          rw (w.self-is, w.counts-is) (record {
+            upto = upto;
+            some = λ j less. elim (cases_eq j c.loop-k.k) [
+              | inl same ↦ rw same (some (inr w.if-left-eq0.false))
+              | inr ne ↦ i.some j (omega arith)
+            ];
+            lost = lost-more _ laws _ _ _ _ _ _ _ c.requires.house_in lt grows e.longer (rw w.scope.ensures at e.noted) e.earlier (rw w.scope.ensures at e.left)
+                (lost-differ _ _ _ _ _ _ _ upto (are.bits c.loop-k.k lt) left w.if-left-sets.true) i.lost;
+            further = further-more _ _ _ i.further e.further;
+            follows = e.follows;
+            keeps = λ needs served. e.keeps needs (i.keeps needs served);
+          })
+      | else-left-sets w ↦ rw (w.self-is, w.counts-is) (record {
+        upto = upto-same _ laws _ _ _ _ _ c.requires.house_in lt within i.upto (are.bits c.loop-k.k lt) (rw w.if-left-sets.false at left);
+        some = λ j less. elim (cases_eq j c.loop-k.k) [
+          | inl same ↦ rw same (some (inl w.if-left-sets.false))
+          | inr ne ↦ i.some j (omega arith)
+        ];
+        lost = lost-same _ laws _ _ _ _ c.requires.house_in lt i.upto i.lost;
+        further = i.further;
+        follows = i.follows;
+        keeps = i.keeps;
+      })
+    ]
+
+pub returns-clause-struck : goal.returns-clause-struck
+returns-clause-struck g c = λ _.
+    let i = c.loop-k.invariant in
+    let laws = g.met.R.Rules.lawful c.args.rules.now in
+    let all : c.loop-k.k ≡ length ((g.R.Rules.puzzle c.args.rules.now).scope c.args.house) = omega (arith, c.requires.sets.as_many) in
+    let left = upto-all _ laws c.args.house _ _ c.requires.house_in (rw all at i.upto) in
+    record {
+      left = left;
+      alive = rw left (struck-alive _ laws c.args.house (has c.args.self.now.board) c.requires.house_in c.requires.alive (λ j lt. i.some j (omega arith)));
+      lost = rw all at i.lost;
+    }

@@ -1,0 +1,15 @@
+use Rattle.engine_core.proofs.Common.{AreLost, IsFurther, StillServes, after, counts_of, has, ℕ, ◌<◌, ◌≡◌}
+use Rattle.engine_core.proofs.ScopeLemmas.{IsUpto}
+use Rattle.engine_core.proofs.trail.trailed.Trailed.strike.Given as goal
+
+abbrev pub invariant-loop-k : goal.invariant-loop-k
+invariant-loop-k g l =
+    let p = g.R.Rules.puzzle l.rules in
+    record {
+      upto : IsUpto p l.house l.k (has l.fn.self.board) (has l.self.board);
+      some : (j : ℕ) → j < l.k → 0 < counts_of p l.house (after p l.house (has l.fn.self.board)) j;
+      lost : AreLost p l.house l.k l.fn.self l.self;
+      further : IsFurther l.fn.self l.self;
+      follows : g.R.Propagators.follows l.rules l.counts (has l.self.board);
+      keeps : StillServes g.R.Propagators.counts_serve l.fn.counts l.counts;
+    }

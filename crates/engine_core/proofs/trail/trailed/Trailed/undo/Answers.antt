@@ -1,0 +1,42 @@
+use Rattle.engine_core.proofs.Common.{arith, get_or_read_under, has, sym, ◌-◌, ◌∙◌}
+use Rattle.engine_core.proofs.TrailLemmas.{IsUndone, put_back-none, undone, trail-len}
+use Rattle.engine_core.proofs.trail.trailed.Trailed.undo.Goals as goal
+use Rattle.engine_core.proofs.trail.trailed.Trailed.undo.Goals.{After-cell_bits}
+
+-- what taking the last change back leaves
+last_undone : (g : _) (c : After-cell_bits g)
+    → IsUndone (g.R.Rules.puzzle c.args.rules.now) c.args.self.now.board c.loop-self.self-inside.board c.restore_set.new.self c.loop-self.self-inside.changes.items c.loop-self.self-inside.len
+    c.index.result.now.0 c.cell_bits-before.result c.cell_bits.result
+last_undone g c =
+    let i = c.loop-self.invariant in
+    let t = c.loop-self.self-inside in
+    let few = trail-len _ _ _ _ _ i.trail in
+    let last = get_or_read_under t.changes.items (t.len - 1) t.changes.len _ _ c.index.ensures (omega (arith, t.changes.ok.0)) t.changes.ok.0 in
+    undone _ _ _ _ _ _ _ _ _ c.requires.board_of i.shape c.restore_set.ensures.shape i.trail (omega arith) last c.restore_set.ensures.left c.cell_bits-before.ensures c.cell_bits.ensures
+
+pub change-requires : goal.change-requires
+change-requires g c = (_, _, c.loop-self.invariant.follows, (last_undone g (goal.at.change-requires g c).After-cell_bits).change)
+
+pub loop-self-preserved : goal.loop-self-preserved
+loop-self-preserved g c =
+    let i = c.loop-self.invariant in
+    let u = last_undone g (goal.at.loop-self-preserved g c).After-cell_bits in
+    record {
+      low = omega arith;
+      trail = u.trail;
+      back = λ m le. u.back m (omega arith) ∙ i.back m le;
+      shape = u.shape;
+      follows = c.change.ensures.follows _ _ i.follows u.change;
+      keeps = λ needs served. c.change.ensures.keeps needs (i.keeps needs served);
+    }
+
+pub returns-clause-back : goal.returns-clause-back
+returns-clause-back g c =
+    let i = c.loop-self.invariant in
+    let t = c.loop-self.self-inside in
+    record {
+      shape = i.shape;
+      here = sym (put_back-none (has t.board) t.changes.items c.args.mark t.len (omega arith)) ∙ i.back c.args.mark (omega arith);
+      len = (let low = i.low in omega arith);
+      back = λ m le. i.back m le;
+    }

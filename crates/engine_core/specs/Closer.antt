@@ -1,0 +1,52 @@
+-- What closings by plain visits work in. No public contract uses these words.
+use Rattle.std.specs.Prelude.{◌≡◌, ℕ, Bool, true, false, ◌||◌, List, length, if◌then◌else◌}
+use Rattle.std.specs.List.{range_with_len}
+use Rattle.grid_core.specs.Board.{Layout, has, cells_of, SameShape}
+use Rattle.grid_core.specs.Candidates.{Candidates, is_dead}
+use Rattle.engine_core.specs.Puzzle.{Puzzle, Needs, after, IsClosed}
+use Rattle.engine_core.specs.Closing.{HasStruck, replay}
+use Rattle.engine_core.specs.Queue.{IsRested, IsWoken}
+use Rattle.engine_core.specs.Waiting.{words_of, is_waiting}
+use Rattle.engine_core.specs.declared.closing.closer.Effect.{Effect}
+
+-- what the memory was taken for, the board, which houses wait, and the room for the houses that a closing visits
+pub record BoardAndMarks : Type 0 where
+  pub made : Needs
+  pub board : Layout
+  pub waits : List ℕ
+  pub trace : List ℕ
+
+-- the lists are as long as that wants, and the board is as large
+pub record IsCloserOf (by_queue : Bool) (made : Needs) (board : Layout)
+    (sets waits trace : List ℕ) : Type 0 where
+  pub board_cells : cells_of board ≡ made.cells
+  pub board_values : board.values ≡ made.values
+  pub sets_long : length sets ≡ made.scope
+  pub waits_long : length waits ≡ words_of made.houses
+  pub trace_long : length trace ≡ (if by_queue then made.bound else 0)
+
+-- the room is the same
+pub record SameRoom (from to : BoardAndMarks) : Type 0 where
+  pub made : to.made ≡ from.made
+  pub shape : SameShape from.board to.board
+  pub trace_long : length to.trace ≡ length from.trace
+
+-- a visit of h: what it left, whether it struck anything, whether the board is dead then, and which houses wait
+pub record IsVisited (p : Puzzle) (h : ℕ) (from to : BoardAndMarks) (effect : Effect)
+    : Type 0 where
+  pub left : has to.board ≡ after p h (has from.board)
+  pub idle : effect.struck ≡ false → has to.board ≡ has from.board
+  pub struck : effect.struck ≡ true → HasStruck (has from.board) (has to.board)
+  pub dead : is_dead p.cells p.values (has to.board)
+      ≡ (is_dead p.cells p.values (has from.board) || effect.dead)
+  pub woken : IsWoken p h (has from.board) (has to.board) (is_waiting from.waits)
+      (is_waiting to.waits)
+
+-- a sweep of the board K left the board E
+pub record IsWholeSweep (p : Puzzle) (K E : Candidates) (waits : ℕ → Bool) (effect : Effect)
+    : Type 0 where
+  pub left : E ≡ replay p K (range_with_len 0 p.houses)
+  pub idle : effect.struck ≡ false → (E ≡ K) × IsClosed p K
+  pub struck : effect.struck ≡ true → HasStruck K E
+  pub dead : is_dead p.cells p.values E ≡ effect.dead
+  pub rested : IsRested p E waits

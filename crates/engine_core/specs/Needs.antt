@@ -1,0 +1,14 @@
+-- What memory was taken for, as the code has it.
+use Rattle.engine_core.specs.Puzzle.{Needs}
+use Rattle.engine_core.specs.declared.needs.Needed.{Needed}
+
+-- what the record says
+abbrev pub needs_in : Needed → Needs
+needs_in m =
+    record {
+      cells = m.cells;
+      values = m.values;
+      houses = m.houses;
+      bound = m.bound;
+      scope = m.scope;
+    }

@@ -1,0 +1,99 @@
+-- A board with its trail as a position, and which houses wait. No public contract uses these words.
+use Rattle.std.specs.Prelude.{◌≡◌, ℕ, ◌<◌, ◌≤◌, Bool, true, false, List, length, slice_index_or, Option}
+use Rattle.grid_core.specs.Board.{Layout, has, cells_of}
+use Rattle.grid_core.specs.Candidates.{Candidates}
+use Rattle.engine_core.specs.Puzzle.{Puzzle, Needs, needs_of, FitsIn, IsBoardOf, after}
+use Rattle.engine_core.specs.ClosingList.{IsDead, IsAlive}
+use Rattle.engine_core.specs.Position.{Standing}
+use Rattle.engine_core.specs.Queue.{IsRested, IsWoken, waits_from}
+use Rattle.engine_core.specs.Trail.{Trail, IsFurther, back_at}
+use Rattle.engine_core.specs.Waiting.{words_of, is_waiting, AreCalled}
+
+-- what the memory was taken for, the board with its trail, what the rules count of it, which houses wait, and the mark of
+-- each level: so many levels have one
+pub record Placed (C : Type 0) : Type 0 where
+  pub made : Needs
+  pub trail : Trail
+  pub counts : C
+  pub waits : List ℕ
+  pub marks : List ℕ
+  pub marked : ℕ
+
+-- the lists are as long as that wants, and the board is as large
+pub record IsPlaced (made : Needs) (board : Layout) (sets kept waits marks : List ℕ)
+    : Type 0 where
+  pub board_cells : cells_of board ≡ made.cells
+  pub board_values : board.values ≡ made.values
+  pub sets_long : length sets ≡ made.scope
+  pub kept_long : length kept ≡ made.scope
+  pub waits_long : length waits ≡ words_of made.houses
+  pub marks_long : length marks ≡ made.cells
+  pub few_turns : made.bound < 18446744073709551616
+
+abbrev pub board_in : {C : Type 0} → Placed C → Candidates
+board_in s = has s.trail.board
+
+-- the memory is enough for the rules, the board is one of theirs, and what they count of it is so
+pub record IsAlong {C : Type 0} (p : Puzzle) (counted : C → Candidates → Type 0)
+    (s : Placed C) : Type 0 where
+  pub fits : FitsIn (needs_of p) s.made
+  pub board_of : IsBoardOf p s.trail.board
+  pub follows : counted s.counts (has s.trail.board)
+
+-- ---- which houses wait, by what is counted
+-- all houses were called for
+abbrev pub AllAreCalled : {C : Type 0} → Puzzle → (C → Candidates → Type 0) → C
+    → List ℕ → List ℕ → Type 0
+AllAreCalled p follows counts before now =
+    (K : Candidates) → follows counts K
+    → AreCalled p K (λ j. true) (is_waiting before) (is_waiting now)
+
+-- no house waited, and those that a closing begins with were called for
+abbrev pub WaitsFrom : {C : Type 0} → Puzzle → (C → Candidates → Type 0) → C
+    → Option ℕ → List ℕ → Type 0
+WaitsFrom p follows counts from now =
+    (K : Candidates) → follows counts K
+    → AreCalled p K (waits_from p from) (λ j. false) (is_waiting now)
+
+-- a house that does not wait strikes nothing
+abbrev pub AreRested : {C : Type 0} → Puzzle → Placed C → Type 0
+AreRested p s = IsRested p (board_in s) (is_waiting s.waits)
+
+-- ---- from one place to a later one
+-- values were struck and noted: the marks are the same, and give back the same
+pub record GoesOn {C : Type 0} (from to : Placed C) : Type 0 where
+  pub made : to.made ≡ from.made
+  pub marks : to.marks ≡ from.marks
+  pub marked : to.marked ≡ from.marked
+  pub further : IsFurther from.trail to.trail
+
+-- a visit of h that leaves each cell a value was made, and its houses wait; or it would leave a cell without one
+abbrev pub IsStep : {C : Type 0} → Puzzle → ℕ → Placed C → Placed C → Bool → Type 0
+IsStep p h from to true = IsDead p (after p h (board_in from))
+IsStep p h from to false =
+    (board_in to ≡ after p h (board_in from)) × IsAlive p (board_in to)
+    × IsWoken p h (board_in from) (board_in to) (is_waiting from.waits) (is_waiting to.waits)
+
+-- ---- what a walk sees of it
+-- the mark of this level
+abbrev pub mark_at : List ℕ → ℕ → ℕ
+mark_at marks level = slice_index_or marks level 0
+
+abbrev pub standing_by : Trail → List ℕ → ℕ → Standing
+standing_by t marks live =
+    record { board = has t.board; back = λ level. back_at t (mark_at marks level); marks = live }
+
+abbrev pub standing_of : {C : Type 0} → Placed C → Standing
+standing_of s = standing_by s.trail s.marks s.marked
+
+-- the first so many marks ascend along the trail
+pub record AreMarks (marks : List ℕ) (live len : ℕ) : Type 0 where
+  pub within : (k : ℕ) → k < live → mark_at marks k ≤ len
+  pub ascend : (j k : ℕ) → j ≤ k → k < live → mark_at marks j ≤ mark_at marks k
+
+-- a walk is under way
+pub record IsUnderWay {C : Type 0} (p : Puzzle) (counted : C → Candidates → Type 0)
+    (s : Placed C) : Type 0 where
+  pub along : IsAlong p counted s
+  pub few : s.marked ≤ p.cells
+  pub marked : AreMarks s.marks s.marked s.trail.len

@@ -1,0 +1,205 @@
+//! A board that is closed by plain visits.
+#![tactic(auto, using(crate::proofs::LawSets::position_laws))]
+
+ghost use Rattle.std.specs.Prelude.{◌≡◌, ◌<◌, ◌≤◌, IfOk, length, true, false, take, if◌then◌else◌};
+ghost use Rattle.grid_core.specs.Board.{has, SameShape, cells_of};
+ghost use Rattle.grid_core.specs.Candidates.{is_full, grid_of};
+ghost use Rattle.engine_core.specs.ClosingList.{IsClosing};
+ghost use Rattle.engine_core.specs.Mode.{is_queue};
+ghost use Rattle.engine_core.specs.Needs.{needs_in};
+ghost use Rattle.engine_core.specs.Puzzle.{needs_of, FitsIn, IsBoardOf};
+ghost use Rattle.engine_core.specs.Closer.{IsVisited, SameRoom};
+
+use crate::closing::marking::mark_changed;
+use crate::houses::visit::read_head;
+use crate::mode::Closing;
+use crate::needs::{Needed, needs};
+use crate::rules::{Rules, by_queue};
+use crate::trail::cells::write_grid;
+use crate::waits::{unmark, unmark_if, words_for};
+use grid_core::{Board, Grid};
+use std::alloc::{AllocError, Global};
+use std::marker::Model;
+
+/// What a visit or a sweep did: whether it struck anything, and whether a cell lost its last value.
+#[derive(Clone, Copy)]
+pub(crate) struct Effect {
+    pub struck: bool,
+    pub dead: bool,
+}
+
+/// What a closing came to, and how many visits or sweeps it made.
+#[derive(Clone, Copy)]
+pub(crate) struct Closed {
+    pub closing: Closing,
+    pub visits: usize,
+    pub sweeps: usize,
+}
+
+/// A board, and what it takes to close it: what the rules work in, room for the sets that a house's cells had before its
+/// visit, a mark for each house that waits, and in a queue room for the houses visited.
+pub(crate) struct Closer<R: Rules> {
+    made: Needed,
+    scratch: R::Scratch,
+    sets: Vec<u32>,
+    pub(crate) waits: Vec<u64>,
+    pub(crate) trace: Vec<usize>,
+    board: Board,
+}
+
+impl<R: Rules> Drop for Closer<R> {
+    fn drop(self) {
+        let Closer {
+            made,
+            scratch,
+            sets,
+            waits,
+            trace,
+            board,
+        } = self;
+    }
+}
+
+impl<R: Rules> Model for Closer<R> {
+    ghost use Rattle.engine_core.specs.Mode.{is_queue};
+    ghost use Rattle.engine_core.specs.Needs.{needs_in};
+    ghost use Rattle.engine_core.specs.Closer.{BoardAndMarks, IsCloserOf};
+
+    ghost Value = { BoardAndMarks };
+
+    ghost view = { λ c. record {
+      made = needs_in c.made;
+      board = c.board;
+      waits = c.waits.items;
+      trace = c.trace.items;
+    } };
+
+    ghost invariant = { λ c. IsCloserOf (is_queue R.MODE) (needs_in c.made) c.board c.sets.items
+        c.waits.items c.trace.items × R.serves c.scratch (needs_in c.made) };
+}
+
+impl<R: Rules> Closer<R> {
+    /// The memory that closings by these rules, and by smaller ones, need. The board is full.
+    ///
+    /// # Errors
+    ///
+    /// When memory was refused.
+    pub(crate) fn new(alloc: Global, rules: &R) -> Result<Closer<R>, AllocError>
+        ensures { IfOk result (λ closer. closer.made ≡ needs_of (R.puzzle rules.now)) }
+    {
+        let made = needs(rules);
+        let trace = if by_queue::<R>() { made.bound } else { 0 };
+        Ok(Closer {
+            made,
+            scratch: rules.scratch(alloc)?,
+            sets: vec![in alloc; 0u32; made.scope]?,
+            waits: vec![in alloc; 0u64; words_for(made.houses)]?,
+            trace: vec![in alloc; 0usize; trace]?,
+            board: Board::new(alloc, made.cells, made.values)?,
+        })
+    }
+
+    /// What the memory was taken for.
+    pub(crate) fn made(&self) -> Needed
+        ensures { needs_in result ≡ self.now.made }
+    {
+        self.made
+    }
+
+    /// The board.
+    pub(crate) fn board(&self) -> &Board
+        ensures board { result.now ≡ self.now.board }
+        ensures cells { cells_of result.now ≡ self.now.made.cells }
+        ensures values { result.now.values ≡ self.now.made.values }
+    {
+        &self.board
+    }
+
+    /// The room for the houses that a closing visits.
+    pub(crate) fn trace(&self) -> &[usize]
+        ensures trace { result.now ≡ self.now.trace }
+        ensures long { length result.now ≡ (if is_queue R.MODE then self.now.made.bound else 0) }
+    {
+        &self.trace
+    }
+
+    /// Begins with the board that a search starts from.
+    pub(crate) fn start(&mut self, rules: &R)
+        requires fits { FitsIn (needs_of (R.puzzle rules.now)) self.old.made }
+        ensures start { has self.new.board ≡ (R.puzzle rules.now).start }
+        ensures room { SameRoom self.old self.new }
+    {
+        rules.start(&mut self.board); // whatever it held
+    }
+
+    /// Begins with this board.
+    pub(crate) fn copy(&mut self, rules: &R, board: &Board)
+        requires fits { FitsIn (needs_of (R.puzzle rules.now)) self.old.made }
+        requires board_of { IsBoardOf (R.puzzle rules.now) board.now }
+        ensures board { self.new.board ≡ board.now }
+        ensures room { SameRoom self.old self.new }
+    {
+        self.board.copy_from(board);
+    }
+
+    /// Visits the house, and marks the houses of each cell that lost a value in place of the house.
+    pub(crate) fn step(&mut self, rules: &R, house: usize) -> Effect
+        requires fits { FitsIn (needs_of (R.puzzle rules.now)) self.old.made }
+        requires house_in { house < (R.puzzle rules.now).houses }
+        ensures visited { IsVisited (R.puzzle rules.now) house self.old self.new result }
+        ensures room { SameRoom self.old self.new }
+        ensures trace { self.new.trace ≡ self.old.trace }
+    {
+        unmark(&mut self.waits, house);
+        read_head(rules, house, &self.board, &mut self.sets);
+        if !rules.visit(house, &mut self.board, &mut self.scratch) {
+            return Effect {
+                struck: false,
+                dead: false,
+            };
+        }
+        let sets = &self.sets[..rules.scope_len(house)];
+        let waits: &mut [u64] = &mut self.waits;
+        let dead = mark_changed(rules, house, sets, &self.board, waits);
+        unmark_if(waits, house, R::SETTLED);
+        Effect { struck: true, dead }
+    }
+
+    /// Closes the board: at first each house waits.
+    pub(crate) fn close(&mut self, rules: &R) -> Closed
+        requires fits { FitsIn (needs_of (R.puzzle rules.now)) self.old.made }
+        ensures closing { IsClosing (R.puzzle rules.now) (has self.old.board) (has self.new.board)
+            result.closing (take result.visits self.new.trace) result.sweeps }
+        ensures visits { result.visits ≤ length self.new.trace }
+        ensures room { SameRoom self.old self.new }
+    {
+        if self.board.has_empty_cell() {
+            return Closed {
+                closing: Closing::Dead,
+                visits: 0,
+                sweeps: 0,
+            };
+        }
+        self.waits.fill(u64::MAX);
+        if by_queue::<R>() {
+            self.run_queue(rules)
+        } else {
+            self.run_sweeps(rules)
+        }
+    }
+
+    /// Whether the grid of the full board is a solution. It is written to `grid`.
+    pub(crate) fn accept(&mut self, rules: &R, grid: &mut Grid) -> bool
+        requires fits { FitsIn (needs_of (R.puzzle rules.now)) self.old.made }
+        requires full { is_full (R.puzzle rules.now).cells (R.puzzle rules.now).values
+            (has self.old.board) ≡ true }
+        requires long { length grid.old ≡ (R.puzzle rules.now).cells }
+        ensures solution { result ≡ (R.puzzle rules.now).is_solution
+            (grid_of (R.puzzle rules.now).cells (R.puzzle rules.now).values (has self.old.board)) }
+        ensures long { length grid.new ≡ (R.puzzle rules.now).cells }
+        ensures same { self.new ≡ self.old }
+    {
+        write_grid(&self.board, rules.cells(), grid);
+        rules.accept(&mut self.scratch, grid)
+    }
+}

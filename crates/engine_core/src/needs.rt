@@ -1,0 +1,41 @@
+//! What rules need memory for.
+
+ghost use Rattle.std.specs.Prelude.{◌≡◌};
+ghost use Rattle.engine_core.specs.Puzzle.{needs_of};
+ghost use Rattle.engine_core.specs.Needs.{needs_in};
+
+use crate::rules::Rules;
+
+/// What memory is taken for.
+#[derive(Clone, Copy)]
+pub(crate) struct Needed {
+    pub cells: usize,
+    pub values: u8,
+    pub houses: usize,
+    pub bound: usize,
+    pub scope: usize,
+}
+
+/// What the rules need memory for.
+pub(crate) fn needs<R: Rules>(rules: &R) -> Needed
+    ensures { needs_in result ≡ needs_of (R.puzzle rules.now) }
+{
+    Needed {
+        cells: rules.cells(),
+        values: rules.values(),
+        houses: rules.houses(),
+        bound: rules.bound(),
+        scope: longest_scope(rules),
+    }
+}
+
+/// How many cells the longest scope has.
+fn longest_scope<R: Rules>(rules: &R) -> usize
+    ensures { result ≡ (needs_of (R.puzzle rules.now)).scope }
+{
+    let mut most = 0;
+    for house in 0..rules.houses() {
+        most = most.max(rules.scope_len(house));
+    }
+    most
+}

@@ -1,0 +1,139 @@
+//! What a walk stands on: a board that is closed, tried and put back.
+
+ghost use Rattle.std.specs.Prelude.{◌≡◌, ℕ, ◌*◌, ◌<◌, ◌≤◌, IfOk, true, None, length};
+ghost use Rattle.grid_core.specs.Candidates.{IsWithin, count_below, grid_of, is_full, only, pick};
+ghost use Rattle.engine_core.specs.Puzzle.{Puzzle, IsLawful, IsNext, Needs, needs_of, FitsIn};
+ghost use Rattle.engine_core.specs.Queue.{IsClosedBut};
+ghost use Rattle.engine_core.specs.Counts.{IsClosedIn};
+ghost use Rattle.engine_core.specs.Position.{Standing, IsOnward, IsMarked, IsReturned, IsTaken};
+
+use crate::mode::Closing;
+use grid_core::Grid;
+use std::alloc::{AllocError, Global};
+
+/// What a closing came to, and how many visits or sweeps it made.
+#[derive(Clone, Copy)]
+pub struct Taken {
+    pub closing: Closing,
+    pub turns: usize,
+}
+
+/// A board under a walk. Values are struck from it, and each open level of the walk has a mark that it can be taken back
+/// to.
+pub trait Position: Drop + Sized {
+    /// What is walked: the rules of a puzzle, in whatever form the position has them.
+    type Game;
+
+    /// What the game means.
+    ghost puzzle: { Self.Game → Puzzle };
+
+    /// The board, and the boards that the marks give back.
+    ghost stands: { Self → Standing };
+
+    /// What the memory was taken for.
+    ghost room: { Self → Needs };
+
+    /// A walk of the game is under way.
+    ghost walks: { Self.Game → Self → Type 0 };
+
+    /// Takes all the memory that walks of this game, and of smaller ones, need.
+    ///
+    /// # Errors
+    ///
+    /// When memory was refused.
+    fn new(alloc: Global, rules: &Self::Game) -> Result<Self, AllocError>
+        ensures { IfOk result (λ position. room position ≡ needs_of (puzzle rules.now)) };
+
+    /// How many changes of cells can be taken back.
+    fn changes(&self) -> usize
+        ensures { result ≡ (room self.now).cells * (room self.now).values };
+
+    /// How many values a full set has.
+    fn values(&self, rules: &Self::Game) -> u8
+        ensures { result ≡ (puzzle rules.now).values };
+
+    /// Begins with the board that a search starts from. No level has a mark.
+    fn begin(&mut self, rules: &Self::Game)
+        requires { FitsIn (needs_of (puzzle rules.now)) (room self.old) }
+        ensures start { (stands self.new).board ≡ (puzzle rules.now).start }
+        ensures walks { walks rules.now self.new }
+        ensures room { room self.new ≡ room self.old };
+
+    /// Closes the board, or finds that its closure is dead: what board is left then is open. Where `from` names a place, the
+    /// board was closed before that place's cell lost all values but one.
+    fn close(&mut self, rules: &Self::Game, from: Option<usize>) -> Taken
+        requires walks { walks rules.now self.old }
+        requires closed_but { IsClosedBut (puzzle rules.now) (stands self.old).board from }
+        ensures taken { IsTaken (puzzle rules.now) (stands self.old).board
+            (stands self.new).board result.closing }
+        ensures turns { IsClosedIn (puzzle rules.now) (stands self.old).board result.turns }
+        ensures onward { IsOnward (stands self.old) (stands self.new) }
+        ensures walks { walks rules.now self.new }
+        ensures room { room self.new ≡ room self.old };
+
+    /// The cell to branch on, where none before `from` is one.
+    fn pick(&self, rules: &Self::Game, from: usize) -> Option<usize>
+        requires walks { walks rules.now self.now }
+        requires from_in { from ≤ (puzzle rules.now).cells }
+        requires none { pick from (puzzle rules.now).values (stands self.now).board ≡ None }
+        ensures { result
+            ≡ pick (puzzle rules.now).cells (puzzle rules.now).values (stands self.now).board };
+
+    /// The least value at or after `from` that the cell has.
+    fn next_value(&self, rules: &Self::Game, cell: usize, from: u8) -> Option<u8>
+        requires walks { walks rules.now self.now }
+        requires cell_in { cell < (puzzle rules.now).cells }
+        ensures { IsNext ((stands self.now).board cell) (puzzle rules.now).values from result };
+
+    /// Leaves that value alone in the cell, which has several.
+    fn leave(&mut self, rules: &Self::Game, cell: usize, value: u8)
+        requires walks { walks rules.now self.old }
+        requires cell_in { cell < (puzzle rules.now).cells }
+        requires value_in { value < (puzzle rules.now).values }
+        requires there { (stands self.old).board cell value ≡ true }
+        requires several { 2
+            ≤ count_below ((stands self.old).board cell) (puzzle rules.now).values }
+        ensures left { (stands self.new).board ≡ only (stands self.old).board cell value }
+        ensures onward { IsOnward (stands self.old) (stands self.new) }
+        ensures walks { walks rules.now self.new }
+        ensures room { room self.new ≡ room self.old };
+
+    /// Marks the board for this level. The levels outside it have marks; those inside lose theirs.
+    fn mark(&mut self, rules: &Self::Game, level: usize)
+        requires walks { walks rules.now self.old }
+        requires level_in { level < (puzzle rules.now).cells }
+        requires outer { level ≤ (stands self.old).marks }
+        ensures marked { IsMarked (stands self.old) (stands self.new) level }
+        ensures walks { walks rules.now self.new }
+        ensures room { room self.new ≡ room self.old };
+
+    /// Takes the board back to the mark of this level.
+    fn undo(&mut self, rules: &Self::Game, level: usize)
+        requires walks { walks rules.now self.old }
+        requires marked { level < (stands self.old).marks }
+        ensures returned { IsReturned (stands self.old) (stands self.new) level }
+        ensures walks { walks rules.now self.new }
+        ensures room { room self.new ≡ room self.old };
+
+    /// Writes down the grid of the full board, and says whether it is a solution.
+    fn accept(&mut self, rules: &Self::Game, grid: &mut Grid) -> bool
+        requires walks { walks rules.now self.old }
+        requires full { is_full (puzzle rules.now).cells (puzzle rules.now).values
+            (stands self.old).board ≡ true }
+        requires long { length grid.old ≡ (puzzle rules.now).cells }
+        ensures grid { grid.new
+            ≡ grid_of (puzzle rules.now).cells (puzzle rules.now).values
+            (stands self.old).board }
+        ensures long { length grid.new ≡ (puzzle rules.now).cells }
+        ensures solution { result ≡ (puzzle rules.now).is_solution grid.new }
+        ensures same { stands self.new ≡ stands self.old }
+        ensures walks { walks rules.now self.new }
+        ensures room { room self.new ≡ room self.old };
+
+    /// The game keeps to what every search relies on.
+    ghost lawful: { (rules : Self.Game) → IsLawful (puzzle rules) };
+
+    /// The board has no more cells and values than the game.
+    ghost within: { (rules : Self.Game) (position : Self) → walks rules position
+        → IsWithin (puzzle rules).cells (puzzle rules).values (stands position).board };
+}

@@ -1,0 +1,69 @@
+//! Which houses wait to be visited, after a change of cells.
+
+ghost use Rattle.std.specs.Prelude.{◌≡◌, ◌<◌, ◌≤◌, length, IfSome};
+ghost use Rattle.grid_core.specs.Board.{has};
+ghost use Rattle.grid_core.specs.Candidates.{Candidates};
+ghost use Rattle.engine_core.specs.Puzzle.{IsBoardOf};
+ghost use Rattle.engine_core.specs.Trail.{is_since};
+ghost use Rattle.engine_core.specs.Waiting.{words_of, is_waiting, AreCalled};
+ghost use Rattle.engine_core.specs.TrailPosition.{AllAreCalled, WaitsFrom};
+
+use crate::trail::propagators::Propagators;
+use crate::trail::trailed::Trailed;
+use crate::waits::mark;
+
+/// Marks all houses, but for those that strike nothing.
+fn mark_all<R: Propagators>(rules: &R, counts: &R::Counts, waits: &mut [u64])
+    requires waits_room { words_of (R.puzzle rules.now).houses ≤ length waits.old }
+    requires follows { (K : Candidates) × R.follows rules.now counts.now K }
+    ensures { AllAreCalled (R.puzzle rules.now) (R.follows rules.now) counts.now
+        waits.old waits.new }
+{
+    for house in 0..rules.houses() {
+        if rules.may_strike(house, counts) {
+            mark(waits, house);
+        }
+    }
+}
+
+/// Marks the houses that a closing begins with: those that have the place, or all where none is named, but for those that
+/// strike nothing.
+pub(crate) fn wait_from<R: Propagators>(
+    rules: &R,
+    from: Option<usize>,
+    counts: &R::Counts,
+    waits: &mut [u64],
+)
+    requires place_in { IfSome from (λ place. place < (R.puzzle rules.now).cells) }
+    requires waits_room { words_of (R.puzzle rules.now).houses ≤ length waits.old }
+    requires follows { (K : Candidates) × R.follows rules.now counts.now K }
+    ensures called { WaitsFrom (R.puzzle rules.now) (R.follows rules.now) counts.now
+        from waits.new }
+{
+    waits.fill(0);
+    match from {
+        None => mark_all(rules, counts, waits),
+        Some(place) => rules.wake(place, counts, waits),
+    }
+}
+
+/// Marks the houses of each cell that the trail names from the number `from` on, but for those that strike nothing.
+pub(crate) fn wake_since<R: Propagators>(
+    rules: &R,
+    trailed: &Trailed,
+    from: usize,
+    counts: &R::Counts,
+    waits: &mut [u64],
+)
+    requires board_of { IsBoardOf (R.puzzle rules.now) trailed.now.board }
+    requires follows { R.follows rules.now counts.now (has trailed.now.board) }
+    requires from_in { from ≤ trailed.now.len }
+    requires room { words_of (R.puzzle rules.now).houses ≤ length waits.old }
+    ensures called { AreCalled (R.puzzle rules.now) (has trailed.now.board)
+        (is_since (R.puzzle rules.now) trailed.now from trailed.now.len)
+        (is_waiting waits.old) (is_waiting waits.new) }
+{
+    for number in from..trailed.mark() {
+        rules.wake(trailed.changed(number), counts, waits);
+    }
+}

@@ -1,0 +1,216 @@
+//! A board, and the trail of its changes: what each changed cell had before, so that it can be put back.
+#![tactic(auto, using(crate::proofs::LawSets::trail_laws))]
+
+ghost use Rattle.std.specs.Prelude.{◌≡◌, ◌≢◌, ℕ, ◌+◌, ◌*◌, ◌<◌, ◌≤◌, IfOk, bit_and, length, true, false};
+ghost use Rattle.grid_core.specs.Board.{has, cells_of, SameShape};
+ghost use Rattle.grid_core.specs.Candidates.{count_below, only, max_cells, max_values};
+ghost use Rattle.engine_core.specs.ClosingList.{IsAlive, IsDead};
+ghost use Rattle.engine_core.specs.Keeping.{AreSetsOf, IsKept};
+ghost use Rattle.engine_core.specs.Puzzle.{IsBoardOf, after};
+ghost use Rattle.engine_core.specs.Sets.{IsBitsOf};
+ghost use Rattle.engine_core.specs.Trail.{back_at, change_at, left_by, IsFurther, IsBack, IsStruck, StillServes};
+
+use crate::houses::sets::cell_bits;
+use crate::trail::propagators::Propagators;
+use grid_core::Board;
+use std::alloc::{AllocError, Global};
+use std::marker::Model;
+
+/// A board and its trail: the cells that changed, in four bytes each, and their sets.
+#[derive(Drop)]
+pub(crate) struct Trailed {
+    board: Board,
+    changes: Vec<(u32, u32)>,
+    len: usize,
+}
+
+impl Model for Trailed {
+    ghost use Rattle.grid_core.specs.Board.{has, cells_of};
+    ghost use Rattle.engine_core.specs.Trail.{Trail, IsTrail};
+
+    ghost Value = { Trail };
+
+    ghost view = { λ t. record { board = t.board; changes = t.changes.items; len = t.len } };
+
+    ghost invariant = { λ t. IsTrail (cells_of t.board) t.board.values (has t.board)
+        t.changes.items t.len };
+}
+
+impl Trailed {
+    /// A full board of so many cells and values, with room for each change that can come.
+    ///
+    /// # Errors
+    ///
+    /// When memory was refused.
+    pub(crate) fn new(alloc: Global, cells: usize, values: u8) -> Result<Trailed, AllocError>
+        requires few_cells { cells ≤ max_cells }
+        requires some { 1 ≤ values }
+        requires few { values ≤ max_values }
+        ensures cells { IfOk result (λ trailed. cells_of trailed.board ≡ cells) }
+        ensures values { IfOk result (λ trailed. trailed.board.values ≡ values) }
+    {
+        Ok(Trailed {
+            board: Board::new(alloc, cells, values)?,
+            changes: vec![in alloc; (0u32, 0u32); cells * usize::from(values)]?,
+            len: 0,
+        })
+    }
+
+    /// The board.
+    pub(crate) fn board(&self) -> &Board
+        ensures { result.now ≡ self.now.board }
+    {
+        &self.board
+    }
+
+    /// How many changes there is room for.
+    pub(crate) fn room(&self) -> usize
+        ensures { result ≡ cells_of self.now.board * self.now.board.values }
+    {
+        self.changes.len()
+    }
+
+    /// A mark to go back to: the board as it is now.
+    pub(crate) fn mark(&self) -> usize
+        ensures len { result ≡ self.now.len }
+        ensures here { back_at self.now result ≡ has self.now.board }
+    {
+        self.len
+    }
+
+    /// The place of the cell whose change has this number.
+    pub(crate) fn changed(&self, number: usize) -> usize
+        requires { number < self.now.len }
+        ensures place { result ≡ (change_at self.now.changes number).0 }
+        ensures within { result < cells_of self.now.board }
+    {
+        self.changes[number].0 as usize
+    }
+
+    /// Begins with the board that a search starts from.
+    pub(crate) fn start<R: Propagators>(&mut self, rules: &R)
+        requires board_of { IsBoardOf (R.puzzle rules.now) self.old.board }
+        ensures start { has self.new.board ≡ (R.puzzle rules.now).start }
+        ensures shape { SameShape self.old.board self.new.board }
+    {
+        rules.start(&mut self.board); // whatever it held
+        self.len = 0;
+    }
+
+    /// Leaves of each cell of the house what is kept of its set, and notes what those had that lost a value. Says whether one
+    /// would lose its last: it stops there.
+    pub(crate) fn strike<R: Propagators>(
+        &mut self,
+        rules: &R,
+        house: usize,
+        sets: &[u32],
+        kept: &[u32],
+        counts: &mut R::Counts,
+    ) -> bool
+        requires house_in { house < (R.puzzle rules.now).houses }
+        requires board_of { IsBoardOf (R.puzzle rules.now) self.old.board }
+        requires alive { IsAlive (R.puzzle rules.now) (has self.old.board) }
+        requires follows { R.follows rules.now counts.old (has self.old.board) }
+        requires sets { AreSetsOf (R.puzzle rules.now) house (has self.old.board) sets.now }
+        requires kept { IsKept (R.puzzle rules.now) house (has self.old.board) true kept.now }
+        requires as_many { length kept.now ≡ length sets.now }
+        ensures dead { result ≡ true
+            → IsDead (R.puzzle rules.now) (after (R.puzzle rules.now) house (has self.old.board)) }
+        ensures struck { result ≡ false → IsStruck (R.puzzle rules.now) house self.old self.new }
+        ensures further { IsFurther self.old self.new }
+        ensures follows { R.follows rules.now counts.new (has self.new.board) }
+        ensures keeps { StillServes R.counts_serve counts.old counts.new }
+    {
+        for k in 0..sets.len() {
+            let left = left_of(sets[k], kept[k]);
+            if left != sets[k] {
+                if left == 0 {
+                    return true;
+                }
+                self.leave(rules, rules.scope(house, k), sets[k], left, counts);
+            }
+        }
+        false
+    }
+
+    /// Leaves no more than `left` of the cell's set, notes what it had, which was more, and tells the rules.
+    fn leave<R: Propagators>(
+        &mut self,
+        rules: &R,
+        place: usize,
+        before: u32,
+        left: u32,
+        counts: &mut R::Counts,
+    )
+        requires board_of { IsBoardOf (R.puzzle rules.now) self.old.board }
+        requires follows { R.follows rules.now counts.old (has self.old.board) }
+        requires place_in { place < (R.puzzle rules.now).cells }
+        requires before { IsBitsOf (has self.old.board place) (R.puzzle rules.now).values before }
+        requires left { IsBitsOf (left_by (has self.old.board) place left place)
+            (R.puzzle rules.now).values left }
+        requires other { left ≢ before }
+        ensures left { has self.new.board ≡ left_by (has self.old.board) place left }
+        ensures further { IsFurther self.old self.new }
+        ensures longer { self.new.len ≡ self.old.len + 1 }
+        ensures noted { change_at self.new.changes self.old.len ≡ (place, before) }
+        ensures earlier { (m : ℕ) → m < self.old.len
+            → change_at self.new.changes m ≡ change_at self.old.changes m }
+        ensures follows { R.follows rules.now counts.new (has self.new.board) }
+        ensures keeps { StillServes R.counts_serve counts.old counts.new }
+    {
+        self.board.retain(place, left);
+        self.changes[self.len] = (place as u32, before);
+        self.len += 1;
+        rules.change(place, before, left, counts);
+    }
+
+    /// Leaves that value alone in the cell, which has several, and notes what it had.
+    pub(crate) fn assign<R: Propagators>(
+        &mut self,
+        rules: &R,
+        place: usize,
+        value: u8,
+        counts: &mut R::Counts,
+    )
+        requires board_of { IsBoardOf (R.puzzle rules.now) self.old.board }
+        requires follows { R.follows rules.now counts.old (has self.old.board) }
+        requires place_in { place < (R.puzzle rules.now).cells }
+        requires value_in { value < (R.puzzle rules.now).values }
+        requires there { has self.old.board place value ≡ true }
+        requires several { 2
+            ≤ count_below (has self.old.board place) (R.puzzle rules.now).values }
+        ensures left { has self.new.board ≡ only (has self.old.board) place value }
+        ensures further { IsFurther self.old self.new }
+        ensures follows { R.follows rules.now counts.new (has self.new.board) }
+        ensures keeps { StillServes R.counts_serve counts.old counts.new }
+    {
+        let before = cell_bits(&self.board, place);
+        self.leave(rules, place, before, 1 << value, counts);
+    }
+
+    /// Takes the board back to the mark: each cell changed since gets its values back.
+    pub(crate) fn undo<R: Propagators>(&mut self, rules: &R, mark: usize, counts: &mut R::Counts)
+        requires board_of { IsBoardOf (R.puzzle rules.now) self.old.board }
+        requires follows { R.follows rules.now counts.old (has self.old.board) }
+        requires marked { mark ≤ self.old.len }
+        ensures back { IsBack self.old self.new mark }
+        ensures follows { R.follows rules.now counts.new (has self.new.board) }
+        ensures keeps { StillServes R.counts_serve counts.old counts.new }
+    {
+        while self.len > mark {
+            self.len -= 1;
+            let (cell, set) = self.changes[self.len];
+            let place = cell as usize;
+            let before = cell_bits(&self.board, place);
+            self.board.restore_set(place, set);
+            rules.change(place, before, cell_bits(&self.board, place), counts);
+        }
+    }
+}
+
+/// What a cell has left of its set, by what is kept of it.
+pub(crate) fn left_of(set: u32, kept: u32) -> u32
+    ensures { result ≡ bit_and set kept }
+{
+    set & kept
+}

@@ -1,0 +1,96 @@
+//! Which houses wait: a bit for each, in words of 64.
+#![tactic(auto, using(crate::proofs::LawSets::wait_laws))]
+
+ghost use Rattle.std.specs.Prelude.{◌≡◌, ℕ, ◌/◌, ◌<◌, ◌≤◌, ◌&&◌, ◌||◌, ◌==◌, not, length};
+ghost use Rattle.engine_core.specs.Puzzle.{IsNext};
+ghost use Rattle.engine_core.specs.Queue.{but, IsAnyOf};
+ghost use Rattle.engine_core.specs.Waiting.{words_of, is_waiting};
+ghost use Rattle.engine_core.specs.Sets.{has_bit as is_set};
+
+/// In how many words the marks of so many houses stand.
+pub(crate) fn words_for(houses: usize) -> usize
+    ensures { result ≡ words_of houses }
+{
+    houses / 64 + 1
+}
+
+/// Marks the house in the bits of those that wait.
+pub fn mark(waits: &mut [u64], house: usize)
+    requires { house / 64 < length waits.old }
+    ensures { (j : ℕ) → is_waiting waits.new j ≡ (is_waiting waits.old j || (j == house)) }
+{
+    let word = house / 64;
+    waits[word] |= 1 << (house % 64);
+}
+
+/// Marks the house if it is called for. There is no branch on that: it can't be foreseen.
+pub fn mark_if(waits: &mut [u64], house: usize, called: bool)
+    requires { house / 64 < length waits.old }
+    ensures { (j : ℕ) → is_waiting waits.new j
+        ≡ (is_waiting waits.old j || (called && (j == house))) }
+{
+    let word = house / 64;
+    waits[word] |= u64::from(called) << (house % 64);
+}
+
+/// Takes the house's mark away.
+pub(crate) fn unmark(waits: &mut [u64], house: usize)
+    requires { house / 64 < length waits.old }
+    ensures { (j : ℕ) → is_waiting waits.new j ≡ but (is_waiting waits.old) house j }
+{
+    let word = house / 64;
+    waits[word] &= !(1 << (house % 64));
+}
+
+/// Takes the house's mark away if it is settled.
+pub(crate) fn unmark_if(waits: &mut [u64], house: usize, settled: bool)
+    requires { house / 64 < length waits.old }
+    ensures { (j : ℕ) → is_waiting waits.new j
+        ≡ (is_waiting waits.old j && not (settled && (j == house))) }
+{
+    if settled {
+        unmark(waits, house);
+    }
+}
+
+/// The least bit at or after `from` that is set in the word.
+fn next_bit(word: u64, from: usize) -> Option<usize>
+    requires { from < 64 }
+    ensures { IsNext (is_set word) 64 from result }
+{
+    let left = word >> from;
+    if left == 0 {
+        return None;
+    }
+    Some(from + left.trailing_zeros() as usize)
+}
+
+/// The least house at or after `from` that waits.
+pub(crate) fn next_waiting(waits: &[u64], from: usize, houses: usize) -> Option<usize>
+    requires { words_of houses ≤ length waits.now }
+    ensures { IsNext (is_waiting waits.now) houses from result }
+{
+    let mut bit = from % 64;
+    for word in from / 64..words_for(houses) {
+        if let Some(next) = next_bit(waits[word], bit) {
+            let house = word * 64 + next;
+            if house < houses {
+                return Some(house);
+            }
+            return None;
+        }
+        bit = 0;
+    }
+    None
+}
+
+/// A house that waits: the least at or after `from`, or else the least of all.
+pub(crate) fn next_around(waits: &[u64], from: usize, houses: usize) -> Option<usize>
+    requires { words_of houses ≤ length waits.now }
+    ensures { IsAnyOf (is_waiting waits.now) houses result }
+{
+    match next_waiting(waits, from, houses) {
+        Some(house) => Some(house),
+        None => next_waiting(waits, 0, houses),
+    }
+}
