@@ -43,7 +43,7 @@ unfoldable pub use Rattle.engine_core.specs.Verdict.{outcome}
 pub use Rattle.engine_core.specs.Walk.{Mark, walk, walk_closed}
 pub use Rattle.engine_core.specs.declared.search.walk.Verdict.{Verdict}
 pub use Rattle.fields_core.proofs.HouseLists.{step-keep, step-none, step-skip}
-pub use Rattle.fields_core.proofs.LightCounting.{filter-few}
+pub use Rattle.fields_core.proofs.PlaceLists.{filter-few}
 pub use Rattle.fields_core.proofs.LightFaultLemmas.{lit-from, lit-parts}
 pub use Rattle.fields_core.proofs.LightHouseLaws.{clear-from, column-both, row-both, row-self, white-in}
 pub use Rattle.fields_core.proofs.LightRuleLemmas.{rule-from-test, test-from-rule}
