@@ -122,7 +122,8 @@ unfoldable pub use Rattle.maker_core.specs.SoloFilling.{lines_of_groups, rearran
 pub use Rattle.maker_core.specs.SoloMaking.{IsSoloSize, NoneFound, solo_filling, solo_passes, solo_tries}
 pub use Rattle.maker_core.specs.SoloOrders.{AreOrders, IsLineOrder, IsOrder}
 pub use Rattle.maker_core.specs.SoloXFilling.{first_grid, flipped_by_draw, top_row_given, x_filling}
-pub use Rattle.maker_core.specs.Switch.{HasOther, cell_of}
+pub use Rattle.maker_core.specs.Switch.{HasOther, HasSwitch, IsRunEnd, IsSwitch, RunHasSwitch, cell_of, place_of, turned}
+unfoldable pub use Rattle.maker_core.specs.Switch.{run_begins}
 pub use Rattle.maker_core.specs.TentFilling.{is_free, may_have_tent, place_tent, take_cell, tents_pass}
 unfoldable pub use Rattle.maker_core.specs.TentFilling.{tents_after, free_cells_beside, no_tents, tent_filling, tents_puzzle_of}
 pub use Rattle.maker_core.specs.TentMaking.{tents_tries}
