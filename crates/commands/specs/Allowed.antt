@@ -43,11 +43,13 @@ pub record IsSolved (solves : List ℕ → Type 0) (rules : Puzzle) (cell : List
   pub right : IsRight solves (verdict_of rules budget)
   pub told : answer ≡ verdict_answer (λ g. grid_text (cell g) size) (verdict_of rules budget)
 
--- the same of the puzzle that an ID spells
+-- the same of a puzzle that is played so, and of the puzzle that an ID spells
+abbrev pub SolvesPuzzle : {P : Type 0} → Playing P → ℕ → P → Answer → Type 0
+SolvesPuzzle play budget p =
+    IsSolved (play.game.solves p) (play.game.rules p) (play.cell_text p) (play.extent p) budget
+
 abbrev pub SolvesId : {P : Type 0} → Playing P → ℕ → Text → Answer → Type 0
-SolvesId play budget id = AnswersId play.game id
-    (λ p. IsSolved (play.game.solves p) (play.game.rules p) (play.cell_text p) (play.extent p)
-    budget)
+SolvesId play budget id = AnswersId play.game id (SolvesPuzzle play budget)
 
 -- the answers that `solve` allows to an ID of the game
 abbrev pub AllowsSolve : Game → ℕ → Text → Answer → Type 0

@@ -1,7 +1,7 @@
 //! The answers of `solve`.
 ghost use Rattle.std.specs.Prelude.{◌≡◌, ◌*◌, IfOk};
 ghost use Rattle.commands.specs.Common.{FitsIn, needs_of, IsTrueOf, verdict_of};
-ghost use Rattle.commands.specs.Allowed.{AllowsSolve, SolvesId};
+ghost use Rattle.commands.specs.Allowed.{AllowsSolve, SolvesId, SolvesPuzzle};
 ghost use Rattle.commands.specs.Replies.{answer_in, verdict_told};
 
 pub mod solvable;
@@ -63,6 +63,26 @@ fn verdict_reply<P: Printed, R: Rules>(
     }
 }
 
+/// The answer to a puzzle that is to be solved. Its search works in the memory that is kept or in new memory, which is kept.
+fn solve_puzzle<P: Solvable + Drop>(
+    alloc: Global,
+    kept: &mut Option<Store<P::Search>>,
+    puzzle: &P,
+    budget: u64,
+    text: String,
+) -> Result<Reply, AllocError>
+where
+    P::Search: Rules,
+    requires means { (rules : P.Search) → P.Search.puzzle rules ≡ P.meaning rules }
+    ensures { IfOk result (λ r. SolvesPuzzle P.Played budget puzzle.now (answer_in r)) }
+{
+    let rules = puzzle.rules(alloc)?;
+    let mut store = store_for(alloc, kept, &rules)?;
+    let reply = verdict_reply(&mut store, puzzle, &rules, budget, text)?;
+    *kept = Some(store);
+    Ok(reply)
+}
+
 /// The answer to an ID that is to be solved, as `solve_id` says.
 fn solve_one<P: Solvable + Drop>(
     alloc: Global,
@@ -77,13 +97,7 @@ where
     ensures { IfOk result (λ r. SolvesId P.Played budget id.now (answer_in r)) }
 {
     match P::read_id(alloc, id) {
-        Ok(puzzle) => {
-            let rules = puzzle.rules(alloc)?;
-            let mut store = store_for(alloc, kept, &rules)?;
-            let reply = verdict_reply(&mut store, &puzzle, &rules, budget, text)?;
-            *kept = Some(store);
-            Ok(reply)
-        }
+        Ok(puzzle) => solve_puzzle(alloc, kept, &puzzle, budget, text),
         Err(IdFault::Memory) => Err(AllocError),
         Err(fault) => id_refused(text, fault),
     }

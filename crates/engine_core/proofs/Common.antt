@@ -54,7 +54,7 @@ pub use Rattle.engine_core.specs.House.{AreDifferent}
 unfoldable pub use Rattle.engine_core.specs.House.{kept_in}
 pub use Rattle.engine_core.specs.HouseIndex.{AreHousesAt, AreScopes, IsFirstFrom, IsIndex, IsPut, IsRoom, number_at, scope_of, start_at}
 pub use Rattle.engine_core.specs.HouseLaws.{sets-bits}
-pub use Rattle.engine_core.specs.HouseList.{listed}
+pub use Rattle.engine_core.specs.HouseList.{FitsLists, FitsPlaces, IsGrown, IsListed, listed}
 pub use Rattle.engine_core.specs.HousesLaws.{bound_enough, by_houses-lawful, counted_twice, from_first}
 pub use Rattle.engine_core.specs.Keeping.{AreSetsOf, IsKept}
 pub use Rattle.engine_core.specs.PlaceLaws.{has_place-at, has_place-here}

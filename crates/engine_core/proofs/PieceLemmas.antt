@@ -1,12 +1,14 @@
 -- Laws of lists of places that are the pieces of one list.
 use Rattle.std.specs.List.{concat, filter}
-use Rattle.std.proofs.lemmas.List.{append-nil, get_or_append_left}
+use Rattle.std.proofs.lemmas.List.{append-nil, get_or_append_left, get_or_read, length-drop}
 use Rattle.std.proofs.lemmas.List.Edits.{between_more, between_none}
 use Rattle.std.proofs.lemmas.List.Elements.{filter-append}
+use Rattle.std.proofs.lemmas.List.Sums.{count_by-le-length, length-filter}
+use Rattle.engine_core.specs.HouseList.{Listed}
 use Rattle.engine_core.proofs.Common.{append_assoc, drop, eq-eqb, eqb, length-append, ne_eqb, not, take, ◌∙◌}
-use Rattle.engine_core.proofs.Common.{AreEnds, List, [], ap, arith, between, between_to_end, common_steps}
+use Rattle.engine_core.proofs.Common.{AreEnds, FitsPlaces, IsGrown, IsListed, List, [], ap, arith, between, between_to_end, common_steps}
 use Rattle.engine_core.proofs.Common.{drop-append-le, get_or, last_end, length, length-between, listed, pieces, refl, suc, sum_by, sum_by-cons, sym}
-use Rattle.engine_core.proofs.Common.{last-close, last-le, length-pieces, pieces-close, pieces-more, zero, ℕ, ◌++◌, ◌+◌, ◌-◌, ◌<◌, ◌∷◌, ◌≡◌, ◌≤◌}
+use Rattle.engine_core.proofs.Common.{ends-more, last-close, last-le, length-pieces, piece-at, piece-ends, pieces-close, pieces-more, zero, ℕ, ◌++◌, ◌+◌, ◌-◌, ◌<◌, ◌^◌, ◌∷◌, ◌≡◌, ◌≤◌}
 
 pub listed-more : (xs ends ys : List ℕ) → AreEnds (length xs) 0 ends
     → listed (xs ++ ys) ends ≡ record { closed = (listed xs ends).closed; begun = (listed xs ends).begun ++ ys }
@@ -32,6 +34,10 @@ total-is xs from (end ∷ ends) (low, e) =
 
 pub total-closed : (xs ends : List ℕ) (n : ℕ) → AreEnds (length xs) 0 ends → n ≡ last_end 0 ends → n ≡ sum_by length (listed xs ends).closed
 total-closed xs ends n e is = let t = total-is xs 0 ends e in omega arith
+
+-- all closed lists have fewer than 2^32 places together
+pub few-listed : (xs ends : List ℕ) → IsListed xs ends → sum_by length (listed xs ends).closed < 2 ^ 32
+few-listed xs ends l = omega (arith, total-is xs 0 ends l.are_ends, l.few_closed, l.few_lists)
 
 -- a part is its first and its second part
 drop-none : (m : ℕ) → drop {A = ℕ} m [] ≡ []
@@ -84,6 +90,36 @@ others-push xs ys but from k x low lt e is other =
     let at = is ∙ ap (λ l. get_or l k x) e ∙ get_or_append_left xs (others but (between from k xs)) x k lt in
     rw (others-next but from k x xs low lt at, ne_eqb x but other) (ap (λ l. l ++ x ∷ []) e ∙ append_assoc xs (others but (between from k xs)) (x ∷ []))
 
--- a list with more at its end is no shorter
-pub others-grown : (xs ys zs : List ℕ) → ys ≡ xs ++ zs → length xs ≤ length ys
-others-grown xs ys zs e = let long = ap length e ∙ length-append xs zs in omega arith
+-- ---- lists that are few and short
+pub added-grown : (xs ys more : List ℕ) (n : ℕ) → ys ≡ xs ++ more → length more ≤ n → IsGrown xs n ys
+added-grown xs ys more n e few =
+    let long : length ys ≡ length xs + length more = ap length e ∙ length-append xs more in
+    record { kept = omega arith; few = omega arith }
+
+pub others-grown : (xs ys : List ℕ) (but from k end : ℕ) → k ≤ end → end ≤ length xs → ys ≡ xs ++ filter (λ d. not (eqb d but)) (between from k xs) → IsGrown xs (end - from) ys
+others-grown xs ys but from k end le within e =
+    let all = between from k xs in
+    added-grown xs ys (filter (λ d. not (eqb d but)) all) (end - from) e
+    (omega (arith, length-filter (λ d. not (eqb d but)) all, count_by-le-length (λ d. not (eqb d but)) all, length-between xs from k (omega arith)))
+
+pub grown-listed : (xs ys ends : List ℕ) (list : Listed) (n : ℕ) → IsListed xs ends → listed xs ends ≡ list → FitsPlaces list n → IsGrown xs n ys → IsListed ys ends
+grown-listed xs ys ends list n l is fits g = record {
+  are_ends = ends-more (length xs) (length ys) 0 ends g.kept l.are_ends;
+  few_lists = l.few_lists;
+  few_closed = l.few_closed;
+  few_begun =
+      let begun = ap (λ (v : Listed). length v.begun) is in
+      let last = (last-le (length xs) 0 ends l.are_ends).1 in
+      omega (arith, g.few, length-drop (last_end 0 ends) xs, fits);
+}
+
+-- the part of the places that a closed list is
+pub closed-is : (xs ends : List ℕ) (list : Listed) (h from end : ℕ) → AreEnds (length xs) 0 ends → listed xs ends ≡ list → h < length list.closed → from ≡ get_or (0 ∷ ends) h 0 → end ≡ get_or ends h end
+    → (between from end xs ≡ get_or list.closed h []) × (end ≤ length xs)
+closed-is xs ends list h from end e is lt low high =
+    let lists = ap (λ (v : Listed). length v.closed) is in
+    let there : h < length ends = closed-in xs ends h (omega arith) in
+    let to = get_or_read ends h end there high 0 in (
+      rw (low, to) (sym (piece-at xs 0 ends h there) ∙ ap (λ (v : Listed). get_or v.closed h []) is),
+      omega (arith, to, (piece-ends (length xs) 0 ends h e there).1),
+    )

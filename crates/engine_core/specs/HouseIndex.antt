@@ -1,5 +1,5 @@
 -- Tables of houses: which places each house has, and which houses have a place.
-use Rattle.std.specs.Prelude.{◌≡◌, ℕ, suc, ◌+◌, ◌<◌, ◌≤◌, ◌^◌, true, false, Option, Some, None, List, [], length, slice_index, slice_index_or, sum_by}
+use Rattle.std.specs.Prelude.{◌≡◌, ℕ, suc, ◌+◌, ◌<◌, ◌≤◌, true, false, Option, Some, None, List, [], length, slice_index, slice_index_or}
 use Rattle.std.specs.List.{between}
 use Rattle.grid_core.specs.Candidates.{count_below, sum_below}
 use Rattle.engine_core.specs.Puzzle.{has_place}
@@ -20,11 +20,6 @@ pub record IsScope (cells : ℕ) (places : List ℕ) : Type 0 where
 
 abbrev pub AreScopes : ℕ → List (List ℕ) → Type 0
 AreScopes cells scopes = (h : ℕ) → h < length scopes → IsScope cells (scope_of scopes h)
-
--- fewer than 2^32 houses, with fewer than 2^32 places together
-pub record AreFew (scopes : List (List ℕ)) : Type 0 where
-  pub few_houses : length scopes < 2 ^ 32
-  pub few_places : sum_by length scopes < 2 ^ 32
 
 -- how many of the first n houses have the place
 abbrev pub number_at : List (List ℕ) → ℕ → ℕ → ℕ

@@ -1,14 +1,19 @@
 -- Lists of count houses, as they are made.
-use Rattle.std.proofs.Common.{◌≡◌, ℕ, zero, suc, ◌+◌, ◌*◌, ◌<◌, ◌≤◌, ◌^◌, cond, sum_by, List, [], ◌∷◌, ◌++◌, length, map, slice_index, Bool, true, false, Option, refl, sym, ap, subst, ◌∙◌, arith, add-one}
+use Rattle.std.proofs.Common.{◌≡◌, ℕ, zero, suc, ◌+◌, ◌<◌, ◌≤◌, cond, List, [], ◌∷◌, ◌++◌, length, map, slice_index, Bool, true, false, Option, refl, sym, ap, subst, ◌∙◌, arith, add-one}
 use Rattle.std.proofs.lemmas.List.{append-nil, append_assoc, length-append, length-map, map-append}
-use Rattle.std.proofs.lemmas.List.Sums.{sum_by-cons}
+use Rattle.std.specs.List.{filter}
+use Rattle.grid_core.specs.Extent.{Extent}
+use Rattle.grid_core.specs.Regions.{steps}
 use Rattle.std.proofs.Math.Path.{fun_ext}
 use Rattle.engine_core.specs.Puzzle.{has_place, IsNext, IsKth}
-use Rattle.engine_core.specs.HouseIndex.{scope_of, AreScopes, AreFew}
+use Rattle.engine_core.specs.HouseIndex.{scope_of, AreScopes}
+use Rattle.engine_core.specs.HouseList.{FitsLists, FitsPlaces}
 use Rattle.engine_core.specs.PlaceLaws.{has_place-here}
 use Rattle.fields_core.specs.CountHouse.{CountHouse, CountedHouses, IsHouse, AreHouses, count_house_of, houses_below}
 use Rattle.fields_core.specs.CountLists.{house_places, bounds_of, bound_of, house_with, bounded, AreListed, IsBegun, IsAdded}
 use Rattle.fields_core.proofs.CountTallies.{AreCounted}
+use Rattle.fields_core.proofs.PlaceLists.{filter-few}
+use Rattle.fields_core.proofs.StepLaws.{steps-few}
 use Rattle.fields_core.specs.declared.count.list.Bounds.{Bounds}
 use Rattle.fields_core.specs.declared.count.list.CountList.{CountList}
 use Rattle.std.proofs.lemmas.Grind.{common_steps}
@@ -45,10 +50,21 @@ unfolding houses_below
 below-few f zero each = omega arith
 below-few f (suc n) each = omega (arith, length-append (houses_below f n) (f n), below-few f n each, each n)
 
+-- the cells beside a cell that pass a test have room
+pub beside-fits : (a b : CountList) (test : ℕ → Bool) (size : Extent) (place n : ℕ) → IsBegun a b (filter test (steps size place n)) → n < 4 → FitsPlaces a.list 4 → FitsPlaces b.list 1
+beside-fits a b test size place n begun lt fits =
+    let some = filter test (steps size place n) in
+    let long = ap length begun.begun in
+    omega (arith, fits, length-append a.list.begun some, filter-few test (steps size place n), steps-few size place n)
+
 pub added-few : (a b : CountList) (f : ℕ → List CountHouse) (n : ℕ) → IsAdded a b (houses_below f n) → ((c : ℕ) → length (f c) ≤ 1) → length b.list.closed ≤ length a.list.closed + n
 added-few a b f n added each =
     let long = ap length added.closed in
     omega (arith, length-append a.list.closed (map house_places (houses_below f n)), length-map (houses_below f n) house_places, below-few f n each)
+
+-- and so there is room for the next
+pub added-fits : (a b : CountList) (f : ℕ → List CountHouse) (n cells : ℕ) → IsAdded a b (houses_below f n) → ((c : ℕ) → length (f c) ≤ 1) → n < cells → FitsLists a.list cells → FitsLists b.list 1
+added-fits a b f n cells added each lt fits = omega (arith, added-few a b f n added each, fits)
 
 -- houses of four kinds, each of the numbers below some number
 pub four-added : {a b c d e : CountList} (f g h k : ℕ → List CountHouse) {i j l m i' j' l' m' : ℕ}
@@ -57,33 +73,6 @@ pub four-added : {a b c d e : CountList} (f g h k : ℕ → List CountHouse) {i 
     → i ≡ i' → j ≡ j' → l ≡ l' → m ≡ m'
     → AreListed e (houses_below f i' ++ (houses_below g j' ++ (houses_below h l' ++ houses_below k m')))
 four-added {a} {b} {c} {d} {e} f g h k {i} {j} {l} {m} {i'} {j'} {l'} {m'} none no_bounds p q r s same_i same_j same_l same_m = grind (arith, common_steps, append_assoc, map-append)
-
--- few houses of few cells
-sum-few : (houses : List CountHouse) → ((h : ℕ) → h < length houses → length (count_house_of houses h).places ≤ 512) → sum_by length (map house_places houses) ≤ 512 * length houses
-sum-few [] each = omega arith
-sum-few (house ∷ houses) each =
-    let here = each 0 (omega arith) in
-    omega (arith, here, sum-few houses (λ h lt. each (suc h) (omega arith)), sum_by-cons (length {A = ℕ}) house.places (map house_places houses))
-
-pub listed-few : (list : CountList) (houses : List CountHouse) (cells : ℕ) → AreListed list houses → AreHouses cells houses → length houses < 2 ^ 23 → AreFew list.list.closed
-listed-few list houses cells are each few = rw are.cells (record {
-  few_houses = omega (arith, length-map houses house_places);
-  few_places = omega (arith, sum-few houses (λ h lt. (each h lt).few_places));
-})
-
-pub four-few : (f g h k : ℕ → List CountHouse) (i j l m : ℕ)
-    → ((c : ℕ) → length (f c) ≤ 1) → ((c : ℕ) → length (g c) ≤ 1) → ((c : ℕ) → length (h c) ≤ 1) → ((c : ℕ) → length (k c) ≤ 1)
-    → length (houses_below f i ++ (houses_below g j ++ (houses_below h l ++ houses_below k m))) ≤ i + (j + (l + m))
-four-few f g h k i j l m one_f one_g one_h one_k = omega (
-  arith,
-  length-append (houses_below f i) (houses_below g j ++ (houses_below h l ++ houses_below k m)),
-  length-append (houses_below g j) (houses_below h l ++ houses_below k m),
-  length-append (houses_below h l) (houses_below k m),
-  below-few f i one_f,
-  below-few g j one_g,
-  below-few h l one_h,
-  below-few k m one_k,
-)
 
 -- ---- the houses with these cells and bounds
 pub bounded-map : (houses : List CountHouse) → bounded (map house_places houses) (map bounds_of houses) ≡ houses

@@ -2,10 +2,10 @@
 use Rattle.engine_core.proofs.CallLemmas.{upto-first}
 use Rattle.engine_core.proofs.HouseLemmas.{striking-first}
 use Rattle.fields_core.proofs.CountKept.{kept-first}
-use Rattle.fields_core.proofs.CountListLemmas.{as-many, begun-more, begun-none, begun-same, below-more, below-none, bounded-listed}
+use Rattle.fields_core.proofs.CountListLemmas.{as-many, begun-more, beside-fits, begun-none, begun-same, below-more, below-none, bounded-listed}
 use Rattle.fields_core.proofs.CountTallies.{tallied-first, tallied-more, tallied-whole}
 use Rattle.fields_core.proofs.HouseLists.{column-after, column-black, column-edge, row-after, row-black, row-edge, step-keep, step-none, step-skip}
-use Rattle.fields_core.proofs.LightCounting.{light-counting, light-few}
+use Rattle.fields_core.proofs.LightCounting.{light-counting}
 use Rattle.fields_core.proofs.LightFaultLemmas.{fault-not, lit-from}
 use Rattle.fields_core.proofs.LightLines.{cell-at, white-at}
 use Rattle.fields_core.proofs.LightRuleLemmas.{rule-from-test, test-from-rule}
@@ -13,7 +13,7 @@ use Rattle.fields_core.proofs.LightSeen.{black-unseen, seen-in-column, seen-in-r
 use Rattle.fields_core.proofs.LightSight.{count-bulb, count-dark, count-edge, count-start, some-column}
 use Rattle.fields_core.proofs.RuleLemmas.{after-is, light-houses, same-shape, start-all, start-blocked}
 use Rattle.fields_core.proofs.RunLemmas.{column-made, few-cells, row-made, run-long, run-white}
-use Rattle.fields_core.proofs.TentCounting.{tent-counting, tent-few}
+use Rattle.fields_core.proofs.TentCounting.{tent-counting}
 use Rattle.fields_core.proofs.TentLines.{line-all, line-more, line-skip, line-start}
 use Rattle.fields_core.proofs.TentNext.{barred-alone, barred-tree, next-joined, next-none, passed-bare, passed-early, passed-edge, passed-start, tree-found, treeless-all}
 use Rattle.fields_core.proofs.TentNumbers.{count-none, listed-all, listed-skip}
@@ -36,11 +36,11 @@ pub ruleset light_cells_laws = (white-at)
 
 pub ruleset light_check_laws = (lit-from, all_below-from, ne_eqb, eq-eqb, cell-at)
 
-pub ruleset light_houses_laws = (begun-none, begun-same, step-none, step-skip, begun-more, step-keep, take_all)
+pub ruleset light_houses_laws = (beside-fits, begun-none, begun-same, step-none, step-skip, begun-more, step-keep, take_all)
 
 pub ruleset light_lit_laws = (below-none, below-more, append_assoc, append-nil, map-append)
 
-pub ruleset light_rules_laws = (light-counting, light-few, as-many, bounded-listed, fault-not, light-houses, after-is, start-all)
+pub ruleset light_rules_laws = (light-counting, as-many, bounded-listed, fault-not, light-houses, after-is, start-all)
 
 pub ruleset light_run_laws = (column-black, column-edge, column-after, some-column, row-black, row-edge, row-after, run-long, few-cells, run-white)
 
@@ -52,10 +52,10 @@ pub ruleset tally_laws = (tallied-first, tallied-more, tallied-whole)
 
 pub ruleset tent_check_laws = (line-start, line-skip, line-more, line-all, tents-from, all_below-from, ne_eqb, eq-eqb)
 
-pub ruleset tent_houses_laws = (begun-none, begun-same, step-none, step-skip, begun-more, step-keep)
+pub ruleset tent_houses_laws = (beside-fits, begun-none, begun-same, step-none, step-skip, begun-more, step-keep)
 
 pub ruleset tent_pairs_laws = (next-joined, listed-skip, listed-all, passed-start, passed-edge, passed-bare, passed-early, next-none, count-none, others-unpaired, listed-tents, count-is, whole-pairs, short-unpaired)
 
-pub ruleset tent_rules_laws = (tent-counting, tent-few, as-many, bounded-listed, tents-not, after-is, tent-table, barred-tree, barred-alone, tree-found, treeless-all, start-blocked, same-shape, start-all)
+pub ruleset tent_rules_laws = (tent-counting, as-many, bounded-listed, tents-not, after-is, tent-table, barred-tree, barred-alone, tree-found, treeless-all, start-blocked, same-shape, start-all)
 
 pub ruleset tent_touch_laws = (eq-eqb, ne_eqb)

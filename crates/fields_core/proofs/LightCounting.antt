@@ -1,29 +1,25 @@
 -- The count houses of Light Up keep to what every rule set of count houses keeps to.
-use Rattle.std.proofs.Common.{◌≡◌, ℕ, zero, suc, ◌+◌, ◌*◌, ◌/◌, ◌%◌, ◌<◌, ◌≤◌, Bool, true, not, ◌&&◌, ◌||◌, eqb, List, [], ◌∷◌, ◌++◌, length, get_or, slice_index, refl, sym, ap, ◌∙◌, inl, inr, arith}
+use Rattle.std.proofs.Common.{◌≡◌, ℕ, zero, suc, ◌+◌, ◌*◌, ◌/◌, ◌%◌, ◌<◌, ◌≤◌, true, not, ◌&&◌, ◌||◌, eqb, List, [], ◌∷◌, ◌++◌, length, get_or, slice_index, refl, sym, ap, ◌∙◌, inl, inr, arith}
 use Rattle.std.specs.List.{filter, AllByRecursion}
 use Rattle.std.proofs.lemmas.Bool.{cases_eq, or_left, or_right, or_cases, and_from, and_parts, true≢false, eqb-true, eq-eqb, ne_eqb, not-true}
 use Rattle.std.proofs.lemmas.List.{length-append}
-use Rattle.std.proofs.lemmas.List.Sums.{count_by-le-length, length-filter}
+use Rattle.std.proofs.lemmas.List.Sums.{count_by-le-length}
 use Rattle.std.proofs.Math.Nat.{mul-le-mul_right}
 use Rattle.grid_core.specs.Grids.{IsGrid}
 use Rattle.grid_core.specs.Regions.{row_places, column_places, steps}
 use Rattle.grid_core.proofs.CandidateLemmas.{all_below-at, any_below-here, any_below-some}
 use Rattle.engine_core.specs.Puzzle.{has_place}
-use Rattle.engine_core.specs.HouseIndex.{AreFew}
 use Rattle.engine_core.specs.PlaceLaws.{has_place-here, AreDistinct, place-filter, place-kept, place-append, place-front, place-back, distinct-filter, distinct-append}
 use Rattle.gameid_core.specs.Puzzles.{Light, IsLight, IsLightCell}
 use Rattle.gameid_core.specs.declared.light_up.cell.LightCell.{LightCell}
 use Rattle.gameid_core.specs.declared.light_up.cell.LightCell.TheVariants.{White, Black, Numbered}
 use Rattle.fields_core.specs.CountHouse.{exactly, one_at_most, one_at_least, IsCounting}
-use Rattle.fields_core.specs.CountLists.{AreListed}
-use Rattle.fields_core.specs.declared.count.list.CountList.{CountList}
 use Rattle.fields_core.specs.Light.{light_cells, white, bulb, joined_in_row, joined_in_column, sees, sees_bulb, bulbs_beside, black_right, number_right, bulb_right, lit_right, solves_lights}
 use Rattle.fields_core.specs.LightHouses.{row_run, column_run, seen_from, begins_row_run, begins_column_run, numbered, number_house, row_house, column_house, lit_house, light_houses}
-use Rattle.fields_core.proofs.CountListLemmas.{four-few, if-few, listed-few}
 use Rattle.fields_core.proofs.LightFaultLemmas.{lit-parts}
 use Rattle.fields_core.proofs.LightSight.{bulb-in, row-of, column-of}
 use Rattle.fields_core.proofs.HouseLists.{row-long, column-long}
-use Rattle.fields_core.proofs.PlaceLists.{count-some, count-one, count-filter}
+use Rattle.fields_core.proofs.PlaceLists.{count-some, count-one, count-filter, filter-few}
 use Rattle.fields_core.proofs.StepLaws.{steps-distinct, steps-few}
 use Rattle.fields_core.proofs.LightHouseLaws.{IsMet, met-from, EachOf, each-none, each-one, each-append, each-below, each-if, row-both, column-both, row-white-end, column-white-end, row-self, white-in, row-distinct, column-distinct, row-parts, column-parts}
 use Rattle.std.proofs.lemmas.Grind.{common_steps}
@@ -35,9 +31,6 @@ pub record IsBoard (p : Light) : Type 0 where
   pub h_few : p.size.h ≤ 256
   pub long : length p.cells ≡ light_cells p
   pub number : (c n : ℕ) → get_or p.cells c Black ≡ Numbered n → n ≤ 4
-
-pub filter-few : (test : ℕ → Bool) (xs : List ℕ) → length (filter test xs) ≤ length xs
-filter-few test xs = let a = length-filter test xs in let b = count_by-le-length test xs in omega arith
 
 -- bulbs stand on white cells
 bulb-white : (p : Light) (g : List ℕ) → IsGrid (light_cells p) 2 g → solves_lights p g ≡ true → (d : ℕ) → bulb g d ≡ true → white p d ≡ true
@@ -220,11 +213,3 @@ number-one p c = by (get_or p.cells c Black) (filter (white p) (steps p.size c 4
     by White places = omega arith
     by Black places = omega arith
     by (Numbered n) places = omega arith
-
-pub light-few : (p : Light) (list : CountList) → IsLight p → AreListed list (light_houses p) → AreFew list.list.closed
-unfolding light_houses
-light-few p list is are =
-    let counting = light-counting p is in
-    let few = four-few (number_house p) (row_house p) (column_house p) (lit_house p) (light_cells p) (light_cells p) (light_cells p) (light_cells p)
-    (number-one p) (λ c. if-few (begins_row_run p c) _) (λ c. if-few (begins_column_run p c) _) (λ c. if-few (white p c) _) in
-    listed-few list (light_houses p) (light_cells p) are counting.are_houses (omega (arith, few, counting.few_cells))

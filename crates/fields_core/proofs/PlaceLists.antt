@@ -2,13 +2,16 @@
 use Rattle.std.proofs.Common.{◌≡◌, ℕ, ◌+◌, ◌<◌, ◌≤◌, Bool, true, false, ◌||◌, eqb, ltb, cond, List, [], ◌∷◌, length, slice_index, map, refl, sym, ap, ◌∙◌, inl, inr, arith}
 use Rattle.std.specs.List.{filter, count_by, list_any}
 use Rattle.std.proofs.lemmas.Bool.{cases_Bool, cases_eq, cases_lt, lt-ltb, ltb-true, ltb-false, or_parts, false≢true, eqb-false, ne_eqb}
-use Rattle.std.proofs.lemmas.List.Sums.{sum_by-cons, length-filter}
+use Rattle.std.proofs.lemmas.List.Sums.{sum_by-cons, count_by-le-length, length-filter}
 use Rattle.engine_core.specs.Puzzle.{has_place}
 use Rattle.engine_core.specs.PlaceLaws.{has_place-here, AreDistinct, different-from, place-filter, distinct-filter}
 use Rattle.fields_core.specs.Count.{nonzeros}
 use Rattle.fields_core.specs.Light.{bulb}
 use Rattle.fields_core.proofs.BelowLemmas.{any-here, any-none}
 use Rattle.std.proofs.lemmas.Grind.{common_steps}
+
+pub filter-few : (test : ℕ → Bool) (xs : List ℕ) → length (filter test xs) ≤ length xs
+filter-few test xs = omega (arith, length-filter test xs, count_by-le-length test xs)
 
 -- 1 if it holds, and else 0
 abbrev pub num : Bool → ℕ

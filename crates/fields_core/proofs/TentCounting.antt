@@ -13,23 +13,18 @@ use Rattle.grid_core.specs.Candidates.{all_below}
 use Rattle.grid_core.proofs.RegionLemmas.{row-at, column-at}
 use Rattle.grid_core.proofs.CandidateLemmas.{all_below-at, any_below-here}
 use Rattle.engine_core.specs.Puzzle.{has_place}
-use Rattle.engine_core.specs.HouseIndex.{AreFew}
 use Rattle.engine_core.specs.PlaceLaws.{has_place-at, has_place-here, AreDistinct, place-filter, place-kept, distinct-filter}
 use Rattle.engine_core.specs.Filling.{Set, has_value}
 use Rattle.engine_core.specs.FillingLaws.{filling_from_test, has_value_below}
 use Rattle.grid_core.specs.Lines.{line_cells}
 use Rattle.gameid_core.specs.Puzzles.{Tents, IsTents, AreCounts}
 use Rattle.fields_core.specs.CountHouse.{exactly, one_at_most, one_at_least, IsCounting}
-use Rattle.fields_core.specs.CountLists.{AreListed}
-use Rattle.fields_core.specs.declared.count.list.CountList.{CountList}
 use Rattle.fields_core.specs.Tents.{tent_cells, tree, tent, are_near, touches, tents_in_column, tents_in_row, tree_right, touch_right, column_right, row_right, names_none_twice, leaves_none_out, trees_beside, can_be_paired, solves_tents}
 use Rattle.fields_core.specs.TentHouses.{column_of_tents, row_of_tents, free_beside, tree_house, square_house, tent_houses, is_barred}
-use Rattle.fields_core.proofs.CountListLemmas.{four-few, if-few, listed-few}
 use Rattle.fields_core.proofs.HouseLists.{row-long, column-long}
-use Rattle.fields_core.proofs.PlaceLists.{count-some, count-one}
+use Rattle.fields_core.proofs.PlaceLists.{count-some, count-one, filter-few}
 use Rattle.fields_core.proofs.StepLaws.{steps-distinct, steps-few}
 use Rattle.fields_core.proofs.LightHouseLaws.{IsMet, small-at, met-from, EachOf, each-one, each-append, each-below, each-if, row-distinct, column-distinct}
-use Rattle.fields_core.proofs.LightCounting.{filter-few}
 use Rattle.fields_core.proofs.BelowLemmas.{any-here}
 use Rattle.fields_core.proofs.TentBeside.{cell-below, cell-after, cell-in, beside-both, beside-in}
 use Rattle.std.proofs.lemmas.Grind.{common_steps}
@@ -246,13 +241,3 @@ tent-counting p is = record {
   where
     zero-from : (v : ℕ) → v < 2 → (v ≡ 1 → ⊥) → v ≡ 0
     zero-from v lt none = grind (arith, common_steps, cases_eq v 0)
-
--- ---- few houses
-pub tent-few : (p : Tents) (list : CountList) → IsTents p → AreListed list (tent_houses p) → AreFew list.list.closed
-unfolding tent_houses
-tent-few p list is are =
-    let counting = tent-counting p is in
-    let field = tent-field p is in
-    let few = four-few (column_of_tents p) (row_of_tents p) (tree_house p) (square_house p) p.size.w p.size.h (tent_cells p) (tent_cells p)
-    (λ x. omega arith) (λ y. omega arith) (λ c. if-few (tree p c) _) (λ c. if-few (ltb (c % p.size.w + 1) p.size.w && ltb (c / p.size.w + 1) p.size.h) _) in
-    listed-few list (tent_houses p) (tent_cells p) are counting.are_houses (omega (arith, few, field.w_few, field.h_few, counting.few_cells))

@@ -43,7 +43,7 @@ unfoldable pub use Rattle.engine_core.specs.Verdict.{outcome}
 pub use Rattle.engine_core.specs.Walk.{Mark, walk, walk_closed}
 pub use Rattle.engine_core.specs.declared.search.walk.Verdict.{Verdict}
 pub use Rattle.fields_core.proofs.HouseLists.{step-keep, step-none, step-skip}
-pub use Rattle.fields_core.proofs.LightCounting.{filter-few}
+pub use Rattle.fields_core.proofs.PlaceLists.{filter-few}
 pub use Rattle.fields_core.proofs.LightFaultLemmas.{lit-from, lit-parts}
 pub use Rattle.fields_core.proofs.LightHouseLaws.{clear-from, column-both, row-both, row-self, white-in}
 pub use Rattle.fields_core.proofs.LightRuleLemmas.{rule-from-test, test-from-rule}
@@ -122,7 +122,8 @@ unfoldable pub use Rattle.maker_core.specs.SoloFilling.{lines_of_groups, rearran
 pub use Rattle.maker_core.specs.SoloMaking.{IsSoloSize, NoneFound, solo_filling, solo_passes, solo_tries}
 pub use Rattle.maker_core.specs.SoloOrders.{AreOrders, IsLineOrder, IsOrder}
 pub use Rattle.maker_core.specs.SoloXFilling.{first_grid, flipped_by_draw, top_row_given, x_filling}
-pub use Rattle.maker_core.specs.Switch.{HasOther, cell_of}
+pub use Rattle.maker_core.specs.Switch.{HasOther, HasSwitch, IsRunEnd, IsSwitch, RunHasSwitch, cell_of, place_of, turned}
+unfoldable pub use Rattle.maker_core.specs.Switch.{run_begins}
 pub use Rattle.maker_core.specs.TentFilling.{is_free, may_have_tent, place_tent, take_cell, tents_pass}
 unfoldable pub use Rattle.maker_core.specs.TentFilling.{tents_after, free_cells_beside, no_tents, tent_filling, tents_puzzle_of}
 pub use Rattle.maker_core.specs.TentMaking.{tents_tries}

@@ -2,7 +2,12 @@
 use Rattle.maker_core.proofs.Common.{◌≡◌, ◌≢◌, ℕ, ◌<◌, Bool, true, false, List, length, refl, sym, ap, ◌∙◌, arith, not, Option, Some, None}
 use Rattle.maker_core.proofs.Common.{slice_index, slice_set, is_some, true≢false, get_or-set_same, IsExtent, Pattern, Puzzle, outcome-true, Outcome}
 use Rattle.maker_core.proofs.Common.{verdict_of, Solves, IsTrueOf, IsCheck, PatternFault, is_solution-from, line_rules-lawful, line_rules}
-use Rattle.maker_core.proofs.Common.{IsPatternSolution, is_one, has_one, HasOther}
+use Rattle.maker_core.proofs.Common.{IsPatternSolution, IsRunEnd, is_one, has_one, HasOther, RunHasSwitch, run_begins, cases_lt, common_steps, div-mul-add, mod-mul-add, inl, inr, ◌+◌, ◌*◌, ◌/◌, ◌%◌}
+use Rattle.std.specs.Prelude.{◌↔◌}
+use Rattle.std.proofs.lemmas.Bool.{cases_Bool}
+use Rattle.grid_core.specs.Extent.{Extent}
+use Rattle.pattern_core.specs.LineLaws.{line_of_solution}
+use Rattle.pattern_core.specs.declared.fault.PatternFault.TheVariants.{Column, Row}
 use Rattle.engine_core.specs.Verdict.{Outcome.NoGrid, Outcome.OneGrid, Outcome.TwoGrids, Outcome.OutOfBudget}
 use Rattle.maker_core.proofs.WrittenGrids.{grid_with, set_back}
 
@@ -14,6 +19,33 @@ undone g h back k i u was e is same f = f ∙ (ap (λ xs. slice_set xs i was) (s
 pub solved_by : (p : Pattern) (g : List ℕ) (fault : Option PatternFault) (told : Bool) → IsCheck p g fault → is_some fault ≡ not told → told ≡ true → IsPatternSolution p g
 solved_by p g None told good e on = good
 solved_by p g (Some fault) told wrong e on = absurd (true≢false (e ∙ ap not on))
+
+-- and none is told of a solution
+pub told_of : (p : Pattern) (g : List ℕ) (fault : Option PatternFault) (told : Bool) → IsCheck p g fault → is_some fault ≡ not told → IsPatternSolution p g → told ≡ true
+told_of p g None told good e solved = grind (arith, common_steps, cases_Bool told)
+told_of p g (Some (Column x)) told wrong e solved = absurd (wrong.1.wrong (line_of_solution p g x (omega (arith, wrong.0)) solved))
+told_of p g (Some (Row y)) told wrong e solved = absurd (wrong.1.wrong (line_of_solution p g (p.size.w + y) (omega (arith, wrong.0)) solved))
+
+pub told_by : (p : Pattern) (g h : List ℕ) (fault : Option PatternFault) (told : Bool) → IsCheck p g fault → is_some fault ≡ not told → g ≡ h → told ≡ true ↔ IsPatternSolution p h
+told_by p g h fault told check e same = (λ on. rw same at (solved_by p g fault told check e on), λ solved. told_of p g fault told check e (rw (sym same) at solved))
+
+-- a run has one end
+pub one_end : (size : Extent) (g : List ℕ) (x y end other : ℕ) → IsRunEnd size g x y end → IsRunEnd size g x y other → end ≡ other
+one_end size g x y end other a b = grind (arith, common_steps, cases_lt end other, cases_lt other end)
+
+-- no run that begins at one place more may be turned
+pub none_more : (p : Pattern) (g : List ℕ) (place : ℕ)
+    → ((x y : ℕ) → x < p.size.w → y * p.size.w + x < place → run_begins p.size g x y ≡ true → RunHasSwitch p g x y → ⊥)
+    → (run_begins p.size g (place % p.size.w) (place / p.size.w) ≡ true → RunHasSwitch p g (place % p.size.w) (place / p.size.w) → ⊥)
+    → (x y : ℕ) → x < p.size.w → y * p.size.w + x < place + 1 → run_begins p.size g x y ≡ true → RunHasSwitch p g x y → ⊥
+none_more p g place none here x y lt below begins has = elim (cases_lt (y * p.size.w + x) place) [
+  | inl earlier ↦ none x y lt earlier begins has
+  | inr last ↦
+      let e : y * p.size.w + x ≡ place = omega arith in
+      let row : place / p.size.w ≡ y = rw (sym e) (div-mul-add y p.size.w x lt) in
+      let column : place % p.size.w ≡ x = rw (sym e) (mod-mul-add y p.size.w x lt) in
+      here (rw (row, column) begins) (rw (row, column) has)
+]
 
 -- the last cell written has another number than before
 pub turned_other : (g before h : List ℕ) (i : ℕ) → i < length before → slice_index g i ≡ 1 → h ≡ slice_set before i 0 → h ≢ g
@@ -35,4 +67,4 @@ other_fails p g budget extent good other =
     (record { grid = good.grid; good = is_solution-from p g good }) (record { grid = other.1.grid; good = is_solution-from p other.0 other.1 }) other.2
 
 -- what the turning of four cells cites
-pub ruleset switch_laws = (grid_with, solved_by, turned_other)
+pub ruleset switch_laws = (grid_with, solved_by, told_by, turned_other)

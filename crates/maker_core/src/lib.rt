@@ -21,3 +21,4 @@ pub use pattern::maker::make_pattern;
 pub use pattern::switch::has_switch;
 pub use solo::maker::make_solo;
 pub use tents::maker::make_tents;
+pub use thinning::clued::Clued;

@@ -1,6 +1,6 @@
 -- Houses that decide alike, and tables of scopes.
-use Rattle.std.proofs.Common.{◌≡◌, ℕ, zero, suc, ◌<◌, Bool, List, [], ◌∷◌, map, length, get_or, slice_index, ◌+◌, ◌*◌, ◌≤◌, ◌^◌, refl, sym, ap, ◌∙◌, arith, ◌++◌, All, sum_by}
-use Rattle.solo_core.specs.Common.{mul-le, fun_ext, IsBoardOf, after, has_place, set_of_bits, IsBitsOf, get_or-map, length-map, map-append, Solo, IsSolo, solo_n}
+use Rattle.std.proofs.Common.{◌≡◌, ℕ, zero, suc, ◌<◌, Bool, List, [], ◌∷◌, map, length, get_or, slice_index, ◌+◌, ◌*◌, refl, sym, ap, ◌∙◌, arith, ◌++◌, All, sum_by}
+use Rattle.solo_core.specs.Common.{fun_ext, IsBoardOf, after, has_place, set_of_bits, IsBitsOf, get_or-map, length-map, map-append, Solo, IsSolo, solo_n}
 use Rattle.solo_core.specs.Common.{Decision, sets_at, kept_in, IsDecided, House, house_of, no_house, IsSound, visits_of, Row, houses_of, places_of, solo_cells}
 use Rattle.solo_core.specs.Common.{no_repeat, strikes_by_fillings}
 use Rattle.std.proofs.lemmas.List.Sums.{sum_by-cons}
@@ -8,7 +8,7 @@ use Rattle.grid_core.specs.Board.{Layout, has}
 use Rattle.grid_core.proofs.BoardLemmas.{has-within}
 use Rattle.engine_core.specs.HouseLaws.{visited-after}
 use Rattle.std.proofs.lemmas.Simd.{map-map}
-use Rattle.engine_core.specs.HouseIndex.{Table, scope_of, AreScopes, AreFew}
+use Rattle.engine_core.specs.HouseIndex.{Table, scope_of, AreScopes}
 use Rattle.solo_core.specs.HouseLaws.{lists_house, all_houses}
 use Rattle.solo_core.specs.RuleSets.{deciding, house_by, filled_houses, setting_of, rules_of, crossings_of}
 use Rattle.solo_core.specs.Work.{all_places, table_of}
@@ -60,14 +60,6 @@ bound-from-table values (house ∷ houses) =
     let b = sum_by-cons (visits_of values) house houses in
     let c = ap (λ n. n * values) a in
     omega arith
-
--- houses whose visits can be counted are few
-pub scopes-few : (values : ℕ) (houses : List House) → 1 ≤ values → sum_by (visits_of values) houses < 2 ^ 32 → AreFew (all_places houses)
-scopes-few values houses some few =
-    let all = bound-from-table values houses in
-    let total = sum_by length (all_places houses) in
-    let most = mul-le total 1 total values (omega arith) some in
-    record { few_houses = omega arith; few_places = omega arith }
 
 -- a visit: the sets are read, what is kept of them is decided, and the rest is struck
 pub left_by_visit : (settled : Bool) (p : Solo) (houses : List House) (h : ℕ) (old new : Layout) (places sets kept : List ℕ)

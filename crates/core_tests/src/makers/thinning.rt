@@ -1,9 +1,12 @@
 //! Clues taken away and put back, and searches of the thinner puzzles.
 
+ghost use Rattle.std.specs.Prelude.{◌<◌, IfOk, length};
+
 use engine_core::{Rules, Store, Verdict};
 use fields_core::LightRules;
 use gameid_core::{LightCell, LightPuzzle, SoloPuzzle, read_solo};
 use grid_core::Size;
+use maker_core::Clued;
 use solo_core::SoloHouses;
 use std::alloc::{AllocError, Global};
 use std::test::Fail;
@@ -95,14 +98,32 @@ fn goes_on_without_given(
     Ok(same && given(puzzle, place) == Some(number))
 }
 
-/// The rules of a black cell at the top left, with a 2 or without a number, and three white cells.
-fn corner(alloc: Global, numbered: bool) -> Result<LightRules, AllocError> {
+/// A black cell with a 2 at the top left, and three white cells.
+fn one_number(alloc: Global) -> Result<LightPuzzle, AllocError>
+    ensures { IfOk result (λ puzzle. 0 < length puzzle.cells) }
+{
     let mut puzzle = LightPuzzle::blank(alloc, Size::new(2, 2).unwrap())?;
     puzzle.set_cell(0, LightCell::Numbered(2));
-    if !numbered {
-        puzzle.set_cell(0, LightCell::Black);
+    Ok(puzzle)
+}
+
+/// The rules of that puzzle, or of what is left where the number is taken away.
+fn corner(alloc: Global, numbered: bool) -> Result<LightRules, AllocError> {
+    let mut puzzle = one_number(alloc)?;
+    if !numbered && puzzle.has_clue(0) {
+        puzzle.take_clue(0);
     }
     LightRules::new(alloc, &puzzle)
+}
+
+/// The number that is taken away, and what its cell is then.
+fn taken(alloc: Global) -> Result<Option<(u8, LightCell)>, AllocError> {
+    let mut puzzle = one_number(alloc)?;
+    if !puzzle.has_clue(0) {
+        return Ok(None);
+    }
+    let number = puzzle.take_clue(0);
+    Ok(Some((number, puzzle.cell(0))))
 }
 
 /// Whether a search goes as in a new store where the number of the corner is taken away after a search.
@@ -150,7 +171,8 @@ fn verdicts(alloc: Global, budget: u64) -> Result<[Option<Verdict>; 2], AllocErr
 }
 
 #[test]
-fn a_black_cell_without_its_number_has_more_solutions(rt: HostRuntime) -> Result<(), Fail> {
+fn a_number_that_is_taken_away_leaves_a_black_cell(rt: HostRuntime) -> Result<(), Fail> {
+    assert!(rt; taken(rt.alloc())? == Some((2, LightCell::Black)));
     let told = verdicts(rt.alloc(), 2)?;
     assert_eq!(rt; told, [Some(Verdict::One), Some(Verdict::Several)]);
     Ok(())

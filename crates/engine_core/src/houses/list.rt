@@ -1,15 +1,17 @@
 //! Houses as lists of places, one after another.
 #![tactic(auto, using(crate::proofs::LawSets::house_list_laws))]
 
-ghost use Rattle.std.specs.Prelude.{◌≡◌, ◌<◌, ◌≤◌, ◌^◌, ◌==◌, not, ◌++◌, ◌∷◌, [], filter, IfOk, OnOk, length, slice_index, slice_index_or, sum_by};
+ghost use Rattle.std.specs.Prelude.{◌≡◌, ◌-◌, ◌<◌, ◌≤◌, ◌^◌, ◌==◌, not, ◌++◌, ◌∷◌, [], filter, IfOk, OnOk, length, slice_index, slice_index_or, sum_by};
 ghost use Rattle.std.specs.List.{between, concat};
 ghost use Rattle.grid_core.specs.Pieces.{last_end, pieces, AreEnds};
+ghost use Rattle.engine_core.specs.HouseList.{FitsPlaces, FitsLists, IsGrown};
 
 use std::alloc::{AllocError, Global};
 use std::marker::Model;
 
 /// Lists of places: those that are closed, and the begun one. All their places stand in one list, in four bytes each.
-/// Where each closed list ends in it stands in another.
+/// Where each closed list ends in it stands in another. Fewer than 2^20 lists are closed, and each list has fewer than
+/// 2^12 places, so all have fewer than 2^32 together.
 #[derive(Drop)]
 pub struct HouseList {
     places: Vec<u32>,
@@ -17,15 +19,13 @@ pub struct HouseList {
 }
 
 impl Model for HouseList {
-    ghost use Rattle.std.specs.Prelude.{length};
-    ghost use Rattle.grid_core.specs.Pieces.{AreEnds};
-    ghost use Rattle.engine_core.specs.HouseList.{Listed, listed};
+    ghost use Rattle.engine_core.specs.HouseList.{Listed, listed, IsListed};
 
     ghost Value = { Listed };
 
     ghost view = { λ l. listed l.places.items l.ends.items };
 
-    ghost invariant = { λ l. AreEnds (length l.places.items) 0 l.ends.items };
+    ghost invariant = { λ l. IsListed l.places.items l.ends.items };
 }
 
 impl HouseList {
@@ -49,7 +49,8 @@ impl HouseList {
     ///
     /// When memory was refused.
     pub fn push(&mut self, place: usize) -> Result<(), AllocError>
-        requires { place < 2 ^ 32 }
+        requires place { place < 2 ^ 32 }
+        requires fits { FitsPlaces self.old 1 }
         ensures { OnOk result (self.new
             ≡ record self.old { begun = self.old.begun ++ place ∷ [] }) }
     {
@@ -63,7 +64,8 @@ impl HouseList {
     ///
     /// When memory was refused.
     pub fn push_list(&mut self, house: usize) -> Result<(), AllocError>
-        requires { house < length self.old.closed }
+        requires house_in { house < length self.old.closed }
+        requires fits { FitsPlaces self.old (length (slice_index_or self.old.closed house [])) }
         ensures { OnOk result (self.new ≡ record self.old {
           begun = self.old.begun ++ slice_index_or self.old.closed house [];
         }) }
@@ -80,7 +82,8 @@ impl HouseList {
     ///
     /// When memory was refused.
     pub fn push_others(&mut self, house: usize, but: usize) -> Result<(), AllocError>
-        requires { house < length self.old.closed }
+        requires house_in { house < length self.old.closed }
+        requires fits { FitsPlaces self.old (length (slice_index_or self.old.closed house [])) }
         ensures { OnOk result (self.new ≡ record self.old {
           begun = self.old.begun
               ++ filter (λ d. not (d == but)) (slice_index_or self.old.closed house []);
@@ -97,6 +100,7 @@ impl HouseList {
     ///
     /// When memory was refused.
     pub fn close(&mut self) -> Result<(), AllocError>
+        requires { FitsLists self.old 1 }
         ensures { OnOk result (self.new
             ≡ record { closed = self.old.closed ++ self.old.begun ∷ []; begun = [] }) }
     {
@@ -107,7 +111,8 @@ impl HouseList {
 
     /// How many lists are closed.
     pub fn len(&self) -> usize
-        ensures { result ≡ length self.now.closed }
+        ensures len { result ≡ length self.now.closed }
+        ensures few { result < 2 ^ 32 }
     {
         let ends: &[usize] = &self.ends;
         ends.len()
@@ -115,7 +120,8 @@ impl HouseList {
 
     /// How many places the begun list has.
     pub fn begun(&self) -> usize
-        ensures { result ≡ length self.now.begun }
+        ensures begun { result ≡ length self.now.begun }
+        ensures few { result < 2 ^ 32 }
     {
         let places: &[u32] = &self.places;
         places.len() - last(&self.ends)
@@ -123,7 +129,8 @@ impl HouseList {
 
     /// How many places all closed lists have together.
     pub fn total(&self) -> usize
-        ensures { result ≡ sum_by length self.now.closed }
+        ensures total { result ≡ sum_by length self.now.closed }
+        ensures few { result < 2 ^ 32 }
     {
         last(&self.ends)
     }
@@ -150,7 +157,7 @@ fn copy_others(places: &mut Vec<u32>, from: usize, end: usize, but: usize) -> Re
     requires within { end ≤ length places.old.items }
     ensures copied { OnOk result (places.new.items ≡ places.old.items
         ++ filter (λ d. not (d == but)) (between from end places.old.items)) }
-    ensures kept { length places.old.items ≤ length places.new.items }
+    ensures kept { IsGrown places.old.items (end - from) places.new.items }
 {
     for k in from..end {
         let place = places[k];

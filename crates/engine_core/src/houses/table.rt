@@ -5,7 +5,7 @@ ghost use Rattle.std.specs.Prelude.{◌≡◌, ℕ, suc, ◌+◌, ◌<◌, ◌�
 ghost use Rattle.grid_core.specs.Candidates.{sum_below};
 ghost use Rattle.engine_core.specs.Puzzle.{has_place, IsNext, IsKth, longest};
 ghost use Rattle.engine_core.specs.House.{AreDifferent};
-ghost use Rattle.engine_core.specs.HouseIndex.{AreScopes, AreFew, scope_of, start_at, AreHousesAt, IsIndex, IsRoom, IsPut, IsFirstFrom, AreAt, number_in, IsUnfilled, houses_from, sum_to};
+ghost use Rattle.engine_core.specs.HouseIndex.{AreScopes, scope_of, start_at, AreHousesAt, IsIndex, IsRoom, IsPut, IsFirstFrom, AreAt, number_in, IsUnfilled, houses_from, sum_to};
 
 use crate::houses::list::{HouseList, part};
 use std::alloc::{AllocError, Global};
@@ -84,7 +84,6 @@ fn put_house(starts: &mut [u32], houses: &mut [u32], house: u32, places: &[u32])
 /// Puts all houses, from the last on, each before those that stand already at its places.
 fn put_houses(starts: &mut [u32], houses: &mut [u32], list: &HouseList)
     requires scopes { AreScopes (length starts.old) list.now.closed }
-    requires few { length list.now.closed < 2 ^ 32 }
     requires none { IsUnfilled list.now.closed starts.old houses.old }
     ensures { IsIndex (length starts.old) list.now.closed 0 starts.new houses.new }
 {
@@ -131,14 +130,13 @@ pub struct Houses {
 
 impl Model for Houses {
     ghost use Rattle.std.specs.Prelude.{◌+◌};
-    ghost use Rattle.engine_core.specs.HouseIndex.{Table, AreFew, IsIndex};
+    ghost use Rattle.engine_core.specs.HouseIndex.{Table, IsIndex};
 
     ghost Value = { Table };
 
     ghost view = { λ t. record { cells = t.cells; scopes = t.list.closed } };
 
-    ghost invariant = { λ t. IsIndex (t.cells + 1) t.list.closed 0 t.starts.items t.houses.items
-        × AreFew t.list.closed };
+    ghost invariant = { λ t. IsIndex (t.cells + 1) t.list.closed 0 t.starts.items t.houses.items };
 }
 
 impl Houses {
@@ -150,7 +148,6 @@ impl Houses {
     pub fn of(alloc: Global, cells: usize, list: HouseList) -> Result<Houses, AllocError>
         requires cells { cells < 2 ^ 32 }
         requires scopes { AreScopes cells list.closed }
-        requires few { AreFew list.closed }
         ensures { IfOk result (λ table. table ≡ record { cells = cells; scopes = list.closed }) }
     {
         let mut starts = vec![in alloc; 0u32; cells + 1]?;

@@ -1,6 +1,7 @@
 //! Count houses one after another, before they are a table.
 
 ghost use Rattle.std.specs.Prelude.{◌≡◌, ◌<◌, ◌^◌, ◌==◌, not, ◌∷◌, [], filter, IfOk, OnOk, length, slice_index_or};
+ghost use Rattle.engine_core.specs.HouseList.{FitsPlaces, FitsLists};
 ghost use Rattle.fields_core.specs.CountLists.{IsBegun, IsHouseClosed};
 
 use crate::count::run::Run;
@@ -35,7 +36,8 @@ impl CountList {
 
     /// Adds a cell to the house that is begun.
     pub(crate) fn push(&mut self, place: usize) -> Result<(), AllocError>
-        requires { place < 2 ^ 32 }
+        requires place { place < 2 ^ 32 }
+        requires fits { FitsPlaces self.old.list 1 }
         ensures { OnOk result (IsBegun self.old self.new (place ∷ [])) }
     {
         self.list.push(place)?;
@@ -44,6 +46,7 @@ impl CountList {
 
     /// Adds the cells of a run to the house that is begun.
     pub(crate) fn push_run(&mut self, run: &Run) -> Result<(), AllocError>
+        requires { FitsPlaces self.old.list (length run.now) }
         ensures { OnOk result (IsBegun self.old self.new run.now) }
     {
         for k in 0..run.len() {
@@ -54,7 +57,9 @@ impl CountList {
 
     /// Adds the cells of a house that is ended to the house that is begun.
     pub(crate) fn push_house(&mut self, house: usize) -> Result<(), AllocError>
-        requires { house < length self.old.list.closed }
+        requires house_in { house < length self.old.list.closed }
+        requires fits { FitsPlaces self.old.list
+            (length (slice_index_or self.old.list.closed house [])) }
         ensures { OnOk result (IsBegun self.old self.new
             (slice_index_or self.old.list.closed house [])) }
     {
@@ -64,7 +69,9 @@ impl CountList {
 
     /// Adds the cells of a house that is ended to the house that is begun, but for the cell at `but`.
     pub(crate) fn push_others(&mut self, house: usize, but: usize) -> Result<(), AllocError>
-        requires { house < length self.old.list.closed }
+        requires house_in { house < length self.old.list.closed }
+        requires fits { FitsPlaces self.old.list
+            (length (slice_index_or self.old.list.closed house [])) }
         ensures { OnOk result (IsBegun self.old self.new
             (filter (λ d. not (d == but)) (slice_index_or self.old.list.closed house []))) }
     {
@@ -74,13 +81,15 @@ impl CountList {
 
     /// How many houses are ended.
     pub(crate) fn len(&self) -> usize
-        ensures { result ≡ length self.now.list.closed }
+        ensures len { result ≡ length self.now.list.closed }
+        ensures few { result < 2 ^ 32 }
     {
         self.list.len()
     }
 
     /// Ends the house that is begun: it holds at least `least` and at most `most` ones.
     pub(crate) fn close(&mut self, least: u32, most: u32) -> Result<(), AllocError>
+        requires { FitsLists self.old.list 1 }
         ensures { OnOk result (IsHouseClosed self.old self.new least most) }
     {
         self.list.close()?;
@@ -90,7 +99,7 @@ impl CountList {
 
     /// Ends the house that is begun: it holds a one, and each of its cells may.
     pub(crate) fn close_some(&mut self) -> Result<(), AllocError>
-        requires { length self.old.list.begun < 2 ^ 32 }
+        requires { FitsLists self.old.list 1 }
         ensures { OnOk result (IsHouseClosed self.old self.new 1 (length self.old.list.begun)) }
     {
         let most = self.list.begun() as u32;

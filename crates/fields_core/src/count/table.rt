@@ -6,7 +6,6 @@ ghost use Rattle.grid_core.specs.Board.{has, cells_of, SameShape};
 ghost use Rattle.grid_core.specs.Candidates.{Candidates};
 ghost use Rattle.engine_core.specs.Puzzle.{IsNext, IsKth, has_place};
 ghost use Rattle.engine_core.specs.Closing.{HasStruck};
-ghost use Rattle.engine_core.specs.HouseIndex.{AreFew};
 ghost use Rattle.engine_core.specs.Sets.{IsChange};
 ghost use Rattle.engine_core.specs.Keeping.{AreSetsOf, IsKept};
 ghost use Rattle.engine_core.specs.Waiting.{words_of, is_waiting, AreCalled};
@@ -51,7 +50,6 @@ impl CountTable {
         requires cells { cells < 2 ^ 32 }
         requires as_many { length list.bounds.items ≡ length list.list.closed }
         requires houses { AreHouses cells (bounded list.list.closed list.bounds.items) }
-        requires few { AreFew list.list.closed }
         ensures { IfOk result (λ table. table ≡
             record { cells = cells; houses = bounded list.list.closed list.bounds.items }) }
     {

@@ -3,6 +3,7 @@
 
 ghost use Rattle.std.specs.Prelude.{◌≡◌, ◌%◌, ◌<◌, [], IfOk, OnOk, filter};
 ghost use Rattle.grid_core.specs.Regions.{beside as beside_places};
+ghost use Rattle.engine_core.specs.HouseList.{FitsPlaces, FitsLists};
 ghost use Rattle.fields_core.specs.CountHouse.{houses_below};
 ghost use Rattle.fields_core.specs.CountLists.{IsBegun, IsAdded, AreListed};
 ghost use Rattle.fields_core.specs.Light.{light_cells, white};
@@ -20,7 +21,8 @@ use std::alloc::{AllocError, Global};
 /// Adds the white cells beside the cell to the house that is begun.
 #[tactic(auto, using(crate::proofs::LawSets::light_houses_laws), unfolding(grid_core::specs::Regions::steps))]
 fn push_beside(houses: &mut CountList, puzzle: &LightPuzzle, place: usize) -> Result<(), AllocError>
-    requires { place < light_cells puzzle.now }
+    requires place_in { place < light_cells puzzle.now }
+    requires fits { FitsPlaces houses.old.list 4 }
     ensures { OnOk result (IsBegun houses.old houses.new
         (filter (white puzzle.now) (beside_places puzzle.now.size place))) }
 {
@@ -41,6 +43,7 @@ fn push_beside(houses: &mut CountList, puzzle: &LightPuzzle, place: usize) -> Re
 fn push_number(houses: &mut CountList, puzzle: &LightPuzzle, place: usize) -> Result<(), AllocError>
     requires place_in { place < light_cells puzzle.now }
     requires none_begun { houses.old.list.begun ≡ [] }
+    requires fits { FitsLists houses.old.list 1 }
     ensures { OnOk result (IsAdded houses.old houses.new (number_house puzzle.now place)) }
 {
     let _size = puzzle.size();
@@ -58,7 +61,8 @@ fn push_number(houses: &mut CountList, puzzle: &LightPuzzle, place: usize) -> Re
 /// Adds the houses of the numbers, by place.
 #[tactic(auto, using(crate::proofs::LawSets::house_list_laws))]
 fn push_numbers(houses: &mut CountList, puzzle: &LightPuzzle) -> Result<(), AllocError>
-    requires { houses.old.list.begun ≡ [] }
+    requires none_begun { houses.old.list.begun ≡ [] }
+    requires fits { FitsLists houses.old.list (light_cells puzzle.now) }
     ensures { OnOk result (IsAdded houses.old houses.new
         (houses_below (number_house puzzle.now) (light_cells puzzle.now))) }
 {
@@ -78,8 +82,10 @@ fn push_row(
     requires place_in { place < light_cells puzzle.now }
     requires column { place % puzzle.now.size.w ≡ x }
     requires none_begun { houses.old.list.begun ≡ [] }
+    requires fits { FitsLists houses.old.list 1 }
     ensures { OnOk result (IsAdded houses.old houses.new (row_house puzzle.now place)) }
 {
+    let _size = puzzle.size();
     if !begins_in_row(puzzle, x, place) {
         return Ok(());
     }
@@ -91,7 +97,8 @@ fn push_row(
 /// Adds the houses of the runs of rows, by the places where they begin.
 #[tactic(auto, using(crate::proofs::LawSets::house_list_laws))]
 fn push_rows(houses: &mut CountList, puzzle: &LightPuzzle) -> Result<(), AllocError>
-    requires { houses.old.list.begun ≡ [] }
+    requires none_begun { houses.old.list.begun ≡ [] }
+    requires fits { FitsLists houses.old.list (light_cells puzzle.now) }
     ensures { OnOk result (IsAdded houses.old houses.new
         (houses_below (row_house puzzle.now) (light_cells puzzle.now))) }
 {
@@ -107,8 +114,10 @@ fn push_rows(houses: &mut CountList, puzzle: &LightPuzzle) -> Result<(), AllocEr
 fn push_column(houses: &mut CountList, puzzle: &LightPuzzle, place: usize) -> Result<(), AllocError>
     requires place_in { place < light_cells puzzle.now }
     requires none_begun { houses.old.list.begun ≡ [] }
+    requires fits { FitsLists houses.old.list 1 }
     ensures { OnOk result (IsAdded houses.old houses.new (column_house puzzle.now place)) }
 {
+    let _size = puzzle.size();
     if !begins_in_column(puzzle, place) {
         return Ok(());
     }
@@ -120,7 +129,8 @@ fn push_column(houses: &mut CountList, puzzle: &LightPuzzle, place: usize) -> Re
 /// Adds the houses of the runs of columns, by the places where they begin.
 #[tactic(auto, using(crate::proofs::LawSets::house_list_laws))]
 fn push_columns(houses: &mut CountList, puzzle: &LightPuzzle) -> Result<(), AllocError>
-    requires { houses.old.list.begun ≡ [] }
+    requires none_begun { houses.old.list.begun ≡ [] }
+    requires fits { FitsLists houses.old.list (light_cells puzzle.now) }
     ensures { OnOk result (IsAdded houses.old houses.new
         (houses_below (column_house puzzle.now) (light_cells puzzle.now))) }
 {

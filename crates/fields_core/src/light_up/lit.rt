@@ -2,6 +2,7 @@
 #![tactic(auto, using(crate::proofs::LawSets::light_lit_laws))]
 
 ghost use Rattle.std.specs.Prelude.{◌≡◌, ℕ, ◌+◌, ◌%◌, ◌<◌, ◌^◌, ◌==◌, true, not, List, [], ◌∷◌, ◌++◌, OnOk, filter, length, slice_index_or};
+ghost use Rattle.engine_core.specs.HouseList.{FitsLists};
 ghost use Rattle.fields_core.specs.CountHouse.{houses_below, one_at_least};
 ghost use Rattle.fields_core.specs.CountLists.{IsAdded};
 ghost use Rattle.fields_core.specs.Light.{light_cells, white};
@@ -79,8 +80,9 @@ fn push_lit(
     requires row_in { row < length houses.old.list.closed }
     requires column_in { column < length houses.old.list.closed }
     requires few { length (slice_index_or houses.old.list.closed row [])
-        + length (slice_index_or houses.old.list.closed column []) < 2 ^ 32 }
+        + length (slice_index_or houses.old.list.closed column []) < 2 ^ 12 }
     requires none_begun { houses.old.list.begun ≡ [] }
+    requires fits { FitsLists houses.old.list 1 }
     ensures { OnOk result (IsAdded houses.old houses.new (one_at_least
         (slice_index_or houses.old.list.closed row []
         ++ filter (λ d. not (d == place)) (slice_index_or houses.old.list.closed column [])) ∷ [])) }
@@ -100,6 +102,7 @@ pub(crate) fn push_lits(
     columns: usize,
 ) -> Result<(), AllocError>
     requires none_begun { houses.old.list.begun ≡ [] }
+    requires fits { FitsLists houses.old.list (light_cells puzzle.now) }
     requires rows { AreRowsListed puzzle.now houses.old.list.closed rows }
     requires columns { AreColumnsListed puzzle.now houses.old.list.closed columns }
     requires rows_few { rows < 2 ^ 32 }

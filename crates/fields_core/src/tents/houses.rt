@@ -2,6 +2,7 @@
 #![tactic(auto, using(crate::proofs::LawSets::tent_houses_laws))]
 
 ghost use Rattle.std.specs.Prelude.{◌≡◌, ◌+◌, ◌<◌, ◌∷◌, [], IfOk, OnOk};
+ghost use Rattle.engine_core.specs.HouseList.{FitsPlaces, FitsLists};
 ghost use Rattle.fields_core.specs.CountLists.{IsBegun, IsAdded, AreListed};
 ghost use Rattle.fields_core.specs.Tents.{tent_cells};
 ghost use Rattle.fields_core.specs.TentHouses.{column_of_tents, row_of_tents, free_beside, tree_house, square_house, tent_houses};
@@ -17,7 +18,8 @@ use std::alloc::{AllocError, Global};
 /// Adds the cells beside the cell that have no tree to the house that is begun.
 #[tactic(auto, using(crate::proofs::LawSets::tent_houses_laws), unfolding(grid_core::specs::Regions::steps))]
 fn push_beside(houses: &mut CountList, puzzle: &TentsPuzzle, place: usize) -> Result<(), AllocError>
-    requires { place < tent_cells puzzle.now }
+    requires place_in { place < tent_cells puzzle.now }
+    requires fits { FitsPlaces houses.old.list 4 }
     ensures { OnOk result (IsBegun houses.old houses.new (free_beside puzzle.now place)) }
 {
     let size = puzzle.size();
@@ -39,7 +41,8 @@ fn push_square_cells(
     puzzle: &TentsPuzzle,
     place: usize,
 ) -> Result<(), AllocError>
-    requires { place < tent_cells puzzle.now }
+    requires place_in { place < tent_cells puzzle.now }
+    requires fits { FitsPlaces houses.old.list 4 }
     ensures { OnOk result (IsBegun houses.old houses.new
         (place ∷ (place + 1)
         ∷ (place + puzzle.now.size.w) ∷ (place + puzzle.now.size.w + 1) ∷ [])) }
@@ -57,6 +60,7 @@ fn push_square_cells(
 fn push_column(houses: &mut CountList, puzzle: &TentsPuzzle, x: usize) -> Result<(), AllocError>
     requires x_in { x < puzzle.now.size.w }
     requires none_begun { houses.old.list.begun ≡ [] }
+    requires fits { FitsLists houses.old.list 1 }
     ensures { OnOk result (IsAdded houses.old houses.new (column_of_tents puzzle.now x)) }
 {
     houses.push_run(&Run::column(puzzle.size(), x))?;
@@ -69,6 +73,7 @@ fn push_column(houses: &mut CountList, puzzle: &TentsPuzzle, x: usize) -> Result
 fn push_row(houses: &mut CountList, puzzle: &TentsPuzzle, y: usize) -> Result<(), AllocError>
     requires y_in { y < puzzle.now.size.h }
     requires none_begun { houses.old.list.begun ≡ [] }
+    requires fits { FitsLists houses.old.list 1 }
     ensures { OnOk result (IsAdded houses.old houses.new (row_of_tents puzzle.now y)) }
 {
     houses.push_run(&Run::row(puzzle.size(), y))?;
@@ -81,6 +86,7 @@ fn push_row(houses: &mut CountList, puzzle: &TentsPuzzle, y: usize) -> Result<()
 fn push_tree(houses: &mut CountList, puzzle: &TentsPuzzle, place: usize) -> Result<(), AllocError>
     requires place_in { place < tent_cells puzzle.now }
     requires none_begun { houses.old.list.begun ≡ [] }
+    requires fits { FitsLists houses.old.list 1 }
     ensures { OnOk result (IsAdded houses.old houses.new (tree_house puzzle.now place)) }
 {
     if !is_tree(puzzle, place) {
@@ -95,6 +101,7 @@ fn push_tree(houses: &mut CountList, puzzle: &TentsPuzzle, place: usize) -> Resu
 fn push_square(houses: &mut CountList, puzzle: &TentsPuzzle, place: usize) -> Result<(), AllocError>
     requires place_in { place < tent_cells puzzle.now }
     requires none_begun { houses.old.list.begun ≡ [] }
+    requires fits { FitsLists houses.old.list 1 }
     ensures { OnOk result (IsAdded houses.old houses.new (square_house puzzle.now place)) }
 {
     if column_in(puzzle.size(), place) + 1 >= columns(puzzle) {
@@ -128,6 +135,7 @@ fn sizes(puzzle: &TentsPuzzle) -> (usize, usize) {
 pub(crate) fn houses_of_tents(alloc: Global, puzzle: &TentsPuzzle) -> Result<CountList, AllocError>
     ensures { IfOk result (λ list. AreListed list (tent_houses puzzle.now)) }
 {
+    let _cells = cells(puzzle);
     let (count, room) = sizes(puzzle);
     let mut houses = CountList::new(alloc, count, room)?;
     for x in 0..columns(puzzle) {

@@ -1,12 +1,12 @@
 //! A second solution close to a grid of Pattern, by four cells. In one row the first cell of a black run turns white and
 //! the white cell after the run turns black. In another row the same two columns turn the other way.
 //!
-//! Most grids whose search would give up have one, and it is found in a thousandth of the time. No promise is made that
-//! each is found: it saves searches, and no more.
+//! Most grids whose search would give up have one, and it is found in a thousandth of the time.
 
-ghost use Rattle.std.specs.Prelude.{◌≡◌, ◌*◌, ◌<◌, true, length, slice_index, slice_set};
+ghost use Rattle.std.specs.Prelude.{◌≡◌, ◌↔◌, ◌*◌, ◌<◌, true, length, slice_index, slice_set};
 ghost use Rattle.grid_core.specs.Grids.{IsGrid};
-ghost use Rattle.maker_core.specs.Switch.{HasOther, cell_of, run_begins, IsRunEnd};
+ghost use Rattle.pattern_core.specs.Solutions.{IsPatternSolution};
+ghost use Rattle.maker_core.specs.Switch.{HasOther, HasSwitch, RunHasSwitch, cell_of, run_begins, turned, IsRunEnd};
 
 use gameid_core::PatternPuzzle;
 use grid_core::{Grid, Size, row_place};
@@ -42,6 +42,8 @@ fn is_solved_turned(puzzle: &PatternPuzzle, grid: &mut Grid, corners: Corners) -
     requires other_white_in { corners.other_white < puzzle.now.size.w * puzzle.now.size.h }
     requires black { slice_index grid.old corners.black ≡ 1 }
     ensures same { grid.new ≡ grid.old }
+    ensures solved { result ≡ true ↔ IsPatternSolution puzzle.now (turned grid.old
+        corners.white corners.other_white corners.other_black corners.black) }
     ensures other { result ≡ true → HasOther puzzle.now grid.old }
 {
     let first = replace(grid, corners.white, 1);
@@ -98,6 +100,7 @@ fn run_has_switch(puzzle: &PatternPuzzle, grid: &mut Grid, x: usize, y: usize) -
     requires x_in { x < puzzle.now.size.w }
     requires y_in { y < puzzle.now.size.h }
     ensures same { grid.new ≡ grid.old }
+    ensures switch { result ≡ true ↔ RunHasSwitch puzzle.now grid.old x y }
     ensures other { result ≡ true → HasOther puzzle.now grid.old }
 {
     let size = puzzle.size();
@@ -124,10 +127,11 @@ fn run_has_switch(puzzle: &PatternPuzzle, grid: &mut Grid, x: usize, y: usize) -
 
 /// Whether some run may be turned, so that the puzzle has another solution than the grid. The grid is left as it was.
 ///
-/// A `false` promises nothing: the puzzle may have another solution that no run shows.
+/// If none may, the puzzle may still have another solution that no run shows.
 pub fn has_switch(puzzle: &PatternPuzzle, grid: &mut Grid) -> bool
     requires { IsGrid (puzzle.now.size.w * puzzle.now.size.h) 2 grid.old }
     ensures same { grid.new ≡ grid.old }
+    ensures switch { result ≡ true ↔ HasSwitch puzzle.now grid.old }
     ensures other { result ≡ true → HasOther puzzle.now grid.old }
 {
     let size = puzzle.size();

@@ -7,7 +7,7 @@ ghost use Rattle.maker_core.specs.Thinning.{CluedGame, IsGame, has_clue};
 use std::alloc::{AllocError, Global};
 
 /// A puzzle with clues in cells, which can be taken away and put back.
-pub(crate) trait Clued: Drop {
+pub trait Clued: Drop {
     /// What a search goes by. That these are rules is asked where one is made.
     type Search: Drop;
 

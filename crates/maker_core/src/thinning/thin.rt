@@ -83,6 +83,18 @@ fn shuffled_clues<P: Clued, G: Rng>(
     Ok(order)
 }
 
+/// The memory that a search of the puzzle needs.
+fn store_for<P: Clued>(alloc: Global, puzzle: &P) -> Result<Store<P::Search>, AllocError>
+where
+    P::Search: Rules,
+    requires { (rules : P.Search) → P.Search.puzzle rules ≡ P.meaning rules }
+    ensures { IfOk result
+        (λ store. FitsIn (needs_of (P.game.rules puzzle.now)) store.made) }
+{
+    let rules = puzzle.search(alloc)?;
+    Store::new(alloc, &rules)
+}
+
 /// Tries the clues in this order. Gives for each cell why its clue is left, if it is.
 fn try_clues<P: Clued>(
     alloc: Global,
@@ -98,8 +110,7 @@ where
     ensures { IfOk result
         (λ whys. IsThinning P.game budget puzzle.old puzzle.new whys.items []) }
 {
-    let rules = puzzle.search(alloc)?;
-    let mut store = Store::new(alloc, &rules)?;
+    let mut store = store_for(alloc, puzzle)?;
     let mut whys = vec![in alloc; None; puzzle.cells()]?;
     for &place in order {
         whys[place] = try_clue(alloc, puzzle, &mut store, place, budget)?;

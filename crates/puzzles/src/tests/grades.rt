@@ -66,7 +66,7 @@ fn is_cut(alloc: Global, words: &[String], fails_at: u32, pieces: u32, whole: &[
     whole.starts_with(seen.taken.as_slice()) && is_told && is_whole == (fails_at > pieces)
 }
 
-/// A trace of that ID goes out in pieces.
+/// A trace of that ID goes out in pieces. A writer that would fail at one of five later puts takes it whole.
 #[test]
 fn a_long_trace_goes_out_in_pieces(rt: HostRuntime) -> Result<(), Fail> {
     let words = long_words(rt.alloc())?;
@@ -74,7 +74,7 @@ fn a_long_trace_goes_out_in_pieces(rt: HostRuntime) -> Result<(), Fail> {
     let pieces = whole.did.writes;
     assert_eq!(rt; whole.did.status, 0);
     assert!(rt; pieces > 1);
-    for fails_at in 1..pieces.saturating_add(2) {
+    for fails_at in 1..pieces.saturating_add(6) {
         let is_cut = is_cut(rt.alloc(), &words, fails_at, pieces, whole.taken.as_slice());
         assert!(rt; is_cut, "at {fails_at} of {pieces}");
     }

@@ -2,6 +2,7 @@
 #![tactic(auto, using(crate::proofs::LawSets::crossings_laws))]
 
 ghost use Rattle.std.specs.Prelude.{◌≡◌, ◌<◌, [], OnOk, length};
+ghost use Rattle.engine_core.specs.HouseList.{FitsLists, FitsPlaces};
 ghost use Rattle.solo_core.specs.Common.{solo_n, IsHouseOf};
 ghost use Rattle.solo_core.specs.RuleSets.{crossing_of, crossings_of, rest_of_line, AreShared};
 ghost use Rattle.solo_core.specs.Work.{all_places, HasAdded, HasBegun, HasClosed, IsKeptBy};
@@ -25,6 +26,7 @@ fn push_rest(
 ) -> Result<(), AllocError>
     requires block_in { block < solo_n puzzle.now }
     requires line_of { IsHouseOf puzzle.now line }
+    requires fits { FitsPlaces list.old (solo_n puzzle.now) }
     ensures { OnOk result (HasBegun (rest_of_line puzzle.now block line) list.old list.new) }
 {
     for k in 0..usize::from(puzzle.n()) {
@@ -47,8 +49,10 @@ fn push_crossing(
     requires block_in { block < solo_n puzzle.now }
     requires line_of { IsHouseOf puzzle.now line }
     requires closed { list.old.begun ≡ [] }
+    requires fits { FitsLists list.old 1 }
     ensures { OnOk result (HasClosed (crossing_of puzzle.now block line).places list.old list.new) }
 {
+    let _n = puzzle.n();
     push_places(list, puzzle, SoloHouse::Block(block))?;
     push_rest(list, puzzle, block, line)?;
     list.close()?;
@@ -58,6 +62,7 @@ fn push_crossing(
 /// Adds each crossing.
 pub(crate) fn push_crossings(list: &mut HouseList, puzzle: &SoloPuzzle) -> Result<(), AllocError>
     requires closed { list.old.begun ≡ [] }
+    requires fits { FitsLists list.old (length (crossings_of puzzle.now)) }
     ensures { OnOk result (HasAdded (all_places (crossings_of puzzle.now)) list.old list.new) }
 {
     for number in 0..crossings(puzzle) {

@@ -2,6 +2,7 @@
 #![tactic(auto, using(crate::proofs::HouseLemmas::house_laws))]
 
 ghost use Rattle.std.specs.Prelude.{◌≡◌, ◌<◌, ◌≤◌, [], OnOk, length, slice_index, slice_index_or};
+ghost use Rattle.engine_core.specs.HouseList.{FitsLists};
 ghost use Rattle.solo_core.specs.Common.{IsSolo, solo_n, SoloHouse, solo_cells, houses_of};
 ghost use Rattle.solo_core.specs.Common.{house_places, IsHouseOf, lies_in, places_of};
 ghost use Rattle.solo_core.specs.Work.{HasAdded, Begins};
@@ -103,6 +104,7 @@ pub(crate) fn push_places(
 /// Adds the places of each house.
 pub(crate) fn push_houses(list: &mut HouseList, puzzle: &SoloPuzzle) -> Result<(), AllocError>
     requires closed { list.old.begun ≡ [] }
+    requires fits { FitsLists list.old (length (houses_of puzzle.now)) }
     ensures { OnOk result
         (HasAdded (house_places puzzle.now) list.old list.new) }
 {

@@ -9,7 +9,7 @@ pub loop-k-preserved : goal.loop-k-preserved
 loop-k-preserved c = c.in_ok-push.ensures.items ∙ others-push c.args.places.now.items c.loop-k.places.items c.args.but c.args.from c.loop-k.k c.index-place.result.now c.loop-k.auto.k (omega arith) c.loop-k.invariant c.index-place.ensures c.if-place-but.false
 
 pub returns-in_err-push-clause-kept : goal.returns-in_err-push-clause-kept
-returns-in_err-push-clause-kept c = others-grown _ _ _ (c.in_err-push.ensures.items ∙ c.loop-k.invariant)
+returns-in_err-push-clause-kept c = others-grown c.args.places.now.items c.push.new.self.items c.args.but c.args.from c.loop-k.k c.args.end (omega arith) c.requires.within (c.in_err-push.ensures.items ∙ c.loop-k.invariant)
 
 pub returns-clause-kept : goal.returns-clause-kept
-returns-clause-kept c = others-grown _ _ _ c.loop-k.invariant
+returns-clause-kept c = others-grown c.args.places.now.items c.loop-k.places.items c.args.but c.args.from c.loop-k.k c.args.end (omega arith) c.requires.within c.loop-k.invariant

@@ -13,29 +13,48 @@ use Rattle.fields_core.proofs.light_up.houses.houses_of_lights.Goals as goal
 pub push_lits-requires-clause-rows : goal.push_lits-requires-clause-rows
 push_lits-requires-clause-rows c =
     let p = c.args.puzzle.now in
-    rw (c.in_ok-push_columns.ensures.closed, c.len-rows.ensures)
+    rw (c.in_ok-push_columns.ensures.closed, c.len-rows.ensures.len)
     (runs-added _ _ (begins_row_run p) (row_run p) (light_cells p) (map house_places (houses_below (column_house p) (light_cells p))) c.in_ok-push_rows.ensures)
 
 pub push_lits-requires-clause-columns : goal.push_lits-requires-clause-columns
 push_lits-requires-clause-columns c =
     let p = c.args.puzzle.now in
-    rw (sym (append-nil c.push_columns.new.houses.list.closed), c.len-columns.ensures)
+    rw (sym (append-nil c.push_columns.new.houses.list.closed), c.len-columns.ensures.len)
     (runs-added _ _ (begins_column_run p) (column_run p) (light_cells p) [] c.in_ok-push_columns.ensures)
 
-pub push_lits-requires-clause-rows_few : goal.push_lits-requires-clause-rows_few
-push_lits-requires-clause-rows_few c =
+pub push_numbers-requires-clause-fits : goal.push_numbers-requires-clause-fits
+push_numbers-requires-clause-fits c =
     let p = c.args.puzzle.now in
+    let few = (light-counting p c.cells-cells.ensures.lawful).few_cells in
+    let none = ap (λ (list : Listed). length list.closed) c.in_ok-houses.ensures.none in
+    omega arith
+
+pub push_rows-requires-clause-fits : goal.push_rows-requires-clause-fits
+push_rows-requires-clause-fits c =
+    let p = c.args.puzzle.now in
+    let few = (light-counting p c.cells-cells.ensures.lawful).few_cells in
     let none = ap (λ (list : Listed). length list.closed) c.in_ok-houses.ensures.none in
     let numbers = added-few _ _ (number_house p) _ c.in_ok-push_numbers.ensures (number-one p) in
-    omega (arith, none, numbers, c.len-rows.ensures, (light-counting p c.cells-cells.ensures.lawful).few_cells)
+    omega arith
 
-pub push_lits-requires-clause-columns_few : goal.push_lits-requires-clause-columns_few
-push_lits-requires-clause-columns_few c =
+pub push_columns-requires-clause-fits : goal.push_columns-requires-clause-fits
+push_columns-requires-clause-fits c =
     let p = c.args.puzzle.now in
+    let few = (light-counting p c.cells-cells.ensures.lawful).few_cells in
     let none = ap (λ (list : Listed). length list.closed) c.in_ok-houses.ensures.none in
     let numbers = added-few _ _ (number_house p) _ c.in_ok-push_numbers.ensures (number-one p) in
     let rows = added-few _ _ (row_house p) _ c.in_ok-push_rows.ensures (λ d. if-few (begins_row_run p d) _) in
-    omega (arith, none, numbers, rows, c.len-columns.ensures, (light-counting p c.cells-cells.ensures.lawful).few_cells)
+    omega arith
+
+pub push_lits-requires-clause-fits : goal.push_lits-requires-clause-fits
+push_lits-requires-clause-fits c =
+    let p = c.args.puzzle.now in
+    let few = (light-counting p c.cells-cells.ensures.lawful).few_cells in
+    let none = ap (λ (list : Listed). length list.closed) c.in_ok-houses.ensures.none in
+    let numbers = added-few _ _ (number_house p) _ c.in_ok-push_numbers.ensures (number-one p) in
+    let rows = added-few _ _ (row_house p) _ c.in_ok-push_rows.ensures (λ d. if-few (begins_row_run p d) _) in
+    let columns = added-few _ _ (column_house p) _ c.in_ok-push_columns.ensures (λ d. if-few (begins_column_run p d) _) in
+    omega arith
 
 pub returns : goal.returns
 unfolding light_houses

@@ -1,6 +1,7 @@
 use Rattle.std.proofs.Common.{◌≡◌, ◌<◌, true, false, sym, ◌∙◌, arith}
 use Rattle.fields_core.specs.Light.{white}
 use Rattle.fields_core.specs.LightHouses.{lit_house}
+use Rattle.fields_core.proofs.CountListLemmas.{added-fits, if-few}
 use Rattle.fields_core.proofs.LightLatest.{added-next, rows-few, rows-same, row-at, columns-few, columns-same, column-at, lit-added, lit-none}
 use Rattle.fields_core.proofs.HouseLists.{column-black, row-black}
 use Rattle.fields_core.proofs.LightCounting.{light-board, row-run-few, column-run-few}
@@ -39,6 +40,11 @@ push_lit-requires-clause-few c =
     let row = row-at p lists _ l.houses.list.closed c.args.rows _ _ l.place l.invariant.added.closed on (c.pass.ensures lists c.args.rows c.requires.rows l.invariant.row) in
     let column = column-at p lists _ l.houses.list.closed c.args.columns _ _ l.place l.x l.invariant.added.closed board.some on l.invariant.x (c.pass-then-is_white.ensures lists c.args.columns c.requires.columns l.invariant.column) in
     rw (row.same, column.same) (omega (arith, row-run-few p l.place board, column-run-few p l.place board))
+
+pub push_lit-requires-clause-fits : goal.push_lit-requires-clause-fits
+push_lit-requires-clause-fits c =
+    let p = c.args.puzzle.now in
+    added-fits _ _ (lit_house p) _ _ c.loop-place.invariant.added (λ d. if-few (white p d) _) (omega arith) c.requires.fits
 
 pub loop-place-preserved : goal.loop-place-preserved
 loop-place-preserved c =

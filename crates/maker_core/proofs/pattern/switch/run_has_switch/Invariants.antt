@@ -1,5 +1,8 @@
-use Rattle.maker_core.proofs.Common.{◌≡◌}
+use Rattle.maker_core.proofs.Common.{◌≡◌, ℕ, ◌<◌, IsSwitch}
 use Rattle.maker_core.proofs.pattern.switch.run_has_switch.Given as goal
 
 abbrev pub invariant-loop-row : goal.invariant-loop-row
-invariant-loop-row l = l.grid ≡ l.fn.grid
+invariant-loop-row l = record {
+  same : l.grid ≡ l.fn.grid;
+  none : (r : ℕ) → r < l.row → IsSwitch l.puzzle l.fn.grid l.x l.y l.end r → ⊥;
+}

@@ -1,8 +1,11 @@
-use Rattle.std.proofs.Common.{arith}
+use Rattle.std.proofs.Common.{arith, length-take}
 use Rattle.solo_core.specs.Common.{places_of}
 use Rattle.solo_core.specs.HouseLaws.{lists_house}
 use Rattle.solo_core.proofs.HouseLemmas.{begun-more, begun-done}
 use Rattle.solo_core.proofs.houses.places.push_places.Goals as goal
+
+pub push-requires-clause-fits : goal.push-requires-clause-fits
+push-requires-clause-fits c = rw c.loop-k.invariant (omega (arith, length-take c.loop-k.k (places_of c.args.puzzle.now c.args.house), c.n.ensures.lawful.n_high))
 
 pub loop-k-preserved : goal.loop-k-preserved
 loop-k-preserved c =

@@ -1,0 +1,9 @@
+use Rattle.std.proofs.Common.{arith}
+use Rattle.fields_core.specs.LightHouses.{begins_column_run, column_house}
+use Rattle.fields_core.proofs.CountListLemmas.{added-fits, if-few}
+use Rattle.fields_core.proofs.light_up.houses.push_columns.Goals as goal
+
+pub push_column-requires-clause-fits : goal.push_column-requires-clause-fits
+push_column-requires-clause-fits c =
+    let p = c.args.puzzle.now in
+    added-fits _ _ (column_house p) _ _ c.loop-place.invariant (λ d. if-few (begins_column_run p d) _) (omega arith) c.requires.fits

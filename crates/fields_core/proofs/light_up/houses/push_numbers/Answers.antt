@@ -1,0 +1,10 @@
+use Rattle.std.proofs.Common.{arith}
+use Rattle.fields_core.specs.LightHouses.{number_house}
+use Rattle.fields_core.proofs.CountListLemmas.{added-fits}
+use Rattle.fields_core.proofs.LightCounting.{number-one}
+use Rattle.fields_core.proofs.light_up.houses.push_numbers.Goals as goal
+
+pub push_number-requires-clause-fits : goal.push_number-requires-clause-fits
+push_number-requires-clause-fits c =
+    let p = c.args.puzzle.now in
+    added-fits _ _ (number_house p) _ _ c.loop-place.invariant (number-one p) (omega arith) c.requires.fits
