@@ -1,7 +1,8 @@
 #!/usr/bin/env python3
 """Looks at the documents: README.md, docs/, and the README.md of other folders.
 
-- Each link leads to a file, and to a heading in it. Each place of the repository that is named in code marks is there.
+- Each link leads to a file, and to a heading in it. Each place of the repository that is named in code marks is there. A link by
+  a label, as [engine_core/Walk], has its line at the end, and each such line is used.
 - Tables that stand in two documents agree: words, limits, commands and statuses of README.md and docs/FORMATS.md.
 - A line has at most 130 columns and a sentence at most 25 words, outside of tables, code and the theorem that is quoted.
 - Each script that a document names can be run, prints a text of its own by --help, and meets a wrong word without a traceback.
@@ -44,8 +45,11 @@ def anchors(path):
 
 def links(path):
     """What is wrong with the links of a document, and with the places that it names."""
+    text = "\n".join(line for _, line in plain_lines(path.read_text()))
+    used, lines = (set(re.findall(rf"\[(\w+/\w+)\]{end}", text)) for end in ("(?![(:])", ": "))
+    yield from (f"{path.relative_to(TOP)}: [{label}] has no line, or no use" for label in sorted(used ^ lines))
     for number, line in plain_lines(path.read_text()):
-        for target in re.findall(r"\]\(([^)]+)\)", line):
+        for target in re.findall(r"(?:\]\(|^\[\w+/\w+\]: )([^)\s]+)", line):
             name, _, anchor = target.partition("#")
             found = (path.parent / name).resolve() if name else path
             if "://" not in target and not found.exists():
@@ -62,7 +66,7 @@ def lengths(path):
     """Lines and sentences that are too long."""
     paragraph, first = "", 0
     for number, line in [*plain_lines(path.read_text()), (0, "")]:
-        is_prose = line.strip() and not line.strip().startswith(("|", "#", ">"))
+        is_prose = line.strip() and not re.match(r"\s*[|#>]|\[\w+/\w+\]: ", line)
         if is_prose and len(line) > COLUMNS:
             yield f"{path.relative_to(TOP)}:{number}: {len(line)} columns"
         if is_prose and not re.match(r"\s*(- |\d+\. )", line):
