@@ -3,7 +3,8 @@
 
 - Each link leads to a file, and to a heading in it. Each place of the repository that is named in code marks is there. A link by
   a label, as [engine_core/Walk], has its line at the end, and each such line is used.
-- Tables that stand in two documents agree: words, limits, commands and statuses of README.md and docs/FORMATS.md.
+- Tables that stand in two documents agree: words, limits, commands and statuses of README.md and docs/FORMATS.md. README.md has
+  the number of wrong bodies.
 - A line has at most 130 columns and a sentence at most 25 words, outside of tables, code and the theorem that is quoted.
 - Each script that a document names can be run, prints a text of its own by --help, and meets a wrong word without a traceback.
 
@@ -108,6 +109,14 @@ def twice():
         yield f"status {name}", sorted(told & meant), sorted(meant)
 
 
+def bodies():
+    """What is wrong with the number of wrong bodies that README.md tells."""
+    told = re.findall(r"(\d+) wrong bodies", (TOP / "README.md").read_text())
+    there = len([*TOP.glob("crates/*/must-fail/*.edit")])
+    if told != [str(there)]:
+        yield f"README.md: {' and '.join(told) or 'no number of'} wrong bodies; there are {there}"
+
+
 def scripts():
     """What is wrong with the scripts that a document names."""
     text = "".join(path.read_text() for path in documents())
@@ -132,7 +141,7 @@ def main():
     argparse.ArgumentParser(description=__doc__, formatter_class=argparse.RawDescriptionHelpFormatter).parse_args()
     faults = [fault for path in documents() for look in (links, lengths) for fault in look(path)]
     faults += [f"{name}: README.md has {here}, docs/FORMATS.md {there}" for name, here, there in twice() if here != there]
-    faults += scripts()
+    faults += [*bodies(), *scripts()]
     print("\n".join([*faults, f"{len(documents())} documents, {len(faults)} faults"]))
     return 1 if faults else 0
 
