@@ -1,8 +1,10 @@
 #!/usr/bin/env python3
 """Looks at the documents: README.md, docs/, and the README.md of other folders.
 
-- Each link leads to a file, and to a heading in it. Each place of the repository that is named in code marks is there.
-- Tables that stand in two documents agree: words, limits, commands and statuses of README.md and docs/FORMATS.md.
+- Each link leads to a file, and to a heading in it. Each place of the repository that is named in code marks is there. A link by
+  a label, as [engine_core/Walk], has its line at the end, and each such line is used.
+- Tables that stand in two documents agree: words, limits, commands and statuses of README.md and docs/FORMATS.md. README.md has
+  the number of wrong bodies.
 - A line has at most 130 columns and a sentence at most 25 words, outside of tables, code and the theorem that is quoted.
 - Each script that a document names can be run, prints a text of its own by --help, and meets a wrong word without a traceback.
 
@@ -44,8 +46,11 @@ def anchors(path):
 
 def links(path):
     """What is wrong with the links of a document, and with the places that it names."""
+    text = "\n".join(line for _, line in plain_lines(path.read_text()))
+    used, lines = (set(re.findall(rf"\[(\w+/\w+)\]{end}", text)) for end in ("(?![(:])", ": "))
+    yield from (f"{path.relative_to(TOP)}: [{label}] has no line, or no use" for label in sorted(used ^ lines))
     for number, line in plain_lines(path.read_text()):
-        for target in re.findall(r"\]\(([^)]+)\)", line):
+        for target in re.findall(r"(?:\]\(|^\[\w+/\w+\]: )([^)\s]+)", line):
             name, _, anchor = target.partition("#")
             found = (path.parent / name).resolve() if name else path
             if "://" not in target and not found.exists():
@@ -62,7 +67,7 @@ def lengths(path):
     """Lines and sentences that are too long."""
     paragraph, first = "", 0
     for number, line in [*plain_lines(path.read_text()), (0, "")]:
-        is_prose = line.strip() and not line.strip().startswith(("|", "#", ">"))
+        is_prose = line.strip() and not re.match(r"\s*[|#>]|\[\w+/\w+\]: ", line)
         if is_prose and len(line) > COLUMNS:
             yield f"{path.relative_to(TOP)}:{number}: {len(line)} columns"
         if is_prose and not re.match(r"\s*(- |\d+\. )", line):
@@ -104,6 +109,14 @@ def twice():
         yield f"status {name}", sorted(told & meant), sorted(meant)
 
 
+def bodies():
+    """What is wrong with the number of wrong bodies that README.md tells."""
+    told = re.findall(r"(\d+) wrong bodies", (TOP / "README.md").read_text())
+    there = len([*TOP.glob("crates/*/must-fail/*.edit")])
+    if told != [str(there)]:
+        yield f"README.md: {' and '.join(told) or 'no number of'} wrong bodies; there are {there}"
+
+
 def scripts():
     """What is wrong with the scripts that a document names."""
     text = "".join(path.read_text() for path in documents())
@@ -128,7 +141,7 @@ def main():
     argparse.ArgumentParser(description=__doc__, formatter_class=argparse.RawDescriptionHelpFormatter).parse_args()
     faults = [fault for path in documents() for look in (links, lengths) for fault in look(path)]
     faults += [f"{name}: README.md has {here}, docs/FORMATS.md {there}" for name, here, there in twice() if here != there]
-    faults += scripts()
+    faults += [*bodies(), *scripts()]
     print("\n".join([*faults, f"{len(documents())} documents, {len(faults)} faults"]))
     return 1 if faults else 0
 

@@ -3,19 +3,23 @@
 
 usage: promises.py [--help]
 
-- Each wrong body named in a third column is a file crates/NAME/must-fail/BODY.edit, and each such file is named by one promise.
+- Each wrong body named in a last column is a file crates/NAME/must-fail/BODY.edit, and each such file is named by one promise.
 - A promise names at most three, or says in so many words that it is of laws, "with no body", or has "none of its own".
 - Each public call has its row: it is named in a second column. Public calls are the `pub fn`s that a library's lib.rt hands on,
   by themselves or with their type; of the program those of PROGRAM below.
 - Each wrong body has one line `# refused by: FUNCTION.CLAUSE`, and there is such a clause: see the next paragraph.
 - In a second column `f.clause`, `T::f` and `T::f.clause` are there in some crate.
+- The column of definitions has words with their files, as "`IsClosing`, `IsDead` in [engine_core/ClosingList]", the groups parted
+  by ";". It may say "the same" as the row above, or "none". Each word is defined in its file. It is named in the crates that
+  the row's calls stand in, or in the file of another such word.
 
 FUNCTION is `f`, `T::f`, or `T::f of U` for U's own f of the trait T. CLAUSE is the name of an `ensures` of it, or of the
 trait's f, or of a `requires` that the wrong body does not meet. FUNCTION alone stands for the `ensures` that has no name.
 `invariant` is the one of the function's type, and `from_gives` what an `impl` of `From` says that it gives.
 
 In a second column `T::f`, or `T::f.clause`, names the call f of T; after it a bare `g` names T's call g too, and the function g.
-"the calls of `T`", or of `T`, `U` and `V`, are all calls of each. Families that a row names by a phrase are in FAMILIES.
+"the calls of `T`", or of `T`, `U` and `V`, are all calls of each. "the same" are the calls of the row above too. Families that
+a row names by a phrase are in FAMILIES.
 Prints what is missing; the exit status is 1 where anything is.
 """
 import collections
@@ -150,17 +154,18 @@ def contract_faults(text):
                 yield f"line {number}: no such function or clause: {span}"
 
 
-def rows(text):
-    """The three cells of each row of a table of promises, with the number of its line. A table of laws has no third column."""
+def rows(text, first):
+    """The cells of each row of the tables whose first column is of this name, and the second one of contracts: four, with the
+    number of the line. A table without a column of wrong bodies is of laws."""
     columns = 0
     for number, line in enumerate(text.splitlines(), 1):
         cells = [cell.strip() for cell in line.split("|")[1:-1]]
-        if cells[:2] == ["Promise", "Contract"]:
+        if cells[:3] == [first, "Contract", "Definitions"]:
             columns = len(cells)
         elif not columns or len(cells) != columns:
             columns = 0
         elif not line.startswith("|---"):
-            yield number, (cells + [NO_BODY[0]])[:3]
+            yield number, (cells + [NO_BODY[0]])[:4]
 
 
 def named(cell):
@@ -185,9 +190,9 @@ def named(cell):
 
 
 def row_faults(table, named_by):
-    """What is wrong with the third columns. Counts for each wrong body the promises that name it."""
+    """What is wrong with the last columns. Counts for each wrong body the promises that name it."""
     bodies = {file.stem for file in TOP.glob("crates/*/must-fail/*.edit")}
-    for number, (promise, _, wrong) in table:
+    for number, (promise, _, _, wrong) in table:
         names = re.findall(r"`(\w+)`", wrong)
         named_by.update(names)
         yield from (f"line {number}: no wrong body of this name: {name}" for name in names if name not in bodies)
@@ -200,12 +205,72 @@ def row_faults(table, named_by):
 def call_faults(table, calls):
     """The public calls that no second column names."""
     kinds, pairs, functions = set(), set(), set()
-    for _, (_, contract, _) in table:
+    for _, (_, contract, _, _) in table:
         for found, more in zip((kinds, pairs, functions), named(contract)):
             found.update(more)
     for crate, kind, name in calls:
         if kind not in kinds and ((kind, name) not in pairs if kind else name not in functions):
             yield f"{crate.name}: no row for {kind + '::' if kind else ''}{name}"
+
+
+def code_of_calls():
+    """The code of each crate, and for each call, by its name and by those of its trait and its type, the crates that have it."""
+    code, crates = {}, collections.defaultdict(set)
+    for crate in sorted((TOP / "crates").iterdir()):
+        code[crate] = "\n".join(line for lines in sources(crate) for line in lines)
+        for lines in sources(crate):
+            for trait, kind, line in owners(lines):
+                if head := re.match(r" *(?:pub(?:\(crate\))? )?fn (\w+)", line):
+                    for name in {(trait, head[1]), (kind, head[1]), (kind, None)}:
+                        crates[name].add(crate)
+    return code, crates
+
+
+def definitions(cell):
+    """The words that a column of definitions names, each with its file. Nothing where it isn't in its form."""
+    groups = [re.fullmatch(r"((?:`[\w'-]+`(?:, )?)+) in \[(\w+)/(\w+)\]", group) for group in cell.split("; ")]
+    if all(groups):
+        return [(word, TOP / "crates" / group[2] / "specs" / f"{group[3]}.antt")
+                for group in groups for word in re.findall(r"[\w'-]+", group[1])]
+    return [] if cell == "none" else None
+
+
+def is_defined(word, file):
+    """Whether a file of definitions has the word."""
+    shapes = rf"^(?: *(?:(?:abbrev|unfoldable) pub|pub (?:record|data))|pub) {word}(?![\w'-])"
+    return file.exists() and re.search(shapes, file.read_text(), re.M)
+
+
+def unreached(words, texts):
+    """The words that are neither in the texts nor in the file of a word that is reached."""
+    while found := [each for each in words if any(re.search(rf"(?<![\w'-]){each[0]}(?![\w'-])", text) for text in texts)]:
+        texts = [file.read_text() for _, file in found]
+        words = [each for each in words if each not in found]
+    return [word for word, _ in words]
+
+
+def definition_faults(text):
+    """What is wrong with the columns of definitions."""
+    code, crates = code_of_calls()
+    links = dict(re.findall(r"^\[(\w+/\w+)\]: \.\./(\S+)$", text, re.M))
+    calls, said = set(), "none"
+    for number, (_, contract, cell, _) in sorted([*rows(text, "Part"), *rows(text, "Promise")]):
+        kinds, pairs, functions = named(contract)
+        same = calls if contract.startswith("the same") else set()
+        calls = same | {(kind, None) for kind in kinds} | pairs | {(None, name) for name in functions}
+        said = said if cell == "the same" else cell
+        words = definitions(said)
+        if words is None:
+            yield f"line {number}: definitions that aren't in their form: {said}"
+            continue
+        for word, file in words:
+            if links.get(f"{file.parts[-3]}/{file.stem}") != str(file.relative_to(TOP)):
+                yield f"line {number}: no link to the file of {word}"
+            elif not is_defined(word, file):
+                yield f"line {number}: no {word} in {file.relative_to(TOP)}"
+        texts = [code[crate] for crate in {crate for call in calls for crate in crates.get(call, ())}]
+        there = [(word, file) for word, file in words if is_defined(word, file)]
+        yield from (f"line {number}: {word} is named by no call and no other word" for word in unreached(there, texts))
 
 
 def main(words):
@@ -217,10 +282,11 @@ def main(words):
         return 2
     try:
         text = (TOP / "docs" / "PROMISES.md").read_text()
-        table = list(rows(text))
+        table = list(rows(text, "Promise"))
         calls = [(crate, *call) for crate in sorted((TOP / "crates").iterdir()) for call in public_calls(crate)]
         named_by = collections.Counter()
         faults = [*row_faults(table, named_by), *body_faults(named_by), *contract_faults(text), *call_faults(table, calls)]
+        faults += definition_faults(text)
     except (OSError, UnicodeDecodeError) as fault:
         print(f"promises.py: can't read the tree: {fault}", file=sys.stderr)
         return 2
