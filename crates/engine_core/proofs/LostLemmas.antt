@@ -1,7 +1,7 @@
 -- The cells that lost a value at a visit, as the trail names them.
-use Rattle.engine_core.proofs.Common.{AreCalled, AreLost, Bool, Candidates, IsBitsOf, IsBoardOf, IsLawful, Layout, Puzzle, Trail, after, and_from, and_parts, any_below, any_below-here, any_below-some, ap, arith}
+use Rattle.engine_core.proofs.Common.{AreCalled, AreLost, Bool, Candidates, IsBitsOf, IsLawful, Puzzle, Trail, after, and_from, and_parts, any_below, any_below-here, any_below-some, ap, arith}
 use Rattle.engine_core.proofs.Common.{cases_Bool, cases_lt, change_at, common_steps, count_below, count_below-same, counts_of, eq-eqb, false, fun_ext, has, has_place, inl, inr, is_since, le-leb, leb-true}
-use Rattle.engine_core.proofs.Common.{left_by, length, nat_le, ne_eqb, not, not_from_false, not_from_true, refl, slice_index, subst, sym, true, true≢false, ℕ, ◌&&◌, ◌+◌, ◌<◌, ◌==◌, ◌||◌}
+use Rattle.engine_core.proofs.Common.{left_by, length, nat_le, ne_eqb, not, not_from_false, not_from_true, slice_index, sym, true, true≢false, ℕ, ◌&&◌, ◌+◌, ◌<◌, ◌==◌, ◌||◌}
 use Rattle.engine_core.proofs.Common.{◌∙◌, ◌≡◌, ◌≢◌, ◌≤◌}
 use Rattle.engine_core.proofs.CallLemmas.{called-more, called-same}
 use Rattle.engine_core.proofs.ChangeLemmas.{left-others}
@@ -9,10 +9,6 @@ use Rattle.engine_core.proofs.ClosingLemmas.{after_inside}
 use Rattle.engine_core.proofs.QueueLemmas.{any_below-more}
 use Rattle.engine_core.proofs.ScopeLemmas.{IsUpto, upto-next}
 use Rattle.engine_core.proofs.SetLemmas.{counts-differ}
-
--- where nothing changed, nothing was lost
-pub lost-none : (p : Puzzle) (h n : ℕ) (t : Trail) → AreLost p h n t t
-lost-none p h n t = record { only = λ m a b. absurd (omega arith); all = λ k lt ne. absurd (ne refl) }
 
 -- a cell that is left alone has as many values as before
 counts-left : (p : Puzzle) (h j place left : ℕ) (L : Candidates) → slice_index (p.scope h) j ≢ place → counts_of p h (left_by L place left) j ≡ counts_of p h L j

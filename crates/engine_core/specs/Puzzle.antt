@@ -123,8 +123,3 @@ IsNext p n from None = (j : ℕ) → from ≤ j → j < n → p j ≡ false
 IsNext p n from (Some k) =
     (from ≤ k) × (k < n) × (p k ≡ true)
     × ((j : ℕ) → from ≤ j → j < k → p j ≡ false)
-
--- the answer is the number below n that passes and has k before it that pass
-abbrev pub IsKth : (ℕ → Bool) → ℕ → ℕ → Option ℕ → Type 0
-IsKth p n k None = count_below p n ≤ k
-IsKth p n k (Some h) = (h < n) × (p h ≡ true) × (count_below p h ≡ k)

@@ -1,7 +1,7 @@
 -- A board with the trail of its changes, so that it can be put back. No public contract uses these words.
 use Rattle.std.specs.Prelude.{◌≡◌, ◌≢◌, ℕ, Bool, zero, suc, ◌+◌, ◌*◌, ◌^◌, ◌<◌, ◌≤◌, ◌==◌, ◌&&◌, not, nat_le, List, slice_index, length, slice_index_or, if◌then◌else◌}
 use Rattle.grid_core.specs.Board.{Layout, has, SameShape}
-use Rattle.grid_core.specs.Candidates.{Candidates, IsInside, any_below, count_below, total, with_set}
+use Rattle.grid_core.specs.Candidates.{Candidates, IsInside, any_below, total, with_set}
 use Rattle.engine_core.specs.Puzzle.{Puzzle, Needs, after, has_place}
 use Rattle.engine_core.specs.ClosingList.{IsAlive}
 use Rattle.engine_core.specs.Queue.{counts_of}

@@ -3,7 +3,7 @@
 
 ghost use Rattle.std.specs.Prelude.{◌≡◌, ℕ, suc, ◌+◌, ◌<◌, ◌≤◌, ◌^◌, ◌==◌, IfOk, count_by, length, sum_by, slice_index};
 ghost use Rattle.grid_core.specs.Candidates.{sum_below};
-ghost use Rattle.engine_core.specs.Puzzle.{has_place, IsNext, IsKth, longest};
+ghost use Rattle.engine_core.specs.Puzzle.{has_place, IsNext, longest};
 ghost use Rattle.engine_core.specs.House.{AreDifferent};
 ghost use Rattle.engine_core.specs.HouseIndex.{AreScopes, scope_of, start_at, AreHousesAt, IsIndex, IsRoom, IsPut, IsFirstFrom, AreAt, number_in, IsUnfilled, houses_from, sum_to};
 
@@ -200,20 +200,6 @@ impl Houses {
             (length self.now.scopes) from result }
     {
         first_from(self.houses_at(place), from)
-    }
-
-    /// The house that has the place and has `k` such houses before it.
-    pub fn nth_at(&self, place: usize, k: usize) -> Option<usize>
-        requires { place < self.now.cells }
-        ensures { IsKth (λ h. has_place (scope_of self.now.scopes h) place)
-            (length self.now.scopes) k result }
-    {
-        let houses = self.houses_at(place);
-        if k < houses.len() {
-            Some(houses[k] as usize)
-        } else {
-            None
-        }
     }
 
     /// The cells of all houses together: fewer than 2^32.

@@ -1,4 +1,4 @@
-use Rattle.engine_core.proofs.Common.{IsBitsOf, arith, has, length, refl, ◌<◌, ◌≡◌}
+use Rattle.engine_core.proofs.Common.{IsBitsOf, arith, has, length, refl, ◌≡◌}
 use Rattle.engine_core.proofs.CallLemmas.{marking-else, marking-first, marking-then}
 use Rattle.engine_core.proofs.QueueLemmas.{scope-in}
 use Rattle.engine_core.proofs.closing.marking.mark_changed.Goals as goal

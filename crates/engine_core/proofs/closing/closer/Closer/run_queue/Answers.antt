@@ -1,4 +1,4 @@
-use Rattle.engine_core.proofs.Common.{SameRoom, [], after, ap, arith, has, is_dead, is_waiting, length, length-set, length-take-le, refl, set, sym, take, true, ◌++◌, ◌+◌, ◌<◌, ◌∙◌, ◌∷◌, ◌≡◌, ◌≤◌}
+use Rattle.engine_core.proofs.Common.{SameRoom, [], after, ap, arith, has, is_dead, is_waiting, length, length-set, length-take-le, set, sym, take, true, ◌++◌, ◌+◌, ◌<◌, ◌∙◌, ◌∷◌, ◌≡◌, ◌≤◌}
 use Rattle.engine_core.specs.Mode.{is_queue}
 use Rattle.engine_core.proofs.QueueLemmas.{IsBoardOf-same, dead_by, pushed, within_of}
 use Rattle.engine_core.proofs.ListLemmas.{room-more, room-same, running-alive, running-first, running-turn, closing-dead, closing-open, room}

@@ -1,4 +1,4 @@
-use Rattle.engine_core.proofs.Common.{has, ◌∙◌}
+use Rattle.engine_core.proofs.Common.{◌∙◌}
 use Rattle.engine_core.proofs.ListLemmas.{room-more, room-same}
 use Rattle.engine_core.proofs.QueueLemmas.{IsBoardOf-same, within_of}
 use Rattle.engine_core.proofs.SweepLemmas.{fewer, swept-dead, swept-first, swept-idle, swept-turn}

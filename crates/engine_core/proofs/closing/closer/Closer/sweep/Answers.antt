@@ -1,4 +1,4 @@
-use Rattle.engine_core.proofs.Common.{IsNext, Some, ap, arith, has, is_waiting, refl, sym, true≢false, ◌+◌, ◌||◌, ◌∙◌}
+use Rattle.engine_core.proofs.Common.{IsNext, Some, ap, arith, has, is_waiting, refl, sym, true≢false, ◌||◌, ◌∙◌}
 use Rattle.engine_core.proofs.ListLemmas.{room-more, room-same}
 use Rattle.engine_core.proofs.QueueLemmas.{IsBoardOf-same, within_of}
 use Rattle.engine_core.proofs.SweepLemmas.{IsSweeping, struck-more, struck-none, sweep-idle, sweeping-first, sweeping-inside, sweeping-passed, sweeping-turn}

@@ -1,8 +1,8 @@
-use Rattle.engine_core.proofs.Common.{HasStruck, IsClosing, IsNext, [], arith, board_in, is_waiting, range_with_len, refl, replay, sym, true≢false, ◌+◌, ◌∙◌, ◌≡◌}
+use Rattle.engine_core.proofs.Common.{HasStruck, IsClosing, [], board_in, range_with_len, refl, replay, sym, true≢false, ◌+◌, ◌∙◌}
 use Rattle.engine_core.specs.declared.mode.Closing.TheVariants.{Dead, Open}
 use Rattle.engine_core.proofs.QueueLemmas.{within_of}
 use Rattle.engine_core.proofs.TrailLemmas.{on-none, on-more}
-use Rattle.engine_core.proofs.SweepLemmas.{fewer, none_waits, some_waits, swept-dead, swept-few, swept-first, swept-open, swept-turn}
+use Rattle.engine_core.proofs.SweepLemmas.{fewer, none_waits, some_waits, swept-dead, swept-first, swept-open, swept-turn}
 use Rattle.engine_core.proofs.EndLemmas.{closed-in, taken-dead, taken-open}
 use Rattle.engine_core.proofs.trail.position.TrailPosition.run_sweeps.Goals as goal
 use Rattle.engine_core.proofs.trail.position.TrailPosition.run_sweeps.Goals.{Else-is_none, Then-dead, Then-is_none}

@@ -1,4 +1,4 @@
-use Rattle.engine_core.proofs.Common.{IsNext, Some, arith, board_in, is_waiting, ◌+◌}
+use Rattle.engine_core.proofs.Common.{IsNext, Some, arith, board_in, is_waiting}
 use Rattle.engine_core.proofs.QueueLemmas.{within_of}
 use Rattle.engine_core.proofs.TrailLemmas.{on-none, on-more}
 use Rattle.engine_core.proofs.SweepLemmas.{IsSweeping, sweep-dead, sweep-whole, sweeping-first, sweeping-passed, sweeping-turn}

@@ -1,4 +1,4 @@
-use Rattle.engine_core.proofs.Common.{IsBitsOf, after, arith, cases_eq, counts_of, has, inl, inr, length, slice_index, ◌+◌, ◌<◌, ◌≡◌}
+use Rattle.engine_core.proofs.Common.{IsBitsOf, after, arith, cases_eq, has, inl, inr, length, slice_index, ◌+◌, ◌<◌, ◌≡◌}
 use Rattle.engine_core.proofs.KeepLemmas.{kept-left, struck-alive, struck-dead, struck-some}
 use Rattle.engine_core.proofs.LostLemmas.{lost-differ, lost-more, lost-same}
 use Rattle.engine_core.proofs.QueueLemmas.{scope-in, within_of}

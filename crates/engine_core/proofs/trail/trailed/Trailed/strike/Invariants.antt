@@ -1,4 +1,4 @@
-use Rattle.engine_core.proofs.Common.{AreLost, IsFurther, StillServes, after, counts_of, has, ℕ, ◌<◌, ◌≡◌}
+use Rattle.engine_core.proofs.Common.{AreLost, IsFurther, StillServes, after, counts_of, has, ℕ, ◌<◌}
 use Rattle.engine_core.proofs.ScopeLemmas.{IsUpto}
 use Rattle.engine_core.proofs.trail.trailed.Trailed.strike.Given as goal
 
