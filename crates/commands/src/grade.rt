@@ -20,7 +20,7 @@ use crate::games::by_game;
 use crate::grade::named::Named;
 use crate::grade::trace::{push_sweeps, put_visits};
 use crate::solve::solvable::Solvable;
-use engine_core::{Rules, Store};
+use engine_core::{Searchable, Store};
 use gameid_core::{Game, IdFault};
 use itoa::Buffer;
 use std::alloc::{AllocError, Global};
@@ -127,7 +127,7 @@ impl Attempt {
     ///
     /// When memory was refused, or the sink failed. A beginning of the text was put then, or
     /// nothing.
-    pub fn tell_with_visits<R: Rules, P: Named, O: Sink>(
+    pub fn tell_with_visits<R: Searchable, P: Named, O: Sink>(
         self,
         grade: Grade,
         puzzle: &P,
@@ -154,7 +154,7 @@ impl Attempt {
     }
 
     /// Tells a grade and, if a trace is asked for, the sweeps of a closing by these rules.
-    fn tell_with_sweeps<R: Rules, O: Sink>(
+    fn tell_with_sweeps<R: Searchable, O: Sink>(
         self,
         grade: Grade,
         rules: &R,
@@ -184,14 +184,14 @@ impl Attempt {
     ///
     /// When memory was refused, or the sink failed. A beginning of the text was put then, or
     /// nothing.
-    pub fn tell_by_visits<P: Solvable + Named, R: Rules, O: Sink>(
+    pub fn tell_by_visits<P: Solvable + Named, R: Searchable, O: Sink>(
         self,
         puzzle: &P,
         rules: &R,
         output: &mut O,
     ) -> Ended
     where
-        P::Search: Rules,
+        P::Search: Searchable,
         requires means { (rules : P.Search) → P.Search.puzzle rules ≡ P.meaning rules }
         requires queue { (R.puzzle rules.now).by_queue ≡ true }
         requires named { (R.puzzle rules.now).houses ≤ P.named puzzle.now }
@@ -208,14 +208,14 @@ impl Attempt {
     }
 
     /// Tells the grade as `tell_by_visits` does, by rules that are closed by sweeps.
-    pub(crate) fn tell_by_sweeps<P: Solvable, R: Rules, O: Sink>(
+    pub(crate) fn tell_by_sweeps<P: Solvable, R: Searchable, O: Sink>(
         self,
         puzzle: &P,
         rules: &R,
         output: &mut O,
     ) -> Ended
     where
-        P::Search: Rules,
+        P::Search: Searchable,
         requires means { (rules : P.Search) → P.Search.puzzle rules ≡ P.meaning rules }
         requires sweeps { (R.puzzle rules.now).by_queue ≡ false }
         requires told { AreTold P.game puzzle.now TellsSweeps }

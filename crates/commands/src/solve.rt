@@ -10,12 +10,12 @@ use crate::answers::reply::{Reply, grid_reply, id_refused, several_reply, words_
 use crate::answers::status::Status;
 use crate::games::{Stores, by_game};
 use crate::solve::solvable::Solvable;
-use engine_core::{Rules, Store, Verdict};
+use engine_core::{Searchable, Store, Verdict};
 use gameid_core::{Game, IdFault, Printed};
 use std::alloc::{AllocError, Global};
 
 /// The memory that is kept, where it is enough for the rules, or new memory.
-fn store_for<R: Rules>(
+fn store_for<R: Searchable>(
     alloc: Global,
     kept: &mut Option<Store<R>>,
     rules: &R,
@@ -29,7 +29,7 @@ fn store_for<R: Rules>(
 }
 
 /// The answer that tells the verdict of a search by the rules, in the memory of a text.
-fn verdict_reply<P: Printed, R: Rules>(
+fn verdict_reply<P: Printed, R: Searchable>(
     store: &mut Store<R>,
     puzzle: &P,
     rules: &R,
@@ -72,7 +72,7 @@ fn solve_puzzle<P: Solvable + Drop>(
     text: String,
 ) -> Result<Reply, AllocError>
 where
-    P::Search: Rules,
+    P::Search: Searchable,
     requires means { (rules : P.Search) → P.Search.puzzle rules ≡ P.meaning rules }
     ensures { IfOk result (λ r. SolvesPuzzle P.Played budget puzzle.now (answer_in r)) }
 {
@@ -92,7 +92,7 @@ fn solve_one<P: Solvable + Drop>(
     text: String,
 ) -> Result<Reply, AllocError>
 where
-    P::Search: Rules,
+    P::Search: Searchable,
     requires means { (rules : P.Search) → P.Search.puzzle rules ≡ P.meaning rules }
     ensures { IfOk result (λ r. SolvesId P.Played budget id.now (answer_in r)) }
 {

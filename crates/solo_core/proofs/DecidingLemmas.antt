@@ -1,14 +1,15 @@
 -- Houses that decide alike, and tables of scopes.
-use Rattle.std.proofs.Common.{◌≡◌, ℕ, zero, suc, ◌<◌, Bool, List, [], ◌∷◌, map, length, get_or, slice_index, ◌+◌, ◌*◌, refl, sym, ap, ◌∙◌, arith, ◌++◌, All, sum_by}
+use Rattle.std.proofs.Common.{◌≡◌, ℕ, zero, suc, ◌<◌, Bool, List, [], ◌∷◌, map, length, get_or, slice_index, ◌+◌, ◌*◌, refl, sym, ap, ◌∙◌, arith, ◌++◌, All, sum_by, true}
 use Rattle.solo_core.specs.Common.{fun_ext, IsBoardOf, after, has_place, set_of_bits, IsBitsOf, get_or-map, length-map, map-append, Solo, IsSolo, solo_n}
 use Rattle.solo_core.specs.Common.{Decision, sets_at, kept_in, IsDecided, House, house_of, no_house, IsSound, visits_of, Row, houses_of, places_of, solo_cells}
-use Rattle.solo_core.specs.Common.{no_repeat, strikes_by_fillings}
+use Rattle.solo_core.specs.Common.{count_below, no_repeat, strikes_by_fillings}
 use Rattle.std.proofs.lemmas.List.Sums.{sum_by-cons}
 use Rattle.grid_core.specs.Board.{Layout, has}
 use Rattle.grid_core.proofs.BoardLemmas.{has-within}
 use Rattle.engine_core.specs.HouseLaws.{visited-after}
 use Rattle.std.proofs.lemmas.Simd.{map-map}
-use Rattle.engine_core.specs.HouseIndex.{Table, scope_of, AreScopes}
+use Rattle.engine_core.specs.HouseIndex.{Table, scope_of, AreScopes, AreHousesAt}
+use Rattle.engine_core.proofs.IndexLemmas.{nth-at}
 use Rattle.solo_core.specs.HouseLaws.{lists_house, all_houses}
 use Rattle.solo_core.specs.RuleSets.{deciding, house_by, filled_houses, setting_of, rules_of, crossings_of}
 use Rattle.solo_core.specs.Work.{all_places, table_of}
@@ -50,6 +51,19 @@ pub scopes-say : (p : Solo) (houses : List House) (table : Table) → table ≡ 
     → says (λ h. has_place (scope_of table.scopes h) place) (length table.scopes) → says (λ h. has_place (house_of houses h).places place) (length houses)
 scopes-say p houses table listed place says said =
     rw (listed, fun_ext (λ h. ap (λ xs. has_place xs place) (scope-at houses h)), length-map houses (λ (house : House). house.places)) at said
+
+-- what the table lists as the houses of a place are those that have it, ascending
+module _ (p : Solo) (houses : List House) (table : Table) (listed : table ≡ table_of p houses) (place : ℕ) where
+  abbrev has_it : ℕ → Bool
+  has_it j = has_place (house_of houses j).places place
+
+  pub housed-at : (k : ℕ) (at : List ℕ) → AreHousesAt table.scopes place at → k < length at
+      → (slice_index at k < length houses) × (has_it (slice_index at k) ≡ true) × (count_below has_it (slice_index at k) ≡ k)
+  housed-at k at are lt = scopes-say p houses table listed place
+      (λ test n. (slice_index at k < n) × (test (slice_index at k) ≡ true) × (count_below test (slice_index at k) ≡ k)) (nth-at table.scopes place k at are lt)
+
+  pub housed-all : (at : List ℕ) → AreHousesAt table.scopes place at → count_below has_it (length houses) ≡ length at
+  housed-all at are = scopes-say p houses table listed place (λ test n. count_below test n ≡ length at) (sym are.as_many)
 
 pub bound-from-table : (values : ℕ) (houses : List House)
     → sum_by length (all_places houses) * values + length (all_places houses) ≡ sum_by (visits_of values) houses

@@ -24,7 +24,7 @@ unfoldable pub use Rattle.engine_core.specs.Sets.{set_of_bits}
 pub use Rattle.engine_core.specs.House.{AreDifferent, Decision, IsDecided, IsMonotone, kept_in, sets_at, strikes_at}
 pub use Rattle.engine_core.specs.Houses.{House, IsSetting, IsSettled, IsSound, Keeps, Setting, by_houses, house_of, no_house, visits_of}
 pub use Rattle.engine_core.specs.Filling.{IsShownBy, Set, has_value, strikes_by_fillings}
-pub use Rattle.engine_core.specs.Puzzle.{IsBoardOf, IsKth, IsLawful, IsNext, Needs, Puzzle, after, has_place}
+pub use Rattle.engine_core.specs.Puzzle.{IsBoardOf, IsLawful, IsNext, Needs, Puzzle, after, has_place}
 pub use Rattle.engine_core.specs.PlaceLaws.{different-filter, different-from, distinct-append, distinct-from, has_place-at, has_place-here, place-filter}
 pub use Rattle.engine_core.specs.PlaceLaws.{place-kept}
 pub use Rattle.engine_core.proofs.BitLemmas.{bits-both, bits-either, bits-of_power, bits-of_zero}

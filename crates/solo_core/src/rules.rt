@@ -13,7 +13,9 @@ use crate::check::accepts;
 use crate::houses::places::cells;
 use crate::start::write_start;
 use crate::strikes::{Crossings, Fillings, Singles, Strikes};
-use engine_core::{Houses, Mode, Rules, apply, gather};
+use engine_core::{
+    Houses, Mode, Propagators, Rules, Searchable, TrailPosition, apply, gather, mark,
+};
 use gameid_core::SoloPuzzle;
 use grid_core::{Board, Grid};
 use std::alloc::{AllocError, Global};
@@ -93,7 +95,7 @@ impl<S: Strikes> SoloRules<S> {
         let sets = &mut sets[..places.len()];
         let kept = &mut kept[..places.len()];
         gather(board, places, sets);
-        S::keep(&self.puzzle, house, sets, kept, work);
+        S::filter(&self.puzzle, house, sets, kept, work);
         apply(board, places, kept)
     }
 }
@@ -117,8 +119,6 @@ impl<S: Strikes> Rules for SoloRules<S> {
 
     ghost serves = { λ w needs. (needs.scope ≤ vec_len w.sets) × (needs.scope ≤ vec_len w.kept)
         × S.serves w.work needs.values };
-
-    ghost follows = { λ _ _ _. Unit {0} };
 
     ghost lawful = { λ r. rules_lawful r.puzzle r.is_solo S.SETTLED (S.houses r.puzzle)
         (S.sound r.puzzle r.is_solo) };
@@ -161,10 +161,6 @@ impl<S: Strikes> Rules for SoloRules<S> {
         self.table.next_at(place, from)
     }
 
-    fn house_of(&self, place: usize, k: usize) -> Option<usize> {
-        self.table.nth_at(place, k)
-    }
-
     fn start(&self, board: &mut Board) {
         write_start(&self.puzzle, board);
     }
@@ -183,26 +179,57 @@ impl<S: Strikes> Rules for SoloRules<S> {
         self.strike(house, board, sets, kept, &mut scratch.work)
     }
 
-    fn keep(
+    fn accept(&self, _scratch: &mut SoloWork<S::Work>, grid: &Grid) -> bool {
+        accepts(&self.puzzle, grid)
+    }
+}
+
+impl<S: Strikes> Propagators for SoloRules<S> {
+    type Counts = ();
+
+    ghost counts_serve = { λ _ _. Unit {0} };
+
+    ghost follows = { λ _ _ _. Unit {0} };
+
+    ghost counts_smaller = { λ _ _ _ _ served. served };
+
+    fn counts(&self, _alloc: Global) -> Result<(), AllocError> {
+        Ok(())
+    }
+
+    fn read(&self, house: usize, board: &Board, sets: &mut [u32]) {
+        gather(board, self.table.places(house), sets);
+    }
+
+    fn filter(
         &self,
         house: usize,
         sets: &[u32],
         kept: &mut [u32],
         scratch: &mut SoloWork<S::Work>,
     ) -> bool {
-        S::keep(&self.puzzle, house, sets, kept, &mut scratch.work);
+        S::filter(&self.puzzle, house, sets, kept, &mut scratch.work);
         true
     }
 
-    fn follow(&self, _board: &Board, _scratch: &mut SoloWork<S::Work>) {}
+    fn watch(&self, _board: &Board, _counts: &mut ()) {}
 
-    fn change(&self, _place: usize, _before: u32, _after: u32, _scratch: &mut SoloWork<S::Work>) {}
+    fn change(&self, _place: usize, _before: u32, _after: u32, _counts: &mut ()) {}
 
-    fn calls(&self, _house: usize, _scratch: &SoloWork<S::Work>) -> bool {
+    fn may_strike(&self, _house: usize, _counts: &()) -> bool {
         true
     }
 
-    fn accept(&self, _scratch: &mut SoloWork<S::Work>, grid: &Grid) -> bool {
-        accepts(&self.puzzle, grid)
+    fn wake(&self, place: usize, _counts: &(), waits: &mut [u64]) {
+        let houses = self.table.houses_at(place);
+        for k in 0..houses.len() {
+            mark(waits, houses[k] as usize);
+        }
     }
+}
+
+impl<S: Strikes> Searchable for SoloRules<S> {
+    type Position = TrailPosition<SoloRules<S>>;
+
+    ghost position_of = { λ _. refl };
 }

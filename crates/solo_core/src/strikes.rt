@@ -6,9 +6,10 @@ ghost use Rattle.solo_core.specs.Common.{Solo, IsSolo, solo_n, House, IsSound, v
 ghost use Rattle.solo_core.specs.RuleSets.{setting_of};
 ghost use Rattle.solo_core.specs.Work.{all_places, HasSets, IsKeptBy};
 
-use crate::houses::crossings::{keep_crossed, push_crossings};
+use crate::houses::crossings::push_crossings;
 use crate::houses::places::{houses, push_houses};
 use crate::houses::rooms::{cells_of_crossings, cells_of_houses, crossings};
+use crate::visits::crossing::keep_crossed;
 use crate::visits::houses::keep_houses;
 use crate::visits::singles::keep_singles;
 use engine_core::HouseList;
@@ -41,7 +42,7 @@ pub trait Strikes {
         ensures { IfOk result (λ work. serves work values) };
 
     /// Decides what is kept of the sets of a house.
-    fn keep(
+    fn filter(
         puzzle: &SoloPuzzle,
         house: usize,
         sets: &[u32],
@@ -107,7 +108,7 @@ impl Strikes for Singles {
         Ok(())
     }
 
-    fn keep(puzzle: &SoloPuzzle, _house: usize, sets: &[u32], kept: &mut [u32], _work: &mut ()) {
+    fn filter(puzzle: &SoloPuzzle, _house: usize, sets: &[u32], kept: &mut [u32], _work: &mut ()) {
         keep_singles(puzzle.n(), sets, kept);
     }
 }
@@ -143,7 +144,7 @@ impl Strikes for Fillings {
         Pairing::new(alloc, values)
     }
 
-    fn keep(
+    fn filter(
         puzzle: &SoloPuzzle,
         _house: usize,
         sets: &[u32],
@@ -187,7 +188,7 @@ impl Strikes for Crossings {
         Fillings::work(alloc, values)
     }
 
-    fn keep(
+    fn filter(
         puzzle: &SoloPuzzle,
         house: usize,
         sets: &[u32],

@@ -6,11 +6,11 @@ ghost use Rattle.commands.specs.Grades.{HasOneSolution, IsRightGrade, searched_g
 
 use crate::grade::{Attempt, Grade};
 use crate::solve::solvable::Solvable;
-use engine_core::{Rules, Store, Verdict};
+use engine_core::{Searchable, Store, Verdict};
 use std::alloc::{AllocError, Global};
 
 /// Whether the rules alone settle their puzzle: it has exactly one solution then.
-pub fn settles<R: Rules>(store: &mut Store<R>, rules: &R) -> bool
+pub fn settles<R: Searchable>(store: &mut Store<R>, rules: &R) -> bool
     requires { FitsIn (needs_of (R.puzzle rules.now)) store.old.made }
     ensures settled { result ≡ is_settled (R.puzzle rules.now) }
     ensures one { result ≡ true → HasOneSolution (Solves (R.puzzle rules.now)) }
@@ -20,7 +20,7 @@ pub fn settles<R: Rules>(store: &mut Store<R>, rules: &R) -> bool
 }
 
 /// The grade of a puzzle by a search.
-fn searched<R: Rules>(store: &mut Store<R>, rules: &R, budget: u64) -> Grade
+fn searched<R: Searchable>(store: &mut Store<R>, rules: &R, budget: u64) -> Grade
     requires { FitsIn (needs_of (R.puzzle rules.now)) store.old.made }
     ensures grade { result ≡ searched_grade (R.puzzle rules.now) budget }
     ensures right { IsRightGrade (Solves (R.puzzle rules.now)) result }
@@ -37,7 +37,7 @@ fn searched<R: Rules>(store: &mut Store<R>, rules: &R, budget: u64) -> Grade
 /// The grade of a puzzle by a search with the rules of its game's searches.
 fn search_grade<P: Solvable>(alloc: Global, puzzle: &P, budget: u64) -> Result<Grade, AllocError>
 where
-    P::Search: Rules,
+    P::Search: Searchable,
     requires means { (rules : P.Search) → P.Search.puzzle rules ≡ P.meaning rules }
     ensures grade { IfOk result (λ grade. grade ≡ searched_grade (P.game.rules puzzle.now) budget) }
     ensures right { IfOk result (λ grade. IsRightGrade (P.game.solves puzzle.now) grade) }
@@ -49,14 +49,14 @@ where
 
 impl Attempt {
     /// The grade of a puzzle by these rules, the last in the list, and else by a search.
-    pub fn grade<P: Solvable, R: Rules>(
+    pub fn grade<P: Solvable, R: Searchable>(
         self,
         puzzle: &P,
         rules: &R,
         store: &mut Store<R>,
     ) -> Result<Grade, AllocError>
     where
-        P::Search: Rules,
+        P::Search: Searchable,
         requires means { (rules : P.Search) → P.Search.puzzle rules ≡ P.meaning rules }
         requires fits { FitsIn (needs_of (R.puzzle rules.now)) store.old.made }
         requires accepted { (g : List ℕ)

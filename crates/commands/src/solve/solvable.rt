@@ -7,7 +7,7 @@ use std::alloc::{AllocError, Global};
 
 /// A puzzle that can be searched.
 pub trait Solvable: Played {
-    /// What a search goes by. Where a search is made, it is asked to be `Rules`.
+    /// What a search goes by. Where a search is made, it is asked to be `Searchable`.
     type Search: Drop;
 
     // What those rules mean.

@@ -10,7 +10,7 @@ ghost use Rattle.maker_core.specs.ThinningSteps.{IsLeft, IsAsked, IsThinning, re
 use crate::draws::shuffle;
 use crate::made::{Kept, Made, Why};
 use crate::thinning::clued::Clued;
-use engine_core::{Rules, Store, Verdict};
+use engine_core::{Searchable, Store, Verdict};
 use grid_core::Grid;
 use rand_core::Rng;
 use std::alloc::{AllocError, Global};
@@ -29,7 +29,7 @@ pub(crate) fn thin<P: Clued, G: Rng>(
     budget: u64,
 ) -> Result<Made<P>, AllocError>
 where
-    P::Search: Rules,
+    P::Search: Searchable,
     requires means { (rules : P.Search) → P.Search.puzzle rules ≡ P.meaning rules }
     requires all { puzzle ≡ P.game.all_clues puzzle answer }
     requires only { IsOnly (P.game.rules puzzle) answer }
@@ -86,7 +86,7 @@ fn shuffled_clues<P: Clued, G: Rng>(
 /// The memory that a search of the puzzle needs.
 fn store_for<P: Clued>(alloc: Global, puzzle: &P) -> Result<Store<P::Search>, AllocError>
 where
-    P::Search: Rules,
+    P::Search: Searchable,
     requires { (rules : P.Search) → P.Search.puzzle rules ≡ P.meaning rules }
     ensures { IfOk result
         (λ store. FitsIn (needs_of (P.game.rules puzzle.now)) store.made) }
@@ -103,7 +103,7 @@ fn try_clues<P: Clued>(
     budget: u64,
 ) -> Result<Vec<Option<Why>>, AllocError>
 where
-    P::Search: Rules,
+    P::Search: Searchable,
     requires means { (rules : P.Search) → P.Search.puzzle rules ≡ P.meaning rules }
     requires one { HasOne (P.game.rules puzzle.old) budget }
     requires order { IsPermutation (clue_places P.game puzzle.old) order.now }
@@ -127,7 +127,7 @@ fn try_clue<P: Clued>(
     budget: u64,
 ) -> Result<Option<Why>, AllocError>
 where
-    P::Search: Rules,
+    P::Search: Searchable,
     requires means { (rules : P.Search) → P.Search.puzzle rules ≡ P.meaning rules }
     requires clue { IsTrue (has_clue P.game puzzle.old place) }
     requires one { HasOne (P.game.rules puzzle.old) budget }

@@ -3,7 +3,7 @@
 ghost use Rattle.std.specs.Prelude.{◌≡◌, true, IfOk};
 ghost use Rattle.maker_core.specs.Made.{HasOne, has_one};
 
-use engine_core::{Rules, Store, Verdict};
+use engine_core::{Searchable, Store, Verdict};
 use std::alloc::{AllocError, Global};
 
 /// Whether the verdict of the rules with that budget is one.
@@ -11,7 +11,7 @@ use std::alloc::{AllocError, Global};
 /// # Errors
 ///
 /// When memory was refused.
-pub(crate) fn is_unique<R: Rules>(alloc: Global, rules: &R, budget: u64) -> Result<bool, AllocError>
+pub(crate) fn is_unique<R: Searchable>(alloc: Global, rules: &R, budget: u64) -> Result<bool, AllocError>
     ensures verdict { IfOk result (λ unique. unique ≡ has_one (R.puzzle rules.now) budget) }
     ensures only { IfOk result (λ yes. yes ≡ true → HasOne (R.puzzle rules.now) budget) }
 {

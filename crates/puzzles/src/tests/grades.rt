@@ -5,7 +5,7 @@ use crate::tests::rows::Row;
 use crate::tests::runs::GRADES;
 use crate::tests::seen::{Seen, observe, outcome};
 use commands::{RuleSet, push_number};
-use engine_core::{Rules, Store, Verdict};
+use engine_core::{Searchable, Store, Verdict};
 use gameid_core::{SoloPuzzle, read_solo};
 use solo_core::{SoloCrossings, SoloHouses, SoloSingles};
 use std::alloc::{AllocError, Global};
@@ -82,7 +82,7 @@ fn a_long_trace_goes_out_in_pieces(rt: HostRuntime) -> Result<(), Fail> {
 }
 
 /// Whether a closing by the rules settles their puzzle.
-fn settles<R: Rules>(alloc: Global, rules: &R) -> Result<bool, AllocError> {
+fn settles<R: Searchable>(alloc: Global, rules: &R) -> Result<bool, AllocError> {
     let mut store = Store::new(alloc, rules)?;
     Ok(store.settles(rules))
 }

@@ -1,6 +1,6 @@
 //! What searches spend, and what their stores are sized for, on puzzles whose walks are short
 //! enough to be followed by hand.
-use engine_core::{Rules, Sizes, Store, Verdict};
+use engine_core::{Searchable, Sizes, Store, Verdict};
 use fields_core::LightRules;
 use gameid_core::{read_lights, read_pattern, read_solo};
 use pattern_core::PatternLines;
@@ -10,7 +10,7 @@ use std::test::Fail;
 
 /// The first of these budgets with which a search does not make so many trials, of which so many
 /// are open at once at most. The searches are made one after the other over one store.
-fn first_other<R: Rules>(
+fn first_other<R: Searchable>(
     alloc: Global,
     rules: &R,
     spent: &[(u64, u64, usize)],

@@ -3,7 +3,7 @@ ghost use Rattle.std.specs.Prelude.{IfOk};
 ghost use Rattle.engine_core.specs.Puzzle.{IsBoardOf};
 
 use crate::tests::seen::outcome;
-use engine_core::{Rules, Store};
+use engine_core::{Rules, Searchable, Store};
 use fields_core::{LightRules, TentRules};
 use gameid_core::{SoloPuzzle, read_lights, read_pattern, read_solo, read_tents};
 use grid_core::Board;
@@ -73,7 +73,7 @@ fn are_same<R: Rules>(rules: &R, one: &Board, other: &Board) -> bool
 }
 
 /// Whether a closing by the rules leaves this board.
-fn closes_to<R: Rules>(alloc: Global, rules: &R, board: &Board) -> Result<bool, AllocError>
+fn closes_to<R: Searchable>(alloc: Global, rules: &R, board: &Board) -> Result<bool, AllocError>
     requires { IsBoardOf (R.puzzle rules.now) board.now }
 {
     let mut store = Store::new(alloc, rules)?;
@@ -82,14 +82,14 @@ fn closes_to<R: Rules>(alloc: Global, rules: &R, board: &Board) -> Result<bool, 
 }
 
 /// Whether a closing by the rules leaves the board that these visits leave.
-fn is_closed_by<R: Rules>(alloc: Global, rules: &R, visits: &[usize]) -> Result<bool, AllocError> {
+fn is_closed_by<R: Searchable>(alloc: Global, rules: &R, visits: &[usize]) -> Result<bool, AllocError> {
     let board = replayed(alloc, rules, visits)?;
     closes_to(alloc, rules, &board)
 }
 
 /// Whether the visits close the board of a puzzle by these rules, and no visits leave it open, but
 /// where it is full from the start.
-fn closes<R: Rules>(
+fn closes<R: Searchable>(
     alloc: Global,
     rules: &R,
     visits: &[usize],
@@ -220,7 +220,7 @@ fn sweeps_told(alloc: Global, words: [&str; 4]) -> Result<usize, Fail> {
 }
 
 /// Whether so many sweeps close the board of a puzzle by these rules, and none leave it open.
-fn sweeps_close<R: Rules>(alloc: Global, rules: &R, sweeps: usize) -> Result<bool, AllocError> {
+fn sweeps_close<R: Searchable>(alloc: Global, rules: &R, sweeps: usize) -> Result<bool, AllocError> {
     let visits = swept(alloc, sweeps, rules.houses())?;
     closes(alloc, rules, &visits, false)
 }

@@ -4,15 +4,13 @@
 ghost use Rattle.std.specs.Prelude.{◌≡◌, ◌<◌, [], OnOk, length};
 ghost use Rattle.engine_core.specs.HouseList.{FitsLists, FitsPlaces};
 ghost use Rattle.solo_core.specs.Common.{solo_n, IsHouseOf};
-ghost use Rattle.solo_core.specs.RuleSets.{crossing_of, crossings_of, rest_of_line, AreShared};
-ghost use Rattle.solo_core.specs.Work.{all_places, HasAdded, HasBegun, HasClosed, IsKeptBy};
+ghost use Rattle.solo_core.specs.RuleSets.{crossing_of, crossings_of, rest_of_line};
+ghost use Rattle.solo_core.specs.Work.{all_places, HasAdded, HasBegun, HasClosed};
 
 use crate::houses::house::SoloHouse;
 use crate::houses::places::{lies, place, push_places};
 use crate::houses::rooms::crossings;
 use crate::houses::scopes::crossing_at;
-use crate::visits::bits::with_bit_if;
-use crate::visits::crossing::keep_crossing;
 use engine_core::HouseList;
 use gameid_core::SoloPuzzle;
 use std::alloc::AllocError;
@@ -70,33 +68,4 @@ pub(crate) fn push_crossings(list: &mut HouseList, puzzle: &SoloPuzzle) -> Resul
         push_crossing(list, puzzle, block, line)?;
     }
     Ok(())
-}
-
-/// Which of the block's cells are the line's too: bit `k` says it of the `k`-th.
-fn shared(puzzle: &SoloPuzzle, block: usize, line: SoloHouse) -> u32
-    requires block_in { block < solo_n puzzle.now }
-    requires line_of { IsHouseOf puzzle.now line }
-    ensures { AreShared puzzle.now block line result }
-{
-    let mut bits = 0;
-    for k in 0..usize::from(puzzle.n()) {
-        let there = lies(puzzle, line, place(puzzle, SoloHouse::Block(block), k));
-        bits = with_bit_if(bits, k, there);
-    }
-    bits
-}
-
-/// Decides what is kept of the sets of the crossing with the number.
-pub(crate) fn keep_crossed(puzzle: &SoloPuzzle, number: usize, sets: &[u32], kept: &mut [u32])
-    requires number_in { number < length (crossings_of puzzle.now) }
-    requires as_many { length kept.old ≡ length sets.now }
-    ensures { IsKeptBy puzzle.now (crossings_of puzzle.now) number sets.now kept.new }
-{
-    let (block, line) = crossing_at(puzzle, number);
-    keep_crossing(
-        usize::from(puzzle.n()),
-        shared(puzzle, block, line),
-        sets,
-        kept,
-    );
 }

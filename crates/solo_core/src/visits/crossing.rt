@@ -1,12 +1,48 @@
 //! What a visit of a crossing of a block and a line keeps.
-#![tactic(auto, using(crate::proofs::CrossingLemmas::part_laws))]
+#![tactic(auto, using(crate::proofs::LawSets::crossing_laws))]
 
-ghost use Rattle.std.specs.Prelude.{◌≡◌, ℕ, ◌≤◌, ◌&&◌, ◌||◌, not, length};
+ghost use Rattle.std.specs.Prelude.{◌≡◌, ℕ, ◌<◌, ◌≤◌, ◌&&◌, ◌||◌, not, length};
 ghost use Rattle.grid_core.specs.Candidates.{max_values};
-ghost use Rattle.solo_core.specs.Common.{has_bit as is_set, IsDecided};
+ghost use Rattle.solo_core.specs.Common.{has_bit as is_set, solo_n, IsDecided, IsHouseOf};
 ghost use Rattle.solo_core.specs.Crossing.{part_has, in_block_alone, in_line_alone, strikes_by_parts};
+ghost use Rattle.solo_core.specs.RuleSets.{crossings_of, AreShared};
+ghost use Rattle.solo_core.specs.Work.{IsKeptBy};
 
+use crate::houses::house::SoloHouse;
+use crate::houses::places::{lies, place};
+use crate::houses::scopes::crossing_at;
+use crate::visits::bits::with_bit_if;
 use engine_core::has_bit;
+use gameid_core::SoloPuzzle;
+
+/// Decides what is kept of the sets of the crossing with the number.
+pub(crate) fn keep_crossed(puzzle: &SoloPuzzle, number: usize, sets: &[u32], kept: &mut [u32])
+    requires number_in { number < length (crossings_of puzzle.now) }
+    requires as_many { length kept.old ≡ length sets.now }
+    ensures { IsKeptBy puzzle.now (crossings_of puzzle.now) number sets.now kept.new }
+{
+    let (block, line) = crossing_at(puzzle, number);
+    keep_crossing(
+        usize::from(puzzle.n()),
+        shared(puzzle, block, line),
+        sets,
+        kept,
+    );
+}
+
+/// Which of the block's cells are the line's too: bit `k` says it of the `k`-th.
+fn shared(puzzle: &SoloPuzzle, block: usize, line: SoloHouse) -> u32
+    requires block_in { block < solo_n puzzle.now }
+    requires line_of { IsHouseOf puzzle.now line }
+    ensures { AreShared puzzle.now block line result }
+{
+    let mut bits = 0;
+    for k in 0..usize::from(puzzle.n()) {
+        let there = lies(puzzle, line, place(puzzle, SoloHouse::Block(block), k));
+        bits = with_bit_if(bits, k, there);
+    }
+    bits
+}
 
 /// Decides what is kept of the sets of a crossing. The first `block` of its cells are the block's, of which those whose
 /// bit is set in `shared` are the line's too; the others are the line's alone.

@@ -20,4 +20,4 @@ returns-clause-left g c =
     c.places-places.ensures ∙ table-places p (g.S.Strikes.houses p) c.args.self.now.table c.args.house c.args.self.now.listed in
     let long = ap length is in
     left_by_visit g.S.Strikes.SETTLED p (g.S.Strikes.houses p) c.args.house c.args.board.now c.apply.new.board c.places-places.result.now _ _ c.requires.board_of
-    is (bits-of_values _ _ _ _ same c.gather.ensures.bits) (sets-of_values _ _ _ _ same c.gather.ensures.sets) c.keep.ensures.decided c.apply.ensures.left (omega (arith, c.gather.auto.sets, length-take {A = ℕ}))
+    is (bits-of_values _ _ _ _ same c.gather.ensures.bits) (sets-of_values _ _ _ _ same c.gather.ensures.sets) c.filter.ensures.decided c.apply.ensures.left (omega (arith, c.gather.auto.sets, length-take {A = ℕ}))

@@ -1,7 +1,7 @@
 use Rattle.std.proofs.Common.{◌∙◌, slice_index, arith}
 use Rattle.solo_core.specs.Common.{Block, lies_in, places_of, solo_cells, solo_n}
 use Rattle.solo_core.specs.HouseLaws.{lists_house, listed-same}
-use Rattle.solo_core.proofs.houses.crossings.shared.Goals as goal
+use Rattle.solo_core.proofs.visits.crossing.shared.Goals as goal
 
 pub returns : goal.returns
 returns c = λ k lt.

@@ -1,6 +1,6 @@
 use Rattle.std.proofs.Common.{◌≡◌, ℕ, ◌<◌, ◌≤◌, false, slice_index}
 use Rattle.solo_core.specs.Common.{has_bit, Block, lies_in, places_of}
-use Rattle.solo_core.proofs.houses.crossings.shared.Given as goal
+use Rattle.solo_core.proofs.visits.crossing.shared.Given as goal
 
 abbrev pub invariant-loop-k : goal.invariant-loop-k
 invariant-loop-k l = record {
