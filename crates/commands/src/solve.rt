@@ -14,18 +14,22 @@ use engine_core::{Searchable, Store, Verdict};
 use gameid_core::{Game, IdFault, Printed};
 use std::alloc::{AllocError, Global};
 
-/// The memory that is kept, where it is enough for the rules, or new memory.
-fn store_for<R: Searchable>(
+/// The memory that is kept, if it is enough for the rules; else new memory is kept in its place.
+fn store_for<'a, R: Searchable>(
     alloc: Global,
-    kept: &mut Option<Store<R>>,
+    kept: &'a mut Option<Store<R>>,
     rules: &R,
-) -> Result<Store<R>, AllocError>
-    ensures { IfOk result (λ store. FitsIn (needs_of (R.puzzle rules.now)) store.made) }
+) -> Result<&'a mut Store<R>, AllocError>
+    ensures { IfOk result (λ store. FitsIn (needs_of (R.puzzle rules.now)) store.now.made) }
 {
-    match kept.take() {
-        Some(store) if store.fits(rules) => Ok(store),
-        _ => Store::new(alloc, rules),
+    let fits = match kept {
+        Some(store) => store.fits(rules),
+        None => false,
+    };
+    if !fits {
+        *kept = Some(Store::new(alloc, rules)?);
     }
+    Ok(kept.as_mut().unwrap())
 }
 
 /// The answer that tells the verdict of a search by the rules, in the memory of a text.
@@ -77,10 +81,8 @@ where
     ensures { IfOk result (λ r. SolvesPuzzle P.Played budget puzzle.now (answer_in r)) }
 {
     let rules = puzzle.rules(alloc)?;
-    let mut store = store_for(alloc, kept, &rules)?;
-    let reply = verdict_reply(&mut store, puzzle, &rules, budget, text)?;
-    *kept = Some(store);
-    Ok(reply)
+    let store = store_for(alloc, kept, &rules)?;
+    verdict_reply(store, puzzle, &rules, budget, text)
 }
 
 /// The answer to an ID that is to be solved, as `solve_id` says.
