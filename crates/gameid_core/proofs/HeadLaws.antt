@@ -20,6 +20,7 @@ use Rattle.gameid_core.specs.Steps.{◌>>=◌}
 use Rattle.grid_core.specs.Extent.{max_side}
 use Rattle.gameid_core.specs.Head.{SizeRead, HeadRead, Sides, has_x, two_sides, side_at, sides_at, size_of, head_at, head_of, has_hash, in_range, max_id}
 use Rattle.gameid_core.specs.HeadTests.{HasNumber, GoesOn, HasSize}
+use Rattle.gameid_core.specs.IdTexts.{puzzle_of}
 use Rattle.gameid_core.specs.SizeText.{IsSizeText, solo_size_text, IsSoloSizeText}
 use Rattle.gameid_core.proofs.Results.{bind_ok, chosen, not_refused, only_taken, taken, ok_is}
 use Rattle.gameid_core.proofs.Numerals.{front_numeral, own, is_lead, begins_front, decimal_leads}
@@ -204,23 +205,33 @@ unfolding head_of
 head_take game text head e = grind (arith, colon_take)
 
 -- a puzzle that was read: its head, and what its description gave
-pub record Parts {B P : Type 0} (game : Game) (text : List ℕ) (body : HeadRead → Result B IdFault) (make : HeadRead → B → P) (p : P) : Type 0 where
+pub record Parts {B P : Type 0} (game : Game) (text : List ℕ) (body : HeadRead → List ℕ → Result B IdFault) (make : HeadRead → B → P) (p : P) : Type 0 where
   pub head : HeadRead
   pub given : B
   pub is_head : IsHead game text head
-  pub read : body head ≡ Ok given
+  pub read : body head (drop head.description text) ≡ Ok given
   pub made : make head given ≡ p
 
-pub parts_of : {B P : Type 0} (game : Game) (text : List ℕ) (body : HeadRead → Result B IdFault) (make : HeadRead → B → P) (p : P) → (head_of game text >>= (λ head. body head >>= (λ b. taken (make head b)))) ≡ Ok p → Parts game text body make p
+pub parts_of : {B P : Type 0} (game : Game) (text : List ℕ) (body : HeadRead → List ℕ → Result B IdFault) (make : HeadRead → B → P) (p : P) → puzzle_of game (λ head description. body head description >>= (λ b. taken (make head b))) text ≡ Ok p → Parts game text body make p
+unfolding puzzle_of
 parts_of game text body make p e = grind (arith, head_take)
 
-pub head_again : (game : Game) (front rest : List ℕ) (a b : ℕ) (x : Bool) → IsGameSize game front a b x → in_range game a b ≡ true → length (front ++ 58 ∷ rest) ≤ max_id → head_of game (front ++ 58 ∷ rest) ≡ Ok (record { size = sized a b x; description = length front + 1 })
+head_again : (game : Game) (front rest : List ℕ) (a b : ℕ) (x : Bool) → IsGameSize game front a b x → in_range game a b ≡ true → length (front ++ 58 ∷ rest) ≤ max_id → head_of game (front ++ 58 ∷ rest) ≡ Ok (record { size = sized a b x; description = length front + 1 })
 unfolding head_of head_at
 head_again game front rest a b x text range short = grind (arith, common_steps, range_small game a b range, position_at, game_size_lacks 58 game front a b x refl refl, game_size_lacks 35 game front a b x refl refl, size_again game front a b x text range)
 
-pub after_front : (front rest : List ℕ) → drop (length front + 1) (front ++ 58 ∷ rest) ≡ rest
+after_front : (front rest : List ℕ) → drop (length front + 1) (front ++ 58 ∷ rest) ≡ rest
 after_front front rest = grind (arith, append_assoc front (58 ∷ []) rest, drop_at (front ++ 58 ∷ []) rest (length front + 1) (length-append front (58 ∷ [])))
 
-pub head_too_long : (game : Game) (text : List ℕ) → max_id < length text → head_of game text ≡ Err TooLong
+-- a size, ':' and a description are read as the description is behind that size
+pub puzzle_again : {P : Type 0} (game : Game) (behind : HeadRead → List ℕ → Result P IdFault) (front rest : List ℕ) (a b : ℕ) (x : Bool) → IsGameSize game front a b x → in_range game a b ≡ true → length (front ++ 58 ∷ rest) ≤ max_id → puzzle_of game behind (front ++ 58 ∷ rest) ≡ behind (record { size = sized a b x; description = length front + 1 }) rest
+unfolding puzzle_of
+puzzle_again game behind front rest a b x size range short = rw (head_again game front rest a b x size range short, after_front front rest) refl
+
+head_too_long : (game : Game) (text : List ℕ) → max_id < length text → head_of game text ≡ Err TooLong
 unfolding head_of
 head_too_long game text over = rw (lt-ltb max_id (length text) over) refl
+
+pub puzzle_too_long : {P : Type 0} (game : Game) (behind : HeadRead → List ℕ → Result P IdFault) (text : List ℕ) → max_id < length text → puzzle_of game behind text ≡ Err TooLong
+unfolding puzzle_of
+puzzle_too_long game behind text over = rw (head_too_long game text over) refl

@@ -1,13 +1,13 @@
 -- Light Up: reading byte by byte, and that a text is read exactly where it spells a puzzle.
-use Rattle.std.proofs.Common.{◌≡◌, ℕ, ◌+◌, ◌≤◌, List, [], ◌∷◌, map, length, drop, get_or, Result, Ok, refl, sym, ap, ◌∙◌, arith, ◌-◌, ◌*◌, true, false}
+use Rattle.std.proofs.Common.{◌≡◌, ℕ, ◌+◌, ◌≤◌, List, [], ◌∷◌, map, length, get_or, Result, Ok, refl, sym, ap, ◌∙◌, arith, ◌-◌, ◌*◌, true, false}
 use Rattle.std.proofs.lemmas.Grind.{common_steps}
 use Rattle.gameid_core.specs.declared.id.fault.IdFault.{IdFault}
 use Rattle.gameid_core.specs.declared.light_up.cell.LightCell.{LightCell}
-use Rattle.gameid_core.specs.Steps.{reading}
+use Rattle.gameid_core.specs.Steps.{reading, Gives}
 use Rattle.gameid_core.specs.Cells.{fill_step, fill_end}
-use Rattle.gameid_core.specs.LightText.{light_token, light_cells_at, LightToken, whites, black, numbered, light_token_byte, light_token_cells, IsLightToken, SpellsLight, light_of}
+use Rattle.gameid_core.specs.LightText.{light_token, light_cells_at, LightToken, whites, black, numbered, light_token_byte, light_token_cells, IsLightToken, SpellsLight, light_behind, light_of}
 use Rattle.gameid_core.specs.OneText.{HasOneReading}
-use Rattle.gameid_core.proofs.OneReading.{reading_of}
+use Rattle.gameid_core.proofs.OneReading.{only_of, reading_of}
 use Rattle.gameid_core.proofs.CellsReading.{Token, cells_spelled, cells_again}
 use Rattle.gameid_core.proofs.Lists.{AllByRecursion-replicate, AllByRecursion-flat_map}
 use Rattle.std.specs.Prelude.{map, replicate}
@@ -18,7 +18,7 @@ use Rattle.gameid_core.specs.Head.{extent_of, in_range}
 use Rattle.gameid_core.specs.Puzzles.{IsLight, IsLightCell, IsWide, Light}
 use Rattle.gameid_core.specs.declared.id.game.Game.TheVariants as game
 use Rattle.gameid_core.proofs.Tokens.{concat_bytes}
-use Rattle.gameid_core.proofs.HeadLaws.{parts_of, plain_size, head_again, after_front}
+use Rattle.gameid_core.proofs.HeadLaws.{parts_of, plain_size, puzzle_again}
 
 abbrev pub lights : ℕ → ℕ → List LightCell → List ℕ → Result (List LightCell) IdFault
 lights all at cells text = reading (fill_step light_token all) (fill_end all) at cells (map (λ b. b ∷ []) text)
@@ -102,9 +102,8 @@ light_again all at tokens each full =
     ap (reading (fill_step light_token all) (fill_end all) at []) (texts_are tokens) ∙ cells_again light_token_text light_token_cells IsLightToken light_token token_read all at [] tokens each (omega arith)
 
 pub light_takes : (text : List ℕ) (p : Light) → light_of text ≡ Ok p → SpellsLight text p
-unfolding light_of
 light_takes text p e =
-    let r = parts_of game.LightUp text (λ head. light_cells_at (head.size.w * head.size.h) head.description (drop head.description text)) (λ head cells. record { size = extent_of head.size; cells = cells }) p e in
+    let r = parts_of game.LightUp text (λ head description. light_cells_at (head.size.w * head.size.h) head.description description) (λ head cells. record { size = extent_of head.size; cells = cells }) p e in
     grind (arith, light_take _ _ _ _ r.read, light_lawful _ _ _ _ _ r.is_head.range r.read, plain_size)
 
 -- a wide size is in the limits of Light Up, which are those of Tents
@@ -112,10 +111,14 @@ pub wide_range : (size : Extent) → IsWide size → in_range game.LightUp size.
 wide_range size h = grind arith
 
 pub light_text_again : (text : List ℕ) (p : Light) → SpellsLight text p → light_of text ≡ Ok p
-unfolding light_of
-light_text_again text p s = grind (arith, head_again game.LightUp s.front (map light_token_byte s.tokens) p.size.w p.size.h false s.size, light_again (p.size.w * p.size.h) (length s.front + 1) s.tokens s.each, after_front s.front (map light_token_byte s.tokens))
+light_text_again text p s = grind (arith, puzzle_again game.LightUp light_behind s.front (map light_token_byte s.tokens) p.size.w p.size.h false s.size, light_again (p.size.w * p.size.h) (length s.front + 1) s.tokens s.each)
 
 pub light_reading : HasOneReading SpellsLight light_of
 light_reading = reading_of _ _ light_text_again light_takes
 
 pub ruleset fit = (cells_few, light_fits)
+
+pub light_only : (text : List ℕ) (r : Result Light IdFault) (p : Light) → Gives (λ q. q) r (light_of text) → SpellsLight text p → Gives (λ q. q) r (Ok p)
+light_only text r p gives s = only_of _ _ light_text_again text r gives p s
+
+pub ruleset reads_exactly = (light_takes, light_only)

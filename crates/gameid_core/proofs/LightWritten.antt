@@ -125,7 +125,4 @@ light_one_text = record { some = light_is_written; one = one_text _ _ light_form
 pub light_spelled : (p : Light) → IsLight p → SpellsLight (light_text p) p
 light_spelled p h = (light_is_written p h).spells
 
-pub light_written_as : (p : Light) (text : List ℕ) → IsLight p → text ≡ light_text p → IsWrittenLight text p
-light_written_as p text h e = rw e (light_is_written p h)
-
-pub ruleset laws = (common_steps, light_spelled, light_short)
+pub ruleset laws = (common_steps, light_is_written, light_spelled, light_short)

@@ -1,25 +1,26 @@
 -- Pattern: a text is read exactly where it spells a puzzle.
-use Rattle.std.proofs.Common.{◌≡◌, ℕ, ◌+◌, true, eqb, List, ◌∷◌, ◌++◌, map, length, drop, Ok, refl, sym, ap, ◌∙◌, inl, inr, arith, append_assoc, [], ◌<◌, ◌≤◌, false, subst}
+use Rattle.std.proofs.Common.{◌≡◌, ℕ, ◌+◌, true, eqb, List, ◌∷◌, ◌++◌, map, length, drop, Ok, refl, sym, ap, ◌∙◌, inl, inr, arith, append_assoc, [], ◌<◌, ◌≤◌, false, subst, Result}
 use Rattle.std.proofs.lemmas.Bool.Decides.{nat_tests}
 use Rattle.std.proofs.lemmas.Grind.{common_steps}
 use Rattle.std.specs.List.{AllByRecursion, flat_map, concat, join_with_byte}
 use Rattle.std.specs.Char.{is_ascii_digit}
 use Rattle.std.proofs.lemmas.List.{append-nil}
 use Rattle.grid_core.specs.Extent.{Extent, IsExtent}
+use Rattle.gameid_core.specs.declared.id.fault.IdFault.{IdFault}
 use Rattle.gameid_core.specs.Words.{begins, value, IsNumeral, words}
-use Rattle.gameid_core.specs.Steps.{reading}
+use Rattle.gameid_core.specs.Steps.{reading, Gives}
 use Rattle.grid_core.specs.Lines.{line_cells, lines_of}
 use Rattle.gameid_core.specs.Puzzles.{used, IsPattern, IsClue, AreClues, Pattern}
-use Rattle.gameid_core.specs.PatternText.{clue_number, clue_token, pattern_step, pattern_end, clues_text, clues_at, pattern_of, SpellsPattern}
+use Rattle.gameid_core.specs.PatternText.{clue_number, clue_token, pattern_step, pattern_end, clues_text, clues_at, pattern_behind, pattern_of, SpellsPattern}
 use Rattle.gameid_core.specs.OneText.{HasOneReading}
-use Rattle.gameid_core.proofs.OneReading.{reading_of}
+use Rattle.gameid_core.proofs.OneReading.{only_of, reading_of}
 use Rattle.gameid_core.proofs.Results.{bind_ok}
 use Rattle.gameid_core.proofs.PatternReading.{first_cases, further_cases, end_is, so_far, step_cases, step_number, clues_lawful}
 use Rattle.gameid_core.proofs.Tokens.{IsWord, numeral_word, words_are, concat_words, cuts_single}
 use Rattle.gameid_core.proofs.Reading.{reading_turn, reading_end}
 use Rattle.gameid_core.proofs.Numerals.{numeral_cuts, joined_cuts}
 use Rattle.gameid_core.specs.Head.{extent_of, in_range}
-use Rattle.gameid_core.proofs.HeadLaws.{parts_of, plain_size, head_again, after_front}
+use Rattle.gameid_core.proofs.HeadLaws.{parts_of, plain_size, puzzle_again}
 use Rattle.gameid_core.specs.declared.id.game.Game.TheVariants as game
 
 -- ---- texts of numerals
@@ -183,14 +184,17 @@ range_of : (size : Extent) → IsExtent size → in_range game.Pattern size.w si
 range_of size h = grind arith
 
 pub pattern_takes : (text : List ℕ) (p : Pattern) → pattern_of text ≡ Ok p → SpellsPattern text p
-unfolding pattern_of
 pattern_takes text p e =
-    let r = parts_of game.Pattern text (λ head. clues_at (extent_of head.size) head.description (drop head.description text)) (λ head clues. record { size = extent_of head.size; clues = clues }) p e in
+    let r = parts_of game.Pattern text (λ head description. clues_at (extent_of head.size) head.description description) (λ head clues. record { size = extent_of head.size; clues = clues }) p e in
     grind (arith, clues_take _ _ _ _ r.read, is_extent r.head.size.w r.head.size.h r.is_head.range, clues_lawful (extent_of r.head.size) r.head.description (drop r.head.description text) r.given, plain_size)
 
 pub pattern_again : (text : List ℕ) (p : Pattern) → SpellsPattern text p → pattern_of text ≡ Ok p
-unfolding pattern_of
-pattern_again text p s = grind (arith, head_again game.Pattern s.front (clues_text s.numerals) p.size.w p.size.h false s.size (range_of p.size s.puzzle.size), clues_again p.size (length s.front + 1) s.numerals s.digits, after_front s.front (clues_text s.numerals))
+pattern_again text p s = grind (arith, puzzle_again game.Pattern pattern_behind s.front (clues_text s.numerals) p.size.w p.size.h false s.size (range_of p.size s.puzzle.size), clues_again p.size (length s.front + 1) s.numerals s.digits)
 
 pub pattern_reading : HasOneReading SpellsPattern pattern_of
 pattern_reading = reading_of _ _ pattern_again pattern_takes
+
+pub pattern_only : (text : List ℕ) (r : Result Pattern IdFault) (p : Pattern) → Gives (λ q. q) r (pattern_of text) → SpellsPattern text p → Gives (λ q. q) r (Ok p)
+pattern_only text r p gives s = only_of _ _ pattern_again text r gives p s
+
+pub ruleset reads_exactly = (pattern_takes, pattern_only)

@@ -93,7 +93,4 @@ pattern_one_text = record { some = pattern_is_written; one = one_text _ _ patter
 pub pattern_spelled : (p : Pattern) → IsPattern p → SpellsPattern (pattern_text p) p
 pattern_spelled p h = (pattern_is_written p h).spells
 
-pub pattern_written_as : (p : Pattern) (text : List ℕ) → IsPattern p → text ≡ pattern_text p → IsWrittenPattern text p
-pattern_written_as p text h e = rw e (pattern_is_written p h)
-
-pub ruleset laws = (common_steps, pattern_spelled, pattern_short)
+pub ruleset laws = (common_steps, pattern_is_written, pattern_spelled, pattern_short)

@@ -152,7 +152,4 @@ solo_one_text = record { some = solo_is_written; one = one_text _ _ solo_form }
 pub solo_spelled : (p : Solo) → IsSolo p → SpellsSolo (solo_text p) p
 solo_spelled p h = (solo_is_written p h).spells
 
-pub solo_written_as : (p : Solo) (text : List ℕ) → IsSolo p → text ≡ solo_text p → IsWrittenSolo text p
-solo_written_as p text h e = rw e (solo_is_written p h)
-
-pub ruleset laws = (common_steps, solo_spelled, solo_short)
+pub ruleset laws = (common_steps, solo_is_written, solo_spelled, solo_short)

@@ -1,14 +1,16 @@
 -- Solo: the tokens of a text, and that a text is read exactly where it spells a puzzle.
-use Rattle.std.proofs.Common.{◌≡◌, ℕ, ◌-◌, ◌<◌, ◌≤◌, true, false, ◌&&◌, eqb, leb, List, ◌∷◌, Ok, Err, refl, subst, ◌∙◌, arith, [], ◌*◌, Bool, get_or, ◌+◌, ◌^◌, ◌++◌, map, length, ap, drop}
+use Rattle.std.proofs.Common.{◌≡◌, ℕ, ◌-◌, ◌<◌, ◌≤◌, true, false, ◌&&◌, eqb, leb, List, ◌∷◌, Ok, Err, refl, subst, ◌∙◌, arith, [], ◌*◌, Bool, get_or, ◌+◌, ◌^◌, ◌++◌, map, length, ap, drop, Result}
 use Rattle.std.proofs.lemmas.Grind.{common_steps}
 use Rattle.std.specs.Prelude.{replicate, decimal}
 use Rattle.std.proofs.lemmas.Bool.{and_parts, false≢true, le-ltb, lt-ltb, leb-true}
 use Rattle.gameid_core.specs.declared.id.fault.IdFault.TheVariants.{BadByte, NumberRange}
+use Rattle.gameid_core.specs.Steps.{Gives}
+use Rattle.gameid_core.specs.declared.id.fault.IdFault.{IdFault}
 use Rattle.gameid_core.specs.Words.{begins, digits_front, after_digits, value, Cuts, words}
 use Rattle.gameid_core.specs.Cells.{is_letter}
-use Rattle.gameid_core.specs.SoloText.{solo_token, solo_cells_at, SoloToken, blanks, gap, given, solo_token_text, solo_token_cells, IsSoloToken, AreApart, SpellsSolo, solo_of}
+use Rattle.gameid_core.specs.SoloText.{solo_token, solo_cells_at, SoloToken, blanks, gap, given, solo_token_text, solo_token_cells, IsSoloToken, AreApart, SpellsSolo, solo_behind, solo_of}
 use Rattle.gameid_core.specs.OneText.{HasOneReading}
-use Rattle.gameid_core.proofs.OneReading.{reading_of}
+use Rattle.gameid_core.proofs.OneReading.{only_of, reading_of}
 use Rattle.gameid_core.proofs.Tokens.{cuts_some, cuts_single, cuts_number, words_nil, IsWord, words_are, concat_words, alone}
 use Rattle.gameid_core.proofs.Numerals.{is_lead, lead_is_digit, numeral_cuts, numeral, own, decimal_leads, value_positive}
 use Rattle.std.specs.List.{AllByRecursion, flat_map, concat}
@@ -19,7 +21,7 @@ use Rattle.gameid_core.proofs.Lists.{AllByRecursion-replicate, AllByRecursion-fl
 use Rattle.gameid_core.specs.declared.id.game.Game.TheVariants as game
 use Rattle.std.specs.Char.{is_ascii_digit}
 use Rattle.std.proofs.lemmas.Fmt.{decimal-digits_value, digits_value-decimal}
-use Rattle.gameid_core.proofs.HeadLaws.{parts_of, solo_size, size_of_solo, head_again, after_front}
+use Rattle.gameid_core.proofs.HeadLaws.{parts_of, solo_size, size_of_solo, puzzle_again}
 
 pub solo_letter : (n at first : ℕ) (after : List ℕ) → 97 ≤ first → first ≤ 122 → Cuts (first ∷ after) (first ∷ []) after × (solo_token n at (first ∷ []) ≡ Ok (replicate (first - 96) 0))
 unfolding solo_token
@@ -172,9 +174,8 @@ solo_again : (n at : ℕ) (tokens : List SoloToken) → n < 2 ^ 64 → AllByRecu
 solo_again n at tokens small each h full = grind (arith, words_again n tokens small each h, cells_again solo_token_text solo_token_cells (IsSoloToken n) (solo_token n) (token_again n small) (n * n) at [] tokens each)
 
 pub solo_takes : (text : List ℕ) (p : Solo) → solo_of text ≡ Ok p → SpellsSolo text p
-unfolding solo_of
 solo_takes text p e =
-    let r = parts_of game.Solo text (λ head. solo_cells_at (head.size.w * head.size.h) head.description (drop head.description text)) (λ head givens. solo_puzzle head.size.w head.size.h head.size.x givens) p e in
+    let r = parts_of game.Solo text (λ head description. solo_cells_at (head.size.w * head.size.h) head.description description) (λ head givens. solo_puzzle head.size.w head.size.h head.size.x givens) p e in
     let h = r.is_head in
     let size : SizeRead = r.head.size in
     let small = n_few size.w size.h h.range in
@@ -192,8 +193,12 @@ solo_takes text p e =
     })
 
 pub solo_text_again : (text : List ℕ) (p : Solo) → SpellsSolo text p → solo_of text ≡ Ok p
-unfolding solo_of
-solo_text_again text p s = grind (arith, head_again game.Solo s.front (flat_map solo_token_text s.tokens) p.c p.r p.x (size_of_solo s.front p.c p.r p.x s.size), solo_again (p.c * p.r) (length s.front + 1) s.tokens, after_front s.front (flat_map solo_token_text s.tokens))
+solo_text_again text p s = grind (arith, puzzle_again game.Solo solo_behind s.front (flat_map solo_token_text s.tokens) p.c p.r p.x (size_of_solo s.front p.c p.r p.x s.size), solo_again (p.c * p.r) (length s.front + 1) s.tokens)
 
 pub solo_reading : HasOneReading SpellsSolo solo_of
 solo_reading = reading_of _ _ solo_text_again solo_takes
+
+pub solo_only : (text : List ℕ) (r : Result Solo IdFault) (p : Solo) → Gives (λ q. q) r (solo_of text) → SpellsSolo text p → Gives (λ q. q) r (Ok p)
+solo_only text r p gives s = only_of _ _ solo_text_again text r gives p s
+
+pub ruleset reads_exactly = (solo_takes, solo_only)

@@ -13,8 +13,8 @@ use Rattle.gameid_core.specs.Words.{begins, joins, words, digits_front, value}
 use Rattle.gameid_core.specs.Steps.{reading}
 use Rattle.grid_core.specs.Lines.{line_cells, lines_of}
 use Rattle.gameid_core.specs.Puzzles.{IsWide, IsTents, AreCounts}
-use Rattle.gameid_core.specs.TentsText.{TentsToken, blanks_and_tree, tents_token_byte, tents_token_cells, IsTentsToken, TentsSoFar, cells_in, tents_run, run_cells, tents_count, tents_step, tents_end, tents_at}
-use Rattle.gameid_core.proofs.Tokens.{front_turn, cuts_single, words_nil, words_first, words_single}
+use Rattle.gameid_core.specs.TentsText.{TentsToken, blanks_and_tree, tents_token_byte, tents_token_cells, IsTentsToken, TentsSoFar, cells_in, tents_run, tents_tree, run_cells, tents_count, tents_step, tents_end, tents_at}
+use Rattle.gameid_core.proofs.Tokens.{front_turn, cuts_single, cuts_some, words_nil, words_first, words_single}
 use Rattle.gameid_core.proofs.Results.{bind_ok}
 use Rattle.std.specs.List.{AllByRecursion}
 use Rattle.gameid_core.proofs.Lists.{AllByRecursion-append, AllByRecursion-replicate}
@@ -92,7 +92,7 @@ pub record Planted (size : Extent) (at : ℕ) (places counts word : List ℕ) (t
   pub leads : at_tents (places ++ run_cells run.0 run.1) counts ≡ t
 
 pub step_cases : (size : Extent) (at : ℕ) (places counts word : List ℕ) (t : TentsSoFar) → tents_step size at (at_tents places counts) word ≡ Ok t → Counted size places counts word t ⊎ Planted size at places counts word t
-unfolding tents_count
+unfolding tents_count tents_tree
 step_cases size at places counts word t e = grind arith
 
 -- ---- what is read fits
@@ -147,4 +147,15 @@ tents_read size at description s wide e = grind (arith, common_steps, sound_read
 pub tents_lawful : (size : Extent) (at : ℕ) (description : List ℕ) (s : TentsSoFar) → IsWide size → tents_at size at description ≡ Ok s → IsTents (record { size = size; trees = take (cells_in size) s.places; counts = s.counts })
 tents_lawful size at description s wide e = grind (arith, tents_read size at description s wide e)
 
-pub ruleset turns = (common_steps, words_nil, words_first, words_single, run_single, run_length)
+-- a byte of the trees is a token, and its places are taken or refused
+pub tree_taken : (size : Extent) (at b : ℕ) (places after : List ℕ) (t : TentsSoFar) → (b ≡ 44 → ⊥) → tents_tree size at (at_tents places []) b ≡ Ok t → reads size at places [] (b ∷ after) ≡ reading (tents_step size) (tents_end size) (at + 1) t (words after)
+unfolding reading tents_tree
+tree_taken size at b places after t other e =
+    let r = bind_ok (tents_run at b) _ t e in
+    grind (arith, common_steps, nat_tests, words_single b after, run_single at b r.0 r.1)
+
+pub tree_refused : (size : Extent) (at b : ℕ) (places after : List ℕ) (f : IdFault) → (b ≡ 44 → ⊥) → tents_tree size at (at_tents places []) b ≡ Err f → reads size at places [] (b ∷ after) ≡ Err f
+unfolding reading tents_tree
+tree_refused size at b places after f other e = grind (arith, common_steps, nat_tests, cuts_some b after)
+
+pub ruleset turns = (common_steps, words_nil, words_first, tree_refused)

@@ -8,12 +8,12 @@ use Rattle.std.proofs.lemmas.List.{append-nil, take_at}
 use Rattle.grid_core.specs.Extent.{Extent}
 use Rattle.gameid_core.specs.declared.id.fault.IdFault.{IdFault}
 use Rattle.gameid_core.specs.Words.{IsNumeral, begins, words, value}
-use Rattle.gameid_core.specs.Steps.{reading}
+use Rattle.gameid_core.specs.Steps.{reading, Gives}
 use Rattle.grid_core.specs.Lines.{line_cells, lines_of}
 use Rattle.gameid_core.specs.Puzzles.{AreCounts, IsTents, Tents}
-use Rattle.gameid_core.specs.TentsText.{TentsSoFar, TentsToken, blanks_and_tree, only_blanks, tents_token_byte, tents_token_cells, IsTentsToken, cells_in, tents_run, run_cells, tents_step, tents_end, tents_at, SpellsTents, tents_of}
+use Rattle.gameid_core.specs.TentsText.{TentsSoFar, TentsToken, blanks_and_tree, only_blanks, tents_token_byte, tents_token_cells, IsTentsToken, cells_in, tents_run, run_cells, tents_tree, tents_step, tents_end, tents_at, SpellsTents, tents_behind, tents_of}
 use Rattle.gameid_core.specs.OneText.{HasOneReading}
-use Rattle.gameid_core.proofs.OneReading.{reading_of}
+use Rattle.gameid_core.proofs.OneReading.{only_of, reading_of}
 use Rattle.gameid_core.proofs.Tokens.{words_single, IsWord, words_are, concat_words, alone}
 use Rattle.gameid_core.proofs.Numerals.{joined_cuts}
 use Rattle.gameid_core.proofs.Results.{bind_ok}
@@ -21,7 +21,7 @@ use Rattle.gameid_core.proofs.Reading.{reading_turn, reading_end}
 use Rattle.gameid_core.proofs.TentsReading.{run_token, run_length, byte_single, end_is, at_tents, run_single, count_read, step_cases, tents_read, tents_lawful}
 use Rattle.gameid_core.specs.declared.id.game.Game.TheVariants as game
 use Rattle.gameid_core.specs.Head.{extent_of, in_range}
-use Rattle.gameid_core.proofs.HeadLaws.{parts_of, plain_size, head_again, after_front}
+use Rattle.gameid_core.proofs.HeadLaws.{parts_of, plain_size, puzzle_again}
 use Rattle.gameid_core.proofs.LightTexts.{wide_of, wide_range, sized}
 
 -- ---- what is read is spelled
@@ -137,7 +137,7 @@ tree_room : (size : Extent) (places trees : List ℕ) (token : TentsToken) (rest
 tree_room size places trees token rest count is = grind (arith, common_steps, blank_last)
 
 trees_again : (size : Extent) (all : TentsSoFar) (places trees : List ℕ) (tokens : List TentsToken) (rest : List ℕ) → AllByRecursion IsTentsToken tokens → length trees ≡ cells_in size → places ++ flat_map tents_token_cells tokens ≡ trees ++ 1 ∷ [] → Reads size all (trees ++ 1 ∷ []) [] rest → Reads size all places [] (map tents_token_byte tokens ++ rest)
-unfolding reading
+unfolding reading tents_tree
 trees_again size all places trees [] rest each count is next at = grind (arith, common_steps)
 trees_again size all places trees (token ∷ tokens) rest each count is next at =
     grind (
@@ -161,9 +161,8 @@ pub fit : (size : Extent) (w h n at : ℕ) (description places counts trees : Li
 fit size w h n at description places counts trees is count kept range e = grind (arith, tents_lawful size at description (at_tents places counts))
 
 pub tents_takes : (text : List ℕ) (p : Tents) → tents_of text ≡ Ok p → SpellsTents text p
-unfolding tents_of
 tents_takes text p e =
-    let r = parts_of game.Tents text (λ head. tents_at (extent_of head.size) head.description (drop head.description text)) (λ head s. record { size = extent_of head.size; trees = take (head.size.w * head.size.h) s.places; counts = s.counts }) p e in
+    let r = parts_of game.Tents text (λ head description. tents_at (extent_of head.size) head.description description) (λ head s. record { size = extent_of head.size; trees = take (head.size.w * head.size.h) s.places; counts = s.counts }) p e in
     let wide = wide_of r.head.size.w r.head.size.h r.is_head.range in
     grind (
       arith,
@@ -175,8 +174,12 @@ tents_takes text p e =
     )
 
 pub tents_text_again : (text : List ℕ) (p : Tents) → SpellsTents text p → tents_of text ≡ Ok p
-unfolding tents_of
-tents_text_again text p s = grind (arith, head_again game.Tents s.front (map tents_token_byte s.tokens ++ numbers_text s.numerals) p.size.w p.size.h false s.size, wide_range p.size, tents_again p.size (length s.front + 1) p.trees p.counts s.tokens s.numerals s.each s.digits, take_at p.trees (1 ∷ []) (p.size.w * p.size.h), after_front s.front (map tents_token_byte s.tokens ++ numbers_text s.numerals))
+tents_text_again text p s = grind (arith, puzzle_again game.Tents tents_behind s.front (map tents_token_byte s.tokens ++ numbers_text s.numerals) p.size.w p.size.h false s.size, wide_range p.size, tents_again p.size (length s.front + 1) p.trees p.counts s.tokens s.numerals s.each s.digits, take_at p.trees (1 ∷ []) (p.size.w * p.size.h))
 
 pub tents_reading : HasOneReading SpellsTents tents_of
 tents_reading = reading_of _ _ tents_text_again tents_takes
+
+pub tents_only : (text : List ℕ) (r : Result Tents IdFault) (p : Tents) → Gives (λ q. q) r (tents_of text) → SpellsTents text p → Gives (λ q. q) r (Ok p)
+tents_only text r p gives s = only_of _ _ tents_text_again text r gives p s
+
+pub ruleset reads_exactly = (tents_takes, tents_only)

@@ -128,7 +128,4 @@ tents_one_text = record { some = tents_is_written; one = one_text _ _ tents_form
 pub tents_spelled : (p : Tents) → IsTents p → SpellsTents (tents_text p) p
 tents_spelled p h = (tents_is_written p h).spells
 
-pub tents_written_as : (p : Tents) (text : List ℕ) → IsTents p → text ≡ tents_text p → IsWrittenTents text p
-tents_written_as p text h e = rw e (tents_is_written p h)
-
-pub ruleset laws = (common_steps, tents_spelled, tents_short)
+pub ruleset laws = (common_steps, tents_is_written, tents_spelled, tents_short)

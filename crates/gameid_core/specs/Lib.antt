@@ -13,6 +13,7 @@ pub mod FirstTokens
 pub mod SoloText
 pub mod LightText
 pub mod TentsText
+pub mod IdTexts
 pub mod Lines
 pub mod GridTexts
 pub mod GridReading

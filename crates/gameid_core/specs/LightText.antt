@@ -1,5 +1,5 @@
 -- Game IDs of Light Up: what a text spells, its first fault, and the one written text.
-use Rattle.std.specs.Prelude.{◌≡◌, ℕ, ◌+◌, ◌-◌, ◌*◌, ◌≤◌, ◌&&◌, List, [], ◌∷◌, ◌++◌, map, drop, length, replicate, slice_index, Result, Ok, Err, nat_le, ◌==◌, if◌then◌else◌}
+use Rattle.std.specs.Prelude.{◌≡◌, ℕ, ◌+◌, ◌-◌, ◌*◌, ◌≤◌, ◌&&◌, List, [], ◌∷◌, ◌++◌, map, length, replicate, slice_index, Result, Ok, Err, nat_le, ◌==◌, if◌then◌else◌}
 use Rattle.std.specs.List.{AllByRecursion, flat_map}
 use Rattle.gameid_core.specs.declared.id.fault.IdFault.{IdFault}
 use Rattle.gameid_core.specs.declared.id.fault.IdFault.TheVariants.{BadByte}
@@ -8,7 +8,8 @@ use Rattle.gameid_core.specs.declared.light_up.cell.LightCell.{LightCell}
 use Rattle.gameid_core.specs.declared.light_up.cell.LightCell.TheVariants.{White, Black, Numbered}
 use Rattle.gameid_core.specs.Words.{begins}
 use Rattle.gameid_core.specs.Steps.{◌>>=◌, reading}
-use Rattle.gameid_core.specs.Head.{extent_of, head_of, max_id}
+use Rattle.gameid_core.specs.Head.{HeadRead, extent_of, max_id}
+use Rattle.gameid_core.specs.IdTexts.{puzzle_of}
 use Rattle.gameid_core.specs.SizeText.{size_text, IsSizeText}
 use Rattle.gameid_core.specs.Cells.{is_letter, fill_step, fill_end, letters}
 use Rattle.gameid_core.specs.Puzzles.{Light, IsLight}
@@ -75,12 +76,15 @@ abbrev pub light_cells_at : ℕ → ℕ → List ℕ → Result (List LightCell)
 light_cells_at all at description =
     reading (fill_step light_token all) (fill_end all) at [] (map (λ b. b ∷ []) description)
 
--- the puzzle that the text spells, or its first fault
-unfoldable pub light_of : List ℕ → Result Light IdFault
-light_of text = do
-  head ← head_of game.LightUp text
-  cells ← light_cells_at (head.size.w * head.size.h) head.description (drop head.description text)
+-- the puzzle that the description spells behind a head, or its first fault
+abbrev pub light_behind : HeadRead → List ℕ → Result Light IdFault
+light_behind head description = do
+  cells ← light_cells_at (head.size.w * head.size.h) head.description description
   Ok (record { size = extent_of head.size; cells = cells })
+
+-- the puzzle that the text spells, or its first fault
+abbrev pub light_of : List ℕ → Result Light IdFault
+light_of text = puzzle_of game.LightUp light_behind text
 
 -- The written text --------------------------------------------------------------------------------
 

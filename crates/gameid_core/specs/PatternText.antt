@@ -9,10 +9,11 @@ use Rattle.gameid_core.specs.declared.id.fault.IdFault.TheVariants.{BadByte, Num
 use Rattle.gameid_core.specs.declared.id.game.Game.TheVariants as game
 use Rattle.gameid_core.specs.Words.{IsNumeral, IsPlain, begins, words, value}
 use Rattle.gameid_core.specs.Steps.{◌>>=◌, reading}
-use Rattle.gameid_core.specs.Head.{extent_of, head_of, max_id}
+use Rattle.gameid_core.specs.Head.{HeadRead, extent_of, max_id}
+use Rattle.gameid_core.specs.IdTexts.{puzzle_of}
 use Rattle.gameid_core.specs.SizeText.{size_text, IsSizeText}
 use Rattle.grid_core.specs.Lines.{line_cells, lines_of}
-use Rattle.gameid_core.specs.Puzzles.{Pattern, IsPattern, used}
+use Rattle.gameid_core.specs.Puzzles.{Pattern, IsPattern, pattern_puzzle, used}
 
 -- What a text spells ------------------------------------------------------------------------------
 
@@ -83,12 +84,15 @@ abbrev pub clues_at : Extent → ℕ → List ℕ → Result (List (List ℕ)) I
 clues_at size at description =
     reading (pattern_step size) (pattern_end size) at nothing_yet (words description)
 
+-- the puzzle that the description spells behind a head, or its first fault
+abbrev pub pattern_behind : HeadRead → List ℕ → Result Pattern IdFault
+pattern_behind head description = do
+  clues ← clues_at (extent_of head.size) head.description description
+  Ok (pattern_puzzle (extent_of head.size) clues)
+
 -- the puzzle that the text spells, or its first fault
-unfoldable pub pattern_of : List ℕ → Result Pattern IdFault
-pattern_of text = do
-  head ← head_of game.Pattern text
-  clues ← clues_at (extent_of head.size) head.description (drop head.description text)
-  Ok (record { size = extent_of head.size; clues = clues })
+abbrev pub pattern_of : List ℕ → Result Pattern IdFault
+pattern_of text = puzzle_of game.Pattern pattern_behind text
 
 -- The written text --------------------------------------------------------------------------------
 

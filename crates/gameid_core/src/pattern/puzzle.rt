@@ -6,7 +6,7 @@ ghost use Rattle.gameid_core.specs.BlackRuns.{runs};
 ghost use Rattle.grid_core.specs.Lines.{lines_of};
 ghost use Rattle.gameid_core.specs.Puzzles.{Pattern, IsPattern, pattern_puzzle};
 
-use crate::lines::black_runs::runs_of_lines;
+use crate::pattern::black_runs::runs_of_lines;
 use crate::pattern::clues::Clues;
 use grid_core::{Grid, Size};
 use std::alloc::{AllocError, Global};

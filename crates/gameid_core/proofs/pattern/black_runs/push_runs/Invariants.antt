@@ -1,0 +1,11 @@
+use Rattle.std.proofs.Common.{◌≡◌, ◌++◌, ◌≤◌, drop}
+use Rattle.gameid_core.specs.BlackRuns.{runs_after, runs}
+use Rattle.grid_core.specs.Lines.{line_numbers}
+use Rattle.gameid_core.proofs.pattern.black_runs.push_runs.Given as goal
+
+abbrev pub invariant-loop-k : goal.invariant-loop-k
+invariant-loop-k l = record {
+  few : l.count ≤ l.k;
+  whole : l.clues.clues ≡ l.fn.clues.clues;
+  so_far : l.clues.clue ++ runs_after l.count (drop l.k (line_numbers l.size l.grid l.line)) ≡ l.fn.clues.clue ++ runs (line_numbers l.size l.grid l.line);
+}

@@ -1,0 +1,14 @@
+use Rattle.std.proofs.Common.{arith}
+use Rattle.std.proofs.lemmas.Grind.{common_steps}
+use Rattle.gameid_core.specs.Steps.{reading}
+use Rattle.gameid_core.proofs.PatternReading.{number_turn, token_small, used_push}
+use Rattle.gameid_core.proofs.pattern.id.clues.Goals as goal
+
+pub loop-first-preserved : goal.loop-first-preserved
+unfolding reading
+loop-first-preserved c = record {
+  short = grind (arith, common_steps);
+  before = grind (arith, common_steps, used_push);
+  small = grind (arith, common_steps, token_small);
+  so_far = grind (arith, common_steps, number_turn);
+}
