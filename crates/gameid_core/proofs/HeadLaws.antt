@@ -1,27 +1,12 @@
 -- The part of an ID before its colon: what is read is spelled, and what is spelled is read.
-use Rattle.std.proofs.Common.{◌≡◌, ℕ, ◌+◌, ◌^◌, ◌<◌, ◌≤◌, Bool, true, false, cond, eqb, ltb, leb, List, ◌∷◌, ◌++◌, length, take, drop, Option, Some, None, Result, Ok, Err, refl, subst, inl, inr, arith, length-append, append_assoc, [], lt-ltb}
-use Rattle.std.proofs.lemmas.Bool.Decides.{nat_tests}
-use Rattle.std.proofs.lemmas.Grind.{common_steps}
-use Rattle.std.specs.Prelude.{decimal, position}
-use Rattle.std.specs.List.{list_any, position_or_len}
-use Rattle.std.specs.Str.{all_ascii_digits}
-use Rattle.std.specs.Char.{is_ascii_digit}
-use Rattle.std.proofs.lemmas.Bool.{and_parts, false≢true, ltb-false, lt-ltb, leb-true}
+use Rattle.gameid_core.specs.Common.{Bool, Err, Game, HasSize, HeadRead, IdFault, IsSoloSizeText, List, None, Ok, Option, Result, Sides, SizeRange, SizeRead, Some, TooLong, Variant, [], after_digits, all_ascii_digits, and_parts, append_assoc, arith, begins, common_steps, cond, decimal, decimal-digits_value, digits_decimal, digits_front, digits_value-decimal, drop, eqb, false, false≢true, has_hash, has_x, head_at, head_of, in_range, inl, inr, is_ascii_digit, leb, leb-true, length, length-append, list_any, lt-ltb, ltb, ltb-false, max_id, max_side, nat_tests, position, position_or_len, puzzle_of, refl, side_at, sides_at, size_of, solo_size_text, subst, take, true, value, ℕ, ◌++◌, ◌+◌, ◌<◌, ◌>>=◌, ◌^◌, ◌∷◌, ◌≡◌, ◌≤◌}
 use Rattle.std.proofs.lemmas.List.{take-append-drop, drop_at}
 use Rattle.std.proofs.lemmas.List.Folds.{list_any-append}
 use Rattle.std.proofs.lemmas.List.Quantifiers.{position-Some}
-use Rattle.std.proofs.lemmas.Fmt.{decimal-digits_value, digits_decimal, digits_value-decimal}
-use Rattle.gameid_core.specs.declared.id.fault.IdFault.{IdFault}
-use Rattle.gameid_core.specs.declared.id.fault.IdFault.TheVariants.{TooLong, Variant, SizeRange}
-use Rattle.gameid_core.specs.declared.id.game.Game.{Game}
 use Rattle.gameid_core.specs.declared.id.game.Game.TheVariants.{Solo}
-use Rattle.gameid_core.specs.Words.{begins, digits_front, after_digits, value}
-use Rattle.gameid_core.specs.Steps.{◌>>=◌}
-use Rattle.grid_core.specs.Extent.{max_side}
-use Rattle.gameid_core.specs.Head.{SizeRead, HeadRead, Sides, has_x, two_sides, side_at, sides_at, size_of, head_at, head_of, has_hash, in_range, max_id}
-use Rattle.gameid_core.specs.HeadTests.{HasNumber, GoesOn, HasSize}
-use Rattle.gameid_core.specs.IdTexts.{puzzle_of}
-use Rattle.gameid_core.specs.SizeText.{IsSizeText, solo_size_text, IsSoloSizeText}
+use Rattle.gameid_core.specs.Head.{two_sides}
+use Rattle.gameid_core.specs.HeadTests.{HasNumber, GoesOn}
+use Rattle.gameid_core.specs.SizeText.{IsSizeText}
 use Rattle.gameid_core.proofs.Results.{bind_ok, chosen, not_refused, only_taken, taken, ok_is}
 use Rattle.gameid_core.proofs.Numerals.{front_numeral, own, is_lead, begins_front, decimal_leads}
 use Rattle.gameid_core.proofs.Reading.{place}

@@ -1,16 +1,8 @@
 -- The first of the tests before the colon that fails is the fault that is read.
-use Rattle.std.proofs.Common.{◌≡◌, ◌↔◌, ℕ, ◌+◌, ◌≤◌, true, false, cond, eqb, ltb, List, ◌∷◌, ◌++◌, length, take, drop, get_or, append_assoc, Some, None, Result, Ok, Err, refl, sym, ap, subst, ◌∙◌, ◌⊎◌, inl, inr, arith, []}
-use Rattle.std.proofs.lemmas.Grind.{common_steps}
-use Rattle.std.specs.Prelude.{position}
-use Rattle.std.specs.List.{AllByRecursion, list_any, position_or_len}
-use Rattle.std.proofs.lemmas.Bool.{cases_eq, false≢true, eq-eqb, ne_eqb, ltb-true, ltb-false}
-use Rattle.std.proofs.lemmas.List.{take_at}
-use Rattle.gameid_core.specs.declared.id.fault.IdFault.{IdFault}
-use Rattle.gameid_core.specs.declared.id.fault.IdFault.TheVariants.{TooLong, SeedId, NoColon, BadSize, Variant, SizeRange}
-use Rattle.gameid_core.specs.declared.id.game.Game.{Game}
-use Rattle.gameid_core.specs.Steps.{◌>>=◌}
-use Rattle.gameid_core.specs.Head.{SizeRead, HeadRead, Sides, side_at, sides_at, size_of, head_at, head_of, has_hash, in_range, max_id}
-use Rattle.gameid_core.specs.HeadTests.{Lacks, Comes, HasSize, FailsSize, FailsHead, size_tests, head_tests, IsFirstFailed}
+use Rattle.gameid_core.specs.Common.{AllByRecursion, Err, FailsHead, FailsSize, Game, HasSize, HeadRead, IdFault, IsFirstFailed, List, None, Ok, Result, Sides, SizeRange, SizeRead, Some, TooLong, Variant, [], ap, append_assoc, arith, common_steps, cond, drop, eqb, false, false≢true, get_or, has_hash, head_at, head_of, head_tests, in_range, inl, inr, length, list_any, ltb, ltb-false, max_id, position, position_or_len, refl, side_at, sides_at, size_of, size_tests, subst, sym, take, take_at, true, ℕ, ◌++◌, ◌+◌, ◌>>=◌, ◌↔◌, ◌∙◌, ◌∷◌, ◌≡◌, ◌≤◌, ◌⊎◌}
+use Rattle.std.proofs.lemmas.Bool.{cases_eq, eq-eqb, ne_eqb, ltb-true}
+use Rattle.gameid_core.specs.declared.id.fault.IdFault.TheVariants.{SeedId, NoColon, BadSize}
+use Rattle.gameid_core.specs.HeadTests.{Lacks, Comes}
 use Rattle.gameid_core.proofs.Results.{ok_is, taken}
 use Rattle.gameid_core.proofs.HeadLaws.{position_at, sides_found, size_read}
 

@@ -1,21 +1,12 @@
 -- Light Up: reading byte by byte, and that a text is read exactly where it spells a puzzle.
-use Rattle.std.proofs.Common.{◌≡◌, ℕ, ◌+◌, ◌≤◌, List, [], ◌∷◌, map, length, get_or, Result, Ok, refl, sym, ap, ◌∙◌, arith, ◌-◌, ◌*◌, true, false}
-use Rattle.std.proofs.lemmas.Grind.{common_steps}
-use Rattle.gameid_core.specs.declared.id.fault.IdFault.{IdFault}
+use Rattle.gameid_core.specs.Common.{AllByRecursion, Extent, Gives, HasOneReading, IdFault, IsExtent, List, Ok, Result, [], ap, arith, common_steps, concat, extent_of, false, fill_end, fill_step, flat_map, get_or, in_range, length, map, max_side, reading, refl, replicate, sym, true, ℕ, ◌*◌, ◌+◌, ◌-◌, ◌∙◌, ◌∷◌, ◌≡◌, ◌≤◌}
+use Rattle.gameid_core.specs.LightText.{IsLightToken, LightToken, SpellsLight, black, light_behind, light_cells_at, light_of, light_token, light_token_byte, light_token_cells, numbered, whites}
+use Rattle.gameid_core.specs.Puzzles.{IsLight, IsLightCell, IsWide, Light}
 use Rattle.gameid_core.specs.declared.light_up.cell.LightCell.{LightCell}
-use Rattle.gameid_core.specs.Steps.{reading, Gives}
-use Rattle.gameid_core.specs.Cells.{fill_step, fill_end}
-use Rattle.gameid_core.specs.LightText.{light_token, light_cells_at, LightToken, whites, black, numbered, light_token_byte, light_token_cells, IsLightToken, SpellsLight, light_behind, light_of}
-use Rattle.gameid_core.specs.OneText.{HasOneReading}
+use Rattle.gameid_core.specs.declared.light_up.cell.LightCell.TheVariants.{Numbered, White}
 use Rattle.gameid_core.proofs.OneReading.{only_of, reading_of}
 use Rattle.gameid_core.proofs.CellsReading.{Token, cells_spelled, cells_again}
 use Rattle.gameid_core.proofs.Lists.{AllByRecursion-replicate, AllByRecursion-flat_map}
-use Rattle.std.specs.Prelude.{map, replicate}
-use Rattle.std.specs.List.{AllByRecursion, flat_map, concat}
-use Rattle.grid_core.specs.Extent.{Extent, IsExtent, max_side}
-use Rattle.gameid_core.specs.declared.light_up.cell.LightCell.TheVariants.{White, Numbered}
-use Rattle.gameid_core.specs.Head.{extent_of, in_range}
-use Rattle.gameid_core.specs.Puzzles.{IsLight, IsLightCell, IsWide, Light}
 use Rattle.gameid_core.specs.declared.id.game.Game.TheVariants as game
 use Rattle.gameid_core.proofs.Tokens.{concat_bytes}
 use Rattle.gameid_core.proofs.HeadLaws.{parts_of, plain_size, puzzle_again}

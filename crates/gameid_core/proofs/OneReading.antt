@@ -1,9 +1,5 @@
 -- A text spells one puzzle or has one fault, for any game whose reading and spelling agree.
-use Rattle.std.proofs.Common.{◌≡◌, ℕ, List, Result, Ok, Err, refl, sym, ◌∙◌, ◌⊎◌, inl, inr}
-use Rattle.std.proofs.Common.{arith}
-use Rattle.gameid_core.specs.declared.id.fault.IdFault.{IdFault}
-use Rattle.gameid_core.specs.Steps.{Gives}
-use Rattle.gameid_core.specs.OneText.{HasOneReading}
+use Rattle.gameid_core.specs.Common.{Err, Gives, HasOneReading, IdFault, List, Ok, Result, arith, inl, inr, refl, sym, ℕ, ◌∙◌, ◌≡◌, ◌⊎◌}
 use Rattle.gameid_core.proofs.Results.{taken, ok_is}
 
 -- what is spelled is read, and what is read is spelled

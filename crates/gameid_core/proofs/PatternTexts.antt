@@ -1,25 +1,13 @@
 -- Pattern: a text is read exactly where it spells a puzzle.
-use Rattle.std.proofs.Common.{◌≡◌, ℕ, ◌+◌, true, eqb, List, ◌∷◌, ◌++◌, map, length, drop, Ok, refl, sym, ap, ◌∙◌, inl, inr, arith, append_assoc, [], ◌<◌, ◌≤◌, false, subst, Result}
-use Rattle.std.proofs.lemmas.Bool.Decides.{nat_tests}
-use Rattle.std.proofs.lemmas.Grind.{common_steps}
-use Rattle.std.specs.List.{AllByRecursion, flat_map, concat, join_with_byte}
-use Rattle.std.specs.Char.{is_ascii_digit}
-use Rattle.std.proofs.lemmas.List.{append-nil}
-use Rattle.grid_core.specs.Extent.{Extent, IsExtent}
-use Rattle.gameid_core.specs.declared.id.fault.IdFault.{IdFault}
-use Rattle.gameid_core.specs.Words.{begins, value, IsNumeral, words}
-use Rattle.gameid_core.specs.Steps.{reading, Gives}
-use Rattle.grid_core.specs.Lines.{line_cells, lines_of}
-use Rattle.gameid_core.specs.Puzzles.{used, IsPattern, IsClue, AreClues, Pattern}
-use Rattle.gameid_core.specs.PatternText.{clue_number, clue_token, pattern_step, pattern_end, clues_text, clues_at, pattern_behind, pattern_of, SpellsPattern}
-use Rattle.gameid_core.specs.OneText.{HasOneReading}
+use Rattle.gameid_core.specs.Common.{AllByRecursion, Extent, Gives, HasOneReading, IdFault, IsExtent, IsNumeral, List, Ok, Result, [], ap, append-nil, append_assoc, arith, begins, common_steps, concat, drop, eqb, extent_of, false, flat_map, in_range, inl, inr, is_ascii_digit, join_with_byte, length, map, nat_tests, reading, refl, subst, sym, true, value, words, ℕ, ◌++◌, ◌+◌, ◌<◌, ◌∙◌, ◌∷◌, ◌≡◌, ◌≤◌, line_cells, lines_of}
+use Rattle.gameid_core.specs.PatternText.{SpellsPattern, clue_number, clue_token, clues_at, clues_text, pattern_behind, pattern_end, pattern_of, pattern_step}
+use Rattle.gameid_core.specs.Puzzles.{AreClues, IsClue, IsPattern, Pattern, used}
 use Rattle.gameid_core.proofs.OneReading.{only_of, reading_of}
 use Rattle.gameid_core.proofs.Results.{bind_ok}
 use Rattle.gameid_core.proofs.PatternReading.{first_cases, further_cases, end_is, so_far, step_cases, step_number, clues_lawful}
 use Rattle.gameid_core.proofs.Tokens.{IsWord, numeral_word, words_are, concat_words, cuts_single}
 use Rattle.gameid_core.proofs.Reading.{reading_turn, reading_end}
 use Rattle.gameid_core.proofs.Numerals.{numeral_cuts, joined_cuts}
-use Rattle.gameid_core.specs.Head.{extent_of, in_range}
 use Rattle.gameid_core.proofs.HeadLaws.{parts_of, plain_size, puzzle_again}
 use Rattle.gameid_core.specs.declared.id.game.Game.TheVariants as game
 

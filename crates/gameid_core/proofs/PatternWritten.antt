@@ -1,17 +1,7 @@
 -- The written text of a puzzle of Pattern: it is short, and it spells the puzzle.
-use Rattle.std.proofs.Common.{◌≡◌, ℕ, ◌+◌, ◌*◌, ◌^◌, ◌<◌, ◌≤◌, List, ◌∷◌, ◌++◌, map, length, refl, sym, ap, inl, arith, length-append, [], subst, ◌∙◌}
-use Rattle.std.proofs.lemmas.Grind.{common_steps}
-use Rattle.std.specs.Prelude.{decimal}
-use Rattle.std.specs.List.{AllByRecursion, join_with_byte}
-use Rattle.std.proofs.lemmas.Fmt.{digits_value-decimal}
-use Rattle.grid_core.specs.Extent.{Extent, IsExtent, max_side}
-use Rattle.gameid_core.specs.Words.{value, IsNumeral, IsPlain}
-use Rattle.gameid_core.specs.SizeText.{size_text}
-use Rattle.grid_core.specs.Lines.{line_cells}
-use Rattle.gameid_core.specs.Puzzles.{Pattern, IsPattern, IsClue, AreClues, used}
-use Rattle.gameid_core.specs.PatternText.{SpellsPattern, IsWrittenPattern, clue_text, pattern_text, clues_text}
-use Rattle.gameid_core.specs.Head.{max_id}
-use Rattle.gameid_core.specs.OneText.{HasOneText}
+use Rattle.gameid_core.specs.Common.{AllByRecursion, Extent, HasOneText, IsExtent, IsNumeral, IsPlain, List, [], ap, arith, common_steps, decimal, digits_value-decimal, inl, join_with_byte, length, length-append, map, max_id, max_side, refl, size_text, subst, sym, value, ℕ, ◌*◌, ◌++◌, ◌+◌, ◌<◌, ◌^◌, ◌∙◌, ◌∷◌, ◌≡◌, ◌≤◌, line_cells}
+use Rattle.gameid_core.specs.PatternText.{IsWrittenPattern, SpellsPattern, clue_text, clues_text, pattern_text}
+use Rattle.gameid_core.specs.Puzzles.{AreClues, IsClue, IsPattern, Pattern, used}
 use Rattle.gameid_core.proofs.OneReading.{one_text}
 use Rattle.gameid_core.proofs.Numerals.{decimal_plain, own, length_decimal, numeral, plain_decimal}
 

@@ -1,10 +1,7 @@
 -- A grid is read row by row: it agrees so far with every grid whose printed form the text begins with, so in the end it
 -- is the only one.
-use Rattle.std.proofs.Common.{◌≡◌, ◌∙◌, ◌*◌, ◌≤◌, ◌++◌, ◌⊎◌, ℕ, List, Option, Some, None, length, take, sym, subst, arith, codes}
-use Rattle.std.proofs.lemmas.Grind.{common_steps}
+use Rattle.gameid_core.specs.Common.{AgreeUpTo, Extent, FitUpTo, IsAsShown, IsPrinted, IsReadOf, List, None, Option, Some, arith, codes, common_steps, length, subst, sym, take, ℕ, ◌*◌, ◌++◌, ◌∙◌, ◌≡◌, ◌≤◌, ◌⊎◌}
 use Rattle.std.proofs.lemmas.List.{ext_get_or, get_or_default, get_or_past}
-use Rattle.grid_core.specs.Extent.{Extent}
-use Rattle.gameid_core.specs.GridReading.{IsAsShown, IsReadOf, FitUpTo, AgreeUpTo, IsPrinted}
 
 -- numbers that fit are a grid
 pub is_shown : (hides : ℕ → Type 0) (values : ℕ) (size : Extent) (g : List ℕ) (y : ℕ) → size.h ≤ y → y ≤ size.h → length g ≡ size.w * size.h

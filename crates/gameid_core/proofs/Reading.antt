@@ -1,11 +1,6 @@
 -- Reading a description token by token, for any game, and its first fault.
-use Rattle.std.proofs.Common.{◌≡◌, ℕ, ◌+◌, ◌-◌, List, ◌∷◌, length, Result, Ok, Err, refl, ap, ◌∙◌, arith, [], ◌↔◌, ◌⊎◌, ◌++◌, sym, inl, inr, length-append}
-use Rattle.std.proofs.lemmas.Grind.{common_steps}
-use Rattle.gameid_core.specs.declared.id.fault.IdFault.{IdFault}
-use Rattle.gameid_core.specs.Words.{words, Cuts}
-use Rattle.gameid_core.specs.Steps.{reading, ◌>>=◌}
-use Rattle.std.specs.List.{concat}
-use Rattle.gameid_core.specs.FirstFault.{stop, FirstFault}
+use Rattle.gameid_core.specs.Common.{Cuts, Err, FirstFault, IdFault, List, Ok, Result, [], ap, arith, common_steps, concat, inl, inr, length, length-append, reading, refl, sym, words, ℕ, ◌++◌, ◌+◌, ◌-◌, ◌>>=◌, ◌↔◌, ◌∙◌, ◌∷◌, ◌≡◌, ◌⊎◌}
+use Rattle.gameid_core.specs.FirstFault.{stop}
 use Rattle.gameid_core.proofs.Results.{bind_ok}
 
 pub reading_turn : {S P : Type 0} (step : ℕ → S → List ℕ → Result S IdFault) (end : S → Result P IdFault) (at : ℕ) (s t : S) (text word after : List ℕ) → Cuts text word after → step at s word ≡ Ok t → reading step end at s (words text) ≡ reading step end (at + length word) t (words after)

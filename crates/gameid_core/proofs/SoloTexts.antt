@@ -1,26 +1,15 @@
 -- Solo: the tokens of a text, and that a text is read exactly where it spells a puzzle.
-use Rattle.std.proofs.Common.{◌≡◌, ℕ, ◌-◌, ◌<◌, ◌≤◌, true, false, ◌&&◌, eqb, leb, List, ◌∷◌, Ok, Err, refl, subst, ◌∙◌, arith, [], ◌*◌, Bool, get_or, ◌+◌, ◌^◌, ◌++◌, map, length, ap, drop, Result}
-use Rattle.std.proofs.lemmas.Grind.{common_steps}
-use Rattle.std.specs.Prelude.{replicate, decimal}
-use Rattle.std.proofs.lemmas.Bool.{and_parts, false≢true, le-ltb, lt-ltb, leb-true}
-use Rattle.gameid_core.specs.declared.id.fault.IdFault.TheVariants.{BadByte, NumberRange}
-use Rattle.gameid_core.specs.Steps.{Gives}
-use Rattle.gameid_core.specs.declared.id.fault.IdFault.{IdFault}
-use Rattle.gameid_core.specs.Words.{begins, digits_front, after_digits, value, Cuts, words}
+use Rattle.gameid_core.specs.Common.{AllByRecursion, BadByte, Bool, Cuts, Err, Gives, HasOneReading, IdFault, List, Ok, Result, SizeRead, [], after_digits, and_parts, ap, arith, begins, common_steps, concat, decimal, decimal-digits_value, digits_front, digits_value-decimal, drop, eqb, false, false≢true, flat_map, get_or, in_range, is_ascii_digit, le-ltb, leb, leb-true, length, lt-ltb, map, max_numbers, refl, replicate, subst, true, value, words, ℕ, ◌&&◌, ◌*◌, ◌++◌, ◌+◌, ◌-◌, ◌<◌, ◌^◌, ◌∙◌, ◌∷◌, ◌≡◌, ◌≤◌}
+use Rattle.gameid_core.specs.Puzzles.{IsSolo, Solo, solo_puzzle}
+use Rattle.gameid_core.specs.SoloText.{AreApart, IsSoloToken, SoloToken, SpellsSolo, blanks, gap, given, solo_behind, solo_cells_at, solo_of, solo_token, solo_token_cells, solo_token_text}
+use Rattle.gameid_core.specs.declared.id.fault.IdFault.TheVariants.{NumberRange}
 use Rattle.gameid_core.specs.Cells.{is_letter}
-use Rattle.gameid_core.specs.SoloText.{solo_token, solo_cells_at, SoloToken, blanks, gap, given, solo_token_text, solo_token_cells, IsSoloToken, AreApart, SpellsSolo, solo_behind, solo_of}
-use Rattle.gameid_core.specs.OneText.{HasOneReading}
 use Rattle.gameid_core.proofs.OneReading.{only_of, reading_of}
 use Rattle.gameid_core.proofs.Tokens.{cuts_some, cuts_single, cuts_number, words_nil, IsWord, words_are, concat_words, alone}
 use Rattle.gameid_core.proofs.Numerals.{is_lead, lead_is_digit, numeral_cuts, numeral, own, decimal_leads, value_positive}
-use Rattle.std.specs.List.{AllByRecursion, flat_map, concat}
-use Rattle.gameid_core.specs.Head.{in_range, max_numbers, SizeRead}
-use Rattle.gameid_core.specs.Puzzles.{IsSolo, solo_puzzle, Solo}
 use Rattle.gameid_core.proofs.CellsReading.{Token, cells_spelled, cells_again}
 use Rattle.gameid_core.proofs.Lists.{AllByRecursion-replicate, AllByRecursion-flat_map}
 use Rattle.gameid_core.specs.declared.id.game.Game.TheVariants as game
-use Rattle.std.specs.Char.{is_ascii_digit}
-use Rattle.std.proofs.lemmas.Fmt.{decimal-digits_value, digits_value-decimal}
 use Rattle.gameid_core.proofs.HeadLaws.{parts_of, solo_size, size_of_solo, puzzle_again}
 
 pub solo_letter : (n at first : ℕ) (after : List ℕ) → 97 ≤ first → first ≤ 122 → Cuts (first ∷ after) (first ∷ []) after × (solo_token n at (first ∷ []) ≡ Ok (replicate (first - 96) 0))

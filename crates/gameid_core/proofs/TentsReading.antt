@@ -1,22 +1,9 @@
 -- Tents: the steps of a description, and that what is read fits.
-use Rattle.std.proofs.Common.{◌≡◌, ℕ, ◌-◌, ◌+◌, ◌<◌, ◌≤◌, Bool, true, false, cond, eqb, ltb, List, [], ◌∷◌, ◌++◌, length, drop, Result, Ok, Err, refl, ap, ◌∙◌, inl, inr, arith, length-append, take, get_or, ◌⊎◌, append_assoc}
-use Rattle.std.proofs.lemmas.Bool.Decides.{nat_tests}
-use Rattle.std.proofs.lemmas.Grind.{common_steps}
-use Rattle.std.specs.Prelude.{replicate}
-use Rattle.std.specs.Char.{is_ascii_digit}
-use Rattle.std.proofs.lemmas.Bool.{false≢true}
-use Rattle.std.proofs.lemmas.List.{length-replicate}
-use Rattle.grid_core.specs.Extent.{Extent}
-use Rattle.gameid_core.specs.declared.id.fault.IdFault.{IdFault}
-use Rattle.gameid_core.specs.declared.id.fault.IdFault.TheVariants.{TooMany, TooFew}
-use Rattle.gameid_core.specs.Words.{begins, joins, words, digits_front, value}
-use Rattle.gameid_core.specs.Steps.{reading}
-use Rattle.grid_core.specs.Lines.{line_cells, lines_of}
-use Rattle.gameid_core.specs.Puzzles.{IsWide, IsTents, AreCounts}
-use Rattle.gameid_core.specs.TentsText.{TentsToken, blanks_and_tree, tents_token_byte, tents_token_cells, IsTentsToken, TentsSoFar, cells_in, tents_run, tents_tree, run_cells, tents_count, tents_step, tents_end, tents_at}
+use Rattle.gameid_core.specs.Common.{AllByRecursion, Bool, Err, Extent, IdFault, List, Ok, Result, TooFew, TooMany, [], ap, append_assoc, arith, begins, common_steps, cond, digits_front, drop, eqb, false, false≢true, get_or, inl, inr, is_ascii_digit, joins, length, length-append, length-replicate, ltb, nat_tests, reading, refl, replicate, take, true, value, words, ℕ, ◌++◌, ◌+◌, ◌-◌, ◌<◌, ◌∙◌, ◌∷◌, ◌≡◌, ◌≤◌, ◌⊎◌, line_cells, lines_of}
+use Rattle.gameid_core.specs.Puzzles.{AreCounts, IsTents, IsWide}
+use Rattle.gameid_core.specs.TentsText.{IsTentsToken, TentsSoFar, TentsToken, blanks_and_tree, cells_in, run_cells, tents_at, tents_count, tents_end, tents_run, tents_step, tents_token_byte, tents_token_cells, tents_tree}
 use Rattle.gameid_core.proofs.Tokens.{front_turn, cuts_single, cuts_some, words_nil, words_first, words_single}
 use Rattle.gameid_core.proofs.Results.{bind_ok}
-use Rattle.std.specs.List.{AllByRecursion}
 use Rattle.gameid_core.proofs.Lists.{AllByRecursion-append, AllByRecursion-replicate}
 
 abbrev pub at_tents : List ℕ → List ℕ → TentsSoFar

@@ -1,18 +1,7 @@
 -- Tents: a text is read exactly where it spells a puzzle.
-use Rattle.std.proofs.Common.{◌≡◌, ℕ, ◌+◌, ◌<◌, ◌≤◌, Bool, true, false, cond, eqb, List, [], ◌∷◌, ◌++◌, map, length, drop, get_or, Result, Ok, refl, ap, ◌∙◌, inl, inr, arith, append_assoc, ◌*◌, take}
-use Rattle.std.proofs.lemmas.Grind.{common_steps}
-use Rattle.std.specs.Prelude.{replicate}
-use Rattle.std.specs.List.{AllByRecursion, flat_map, concat}
-use Rattle.std.specs.Char.{is_ascii_digit}
-use Rattle.std.proofs.lemmas.List.{append-nil, take_at}
-use Rattle.grid_core.specs.Extent.{Extent}
-use Rattle.gameid_core.specs.declared.id.fault.IdFault.{IdFault}
-use Rattle.gameid_core.specs.Words.{IsNumeral, begins, words, value}
-use Rattle.gameid_core.specs.Steps.{reading, Gives}
-use Rattle.grid_core.specs.Lines.{line_cells, lines_of}
+use Rattle.gameid_core.specs.Common.{AllByRecursion, Bool, Extent, Gives, HasOneReading, IdFault, IsNumeral, List, Ok, Result, [], ap, append-nil, append_assoc, arith, begins, common_steps, concat, cond, drop, eqb, extent_of, false, flat_map, get_or, in_range, inl, inr, is_ascii_digit, length, map, reading, refl, replicate, take, take_at, true, value, words, ℕ, ◌*◌, ◌++◌, ◌+◌, ◌<◌, ◌∙◌, ◌∷◌, ◌≡◌, ◌≤◌, line_cells, lines_of}
 use Rattle.gameid_core.specs.Puzzles.{AreCounts, IsTents, Tents}
-use Rattle.gameid_core.specs.TentsText.{TentsSoFar, TentsToken, blanks_and_tree, only_blanks, tents_token_byte, tents_token_cells, IsTentsToken, cells_in, tents_run, run_cells, tents_tree, tents_step, tents_end, tents_at, SpellsTents, tents_behind, tents_of}
-use Rattle.gameid_core.specs.OneText.{HasOneReading}
+use Rattle.gameid_core.specs.TentsText.{IsTentsToken, SpellsTents, TentsSoFar, TentsToken, blanks_and_tree, cells_in, only_blanks, run_cells, tents_at, tents_behind, tents_end, tents_of, tents_run, tents_step, tents_token_byte, tents_token_cells, tents_tree}
 use Rattle.gameid_core.proofs.OneReading.{only_of, reading_of}
 use Rattle.gameid_core.proofs.Tokens.{words_single, IsWord, words_are, concat_words, alone}
 use Rattle.gameid_core.proofs.Numerals.{joined_cuts}
@@ -20,7 +9,6 @@ use Rattle.gameid_core.proofs.Results.{bind_ok}
 use Rattle.gameid_core.proofs.Reading.{reading_turn, reading_end}
 use Rattle.gameid_core.proofs.TentsReading.{run_token, run_length, byte_single, end_is, at_tents, run_single, count_read, step_cases, tents_read, tents_lawful}
 use Rattle.gameid_core.specs.declared.id.game.Game.TheVariants as game
-use Rattle.gameid_core.specs.Head.{extent_of, in_range}
 use Rattle.gameid_core.proofs.HeadLaws.{parts_of, plain_size, puzzle_again}
 use Rattle.gameid_core.proofs.LightTexts.{wide_of, wide_range, sized}
 

@@ -18,3 +18,4 @@ pub mod Lines
 pub mod GridTexts
 pub mod GridReading
 pub mod OneText
+pub mod Common

@@ -1,7 +1,6 @@
 //! Puzzles whose grids can be printed.
 ghost use Rattle.std.specs.Prelude.{◌≡◌, ◌*◌, ◌<◌, ◌++◌, ℕ, List, length, OnOk, string_bytes};
-ghost use Rattle.grid_core.specs.Extent.{Extent, IsExtent};
-ghost use Rattle.grid_core.specs.Grids.{IsGrid};
+ghost use Rattle.gameid_core.specs.Common.{Extent, IsExtent, IsGrid};
 
 use grid_core::{Grid, Size};
 use std::alloc::AllocError;
@@ -40,10 +39,6 @@ pub trait Printed {
     }
 
     /// Adds to a text what is printed of the grid at a place.
-    ///
-    /// # Errors
-    ///
-    /// When memory was refused.
     fn push_cell(&self, text: &mut String, grid: &Grid, place: usize) -> Result<(), AllocError>
         requires grid { IsGrid ((extent self.now).w * (extent self.now).h)
             (value_count self.now) grid.now }

@@ -1,6 +1,6 @@
 //! Puzzles whose printed grids can be read.
 ghost use Rattle.std.specs.Prelude.{◌≡◌, ◌*◌, ◌<◌, ◌≤◌, ◌==◌, ◌++◌, ◌∷◌, [], ℕ, List, Some, None, IfSome, if◌then◌else◌, length, slice_index};
-ghost use Rattle.gameid_core.specs.GridReading.{IsAsShown, Follows};
+ghost use Rattle.gameid_core.specs.Common.{Follows, IsAsShown};
 
 use crate::grids::printed::Printed;
 

@@ -2,11 +2,9 @@
 //! reader and one writer serve all.
 
 ghost use Rattle.std.specs.Prelude.{◌≡◌, ℕ, ◌<◌, ◌+◌, ◌^◌, ◌++◌, List, Result, Err, true, length, string_bytes, IfOk, OnOk};
-ghost use Rattle.gameid_core.specs.Head.{HeadRead, SizeRead, head_of, head_read, in_range, size_read};
-ghost use Rattle.gameid_core.specs.IdTexts.{id_text, puzzle_of};
-ghost use Rattle.gameid_core.specs.Steps.{Gives};
-ghost use Rattle.gameid_core.specs.declared.id.fault.IdFault.{IdFault};
-ghost use Rattle.gameid_core.specs.declared.id.game.Game.{Game};
+ghost use Rattle.gameid_core.specs.Common.{Game, Gives, HeadRead, IdFault, SizeRead, head_of, in_range, puzzle_of, size_read};
+ghost use Rattle.gameid_core.specs.Head.{head_read};
+ghost use Rattle.gameid_core.specs.IdTexts.{id_text};
 
 use crate::id::fault::IdFault;
 use crate::id::game::Game;

@@ -1,18 +1,12 @@
 //! Game IDs of Light Up.
 
-ghost use Rattle.std.specs.Prelude.{◌≡◌, ◌↔◌, map, ℕ, List, ◌<◌, ◌≤◌, ◌+◌, ◌*◌, ◌^◌, ◌∷◌, [], length, IfOk, IfErr, Ok, Err, ◌++◌, string_bytes, OnOk, IfSome, MatchOption};
-ghost use Rattle.grid_core.specs.Extent.{max_side};
-ghost use Rattle.gameid_core.specs.Steps.{Gives, Fails};
-ghost use Rattle.gameid_core.specs.Head.{head_of, max_id};
-ghost use Rattle.gameid_core.specs.declared.id.fault.IdFault.{IdFault};
-ghost use Rattle.gameid_core.specs.Puzzles.{Light, IsLight, IsLightCell};
-ghost use Rattle.gameid_core.specs.FirstTokens.{GivesRun};
-ghost use Rattle.gameid_core.specs.LightText.{SpellsLight, light_token, light_cells_at, light_of, IsWrittenLight, IsBlackByte, light_cells_text, light_text};
-ghost use Rattle.gameid_core.specs.Cells.{fill_step, fill_end};
-ghost use Rattle.gameid_core.specs.FirstFault.{FirstFault};
-ghost use Rattle.gameid_core.specs.OneText.{HasOneReading, HasOneText};
-ghost use Rattle.std.specs.List.{AllByRecursion};
+ghost use Rattle.std.specs.Prelude.{◌≡◌, ◌<◌, ◌≤◌, ◌+◌, ◌*◌, ◌^◌, ◌∷◌, [], length, IfOk, IfErr, Ok, Err, ◌++◌, string_bytes, OnOk, IfSome, MatchOption, false};
+ghost use Rattle.gameid_core.specs.Common.{AllByRecursion, Fails, Gives, IdFault, head_of, max_id, max_side, size_read};
+ghost use Rattle.gameid_core.specs.LightText.{IsWrittenLight, SpellsLight, light_behind, light_cells_at, light_cells_text, light_of, light_text, light_token, IsBlackByte};
+ghost use Rattle.gameid_core.specs.Puzzles.{IsLight, IsLightCell, Light};
 ghost use Rattle.gameid_core.specs.declared.light_up.cell.LightCell.TheVariants.{White};
+ghost use Rattle.gameid_core.specs.FirstTokens.{GivesRun};
+ghost use Rattle.gameid_core.specs.declared.id.game.Game.TheVariants as game;
 
 use crate::id::fault::IdFault;
 use crate::id::game::Game;
@@ -102,12 +96,6 @@ fn push_cells(out: &mut String, cells: &[LightCell]) -> Result<(), AllocError>
 }
 
 impl IdText for LightPuzzle {
-    ghost use Rattle.std.specs.Prelude.{false};
-    ghost use Rattle.gameid_core.specs.Head.{size_read};
-    ghost use Rattle.gameid_core.specs.Puzzles.{IsLight};
-    ghost use Rattle.gameid_core.specs.LightText.{light_behind, light_cells_text};
-    ghost use Rattle.gameid_core.specs.declared.id.game.Game.TheVariants as game;
-
     const GAME: Game = Game::LightUp;
 
     ghost GAME = { game.LightUp };
@@ -162,10 +150,6 @@ pub fn read_lights(alloc: Global, text: &[u8]) -> Result<LightPuzzle, IdFault>
 /// The one written ID of the puzzle, of at most `MAX_ID` bytes, which reads back to an equal
 /// puzzle. Both numbers of the size are written. In each run of white cells all letters but the
 /// last are `z`, and the last run is written too.
-///
-/// # Errors
-///
-/// When memory was refused.
 #[tactic(auto, using(crate::proofs::LightWritten::laws))]
 pub fn write_lights(alloc: Global, puzzle: &LightPuzzle) -> Result<String, AllocError>
     ensures text { IfOk result (λ text. string_bytes text ≡ light_text puzzle.now) }

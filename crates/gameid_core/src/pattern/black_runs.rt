@@ -1,9 +1,8 @@
 //! The black runs of a line.
 
-ghost use Rattle.std.specs.Prelude.{◌≡◌, ◌<◌, ◌*◌, ℕ, suc, List, [], ◌∷◌, ◌++◌, length, replicate, OnOk, IfOk};
-ghost use Rattle.grid_core.specs.Extent.{IsExtent};
+ghost use Rattle.std.specs.Prelude.{◌≡◌, ◌<◌, ◌*◌, ◌++◌, length, OnOk, IfOk};
+ghost use Rattle.gameid_core.specs.Common.{IsExtent, line_numbers, lines_of};
 ghost use Rattle.gameid_core.specs.BlackRuns.{run_of, runs};
-ghost use Rattle.grid_core.specs.Lines.{lines_of, line_numbers};
 ghost use Rattle.gameid_core.specs.Lines.{lines_runs};
 
 use crate::pattern::clues::Clues;

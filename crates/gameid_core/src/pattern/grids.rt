@@ -1,6 +1,6 @@
 //! How grids of Pattern are printed and read.
 
-ghost use Rattle.gameid_core.specs.GridReading.{hides_nothing};
+ghost use Rattle.gameid_core.specs.Common.{hides_nothing};
 ghost use Rattle.gameid_core.specs.GridTexts.{pattern_cell};
 
 use crate::grids::printed::Printed;

@@ -1,19 +1,10 @@
 //! Game IDs of Pattern.
 
-ghost use Rattle.std.specs.Prelude.{◌≡◌, ◌↔◌, ℕ, ◌<◌, ◌≤◌, ◌+◌, ◌^◌, [], ◌∷◌, length, IfOk, IfErr, Ok, Err, List, if◌then◌else◌, ◌++◌, map, string_bytes, OnOk};
-ghost use Rattle.std.specs.Char.{is_ascii_digit};
-ghost use Rattle.gameid_core.specs.Steps.{Gives, Fails};
-ghost use Rattle.gameid_core.specs.Head.{head_of, max_id};
-ghost use Rattle.gameid_core.specs.declared.id.fault.IdFault.{IdFault};
-ghost use Rattle.gameid_core.specs.declared.id.fault.IdFault.TheVariants.{BadByte};
-ghost use Rattle.gameid_core.specs.Puzzles.{used as used_cells, Pattern, IsPattern};
-ghost use Rattle.gameid_core.specs.PatternText.{SpellsPattern, pattern_of, GivesNumber, clue_number, clue_token, clues_at, pattern_step, pattern_end, nothing_yet, IsWrittenPattern, clue_text, pattern_text};
-ghost use Rattle.gameid_core.specs.Words.{begins, digits_front, after_digits, words};
-ghost use Rattle.gameid_core.specs.FirstFault.{FirstFault};
-ghost use Rattle.gameid_core.specs.OneText.{HasOneReading, HasOneText};
-ghost use Rattle.gameid_core.specs.FirstTokens.{TakesNumber};
-ghost use Rattle.grid_core.specs.Extent.{Extent};
-ghost use Rattle.std.specs.List.{join_with_byte};
+ghost use Rattle.std.specs.Prelude.{◌≡◌, ◌<◌, ◌≤◌, ◌+◌, ◌^◌, ◌∷◌, length, IfOk, IfErr, Ok, Err, if◌then◌else◌, ◌++◌, map, string_bytes, OnOk, false};
+ghost use Rattle.gameid_core.specs.Common.{BadByte, Fails, Gives, IdFault, TakesNumber, after_digits, begins, digits_front, head_of, is_ascii_digit, join_with_byte, max_id, size_read};
+ghost use Rattle.gameid_core.specs.PatternText.{GivesNumber, IsWrittenPattern, SpellsPattern, clue_number, clue_text, clue_token, clues_at, pattern_behind, pattern_of, pattern_text};
+ghost use Rattle.gameid_core.specs.Puzzles.{IsPattern, Pattern, used as used_cells};
+ghost use Rattle.gameid_core.specs.declared.id.game.Game.TheVariants as game;
 
 use crate::id::fault::IdFault;
 use crate::id::game::Game;
@@ -156,13 +147,6 @@ fn push_clues(out: &mut String, puzzle: &PatternPuzzle) -> Result<(), AllocError
 }
 
 impl IdText for PatternPuzzle {
-    ghost use Rattle.std.specs.Prelude.{false, map};
-    ghost use Rattle.std.specs.List.{join_with_byte};
-    ghost use Rattle.gameid_core.specs.Head.{size_read};
-    ghost use Rattle.gameid_core.specs.Puzzles.{IsPattern};
-    ghost use Rattle.gameid_core.specs.PatternText.{clue_text, pattern_behind};
-    ghost use Rattle.gameid_core.specs.declared.id.game.Game.TheVariants as game;
-
     const GAME: Game = Game::Pattern;
 
     ghost GAME = { game.Pattern };
@@ -215,10 +199,6 @@ pub fn read_pattern(alloc: Global, text: &[u8]) -> Result<PatternPuzzle, IdFault
 
 /// The one written ID of the puzzle, of at most `MAX_ID` bytes, which reads back to an equal
 /// puzzle. Both numbers of the size are written, and no number has a leading zero.
-///
-/// # Errors
-///
-/// When memory was refused.
 #[tactic(auto, using(crate::proofs::PatternWritten::laws))]
 pub fn write_pattern(alloc: Global, puzzle: &PatternPuzzle) -> Result<String, AllocError>
     ensures text { IfOk result (λ text. string_bytes text ≡ pattern_text puzzle.now) }

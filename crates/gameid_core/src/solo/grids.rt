@@ -1,8 +1,8 @@
 //! How grids of Solo are printed and read.
 
-ghost use Rattle.gameid_core.specs.GridReading.{hides_nothing};
-ghost use Rattle.gameid_core.specs.GridTexts.{solo_cell, solo_extent};
+ghost use Rattle.gameid_core.specs.Common.{hides_nothing};
 ghost use Rattle.gameid_core.specs.Puzzles.{solo_n};
+ghost use Rattle.gameid_core.specs.GridTexts.{solo_cell, solo_extent};
 
 use crate::grids::printed::Printed;
 use crate::grids::readable::Readable;

@@ -1,17 +1,11 @@
 //! Game IDs of Solo.
 
-ghost use Rattle.std.specs.Prelude.{◌≡◌, ◌↔◌, [], ℕ, List, ◌<◌, ◌≤◌, ◌+◌, ◌*◌, ◌^◌, ◌∷◌, ◌&&◌, true, nat_le, length, IfOk, IfErr, Ok, Err, ◌++◌, false, string_bytes, OnOk};
-ghost use Rattle.gameid_core.specs.Steps.{Gives, Fails};
-ghost use Rattle.gameid_core.specs.Words.{begins, words};
+ghost use Rattle.std.specs.Prelude.{◌≡◌, ◌<◌, ◌≤◌, ◌+◌, ◌*◌, ◌^◌, ◌∷◌, ◌&&◌, true, nat_le, length, IfOk, IfErr, Ok, Err, ◌++◌, false, string_bytes, OnOk};
+ghost use Rattle.gameid_core.specs.Common.{Fails, Gives, IdFault, begins, head_of, max_id, max_numbers, size_read, words};
+ghost use Rattle.gameid_core.specs.Puzzles.{IsSolo, Solo};
+ghost use Rattle.gameid_core.specs.SoloText.{IsWrittenSolo, SpellsSolo, before_given, cells_text, solo_behind, solo_cells_at, solo_of, solo_text, solo_token};
 ghost use Rattle.gameid_core.specs.FirstTokens.{TakesRun};
-ghost use Rattle.gameid_core.specs.SoloText.{SpellsSolo, solo_token, solo_cells_at, solo_of, IsWrittenSolo, before_given, cells_text, solo_text};
-ghost use Rattle.gameid_core.specs.Puzzles.{Solo, IsSolo};
-ghost use Rattle.gameid_core.specs.Head.{head_of, max_numbers, max_id};
-ghost use Rattle.gameid_core.specs.declared.id.fault.IdFault.{IdFault};
-ghost use Rattle.gameid_core.specs.Cells.{fill_step, fill_end};
-ghost use Rattle.gameid_core.specs.FirstFault.{FirstFault};
-ghost use Rattle.gameid_core.specs.OneText.{HasOneReading, HasOneText};
-ghost use Rattle.gameid_core.specs.SizeText.{solo_size_text};
+ghost use Rattle.gameid_core.specs.declared.id.game.Game.TheVariants as game;
 
 use crate::id::fault::IdFault;
 use crate::id::game::Game;
@@ -117,11 +111,6 @@ fn push_cells(out: &mut String, givens: &[u8]) -> Result<(), AllocError>
 }
 
 impl IdText for SoloPuzzle {
-    ghost use Rattle.gameid_core.specs.Head.{size_read};
-    ghost use Rattle.gameid_core.specs.Puzzles.{IsSolo};
-    ghost use Rattle.gameid_core.specs.SoloText.{cells_text, solo_behind};
-    ghost use Rattle.gameid_core.specs.declared.id.game.Game.TheVariants as game;
-
     const GAME: Game = Game::Solo;
 
     ghost GAME = { game.Solo };
@@ -183,10 +172,6 @@ pub fn read_solo(alloc: Global, text: &[u8]) -> Result<SoloPuzzle, IdFault>
 /// The one written ID of the puzzle, of at most `MAX_ID` bytes, which reads back to an equal
 /// puzzle. Both numbers of the size are written, and the `x` of Solo X after them. In each run of
 /// blank cells all letters but the last are `z`, and `_` stands exactly between two numbers.
-///
-/// # Errors
-///
-/// When memory was refused.
 #[tactic(auto, using(crate::proofs::SoloCanon::laws))]
 pub fn write_solo(alloc: Global, puzzle: &SoloPuzzle) -> Result<String, AllocError>
     ensures text { IfOk result (λ text. string_bytes text ≡ solo_text puzzle.now) }

@@ -1,17 +1,10 @@
 //! Game IDs of Tents.
 
-ghost use Rattle.std.specs.Prelude.{◌≡◌, [], ◌↔◌, ℕ, List, ◌<◌, ◌≤◌, ◌+◌, ◌^◌, ◌++◌, ◌∷◌, length, OnOk, IfOk, IfErr, Ok, Err, decimal, string_bytes};
-ghost use Rattle.gameid_core.specs.Steps.{Gives, Fails};
-ghost use Rattle.gameid_core.specs.Head.{head_of, max_id};
-ghost use Rattle.gameid_core.specs.declared.id.fault.IdFault.{IdFault};
-ghost use Rattle.gameid_core.specs.Puzzles.{Tents, IsTents};
-ghost use Rattle.gameid_core.specs.TentsText.{SpellsTents, tents_at, tents_of, tents_run, tents_tree, tents_count, tents_step, tents_end, no_places, run_cells, IsWrittenTents, blanks_and_tree, tents_text, tents_token_byte, trees_text};
-ghost use Rattle.grid_core.specs.Extent.{Extent};
-ghost use Rattle.gameid_core.specs.FirstFault.{FirstFault};
-ghost use Rattle.gameid_core.specs.OneText.{HasOneReading, HasOneText};
-ghost use Rattle.gameid_core.specs.Words.{words};
-ghost use Rattle.gameid_core.specs.FirstTokens.{TakesNumber};
-ghost use Rattle.std.specs.List.{flat_map};
+ghost use Rattle.std.specs.Prelude.{◌≡◌, [], ℕ, List, ◌<◌, ◌≤◌, ◌+◌, ◌^◌, ◌++◌, ◌∷◌, length, OnOk, IfOk, IfErr, Ok, Err, decimal, string_bytes, false};
+ghost use Rattle.gameid_core.specs.Common.{Fails, Gives, IdFault, TakesNumber, flat_map, head_of, max_id, size_read};
+ghost use Rattle.gameid_core.specs.Puzzles.{IsTents, Tents};
+ghost use Rattle.gameid_core.specs.TentsText.{IsWrittenTents, SpellsTents, blanks_and_tree, run_cells, tents_at, tents_behind, tents_count, tents_of, tents_run, tents_text, tents_token_byte, tents_tree, trees_text};
+ghost use Rattle.gameid_core.specs.declared.id.game.Game.TheVariants as game;
 
 use crate::id::fault::IdFault;
 use crate::id::game::Game;
@@ -189,13 +182,6 @@ fn push_counts(out: &mut String, counts: &[u8]) -> Result<(), AllocError>
 }
 
 impl IdText for TentsPuzzle {
-    ghost use Rattle.std.specs.Prelude.{◌++◌, ◌∷◌, decimal, false};
-    ghost use Rattle.std.specs.List.{flat_map};
-    ghost use Rattle.gameid_core.specs.Head.{size_read};
-    ghost use Rattle.gameid_core.specs.Puzzles.{IsTents};
-    ghost use Rattle.gameid_core.specs.TentsText.{tents_behind, trees_text};
-    ghost use Rattle.gameid_core.specs.declared.id.game.Game.TheVariants as game;
-
     const GAME: Game = Game::Tents;
 
     ghost GAME = { game.Tents };
@@ -253,10 +239,6 @@ pub fn read_tents(alloc: Global, text: &[u8]) -> Result<TentsPuzzle, IdFault>
 /// The one written ID of the puzzle, of at most `MAX_ID` bytes, which reads back to an equal
 /// puzzle. Both numbers of the size are written, no `z` stands before `_`, and no number has a
 /// leading zero.
-///
-/// # Errors
-///
-/// When memory was refused.
 #[tactic(auto, using(crate::proofs::TentsWritten::laws))]
 pub fn write_tents(alloc: Global, puzzle: &TentsPuzzle) -> Result<String, AllocError>
     ensures text { IfOk result (λ text. string_bytes text ≡ tents_text puzzle.now) }

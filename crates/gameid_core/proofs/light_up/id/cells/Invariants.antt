@@ -1,4 +1,4 @@
-use Rattle.std.proofs.Common.{◌≡◌, ◌+◌, ◌≤◌, length, drop}
+use Rattle.gameid_core.specs.Common.{drop, length, ◌+◌, ◌≡◌, ◌≤◌}
 use Rattle.gameid_core.specs.LightText.{light_cells_at}
 use Rattle.gameid_core.proofs.LightTexts.{lights}
 use Rattle.gameid_core.proofs.light_up.id.cells.Given as goal

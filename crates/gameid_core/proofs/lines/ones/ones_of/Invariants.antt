@@ -1,5 +1,4 @@
-use Rattle.std.proofs.Common.{◌≡◌, ◌≤◌, take}
-use Rattle.grid_core.specs.Lines.{line_numbers}
+use Rattle.gameid_core.specs.Common.{take, ◌≡◌, ◌≤◌, line_numbers}
 use Rattle.gameid_core.specs.Lines.{ones}
 use Rattle.gameid_core.proofs.lines.ones.ones_of.Given as goal
 

@@ -1,6 +1,5 @@
-use Rattle.std.proofs.Common.{◌≡◌, ◌++◌, ◌≤◌, drop}
-use Rattle.gameid_core.specs.BlackRuns.{runs_after, runs}
-use Rattle.grid_core.specs.Lines.{line_numbers}
+use Rattle.gameid_core.specs.Common.{drop, ◌++◌, ◌≡◌, ◌≤◌, line_numbers}
+use Rattle.gameid_core.specs.BlackRuns.{runs, runs_after}
 use Rattle.gameid_core.proofs.pattern.black_runs.push_runs.Given as goal
 
 abbrev pub invariant-loop-k : goal.invariant-loop-k

@@ -1,6 +1,4 @@
-use Rattle.std.proofs.Common.{◌≡◌, ◌++◌, map, take}
-use Rattle.std.specs.Prelude.{decimal, string_bytes}
-use Rattle.std.specs.List.{join_with_byte}
+use Rattle.gameid_core.specs.Common.{decimal, join_with_byte, map, string_bytes, take, ◌++◌, ◌≡◌}
 use Rattle.gameid_core.proofs.pattern.id.push_clue.Given as goal
 
 abbrev pub invariant-loop-k : goal.invariant-loop-k

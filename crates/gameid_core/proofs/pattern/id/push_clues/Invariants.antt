@@ -1,6 +1,4 @@
-use Rattle.std.proofs.Common.{◌≡◌, ◌++◌, map, take}
-use Rattle.std.specs.Prelude.{string_bytes}
-use Rattle.std.specs.List.{join_with_byte}
+use Rattle.gameid_core.specs.Common.{join_with_byte, map, string_bytes, take, ◌++◌, ◌≡◌}
 use Rattle.gameid_core.specs.PatternText.{clue_text}
 use Rattle.gameid_core.proofs.pattern.id.push_clues.Given as goal
 

@@ -1,6 +1,4 @@
-use Rattle.std.proofs.Common.{arith}
-use Rattle.std.proofs.lemmas.Grind.{common_steps}
-use Rattle.gameid_core.specs.Steps.{reading}
+use Rattle.gameid_core.specs.Common.{arith, common_steps, reading}
 use Rattle.gameid_core.proofs.solo.id.cells.Goals as goal
 
 pub loop-first-preserved : goal.loop-first-preserved

@@ -1,5 +1,5 @@
-use Rattle.std.proofs.Common.{◌≡◌, ◌*◌, ◌≤◌, length}
-use Rattle.gameid_core.specs.SoloText.{solo_token, solo_cells_at}
+use Rattle.gameid_core.specs.Common.{length, ◌*◌, ◌≡◌, ◌≤◌}
+use Rattle.gameid_core.specs.SoloText.{solo_cells_at, solo_token}
 use Rattle.gameid_core.proofs.Reading.{place}
 use Rattle.gameid_core.proofs.CellsReading.{fills}
 use Rattle.gameid_core.proofs.solo.id.cells.Given as goal

@@ -1,4 +1,4 @@
-use Rattle.std.proofs.Common.{arith}
+use Rattle.gameid_core.specs.Common.{arith}
 use Rattle.gameid_core.proofs.SoloTexts.{number_word, solo_given, solo_over}
 use Rattle.gameid_core.proofs.solo.id.given.Goals as goal
 

@@ -1,4 +1,4 @@
-use Rattle.std.proofs.Common.{arith}
+use Rattle.gameid_core.specs.Common.{arith}
 use Rattle.gameid_core.proofs.SoloTexts.{solo_letter, solo_gap, bad_byte}
 use Rattle.gameid_core.proofs.solo.id.next_run.Goals as goal
 

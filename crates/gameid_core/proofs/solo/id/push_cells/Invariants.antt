@@ -1,5 +1,4 @@
-use Rattle.std.proofs.Common.{◌≡◌, ◌++◌, ◌≤◌, drop, false}
-use Rattle.std.specs.Prelude.{string_bytes}
+use Rattle.gameid_core.specs.Common.{drop, false, string_bytes, ◌++◌, ◌≡◌, ◌≤◌}
 use Rattle.gameid_core.specs.SoloText.{cells_text}
 use Rattle.gameid_core.proofs.solo.id.push_cells.Given as goal
 

@@ -1,4 +1,4 @@
-use Rattle.std.proofs.Common.{arith}
+use Rattle.gameid_core.specs.Common.{arith}
 use Rattle.gameid_core.specs.TentsText.{tents_count}
 use Rattle.gameid_core.proofs.Tokens.{cuts_some, cuts_single, cuts_joined}
 use Rattle.gameid_core.proofs.TentsReading.{front_some}

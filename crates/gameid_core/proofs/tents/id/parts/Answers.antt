@@ -1,5 +1,4 @@
-use Rattle.std.proofs.Common.{length, arith}
-use Rattle.std.proofs.lemmas.Grind.{common_steps}
+use Rattle.gameid_core.specs.Common.{arith, common_steps, length}
 use Rattle.gameid_core.proofs.Reading.{place}
 use Rattle.gameid_core.proofs.TentsReading.{tree_taken}
 use Rattle.gameid_core.proofs.tents.id.parts.Goals as goal

@@ -1,4 +1,4 @@
-use Rattle.std.proofs.Common.{◌≡◌, ◌≤◌, length}
+use Rattle.gameid_core.specs.Common.{length, ◌≡◌, ◌≤◌}
 use Rattle.gameid_core.specs.TentsText.{tents_at}
 use Rattle.gameid_core.proofs.Reading.{place}
 use Rattle.gameid_core.proofs.TentsReading.{reads}

@@ -1,5 +1,4 @@
-use Rattle.std.proofs.Common.{◌≡◌, ◌≤◌, ◌++◌, drop}
-use Rattle.std.specs.Prelude.{string_bytes}
+use Rattle.gameid_core.specs.Common.{drop, string_bytes, ◌++◌, ◌≡◌, ◌≤◌}
 use Rattle.gameid_core.specs.TentsText.{trees_text}
 use Rattle.gameid_core.proofs.tents.id.push_trees.Given as goal
 

@@ -1,4 +1,4 @@
-use Rattle.std.proofs.Common.{refl}
+use Rattle.gameid_core.specs.Common.{refl}
 use Rattle.gameid_core.proofs.PrintedCells.{mark_read, number_fits}
 use Rattle.gameid_core.proofs.pattern.grids.PatternPuzzleReadable.read_cell.Goals as goal
 

@@ -1,5 +1,4 @@
-use Rattle.std.proofs.Common.{rules}
-use Rattle.grid_core.specs.Extent.{IsExtent}
+use Rattle.gameid_core.specs.Common.{IsExtent, rules}
 use Rattle.gameid_core.proofs.PatternReading.{clues_lawful}
 use Rattle.gameid_core.proofs.pattern.id.PatternPuzzleIdText.read_description.Goals as goal
 

@@ -1,4 +1,4 @@
-use Rattle.std.proofs.Common.{◌∙◌, List, ℕ, get_or, ap}
+use Rattle.gameid_core.specs.Common.{List, ap, get_or, ℕ, ◌∙◌}
 use Rattle.gameid_core.proofs.PrintedCells.{tent_read, number_fits}
 use Rattle.gameid_core.proofs.tents.grids.TentsPuzzleReadable.read_cell.Goals as goal
 
