@@ -1,5 +1,5 @@
 -- The part of an ID before its colon: what is read is spelled, and what is spelled is read.
-use Rattle.gameid_core.specs.Common.{Bool, Err, Game, HasSize, HeadRead, IdFault, IsSoloSizeText, List, None, Ok, Option, Result, Sides, SizeRange, SizeRead, Some, TooLong, Variant, [], after_digits, all_ascii_digits, and_parts, append_assoc, arith, begins, common_steps, cond, decimal, decimal-digits_value, digits_decimal, digits_front, digits_value-decimal, drop, eqb, false, false≢true, has_hash, has_x, head_at, head_of, in_range, inl, inr, is_ascii_digit, leb, leb-true, length, length-append, list_any, lt-ltb, ltb, ltb-false, max_id, max_side, nat_tests, position, position_or_len, puzzle_of, refl, side_at, sides_at, size_of, solo_size_text, subst, take, true, value, ℕ, ◌++◌, ◌+◌, ◌<◌, ◌>>=◌, ◌^◌, ◌∷◌, ◌≡◌, ◌≤◌}
+use Rattle.gameid_core.specs.Common.{size_read, Bool, Err, Game, HasSize, HeadRead, IdFault, IsSoloSizeText, List, None, Ok, Option, Result, Sides, SizeRange, SizeRead, Some, TooLong, Variant, [], after_digits, all_ascii_digits, and_parts, append_assoc, arith, begins, common_steps, cond, decimal, decimal-digits_value, digits_decimal, digits_front, digits_value-decimal, drop, eqb, false, false≢true, has_hash, has_x, head_at, head_of, in_range, inl, inr, is_ascii_digit, leb, leb-true, length, length-append, list_any, lt-ltb, ltb, ltb-false, max_id, max_side, nat_tests, position, position_or_len, puzzle_of, refl, side_at, sides_at, size_of, solo_size_text, subst, take, true, value, ℕ, ◌++◌, ◌+◌, ◌<◌, ◌>>=◌, ◌^◌, ◌∷◌, ◌≡◌, ◌≤◌}
 use Rattle.std.proofs.lemmas.List.{take-append-drop, drop_at}
 use Rattle.std.proofs.lemmas.List.Folds.{list_any-append}
 use Rattle.std.proofs.lemmas.List.Quantifiers.{position-Some}
@@ -53,9 +53,9 @@ abbrev one_side : ℕ → List ℕ → Sides
 one_side a rest = record { w = a; h = a; x = false; rest = rest }
 
 -- a size that the text begins with is read
-pub size_read : (game : Game) (text : List ℕ) (size : Sides) → HasSize game text size → sides_at game text ≡ taken size
+pub has_size_read : (game : Game) (text : List ℕ) (size : Sides) → HasSize game text size → sides_at game text ≡ taken size
 unfolding sides_at
-size_read game text size h3 = grind (arith, common_steps, side_read)
+has_size_read game text size h3 = grind (arith, common_steps, side_read)
 
 goes_on : (game : Game) (after : List ℕ) → GoesOn game after (has_x game after) (cond (has_x game after) (drop 1 after) after)
 goes_on game after = grind arith
@@ -67,28 +67,21 @@ side_found : (text : List ℕ) (x : ℕ × List ℕ) → side_at text ≡ Ok x �
 unfolding side_at
 side_found text x e = grind (arith, number_in text)
 
-one_found : (game : Game) (text : List ℕ) (a : ℕ) (rest : List ℕ) → side_at text ≡ Ok (a, rest) → begins (λ c. eqb c 120) rest ≡ false → HasSize game text (one_side a rest)
-one_found game text a rest e alone =
-    let l = side_found text (a, rest) e in
+one_found : (game : Game) (text : List ℕ) (x : ℕ × List ℕ) → side_at text ≡ Ok x → begins (λ c. eqb c 120) x.1 ≡ false → HasSize game text (one_side x.0 x.1)
+one_found game text x e alone =
+    let l = side_found text x e in
     inl (record { side = l.0; number = l.1; alone = alone; both = (l.2, l.2); plain = refl })
 
-two_found : (game : Game) (text : List ℕ) (a b : ℕ) (rest after : List ℕ) → side_at text ≡ Ok (a, rest) → begins (λ c. eqb c 120) rest ≡ true → side_at (drop 1 rest) ≡ Ok (b, after) → HasSize game text (two_sides game a b after)
-two_found game text a b rest after e x f =
-    let l = side_found text (a, rest) e in
-    let r = side_found (drop 1 rest) (b, after) f in
-    inr (record { left = l.0; right = r.0; behind = drop 1 rest; after = after; first = subst (λ t. HasNumber text l.0 t) (x_first rest x) l.1; second = r.1; goes_on = goes_on game after; both = (l.2, r.2) })
+two_found : (game : Game) (text : List ℕ) (x y : ℕ × List ℕ) → side_at text ≡ Ok x → begins (λ c. eqb c 120) x.1 ≡ true → side_at (drop 1 x.1) ≡ Ok y → HasSize game text (two_sides game x.0 y.0 y.1)
+two_found game text x y e two f =
+    let l = side_found text x e in
+    let r = side_found (drop 1 x.1) y f in
+    inr (record { left = l.0; right = r.0; behind = drop 1 x.1; after = y.1; first = subst (λ t. HasNumber text l.0 t) (x_first x.1 two) l.1; second = r.1; goes_on = goes_on game y.1; both = (l.2, r.2) })
 
 -- and what is read is such a size
 pub sides_found : (game : Game) (text : List ℕ) (size : Sides) → sides_at game text ≡ taken size → HasSize game text size
 unfolding sides_at
-sides_found game text size e =
-    let first = bind_ok (side_at text) (λ f. cond (begins (λ c. eqb c 120) f.1) (side_at (drop 1 f.1) >>= (λ g. taken (two_sides game f.0 g.0 g.1))) (taken (one_side f.0 f.1))) size e in
-    elim (chosen (begins (λ c. eqb c 120) first.0.1) _ _ _ first.2) [
-      | inl c ↦
-          let second = bind_ok (side_at (drop 1 first.0.1)) (λ g. taken (two_sides game first.0.0 g.0 g.1)) size c.1 in
-          subst (HasSize game text) (ok_is (two_sides game first.0.0 second.0.0 second.0.1) size second.2) (two_found game text first.0.0 second.0.0 first.0.1 second.0.1 first.1 c.0 second.1)
-      | inr c ↦ subst (HasSize game text) (ok_is (one_side first.0.0 first.0.1) size c.1) (one_found game text first.0.0 first.0.1 first.1 c.0)
-    ]
+sides_found game text size e = grind (arith, common_steps, one_found game text, two_found game text)
 
 -- a size of the game, with the 'x' of Solo X or without
 abbrev pub IsGameSize : Game → List ℕ → ℕ → ℕ → Bool → Type 0
@@ -104,11 +97,9 @@ size_of_solo front a b x s = grind arith
 pub plain_size : (game : Game) (front : List ℕ) (a b : ℕ) (x : Bool) → (game ≡ Solo → ⊥) → IsGameSize game front a b x → IsSizeText front a b
 plain_size game front a b x other s = grind arith
 
-game_size : (game : Game) (text : List ℕ) (w h : ℕ) (x : Bool) (rest : List ℕ) → w < 2 ^ 64 → h < 2 ^ 64 → length rest ≤ 0 → HasSize game text (record { w = w; h = h; x = x; rest = rest }) → IsGameSize game text w h x
-game_size game text w h x (r ∷ rest) small_w small_h none s = absurd (omega arith)
-game_size game text w h x [] small_w small_h none (inl one) = grind (arith, common_steps, number_decimal text one.side [] one.number)
-game_size game text w h false [] small_w small_h none (inr two) = grind (arith, common_steps, number_decimal text two.left (120 ∷ two.behind) two.first, number_decimal two.behind two.right two.after two.second)
-game_size game text w h true [] small_w small_h none (inr two) = grind (arith, common_steps, number_decimal text two.left (120 ∷ two.behind) two.first, number_decimal two.behind two.right two.after two.second)
+game_size : (game : Game) (text : List ℕ) (s : Sides) → s.w < 2 ^ 64 → s.h < 2 ^ 64 → length s.rest ≤ 0 → HasSize game text s → IsGameSize game text s.w s.h s.x
+game_size game text s small_w small_h none (inl one) = grind (arith, common_steps, number_decimal text one.side s.rest one.number)
+game_size game text s small_w small_h none (inr two) = grind (arith, common_steps, number_decimal text two.left (120 ∷ two.behind) two.first, number_decimal two.behind two.right two.after two.second)
 
 pub sides_again : (game : Game) (front : List ℕ) (a b : ℕ) (x : Bool) → a < 2 ^ 64 → b < 2 ^ 64 → 0 < a → 0 < b → IsGameSize game front a b x → sides_at game front ≡ Ok (record { w = a; h = b; x = x; rest = [] })
 unfolding sides_at
@@ -127,20 +118,17 @@ pub record Small (a b : ℕ) : Type 0 where
 pub range_small : (game : Game) (a b : ℕ) → in_range game a b ≡ true → Small a b
 range_small game a b e = grind arith
 
-abbrev pub sized : ℕ → ℕ → Bool → SizeRead
-sized a b x = record { w = a; h = b; x = x }
-
 pub size_take : (game : Game) (text : List ℕ) (size : SizeRead) → size_of game text ≡ Ok size → IsGameSize game text size.w size.h size.x × (in_range game size.w size.h ≡ true)
 unfolding size_of
 size_take game text size e =
-    let s = bind_ok (sides_at game text) (λ s. cond (ltb 0 (length s.rest)) (Err Variant) (cond (in_range game s.w s.h) (taken (sized s.w s.h s.x)) (Err SizeRange))) size e in
+    let s = bind_ok (sides_at game text) (λ s. cond (ltb 0 (length s.rest)) (Err Variant) (cond (in_range game s.w s.h) (taken (size_read s.w s.h s.x)) (Err SizeRange))) size e in
     let c = not_refused (ltb 0 (length s.0.rest)) _ _ _ s.2 in
     let d = only_taken (in_range game s.0.w s.0.h) _ _ _ c.1 in
     let small = range_small game s.0.w s.0.h d.0 in
-    let here = game_size game text s.0.w s.0.h s.0.x s.0.rest (omega (arith, small.a_small)) (omega (arith, small.b_small)) (ltb-false _ _ c.0) (sides_found game text s.0 s.1) in
-    subst (λ (z : SizeRead). IsGameSize game text z.w z.h z.x × (in_range game z.w z.h ≡ true)) (ok_is (sized s.0.w s.0.h s.0.x) size d.1) (here, d.0)
+    let here = game_size game text s.0 (omega (arith, small.a_small)) (omega (arith, small.b_small)) (ltb-false _ _ c.0) (sides_found game text s.0 s.1) in
+    subst (λ (z : SizeRead). IsGameSize game text z.w z.h z.x × (in_range game z.w z.h ≡ true)) (ok_is (size_read s.0.w s.0.h s.0.x) size d.1) (here, d.0)
 
-pub size_again : (game : Game) (front : List ℕ) (a b : ℕ) (x : Bool) → IsGameSize game front a b x → in_range game a b ≡ true → size_of game front ≡ Ok (sized a b x)
+pub size_again : (game : Game) (front : List ℕ) (a b : ℕ) (x : Bool) → IsGameSize game front a b x → in_range game a b ≡ true → size_of game front ≡ Ok (size_read a b x)
 unfolding size_of
 size_again game front a b x text range = grind (arith, range_small game a b range, sides_again game front a b x)
 
@@ -201,7 +189,7 @@ pub parts_of : {B P : Type 0} (game : Game) (text : List ℕ) (body : HeadRead �
 unfolding puzzle_of
 parts_of game text body make p e = grind (arith, head_take)
 
-head_again : (game : Game) (front rest : List ℕ) (a b : ℕ) (x : Bool) → IsGameSize game front a b x → in_range game a b ≡ true → length (front ++ 58 ∷ rest) ≤ max_id → head_of game (front ++ 58 ∷ rest) ≡ Ok (record { size = sized a b x; description = length front + 1 })
+head_again : (game : Game) (front rest : List ℕ) (a b : ℕ) (x : Bool) → IsGameSize game front a b x → in_range game a b ≡ true → length (front ++ 58 ∷ rest) ≤ max_id → head_of game (front ++ 58 ∷ rest) ≡ Ok (record { size = size_read a b x; description = length front + 1 })
 unfolding head_of head_at
 head_again game front rest a b x text range short = grind (arith, common_steps, range_small game a b range, position_at, game_size_lacks 58 game front a b x refl refl, game_size_lacks 35 game front a b x refl refl, size_again game front a b x text range)
 
@@ -209,7 +197,7 @@ after_front : (front rest : List ℕ) → drop (length front + 1) (front ++ 58 �
 after_front front rest = grind (arith, append_assoc front (58 ∷ []) rest, drop_at (front ++ 58 ∷ []) rest (length front + 1) (length-append front (58 ∷ [])))
 
 -- a size, ':' and a description are read as the description is behind that size
-pub puzzle_again : {P : Type 0} (game : Game) (behind : HeadRead → List ℕ → Result P IdFault) (front rest : List ℕ) (a b : ℕ) (x : Bool) → IsGameSize game front a b x → in_range game a b ≡ true → length (front ++ 58 ∷ rest) ≤ max_id → puzzle_of game behind (front ++ 58 ∷ rest) ≡ behind (record { size = sized a b x; description = length front + 1 }) rest
+pub puzzle_again : {P : Type 0} (game : Game) (behind : HeadRead → List ℕ → Result P IdFault) (front rest : List ℕ) (a b : ℕ) (x : Bool) → IsGameSize game front a b x → in_range game a b ≡ true → length (front ++ 58 ∷ rest) ≤ max_id → puzzle_of game behind (front ++ 58 ∷ rest) ≡ behind (record { size = size_read a b x; description = length front + 1 }) rest
 unfolding puzzle_of
 puzzle_again game behind front rest a b x size range short = rw (head_again game front rest a b x size range short, after_front front rest) refl
 
