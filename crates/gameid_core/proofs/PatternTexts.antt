@@ -1,15 +1,129 @@
--- Pattern: a text is read exactly where it spells a puzzle.
-use Rattle.gameid_core.specs.Common.{AllByRecursion, Extent, Gives, HasOneReading, IdFault, IsExtent, IsNumeral, List, Ok, Result, [], ap, append-nil, append_assoc, arith, begins, common_steps, concat, drop, eqb, extent_of, false, flat_map, in_range, inl, inr, is_ascii_digit, join_with_byte, length, map, nat_tests, reading, refl, subst, sym, true, value, words, ℕ, ◌++◌, ◌+◌, ◌<◌, ◌∙◌, ◌∷◌, ◌≡◌, ◌≤◌, line_cells, lines_of}
-use Rattle.gameid_core.specs.PatternText.{SpellsPattern, clue_number, clue_token, clues_at, clues_text, pattern_behind, pattern_end, pattern_of, pattern_step}
-use Rattle.gameid_core.specs.Puzzles.{AreClues, IsClue, IsPattern, Pattern, used}
-use Rattle.gameid_core.proofs.OneReading.{only_of, reading_of}
-use Rattle.gameid_core.proofs.Results.{bind_ok}
-use Rattle.gameid_core.proofs.PatternReading.{first_cases, further_cases, end_is, so_far, step_cases, step_number, clues_lawful}
-use Rattle.gameid_core.proofs.Tokens.{IsWord, numeral_word, words_are, concat_words, cuts_single}
+-- Pattern: the steps of a description, and that a text is read exactly where it spells a puzzle.
+use Rattle.gameid_core.specs.Common.{BadByte, Bool, Cuts, Err, Extent, IdFault, IsExtent, List, Ok, Result, TakesNumber, TooFew, TooMany, [], after_digits, arith, begins, common_steps, cond, digits_front, drop, eqb, false, inl, inr, is_ascii_digit, length, nat_tests, reading, refl, true, value, words, ℕ, ◌++◌, ◌+◌, ◌<◌, ◌>>=◌, ◌∙◌, ◌∷◌, ◌≡◌, ◌≤◌, ◌⊎◌, line_cells, lines_of, AllByRecursion, Gives, HasOneReading, IsNumeral, ap, append-nil, append_assoc, concat, extent_of, flat_map, in_range, join_with_byte, map, subst, sym}
+use Rattle.gameid_core.specs.PatternText.{GivesNumber, clue_number, clue_token, clues_at, pattern_end, pattern_step, SoFar, SpellsPattern, clues_text, pattern_behind, pattern_of}
+use Rattle.gameid_core.specs.Puzzles.{AreClues, IsClue, IsPattern, used, Pattern}
+use Rattle.std.specs.Borrow.{Bor}
+use Rattle.gameid_core.proofs.Tokens.{front_turn, cuts_some, cuts_single, cuts_number, cuts_joined, words_nil, words_single, IsWord, numeral_word, words_are, concat_words}
 use Rattle.gameid_core.proofs.Reading.{reading_turn, reading_end}
+use Rattle.gameid_core.proofs.Results.{bind_ok}
+use Rattle.gameid_core.proofs.OneReading.{only_of, reading_of}
 use Rattle.gameid_core.proofs.Numerals.{numeral_cuts, joined_cuts}
 use Rattle.gameid_core.proofs.HeadLaws.{parts_of, plain_size, puzzle_again}
 use Rattle.gameid_core.specs.declared.id.game.Game.TheVariants as game
+
+-- what the function of a number gives, from the text at the digits and the number's token
+abbrev GivesDigits : Result ℕ IdFault → List ℕ → ℕ → Result (ℕ × Bor (List ℕ)) IdFault → Type 0
+GivesDigits read digits token r = GivesNumber (cond (begins is_ascii_digit digits) read (Err (BadByte token))) (after_digits digits) r
+
+pub first_takes : (cells line at : ℕ) (clue text : List ℕ) (r : Result (ℕ × Bor (List ℕ)) IdFault) → used clue ≡ 0 → 0 < length text
+    → GivesDigits (clue_number cells line (used clue) at (digits_front text)) text at r → TakesNumber (clue_token cells line clue at) text r
+unfolding clue_token
+first_takes cells line at (n ∷ clue) text r none some gives = absurd (omega arith)
+first_takes cells line at [] [] r none some gives = absurd (omega arith)
+first_takes cells line at [] (b ∷ after) r none some gives = grind (arith, cuts_number (b ∷ after), cuts_some b after)
+
+pub further_takes : (cells line at : ℕ) (clue text : List ℕ) (r : Result (ℕ × Bor (List ℕ)) IdFault) → 0 < used clue → begins (λ b. eqb b 46) text ≡ true
+    → GivesDigits (clue_number cells line (used clue) (at + 1) (digits_front (drop 1 text))) (drop 1 text) at r
+    → TakesNumber (clue_token cells line clue at) text r
+unfolding clue_token
+further_takes cells line at clue [] r some dot gives = absurd cc
+further_takes cells line at clue (b ∷ after) r some dot gives = grind (arith, cuts_joined 46 after refl, cuts_single 46 after)
+
+pub further_other : (cells line at : ℕ) (clue text : List ℕ) → 0 < used clue → 0 < length text → begins (λ b. eqb b 46) text ≡ false
+    → TakesNumber (clue_token cells line clue at) text (Err (BadByte at))
+unfolding clue_token
+further_other cells line at clue [] some first other = absurd (omega arith)
+further_other cells line at clue (b ∷ after) some first other = grind (arith, cuts_some b after)
+
+pub ruleset numbers = (first_takes, further_takes, further_other)
+
+abbrev pub so_far : List (List ℕ) → List ℕ → SoFar
+so_far clues clue = record { clues = clues; clue = clue }
+
+abbrev pub reads : Extent → ℕ → SoFar → List ℕ → Result (List (List ℕ)) IdFault
+reads size at s rest = reading (pattern_step size) (pattern_end size) at s (words rest)
+
+pub step_number : (size : Extent) (at : ℕ) (clues : List (List ℕ)) (clue word : List ℕ) (r : Result ℕ IdFault) → begins (λ b. eqb b 47) word ≡ false → clue_token (line_cells size (length clues)) (length clues) clue at word ≡ r → pattern_step size at (so_far clues clue) word ≡ (r >>= (λ n. Ok (so_far clues (clue ++ n ∷ []))))
+step_number size at clues clue word r other e = rw (other, e) refl
+
+-- '/' ends a clue that is not the last, and is refused after that
+pub slash_full : (size : Extent) (at b : ℕ) (s : SoFar) (after : List ℕ) → b ≡ 47 → length s.clues + 1 ≡ lines_of size → reads size at s (b ∷ after) ≡ Err TooMany
+unfolding reading
+slash_full size at b s after slash full = grind (arith, common_steps, words_single 47 after)
+
+pub slash_turn : (size : Extent) (at b : ℕ) (s : SoFar) (after : List ℕ) → b ≡ 47 → (length s.clues + 1 ≡ lines_of size → ⊥)
+    → reads size at s (b ∷ after) ≡ reads size (at + 1) (so_far (s.clues ++ s.clue ∷ []) []) after
+unfolding reading
+slash_turn size at b s after slash room = grind (arith, common_steps, words_single 47 after)
+
+-- another token adds a number to the clue
+pub number_turn : (size : Extent) (at n : ℕ) (s : SoFar) (text word after : List ℕ) → Cuts text word after → begins (λ b. eqb b 47) text ≡ false
+    → clue_token (line_cells size (length s.clues)) (length s.clues) s.clue at word ≡ Ok n
+    → reads size at s text ≡ reads size (at + length word) (so_far s.clues (s.clue ++ n ∷ [])) after
+number_turn size at n s text word after cuts other token =
+    reading_turn (pattern_step size) (pattern_end size) at s _ text word after cuts (step_number size at s.clues s.clue word (Ok n) (cuts.first _ ∙ other) token)
+
+pub end_is : (size : Extent) (clues : List (List ℕ)) (clue : List ℕ) (full : Bool) → eqb (length clues + 1) (lines_of size) ≡ full → pattern_end size (so_far clues clue) ≡ cond full (Ok (clues ++ clue ∷ [])) (Err TooFew)
+end_is size clues clue full e = rw e refl
+
+pub used_push : (clue : List ℕ) (n : ℕ) → used (clue ++ n ∷ []) ≡ used clue + (n + 1)
+used_push [] n = omega arith
+used_push (m ∷ clue) n = omega (arith, used_push clue n)
+
+-- a number that was taken
+pub first_cases : (cells line at n : ℕ) (word : List ℕ) → clue_token cells line [] at word ≡ Ok n → (begins is_ascii_digit word ≡ true) × (value word ≡ n) × (0 < n) × (n ≤ cells)
+unfolding clue_token clue_number
+first_cases cells line at n word e = grind arith
+
+pub further_cases : (cells line at n m : ℕ) (clue word : List ℕ) → clue_token cells line (m ∷ clue) at word ≡ Ok n → (begins (λ b. eqb b 46) word ≡ true) × (begins is_ascii_digit (drop 1 word) ≡ true) × (value (drop 1 word) ≡ n) × (0 < n) × (used (m ∷ clue) + n ≤ cells)
+unfolding clue_token clue_number
+further_cases cells line at n m clue word e = grind arith
+
+pub token_small : (cells line at n : ℕ) (clue word : List ℕ) → clue_token cells line clue at word ≡ Ok n → (0 < n) × (used clue + n ≤ cells)
+token_small cells line at n [] word e = grind (arith, common_steps, first_cases)
+token_small cells line at n (m ∷ clue) word e = let f = further_cases cells line at n m clue word e in (f.3, f.4)
+
+-- a step that was taken: '/', or a number
+pub record Slash (size : Extent) (clues : List (List ℕ)) (clue word : List ℕ) (t : SoFar) : Type 0 where
+  pub slash : begins (λ b. eqb b 47) word ≡ true
+  pub room : length clues + 1 ≡ lines_of size → ⊥
+  pub leads : so_far (clues ++ clue ∷ []) [] ≡ t
+
+pub record Number (size : Extent) (at : ℕ) (clues : List (List ℕ)) (clue word : List ℕ) (t : SoFar) : Type 0 where
+  pub other : begins (λ b. eqb b 47) word ≡ false
+  pub number : ℕ
+  pub token : clue_token (line_cells size (length clues)) (length clues) clue at word ≡ Ok number
+  pub leads : so_far clues (clue ++ number ∷ []) ≡ t
+
+pub step_cases : (size : Extent) (at : ℕ) (clues : List (List ℕ)) (clue word : List ℕ) (t : SoFar) → pattern_step size at (so_far clues clue) word ≡ Ok t → Slash size clues clue word t ⊎ Number size at clues clue word t
+step_cases size at clues clue word t e = grind arith
+
+-- ---- clues that are read fit
+
+IsClue-push : (cells n : ℕ) (clue : List ℕ) → IsClue cells clue → (0 < n) × (used clue + n ≤ cells) → IsClue cells (clue ++ n ∷ [])
+IsClue-push cells n clue h p = grind (arith, common_steps, used_push)
+
+IsClue-none : (cells : ℕ) → IsClue cells []
+IsClue-none cells = record { positive = tt; fits = omega arith }
+
+AreClues-push : (size : Extent) (line : ℕ) (clues : List (List ℕ)) (clue : List ℕ) → AreClues size line clues → IsClue (line_cells size (line + length clues)) clue → AreClues size line (clues ++ clue ∷ [])
+AreClues-push size line [] clue h p = grind arith
+AreClues-push size line (c ∷ clues) clue h p = grind (arith, nat_tests, AreClues-push size (line + 1) clues clue h.1)
+
+lawful : (size : Extent) (at : ℕ) (clues : List (List ℕ)) (clue : List ℕ) (ws : List (List ℕ)) (all : List (List ℕ)) → AreClues size 0 clues → IsClue (line_cells size (length clues)) clue → reading (pattern_step size) (pattern_end size) at (so_far clues clue) ws ≡ Ok all → AreClues size 0 all × (length all ≡ lines_of size)
+unfolding reading
+lawful size at clues clue [] all h p e = grind (arith, common_steps, AreClues-push size 0 clues clue h)
+lawful size at clues clue (word ∷ ws) all h p e =
+    let b = bind_ok (pattern_step size at (so_far clues clue) word) (λ t. reading (pattern_step size) (pattern_end size) (at + length word) t ws) all e in
+    elim (step_cases size at clues clue word b.0 b.1) [
+      | inl s ↦ lawful size (at + length word) (clues ++ clue ∷ []) [] ws all (AreClues-push size 0 clues clue h (grind arith)) (IsClue-none _) (grind arith)
+      | inr n ↦ lawful size (at + length word) clues (clue ++ n.number ∷ []) ws all h (IsClue-push _ _ clue p (token_small _ _ _ _ _ _ n.token)) (grind arith)
+    ]
+
+pub clues_lawful : (size : Extent) (at : ℕ) (description : List ℕ) (all : List (List ℕ)) → IsExtent size → clues_at size at description ≡ Ok all → IsPattern (record { size = size; clues = all })
+clues_lawful size at description all h e = grind (arith, lawful size at [] [] (words description) all tt)
+
+pub ruleset turns = (common_steps, words_nil, slash_full, slash_turn, used_push, token_small)
 
 -- ---- texts of numerals
 

@@ -55,7 +55,7 @@ fn number<'a>(
 }
 
 /// The number that comes next in a clue, and the text after it: a further number stands behind '.'.
-#[tactic(auto, using(crate::proofs::PatternReading::numbers))]
+#[tactic(auto, using(crate::proofs::PatternTexts::numbers))]
 fn next_number<'a>(
     line: &LineSoFar<'_>,
     at: usize,
@@ -80,7 +80,7 @@ fn next_number<'a>(
 }
 
 /// The clues of a description, which begins at that place of the ID.
-#[tactic(auto, using(crate::proofs::PatternReading::turns), unfolding(crate::specs::Steps::reading))]
+#[tactic(auto, using(crate::proofs::PatternTexts::turns), unfolding(crate::specs::Steps::reading))]
 fn clues(alloc: Global, size: Size, base: usize, description: &[u8]) -> Result<Clues, IdFault>
     requires { base + length description.now < 2 ^ 32 }
     ensures { Gives (λ c. c.clues) result (clues_at size base description.now) }

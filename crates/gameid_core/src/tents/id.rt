@@ -47,7 +47,7 @@ fn run_of(at: usize, first: u8) -> Result<(usize, bool), IdFault>
 }
 
 /// Adds the places that a byte of the trees stands for.
-#[tactic(auto, using(crate::proofs::TentsReading::run_length), unfolding(crate::specs::TentsText::tents_tree))]
+#[tactic(auto, using(crate::proofs::TentsTexts::run_length), unfolding(crate::specs::TentsText::tents_tree))]
 fn take_places(size: Size, at: usize, first: u8, places: &mut Vec<u8>) -> Result<(), IdFault>
     ensures { Gives (λ done. record { places = places.new.items; counts = [] }) result
         (tents_tree size at (record { places = places.old.items; counts = [] }) first) }
@@ -91,7 +91,7 @@ fn count_at<'a>(
 }
 
 /// The places and counts of a description, which begins at that place of the ID.
-#[tactic(auto, using(crate::proofs::TentsReading::turns), unfolding(crate::specs::Steps::reading))]
+#[tactic(auto, using(crate::proofs::TentsTexts::turns), unfolding(crate::specs::Steps::reading))]
 fn parts(
     alloc: Global,
     size: Size,

@@ -1,5 +1,5 @@
 use Rattle.gameid_core.specs.Common.{arith, common_steps, reading}
-use Rattle.gameid_core.proofs.PatternReading.{number_turn, token_small, used_push}
+use Rattle.gameid_core.proofs.PatternTexts.{number_turn, token_small, used_push}
 use Rattle.gameid_core.proofs.pattern.id.clues.Goals as goal
 
 pub loop-first-preserved : goal.loop-first-preserved

@@ -1,6 +1,6 @@
 use Rattle.gameid_core.specs.Common.{arith, common_steps, length}
 use Rattle.gameid_core.proofs.Reading.{place}
-use Rattle.gameid_core.proofs.TentsReading.{tree_taken}
+use Rattle.gameid_core.proofs.TentsTexts.{tree_taken}
 use Rattle.gameid_core.proofs.tents.id.parts.Goals as goal
 
 pub loop-first-preserved : goal.loop-first-preserved

@@ -1,7 +1,7 @@
 use Rattle.gameid_core.specs.Common.{length, ◌≡◌, ◌≤◌}
 use Rattle.gameid_core.specs.TentsText.{tents_at}
 use Rattle.gameid_core.proofs.Reading.{place}
-use Rattle.gameid_core.proofs.TentsReading.{reads}
+use Rattle.gameid_core.proofs.TentsTexts.{reads}
 use Rattle.gameid_core.proofs.tents.id.parts.Given as goal
 
 abbrev pub invariant-loop-first : goal.invariant-loop-first

@@ -1,5 +1,5 @@
 use Rattle.gameid_core.specs.Common.{IsExtent, rules}
-use Rattle.gameid_core.proofs.PatternReading.{clues_lawful}
+use Rattle.gameid_core.proofs.PatternTexts.{clues_lawful}
 use Rattle.gameid_core.proofs.pattern.id.PatternPuzzleIdText.read_description.Goals as goal
 
 pub of_clues-requires : goal.of_clues-requires
