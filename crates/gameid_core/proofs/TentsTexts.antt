@@ -15,12 +15,6 @@ use Rattle.gameid_core.specs.declared.id.game.Game.TheVariants as game
 abbrev pub at_tents : List ℕ → List ℕ → TentsSoFar
 at_tents places counts = record { places = places; counts = counts }
 
--- ---- a number behind ','
-
-pub count_read : (size : Extent) (at : ℕ) (places counts word : List ℕ) → cells_in size + 1 ≤ length places → (length counts ≡ lines_of size → ⊥) → (length word ≡ 1 → ⊥) → value (drop 1 word) ≤ line_cells size (length counts) → tents_count size at (at_tents places counts) word ≡ Ok (value (drop 1 word))
-unfolding tents_count
-count_read size at places counts word full lines one fits = grind arith
-
 -- some digit is in front
 pub front_some : (after : List ℕ) → begins is_ascii_digit after ≡ true → length (44 ∷ digits_front after) ≡ 1 → ⊥
 front_some [] d e = false≢true d
@@ -54,104 +48,11 @@ run_single at b run e = let t = run_token at b run e in ap joins t.byte ∙ byte
 pub run_length : (blanks : ℕ) (tree : Bool) → length (run_cells blanks tree) ≡ blanks + cond tree 1 0
 run_length blanks tree = grind (arith, common_steps, length-append, length-replicate)
 
--- ---- turns
-
--- the places with blanks after them and a tree if there is one, unless they pass the cells and that tree
-abbrev pub planted : Extent → List ℕ → List ℕ → ℕ → Bool → Result TentsSoFar IdFault
-planted size places counts blanks tree =
-    cond (ltb (cells_in size + cond tree 1 0) (length places + (blanks + cond tree 1 0))) (Err TooMany) (Ok (at_tents (places ++ run_cells blanks tree) counts))
-
-abbrev pub reads : Extent → ℕ → List ℕ → List ℕ → List ℕ → Result TentsSoFar IdFault
-reads size at places counts rest = reading (tents_step size) (tents_end size) at (at_tents places counts) (words rest)
-
-pub end_is : (size : Extent) (places counts : List ℕ) (full : Bool) → eqb (length counts) (lines_of size) ≡ full → tents_end size (at_tents places counts) ≡ cond full (Ok (at_tents places counts)) (Err TooFew)
-end_is size places counts full e = rw e refl
-
--- ---- a step that was taken: a number behind ',', or cells of the trees
-
-pub record Counted (size : Extent) (places counts word : List ℕ) (t : TentsSoFar) : Type 0 where
-  pub comma : begins (λ b. eqb b 44) word ≡ true
-  pub full : cells_in size + 1 ≤ length places
-  pub some : length word ≡ 1 → ⊥
-  pub fits : value (drop 1 word) ≤ line_cells size (length counts)
-  pub leads : at_tents places (counts ++ value (drop 1 word) ∷ []) ≡ t
-
-pub record Planted (size : Extent) (at : ℕ) (places counts word : List ℕ) (t : TentsSoFar) : Type 0 where
-  pub other : begins (λ b. eqb b 44) word ≡ false
-  pub early : length counts ≤ 0
-  pub run : ℕ × Bool
-  pub read : tents_run at (get_or word 0 0) ≡ Ok run
-  pub room : length places + length (run_cells run.0 run.1) ≤ cells_in size + cond run.1 1 0
-  pub leads : at_tents (places ++ run_cells run.0 run.1) counts ≡ t
-
-pub step_cases : (size : Extent) (at : ℕ) (places counts word : List ℕ) (t : TentsSoFar) → tents_step size at (at_tents places counts) word ≡ Ok t → Counted size places counts word t ⊎ Planted size at places counts word t
-unfolding tents_count tents_tree
-step_cases size at places counts word t e = grind arith
-
 -- ---- what is read fits
 
 run_bits : (blanks : ℕ) (tree : Bool) → AllByRecursion (λ b. b < 2) (run_cells blanks tree)
 run_bits blanks true = AllByRecursion-append (λ b. b < 2) (replicate blanks 0) (1 ∷ []) (AllByRecursion-replicate (λ b. b < 2) 0 blanks (omega arith)) (omega arith, tt)
 run_bits blanks false = AllByRecursion-append (λ b. b < 2) (replicate blanks 0) [] (AllByRecursion-replicate (λ b. b < 2) 0 blanks (omega arith)) tt
-
-AreCounts-push : (size : Extent) (line : ℕ) (counts : List ℕ) (n : ℕ) → AreCounts size line counts → n ≤ line_cells size (line + length counts) → AreCounts size line (counts ++ n ∷ [])
-AreCounts-push size line [] n h p = grind arith
-AreCounts-push size line (m ∷ counts) n h p = grind (arith, nat_tests, AreCounts-push size (line + 1) counts n h.1)
-
--- the places read so far, whose last is a tree where they are all that there are; and the numbers so far
-record Sound (size : Extent) (places counts : List ℕ) : Type 0 where
-  bits : AllByRecursion (λ b. b < 2) places
-  full : 0 < length counts → length places ≡ cells_in size + 1
-  few : length places ≤ cells_in size + 1
-  tree : length places ≡ cells_in size + 1 → (front : List ℕ) × (places ≡ front ++ 1 ∷ [])
-  fit : AreCounts size 0 counts
-
-sound_counted : (size : Extent) (places counts : List ℕ) (n : ℕ) → Sound size places counts → cells_in size + 1 ≤ length places → n ≤ line_cells size (length counts) → Sound size places (counts ++ n ∷ [])
-sound_counted size places counts n s full fits = grind (arith, AreCounts-push size 0 counts n s.fit)
-
-sound_planted : (size : Extent) (places counts : List ℕ) (blanks : ℕ) (tree : Bool) → Sound size places counts → length counts ≤ 0 → length places + length (run_cells blanks tree) ≤ cells_in size + cond tree 1 0 → Sound size (places ++ run_cells blanks tree) counts
-sound_planted size places counts blanks true s early room = grind (arith, common_steps, run_bits blanks true, append_assoc places (replicate blanks 0) (1 ∷ []))
-sound_planted size places counts blanks false s early room = grind (arith, common_steps, run_bits blanks false)
-
-sound_read : (size : Extent) (at : ℕ) (places counts : List ℕ) (ws : List (List ℕ)) (all : TentsSoFar) → Sound size places counts → reading (tents_step size) (tents_end size) at (at_tents places counts) ws ≡ Ok all → Sound size all.places all.counts × (length all.counts ≡ lines_of size)
-unfolding reading
-sound_read size at places counts [] all s e = grind arith
-sound_read size at places counts (word ∷ ws) all s e =
-    let b = bind_ok (tents_step size at (at_tents places counts) word) (λ t. reading (tents_step size) (tents_end size) (at + length word) t ws) all e in
-    elim (step_cases size at places counts word b.0 b.1) [
-      | inl c ↦ sound_read size (at + length word) places (counts ++ value (drop 1 word) ∷ []) ws all (sound_counted size places counts _ s c.full c.fits) (ap (λ t. reading (tents_step size) (tents_end size) (at + length word) t ws) c.leads ∙ b.2)
-      | inr p ↦ sound_read size (at + length word) (places ++ run_cells p.run.0 p.run.1) counts ws all (sound_planted size places counts p.run.0 p.run.1 s p.early p.room) (ap (λ t. reading (tents_step size) (tents_end size) (at + length word) t ws) p.leads ∙ b.2)
-    ]
-
--- the cells without the tree after them
-pub record CellsAndTree (size : Extent) (places : List ℕ) : Type 0 where
-  pub whole : places ≡ take (cells_in size) places ++ 1 ∷ []
-  pub count : length (take (cells_in size) places) ≡ cells_in size
-  pub bits : AllByRecursion (λ b. b < 2) (take (cells_in size) places)
-
-pub record TentsRead (size : Extent) (s : TentsSoFar) : Type 0 where
-  pub cells : CellsAndTree size s.places
-  pub lines : length s.counts ≡ lines_of size
-  pub range : AreCounts size 0 s.counts
-
-pub tents_read : (size : Extent) (at : ℕ) (description : List ℕ) (s : TentsSoFar) → IsWide size → tents_at size at description ≡ Ok s → TentsRead size s
-tents_read size at description s wide e = grind (arith, common_steps, sound_read size at [] [] (words description) s)
-
-pub tents_lawful : (size : Extent) (at : ℕ) (description : List ℕ) (s : TentsSoFar) → IsWide size → tents_at size at description ≡ Ok s → IsTents (record { size = size; trees = take (cells_in size) s.places; counts = s.counts })
-tents_lawful size at description s wide e = grind (arith, tents_read size at description s wide e)
-
--- a byte of the trees is a token, and its places are taken or refused
-pub tree_taken : (size : Extent) (at b : ℕ) (places after : List ℕ) (t : TentsSoFar) → (b ≡ 44 → ⊥) → tents_tree size at (at_tents places []) b ≡ Ok t → reads size at places [] (b ∷ after) ≡ reading (tents_step size) (tents_end size) (at + 1) t (words after)
-unfolding reading tents_tree
-tree_taken size at b places after t other e =
-    let r = bind_ok (tents_run at b) _ t e in
-    grind (arith, common_steps, nat_tests, words_single b after, run_single at b r.0 r.1)
-
-pub tree_refused : (size : Extent) (at b : ℕ) (places after : List ℕ) (f : IdFault) → (b ≡ 44 → ⊥) → tents_tree size at (at_tents places []) b ≡ Err f → reads size at places [] (b ∷ after) ≡ Err f
-unfolding reading tents_tree
-tree_refused size at b places after f other e = grind (arith, common_steps, nat_tests, cuts_some b after)
-
-pub ruleset turns = (common_steps, words_nil, words_first, tree_refused)
 
 -- ---- what is read is spelled
 
@@ -184,25 +85,6 @@ spelled_planted at places counts (b ∷ more) rest run all w early e r =
     let t = run_token at b run e in
     record { tokens = t.token ∷ r.tokens; numerals = r.numerals; is = grind (arith, common_steps, alone b more w (run_single at b run e)) }
 
-read_spelled : (size : Extent) (at : ℕ) (places counts : List ℕ) (ws : List (List ℕ)) (all : TentsSoFar) → AllByRecursion IsWord ws → reading (tents_step size) (tents_end size) at (at_tents places counts) ws ≡ Ok all → Spelled places counts (concat ws) all
-unfolding reading
-read_spelled size at places counts [] all w e = record { tokens = []; numerals = []; is = grind (arith, append-nil places, append-nil counts) }
-read_spelled size at places counts (word ∷ ws) all w e =
-    let b = bind_ok (tents_step size at (at_tents places counts) word) (λ t. reading (tents_step size) (tents_end size) (at + length word) t ws) all e in
-    elim (step_cases size at places counts word b.0 b.1) [
-      | inl c ↦ spelled_counted places counts word (concat ws) all (comma_word word w.0 c.comma c.some) (read_spelled size (at + length word) places (counts ++ value (drop 1 word) ∷ []) ws all w.1 (ap (λ t. reading (tents_step size) (tents_end size) (at + length word) t ws) c.leads ∙ b.2))
-      | inr p ↦ spelled_planted at places counts word (concat ws) p.run all w.0 p.early p.read (read_spelled size (at + length word) (places ++ run_cells p.run.0 p.run.1) counts ws all w.1 (ap (λ t. reading (tents_step size) (tents_end size) (at + length word) t ws) p.leads ∙ b.2))
-    ]
-
--- ---- what is spelled is read
-
-abbrev Reads : Extent → TentsSoFar → List ℕ → List ℕ → List ℕ → Type 0
-Reads size all places counts text = (at : ℕ) → reading (tents_step size) (tents_end size) at (at_tents places counts) (words text) ≡ Ok all
-
-counts_at : (size : Extent) (line : ℕ) (xs : List ℕ) (n : ℕ) (ys : List ℕ) → AreCounts size line (xs ++ n ∷ ys) → n ≤ line_cells size (line + length xs)
-counts_at size line [] n ys h = grind arith
-counts_at size line (x ∷ xs) n ys h = grind (arith, counts_at size (line + 1) xs n ys h.1)
-
 -- no number begins with a digit, as it begins with ','
 numbers_begin : (numerals : List (List ℕ)) → begins is_ascii_digit (numbers_text numerals) ≡ false
 numbers_begin [] = refl
@@ -210,21 +92,6 @@ numbers_begin (num ∷ numerals) = refl
 
 not_one : (num : List ℕ) → 0 < length num → length (44 ∷ num) ≡ 1 → ⊥
 not_one num some e = absurd (omega (arith, e))
-
-numbers_again : (size : Extent) (places counts total : List ℕ) (numerals : List (List ℕ)) → AllByRecursion IsNumeral numerals → cells_in size + 1 ≤ length places → counts ++ map value numerals ≡ total → length total ≡ lines_of size → AreCounts size 0 total → Reads size (at_tents places total) places counts (numbers_text numerals)
-numbers_again size places counts total [] d full is len are at = grind (arith, common_steps, reading_end (tents_step size) (tents_end size) at (at_tents places counts) [] refl, end_is size places counts true)
-numbers_again size places counts total (num ∷ numerals) d full is len are at =
-    grind (
-      arith,
-      common_steps,
-      counts_at size 0 counts (value num) (map value numerals),
-      joined_cuts 44 refl num (numbers_text numerals) d.0 (numbers_begin numerals),
-      count_read size at places counts (44 ∷ num) full,
-      not_one num,
-      reading_turn (tents_step size) (tents_end size) at (at_tents places counts) (at_tents places (counts ++ value num ∷ []))
-          (44 ∷ (num ++ numbers_text numerals)) (44 ∷ num) (numbers_text numerals),
-      numbers_again size places (counts ++ value num ∷ []) total numerals d.1 full,
-    )
 
 -- the blanks of a token, and whether it has a tree
 abbrev token_blanks : TentsToken → ℕ
@@ -262,32 +129,166 @@ last_push (x1 ∷ xs1) x = grind (arith, common_steps, last_push xs1)
 blank_last : (places trees : List ℕ) → places ++ replicate 25 0 ≡ trees ++ 1 ∷ [] → ⊥
 blank_last places trees e = grind (arith, append_assoc places (replicate 24 0) (0 ∷ []), last_push (places ++ replicate 24 0) 0, last_push trees 1)
 
-tree_room : (size : Extent) (places trees : List ℕ) (token : TentsToken) (rest : List ℕ) → length trees ≡ cells_in size → places ++ (tents_token_cells token ++ rest) ≡ trees ++ 1 ∷ [] → length places + (token_blanks token + cond (token_tree token) 1 0) ≤ cells_in size + cond (token_tree token) 1 0
-tree_room size places trees token rest count is = grind (arith, common_steps, blank_last)
+module _ (size : Extent) where
+  -- ---- a number behind ','
 
-trees_again : (size : Extent) (all : TentsSoFar) (places trees : List ℕ) (tokens : List TentsToken) (rest : List ℕ) → AllByRecursion IsTentsToken tokens → length trees ≡ cells_in size → places ++ flat_map tents_token_cells tokens ≡ trees ++ 1 ∷ [] → Reads size all (trees ++ 1 ∷ []) [] rest → Reads size all places [] (map tents_token_byte tokens ++ rest)
-unfolding reading tents_tree
-trees_again size all places trees [] rest each count is next at = grind (arith, common_steps)
-trees_again size all places trees (token ∷ tokens) rest each count is next at =
-    grind (
-      arith,
-      common_steps,
-      tree_room size places trees token (flat_map tents_token_cells tokens),
-      token_run at token each.0,
-      cells_of_token token,
-      token_other token,
-      run_length,
-      byte_single token,
-      words_single,
-      trees_again size all (places ++ tents_token_cells token) trees tokens rest each.1 count,
-    )
+  pub count_read : (at : ℕ) (places counts word : List ℕ) → cells_in size + 1 ≤ length places → (length counts ≡ lines_of size → ⊥) → (length word ≡ 1 → ⊥) → value (drop 1 word) ≤ line_cells size (length counts) → tents_count size at (at_tents places counts) word ≡ Ok (value (drop 1 word))
+  unfolding tents_count
+  count_read at places counts word full lines one fits = grind arith
 
--- what tokens and numerals that fit spell is read
-pub tents_again : (size : Extent) (at : ℕ) (trees counts : List ℕ) (tokens : List TentsToken) (numerals : List (List ℕ)) → AllByRecursion IsTentsToken tokens → AllByRecursion IsNumeral numerals → length trees ≡ cells_in size → flat_map tents_token_cells tokens ≡ trees ++ 1 ∷ [] → map value numerals ≡ counts → length counts ≡ lines_of size → AreCounts size 0 counts → tents_at size at (map tents_token_byte tokens ++ numbers_text numerals) ≡ Ok (at_tents (trees ++ 1 ∷ []) counts)
-tents_again size at trees counts tokens numerals each digits count cells is len are = grind (arith, common_steps, trees_again size (at_tents (trees ++ 1 ∷ []) counts) [] trees tokens (numbers_text numerals) each count cells, numbers_again size (trees ++ 1 ∷ []) [] counts numerals digits)
+  -- ---- turns
 
-pub fit : (size : Extent) (w h n at : ℕ) (description places counts trees : List ℕ) → size ≡ sized w h → n ≡ size.w * size.h → trees ≡ take n places → in_range game.Tents w h ≡ true → tents_at size at description ≡ Ok (at_tents places counts) → IsTents (record { size = size; trees = trees; counts = counts })
-fit size w h n at description places counts trees is count kept range e = grind (arith, tents_lawful size at description (at_tents places counts))
+  -- the places with blanks after them and a tree if there is one, unless they pass the cells and that tree
+  abbrev pub planted : List ℕ → List ℕ → ℕ → Bool → Result TentsSoFar IdFault
+  planted places counts blanks tree =
+      cond (ltb (cells_in size + cond tree 1 0) (length places + (blanks + cond tree 1 0))) (Err TooMany) (Ok (at_tents (places ++ run_cells blanks tree) counts))
+
+  abbrev pub reads : ℕ → List ℕ → List ℕ → List ℕ → Result TentsSoFar IdFault
+  reads at places counts rest = reading (tents_step size) (tents_end size) at (at_tents places counts) (words rest)
+
+  pub end_is : (places counts : List ℕ) (full : Bool) → eqb (length counts) (lines_of size) ≡ full → tents_end size (at_tents places counts) ≡ cond full (Ok (at_tents places counts)) (Err TooFew)
+  end_is places counts full e = rw e refl
+
+  -- ---- a step that was taken: a number behind ',', or cells of the trees
+
+  pub record Counted (places counts word : List ℕ) (t : TentsSoFar) : Type 0 where
+    pub comma : begins (λ b. eqb b 44) word ≡ true
+    pub full : cells_in size + 1 ≤ length places
+    pub some : length word ≡ 1 → ⊥
+    pub fits : value (drop 1 word) ≤ line_cells size (length counts)
+    pub leads : at_tents places (counts ++ value (drop 1 word) ∷ []) ≡ t
+
+  pub record Planted (at : ℕ) (places counts word : List ℕ) (t : TentsSoFar) : Type 0 where
+    pub other : begins (λ b. eqb b 44) word ≡ false
+    pub early : length counts ≤ 0
+    pub run : ℕ × Bool
+    pub read : tents_run at (get_or word 0 0) ≡ Ok run
+    pub room : length places + length (run_cells run.0 run.1) ≤ cells_in size + cond run.1 1 0
+    pub leads : at_tents (places ++ run_cells run.0 run.1) counts ≡ t
+
+  pub step_cases : (at : ℕ) (places counts word : List ℕ) (t : TentsSoFar) → tents_step size at (at_tents places counts) word ≡ Ok t → Counted places counts word t ⊎ Planted at places counts word t
+  unfolding tents_count tents_tree
+  step_cases at places counts word t e = grind arith
+
+  AreCounts-push : (line : ℕ) (counts : List ℕ) (n : ℕ) → AreCounts size line counts → n ≤ line_cells size (line + length counts) → AreCounts size line (counts ++ n ∷ [])
+  AreCounts-push line [] n h p = grind arith
+  AreCounts-push line (m ∷ counts) n h p = grind (arith, nat_tests, AreCounts-push (line + 1) counts n h.1)
+
+  -- the places read so far, whose last is a tree where they are all that there are; and the numbers so far
+  record Sound (places counts : List ℕ) : Type 0 where
+    bits : AllByRecursion (λ b. b < 2) places
+    full : 0 < length counts → length places ≡ cells_in size + 1
+    few : length places ≤ cells_in size + 1
+    tree : length places ≡ cells_in size + 1 → (front : List ℕ) × (places ≡ front ++ 1 ∷ [])
+    fit : AreCounts size 0 counts
+
+  sound_counted : (places counts : List ℕ) (n : ℕ) → Sound places counts → cells_in size + 1 ≤ length places → n ≤ line_cells size (length counts) → Sound places (counts ++ n ∷ [])
+  sound_counted places counts n s full fits = grind (arith, AreCounts-push 0 counts n s.fit)
+
+  sound_planted : (places counts : List ℕ) (blanks : ℕ) (tree : Bool) → Sound places counts → length counts ≤ 0 → length places + length (run_cells blanks tree) ≤ cells_in size + cond tree 1 0 → Sound (places ++ run_cells blanks tree) counts
+  sound_planted places counts blanks true s early room = grind (arith, common_steps, run_bits blanks true, append_assoc places (replicate blanks 0) (1 ∷ []))
+  sound_planted places counts blanks false s early room = grind (arith, common_steps, run_bits blanks false)
+
+  sound_read : (at : ℕ) (places counts : List ℕ) (ws : List (List ℕ)) (all : TentsSoFar) → Sound places counts → reading (tents_step size) (tents_end size) at (at_tents places counts) ws ≡ Ok all → Sound all.places all.counts × (length all.counts ≡ lines_of size)
+  unfolding reading
+  sound_read at places counts [] all s e = grind arith
+  sound_read at places counts (word ∷ ws) all s e =
+      let b = bind_ok (tents_step size at (at_tents places counts) word) (λ t. reading (tents_step size) (tents_end size) (at + length word) t ws) all e in
+      elim (step_cases at places counts word b.0 b.1) [
+        | inl c ↦ sound_read (at + length word) places (counts ++ value (drop 1 word) ∷ []) ws all (sound_counted places counts _ s c.full c.fits) (ap (λ t. reading (tents_step size) (tents_end size) (at + length word) t ws) c.leads ∙ b.2)
+        | inr p ↦ sound_read (at + length word) (places ++ run_cells p.run.0 p.run.1) counts ws all (sound_planted places counts p.run.0 p.run.1 s p.early p.room) (ap (λ t. reading (tents_step size) (tents_end size) (at + length word) t ws) p.leads ∙ b.2)
+      ]
+
+  -- the cells without the tree after them
+  pub record CellsAndTree (places : List ℕ) : Type 0 where
+    pub whole : places ≡ take (cells_in size) places ++ 1 ∷ []
+    pub count : length (take (cells_in size) places) ≡ cells_in size
+    pub bits : AllByRecursion (λ b. b < 2) (take (cells_in size) places)
+
+  pub record TentsRead (s : TentsSoFar) : Type 0 where
+    pub cells : CellsAndTree s.places
+    pub lines : length s.counts ≡ lines_of size
+    pub range : AreCounts size 0 s.counts
+
+  pub tents_read : (at : ℕ) (description : List ℕ) (s : TentsSoFar) → IsWide size → tents_at size at description ≡ Ok s → TentsRead s
+  tents_read at description s wide e = grind (arith, common_steps, sound_read at [] [] (words description) s)
+
+  pub tents_lawful : (at : ℕ) (description : List ℕ) (s : TentsSoFar) → IsWide size → tents_at size at description ≡ Ok s → IsTents (record { size = size; trees = take (cells_in size) s.places; counts = s.counts })
+  tents_lawful at description s wide e = grind (arith, tents_read at description s wide e)
+
+  -- a byte of the trees is a token, and its places are taken or refused
+  pub tree_taken : (at b : ℕ) (places after : List ℕ) (t : TentsSoFar) → (b ≡ 44 → ⊥) → tents_tree size at (at_tents places []) b ≡ Ok t → reads at places [] (b ∷ after) ≡ reading (tents_step size) (tents_end size) (at + 1) t (words after)
+  unfolding reading tents_tree
+  tree_taken at b places after t other e =
+      let r = bind_ok (tents_run at b) _ t e in
+      grind (arith, common_steps, nat_tests, words_single b after, run_single at b r.0 r.1)
+
+  pub tree_refused : (at b : ℕ) (places after : List ℕ) (f : IdFault) → (b ≡ 44 → ⊥) → tents_tree size at (at_tents places []) b ≡ Err f → reads at places [] (b ∷ after) ≡ Err f
+  unfolding reading tents_tree
+  tree_refused at b places after f other e = grind (arith, common_steps, nat_tests, cuts_some b after)
+
+  read_spelled : (at : ℕ) (places counts : List ℕ) (ws : List (List ℕ)) (all : TentsSoFar) → AllByRecursion IsWord ws → reading (tents_step size) (tents_end size) at (at_tents places counts) ws ≡ Ok all → Spelled places counts (concat ws) all
+  unfolding reading
+  read_spelled at places counts [] all w e = record { tokens = []; numerals = []; is = grind (arith, append-nil places, append-nil counts) }
+  read_spelled at places counts (word ∷ ws) all w e =
+      let b = bind_ok (tents_step size at (at_tents places counts) word) (λ t. reading (tents_step size) (tents_end size) (at + length word) t ws) all e in
+      elim (step_cases at places counts word b.0 b.1) [
+        | inl c ↦ spelled_counted places counts word (concat ws) all (comma_word word w.0 c.comma c.some) (read_spelled (at + length word) places (counts ++ value (drop 1 word) ∷ []) ws all w.1 (ap (λ t. reading (tents_step size) (tents_end size) (at + length word) t ws) c.leads ∙ b.2))
+        | inr p ↦ spelled_planted at places counts word (concat ws) p.run all w.0 p.early p.read (read_spelled (at + length word) (places ++ run_cells p.run.0 p.run.1) counts ws all w.1 (ap (λ t. reading (tents_step size) (tents_end size) (at + length word) t ws) p.leads ∙ b.2))
+      ]
+
+  -- ---- what is spelled is read
+
+  abbrev Reads : TentsSoFar → List ℕ → List ℕ → List ℕ → Type 0
+  Reads all places counts text = (at : ℕ) → reading (tents_step size) (tents_end size) at (at_tents places counts) (words text) ≡ Ok all
+
+  counts_at : (line : ℕ) (xs : List ℕ) (n : ℕ) (ys : List ℕ) → AreCounts size line (xs ++ n ∷ ys) → n ≤ line_cells size (line + length xs)
+  counts_at line [] n ys h = grind arith
+  counts_at line (x ∷ xs) n ys h = grind (arith, counts_at (line + 1) xs n ys h.1)
+
+  numbers_again : (places counts total : List ℕ) (numerals : List (List ℕ)) → AllByRecursion IsNumeral numerals → cells_in size + 1 ≤ length places → counts ++ map value numerals ≡ total → length total ≡ lines_of size → AreCounts size 0 total → Reads (at_tents places total) places counts (numbers_text numerals)
+  numbers_again places counts total [] d full is len are at = grind (arith, common_steps, reading_end (tents_step size) (tents_end size) at (at_tents places counts) [] refl, end_is places counts true)
+  numbers_again places counts total (num ∷ numerals) d full is len are at =
+      grind (
+        arith,
+        common_steps,
+        counts_at 0 counts (value num) (map value numerals),
+        joined_cuts 44 refl num (numbers_text numerals) d.0 (numbers_begin numerals),
+        count_read at places counts (44 ∷ num) full,
+        not_one num,
+        reading_turn (tents_step size) (tents_end size) at (at_tents places counts) (at_tents places (counts ++ value num ∷ []))
+            (44 ∷ (num ++ numbers_text numerals)) (44 ∷ num) (numbers_text numerals),
+        numbers_again places (counts ++ value num ∷ []) total numerals d.1 full,
+      )
+
+  tree_room : (places trees : List ℕ) (token : TentsToken) (rest : List ℕ) → length trees ≡ cells_in size → places ++ (tents_token_cells token ++ rest) ≡ trees ++ 1 ∷ [] → length places + (token_blanks token + cond (token_tree token) 1 0) ≤ cells_in size + cond (token_tree token) 1 0
+  tree_room places trees token rest count is = grind (arith, common_steps, blank_last)
+
+  trees_again : (all : TentsSoFar) (places trees : List ℕ) (tokens : List TentsToken) (rest : List ℕ) → AllByRecursion IsTentsToken tokens → length trees ≡ cells_in size → places ++ flat_map tents_token_cells tokens ≡ trees ++ 1 ∷ [] → Reads all (trees ++ 1 ∷ []) [] rest → Reads all places [] (map tents_token_byte tokens ++ rest)
+  unfolding reading tents_tree
+  trees_again all places trees [] rest each count is next at = grind (arith, common_steps)
+  trees_again all places trees (token ∷ tokens) rest each count is next at =
+      grind (
+        arith,
+        common_steps,
+        tree_room places trees token (flat_map tents_token_cells tokens),
+        token_run at token each.0,
+        cells_of_token token,
+        token_other token,
+        run_length,
+        byte_single token,
+        words_single,
+        trees_again all (places ++ tents_token_cells token) trees tokens rest each.1 count,
+      )
+
+  -- what tokens and numerals that fit spell is read
+  pub tents_again : (at : ℕ) (trees counts : List ℕ) (tokens : List TentsToken) (numerals : List (List ℕ)) → AllByRecursion IsTentsToken tokens → AllByRecursion IsNumeral numerals → length trees ≡ cells_in size → flat_map tents_token_cells tokens ≡ trees ++ 1 ∷ [] → map value numerals ≡ counts → length counts ≡ lines_of size → AreCounts size 0 counts → tents_at size at (map tents_token_byte tokens ++ numbers_text numerals) ≡ Ok (at_tents (trees ++ 1 ∷ []) counts)
+  tents_again at trees counts tokens numerals each digits count cells is len are = grind (arith, common_steps, trees_again (at_tents (trees ++ 1 ∷ []) counts) [] trees tokens (numbers_text numerals) each count cells, numbers_again (trees ++ 1 ∷ []) [] counts numerals digits)
+
+  pub fit : (w h n at : ℕ) (description places counts trees : List ℕ) → size ≡ sized w h → n ≡ size.w * size.h → trees ≡ take n places → in_range game.Tents w h ≡ true → tents_at size at description ≡ Ok (at_tents places counts) → IsTents (record { size = size; trees = trees; counts = counts })
+  fit w h n at description places counts trees is count kept range e = grind (arith, tents_lawful at description (at_tents places counts))
+
+pub ruleset turns = (common_steps, words_nil, words_first, tree_refused)
 
 pub tents_takes : (text : List ℕ) (p : Tents) → tents_of text ≡ Ok p → SpellsTents text p
 tents_takes text p e =
