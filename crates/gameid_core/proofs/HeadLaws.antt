@@ -1,12 +1,6 @@
 -- The part of an ID before its colon: what is read is spelled, and what is spelled is read.
-use Rattle.gameid_core.specs.Common.{size_read, Bool, Err, Game, HasSize, HeadRead, IdFault, IsSoloSizeText, List, None, Ok, Option, Result, Sides, SizeRange, SizeRead, Some, TooLong, Variant, [], after_digits, all_ascii_digits, and_parts, append_assoc, arith, begins, common_steps, cond, decimal, decimal-digits_value, digits_decimal, digits_front, digits_value-decimal, drop, eqb, false, false≢true, has_hash, has_x, head_at, head_of, in_range, inl, inr, is_ascii_digit, leb, leb-true, length, length-append, list_any, lt-ltb, ltb, ltb-false, max_id, max_side, nat_tests, position, position_or_len, puzzle_of, refl, side_at, sides_at, size_of, solo_size_text, subst, take, true, value, ℕ, ◌++◌, ◌+◌, ◌<◌, ◌>>=◌, ◌^◌, ◌∷◌, ◌≡◌, ◌≤◌}
-use Rattle.std.proofs.lemmas.List.{take-append-drop, drop_at}
-use Rattle.std.proofs.lemmas.List.Folds.{list_any-append}
-use Rattle.std.proofs.lemmas.List.Quantifiers.{position-Some}
+use Rattle.gameid_core.specs.Common.{Bool, Err, Game, GoesOn, HasNumber, HasSize, HeadRead, IdFault, IsSizeText, IsSoloSizeText, List, None, Ok, Option, Result, Sides, SizeRange, SizeRead, Some, TooLong, Variant, [], after_digits, all_ascii_digits, and_parts, append_assoc, arith, begins, common_steps, cond, decimal, decimal-digits_value, digits_decimal, digits_front, digits_value-decimal, drop, drop_at, eqb, false, false≢true, has_hash, has_x, head_at, head_of, in_range, inl, inr, is_ascii_digit, leb, leb-true, length, length-append, list_any, list_any-append, lt-ltb, ltb, ltb-false, max_id, max_side, nat_tests, position, position-Some, position_or_len, puzzle_of, refl, side_at, sides_at, size_of, size_read, solo_size_text, subst, take, take-append-drop, true, two_sides, value, ℕ, ◌++◌, ◌+◌, ◌<◌, ◌>>=◌, ◌^◌, ◌∷◌, ◌≡◌, ◌≤◌}
 use Rattle.gameid_core.specs.declared.id.game.Game.TheVariants.{Solo}
-use Rattle.gameid_core.specs.Head.{two_sides}
-use Rattle.gameid_core.specs.HeadTests.{HasNumber, GoesOn}
-use Rattle.gameid_core.specs.SizeText.{IsSizeText}
 use Rattle.gameid_core.proofs.Results.{bind_ok, chosen, not_refused, only_taken, taken, ok_is}
 use Rattle.gameid_core.proofs.Numerals.{front_numeral, own, is_lead, begins_front, decimal_leads}
 use Rattle.gameid_core.proofs.Reading.{place}

@@ -1,8 +1,5 @@
 -- The ones of a line are no more than its cells.
-use Rattle.gameid_core.specs.Common.{Extent, IsExtent, IsGrid, List, [], arith, common_steps, length, length-line_numbers, length-map-range_with_len, map, range_with_len, suc, zero, ℕ, ◌*◌, ◌+◌, ◌∷◌, ◌≡◌, ◌≤◌, line_numbers, lines_of}
-use Rattle.gameid_core.specs.Lines.{lines_ones, ones}
-use Rattle.gameid_core.specs.Puzzles.{AreCounts, IsTents}
-use Rattle.std.proofs.lemmas.List.Elements.{recursion_from_All}
+use Rattle.gameid_core.specs.Common.{AreCounts, Extent, IsExtent, IsGrid, IsTents, List, [], arith, common_steps, length, length-line_numbers, length-map-range_with_len, line_numbers, lines_of, lines_ones, map, ones, range_with_len, recursion_from_All, suc, zero, ℕ, ◌*◌, ◌+◌, ◌∷◌, ◌≡◌, ◌≤◌}
 
 ones_few : (cells : List ℕ) → ones cells ≤ length cells
 ones_few [] = omega arith

@@ -1,12 +1,5 @@
 -- What is printed of a cell is read back: one byte for each cell, or a number.
-use Rattle.gameid_core.specs.Common.{Bool, Extent, IsAsShown, List, Option, Some, [], ap, arith, codes, common_steps, decimal_digit, false, get_or, length, refl, slice_index, suc, true, zero, ℕ, ◌*◌, ◌++◌, ◌<◌, ◌∙◌, ◌∷◌, ◌≡◌, ◌≤◌}
-use Rattle.gameid_core.specs.Puzzles.{IsLight, IsLightCell, Light}
-use Rattle.gameid_core.specs.declared.light_up.cell.LightCell.{LightCell}
-use Rattle.gameid_core.specs.declared.light_up.cell.LightCell.TheVariants.{White}
-use Rattle.std.proofs.Common.{◌≢◌, ◌==◌, if◌then◌else◌}
-use Rattle.std.specs.Prelude.{slice_get}
-use Rattle.std.proofs.lemmas.Option.{slice_get-get_or}
-use Rattle.gameid_core.specs.GridTexts.{light_mark}
+use Rattle.gameid_core.specs.Common.{Bool, Extent, IsAsShown, IsLight, IsLightCell, Light, LightCell, List, Option, Some, White, [], ap, arith, codes, common_steps, decimal_digit, false, get_or, if◌then◌else◌, length, light_mark, refl, slice_get, slice_get-get_or, slice_index, suc, true, zero, ℕ, ◌*◌, ◌++◌, ◌<◌, ◌==◌, ◌∙◌, ◌∷◌, ◌≡◌, ◌≢◌, ◌≤◌}
 use Rattle.gameid_core.proofs.Lists.{all_at}
 
 -- the number of a place is below `values`

@@ -1,8 +1,5 @@
 -- Laws of the runs of a line, by induction on the cells.
-use Rattle.gameid_core.specs.Common.{AllByRecursion, Extent, IsExtent, List, [], ap, arith, common_steps, length, length-line_numbers, length-map-range_with_len, map, range_with_len, refl, replicate, suc, zero, ℕ, ◌++◌, ◌+◌, ◌<◌, ◌∙◌, ◌∷◌, ◌≡◌, ◌≤◌, line_cells, line_numbers, lines_of}
-use Rattle.gameid_core.specs.BlackRuns.{run_of, runs, runs_after}
-use Rattle.gameid_core.specs.Lines.{lines_runs}
-use Rattle.gameid_core.specs.Puzzles.{AreClues, IsClue, IsPattern, used}
+use Rattle.gameid_core.specs.Common.{AllByRecursion, AreClues, Extent, IsClue, IsExtent, IsPattern, List, [], ap, arith, common_steps, length, length-line_numbers, length-map-range_with_len, line_cells, line_numbers, lines_of, lines_runs, map, range_with_len, refl, replicate, run_of, runs, runs_after, suc, used, zero, ℕ, ◌++◌, ◌+◌, ◌<◌, ◌∙◌, ◌∷◌, ◌≡◌, ◌≤◌}
 
 -- a white cell cuts a line in two
 pub runs_after-cut : (k : ℕ) (f g : List ℕ) → runs_after k (f ++ 0 ∷ g) ≡ runs_after k f ++ runs g

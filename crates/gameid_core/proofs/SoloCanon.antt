@@ -1,8 +1,6 @@
 -- The written text of a puzzle of Solo: its length, that it spells the puzzle, and that no other does.
-use Rattle.gameid_core.specs.Common.{AllByRecursion, Bool, HasOneText, IsSoloSizeText, List, [], ap, arith, common_steps, cond, decimal, eqb, false, false≢true, flat_map, length, length-append, length-decimal-le, letters, max_id, max_numbers, nat_tests, refl, replicate, size_text, solo_size_text, suc, true, zero, ℕ, ◌*◌, ◌++◌, ◌+◌, ◌<◌, ◌∷◌, ◌≡◌, ◌≤◌}
-use Rattle.gameid_core.specs.Puzzles.{IsSolo, Solo, solo_n}
+use Rattle.gameid_core.specs.Common.{AllByRecursion, Bool, HasOneText, IsSolo, IsSoloSizeText, List, Solo, [], ap, arith, common_steps, cond, decimal, eqb, false, false≢true, flat_map, length, length-append, length-decimal-le, letters, max_id, max_numbers, mul-le-mul_left, mul-le-mul_right, nat_tests, refl, replicate, size_text, solo_n, solo_size_text, suc, true, zero, ℕ, ◌*◌, ◌++◌, ◌+◌, ◌<◌, ◌∷◌, ◌≡◌, ◌≤◌}
 use Rattle.gameid_core.specs.SoloText.{AreApart, IsSoloToken, IsWrittenSolo, SoloToken, SpellsSolo, before_given, blanks, cells_text, gap, given, solo_text, solo_token_cells, solo_token_text, AreFull, AreNeeded}
-use Rattle.std.proofs.Math.Nat.{mul-le-mul_left, mul-le-mul_right}
 use Rattle.gameid_core.proofs.OneReading.{one_text}
 use Rattle.gameid_core.proofs.Letters.{letters_short, letters_none, letters_more, letters_last}
 

@@ -1,9 +1,6 @@
 -- Solo: the tokens of a text, and that a text is read exactly where it spells a puzzle.
-use Rattle.gameid_core.specs.Common.{AllByRecursion, BadByte, Bool, Cuts, Err, Gives, HasOneReading, IdFault, List, Ok, Result, SizeRead, [], after_digits, and_parts, ap, arith, begins, common_steps, concat, decimal, decimal-digits_value, digits_front, digits_value-decimal, drop, eqb, false, false≢true, flat_map, get_or, in_range, is_ascii_digit, le-ltb, leb, leb-true, length, lt-ltb, map, max_numbers, refl, replicate, subst, true, value, words, ℕ, ◌&&◌, ◌*◌, ◌++◌, ◌+◌, ◌-◌, ◌<◌, ◌^◌, ◌∙◌, ◌∷◌, ◌≡◌, ◌≤◌}
-use Rattle.gameid_core.specs.Puzzles.{IsSolo, Solo, solo_puzzle}
+use Rattle.gameid_core.specs.Common.{AllByRecursion, BadByte, Bool, Cuts, Err, Gives, HasOneReading, IdFault, IsSolo, List, NumberRange, Ok, Result, SizeRead, Solo, [], after_digits, and_parts, ap, arith, begins, common_steps, concat, decimal, decimal-digits_value, digits_front, digits_value-decimal, drop, eqb, false, false≢true, flat_map, get_or, in_range, is_ascii_digit, is_letter, le-ltb, leb, leb-true, length, lt-ltb, map, max_numbers, refl, replicate, solo_puzzle, subst, true, value, words, ℕ, ◌&&◌, ◌*◌, ◌++◌, ◌+◌, ◌-◌, ◌<◌, ◌^◌, ◌∙◌, ◌∷◌, ◌≡◌, ◌≤◌}
 use Rattle.gameid_core.specs.SoloText.{AreApart, IsSoloToken, SoloToken, SpellsSolo, blanks, gap, given, solo_behind, solo_cells_at, solo_of, solo_token, solo_token_cells, solo_token_text}
-use Rattle.gameid_core.specs.declared.id.fault.IdFault.TheVariants.{NumberRange}
-use Rattle.gameid_core.specs.Cells.{is_letter}
 use Rattle.gameid_core.proofs.OneReading.{only_of, reading_of}
 use Rattle.gameid_core.proofs.Tokens.{cuts_some, cuts_single, cuts_number, words_nil, IsWord, words_are, concat_words, alone}
 use Rattle.gameid_core.proofs.Numerals.{is_lead, lead_is_digit, numeral_cuts, numeral, own, decimal_leads, value_positive}

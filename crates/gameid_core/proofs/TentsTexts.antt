@@ -1,6 +1,5 @@
 -- Tents: the steps of a description, and that a text is read exactly where it spells a puzzle.
-use Rattle.gameid_core.specs.Common.{AllByRecursion, Bool, Err, Extent, IdFault, List, Ok, Result, TooFew, TooMany, [], ap, append_assoc, arith, begins, common_steps, cond, digits_front, drop, eqb, false, false≢true, get_or, inl, inr, is_ascii_digit, joins, length, length-append, length-replicate, ltb, nat_tests, reading, refl, replicate, take, true, value, words, ℕ, ◌++◌, ◌+◌, ◌-◌, ◌<◌, ◌∙◌, ◌∷◌, ◌≡◌, ◌≤◌, ◌⊎◌, line_cells, lines_of, Gives, HasOneReading, IsNumeral, append-nil, concat, extent_of, flat_map, in_range, map, take_at, ◌*◌}
-use Rattle.gameid_core.specs.Puzzles.{AreCounts, IsTents, IsWide, Tents}
+use Rattle.gameid_core.specs.Common.{AllByRecursion, AreCounts, Bool, Err, Extent, Gives, HasOneReading, IdFault, IsNumeral, IsTents, IsWide, List, Ok, Result, Tents, TooFew, TooMany, [], ap, append-nil, append_assoc, arith, begins, common_steps, concat, cond, digits_front, drop, eqb, extent_of, false, false≢true, flat_map, get_or, in_range, inl, inr, is_ascii_digit, joins, length, length-append, length-replicate, line_cells, lines_of, ltb, map, nat_tests, reading, refl, replicate, take, take_at, true, value, words, ℕ, ◌*◌, ◌++◌, ◌+◌, ◌-◌, ◌<◌, ◌∙◌, ◌∷◌, ◌≡◌, ◌≤◌, ◌⊎◌}
 use Rattle.gameid_core.specs.TentsText.{IsTentsToken, TentsSoFar, TentsToken, blanks_and_tree, cells_in, run_cells, tents_at, tents_count, tents_end, tents_run, tents_step, tents_token_byte, tents_token_cells, tents_tree, SpellsTents, only_blanks, tents_behind, tents_of}
 use Rattle.gameid_core.proofs.Tokens.{front_turn, cuts_single, cuts_some, words_nil, words_first, words_single, IsWord, words_are, concat_words, alone}
 use Rattle.gameid_core.proofs.Results.{bind_ok}

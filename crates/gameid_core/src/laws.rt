@@ -2,11 +2,9 @@
 //! laws.
 
 ghost use Rattle.std.specs.Prelude.{◌≡◌, ◌<◌, ◌*◌, ◌↔◌, ◌++◌, ℕ, suc, List, [], ◌∷◌, Err, length, map, replicate};
-ghost use Rattle.gameid_core.specs.Common.{Extent, FailsHead, FailsSize, FirstFault, Game, HasOneReading, HasOneText, IdFault, IsFirstFailed, TooLong, concat, fill_end, fill_step, head_of, head_tests, max_id, size_of, size_tests, words};
-ghost use Rattle.gameid_core.specs.BlackRuns.{runs};
+ghost use Rattle.gameid_core.specs.Common.{Extent, FailsHead, FailsSize, FirstFault, Game, HasOneReading, HasOneText, IdFault, IsFirstFailed, IsLight, IsPattern, IsSolo, IsTents, TooLong, concat, fill_end, fill_step, head_of, head_tests, max_id, runs, size_of, size_tests, words};
 ghost use Rattle.gameid_core.specs.LightText.{IsWrittenLight, SpellsLight, light_cells_at, light_of, light_text, light_token};
 ghost use Rattle.gameid_core.specs.PatternText.{IsWrittenPattern, SpellsPattern, clues_at, nothing_yet, pattern_end, pattern_of, pattern_step, pattern_text};
-ghost use Rattle.gameid_core.specs.Puzzles.{IsLight, IsPattern, IsSolo, IsTents};
 ghost use Rattle.gameid_core.specs.SoloText.{IsWrittenSolo, SpellsSolo, solo_cells_at, solo_of, solo_text, solo_token};
 ghost use Rattle.gameid_core.specs.TentsText.{IsWrittenTents, SpellsTents, tents_at, tents_end, tents_of, tents_step, tents_text, no_places};
 

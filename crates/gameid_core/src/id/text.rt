@@ -2,9 +2,7 @@
 //! reader and one writer serve all.
 
 ghost use Rattle.std.specs.Prelude.{◌≡◌, ℕ, ◌<◌, ◌+◌, ◌^◌, ◌++◌, List, Result, Err, true, length, string_bytes, IfOk, OnOk};
-ghost use Rattle.gameid_core.specs.Common.{Game, Gives, HeadRead, IdFault, SizeRead, head_of, in_range, puzzle_of, size_read};
-ghost use Rattle.gameid_core.specs.Head.{head_read};
-ghost use Rattle.gameid_core.specs.IdTexts.{id_text};
+ghost use Rattle.gameid_core.specs.Common.{Game, Gives, HeadRead, IdFault, SizeRead, head_of, head_read, id_text, in_range, puzzle_of, size_read};
 
 use crate::id::fault::IdFault;
 use crate::id::game::Game;

@@ -1,11 +1,8 @@
 //! Game IDs of Light Up.
 
 ghost use Rattle.std.specs.Prelude.{◌≡◌, ◌<◌, ◌≤◌, ◌+◌, ◌*◌, ◌^◌, ◌∷◌, [], length, IfOk, IfErr, Ok, Err, ◌++◌, string_bytes, OnOk, IfSome, MatchOption, false};
-ghost use Rattle.gameid_core.specs.Common.{AllByRecursion, Fails, Gives, IdFault, head_of, max_id, max_side, size_read};
+ghost use Rattle.gameid_core.specs.Common.{AllByRecursion, Fails, Gives, GivesRun, IdFault, IsLight, IsLightCell, Light, White, head_of, max_id, max_side, size_read};
 ghost use Rattle.gameid_core.specs.LightText.{IsWrittenLight, SpellsLight, light_behind, light_cells_at, light_cells_text, light_of, light_text, light_token, IsBlackByte};
-ghost use Rattle.gameid_core.specs.Puzzles.{IsLight, IsLightCell, Light};
-ghost use Rattle.gameid_core.specs.declared.light_up.cell.LightCell.TheVariants.{White};
-ghost use Rattle.gameid_core.specs.FirstTokens.{GivesRun};
 ghost use Rattle.gameid_core.specs.declared.id.game.Game.TheVariants as game;
 
 use crate::id::fault::IdFault;

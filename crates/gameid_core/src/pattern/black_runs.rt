@@ -1,9 +1,7 @@
 //! The black runs of a line.
 
 ghost use Rattle.std.specs.Prelude.{◌≡◌, ◌<◌, ◌*◌, ◌++◌, length, OnOk, IfOk};
-ghost use Rattle.gameid_core.specs.Common.{IsExtent, line_numbers, lines_of};
-ghost use Rattle.gameid_core.specs.BlackRuns.{run_of, runs};
-ghost use Rattle.gameid_core.specs.Lines.{lines_runs};
+ghost use Rattle.gameid_core.specs.Common.{IsExtent, line_numbers, lines_of, lines_runs, run_of, runs};
 
 use crate::pattern::clues::Clues;
 use grid_core::{Grid, Size, line_count, line_len, line_number};

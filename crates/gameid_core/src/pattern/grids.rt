@@ -1,7 +1,6 @@
 //! How grids of Pattern are printed and read.
 
-ghost use Rattle.gameid_core.specs.Common.{hides_nothing};
-ghost use Rattle.gameid_core.specs.GridTexts.{pattern_cell};
+ghost use Rattle.gameid_core.specs.Common.{hides_nothing, pattern_cell};
 
 use crate::grids::printed::Printed;
 use crate::grids::readable::{Readable, read_mark};

@@ -1,9 +1,7 @@
 //! The puzzles of Pattern.
 
 ghost use Rattle.std.specs.Prelude.{◌≡◌, ◌<◌, ◌+◌, ◌*◌, ℕ, length, [], slice_index, slice_index_or, IfOk};
-ghost use Rattle.gameid_core.specs.Common.{IsGrid, column_cells, row_cells, lines_of};
-ghost use Rattle.gameid_core.specs.BlackRuns.{runs};
-ghost use Rattle.gameid_core.specs.Puzzles.{IsPattern, Pattern, pattern_puzzle};
+ghost use Rattle.gameid_core.specs.Common.{IsGrid, IsPattern, Pattern, column_cells, lines_of, pattern_puzzle, row_cells, runs};
 
 use crate::pattern::black_runs::runs_of_lines;
 use crate::pattern::clues::Clues;

@@ -1,8 +1,6 @@
 //! How grids of Solo are printed and read.
 
-ghost use Rattle.gameid_core.specs.Common.{hides_nothing};
-ghost use Rattle.gameid_core.specs.Puzzles.{solo_n};
-ghost use Rattle.gameid_core.specs.GridTexts.{solo_cell, solo_extent};
+ghost use Rattle.gameid_core.specs.Common.{hides_nothing, solo_cell, solo_extent, solo_n};
 
 use crate::grids::printed::Printed;
 use crate::grids::readable::Readable;

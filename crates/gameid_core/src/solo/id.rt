@@ -1,10 +1,8 @@
 //! Game IDs of Solo.
 
 ghost use Rattle.std.specs.Prelude.{◌≡◌, ◌<◌, ◌≤◌, ◌+◌, ◌*◌, ◌^◌, ◌∷◌, ◌&&◌, true, nat_le, length, IfOk, IfErr, Ok, Err, ◌++◌, false, string_bytes, OnOk};
-ghost use Rattle.gameid_core.specs.Common.{Fails, Gives, IdFault, begins, head_of, max_id, max_numbers, size_read, words};
-ghost use Rattle.gameid_core.specs.Puzzles.{IsSolo, Solo};
+ghost use Rattle.gameid_core.specs.Common.{Fails, Gives, IdFault, IsSolo, Solo, TakesRun, begins, head_of, max_id, max_numbers, size_read, words};
 ghost use Rattle.gameid_core.specs.SoloText.{IsWrittenSolo, SpellsSolo, before_given, cells_text, solo_behind, solo_cells_at, solo_of, solo_text, solo_token};
-ghost use Rattle.gameid_core.specs.FirstTokens.{TakesRun};
 ghost use Rattle.gameid_core.specs.declared.id.game.Game.TheVariants as game;
 
 use crate::id::fault::IdFault;

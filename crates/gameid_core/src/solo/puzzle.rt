@@ -1,8 +1,7 @@
 //! The puzzles of Solo.
 
 ghost use Rattle.std.specs.Prelude.{◌≡◌, ◌<◌, ◌≤◌, ◌*◌, length, slice_index, slice_set, replicate, IfOk};
-ghost use Rattle.gameid_core.specs.Common.{max_numbers};
-ghost use Rattle.gameid_core.specs.Puzzles.{IsSolo, Solo, solo_n, solo_puzzle};
+ghost use Rattle.gameid_core.specs.Common.{IsSolo, Solo, max_numbers, solo_n, solo_puzzle};
 
 use std::alloc::{AllocError, Global};
 use std::marker::Model;

@@ -1,8 +1,7 @@
 //! Game IDs of Tents.
 
 ghost use Rattle.std.specs.Prelude.{◌≡◌, [], ℕ, List, ◌<◌, ◌≤◌, ◌+◌, ◌^◌, ◌++◌, ◌∷◌, length, OnOk, IfOk, IfErr, Ok, Err, decimal, string_bytes, false};
-ghost use Rattle.gameid_core.specs.Common.{Fails, Gives, IdFault, TakesNumber, flat_map, head_of, max_id, size_read};
-ghost use Rattle.gameid_core.specs.Puzzles.{IsTents, Tents};
+ghost use Rattle.gameid_core.specs.Common.{Fails, Gives, IdFault, IsTents, TakesNumber, Tents, flat_map, head_of, max_id, size_read};
 ghost use Rattle.gameid_core.specs.TentsText.{IsWrittenTents, SpellsTents, blanks_and_tree, run_cells, tents_at, tents_behind, tents_count, tents_of, tents_run, tents_text, tents_token_byte, tents_tree, trees_text};
 ghost use Rattle.gameid_core.specs.declared.id.game.Game.TheVariants as game;
 

@@ -1,9 +1,7 @@
 //! The puzzles of Tents.
 
 ghost use Rattle.std.specs.Prelude.{◌≡◌, ◌<◌, ◌≤◌, ◌+◌, ◌*◌, ℕ, IsTrue, IfOk, length, slice_index, ◌↔◌};
-ghost use Rattle.gameid_core.specs.Common.{IsGrid, column_cells, row_cells, lines_of};
-ghost use Rattle.gameid_core.specs.Lines.{ones};
-ghost use Rattle.gameid_core.specs.Puzzles.{IsTents, Tents, tents_puzzle};
+ghost use Rattle.gameid_core.specs.Common.{IsGrid, IsTents, Tents, column_cells, lines_of, ones, row_cells, tents_puzzle};
 
 use crate::lines::ones::{numbers_of, ones_of_lines};
 use grid_core::{Grid, Size};

@@ -1,5 +1,4 @@
-use Rattle.gameid_core.specs.Common.{ap, grid_text, rules, sym, ◌++◌, ◌∙◌}
-use Rattle.std.proofs.Common.{true≢false}
+use Rattle.gameid_core.specs.Common.{ap, grid_text, rules, sym, true≢false, ◌++◌, ◌∙◌}
 use Rattle.gameid_core.proofs.PrintedGrids.{none_read, one_read, other_read, either_form, form_either}
 use Rattle.gameid_core.proofs.grids.reader.read_grid.Goals as goal
 

@@ -1,5 +1,4 @@
-use Rattle.gameid_core.specs.Common.{drop, ◌++◌, ◌≡◌, ◌≤◌, line_numbers}
-use Rattle.gameid_core.specs.BlackRuns.{runs, runs_after}
+use Rattle.gameid_core.specs.Common.{drop, line_numbers, runs, runs_after, ◌++◌, ◌≡◌, ◌≤◌}
 use Rattle.gameid_core.proofs.pattern.black_runs.push_runs.Given as goal
 
 abbrev pub invariant-loop-k : goal.invariant-loop-k

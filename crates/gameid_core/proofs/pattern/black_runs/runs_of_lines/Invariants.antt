@@ -1,5 +1,4 @@
-use Rattle.gameid_core.specs.Common.{[], ◌≡◌}
-use Rattle.gameid_core.specs.BlackRuns.{runs}
+use Rattle.gameid_core.specs.Common.{[], runs, ◌≡◌}
 use Rattle.gameid_core.proofs.LineLaws.{lines_front}
 use Rattle.gameid_core.proofs.pattern.black_runs.runs_of_lines.Given as goal
 

@@ -1,6 +1,5 @@
-use Rattle.gameid_core.specs.Common.{length, ◌≡◌, ◌≤◌}
+use Rattle.gameid_core.specs.Common.{length, used, ◌≡◌, ◌≤◌}
 use Rattle.gameid_core.specs.PatternText.{clues_at}
-use Rattle.gameid_core.specs.Puzzles.{used}
 use Rattle.gameid_core.proofs.Reading.{place}
 use Rattle.gameid_core.proofs.PatternTexts.{reads}
 use Rattle.gameid_core.proofs.pattern.id.clues.Given as goal
