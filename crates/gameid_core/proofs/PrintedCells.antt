@@ -1,5 +1,6 @@
 -- What is printed of a cell is read back: one byte for each cell, or a number.
-use Rattle.gameid_core.specs.Common.{Bool, Extent, IsAsShown, IsLight, IsLightCell, Light, LightCell, List, Option, Some, White, [], ap, arith, codes, common_steps, decimal_digit, false, get_or, if◌then◌else◌, length, light_mark, refl, slice_get, slice_get-get_or, slice_index, suc, true, zero, ℕ, ◌*◌, ◌++◌, ◌<◌, ◌==◌, ◌∙◌, ◌∷◌, ◌≡◌, ◌≢◌, ◌≤◌}
+use Rattle.gameid_core.specs.Common.{Bool, Extent, IsAsShown, IsLight, IsLightCell, Light, LightCell, List, Option, Some, White, [], ap, arith, codes, common_steps, decimal_digit, false, get_or, if◌then◌else◌, length, refl, slice_get, slice_get-get_or, slice_index, suc, true, zero, ℕ, ◌*◌, ◌++◌, ◌<◌, ◌==◌, ◌∙◌, ◌∷◌, ◌≡◌, ◌≢◌, ◌≤◌}
+use Rattle.gameid_core.specs.LightText.{light_mark}
 use Rattle.gameid_core.proofs.Lists.{all_at}
 
 -- the number of a place is below `values`

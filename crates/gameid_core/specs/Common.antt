@@ -36,7 +36,7 @@ pub use Rattle.gameid_core.specs.FirstFault.{FirstFault, stop}
 pub use Rattle.gameid_core.specs.FirstTokens.{GivesRun, TakesNumber, TakesRun}
 pub use Rattle.gameid_core.specs.GridReading.{AgreeUpTo, FitUpTo, Follows, IsAsShown, IsPrinted, IsReadOf, digit_of, first_digit, hides_nothing}
 unfoldable pub use Rattle.gameid_core.specs.GridTexts.{each_below}
-pub use Rattle.gameid_core.specs.GridTexts.{grid_text, light_mark, pattern_cell, row_text, solo_cell, solo_extent}
+pub use Rattle.gameid_core.specs.GridTexts.{grid_text, row_text}
 pub use Rattle.gameid_core.specs.Head.{HeadRead, Sides, SizeRead, extent_of, has_hash, has_x, head_read, in_range, max_id, max_numbers, size_read, two_sides}
 unfoldable pub use Rattle.gameid_core.specs.Head.{head_at, head_of, side_at, sides_at, size_of}
 pub use Rattle.gameid_core.specs.HeadTests.{Comes, FailsHead, FailsSize, GoesOn, HasNumber, HasSize, IsFirstFailed, Lacks, head_tests, size_tests}

@@ -1,5 +1,5 @@
--- Game IDs of Pattern: what a text spells, its first fault, and the one written text.
-use Rattle.std.specs.Prelude.{◌≡◌, ℕ, ◌+◌, ◌≤◌, ◌&&◌, List, [], ◌∷◌, ◌++◌, map, drop, length, Result, Ok, Err, nat_lt, ◌==◌, if◌then◌else◌, decimal}
+-- Pattern: what the text of a game ID spells, its first fault, the one written text, and printed grids.
+use Rattle.std.specs.Prelude.{◌≡◌, ℕ, ◌+◌, ◌≤◌, ◌&&◌, List, [], ◌∷◌, ◌++◌, map, drop, length, Result, Ok, Err, nat_lt, ◌==◌, if◌then◌else◌, decimal, codes, slice_index}
 use Rattle.std.specs.List.{AllByRecursion, join_with_byte}
 use Rattle.std.specs.Char.{is_ascii_digit}
 use Rattle.std.specs.Borrow.{Bor}
@@ -101,6 +101,12 @@ clue_text clue = join_with_byte 46 (map decimal clue)
 
 abbrev pub pattern_text : Pattern → List ℕ
 pattern_text p = size_text p.size.w p.size.h ++ 58 ∷ join_with_byte 47 (map clue_text p.clues)
+
+-- Printed grids ---------------------------------------------------------------------------------
+
+-- Pattern: '#' black, '.' white
+abbrev pub pattern_cell : Pattern → List ℕ → ℕ → List ℕ
+pattern_cell p g place = if slice_index g place == 1 then codes "#" else codes "."
 
 -- Words of the reader's functions -----------------------------------------------------------------
 

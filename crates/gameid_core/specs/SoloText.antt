@@ -1,5 +1,6 @@
--- Game IDs of Solo: what a text spells, its first fault, and the one written text.
-use Rattle.std.specs.Prelude.{◌≡◌, ℕ, zero, suc, ◌+◌, ◌-◌, ◌*◌, ◌≤◌, Bool, true, false, ◌&&◌, List, [], ◌∷◌, ◌++◌, length, replicate, slice_index, Result, Ok, Err, nat_lt, nat_le, ◌==◌, if◌then◌else◌, decimal}
+-- Solo: what the text of a game ID spells, its first fault, the one written text, and printed grids.
+use Rattle.grid_core.specs.Extent.{Extent}
+use Rattle.std.specs.Prelude.{◌≡◌, ℕ, zero, suc, ◌+◌, ◌-◌, ◌*◌, ◌≤◌, Bool, true, false, ◌&&◌, List, [], ◌∷◌, ◌++◌, length, replicate, slice_index, Result, Ok, Err, nat_lt, nat_le, ◌==◌, if◌then◌else◌, decimal, ◌%◌, codes}
 use Rattle.std.specs.List.{AllByRecursion, flat_map}
 use Rattle.gameid_core.specs.declared.id.fault.IdFault.{IdFault}
 use Rattle.gameid_core.specs.declared.id.fault.IdFault.TheVariants.{BadByte, NumberRange}
@@ -122,3 +123,14 @@ cells_text k touches (suc v ∷ cells) =
 
 abbrev pub solo_text : Solo → List ℕ
 solo_text p = solo_size_text p.c p.r p.x ++ 58 ∷ cells_text 0 false p.givens
+
+-- Printed grids ---------------------------------------------------------------------------------
+
+-- Solo: the number, which is one more than the value, and a space before it but at the left
+abbrev pub solo_cell : Solo → List ℕ → ℕ → List ℕ
+solo_cell p g place =
+    (if place % solo_n p == 0 then [] else codes " ") ++ decimal (slice_index g place + 1)
+
+-- the columns and rows of a grid of Solo
+abbrev pub solo_extent : Solo → Extent
+solo_extent p = record { w = solo_n p; h = solo_n p }

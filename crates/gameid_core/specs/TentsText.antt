@@ -1,5 +1,5 @@
--- Game IDs of Tents: what a text spells, its first fault, and the one written text.
-use Rattle.std.specs.Prelude.{◌≡◌, ℕ, zero, suc, ◌+◌, ◌-◌, ◌*◌, ◌≤◌, Bool, true, false, ◌&&◌, List, [], ◌∷◌, ◌++◌, map, take, drop, length, replicate, slice_index, Result, Ok, Err, nat_lt, nat_le, ◌==◌, if◌then◌else◌, decimal}
+-- Tents: what the text of a game ID spells, its first fault, the one written text, and printed grids.
+use Rattle.std.specs.Prelude.{◌≡◌, ℕ, zero, suc, ◌+◌, ◌-◌, ◌*◌, ◌≤◌, Bool, true, false, ◌&&◌, List, [], ◌∷◌, ◌++◌, map, take, drop, length, replicate, slice_index, Result, Ok, Err, nat_lt, nat_le, ◌==◌, if◌then◌else◌, decimal, codes}
 use Rattle.std.specs.List.{AllByRecursion, flat_map}
 use Rattle.grid_core.specs.Extent.{Extent}
 use Rattle.gameid_core.specs.declared.id.fault.IdFault.{IdFault}
@@ -148,3 +148,15 @@ abbrev pub tents_text : Tents → List ℕ
 tents_text p =
     size_text p.size.w p.size.h
     ++ 58 ∷ (trees_text 0 p.trees ++ flat_map (λ n. 44 ∷ decimal n) p.counts)
+
+-- Printed grids ---------------------------------------------------------------------------------
+
+-- Tents: 'T' a tree, '^' a tent, '.' any other cell
+abbrev pub tents_cell : Tents → List ℕ → ℕ → List ℕ
+tents_cell p g place =
+    if slice_index p.trees place == 1 then codes "T"
+    else (if slice_index g place == 1 then codes "^" else codes ".")
+
+-- what is printed of a tree shows nothing of the number
+abbrev pub tent_hides : Tents → ℕ → Type 0
+tent_hides p place = slice_index p.trees place ≡ 1

@@ -5,9 +5,8 @@ ghost use Rattle.gameid_core.specs.Common.{Extent, IsExtent, IsGrid};
 use grid_core::{Grid, Size};
 use std::alloc::AllocError;
 
-/// A puzzle whose grids can be printed. A grid has a number for each cell, by place: 0 white and 1
-/// black in Pattern, one less than the number in Solo, 1 for a bulb in Light Up and for a tent in
-/// Tents.
+/// A puzzle whose grids can be printed. A grid has a number for each cell, by place. What the numbers
+/// mean, and what is printed of them, stands with each game.
 pub trait Printed {
     // The columns and rows of its grids.
     ghost extent: { Self → Extent };

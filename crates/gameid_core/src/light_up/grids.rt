@@ -1,7 +1,7 @@
-//! How grids of Light Up are printed and read.
+//! How grids of Light Up are printed and read. A number is 1 for a bulb, which is printed as `O`, and
+//! else 0: `.` for a white cell, `#` for a black one without a number, and its digit for another.
 
-ghost use Rattle.gameid_core.specs.GridReading.{light_hides};
-ghost use Rattle.gameid_core.specs.GridTexts.{light_cell};
+ghost use Rattle.gameid_core.specs.LightText.{light_hides, light_cell};
 
 use crate::grids::printed::Printed;
 use crate::grids::readable::{Readable, read_hidden, read_mark};

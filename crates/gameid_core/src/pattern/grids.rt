@@ -1,6 +1,8 @@
-//! How grids of Pattern are printed and read.
+//! How grids of Pattern are printed and read. A number is 0 for a white cell, which is printed as
+//! `.`, and 1 for a black one, `#`.
 
-ghost use Rattle.gameid_core.specs.Common.{hides_nothing, pattern_cell};
+ghost use Rattle.gameid_core.specs.Common.{hides_nothing};
+ghost use Rattle.gameid_core.specs.PatternText.{pattern_cell};
 
 use crate::grids::printed::Printed;
 use crate::grids::readable::{Readable, read_mark};

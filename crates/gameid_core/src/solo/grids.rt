@@ -1,6 +1,8 @@
-//! How grids of Solo are printed and read.
+//! How grids of Solo are printed and read. A number is one less than what is printed of it, in
+//! decimal, with one space between two cells.
 
-ghost use Rattle.gameid_core.specs.Common.{hides_nothing, solo_cell, solo_extent, solo_n};
+ghost use Rattle.gameid_core.specs.Common.{hides_nothing, solo_n};
+ghost use Rattle.gameid_core.specs.SoloText.{solo_cell, solo_extent};
 
 use crate::grids::printed::Printed;
 use crate::grids::readable::Readable;

@@ -1,7 +1,7 @@
-//! How grids of Tents are printed and read.
+//! How grids of Tents are printed and read. A number is 1 for a tent, which is printed as `^`, and
+//! else 0: `T` for a tree, and `.` for any other cell.
 
-ghost use Rattle.gameid_core.specs.GridReading.{tent_hides};
-ghost use Rattle.gameid_core.specs.GridTexts.{tents_cell};
+ghost use Rattle.gameid_core.specs.TentsText.{tent_hides, tents_cell};
 
 use crate::grids::printed::Printed;
 use crate::grids::readable::{Readable, read_hidden, read_mark};
