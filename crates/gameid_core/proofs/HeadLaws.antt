@@ -46,60 +46,12 @@ side_again n rest small some other = grind (arith, begins_front, decimal_leads, 
 abbrev one_side : ℕ → List ℕ → Sides
 one_side a rest = record { w = a; h = a; x = false; rest = rest }
 
--- a size that the text begins with is read
-pub has_size_read : (game : Game) (text : List ℕ) (size : Sides) → HasSize game text size → sides_at game text ≡ taken size
-unfolding sides_at
-has_size_read game text size h3 = grind (arith, common_steps, side_read)
-
-goes_on : (game : Game) (after : List ℕ) → GoesOn game after (has_x game after) (cond (has_x game after) (drop 1 after) after)
-goes_on game after = grind arith
-
 x_first : (text : List ℕ) → begins (λ c. eqb c 120) text ≡ true → text ≡ 120 ∷ drop 1 text
 x_first text e = grind arith
 
 side_found : (text : List ℕ) (x : ℕ × List ℕ) → side_at text ≡ Ok x → (number : List ℕ) × HasNumber text number x.1 × (value number ≡ x.0)
 unfolding side_at
 side_found text x e = grind (arith, number_in text)
-
-one_found : (game : Game) (text : List ℕ) (x : ℕ × List ℕ) → side_at text ≡ Ok x → begins (λ c. eqb c 120) x.1 ≡ false → HasSize game text (one_side x.0 x.1)
-one_found game text x e alone =
-    let l = side_found text x e in
-    inl (record { side = l.0; number = l.1; alone = alone; both = (l.2, l.2); plain = refl })
-
-two_found : (game : Game) (text : List ℕ) (x y : ℕ × List ℕ) → side_at text ≡ Ok x → begins (λ c. eqb c 120) x.1 ≡ true → side_at (drop 1 x.1) ≡ Ok y → HasSize game text (two_sides game x.0 y.0 y.1)
-two_found game text x y e two f =
-    let l = side_found text x e in
-    let r = side_found (drop 1 x.1) y f in
-    inr (record { left = l.0; right = r.0; behind = drop 1 x.1; after = y.1; first = subst (λ t. HasNumber text l.0 t) (x_first x.1 two) l.1; second = r.1; goes_on = goes_on game y.1; both = (l.2, r.2) })
-
--- and what is read is such a size
-pub sides_found : (game : Game) (text : List ℕ) (size : Sides) → sides_at game text ≡ taken size → HasSize game text size
-unfolding sides_at
-sides_found game text size e = grind (arith, common_steps, one_found game text, two_found game text)
-
--- a size of the game, with the 'x' of Solo X or without
-abbrev pub IsGameSize : Game → List ℕ → ℕ → ℕ → Bool → Type 0
-IsGameSize game front a b false = IsSizeText front a b
-IsGameSize game front a b true = (game ≡ Solo) × (front ≡ solo_size_text a b true)
-
-pub solo_size : (front : List ℕ) (a b : ℕ) (x : Bool) → IsGameSize Solo front a b x → IsSoloSizeText front a b x
-solo_size front a b x s = grind arith
-
-pub size_of_solo : (front : List ℕ) (a b : ℕ) (x : Bool) → IsSoloSizeText front a b x → IsGameSize Solo front a b x
-size_of_solo front a b x s = grind arith
-
-pub plain_size : (game : Game) (front : List ℕ) (a b : ℕ) (x : Bool) → (game ≡ Solo → ⊥) → IsGameSize game front a b x → IsSizeText front a b
-plain_size game front a b x other s = grind arith
-
-game_size : (game : Game) (text : List ℕ) (s : Sides) → s.w < 2 ^ 64 → s.h < 2 ^ 64 → length s.rest ≤ 0 → HasSize game text s → IsGameSize game text s.w s.h s.x
-game_size game text s small_w small_h none (inl one) = grind (arith, common_steps, number_decimal text one.side s.rest one.number)
-game_size game text s small_w small_h none (inr two) = grind (arith, common_steps, number_decimal text two.left (120 ∷ two.behind) two.first, number_decimal two.behind two.right two.after two.second)
-
-pub sides_again : (game : Game) (front : List ℕ) (a b : ℕ) (x : Bool) → a < 2 ^ 64 → b < 2 ^ 64 → 0 < a → 0 < b → IsGameSize game front a b x → sides_at game front ≡ Ok (record { w = a; h = b; x = x; rest = [] })
-unfolding sides_at
-sides_again game front a b false small_a small_b some_a some_b (inl e) = grind (arith, common_steps, side_again a (120 ∷ decimal b) small_a some_a refl, side_again b [] small_b some_b refl)
-sides_again game front a b false small_a small_b some_a some_b (inr e) = grind (arith, common_steps, side_again a [] small_a some_a refl)
-sides_again game front a b true small_a small_b some_a some_b e = grind (arith, common_steps, side_again a (120 ∷ (decimal b ++ 120 ∷ [])) small_a some_a refl, side_again b (120 ∷ []) small_b some_b refl)
 
 -- ---- the size
 
@@ -108,23 +60,6 @@ pub record Small (a b : ℕ) : Type 0 where
   pub b_some : 0 < b
   pub a_small : a ≤ max_side
   pub b_small : b ≤ max_side
-
-pub range_small : (game : Game) (a b : ℕ) → in_range game a b ≡ true → Small a b
-range_small game a b e = grind arith
-
-pub size_take : (game : Game) (text : List ℕ) (size : SizeRead) → size_of game text ≡ Ok size → IsGameSize game text size.w size.h size.x × (in_range game size.w size.h ≡ true)
-unfolding size_of
-size_take game text size e =
-    let s = bind_ok (sides_at game text) (λ s. cond (ltb 0 (length s.rest)) (Err Variant) (cond (in_range game s.w s.h) (taken (size_read s.w s.h s.x)) (Err SizeRange))) size e in
-    let c = not_refused (ltb 0 (length s.0.rest)) _ _ _ s.2 in
-    let d = only_taken (in_range game s.0.w s.0.h) _ _ _ c.1 in
-    let small = range_small game s.0.w s.0.h d.0 in
-    let here = game_size game text s.0 (omega (arith, small.a_small)) (omega (arith, small.b_small)) (ltb-false _ _ c.0) (sides_found game text s.0 s.1) in
-    subst (λ (z : SizeRead). IsGameSize game text z.w z.h z.x × (in_range game z.w z.h ≡ true)) (ok_is (size_read s.0.w s.0.h s.0.x) size d.1) (here, d.0)
-
-pub size_again : (game : Game) (front : List ℕ) (a b : ℕ) (x : Bool) → IsGameSize game front a b x → in_range game a b ≡ true → size_of game front ≡ Ok (size_read a b x)
-unfolding size_of
-size_again game front a b x text range = grind (arith, range_small game a b range, sides_again game front a b x)
 
 -- ---- up to the colon
 
@@ -135,9 +70,6 @@ digits_lack k (c ∷ ds) other d = grind (arith, nat_tests, digits_lack k ds oth
 size_lacks : (k : ℕ) (front : List ℕ) (a b : ℕ) → is_ascii_digit k ≡ false → eqb 120 k ≡ false → a < 2 ^ 64 → b < 2 ^ 64 → IsSizeText front a b → list_any (λ c. eqb c k) front ≡ false
 size_lacks k front a b other x small_a small_b h8 = grind (arith, common_steps, list_any-append, digits_lack, digits_decimal, own)
 
-game_size_lacks : (k : ℕ) (game : Game) (front : List ℕ) (a b : ℕ) (x : Bool) → is_ascii_digit k ≡ false → eqb 120 k ≡ false → a < 2 ^ 64 → b < 2 ^ 64 → IsGameSize game front a b x → list_any (λ c. eqb c k) front ≡ false
-game_size_lacks k game front a b x other x' small_a small_b s = grind (arith, common_steps, size_lacks)
-
 pub place_of : (p : ℕ → Bool) (front : List ℕ) (c : ℕ) (rest : List ℕ) → list_any p front ≡ false → p c ≡ true → position_or_len p (front ++ c ∷ rest) ≡ length front
 place_of p [] c rest none here = rw here refl
 place_of p (b ∷ front) c rest none here = grind (arith, nat_tests, place_of p front c rest)
@@ -145,31 +77,111 @@ place_of p (b ∷ front) c rest none here = grind (arith, nat_tests, place_of p 
 pub position_at : (p : ℕ → Bool) (front : List ℕ) (c : ℕ) (rest : List ℕ) → list_any p front ≡ false → p c ≡ true → position p (front ++ c ∷ rest) ≡ Some (length front)
 position_at p front c rest none here = grind (arith, common_steps, place_of p front c rest none here)
 
-pub record IsHead (game : Game) (text : List ℕ) (head : HeadRead) : Type 0 where
-  pub front : List ℕ
-  pub parts : text ≡ front ++ 58 ∷ drop head.description text
-  pub size : IsGameSize game front head.size.w head.size.h head.size.x
-  pub range : in_range game head.size.w head.size.h ≡ true
-  pub short : length text ≤ max_id
-
 colon_splits : (text : List ℕ) (k : ℕ) → position (λ c. eqb c 58) text ≡ Some k → text ≡ take k text ++ 58 ∷ drop (k + 1) text
 colon_splits text k e = grind (arith, common_steps, position-Some (λ c. eqb c 58) text k 0 e, take-append-drop k text)
 
 abbrev described : SizeRead → ℕ → HeadRead
 described size place = record { size = size; description = place }
 
-colon_take : (game : Game) (text : List ℕ) (head : HeadRead) (o : Option ℕ) → length text ≤ max_id → position (λ c. eqb c 58) text ≡ o → head_at game text o ≡ Ok head → IsHead game text head
-unfolding head_at
-colon_take game text head None short o e = grind arith
-colon_take game text head (Some k) short o e =
-    let c = not_refused (has_hash (take k text)) _ _ _ e in
-    let s = bind_ok (size_of game (take k text)) (λ size. taken (described size (k + 1))) head c.1 in
-    let t = size_take game (take k text) s.0 s.1 in
-    subst (λ (h : HeadRead). IsHead game text h) (ok_is (described s.0 (k + 1)) head s.2) (record { front = take k text; parts = colon_splits text k o; size = t.0; range = t.1; short = short })
+after_front : (front rest : List ℕ) → drop (length front + 1) (front ++ 58 ∷ rest) ≡ rest
+after_front front rest = grind (arith, append_assoc front (58 ∷ []) rest, drop_at (front ++ 58 ∷ []) rest (length front + 1) (length-append front (58 ∷ [])))
 
-pub head_take : (game : Game) (text : List ℕ) (head : HeadRead) → head_of game text ≡ Ok head → IsHead game text head
-unfolding head_of
-head_take game text head e = grind (arith, colon_take)
+module _ (game : Game) where
+  -- a size that the text begins with is read
+  pub has_size_read : (text : List ℕ) (size : Sides) → HasSize game text size → sides_at game text ≡ taken size
+  unfolding sides_at
+  has_size_read text size h3 = grind (arith, common_steps, side_read)
+
+  goes_on : (after : List ℕ) → GoesOn game after (has_x game after) (cond (has_x game after) (drop 1 after) after)
+  goes_on after = grind arith
+
+  one_found : (text : List ℕ) (x : ℕ × List ℕ) → side_at text ≡ Ok x → begins (λ c. eqb c 120) x.1 ≡ false → HasSize game text (one_side x.0 x.1)
+  one_found text x e alone =
+      let l = side_found text x e in
+      inl (record { side = l.0; number = l.1; alone = alone; both = (l.2, l.2); plain = refl })
+
+  two_found : (text : List ℕ) (x y : ℕ × List ℕ) → side_at text ≡ Ok x → begins (λ c. eqb c 120) x.1 ≡ true → side_at (drop 1 x.1) ≡ Ok y → HasSize game text (two_sides game x.0 y.0 y.1)
+  two_found text x y e two f =
+      let l = side_found text x e in
+      let r = side_found (drop 1 x.1) y f in
+      inr (record { left = l.0; right = r.0; behind = drop 1 x.1; after = y.1; first = subst (λ t. HasNumber text l.0 t) (x_first x.1 two) l.1; second = r.1; goes_on = goes_on y.1; both = (l.2, r.2) })
+
+  -- and what is read is such a size
+  pub sides_found : (text : List ℕ) (size : Sides) → sides_at game text ≡ taken size → HasSize game text size
+  unfolding sides_at
+  sides_found text size e = grind (arith, common_steps, one_found text, two_found text)
+
+  -- a size of the game, with the 'x' of Solo X or without
+  abbrev pub IsGameSize : List ℕ → ℕ → ℕ → Bool → Type 0
+  IsGameSize front a b false = IsSizeText front a b
+  IsGameSize front a b true = (game ≡ Solo) × (front ≡ solo_size_text a b true)
+
+  pub plain_size : (front : List ℕ) (a b : ℕ) (x : Bool) → (game ≡ Solo → ⊥) → IsGameSize front a b x → IsSizeText front a b
+  plain_size front a b x other s = grind arith
+
+  game_size : (text : List ℕ) (s : Sides) → s.w < 2 ^ 64 → s.h < 2 ^ 64 → length s.rest ≤ 0 → HasSize game text s → IsGameSize text s.w s.h s.x
+  game_size text s small_w small_h none (inl one) = grind (arith, common_steps, number_decimal text one.side s.rest one.number)
+  game_size text s small_w small_h none (inr two) = grind (arith, common_steps, number_decimal text two.left (120 ∷ two.behind) two.first, number_decimal two.behind two.right two.after two.second)
+
+  pub sides_again : (front : List ℕ) (a b : ℕ) (x : Bool) → a < 2 ^ 64 → b < 2 ^ 64 → 0 < a → 0 < b → IsGameSize front a b x → sides_at game front ≡ Ok (record { w = a; h = b; x = x; rest = [] })
+  unfolding sides_at
+  sides_again front a b false small_a small_b some_a some_b (inl e) = grind (arith, common_steps, side_again a (120 ∷ decimal b) small_a some_a refl, side_again b [] small_b some_b refl)
+  sides_again front a b false small_a small_b some_a some_b (inr e) = grind (arith, common_steps, side_again a [] small_a some_a refl)
+  sides_again front a b true small_a small_b some_a some_b e = grind (arith, common_steps, side_again a (120 ∷ (decimal b ++ 120 ∷ [])) small_a some_a refl, side_again b (120 ∷ []) small_b some_b refl)
+
+  pub range_small : (a b : ℕ) → in_range game a b ≡ true → Small a b
+  range_small a b e = grind arith
+
+  pub size_take : (text : List ℕ) (size : SizeRead) → size_of game text ≡ Ok size → IsGameSize text size.w size.h size.x × (in_range game size.w size.h ≡ true)
+  unfolding size_of
+  size_take text size e =
+      let s = bind_ok (sides_at game text) (λ s. cond (ltb 0 (length s.rest)) (Err Variant) (cond (in_range game s.w s.h) (taken (size_read s.w s.h s.x)) (Err SizeRange))) size e in
+      let c = not_refused (ltb 0 (length s.0.rest)) _ _ _ s.2 in
+      let d = only_taken (in_range game s.0.w s.0.h) _ _ _ c.1 in
+      let small = range_small s.0.w s.0.h d.0 in
+      let here = game_size text s.0 (omega (arith, small.a_small)) (omega (arith, small.b_small)) (ltb-false _ _ c.0) (sides_found text s.0 s.1) in
+      subst (λ (z : SizeRead). IsGameSize text z.w z.h z.x × (in_range game z.w z.h ≡ true)) (ok_is (size_read s.0.w s.0.h s.0.x) size d.1) (here, d.0)
+
+  pub size_again : (front : List ℕ) (a b : ℕ) (x : Bool) → IsGameSize front a b x → in_range game a b ≡ true → size_of game front ≡ Ok (size_read a b x)
+  unfolding size_of
+  size_again front a b x text range = grind (arith, range_small a b range, sides_again front a b x)
+
+  game_size_lacks : (k : ℕ) (front : List ℕ) (a b : ℕ) (x : Bool) → is_ascii_digit k ≡ false → eqb 120 k ≡ false → a < 2 ^ 64 → b < 2 ^ 64 → IsGameSize front a b x → list_any (λ c. eqb c k) front ≡ false
+  game_size_lacks k front a b x other x' small_a small_b s = grind (arith, common_steps, size_lacks)
+
+  pub record IsHead (text : List ℕ) (head : HeadRead) : Type 0 where
+    pub front : List ℕ
+    pub parts : text ≡ front ++ 58 ∷ drop head.description text
+    pub size : IsGameSize front head.size.w head.size.h head.size.x
+    pub range : in_range game head.size.w head.size.h ≡ true
+    pub short : length text ≤ max_id
+
+  colon_take : (text : List ℕ) (head : HeadRead) (o : Option ℕ) → length text ≤ max_id → position (λ c. eqb c 58) text ≡ o → head_at game text o ≡ Ok head → IsHead text head
+  unfolding head_at
+  colon_take text head None short o e = grind arith
+  colon_take text head (Some k) short o e =
+      let c = not_refused (has_hash (take k text)) _ _ _ e in
+      let s = bind_ok (size_of game (take k text)) (λ size. taken (described size (k + 1))) head c.1 in
+      let t = size_take (take k text) s.0 s.1 in
+      subst (λ (h : HeadRead). IsHead text h) (ok_is (described s.0 (k + 1)) head s.2) (record { front = take k text; parts = colon_splits text k o; size = t.0; range = t.1; short = short })
+
+  pub head_take : (text : List ℕ) (head : HeadRead) → head_of game text ≡ Ok head → IsHead text head
+  unfolding head_of
+  head_take text head e = grind (arith, colon_take)
+
+  head_again : (front rest : List ℕ) (a b : ℕ) (x : Bool) → IsGameSize front a b x → in_range game a b ≡ true → length (front ++ 58 ∷ rest) ≤ max_id → head_of game (front ++ 58 ∷ rest) ≡ Ok (record { size = size_read a b x; description = length front + 1 })
+  unfolding head_of head_at
+  head_again front rest a b x text range short = grind (arith, common_steps, range_small a b range, position_at, game_size_lacks 58 front a b x refl refl, game_size_lacks 35 front a b x refl refl, size_again front a b x text range)
+
+  head_too_long : (text : List ℕ) → max_id < length text → head_of game text ≡ Err TooLong
+  unfolding head_of
+  head_too_long text over = rw (lt-ltb max_id (length text) over) refl
+
+pub solo_size : (front : List ℕ) (a b : ℕ) (x : Bool) → IsGameSize Solo front a b x → IsSoloSizeText front a b x
+solo_size front a b x s = grind arith
+
+pub size_of_solo : (front : List ℕ) (a b : ℕ) (x : Bool) → IsSoloSizeText front a b x → IsGameSize Solo front a b x
+size_of_solo front a b x s = grind arith
 
 -- a puzzle that was read: its head, and what its description gave
 pub record Parts {B P : Type 0} (game : Game) (text : List ℕ) (body : HeadRead → List ℕ → Result B IdFault) (make : HeadRead → B → P) (p : P) : Type 0 where
@@ -183,21 +195,10 @@ pub parts_of : {B P : Type 0} (game : Game) (text : List ℕ) (body : HeadRead �
 unfolding puzzle_of
 parts_of game text body make p e = grind (arith, head_take)
 
-head_again : (game : Game) (front rest : List ℕ) (a b : ℕ) (x : Bool) → IsGameSize game front a b x → in_range game a b ≡ true → length (front ++ 58 ∷ rest) ≤ max_id → head_of game (front ++ 58 ∷ rest) ≡ Ok (record { size = size_read a b x; description = length front + 1 })
-unfolding head_of head_at
-head_again game front rest a b x text range short = grind (arith, common_steps, range_small game a b range, position_at, game_size_lacks 58 game front a b x refl refl, game_size_lacks 35 game front a b x refl refl, size_again game front a b x text range)
-
-after_front : (front rest : List ℕ) → drop (length front + 1) (front ++ 58 ∷ rest) ≡ rest
-after_front front rest = grind (arith, append_assoc front (58 ∷ []) rest, drop_at (front ++ 58 ∷ []) rest (length front + 1) (length-append front (58 ∷ [])))
-
 -- a size, ':' and a description are read as the description is behind that size
 pub puzzle_again : {P : Type 0} (game : Game) (behind : HeadRead → List ℕ → Result P IdFault) (front rest : List ℕ) (a b : ℕ) (x : Bool) → IsGameSize game front a b x → in_range game a b ≡ true → length (front ++ 58 ∷ rest) ≤ max_id → puzzle_of game behind (front ++ 58 ∷ rest) ≡ behind (record { size = size_read a b x; description = length front + 1 }) rest
 unfolding puzzle_of
 puzzle_again game behind front rest a b x size range short = rw (head_again game front rest a b x size range short, after_front front rest) refl
-
-head_too_long : (game : Game) (text : List ℕ) → max_id < length text → head_of game text ≡ Err TooLong
-unfolding head_of
-head_too_long game text over = rw (lt-ltb max_id (length text) over) refl
 
 pub puzzle_too_long : {P : Type 0} (game : Game) (behind : HeadRead → List ℕ → Result P IdFault) (text : List ℕ) → max_id < length text → puzzle_of game behind text ≡ Err TooLong
 unfolding puzzle_of

@@ -72,11 +72,11 @@ token_fits (whites k) h = AllByRecursion-replicate IsLightCell White k tt
 token_fits black h = (tt, tt)
 token_fits (numbered n) h = (h, tt)
 
-pub light_lawful : (w h at : ℕ) (description : List ℕ) (cells : List LightCell) → in_range game.LightUp w h ≡ true → light_cells_at (w * h) at description ≡ Ok cells → IsLight (record { size = record { w = w; h = h }; cells = cells })
-light_lawful w h at description cells range e = grind (arith, light_take (w * h) at description cells e, AllByRecursion-flat_map IsLightToken IsLightCell light_token_cells token_fits)
+light_lawful : {w h : ℕ} {cells : List LightCell} (at : ℕ) (description : List ℕ) → in_range game.LightUp w h ≡ true → light_cells_at (w * h) at description ≡ Ok cells → IsLight (record { size = record { w = w; h = h }; cells = cells })
+light_lawful {w = w} {h = h} {cells = cells} at description range e = grind (arith, light_take (w * h) at description cells e, AllByRecursion-flat_map IsLightToken IsLightCell light_token_cells token_fits)
 
 pub light_fits : (size : Extent) (w h all at : ℕ) (description : List ℕ) (cells : List LightCell) → size ≡ sized w h → all ≡ size.w * size.h → in_range game.LightUp w h ≡ true → light_cells_at all at description ≡ Ok cells → IsLight (record { size = size; cells = cells })
-light_fits size w h all at description cells is count range e = grind (arith, light_lawful w h at description cells range)
+light_fits size w h all at description cells is count range e = grind (arith, light_lawful {w = w} {h = h} {cells = cells} at description range)
 
 -- ---- what is spelled is read
 
@@ -92,7 +92,7 @@ light_again all at tokens each full =
 pub light_takes : (text : List ℕ) (p : Light) → light_of text ≡ Ok p → SpellsLight text p
 light_takes text p e =
     let r = parts_of game.LightUp text (λ head description. light_cells_at (head.size.w * head.size.h) head.description description) (λ head cells. record { size = extent_of head.size; cells = cells }) p e in
-    grind (arith, light_take _ _ _ _ r.read, light_lawful _ _ _ _ _ r.is_head.range r.read, plain_size)
+    grind (arith, light_take _ _ _ _ r.read, light_lawful _ _ r.is_head.range r.read, plain_size)
 
 -- a wide size is in the limits of Light Up, which are those of Tents
 pub wide_range : (size : Extent) → IsWide size → in_range game.LightUp size.w size.h ≡ true

@@ -38,32 +38,6 @@ pub ruleset numbers = (first_takes, further_takes, further_other)
 abbrev pub so_far : List (List ℕ) → List ℕ → SoFar
 so_far clues clue = record { clues = clues; clue = clue }
 
-abbrev pub reads : Extent → ℕ → SoFar → List ℕ → Result (List (List ℕ)) IdFault
-reads size at s rest = reading (pattern_step size) (pattern_end size) at s (words rest)
-
-pub step_number : (size : Extent) (at : ℕ) (clues : List (List ℕ)) (clue word : List ℕ) (r : Result ℕ IdFault) → begins (λ b. eqb b 47) word ≡ false → clue_token (line_cells size (length clues)) (length clues) clue at word ≡ r → pattern_step size at (so_far clues clue) word ≡ (r >>= (λ n. Ok (so_far clues (clue ++ n ∷ []))))
-step_number size at clues clue word r other e = rw (other, e) refl
-
--- '/' ends a clue that is not the last, and is refused after that
-pub slash_full : (size : Extent) (at b : ℕ) (s : SoFar) (after : List ℕ) → b ≡ 47 → length s.clues + 1 ≡ lines_of size → reads size at s (b ∷ after) ≡ Err TooMany
-unfolding reading
-slash_full size at b s after slash full = grind (arith, common_steps, words_single 47 after)
-
-pub slash_turn : (size : Extent) (at b : ℕ) (s : SoFar) (after : List ℕ) → b ≡ 47 → (length s.clues + 1 ≡ lines_of size → ⊥)
-    → reads size at s (b ∷ after) ≡ reads size (at + 1) (so_far (s.clues ++ s.clue ∷ []) []) after
-unfolding reading
-slash_turn size at b s after slash room = grind (arith, common_steps, words_single 47 after)
-
--- another token adds a number to the clue
-pub number_turn : (size : Extent) (at n : ℕ) (s : SoFar) (text word after : List ℕ) → Cuts text word after → begins (λ b. eqb b 47) text ≡ false
-    → clue_token (line_cells size (length s.clues)) (length s.clues) s.clue at word ≡ Ok n
-    → reads size at s text ≡ reads size (at + length word) (so_far s.clues (s.clue ++ n ∷ [])) after
-number_turn size at n s text word after cuts other token =
-    reading_turn (pattern_step size) (pattern_end size) at s _ text word after cuts (step_number size at s.clues s.clue word (Ok n) (cuts.first _ ∙ other) token)
-
-pub end_is : (size : Extent) (clues : List (List ℕ)) (clue : List ℕ) (full : Bool) → eqb (length clues + 1) (lines_of size) ≡ full → pattern_end size (so_far clues clue) ≡ cond full (Ok (clues ++ clue ∷ [])) (Err TooFew)
-end_is size clues clue full e = rw e refl
-
 pub used_push : (clue : List ℕ) (n : ℕ) → used (clue ++ n ∷ []) ≡ used clue + (n + 1)
 used_push [] n = omega arith
 used_push (m ∷ clue) n = omega (arith, used_push clue n)
@@ -81,21 +55,6 @@ pub token_small : (cells line at n : ℕ) (clue word : List ℕ) → clue_token 
 token_small cells line at n [] word e = grind (arith, common_steps, first_cases)
 token_small cells line at n (m ∷ clue) word e = let f = further_cases cells line at n m clue word e in (f.3, f.4)
 
--- a step that was taken: '/', or a number
-pub record Slash (size : Extent) (clues : List (List ℕ)) (clue word : List ℕ) (t : SoFar) : Type 0 where
-  pub slash : begins (λ b. eqb b 47) word ≡ true
-  pub room : length clues + 1 ≡ lines_of size → ⊥
-  pub leads : so_far (clues ++ clue ∷ []) [] ≡ t
-
-pub record Number (size : Extent) (at : ℕ) (clues : List (List ℕ)) (clue word : List ℕ) (t : SoFar) : Type 0 where
-  pub other : begins (λ b. eqb b 47) word ≡ false
-  pub number : ℕ
-  pub token : clue_token (line_cells size (length clues)) (length clues) clue at word ≡ Ok number
-  pub leads : so_far clues (clue ++ number ∷ []) ≡ t
-
-pub step_cases : (size : Extent) (at : ℕ) (clues : List (List ℕ)) (clue word : List ℕ) (t : SoFar) → pattern_step size at (so_far clues clue) word ≡ Ok t → Slash size clues clue word t ⊎ Number size at clues clue word t
-step_cases size at clues clue word t e = grind arith
-
 -- ---- clues that are read fit
 
 IsClue-push : (cells n : ℕ) (clue : List ℕ) → IsClue cells clue → (0 < n) × (used clue + n ≤ cells) → IsClue cells (clue ++ n ∷ [])
@@ -103,25 +62,6 @@ IsClue-push cells n clue h p = grind (arith, common_steps, used_push)
 
 IsClue-none : (cells : ℕ) → IsClue cells []
 IsClue-none cells = record { positive = tt; fits = omega arith }
-
-AreClues-push : (size : Extent) (line : ℕ) (clues : List (List ℕ)) (clue : List ℕ) → AreClues size line clues → IsClue (line_cells size (line + length clues)) clue → AreClues size line (clues ++ clue ∷ [])
-AreClues-push size line [] clue h p = grind arith
-AreClues-push size line (c ∷ clues) clue h p = grind (arith, nat_tests, AreClues-push size (line + 1) clues clue h.1)
-
-lawful : (size : Extent) (at : ℕ) (clues : List (List ℕ)) (clue : List ℕ) (ws : List (List ℕ)) (all : List (List ℕ)) → AreClues size 0 clues → IsClue (line_cells size (length clues)) clue → reading (pattern_step size) (pattern_end size) at (so_far clues clue) ws ≡ Ok all → AreClues size 0 all × (length all ≡ lines_of size)
-unfolding reading
-lawful size at clues clue [] all h p e = grind (arith, common_steps, AreClues-push size 0 clues clue h)
-lawful size at clues clue (word ∷ ws) all h p e =
-    let b = bind_ok (pattern_step size at (so_far clues clue) word) (λ t. reading (pattern_step size) (pattern_end size) (at + length word) t ws) all e in
-    elim (step_cases size at clues clue word b.0 b.1) [
-      | inl s ↦ lawful size (at + length word) (clues ++ clue ∷ []) [] ws all (AreClues-push size 0 clues clue h (grind arith)) (IsClue-none _) (grind arith)
-      | inr n ↦ lawful size (at + length word) clues (clue ++ n.number ∷ []) ws all h (IsClue-push _ _ clue p (token_small _ _ _ _ _ _ n.token)) (grind arith)
-    ]
-
-pub clues_lawful : (size : Extent) (at : ℕ) (description : List ℕ) (all : List (List ℕ)) → IsExtent size → clues_at size at description ≡ Ok all → IsPattern (record { size = size; clues = all })
-clues_lawful size at description all h e = grind (arith, lawful size at [] [] (words description) all tt)
-
-pub ruleset turns = (common_steps, words_nil, slash_full, slash_turn, used_push, token_small)
 
 -- ---- texts of numerals
 
@@ -181,17 +121,6 @@ number_spelled cells line at clues [] word rest all n w t r =
 number_spelled cells line at clues (m ∷ clue) word rest all n w t r =
     record { ns = drop 1 word ∷ r.ns; later = r.later; is = grind (arith, common_steps, further_cases cells line at n m clue word t, dotted_word word w) }
 
-read_spelled : (size : Extent) (at : ℕ) (clues : List (List ℕ)) (clue : List ℕ) (ws : List (List ℕ)) (all : List (List ℕ)) → AllByRecursion IsWord ws
-    → reading (pattern_step size) (pattern_end size) at (so_far clues clue) ws ≡ Ok all → Spelled clues clue (concat ws) all
-unfolding reading
-read_spelled size at clues clue [] all w e = grind (arith, tail_none clue, append-nil clue)
-read_spelled size at clues clue (word ∷ ws) all w e =
-    let b = bind_ok (pattern_step size at (so_far clues clue) word) (λ t. reading (pattern_step size) (pattern_end size) (at + length word) t ws) all e in
-    elim (step_cases size at clues clue word b.0 b.1) [
-      | inl s ↦ slash_spelled clues clue word (concat ws) all (slash_word word w.0 s.slash) (read_spelled size (at + length word) (clues ++ clue ∷ []) [] ws all w.1 (grind arith))
-      | inr n ↦ number_spelled _ _ at clues clue word (concat ws) all n.number w.0 n.token (read_spelled size (at + length word) clues (clue ++ n.number ∷ []) ws all w.1 (grind arith))
-    ]
-
 -- ---- what fits
 
 used_more : (n : ℕ) (clue rest : List ℕ) → used clue + (n + 1) ≤ used (clue ++ n ∷ rest)
@@ -222,31 +151,6 @@ rest_begins m clue [] [] = refl
 rest_begins m clue [] (l ∷ later) = refl
 rest_begins m clue (n ∷ ns) later = refl
 
-abbrev Reads : Extent → List (List ℕ) → List (List ℕ) → List ℕ → List ℕ → Type 0
-Reads size all clues clue text = (at : ℕ) → reading (pattern_step size) (pattern_end size) at (so_far clues clue) (words text) ≡ Ok all
-
--- the rest of a clue is read, and then what follows it
-clue_again : (size : Extent) (all clues : List (List ℕ)) (clue : List ℕ) (ns : List (List ℕ)) (later : List (List (List ℕ))) → AllByRecursion IsNumeral ns → IsClue (line_cells size (length clues)) (clue ++ map value ns) → Reads size all clues (clue ++ map value ns) (later_text later) → Reads size all clues clue (tail_text clue ns ++ later_text later)
-clue_again size all clues clue [] later d fits next at = grind (arith, common_steps)
-clue_again size all clues [] (num ∷ ns) later d fits next at = grind (arith, common_steps, join_cons 46 num ns, numeral_cuts num (tail_text (value num ∷ []) ns ++ later_text later) d.0 (rest_begins (value num) [] ns later), step_number size at clues [] num (Ok (value num)) (numeral_other num d.0), first_read, reading_turn (pattern_step size) (pattern_end size) at (so_far clues []) (so_far clues (value num ∷ [])), clue_again size all clues (value num ∷ []) ns later d.1 fits next (at + length num))
-clue_again size all clues (m ∷ clue) (num ∷ ns) later d fits next at =
-    let room = used_fits (line_cells size (length clues)) (value num) (m ∷ clue) (map value ns) fits in
-    let text : tail_text (m ∷ clue) (num ∷ ns) ++ later_text later ≡ 46 ∷ (num ++ (tail_text (m ∷ clue) ns ++ later_text later)) = append_assoc (46 ∷ num) (tail_text (m ∷ clue) ns) (later_text later) in
-    let cuts = joined_cuts 46 refl num (tail_text (m ∷ clue) ns ++ later_text later) d.0 (rest_begins m clue ns later) in
-    let step = step_number size at clues (m ∷ clue) (46 ∷ num) (Ok (value num)) refl (further_read _ _ at m clue num d.0 room.0 room.1) in
-    let moved : (m ∷ clue) ++ value num ∷ map value ns ≡ ((m ∷ clue) ++ value num ∷ []) ++ map value ns = sym (append_assoc (m ∷ clue) (value num ∷ []) (map value ns)) in
-    rw text (reading_turn (pattern_step size) (pattern_end size) at (so_far clues (m ∷ clue)) (so_far clues ((m ∷ clue) ++ value num ∷ [])) _ (46 ∷ num) _ cuts step ∙ clue_again size all clues ((m ∷ clue) ++ value num ∷ []) ns later d.1 (subst (λ (c : List ℕ). IsClue (line_cells size (length clues)) c) moved fits) (subst (λ (c : List ℕ). Reads size all clues c (later_text later)) moved next) (at + length (46 ∷ num)))
-
--- ---- the clues after a clue
-
-are_at : (size : Extent) (line : ℕ) (xs : List (List ℕ)) (c : List ℕ) (ys : List (List ℕ)) → AreClues size line (xs ++ c ∷ ys) → IsClue (line_cells size (line + length xs)) c
-are_at size line [] c ys h = grind arith
-are_at size line (x ∷ xs) c ys h = grind (arith, are_at size (line + 1) xs c ys h.1)
-
-later_again : (size : Extent) (all clues : List (List ℕ)) (clue : List ℕ) (later : List (List (List ℕ))) → AllByRecursion (AllByRecursion IsNumeral) later → clues ++ clue ∷ map (map value) later ≡ all → length all ≡ lines_of size → AreClues size 0 all → Reads size all clues clue (later_text later)
-later_again size all clues clue [] d is len are at = grind (arith, common_steps, reading_end (pattern_step size) (pattern_end size) at (so_far clues clue) [] refl, end_is size clues clue true)
-later_again size all clues clue (l ∷ later) d is len are at = grind (arith, nat_tests, common_steps, are_at size 0 (clues ++ clue ∷ []) (map value l) (map (map value) later), clue_again size all (clues ++ clue ∷ []) [] l later d.0, later_again size all (clues ++ clue ∷ []) (map value l) later d.1, reading_turn (pattern_step size) (pattern_end size) at (so_far clues clue) (so_far (clues ++ clue ∷ []) []) (47 ∷ (join_with_byte 46 l ++ later_text later)) (47 ∷ []) (join_with_byte 46 l ++ later_text later) (cuts_single 47 (join_with_byte 46 l ++ later_text later) refl))
-
 flat_map-map : (later : List (List (List ℕ))) → flat_map (λ y. 47 ∷ y) (map (join_with_byte 46) later) ≡ later_text later
 flat_map-map [] = refl
 flat_map-map (l ∷ later) = grind (arith, flat_map-map later)
@@ -254,34 +158,134 @@ flat_map-map (l ∷ later) = grind (arith, flat_map-map later)
 pub clues_text_is : (ns : List (List ℕ)) (later : List (List (List ℕ))) → clues_text (ns ∷ later) ≡ tail_text [] ns ++ later_text later
 clues_text_is ns later = grind (arith, common_steps, join_cons, flat_map-map)
 
--- what clues that fit spell is read
-pub clues_again : (size : Extent) (at : ℕ) (numerals : List (List (List ℕ))) → AllByRecursion (AllByRecursion IsNumeral) numerals → IsPattern (record { size = size; clues = map (map value) numerals }) → clues_at size at (clues_text numerals) ≡ Ok (map (map value) numerals)
-clues_again size at [] d h = grind arith
-clues_again size at (ns ∷ later) d h =
-    let all : List (List ℕ) = map (map value) (ns ∷ later) in
-    rw (clues_text_is ns later) (clue_again size all [] [] ns later d.0 h.clues.0 (later_again size all [] (map value ns) later d.1 refl h.lines h.clues) at)
-
 pub record CluesSpelled (description : List ℕ) (all : List (List ℕ)) : Type 0 where
   pub numerals : List (List (List ℕ))
   pub parts : description ≡ clues_text numerals
   pub digits : AllByRecursion (AllByRecursion IsNumeral) numerals
   pub values : map (map value) numerals ≡ all
 
-pub clues_take : (size : Extent) (at : ℕ) (description : List ℕ) (all : List (List ℕ)) → clues_at size at description ≡ Ok all → CluesSpelled description all
-clues_take size at description all e =
-    let s = read_spelled size at [] [] (words description) all (words_are description) e in
-    record {
-      numerals = s.ns ∷ s.later;
-      parts = grind (arith, concat_words description, s.is.parts, clues_text_is s.ns s.later);
-      digits = (s.is.ns_digits, s.is.later_digits);
-      values = s.is.values;
-    }
-
 is_extent : (w h : ℕ) → in_range game.Pattern w h ≡ true → IsExtent (record { w = w; h = h })
 is_extent w h e = grind arith
 
-range_of : (size : Extent) → IsExtent size → in_range game.Pattern size.w size.h ≡ true
-range_of size h = grind arith
+module _ (size : Extent) where
+  abbrev pub read_words : ℕ → SoFar → List (List ℕ) → Result (List (List ℕ)) IdFault
+  read_words at s ws = reading (pattern_step size) (pattern_end size) at s ws
+
+  abbrev pub reads : ℕ → SoFar → List ℕ → Result (List (List ℕ)) IdFault
+  reads at s rest = read_words at s (words rest)
+
+  pub step_number : (at : ℕ) (clues : List (List ℕ)) (clue word : List ℕ) (r : Result ℕ IdFault) → begins (λ b. eqb b 47) word ≡ false → clue_token (line_cells size (length clues)) (length clues) clue at word ≡ r → pattern_step size at (so_far clues clue) word ≡ (r >>= (λ n. Ok (so_far clues (clue ++ n ∷ []))))
+  step_number at clues clue word r other e = rw (other, e) refl
+
+  -- '/' ends a clue that is not the last, and is refused after that
+  pub slash_full : (at b : ℕ) (s : SoFar) (after : List ℕ) → b ≡ 47 → length s.clues + 1 ≡ lines_of size → reads at s (b ∷ after) ≡ Err TooMany
+  unfolding reading
+  slash_full at b s after slash full = grind (arith, common_steps, words_single 47 after)
+
+  pub slash_turn : (at b : ℕ) (s : SoFar) (after : List ℕ) → b ≡ 47 → (length s.clues + 1 ≡ lines_of size → ⊥)
+      → reads at s (b ∷ after) ≡ reads (at + 1) (so_far (s.clues ++ s.clue ∷ []) []) after
+  unfolding reading
+  slash_turn at b s after slash room = grind (arith, common_steps, words_single 47 after)
+
+  -- another token adds a number to the clue
+  pub number_turn : (at n : ℕ) (s : SoFar) (text word after : List ℕ) → Cuts text word after → begins (λ b. eqb b 47) text ≡ false
+      → clue_token (line_cells size (length s.clues)) (length s.clues) s.clue at word ≡ Ok n
+      → reads at s text ≡ reads (at + length word) (so_far s.clues (s.clue ++ n ∷ [])) after
+  number_turn at n s text word after cuts other token =
+      reading_turn (pattern_step size) (pattern_end size) at s _ text word after cuts (step_number at s.clues s.clue word (Ok n) (cuts.first _ ∙ other) token)
+
+  pub end_is : (clues : List (List ℕ)) (clue : List ℕ) (full : Bool) → eqb (length clues + 1) (lines_of size) ≡ full → pattern_end size (so_far clues clue) ≡ cond full (Ok (clues ++ clue ∷ [])) (Err TooFew)
+  end_is clues clue full e = rw e refl
+
+  -- a step that was taken: '/', or a number
+  pub record Slash (clues : List (List ℕ)) (clue word : List ℕ) (t : SoFar) : Type 0 where
+    pub slash : begins (λ b. eqb b 47) word ≡ true
+    pub room : length clues + 1 ≡ lines_of size → ⊥
+    pub leads : so_far (clues ++ clue ∷ []) [] ≡ t
+
+  pub record Number (at : ℕ) (clues : List (List ℕ)) (clue word : List ℕ) (t : SoFar) : Type 0 where
+    pub other : begins (λ b. eqb b 47) word ≡ false
+    pub number : ℕ
+    pub token : clue_token (line_cells size (length clues)) (length clues) clue at word ≡ Ok number
+    pub leads : so_far clues (clue ++ number ∷ []) ≡ t
+
+  pub step_cases : (at : ℕ) (clues : List (List ℕ)) (clue word : List ℕ) (t : SoFar) → pattern_step size at (so_far clues clue) word ≡ Ok t → Slash clues clue word t ⊎ Number at clues clue word t
+  step_cases at clues clue word t e = grind arith
+
+  AreClues-push : (line : ℕ) (clues : List (List ℕ)) (clue : List ℕ) → AreClues size line clues → IsClue (line_cells size (line + length clues)) clue → AreClues size line (clues ++ clue ∷ [])
+  AreClues-push line [] clue h p = grind arith
+  AreClues-push line (c ∷ clues) clue h p = grind (arith, nat_tests, AreClues-push (line + 1) clues clue h.1)
+
+  lawful : (at : ℕ) (clues : List (List ℕ)) (clue : List ℕ) (ws : List (List ℕ)) (all : List (List ℕ)) → AreClues size 0 clues → IsClue (line_cells size (length clues)) clue → read_words at (so_far clues clue) ws ≡ Ok all → AreClues size 0 all × (length all ≡ lines_of size)
+  unfolding reading
+  lawful at clues clue [] all h p e = grind (arith, common_steps, AreClues-push 0 clues clue h)
+  lawful at clues clue (word ∷ ws) all h p e =
+      let b = bind_ok (pattern_step size at (so_far clues clue) word) (λ t. read_words (at + length word) t ws) all e in
+      elim (step_cases at clues clue word b.0 b.1) [
+        | inl s ↦ lawful (at + length word) (clues ++ clue ∷ []) [] ws all (AreClues-push 0 clues clue h (grind arith)) (IsClue-none _) (grind arith)
+        | inr n ↦ lawful (at + length word) clues (clue ++ n.number ∷ []) ws all h (IsClue-push _ _ clue p (grind (arith, token_small, n.token))) (grind arith)
+      ]
+
+  pub clues_lawful : (at : ℕ) (description : List ℕ) (all : List (List ℕ)) → IsExtent size → clues_at size at description ≡ Ok all → IsPattern (record { size = size; clues = all })
+  clues_lawful at description all h e = grind (arith, lawful at [] [] (words description) all tt)
+
+  read_spelled : (at : ℕ) (clues : List (List ℕ)) (clue : List ℕ) (ws : List (List ℕ)) (all : List (List ℕ)) → AllByRecursion IsWord ws
+      → read_words at (so_far clues clue) ws ≡ Ok all → Spelled clues clue (concat ws) all
+  unfolding reading
+  read_spelled at clues clue [] all w e = grind (arith, tail_none clue, append-nil clue)
+  read_spelled at clues clue (word ∷ ws) all w e =
+      let b = bind_ok (pattern_step size at (so_far clues clue) word) (λ t. read_words (at + length word) t ws) all e in
+      elim (step_cases at clues clue word b.0 b.1) [
+        | inl s ↦ slash_spelled clues clue word (concat ws) all (slash_word word w.0 s.slash) (read_spelled (at + length word) (clues ++ clue ∷ []) [] ws all w.1 (grind arith))
+        | inr n ↦ number_spelled _ _ at clues clue word (concat ws) all n.number w.0 n.token (read_spelled (at + length word) clues (clue ++ n.number ∷ []) ws all w.1 (grind arith))
+      ]
+
+  abbrev Reads : List (List ℕ) → List (List ℕ) → List ℕ → List ℕ → Type 0
+  Reads all clues clue text = (at : ℕ) → read_words at (so_far clues clue) (words text) ≡ Ok all
+
+  -- the rest of a clue is read, and then what follows it
+  clue_again : (all clues : List (List ℕ)) (clue : List ℕ) (ns : List (List ℕ)) (later : List (List (List ℕ))) → AllByRecursion IsNumeral ns → IsClue (line_cells size (length clues)) (clue ++ map value ns) → Reads all clues (clue ++ map value ns) (later_text later) → Reads all clues clue (tail_text clue ns ++ later_text later)
+  clue_again all clues clue [] later d fits next at = grind (arith, common_steps)
+  clue_again all clues [] (num ∷ ns) later d fits next at = grind (arith, common_steps, join_cons 46 num ns, numeral_cuts num (tail_text (value num ∷ []) ns ++ later_text later) d.0 (rest_begins (value num) [] ns later), step_number at clues [] num (Ok (value num)) (numeral_other num d.0), first_read, reading_turn (pattern_step size) (pattern_end size) at (so_far clues []) (so_far clues (value num ∷ [])), clue_again all clues (value num ∷ []) ns later d.1 fits next (at + length num))
+  clue_again all clues (m ∷ clue) (num ∷ ns) later d fits next at =
+      let room = used_fits (line_cells size (length clues)) (value num) (m ∷ clue) (map value ns) fits in
+      let text : tail_text (m ∷ clue) (num ∷ ns) ++ later_text later ≡ 46 ∷ (num ++ (tail_text (m ∷ clue) ns ++ later_text later)) = append_assoc (46 ∷ num) (tail_text (m ∷ clue) ns) (later_text later) in
+      let cuts = joined_cuts 46 refl num (tail_text (m ∷ clue) ns ++ later_text later) d.0 (rest_begins m clue ns later) in
+      let step = step_number at clues (m ∷ clue) (46 ∷ num) (Ok (value num)) refl (further_read _ _ at m clue num d.0 room.0 room.1) in
+      let moved : (m ∷ clue) ++ value num ∷ map value ns ≡ ((m ∷ clue) ++ value num ∷ []) ++ map value ns = sym (append_assoc (m ∷ clue) (value num ∷ []) (map value ns)) in
+      rw text (reading_turn (pattern_step size) (pattern_end size) at (so_far clues (m ∷ clue)) (so_far clues ((m ∷ clue) ++ value num ∷ [])) _ (46 ∷ num) _ cuts step ∙ clue_again all clues ((m ∷ clue) ++ value num ∷ []) ns later d.1 (subst (λ (c : List ℕ). IsClue (line_cells size (length clues)) c) moved fits) (subst (λ (c : List ℕ). Reads all clues c (later_text later)) moved next) (at + length (46 ∷ num)))
+
+  -- ---- the clues after a clue
+
+  are_at : (line : ℕ) (xs : List (List ℕ)) (c : List ℕ) (ys : List (List ℕ)) → AreClues size line (xs ++ c ∷ ys) → IsClue (line_cells size (line + length xs)) c
+  are_at line [] c ys h = grind arith
+  are_at line (x ∷ xs) c ys h = grind (arith, are_at (line + 1) xs c ys h.1)
+
+  later_again : (all clues : List (List ℕ)) (clue : List ℕ) (later : List (List (List ℕ))) → AllByRecursion (AllByRecursion IsNumeral) later → clues ++ clue ∷ map (map value) later ≡ all → length all ≡ lines_of size → AreClues size 0 all → Reads all clues clue (later_text later)
+  later_again all clues clue [] d is len are at = grind (arith, common_steps, reading_end (pattern_step size) (pattern_end size) at (so_far clues clue) [] refl, end_is clues clue true)
+  later_again all clues clue (l ∷ later) d is len are at = grind (arith, nat_tests, common_steps, are_at 0 (clues ++ clue ∷ []) (map value l) (map (map value) later), clue_again all (clues ++ clue ∷ []) [] l later d.0, later_again all (clues ++ clue ∷ []) (map value l) later d.1, reading_turn (pattern_step size) (pattern_end size) at (so_far clues clue) (so_far (clues ++ clue ∷ []) []) (47 ∷ (join_with_byte 46 l ++ later_text later)) (47 ∷ []) (join_with_byte 46 l ++ later_text later) (cuts_single 47 (join_with_byte 46 l ++ later_text later) refl))
+
+  -- what clues that fit spell is read
+  pub clues_again : (at : ℕ) (numerals : List (List (List ℕ))) → AllByRecursion (AllByRecursion IsNumeral) numerals → IsPattern (record { size = size; clues = map (map value) numerals }) → clues_at size at (clues_text numerals) ≡ Ok (map (map value) numerals)
+  clues_again at [] d h = grind arith
+  clues_again at (ns ∷ later) d h =
+      let all : List (List ℕ) = map (map value) (ns ∷ later) in
+      rw (clues_text_is ns later) (clue_again all [] [] ns later d.0 h.clues.0 (later_again all [] (map value ns) later d.1 refl h.lines h.clues) at)
+
+  pub clues_take : (at : ℕ) (description : List ℕ) (all : List (List ℕ)) → clues_at size at description ≡ Ok all → CluesSpelled description all
+  clues_take at description all e =
+      let s = read_spelled at [] [] (words description) all (words_are description) e in
+      record {
+        numerals = s.ns ∷ s.later;
+        parts = grind (arith, concat_words description, s.is.parts, clues_text_is s.ns s.later);
+        digits = (s.is.ns_digits, s.is.later_digits);
+        values = s.is.values;
+      }
+
+  range_of : IsExtent size → in_range game.Pattern size.w size.h ≡ true
+  range_of h = grind arith
+
+pub ruleset turns = (common_steps, words_nil, slash_full, slash_turn, used_push, token_small)
 
 pub pattern_takes : (text : List ℕ) (p : Pattern) → pattern_of text ≡ Ok p → SpellsPattern text p
 pattern_takes text p e =

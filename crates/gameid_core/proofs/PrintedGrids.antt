@@ -16,13 +16,13 @@ same_grid hides values size g h y over under cells shown agree = grind (arith, e
 pub begins_with_form : (text ended printed : List ℕ) → ended ≡ text ++ codes "\n" → IsPrinted text printed → (more : List ℕ) × (ended ≡ printed ++ more)
 begins_with_form text ended printed is form = grind (arith, common_steps)
 
-pub either_form : (text front ended bytes printed : List ℕ) (n : ℕ) → front ≡ text ++ codes "\n" → ended ≡ text ++ codes "\n" → n ≡ length text → bytes ≡ printed
+pub either_form : {front ended bytes printed : List ℕ} (text : List ℕ) (n : ℕ) → front ≡ text ++ codes "\n" → ended ≡ text ++ codes "\n" → n ≡ length text → bytes ≡ printed
     → (take n front ≡ bytes) ⊎ (ended ≡ bytes) → IsPrinted text printed
-either_form text front ended bytes printed n is same all form one = grind (arith, common_steps)
+either_form text n is same all form one = grind (arith, common_steps)
 
-pub form_either : (text front ended bytes printed : List ℕ) (n : ℕ) → front ≡ text ++ codes "\n" → ended ≡ text ++ codes "\n" → n ≡ length text → bytes ≡ printed
+pub form_either : {front ended bytes printed : List ℕ} (text : List ℕ) (n : ℕ) → front ≡ text ++ codes "\n" → ended ≡ text ++ codes "\n" → n ≡ length text → bytes ≡ printed
     → IsPrinted text printed → (take n front ≡ bytes) ⊎ (ended ≡ bytes)
-form_either text front ended bytes printed n is same all form one = grind (arith, common_steps)
+form_either text n is same all form one = grind (arith, common_steps)
 
 -- What was read of the text with a line end after it is what the text is the printed form of.
 module _ (hides : ℕ → Type 0) (values : ℕ) (size : Extent) (printed : List ℕ → List ℕ) (text ended : List ℕ) (field : Option (List ℕ)) where

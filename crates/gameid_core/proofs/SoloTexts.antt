@@ -146,8 +146,8 @@ module _ (n : ℕ) where
 pub n_few : (c r : ℕ) → in_range game.Solo c r ≡ true → c * r ≤ max_numbers
 n_few c r range = grind arith
 
-pub solo_lawful : (c r : ℕ) (x : Bool) (at : ℕ) (description cells : List ℕ) → in_range game.Solo c r ≡ true → solo_cells_at (c * r) at description ≡ Ok cells → IsSolo (solo_puzzle c r x cells)
-solo_lawful c r x at description cells range e =
+pub solo_lawful : {c r : ℕ} {x : Bool} {cells : List ℕ} (at : ℕ) (description : List ℕ) → in_range game.Solo c r ≡ true → solo_cells_at (c * r) at description ≡ Ok cells → IsSolo (solo_puzzle c r x cells)
+solo_lawful {c = c} {r = r} {cells = cells} at description range e =
     let small = n_few c r range in
     let d = solo_take (c * r) (omega arith) at description cells e in
     let fits : AllByRecursion (λ v. v ≤ c * r) cells = subst (AllByRecursion (λ v. v ≤ c * r)) d.filled (AllByRecursion-flat_map _ _ solo_token_cells (token_range (c * r)) d.tokens d.each) in
@@ -160,7 +160,7 @@ solo_takes text p e =
     let d = solo_take (r.head.size.w * r.head.size.h) (omega arith) _ _ _ r.read in
     subst (SpellsSolo text) r.made (record {
       short = r.is_head.short;
-      puzzle = solo_lawful _ _ _ _ _ _ r.is_head.range r.read;
+      puzzle = solo_lawful _ _ r.is_head.range r.read;
       front = r.is_head.front;
       tokens = d.tokens;
       parts = grind (arith, r.is_head.parts, d.parts);

@@ -129,6 +129,9 @@ blank_last : (places trees : List ℕ) → places ++ replicate 25 0 ≡ trees ++
 blank_last places trees e = grind (arith, append_assoc places (replicate 24 0) (0 ∷ []), last_push (places ++ replicate 24 0) 0, last_push trees 1)
 
 module _ (size : Extent) where
+  abbrev pub read_words : ℕ → TentsSoFar → List (List ℕ) → Result TentsSoFar IdFault
+  read_words at s ws = reading (tents_step size) (tents_end size) at s ws
+
   -- ---- a number behind ','
 
   pub count_read : (at : ℕ) (places counts word : List ℕ) → cells_in size + 1 ≤ length places → (length counts ≡ lines_of size → ⊥) → (length word ≡ 1 → ⊥) → value (drop 1 word) ≤ line_cells size (length counts) → tents_count size at (at_tents places counts) word ≡ Ok (value (drop 1 word))
@@ -143,7 +146,7 @@ module _ (size : Extent) where
       cond (ltb (cells_in size + cond tree 1 0) (length places + (blanks + cond tree 1 0))) (Err TooMany) (Ok (at_tents (places ++ run_cells blanks tree) counts))
 
   abbrev pub reads : ℕ → List ℕ → List ℕ → List ℕ → Result TentsSoFar IdFault
-  reads at places counts rest = reading (tents_step size) (tents_end size) at (at_tents places counts) (words rest)
+  reads at places counts rest = read_words at (at_tents places counts) (words rest)
 
   pub end_is : (places counts : List ℕ) (full : Bool) → eqb (length counts) (lines_of size) ≡ full → tents_end size (at_tents places counts) ≡ cond full (Ok (at_tents places counts)) (Err TooFew)
   end_is places counts full e = rw e refl
@@ -188,14 +191,14 @@ module _ (size : Extent) where
   sound_planted places counts blanks true s early room = grind (arith, common_steps, run_bits blanks true, append_assoc places (replicate blanks 0) (1 ∷ []))
   sound_planted places counts blanks false s early room = grind (arith, common_steps, run_bits blanks false)
 
-  sound_read : (at : ℕ) (places counts : List ℕ) (ws : List (List ℕ)) (all : TentsSoFar) → Sound places counts → reading (tents_step size) (tents_end size) at (at_tents places counts) ws ≡ Ok all → Sound all.places all.counts × (length all.counts ≡ lines_of size)
+  sound_read : (at : ℕ) (places counts : List ℕ) (ws : List (List ℕ)) (all : TentsSoFar) → Sound places counts → read_words at (at_tents places counts) ws ≡ Ok all → Sound all.places all.counts × (length all.counts ≡ lines_of size)
   unfolding reading
   sound_read at places counts [] all s e = grind arith
   sound_read at places counts (word ∷ ws) all s e =
-      let b = bind_ok (tents_step size at (at_tents places counts) word) (λ t. reading (tents_step size) (tents_end size) (at + length word) t ws) all e in
+      let b = bind_ok (tents_step size at (at_tents places counts) word) (λ t. read_words (at + length word) t ws) all e in
       elim (step_cases at places counts word b.0 b.1) [
-        | inl c ↦ sound_read (at + length word) places (counts ++ value (drop 1 word) ∷ []) ws all (sound_counted places counts _ s c.full c.fits) (ap (λ t. reading (tents_step size) (tents_end size) (at + length word) t ws) c.leads ∙ b.2)
-        | inr p ↦ sound_read (at + length word) (places ++ run_cells p.run.0 p.run.1) counts ws all (sound_planted places counts p.run.0 p.run.1 s p.early p.room) (ap (λ t. reading (tents_step size) (tents_end size) (at + length word) t ws) p.leads ∙ b.2)
+        | inl c ↦ sound_read (at + length word) places (counts ++ value (drop 1 word) ∷ []) ws all (sound_counted places counts _ s c.full c.fits) (ap (λ t. read_words (at + length word) t ws) c.leads ∙ b.2)
+        | inr p ↦ sound_read (at + length word) (places ++ run_cells p.run.0 p.run.1) counts ws all (sound_planted places counts p.run.0 p.run.1 s p.early p.room) (ap (λ t. read_words (at + length word) t ws) p.leads ∙ b.2)
       ]
 
   -- the cells without the tree after them
@@ -216,7 +219,7 @@ module _ (size : Extent) where
   tents_lawful at description s wide e = grind (arith, tents_read at description s wide e)
 
   -- a byte of the trees is a token, and its places are taken or refused
-  pub tree_taken : (at b : ℕ) (places after : List ℕ) (t : TentsSoFar) → (b ≡ 44 → ⊥) → tents_tree size at (at_tents places []) b ≡ Ok t → reads at places [] (b ∷ after) ≡ reading (tents_step size) (tents_end size) (at + 1) t (words after)
+  pub tree_taken : (at b : ℕ) (places after : List ℕ) (t : TentsSoFar) → (b ≡ 44 → ⊥) → tents_tree size at (at_tents places []) b ≡ Ok t → reads at places [] (b ∷ after) ≡ read_words (at + 1) t (words after)
   unfolding reading tents_tree
   tree_taken at b places after t other e =
       let r = bind_ok (tents_run at b) _ t e in
@@ -226,20 +229,20 @@ module _ (size : Extent) where
   unfolding reading tents_tree
   tree_refused at b places after f other e = grind (arith, common_steps, nat_tests, cuts_some b after)
 
-  read_spelled : (at : ℕ) (places counts : List ℕ) (ws : List (List ℕ)) (all : TentsSoFar) → AllByRecursion IsWord ws → reading (tents_step size) (tents_end size) at (at_tents places counts) ws ≡ Ok all → Spelled places counts (concat ws) all
+  read_spelled : (at : ℕ) (places counts : List ℕ) (ws : List (List ℕ)) (all : TentsSoFar) → AllByRecursion IsWord ws → read_words at (at_tents places counts) ws ≡ Ok all → Spelled places counts (concat ws) all
   unfolding reading
   read_spelled at places counts [] all w e = record { tokens = []; numerals = []; is = grind (arith, append-nil places, append-nil counts) }
   read_spelled at places counts (word ∷ ws) all w e =
-      let b = bind_ok (tents_step size at (at_tents places counts) word) (λ t. reading (tents_step size) (tents_end size) (at + length word) t ws) all e in
+      let b = bind_ok (tents_step size at (at_tents places counts) word) (λ t. read_words (at + length word) t ws) all e in
       elim (step_cases at places counts word b.0 b.1) [
-        | inl c ↦ spelled_counted places counts word (concat ws) all (comma_word word w.0 c.comma c.some) (read_spelled (at + length word) places (counts ++ value (drop 1 word) ∷ []) ws all w.1 (ap (λ t. reading (tents_step size) (tents_end size) (at + length word) t ws) c.leads ∙ b.2))
-        | inr p ↦ spelled_planted at places counts word (concat ws) p.run all w.0 p.early p.read (read_spelled (at + length word) (places ++ run_cells p.run.0 p.run.1) counts ws all w.1 (ap (λ t. reading (tents_step size) (tents_end size) (at + length word) t ws) p.leads ∙ b.2))
+        | inl c ↦ spelled_counted places counts word (concat ws) all (comma_word word w.0 c.comma c.some) (read_spelled (at + length word) places (counts ++ value (drop 1 word) ∷ []) ws all w.1 (ap (λ t. read_words (at + length word) t ws) c.leads ∙ b.2))
+        | inr p ↦ spelled_planted at places counts word (concat ws) p.run all w.0 p.early p.read (read_spelled (at + length word) (places ++ run_cells p.run.0 p.run.1) counts ws all w.1 (ap (λ t. read_words (at + length word) t ws) p.leads ∙ b.2))
       ]
 
   -- ---- what is spelled is read
 
   abbrev Reads : TentsSoFar → List ℕ → List ℕ → List ℕ → Type 0
-  Reads all places counts text = (at : ℕ) → reading (tents_step size) (tents_end size) at (at_tents places counts) (words text) ≡ Ok all
+  Reads all places counts text = (at : ℕ) → read_words at (at_tents places counts) (words text) ≡ Ok all
 
   counts_at : (line : ℕ) (xs : List ℕ) (n : ℕ) (ys : List ℕ) → AreCounts size line (xs ++ n ∷ ys) → n ≤ line_cells size (line + length xs)
   counts_at line [] n ys h = grind arith
