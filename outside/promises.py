@@ -6,7 +6,7 @@ usage: promises.py [--help]
 - Each wrong body named in a last column is a file crates/NAME/must-fail/BODY.edit, and each such file is named by one promise.
 - A promise names at most three, or says in so many words that it is of laws, "with no body", or has "none of its own".
 - Each public call has its row: it is named in a second column. Public calls are the `pub fn`s that a library's lib.rt hands on,
-  by themselves or with their type; of the program those of PROGRAM below.
+  by themselves, with their type or with their module; of the program those of PROGRAM below.
 - Each wrong body has one line `# refused by: FUNCTION.CLAUSE`, and there is such a clause: see the next paragraph.
 - In a second column `f.clause`, `T::f` and `T::f.clause` are there in some crate.
 - The column of definitions has words with their files, as "`IsClosing`, `IsDead` in [engine_core/ClosingList]", the groups parted
@@ -43,9 +43,6 @@ FAMILIES = {
     "four writers": [f"write_{game}" for game in GAMES],
     "four makers": [f"make_{game}" for game in GAMES],
     "four puzzle types": ["PatternPuzzle", "SoloPuzzle", "LightPuzzle", "TentsPuzzle"],
-    "`one_reading_of_pattern` and its like": [f"one_reading_of_{game}" for game in GAMES],
-    "`first_fault_of_pattern` and its like": [f"first_fault_of_{game}" for game in GAMES],
-    "`one_written_text_of_pattern` and its like": [f"one_written_text_of_{game}" for game in GAMES],
     "`rules_are_lawful` and its like": ["rules_are_lawful", "rules_of_lights_are_lawful", "rules_of_tents_are_lawful"],
 }
 
@@ -75,8 +72,11 @@ def handed_on(crate):
     root = crate / "src" / "lib.rt"
     if not root.exists():
         return PROGRAM
-    names = re.findall(r"pub use [\w:]+::(?:\{([^}]*)\}|(\w+));", root.read_text())
-    return {name for several, one in names for name in re.findall(r"\w+", several or one)}
+    text = root.read_text()
+    names = re.findall(r"pub use [\w:]+::(?:\{([^}]*)\}|(\w+));", text)
+    open_modules = [root.with_name(f"{name}.rt").read_text() for name in re.findall(r"(?m)^pub mod (\w+);", text)]
+    inside = {name for module in open_modules for name in re.findall(r"(?m)^pub fn (\w+)", module)}
+    return inside | {name for several, one in names for name in re.findall(r"\w+", several or one)}
 
 
 def public_calls(crate):

@@ -5,12 +5,8 @@ use Rattle.std.proofs.lemmas.Bool.{false_from_ne_true}
 use Rattle.std.proofs.lemmas.Grind.{common_steps}
 use Rattle.std.specs.Prelude.{◌↔◌, is_ok, ◌≤◌}
 use Rattle.gameid_core.specs.declared.id.game.Game.TheVariants as game
-use Rattle.gameid_core.specs.LightText.{light_of}
-use Rattle.gameid_core.specs.PatternText.{pattern_of}
-use Rattle.gameid_core.specs.SoloText.{solo_of}
-use Rattle.gameid_core.specs.TentsText.{tents_of}
 use Rattle.gameid_core.specs.declared.id.fault.IdFault.TheVariants.{TooLong}
-use Rattle.gameid_core.proofs.HeadLaws.{head_too_long}
+use Rattle.gameid_core.proofs.HeadLaws.{puzzle_too_long}
 use Rattle.gameid_core.proofs.LightTexts.{light_reading}
 use Rattle.gameid_core.proofs.LightWritten.{light_is_written}
 use Rattle.gameid_core.proofs.PatternTexts.{pattern_reading}
@@ -301,11 +297,10 @@ facts game.Tents = record {
 
 -- a text of more bytes than an ID may have is too long
 pub too_long : (g : Game) (text : Text) → max_id < length text → (played g).game.reading text ≡ Err TooLong
-unfolding pattern_of solo_of light_of tents_of
-too_long game.Pattern text over = rw (head_too_long game.Pattern text over) refl
-too_long game.Solo text over = rw (head_too_long game.Solo text over) refl
-too_long game.LightUp text over = rw (head_too_long game.LightUp text over) refl
-too_long game.Tents text over = rw (head_too_long game.Tents text over) refl
+too_long game.Pattern text over = puzzle_too_long game.Pattern _ text over
+too_long game.Solo text over = puzzle_too_long game.Solo _ text over
+too_long game.LightUp text over = puzzle_too_long game.LightUp _ text over
+too_long game.Tents text over = puzzle_too_long game.Tents _ text over
 
 -- a search has one answer
 pub solving : (g : Game) (budget : ℕ) (id : Text) → HasOneAnswer (AllowsSolve g budget id)

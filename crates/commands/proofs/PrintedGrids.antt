@@ -8,8 +8,12 @@ use Rattle.std.proofs.Math.Seq.{drop-append_seam}
 use Rattle.std.proofs.lemmas.Fmt.{decimal_digit, decimal_step}
 use Rattle.std.proofs.Math.Nat.{mul-le-mul_left, mul-le-mul_right, suc-mul}
 use Rattle.grid_core.specs.Extent.{Extent}
-use Rattle.gameid_core.specs.GridReading.{Follows, IsAsShown, IsPrinted, first_digit, hides_nothing, light_hides, tent_hides}
-use Rattle.gameid_core.specs.GridTexts.{grid_text, row_text, pattern_cell, solo_cell, solo_extent, light_cell, light_mark, tents_cell, each_below}
+use Rattle.gameid_core.specs.GridReading.{Follows, IsAsShown, IsPrinted, first_digit, hides_nothing}
+use Rattle.gameid_core.specs.GridTexts.{grid_text, row_text, each_below}
+use Rattle.gameid_core.specs.TentsText.{tent_hides, tents_cell}
+use Rattle.gameid_core.specs.SoloText.{solo_cell, solo_extent}
+use Rattle.gameid_core.specs.PatternText.{pattern_cell}
+use Rattle.gameid_core.specs.LightText.{light_hides, light_cell, light_mark}
 use Rattle.gameid_core.proofs.PrintedGrids.{begins_with_form, same_grid}
 use Rattle.gameid_core.proofs.PrintedRows.{Left, LeftOf, after_cell, all_left, all_rows_left, cell_follows, in_grid, next_row, none_left, row_first}
 use Rattle.gameid_core.specs.Puzzles.{IsSolo, Light, Pattern, Solo, Tents, solo_n, IsLight, IsLightCell}

@@ -9,8 +9,12 @@ pub use Rattle.fields_core.specs.LightSolutions.{IsLightSolution}
 pub use Rattle.fields_core.specs.TentFaults.{IsTentFault}
 pub use Rattle.fields_core.specs.TentHouses.{tent_rules}
 pub use Rattle.fields_core.specs.TentSolutions.{IsTentSolution}
-pub use Rattle.gameid_core.specs.GridReading.{IsAsShown, IsPrinted, hides_nothing, light_hides, tent_hides}
-pub use Rattle.gameid_core.specs.GridTexts.{grid_text, light_cell, pattern_cell, solo_cell, solo_extent, tents_cell}
+pub use Rattle.gameid_core.specs.GridReading.{IsAsShown, IsPrinted, hides_nothing}
+pub use Rattle.gameid_core.specs.GridTexts.{grid_text}
+pub use Rattle.gameid_core.specs.TentsText.{tent_hides, tents_cell}
+pub use Rattle.gameid_core.specs.SoloText.{solo_cell, solo_extent}
+pub use Rattle.gameid_core.specs.PatternText.{pattern_cell}
+pub use Rattle.gameid_core.specs.LightText.{light_hides, light_cell}
 pub use Rattle.gameid_core.specs.Head.{SizeRead, extent_of, in_range, max_id, max_numbers, size_of}
 pub use Rattle.gameid_core.specs.OneText.{HasOneReading}
 pub use Rattle.grid_core.specs.Lines.{lines_of}

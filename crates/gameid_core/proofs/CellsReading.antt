@@ -1,13 +1,5 @@
 -- Reading a description that fills cells: Solo and Light Up.
-use Rattle.std.proofs.Common.{◌≡◌, ℕ, Bool, ◌+◌, ◌≤◌, true, eqb, List, [], ◌∷◌, ◌++◌, map, length, Result, Ok, Err, refl, ap, ◌∙◌, cond, ltb, arith, append_assoc, length-append}
-use Rattle.std.proofs.lemmas.Grind.{common_steps}
-use Rattle.std.specs.List.{AllByRecursion, flat_map}
-use Rattle.std.proofs.lemmas.Bool.{le-ltb}
-use Rattle.gameid_core.specs.declared.id.fault.IdFault.{IdFault}
-use Rattle.gameid_core.specs.declared.id.fault.IdFault.TheVariants.{TooMany, TooFew}
-use Rattle.gameid_core.specs.Words.{words}
-use Rattle.gameid_core.specs.Steps.{reading, ◌>>=◌}
-use Rattle.gameid_core.specs.Cells.{fill_step, fill_end}
+use Rattle.gameid_core.specs.Common.{AllByRecursion, Bool, Err, IdFault, List, Ok, Result, TooFew, TooMany, [], ap, append_assoc, arith, common_steps, cond, eqb, fill_end, fill_step, flat_map, le-ltb, length, length-append, ltb, map, reading, refl, true, words, ℕ, ◌++◌, ◌+◌, ◌>>=◌, ◌∙◌, ◌∷◌, ◌≡◌, ◌≤◌}
 use Rattle.gameid_core.proofs.Results.{bind_ok, taken}
 
 -- ---- filling

@@ -1,9 +1,5 @@
 -- Laws of clues that are the pieces of one list.
-use Rattle.std.proofs.Common.{◌≡◌, ℕ, ◌<◌, List, [], ◌∷◌, ◌++◌, length, arith}
-use Rattle.std.proofs.lemmas.Grind.{common_steps}
-use Rattle.std.proofs.lemmas.Slice.{between_to_end}
-use Rattle.grid_core.proofs.PieceLemmas.{ends-close, ends-more, last-close, last-le, length-pieces, piece-at, piece-ends, pieces-close, pieces-more}
-use Rattle.grid_core.specs.Pieces.{AreEnds}
+use Rattle.gameid_core.specs.Common.{AreEnds, List, [], arith, between_to_end, common_steps, ends-close, ends-more, last-close, last-le, length, length-pieces, piece-at, piece-ends, pieces-close, pieces-more, ℕ, ◌++◌, ◌<◌, ◌∷◌, ◌≡◌}
 use Rattle.gameid_core.specs.Clues.{cut_at}
 
 pub cut-push : (xs ends : List ℕ) (x : ℕ) → AreEnds (length xs) 0 ends

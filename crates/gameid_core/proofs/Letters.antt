@@ -1,8 +1,5 @@
 -- The letters of a run of cells.
-use Rattle.std.proofs.Common.{◌≡◌, ℕ, suc, ◌+◌, ◌-◌, ◌/◌, ◌%◌, ◌<◌, ◌≤◌, List, ◌∷◌, ◌++◌, length, refl, arith, []}
-use Rattle.std.proofs.lemmas.Grind.{common_steps}
-use Rattle.std.specs.Prelude.{replicate}
-use Rattle.gameid_core.specs.Cells.{letters}
+use Rattle.gameid_core.specs.Common.{List, [], arith, common_steps, length, letters, refl, replicate, suc, ℕ, ◌%◌, ◌++◌, ◌+◌, ◌-◌, ◌/◌, ◌<◌, ◌∷◌, ◌≡◌, ◌≤◌}
 
 pub letters_none : (k : ℕ) → k ≡ 0 → letters k ≡ []
 unfolding letters

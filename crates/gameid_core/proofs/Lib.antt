@@ -1,5 +1,6 @@
 pub mod CellsReading
 pub mod CluesLaws
+pub mod GameLaws
 pub mod HeadLaws
 pub mod HeadTestLaws
 pub mod Letters
@@ -10,7 +11,6 @@ pub mod Lists
 pub mod Numerals
 pub mod OneReading
 pub mod OnesFit
-pub mod PatternReading
 pub mod PatternTexts
 pub mod PatternWritten
 pub mod PrintedCells
@@ -22,7 +22,6 @@ pub mod Results
 pub mod RunsFit
 pub mod SoloCanon
 pub mod SoloTexts
-pub mod TentsReading
 pub mod TentsTexts
 pub mod TentsWritten
 pub mod Tokens

@@ -1,24 +1,12 @@
 -- Light Up: reading byte by byte, and that a text is read exactly where it spells a puzzle.
-use Rattle.std.proofs.Common.{◌≡◌, ℕ, ◌+◌, ◌≤◌, List, [], ◌∷◌, map, length, drop, get_or, Result, Ok, refl, sym, ap, ◌∙◌, arith, ◌-◌, ◌*◌, true, false}
-use Rattle.std.proofs.lemmas.Grind.{common_steps}
-use Rattle.gameid_core.specs.declared.id.fault.IdFault.{IdFault}
-use Rattle.gameid_core.specs.declared.light_up.cell.LightCell.{LightCell}
-use Rattle.gameid_core.specs.Steps.{reading}
-use Rattle.gameid_core.specs.Cells.{fill_step, fill_end}
-use Rattle.gameid_core.specs.LightText.{light_token, light_cells_at, LightToken, whites, black, numbered, light_token_byte, light_token_cells, IsLightToken, SpellsLight, light_of}
-use Rattle.gameid_core.specs.OneText.{HasOneReading}
-use Rattle.gameid_core.proofs.OneReading.{reading_of}
+use Rattle.gameid_core.specs.Common.{AllByRecursion, Extent, Gives, HasOneReading, IdFault, IsExtent, IsLight, IsLightCell, IsWide, Light, LightCell, List, Numbered, Ok, Result, White, [], ap, arith, common_steps, concat, extent_of, false, fill_end, fill_step, flat_map, get_or, in_range, length, map, max_side, reading, refl, replicate, sym, true, ℕ, ◌*◌, ◌+◌, ◌-◌, ◌∙◌, ◌∷◌, ◌≡◌, ◌≤◌}
+use Rattle.gameid_core.specs.LightText.{IsLightToken, LightToken, SpellsLight, black, light_behind, light_cells_at, light_of, light_token, light_token_byte, light_token_cells, numbered, whites}
+use Rattle.gameid_core.proofs.OneReading.{only_of, reading_of}
 use Rattle.gameid_core.proofs.CellsReading.{Token, cells_spelled, cells_again}
 use Rattle.gameid_core.proofs.Lists.{AllByRecursion-replicate, AllByRecursion-flat_map}
-use Rattle.std.specs.Prelude.{map, replicate}
-use Rattle.std.specs.List.{AllByRecursion, flat_map, concat}
-use Rattle.grid_core.specs.Extent.{Extent, IsExtent, max_side}
-use Rattle.gameid_core.specs.declared.light_up.cell.LightCell.TheVariants.{White, Numbered}
-use Rattle.gameid_core.specs.Head.{extent_of, in_range}
-use Rattle.gameid_core.specs.Puzzles.{IsLight, IsLightCell, IsWide, Light}
 use Rattle.gameid_core.specs.declared.id.game.Game.TheVariants as game
 use Rattle.gameid_core.proofs.Tokens.{concat_bytes}
-use Rattle.gameid_core.proofs.HeadLaws.{parts_of, plain_size, head_again, after_front}
+use Rattle.gameid_core.proofs.HeadLaws.{parts_of, plain_size, puzzle_again}
 
 abbrev pub lights : ℕ → ℕ → List LightCell → List ℕ → Result (List LightCell) IdFault
 lights all at cells text = reading (fill_step light_token all) (fill_end all) at cells (map (λ b. b ∷ []) text)
@@ -84,11 +72,11 @@ token_fits (whites k) h = AllByRecursion-replicate IsLightCell White k tt
 token_fits black h = (tt, tt)
 token_fits (numbered n) h = (h, tt)
 
-pub light_lawful : (w h at : ℕ) (description : List ℕ) (cells : List LightCell) → in_range game.LightUp w h ≡ true → light_cells_at (w * h) at description ≡ Ok cells → IsLight (record { size = record { w = w; h = h }; cells = cells })
-light_lawful w h at description cells range e = grind (arith, light_take (w * h) at description cells e, AllByRecursion-flat_map IsLightToken IsLightCell light_token_cells token_fits)
+light_lawful : {w h : ℕ} {cells : List LightCell} (at : ℕ) (description : List ℕ) → in_range game.LightUp w h ≡ true → light_cells_at (w * h) at description ≡ Ok cells → IsLight (record { size = record { w = w; h = h }; cells = cells })
+light_lawful {w = w} {h = h} {cells = cells} at description range e = grind (arith, light_take (w * h) at description cells e, AllByRecursion-flat_map IsLightToken IsLightCell light_token_cells token_fits)
 
 pub light_fits : (size : Extent) (w h all at : ℕ) (description : List ℕ) (cells : List LightCell) → size ≡ sized w h → all ≡ size.w * size.h → in_range game.LightUp w h ≡ true → light_cells_at all at description ≡ Ok cells → IsLight (record { size = size; cells = cells })
-light_fits size w h all at description cells is count range e = grind (arith, light_lawful w h at description cells range)
+light_fits size w h all at description cells is count range e = grind (arith, light_lawful {w = w} {h = h} {cells = cells} at description range)
 
 -- ---- what is spelled is read
 
@@ -102,20 +90,23 @@ light_again all at tokens each full =
     ap (reading (fill_step light_token all) (fill_end all) at []) (texts_are tokens) ∙ cells_again light_token_text light_token_cells IsLightToken light_token token_read all at [] tokens each (omega arith)
 
 pub light_takes : (text : List ℕ) (p : Light) → light_of text ≡ Ok p → SpellsLight text p
-unfolding light_of
 light_takes text p e =
-    let r = parts_of game.LightUp text (λ head. light_cells_at (head.size.w * head.size.h) head.description (drop head.description text)) (λ head cells. record { size = extent_of head.size; cells = cells }) p e in
-    grind (arith, light_take _ _ _ _ r.read, light_lawful _ _ _ _ _ r.is_head.range r.read, plain_size)
+    let r = parts_of game.LightUp text (λ head description. light_cells_at (head.size.w * head.size.h) head.description description) (λ head cells. record { size = extent_of head.size; cells = cells }) p e in
+    grind (arith, light_take _ _ _ _ r.read, light_lawful _ _ r.is_head.range r.read, plain_size)
 
 -- a wide size is in the limits of Light Up, which are those of Tents
 pub wide_range : (size : Extent) → IsWide size → in_range game.LightUp size.w size.h ≡ true
 wide_range size h = grind arith
 
 pub light_text_again : (text : List ℕ) (p : Light) → SpellsLight text p → light_of text ≡ Ok p
-unfolding light_of
-light_text_again text p s = grind (arith, head_again game.LightUp s.front (map light_token_byte s.tokens) p.size.w p.size.h false s.size, light_again (p.size.w * p.size.h) (length s.front + 1) s.tokens s.each, after_front s.front (map light_token_byte s.tokens))
+light_text_again text p s = grind (arith, puzzle_again game.LightUp light_behind s.front (map light_token_byte s.tokens) p.size.w p.size.h false s.size, light_again (p.size.w * p.size.h) (length s.front + 1) s.tokens s.each)
 
 pub light_reading : HasOneReading SpellsLight light_of
 light_reading = reading_of _ _ light_text_again light_takes
 
 pub ruleset fit = (cells_few, light_fits)
+
+pub light_only : (text : List ℕ) (r : Result Light IdFault) (p : Light) → Gives (λ q. q) r (light_of text) → SpellsLight text p → Gives (λ q. q) r (Ok p)
+light_only text r p gives s = only_of _ _ light_text_again text r gives p s
+
+pub ruleset reads_exactly = (light_takes, light_only)

@@ -1,16 +1,6 @@
 -- The written text of a puzzle of Light Up: its length, that it spells the puzzle, and that no other does.
-use Rattle.std.proofs.Common.{cond, eqb, ◌≡◌, ℕ, zero, suc, ◌+◌, ◌<◌, ◌≤◌, List, [], ◌∷◌, ◌++◌, map, length, get_or, refl, ap, inl, arith}
-use Rattle.std.proofs.lemmas.Grind.{common_steps}
-use Rattle.std.proofs.lemmas.Bool.Decides.{nat_tests}
-use Rattle.std.specs.Prelude.{replicate}
-use Rattle.std.specs.List.{AllByRecursion, flat_map}
-use Rattle.gameid_core.specs.declared.light_up.cell.LightCell.{LightCell}
-use Rattle.gameid_core.specs.declared.light_up.cell.LightCell.TheVariants.{White, Black, Numbered}
-use Rattle.gameid_core.specs.Head.{max_id}
-use Rattle.gameid_core.specs.SizeText.{size_text}
-use Rattle.gameid_core.specs.Puzzles.{Light, IsLight, IsLightCell}
-use Rattle.gameid_core.specs.LightText.{LightToken, whites, black, numbered, light_token_byte, light_token_cells, IsLightToken, AreFullLights, SpellsLight, IsWrittenLight, light_cells_text, light_text}
-use Rattle.gameid_core.specs.OneText.{HasOneText}
+use Rattle.gameid_core.specs.Common.{AllByRecursion, Black, HasOneText, IsLight, IsLightCell, Light, LightCell, List, Numbered, White, [], ap, arith, common_steps, cond, eqb, flat_map, get_or, inl, length, map, max_id, nat_tests, refl, replicate, size_text, suc, zero, ℕ, ◌++◌, ◌+◌, ◌<◌, ◌∷◌, ◌≡◌, ◌≤◌}
+use Rattle.gameid_core.specs.LightText.{IsLightToken, IsWrittenLight, LightToken, SpellsLight, black, light_cells_text, light_text, light_token_byte, light_token_cells, numbered, whites, AreFullLights}
 use Rattle.gameid_core.proofs.Lists.{all_at}
 use Rattle.gameid_core.proofs.OneReading.{one_text}
 use Rattle.gameid_core.proofs.Letters.{letters_none, letters_more, letters_last, letters_short}
@@ -125,7 +115,4 @@ light_one_text = record { some = light_is_written; one = one_text _ _ light_form
 pub light_spelled : (p : Light) → IsLight p → SpellsLight (light_text p) p
 light_spelled p h = (light_is_written p h).spells
 
-pub light_written_as : (p : Light) (text : List ℕ) → IsLight p → text ≡ light_text p → IsWrittenLight text p
-light_written_as p text h e = rw e (light_is_written p h)
-
-pub ruleset laws = (common_steps, light_spelled, light_short)
+pub ruleset laws = (common_steps, light_is_written, light_spelled, light_short)

@@ -1,13 +1,5 @@
 -- What is read of each line of a grid.
-use Rattle.std.proofs.Common.{◌≡◌, ℕ, ◌+◌, ◌<◌, List, [], ◌∷◌, ◌++◌, map, get_or, arith}
-use Rattle.std.proofs.lemmas.Grind.{common_steps}
-use Rattle.std.specs.List.{range_with_len}
-use Rattle.std.proofs.lemmas.List.{map-append}
-use Rattle.std.proofs.lemmas.List.FromFn.{map-range_with_len_more, get_or-map-range_with_len}
-use Rattle.grid_core.proofs.LineLemmas.{length-line_numbers, line_numbers-column, line_numbers-row}
-use Rattle.grid_core.specs.Extent.{Extent}
-use Rattle.grid_core.specs.Grids.{row_cells, column_cells}
-use Rattle.grid_core.specs.Lines.{lines_of, line_numbers}
+use Rattle.gameid_core.specs.Common.{Extent, List, [], arith, column_cells, common_steps, get_or, get_or-map-range_with_len, length-line_numbers, line_numbers, line_numbers-column, line_numbers-row, lines_of, map, map-append, map-range_with_len_more, range_with_len, row_cells, ℕ, ◌++◌, ◌+◌, ◌<◌, ◌∷◌, ◌≡◌}
 
 pub map_more : {A : Type 0} (f : ℕ → A) (k : ℕ) → map f (range_with_len 0 (k + 1)) ≡ map f (range_with_len 0 k) ++ f k ∷ []
 map_more f k = map-range_with_len_more f 0 k k (let z : 0 + k ≡ k = omega arith in z)

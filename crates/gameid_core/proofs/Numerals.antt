@@ -1,14 +1,5 @@
 -- Numbers as texts: the digits in front, and the written digits of a number.
-use Rattle.std.proofs.Common.{◌≡◌, ℕ, zero, suc, ◌+◌, ◌-◌, ◌*◌, ◌^◌, ◌<◌, ◌≤◌, Bool, true, false, ◌&&◌, leb, List, ◌∷◌, ◌++◌, length, refl, arith, rules, length-append, ◌%◌, []}
-use Rattle.std.proofs.lemmas.Bool.{and_parts}
-use Rattle.std.proofs.lemmas.Bool.Decides.{nat_tests}
-use Rattle.std.proofs.lemmas.Grind.{common_steps}
-use Rattle.std.specs.Prelude.{decimal}
-use Rattle.std.specs.Str.{all_ascii_digits}
-use Rattle.std.specs.Char.{is_ascii_digit}
-use Rattle.std.proofs.lemmas.Str.Parse.{IsNumeralModel, numerals_by_fold}
-use Rattle.std.proofs.lemmas.Fmt.{decimal-digits_value, length-decimal-le, decimal_by_steps, digits_decimal}
-use Rattle.gameid_core.specs.Words.{IsPlain, joins, begins, digits_front, after_digits, value, value_after, Cuts, IsNumeral}
+use Rattle.gameid_core.specs.Common.{Bool, Cuts, IsNumeral, IsNumeralModel, IsPlain, List, [], after_digits, all_ascii_digits, and_parts, arith, begins, common_steps, decimal, decimal-digits_value, decimal_by_steps, digits_decimal, digits_front, false, is_ascii_digit, joins, leb, length, length-append, length-decimal-le, nat_tests, numerals_by_fold, refl, rules, suc, true, value, value_after, zero, ℕ, ◌%◌, ◌&&◌, ◌*◌, ◌++◌, ◌+◌, ◌-◌, ◌<◌, ◌^◌, ◌∷◌, ◌≡◌, ◌≤◌}
 use Rattle.gameid_core.proofs.Tokens.{value_after_ge, front_turn, front_stop, front_end, cuts_joined, cuts_number}
 
 pub own : IsNumeralModel (λ ds. all_ascii_digits ds ≡ true) value

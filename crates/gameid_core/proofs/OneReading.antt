@@ -1,9 +1,5 @@
 -- A text spells one puzzle or has one fault, for any game whose reading and spelling agree.
-use Rattle.std.proofs.Common.{◌≡◌, ℕ, List, Result, Ok, Err, refl, sym, ◌∙◌, ◌⊎◌, inl, inr}
-use Rattle.std.proofs.Common.{arith}
-use Rattle.gameid_core.specs.declared.id.fault.IdFault.{IdFault}
-use Rattle.gameid_core.specs.Steps.{Gives}
-use Rattle.gameid_core.specs.OneText.{HasOneReading}
+use Rattle.gameid_core.specs.Common.{Err, Gives, HasOneReading, IdFault, List, Ok, Result, arith, inl, inr, refl, sym, ℕ, ◌∙◌, ◌≡◌, ◌⊎◌}
 use Rattle.gameid_core.proofs.Results.{taken, ok_is}
 
 -- what is spelled is read, and what is read is spelled
@@ -13,21 +9,16 @@ Again {P} spells of = (text : List ℕ) (p : P) → spells text p → of text �
 abbrev pub Takes : {P : Type 0} → (List ℕ → P → Type 0) → (List ℕ → Result P IdFault) → Type 0
 Takes {P} spells of = (text : List ℕ) (p : P) → of text ≡ Ok p → spells text p
 
-pub one_of : {P : Type 0} (spells : List ℕ → P → Type 0) (of : List ℕ → Result P IdFault) → Again spells of → (text : List ℕ) (p q : P) → spells text p → spells text q → p ≡ q
-one_of spells of again text p q s t = ok_is p q (sym (again text p s) ∙ again text q t)
-
-pub apart_of : {P : Type 0} (spells : List ℕ → P → Type 0) (of : List ℕ → Result P IdFault) → Again spells of → (text : List ℕ) (p : P) (f : IdFault) → spells text p → of text ≡ Err f → ⊥
-apart_of spells of again text p f s e = let bad : taken p ≡ Err f = sym (again text p s) ∙ e in absurd cc
-
-pub either_of : {P : Type 0} (spells : List ℕ → P → Type 0) (of : List ℕ → Result P IdFault) → Takes spells of → (text : List ℕ) → ((p : P) × spells text p) ⊎ ((f : IdFault) × (of text ≡ Err f))
-either_of {P} spells of takes text = cases (of text) refl
-  where
-    cases : (r : Result P IdFault) → of text ≡ r → ((p : P) × spells text p) ⊎ ((f : IdFault) × (of text ≡ Err f))
-    cases (Ok p) e = inl (p, takes text p e)
-    cases (Err f) e = inr (f, e)
-
 pub reading_of : {P : Type 0} (spells : List ℕ → P → Type 0) (of : List ℕ → Result P IdFault) → Again spells of → Takes spells of → HasOneReading spells of
-reading_of spells of again takes = record { one = one_of spells of again; apart = apart_of spells of again; either = either_of spells of takes }
+reading_of {P} spells of again takes = record {
+  one = λ text p q s t. ok_is p q (sym (again text p s) ∙ again text q t);
+  apart = λ text p f s e. (let bad : taken p ≡ Err f = sym (again text p s) ∙ e in absurd cc);
+  either = λ text. cases text (of text) refl;
+}
+  where
+    cases : (text : List ℕ) (r : Result P IdFault) → of text ≡ r → ((p : P) × spells text p) ⊎ ((f : IdFault) × (of text ≡ Err f))
+    cases text (Ok p) e = inl (p, takes text p e)
+    cases text (Err f) e = inr (f, e)
 
 pub only_of : {P : Type 0} (spells : List ℕ → P → Type 0) (of : List ℕ → Result P IdFault) → Again spells of → (text : List ℕ) (r : Result P IdFault) → Gives (λ p. p) r (of text) → (p : P) → spells text p → Gives (λ q. q) r (Ok p)
 only_of {P} spells of again text r gives p s = grind arith

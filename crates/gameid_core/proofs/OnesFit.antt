@@ -1,15 +1,5 @@
 -- The ones of a line are no more than its cells.
-use Rattle.std.proofs.Common.{◌≡◌, ℕ, zero, suc, ◌+◌, ◌*◌, ◌≤◌, List, [], ◌∷◌, map, length, arith}
-use Rattle.std.proofs.lemmas.Grind.{common_steps}
-use Rattle.std.specs.List.{range_with_len}
-use Rattle.std.proofs.lemmas.List.FromFn.{length-map-range_with_len}
-use Rattle.std.proofs.lemmas.List.Elements.{recursion_from_All}
-use Rattle.grid_core.specs.Extent.{Extent, IsExtent}
-use Rattle.grid_core.specs.Grids.{IsGrid}
-use Rattle.grid_core.specs.Lines.{lines_of, line_numbers}
-use Rattle.gameid_core.specs.Puzzles.{IsTents, AreCounts}
-use Rattle.gameid_core.specs.Lines.{ones, lines_ones}
-use Rattle.grid_core.proofs.LineLemmas.{length-line_numbers}
+use Rattle.gameid_core.specs.Common.{AreCounts, Extent, IsExtent, IsGrid, IsTents, List, [], arith, common_steps, length, length-line_numbers, length-map-range_with_len, line_numbers, lines_of, lines_ones, map, ones, range_with_len, recursion_from_All, suc, zero, ℕ, ◌*◌, ◌+◌, ◌∷◌, ◌≡◌, ◌≤◌}
 
 ones_few : (cells : List ℕ) → ones cells ≤ length cells
 ones_few [] = omega arith

@@ -1,17 +1,6 @@
 -- The written text of a puzzle of Pattern: it is short, and it spells the puzzle.
-use Rattle.std.proofs.Common.{◌≡◌, ℕ, ◌+◌, ◌*◌, ◌^◌, ◌<◌, ◌≤◌, List, ◌∷◌, ◌++◌, map, length, refl, sym, ap, inl, arith, length-append, [], subst, ◌∙◌}
-use Rattle.std.proofs.lemmas.Grind.{common_steps}
-use Rattle.std.specs.Prelude.{decimal}
-use Rattle.std.specs.List.{AllByRecursion, join_with_byte}
-use Rattle.std.proofs.lemmas.Fmt.{digits_value-decimal}
-use Rattle.grid_core.specs.Extent.{Extent, IsExtent, max_side}
-use Rattle.gameid_core.specs.Words.{value, IsNumeral, IsPlain}
-use Rattle.gameid_core.specs.SizeText.{size_text}
-use Rattle.grid_core.specs.Lines.{line_cells}
-use Rattle.gameid_core.specs.Puzzles.{Pattern, IsPattern, IsClue, AreClues, used}
-use Rattle.gameid_core.specs.PatternText.{SpellsPattern, IsWrittenPattern, clue_text, pattern_text, clues_text}
-use Rattle.gameid_core.specs.Head.{max_id}
-use Rattle.gameid_core.specs.OneText.{HasOneText}
+use Rattle.gameid_core.specs.Common.{AllByRecursion, AreClues, Extent, HasOneText, IsClue, IsExtent, IsNumeral, IsPattern, IsPlain, List, Pattern, [], ap, arith, common_steps, decimal, digits_value-decimal, inl, join_with_byte, length, length-append, line_cells, map, max_id, max_side, refl, size_text, subst, sym, used, value, ℕ, ◌*◌, ◌++◌, ◌+◌, ◌<◌, ◌^◌, ◌∙◌, ◌∷◌, ◌≡◌, ◌≤◌}
+use Rattle.gameid_core.specs.PatternText.{IsWrittenPattern, SpellsPattern, clue_text, clues_text, pattern_text}
 use Rattle.gameid_core.proofs.OneReading.{one_text}
 use Rattle.gameid_core.proofs.Numerals.{decimal_plain, own, length_decimal, numeral, plain_decimal}
 
@@ -93,7 +82,4 @@ pattern_one_text = record { some = pattern_is_written; one = one_text _ _ patter
 pub pattern_spelled : (p : Pattern) → IsPattern p → SpellsPattern (pattern_text p) p
 pattern_spelled p h = (pattern_is_written p h).spells
 
-pub pattern_written_as : (p : Pattern) (text : List ℕ) → IsPattern p → text ≡ pattern_text p → IsWrittenPattern text p
-pattern_written_as p text h e = rw e (pattern_is_written p h)
-
-pub ruleset laws = (common_steps, pattern_spelled, pattern_short)
+pub ruleset laws = (common_steps, pattern_is_written, pattern_spelled, pattern_short)

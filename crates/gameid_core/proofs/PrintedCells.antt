@@ -1,15 +1,6 @@
 -- What is printed of a cell is read back: one byte for each cell, or a number.
-use Rattle.std.proofs.Common.{◌≡◌, ◌≢◌, ◌∙◌, ◌*◌, ◌<◌, ◌≤◌, ◌++◌, ◌∷◌, ◌==◌, ℕ, List, Bool, true, false, [], Option, Some, zero, suc, length, slice_index, get_or, ap, refl, arith, if◌then◌else◌, codes}
-use Rattle.std.proofs.lemmas.Grind.{common_steps}
-use Rattle.std.specs.Prelude.{slice_get}
-use Rattle.std.proofs.lemmas.Option.{slice_get-get_or}
-use Rattle.std.proofs.lemmas.Fmt.{decimal_digit}
-use Rattle.gameid_core.specs.Puzzles.{IsLight, IsLightCell, Light}
-use Rattle.gameid_core.specs.declared.light_up.cell.LightCell.{LightCell}
-use Rattle.gameid_core.specs.declared.light_up.cell.LightCell.TheVariants.{White}
-use Rattle.grid_core.specs.Extent.{Extent}
-use Rattle.gameid_core.specs.GridReading.{IsAsShown}
-use Rattle.gameid_core.specs.GridTexts.{light_mark}
+use Rattle.gameid_core.specs.Common.{Bool, Extent, IsAsShown, IsLight, IsLightCell, Light, LightCell, List, Option, Some, White, [], ap, arith, codes, common_steps, decimal_digit, false, get_or, if◌then◌else◌, length, refl, slice_get, slice_get-get_or, slice_index, suc, true, zero, ℕ, ◌*◌, ◌++◌, ◌<◌, ◌==◌, ◌∙◌, ◌∷◌, ◌≡◌, ◌≢◌, ◌≤◌}
+use Rattle.gameid_core.specs.LightText.{light_mark}
 use Rattle.gameid_core.proofs.Lists.{all_at}
 
 -- the number of a place is below `values`

@@ -1,10 +1,6 @@
 -- A grid is read row by row: it agrees so far with every grid whose printed form the text begins with, so in the end it
 -- is the only one.
-use Rattle.std.proofs.Common.{◌≡◌, ◌∙◌, ◌*◌, ◌≤◌, ◌++◌, ◌⊎◌, ℕ, List, Option, Some, None, length, take, sym, subst, arith, codes}
-use Rattle.std.proofs.lemmas.Grind.{common_steps}
-use Rattle.std.proofs.lemmas.List.{ext_get_or, get_or_default, get_or_past}
-use Rattle.grid_core.specs.Extent.{Extent}
-use Rattle.gameid_core.specs.GridReading.{IsAsShown, IsReadOf, FitUpTo, AgreeUpTo, IsPrinted}
+use Rattle.gameid_core.specs.Common.{AgreeUpTo, Extent, FitUpTo, IsAsShown, IsPrinted, IsReadOf, List, None, Option, Some, arith, codes, common_steps, ext_get_or, get_or_default, get_or_past, length, subst, sym, take, ℕ, ◌*◌, ◌++◌, ◌∙◌, ◌≡◌, ◌≤◌, ◌⊎◌}
 
 -- numbers that fit are a grid
 pub is_shown : (hides : ℕ → Type 0) (values : ℕ) (size : Extent) (g : List ℕ) (y : ℕ) → size.h ≤ y → y ≤ size.h → length g ≡ size.w * size.h
@@ -20,13 +16,13 @@ same_grid hides values size g h y over under cells shown agree = grind (arith, e
 pub begins_with_form : (text ended printed : List ℕ) → ended ≡ text ++ codes "\n" → IsPrinted text printed → (more : List ℕ) × (ended ≡ printed ++ more)
 begins_with_form text ended printed is form = grind (arith, common_steps)
 
-pub either_form : (text front ended bytes printed : List ℕ) (n : ℕ) → front ≡ text ++ codes "\n" → ended ≡ text ++ codes "\n" → n ≡ length text → bytes ≡ printed
+pub either_form : {front ended bytes printed : List ℕ} (text : List ℕ) (n : ℕ) → front ≡ text ++ codes "\n" → ended ≡ text ++ codes "\n" → n ≡ length text → bytes ≡ printed
     → (take n front ≡ bytes) ⊎ (ended ≡ bytes) → IsPrinted text printed
-either_form text front ended bytes printed n is same all form one = grind (arith, common_steps)
+either_form text n is same all form one = grind (arith, common_steps)
 
-pub form_either : (text front ended bytes printed : List ℕ) (n : ℕ) → front ≡ text ++ codes "\n" → ended ≡ text ++ codes "\n" → n ≡ length text → bytes ≡ printed
+pub form_either : {front ended bytes printed : List ℕ} (text : List ℕ) (n : ℕ) → front ≡ text ++ codes "\n" → ended ≡ text ++ codes "\n" → n ≡ length text → bytes ≡ printed
     → IsPrinted text printed → (take n front ≡ bytes) ⊎ (ended ≡ bytes)
-form_either text front ended bytes printed n is same all form one = grind (arith, common_steps)
+form_either text n is same all form one = grind (arith, common_steps)
 
 -- What was read of the text with a line end after it is what the text is the printed form of.
 module _ (hides : ℕ → Type 0) (values : ℕ) (size : Extent) (printed : List ℕ → List ℕ) (text ended : List ℕ) (field : Option (List ℕ)) where

@@ -1,8 +1,5 @@
 -- A printed number below 100 is read back by its one or two digits.
-use Rattle.std.proofs.Common.{◌≡◌, ◌+◌, ◌*◌, ◌/◌, ◌%◌, ◌<◌, ◌≤◌, ◌++◌, ◌∷◌, ◌⊎◌, ℕ, List, [], Option, Some, None, length, arith, decimal}
-use Rattle.std.proofs.lemmas.Grind.{common_steps}
-use Rattle.std.proofs.lemmas.Fmt.{decimal_digit, decimal_step}
-use Rattle.gameid_core.specs.GridReading.{digit_of, first_digit}
+use Rattle.gameid_core.specs.Common.{List, None, Option, Some, [], arith, common_steps, decimal, decimal_digit, decimal_step, digit_of, first_digit, length, ℕ, ◌%◌, ◌*◌, ◌++◌, ◌+◌, ◌/◌, ◌<◌, ◌∷◌, ◌≡◌, ◌≤◌, ◌⊎◌}
 
 two_digits : (n : ℕ) → 10 ≤ n → n < 100 → decimal n ≡ (48 + n / 10) ∷ (48 + n % 10) ∷ []
 two_digits n low high = grind (arith, common_steps, decimal_step, decimal_digit)

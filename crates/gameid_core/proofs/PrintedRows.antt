@@ -1,12 +1,6 @@
 -- A row is read cell by cell: what is left of it is what is printed of the cells from there on, its line end and what
 -- follows.
-use Rattle.std.proofs.Common.{◌≡◌, ◌∙◌, ◌+◌, ◌*◌, ◌<◌, ◌≤◌, ◌-◌, ◌++◌, ◌∷◌, ℕ, List, zero, suc, [], Option, Some, None, length, take, drop, slice_index, set, ap, ap₂, refl, arith, codes, ◌⊎◌, inl, append_assoc, add-one}
-use Rattle.std.proofs.lemmas.Grind.{common_steps}
-use Rattle.std.proofs.lemmas.Nat.{mod-mul-add}
-use Rattle.std.proofs.Math.Nat.{suc-mul}
-use Rattle.grid_core.specs.Extent.{Extent}
-use Rattle.gameid_core.specs.GridReading.{Follows, FitUpTo, AgreeUpTo}
-use Rattle.gameid_core.specs.GridTexts.{each_below}
+use Rattle.gameid_core.specs.Common.{AgreeUpTo, Extent, FitUpTo, Follows, List, None, Option, Some, [], add-one, ap, append_assoc, ap₂, arith, codes, common_steps, drop, each_below, inl, length, mod-mul-add, refl, set, slice_index, suc, suc-mul, take, zero, ℕ, ◌*◌, ◌++◌, ◌+◌, ◌-◌, ◌<◌, ◌∙◌, ◌∷◌, ◌≡◌, ◌≤◌, ◌⊎◌}
 
 -- the texts of the n numbers from k on
 unfoldable pub each_from : (ℕ → List ℕ) → ℕ → ℕ → List ℕ

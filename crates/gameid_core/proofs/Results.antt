@@ -1,8 +1,5 @@
 -- Answers of steps that may be refused, and which way a test went.
-use Rattle.std.proofs.Common.{◌≡◌, Bool, true, false, cond, Result, Ok, Err, ◌⊎◌}
-use Rattle.std.proofs.Common.{arith}
-use Rattle.gameid_core.specs.declared.id.fault.IdFault.{IdFault}
-use Rattle.gameid_core.specs.Steps.{◌>>=◌}
+use Rattle.gameid_core.specs.Common.{Bool, Err, IdFault, Ok, Result, arith, cond, false, true, ◌>>=◌, ◌≡◌, ◌⊎◌}
 
 -- the value of a step that was not refused
 pub bind_ok : {A B : Type 0} (r : Result A IdFault) (f : A → Result B IdFault) (y : B) → (r >>= f) ≡ Ok y → (x : A) × (r ≡ Ok x) × (f x ≡ Ok y)

@@ -1,14 +1,5 @@
 -- Laws of the runs of a line, by induction on the cells.
-use Rattle.std.proofs.Common.{◌≡◌, ℕ, zero, suc, ◌+◌, List, ◌∷◌, ◌++◌, replicate, refl, ◌∙◌, ap, arith, [], ◌<◌, ◌≤◌, length, map}
-use Rattle.std.proofs.lemmas.Grind.{common_steps}
-use Rattle.gameid_core.specs.BlackRuns.{run_of, runs_after, runs}
-use Rattle.std.specs.List.{AllByRecursion, range_with_len}
-use Rattle.std.proofs.lemmas.List.FromFn.{length-map-range_with_len}
-use Rattle.grid_core.specs.Extent.{Extent, IsExtent}
-use Rattle.grid_core.specs.Lines.{line_cells, lines_of, line_numbers}
-use Rattle.gameid_core.specs.Puzzles.{IsPattern, IsClue, AreClues, used}
-use Rattle.gameid_core.specs.Lines.{lines_runs}
-use Rattle.grid_core.proofs.LineLemmas.{length-line_numbers}
+use Rattle.gameid_core.specs.Common.{AllByRecursion, AreClues, Extent, IsClue, IsExtent, IsPattern, List, [], ap, arith, common_steps, length, length-line_numbers, length-map-range_with_len, line_cells, line_numbers, lines_of, lines_runs, map, range_with_len, refl, replicate, run_of, runs, runs_after, suc, used, zero, ℕ, ◌++◌, ◌+◌, ◌<◌, ◌∙◌, ◌∷◌, ◌≡◌, ◌≤◌}
 
 -- a white cell cuts a line in two
 pub runs_after-cut : (k : ℕ) (f g : List ℕ) → runs_after k (f ++ 0 ∷ g) ≡ runs_after k f ++ runs g

@@ -1,20 +1,8 @@
 -- The written text of a puzzle of Solo: its length, that it spells the puzzle, and that no other does.
-use Rattle.std.proofs.Common.{cond, eqb, ◌≡◌, ℕ, zero, suc, ◌+◌, ◌*◌, ◌≤◌, Bool, true, false, List, ◌∷◌, ◌++◌, length, refl, ap, arith, length-append, ◌<◌, []}
-use Rattle.std.proofs.lemmas.Bool.Decides.{nat_tests}
-use Rattle.std.proofs.lemmas.Grind.{common_steps}
-use Rattle.std.specs.Prelude.{decimal, replicate}
-use Rattle.std.specs.List.{AllByRecursion, flat_map}
-use Rattle.std.proofs.Math.Nat.{mul-le-mul_left, mul-le-mul_right}
-use Rattle.std.proofs.lemmas.Fmt.{length-decimal-le}
-use Rattle.gameid_core.specs.Cells.{letters}
-use Rattle.gameid_core.specs.SizeText.{size_text, solo_size_text, IsSoloSizeText}
-use Rattle.gameid_core.specs.Puzzles.{Solo, IsSolo, solo_n}
-use Rattle.gameid_core.specs.SoloText.{before_given, cells_text, solo_text, SoloToken, blanks, gap, given, solo_token_text, solo_token_cells, IsSoloToken, AreApart, AreFull, AreNeeded, SpellsSolo, IsWrittenSolo}
-use Rattle.gameid_core.specs.Head.{max_id, max_numbers}
-use Rattle.gameid_core.specs.OneText.{HasOneText}
+use Rattle.gameid_core.specs.Common.{AllByRecursion, Bool, HasOneText, IsSolo, IsSoloSizeText, List, Solo, [], ap, arith, common_steps, cond, decimal, eqb, false, false≢true, flat_map, length, length-append, length-decimal-le, letters, max_id, max_numbers, mul-le-mul_left, mul-le-mul_right, nat_tests, refl, replicate, size_text, solo_n, solo_size_text, suc, true, zero, ℕ, ◌*◌, ◌++◌, ◌+◌, ◌<◌, ◌∷◌, ◌≡◌, ◌≤◌}
+use Rattle.gameid_core.specs.SoloText.{AreApart, IsSoloToken, IsWrittenSolo, SoloToken, SpellsSolo, before_given, blanks, cells_text, gap, given, solo_text, solo_token_cells, solo_token_text, AreFull, AreNeeded}
 use Rattle.gameid_core.proofs.OneReading.{one_text}
 use Rattle.gameid_core.proofs.Letters.{letters_short, letters_none, letters_more, letters_last}
-use Rattle.std.proofs.lemmas.Bool.{false≢true}
 
 -- no more cells than the most numbers by as many
 pub solo_few : (n : ℕ) → n ≤ max_numbers → n * n ≤ max_numbers * max_numbers
@@ -152,7 +140,4 @@ solo_one_text = record { some = solo_is_written; one = one_text _ _ solo_form }
 pub solo_spelled : (p : Solo) → IsSolo p → SpellsSolo (solo_text p) p
 solo_spelled p h = (solo_is_written p h).spells
 
-pub solo_written_as : (p : Solo) (text : List ℕ) → IsSolo p → text ≡ solo_text p → IsWrittenSolo text p
-solo_written_as p text h e = rw e (solo_is_written p h)
-
-pub ruleset laws = (common_steps, solo_spelled, solo_short)
+pub ruleset laws = (common_steps, solo_is_written, solo_spelled, solo_short)

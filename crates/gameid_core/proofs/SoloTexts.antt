@@ -1,55 +1,37 @@
 -- Solo: the tokens of a text, and that a text is read exactly where it spells a puzzle.
-use Rattle.std.proofs.Common.{◌≡◌, ℕ, ◌-◌, ◌<◌, ◌≤◌, true, false, ◌&&◌, eqb, leb, List, ◌∷◌, Ok, Err, refl, subst, ◌∙◌, arith, [], ◌*◌, Bool, get_or, ◌+◌, ◌^◌, ◌++◌, map, length, ap, drop}
-use Rattle.std.proofs.lemmas.Grind.{common_steps}
-use Rattle.std.specs.Prelude.{replicate, decimal}
-use Rattle.std.proofs.lemmas.Bool.{and_parts, false≢true, le-ltb, lt-ltb, leb-true}
-use Rattle.gameid_core.specs.declared.id.fault.IdFault.TheVariants.{BadByte, NumberRange}
-use Rattle.gameid_core.specs.Words.{begins, digits_front, after_digits, value, Cuts, words}
-use Rattle.gameid_core.specs.Cells.{is_letter}
-use Rattle.gameid_core.specs.SoloText.{solo_token, solo_cells_at, SoloToken, blanks, gap, given, solo_token_text, solo_token_cells, IsSoloToken, AreApart, SpellsSolo, solo_of}
-use Rattle.gameid_core.specs.OneText.{HasOneReading}
-use Rattle.gameid_core.proofs.OneReading.{reading_of}
+use Rattle.gameid_core.specs.Common.{AllByRecursion, BadByte, Bool, Cuts, Err, Gives, HasOneReading, IdFault, IsSolo, List, NumberRange, Ok, Result, SizeRead, Solo, [], after_digits, and_parts, ap, arith, begins, common_steps, concat, decimal, decimal-digits_value, digits_front, digits_value-decimal, drop, eqb, false, false≢true, flat_map, get_or, in_range, is_ascii_digit, is_letter, le-ltb, leb, leb-true, length, lt-ltb, map, max_numbers, refl, replicate, solo_puzzle, subst, true, value, words, ℕ, ◌&&◌, ◌*◌, ◌++◌, ◌+◌, ◌-◌, ◌<◌, ◌^◌, ◌∙◌, ◌∷◌, ◌≡◌, ◌≤◌}
+use Rattle.gameid_core.specs.SoloText.{AreApart, IsSoloToken, SoloToken, SpellsSolo, blanks, gap, given, solo_behind, solo_cells_at, solo_of, solo_token, solo_token_cells, solo_token_text}
+use Rattle.gameid_core.proofs.OneReading.{only_of, reading_of}
 use Rattle.gameid_core.proofs.Tokens.{cuts_some, cuts_single, cuts_number, words_nil, IsWord, words_are, concat_words, alone}
 use Rattle.gameid_core.proofs.Numerals.{is_lead, lead_is_digit, numeral_cuts, numeral, own, decimal_leads, value_positive}
-use Rattle.std.specs.List.{AllByRecursion, flat_map, concat}
-use Rattle.gameid_core.specs.Head.{in_range, max_numbers, SizeRead}
-use Rattle.gameid_core.specs.Puzzles.{IsSolo, solo_puzzle, Solo}
 use Rattle.gameid_core.proofs.CellsReading.{Token, cells_spelled, cells_again}
 use Rattle.gameid_core.proofs.Lists.{AllByRecursion-replicate, AllByRecursion-flat_map}
 use Rattle.gameid_core.specs.declared.id.game.Game.TheVariants as game
-use Rattle.std.specs.Char.{is_ascii_digit}
-use Rattle.std.proofs.lemmas.Fmt.{decimal-digits_value, digits_value-decimal}
-use Rattle.gameid_core.proofs.HeadLaws.{parts_of, solo_size, size_of_solo, head_again, after_front}
+use Rattle.gameid_core.proofs.HeadLaws.{parts_of, solo_size, size_of_solo, puzzle_again}
 
-pub solo_letter : (n at first : ℕ) (after : List ℕ) → 97 ≤ first → first ≤ 122 → Cuts (first ∷ after) (first ∷ []) after × (solo_token n at (first ∷ []) ≡ Ok (replicate (first - 96) 0))
-unfolding solo_token
-solo_letter n at first after low high = grind (arith, cuts_single first after)
+module _ (n at : ℕ) where
+  pub solo_letter : (first : ℕ) (after : List ℕ) → 97 ≤ first → first ≤ 122 → Cuts (first ∷ after) (first ∷ []) after × (solo_token n at (first ∷ []) ≡ Ok (replicate (first - 96) 0))
+  unfolding solo_token
+  solo_letter first after low high = grind (arith, cuts_single first after)
 
-pub solo_gap : (n at : ℕ) (after : List ℕ) → Cuts (95 ∷ after) (95 ∷ []) after × (solo_token n at (95 ∷ []) ≡ Ok [])
-unfolding solo_token
-solo_gap n at after = (cuts_single 95 after refl, refl)
+  pub solo_gap : (after : List ℕ) → Cuts (95 ∷ after) (95 ∷ []) after × (solo_token n at (95 ∷ []) ≡ Ok [])
+  unfolding solo_token
+  solo_gap after = (cuts_single 95 after refl, refl)
 
-pub solo_given : (n at : ℕ) (word : List ℕ) → begins is_letter word ≡ false → begins (λ b. eqb b 95) word ≡ false → begins is_lead word ≡ true → value word ≤ n → solo_token n at word ≡ Ok (value word ∷ [])
-unfolding solo_token
-solo_given n at word letter no_gap lead le = rw (letter, no_gap, lead, le-ltb _ _ le) refl
+  pub bad_byte : (first : ℕ) (rest after : List ℕ) → rest ≡ first ∷ after → (97 ≤ first → first ≤ 122 → ⊥) → (first ≡ 95 → ⊥) → (49 ≤ first → first ≤ 57 → ⊥) → (word tail : List ℕ) × Cuts rest word tail × (solo_token n at word ≡ Err (BadByte at))
+  unfolding solo_token
+  bad_byte first rest after e letter no_gap lead = grind (arith, cuts_some first after)
 
-pub solo_over : (n at : ℕ) (word : List ℕ) → begins is_letter word ≡ false → begins (λ b. eqb b 95) word ≡ false → begins is_lead word ≡ true → n < value word → solo_token n at word ≡ Err (NumberRange at)
-unfolding solo_token
-solo_over n at word letter no_gap lead lt = rw (letter, no_gap, lead, lt-ltb _ _ lt) refl
+  -- a number in front is a token, which is taken if it is in range
+  pub solo_given : (rest : List ℕ) → begins is_lead rest ≡ true → value (digits_front rest) ≤ n → Cuts rest (digits_front rest) (after_digits rest) × (solo_token n at (digits_front rest) ≡ Ok (value (digits_front rest) ∷ []))
+  unfolding solo_token
+  solo_given [] lead le = absurd (false≢true lead)
+  solo_given (b ∷ after) lead le = grind (arith, cuts_number (b ∷ after) (lead_is_digit b lead))
 
-pub record NumberWord (rest : List ℕ) : Type 0 where
-  pub cuts : Cuts rest (digits_front rest) (after_digits rest)
-  pub letter : begins is_letter (digits_front rest) ≡ false
-  pub gap : begins (λ b. eqb b 95) (digits_front rest) ≡ false
-  pub lead : begins is_lead (digits_front rest) ≡ true
-
-pub number_word : (rest : List ℕ) → begins is_lead rest ≡ true → NumberWord rest
-number_word [] e = absurd (false≢true e)
-number_word (b ∷ after) e = grind (arith, cuts_number (b ∷ after) (lead_is_digit b e))
-
-pub bad_byte : (n at first : ℕ) (rest after : List ℕ) → rest ≡ first ∷ after → (97 ≤ first → first ≤ 122 → ⊥) → (first ≡ 95 → ⊥) → (49 ≤ first → first ≤ 57 → ⊥) → (word tail : List ℕ) × Cuts rest word tail × (solo_token n at word ≡ Err (BadByte at))
-unfolding solo_token
-bad_byte n at first rest after e letter no_gap lead = grind (arith, cuts_some first after)
+  pub solo_over : (rest : List ℕ) → begins is_lead rest ≡ true → n < value (digits_front rest) → Cuts rest (digits_front rest) (after_digits rest) × (solo_token n at (digits_front rest) ≡ Err (NumberRange at))
+  unfolding solo_token
+  solo_over [] lead over = absurd (false≢true lead)
+  solo_over (b ∷ after) lead over = grind (arith, cuts_number (b ∷ after) (lead_is_digit b lead))
 
 -- ---- numbers among the tokens stand apart
 
@@ -75,41 +57,12 @@ words_apart (b ∷ d ∷ after) = grind (arith, cuts_some d after, words_apart (
 
 -- ---- a word that was taken is a token
 
-abbrev SoloWord : ℕ → List ℕ → List ℕ → Type 0
-SoloWord n word more = Token solo_token_text solo_token_cells (IsSoloToken n) word more
-
-letter_word : (n : ℕ) (word : List ℕ) → IsWord word → begins is_letter word ≡ true → SoloWord n word (replicate (get_or word 0 0 - 96) 0)
-letter_word n [] w e = absurd w
-letter_word n (b ∷ more) w e = record { token = blanks (b - 96); texts = grind (arith, alone b more w); each = grind arith; stands = refl }
-
-gap_word : (n : ℕ) (word : List ℕ) → IsWord word → begins (λ b. eqb b 95) word ≡ true → SoloWord n word []
-gap_word n word w e = grind arith
-
-given_word : (n : ℕ) (word : List ℕ) → n < 2 ^ 64 → IsWord word → begins is_lead word ≡ true → value word ≤ n → SoloWord n word (value word ∷ [])
-given_word n [] small w e le = absurd w
-given_word n (b ∷ more) small w e le = record {
-  token = given (value (b ∷ more));
-  texts = grind (arith, lead_is_digit b, decimal-digits_value own (b ∷ more));
-  each = grind (arith, value_positive b more);
-  stands = refl;
-}
-
-token_word : (n : ℕ) → n < 2 ^ 64 → (at : ℕ) (word more : List ℕ) → IsWord word → solo_token n at word ≡ Ok more → SoloWord n word more
-unfolding solo_token
-token_word n small at word more w e = grind (arith, common_steps, letter_word n word, gap_word n word, given_word n word)
-
--- ---- what is read is spelled
-
-decimal_digit_first : (v : ℕ) → v < 2 ^ 64 → 0 < v → digit_first (decimal v) ≡ true
-decimal_digit_first v small some = grind (arith, decimal_leads v small some, lead_is_digit)
-
-apart_tokens : (n : ℕ) (tokens : List SoloToken) → n < 2 ^ 64 → AllByRecursion (IsSoloToken n) tokens → Apart (map solo_token_text tokens) → AreApart tokens
-apart_tokens n [] small each h = grind (arith, common_steps, decimal_digit_first)
-apart_tokens n (x1 ∷ xs1) small each h = grind (arith, common_steps, apart_tokens n xs1, decimal_digit_first)
-
 concat_texts : (tokens : List SoloToken) → concat (map solo_token_text tokens) ≡ flat_map solo_token_text tokens
 concat_texts [] = refl
 concat_texts (t ∷ tokens) = ap (λ (x : List ℕ). solo_token_text t ++ x) (concat_texts tokens)
+
+decimal_digit_first : (v : ℕ) → v < 2 ^ 64 → 0 < v → digit_first (decimal v) ≡ true
+decimal_digit_first v small some = grind (arith, decimal_leads v small some, lead_is_digit)
 
 record SoloDescribed (n : ℕ) (description cells : List ℕ) : Type 0 where
   tokens : List SoloToken
@@ -119,81 +72,111 @@ record SoloDescribed (n : ℕ) (description cells : List ℕ) : Type 0 where
   filled : flat_map solo_token_cells tokens ≡ cells
   count : length cells ≡ n * n
 
-solo_take : (n at : ℕ) (description cells : List ℕ) → n < 2 ^ 64 → solo_cells_at n at description ≡ Ok cells → SoloDescribed n description cells
-solo_take n at description cells small e = grind (arith, cells_spelled solo_token_text solo_token_cells (IsSoloToken n) (solo_token n) IsWord (token_word n small) (n * n) at [] (words description) cells (words_are description) e, concat_words description, concat_texts, apart_tokens n, words_apart description)
+apart_rest : (token : SoloToken) (tokens : List SoloToken) → AreApart (token ∷ tokens) → AreApart tokens
+apart_rest token tokens h = grind arith
 
--- ---- what is read fits
+module _ (n : ℕ) where
+  abbrev SoloWord : List ℕ → List ℕ → Type 0
+  SoloWord word more = Token solo_token_text solo_token_cells (IsSoloToken n) word more
 
-token_range : (n : ℕ) (token : SoloToken) → IsSoloToken n token → AllByRecursion (λ v. v ≤ n) (solo_token_cells token)
-token_range n (blanks k) h = AllByRecursion-replicate (λ v. v ≤ n) 0 k (omega arith)
-token_range n gap h = tt
-token_range n (given v) h = (h.1, tt)
+  abbrev Each : List SoloToken → Type 0
+  Each tokens = AllByRecursion (IsSoloToken n) tokens
+
+  letter_word : (word : List ℕ) → IsWord word → begins is_letter word ≡ true → SoloWord word (replicate (get_or word 0 0 - 96) 0)
+  letter_word [] w e = absurd w
+  letter_word (b ∷ more) w e = record { token = blanks (b - 96); texts = grind (arith, alone b more w); each = grind arith; stands = refl }
+
+  gap_word : (word : List ℕ) → IsWord word → begins (λ b. eqb b 95) word ≡ true → SoloWord word []
+  gap_word word w e = grind arith
+
+  token_range : (token : SoloToken) → IsSoloToken n token → AllByRecursion (λ v. v ≤ n) (solo_token_cells token)
+  token_range (blanks k) h = AllByRecursion-replicate (λ v. v ≤ n) 0 k (omega arith)
+  token_range gap h = tt
+  token_range (given v) h = (h.1, tt)
+
+  no_digit_first : (v : ℕ) (tokens : List SoloToken) → Each tokens → AreApart (given v ∷ tokens) → begins is_ascii_digit (flat_map solo_token_text tokens) ≡ false
+  no_digit_first v tokens each h = grind arith
+
+  given_read : (at v : ℕ) → v < 2 ^ 64 → 0 < v → v ≤ n → solo_token n at (decimal v) ≡ Ok (v ∷ [])
+  unfolding solo_token
+  given_read at v small some le = grind (arith, digits_value-decimal, own, decimal_leads)
+
+  module _ (small : n < 2 ^ 64) where
+    given_word : (word : List ℕ) → IsWord word → begins is_lead word ≡ true → value word ≤ n → SoloWord word (value word ∷ [])
+    given_word [] w e le = absurd w
+    given_word (b ∷ more) w e le = record {
+      token = given (value (b ∷ more));
+      texts = grind (arith, lead_is_digit b, decimal-digits_value own (b ∷ more));
+      each = grind (arith, value_positive b more);
+      stands = refl;
+    }
+
+    token_word : (at : ℕ) (word more : List ℕ) → IsWord word → solo_token n at word ≡ Ok more → SoloWord word more
+    unfolding solo_token
+    token_word at word more w e = grind (arith, common_steps, letter_word word, gap_word word, given_word word)
+
+    apart_tokens : (tokens : List SoloToken) → Each tokens → Apart (map solo_token_text tokens) → AreApart tokens
+    apart_tokens [] each h = grind (arith, common_steps, decimal_digit_first)
+    apart_tokens (x1 ∷ xs1) each h = grind (arith, common_steps, apart_tokens xs1, decimal_digit_first)
+
+    -- what is read is spelled
+    solo_take : (at : ℕ) (description cells : List ℕ) → solo_cells_at n at description ≡ Ok cells → SoloDescribed n description cells
+    solo_take at description cells e = grind (arith, cells_spelled solo_token_text solo_token_cells (IsSoloToken n) (solo_token n) IsWord token_word (n * n) at [] (words description) cells (words_are description) e, concat_words description, concat_texts, apart_tokens, words_apart description)
+
+    -- and what is spelled is read: the texts of tokens are the tokens of their text
+    token_cuts : (token : SoloToken) (tokens : List SoloToken) → Each (token ∷ tokens) → AreApart (token ∷ tokens) → Cuts (solo_token_text token ++ flat_map solo_token_text tokens) (solo_token_text token) (flat_map solo_token_text tokens)
+    token_cuts (blanks k) tokens each h = (solo_letter n 0 (96 + k) _ (omega (arith, each.0.0)) (omega (arith, each.0.1))).0
+    token_cuts gap tokens each h = (solo_gap n 0 _).0
+    token_cuts (given v) tokens each h = numeral_cuts (decimal v) _ (numeral v (omega (arith, each.0.1))) (no_digit_first v tokens each.1 h)
+
+    words_again : (tokens : List SoloToken) → Each tokens → AreApart tokens → words (flat_map solo_token_text tokens) ≡ map solo_token_text tokens
+    words_again [] each h = words_nil
+    words_again (token ∷ tokens) each h = grind (arith, token_cuts token tokens each h, words_again tokens each.1 (apart_rest token tokens h))
+
+    token_again : (at : ℕ) (token : SoloToken) → IsSoloToken n token → solo_token n at (solo_token_text token) ≡ Ok (solo_token_cells token)
+    token_again at (blanks k) h = grind (arith, solo_letter n at (96 + k) [])
+    token_again at gap h = (solo_gap n at []).1
+    token_again at (given v) h = given_read at v (omega (arith, h.1)) h.0 h.1
+
+    solo_again : (at : ℕ) (tokens : List SoloToken) → Each tokens → AreApart tokens → length (flat_map solo_token_cells tokens) ≡ n * n → solo_cells_at n at (flat_map solo_token_text tokens) ≡ Ok (flat_map solo_token_cells tokens)
+    solo_again at tokens each h full = grind (arith, words_again tokens each h, cells_again solo_token_text solo_token_cells (IsSoloToken n) (solo_token n) token_again (n * n) at [] tokens each)
+
+-- ---- IDs
 
 pub n_few : (c r : ℕ) → in_range game.Solo c r ≡ true → c * r ≤ max_numbers
 n_few c r range = grind arith
 
-pub solo_lawful : (c r : ℕ) (x : Bool) (at : ℕ) (description cells : List ℕ) → in_range game.Solo c r ≡ true → solo_cells_at (c * r) at description ≡ Ok cells → IsSolo (solo_puzzle c r x cells)
-solo_lawful c r x at description cells range e =
-    let p = and_parts (leb 2 c && leb 2 r) (leb (c * r) max_numbers) range in
-    let q = and_parts (leb 2 c) (leb 2 r) p.0 in
+pub solo_lawful : {c r : ℕ} {x : Bool} {cells : List ℕ} (at : ℕ) (description : List ℕ) → in_range game.Solo c r ≡ true → solo_cells_at (c * r) at description ≡ Ok cells → IsSolo (solo_puzzle c r x cells)
+solo_lawful {c = c} {r = r} {cells = cells} at description range e =
     let small = n_few c r range in
-    let d = solo_take (c * r) at description cells (omega arith) e in
-    let fits = AllByRecursion-flat_map (IsSoloToken (c * r)) (λ v. v ≤ c * r) solo_token_cells (token_range (c * r)) d.tokens d.each in
-    record { c_low = leb-true _ _ q.0; r_low = leb-true _ _ q.1; n_high = small; cells = d.count; range = subst (λ (cs : List ℕ). AllByRecursion (λ v. v ≤ c * r) cs) d.filled fits }
-
--- ---- what is spelled is read
-
-no_digit_first : (n v : ℕ) (tokens : List SoloToken) → AllByRecursion (IsSoloToken n) tokens → AreApart (given v ∷ tokens) → begins is_ascii_digit (flat_map solo_token_text tokens) ≡ false
-no_digit_first n v tokens each h = grind arith
-
-apart_rest : (token : SoloToken) (tokens : List SoloToken) → AreApart (token ∷ tokens) → AreApart tokens
-apart_rest token tokens h = grind arith
-
-given_read : (n at v : ℕ) → v < 2 ^ 64 → 0 < v → v ≤ n → solo_token n at (decimal v) ≡ Ok (v ∷ [])
-given_read n at v small some le = grind (arith, digits_value-decimal, own, solo_given, decimal_leads)
-
-token_cuts : (n : ℕ) (token : SoloToken) (tokens : List SoloToken) → n < 2 ^ 64 → AllByRecursion (IsSoloToken n) (token ∷ tokens) → AreApart (token ∷ tokens) → Cuts (solo_token_text token ++ flat_map solo_token_text tokens) (solo_token_text token) (flat_map solo_token_text tokens)
-token_cuts n (blanks k) tokens small each h = (solo_letter n 0 (96 + k) (flat_map solo_token_text tokens) (omega (arith, each.0.0)) (omega (arith, each.0.1))).0
-token_cuts n gap tokens small each h = (solo_gap n 0 (flat_map solo_token_text tokens)).0
-token_cuts n (given v) tokens small each h = numeral_cuts (decimal v) (flat_map solo_token_text tokens) (numeral v (omega (arith, each.0.1))) (no_digit_first n v tokens each.1 h)
-
--- the texts of tokens are the tokens of their text
-words_again : (n : ℕ) (tokens : List SoloToken) → n < 2 ^ 64 → AllByRecursion (IsSoloToken n) tokens → AreApart tokens → words (flat_map solo_token_text tokens) ≡ map solo_token_text tokens
-words_again n [] small each h = words_nil
-words_again n (token ∷ tokens) small each h = grind (arith, token_cuts n token tokens small each h, words_again n tokens small each.1 (apart_rest token tokens h))
-
-token_again : (n : ℕ) → n < 2 ^ 64 → (at : ℕ) (token : SoloToken) → IsSoloToken n token → solo_token n at (solo_token_text token) ≡ Ok (solo_token_cells token)
-token_again n small at (blanks k) h = grind (arith, solo_letter n at (96 + k) [])
-token_again n small at gap h = (solo_gap n at []).1
-token_again n small at (given v) h = given_read n at v (omega (arith, h.1)) h.0 h.1
-
--- what tokens that fill the grid spell is read
-solo_again : (n at : ℕ) (tokens : List SoloToken) → n < 2 ^ 64 → AllByRecursion (IsSoloToken n) tokens → AreApart tokens → length (flat_map solo_token_cells tokens) ≡ n * n → solo_cells_at n at (flat_map solo_token_text tokens) ≡ Ok (flat_map solo_token_cells tokens)
-solo_again n at tokens small each h full = grind (arith, words_again n tokens small each h, cells_again solo_token_text solo_token_cells (IsSoloToken n) (solo_token n) (token_again n small) (n * n) at [] tokens each)
+    let d = solo_take (c * r) (omega arith) at description cells e in
+    let fits : AllByRecursion (λ v. v ≤ c * r) cells = subst (AllByRecursion (λ v. v ≤ c * r)) d.filled (AllByRecursion-flat_map _ _ solo_token_cells (token_range (c * r)) d.tokens d.each) in
+    grind (arith, d.count)
 
 pub solo_takes : (text : List ℕ) (p : Solo) → solo_of text ≡ Ok p → SpellsSolo text p
-unfolding solo_of
 solo_takes text p e =
-    let r = parts_of game.Solo text (λ head. solo_cells_at (head.size.w * head.size.h) head.description (drop head.description text)) (λ head givens. solo_puzzle head.size.w head.size.h head.size.x givens) p e in
-    let h = r.is_head in
-    let size : SizeRead = r.head.size in
-    let small = n_few size.w size.h h.range in
-    let d = solo_take (size.w * size.h) r.head.description (drop r.head.description text) r.given (omega arith) r.read in
-    subst (λ (q : Solo). SpellsSolo text q) r.made (record {
-      short = h.short;
-      puzzle = solo_lawful size.w size.h size.x r.head.description (drop r.head.description text) r.given h.range r.read;
-      front = h.front;
+    let r = parts_of game.Solo text (λ head description. solo_cells_at (head.size.w * head.size.h) head.description description) (λ head givens. solo_puzzle head.size.w head.size.h head.size.x givens) p e in
+    let small = n_few r.head.size.w r.head.size.h r.is_head.range in
+    let d = solo_take (r.head.size.w * r.head.size.h) (omega arith) _ _ _ r.read in
+    subst (SpellsSolo text) r.made (record {
+      short = r.is_head.short;
+      puzzle = solo_lawful _ _ r.is_head.range r.read;
+      front = r.is_head.front;
       tokens = d.tokens;
-      parts = h.parts ∙ ap (λ (x : List ℕ). h.front ++ 58 ∷ x) d.parts;
-      size = solo_size h.front size.w size.h size.x h.size;
+      parts = grind (arith, r.is_head.parts, d.parts);
+      size = solo_size _ _ _ _ r.is_head.size;
       each = d.each;
       apart = d.apart;
       cells = d.filled;
     })
 
 pub solo_text_again : (text : List ℕ) (p : Solo) → SpellsSolo text p → solo_of text ≡ Ok p
-unfolding solo_of
-solo_text_again text p s = grind (arith, head_again game.Solo s.front (flat_map solo_token_text s.tokens) p.c p.r p.x (size_of_solo s.front p.c p.r p.x s.size), solo_again (p.c * p.r) (length s.front + 1) s.tokens, after_front s.front (flat_map solo_token_text s.tokens))
+solo_text_again text p s = grind (arith, puzzle_again game.Solo solo_behind s.front (flat_map solo_token_text s.tokens) p.c p.r p.x (size_of_solo s.front p.c p.r p.x s.size), solo_again (p.c * p.r))
 
 pub solo_reading : HasOneReading SpellsSolo solo_of
 solo_reading = reading_of _ _ solo_text_again solo_takes
+
+pub solo_only : (text : List ℕ) (r : Result Solo IdFault) (p : Solo) → Gives (λ q. q) r (solo_of text) → SpellsSolo text p → Gives (λ q. q) r (Ok p)
+solo_only text r p gives s = only_of _ _ solo_text_again text r gives p s
+
+pub ruleset reads_exactly = (solo_takes, solo_only)

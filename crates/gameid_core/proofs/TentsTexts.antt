@@ -1,28 +1,57 @@
--- Tents: a text is read exactly where it spells a puzzle.
-use Rattle.std.proofs.Common.{◌≡◌, ℕ, ◌+◌, ◌<◌, ◌≤◌, Bool, true, false, cond, eqb, List, [], ◌∷◌, ◌++◌, map, length, drop, get_or, Result, Ok, refl, ap, ◌∙◌, inl, inr, arith, append_assoc, ◌*◌, take}
-use Rattle.std.proofs.lemmas.Grind.{common_steps}
-use Rattle.std.specs.Prelude.{replicate}
-use Rattle.std.specs.List.{AllByRecursion, flat_map, concat}
-use Rattle.std.specs.Char.{is_ascii_digit}
-use Rattle.std.proofs.lemmas.List.{append-nil, take_at}
-use Rattle.grid_core.specs.Extent.{Extent}
-use Rattle.gameid_core.specs.declared.id.fault.IdFault.{IdFault}
-use Rattle.gameid_core.specs.Words.{IsNumeral, begins, words, value}
-use Rattle.gameid_core.specs.Steps.{reading}
-use Rattle.grid_core.specs.Lines.{line_cells, lines_of}
-use Rattle.gameid_core.specs.Puzzles.{AreCounts, IsTents, Tents}
-use Rattle.gameid_core.specs.TentsText.{TentsSoFar, TentsToken, blanks_and_tree, only_blanks, tents_token_byte, tents_token_cells, IsTentsToken, cells_in, tents_run, run_cells, tents_step, tents_end, tents_at, SpellsTents, tents_of}
-use Rattle.gameid_core.specs.OneText.{HasOneReading}
-use Rattle.gameid_core.proofs.OneReading.{reading_of}
-use Rattle.gameid_core.proofs.Tokens.{words_single, IsWord, words_are, concat_words, alone}
-use Rattle.gameid_core.proofs.Numerals.{joined_cuts}
+-- Tents: the steps of a description, and that a text is read exactly where it spells a puzzle.
+use Rattle.gameid_core.specs.Common.{AllByRecursion, AreCounts, Bool, Err, Extent, Gives, HasOneReading, IdFault, IsNumeral, IsTents, IsWide, List, Ok, Result, Tents, TooFew, TooMany, [], ap, append-nil, append_assoc, arith, begins, common_steps, concat, cond, digits_front, drop, eqb, extent_of, false, false≢true, flat_map, get_or, in_range, inl, inr, is_ascii_digit, joins, length, length-append, length-replicate, line_cells, lines_of, ltb, map, nat_tests, reading, refl, replicate, take, take_at, true, value, words, ℕ, ◌*◌, ◌++◌, ◌+◌, ◌-◌, ◌<◌, ◌∙◌, ◌∷◌, ◌≡◌, ◌≤◌, ◌⊎◌}
+use Rattle.gameid_core.specs.TentsText.{IsTentsToken, TentsSoFar, TentsToken, blanks_and_tree, cells_in, run_cells, tents_at, tents_count, tents_end, tents_run, tents_step, tents_token_byte, tents_token_cells, tents_tree, SpellsTents, only_blanks, tents_behind, tents_of}
+use Rattle.gameid_core.proofs.Tokens.{front_turn, cuts_single, cuts_some, words_nil, words_first, words_single, IsWord, words_are, concat_words, alone}
 use Rattle.gameid_core.proofs.Results.{bind_ok}
+use Rattle.gameid_core.proofs.Lists.{AllByRecursion-append, AllByRecursion-replicate}
+use Rattle.gameid_core.proofs.OneReading.{only_of, reading_of}
+use Rattle.gameid_core.proofs.Numerals.{joined_cuts}
 use Rattle.gameid_core.proofs.Reading.{reading_turn, reading_end}
-use Rattle.gameid_core.proofs.TentsReading.{run_token, run_length, byte_single, end_is, at_tents, run_single, count_read, step_cases, tents_read, tents_lawful}
-use Rattle.gameid_core.specs.declared.id.game.Game.TheVariants as game
-use Rattle.gameid_core.specs.Head.{extent_of, in_range}
-use Rattle.gameid_core.proofs.HeadLaws.{parts_of, plain_size, head_again, after_front}
+use Rattle.gameid_core.proofs.HeadLaws.{parts_of, plain_size, puzzle_again}
 use Rattle.gameid_core.proofs.LightTexts.{wide_of, wide_range, sized}
+use Rattle.gameid_core.specs.declared.id.game.Game.TheVariants as game
+
+abbrev pub at_tents : List ℕ → List ℕ → TentsSoFar
+at_tents places counts = record { places = places; counts = counts }
+
+-- some digit is in front
+pub front_some : (after : List ℕ) → begins is_ascii_digit after ≡ true → length (44 ∷ digits_front after) ≡ 1 → ⊥
+front_some [] d e = false≢true d
+front_some (b ∷ after) d e = let t = front_turn (b ∷ after) b after refl d in omega (arith, ap length t.0)
+
+-- ---- the trees
+
+-- a byte of the trees is a token
+pub record RunToken (b : ℕ) (run : ℕ × Bool) : Type 0 where
+  pub token : TentsToken
+  pub byte : b ≡ tents_token_byte token
+  pub each : IsTentsToken token
+  pub cells : tents_token_cells token ≡ run_cells run.0 run.1
+
+letter_run : (b : ℕ) → 97 ≤ b → b ≤ 121 → RunToken b (b - 96, true)
+letter_run b low high = record { token = blanks_and_tree (b - 96); byte = grind (arith, nat_tests); each = grind arith; cells = refl }
+
+tree_run : RunToken 95 (0, true)
+tree_run = record { token = blanks_and_tree 0; byte = refl; each = omega arith; cells = refl }
+
+pub run_token : (at b : ℕ) (run : ℕ × Bool) → tents_run at b ≡ Ok run → RunToken b run
+unfolding tents_run
+run_token at b run e = grind (arith, letter_run b, tree_run)
+
+pub byte_single : (token : TentsToken) → joins (tents_token_byte token) ≡ false
+byte_single token = grind arith
+
+pub run_single : (at b : ℕ) (run : ℕ × Bool) → tents_run at b ≡ Ok run → joins b ≡ false
+run_single at b run e = let t = run_token at b run e in ap joins t.byte ∙ byte_single t.token
+
+pub run_length : (blanks : ℕ) (tree : Bool) → length (run_cells blanks tree) ≡ blanks + cond tree 1 0
+run_length blanks tree = grind (arith, common_steps, length-append, length-replicate)
+
+-- ---- what is read fits
+
+run_bits : (blanks : ℕ) (tree : Bool) → AllByRecursion (λ b. b < 2) (run_cells blanks tree)
+run_bits blanks true = AllByRecursion-append (λ b. b < 2) (replicate blanks 0) (1 ∷ []) (AllByRecursion-replicate (λ b. b < 2) 0 blanks (omega arith)) (omega arith, tt)
+run_bits blanks false = AllByRecursion-append (λ b. b < 2) (replicate blanks 0) [] (AllByRecursion-replicate (λ b. b < 2) 0 blanks (omega arith)) tt
 
 -- ---- what is read is spelled
 
@@ -55,25 +84,6 @@ spelled_planted at places counts (b ∷ more) rest run all w early e r =
     let t = run_token at b run e in
     record { tokens = t.token ∷ r.tokens; numerals = r.numerals; is = grind (arith, common_steps, alone b more w (run_single at b run e)) }
 
-read_spelled : (size : Extent) (at : ℕ) (places counts : List ℕ) (ws : List (List ℕ)) (all : TentsSoFar) → AllByRecursion IsWord ws → reading (tents_step size) (tents_end size) at (at_tents places counts) ws ≡ Ok all → Spelled places counts (concat ws) all
-unfolding reading
-read_spelled size at places counts [] all w e = record { tokens = []; numerals = []; is = grind (arith, append-nil places, append-nil counts) }
-read_spelled size at places counts (word ∷ ws) all w e =
-    let b = bind_ok (tents_step size at (at_tents places counts) word) (λ t. reading (tents_step size) (tents_end size) (at + length word) t ws) all e in
-    elim (step_cases size at places counts word b.0 b.1) [
-      | inl c ↦ spelled_counted places counts word (concat ws) all (comma_word word w.0 c.comma c.some) (read_spelled size (at + length word) places (counts ++ value (drop 1 word) ∷ []) ws all w.1 (ap (λ t. reading (tents_step size) (tents_end size) (at + length word) t ws) c.leads ∙ b.2))
-      | inr p ↦ spelled_planted at places counts word (concat ws) p.run all w.0 p.early p.read (read_spelled size (at + length word) (places ++ run_cells p.run.0 p.run.1) counts ws all w.1 (ap (λ t. reading (tents_step size) (tents_end size) (at + length word) t ws) p.leads ∙ b.2))
-    ]
-
--- ---- what is spelled is read
-
-abbrev Reads : Extent → TentsSoFar → List ℕ → List ℕ → List ℕ → Type 0
-Reads size all places counts text = (at : ℕ) → reading (tents_step size) (tents_end size) at (at_tents places counts) (words text) ≡ Ok all
-
-counts_at : (size : Extent) (line : ℕ) (xs : List ℕ) (n : ℕ) (ys : List ℕ) → AreCounts size line (xs ++ n ∷ ys) → n ≤ line_cells size (line + length xs)
-counts_at size line [] n ys h = grind arith
-counts_at size line (x ∷ xs) n ys h = grind (arith, counts_at size (line + 1) xs n ys h.1)
-
 -- no number begins with a digit, as it begins with ','
 numbers_begin : (numerals : List (List ℕ)) → begins is_ascii_digit (numbers_text numerals) ≡ false
 numbers_begin [] = refl
@@ -81,21 +91,6 @@ numbers_begin (num ∷ numerals) = refl
 
 not_one : (num : List ℕ) → 0 < length num → length (44 ∷ num) ≡ 1 → ⊥
 not_one num some e = absurd (omega (arith, e))
-
-numbers_again : (size : Extent) (places counts total : List ℕ) (numerals : List (List ℕ)) → AllByRecursion IsNumeral numerals → cells_in size + 1 ≤ length places → counts ++ map value numerals ≡ total → length total ≡ lines_of size → AreCounts size 0 total → Reads size (at_tents places total) places counts (numbers_text numerals)
-numbers_again size places counts total [] d full is len are at = grind (arith, common_steps, reading_end (tents_step size) (tents_end size) at (at_tents places counts) [] refl, end_is size places counts true)
-numbers_again size places counts total (num ∷ numerals) d full is len are at =
-    grind (
-      arith,
-      common_steps,
-      counts_at size 0 counts (value num) (map value numerals),
-      joined_cuts 44 refl num (numbers_text numerals) d.0 (numbers_begin numerals),
-      count_read size at places counts (44 ∷ num) full,
-      not_one num,
-      reading_turn (tents_step size) (tents_end size) at (at_tents places counts) (at_tents places (counts ++ value num ∷ []))
-          (44 ∷ (num ++ numbers_text numerals)) (44 ∷ num) (numbers_text numerals),
-      numbers_again size places (counts ++ value num ∷ []) total numerals d.1 full,
-    )
 
 -- the blanks of a token, and whether it has a tree
 abbrev token_blanks : TentsToken → ℕ
@@ -133,37 +128,173 @@ last_push (x1 ∷ xs1) x = grind (arith, common_steps, last_push xs1)
 blank_last : (places trees : List ℕ) → places ++ replicate 25 0 ≡ trees ++ 1 ∷ [] → ⊥
 blank_last places trees e = grind (arith, append_assoc places (replicate 24 0) (0 ∷ []), last_push (places ++ replicate 24 0) 0, last_push trees 1)
 
-tree_room : (size : Extent) (places trees : List ℕ) (token : TentsToken) (rest : List ℕ) → length trees ≡ cells_in size → places ++ (tents_token_cells token ++ rest) ≡ trees ++ 1 ∷ [] → length places + (token_blanks token + cond (token_tree token) 1 0) ≤ cells_in size + cond (token_tree token) 1 0
-tree_room size places trees token rest count is = grind (arith, common_steps, blank_last)
+module _ (size : Extent) where
+  abbrev pub read_words : ℕ → TentsSoFar → List (List ℕ) → Result TentsSoFar IdFault
+  read_words at s ws = reading (tents_step size) (tents_end size) at s ws
 
-trees_again : (size : Extent) (all : TentsSoFar) (places trees : List ℕ) (tokens : List TentsToken) (rest : List ℕ) → AllByRecursion IsTentsToken tokens → length trees ≡ cells_in size → places ++ flat_map tents_token_cells tokens ≡ trees ++ 1 ∷ [] → Reads size all (trees ++ 1 ∷ []) [] rest → Reads size all places [] (map tents_token_byte tokens ++ rest)
-unfolding reading
-trees_again size all places trees [] rest each count is next at = grind (arith, common_steps)
-trees_again size all places trees (token ∷ tokens) rest each count is next at =
-    grind (
-      arith,
-      common_steps,
-      tree_room size places trees token (flat_map tents_token_cells tokens),
-      token_run at token each.0,
-      cells_of_token token,
-      token_other token,
-      run_length,
-      byte_single token,
-      words_single,
-      trees_again size all (places ++ tents_token_cells token) trees tokens rest each.1 count,
-    )
+  -- ---- a number behind ','
 
--- what tokens and numerals that fit spell is read
-pub tents_again : (size : Extent) (at : ℕ) (trees counts : List ℕ) (tokens : List TentsToken) (numerals : List (List ℕ)) → AllByRecursion IsTentsToken tokens → AllByRecursion IsNumeral numerals → length trees ≡ cells_in size → flat_map tents_token_cells tokens ≡ trees ++ 1 ∷ [] → map value numerals ≡ counts → length counts ≡ lines_of size → AreCounts size 0 counts → tents_at size at (map tents_token_byte tokens ++ numbers_text numerals) ≡ Ok (at_tents (trees ++ 1 ∷ []) counts)
-tents_again size at trees counts tokens numerals each digits count cells is len are = grind (arith, common_steps, trees_again size (at_tents (trees ++ 1 ∷ []) counts) [] trees tokens (numbers_text numerals) each count cells, numbers_again size (trees ++ 1 ∷ []) [] counts numerals digits)
+  pub count_read : (at : ℕ) (places counts word : List ℕ) → cells_in size + 1 ≤ length places → (length counts ≡ lines_of size → ⊥) → (length word ≡ 1 → ⊥) → value (drop 1 word) ≤ line_cells size (length counts) → tents_count size at (at_tents places counts) word ≡ Ok (value (drop 1 word))
+  unfolding tents_count
+  count_read at places counts word full lines one fits = grind arith
 
-pub fit : (size : Extent) (w h n at : ℕ) (description places counts trees : List ℕ) → size ≡ sized w h → n ≡ size.w * size.h → trees ≡ take n places → in_range game.Tents w h ≡ true → tents_at size at description ≡ Ok (at_tents places counts) → IsTents (record { size = size; trees = trees; counts = counts })
-fit size w h n at description places counts trees is count kept range e = grind (arith, tents_lawful size at description (at_tents places counts))
+  -- ---- turns
+
+  -- the places with blanks after them and a tree if there is one, unless they pass the cells and that tree
+  abbrev pub planted : List ℕ → List ℕ → ℕ → Bool → Result TentsSoFar IdFault
+  planted places counts blanks tree =
+      cond (ltb (cells_in size + cond tree 1 0) (length places + (blanks + cond tree 1 0))) (Err TooMany) (Ok (at_tents (places ++ run_cells blanks tree) counts))
+
+  abbrev pub reads : ℕ → List ℕ → List ℕ → List ℕ → Result TentsSoFar IdFault
+  reads at places counts rest = read_words at (at_tents places counts) (words rest)
+
+  pub end_is : (places counts : List ℕ) (full : Bool) → eqb (length counts) (lines_of size) ≡ full → tents_end size (at_tents places counts) ≡ cond full (Ok (at_tents places counts)) (Err TooFew)
+  end_is places counts full e = rw e refl
+
+  -- ---- a step that was taken: a number behind ',', or cells of the trees
+
+  pub record Counted (places counts word : List ℕ) (t : TentsSoFar) : Type 0 where
+    pub comma : begins (λ b. eqb b 44) word ≡ true
+    pub full : cells_in size + 1 ≤ length places
+    pub some : length word ≡ 1 → ⊥
+    pub fits : value (drop 1 word) ≤ line_cells size (length counts)
+    pub leads : at_tents places (counts ++ value (drop 1 word) ∷ []) ≡ t
+
+  pub record Planted (at : ℕ) (places counts word : List ℕ) (t : TentsSoFar) : Type 0 where
+    pub other : begins (λ b. eqb b 44) word ≡ false
+    pub early : length counts ≤ 0
+    pub run : ℕ × Bool
+    pub read : tents_run at (get_or word 0 0) ≡ Ok run
+    pub room : length places + length (run_cells run.0 run.1) ≤ cells_in size + cond run.1 1 0
+    pub leads : at_tents (places ++ run_cells run.0 run.1) counts ≡ t
+
+  pub step_cases : (at : ℕ) (places counts word : List ℕ) (t : TentsSoFar) → tents_step size at (at_tents places counts) word ≡ Ok t → Counted places counts word t ⊎ Planted at places counts word t
+  unfolding tents_count tents_tree
+  step_cases at places counts word t e = grind arith
+
+  AreCounts-push : (line : ℕ) (counts : List ℕ) (n : ℕ) → AreCounts size line counts → n ≤ line_cells size (line + length counts) → AreCounts size line (counts ++ n ∷ [])
+  AreCounts-push line [] n h p = grind arith
+  AreCounts-push line (m ∷ counts) n h p = grind (arith, nat_tests, AreCounts-push (line + 1) counts n h.1)
+
+  -- the places read so far, whose last is a tree where they are all that there are; and the numbers so far
+  record Sound (places counts : List ℕ) : Type 0 where
+    bits : AllByRecursion (λ b. b < 2) places
+    full : 0 < length counts → length places ≡ cells_in size + 1
+    few : length places ≤ cells_in size + 1
+    tree : length places ≡ cells_in size + 1 → (front : List ℕ) × (places ≡ front ++ 1 ∷ [])
+    fit : AreCounts size 0 counts
+
+  sound_counted : (places counts : List ℕ) (n : ℕ) → Sound places counts → cells_in size + 1 ≤ length places → n ≤ line_cells size (length counts) → Sound places (counts ++ n ∷ [])
+  sound_counted places counts n s full fits = grind (arith, AreCounts-push 0 counts n s.fit)
+
+  sound_planted : (places counts : List ℕ) (blanks : ℕ) (tree : Bool) → Sound places counts → length counts ≤ 0 → length places + length (run_cells blanks tree) ≤ cells_in size + cond tree 1 0 → Sound (places ++ run_cells blanks tree) counts
+  sound_planted places counts blanks true s early room = grind (arith, common_steps, run_bits blanks true, append_assoc places (replicate blanks 0) (1 ∷ []))
+  sound_planted places counts blanks false s early room = grind (arith, common_steps, run_bits blanks false)
+
+  sound_read : (at : ℕ) (places counts : List ℕ) (ws : List (List ℕ)) (all : TentsSoFar) → Sound places counts → read_words at (at_tents places counts) ws ≡ Ok all → Sound all.places all.counts × (length all.counts ≡ lines_of size)
+  unfolding reading
+  sound_read at places counts [] all s e = grind arith
+  sound_read at places counts (word ∷ ws) all s e =
+      let b = bind_ok (tents_step size at (at_tents places counts) word) (λ t. read_words (at + length word) t ws) all e in
+      elim (step_cases at places counts word b.0 b.1) [
+        | inl c ↦ sound_read (at + length word) places (counts ++ value (drop 1 word) ∷ []) ws all (sound_counted places counts _ s c.full c.fits) (ap (λ t. read_words (at + length word) t ws) c.leads ∙ b.2)
+        | inr p ↦ sound_read (at + length word) (places ++ run_cells p.run.0 p.run.1) counts ws all (sound_planted places counts p.run.0 p.run.1 s p.early p.room) (ap (λ t. read_words (at + length word) t ws) p.leads ∙ b.2)
+      ]
+
+  -- the cells without the tree after them
+  pub record CellsAndTree (places : List ℕ) : Type 0 where
+    pub whole : places ≡ take (cells_in size) places ++ 1 ∷ []
+    pub count : length (take (cells_in size) places) ≡ cells_in size
+    pub bits : AllByRecursion (λ b. b < 2) (take (cells_in size) places)
+
+  pub record TentsRead (s : TentsSoFar) : Type 0 where
+    pub cells : CellsAndTree s.places
+    pub lines : length s.counts ≡ lines_of size
+    pub range : AreCounts size 0 s.counts
+
+  pub tents_read : (at : ℕ) (description : List ℕ) (s : TentsSoFar) → IsWide size → tents_at size at description ≡ Ok s → TentsRead s
+  tents_read at description s wide e = grind (arith, common_steps, sound_read at [] [] (words description) s)
+
+  pub tents_lawful : (at : ℕ) (description : List ℕ) (s : TentsSoFar) → IsWide size → tents_at size at description ≡ Ok s → IsTents (record { size = size; trees = take (cells_in size) s.places; counts = s.counts })
+  tents_lawful at description s wide e = grind (arith, tents_read at description s wide e)
+
+  -- a byte of the trees is a token, and its places are taken or refused
+  pub tree_taken : (at b : ℕ) (places after : List ℕ) (t : TentsSoFar) → (b ≡ 44 → ⊥) → tents_tree size at (at_tents places []) b ≡ Ok t → reads at places [] (b ∷ after) ≡ read_words (at + 1) t (words after)
+  unfolding reading tents_tree
+  tree_taken at b places after t other e =
+      let r = bind_ok (tents_run at b) _ t e in
+      grind (arith, common_steps, nat_tests, words_single b after, run_single at b r.0 r.1)
+
+  pub tree_refused : (at b : ℕ) (places after : List ℕ) (f : IdFault) → (b ≡ 44 → ⊥) → tents_tree size at (at_tents places []) b ≡ Err f → reads at places [] (b ∷ after) ≡ Err f
+  unfolding reading tents_tree
+  tree_refused at b places after f other e = grind (arith, common_steps, nat_tests, cuts_some b after)
+
+  read_spelled : (at : ℕ) (places counts : List ℕ) (ws : List (List ℕ)) (all : TentsSoFar) → AllByRecursion IsWord ws → read_words at (at_tents places counts) ws ≡ Ok all → Spelled places counts (concat ws) all
+  unfolding reading
+  read_spelled at places counts [] all w e = record { tokens = []; numerals = []; is = grind (arith, append-nil places, append-nil counts) }
+  read_spelled at places counts (word ∷ ws) all w e =
+      let b = bind_ok (tents_step size at (at_tents places counts) word) (λ t. read_words (at + length word) t ws) all e in
+      elim (step_cases at places counts word b.0 b.1) [
+        | inl c ↦ spelled_counted places counts word (concat ws) all (comma_word word w.0 c.comma c.some) (read_spelled (at + length word) places (counts ++ value (drop 1 word) ∷ []) ws all w.1 (ap (λ t. read_words (at + length word) t ws) c.leads ∙ b.2))
+        | inr p ↦ spelled_planted at places counts word (concat ws) p.run all w.0 p.early p.read (read_spelled (at + length word) (places ++ run_cells p.run.0 p.run.1) counts ws all w.1 (ap (λ t. read_words (at + length word) t ws) p.leads ∙ b.2))
+      ]
+
+  -- ---- what is spelled is read
+
+  abbrev Reads : TentsSoFar → List ℕ → List ℕ → List ℕ → Type 0
+  Reads all places counts text = (at : ℕ) → read_words at (at_tents places counts) (words text) ≡ Ok all
+
+  counts_at : (line : ℕ) (xs : List ℕ) (n : ℕ) (ys : List ℕ) → AreCounts size line (xs ++ n ∷ ys) → n ≤ line_cells size (line + length xs)
+  counts_at line [] n ys h = grind arith
+  counts_at line (x ∷ xs) n ys h = grind (arith, counts_at (line + 1) xs n ys h.1)
+
+  numbers_again : (places counts total : List ℕ) (numerals : List (List ℕ)) → AllByRecursion IsNumeral numerals → cells_in size + 1 ≤ length places → counts ++ map value numerals ≡ total → length total ≡ lines_of size → AreCounts size 0 total → Reads (at_tents places total) places counts (numbers_text numerals)
+  numbers_again places counts total [] d full is len are at = grind (arith, common_steps, reading_end (tents_step size) (tents_end size) at (at_tents places counts) [] refl, end_is places counts true)
+  numbers_again places counts total (num ∷ numerals) d full is len are at =
+      grind (
+        arith,
+        common_steps,
+        counts_at 0 counts (value num) (map value numerals),
+        joined_cuts 44 refl num (numbers_text numerals) d.0 (numbers_begin numerals),
+        count_read at places counts (44 ∷ num) full,
+        not_one num,
+        reading_turn (tents_step size) (tents_end size) at (at_tents places counts) (at_tents places (counts ++ value num ∷ []))
+            (44 ∷ (num ++ numbers_text numerals)) (44 ∷ num) (numbers_text numerals),
+        numbers_again places (counts ++ value num ∷ []) total numerals d.1 full,
+      )
+
+  tree_room : (places trees : List ℕ) (token : TentsToken) (rest : List ℕ) → length trees ≡ cells_in size → places ++ (tents_token_cells token ++ rest) ≡ trees ++ 1 ∷ [] → length places + (token_blanks token + cond (token_tree token) 1 0) ≤ cells_in size + cond (token_tree token) 1 0
+  tree_room places trees token rest count is = grind (arith, common_steps, blank_last)
+
+  trees_again : (all : TentsSoFar) (places trees : List ℕ) (tokens : List TentsToken) (rest : List ℕ) → AllByRecursion IsTentsToken tokens → length trees ≡ cells_in size → places ++ flat_map tents_token_cells tokens ≡ trees ++ 1 ∷ [] → Reads all (trees ++ 1 ∷ []) [] rest → Reads all places [] (map tents_token_byte tokens ++ rest)
+  unfolding reading tents_tree
+  trees_again all places trees [] rest each count is next at = grind (arith, common_steps)
+  trees_again all places trees (token ∷ tokens) rest each count is next at =
+      grind (
+        arith,
+        common_steps,
+        tree_room places trees token (flat_map tents_token_cells tokens),
+        token_run at token each.0,
+        cells_of_token token,
+        token_other token,
+        run_length,
+        byte_single token,
+        words_single,
+        trees_again all (places ++ tents_token_cells token) trees tokens rest each.1 count,
+      )
+
+  -- what tokens and numerals that fit spell is read
+  pub tents_again : (at : ℕ) (trees counts : List ℕ) (tokens : List TentsToken) (numerals : List (List ℕ)) → AllByRecursion IsTentsToken tokens → AllByRecursion IsNumeral numerals → length trees ≡ cells_in size → flat_map tents_token_cells tokens ≡ trees ++ 1 ∷ [] → map value numerals ≡ counts → length counts ≡ lines_of size → AreCounts size 0 counts → tents_at size at (map tents_token_byte tokens ++ numbers_text numerals) ≡ Ok (at_tents (trees ++ 1 ∷ []) counts)
+  tents_again at trees counts tokens numerals each digits count cells is len are = grind (arith, common_steps, trees_again (at_tents (trees ++ 1 ∷ []) counts) [] trees tokens (numbers_text numerals) each count cells, numbers_again (trees ++ 1 ∷ []) [] counts numerals digits)
+
+  pub fit : (w h n at : ℕ) (description places counts trees : List ℕ) → size ≡ sized w h → n ≡ size.w * size.h → trees ≡ take n places → in_range game.Tents w h ≡ true → tents_at size at description ≡ Ok (at_tents places counts) → IsTents (record { size = size; trees = trees; counts = counts })
+  fit w h n at description places counts trees is count kept range e = grind (arith, tents_lawful at description (at_tents places counts))
+
+pub ruleset turns = (common_steps, words_nil, words_first, tree_refused)
 
 pub tents_takes : (text : List ℕ) (p : Tents) → tents_of text ≡ Ok p → SpellsTents text p
-unfolding tents_of
 tents_takes text p e =
-    let r = parts_of game.Tents text (λ head. tents_at (extent_of head.size) head.description (drop head.description text)) (λ head s. record { size = extent_of head.size; trees = take (head.size.w * head.size.h) s.places; counts = s.counts }) p e in
+    let r = parts_of game.Tents text (λ head description. tents_at (extent_of head.size) head.description description) (λ head s. record { size = extent_of head.size; trees = take (head.size.w * head.size.h) s.places; counts = s.counts }) p e in
     let wide = wide_of r.head.size.w r.head.size.h r.is_head.range in
     grind (
       arith,
@@ -175,8 +306,12 @@ tents_takes text p e =
     )
 
 pub tents_text_again : (text : List ℕ) (p : Tents) → SpellsTents text p → tents_of text ≡ Ok p
-unfolding tents_of
-tents_text_again text p s = grind (arith, head_again game.Tents s.front (map tents_token_byte s.tokens ++ numbers_text s.numerals) p.size.w p.size.h false s.size, wide_range p.size, tents_again p.size (length s.front + 1) p.trees p.counts s.tokens s.numerals s.each s.digits, take_at p.trees (1 ∷ []) (p.size.w * p.size.h), after_front s.front (map tents_token_byte s.tokens ++ numbers_text s.numerals))
+tents_text_again text p s = grind (arith, puzzle_again game.Tents tents_behind s.front (map tents_token_byte s.tokens ++ numbers_text s.numerals) p.size.w p.size.h false s.size, wide_range p.size, tents_again p.size (length s.front + 1) p.trees p.counts s.tokens s.numerals s.each s.digits, take_at p.trees (1 ∷ []) (p.size.w * p.size.h))
 
 pub tents_reading : HasOneReading SpellsTents tents_of
 tents_reading = reading_of _ _ tents_text_again tents_takes
+
+pub tents_only : (text : List ℕ) (r : Result Tents IdFault) (p : Tents) → Gives (λ q. q) r (tents_of text) → SpellsTents text p → Gives (λ q. q) r (Ok p)
+tents_only text r p gives s = only_of _ _ tents_text_again text r gives p s
+
+pub ruleset reads_exactly = (tents_takes, tents_only)

@@ -1,17 +1,6 @@
 -- The written text of a puzzle of Tents: its length, that it spells the puzzle, and that no other does.
-use Rattle.std.proofs.Common.{◌≡◌, ℕ, zero, suc, ◌+◌, ◌*◌, ◌<◌, ◌≤◌, cond, eqb, List, [], ◌∷◌, ◌++◌, map, length, refl, ap, inl, arith, append_assoc}
-use Rattle.std.proofs.lemmas.Bool.Decides.{nat_tests}
-use Rattle.std.proofs.lemmas.Grind.{common_steps}
-use Rattle.std.specs.Prelude.{replicate, decimal}
-use Rattle.std.specs.List.{AllByRecursion, flat_map}
-use Rattle.std.proofs.lemmas.Fmt.{digits_value-decimal, length-decimal-le}
-use Rattle.grid_core.specs.Extent.{Extent, IsExtent, max_side}
-use Rattle.gameid_core.specs.Head.{max_id}
-use Rattle.gameid_core.specs.Words.{IsNumeral, IsPlain, value}
-use Rattle.gameid_core.specs.SizeText.{size_text}
-use Rattle.gameid_core.specs.Puzzles.{Tents, IsTents, AreCounts}
-use Rattle.gameid_core.specs.TentsText.{TentsToken, blanks_and_tree, only_blanks, tents_token_cells, IsTentsToken, AreTight, SpellsTents, IsWrittenTents, tents_tokens, trees_text, tents_text}
-use Rattle.gameid_core.specs.OneText.{HasOneText}
+use Rattle.gameid_core.specs.Common.{AllByRecursion, AreCounts, Extent, HasOneText, IsExtent, IsNumeral, IsPlain, IsTents, List, Tents, [], ap, append_assoc, arith, common_steps, cond, decimal, digits_value-decimal, eqb, flat_map, inl, length, length-decimal-le, map, max_id, max_side, nat_tests, refl, replicate, size_text, suc, value, zero, ℕ, ◌*◌, ◌++◌, ◌+◌, ◌<◌, ◌∷◌, ◌≡◌, ◌≤◌}
+use Rattle.gameid_core.specs.TentsText.{IsTentsToken, IsWrittenTents, SpellsTents, TentsToken, blanks_and_tree, only_blanks, tents_text, tents_token_cells, trees_text, AreTight, tents_tokens}
 use Rattle.gameid_core.proofs.OneReading.{one_text}
 use Rattle.gameid_core.proofs.Numerals.{own, decimal_plain, numeral, length_decimal, plain_decimal}
 use Rattle.gameid_core.proofs.PatternWritten.{line_small}
@@ -128,7 +117,4 @@ tents_one_text = record { some = tents_is_written; one = one_text _ _ tents_form
 pub tents_spelled : (p : Tents) → IsTents p → SpellsTents (tents_text p) p
 tents_spelled p h = (tents_is_written p h).spells
 
-pub tents_written_as : (p : Tents) (text : List ℕ) → IsTents p → text ≡ tents_text p → IsWrittenTents text p
-tents_written_as p text h e = rw e (tents_is_written p h)
-
-pub ruleset laws = (common_steps, tents_spelled, tents_short)
+pub ruleset laws = (common_steps, tents_is_written, tents_spelled, tents_short)

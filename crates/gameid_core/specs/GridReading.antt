@@ -1,8 +1,6 @@
 -- Grids read from what is printed of them.
-use Rattle.std.specs.Prelude.{◌-◌, [], ◌∷◌, if◌then◌else◌, ◌≡◌, ◌<◌, ◌+◌, ◌*◌, ◌%◌, ◌++◌, ◌⊎◌, ℕ, List, Option, Some, None, codes, slice_index, slice_get, ◌≢◌}
+use Rattle.std.specs.Prelude.{◌-◌, [], ◌∷◌, if◌then◌else◌, ◌≡◌, ◌<◌, ◌+◌, ◌*◌, ◌%◌, ◌++◌, ◌⊎◌, ℕ, List, Option, Some, None, codes, slice_index}
 use Rattle.std.specs.Char.{is_ascii_digit}
-use Rattle.gameid_core.specs.Puzzles.{Light, Tents}
-use Rattle.gameid_core.specs.declared.light_up.cell.LightCell.TheVariants.{White}
 use Rattle.grid_core.specs.Extent.{Extent}
 use Rattle.grid_core.specs.Grids.{IsGrid}
 
@@ -11,16 +9,9 @@ pub record IsAsShown (hides : ℕ → Type 0) (values : ℕ) (size : Extent) (g 
   pub grid : IsGrid (size.w * size.h) values g
   pub hidden : (place : ℕ) → hides place → slice_index g place ≡ 0
 
--- what is printed of Light Up's black cells, and of trees, shows nothing of the number; in Pattern
--- and Solo all is shown
+-- all is shown
 abbrev pub hides_nothing : ℕ → Type 0
 hides_nothing place = ⊥
-
-abbrev pub light_hides : Light → ℕ → Type 0
-light_hides p place = slice_get p.cells place ≢ Some White
-
-abbrev pub tent_hides : Tents → ℕ → Type 0
-tent_hides p place = slice_index p.trees place ≡ 1
 
 -- The one grid of which this is so; or there is none.
 abbrev pub IsReadOf : (ℕ → Type 0) → ℕ → Extent → (List ℕ → Type 0) → Option (List ℕ) → Type 0

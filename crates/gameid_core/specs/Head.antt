@@ -7,6 +7,7 @@ use Rattle.gameid_core.specs.declared.id.fault.IdFault.{IdFault}
 use Rattle.gameid_core.specs.declared.id.fault.IdFault.TheVariants.{TooLong, SeedId, NoColon, BadSize, Variant, SizeRange}
 use Rattle.gameid_core.specs.declared.id.game.Game.{Game}
 use Rattle.gameid_core.specs.declared.id.game.Game.TheVariants.{Solo, Pattern, LightUp, Tents}
+use Rattle.gameid_core.specs.declared.id.head.Head.{Head}
 use Rattle.gameid_core.specs.declared.id.head.SidesRead.{SidesRead}
 use Rattle.gameid_core.specs.Steps.{◌>>=◌}
 use Rattle.gameid_core.specs.Words.{begins, digits_front, after_digits, value}
@@ -23,6 +24,9 @@ pub record SizeRead : Type 0 where
   pub w : ℕ
   pub h : ℕ
   pub x : Bool
+
+abbrev pub size_read : ℕ → ℕ → Bool → SizeRead
+size_read w h x = record { w = w; h = h; x = x }
 
 -- the size, and the place where the description begins
 pub record HeadRead : Type 0 where
@@ -104,6 +108,9 @@ head_of game text =
     else head_at game text (position (λ b. b == 58) text)
 
 -- What the code's functions give: a number over 1000 as 1000.
+abbrev pub head_read : Head → HeadRead
+head_read head = record { size = size_read head.w head.h head.x; description = head.description }
+
 abbrev pub GivesSide : Result (ℕ × Bor (List ℕ)) IdFault → Result (ℕ × List ℕ) IdFault → Type 0
 GivesSide (Ok x) read = (n : ℕ) × (read ≡ Ok (n, x.1.now)) × (x.0 ≡ min 1000 n)
 GivesSide (Err e) read = read ≡ Err e

@@ -13,7 +13,9 @@ pub mod FirstTokens
 pub mod SoloText
 pub mod LightText
 pub mod TentsText
+pub mod IdTexts
 pub mod Lines
 pub mod GridTexts
 pub mod GridReading
 pub mod OneText
+pub mod Common

@@ -1,5 +1,5 @@
--- Game IDs of Light Up: what a text spells, its first fault, and the one written text.
-use Rattle.std.specs.Prelude.{◌≡◌, ℕ, ◌+◌, ◌-◌, ◌*◌, ◌≤◌, ◌&&◌, List, [], ◌∷◌, ◌++◌, map, drop, length, replicate, slice_index, Result, Ok, Err, nat_le, ◌==◌, if◌then◌else◌}
+-- Light Up: what the text of a game ID spells, its first fault, the one written text, and printed grids.
+use Rattle.std.specs.Prelude.{◌≡◌, ℕ, ◌+◌, ◌-◌, ◌*◌, ◌≤◌, ◌&&◌, List, [], ◌∷◌, ◌++◌, map, length, replicate, slice_index, Result, Ok, Err, nat_le, ◌==◌, if◌then◌else◌, codes, decimal, Option, Some, None, slice_get, ◌≢◌}
 use Rattle.std.specs.List.{AllByRecursion, flat_map}
 use Rattle.gameid_core.specs.declared.id.fault.IdFault.{IdFault}
 use Rattle.gameid_core.specs.declared.id.fault.IdFault.TheVariants.{BadByte}
@@ -8,7 +8,8 @@ use Rattle.gameid_core.specs.declared.light_up.cell.LightCell.{LightCell}
 use Rattle.gameid_core.specs.declared.light_up.cell.LightCell.TheVariants.{White, Black, Numbered}
 use Rattle.gameid_core.specs.Words.{begins}
 use Rattle.gameid_core.specs.Steps.{◌>>=◌, reading}
-use Rattle.gameid_core.specs.Head.{extent_of, head_of, max_id}
+use Rattle.gameid_core.specs.Head.{HeadRead, extent_of, max_id}
+use Rattle.gameid_core.specs.IdTexts.{puzzle_of}
 use Rattle.gameid_core.specs.SizeText.{size_text, IsSizeText}
 use Rattle.gameid_core.specs.Cells.{is_letter, fill_step, fill_end, letters}
 use Rattle.gameid_core.specs.Puzzles.{Light, IsLight}
@@ -75,12 +76,15 @@ abbrev pub light_cells_at : ℕ → ℕ → List ℕ → Result (List LightCell)
 light_cells_at all at description =
     reading (fill_step light_token all) (fill_end all) at [] (map (λ b. b ∷ []) description)
 
--- the puzzle that the text spells, or its first fault
-unfoldable pub light_of : List ℕ → Result Light IdFault
-light_of text = do
-  head ← head_of game.LightUp text
-  cells ← light_cells_at (head.size.w * head.size.h) head.description (drop head.description text)
+-- the puzzle that the description spells behind a head, or its first fault
+abbrev pub light_behind : HeadRead → List ℕ → Result Light IdFault
+light_behind head description = do
+  cells ← light_cells_at (head.size.w * head.size.h) head.description description
   Ok (record { size = extent_of head.size; cells = cells })
+
+-- the puzzle that the text spells, or its first fault
+abbrev pub light_of : List ℕ → Result Light IdFault
+light_of text = puzzle_of game.LightUp light_behind text
 
 -- The written text --------------------------------------------------------------------------------
 
@@ -93,6 +97,23 @@ light_cells_text k (Numbered n ∷ cells) = letters k ++ (48 + n) ∷ light_cell
 
 abbrev pub light_text : Light → List ℕ
 light_text p = size_text p.size.w p.size.h ++ 58 ∷ light_cells_text 0 p.cells
+
+-- Printed grids ---------------------------------------------------------------------------------
+
+-- Light Up: 'O' a bulb, '.' a white cell without one, '#' a black cell without a number, its number
+-- else
+abbrev pub light_mark : Option LightCell → ℕ → List ℕ
+light_mark None value = []
+light_mark (Some White) value = if value == 1 then codes "O" else codes "."
+light_mark (Some Black) value = codes "#"
+light_mark (Some (Numbered n)) value = decimal n
+
+abbrev pub light_cell : Light → List ℕ → ℕ → List ℕ
+light_cell p g place = light_mark (slice_get p.cells place) (slice_index g place)
+
+-- what is printed of a black cell shows nothing of the number
+abbrev pub light_hides : Light → ℕ → Type 0
+light_hides p place = slice_get p.cells place ≢ Some White
 
 -- Words of the writer's functions -----------------------------------------------------------------
 

@@ -1,5 +1,5 @@
--- Game IDs of Pattern: what a text spells, its first fault, and the one written text.
-use Rattle.std.specs.Prelude.{◌≡◌, ℕ, ◌+◌, ◌≤◌, ◌&&◌, List, [], ◌∷◌, ◌++◌, map, drop, length, Result, Ok, Err, nat_lt, ◌==◌, if◌then◌else◌, decimal}
+-- Pattern: what the text of a game ID spells, its first fault, the one written text, and printed grids.
+use Rattle.std.specs.Prelude.{◌≡◌, ℕ, ◌+◌, ◌≤◌, ◌&&◌, List, [], ◌∷◌, ◌++◌, map, drop, length, Result, Ok, Err, nat_lt, ◌==◌, if◌then◌else◌, decimal, codes, slice_index}
 use Rattle.std.specs.List.{AllByRecursion, join_with_byte}
 use Rattle.std.specs.Char.{is_ascii_digit}
 use Rattle.std.specs.Borrow.{Bor}
@@ -9,10 +9,11 @@ use Rattle.gameid_core.specs.declared.id.fault.IdFault.TheVariants.{BadByte, Num
 use Rattle.gameid_core.specs.declared.id.game.Game.TheVariants as game
 use Rattle.gameid_core.specs.Words.{IsNumeral, IsPlain, begins, words, value}
 use Rattle.gameid_core.specs.Steps.{◌>>=◌, reading}
-use Rattle.gameid_core.specs.Head.{extent_of, head_of, max_id}
+use Rattle.gameid_core.specs.Head.{HeadRead, extent_of, max_id}
+use Rattle.gameid_core.specs.IdTexts.{puzzle_of}
 use Rattle.gameid_core.specs.SizeText.{size_text, IsSizeText}
 use Rattle.grid_core.specs.Lines.{line_cells, lines_of}
-use Rattle.gameid_core.specs.Puzzles.{Pattern, IsPattern, used}
+use Rattle.gameid_core.specs.Puzzles.{Pattern, IsPattern, pattern_puzzle, used}
 
 -- What a text spells ------------------------------------------------------------------------------
 
@@ -83,12 +84,15 @@ abbrev pub clues_at : Extent → ℕ → List ℕ → Result (List (List ℕ)) I
 clues_at size at description =
     reading (pattern_step size) (pattern_end size) at nothing_yet (words description)
 
+-- the puzzle that the description spells behind a head, or its first fault
+abbrev pub pattern_behind : HeadRead → List ℕ → Result Pattern IdFault
+pattern_behind head description = do
+  clues ← clues_at (extent_of head.size) head.description description
+  Ok (pattern_puzzle (extent_of head.size) clues)
+
 -- the puzzle that the text spells, or its first fault
-unfoldable pub pattern_of : List ℕ → Result Pattern IdFault
-pattern_of text = do
-  head ← head_of game.Pattern text
-  clues ← clues_at (extent_of head.size) head.description (drop head.description text)
-  Ok (record { size = extent_of head.size; clues = clues })
+abbrev pub pattern_of : List ℕ → Result Pattern IdFault
+pattern_of text = puzzle_of game.Pattern pattern_behind text
 
 -- The written text --------------------------------------------------------------------------------
 
@@ -97,6 +101,12 @@ clue_text clue = join_with_byte 46 (map decimal clue)
 
 abbrev pub pattern_text : Pattern → List ℕ
 pattern_text p = size_text p.size.w p.size.h ++ 58 ∷ join_with_byte 47 (map clue_text p.clues)
+
+-- Printed grids ---------------------------------------------------------------------------------
+
+-- Pattern: '#' black, '.' white
+abbrev pub pattern_cell : Pattern → List ℕ → ℕ → List ℕ
+pattern_cell p g place = if slice_index g place == 1 then codes "#" else codes "."
 
 -- Words of the reader's functions -----------------------------------------------------------------
 

@@ -1,12 +1,14 @@
--- Game IDs of Solo: what a text spells, its first fault, and the one written text.
-use Rattle.std.specs.Prelude.{◌≡◌, ℕ, zero, suc, ◌+◌, ◌-◌, ◌*◌, ◌≤◌, Bool, true, false, ◌&&◌, List, [], ◌∷◌, ◌++◌, drop, length, replicate, slice_index, Result, Ok, Err, nat_lt, nat_le, ◌==◌, if◌then◌else◌, decimal}
+-- Solo: what the text of a game ID spells, its first fault, the one written text, and printed grids.
+use Rattle.grid_core.specs.Extent.{Extent}
+use Rattle.std.specs.Prelude.{◌≡◌, ℕ, zero, suc, ◌+◌, ◌-◌, ◌*◌, ◌≤◌, Bool, true, false, ◌&&◌, List, [], ◌∷◌, ◌++◌, length, replicate, slice_index, Result, Ok, Err, nat_lt, nat_le, ◌==◌, if◌then◌else◌, decimal, ◌%◌, codes}
 use Rattle.std.specs.List.{AllByRecursion, flat_map}
 use Rattle.gameid_core.specs.declared.id.fault.IdFault.{IdFault}
 use Rattle.gameid_core.specs.declared.id.fault.IdFault.TheVariants.{BadByte, NumberRange}
 use Rattle.gameid_core.specs.declared.id.game.Game.TheVariants as game
 use Rattle.gameid_core.specs.Words.{begins, words, value}
 use Rattle.gameid_core.specs.Steps.{◌>>=◌, reading}
-use Rattle.gameid_core.specs.Head.{head_of, max_id}
+use Rattle.gameid_core.specs.Head.{HeadRead, max_id}
+use Rattle.gameid_core.specs.IdTexts.{puzzle_of}
 use Rattle.gameid_core.specs.SizeText.{solo_size_text, IsSoloSizeText}
 use Rattle.gameid_core.specs.Cells.{is_letter, fill_step, fill_end, letters}
 use Rattle.gameid_core.specs.Puzzles.{Solo, IsSolo, solo_n, solo_puzzle}
@@ -94,12 +96,15 @@ abbrev pub solo_cells_at : ℕ → ℕ → List ℕ → Result (List ℕ) IdFaul
 solo_cells_at n at description =
     reading (fill_step (solo_token n) (n * n)) (fill_end (n * n)) at [] (words description)
 
--- the puzzle that the text spells, or its first fault
-unfoldable pub solo_of : List ℕ → Result Solo IdFault
-solo_of text = do
-  head ← head_of game.Solo text
-  givens ← solo_cells_at (head.size.w * head.size.h) head.description (drop head.description text)
+-- the puzzle that the description spells behind a head, or its first fault
+abbrev pub solo_behind : HeadRead → List ℕ → Result Solo IdFault
+solo_behind head description = do
+  givens ← solo_cells_at (head.size.w * head.size.h) head.description description
   Ok (solo_puzzle head.size.w head.size.h head.size.x givens)
+
+-- the puzzle that the text spells, or its first fault
+abbrev pub solo_of : List ℕ → Result Solo IdFault
+solo_of text = puzzle_of game.Solo solo_behind text
 
 -- The written text --------------------------------------------------------------------------------
 
@@ -118,3 +123,14 @@ cells_text k touches (suc v ∷ cells) =
 
 abbrev pub solo_text : Solo → List ℕ
 solo_text p = solo_size_text p.c p.r p.x ++ 58 ∷ cells_text 0 false p.givens
+
+-- Printed grids ---------------------------------------------------------------------------------
+
+-- Solo: the number, which is one more than the value, and a space before it but at the left
+abbrev pub solo_cell : Solo → List ℕ → ℕ → List ℕ
+solo_cell p g place =
+    (if place % solo_n p == 0 then [] else codes " ") ++ decimal (slice_index g place + 1)
+
+-- the columns and rows of a grid of Solo
+abbrev pub solo_extent : Solo → Extent
+solo_extent p = record { w = solo_n p; h = solo_n p }

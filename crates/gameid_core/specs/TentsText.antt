@@ -1,5 +1,5 @@
--- Game IDs of Tents: what a text spells, its first fault, and the one written text.
-use Rattle.std.specs.Prelude.{◌≡◌, ℕ, zero, suc, ◌+◌, ◌-◌, ◌*◌, ◌≤◌, Bool, true, false, ◌&&◌, List, [], ◌∷◌, ◌++◌, map, take, drop, length, replicate, slice_index, Result, Ok, Err, nat_lt, nat_le, ◌==◌, if◌then◌else◌, decimal}
+-- Tents: what the text of a game ID spells, its first fault, the one written text, and printed grids.
+use Rattle.std.specs.Prelude.{◌≡◌, ℕ, zero, suc, ◌+◌, ◌-◌, ◌*◌, ◌≤◌, Bool, true, false, ◌&&◌, List, [], ◌∷◌, ◌++◌, map, take, drop, length, replicate, slice_index, Result, Ok, Err, nat_lt, nat_le, ◌==◌, if◌then◌else◌, decimal, codes}
 use Rattle.std.specs.List.{AllByRecursion, flat_map}
 use Rattle.grid_core.specs.Extent.{Extent}
 use Rattle.gameid_core.specs.declared.id.fault.IdFault.{IdFault}
@@ -7,7 +7,8 @@ use Rattle.gameid_core.specs.declared.id.fault.IdFault.TheVariants.{BadByte, Num
 use Rattle.gameid_core.specs.declared.id.game.Game.TheVariants as game
 use Rattle.gameid_core.specs.Words.{IsNumeral, IsPlain, begins, words, value}
 use Rattle.gameid_core.specs.Steps.{◌>>=◌, reading}
-use Rattle.gameid_core.specs.Head.{extent_of, head_of, max_id}
+use Rattle.gameid_core.specs.Head.{HeadRead, extent_of, max_id}
+use Rattle.gameid_core.specs.IdTexts.{puzzle_of}
 use Rattle.gameid_core.specs.SizeText.{size_text, IsSizeText}
 use Rattle.grid_core.specs.Lines.{line_cells, lines_of}
 use Rattle.gameid_core.specs.Puzzles.{Tents, IsTents, tents_puzzle}
@@ -84,7 +85,7 @@ abbrev pub run_cells : ℕ → Bool → List ℕ
 run_cells blanks tree = replicate blanks 0 ++ (if tree then 1 ∷ [] else [])
 
 -- a token of the trees: the places may pass the cells by the one tree after them
-abbrev pub tents_tree : Extent → ℕ → TentsSoFar → ℕ → Result TentsSoFar IdFault
+unfoldable pub tents_tree : Extent → ℕ → TentsSoFar → ℕ → Result TentsSoFar IdFault
 tents_tree size at s b = tents_run at b >>= (λ run.
     if nat_lt (cells_in size + (if run.1 then 1 else 0))
     (length s.places + length (run_cells run.0 run.1)) then Err TooMany
@@ -120,12 +121,15 @@ abbrev pub tents_at : Extent → ℕ → List ℕ → Result TentsSoFar IdFault
 tents_at size at description =
     reading (tents_step size) (tents_end size) at no_places (words description)
 
--- the puzzle that the text spells, or its first fault
-unfoldable pub tents_of : List ℕ → Result Tents IdFault
-tents_of text = do
-  head ← head_of game.Tents text
-  s ← tents_at (extent_of head.size) head.description (drop head.description text)
+-- the puzzle that the description spells behind a head, or its first fault
+abbrev pub tents_behind : HeadRead → List ℕ → Result Tents IdFault
+tents_behind head description = do
+  s ← tents_at (extent_of head.size) head.description description
   Ok (tents_puzzle (extent_of head.size) (take (head.size.w * head.size.h) s.places) s.counts)
+
+-- the puzzle that the text spells, or its first fault
+abbrev pub tents_of : List ℕ → Result Tents IdFault
+tents_of text = puzzle_of game.Tents tents_behind text
 
 -- The written text --------------------------------------------------------------------------------
 
@@ -144,3 +148,15 @@ abbrev pub tents_text : Tents → List ℕ
 tents_text p =
     size_text p.size.w p.size.h
     ++ 58 ∷ (trees_text 0 p.trees ++ flat_map (λ n. 44 ∷ decimal n) p.counts)
+
+-- Printed grids ---------------------------------------------------------------------------------
+
+-- Tents: 'T' a tree, '^' a tent, '.' any other cell
+abbrev pub tents_cell : Tents → List ℕ → ℕ → List ℕ
+tents_cell p g place =
+    if slice_index p.trees place == 1 then codes "T"
+    else (if slice_index g place == 1 then codes "^" else codes ".")
+
+-- what is printed of a tree shows nothing of the number
+abbrev pub tent_hides : Tents → ℕ → Type 0
+tent_hides p place = slice_index p.trees place ≡ 1

@@ -3,3 +3,4 @@
 pub(crate) mod fault;
 pub(crate) mod game;
 pub(crate) mod head;
+pub(crate) mod text;

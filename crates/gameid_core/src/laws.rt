@@ -1,19 +1,15 @@
-//! What all readers have in common. These calls do nothing: their contracts are the laws.
+//! What definitions owe one another, game by game. These calls do nothing: their contracts are the
+//! laws.
 
-ghost use Rattle.std.specs.Prelude.{◌≡◌, ◌<◌, ◌↔◌, ℕ, List, [], ◌∷◌, Err, length, map};
-ghost use Rattle.std.specs.List.{concat};
-ghost use Rattle.gameid_core.specs.Head.{head_of, max_id, size_of};
-ghost use Rattle.gameid_core.specs.HeadTests.{FailsHead, FailsSize, IsFirstFailed, head_tests, size_tests};
-ghost use Rattle.gameid_core.specs.LightText.{light_of};
-ghost use Rattle.gameid_core.specs.PatternText.{pattern_of};
-ghost use Rattle.gameid_core.specs.SoloText.{solo_of};
-ghost use Rattle.gameid_core.specs.TentsText.{tents_of};
-ghost use Rattle.gameid_core.specs.Words.{words};
-ghost use Rattle.gameid_core.specs.declared.id.fault.IdFault.{IdFault};
-ghost use Rattle.gameid_core.specs.declared.id.fault.IdFault.TheVariants.{TooLong};
-ghost use Rattle.gameid_core.specs.declared.id.game.Game.{Game};
+ghost use Rattle.std.specs.Prelude.{◌≡◌, ◌<◌, ◌*◌, ◌↔◌, ◌++◌, ℕ, suc, List, [], ◌∷◌, Err, length, map, replicate};
+ghost use Rattle.gameid_core.specs.Common.{Extent, FailsHead, FailsSize, FirstFault, Game, HasOneReading, HasOneText, IdFault, IsFirstFailed, IsLight, IsPattern, IsSolo, IsTents, TooLong, concat, fill_end, fill_step, head_of, head_tests, max_id, runs, size_of, size_tests, words};
+ghost use Rattle.gameid_core.specs.LightText.{IsWrittenLight, SpellsLight, light_cells_at, light_of, light_text, light_token};
+ghost use Rattle.gameid_core.specs.PatternText.{IsWrittenPattern, SpellsPattern, clues_at, nothing_yet, pattern_end, pattern_of, pattern_step, pattern_text};
+ghost use Rattle.gameid_core.specs.SoloText.{IsWrittenSolo, SpellsSolo, solo_cells_at, solo_of, solo_text, solo_token};
+ghost use Rattle.gameid_core.specs.TentsText.{IsWrittenTents, SpellsTents, tents_at, tents_end, tents_of, tents_step, tents_text, no_places};
 
 /// A text of more bytes than an ID may have is too long, whatever they are.
+#[tactic(auto, using(crate::proofs::HeadLaws::puzzle_too_long))]
 pub fn over_long_is_too_long()
     ensures pattern { (text : List ℕ) → max_id < length text → pattern_of text ≡ Err TooLong }
     ensures solo { (text : List ℕ) → max_id < length text → solo_of text ≡ Err TooLong }
@@ -30,9 +26,61 @@ pub fn first_failed_test()
         ↔ IsFirstFailed (FailsHead game text) head_tests f }
 {}
 
+/// The fault of a description is that of its first token with one, or of its end, after tokens
+/// without fault.
+pub fn first_fault()
+    ensures pattern { (size : Extent) (at : ℕ) (description : List ℕ) (f : IdFault)
+        → (clues_at size at description ≡ Err f)
+        ↔ FirstFault (pattern_step size) (pattern_end size) at nothing_yet (words description) f }
+    ensures solo { (n at : ℕ) (description : List ℕ) (f : IdFault)
+        → (solo_cells_at n at description ≡ Err f)
+        ↔ FirstFault (fill_step (solo_token n) (n * n)) (fill_end (n * n)) at []
+        (words description) f }
+    ensures lights { (all at : ℕ) (description : List ℕ) (f : IdFault)
+        → (light_cells_at all at description ≡ Err f)
+        ↔ FirstFault (fill_step light_token all) (fill_end all) at []
+        (map (λ b. b ∷ []) description) f }
+    ensures tents { (size : Extent) (at : ℕ) (description : List ℕ) (f : IdFault)
+        → (tents_at size at description ≡ Err f)
+        ↔ FirstFault (tents_step size) (tents_end size) at no_places (words description) f }
+{}
+
+/// Each text spells exactly one puzzle of a game or has exactly one fault, and never both.
+#[tactic(auto, using(crate::proofs::GameLaws::readings))]
+pub fn one_reading()
+    ensures pattern { HasOneReading SpellsPattern pattern_of }
+    ensures solo { HasOneReading SpellsSolo solo_of }
+    ensures lights { HasOneReading SpellsLight light_of }
+    ensures tents { HasOneReading SpellsTents tents_of }
+{}
+
+/// Each puzzle has exactly one written text: the one that spells it with both numbers of the size,
+/// and without what is idle. In Solo and Light Up each letter directly before a letter is `z`, and
+/// in Solo `_` stands only between two numbers. In Tents no `z` stands directly before `_`. In
+/// Pattern and Tents there are no leading zeros.
+#[tactic(auto, using(crate::proofs::GameLaws::texts))]
+pub fn one_written_text()
+    ensures pattern { HasOneText IsPattern IsWrittenPattern pattern_text }
+    ensures solo { HasOneText IsSolo IsWrittenSolo solo_text }
+    ensures lights { HasOneText IsLight IsWrittenLight light_text }
+    ensures tents { HasOneText IsTents IsWrittenTents tents_text }
+{}
+
 /// Cutting a text into tokens loses nothing.
 #[tactic(auto, using(crate::proofs::Tokens::concat_words, crate::proofs::Tokens::concat_bytes))]
 pub fn tokens_lose_nothing()
     ensures words { (text : List ℕ) → concat (words text) ≡ text }
     ensures bytes { (text : List ℕ) → concat (map (λ b. b ∷ []) text) ≡ text }
+{}
+
+/// What the runs of a line are, by the cells that come first: none, a white cell, black cells up to
+/// the end, or black cells and a white one. There is no other line of white and black cells, so
+/// this fixes the runs of each.
+#[tactic(auto, using(crate::proofs::RunsFit::laws), unfolding(crate::specs::BlackRuns::runs_after))]
+pub fn runs_by_first_cells()
+    ensures none { runs [] ≡ [] }
+    ensures white { (cells : List ℕ) → runs (0 ∷ cells) ≡ runs cells }
+    ensures black { (n : ℕ) → runs (replicate (suc n) 1) ≡ suc n ∷ [] }
+    ensures black_white { (n : ℕ) (cells : List ℕ)
+        → runs (replicate (suc n) 1 ++ 0 ∷ cells) ≡ suc n ∷ runs cells }
 {}

@@ -1,6 +1,6 @@
-//! Light Up: its puzzles, and its game IDs.
+//! Light Up: its puzzles, its game IDs and its printed grids.
 
 pub(crate) mod cell;
+pub(crate) mod grids;
+pub(crate) mod id;
 pub(crate) mod puzzle;
-pub(crate) mod reader;
-pub(crate) mod writer;

@@ -1,5 +1,5 @@
-//! Tents: its puzzles, and its game IDs.
+//! Tents: its puzzles, its game IDs and its printed grids.
 
+pub(crate) mod grids;
+pub(crate) mod id;
 pub(crate) mod puzzle;
-pub(crate) mod reader;
-pub(crate) mod writer;

@@ -1,14 +1,8 @@
-//! Puzzles whose printed grids can be read, and how each game reads a cell.
+//! Puzzles whose printed grids can be read.
 ghost use Rattle.std.specs.Prelude.{◌≡◌, ◌*◌, ◌<◌, ◌≤◌, ◌==◌, ◌++◌, ◌∷◌, [], ℕ, List, Some, None, IfSome, if◌then◌else◌, length, slice_index};
-ghost use Rattle.gameid_core.specs.GridReading.{IsAsShown, Follows, hides_nothing, light_hides, tent_hides};
+ghost use Rattle.gameid_core.specs.Common.{Follows, IsAsShown};
 
 use crate::grids::printed::Printed;
-use crate::light_up::cell::LightCell;
-use crate::light_up::puzzle::LightPuzzle;
-use crate::pattern::puzzle::PatternPuzzle;
-use crate::solo::puzzle::SoloPuzzle;
-use crate::tents::puzzle::TentsPuzzle;
-use crate::text::digits::read_number;
 
 /// A puzzle whose printed grids can be read.
 pub trait Readable: Printed {
@@ -31,7 +25,7 @@ pub trait Readable: Printed {
 }
 
 /// Whether the text begins with the mark, as 1 or 0, and the one byte that says so.
-fn read_mark(text: &[u8], mark: u8) -> Option<(u8, usize)>
+pub(crate) fn read_mark(text: &[u8], mark: u8) -> Option<(u8, usize)>
     ensures range { IfSome result (λ r. r.0 < 2) }
     ensures within { IfSome result (λ r. r.1 ≤ length text.now) }
     ensures none { text.now ≡ [] → result ≡ None }
@@ -43,58 +37,11 @@ fn read_mark(text: &[u8], mark: u8) -> Option<(u8, usize)>
 }
 
 /// A byte that shows nothing of the number at its place, which is 0.
-fn read_hidden(text: &[u8]) -> Option<(u8, usize)>
+pub(crate) fn read_hidden(text: &[u8]) -> Option<(u8, usize)>
     ensures zero { IfSome result (λ r. r.0 ≡ 0) }
     ensures within { IfSome result (λ r. r.1 ≤ length text.now) }
     ensures none { text.now ≡ [] → result ≡ None }
     ensures read { 1 ≤ length text.now → result ≡ Some (0, 1) }
 {
     if text.is_empty() { None } else { Some((0, 1)) }
-}
-
-impl Readable for PatternPuzzle {
-    ghost hides = { λ p. hides_nothing };
-
-    fn read_cell(&self, text: &[u8], _place: usize) -> Option<(u8, usize)> {
-        read_mark(text, b'#')
-    }
-}
-
-impl Readable for SoloPuzzle {
-    ghost hides = { λ p. hides_nothing };
-
-    fn read_cell(&self, text: &[u8], place: usize) -> Option<(u8, usize)> {
-        let spaces = usize::from(place % usize::from(self.n()) != 0);
-        if spaces > text.len() {
-            return None;
-        }
-        let (number, digits) = read_number(&text[spaces..])?;
-        if number == 0 || number > self.n() {
-            return None;
-        }
-        Some((number - 1, spaces + digits))
-    }
-}
-
-impl Readable for LightPuzzle {
-    ghost hides = { light_hides };
-
-    fn read_cell(&self, text: &[u8], place: usize) -> Option<(u8, usize)> {
-        match self.cells()[place] {
-            LightCell::White => read_mark(text, b'O'),
-            _ => read_hidden(text),
-        }
-    }
-}
-
-impl Readable for TentsPuzzle {
-    ghost hides = { tent_hides };
-
-    fn read_cell(&self, text: &[u8], place: usize) -> Option<(u8, usize)> {
-        if self.trees()[place] == 1 {
-            read_hidden(text)
-        } else {
-            read_mark(text, b'^')
-        }
-    }
 }

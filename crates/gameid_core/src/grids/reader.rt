@@ -1,7 +1,6 @@
 //! Grids read from what is printed of them.
 ghost use Rattle.std.specs.Prelude.{◌≡◌, ◌+◌, ◌*◌, ◌<◌, ◌++◌, ◌⊎◌, ◌↔◌, IsTrue, ℕ, List, Some, IfOk, IfSome, MatchOption, length};
-ghost use Rattle.gameid_core.specs.GridReading.{IsAsShown, IsReadOf, FitUpTo, AgreeUpTo, IsPrinted};
-ghost use Rattle.gameid_core.specs.GridTexts.{row_text, grid_text};
+ghost use Rattle.gameid_core.specs.Common.{AgreeUpTo, FitUpTo, IsAsShown, IsPrinted, IsReadOf, grid_text, row_text};
 
 use crate::grids::readable::Readable;
 use crate::grids::writer::push_grid;
@@ -76,10 +75,6 @@ fn is_either(first: &[u8], second: &[u8], printed: &[u8]) -> bool
 /// The one grid of the puzzle whose printed form the text is, with or without the last line end;
 /// nothing where the text is no grid's. The grid has a number for each cell, by place, and 0 where
 /// nothing is shown of the number.
-///
-/// # Errors
-///
-/// When memory was refused.
 pub fn read_grid<P: Readable>(
     alloc: Global,
     puzzle: &P,

@@ -2,8 +2,7 @@
 #![tactic(auto, using(crate::proofs::Lists::pushes))]
 
 ghost use Rattle.std.specs.Prelude.{◌≡◌, ◌*◌, ◌<◌, ◌++◌, OnOk, string_bytes};
-ghost use Rattle.grid_core.specs.Grids.{IsGrid};
-ghost use Rattle.gameid_core.specs.GridTexts.{row_text, grid_text};
+ghost use Rattle.gameid_core.specs.Common.{IsGrid, grid_text, row_text};
 
 use crate::grids::printed::Printed;
 use grid_core::Grid;
@@ -31,15 +30,7 @@ fn push_row<P: Printed>(
 }
 
 /// Adds a grid of the puzzle to a text: its rows from the top, the cells of each from the left, and
-/// a line end after each row. In Pattern a black cell is `#` and a white one `.`. In Solo a cell is
-/// its number in decimal, with one space between two cells. In Light Up a cell is `#` where it is
-/// black without a number, its digit where it has one, `O` where it has a bulb, and else `.`; in
-/// Tents `T` for a tree, `^` for a tent, and else `.`. The grid has a number for each cell, by
-/// place.
-///
-/// # Errors
-///
-/// When memory was refused.
+/// a line end after each row. The grid has a number for each cell, by place.
 pub fn push_grid<P: Printed>(text: &mut String, puzzle: &P, grid: &Grid) -> Result<(), AllocError>
     requires { IsGrid ((P.extent puzzle.now).w * (P.extent puzzle.now).h)
         (P.value_count puzzle.now) grid.now }

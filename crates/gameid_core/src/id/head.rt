@@ -1,7 +1,8 @@
 //! The part of an ID before its colon.
 
 ghost use Rattle.std.specs.Prelude.{◌≡◌, ◌==◌, position, ◌≤◌, drop, length, true, if◌then◌else◌, Ok, Err, IfOk, IfErr};
-ghost use Rattle.gameid_core.specs.Head.{GivesSide, GivesSides, has_x, side_at, sides_at, size_of, head_at, head_of, has_hash, in_range};
+ghost use Rattle.gameid_core.specs.Common.{has_hash, has_x, head_at, head_of, in_range, side_at, sides_at, size_of};
+ghost use Rattle.gameid_core.specs.Head.{GivesSide, GivesSides};
 
 use crate::id::fault::IdFault;
 use crate::id::game::Game;

@@ -1,7 +1,7 @@
 //! The puzzles of Light Up.
 
 ghost use Rattle.std.specs.Prelude.{◌≡◌, ◌<◌, ◌≤◌, ◌*◌, length, replicate, slice_get, slice_set, Some, IfOk};
-ghost use Rattle.gameid_core.specs.Puzzles.{Light, IsLight, IsLightCell};
+ghost use Rattle.gameid_core.specs.Puzzles.{IsLight, IsLightCell, Light};
 ghost use Rattle.gameid_core.specs.declared.light_up.cell.LightCell.TheVariants.{White};
 
 use crate::light_up::cell::LightCell;
@@ -37,10 +37,6 @@ impl LightPuzzle {
     }
 
     /// The puzzle of that size with white cells alone.
-    ///
-    /// # Errors
-    ///
-    /// When memory was refused.
     pub fn blank(alloc: Global, size: Size) -> Result<LightPuzzle, AllocError>
         requires w_two { 2 ≤ size.w }
         requires h_two { 2 ≤ size.h }
@@ -52,10 +48,6 @@ impl LightPuzzle {
     }
 
     /// A copy of the puzzle.
-    ///
-    /// # Errors
-    ///
-    /// When memory was refused.
     pub fn copy(&self, alloc: Global) -> Result<LightPuzzle, AllocError>
         ensures { IfOk result (λ p. p ≡ self.now) }
     {

@@ -1,9 +1,7 @@
 //! How many cells of each line are 1.
 
 ghost use Rattle.std.specs.Prelude.{◌≡◌, ◌<◌, ◌*◌, length, IfOk};
-ghost use Rattle.grid_core.specs.Extent.{IsExtent};
-ghost use Rattle.grid_core.specs.Lines.{lines_of, line_numbers};
-ghost use Rattle.gameid_core.specs.Lines.{lines_ones, ones};
+ghost use Rattle.gameid_core.specs.Common.{IsExtent, line_numbers, lines_of, lines_ones, ones};
 
 use grid_core::{Grid, Size, line_count, line_len, line_number};
 use std::alloc::{AllocError, Global};

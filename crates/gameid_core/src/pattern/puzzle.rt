@@ -1,12 +1,9 @@
 //! The puzzles of Pattern.
 
 ghost use Rattle.std.specs.Prelude.{◌≡◌, ◌<◌, ◌+◌, ◌*◌, ℕ, length, [], slice_index, slice_index_or, IfOk};
-ghost use Rattle.grid_core.specs.Grids.{IsGrid, row_cells, column_cells};
-ghost use Rattle.gameid_core.specs.BlackRuns.{runs};
-ghost use Rattle.grid_core.specs.Lines.{lines_of};
-ghost use Rattle.gameid_core.specs.Puzzles.{Pattern, IsPattern, pattern_puzzle};
+ghost use Rattle.gameid_core.specs.Common.{IsGrid, IsPattern, Pattern, column_cells, lines_of, pattern_puzzle, row_cells, runs};
 
-use crate::lines::black_runs::runs_of_lines;
+use crate::pattern::black_runs::runs_of_lines;
 use crate::pattern::clues::Clues;
 use grid_core::{Grid, Size};
 use std::alloc::{AllocError, Global};
@@ -42,10 +39,6 @@ impl PatternPuzzle {
     /// The puzzle of that size whose clues are the runs of the grid's lines: the clue of each
     /// column is its runs downwards, and the clue of each row its runs rightwards. The grid has 0
     /// for white and 1 for black.
-    ///
-    /// # Errors
-    ///
-    /// When memory was refused.
     pub fn of_grid(alloc: Global, size: Size, grid: &Grid) -> Result<PatternPuzzle, AllocError>
         requires { IsGrid (size.w * size.h) 2 grid.now }
         ensures lawful { IfOk result (λ p. IsPattern p) }

@@ -1,8 +1,7 @@
 //! The puzzles of Solo.
 
 ghost use Rattle.std.specs.Prelude.{◌≡◌, ◌<◌, ◌≤◌, ◌*◌, length, slice_index, slice_set, replicate, IfOk};
-ghost use Rattle.gameid_core.specs.Head.{max_numbers};
-ghost use Rattle.gameid_core.specs.Puzzles.{Solo, IsSolo, solo_n, solo_puzzle};
+ghost use Rattle.gameid_core.specs.Common.{IsSolo, Solo, max_numbers, solo_n, solo_puzzle};
 
 use std::alloc::{AllocError, Global};
 use std::marker::Model;
@@ -38,10 +37,6 @@ impl SoloPuzzle {
     }
 
     /// The puzzle of that size without givens, of Solo X where `x` holds.
-    ///
-    /// # Errors
-    ///
-    /// When memory was refused.
     pub fn blank(alloc: Global, c: u8, r: u8, x: bool) -> Result<SoloPuzzle, AllocError>
         requires c_low { 2 ≤ c }
         requires r_low { 2 ≤ r }
@@ -54,10 +49,6 @@ impl SoloPuzzle {
     }
 
     /// A copy of the puzzle.
-    ///
-    /// # Errors
-    ///
-    /// When memory was refused.
     pub fn copy(&self, alloc: Global) -> Result<SoloPuzzle, AllocError>
         ensures same { IfOk result (λ p. p ≡ self.now) }
         ensures lawful { IsSolo self.now }

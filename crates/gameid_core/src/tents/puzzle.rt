@@ -1,10 +1,7 @@
 //! The puzzles of Tents.
 
 ghost use Rattle.std.specs.Prelude.{◌≡◌, ◌<◌, ◌≤◌, ◌+◌, ◌*◌, ℕ, IsTrue, IfOk, length, slice_index, ◌↔◌};
-ghost use Rattle.grid_core.specs.Grids.{IsGrid, row_cells, column_cells};
-ghost use Rattle.gameid_core.specs.Lines.{ones};
-ghost use Rattle.grid_core.specs.Lines.{lines_of};
-ghost use Rattle.gameid_core.specs.Puzzles.{Tents, IsTents, tents_puzzle};
+ghost use Rattle.gameid_core.specs.Common.{IsGrid, IsTents, Tents, column_cells, lines_of, ones, row_cells, tents_puzzle};
 
 use crate::lines::ones::{numbers_of, ones_of_lines};
 use grid_core::{Grid, Size};
@@ -46,10 +43,6 @@ impl TentsPuzzle {
 
     /// The puzzle of that size with these trees, whose numbers are those of the tents of each
     /// column and row. In both grids 1 is a tree or a tent, and 0 is none.
-    ///
-    /// # Errors
-    ///
-    /// When memory was refused.
     #[tactic(auto, using(crate::proofs::OnesFit::ones_lawful))]
     pub fn of_parts(
         alloc: Global,
@@ -79,10 +72,6 @@ impl TentsPuzzle {
     }
 
     /// A copy of the puzzle.
-    ///
-    /// # Errors
-    ///
-    /// When memory was refused.
     pub fn copy(&self, alloc: Global) -> Result<TentsPuzzle, AllocError>
         ensures { IfOk result (λ p. p ≡ self.now) }
     {

@@ -1,6 +1,6 @@
 //! The number that a text begins with.
 ghost use Rattle.std.specs.Prelude.{◌≡◌, ◌<◌, ◌≤◌, ◌++◌, ℕ, List, Some, IfSome, None, length, decimal};
-ghost use Rattle.gameid_core.specs.GridReading.{digit_of, first_digit};
+ghost use Rattle.gameid_core.specs.Common.{digit_of, first_digit};
 
 /// The digit that the byte is, or nothing where it is none.
 fn digit(byte: u8) -> Option<u8>

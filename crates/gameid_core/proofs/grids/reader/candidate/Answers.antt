@@ -1,5 +1,4 @@
-use Rattle.std.proofs.Common.{◌∙◌, ◌*◌, ◌<◌, ℕ, length, ap, ap₂, sym, subst, arith, Some}
-use Rattle.std.proofs.lemmas.List.{length-replicate}
+use Rattle.gameid_core.specs.Common.{Some, ap, ap₂, arith, length, length-replicate, subst, sym, ℕ, ◌*◌, ◌<◌, ◌∙◌}
 use Rattle.gameid_core.proofs.PrintedRows.{LeftOf, all_rows_left, row_first}
 use Rattle.gameid_core.proofs.PrintedGrids.{is_shown, same_grid}
 use Rattle.gameid_core.proofs.grids.reader.candidate.Goals as goal

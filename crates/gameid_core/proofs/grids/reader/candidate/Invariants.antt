@@ -1,6 +1,4 @@
-use Rattle.std.proofs.Common.{◌≡◌, ◌*◌, ◌++◌, ℕ, List, length}
-use Rattle.gameid_core.specs.GridReading.{IsAsShown, FitUpTo, AgreeUpTo}
-use Rattle.gameid_core.specs.GridTexts.{grid_text, row_text}
+use Rattle.gameid_core.specs.Common.{AgreeUpTo, FitUpTo, IsAsShown, List, grid_text, length, row_text, ℕ, ◌*◌, ◌++◌, ◌≡◌}
 use Rattle.gameid_core.proofs.PrintedRows.{LeftOf}
 use Rattle.gameid_core.proofs.grids.reader.candidate.Given as goal
 

@@ -1,5 +1,4 @@
-use Rattle.std.proofs.Common.{rules, ◌∙◌, ◌++◌, sym, ap, true≢false}
-use Rattle.gameid_core.specs.GridTexts.{grid_text}
+use Rattle.gameid_core.specs.Common.{ap, grid_text, rules, sym, true≢false, ◌++◌, ◌∙◌}
 use Rattle.gameid_core.proofs.PrintedGrids.{none_read, one_read, other_read, either_form, form_either}
 use Rattle.gameid_core.proofs.grids.reader.read_grid.Goals as goal
 
@@ -9,9 +8,9 @@ returns-in_default g c = none_read _ _ _ (λ grid. grid_text (g.P.Printed.cell_t
 pub returns-then-is_either : goal.returns-then-is_either
 returns-then-is_either g c =
     one_read _ _ _ (λ grid. grid_text (g.P.Printed.cell_text c.args.puzzle.now grid) (g.P.Printed.extent c.args.puzzle.now)) _ c.deref.result.now c.in_ok-grid.field-0 c.in-Some.grid (c.deref.ensures.value ∙ c.in_ok-push.ensures.items) c.in-Some.is (rw c.in-Some.is at c.in_ok-grid.ensures.shown) c.in_ok-grid.ensures.read
-    (either_form _ _ _ _ _ c.len-length.result (c.deref-2.ensures.value ∙ c.in_ok-push.ensures.items) (c.deref-3.ensures.value ∙ c.in_ok-push.ensures.items) (search rules) (c.as_bytes.ensures.value ∙ c.in_ok-push_grid.ensures ∙ ap (λ t. t ++ grid_text (g.P.Printed.cell_text c.args.puzzle.now c.in-Some.grid) (g.P.Printed.extent c.args.puzzle.now)) c.new-printed.ensures.bytes) (c.is_either.ensures.0 c.if-is_either.true))
+    (either_form _ c.len-length.result (c.deref-2.ensures.value ∙ c.in_ok-push.ensures.items) (c.deref-3.ensures.value ∙ c.in_ok-push.ensures.items) (search rules) (c.as_bytes.ensures.value ∙ c.in_ok-push_grid.ensures ∙ ap (λ t. t ++ grid_text (g.P.Printed.cell_text c.args.puzzle.now c.in-Some.grid) (g.P.Printed.extent c.args.puzzle.now)) c.new-printed.ensures.bytes) (c.is_either.ensures.0 c.if-is_either.true))
 
 pub returns : goal.returns
 returns g c =
     other_read _ _ _ (λ grid. grid_text (g.P.Printed.cell_text c.args.puzzle.now grid) (g.P.Printed.extent c.args.puzzle.now)) _ c.deref.result.now c.in_ok-grid.field-0 c.in-Some.grid (c.deref.ensures.value ∙ c.in_ok-push.ensures.items) c.in-Some.is c.in_ok-grid.ensures.read
-    (λ form. let m = c.is_either.ensures.1 (form_either _ _ _ _ _ c.len-length.result (c.deref-2.ensures.value ∙ c.in_ok-push.ensures.items) (c.deref-3.ensures.value ∙ c.in_ok-push.ensures.items) (search rules) (c.as_bytes.ensures.value ∙ c.in_ok-push_grid.ensures ∙ ap (λ t. t ++ grid_text (g.P.Printed.cell_text c.args.puzzle.now c.in-Some.grid) (g.P.Printed.extent c.args.puzzle.now)) c.new-printed.ensures.bytes) form) in true≢false (sym m ∙ c.if-is_either.false))
+    (λ form. let m = c.is_either.ensures.1 (form_either _ c.len-length.result (c.deref-2.ensures.value ∙ c.in_ok-push.ensures.items) (c.deref-3.ensures.value ∙ c.in_ok-push.ensures.items) (search rules) (c.as_bytes.ensures.value ∙ c.in_ok-push_grid.ensures ∙ ap (λ t. t ++ grid_text (g.P.Printed.cell_text c.args.puzzle.now c.in-Some.grid) (g.P.Printed.extent c.args.puzzle.now)) c.new-printed.ensures.bytes) form) in true≢false (sym m ∙ c.if-is_either.false))

@@ -1,4 +1,4 @@
-use Rattle.std.proofs.Common.{◌∙◌, ◌+◌, ◌*◌, ◌<◌, length, ap, refl, arith, length-set}
+use Rattle.gameid_core.specs.Common.{ap, arith, length, length-set, refl, ◌*◌, ◌+◌, ◌<◌, ◌∙◌}
 use Rattle.gameid_core.proofs.PrintedRows.{all_left, known_cell, cell_read, cell_not_missed, fit_more, agree_more, none_left, line_end, row_end, in_grid}
 use Rattle.gameid_core.proofs.grids.reader.read_row.Goals as goal
 

@@ -1,6 +1,4 @@
-use Rattle.std.proofs.Common.{◌≡◌, ◌+◌, ◌*◌, ◌++◌, ℕ, List, length}
-use Rattle.gameid_core.specs.GridReading.{IsAsShown, FitUpTo, AgreeUpTo}
-use Rattle.gameid_core.specs.GridTexts.{row_text}
+use Rattle.gameid_core.specs.Common.{AgreeUpTo, FitUpTo, IsAsShown, List, length, row_text, ℕ, ◌*◌, ◌++◌, ◌+◌, ◌≡◌}
 use Rattle.gameid_core.proofs.PrintedRows.{Left}
 use Rattle.gameid_core.proofs.grids.reader.read_row.Given as goal
 

@@ -1,5 +1,4 @@
-use Rattle.std.proofs.Common.{◌≡◌, ◌++◌, string_bytes}
-use Rattle.gameid_core.specs.GridTexts.{each_below, row_text}
+use Rattle.gameid_core.specs.Common.{each_below, row_text, string_bytes, ◌++◌, ◌≡◌}
 use Rattle.gameid_core.proofs.grids.writer.push_grid.Given as goal
 
 abbrev pub invariant-loop-y : goal.invariant-loop-y

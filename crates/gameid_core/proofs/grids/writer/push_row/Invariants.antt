@@ -1,5 +1,4 @@
-use Rattle.std.proofs.Common.{◌≡◌, ◌+◌, ◌*◌, ◌++◌, string_bytes}
-use Rattle.gameid_core.specs.GridTexts.{each_below}
+use Rattle.gameid_core.specs.Common.{each_below, string_bytes, ◌*◌, ◌++◌, ◌+◌, ◌≡◌}
 use Rattle.gameid_core.proofs.grids.writer.push_row.Given as goal
 
 abbrev pub invariant-loop-x : goal.invariant-loop-x

@@ -1,4 +1,4 @@
-use Rattle.std.proofs.Common.{◌≡◌, take}
+use Rattle.gameid_core.specs.Common.{take, ◌≡◌}
 use Rattle.gameid_core.proofs.lines.ones.numbers_of.Given as goal
 
 abbrev pub invariant-loop-place : goal.invariant-loop-place

@@ -1,6 +1,4 @@
-use Rattle.std.proofs.Common.{◌≡◌, ◌≤◌, take}
-use Rattle.grid_core.specs.Lines.{line_numbers}
-use Rattle.gameid_core.specs.Lines.{ones}
+use Rattle.gameid_core.specs.Common.{line_numbers, ones, take, ◌≡◌, ◌≤◌}
 use Rattle.gameid_core.proofs.lines.ones.ones_of.Given as goal
 
 abbrev pub invariant-loop-k : goal.invariant-loop-k

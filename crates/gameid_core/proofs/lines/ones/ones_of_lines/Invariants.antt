@@ -1,5 +1,4 @@
-use Rattle.std.proofs.Common.{◌≡◌}
-use Rattle.gameid_core.specs.Lines.{ones}
+use Rattle.gameid_core.specs.Common.{ones, ◌≡◌}
 use Rattle.gameid_core.proofs.LineLaws.{lines_front}
 use Rattle.gameid_core.proofs.lines.ones.ones_of_lines.Given as goal
 

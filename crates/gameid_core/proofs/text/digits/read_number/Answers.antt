@@ -1,4 +1,4 @@
-use Rattle.std.proofs.Common.{sym}
+use Rattle.gameid_core.specs.Common.{sym}
 use Rattle.gameid_core.proofs.PrintedNumbers.{number_of, not_empty, no_digit, one_read, two_read}
 use Rattle.gameid_core.proofs.text.digits.read_number.Goals as goal
 

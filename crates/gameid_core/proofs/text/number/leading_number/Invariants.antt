@@ -1,5 +1,4 @@
-use Rattle.std.proofs.Common.{◌≡◌, min, ◌≤◌, length}
-use Rattle.gameid_core.specs.Words.{digits_front, after_digits, value, value_after}
+use Rattle.gameid_core.specs.Common.{after_digits, digits_front, length, min, value, value_after, ◌≡◌, ◌≤◌}
 use Rattle.gameid_core.proofs.text.number.leading_number.Given as goal
 
 abbrev pub invariant-loop-digit : goal.invariant-loop-digit

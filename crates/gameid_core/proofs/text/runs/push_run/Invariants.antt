@@ -1,5 +1,4 @@
-use Rattle.std.proofs.Common.{◌≡◌, ◌++◌}
-use Rattle.std.specs.Prelude.{replicate}
+use Rattle.gameid_core.specs.Common.{replicate, ◌++◌, ◌≡◌}
 use Rattle.gameid_core.proofs.text.runs.push_run.Given as goal
 
 abbrev pub invariant-loop : goal.invariant-loop

@@ -1,6 +1,4 @@
-use Rattle.std.proofs.Common.{◌≡◌, ◌++◌, ◌<◌}
-use Rattle.std.specs.Prelude.{string_bytes}
-use Rattle.gameid_core.specs.Cells.{letters}
+use Rattle.gameid_core.specs.Common.{letters, string_bytes, ◌++◌, ◌<◌, ◌≡◌}
 use Rattle.gameid_core.proofs.text.writing.push_letters.Given as goal
 
 abbrev pub invariant-loop-left : goal.invariant-loop-left

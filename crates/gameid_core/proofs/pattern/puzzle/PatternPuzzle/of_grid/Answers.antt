@@ -1,5 +1,4 @@
-use Rattle.std.proofs.Common.{◌+◌, ℕ, List, [], get_or, ap, ◌∙◌}
-use Rattle.gameid_core.specs.BlackRuns.{runs}
+use Rattle.gameid_core.specs.Common.{List, [], ap, get_or, runs, ℕ, ◌+◌, ◌∙◌}
 use Rattle.gameid_core.proofs.LineLaws.{at_column, at_row}
 use Rattle.gameid_core.proofs.RunsFit.{runs_lawful}
 use Rattle.gameid_core.proofs.pattern.puzzle.PatternPuzzle.of_grid.Goals as goal

@@ -1,5 +1,4 @@
-use Rattle.std.proofs.Common.{◌+◌, ℕ, List, get_or, ap, ◌∙◌}
-use Rattle.gameid_core.specs.Lines.{ones}
+use Rattle.gameid_core.specs.Common.{List, ap, get_or, ones, ℕ, ◌+◌, ◌∙◌}
 use Rattle.gameid_core.proofs.LineLaws.{at_column, at_row}
 use Rattle.gameid_core.proofs.tents.puzzle.TentsPuzzle.of_parts.Goals as goal
 

@@ -1,8 +1,0 @@
-use Rattle.std.proofs.Common.{◌∙◌, List, ℕ, get_or, ap}
-use Rattle.gameid_core.proofs.PrintedCells.{tent_read, number_fits}
-use Rattle.gameid_core.proofs.grids.readable.TentsPuzzleReadable.read_cell.Goals as goal
-
-pub returns-else-trees-place-eq1-clause-read : goal.returns-else-trees-place-eq1-clause-read
-returns-else-trees-place-eq1-clause-read c g after shown _ is =
-    tent_read _ _ _ after _ (λ e. c.if-trees-place-eq1.false (ap (λ (trees : List ℕ). get_or trees c.args.place 0) c.trees.ensures.value ∙ e))
-    (number_fits _ _ _ g _ shown c.requires.place) c.read_mark.ensures.read is

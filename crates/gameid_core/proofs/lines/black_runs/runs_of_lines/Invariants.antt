@@ -1,7 +1,0 @@
-use Rattle.std.proofs.Common.{◌≡◌, []}
-use Rattle.gameid_core.specs.BlackRuns.{runs}
-use Rattle.gameid_core.proofs.LineLaws.{lines_front}
-use Rattle.gameid_core.proofs.lines.black_runs.runs_of_lines.Given as goal
-
-abbrev pub invariant-loop-line : goal.invariant-loop-line
-invariant-loop-line l = l.clues ≡ record { clues = lines_front runs l.size l.grid l.line; clue = [] }

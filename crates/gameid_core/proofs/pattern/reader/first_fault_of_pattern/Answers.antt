@@ -1,5 +1,0 @@
-use Rattle.gameid_core.proofs.Reading.{exactly}
-use Rattle.gameid_core.proofs.pattern.reader.first_fault_of_pattern.Goals as goal
-
-pub returns : goal.returns
-returns c = λ size at description f. exactly _ _ at _ _ f

@@ -1,9 +1,0 @@
-use Rattle.std.proofs.Common.{rules}
-use Rattle.grid_core.specs.Extent.{IsExtent}
-use Rattle.gameid_core.proofs.PatternReading.{clues_lawful}
-use Rattle.gameid_core.proofs.pattern.reader.read.Goals as goal
-
-pub of_clues-requires : goal.of_clues-requires
-of_clues-requires c =
-    let lawful : IsExtent c.unwrap-size.result = search rules in
-    clues_lawful _ _ _ _ lawful c.in_ok-clues.ensures

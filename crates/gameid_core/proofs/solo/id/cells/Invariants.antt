@@ -1,0 +1,15 @@
+use Rattle.gameid_core.specs.Common.{length, ◌*◌, ◌≡◌, ◌≤◌}
+use Rattle.gameid_core.specs.SoloText.{solo_cells_at, solo_token}
+use Rattle.gameid_core.proofs.Reading.{place}
+use Rattle.gameid_core.proofs.CellsReading.{fills}
+use Rattle.gameid_core.proofs.solo.id.cells.Given as goal
+
+abbrev pub invariant-loop-first : goal.invariant-loop-first
+invariant-loop-first l = record {
+  short : length l.rest ≤ length l.description;
+  room : length l.cells.items ≤ l.n * l.n;
+  so_far : fills (solo_token l.n) (l.n * l.n) (place l.base (length l.description) l.rest) l.cells.items l.rest ≡ solo_cells_at l.n l.base l.description;
+}
+
+abbrev pub decreases-loop-first : goal.decreases-loop-first
+decreases-loop-first l = length l.rest

@@ -1,6 +1,0 @@
-use Rattle.gameid_core.proofs.OneReading.{only_of}
-use Rattle.gameid_core.proofs.SoloTexts.{solo_text_again}
-use Rattle.gameid_core.proofs.solo.reader.read_solo.Goals as goal
-
-pub returns-clause-only : goal.returns-clause-only
-returns-clause-only c = only_of _ _ solo_text_again c.args.text.now c.read.result c.read.ensures.exact

@@ -1,0 +1,43 @@
+//! How grids of Light Up are printed and read. A number is 1 for a bulb, which is printed as `O`, and
+//! else 0: `.` for a white cell, `#` for a black one without a number, and its digit for another.
+
+ghost use Rattle.gameid_core.specs.LightText.{light_hides, light_cell};
+
+use crate::grids::printed::Printed;
+use crate::grids::readable::{Readable, read_hidden, read_mark};
+use crate::light_up::cell::LightCell;
+use crate::light_up::puzzle::LightPuzzle;
+use crate::text::writing::push_number;
+use grid_core::{Grid, Size};
+use std::alloc::AllocError;
+
+impl Printed for LightPuzzle {
+    ghost extent = { λ p. p.size };
+
+    ghost value_count = { λ p. 2 };
+
+    ghost cell_text = { light_cell };
+
+    fn grid_size(&self) -> Size {
+        self.size()
+    }
+
+    fn push_cell(&self, text: &mut String, grid: &Grid, place: usize) -> Result<(), AllocError> {
+        match self.cells()[place] {
+            LightCell::White => text.push_str(if grid.get(place) == 1 { "O" } else { "." }),
+            LightCell::Black => text.push_str("#"),
+            LightCell::Numbered(number) => push_number(text, number),
+        }
+    }
+}
+
+impl Readable for LightPuzzle {
+    ghost hides = { light_hides };
+
+    fn read_cell(&self, text: &[u8], place: usize) -> Option<(u8, usize)> {
+        match self.cells()[place] {
+            LightCell::White => read_mark(text, b'O'),
+            _ => read_hidden(text),
+        }
+    }
+}

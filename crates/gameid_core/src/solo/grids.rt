@@ -1,0 +1,48 @@
+//! How grids of Solo are printed and read. A number is one less than what is printed of it, in
+//! decimal, with one space between two cells.
+
+ghost use Rattle.gameid_core.specs.Common.{hides_nothing, solo_n};
+ghost use Rattle.gameid_core.specs.SoloText.{solo_cell, solo_extent};
+
+use crate::grids::printed::Printed;
+use crate::grids::readable::Readable;
+use crate::solo::puzzle::SoloPuzzle;
+use crate::text::digits::read_number;
+use crate::text::writing::push_number;
+use grid_core::{Grid, Size};
+use std::alloc::AllocError;
+
+impl Printed for SoloPuzzle {
+    ghost extent = { solo_extent };
+
+    ghost value_count = { λ p. solo_n p };
+
+    ghost cell_text = { solo_cell };
+
+    fn grid_size(&self) -> Size {
+        Size::new(self.n(), self.n()).unwrap()
+    }
+
+    fn push_cell(&self, text: &mut String, grid: &Grid, place: usize) -> Result<(), AllocError> {
+        if place % usize::from(self.n()) != 0 {
+            text.push_str(" ")?;
+        }
+        push_number(text, grid.get(place) + 1)
+    }
+}
+
+impl Readable for SoloPuzzle {
+    ghost hides = { λ p. hides_nothing };
+
+    fn read_cell(&self, text: &[u8], place: usize) -> Option<(u8, usize)> {
+        let spaces = usize::from(place % usize::from(self.n()) != 0);
+        if spaces > text.len() {
+            return None;
+        }
+        let (number, digits) = read_number(&text[spaces..])?;
+        if number == 0 || number > self.n() {
+            return None;
+        }
+        Some((number - 1, spaces + digits))
+    }
+}
