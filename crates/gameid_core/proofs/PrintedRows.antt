@@ -1,6 +1,6 @@
 -- A row is read cell by cell: what is left of it is what is printed of the cells from there on, its line end and what
 -- follows.
-use Rattle.gameid_core.specs.Common.{AgreeUpTo, Extent, FitUpTo, Follows, List, None, Option, Some, [], add-one, ap, append_assoc, ap₂, arith, codes, common_steps, drop, each_below, inl, length, mod-mul-add, refl, set, slice_index, suc, suc-mul, take, zero, ℕ, ◌*◌, ◌++◌, ◌+◌, ◌-◌, ◌<◌, ◌∙◌, ◌∷◌, ◌≡◌, ◌≤◌, ◌⊎◌}
+use Rattle.gameid_core.specs.Common.{AgreeUpTo, Extent, FitUpTo, Follows, List, None, Option, Some, [], add-one, ap, append_assoc, ap₂, arith, codes, common_steps, drop, each_below, inl, length, mod-mul-add, set, slice_index, suc, suc-mul, take, zero, ℕ, ◌*◌, ◌++◌, ◌+◌, ◌-◌, ◌<◌, ◌∙◌, ◌∷◌, ◌≡◌, ◌≤◌, ◌⊎◌}
 
 -- the texts of the n numbers from k on
 unfoldable pub each_from : (ℕ → List ℕ) → ℕ → ℕ → List ℕ
@@ -20,6 +20,26 @@ from_zero f n = let e : n ≡ 0 + n = omega arith in ap (each_below f) e ∙ bot
 abbrev pub LeftOf : (ℕ → List ℕ) → ℕ → List ℕ → ℕ → List ℕ → Type 0
 LeftOf f n tail k rest = (m : ℕ) → k + m ≡ n → rest ≡ each_from f k m ++ tail
 
+pub all_rows_left : (f : ℕ → List ℕ) (n : ℕ) (tail text : List ℕ) → text ≡ each_below f n ++ tail → LeftOf f n tail 0 text
+all_rows_left f n tail text is m e = grind (arith, common_steps, from_zero)
+
+-- the next of them, and what is left after it
+pub record NextRow (f : ℕ → List ℕ) (n : ℕ) (tail : List ℕ) (k : ℕ) (rest : List ℕ) : Type 0 where
+  pub after : List ℕ
+  pub split : rest ≡ f k ++ after
+  pub left : LeftOf f n tail (k + 1) after
+
+pub row_first : (f : ℕ → List ℕ) (n : ℕ) (tail rest : List ℕ) (k : ℕ) → k < n → LeftOf f n tail k rest → NextRow f n tail k rest
+unfolding each_from
+row_first f n tail rest k lt left =
+    let m = n - k - 1 in
+    record {
+      after = each_from f (suc k) m ++ tail;
+      split = left (suc m) (omega arith) ∙ append_assoc (f k) (each_from f (suc k) m) tail;
+      left = λ j e. let here : suc k ≡ k + 1 = omega arith in let rest_of : m ≡ j = omega arith in
+          ap₂ (λ (a b : ℕ). each_from f a b ++ tail) here rest_of;
+    }
+
 -- what is left of a row of w cells, from the x-th on
 abbrev pub Left : (ℕ → List ℕ) → ℕ → List ℕ → ℕ → List ℕ → Type 0
 Left f w more x rest = LeftOf f w (codes "\n" ++ more) x rest
@@ -34,24 +54,17 @@ pub record AfterCell (f : ℕ → List ℕ) (w : ℕ) (more : List ℕ) (x : ℕ
   pub left : Left f w more (x + 1) after
   pub follows : ((x + 1 ≡ w) × (after ≡ codes "\n" ++ more)) ⊎ ((x + 1 < w) × ((t : List ℕ) × (after ≡ f (x + 1) ++ t)))
 
-end_or_cell : (f : ℕ → List ℕ) (w : ℕ) (more : List ℕ) (x m : ℕ) → x + 1 + m ≡ w
-    → ((x + 1 ≡ w) × (each_from f (suc x) m ++ (codes "\n" ++ more) ≡ codes "\n" ++ more))
-    ⊎ ((x + 1 < w) × ((t : List ℕ) × (each_from f (suc x) m ++ (codes "\n" ++ more) ≡ f (x + 1) ++ t)))
+end_or_cell : (f : ℕ → List ℕ) (w : ℕ) (more : List ℕ) (x m : ℕ) (after : List ℕ) → x + 1 + m ≡ w → after ≡ each_from f (x + 1) m ++ (codes "\n" ++ more)
+    → ((x + 1 ≡ w) × (after ≡ codes "\n" ++ more)) ⊎ ((x + 1 < w) × ((t : List ℕ) × (after ≡ f (x + 1) ++ t)))
 unfolding each_from
-end_or_cell f w more x zero e = inl (omega arith, refl)
-end_or_cell f w more x (suc m) e = grind (arith, append_assoc (f (x + 1)) (each_from f (suc (suc x)) m) (codes "\n" ++ more))
+end_or_cell f w more x zero after e is = inl (omega arith, is)
+end_or_cell f w more x (suc m) after e is = grind (arith, append_assoc (f (x + 1)) (each_from f (suc (x + 1)) m) (codes "\n" ++ more))
 
 pub after_cell : (f : ℕ → List ℕ) (w : ℕ) (more rest : List ℕ) (x : ℕ) → x < w → Left f w more x rest → AfterCell f w more x rest
-unfolding each_from
 after_cell f w more rest x lt left =
+    let r = row_first f w (codes "\n" ++ more) rest x lt left in
     let m = w - x - 1 in
-    record {
-      after = each_from f (suc x) m ++ (codes "\n" ++ more);
-      split = left (suc m) (omega arith) ∙ append_assoc (f x) (each_from f (suc x) m) (codes "\n" ++ more);
-      left = λ k e. let here : suc x ≡ x + 1 = omega arith in let rest_of : m ≡ k = omega arith in
-          ap₂ (λ (a b : ℕ). each_from f a b ++ (codes "\n" ++ more)) here rest_of;
-      follows = end_or_cell f w more x m (omega arith);
-    }
+    record { after = r.after; split = r.split; left = r.left; follows = end_or_cell f w more x m r.after (omega arith) (r.left m (omega arith)) }
 
 pub none_left : (f : ℕ → List ℕ) (w : ℕ) (more rest : List ℕ) (x : ℕ) → x ≡ w → Left f w more x rest → rest ≡ 10 ∷ more
 unfolding each_from
@@ -102,25 +115,3 @@ line_end rest more left byte split is = (cc, cc)
 
 pub row_end : (y w x width : ℕ) → w ≤ x → x ≤ w → w ≡ width → (y + 1) * width ≡ y * w + x
 row_end y w x width over under wide = grind arith
-
--- ---- the rows of a grid
-
-pub all_rows_left : (f : ℕ → List ℕ) (n : ℕ) (tail text : List ℕ) → text ≡ each_below f n ++ tail → LeftOf f n tail 0 text
-all_rows_left f n tail text is m e = grind (arith, common_steps, from_zero)
-
--- the next row, and what is left after it
-pub record NextRow (f : ℕ → List ℕ) (n : ℕ) (tail : List ℕ) (k : ℕ) (rest : List ℕ) : Type 0 where
-  pub after : List ℕ
-  pub split : rest ≡ f k ++ after
-  pub left : LeftOf f n tail (k + 1) after
-
-pub row_first : (f : ℕ → List ℕ) (n : ℕ) (tail rest : List ℕ) (k : ℕ) → k < n → LeftOf f n tail k rest → NextRow f n tail k rest
-unfolding each_from
-row_first f n tail rest k lt left =
-    let m = n - k - 1 in
-    record {
-      after = each_from f (suc k) m ++ tail;
-      split = left (suc m) (omega arith) ∙ append_assoc (f k) (each_from f (suc k) m) tail;
-      left = λ j e. let here : suc k ≡ k + 1 = omega arith in let rest_of : m ≡ j = omega arith in
-          ap₂ (λ (a b : ℕ). each_from f a b ++ tail) here rest_of;
-    }

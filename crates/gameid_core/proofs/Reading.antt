@@ -1,5 +1,5 @@
 -- Reading a description token by token, for any game, and its first fault.
-use Rattle.gameid_core.specs.Common.{Cuts, Err, FirstFault, IdFault, List, Ok, Result, [], ap, arith, common_steps, concat, inl, inr, length, length-append, reading, refl, stop, subst, sym, words, ℕ, ◌++◌, ◌+◌, ◌-◌, ◌>>=◌, ◌↔◌, ◌∙◌, ◌∷◌, ◌≡◌, ◌⊎◌}
+use Rattle.gameid_core.specs.Common.{Cuts, Err, FirstFault, IdFault, List, Ok, Result, [], ap, arith, concat, inr, length, length-append, reading, refl, stop, subst, sym, words, ℕ, ◌++◌, ◌+◌, ◌-◌, ◌>>=◌, ◌↔◌, ◌∙◌, ◌∷◌, ◌≡◌, ◌⊎◌}
 use Rattle.gameid_core.proofs.Results.{bind_ok}
 
 -- the place of a rest of the description, which begins at base and has d bytes

@@ -47,8 +47,6 @@ run_single at b run e = let t = run_token at b run e in ap joins t.byte ∙ byte
 pub run_length : (blanks : ℕ) (tree : Bool) → length (run_cells blanks tree) ≡ blanks + cond tree 1 0
 run_length blanks tree = grind (arith, common_steps, length-append, length-replicate)
 
--- ---- what is read fits
-
 run_bits : (blanks : ℕ) (tree : Bool) → AllByRecursion (λ b. b < 2) (run_cells blanks tree)
 run_bits blanks true = AllByRecursion-append (λ b. b < 2) (replicate blanks 0) (1 ∷ []) (AllByRecursion-replicate (λ b. b < 2) 0 blanks (omega arith)) (omega arith, tt)
 run_bits blanks false = AllByRecursion-append (λ b. b < 2) (replicate blanks 0) [] (AllByRecursion-replicate (λ b. b < 2) 0 blanks (omega arith)) tt
@@ -140,11 +138,6 @@ module _ (size : Extent) where
 
   -- ---- turns
 
-  -- the places with blanks after them and a tree if there is one, unless they pass the cells and that tree
-  abbrev pub planted : List ℕ → List ℕ → ℕ → Bool → Result TentsSoFar IdFault
-  planted places counts blanks tree =
-      cond (ltb (cells_in size + cond tree 1 0) (length places + (blanks + cond tree 1 0))) (Err TooMany) (Ok (at_tents (places ++ run_cells blanks tree) counts))
-
   abbrev pub reads : ℕ → List ℕ → List ℕ → List ℕ → Result TentsSoFar IdFault
   reads at places counts rest = read_words at (at_tents places counts) (words rest)
 
@@ -171,6 +164,8 @@ module _ (size : Extent) where
   pub step_cases : (at : ℕ) (places counts word : List ℕ) (t : TentsSoFar) → tents_step size at (at_tents places counts) word ≡ Ok t → Counted places counts word t ⊎ Planted at places counts word t
   unfolding tents_count tents_tree
   step_cases at places counts word t e = grind arith
+
+  -- ---- what is read fits
 
   AreCounts-push : (line : ℕ) (counts : List ℕ) (n : ℕ) → AreCounts size line counts → n ≤ line_cells size (line + length counts) → AreCounts size line (counts ++ n ∷ [])
   AreCounts-push line [] n h p = grind arith

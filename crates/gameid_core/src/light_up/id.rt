@@ -106,11 +106,7 @@ impl IdText for LightPuzzle {
     ghost text = { λ p. light_cells_text 0 p.cells };
 
     #[tactic(auto, using(crate::proofs::LightTexts::fit))]
-    fn read_description(
-        alloc: Global,
-        head: Head,
-        description: &[u8],
-    ) -> Result<LightPuzzle, IdFault> {
+    fn read_description(alloc: Global, head: Head, description: &[u8]) -> Result<Self, IdFault> {
         let size = Size::new(head.w, head.h).unwrap();
         let cells = cells(alloc, size.cells(), head.description, description)?;
         Ok(LightPuzzle::of_cells(size, cells))

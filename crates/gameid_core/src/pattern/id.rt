@@ -159,11 +159,7 @@ impl IdText for PatternPuzzle {
 
     ghost text = { λ p. join_with_byte 47 (map clue_text p.clues) };
 
-    fn read_description(
-        alloc: Global,
-        head: Head,
-        description: &[u8],
-    ) -> Result<PatternPuzzle, IdFault> {
+    fn read_description(alloc: Global, head: Head, description: &[u8]) -> Result<Self, IdFault> {
         let size = Size::new(head.w, head.h).unwrap();
         let clues = clues(alloc, size, head.description, description)?;
         Ok(PatternPuzzle::of_clues(size, clues))

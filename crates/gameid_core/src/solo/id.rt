@@ -122,11 +122,7 @@ impl IdText for SoloPuzzle {
     ghost text = { λ p. cells_text 0 false p.givens };
 
     #[tactic(auto, using(crate::proofs::SoloTexts::n_few))]
-    fn read_description(
-        alloc: Global,
-        head: Head,
-        description: &[u8],
-    ) -> Result<SoloPuzzle, IdFault> {
+    fn read_description(alloc: Global, head: Head, description: &[u8]) -> Result<Self, IdFault> {
         let givens = cells(alloc, head.w * head.h, head.description, description)?;
         Ok(SoloPuzzle::of_givens(head.w, head.h, head.x, givens))
     }

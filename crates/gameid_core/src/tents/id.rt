@@ -194,11 +194,7 @@ impl IdText for TentsPuzzle {
     ghost text = { λ p. trees_text 0 p.trees ++ flat_map (λ n. 44 ∷ decimal n) p.counts };
 
     #[tactic(auto, using(crate::proofs::TentsTexts::fit))]
-    fn read_description(
-        alloc: Global,
-        head: Head,
-        description: &[u8],
-    ) -> Result<TentsPuzzle, IdFault> {
+    fn read_description(alloc: Global, head: Head, description: &[u8]) -> Result<Self, IdFault> {
         let size = Size::new(head.w, head.h).unwrap();
         let (mut places, counts) = parts(alloc, size, head.description, description)?;
         places.truncate(size.cells());
