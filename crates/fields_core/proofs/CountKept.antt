@@ -1,5 +1,5 @@
 -- What a visit of a count house leaves of its cells, by the tally of the house.
-use Rattle.std.proofs.Common.{◌≡◌, ℕ, zero, suc, ◌+◌, ◌*◌, ◌<◌, ◌≤◌, Bool, true, false, not, true≢false, ◌&&◌, List, ◌||◌, cond, eqb, ltb, length, get_or, slice_index, refl, sym, ◌∙◌, ap, ap₂, arith, ◌⊎◌, inl, inr}
+use Rattle.std.proofs.Common.{◌≡◌, ℕ, zero, suc, ◌+◌, ◌*◌, ◌<◌, ◌≤◌, Bool, true, false, not, true≢false, ◌&&◌, List, ◌||◌, cond, eqb, ltb, length, get_or, slice_index, refl, sym, ◌∙◌, ap, arith, ◌⊎◌, inl, inr}
 use Rattle.std.proofs.Math.Path.{fun_ext}
 use Rattle.std.proofs.Math.Bool.{and-true, and-false}
 use Rattle.std.proofs.lemmas.Bool.{cases_Bool, cases_eq, false_from_ne_true, and_parts, or_cases, or_parts, eqb-true, eq-eqb, ne_eqb, le-ltb, ltb-true, ltb-false}

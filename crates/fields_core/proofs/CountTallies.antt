@@ -4,9 +4,9 @@ use Rattle.std.proofs.Common.{◌≡◌, ℕ, ◌+◌, ◌-◌, ◌<◌, ◌≤�
 use Rattle.std.specs.List.{count_by}
 use Rattle.std.proofs.lemmas.Bool.{cases_Bool, cases_eq, true≢false}
 use Rattle.std.proofs.Math.Path.{fun_ext}
-use Rattle.std.proofs.lemmas.List.{length-set, length-take, take_all, get_or-set_same, get_or-set_other}
+use Rattle.std.proofs.lemmas.List.{length-set, take_all, get_or-set_same, get_or-set_other}
 use Rattle.std.proofs.lemmas.List.Sums.{sum_by_more, count_by-le-length}
-use Rattle.grid_core.specs.Candidates.{Candidates, IsWithin, count_below}
+use Rattle.grid_core.specs.Candidates.{Candidates, count_below}
 use Rattle.engine_core.specs.Puzzle.{has_place}
 use Rattle.engine_core.specs.PlaceLaws.{AreDistinct, distinct-from}
 use Rattle.engine_core.specs.HouseIndex.{scope_of, number_at, AreHousesAt}
@@ -34,14 +34,6 @@ sets-next sets n t one is lt here = grind (arith, common_steps, count-next)
 
 pub sets-all : (sets : List ℕ) (n : ℕ) (t : Tally) → t ≡ tally_of (take n sets) → length sets ≤ n → t ≡ tally_of sets
 sets-all sets n t is ge = rw (take_all n sets ge) at is
-
--- no more than there are
-pub sets-few : (sets : List ℕ) (n : ℕ) (t : Tally) → t ≡ tally_of (take n sets) → (t.must ≤ n) × (t.may ≤ n) × (t.empty ≤ n)
-sets-few sets n t is = rw is (
-  omega (arith, length-take n sets, count_by-le-length (λ bits. not (has_bit bits 0)) (take n sets)),
-  omega (arith, length-take n sets, count_by-le-length (λ bits. has_bit bits 1) (take n sets)),
-  omega (arith, length-take n sets, count_by-le-length (λ bits. eqb bits 0) (take n sets)),
-)
 
 -- no bit of two is set
 none-set : (bits : ℕ) → bits < 4 → eqb bits 0 ≡ (not (has_bit bits 0) && not (has_bit bits 1))

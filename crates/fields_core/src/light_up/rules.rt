@@ -139,10 +139,7 @@ impl Rules for LightRules {
     }
 
     fn accept(&self, _scratch: &mut (), grid: &Grid) -> bool {
-        match find_fault(&self.puzzle, grid) {
-            None => true,
-            Some(_) => false,
-        }
+        find_fault(&self.puzzle, grid).is_none()
     }
 }
 

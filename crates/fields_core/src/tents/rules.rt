@@ -170,10 +170,7 @@ impl Rules for TentRules {
     }
 
     fn accept(&self, scratch: &mut PairingScratch, grid: &Grid) -> bool {
-        match find_fault(&self.puzzle, grid, scratch) {
-            None => true,
-            Some(_) => false,
-        }
+        find_fault(&self.puzzle, grid, scratch).is_none()
     }
 }
 
