@@ -1,5 +1,5 @@
 -- What a visit of a count house leaves of its cells, by the tally of the house.
-use Rattle.std.proofs.Common.{◌≡◌, ℕ, zero, suc, ◌+◌, ◌*◌, ◌<◌, ◌≤◌, Bool, true, false, not, true≢false, ◌&&◌, ◌||◌, cond, eqb, ltb, length, get_or, slice_index, refl, sym, ◌∙◌, ap, ap₂, arith, ◌⊎◌, inl, inr}
+use Rattle.std.proofs.Common.{◌≡◌, ℕ, zero, suc, ◌+◌, ◌*◌, ◌<◌, ◌≤◌, Bool, true, false, not, true≢false, ◌&&◌, List, ◌||◌, cond, eqb, ltb, length, get_or, slice_index, refl, sym, ◌∙◌, ap, arith, ◌⊎◌, inl, inr}
 use Rattle.std.proofs.Math.Path.{fun_ext}
 use Rattle.std.proofs.Math.Bool.{and-true, and-false}
 use Rattle.std.proofs.lemmas.Bool.{cases_Bool, cases_eq, false_from_ne_true, and_parts, or_cases, or_parts, eqb-true, eq-eqb, ne_eqb, le-ltb, ltb-true, ltb-false}
@@ -9,7 +9,7 @@ use Rattle.engine_core.specs.PlaceLaws.{has_place-at, has_place-here}
 use Rattle.engine_core.specs.Sets.{has_bit, IsBitsOf}
 use Rattle.engine_core.specs.Filling.{IsShown, strikes_by_fillings}
 use Rattle.engine_core.specs.FillingLaws.{shown_from_test, test_from_shown}
-use Rattle.engine_core.specs.House.{sets_at}
+use Rattle.engine_core.specs.House.{sets_at, strikes_at, kept_in, Decision}
 use Rattle.engine_core.specs.HouseLaws.{strikes_at-place, strikes_at-in_scope}
 use Rattle.fields_core.specs.Count.{counts_between, is_open, is_empty}
 use Rattle.fields_core.specs.CountHouse.{CountHouse, IsHouse, after_house, strikes_of}
@@ -40,6 +40,11 @@ room least most must may v zero_on one_on low on few many off = grind (arith, co
 
 neither : (k a b : Bool) → (k && not ((a && false) || (b && false))) ≡ k
 neither k a b = grind (arith, common_steps)
+
+-- nothing is struck outside a house
+off-scope : (house : CountHouse) (K : Candidates) (c v : ℕ) → has_place house.places c ≡ false → strikes_of house K c v ≡ false
+unfolding strikes_of
+off-scope house K c v off = false_from_ne_true _ (λ on. true≢false (sym (strikes_at-in_scope 2 house.places _ K c v on) ∙ off))
 
 module _ (cells : ℕ) (house : CountHouse) (K : Candidates) (t : Tally) (is : IsHouse cells house) (tally : IsTally K house.places t) where
   abbrev at : ℕ → ℕ
@@ -119,29 +124,17 @@ module _ (cells : ℕ) (house : CountHouse) (K : Candidates) (t : Tally) (is : I
   unfolding after_house strikes_of
   after-at k v lt low = ap (λ b. K (at k) v && not b) (strikes_at-place 2 house.places (strikes_by_fillings (counts_between house.least house.most)) K k v is.different lt) ∙ stays-at k v lt low
 
-  pub after-off : (c v : ℕ) → has_place house.places c ≡ false → after_house house K c v ≡ K c v
-  unfolding after_house strikes_of
-  after-off c v off = ap (λ b. K c v && not b) (false_from_ne_true _ (λ on. true≢false (sym (strikes_at-in_scope 2 house.places _ K c v on) ∙ off))) ∙ and-true (K c v)
-
-  gone : (c v : ℕ) → K c v ≡ false → after_house house K c v ≡ false
+  -- a house that does not call strikes nothing
+  pub idle-at : has_strikes t (bounds_of house) ≡ false → (c v : ℕ) → v < 2 → K c v ≡ true → strikes_of house K c v ≡ false
   unfolding after_house
-  gone c v none = rw none refl
-
-  -- it suffices to look at the cells of the house, and at their values
-  after-by : (L : Candidates) → IsWithin cells 2 K → ((k v : ℕ) → k < length house.places → v < 2 → L (at k) v ≡ (K (at k) v && stays t (bounds_of house) (is_open K (at k)) v))
-      → ((c v : ℕ) → has_place house.places c ≡ false → L c v ≡ K c v) → ((c v : ℕ) → K c v ≡ false → L c v ≡ false) → L ≡ after_house house K
-  after-by L within held there none = fun_ext λ c. fun_ext λ v. elim (cases_Bool (K c v)) [
-    | inr off ↦ none c v off ∙ sym (gone c v off)
-    | inl on ↦ elim (cases_Bool (has_place house.places c)) [
-      | inr out ↦ there c v out ∙ sym (after-off c v out)
-      | inl here ↦ let w = has_place-at house.places c here in let low = (within c v on).1 in rw (sym w.2) (held w.0 v w.1 low ∙ sym (after-at w.0 v w.1 low))
-    ]
+  idle-at off c v low on = elim (cases_Bool (has_place house.places c)) [
+    | inr out ↦ off-scope house K c v out
+    | inl here ↦ let w = has_place-at house.places c here in rw (sym w.2) (by (K (at w.0) v) _ (rw (sym w.2) at on) (after-at w.0 v w.1 low ∙ stays-all w.0 v w.1))
   ]
-
-  -- a house that does not call leaves the board
-  pub after-idle : IsWithin cells 2 K → has_strikes t (bounds_of house) ≡ false → K ≡ after_house house K
-  after-idle within off = after-by K within (λ k v lt low. sym (stays-all k v lt)) (λ c v out. refl) (λ c v none. none)
     where
+      by : (a b : Bool) → a ≡ true → (a && not b) ≡ a → b ≡ false
+      by a b e f = grind (arith, common_steps, cases_Bool a, cases_Bool b)
+
       full_parts : (ltb 0 t.empty ≡ false) × ((ltb house.most house.least || (ltb t.may (house.least + num (not (eqb t.must t.may))) || ltb house.most (t.must + num (not (eqb t.must t.may))))) ≡ false)
       full_parts = or_parts _ _ off
 
@@ -188,38 +181,34 @@ unfolding after_house
 kept-strikes cells house K t is tally k v bits lt low of on =
     kept-bits t (bounds_of house) K (slice_index house.places k) bits v of low ∙ sym (after-at cells house K t is tally k v lt low) ∙ rw on refl
 
--- ---- the pass that strikes
-pub record IsKeptBelow (house : CountHouse) (t : Tally) (K L : Candidates) (n : ℕ) : Type 0 where
-  pub here : (k v : ℕ) → k < n → v < 2 → L (slice_index house.places k) v ≡ (K (slice_index house.places k) v && stays t (bounds_of house) (is_open K (slice_index house.places k)) v)
-  pub rest : (c v : ℕ) → ((k : ℕ) → k < n → slice_index house.places k ≡ c → ⊥) → L c v ≡ K c v
-  pub inside : (c v : ℕ) → L c v ≡ true → K c v ≡ true
+-- ---- the board after a visit
+module _ (cells : ℕ) (house : CountHouse) (K : Candidates) (is : IsHouse cells house) (within : IsWithin cells 2 K) where
+  -- it suffices to look at the values that the house's cells have
+  after-by : (D : ℕ → ℕ → Bool) → ((c v : ℕ) → has_place house.places c ≡ false → D c v ≡ false)
+      → ((k v : ℕ) → k < length house.places → v < 2 → K (slice_index house.places k) v ≡ true → D (slice_index house.places k) v ≡ strikes_of house K (slice_index house.places k) v)
+      → (λ c v. K c v && not (D c v)) ≡ after_house house K
+  unfolding after_house
+  after-by D out here = fun_ext λ c. fun_ext λ v. elim (cases_Bool (K c v)) [
+    | inr off ↦ rw off refl
+    | inl on ↦ ap (λ b. K c v && not b) (elim (cases_Bool (has_place house.places c)) [
+      | inr off ↦ out c v off ∙ sym (off-scope house K c v off)
+      | inl there ↦ let w = has_place-at house.places c there in rw (sym w.2) (here w.0 v w.1 (within c v on).1 (rw (sym w.2) at on))
+    ])
+  ]
 
-pub kept-first : (house : CountHouse) (t : Tally) (K : Candidates) → IsKeptBelow house t K K 0
-kept-first house t K = record { here = λ k v lt low. absurd (omega arith); rest = λ c v off. refl; inside = λ c v on. on }
+  -- nothing is struck
+  pub after-none : ((k v : ℕ) → k < length house.places → v < 2 → K (slice_index house.places k) v ≡ true → strikes_of house K (slice_index house.places k) v ≡ false) → K ≡ after_house house K
+  after-none none = fun_ext (λ c. fun_ext λ v. sym (and-true (K c v))) ∙ after-by (λ c v. false) (λ c v off. refl) (λ k v lt low on. sym (none k v lt low on))
 
-module _ (cells : ℕ) (house : CountHouse) (K : Candidates) (t : Tally) (is : IsHouse cells house) where
-  pub kept-next : (L M : Candidates) (n bits : ℕ) → IsKeptBelow house t K L n → n < length house.places → IsBitsOf (L (slice_index house.places n)) 2 bits
-      → ((c v : ℕ) → M c v ≡ (L c v && not ((eqb (slice_index house.places n) c) && not (has_bit (kept_of t (bounds_of house) bits) v)))) → IsKeptBelow house t K M (n + 1)
-  kept-next L M n bits before lt of left = record {
-    here = λ k v low two. elim (cases_eq k n) [
-      | inl e ↦ rw e (
-          left (slice_index house.places n) v
-          ∙ rw (eq-eqb (slice_index house.places n) (slice_index house.places n) refl) (by (L (slice_index house.places n) v) _ _ (kept-bits t (bounds_of house) L (slice_index house.places n) bits v of two))
-          ∙ ap₂ (λ on both. on && stays t (bounds_of house) both v) (same v) (ap₂ (λ z o. z && o) (same 0) (same 1)))
-      | inr ne ↦ left (slice_index house.places k) v ∙ rw (ne_eqb (slice_index house.places n) (slice_index house.places k) (λ e. ne (is.different k n (omega arith) lt (sym e)))) (and-true (L (slice_index house.places k) v))
-          ∙ before.here k v (omega (arith, ne)) two
-    ];
-    rest = λ c v off. left c v ∙ rw (ne_eqb (slice_index house.places n) c (off n (omega arith))) (and-true (L c v)) ∙ before.rest c v (λ k low. off k (omega arith));
-    inside = λ c v on. before.inside c v (and_parts (L c v) _ (sym (left c v) ∙ on)).0;
-  }
+  -- what is kept stays
+  pub after-kept : (kept : List ℕ) → ((k v : ℕ) → k < length house.places → v < 2 → K (slice_index house.places k) v ≡ true → has_bit (slice_index kept k) v ≡ not (strikes_of house K (slice_index house.places k) v))
+      → kept_in house.places kept (length house.places) K ≡ after_house house K
+  unfolding kept_in strikes_at
+  after-kept kept bits = after-by (strikes_at 2 house.places drops K) (λ c v off. false_from_ne_true _ (λ on. true≢false (sym (strikes_at-in_scope 2 house.places drops K c v on) ∙ off)))
+      (λ k v lt low on. strikes_at-place 2 house.places drops K k v is.different lt ∙ rw (bits k v lt low on) (not-not _))
     where
-      same : (v : ℕ) → L (slice_index house.places n) v ≡ K (slice_index house.places n) v
-      same v = before.rest (slice_index house.places n) v (λ k low e. let d = is.different k n (omega arith) lt e in absurd (omega arith))
+      drops : Decision
+      drops sets k v = not (has_bit (slice_index kept k) v)
 
-      by : (a b s : Bool) → b ≡ (a && s) → (a && not (true && not b)) ≡ (a && s)
-      by a b s e = grind (arith, common_steps, cases_Bool a)
-
-  pub kept-whole : (L : Candidates) (n : ℕ) → IsTally K house.places t → IsWithin cells 2 K → IsKeptBelow house t K L n → n ≤ length house.places → length house.places ≤ n → L ≡ after_house house K
-  kept-whole L n tally within below le ge = after-by cells house K t is tally L within (λ k v lt low. below.here k v (omega arith) low)
-      (λ c v off. below.rest c v (λ k low e. true≢false (sym (rw e at (has_place-here house.places k (omega arith))) ∙ off)))
-      (λ c v none. false_from_ne_true (L c v) (λ on. true≢false (sym (below.inside c v on) ∙ none)))
+      not-not : (b : Bool) → not (not b) ≡ b
+      not-not b = grind (arith, common_steps, cases_Bool b)

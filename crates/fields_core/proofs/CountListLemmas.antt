@@ -5,7 +5,7 @@ use Rattle.std.specs.List.{filter}
 use Rattle.grid_core.specs.Extent.{Extent}
 use Rattle.grid_core.specs.Regions.{steps}
 use Rattle.std.proofs.Math.Path.{fun_ext}
-use Rattle.engine_core.specs.Puzzle.{has_place, IsNext, IsKth}
+use Rattle.engine_core.specs.Puzzle.{has_place, IsNext}
 use Rattle.engine_core.specs.HouseIndex.{scope_of, AreScopes}
 use Rattle.engine_core.specs.HouseList.{FitsLists, FitsPlaces}
 use Rattle.engine_core.specs.PlaceLaws.{has_place-here}
@@ -106,15 +106,6 @@ scopes-of cells scopes bounds e are h lt =
 pub next-in : (cells : ℕ) (scopes : List (List ℕ)) (bounds : List Bounds) (t : CountedHouses) (place from : ℕ) (o : Option ℕ) → length bounds ≡ length scopes → record { cells = cells; houses = bounded scopes bounds } ≡ t
     → IsNext (λ h. has_place (scope_of scopes h) place) (length scopes) from o → IsNext (λ h. has_place (count_house_of t.houses h).places place) (length t.houses) from o
 next-in cells scopes bounds t place from o long e next = grind (arith, common_steps, fun_ext, bounded-at, bounded-long)
-
--- and the one with so many before it
-pub kth-in : (cells : ℕ) (scopes : List (List ℕ)) (bounds : List Bounds) (t : CountedHouses) (place k : ℕ) (o : Option ℕ) → length bounds ≡ length scopes → record { cells = cells; houses = bounded scopes bounds } ≡ t
-    → IsKth (λ h. has_place (scope_of scopes h) place) (length scopes) k o → IsKth (λ h. has_place (count_house_of t.houses h).places place) (length t.houses) k o
-kth-in cells scopes bounds t place k o long e kth =
-    let same : (λ h. has_place (scope_of scopes h) place) ≡ (λ h. has_place (count_house_of (bounded scopes bounds) h).places place) = fun_ext λ h. ap (λ (x : CountHouse). has_place x.places place) (sym (bounded-at scopes bounds h long)) in
-    subst (λ (u : CountedHouses). IsKth (λ h. has_place (count_house_of u.houses h).places place) (length u.houses) k o) e
-    (subst (λ n. IsKth (λ h. has_place (count_house_of (bounded scopes bounds) h).places place) n k o) (sym (bounded-long scopes bounds long))
-    (subst (λ (p : ℕ → Bool). IsKth p (length scopes) k o) same kth))
 
 pub houses-long : (cells : ℕ) (scopes : List (List ℕ)) (bounds : List Bounds) (t : CountedHouses) → length bounds ≡ length scopes → record { cells = cells; houses = bounded scopes bounds } ≡ t → length scopes ≡ length t.houses
 houses-long cells scopes bounds t long e = sym (bounded-long scopes bounds long) ∙ ap (λ (u : CountedHouses). length u.houses) e

@@ -1,48 +1,39 @@
 -- What is counted of the cells of count houses.
 use Rattle.std.proofs.lemmas.Grind.{common_steps}
-use Rattle.std.proofs.Common.{◌≡◌, ℕ, ◌+◌, ◌-◌, ◌<◌, ◌≤◌, Bool, true, false, not, ◌&&◌, eqb, cond, List, length, slice_index, set, take, refl, sym, ◌∙◌, ap, ap₂, subst, inl, inr, arith}
+use Rattle.std.proofs.Common.{◌≡◌, ℕ, ◌+◌, ◌-◌, ◌<◌, ◌≤◌, Bool, true, false, not, ◌&&◌, eqb, cond, List, suc, [], ◌∷◌, length, slice_index, set, take, refl, sym, ◌∙◌, ap, ap₂, subst, inl, inr, arith}
 use Rattle.std.specs.List.{count_by}
 use Rattle.std.proofs.lemmas.Bool.{cases_Bool, cases_eq, true≢false}
-use Rattle.std.proofs.lemmas.List.{length-set, get_or-set_same, get_or-set_other}
+use Rattle.std.proofs.Math.Path.{fun_ext}
+use Rattle.std.proofs.lemmas.List.{length-set, take_all, get_or-set_same, get_or-set_other}
 use Rattle.std.proofs.lemmas.List.Sums.{sum_by_more, count_by-le-length}
-use Rattle.grid_core.specs.Candidates.{Candidates, IsWithin}
+use Rattle.grid_core.specs.Candidates.{Candidates, count_below}
 use Rattle.engine_core.specs.Puzzle.{has_place}
 use Rattle.engine_core.specs.PlaceLaws.{AreDistinct, distinct-from}
 use Rattle.engine_core.specs.HouseIndex.{scope_of, number_at, AreHousesAt}
 use Rattle.engine_core.proofs.IndexLemmas.{counted, numbered}
 use Rattle.engine_core.specs.Sets.{has_bit, IsBitsOf, IsChange}
 use Rattle.fields_core.specs.Count.{is_empty}
-use Rattle.fields_core.specs.CountHouse.{CountHouse, IsHouse, count_house_of, strikes_of, after_house}
-use Rattle.fields_core.specs.Tallies.{IsTally, has_strikes, moved_tally, CanMove, tally_at, AreTallied}
+use Rattle.fields_core.specs.CountHouse.{CountHouse, IsHouse, count_house_of, strikes_of}
+use Rattle.fields_core.specs.Tallies.{IsTally, tally_of, tally_of_one, has_strikes, moved_tally, CanMove, tally_at, AreTallied}
 use Rattle.fields_core.specs.CountLists.{bounds_of}
 use Rattle.fields_core.specs.declared.count.list.Bounds.{Bounds}
 use Rattle.fields_core.specs.declared.count.tally.Tally.{Tally}
-use Rattle.fields_core.proofs.PlaceLists.{num, num-most, count-off, count-at, count-there}
-use Rattle.fields_core.proofs.CountKept.{after-idle}
+use Rattle.fields_core.proofs.PlaceLists.{num, count-cons, count-off, count-at, count-there}
+use Rattle.fields_core.proofs.CountKept.{idle-at}
 
--- ---- counted one cell after the other
-pub record IsTalliedBelow (K : Candidates) (places : List ℕ) (n must may empty : ℕ) : Type 0 where
-  pub must_is : must ≡ count_by (λ c. not (K c 0)) (take n places)
-  pub may_is : may ≡ count_by (λ c. K c 1) (take n places)
-  pub empty_is : empty ≡ count_by (is_empty K) (take n places)
-  pub few_must : must ≤ n
-  pub few_may : may ≤ n
-  pub few_empty : empty ≤ n
-
-pub tallied-first : (K : Candidates) (places : List ℕ) → IsTalliedBelow K places 0 0 0 0
-tallied-first K places = record { must_is = refl; may_is = refl; empty_is = refl; few_must = omega arith; few_may = omega arith; few_empty = omega arith }
+-- ---- counted by the sets of the cells
+pub sets-first : (sets : List ℕ) → record { must = 0; may = 0; empty = 0 } ≡ tally_of (take 0 sets)
+sets-first sets = refl
 
 count-next : (test : ℕ → Bool) (xs : List ℕ) (n : ℕ) → n < length xs → count_by test (take (n + 1) xs) ≡ count_by test (take n xs) + cond (test (slice_index xs n)) 1 0
 count-next test xs n lt = sum_by_more (λ c. cond (test c) 1 0) xs n 0 lt
 
-pub tallied-more : (K : Candidates) (places : List ℕ) (n must may empty : ℕ) (zero_on one_on : Bool) (a b e : ℕ) → IsTalliedBelow K places n must may empty → n < length places
-    → zero_on ≡ K (slice_index places n) 0 → one_on ≡ K (slice_index places n) 1 → a ≡ cond (not zero_on) 1 0 → b ≡ cond one_on 1 0 → e ≡ cond (not zero_on && not one_on) 1 0
-    → IsTalliedBelow K places (n + 1) (must + a) (may + b) (empty + e)
-tallied-more K places n must may empty zero_on one_on a b e t lt z o ea eb ee = grind (arith, common_steps, count-next, num-most)
+pub sets-next : (sets : List ℕ) (n : ℕ) (t one : Tally) → t ≡ tally_of (take n sets) → n < length sets → one ≡ tally_of_one (slice_index sets n)
+    → record { must = t.must + one.must; may = t.may + one.may; empty = t.empty + one.empty } ≡ tally_of (take (n + 1) sets)
+sets-next sets n t one is lt here = grind (arith, common_steps, count-next)
 
-pub tallied-whole : (K : Candidates) (places : List ℕ) (n must may empty : ℕ) → IsTalliedBelow K places n must may empty → length places ≤ n
-    → IsTally K places (record { must = must; may = may; empty = empty })
-tallied-whole K places n must may empty t ge = grind (arith, common_steps)
+pub sets-all : (sets : List ℕ) (n : ℕ) (t : Tally) → t ≡ tally_of (take n sets) → length sets ≤ n → t ≡ tally_of sets
+sets-all sets n t is ge = rw (take_all n sets ge) at is
 
 -- no bit of two is set
 none-set : (bits : ℕ) → bits < 4 → eqb bits 0 ≡ (not (has_bit bits 0) && not (has_bit bits 1))
@@ -57,6 +48,23 @@ one-moved p q place others places on different n a b is before after = grind (ar
 bits-counted : (K : Candidates) (c bits : ℕ) → IsBitsOf (K c) 2 bits
     → (num (not (has_bit bits 0)) ≡ num (not (K c 0))) × (num (has_bit bits 1) ≡ num (K c 1)) × (num (eqb bits 0) ≡ num (is_empty K c))
 bits-counted K c bits is = grind (arith, common_steps, none-set)
+
+counts-as : (f g : ℕ → Bool) (xs ys : List ℕ) → length xs ≡ length ys → ((k : ℕ) → k < length xs → num (f (slice_index xs k)) ≡ num (g (slice_index ys k))) → count_by f xs ≡ count_by g ys
+counts-as f g [] [] e same = refl
+counts-as f g [] (y ∷ ys) e same = absurd (omega arith)
+counts-as f g (x ∷ xs) [] e same = absurd (omega arith)
+counts-as f g (x ∷ xs) (y ∷ ys) e same =
+    let rest = counts-as f g xs ys (omega arith) (λ k lt. same (suc k) (omega arith)) in
+    let first = same 0 (omega arith) in
+    omega (arith, count-cons f x xs, count-cons g y ys)
+
+-- the sets of a house's cells have the house's tally
+pub sets-tally : (K : Candidates) (places sets : List ℕ) → length sets ≡ length places → ((k : ℕ) → k < length places → IsBitsOf (K (slice_index places k)) 2 (slice_index sets k)) → IsTally K places (tally_of sets)
+sets-tally K places sets long bits = record {
+  must_is = counts-as (λ b. not (has_bit b 0)) (λ c. not (K c 0)) sets places long (λ k lt. (bits-counted K _ _ (bits k (omega arith))).0);
+  may_is = counts-as (λ b. has_bit b 1) (λ c. K c 1) sets places long (λ k lt. (bits-counted K _ _ (bits k (omega arith))).1);
+  empty_is = counts-as (λ b. eqb b 0) (is_empty K) sets places long (λ k lt. (bits-counted K _ _ (bits k (omega arith))).2);
+}
 
 module _ (cells : ℕ) (K L : Candidates) (place before after : ℕ) (change : IsChange cells 2 K L place before after) (places : List ℕ) (t : Tally) (is : IsTally K places t) where
   other : (c : ℕ) → (c ≡ place → ⊥) → (v : ℕ) → L c v ≡ K c v
@@ -114,6 +122,21 @@ module _ (scopes : List (List ℕ)) (place : ℕ) (listed : List ℕ) (at : AreH
 
   pub listed-at : (h : ℕ) → h < length scopes → has_place (scope_of scopes h) place ≡ true → number_at scopes h place < length listed
   listed-at h lt on = let c = counted (λ j. has_place (scope_of scopes j) place) h (length scopes) lt on in let e = at.as_many in omega arith
+
+-- the houses of the list, by the houses that count
+module _ (cells : ℕ) (scopes : List (List ℕ)) (houses : List CountHouse) (table : AreCounted cells scopes houses) (place : ℕ) (listed : List ℕ) (at : AreHousesAt scopes place listed) where
+  abbrev has_it : ℕ → Bool
+  has_it h = has_place (count_house_of houses h).places place
+
+  same-houses : (λ h. has_place (scope_of scopes h) place) ≡ has_it
+  same-houses = fun_ext λ h. ap (λ l. has_place l place) (table.places h)
+
+  pub listed-house : (k : ℕ) → k < length listed → (slice_index listed k < length houses) × (has_it (slice_index listed k) ≡ true) × (count_below has_it (slice_index listed k) ≡ k)
+  listed-house k lt = let w = in-list scopes place listed at k lt in
+      (omega (arith, w.0, table.as_many), ap (λ (f : ℕ → Bool). f (slice_index listed k)) (sym same-houses) ∙ w.1, ap (λ f. count_below f (slice_index listed k)) (sym same-houses) ∙ w.2)
+
+  pub listed-all : count_below has_it (length houses) ≡ length listed
+  listed-all = ap₂ count_below (sym same-houses) (sym table.as_many) ∙ sym at.as_many
 
 pub record AreMovedBelow (old new : List Tally) (listed : List ℕ) (before after n : ℕ) : Type 0 where
   pub as_many : length new ≡ length old
@@ -182,20 +205,10 @@ module _ (cells : ℕ) (scopes : List (List ℕ)) (houses : List CountHouse) (ta
     ];
   }
 
--- ---- a house that does not call strikes nothing
-idle-house : (cells : ℕ) (house : CountHouse) (K : Candidates) (t : Tally) → IsHouse cells house → IsWithin cells 2 K → IsTally K house.places t
-    → has_strikes t (bounds_of house) ≡ false → (c v : ℕ) → K c v ≡ true → strikes_of house K c v ≡ false
-unfolding after_house
-idle-house cells house K t is within tally off c v on = by (K c v) (strikes_of house K c v) on (ap (λ (L : Candidates). L c v) (after-idle cells house K t is tally within off))
-  where
-    by : (a b : Bool) → a ≡ true → a ≡ (a && not b) → b ≡ false
-    by a b e f = grind (arith, common_steps, cases_Bool a, cases_Bool b)
-
 pub moved-end : (old new : List Tally) (listed : List ℕ) (before after n : ℕ) → AreMovedBelow old new listed before after n → n ≤ length listed → length listed ≤ n → AreMovedBelow old new listed before after (length listed)
 moved-end old new listed before after n m le ge = let e : n ≡ length listed = omega arith in subst (AreMovedBelow old new listed before after) e m
 
--- the same by the bounds that a table has for the house
-pub idle-by : (cells : ℕ) (house : CountHouse) (t : Tally) (b : Bounds) (calls : Bool) → IsHouse cells house → b ≡ bounds_of house
-    → calls ≡ has_strikes t b → calls ≡ false
-    → (K : Candidates) → IsWithin cells 2 K → IsTally K house.places t → (c v : ℕ) → K c v ≡ true → strikes_of house K c v ≡ false
-idle-by cells house t b calls is e told off K within tally = idle-house cells house K t is within tally (rw e at (sym told ∙ off))
+-- ---- a house that does not call strikes nothing, by the bounds that a table has for it
+pub idle-by : (cells : ℕ) (house : CountHouse) (t : Tally) (b : Bounds) (calls : Bool) → IsHouse cells house → b ≡ bounds_of house → calls ≡ has_strikes t b → calls ≡ false
+    → (K : Candidates) → IsTally K house.places t → (c v : ℕ) → v < 2 → K c v ≡ true → strikes_of house K c v ≡ false
+idle-by cells house t b calls is e told off K tally = idle-at cells house K t is tally (rw e at (sym told ∙ off))

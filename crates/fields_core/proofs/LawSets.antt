@@ -1,9 +1,7 @@
 -- The lemmas that the proofs of each source file go by.
 use Rattle.engine_core.proofs.CallLemmas.{upto-first}
-use Rattle.engine_core.proofs.HouseLemmas.{striking-first}
-use Rattle.fields_core.proofs.CountKept.{kept-first}
 use Rattle.fields_core.proofs.CountListLemmas.{as-many, begun-more, beside-fits, begun-none, begun-same, below-more, below-none, bounded-listed}
-use Rattle.fields_core.proofs.CountTallies.{tallied-first, tallied-more, tallied-whole}
+use Rattle.fields_core.proofs.CountTallies.{sets-first, sets-next, sets-all}
 use Rattle.fields_core.proofs.HouseLists.{column-after, column-black, column-edge, row-after, row-black, row-edge, step-keep, step-none, step-skip}
 use Rattle.fields_core.proofs.LightCounting.{light-counting}
 use Rattle.fields_core.proofs.LightFaultLemmas.{fault-not, lit-from}
@@ -26,8 +24,6 @@ use Rattle.std.proofs.lemmas.List.{append-nil, append_assoc, map-append, take_al
 
 pub ruleset count_table_laws = (upto-first)
 
-pub ruleset count_visit_laws = (striking-first, kept-first)
-
 pub ruleset house_list_laws = (below-none, below-more, append_assoc, append-nil, map-append)
 
 pub ruleset laws_laws = (rule-from-test, test-from-rule, solution-from-tents, tents-from-solution)
@@ -48,7 +44,7 @@ pub ruleset light_sight_laws = (count-start, count-edge, count-dark, count-bulb,
 
 pub ruleset run_laws = (run-long, row-made, column-made, mul-le-mul_right)
 
-pub ruleset tally_laws = (tallied-first, tallied-more, tallied-whole)
+pub ruleset tally_laws = (sets-first, sets-next, sets-all)
 
 pub ruleset tent_check_laws = (line-start, line-skip, line-more, line-all, tents-from, all_below-from, ne_eqb, eq-eqb)
 

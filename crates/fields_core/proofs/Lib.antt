@@ -1,7 +1,7 @@
 pub mod CountBounds
 pub mod CountKept
 pub mod CountTallies
-pub mod CountFollow
+pub mod CountWatch
 pub mod CountListLemmas
 pub mod LightLines
 pub mod HouseLists

@@ -23,7 +23,6 @@ light-houses t p q e f = ap (λ (u : CountedHouses). u.houses) e ∙ ap light_ho
 pub after-is : (cells : ℕ) (blocked : ℕ → Bool) (is_solution : List ℕ → Bool) (had need : List CountHouse) (h : ℕ) (K K' : Candidates) → had ≡ need → K' ≡ after_house (count_house_of had h) K → K' ≡ after (count_puzzle cells blocked need is_solution) h K
 after-is cells blocked is_solution had need h K K' e left = left ∙ ap (λ houses. after_house (count_house_of houses h) K) e ∙ sym (after-house cells blocked need is_solution h K)
 
--- ---- a place in a list
 -- ---- the start, with the cells below a place blocked
 pub record IsStarted (cells : ℕ) (blocked : ℕ → Bool) (n : ℕ) (K : Candidates) : Type 0 where
   pub sets : (c v : ℕ) → K c v ≡ (all_of cells 2 c v && not ((ltb c n && blocked c) && eqb v 1))

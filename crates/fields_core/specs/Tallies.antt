@@ -65,19 +65,35 @@ pub record AreTallied (cells : ℕ) (houses : List CountHouse) (tallies : List T
 abbrev pub AreTalliesOf : CountedHouses → List Tally → Candidates → Type 0
 AreTalliesOf table tallies K = AreTallied table.cells table.houses tallies K
 
+-- the tally of cells with these sets, as bits
+abbrev pub tally_of : List ℕ → Tally
+tally_of sets = record {
+  must = count_by (λ bits. not (has_bit bits 0)) sets;
+  may = count_by (λ bits. has_bit bits 1) sets;
+  empty = count_by (λ bits. bits == 0) sets;
+}
+
+-- and of one cell
+abbrev pub tally_of_one : ℕ → Tally
+tally_of_one bits = record {
+  must = cond (not (has_bit bits 0)) 1 0;
+  may = cond (has_bit bits 1) 1 0;
+  empty = cond (bits == 0) 1 0;
+}
+
 -- the tally after one cell of the house changed, whose sets have these bits
 abbrev pub moved_tally : Tally → ℕ → ℕ → Tally
 moved_tally t before after = record {
-  must = t.must - cond (not (has_bit before 0)) 1 0 + cond (not (has_bit after 0)) 1 0;
-  may = t.may - cond (has_bit before 1) 1 0 + cond (has_bit after 1) 1 0;
-  empty = t.empty - cond (before == 0) 1 0 + cond (after == 0) 1 0;
+  must = t.must - (tally_of_one before).must + (tally_of_one after).must;
+  may = t.may - (tally_of_one before).may + (tally_of_one after).may;
+  empty = t.empty - (tally_of_one before).empty + (tally_of_one after).empty;
 }
 
 -- nothing is counted that was not there, and no count grows too large
 pub record CanMove (t : Tally) (before after : ℕ) : Type 0 where
-  pub must_before : cond (not (has_bit before 0)) 1 0 ≤ t.must
-  pub may_before : cond (has_bit before 1) 1 0 ≤ t.may
-  pub empty_before : cond (before == 0) 1 0 ≤ t.empty
+  pub must_before : (tally_of_one before).must ≤ t.must
+  pub may_before : (tally_of_one before).may ≤ t.may
+  pub empty_before : (tally_of_one before).empty ≤ t.empty
   pub few_must : (moved_tally t before after).must < 2 ^ 32
   pub few_may : (moved_tally t before after).may < 2 ^ 32
   pub few_empty : (moved_tally t before after).empty < 2 ^ 32

@@ -4,4 +4,3 @@ pub(crate) mod list;
 pub(crate) mod run;
 pub(crate) mod table;
 pub(crate) mod tally;
-pub(crate) mod visit;

@@ -4,7 +4,7 @@
 ghost use Rattle.std.specs.Prelude.{◌≡◌, ℕ, Bool, List, ◌<◌, ◌≤◌, ◌^◌, IfOk, length, slice_index, true, false};
 ghost use Rattle.grid_core.specs.Board.{has, cells_of, SameShape};
 ghost use Rattle.grid_core.specs.Candidates.{Candidates};
-ghost use Rattle.engine_core.specs.Puzzle.{IsNext, IsKth, has_place};
+ghost use Rattle.engine_core.specs.Puzzle.{IsNext, has_place};
 ghost use Rattle.engine_core.specs.Closing.{HasStruck};
 ghost use Rattle.engine_core.specs.Sets.{IsChange};
 ghost use Rattle.engine_core.specs.Keeping.{AreSetsOf, IsKept};
@@ -15,11 +15,13 @@ ghost use Rattle.fields_core.specs.CountLists.{bounded, bounds_of};
 
 use crate::count::list::{Bounds, CountList};
 use crate::count::tally::{BOTH, Tally};
-use crate::count::visit::{keep_cells, visit_house};
-use engine_core::{Houses, gather, mark_if};
+use engine_core::{Houses, apply, gather, mark_if};
 use grid_core::Board;
 use std::alloc::{AllocError, Global};
 use std::marker::Model;
+
+/// The most cells of a house.
+const MOST_CELLS: usize = 512;
 
 /// The count houses of a board, and for each place those that have it.
 #[derive(Drop)]
@@ -72,7 +74,8 @@ impl CountTable {
         ensures places { result.now ≡ (count_house_of self.now.houses house).places }
         ensures within { (k : ℕ) → k < length result.now
             → slice_index result.now k < self.now.cells }
-        ensures few { length result.now < 2 ^ 32 }
+        ensures few { length result.now ≤ 512 }
+        ensures lawful { IsHouse self.now.cells (count_house_of self.now.houses house) }
     {
         self.houses.places(house)
     }
@@ -127,15 +130,6 @@ impl CountTable {
         self.houses.next_at(place, from)
     }
 
-    /// The house that has the place and has `k` such houses before it.
-    pub(crate) fn house_of(&self, place: usize, k: usize) -> Option<usize>
-        requires { place < self.now.cells }
-        ensures { IsKth (λ h. has_place (count_house_of self.now.houses h).places place)
-            (length self.now.houses) k result }
-    {
-        self.houses.nth_at(place, k)
-    }
-
     /// Strikes what the house strikes, and says whether that was anything.
     pub(crate) fn visit(&self, house: usize, board: &mut Board) -> bool
         requires house_in { house < length self.now.houses }
@@ -147,30 +141,28 @@ impl CountTable {
         ensures unchanged { result ≡ false → has board.new ≡ has board.old }
         ensures changed { result ≡ true → HasStruck (has board.old) (has board.new) }
     {
-        visit_house(board, self.places(house), self.house_bounds(house))
+        let places = self.places(house);
+        let (mut sets, mut kept) = ([0u32; MOST_CELLS], [0u32; MOST_CELLS]);
+        let (sets, kept) = (&mut sets[..places.len()], &mut kept[..places.len()]);
+        self.read(house, board, sets);
+        self.filter(house, sets, kept) && apply(board, places, kept)
     }
 
-    /// Decides by what was counted what a visit of the house keeps of the sets of its cells, and says whether anything
-    /// may be struck.
-    pub(crate) fn keep(
-        &self,
-        house: usize,
-        sets: &[u32],
-        kept: &mut [u32],
-        tallies: &[Tally],
-    ) -> bool
+    /// Decides what a visit of the house keeps of the sets of its cells, and says whether anything may be struck.
+    pub(crate) fn filter(&self, house: usize, sets: &[u32], kept: &mut [u32]) -> bool
         requires house_in { house < length self.now.houses }
+        requires cells { length sets.now ≡ length (count_house_of self.now.houses house).places }
         requires as_many { length kept.old ≡ length sets.now }
-        requires tallied { (K : Candidates) × AreTalliesOf self.now tallies.now K }
         ensures { (blocked : ℕ → Bool) (is_solution : List ℕ → Bool) (K : Candidates)
             → AreSetsOf (table_puzzle blocked is_solution self.now) house K sets.now
-            → AreTalliesOf self.now tallies.now K
             → IsKept (table_puzzle blocked is_solution self.now) house K result kept.new }
     {
-        if !self.calls(house, tallies) {
+        let bounds = self.house_bounds(house);
+        let tally = Tally::of_sets(sets);
+        if !tally.calls(bounds) {
             return false;
         }
-        keep_cells(sets, kept, self.house_bounds(house), tallies[house]);
+        tally.keep(bounds, sets, kept);
         true
     }
 
@@ -195,7 +187,7 @@ impl CountTable {
 
     /// Counts the cells of each house: as if each had both values, and then one cell after the other has its own set, if
     /// that is another.
-    pub(crate) fn follow(&self, board: &Board, tallies: &mut [Tally])
+    pub(crate) fn watch(&self, board: &Board, tallies: &mut [Tally])
         requires cells { cells_of board.now ≡ self.now.cells }
         requires values { board.now.values ≡ 2 }
         requires long { length self.now.houses ≤ length tallies.old }
@@ -230,7 +222,7 @@ impl CountTable {
     }
 
     /// Whether the house may strike anything, by what was counted.
-    pub(crate) fn calls(&self, house: usize, tallies: &[Tally]) -> bool
+    pub(crate) fn may_strike(&self, house: usize, tallies: &[Tally]) -> bool
         requires house_in { house < length self.now.houses }
         requires tallied { (K : Candidates) × AreTalliesOf self.now tallies.now K }
         ensures { result ≡ false → (K : Candidates) → AreTalliesOf self.now tallies.now K
@@ -254,7 +246,7 @@ impl CountTable {
         let houses = self.houses.houses_at(place);
         for k in 0..houses.len() {
             let house = houses[k] as usize;
-            mark_if(waits, house, self.calls(house, tallies));
+            mark_if(waits, house, self.may_strike(house, tallies));
         }
     }
 }

@@ -1,13 +1,11 @@
-//! How many cells of a count house have no 0, have a 1, or have neither.
+//! How many cells of a count house have no 0, have a 1, or have neither, and what a visit keeps by that.
 #![tactic(auto, using(crate::proofs::LawSets::tally_laws))]
 
 ghost use Rattle.std.specs.Prelude.{◌≡◌, ℕ, ◌<◌, ◌^◌, cond, length, slice_index};
-ghost use Rattle.grid_core.specs.Board.{has, cells_of};
-ghost use Rattle.fields_core.specs.Tallies.{IsTally, lacks_filling, kept_of, has_strikes, moved_tally, CanMove};
+ghost use Rattle.fields_core.specs.Tallies.{tally_of, tally_of_one, lacks_filling, kept_of, has_strikes, moved_tally, CanMove};
 
 use crate::count::list::Bounds;
 use engine_core::has_bit;
-use grid_core::Board;
 
 /// The set with both values, as bits.
 pub(crate) const BOTH: u32 = 3;
@@ -39,15 +37,45 @@ impl Tally {
         }
     }
 
+    /// Of a cell whose set has these bits.
+    fn of_one(bits: u32) -> Tally
+        ensures { result ≡ tally_of_one bits }
+    {
+        Tally {
+            must: number(!has_bit(bits, 0)),
+            may: number(has_bit(bits, 1)),
+            empty: number(bits == 0),
+        }
+    }
+
+    /// Of cells with these sets.
+    pub(crate) fn of_sets(sets: &[u32]) -> Tally
+        requires { length sets.now < 2 ^ 32 }
+        ensures { result ≡ tally_of sets.now }
+    {
+        let mut tally = Tally::of_open(0);
+        for k in 0..sets.len() {
+            let one = Tally::of_one(sets[k]);
+            tally = Tally {
+                must: tally.must + one.must,
+                may: tally.may + one.may,
+                empty: tally.empty + one.empty,
+            };
+        }
+        tally
+    }
+
     /// The tally after a cell of the house changed, whose sets have these bits.
     pub(crate) fn moved(self, before: u32, after: u32) -> Tally
         requires { CanMove self before after }
         ensures { result ≡ moved_tally self before after }
     {
+        let had = Tally::of_one(before);
+        let has = Tally::of_one(after);
         Tally {
-            must: self.must - number(!has_bit(before, 0)) + number(!has_bit(after, 0)),
-            may: self.may - number(has_bit(before, 1)) + number(has_bit(after, 1)),
-            empty: self.empty - number(before == 0) + number(after == 0),
+            must: self.must - had.must + has.must,
+            may: self.may - had.may + has.may,
+            empty: self.empty - had.empty + has.empty,
         }
     }
 
@@ -88,25 +116,15 @@ impl Tally {
             | (u64::from(self.may) < u64::from(bounds.least) + open)
             | (u64::from(bounds.most) < u64::from(self.must) + open)
     }
-}
 
-/// Counts over the cells of a house.
-pub(crate) fn count_cells(board: &Board, places: &[u32]) -> Tally
-    requires few { length places.now < 2 ^ 32 }
-    requires places_in { (k : ℕ) → k < length places.now
-        → slice_index places.now k < cells_of board.now }
-    requires values { board.now.values ≡ 2 }
-    ensures { IsTally (has board.now) places.now result }
-{
-    let mut must = 0u32;
-    let mut may = 0u32;
-    let mut empty = 0u32;
-    for k in 0..places.len() {
-        let zero = board.has(places[k] as usize, 0);
-        let one = board.has(places[k] as usize, 1);
-        must += number(!zero);
-        may += number(one);
-        empty += number(!zero & !one);
+    /// Writes what a visit of a house with these bounds keeps of the sets of its cells.
+    pub(crate) fn keep(self, bounds: Bounds, sets: &[u32], kept: &mut [u32])
+        requires { length kept.old ≡ length sets.now }
+        ensures { (k : ℕ) → k < length sets.now
+            → slice_index kept.new k ≡ kept_of self bounds (slice_index sets.now k) }
+    {
+        for k in 0..sets.len() {
+            kept[k] = self.kept(bounds, sets[k]);
+        }
     }
-    Tally { must, may, empty }
 }

@@ -14,7 +14,7 @@ use crate::count::tally::Tally;
 use crate::light_up::cells::{cells, is_white};
 use crate::light_up::check::find_fault;
 use crate::light_up::houses::houses_of_lights;
-use engine_core::{Mode, Rules};
+use engine_core::{Mode, Propagators, Rules, Searchable, TrailPosition};
 use gameid_core::LightPuzzle;
 use grid_core::{Board, Grid};
 use std::alloc::{AllocError, Global};
@@ -74,13 +74,9 @@ fn start_lights(puzzle: &LightPuzzle, board: &mut Board)
 }
 
 impl Rules for LightRules {
-    ghost use Rattle.std.specs.Prelude.{vec_len};
-    ghost use Rattle.std.proofs.Common.{arith};
-    ghost use Rattle.fields_core.specs.Lawful.{light_table};
-    ghost use Rattle.fields_core.specs.Tallies.{AreTalliesOf};
     ghost use Rattle.fields_core.specs.LightLaws.{light-lawful};
 
-    type Scratch = Vec<Tally>;
+    type Scratch = ();
 
     const SETTLED: bool = true;
 
@@ -94,15 +90,13 @@ impl Rules for LightRules {
 
     ghost mode_is = { λ _. refl };
 
-    ghost serves = { λ tallies needs. needs.houses ≤ vec_len tallies };
-
-    ghost follows = { λ r tallies K. AreTalliesOf (light_table r.light) tallies.items K };
+    ghost serves = { λ _ _. Unit {0} };
 
     ghost lawful = { light-lawful };
 
     ghost settled_is = { λ _. refl };
 
-    ghost serves_smaller = { λ tallies need had f s. let le = f.houses_in in Prim.omega arith };
+    ghost serves_smaller = { λ _ _ _ _ _. tt };
 
     fn cells(&self) -> usize {
         cells(&self.puzzle)
@@ -132,50 +126,68 @@ impl Rules for LightRules {
         self.table.house_at(place, from)
     }
 
-    fn house_of(&self, place: usize, k: usize) -> Option<usize> {
-        self.table.house_of(place, k)
-    }
-
     fn start(&self, board: &mut Board) {
         start_lights(&self.puzzle, board);
     }
 
-    fn scratch(&self, alloc: Global) -> Result<Vec<Tally>, AllocError> {
-        self.table.tallies(alloc)
+    fn scratch(&self, _alloc: Global) -> Result<(), AllocError> {
+        Ok(())
     }
 
-    fn visit(&self, house: usize, board: &mut Board, _tallies: &mut Vec<Tally>) -> bool {
+    fn visit(&self, house: usize, board: &mut Board, _scratch: &mut ()) -> bool {
         self.table.visit(house, board)
+    }
+
+    fn accept(&self, _scratch: &mut (), grid: &Grid) -> bool {
+        find_fault(&self.puzzle, grid).is_none()
+    }
+}
+
+impl Propagators for LightRules {
+    ghost use Rattle.std.specs.Prelude.{vec_len};
+    ghost use Rattle.std.proofs.Common.{arith};
+    ghost use Rattle.fields_core.specs.Lawful.{light_table};
+    ghost use Rattle.fields_core.specs.Tallies.{AreTalliesOf};
+
+    type Counts = Vec<Tally>;
+
+    ghost counts_serve = { λ tallies needs. needs.houses ≤ vec_len tallies };
+
+    ghost follows = { λ r tallies K. AreTalliesOf (light_table r.light) tallies.items K };
+
+    ghost counts_smaller = { λ tallies need had f s. let le = f.houses_in in Prim.omega arith };
+
+    fn counts(&self, alloc: Global) -> Result<Vec<Tally>, AllocError> {
+        self.table.tallies(alloc)
     }
 
     fn read(&self, house: usize, board: &Board, sets: &mut [u32]) {
         self.table.read(house, board, sets);
     }
 
-    fn keep(&self, house: usize, sets: &[u32], kept: &mut [u32], tallies: &mut Vec<Tally>) -> bool {
-        self.table.keep(house, sets, kept, tallies)
+    fn filter(&self, house: usize, sets: &[u32], kept: &mut [u32], _scratch: &mut ()) -> bool {
+        self.table.filter(house, sets, kept)
     }
 
-    fn follow(&self, board: &Board, tallies: &mut Vec<Tally>) {
-        self.table.follow(board, tallies);
+    fn watch(&self, board: &Board, tallies: &mut Vec<Tally>) {
+        self.table.watch(board, tallies);
     }
 
     fn change(&self, place: usize, before: u32, after: u32, tallies: &mut Vec<Tally>) {
         self.table.change(place, before, after, tallies);
     }
 
-    fn calls(&self, house: usize, tallies: &Vec<Tally>) -> bool {
-        self.table.calls(house, tallies)
+    fn may_strike(&self, house: usize, tallies: &Vec<Tally>) -> bool {
+        self.table.may_strike(house, tallies)
     }
 
     fn wake(&self, place: usize, tallies: &Vec<Tally>, waits: &mut [u64]) {
         self.table.wake(place, tallies, waits);
     }
+}
 
-    fn accept(&self, _tallies: &mut Vec<Tally>, grid: &Grid) -> bool {
-        match find_fault(&self.puzzle, grid) {
-            None => true,
-            Some(_) => false,
-        }
-    }
+impl Searchable for LightRules {
+    type Position = TrailPosition<LightRules>;
+
+    ghost position_of = { λ _. refl };
 }

@@ -1,7 +1,7 @@
 //! What the rules of Tents are to a search.
 #![tactic(auto, using(crate::proofs::LawSets::tent_rules_laws))]
 
-ghost use Rattle.std.specs.Prelude.{◌≡◌, ◌<◌, true, refl, length, IfOk};
+ghost use Rattle.std.specs.Prelude.{◌≡◌, ◌<◌, ◌≤◌, true, refl, length, IfOk};
 ghost use Rattle.std.specs.List.{list_any};
 ghost use Rattle.grid_core.specs.Regions.{beside};
 ghost use Rattle.engine_core.specs.declared.mode.Mode.TheVariants.{Sweep};
@@ -9,7 +9,7 @@ ghost use Rattle.grid_core.specs.Board.{has, SameShape};
 ghost use Rattle.fields_core.specs.CountHouse.{start_of};
 ghost use Rattle.fields_core.specs.Tents.{tent_cells, tree};
 ghost use Rattle.fields_core.specs.TentHouses.{is_barred, tent_rules};
-ghost use Rattle.fields_core.specs.PairingScratches.{ServesTents};
+ghost use Rattle.fields_core.specs.PairingScratches.{HasRoom};
 ghost use Rattle.fields_core.specs.Lawful.{IsTentCounting};
 
 use crate::count::table::CountTable;
@@ -18,7 +18,7 @@ use crate::tents::cells::{cells, is_tree};
 use crate::tents::check::find_fault;
 use crate::tents::houses::houses_of_tents;
 use crate::tents::pairs::PairingScratch;
-use engine_core::{Mode, Rules};
+use engine_core::{Mode, Propagators, Rules, Searchable, TrailPosition};
 use gameid_core::TentsPuzzle;
 use grid_core::{Board, Grid, step};
 use std::alloc::{AllocError, Global};
@@ -30,13 +30,6 @@ pub struct TentRules {
     puzzle: TentsPuzzle,
     table: CountTable,
     ghost counting: { IsTentCounting puzzle },
-}
-
-/// What searches of Tents work in: what a grid is tested in, and the tallies of the houses.
-#[derive(Drop)]
-pub struct TentWork {
-    pub(crate) pairs: PairingScratch,
-    pub(crate) tallies: Vec<Tally>,
 }
 
 impl Model for TentRules {
@@ -110,11 +103,10 @@ fn start_tents(puzzle: &TentsPuzzle, board: &mut Board)
 }
 
 impl Rules for TentRules {
-    ghost use Rattle.fields_core.specs.Lawful.{tent_table};
-    ghost use Rattle.fields_core.specs.Tallies.{AreTalliesOf};
-    ghost use Rattle.fields_core.specs.TentLaws.{tent-lawful, serves-smaller-tents};
+    ghost use Rattle.std.proofs.Common.{subst, sym};
+    ghost use Rattle.fields_core.specs.TentLaws.{tent-lawful};
 
-    type Scratch = TentWork;
+    type Scratch = PairingScratch;
 
     const SETTLED: bool = true;
 
@@ -128,15 +120,14 @@ impl Rules for TentRules {
 
     ghost mode_is = { λ _. refl };
 
-    ghost serves = { ServesTents };
-
-    ghost follows = { λ r work K. AreTalliesOf (tent_table r.tents) work.tallies.items K };
+    ghost serves = { λ scratch needs. HasRoom scratch needs.cells };
 
     ghost lawful = { tent-lawful };
 
     ghost settled_is = { λ _. refl };
 
-    ghost serves_smaller = { serves-smaller-tents };
+    ghost serves_smaller = { λ scratch need had fits.
+        subst (HasRoom scratch) (sym fits.same_cells) };
 
     fn cells(&self) -> usize {
         cells(&self.puzzle)
@@ -166,53 +157,74 @@ impl Rules for TentRules {
         self.table.house_at(place, from)
     }
 
-    fn house_of(&self, place: usize, k: usize) -> Option<usize> {
-        self.table.house_of(place, k)
-    }
-
     fn start(&self, board: &mut Board) {
         start_tents(&self.puzzle, board);
     }
 
-    fn scratch(&self, alloc: Global) -> Result<TentWork, AllocError> {
-        Ok(TentWork {
-            pairs: PairingScratch::new(alloc, cells(&self.puzzle))?,
-            tallies: self.table.tallies(alloc)?,
-        })
+    fn scratch(&self, alloc: Global) -> Result<PairingScratch, AllocError> {
+        PairingScratch::new(alloc, cells(&self.puzzle))
     }
 
-    fn visit(&self, house: usize, board: &mut Board, _work: &mut TentWork) -> bool {
+    fn visit(&self, house: usize, board: &mut Board, _scratch: &mut PairingScratch) -> bool {
         self.table.visit(house, board)
+    }
+
+    fn accept(&self, scratch: &mut PairingScratch, grid: &Grid) -> bool {
+        find_fault(&self.puzzle, grid, scratch).is_none()
+    }
+}
+
+impl Propagators for TentRules {
+    ghost use Rattle.std.specs.Prelude.{vec_len};
+    ghost use Rattle.std.proofs.Common.{arith};
+    ghost use Rattle.fields_core.specs.Lawful.{tent_table};
+    ghost use Rattle.fields_core.specs.Tallies.{AreTalliesOf};
+
+    type Counts = Vec<Tally>;
+
+    ghost counts_serve = { λ tallies needs. needs.houses ≤ vec_len tallies };
+
+    ghost follows = { λ r tallies K. AreTalliesOf (tent_table r.tents) tallies.items K };
+
+    ghost counts_smaller = { λ tallies need had f s. let le = f.houses_in in Prim.omega arith };
+
+    fn counts(&self, alloc: Global) -> Result<Vec<Tally>, AllocError> {
+        self.table.tallies(alloc)
     }
 
     fn read(&self, house: usize, board: &Board, sets: &mut [u32]) {
         self.table.read(house, board, sets);
     }
 
-    fn keep(&self, house: usize, sets: &[u32], kept: &mut [u32], work: &mut TentWork) -> bool {
-        self.table.keep(house, sets, kept, &work.tallies)
+    fn filter(
+        &self,
+        house: usize,
+        sets: &[u32],
+        kept: &mut [u32],
+        _scratch: &mut PairingScratch,
+    ) -> bool {
+        self.table.filter(house, sets, kept)
     }
 
-    fn follow(&self, board: &Board, work: &mut TentWork) {
-        self.table.follow(board, &mut work.tallies);
+    fn watch(&self, board: &Board, tallies: &mut Vec<Tally>) {
+        self.table.watch(board, tallies);
     }
 
-    fn change(&self, place: usize, before: u32, after: u32, work: &mut TentWork) {
-        self.table.change(place, before, after, &mut work.tallies);
+    fn change(&self, place: usize, before: u32, after: u32, tallies: &mut Vec<Tally>) {
+        self.table.change(place, before, after, tallies);
     }
 
-    fn calls(&self, house: usize, work: &TentWork) -> bool {
-        self.table.calls(house, &work.tallies)
+    fn may_strike(&self, house: usize, tallies: &Vec<Tally>) -> bool {
+        self.table.may_strike(house, tallies)
     }
 
-    fn wake(&self, place: usize, work: &TentWork, waits: &mut [u64]) {
-        self.table.wake(place, &work.tallies, waits);
+    fn wake(&self, place: usize, tallies: &Vec<Tally>, waits: &mut [u64]) {
+        self.table.wake(place, tallies, waits);
     }
+}
 
-    fn accept(&self, work: &mut TentWork, grid: &Grid) -> bool {
-        match find_fault(&self.puzzle, grid, &mut work.pairs) {
-            None => true,
-            Some(_) => false,
-        }
-    }
+impl Searchable for TentRules {
+    type Position = TrailPosition<TentRules>;
+
+    ghost position_of = { λ _. refl };
 }

@@ -1,0 +1,10 @@
+use Rattle.std.proofs.Common.{not, ap, ◌∙◌}
+use Rattle.fields_core.specs.Light.{white, solves_lights}
+use Rattle.fields_core.specs.Lawful.{LawfulLight, light_table}
+use Rattle.fields_core.proofs.light_up.rules.LightRulesPropagators.filter.Goals as goal
+
+pub returns-clause-kept : goal.returns-clause-kept
+returns-clause-kept c = λ K.
+    let p = c.args.self.now.light in
+    rw (c.self.invariant ∙ ap (λ (r : LawfulLight). light_table r.light) c.self.view_is) at
+    (c.filter.ensures (λ d. not (white p d)) (solves_lights p) K)
