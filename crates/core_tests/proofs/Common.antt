@@ -1,8 +1,8 @@
 -- Words and lemmas of std and of the crates below, and words of this crate, as its proofs use them.
-pub use Rattle.std.proofs.Common.{Bool, List, [], ap, arith, eqb, false, inl, inr, length, map, not, refl, set, slice_index, subst, sym, true, ℕ}
-pub use Rattle.std.proofs.Common.{◌&&◌, ◌+◌, ◌-◌, ◌<◌, ◌==◌, ◌∙◌, ◌∷◌, ◌≡◌, ◌≢◌, ◌≤◌}
-pub use Rattle.std.proofs.lemmas.Bool.{and_from, and_left, and_right, eq-eqb, eqb-false, eqb-true, false_from_ne_true, lt-ltb, ne_eqb, not-true}
-pub use Rattle.std.proofs.lemmas.Bool.{not_from_false, or_left, true≢false}
+pub use Rattle.std.proofs.Common.{Bool, List, [], ap, arith, eqb, false, inl, inr, length, ltb, map, not, refl, set, slice_index, subst, sym, true, ℕ}
+pub use Rattle.std.proofs.Common.{◌&&◌, ◌+◌, ◌-◌, ◌<◌, ◌==◌, ◌||◌, ◌∙◌, ◌∷◌, ◌≡◌, ◌≢◌, ◌≤◌}
+pub use Rattle.std.proofs.lemmas.Bool.{and_from, and_left, and_right, cases_Bool, cases_lt, eq-eqb, eqb-false, eqb-true, false_from_ne_true, lt-ltb, ne_eqb, not-true}
+pub use Rattle.std.proofs.lemmas.Bool.{ltb-true, not_from_false, or_left, true≢false}
 pub use Rattle.std.proofs.lemmas.Grind.{common_steps}
 pub use Rattle.std.proofs.lemmas.List.FromFn.{get_or-map-range_with_len, length-map-range_with_len}
 pub use Rattle.std.specs.List.{range_with_len}
@@ -10,15 +10,16 @@ pub use Rattle.grid_core.proofs.CandidateLemmas.{all_below-from, any_below-here,
 pub use Rattle.grid_core.specs.Board.{SameShape}
 unfoldable pub use Rattle.grid_core.specs.Board.{has}
 pub use Rattle.grid_core.specs.Candidates.{Candidates}
-unfoldable pub use Rattle.grid_core.specs.Candidates.{all_of, any_below, count_below, only}
+unfoldable pub use Rattle.grid_core.specs.Candidates.{all_of, any_below, only}
 pub use Rattle.engine_core.specs.Filling.{Fills, Set, has_value, strikes_by_fillings}
 pub use Rattle.engine_core.specs.FillingLaws.{has_value_below, shown_from_test, test_from_shown}
 pub use Rattle.engine_core.specs.House.{IsDecided}
 pub use Rattle.engine_core.specs.HouseLaws.{bits-of_values, kept-decided, sets-of_values, visited-after}
-pub use Rattle.engine_core.specs.Puzzle.{IsBoardOf}
+pub use Rattle.engine_core.specs.Puzzle.{IsBoardOf, Puzzle}
 unfoldable pub use Rattle.engine_core.specs.Puzzle.{after, has_place}
 pub use Rattle.engine_core.specs.Sets.{IsBitsOf, has_bit}
 unfoldable pub use Rattle.engine_core.specs.Sets.{set_of_bits}
+pub use Rattle.engine_core.specs.Waiting.{AreCalled}
 pub use Rattle.pattern_core.specs.LineRules.{line_rules}
 pub use Rattle.core_tests.specs.Neighbours.{differ, neighbours}
 unfoldable pub use Rattle.core_tests.specs.Neighbours.{is_row}

@@ -1,10 +1,11 @@
 -- Steps of the tests' rule set of neighbours.
-use Rattle.core_tests.proofs.Common.{Bool, Fills, IsBitsOf, IsDecided, List, Set, [], all_below-from, and_from, any_below, any_below-none}
-use Rattle.core_tests.proofs.Common.{any_below-some, arith, common_steps, differ, eq-eqb, eqb, eqb-false, eqb-true, false, false_from_ne_true}
-use Rattle.core_tests.proofs.Common.{get_or-map-range_with_len, has_bit, has_place, has_value, has_value_below, inl, inr, is_row, length}
-use Rattle.core_tests.proofs.Common.{length-map-range_with_len, map, ne_eqb, not, not-true, not_from_false, pair-cases, range_with_len, refl}
-use Rattle.core_tests.proofs.Common.{set_of_bits, shown_from_test, slice_index, strikes_by_fillings, sym, test_from_shown, true, ℕ, ◌&&◌, ◌+◌, ◌-◌}
-use Rattle.core_tests.proofs.Common.{◌<◌, ◌∙◌, ◌∷◌, ◌≡◌, ◌≢◌}
+use Rattle.core_tests.proofs.Common.{AreCalled, Bool, Candidates, Fills, IsBitsOf, IsDecided, List, Puzzle, Set, [], all_below-from, and_from}
+use Rattle.core_tests.proofs.Common.{any_below, any_below-none, any_below-some, arith, cases_Bool, cases_lt, common_steps, differ, eq-eqb, eqb}
+use Rattle.core_tests.proofs.Common.{eqb-false, eqb-true, false, false_from_ne_true, get_or-map-range_with_len, has_bit, has_place, has_value}
+use Rattle.core_tests.proofs.Common.{has_value_below, inl, inr, is_row, length, length-map-range_with_len, lt-ltb, ltb, ltb-true, map, ne_eqb, not}
+use Rattle.core_tests.proofs.Common.{not-true, not_from_false, pair-cases, pair-first, pair-second, range_with_len, refl, set_of_bits}
+use Rattle.core_tests.proofs.Common.{shown_from_test, slice_index, strikes_by_fillings, sym, test_from_shown, true, ℕ, ◌&&◌, ◌+◌, ◌-◌, ◌<◌, ◌||◌, ◌∙◌}
+use Rattle.core_tests.proofs.Common.{◌∷◌, ◌≡◌, ◌≢◌}
 
 pub pair-out : (h c : ℕ) → h ≢ c → h + 1 ≢ c → has_place (h ∷ (h + 1) ∷ []) c ≡ false
 pair-out h c a b = false_from_ne_true (has_place (h ∷ (h + 1) ∷ []) c) (λ on. elim (pair-cases h c on) [ inl e ↦ a e | inr e ↦ b e ])
@@ -76,3 +77,13 @@ decided values a b k0 k1 p q = grind (arith, common_steps, first_kept, kept_bit,
 -- a list of two
 pub two-of : (xs : List ℕ) → length xs ≡ 2 → xs ≡ slice_index xs 0 ∷ slice_index xs 1 ∷ []
 two-of xs e = grind (arith, common_steps)
+
+-- ---- the houses that have a place: the one before it, and its own
+its_houses : (cells place j : ℕ) → j < cells - 1
+    → ((ltb 0 place && eqb j (place - 1)) || (ltb (place + 1) cells && eqb j place)) ≡ has_place (j ∷ (j + 1) ∷ []) place
+its_houses cells place j lt = grind (arith, common_steps, cases_Bool, cases_lt, eq-eqb, eqb-true, ltb-true, lt-ltb, ne_eqb, pair-cases, pair-first, pair-second, pair-out)
+
+pub called-beside : (p : Puzzle) (K : Candidates) (cells place : ℕ) (before now after : ℕ → Bool) → p.houses ≡ cells - 1
+    → ((j : ℕ) → now j ≡ (before j || (ltb 0 place && eqb j (place - 1)))) → ((j : ℕ) → after j ≡ (now j || (ltb (place + 1) cells && eqb j place)))
+    → AreCalled p K (λ j. has_place (j ∷ (j + 1) ∷ []) place) before after
+called-beside p K cells place before now after few one two = grind (arith, common_steps, its_houses cells place)

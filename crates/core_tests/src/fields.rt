@@ -3,7 +3,7 @@
 mod light_up;
 mod tents;
 
-use engine_core::{Rules, Store};
+use engine_core::{Rules, Searchable, Store};
 use grid_core::Grid;
 use std::alloc::{AllocError, Global};
 
@@ -29,7 +29,7 @@ fn accepts<R: Rules>(alloc: Global, rules: &R, ones: &[usize]) -> Result<Option<
 }
 
 /// Whether the houses close the board whole, with ones in these cells and in no other.
-fn close_to<R: Rules>(alloc: Global, rules: &R, ones: &[usize]) -> Result<bool, AllocError> {
+fn close_to<R: Searchable>(alloc: Global, rules: &R, ones: &[usize]) -> Result<bool, AllocError> {
     let mut store = Store::new(alloc, rules)?;
     if rules.values() != 2 || !store.settles(rules) {
         return Ok(false);

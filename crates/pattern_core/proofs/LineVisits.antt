@@ -1,15 +1,9 @@
 -- A visit of a line, from its three steps, and the clues that it reads.
-use Rattle.std.proofs.lemmas.Bool.{cases_Bool}
-use Rattle.std.proofs.lemmas.Grind.{common_steps}
 use Rattle.std.proofs.Common.{◌≡◌, ◌∙◌, ℕ, zero, suc, ◌+◌, ◌<◌, ◌≤◌, Bool, false, refl, List, [], ◌∷◌, length, slice_index, get_or, map, sym, ap, subst, arith}
 use Rattle.std.specs.List.{AllByRecursion}
-use Rattle.std.proofs.lemmas.Bool.{true≢false, false_from_ne_true, and_parts, eqb-true}
-use Rattle.std.proofs.Math.Path.{fun_ext}
 use Rattle.grid_core.specs.Board.{Layout, has}
 use Rattle.grid_core.specs.Extent.{Extent}
 use Rattle.grid_core.specs.Candidates.{Candidates}
-use Rattle.grid_core.proofs.BoardLemmas.{has-within}
-use Rattle.grid_core.proofs.CandidateLemmas.{any_below-some}
 use Rattle.grid_core.specs.Lines.{line_cells, lines_of, line_places}
 use Rattle.gameid_core.specs.Puzzles.{Pattern, IsPattern, IsClue, AreClues, used}
 use Rattle.engine_core.specs.Filling.{strikes_by_fillings}
@@ -18,38 +12,24 @@ use Rattle.engine_core.specs.HouseLaws.{visited-after, kept-decided, bits-of_val
 use Rattle.engine_core.specs.Keeping.{AreSetsOf, IsKept}
 use Rattle.engine_core.specs.Puzzle.{IsBoardOf, after}
 use Rattle.engine_core.specs.Sets.{set_of_bits, IsBitsOf}
-use Rattle.engine_core.proofs.QueueLemmas.{within_of}
+use Rattle.engine_core.specs.PositionLaws.{within_of}
 use Rattle.pattern_core.specs.Lines.{has_runs, clue_of, IsDecidedBy}
 use Rattle.pattern_core.specs.LineRules.{line_rules}
 use Rattle.pattern_core.specs.LineLaws.{different_places}
 use Rattle.grid_core.proofs.LineLemmas.{line_short}
 
--- where every bit is kept, the board stays
-all_stays : (b : Layout) (places sets : List ℕ) → ((k : ℕ) → k < length places → IsBitsOf (has b (slice_index places k)) b.values (slice_index sets k))
-    → kept_in places sets (length places) (has b) ≡ has b
-unfolding kept_in
-all_stays b places sets bits = fun_ext λ c. fun_ext λ v. stays c v
-  where
-    stays : (c v : ℕ) → kept_in places sets (length places) (has b) c v ≡ has b c v
-    stays c v = grind (arith, common_steps, cases_Bool, and_parts, any_below-some, eqb-true, false_from_ne_true, true≢false, has-within)
-
 -- a visit that strikes what is not kept
-module _ (p : Pattern) (line : ℕ) (b : Layout) (size : Extent) (places sets : List ℕ) (is : IsBoardOf (line_rules p) b) (sized : size ≡ p.size)
-    (written : places ≡ line_places size line) (long : length sets ≡ length places)
-    (bits : (k : ℕ) → k < length places → IsBitsOf (has b (slice_index places k)) b.values (slice_index sets k))
-    (read : map (set_of_bits b.values) sets ≡ sets_at b.values places (has b)) where
-  pub line_visited : (K : Candidates) (clue kept : List ℕ) → clue ≡ clue_of p line → IsDecidedBy clue sets kept
-      → K ≡ kept_in places kept (length places) (has b) → K ≡ after (line_rules p) line (has b)
-  line_visited K clue kept same decided left =
-      let at : places ≡ line_places p.size line = rw sized at written in
-      let two = is.same_values in
-      visited-after (line_rules p) line (strikes_by_fillings (has_runs (clue_of p line))) (has b) K sets kept (λ L c v. refl)
-      (within_of (line_rules p) b is) (rw at at long) (rw at at (bits-of_values b 2 places sets two bits)) (rw at at (sets-of_values b 2 places sets two read))
-      (rw same at decided) (rw at at left)
-
-  -- one that keeps every bit leaves the board as it is
-  pub none_struck : (clue kept : List ℕ) → clue ≡ clue_of p line → IsDecidedBy clue sets kept → kept ≡ sets → has b ≡ after (line_rules p) line (has b)
-  none_struck clue kept same decided all = line_visited (has b) clue kept same decided (rw all (sym (all_stays b places sets bits)))
+pub line_visited : (p : Pattern) (line : ℕ) (b : Layout) (size : Extent) (K : Candidates) (clue places sets kept : List ℕ) → IsBoardOf (line_rules p) b → size ≡ p.size
+    → clue ≡ clue_of p line → places ≡ line_places size line → length sets ≡ length places
+    → ((k : ℕ) → k < length places → IsBitsOf (has b (slice_index places k)) b.values (slice_index sets k))
+    → map (set_of_bits b.values) sets ≡ sets_at b.values places (has b) → IsDecidedBy clue sets kept
+    → K ≡ kept_in places kept (length places) (has b) → K ≡ after (line_rules p) line (has b)
+line_visited p line b size K clue places sets kept is sized same written long bits read decided left =
+    let at : places ≡ line_places p.size line = rw sized at written in
+    let two = is.same_values in
+    visited-after (line_rules p) line (strikes_by_fillings (has_runs (clue_of p line))) (has b) K sets kept (λ L c v. refl)
+    (within_of (line_rules p) b is) (rw at at long) (rw at at (bits-of_values b 2 places sets two bits)) (rw at at (sets-of_values b 2 places sets two read))
+    (rw same at decided) (rw at at left)
 
 -- what is kept of a line's sets, where its clue was read
 pub line_kept : (p : Pattern) (line : ℕ) (clue : List ℕ) (K : Candidates) (struck : Bool) (sets copied kept : List ℕ) → clue ≡ clue_of p line → AreSetsOf (line_rules p) line K sets → copied ≡ sets

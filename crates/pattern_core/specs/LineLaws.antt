@@ -64,7 +64,7 @@ pub lines_with : (size : Extent) (c line : ℕ) → has_place (line_places size 
 lines_with size c line on = grind (arith, common_steps, cases_lt, on_column, on_row, mod-mul-add, div-mul-add)
 
 -- ---- the bound: a cell is in two lines at most
-pub two_lines : (size : Extent) (c n : ℕ) → count_below (λ h. has_place (line_places size h) c) n ≤ 2
+two_lines : (size : Extent) (c n : ℕ) → count_below (λ h. has_place (line_places size h) c) n ≤ 2
 two_lines size c n =
     let both = count_below-or (λ h. eqb h (c % size.w)) (λ h. eqb h (size.w + c / size.w)) (λ h. has_place (line_places size h) c) n
     (λ h _ on. elim (lines_with size c h on) [ inl e ↦ inl (eq-eqb h (c % size.w) e) | inr e ↦ inr (eq-eqb h (size.w + c / size.w) e) ]) in

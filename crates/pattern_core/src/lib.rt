@@ -15,4 +15,4 @@ mod track;
 pub use check::check_pattern;
 pub use fault::PatternFault;
 pub use laws::{accepted_are_solutions, rules_are_lawful};
-pub use lines::{LineScratch, PatternLines};
+pub use lines::{LineCounts, LineScratch, PatternLines};

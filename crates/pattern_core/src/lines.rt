@@ -1,6 +1,6 @@
 //! The lines of a puzzle as the houses of a search: the columns from the left, and then the rows from the top.
 
-ghost use Rattle.std.specs.Prelude.{◌≡◌, ◌+◌, ◌<◌, ◌≤◌, IfOk, true, false, length, refl};
+ghost use Rattle.std.specs.Prelude.{◌≡◌, ◌<◌, ◌≤◌, IfOk, true, length, refl};
 ghost use Rattle.grid_core.specs.Extent.{IsExtent, max_side};
 ghost use Rattle.grid_core.specs.Board.{has, cells_of, SameShape};
 ghost use Rattle.grid_core.specs.Lines.{lines_of};
@@ -16,7 +16,7 @@ ghost use Rattle.pattern_core.specs.LineRules.{line_rules, GoesAlong, CallsLine}
 use crate::line_cells::write_places;
 use crate::line_clue::{LONGEST, LineClue, Rows};
 use crate::table::BOTH;
-use engine_core::{Mode, Rules, apply, gather, mark};
+use engine_core::{Mode, Propagators, Rules, Searchable, TrailPosition, apply, gather, mark};
 use gameid_core::PatternPuzzle;
 use grid_core::{Board, Grid, Size, line_count, line_len, line_place};
 use std::alloc::{AllocError, Global};
@@ -47,18 +47,15 @@ impl Model for PatternLines {
     ghost invariant = { λ r. IsPattern (pattern_of r.size r.clues.items) };
 }
 
-/// Room for a visit of a line.
-#[derive(Drop)]
-struct LineRoom {
-    places: [u32; LONGEST],
-    sets: [u32; LONGEST],
-    rows: Rows,
-}
-
-/// What a visit of a line works in, and whether each cell of the board is known to have both values.
+/// What a visit of a line works in.
 #[derive(Drop)]
 pub struct LineScratch {
-    room: Box<LineRoom>,
+    rows: Box<Rows>,
+}
+
+/// What is counted of a board: whether each cell is known to have both values.
+#[derive(Drop)]
+pub struct LineCounts {
     fresh: bool,
 }
 
@@ -116,43 +113,14 @@ impl PatternLines {
         &self.clues[line]
     }
 
-    /// Visits a line, and works in the first parts of the slices.
-    fn visit_in(
-        &self,
-        line: usize,
-        board: &mut Board,
-        places: &mut [u32],
-        sets: &mut [u32],
-        rows: &mut Rows,
-    ) -> bool
-        requires line { line < lines_of self.now.pattern.size }
-        requires board_of { IsBoardOf (line_rules self.now.pattern) board.old }
-        requires places { length places.old ≡ max_side }
-        requires sets { length sets.old ≡ max_side }
-        ensures left { has board.new ≡ after (line_rules self.now.pattern) line (has board.old) }
-        ensures shape { SameShape board.old board.new }
-        ensures unchanged { result ≡ false → has board.new ≡ has board.old }
-        ensures changed { result ≡ true → HasStruck (has board.old) (has board.new) }
-    {
-        let size = self.size();
-        let cells = line_len(size, line);
-        let (places, sets) = (&mut places[..cells], &mut sets[..cells]);
-        write_places(size, line, places);
-        gather(board, places, sets);
-        if !self.clue(line).keep(sets, rows) {
-            return false;
-        }
-        apply(board, places, sets)
-    }
-
     /// Marks the line, unless it strikes nothing.
-    fn wake_line(&self, line: usize, scratch: &LineScratch, waits: &mut [u64])
+    fn wake_line(&self, line: usize, counts: &LineCounts, waits: &mut [u64])
         requires line_in { line < lines_of self.now.pattern.size }
         requires room { words_of (lines_of self.now.pattern.size) ≤ length waits.old }
-        requires follows { (K : Candidates) × GoesAlong self.now.pattern scratch.now.fresh K }
-        ensures { CallsLine self.now.pattern scratch.now.fresh line waits.old waits.new }
+        requires follows { (K : Candidates) × GoesAlong self.now.pattern counts.now.fresh K }
+        ensures { CallsLine self.now.pattern counts.now.fresh line waits.old waits.new }
     {
-        if self.calls(line, scratch) {
+        if self.may_strike(line, counts) {
             mark(waits, line);
         }
     }
@@ -176,8 +144,6 @@ impl Rules for PatternLines {
     ghost mode_is = { λ _. refl };
 
     ghost serves = { λ _ _. Unit {0} };
-
-    ghost follows = { λ r scratch. GoesAlong r.pattern scratch.fresh };
 
     ghost lawful = { λ r. line_rules-lawful r.pattern r.extent };
 
@@ -224,82 +190,25 @@ impl Rules for PatternLines {
         None
     }
 
-    fn house_of(&self, place: usize, k: usize) -> Option<usize> {
-        let w = self.columns();
-        match k {
-            0 => Some(place % w),
-            1 => Some(w + place / w),
-            _ => None,
-        }
-    }
-
     fn start(&self, board: &mut Board) {
         board.fill();
     }
 
     fn scratch(&self, alloc: Global) -> Result<LineScratch, AllocError> {
-        let room = LineRoom {
-            places: [0; LONGEST],
-            sets: [0; LONGEST],
-            rows: Rows::new(),
-        };
         Ok(LineScratch {
-            room: Box::new(alloc, room)?,
-            fresh: false,
+            rows: Box::new(alloc, Rows::new())?,
         })
     }
 
     fn visit(&self, house: usize, board: &mut Board, scratch: &mut LineScratch) -> bool {
-        let room: &mut LineRoom = &mut scratch.room;
-        self.visit_in(
-            house,
-            board,
-            &mut room.places,
-            &mut room.sets,
-            &mut room.rows,
-        )
-    }
-
-    #[tactic(auto, using(grid_core::proofs::LineLemmas::line_laws))]
-    fn read(&self, house: usize, board: &Board, sets: &mut [u32]) {
         let size = self.size();
-        for k in 0..sets.len() {
-            sets[k] = board.bits(line_place(size, house, k));
-        }
-    }
-
-    #[tactic(auto, using(grid_core::proofs::LineLemmas::line_laws))]
-    fn keep(
-        &self,
-        house: usize,
-        sets: &[u32],
-        kept: &mut [u32],
-        scratch: &mut LineScratch,
-    ) -> bool {
-        kept.copy_from_slice(sets);
-        let room: &mut LineRoom = &mut scratch.room;
-        self.clue(house).keep(kept, &mut room.rows)
-    }
-
-    fn follow(&self, board: &Board, scratch: &mut LineScratch) {
-        scratch.fresh = is_fresh(board, self.cells());
-    }
-
-    fn change(&self, _place: usize, _before: u32, _after: u32, scratch: &mut LineScratch) {
-        scratch.fresh = false;
-    }
-
-    fn calls(&self, house: usize, scratch: &LineScratch) -> bool {
-        if scratch.fresh && self.clue(house).is_roomy(line_len(self.size(), house)) {
-            return false;
-        }
-        true
-    }
-
-    fn wake(&self, place: usize, scratch: &LineScratch, waits: &mut [u64]) {
-        let w = self.columns();
-        self.wake_line(place % w, scratch, waits);
-        self.wake_line(w + place / w, scratch, waits);
+        let cells = line_len(size, house);
+        let (mut places, mut sets) = ([0; LONGEST], [0; LONGEST]);
+        let (places, sets) = (&mut places[..cells], &mut sets[..cells]);
+        write_places(size, house, places);
+        gather(board, places, sets);
+        self.clue(house).keep(sets, &mut scratch.rows);
+        apply(board, places, sets)
     }
 
     #[tactic(auto, using(crate::proofs::LineSteps::line_tests), unfolding(crate::specs::LineRules::is_pattern_solution))]
@@ -311,4 +220,57 @@ impl Rules for PatternLines {
         }
         true
     }
+}
+
+impl Propagators for PatternLines {
+    type Counts = LineCounts;
+
+    ghost counts_serve = { λ _ _. Unit {0} };
+
+    ghost follows = { λ r counts. GoesAlong r.pattern counts.fresh };
+
+    ghost counts_smaller = { λ _ _ _ _ _. tt };
+
+    fn counts(&self, _alloc: Global) -> Result<LineCounts, AllocError> {
+        Ok(LineCounts { fresh: false })
+    }
+
+    #[tactic(auto, using(grid_core::proofs::LineLemmas::line_laws))]
+    fn filter(
+        &self,
+        house: usize,
+        sets: &[u32],
+        kept: &mut [u32],
+        scratch: &mut LineScratch,
+    ) -> bool {
+        kept.copy_from_slice(sets);
+        self.clue(house).keep(kept, &mut scratch.rows)
+    }
+
+    fn watch(&self, board: &Board, counts: &mut LineCounts) {
+        counts.fresh = is_fresh(board, self.cells());
+    }
+
+    fn change(&self, _place: usize, _before: u32, _after: u32, counts: &mut LineCounts) {
+        counts.fresh = false;
+    }
+
+    fn may_strike(&self, house: usize, counts: &LineCounts) -> bool {
+        if counts.fresh && self.clue(house).is_roomy(line_len(self.size(), house)) {
+            return false;
+        }
+        true
+    }
+
+    fn wake(&self, place: usize, counts: &LineCounts, waits: &mut [u64]) {
+        let w = self.columns();
+        self.wake_line(place % w, counts, waits);
+        self.wake_line(w + place / w, counts, waits);
+    }
+}
+
+impl Searchable for PatternLines {
+    type Position = TrailPosition<PatternLines>;
+
+    ghost position_of = { λ _. refl };
 }

@@ -6,7 +6,7 @@ ghost use Rattle.engine_core.specs.Puzzle.{FitsIn, needs_of};
 
 use super::neighbours::Neighbours;
 use super::swept::Swept;
-use engine_core::{Closing, Rules, Sizes, Store};
+use engine_core::{Closing, Rules, Searchable, Sizes, Store};
 use grid_core::Board;
 use std::alloc::{AllocError, Global};
 use std::test::Fail;
@@ -85,7 +85,7 @@ fn agrees(board: &Board, plain: &Plain, values: u8) -> bool
 }
 
 /// Closes the start board, and says whether the answer, the board and what was written down are as they should be.
-fn closes_as<R: Rules>(
+fn closes_as<R: Searchable>(
     store: &mut Store<R>,
     rules: &R,
     plain: &Plain,
@@ -110,7 +110,7 @@ fn closes_as<R: Rules>(
 }
 
 /// The same of a new store, and whether it settles the board.
-fn closes_anew<R: Rules>(
+fn closes_anew<R: Searchable>(
     alloc: Global,
     rules: &R,
     plain: &Plain,
@@ -179,7 +179,11 @@ fn sweeps_reach_the_plain_closure(rt: HostRuntime) -> Result<(), Fail> {
 }
 
 /// The sizes of a new store of the rules, and whether it has room for them and for others.
-fn room<R: Rules>(alloc: Global, rules: &R, others: &R) -> Result<(Sizes, [bool; 2]), AllocError> {
+fn room<R: Searchable>(
+    alloc: Global,
+    rules: &R,
+    others: &R,
+) -> Result<(Sizes, [bool; 2]), AllocError> {
     let store = Store::new(alloc, rules)?;
     Ok((store.sizes(), [store.fits(rules), store.fits(others)]))
 }

@@ -8,7 +8,9 @@ ghost use Rattle.engine_core.specs.House.{IsDecided};
 ghost use Rattle.core_tests.specs.Neighbours.{neighbours, differ};
 ghost use Rattle.engine_core.specs.declared.mode.Mode.TheVariants.{Queue};
 
-use engine_core::{Mode, Rules, apply, gather, has_bit};
+use engine_core::{
+    Mode, Propagators, Rules, Searchable, TrailPosition, apply, gather, has_bit, mark_if,
+};
 use grid_core::{Board, Grid};
 use std::alloc::{AllocError, Global};
 
@@ -85,8 +87,6 @@ impl Rules for Neighbours {
 
     ghost serves = { λ _ _. Unit {0} };
 
-    ghost follows = { λ _ _ _. Unit {0} };
-
     ghost lawful = { λ r. neighbours-lawful true r.cells r.values r.first r.last r.two r.few_cells
         r.some r.few_values };
 
@@ -128,17 +128,6 @@ impl Rules for Neighbours {
         Some(place)
     }
 
-    fn house_of(&self, place: usize, k: usize) -> Option<usize> {
-        let mut from = 0;
-        for _before in 0..k {
-            match self.house_at(place, from) {
-                Some(found) => from = found + 1,
-                None => return None,
-            }
-        }
-        self.house_at(place, from)
-    }
-
     fn start(&self, board: &mut Board) {
         board.fill();
         board.keep_only(0, self.first);
@@ -158,19 +147,6 @@ impl Rules for Neighbours {
         apply(board, &places, &kept)
     }
 
-    fn keep(&self, _house: usize, sets: &[u32], kept: &mut [u32], _scratch: &mut ()) -> bool {
-        keep(self.values, sets, kept);
-        true
-    }
-
-    fn follow(&self, _board: &Board, _scratch: &mut ()) {}
-
-    fn change(&self, _place: usize, _before: u32, _after: u32, _scratch: &mut ()) {}
-
-    fn calls(&self, _house: usize, _scratch: &()) -> bool {
-        true
-    }
-
     fn accept(&self, _scratch: &mut (), grid: &Grid) -> bool {
         if grid.get(0) != self.first {
             return false;
@@ -185,4 +161,42 @@ impl Rules for Neighbours {
         }
         true
     }
+}
+
+impl Propagators for Neighbours {
+    type Counts = ();
+
+    ghost counts_serve = { λ _ _. Unit {0} };
+
+    ghost follows = { λ _ _ _. Unit {0} };
+
+    ghost counts_smaller = { λ _ _ _ _ _. tt };
+
+    fn counts(&self, _alloc: Global) -> Result<(), AllocError> {
+        Ok(())
+    }
+
+    fn filter(&self, _house: usize, sets: &[u32], kept: &mut [u32], _scratch: &mut ()) -> bool {
+        keep(self.values, sets, kept);
+        true
+    }
+
+    fn watch(&self, _board: &Board, _counts: &mut ()) {}
+
+    fn change(&self, _place: usize, _before: u32, _after: u32, _counts: &mut ()) {}
+
+    fn may_strike(&self, _house: usize, _counts: &()) -> bool {
+        true
+    }
+
+    fn wake(&self, place: usize, _counts: &(), waits: &mut [u64]) {
+        mark_if(waits, place.saturating_sub(1), place > 0);
+        mark_if(waits, place, place + 1 < self.cells);
+    }
+}
+
+impl Searchable for Neighbours {
+    type Position = TrailPosition<Neighbours>;
+
+    ghost position_of = { λ _. refl };
 }

@@ -5,7 +5,7 @@ ghost use Rattle.engine_core.specs.Puzzle.{FitsIn, needs_of};
 
 use super::neighbours::Neighbours;
 use super::swept::Swept;
-use engine_core::{Rules, Store, Verdict};
+use engine_core::{Searchable, Store, Verdict};
 use grid_core::Grid;
 use std::alloc::{AllocError, Global};
 use std::test::Fail;
@@ -45,7 +45,7 @@ fn holds(grid: Option<&Grid>, numbers: &[u8; 5]) -> bool {
 
 /// Whether a search with the budget gives this verdict after so many trials, with so many open at once. Each closing
 /// of these rules makes one visit or sweep at least.
-fn gives<R: Rules>(
+fn gives<R: Searchable>(
     store: &mut Store<R>,
     rules: &R,
     budget: u64,
@@ -62,7 +62,7 @@ fn gives<R: Rules>(
 }
 
 /// The same of a new store.
-fn gives_anew<R: Rules>(
+fn gives_anew<R: Searchable>(
     alloc: Global,
     rules: &R,
     budget: u64,
@@ -103,7 +103,7 @@ fn searches_stop_at_the_very_trial(rt: HostRuntime) -> Result<(), Fail> {
 }
 
 /// Which grids are lent: the first row, the second row, and whether each is there at all.
-fn lent<R: Rules>(store: &Store<R>) -> [bool; 4] {
+fn lent<R: Searchable>(store: &Store<R>) -> [bool; 4] {
     [
         holds(store.first(), &FIRST),
         holds(store.second(), &SECOND),

@@ -5,7 +5,7 @@ ghost use Rattle.core_tests.specs.Neighbours.{neighbours};
 ghost use Rattle.engine_core.specs.declared.mode.Mode.TheVariants.{Sweep};
 
 use super::neighbours::Neighbours;
-use engine_core::{Mode, Rules};
+use engine_core::{Mode, Propagators, Rules, Searchable, TrailPosition};
 use grid_core::{Board, Grid};
 use std::alloc::{AllocError, Global};
 
@@ -33,8 +33,6 @@ impl Rules for Swept {
     ghost mode_is = { λ _. refl };
 
     ghost serves = { λ _ _. Unit {0} };
-
-    ghost follows = { λ _ _ _. Unit {0} };
 
     ghost lawful = { λ r. neighbours-lawful false r.row.cells r.row.values r.row.first r.row.last
         r.row.two r.row.few_cells r.row.some r.row.few_values };
@@ -71,10 +69,6 @@ impl Rules for Swept {
         self.row.house_at(place, from)
     }
 
-    fn house_of(&self, place: usize, k: usize) -> Option<usize> {
-        self.row.house_of(place, k)
-    }
-
     fn start(&self, board: &mut Board) {
         self.row.start(board);
     }
@@ -87,19 +81,43 @@ impl Rules for Swept {
         self.row.visit(house, board, scratch)
     }
 
-    fn keep(&self, house: usize, sets: &[u32], kept: &mut [u32], scratch: &mut ()) -> bool {
-        self.row.keep(house, sets, kept, scratch)
-    }
-
-    fn follow(&self, _board: &Board, _scratch: &mut ()) {}
-
-    fn change(&self, _place: usize, _before: u32, _after: u32, _scratch: &mut ()) {}
-
-    fn calls(&self, _house: usize, _scratch: &()) -> bool {
-        true
-    }
-
     fn accept(&self, scratch: &mut (), grid: &Grid) -> bool {
         self.row.accept(scratch, grid)
     }
+}
+
+impl Propagators for Swept {
+    type Counts = ();
+
+    ghost counts_serve = { λ _ _. Unit {0} };
+
+    ghost follows = { λ _ _ _. Unit {0} };
+
+    ghost counts_smaller = { λ _ _ _ _ _. tt };
+
+    fn counts(&self, alloc: Global) -> Result<(), AllocError> {
+        self.row.counts(alloc)
+    }
+
+    fn filter(&self, house: usize, sets: &[u32], kept: &mut [u32], scratch: &mut ()) -> bool {
+        self.row.filter(house, sets, kept, scratch)
+    }
+
+    fn watch(&self, _board: &Board, _counts: &mut ()) {}
+
+    fn change(&self, _place: usize, _before: u32, _after: u32, _counts: &mut ()) {}
+
+    fn may_strike(&self, _house: usize, _counts: &()) -> bool {
+        true
+    }
+
+    fn wake(&self, place: usize, counts: &(), waits: &mut [u64]) {
+        self.row.wake(place, counts, waits);
+    }
+}
+
+impl Searchable for Swept {
+    type Position = TrailPosition<Swept>;
+
+    ghost position_of = { λ _. refl };
 }

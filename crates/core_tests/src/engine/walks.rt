@@ -4,7 +4,7 @@ ghost use Rattle.engine_core.specs.Puzzle.{FitsIn, needs_of};
 
 use super::neighbours::Neighbours;
 use super::swept::Swept;
-use engine_core::{Rules, Store, Verdict};
+use engine_core::{Searchable, Store, Verdict};
 use grid_core::Grid;
 use std::alloc::{AllocError, Global};
 use std::test::Fail;
@@ -207,7 +207,7 @@ fn is_same(lent: Option<&Grid>, found: &Option<[usize; CELLS]>, cells: usize) ->
 }
 
 /// Whether a search with the budget goes as the plain walk of the row does.
-fn goes_as_the_walk<R: Rules>(
+fn goes_as_the_walk<R: Searchable>(
     store: &mut Store<R>,
     rules: &R,
     numbers: [usize; 4],
@@ -226,7 +226,7 @@ fn goes_as_the_walk<R: Rules>(
 }
 
 /// The same of each budget up to one past the trials of the whole walk. One store serves them all.
-fn go_as_the_walks<R: Rules>(
+fn go_as_the_walks<R: Searchable>(
     alloc: Global,
     rules: &R,
     numbers: [usize; 4],

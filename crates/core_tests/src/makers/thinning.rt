@@ -2,7 +2,7 @@
 
 ghost use Rattle.std.specs.Prelude.{◌<◌, IfOk, length};
 
-use engine_core::{Rules, Store, Verdict};
+use engine_core::{Searchable, Store, Verdict};
 use fields_core::LightRules;
 use gameid_core::{LightCell, LightPuzzle, SoloPuzzle, read_solo};
 use grid_core::Size;
@@ -12,14 +12,18 @@ use std::alloc::{AllocError, Global};
 use std::test::Fail;
 
 /// A store that has served a search of the rules.
-fn used_store<R: Rules>(alloc: Global, rules: &R, budget: u64) -> Result<Store<R>, AllocError> {
+fn used_store<R: Searchable>(
+    alloc: Global,
+    rules: &R,
+    budget: u64,
+) -> Result<Store<R>, AllocError> {
     let mut store = Store::new(alloc, rules)?;
     store.solve(rules, budget);
     Ok(store)
 }
 
 /// What a search of the rules counts in a store that has room for them.
-fn counted<R: Rules>(
+fn counted<R: Searchable>(
     store: &mut Store<R>,
     rules: &R,
     budget: u64,
@@ -32,7 +36,7 @@ fn counted<R: Rules>(
 }
 
 /// Whether a search of the rules, in a store that was used, goes as in a new one.
-fn goes_as_new<R: Rules>(
+fn goes_as_new<R: Searchable>(
     alloc: Global,
     rules: &R,
     used: &mut Store<R>,

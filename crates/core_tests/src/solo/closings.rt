@@ -1,6 +1,6 @@
 //! Worked examples of closings, and the room of a store.
 
-use engine_core::{Closing, Rules, Sizes, Store};
+use engine_core::{Closing, Searchable, Sizes, Store};
 use gameid_core::read_solo;
 use solo_core::{Crossings, Fillings, Singles, SoloRules, Strikes};
 use std::alloc::{AllocError, Global};
@@ -19,7 +19,7 @@ fn rules_of<S: Strikes>(alloc: Global, id: &[u8]) -> Result<SoloRules<S>, Fail> 
 }
 
 /// Which values a closing leaves the cell, as bits: none where it shows a contradiction.
-fn left_by<R: Rules>(alloc: Global, rules: &R, place: usize) -> Result<u32, AllocError> {
+fn left_by<R: Searchable>(alloc: Global, rules: &R, place: usize) -> Result<u32, AllocError> {
     let mut store = Store::new(alloc, rules)?;
     if place >= rules.cells() || store.close(rules) != Closing::Open {
         return Ok(0);

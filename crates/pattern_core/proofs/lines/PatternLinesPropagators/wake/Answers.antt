@@ -1,7 +1,7 @@
 use Rattle.engine_core.proofs.CallLemmas.{called-more, called-same}
 use Rattle.pattern_core.specs.LineRules.{line_rules}
 use Rattle.pattern_core.proofs.NextLine.{its_lines}
-use Rattle.pattern_core.proofs.lines.PatternLinesRules.wake.Goals as goal
+use Rattle.pattern_core.proofs.lines.PatternLinesPropagators.wake.Goals as goal
 
 pub returns : goal.returns
 returns c = record {
