@@ -5,11 +5,11 @@ use Rattle.grid_core.specs.Candidates.{Candidates, IsWithin, any_below, is_dead,
 use Rattle.grid_core.proofs.CandidateLemmas.{any_below-none, any_below-some, within_inside}
 use Rattle.engine_core.specs.Puzzle.{IsLawful, Puzzle, after}
 use Rattle.engine_core.specs.ClosingList.{IsAlive, IsClosingList, IsClosingSweeps}
-use Rattle.engine_core.specs.Queue.{IsRested, IsSweep, IsWoken, but, counts_of, empties, woken}
+use Rattle.engine_core.specs.Queue.{IsRested, IsWoken, but, counts_of, woken}
 use Rattle.engine_core.proofs.ClosingLemmas.{after_inside}
 use Rattle.engine_core.proofs.ListLemmas.{IsRunning, closing-dead, closing-none, closing-open, running-first, running-turn}
-use Rattle.engine_core.proofs.QueueLemmas.{emptied-dead, visits_left-pos}
-use Rattle.engine_core.proofs.SweepLemmas.{IsSweeping, IsSwept, ended-dead, fewer, sweep-alive, sweep-whole, sweeping-first, sweeping-turn, swept-first, swept-open, swept-turn}
+use Rattle.engine_core.proofs.QueueLemmas.{visits_left-pos}
+use Rattle.engine_core.proofs.SweepLemmas.{IsSweeping, IsSwept, fewer, sweep-whole, sweeping-first, sweeping-turn, swept-dead, swept-first, swept-open, swept-turn}
 
 -- after a visit all wait that it wakes
 abbrev wakes : Puzzle → ℕ → Candidates → (ℕ → Bool) → ℕ → Bool
@@ -29,20 +29,16 @@ visited_within p h K within = within_inside p.cells p.values (after p h K) K wit
 record Sweeping (p : Puzzle) (K : Candidates) (n : ℕ) : Type 0 where
   board : Candidates
   waits : ℕ → Bool
-  dead : Bool
-  sweeping : IsSweeping p K n board waits dead
+  sweeping : IsSweeping p K n board waits
   within : IsWithin p.cells p.values board
 
 module _ (p : Puzzle) (laws : IsLawful p) where
-  swept : (K : Candidates) → IsAlive p K → IsWithin p.cells p.values K → (n : ℕ) → n ≤ p.houses → Sweeping p K n
-  swept K alive within zero le =
-      record { board = K; waits = λ h. true; dead = false; sweeping = sweeping-first p K (λ h. true) alive (all_rested p K); within = within }
-  swept K alive within (suc n) le =
-      let s : Sweeping p K n = swept K alive within n (omega arith) in
-      let turn = sweeping-turn p laws K n s.board (after p n s.board) s.waits (wakes p n s.board s.waits) s.dead
-      (any_below (empties p n (counts_of p n s.board) (after p n s.board)) (length (p.scope n))) s.sweeping (omega arith) s.within refl
-      (woken_is p n s.board s.waits) (emptied-dead p laws n s.board (after p n s.board) (omega arith) refl) in
-      record { board = _; waits = _; dead = _; sweeping = rw add-one at turn; within = visited_within p n s.board s.within }
+  swept : (K : Candidates) → IsWithin p.cells p.values K → (n : ℕ) → n ≤ p.houses → Sweeping p K n
+  swept K within zero le = record { board = K; waits = λ h. true; sweeping = sweeping-first p K (λ h. true) (all_rested p K); within = within }
+  swept K within (suc n) le =
+      let s : Sweeping p K n = swept K within n (omega arith) in
+      let turn = sweeping-turn p laws K n s.board (after p n s.board) s.waits (wakes p n s.board s.waits) s.sweeping (omega arith) s.within refl (woken_is p n s.board s.waits) in
+      record { board = _; waits = _; sweeping = rw add-one at turn; within = visited_within p n s.board s.within }
 
   module _ (K0 : Candidates) (by_sweeps : p.by_queue ≡ false) (start : IsWithin p.cells p.values K0) where
     -- one sweep more closes the board, or leaves fewer values
@@ -51,20 +47,19 @@ module _ (p : Puzzle) (laws : IsLawful p) where
         → (sweeps : ℕ) × IsClosingSweeps p K0 sweeps)
         → (sweeps : ℕ) × IsClosingSweeps p K0 sweeps
     one_sweep n K alive within done again =
-        let s : Sweeping p K p.houses = swept K alive within p.houses (omega arith) in
-        let w : IsSweep p K s.board s.waits true s.dead = sweep-whole p K s.board s.waits true s.dead s.sweeping in
-        elim (cases_Bool s.dead) [
-          | inl dies ↦ (n + 1, ((ended-dead p laws K0 n K s.board s.waits true s.dead by_sweeps start alive done w dies).closing.by_sweeps by_sweeps).1)
+        let s : Sweeping p K p.houses = swept K within p.houses (omega arith) in
+        let w = s.sweeping in
+        elim (cases_Bool (is_dead p.cells p.values s.board)) [
+          | inl dies ↦ (n + 1, ((swept-dead p laws K0 n K by_sweeps start alive done (rw w.left at dies)).by_sweeps by_sweeps).1)
           | inr lives ↦
-              let whole = sweep-alive p K s.board s.waits true s.dead w lives in
               elim (cases_Bool (any_below s.waits p.houses)) [
                 | inl some ↦
                     let h = any_below-some s.waits p.houses some in
-                    let lost = w.struck lives h.0 h.1 h.2 in
-                    again s.board (fewer p K s.board within whole lost) (w.dead_is ∙ lives) s.within (swept-turn p K0 n K s.board done within whole lost (w.dead_is ∙ lives))
+                    let lost = w.struck h.0 h.1 h.2 in
+                    again s.board (fewer p K s.board within w.left lost) lives s.within (swept-turn p K0 n K s.board done within w.left lost lives)
                 | inr none ↦ (
                   n + 1,
-                  ((swept-open p laws K0 n K s.board s.waits by_sweeps start alive done whole (w.dead_is ∙ lives) w.rested (any_below-none s.waits p.houses none)).by_sweeps by_sweeps).1,
+                  ((swept-open p laws K0 n K s.board s.waits by_sweeps start alive done (sweep-whole p K s.board s.waits w lives) (any_below-none s.waits p.houses none)).by_sweeps by_sweeps).1,
                 )
               ]
         ]
