@@ -236,6 +236,14 @@ impl Propagators for PatternLines {
     }
 
     #[tactic(auto, using(grid_core::proofs::LineLemmas::line_laws))]
+    fn read(&self, house: usize, board: &Board, sets: &mut [u32]) {
+        let size = self.size();
+        for k in 0..sets.len() {
+            sets[k] = board.bits(line_place(size, house, k));
+        }
+    }
+
+    #[tactic(auto, using(grid_core::proofs::LineLemmas::line_laws))]
     fn filter(
         &self,
         house: usize,

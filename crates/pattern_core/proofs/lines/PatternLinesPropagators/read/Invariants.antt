@@ -1,0 +1,8 @@
+use Rattle.std.proofs.Common.{ℕ, ◌<◌, slice_index}
+use Rattle.grid_core.specs.Board.{has}
+use Rattle.engine_core.specs.Sets.{IsBitsOf}
+use Rattle.grid_core.specs.Lines.{line_places}
+use Rattle.pattern_core.proofs.lines.PatternLinesPropagators.read.Given as goal
+
+abbrev pub invariant-loop-k : goal.invariant-loop-k
+invariant-loop-k l = (j : ℕ) → j < l.k → IsBitsOf (has l.board (slice_index (line_places l.size l.house) j)) l.board.values (slice_index l.sets j)
