@@ -11,7 +11,11 @@ use std::alloc::{AllocError, Global};
 /// # Errors
 ///
 /// When memory was refused.
-pub(crate) fn is_unique<R: Searchable>(alloc: Global, rules: &R, budget: u64) -> Result<bool, AllocError>
+pub(crate) fn is_unique<R: Searchable>(
+    alloc: Global,
+    rules: &R,
+    budget: u64,
+) -> Result<bool, AllocError>
     ensures verdict { IfOk result (λ unique. unique ≡ has_one (R.puzzle rules.now) budget) }
     ensures only { IfOk result (λ yes. yes ≡ true → HasOne (R.puzzle rules.now) budget) }
 {

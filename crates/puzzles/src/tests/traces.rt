@@ -82,7 +82,11 @@ fn closes_to<R: Searchable>(alloc: Global, rules: &R, board: &Board) -> Result<b
 }
 
 /// Whether a closing by the rules leaves the board that these visits leave.
-fn is_closed_by<R: Searchable>(alloc: Global, rules: &R, visits: &[usize]) -> Result<bool, AllocError> {
+fn is_closed_by<R: Searchable>(
+    alloc: Global,
+    rules: &R,
+    visits: &[usize],
+) -> Result<bool, AllocError> {
     let board = replayed(alloc, rules, visits)?;
     closes_to(alloc, rules, &board)
 }
@@ -220,7 +224,11 @@ fn sweeps_told(alloc: Global, words: [&str; 4]) -> Result<usize, Fail> {
 }
 
 /// Whether so many sweeps close the board of a puzzle by these rules, and none leave it open.
-fn sweeps_close<R: Searchable>(alloc: Global, rules: &R, sweeps: usize) -> Result<bool, AllocError> {
+fn sweeps_close<R: Searchable>(
+    alloc: Global,
+    rules: &R,
+    sweeps: usize,
+) -> Result<bool, AllocError> {
     let visits = swept(alloc, sweeps, rules.houses())?;
     closes(alloc, rules, &visits, false)
 }
