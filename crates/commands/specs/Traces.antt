@@ -4,20 +4,6 @@ use Rattle.engine_core.specs.ClosingList.{IsClosingList, IsClosingSweeps}
 use Rattle.commands.specs.Common.{Puzzle}
 use Rattle.commands.specs.Answers.{Text}
 use Rattle.gameid_core.specs.GridTexts.{each_below}
-use Rattle.solo_core.specs.declared.houses.house.SoloHouse.{SoloHouse}
-use Rattle.solo_core.specs.declared.houses.house.SoloHouse.TheVariants.{Row, Column, Block, Diagonal}
-use Rattle.solo_core.specs.declared.houses.scope.SoloScope.{SoloScope}
-use Rattle.solo_core.specs.declared.houses.scope.SoloScope.TheVariants.{House, Crossing}
-
-abbrev pub house_text : SoloHouse → Text
-house_text (Row y) = codes "row " ++ decimal y
-house_text (Column x) = codes "column " ++ decimal x
-house_text (Block b) = codes "block " ++ decimal b
-house_text (Diagonal d) = codes "diagonal " ++ decimal d
-
-abbrev pub scope_text : SoloScope → Text
-scope_text (House house) = house_text house
-scope_text (Crossing block line) = house_text (Block block) ++ codes " " ++ house_text line
 
 abbrev pub line_of : Text → Text
 line_of name = name ++ codes "\n"

@@ -4,6 +4,7 @@ ghost use Rattle.commands.specs.Common.{line_rules};
 ghost use Rattle.commands.specs.PatternPlayed.{pattern_name, pattern_played};
 
 use crate::answers::check_reply::{correct_reply, wrong_line_reply};
+use crate::answers::decimal::push_numbered;
 use crate::answers::reply::Reply;
 use crate::answers::status::Ended;
 use crate::check::checked::Checked;
@@ -11,7 +12,7 @@ use crate::ends::Sink;
 use crate::generate::Recipe;
 use crate::generate::makable::{Makable, Unmade};
 use crate::generate::seed::generator;
-use crate::grade::named::{Named, push_house};
+use crate::grade::named::Named;
 use crate::grade::{Attempt, GradeOptions, Graded, RuleSet};
 use crate::played::Played;
 use crate::solve::solvable::Solvable;
@@ -19,7 +20,6 @@ use gameid_core::{Game, IdFault, PatternPuzzle, read_pattern, read_size, write_p
 use grid_core::{Grid, Size};
 use maker_core::{Made, make_pattern};
 use pattern_core::{PatternFault, PatternLines, check_pattern};
-use solo_core::SoloHouse;
 use std::alloc::{AllocError, Global};
 
 impl Played for PatternPuzzle {
@@ -74,9 +74,9 @@ impl Named for PatternPuzzle {
     fn push_name(&self, number: usize, text: &mut String) -> Result<(), AllocError> {
         let w = usize::from(self.size().w());
         if number < w {
-            push_house(text, SoloHouse::Column(number))
+            push_numbered(text, "column ", number)
         } else {
-            push_house(text, SoloHouse::Row(number - w))
+            push_numbered(text, "row ", number - w)
         }
     }
 

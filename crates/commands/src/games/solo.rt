@@ -1,11 +1,12 @@
 //! Solo, as the commands play it. It is graded by three rule sets in turn, and else by a search.
-ghost use Rattle.std.specs.Prelude.{◌≡◌, false, length};
+ghost use Rattle.std.specs.Prelude.{◌≡◌, ◌++◌, ◌+◌, ◌≤◌, OnOk, false, length, string_bytes, string_len};
 ghost use Rattle.commands.specs.Allowed.{IsGradedAfterHouses, IsGradedAfterSingles};
 ghost use Rattle.commands.specs.Common.{houses_rules, scopes_of};
-ghost use Rattle.commands.specs.SoloPlayed.{solo_name, solo_played};
+ghost use Rattle.commands.specs.SoloPlayed.{house_text, scope_text, solo_name, solo_played};
 ghost use Rattle.commands.specs.Stops.{LeavesSink, ToldIfAny};
 
 use crate::answers::check_reply::{correct_reply, wrong_line_reply, wrong_place_reply};
+use crate::answers::decimal::push_numbered;
 use crate::answers::reply::Reply;
 use crate::answers::status::Ended;
 use crate::check::checked::Checked;
@@ -13,7 +14,7 @@ use crate::ends::Sink;
 use crate::generate::Recipe;
 use crate::generate::makable::{Makable, Unmade};
 use crate::generate::seed::generator;
-use crate::grade::named::{Named, push_scope};
+use crate::grade::named::{NAME, Named};
 use crate::grade::settling::settles;
 use crate::grade::{Attempt, Grade, GradeOptions, Graded, RuleSet};
 use crate::played::Played;
@@ -22,7 +23,9 @@ use engine_core::Store;
 use gameid_core::{Game, IdFault, Printed, SoloPuzzle, read_size, read_solo, write_solo};
 use grid_core::Grid;
 use maker_core::{Made, make_solo};
-use solo_core::{SoloCrossings, SoloFault, SoloHouses, SoloSingles, check_solo, scope_of};
+use solo_core::{
+    SoloCrossings, SoloFault, SoloHouse, SoloHouses, SoloScope, SoloSingles, check_solo, scope_of,
+};
 use std::alloc::{AllocError, Global};
 
 impl Played for SoloPuzzle {
@@ -125,6 +128,37 @@ fn tell_by_crossings<O: Sink>(
         options,
     };
     attempt.tell_by_visits(puzzle, &crossings, output)
+}
+
+/// Most bytes of the name of a house: the longest kind, a space and a number.
+const HOUSE: usize = 29;
+
+/// Adds the name of a house: its kind, and its number among those.
+fn push_house(text: &mut String, house: SoloHouse) -> Result<(), AllocError>
+    ensures name { OnOk result (string_bytes text.new ≡ string_bytes text.old ++ house_text house) }
+    ensures short { OnOk result (string_len text.new ≤ string_len text.old + HOUSE) }
+{
+    match house {
+        SoloHouse::Row(y) => push_numbered(text, "row ", y),
+        SoloHouse::Column(x) => push_numbered(text, "column ", x),
+        SoloHouse::Block(b) => push_numbered(text, "block ", b),
+        SoloHouse::Diagonal(d) => push_numbered(text, "diagonal ", d),
+    }
+}
+
+/// Adds the name of a house, or those of a block and of a line that it meets.
+fn push_scope(text: &mut String, scope: SoloScope) -> Result<(), AllocError>
+    ensures name { OnOk result (string_bytes text.new ≡ string_bytes text.old ++ scope_text scope) }
+    ensures short { OnOk result (string_len text.new ≤ string_len text.old + NAME) }
+{
+    match scope {
+        SoloScope::House(house) => push_house(text, house),
+        SoloScope::Crossing { block, line } => {
+            push_house(text, SoloHouse::Block(block))?;
+            text.push_str(" ")?;
+            push_house(text, line)
+        }
+    }
 }
 
 impl Named for SoloPuzzle {
