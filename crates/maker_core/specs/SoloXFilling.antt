@@ -1,16 +1,26 @@
 -- The filling of Solo X: a search of the puzzle whose top row is given, turned over by a draw.
-use Rattle.std.specs.Prelude.{ℕ, suc, ◌-◌, ◌*◌, true, Option, Some, None, List, ◌++◌, map, option_map, replicate}
+use Rattle.std.specs.Prelude.{◌≡◌, ℕ, suc, ◌-◌, ◌*◌, true, Option, Some, None, List, ◌++◌, map, option_map, replicate}
 use Rattle.std.specs.Borrow.{Bor}
+use Rattle.rand_core.specs.Stream.{Stream}
 use Rattle.gameid_core.specs.Puzzles.{Solo, solo_puzzle}
 use Rattle.engine_core.specs.Verdict.{Outcome, Outcome.NoGrid, Outcome.OneGrid, Outcome.TwoGrids, Outcome.OutOfBudget, verdict_of}
 use Rattle.solo_core.specs.RuleSets.{houses_rules}
-use Rattle.maker_core.specs.Draws.{Making, draw_below, shuffled_order}
+use Rattle.maker_core.specs.Draws.{IsDrawnBy, Making, draw_below, shuffled_order}
+use Rattle.maker_core.specs.SoloOrders.{IsOrder}
 use Rattle.maker_core.specs.Flips.{flipped_by}
 
 -- the puzzle whose top row has these numbers, and which has no other given; a number v is held as v - 1
 abbrev pub top_row_given : ℕ → ℕ → List ℕ → Solo
 top_row_given c r numbers =
     solo_puzzle c r true (map suc numbers ++ replicate ((c * r) * (c * r) - c * r) 0)
+
+-- the puzzle's top row is a shuffled order of the numbers
+pub record IsShuffledPuzzle {G : Type 0} (c r : ℕ) (stream : G → Stream) (old new : G)
+    (puzzle : Solo) : Type 0 where
+  pub numbers : List ℕ
+  pub ordered : IsOrder (c * r) numbers
+  pub drawn : IsDrawnBy (shuffled_order (c * r)) stream old new numbers
+  pub given : puzzle ≡ top_row_given c r numbers
 
 -- the first grid that a search found, if it found one
 abbrev pub first_grid : Outcome → Option (List ℕ)

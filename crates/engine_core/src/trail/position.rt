@@ -1,9 +1,12 @@
 //! A board of sets with its trail, as a position.
 #![tactic(auto, using(crate::proofs::LawSets::position_laws))]
 
-ghost use Rattle.std.specs.Prelude.{◌≡◌};
+ghost use Rattle.std.specs.Prelude.{◌≡◌, ◌≤◌, IfOk, length};
+ghost use Rattle.grid_core.specs.Board.{cells_of};
+ghost use Rattle.grid_core.specs.Candidates.{max_cells, max_values};
 ghost use Rattle.engine_core.specs.PositionLaws.{within_of};
 ghost use Rattle.engine_core.specs.TrailPosition.{IsUnderWay, standing_of};
+ghost use Rattle.engine_core.specs.Waiting.{words_of};
 
 use crate::mode::Closing;
 use crate::needs::{Needed, needs};
@@ -31,6 +34,43 @@ pub struct TrailPosition<R: Propagators> {
     pub(crate) trailed: Trailed,
     marks: Vec<usize>,
     marked: usize,
+}
+
+/// The board and the lists of a position.
+#[derive(Drop)]
+struct Room {
+    trailed: Trailed,
+    sets: Vec<u32>,
+    kept: Vec<u32>,
+    waits: Vec<u64>,
+    marks: Vec<usize>,
+}
+
+impl Room {
+    /// As large as that needs. The board is full.
+    ///
+    /// # Errors
+    ///
+    /// When memory was refused.
+    fn new(alloc: Global, made: Needed) -> Result<Room, AllocError>
+        requires few_cells { made.cells ≤ max_cells }
+        requires some { 1 ≤ made.values }
+        requires few { made.values ≤ max_values }
+        ensures cells { IfOk result (λ room. cells_of room.trailed.board ≡ made.cells) }
+        ensures values { IfOk result (λ room. room.trailed.board.values ≡ made.values) }
+        ensures sets { IfOk result (λ room. length room.sets.items ≡ made.scope) }
+        ensures kept { IfOk result (λ room. length room.kept.items ≡ made.scope) }
+        ensures waits { IfOk result (λ room. length room.waits.items ≡ words_of made.houses) }
+        ensures marks { IfOk result (λ room. length room.marks.items ≡ made.cells) }
+    {
+        Ok(Room {
+            trailed: Trailed::new(alloc, made.cells, made.values)?,
+            sets: vec![in alloc; 0u32; made.scope]?,
+            kept: vec![in alloc; 0u32; made.scope]?,
+            waits: vec![in alloc; 0u64; words_for(made.houses)]?,
+            marks: vec![in alloc; 0usize; made.cells]?,
+        })
+    }
 }
 
 impl<R: Propagators> Drop for TrailPosition<R> {
@@ -82,15 +122,18 @@ impl<R: Propagators> Position for TrailPosition<R> {
 
     fn new(alloc: Global, rules: &R) -> Result<TrailPosition<R>, AllocError> {
         let made = needs(rules);
+        let scratch = rules.scratch(alloc)?;
+        let counts = rules.counts(alloc)?;
+        let room = Room::new(alloc, made)?;
         Ok(TrailPosition {
             made,
-            scratch: rules.scratch(alloc)?,
-            counts: rules.counts(alloc)?,
-            sets: vec![in alloc; 0u32; made.scope]?,
-            kept: vec![in alloc; 0u32; made.scope]?,
-            waits: vec![in alloc; 0u64; words_for(made.houses)]?,
-            trailed: Trailed::new(alloc, made.cells, made.values)?,
-            marks: vec![in alloc; 0usize; made.cells]?,
+            scratch,
+            counts,
+            sets: room.sets,
+            kept: room.kept,
+            waits: room.waits,
+            trailed: room.trailed,
+            marks: room.marks,
             marked: 0,
         })
     }

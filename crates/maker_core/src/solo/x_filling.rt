@@ -6,7 +6,7 @@ ghost use Rattle.solo_core.specs.Solutions.{IsSoloSolution};
 ghost use Rattle.maker_core.specs.SoloOrders.{IsOrder};
 ghost use Rattle.maker_core.specs.SoloFilling.{all_given};
 ghost use Rattle.maker_core.specs.SoloMaking.{IsSoloSize};
-ghost use Rattle.maker_core.specs.SoloXFilling.{top_row_given, lent_flipped, x_filling};
+ghost use Rattle.maker_core.specs.SoloXFilling.{IsShuffledPuzzle, top_row_given, lent_flipped, x_filling};
 ghost use Rattle.maker_core.specs.Draws.{IsDrawnBy};
 
 use crate::draws::{draw, order};
@@ -39,12 +39,26 @@ pub(crate) fn fill_x<G: Rng>(
         IfSome filling (λ grid. IsSoloSolution (all_given c r true grid) grid)) }
 {
     let n = usize::from(c) * usize::from(r);
-    let numbers = order(alloc, rng, n)?;
-    let puzzle = top_row_puzzle(alloc, c, r, &numbers)?;
+    let puzzle = shuffled_puzzle(alloc, c, r, rng)?;
     let rules = SoloHouses::new(alloc, &puzzle)?;
     let mut store = Store::new(alloc, &rules)?;
     store.solve(&rules, budget);
     flip_by_draw(alloc, rng, n, store.first())
+}
+
+/// The puzzle whose top row is a shuffled list of the numbers, and which has no other given.
+fn shuffled_puzzle<G: Rng>(
+    alloc: Global,
+    c: u8,
+    r: u8,
+    rng: &mut G,
+) -> Result<SoloPuzzle, AllocError>
+    requires { IsSoloSize c r }
+    ensures { IfOk result (IsShuffledPuzzle c r G.stream rng.old rng.new) }
+{
+    let n = usize::from(c) * usize::from(r);
+    let numbers = order(alloc, rng, n)?;
+    top_row_puzzle(alloc, c, r, &numbers)
 }
 
 /// The puzzle whose top row has these numbers, each below the number of columns, and which has no other given.
